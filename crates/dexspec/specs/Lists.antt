@@ -1,0 +1,59 @@
+-- Lists in order, ranks, lists cut into parts, and items that stand one after the other.
+use Rattle.std.specs.Prelude.{◌≡◌, ◌≢◌, ℕ, ◌+◌, ◌<◌, Bool, true, ◌&&◌, List, [], ◌∷◌, length, take, drop, slice_index_or, Option, Some, None, count_by}
+use Rattle.std.specs.Ordering.{is_lt, is_eq}
+use Rattle.std.specs.declared.cmp.Ordering.{Ordering}
+use Rattle.std.specs.FinMap.Entries.{by_order}
+
+-- the list rises strictly
+abbrev pub rises : {K : Type 0} → (K → K → Ordering) → List K → Bool
+rises R [] = true
+rises R (x ∷ []) = true
+rises R (x ∷ y ∷ ys) = is_lt (R x y) && rises R (y ∷ ys)
+
+-- the list with one more member in its place, if it was not there
+abbrev pub add_in_order : {K : Type 0} → (K → K → Ordering) → K → List K → List K
+add_in_order R k [] = k ∷ []
+add_in_order R k (x ∷ xs) = by_order (R k x) (k ∷ x ∷ xs) (x ∷ xs) (x ∷ add_in_order R k xs)
+
+-- the members of a list, each once, in order
+abbrev pub in_order : {K : Type 0} → (K → K → Ordering) → List K → List K
+in_order R [] = []
+in_order R (k ∷ ks) = add_in_order R k (in_order R ks)
+
+-- the number of lesser members
+abbrev pub rank : {K : Type 0} → (K → K → Ordering) → K → List K → ℕ
+rank R s xs = count_by (λ t. is_lt (R t s)) xs
+
+-- whether the two tie in the order
+abbrev pub ties : {K : Type 0} → (K → K → Ordering) → K → K → Bool
+ties R x y = is_eq (R x y)
+
+-- no two places hold one value
+abbrev pub AreDistinct : {X : Type 0} → List X → Type 0
+AreDistinct {X} xs = (i j : ℕ) (d : X) → i < j → j < length xs → slice_index_or xs i d ≢ slice_index_or xs j d
+
+-- the list cut into parts of these lengths, from the front
+abbrev pub chunks : {X : Type 0} → List ℕ → List X → List (List X)
+chunks [] xs = []
+chunks (n ∷ ns) xs = take n xs ∷ chunks ns (drop n xs)
+
+-- the pairs of two lists put together by a function
+abbrev pub zip_with : {X Y Z : Type 0} → (X → Y → Z) → List X → List Y → List Z
+zip_with f [] ys = []
+zip_with f (x ∷ xs) [] = []
+zip_with f (x ∷ xs) (y ∷ ys) = f x y ∷ zip_with f xs ys
+
+-- the values that are there
+abbrev pub present : {X : Type 0} → List (Option X) → List X
+present [] = []
+present (None ∷ os) = present os
+present (Some x ∷ os) = x ∷ present os
+
+-- A kind of item: at offset o of b stands x, in n bytes.
+abbrev pub Item : Type 0 → Type 1
+Item X = List ℕ → ℕ → X → ℕ → Type 0
+
+-- from o on stand the items one after the other, in n bytes together
+abbrev pub Sequence : {X : Type 0} → Item X → List ℕ → ℕ → List X → ℕ → Type 0
+Sequence At b o [] n = n ≡ 0
+Sequence At b o (x ∷ xs) n = (k : ℕ) × (m : ℕ) × At b o x k × Sequence At b (o + k) xs m × (n ≡ k + m)

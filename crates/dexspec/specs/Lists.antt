@@ -1,5 +1,6 @@
 -- Lists in order, ranks, lists cut into parts, and items that stand one after the other.
-use Rattle.std.specs.Prelude.{◌≡◌, ◌≢◌, ℕ, ◌+◌, ◌<◌, Bool, true, ◌&&◌, List, [], ◌∷◌, length, take, drop, slice_index_or, Option, Some, None, count_by}
+use Rattle.std.specs.Prelude.{◌≡◌, ◌≢◌, ◌⊎◌, ℕ, ◌+◌, Bool, true, ◌&&◌, not, List, [], ◌∷◌, take, drop, Option, Some, None, count_by}
+use Rattle.std.specs.List.{AllPairs, filter}
 use Rattle.std.specs.Ordering.{is_lt, is_eq}
 use Rattle.std.specs.declared.cmp.Ordering.{Ordering}
 use Rattle.std.specs.FinMap.Entries.{by_order}
@@ -30,7 +31,7 @@ ties R x y = is_eq (R x y)
 
 -- no two places hold one value
 abbrev pub AreDistinct : {X : Type 0} → List X → Type 0
-AreDistinct {X} xs = (i j : ℕ) (d : X) → i < j → j < length xs → slice_index_or xs i d ≢ slice_index_or xs j d
+AreDistinct xs = AllPairs (λ x y. x ≢ y) xs
 
 -- the list cut into parts of these lengths, from the front
 abbrev pub chunks : {X : Type 0} → List ℕ → List X → List (List X)
@@ -48,6 +49,27 @@ abbrev pub present : {X : Type 0} → List (Option X) → List X
 present [] = []
 present (None ∷ os) = present os
 present (Some x ∷ os) = x ∷ present os
+
+-- nothing at offset 0, and else what stands there
+abbrev pub OrNone : {X : Type 0} → (List ℕ → ℕ → X → Type 0) → X → List ℕ → ℕ → X → Type 0
+OrNone At none b o x = ((o ≡ 0) × (x ≡ none)) ⊎ ((o ≢ 0) × At b o x)
+
+-- what stands there is the value of an option that has one
+abbrev pub SomeAt : {X : Type 0} → (List ℕ → ℕ → X → Type 0) → List ℕ → ℕ → Option X → Type 0
+SomeAt At b o None = ⊥
+SomeAt At b o (Some x) = At b o x
+
+-- neither is there, or both are, and related
+abbrev pub BothOrNone : {X Y : Type 0} → (X → Y → Type 0) → Option X → Option Y → Type 0
+BothOrNone R None None = Unit {0}
+BothOrNone R None (Some y) = ⊥
+BothOrNone R (Some x) None = ⊥
+BothOrNone R (Some x) (Some y) = R x y
+
+-- the members in order of first use, each once
+abbrev pub distinct : {X : Type 0} → (X → X → Bool) → List X → List X
+distinct same [] = []
+distinct same (x ∷ xs) = x ∷ filter (λ y. not (same x y)) (distinct same xs)
 
 -- A kind of item: at offset o of b stands x, in n bytes.
 abbrev pub Item : Type 0 → Type 1

@@ -1,0 +1,198 @@
+-- What is accepted: the conditions 16 to 23 at a class row, all 23 as one predicate on bytes and row, and
+-- what a refusal says.
+use Rattle.std.specs.Prelude.{◌≡◌, ◌≢◌, ◌⊎◌, ℕ, ◌+◌, ◌<◌, ◌≤◌, ◌==◌, if◌then◌else◌, List, [], ◌∷◌, ◌++◌, length, map, All, Option}
+use Rattle.std.specs.List.{Contains, AllZip, range_with_len}
+use Rattle.dexspec.specs.Lists.{OrNone}
+use Rattle.dexspec.specs.Bytes.{uint_at}
+use Rattle.dexspec.specs.Texts.{Text}
+use Rattle.dexspec.specs.Header.{StringIds, TypeIds, ProtoIds, FieldIds, MethodIds, ClassDefs, table_size, HasSize, HasMagic, HasVersion, version, HasLengths, HasEndian, HasNoLink, HasChecksum, HasSignature}
+use Rattle.dexspec.specs.Sections.{HasLayout, HasMap}
+use Rattle.dexspec.specs.Rows.{StringRow, type_indices, HasString, HasType, HasProto, HasField, HasMethod}
+use Rattle.dexspec.specs.Pieces.{Cut, Piece}
+use Rattle.dexspec.specs.Debug.{Debug, DebugAt}
+use Rattle.dexspec.specs.Code.{Try, PiecesAt, TriesAt}
+use Rattle.dexspec.specs.Values.{Values, NoValues, count_values}
+use Rattle.dexspec.specs.Annotations.{Directory, DirectoryAt, no_directory}
+use Rattle.dexspec.specs.ClassData.{ClassData, ClassDataAt, no_class_data, fields_of, methods_of, BelongTo}
+use Rattle.dexspec.specs.Classes.{Definition, ClassRow, ClassTypeRow, ClassListAt, IndexOrNone, StaticValuesAt, class_idx, superclass_idx, interfaces_off, source_file_idx, annotations_off, class_data_off, static_values_off, no_index}
+use Rattle.dexspec.specs.Weight.{weight, most_weight}
+use Rattle.dexspec.specs.Conditions.{Condition, number}
+
+-- ---- condition 16
+
+-- the indices of the superclass, if there is one, and of the interfaces
+abbrev pub parent_indices : List ℕ → ℕ → List ℕ
+parent_indices b r = (if superclass_idx b r == no_index then [] else superclass_idx b r ∷ [])
+    ++ (if interfaces_off b r == 0 then [] else type_indices b (interfaces_off b r))
+
+-- if a class row of the file is of this type, one before row r is
+abbrev pub IsDefinedBefore : List ℕ → ℕ → ℕ → Type 0
+IsDefinedBefore b r index = (k : ℕ) → k < table_size b ClassDefs → class_idx b k ≡ index → (j : ℕ) × (j < r) × (class_idx b j ≡ index)
+
+-- 16 Classes. Repeated interfaces are accepted and kept (this project's rule).
+pub record HasClass (b : List ℕ) (r : ℕ) : Type 0 where
+  pub name : Text
+  pub is : ClassTypeRow b (class_idx b r) name
+  pub first : (k : ℕ) → k < r → class_idx b k ≢ class_idx b r
+  pub superclass : (t : Option Text) × IndexOrNone ClassTypeRow b (superclass_idx b r) t
+  pub interfaces : (ts : List Text) × OrNone ClassListAt [] b (interfaces_off b r) ts
+  pub source : (s : Option Text) × IndexOrNone StringRow b (source_file_idx b r) s
+  pub parents : All (IsDefinedBefore b r) (parent_indices b r)
+
+-- ---- conditions 17 to 20
+
+-- the class of row r declares these members
+pub record Declares (b : List ℕ) (r : ℕ) (d : ClassData) : Type 0 where
+  pub name : Text
+  pub class : ClassTypeRow b (class_idx b r) name
+  pub is : OrNone ClassDataAt no_class_data b (class_data_off b r) d
+  pub own : BelongTo name d
+
+-- 17 Members
+abbrev pub HasMembers : List ℕ → ℕ → Type 0
+HasMembers b r = (d : ClassData) × Declares b r d
+
+-- P holds at the offset of each code_item of the class, where condition 17 holds
+abbrev pub AllCode : (List ℕ → ℕ → Type 0) → List ℕ → ℕ → Type 0
+AllCode P b r = (d : ClassData) → Declares b r d → All (λ m. m.code_off ≢ 0 → P b m.code_off) (methods_of d)
+
+-- fixed part and units of a code_item stand there
+abbrev pub HasPiecesAt : List ℕ → ℕ → Type 0
+HasPiecesAt b o = (cuts : List Cut) × (ps : List Piece) × PiecesAt b o cuts ps
+
+-- where they do, so do its tries
+abbrev pub HasTriesAt : List ℕ → ℕ → Type 0
+HasTriesAt b o = (cuts : List Cut) (ps : List Piece) → PiecesAt b o cuts ps → (tries : List Try) × TriesAt b o cuts tries
+
+-- where they do, so does its debug program, if it has one
+abbrev pub HasDebugAt : List ℕ → ℕ → Type 0
+HasDebugAt b o = (cuts : List Cut) (ps : List Piece) → PiecesAt b o cuts ps → uint_at b (o + 8) ≢ 0 → (d : Debug) × DebugAt b (uint_at b (o + 8)) d
+
+-- 18 Code, 19 Tries, 20 Debug
+abbrev pub HasCode : List ℕ → ℕ → Type 0
+HasCode b r = AllCode HasPiecesAt b r
+
+abbrev pub HasTries : List ℕ → ℕ → Type 0
+HasTries b r = AllCode HasTriesAt b r
+
+abbrev pub HasDebug : List ℕ → ℕ → Type 0
+HasDebug b r = AllCode HasDebugAt b r
+
+-- ---- conditions 21 to 23
+
+-- 21 Values: no more than the static fields
+abbrev pub HasValues : List ℕ → ℕ → Type 0
+HasValues b r = (d : ClassData) → Declares b r d → (vs : Values) × OrNone StaticValuesAt NoValues b (static_values_off b r) vs × (count_values vs ≤ length d.static_fields)
+
+-- each member that the directory names is declared
+pub record NamesDeclared (annotated : Directory) (d : ClassData) : Type 0 where
+  pub fields : All (λ e. Contains (map (λ x. x.field) (fields_of d)) e.0) annotated.fields
+  pub methods : All (λ e. Contains (map (λ x. x.method) (methods_of d)) e.0) annotated.methods
+  pub parameters : All (λ e. Contains (map (λ x. x.method) (methods_of d)) e.0) annotated.parameters
+
+-- 22 Annotations
+abbrev pub HasAnnotations : List ℕ → ℕ → Type 0
+HasAnnotations b r = (d : ClassData) → Declares b r d → (a : Directory) × OrNone DirectoryAt no_directory b (annotations_off b r) a × NamesDeclared a d
+
+-- all that is to be read of a row is there
+pub record IsReadable (b : List ℕ) (r : ℕ) : Type 0 where
+  pub members : HasMembers b r
+  pub code : HasCode b r
+  pub tries : HasTries b r
+  pub debug : HasDebug b r
+  pub values : HasValues b r
+  pub annotations : HasAnnotations b r
+
+-- the rows before row n are these definitions
+abbrev pub AreRows : List ℕ → ℕ → List Definition → Type 0
+AreRows b n D = AllZip (λ r d. ClassRow b r d.0 d.1) (range_with_len 0 n) D
+
+-- 23 Weight: where rows 0 to r are readable, they do not weigh too much together (this project's rule)
+abbrev pub HasWeight : List ℕ → ℕ → Type 0
+HasWeight b r = (D : List Definition) → ((k : ℕ) → k ≤ r → IsReadable b k) → AreRows b (r + 1) D → weight D ≤ most_weight
+
+-- ---- all of them
+
+-- the number of rows at which a condition is judged
+abbrev pub places : Condition → List ℕ → ℕ
+places Condition.Strings b = table_size b StringIds
+places Condition.Types b = table_size b TypeIds
+places Condition.Protos b = table_size b ProtoIds
+places Condition.Fields b = table_size b FieldIds
+places Condition.Methods b = table_size b MethodIds
+places Condition.Classes b = table_size b ClassDefs
+places Condition.Members b = table_size b ClassDefs
+places Condition.Code b = table_size b ClassDefs
+places Condition.Tries b = table_size b ClassDefs
+places Condition.Debug b = table_size b ClassDefs
+places Condition.Values b = table_size b ClassDefs
+places Condition.Annotations b = table_size b ClassDefs
+places Condition.Weight b = table_size b ClassDefs
+places _ b = 1
+
+-- the condition holds of the bytes at a row; the first ten have no rows
+abbrev pub Holds : Condition → List ℕ → ℕ → Type 0
+Holds Condition.Size b r = HasSize b
+Holds Condition.Magic b r = HasMagic b
+Holds Condition.Version b r = HasVersion b
+Holds Condition.Lengths b r = HasLengths b
+Holds Condition.Endian b r = HasEndian b
+Holds Condition.Link b r = HasNoLink b
+Holds Condition.Checksum b r = HasChecksum b
+Holds Condition.Signature b r = HasSignature b
+Holds Condition.Layout b r = HasLayout b
+Holds Condition.Map b r = HasMap b
+Holds Condition.Strings b r = HasString b r
+Holds Condition.Types b r = HasType b r
+Holds Condition.Protos b r = HasProto b r
+Holds Condition.Fields b r = HasField b r
+Holds Condition.Methods b r = HasMethod b r
+Holds Condition.Classes b r = HasClass b r
+Holds Condition.Members b r = HasMembers b r
+Holds Condition.Code b r = HasCode b r
+Holds Condition.Tries b r = HasTries b r
+Holds Condition.Debug b r = HasDebug b r
+Holds Condition.Values b r = HasValues b r
+Holds Condition.Annotations b r = HasAnnotations b r
+Holds Condition.Weight b r = HasWeight b r
+
+abbrev pub HoldsThroughout : Condition → List ℕ → Type 0
+HoldsThroughout c b = (r : ℕ) → r < places c b → Holds c b r
+
+-- the conditions below this number hold
+abbrev pub HoldBelow : ℕ → List ℕ → Type 0
+HoldBelow n b = (c : Condition) → number c < n → HoldsThroughout c b
+
+-- the header and all that it leads to: conditions 1 to 10
+abbrev pub IsFrame : List ℕ → Type 0
+IsFrame b = HoldBelow 11 b
+
+-- the file is accepted
+abbrev pub IsAccepted : List ℕ → Type 0
+IsAccepted b = (c : Condition) → HoldsThroughout c b
+
+-- ---- refusals
+
+-- those before it hold, and the condition fails first at this row
+pub record FailsFirst (c : Condition) (b : List ℕ) (r : ℕ) : Type 0 where
+  pub before : HoldBelow (number c) b
+  pub row : r < places c b
+  pub rows : (k : ℕ) → k < r → Holds c b k
+  pub fails : Holds c b r → ⊥
+
+-- conditions 1 to 16 hold, and a later one fails at this class row
+pub record FailsAt (c : Condition) (b : List ℕ) (r : ℕ) : Type 0 where
+  pub before : HoldBelow 17 b
+  pub late : 17 ≤ number c
+  pub row : r < places c b
+  pub fails : Holds c b r → ⊥
+
+-- the place that is told for row r: the version for a wrong one, 0 for a whole file, and else the row
+abbrev pub place : Condition → List ℕ → ℕ → ℕ
+place Condition.Version b r = version b
+place c b r = r
+
+-- the file is refused with this number and place: of conditions 1 to 16 the first that fails, at its least
+-- row, and where all of these hold any other at a row where it fails
+abbrev pub IsRefused : List ℕ → ℕ → ℕ → Type 0
+IsRefused b n p = (c : Condition) × (r : ℕ) × (n ≡ number c) × (p ≡ place c b r) × (((n ≤ 16) × FailsFirst c b r) ⊎ FailsAt c b r)

@@ -1,0 +1,161 @@
+-- Code items: registers, pieces, tries, handlers and debug program.
+-- Source: "Dalvik Executable format", "code_item", "try_item", "encoded_catch_handler_list",
+-- "encoded_catch_handler" and "encoded_type_addr_pair". This project's rules: a try names the start of a
+-- handler of the list, every handler of the list is judged, and the distinct handlers that tries name are few.
+use Rattle.std.specs.Prelude.{◌≡◌, ◌≢◌, ℕ, ℤ, pos, nat_abs, ◌<ℤ◌, ◌≤ℤ◌, ◌+◌, ◌*◌, ◌%◌, ◌<◌, ◌≤◌, ◌⊎◌, Bool, ◌&&◌, ◌==◌, IsTrue, List, [], ◌∷◌, ◌++◌, length, map, Option, Some, None, sum_by}
+use Rattle.std.specs.List.{AllZip}
+use Rattle.std.specs.Option.{option_eq}
+use Rattle.std.specs.Cmp.Lexicographic.{pointwise}
+use Rattle.dexspec.specs.Lists.{Sequence, OrNone, SomeAt, distinct}
+use Rattle.dexspec.specs.Bytes.{uint_at, ushort_at, ushorts_at}
+use Rattle.dexspec.specs.Numbers.{Uleb128At, Sleb128At}
+use Rattle.dexspec.specs.Texts.{Text, same_text}
+use Rattle.dexspec.specs.Sections.{IsInData}
+use Rattle.dexspec.specs.Rows.{TypeRow, SymbolRow}
+use Rattle.dexspec.specs.Pieces.{Cut, IsCode, Piece, StandsForPiece, cut_units, is_instruction_start}
+use Rattle.dexspec.specs.Debug.{Debug, DebugAt}
+
+-- a type that is caught, and the address where it is handled, in units
+pub record Catch : Type 0 where
+  pub type : Text
+  pub address : ℕ
+
+-- what is caught where, in order, and where all else is
+pub record Handler : Type 0 where
+  pub catches : List Catch
+  pub catch_all : Option ℕ
+
+-- the units that are covered, and their handler
+pub record Try : Type 0 where
+  pub start : ℕ
+  pub count : ℕ
+  pub handler : Handler
+
+pub record Code : Type 0 where
+  pub registers : ℕ
+  pub ins : ℕ
+  pub outs : ℕ
+  pub pieces : List Piece
+  pub tries : List Try
+  pub debug : Option Debug
+
+abbrev pub same_catch : Catch → Catch → Bool
+same_catch c d = same_text c.type d.type && c.address == d.address
+
+abbrev pub same_handler : Handler → Handler → Bool
+same_handler h k = pointwise same_catch h.catches k.catches && option_eq ◌==◌ h.catch_all k.catch_all
+
+-- the handlers that tries name, each once, in order of first use
+abbrev pub handlers_of : List Try → List Handler
+handlers_of tries = distinct same_handler (map (λ t. t.handler) tries)
+
+-- the bound on the bytes of a list of handlers
+abbrev pub handlers_weight : List Handler → ℕ
+handlers_weight hs = 5 + sum_by (λ h. 10 + 8 * length h.catches) hs
+
+-- ---- the fixed part and the units
+
+abbrev pub code_units : List ℕ → ℕ → List ℕ
+code_units b o = ushorts_at b (o + 16) (uint_at b (o + 12))
+
+-- at offset o of the data stand a code_item's fixed part and units, cut into these pieces
+pub record PiecesAt (b : List ℕ) (o : ℕ) (cuts : List Cut) (ps : List Piece) : Type 0 where
+  pub in_data : IsInData b o (16 + 2 * uint_at b (o + 12))
+  pub aligned : o % 4 ≡ 0
+  pub code : IsCode (code_units b o) cuts
+  pub pieces : AllZip (λ c p. StandsForPiece (SymbolRow b) (cut_units (code_units b o) c) p) cuts ps
+
+-- ---- tries and handlers
+
+-- an instruction of the code begins at this address
+abbrev pub IsStart : List ℕ → List Cut → ℕ → Type 0
+IsStart us cuts address = IsTrue (is_instruction_start us cuts (pos address))
+
+module _ (us : List ℕ) (cuts : List Cut) where
+  -- at offset o stands an encoded_type_addr_pair
+  pub record CatchAt (b : List ℕ) (o : ℕ) (c : Catch) (n : ℕ) : Type 0 where
+    pub index : ℕ
+    pub index_size : ℕ
+    pub address_size : ℕ
+    pub index_is : Uleb128At b o index index_size
+    pub type : TypeRow b index c.type
+    pub address : Uleb128At b (o + index_size) c.address address_size
+    pub start : IsStart us cuts c.address
+    pub size : n ≡ index_size + address_size
+
+  -- where the size of a handler is 0 or less, the address for all else follows
+  abbrev pub CatchAllAt : ℤ → List ℕ → ℕ → Option ℕ → ℕ → Type 0
+  CatchAllAt size b o None n = (pos 0 <ℤ size) × (n ≡ 0)
+  CatchAllAt size b o (Some address) n = (size ≤ℤ pos 0) × Uleb128At b o address n × IsStart us cuts address
+
+  -- at offset o stands an encoded_catch_handler
+  pub record HandlerAt (b : List ℕ) (o : ℕ) (h : Handler) (n : ℕ) : Type 0 where
+    pub count : ℤ
+    pub count_size : ℕ
+    pub catches_size : ℕ
+    pub all_size : ℕ
+    pub count_is : Sleb128At b o count count_size
+    pub many : nat_abs count ≡ length h.catches
+    pub catches : Sequence CatchAt b (o + count_size) h.catches catches_size
+    pub all : CatchAllAt count b (o + count_size + catches_size) h.catch_all all_size
+    pub size : n ≡ count_size + catches_size + all_size
+
+  -- the handler begins so many bytes from the start of the list at offset o, which begins with a count
+  pub record IsHandler (b : List ℕ) (o count_size : ℕ) (hs : List Handler) (off : ℕ) (h : Handler) : Type 0 where
+    pub before : List Handler
+    pub after : List Handler
+    pub before_size : ℕ
+    pub parts : hs ≡ before ++ h ∷ after
+    pub stands : Sequence HandlerAt b (o + count_size) before before_size
+    pub place : off ≡ count_size + before_size
+
+  -- at offset o stands a try_item whose handler is one of the list
+  pub record TryAt (list count_size : ℕ) (hs : List Handler) (b : List ℕ) (o : ℕ) (t : Try) (n : ℕ) : Type 0 where
+    pub start : uint_at b o ≡ t.start
+    pub count : ushort_at b (o + 4) ≡ t.count
+    pub some : 0 < t.count
+    pub within : t.start + t.count ≤ length us
+    pub handler : IsHandler b list count_size hs (ushort_at b (o + 6)) t.handler
+    pub size : n ≡ 8
+
+-- tries are in order of their addresses, and do not overlap
+abbrev pub AreApart : List Try → Type 0
+AreApart [] = Unit {0}
+AreApart (t ∷ []) = Unit {0}
+AreApart (t ∷ u ∷ ts) = (t.start + t.count ≤ u.start) × AreApart (u ∷ ts)
+
+-- the most that the distinct handlers of a code_item may weigh
+abbrev pub most_handlers : ℕ
+most_handlers = 65535
+
+-- at offset o stand so many try_items, one or more, and behind them the handler list
+pub record TryItemsAt (us : List ℕ) (cuts : List Cut) (b : List ℕ) (o count : ℕ) (tries : List Try) : Type 0 where
+  pub many : length tries ≡ count
+  pub handlers : List Handler
+  pub count_size : ℕ
+  pub handlers_size : ℕ
+  pub list_count : Uleb128At b (o + 8 * count) (length handlers) count_size
+  pub list : Sequence (HandlerAt us cuts) b (o + 8 * count + count_size) handlers handlers_size
+  pub items : Sequence (TryAt us cuts (o + 8 * count) count_size handlers) b o tries (8 * count)
+  pub apart : AreApart tries
+  pub few : handlers_weight (handlers_of tries) ≤ most_handlers
+
+-- The tries of the code_item at offset o, whose units are cut so: none, or, behind a zero ushort where the
+-- number of units is odd, those of its list.
+abbrev pub TriesAt : List ℕ → ℕ → List Cut → List Try → Type 0
+TriesAt b o cuts tries =
+    ((ushort_at b (o + 6) ≡ 0) × (tries ≡ []))
+    ⊎ ((ushort_at b (o + 6) ≢ 0) × (((uint_at b (o + 12) % 2 ≡ 0) × TryItemsAt (code_units b o) cuts b (o + 16 + 2 * uint_at b (o + 12)) (ushort_at b (o + 6)) tries)
+    ⊎ ((uint_at b (o + 12) % 2 ≡ 1) × (ushort_at b (o + 16 + 2 * uint_at b (o + 12)) ≡ 0) × TryItemsAt (code_units b o) cuts b (o + 18 + 2 * uint_at b (o + 12)) (ushort_at b (o + 6)) tries)))
+
+-- ---- the whole
+
+-- at offset o of the data stands a code_item
+pub record CodeAt (b : List ℕ) (o : ℕ) (c : Code) : Type 0 where
+  pub registers : ushort_at b o ≡ c.registers
+  pub ins : ushort_at b (o + 2) ≡ c.ins
+  pub outs : ushort_at b (o + 4) ≡ c.outs
+  pub cuts : List Cut
+  pub pieces : PiecesAt b o cuts c.pieces
+  pub tries : TriesAt b o cuts c.tries
+  pub debug : OrNone (SomeAt DebugAt) None b (uint_at b (o + 8)) c.debug

@@ -1,0 +1,97 @@
+-- Debug programs, and the positions that they record.
+-- Source: "Dalvik Executable format", "debug_info_item", "State machine" and "Byte code values". Registers
+-- and addresses are not checked (this project's rule).
+use Rattle.std.specs.Prelude.{◌≡◌, ℕ, ℤ, pos, ◌+ℤ◌, ◌-ℤ◌, ◌+◌, ◌-◌, ◌/◌, ◌%◌, ◌≤◌, Bool, true, false, if◌then◌else◌, List, [], ◌∷◌, length, Option}
+use Rattle.dexspec.specs.Lists.{Item, Sequence, BothOrNone}
+use Rattle.dexspec.specs.Bytes.{Stands}
+use Rattle.dexspec.specs.Numbers.{Uleb128At, Sleb128At, Uleb128p1At}
+use Rattle.dexspec.specs.Texts.{Text}
+use Rattle.dexspec.specs.Header.{data_off}
+use Rattle.dexspec.specs.Rows.{StringRow, TypeRow}
+
+-- an operation, with texts and types in the place of indices; none is NO_INDEX
+pub data Operation : Type 0 where
+  AdvancePc : (addresses : ℕ) → Operation
+  AdvanceLine : (lines : ℤ) → Operation
+  StartLocal : (register : ℕ) → (name type : Option Text) → Operation
+  StartLocalExtended : (register : ℕ) → (name type signature : Option Text) → Operation
+  EndLocal : (register : ℕ) → Operation
+  RestartLocal : (register : ℕ) → Operation
+  SetPrologueEnd : Operation
+  SetEpilogueBegin : Operation
+  SetFile : (name : Option Text) → Operation
+  Special : (opcode : ℕ) → Operation
+
+-- a debug_info_item
+pub record Debug : Type 0 where
+  pub line_start : ℕ
+  pub parameter_names : List (Option Text)
+  pub operations : List Operation
+
+-- ---- what stands in a file
+
+-- at offset o stands a uleb128p1 that names a string, or nothing
+abbrev pub OptionalTextAt : Item (Option Text)
+OptionalTextAt b o s n = (i : Option ℕ) × Uleb128p1At b o i n × BothOrNone (StringRow b) i s
+
+-- the same for a type
+abbrev pub OptionalTypeAt : Item (Option Text)
+OptionalTypeAt b o t n = (i : Option ℕ) × Uleb128p1At b o i n × BothOrNone (TypeRow b) i t
+
+-- at offset o stands the operation
+abbrev pub OperationAt : Item Operation
+OperationAt b o (AdvancePc addresses) n = Stands b o (0x01 ∷ []) × (k : ℕ) × Uleb128At b (o + 1) addresses k × (n ≡ 1 + k)
+OperationAt b o (AdvanceLine lines) n = Stands b o (0x02 ∷ []) × (k : ℕ) × Sleb128At b (o + 1) lines k × (n ≡ 1 + k)
+OperationAt b o (StartLocal register name type) n = Stands b o (0x03 ∷ [])
+    × (i : ℕ) × (j : ℕ) × (k : ℕ) × Uleb128At b (o + 1) register i × OptionalTextAt b (o + 1 + i) name j × OptionalTypeAt b (o + 1 + i + j) type k × (n ≡ 1 + i + j + k)
+OperationAt b o (StartLocalExtended register name type signature) n = Stands b o (0x04 ∷ [])
+    × (i : ℕ) × (j : ℕ) × (k : ℕ) × (l : ℕ) × Uleb128At b (o + 1) register i × OptionalTextAt b (o + 1 + i) name j × OptionalTypeAt b (o + 1 + i + j) type k
+    × OptionalTextAt b (o + 1 + i + j + k) signature l × (n ≡ 1 + i + j + k + l)
+OperationAt b o (EndLocal register) n = Stands b o (0x05 ∷ []) × (k : ℕ) × Uleb128At b (o + 1) register k × (n ≡ 1 + k)
+OperationAt b o (RestartLocal register) n = Stands b o (0x06 ∷ []) × (k : ℕ) × Uleb128At b (o + 1) register k × (n ≡ 1 + k)
+OperationAt b o SetPrologueEnd n = Stands b o (0x07 ∷ []) × (n ≡ 1)
+OperationAt b o SetEpilogueBegin n = Stands b o (0x08 ∷ []) × (n ≡ 1)
+OperationAt b o (SetFile name) n = Stands b o (0x09 ∷ []) × (k : ℕ) × OptionalTextAt b (o + 1) name k × (n ≡ 1 + k)
+OperationAt b o (Special opcode) n = Stands b o (opcode ∷ []) × (0x0a ≤ opcode) × (opcode ≤ 0xff) × (n ≡ 1)
+
+-- at offset o of the data stands a debug_info_item
+pub record DebugAt (b : List ℕ) (o : ℕ) (d : Debug) : Type 0 where
+  pub in_data : data_off b ≤ o
+  pub start_size : ℕ
+  pub count_size : ℕ
+  pub names_size : ℕ
+  pub operations_size : ℕ
+  pub line_start : Uleb128At b o d.line_start start_size
+  pub count : Uleb128At b (o + start_size) (length d.parameter_names) count_size
+  pub names : Sequence OptionalTextAt b (o + start_size + count_size) d.parameter_names names_size
+  pub operations : Sequence OperationAt b (o + start_size + count_size + names_size) d.operations operations_size
+  pub end : Stands b (o + start_size + count_size + names_size + operations_size) (0x00 ∷ [])
+
+-- ---- positions
+
+abbrev pub is_special : Operation → Bool
+is_special (Special opcode) = true
+is_special _ = false
+
+-- by how much an operation moves the address
+abbrev pub address_step : Operation → ℕ
+address_step (AdvancePc addresses) = addresses
+address_step (Special opcode) = (opcode - 10) / 15
+address_step _ = 0
+
+-- by how much it moves the line
+abbrev pub line_step : Operation → ℤ
+line_step (AdvanceLine lines) = lines
+line_step (Special opcode) = pos ((opcode - 10) % 15) -ℤ pos 4
+line_step _ = pos 0
+
+-- the positions of the special operations, from an address and a line on
+abbrev pub positions_from : ℕ → ℤ → List Operation → List (ℕ × ℤ)
+positions_from address line [] = []
+positions_from address line (op ∷ ops) =
+    let rest = positions_from (address + address_step op) (line +ℤ line_step op) ops in
+    if is_special op then (address + address_step op, line +ℤ line_step op) ∷ rest else rest
+
+-- address and line of each special operation: the sums of the steps up to it, from 0 and the line start
+abbrev pub positions : Debug → List (ℕ × ℤ)
+positions d = positions_from 0 (pos d.line_start) d.operations

@@ -1,0 +1,145 @@
+-- What the rows of the five pools stand for: conditions 11 to 15.
+-- Source: "Dalvik Executable format", "string_id_item", "type_id_item", "proto_id_item", "field_id_item",
+-- "method_id_item" and "type_list".
+use Rattle.std.specs.Prelude.{◌≡◌, ℕ, ◌+◌, ◌*◌, ◌%◌, ◌<◌, ◌≤◌, List, [], ◌∷◌, All, if◌then◌else◌, ◌==◌}
+use Rattle.std.specs.Ordering.{nat_cmp}
+use Rattle.std.specs.Cmp.Lexicographic.{slice_cmp}
+use Rattle.std.specs.declared.cmp.Ordering.{Ordering}
+use Rattle.std.specs.declared.cmp.Ordering.TheVariants.{Less}
+use Rattle.std.specs.List.{AllZip}
+use Rattle.dexspec.specs.Lists.{OrNone}
+use Rattle.dexspec.specs.Bytes.{uint_at, ushort_at, ushorts_at}
+use Rattle.dexspec.specs.Texts.{Text, text_cmp, StringDataAt}
+use Rattle.dexspec.specs.Names.{IsDescriptor, IsValueType, shorty}
+use Rattle.dexspec.specs.Symbols.{Proto, Field, Method, Pool, Strings, Types, Protos, Fields, Methods, Symbol, TextSymbol, TypeSymbol, ProtoSymbol, FieldSymbol, MethodSymbol, IsField, IsMethod}
+use Rattle.dexspec.specs.Header.{Table, StringIds, TypeIds, ProtoIds, FieldIds, MethodIds, table_size, table_off, row_size, data_off}
+use Rattle.dexspec.specs.Sections.{IsInData}
+
+-- where row i of a table begins
+abbrev pub row_at : List ℕ → Table → ℕ → ℕ
+row_at b t i = table_off b t + row_size t * i
+
+-- ---- strings and types
+
+-- row i is the text s
+pub record StringRow (b : List ℕ) (i : ℕ) (s : Text) : Type 0 where
+  pub row : i < table_size b StringIds
+  pub in_data : data_off b ≤ uint_at b (row_at b StringIds i)
+  pub stands : (n : ℕ) × StringDataAt b (uint_at b (row_at b StringIds i)) s n
+
+-- row i is the type t
+pub record TypeRow (b : List ℕ) (i : ℕ) (t : Text) : Type 0 where
+  pub row : i < table_size b TypeIds
+  pub text : StringRow b (uint_at b (row_at b TypeIds i)) t
+  pub descriptor : IsDescriptor t
+
+-- ---- lists of types
+
+-- the indices of the type_list at offset o
+abbrev pub type_indices : List ℕ → ℕ → List ℕ
+type_indices b o = ushorts_at b (o + 4) (uint_at b o)
+
+-- at offset o stands a type_list of these types
+pub record TypeListAt (b : List ℕ) (o : ℕ) (ts : List Text) : Type 0 where
+  pub in_data : IsInData b o (4 + 2 * uint_at b o)
+  pub aligned : o % 4 ≡ 0
+  pub types : AllZip (TypeRow b) (type_indices b o) ts
+
+-- ---- protos, fields and methods
+
+-- row i is the proto p
+pub record ProtoRow (b : List ℕ) (i : ℕ) (p : Proto) : Type 0 where
+  pub row : i < table_size b ProtoIds
+  pub shorty : StringRow b (uint_at b (row_at b ProtoIds i)) (shorty p.return_type p.parameters)
+  pub return_type : TypeRow b (uint_at b (row_at b ProtoIds i + 4)) p.return_type
+  pub parameters : OrNone TypeListAt [] b (uint_at b (row_at b ProtoIds i + 8)) p.parameters
+  pub values : All IsValueType p.parameters
+
+-- row i is the field f
+pub record FieldRow (b : List ℕ) (i : ℕ) (f : Field) : Type 0 where
+  pub row : i < table_size b FieldIds
+  pub class : TypeRow b (ushort_at b (row_at b FieldIds i)) f.class
+  pub type : TypeRow b (ushort_at b (row_at b FieldIds i + 2)) f.type
+  pub name : StringRow b (uint_at b (row_at b FieldIds i + 4)) f.name
+  pub formed : IsField f
+
+-- row i is the method m
+pub record MethodRow (b : List ℕ) (i : ℕ) (m : Method) : Type 0 where
+  pub row : i < table_size b MethodIds
+  pub class : TypeRow b (ushort_at b (row_at b MethodIds i)) m.class
+  pub proto : ProtoRow b (ushort_at b (row_at b MethodIds i + 2)) m.proto
+  pub name : StringRow b (uint_at b (row_at b MethodIds i + 4)) m.name
+  pub formed : IsMethod m
+
+-- row i of the symbol's pool is the symbol
+abbrev pub SymbolRow : List ℕ → ℕ → Symbol → Type 0
+SymbolRow b i (TextSymbol s) = StringRow b i s
+SymbolRow b i (TypeSymbol t) = TypeRow b i t
+SymbolRow b i (ProtoSymbol p) = ProtoRow b i p
+SymbolRow b i (FieldSymbol f) = FieldRow b i f
+SymbolRow b i (MethodSymbol m) = MethodRow b i m
+
+-- the table of a pool
+abbrev pub table_of : Pool → Table
+table_of Strings = StringIds
+table_of Types = TypeIds
+table_of Protos = ProtoIds
+table_of Fields = FieldIds
+table_of Methods = MethodIds
+
+-- ---- the order of the rows, by indices
+
+abbrev pub key_cmp : List ℕ → List ℕ → Ordering
+key_cmp = slice_cmp nat_cmp
+
+-- a type's row is ordered by its string
+abbrev pub type_key : List ℕ → ℕ → List ℕ
+type_key b i = uint_at b (row_at b TypeIds i) ∷ []
+
+-- a proto's by its return type, and then by its parameters
+abbrev pub proto_key : List ℕ → ℕ → List ℕ
+proto_key b i = uint_at b (row_at b ProtoIds i + 4) ∷ (if uint_at b (row_at b ProtoIds i + 8) == 0 then [] else type_indices b (uint_at b (row_at b ProtoIds i + 8)))
+
+-- a field's by its class, then by its name, then by its type
+abbrev pub field_key : List ℕ → ℕ → List ℕ
+field_key b i = ushort_at b (row_at b FieldIds i) ∷ uint_at b (row_at b FieldIds i + 4) ∷ ushort_at b (row_at b FieldIds i + 2) ∷ []
+
+-- a method's by its class, then by its name, then by its proto
+abbrev pub method_key : List ℕ → ℕ → List ℕ
+method_key b i = ushort_at b (row_at b MethodIds i) ∷ uint_at b (row_at b MethodIds i + 4) ∷ ushort_at b (row_at b MethodIds i + 2) ∷ []
+
+-- row i's key is greater than that of the row before it, if there is one
+abbrev pub Follows : (List ℕ → ℕ → List ℕ) → List ℕ → ℕ → Type 0
+Follows key b i = (j : ℕ) → j + 1 ≡ i → key_cmp (key b j) (key b i) ≡ Less
+
+-- ---- conditions 11 to 15, each at a row
+
+-- 11 Strings: the row is a text, greater than that of the row before it
+pub record HasString (b : List ℕ) (i : ℕ) : Type 0 where
+  pub text : Text
+  pub is : StringRow b i text
+  pub follows : (j : ℕ) (before : Text) → j + 1 ≡ i → StringRow b j before → text_cmp before text ≡ Less
+
+-- 12 Types
+pub record HasType (b : List ℕ) (i : ℕ) : Type 0 where
+  pub type : Text
+  pub is : TypeRow b i type
+  pub follows : Follows type_key b i
+
+-- 13 Protos
+pub record HasProto (b : List ℕ) (i : ℕ) : Type 0 where
+  pub proto : Proto
+  pub is : ProtoRow b i proto
+  pub follows : Follows proto_key b i
+
+-- 14 Fields
+pub record HasField (b : List ℕ) (i : ℕ) : Type 0 where
+  pub field : Field
+  pub is : FieldRow b i field
+  pub follows : Follows field_key b i
+
+-- 15 Methods
+pub record HasMethod (b : List ℕ) (i : ℕ) : Type 0 where
+  pub method : Method
+  pub is : MethodRow b i method
+  pub follows : Follows method_key b i

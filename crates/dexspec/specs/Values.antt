@@ -1,0 +1,214 @@
+-- Encoded values, arrays and annotations.
+-- Source: "Dalvik Executable format", "encoded_value encoding", "Value formats", "encoded_array format",
+-- "encoded_annotation format". This project's rules: every width up to the type's own is accepted, and
+-- arrays and annotations nest 32 deep at most.
+use Rattle.std.specs.Prelude.{◌≡◌, ℕ, ℤ, ◌+◌, ◌-◌, ◌*◌, ◌^◌, ◌<◌, ◌≤◌, max, Bool, true, false, IsTrue, List, [], ◌∷◌, length}
+use Rattle.dexspec.specs.Lists.{Item, rises}
+use Rattle.dexspec.specs.Bytes.{number_of, signed_in, Stands}
+use Rattle.dexspec.specs.Numbers.{Uleb128At}
+use Rattle.dexspec.specs.Texts.{Text, text_cmp}
+use Rattle.dexspec.specs.Symbols.{Field, Method}
+use Rattle.dexspec.specs.Rows.{StringRow, TypeRow, FieldRow, MethodRow}
+
+-- A value is a tree. A char is a number; floats are their bit patterns; an enum is a field. The elements of
+-- an annotation stand by name.
+mutual
+  pub data Value : Type 0 where
+    ByteValue : (number : ℤ) → Value
+    ShortValue : (number : ℤ) → Value
+    CharValue : (unit : ℕ) → Value
+    IntValue : (number : ℤ) → Value
+    LongValue : (number : ℤ) → Value
+    FloatValue : (bits : ℕ) → Value
+    DoubleValue : (bits : ℕ) → Value
+    StringValue : (text : Text) → Value
+    TypeValue : (descriptor : Text) → Value
+    FieldValue : (field : Field) → Value
+    MethodValue : (method : Method) → Value
+    EnumValue : (field : Field) → Value
+    ArrayValue : (values : Values) → Value
+    AnnotationValue : (type : Text) → (elements : Elements) → Value
+    NullValue : Value
+    BooleanValue : (is : Bool) → Value
+
+  pub data Values : Type 0 where
+    NoValues : Values
+    ThenValue : (first : Value) → (rest : Values) → Values
+
+  pub data Elements : Type 0 where
+    NoElements : Elements
+    ThenElement : (name : Text) → (value : Value) → (rest : Elements) → Elements
+
+abbrev pub count_values : Values → ℕ
+count_values NoValues = 0
+count_values (ThenValue v vs) = count_values vs + 1
+
+-- the names of the elements
+abbrev pub names_of : Elements → List Text
+names_of NoElements = []
+names_of (ThenElement name v es) = name ∷ names_of es
+
+-- ---- how deep values nest
+
+abbrev mutual
+  -- a scalar has depth 0, an array or annotation one more than its deepest member
+  pub value_depth : Value → ℕ
+  value_depth (ByteValue z) = 0
+  value_depth (ShortValue z) = 0
+  value_depth (CharValue u) = 0
+  value_depth (IntValue z) = 0
+  value_depth (LongValue z) = 0
+  value_depth (FloatValue bits) = 0
+  value_depth (DoubleValue bits) = 0
+  value_depth (StringValue s) = 0
+  value_depth (TypeValue t) = 0
+  value_depth (FieldValue f) = 0
+  value_depth (MethodValue m) = 0
+  value_depth (EnumValue f) = 0
+  value_depth (ArrayValue vs) = values_depth vs + 1
+  value_depth (AnnotationValue t es) = elements_depth es + 1
+  value_depth NullValue = 0
+  value_depth (BooleanValue is) = 0
+
+  -- the depth of the deepest
+  pub values_depth : Values → ℕ
+  values_depth NoValues = 0
+  values_depth (ThenValue v vs) = max (value_depth v) (values_depth vs)
+
+  pub elements_depth : Elements → ℕ
+  elements_depth NoElements = 0
+  elements_depth (ThenElement name v es) = max (value_depth v) (elements_depth es)
+
+abbrev pub most_depth : ℕ
+most_depth = 32
+
+-- ---- the type codes
+
+abbrev pub byte_code : ℕ
+byte_code = 0x00
+
+abbrev pub short_code : ℕ
+short_code = 0x02
+
+abbrev pub char_code : ℕ
+char_code = 0x03
+
+abbrev pub int_code : ℕ
+int_code = 0x04
+
+abbrev pub long_code : ℕ
+long_code = 0x06
+
+abbrev pub float_code : ℕ
+float_code = 0x10
+
+abbrev pub double_code : ℕ
+double_code = 0x11
+
+abbrev pub string_code : ℕ
+string_code = 0x17
+
+abbrev pub type_code : ℕ
+type_code = 0x18
+
+abbrev pub field_code : ℕ
+field_code = 0x19
+
+abbrev pub method_code : ℕ
+method_code = 0x1a
+
+abbrev pub enum_code : ℕ
+enum_code = 0x1b
+
+abbrev pub array_code : ℕ
+array_code = 0x1c
+
+abbrev pub annotation_code : ℕ
+annotation_code = 0x1d
+
+abbrev pub null_code : ℕ
+null_code = 0x1e
+
+abbrev pub boolean_code : ℕ
+boolean_code = 0x1f
+
+-- the first byte of a value: a type code in the low five bits, and an argument above it
+abbrev pub value_byte : ℕ → ℕ → ℕ
+value_byte arg code = 32 * arg + code
+
+-- ---- what stands in a file
+
+-- at offset o stands a value of this type code whose argument counts these bytes, 1 to `width`, less one
+pub record SizedAt (code width : ℕ) (b : List ℕ) (o : ℕ) (bytes : List ℕ) (n : ℕ) : Type 0 where
+  pub some : 0 < length bytes
+  pub few : length bytes ≤ width
+  pub stands : Stands b o (value_byte (length bytes - 1) code ∷ bytes)
+  pub size : n ≡ 1 + length bytes
+
+-- a signed number, the sign of its highest byte extended
+abbrev pub SignedAt : ℕ → ℕ → Item ℤ
+SignedAt code width b o z n = (bytes : List ℕ) × SizedAt code width b o bytes n × (z ≡ signed_in (length bytes) (number_of bytes))
+
+-- an unsigned number
+abbrev pub UnsignedAt : ℕ → ℕ → Item ℕ
+UnsignedAt code width b o v n = (bytes : List ℕ) × SizedAt code width b o bytes n × (v ≡ number_of bytes)
+
+-- a bit pattern, zeros at its low end
+abbrev pub BitsAt : ℕ → ℕ → Item ℕ
+BitsAt code width b o v n = (bytes : List ℕ) × SizedAt code width b o bytes n × (v ≡ 256 ^ (width - length bytes) * number_of bytes)
+
+-- an index of what the relation says
+abbrev pub IndexAt : {X : Type 0} → ℕ → (List ℕ → ℕ → X → Type 0) → Item X
+IndexAt code Row b o x n = (i : ℕ) × UnsignedAt code 4 b o i n × Row b i x
+
+-- at offset o stands an encoded_array of so many values, which stand as the relation says
+abbrev pub ArrayAround : (ℕ → ℕ → Type 0) → ℕ → List ℕ → ℕ → ℕ → Type 0
+ArrayAround ValuesFrom count b o n = (i : ℕ) × (j : ℕ) × Uleb128At b o count i × ValuesFrom (o + i) j × (n ≡ i + j)
+
+-- at offset o stands an encoded_annotation of this type, whose elements have names that rise strictly, and
+-- stand as the relation says
+abbrev pub AnnotationAround : (ℕ → ℕ → Type 0) → Text → List Text → List ℕ → ℕ → ℕ → Type 0
+AnnotationAround ElementsFrom t names b o n = (i : ℕ) × (j : ℕ) × (k : ℕ) × (index : ℕ) × Uleb128At b o index i × TypeRow b index t
+    × Uleb128At b (o + i) (length names) j × ElementsFrom (o + i + j) k × IsTrue (rises text_cmp names) × (n ≡ i + j + k)
+
+abbrev mutual
+  -- at offset o stands an encoded_value
+  pub ValueAt : List ℕ → ℕ → Value → ℕ → Type 0
+  ValueAt b o (ByteValue z) n = SignedAt byte_code 1 b o z n
+  ValueAt b o (ShortValue z) n = SignedAt short_code 2 b o z n
+  ValueAt b o (CharValue u) n = UnsignedAt char_code 2 b o u n
+  ValueAt b o (IntValue z) n = SignedAt int_code 4 b o z n
+  ValueAt b o (LongValue z) n = SignedAt long_code 8 b o z n
+  ValueAt b o (FloatValue bits) n = BitsAt float_code 4 b o bits n
+  ValueAt b o (DoubleValue bits) n = BitsAt double_code 8 b o bits n
+  ValueAt b o (StringValue s) n = IndexAt string_code StringRow b o s n
+  ValueAt b o (TypeValue t) n = IndexAt type_code TypeRow b o t n
+  ValueAt b o (FieldValue f) n = IndexAt field_code FieldRow b o f n
+  ValueAt b o (MethodValue m) n = IndexAt method_code MethodRow b o m n
+  ValueAt b o (EnumValue f) n = IndexAt enum_code FieldRow b o f n
+  ValueAt b o (ArrayValue vs) n = Stands b o (value_byte 0 array_code ∷ [])
+      × (m : ℕ) × ArrayAround (λ p k. ValuesAt b p vs k) (count_values vs) b (o + 1) m × (n ≡ 1 + m)
+  ValueAt b o (AnnotationValue t es) n = Stands b o (value_byte 0 annotation_code ∷ [])
+      × (m : ℕ) × AnnotationAround (λ p k. ElementsAt b p es k) t (names_of es) b (o + 1) m × (n ≡ 1 + m)
+  ValueAt b o NullValue n = Stands b o (value_byte 0 null_code ∷ []) × (n ≡ 1)
+  ValueAt b o (BooleanValue false) n = Stands b o (value_byte 0 boolean_code ∷ []) × (n ≡ 1)
+  ValueAt b o (BooleanValue true) n = Stands b o (value_byte 1 boolean_code ∷ []) × (n ≡ 1)
+
+  -- at offset o stand the values, one after the other
+  pub ValuesAt : List ℕ → ℕ → Values → ℕ → Type 0
+  ValuesAt b o NoValues n = n ≡ 0
+  ValuesAt b o (ThenValue v vs) n = (i : ℕ) × (j : ℕ) × ValueAt b o v i × ValuesAt b (o + i) vs j × (n ≡ i + j)
+
+  -- at offset o stand the elements, each an index of its name and its value
+  pub ElementsAt : List ℕ → ℕ → Elements → ℕ → Type 0
+  ElementsAt b o NoElements n = n ≡ 0
+  ElementsAt b o (ThenElement name v es) n = (i : ℕ) × (j : ℕ) × (k : ℕ) × (index : ℕ) × Uleb128At b o index i × StringRow b index name
+      × ValueAt b (o + i) v j × ElementsAt b (o + i + j) es k × (n ≡ i + j + k)
+
+-- at offset o stands an encoded_array
+abbrev pub EncodedArrayAt : Item Values
+EncodedArrayAt b o vs n = ArrayAround (λ p k. ValuesAt b p vs k) (count_values vs) b o n
+
+-- at offset o stands an encoded_annotation
+abbrev pub EncodedAnnotationAt : Text → Item Elements
+EncodedAnnotationAt t b o es n = AnnotationAround (λ p k. ElementsAt b p es k) t (names_of es) b o n

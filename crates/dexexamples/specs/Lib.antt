@@ -1,0 +1,4 @@
+pub mod Examples
+pub mod ExpectedFiles
+pub mod Units
+pub mod OpcodeTable

@@ -72,9 +72,11 @@ HasDebugAt b o = (cuts : List Cut) (ps : List Piece) → PiecesAt b o cuts ps �
 abbrev pub HasCode : List ℕ → ℕ → Type 0
 HasCode b r = AllCode HasPiecesAt b r
 
+-- 19 Tries
 abbrev pub HasTries : List ℕ → ℕ → Type 0
 HasTries b r = AllCode HasTriesAt b r
 
+-- 20 Debug
 abbrev pub HasDebug : List ℕ → ℕ → Type 0
 HasDebug b r = AllCode HasDebugAt b r
 
@@ -156,6 +158,7 @@ Holds Condition.Values b r = HasValues b r
 Holds Condition.Annotations b r = HasAnnotations b r
 Holds Condition.Weight b r = HasWeight b r
 
+-- the condition holds at each of its rows
 abbrev pub HoldsThroughout : Condition → List ℕ → Type 0
 HoldsThroughout c b = (r : ℕ) → r < places c b → Holds c b r
 

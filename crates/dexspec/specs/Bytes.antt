@@ -24,6 +24,7 @@ signed_in n v = if nat_lt (2 * v) (2 ^ (8 * n)) then pos v else pos v -ℤ pos (
 unfoldable pub ushort : ℕ → List ℕ
 ushort n = bytes_of 2 n
 
+-- a number as four bytes
 unfoldable pub uint : ℕ → List ℕ
 uint n = bytes_of 4 n
 

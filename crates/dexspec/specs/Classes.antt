@@ -48,14 +48,17 @@ pub record Body : Type 0 where
 abbrev pub Definition : Type 0
 Definition = Text × Body
 
+-- the static fields, and then the instance fields
 abbrev pub declared_fields : Body → List FieldDef
 declared_fields c = c.static_fields ++ c.instance_fields
 
+-- the direct methods, and then the virtual methods
 abbrev pub declared_methods : Body → List MethodDef
 declared_methods c = c.direct_methods ++ c.virtual_methods
 
 -- ---- the fields of a class row
 
+-- the eight fields of class row r, in their order: the type that it defines
 abbrev pub class_idx : List ℕ → ℕ → ℕ
 class_idx b r = uint_at b (row_at b ClassDefs r)
 

@@ -31,6 +31,7 @@ pub record Try : Type 0 where
   pub count : ℕ
   pub handler : Handler
 
+-- a code_item with symbols in the place of indices
 pub record Code : Type 0 where
   pub registers : ℕ
   pub ins : ℕ
@@ -39,9 +40,11 @@ pub record Code : Type 0 where
   pub tries : List Try
   pub debug : Option Debug
 
+-- whether two catches are the same
 abbrev pub same_catch : Catch → Catch → Bool
 same_catch c d = same_text c.type d.type && c.address == d.address
 
+-- whether two handlers are: types, addresses and the one for all else
 abbrev pub same_handler : Handler → Handler → Bool
 same_handler h k = pointwise same_catch h.catches k.catches && option_eq ◌==◌ h.catch_all k.catch_all
 
@@ -55,6 +58,7 @@ handlers_weight hs = 5 + sum_by (λ h. 10 + 8 * length h.catches) hs
 
 -- ---- the fixed part and the units
 
+-- the units of the code_item at an offset
 abbrev pub code_units : List ℕ → ℕ → List ℕ
 code_units b o = ushorts_at b (o + 16) (uint_at b (o + 12))
 

@@ -82,15 +82,19 @@ each_with stem endings = map (λ ending. stem ++ ending) endings
 abbrev pub all_with : List (List ℕ) → List ℕ → List (List ℕ)
 all_with stems ending = map (λ stem. stem ++ ending) stems
 
+-- what can be moved or returned
 abbrev pub move_endings : List (List ℕ)
 move_endings = codes "" ∷ codes "-wide" ∷ codes "-object" ∷ []
 
+-- the seven kinds of element, field or array
 abbrev pub kind_endings : List (List ℕ)
 kind_endings = codes "" ∷ codes "-wide" ∷ codes "-object" ∷ codes "-boolean" ∷ codes "-byte" ∷ codes "-char" ∷ codes "-short" ∷ []
 
+-- the six comparisons of branches
 abbrev pub comparisons : List (List ℕ)
 comparisons = codes "if-eq" ∷ codes "if-ne" ∷ codes "if-lt" ∷ codes "if-ge" ∷ codes "if-gt" ∷ codes "if-le" ∷ []
 
+-- the five ways to invoke
 abbrev pub invocations : List (List ℕ)
 invocations = codes "invoke-virtual" ∷ codes "invoke-super" ∷ codes "invoke-direct" ∷ codes "invoke-static" ∷ codes "invoke-interface" ∷ []
 
@@ -98,9 +102,11 @@ invocations = codes "invoke-virtual" ∷ codes "invoke-super" ∷ codes "invoke-
 abbrev pub arithmetic : List (List ℕ)
 arithmetic = codes "add" ∷ codes "sub" ∷ codes "mul" ∷ codes "div" ∷ codes "rem" ∷ []
 
+-- what works on whole numbers
 abbrev pub bitwise : List (List ℕ)
 bitwise = codes "and" ∷ codes "or" ∷ codes "xor" ∷ []
 
+-- the three shifts
 abbrev pub shifts : List (List ℕ)
 shifts = codes "shl" ∷ codes "shr" ∷ codes "ushr" ∷ []
 
@@ -109,9 +115,11 @@ abbrev pub binary_operations : List (List ℕ)
 binary_operations = all_with (arithmetic ++ (bitwise ++ shifts)) (codes "-int") ++ (all_with (arithmetic ++ (bitwise ++ shifts)) (codes "-long")
     ++ (all_with arithmetic (codes "-float") ++ all_with arithmetic (codes "-double")))
 
+-- opcodes without an index
 abbrev pub run : ℕ → Format → List (List ℕ) → OpcodeRun
 run first format mnemonics = record { first = first; format = format; index = None; mnemonics = mnemonics }
 
+-- opcodes with an index of this pool
 abbrev pub run_with : ℕ → Format → Pool → List (List ℕ) → OpcodeRun
 run_with first format pool mnemonics = record { first = first; format = format; index = Some pool; mnemonics = mnemonics }
 

@@ -16,6 +16,7 @@ use Rattle.dexspec.specs.Opcodes.{Format, F10x, F20t, F30t, F32x, F35c, F10t, F2
 abbrev pub low_byte : ℕ → ℕ
 low_byte u = u % 256
 
+-- the byte above the opcode
 abbrev pub high_byte : ℕ → ℕ
 high_byte u = u / 256
 
@@ -44,6 +45,7 @@ sparse_switch_ident = 0x0200
 abbrev pub array_data_ident : ℕ
 array_data_ident = 0x0300
 
+-- whether a payload begins with this unit
 abbrev pub is_payload_ident : ℕ → Bool
 is_payload_ident u = u == packed_switch_ident || (u == sparse_switch_ident || u == array_data_ident)
 
@@ -156,6 +158,7 @@ leads_right us cs at F31t offset =
     && list_all (λ target. is_instruction_start us cs (pos at +ℤ target)) (payload_targets us (nat_abs (pos at +ℤ offset)))
 leads_right us cs at _ offset = is_instruction_start us cs (pos at +ℤ offset)
 
+-- what there is passes the test
 abbrev pub all_of_option : {X : Type 0} → (X → Bool) → Option X → Bool
 all_of_option p None = true
 all_of_option p (Some x) = p x
@@ -180,6 +183,7 @@ pub data Piece : Type 0 where
   Instruction : (units : List ℕ) → (symbol : Option Symbol) → Piece
   Payload : (units : List ℕ) → Piece
 
+-- the units of a piece, without its index
 abbrev pub units_of : Piece → List ℕ
 units_of (Instruction us s) = us
 units_of (Payload us) = us

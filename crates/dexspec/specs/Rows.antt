@@ -89,6 +89,7 @@ table_of Methods = MethodIds
 
 -- ---- the order of the rows, by indices
 
+-- the order of keys: index by index
 abbrev pub key_cmp : List ℕ → List ℕ → Ordering
 key_cmp = slice_cmp nat_cmp
 

@@ -76,6 +76,7 @@ abbrev pub entries_at : List ℕ → ℕ → ℕ → List MapEntry
 entries_at b o zero = []
 entries_at b o (suc n) = record { kind = ushort_at b o; size = uint_at b (o + 4); off = uint_at b (o + 8) } ∷ entries_at b (o + 12) n
 
+-- the entries of the map_list at map_off
 abbrev pub map_entries : List ℕ → List MapEntry
 map_entries b = entries_at b (map_off b + 4) (uint_at b (map_off b))
 

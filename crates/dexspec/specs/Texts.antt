@@ -14,6 +14,7 @@ use Rattle.dexspec.specs.Numbers.{IsUleb128, BeginsWith, uleb128}
 abbrev pub Text : Type 0
 Text = List ℕ
 
+-- numbers of 16 bits
 abbrev pub AreUnits : Text → Type 0
 AreUnits s = All (λ u. u < 2 ^ 16) s
 
@@ -21,6 +22,7 @@ AreUnits s = All (λ u. u < 2 ^ 16) s
 abbrev pub text_cmp : Text → Text → Ordering
 text_cmp = slice_cmp nat_cmp
 
+-- whether two texts are the same
 abbrev pub same_text : Text → Text → Bool
 same_text = pointwise ◌==◌
 

@@ -39,6 +39,7 @@ mutual
     NoElements : Elements
     ThenElement : (name : Text) → (value : Value) → (rest : Elements) → Elements
 
+-- how many values there are
 abbrev pub count_values : Values → ℕ
 count_values NoValues = 0
 count_values (ThenValue v vs) = count_values vs + 1
@@ -79,11 +80,13 @@ abbrev mutual
   elements_depth NoElements = 0
   elements_depth (ThenElement name v es) = max (value_depth v) (elements_depth es)
 
+-- the deepest that values may nest (this project's rule)
 abbrev pub most_depth : ℕ
 most_depth = 32
 
 -- ---- the type codes
 
+-- the type codes of the kinds of value, in the order of the page
 abbrev pub byte_code : ℕ
 byte_code = 0x00
 

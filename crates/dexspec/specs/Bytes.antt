@@ -1,10 +1,6 @@
 -- Numbers of fixed size, what stands at a place of a list of bytes, and alignment.
 -- Source: "Dalvik Executable format", "Overall file layout" (all numbers are little-endian).
-use Rattle.std.specs.Prelude.{◌≡◌, ℕ, zero, suc, ℤ, pos, ◌-ℤ◌, ◌+◌, ◌-◌, ◌*◌, ◌/◌, ◌%◌, ◌^◌, ◌<◌, List, [], ◌∷◌, length, take, drop, nat_lt, if◌then◌else◌, All, replicate}
-
--- numbers that fit a byte
-abbrev pub AreBytes : List ℕ → Type 0
-AreBytes b = All (λ x. x < 256) b
+use Rattle.std.specs.Prelude.{◌≡◌, ℕ, zero, suc, ℤ, pos, ◌-ℤ◌, ◌+◌, ◌-◌, ◌*◌, ◌/◌, ◌%◌, ◌^◌, List, [], ◌∷◌, length, take, drop, nat_lt, if◌then◌else◌, replicate}
 
 -- the number that bytes spell, the lowest first
 unfoldable pub number_of : List ℕ → ℕ

@@ -166,7 +166,7 @@ HoldsThroughout c b = (r : ℕ) → r < places c b → Holds c b r
 abbrev pub HoldBelow : ℕ → List ℕ → Type 0
 HoldBelow n b = (c : Condition) → number c < n → HoldsThroughout c b
 
--- the header and all that it leads to: conditions 1 to 10
+-- header, sums, layout and map: conditions 1 to 10
 abbrev pub IsFrame : List ℕ → Type 0
 IsFrame b = HoldBelow 11 b
 

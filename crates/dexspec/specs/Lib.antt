@@ -28,3 +28,4 @@ pub mod Placing
 pub mod Canonical
 pub mod Merging
 pub mod Stripping
+pub mod Plain

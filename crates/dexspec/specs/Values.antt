@@ -8,6 +8,7 @@ use Rattle.dexspec.specs.Bytes.{number_of, signed_in, Stands}
 use Rattle.dexspec.specs.Numbers.{Uleb128At}
 use Rattle.dexspec.specs.Texts.{Text, text_cmp}
 use Rattle.dexspec.specs.Symbols.{Field, Method}
+use Rattle.dexspec.specs.Header.{data_off}
 use Rattle.dexspec.specs.Rows.{StringRow, TypeRow, FieldRow, MethodRow}
 
 -- A value is a tree. A char is a number; floats are their bit patterns; an enum is a field. The elements of
@@ -215,3 +216,17 @@ EncodedArrayAt b o vs n = ArrayAround (λ p k. ValuesAt b p vs k) (count_values 
 -- at offset o stands an encoded_annotation
 abbrev pub EncodedAnnotationAt : Text → Item Elements
 EncodedAnnotationAt t b o es n = AnnotationAround (λ p k. ElementsAt b p es k) t (names_of es) b o n
+
+-- ---- in the data
+
+-- at offset o of the data stands an encoded_value that nests no deeper than it may
+pub record EncodedValueAt (b : List ℕ) (o : ℕ) (v : Value) (n : ℕ) : Type 0 where
+  pub in_data : data_off b ≤ o
+  pub stands : ValueAt b o v n
+  pub shallow : value_depth v ≤ most_depth
+
+-- at offset o of the data stands an encoded_array_item whose values nest no deeper than they may
+pub record EncodedArrayItemAt (b : List ℕ) (o : ℕ) (vs : Values) (n : ℕ) : Type 0 where
+  pub in_data : data_off b ≤ o
+  pub array : EncodedArrayAt b o vs n
+  pub shallow : values_depth vs ≤ most_depth

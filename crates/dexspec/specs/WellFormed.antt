@@ -173,6 +173,10 @@ pub record IsWellFormed (d : Definition) : Type 0 where
   pub annotations : IsSet d.1.annotations
   pub fields : All IsFieldDef (declared_fields d.1)
   pub methods : All IsMethodDef (declared_methods d.1)
+  pub static_fields_count : FitsUint (length d.1.static_fields)
+  pub instance_fields_count : FitsUint (length d.1.instance_fields)
+  pub direct_methods_count : FitsUint (length d.1.direct_methods)
+  pub virtual_methods_count : FitsUint (length d.1.virtual_methods)
   pub static_fields : IsTrue (rises field_key_cmp (map field_key d.1.static_fields))
   pub instance_fields : IsTrue (rises field_key_cmp (map field_key d.1.instance_fields))
   pub fields_apart : ShareNone (map field_key d.1.static_fields) (map field_key d.1.instance_fields)

@@ -1,0 +1,7 @@
+pub mod SymbolOrders
+pub mod Members
+pub mod InOrder
+pub mod Growth
+pub mod DepthGrowth
+pub mod WeightGrowth
+pub mod Absorption

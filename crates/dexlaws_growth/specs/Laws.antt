@@ -6,9 +6,10 @@ use Rattle.std.specs.FinMap.{IsAntisymmetric}
 use Rattle.std.specs.declared.cmp.Ordering.{Ordering}
 use Rattle.dexspec.specs.Lists.{rises, in_order, rank}
 use Rattle.dexspec.specs.Texts.{Text, text_cmp}
-use Rattle.dexspec.specs.Symbols.{proto_cmp, field_cmp, method_cmp}
+use Rattle.dexspec.specs.Names.{shorty}
+use Rattle.dexspec.specs.Symbols.{Symbol, Proto, Field, Method, proto_cmp, field_cmp, method_cmp}
 use Rattle.dexspec.specs.Classes.{Definition}
-use Rattle.dexspec.specs.Mentions.{mentions}
+use Rattle.dexspec.specs.Mentions.{Mentions, mentions, symbols_of, texts_in, types_in, protos_in, fields_in, methods_in, proto_types}
 use Rattle.dexspec.specs.Depth.{is_defined, above, is_below, HasDepth, IsAcyclic}
 use Rattle.dexspec.specs.Merging.{Caps, IsGood, Cause, IsCause}
 
@@ -50,6 +51,34 @@ pub record MentionsRise (D : List Definition) : Type 0 where
   pub protos : IsTrue (rises proto_cmp (mentions D).protos)
   pub fields : IsTrue (rises field_cmp (mentions D).fields)
   pub methods : IsTrue (rises method_cmp (mentions D).methods)
+
+-- some symbol that occurs in one of the definitions has this among its parts
+pub record Occurs {X : Type 0} (parts : Symbol → List X) (D : List Definition) (x : X) : Type 0 where
+  pub definition : Definition
+  pub symbol : Symbol
+  pub member : Contains D definition
+  pub occurs : Contains (symbols_of definition) symbol
+  pub part : Contains (parts symbol) x
+
+-- the five lists of mentions hold the parts of the symbols that occur, and nothing else
+pub record MentionsAreParts (D : List Definition) : Type 0 where
+  pub texts : (s : Text) → Contains (mentions D).texts s ↔ Occurs texts_in D s
+  pub types : (t : Text) → Contains (mentions D).types t ↔ Occurs types_in D t
+  pub protos : (p : Proto) → Contains (mentions D).protos p ↔ Occurs protos_in D p
+  pub fields : (f : Field) → Contains (mentions D).fields f ↔ Occurs fields_in D f
+  pub methods : (m : Method) → Contains (mentions D).methods m ↔ Occurs methods_in D m
+
+-- what a mentioned symbol is made of is mentioned
+pub record AreClosed (m : Mentions) : Type 0 where
+  pub type_text : (t : Text) → Contains m.types t → Contains m.texts t
+  pub shorty_text : (p : Proto) → Contains m.protos p → Contains m.texts (shorty p.return_type p.parameters)
+  pub proto_type : (p : Proto) (t : Text) → Contains m.protos p → Contains (proto_types p) t → Contains m.types t
+  pub field_class : (f : Field) → Contains m.fields f → Contains m.types f.class
+  pub field_name : (f : Field) → Contains m.fields f → Contains m.texts f.name
+  pub field_type : (f : Field) → Contains m.fields f → Contains m.types f.type
+  pub method_class : (x : Method) → Contains m.methods x → Contains m.types x.class
+  pub method_name : (x : Method) → Contains m.methods x → Contains m.texts x.name
+  pub method_proto : (x : Method) → Contains m.methods x → Contains m.protos x.proto
 
 -- names, parents and depths of the first definitions as among the second ones
 pub record DepthsGrow (D E : List Definition) : Type 0 where

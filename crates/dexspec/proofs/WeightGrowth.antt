@@ -1,5 +1,5 @@
 -- The weight does not shrink as definitions grow.
-use Rattle.std.proofs.Common.{◌≤◌, List, arith}
+use Rattle.std.proofs.Common.{◌≡◌, ◌≤◌, List, arith}
 use Rattle.dexspec.specs.Lists.{AreDistinct}
 use Rattle.dexspec.specs.Texts.{text_cmp}
 use Rattle.dexspec.specs.Symbols.{proto_cmp, field_cmp, method_cmp}
@@ -27,3 +27,7 @@ weight-within D E d h =
     let mentioned = mentions_weight-among (mentions D) (mentions E) (mentions-rising D) (mentions-among D E h) in
     let bodies = sum_by-among (λ (e : Definition). body_weight e.1) D E d h in
     omega (arith, mentioned, bodies)
+
+-- definitions of which no two are the same weigh what any other list of them does
+pub weight-same : (D E : List Definition) → AreDistinct D → AreDistinct E → AreWithin D E → AreWithin E D → weight D ≡ weight E
+weight-same D E d e f g = omega (arith, weight-within D E d f, weight-within E D e g)

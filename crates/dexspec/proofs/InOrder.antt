@@ -1,5 +1,5 @@
 -- Lists in order: what `in_order` makes rises, has the members of the list that it is made of, and rests on these alone.
-use Rattle.std.proofs.Common.{◌≡◌, ◌⊎◌, ℕ, zero, suc, ◌+◌, ◌<◌, ◌≤◌, Bool, true, false, cond, ◌&&◌, List, [], ◌∷◌, length, get_or, refl, sym, ap, ◌∙◌, subst, arith, inl, inr, Ordering, Less, Equal, Greater}
+use Rattle.std.proofs.Common.{◌≡◌, ◌⊎◌, ℕ, zero, suc, ◌+◌, ◌<◌, ◌≤◌, Bool, true, false, cond, List, [], ◌∷◌, length, get_or, refl, sym, ap, ◌∙◌, subst, arith, inl, inr, Ordering, Less, Equal, Greater}
 use Rattle.std.specs.List.{Contains}
 use Rattle.std.specs.Ordering.{is_lt, ordering_reverse}
 use Rattle.std.specs.Cmp.{IsTotalOrder}
@@ -10,7 +10,7 @@ use Rattle.std.proofs.lemmas.List.{get_or_default}
 use Rattle.std.proofs.lemmas.List.Elements.{Contains-get_or}
 use Rattle.std.proofs.lemmas.List.Sums.{sum_by-cons}
 use Rattle.dexspec.specs.Lists.{rises, add_in_order, in_order, rank, AreDistinct}
-use Rattle.dexspec.proofs.Members.{AreAmong, Contains-nil, Contains-first, Contains-later, Contains-cons_cases, sum_by-among}
+use Rattle.dexspec.proofs.Members.{and_first, and_second, and_both, AreAmong, Contains-nil, Contains-first, Contains-later, Contains-cons_cases, sum_by-among}
 
 -- by cases: each is less than all behind it
 abbrev pub Rises : {K : Type 0} → (K → K → Ordering) → List K → Type 0
@@ -22,20 +22,11 @@ less_is Less e = refl
 less_is Equal e = absurd cc
 less_is Greater e = absurd cc
 
-and_is : (a b : Bool) → (a && b) ≡ true → (a ≡ true) × (b ≡ true)
-and_is true b e = (refl, e)
-and_is false b e = absurd cc
-
 module _ {K : Type 0} (R : K → K → Ordering) where
-  and_of : (o : Ordering) (b : Bool) → o ≡ Less → b ≡ true → (is_lt o && b) ≡ true
-  and_of Less b e f = f
-  and_of Equal b e f = absurd cc
-  and_of Greater b e f = absurd cc
-
   pub rises-from_Rises : (xs : List K) → Rises R xs → rises R xs ≡ true
   rises-from_Rises [] h = refl
   rises-from_Rises (x ∷ []) h = refl
-  rises-from_Rises (x ∷ y ∷ ys) h = and_of (R x y) (rises R (y ∷ ys)) (h.0 y (Contains-first y ys)) (rises-from_Rises (y ∷ ys) h.1)
+  rises-from_Rises (x ∷ y ∷ ys) h = and_both (is_lt (R x y)) (rises R (y ∷ ys)) (ap is_lt (h.0 y (Contains-first y ys))) (rises-from_Rises (y ∷ ys) h.1)
 
   module _ (o : IsTotalOrder R) where
     greater : (x y : K) → R x y ≡ Greater → R y x ≡ Less
@@ -51,9 +42,8 @@ module _ {K : Type 0} (R : K → K → Ordering) where
     Rises-from_rises [] h = tt
     Rises-from_rises (x ∷ []) h = (λ y c. absurd (Contains-nil y c), tt)
     Rises-from_rises (x ∷ y ∷ ys) h =
-        let p = and_is (is_lt (R x y)) (rises R (y ∷ ys)) h in
-        let l = less_is (R x y) p.0 in
-        let r = Rises-from_rises (y ∷ ys) p.1 in
+        let l = less_is (R x y) (and_first (is_lt (R x y)) (rises R (y ∷ ys)) h) in
+        let r = Rises-from_rises (y ∷ ys) (and_second (is_lt (R x y)) (rises R (y ∷ ys)) h) in
         (λ z c. elim (Contains-cons_cases y z ys c) [ inl e ↦ subst (λ w. R x w ≡ Less) e l | inr m ↦ o.trans x y z l (r.0 z m) ], r)
 
     -- ---- a rising list by its places

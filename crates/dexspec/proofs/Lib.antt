@@ -2,3 +2,11 @@ pub mod Chains
 pub mod Groups
 pub mod Signed
 pub mod Spellings
+pub mod SymbolOrders
+pub mod Members
+pub mod InOrder
+pub mod Growth
+pub mod MentionMembers
+pub mod DepthGrowth
+pub mod WeightGrowth
+pub mod Absorption

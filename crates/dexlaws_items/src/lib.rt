@@ -3,4 +3,6 @@
 #![tactic(auto)]
 
 pub mod numbers;
+pub mod rows;
 pub mod texts;
+pub mod values;

@@ -1,7 +1,9 @@
 pub mod Chains
 pub mod Groups
 pub mod OneNumber
+pub mod OneRow
 pub mod OneText
+pub mod OneValue
 pub mod Signed
 pub mod Spellings
 pub mod Stands

@@ -2,6 +2,7 @@
 //! public function with an empty body. A function that needs a law calls it.
 #![tactic(auto)]
 
+pub mod debug;
 pub mod numbers;
 pub mod rows;
 pub mod texts;

@@ -1,9 +1,11 @@
 pub mod Chains
 pub mod Groups
+pub mod OneDebug
 pub mod OneNumber
 pub mod OneRow
 pub mod OneText
 pub mod OneValue
+pub mod Sequences
 pub mod Signed
 pub mod Spellings
 pub mod Stands

@@ -7,3 +7,4 @@ pub mod numbers;
 pub mod rows;
 pub mod texts;
 pub mod values;
+pub mod widths;

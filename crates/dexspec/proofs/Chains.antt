@@ -52,6 +52,7 @@ pub sum_bound : (bytes : List ℕ) → sum_of_groups bytes < 2 ^ (7 * length byt
 sum_bound [] = omega arith
 sum_bound (b ∷ bs) = omega (arith, sevens (length bs), sum_bound bs)
 
+-- five groups have 35 bits
 pub pow_in_five : (n : ℕ) → n ≤ 5 → 2 ^ (7 * n) ≤ 2 ^ 35
 pow_in_five n few = let le : 7 * n ≤ 35 = omega arith in pow-le-pow_right (omega arith) le
 

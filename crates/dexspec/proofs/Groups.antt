@@ -5,6 +5,7 @@ use Rattle.std.proofs.lemmas.Bool.{cases_lt, lt-ltb, le-ltb}
 use Rattle.dexspec.specs.Numbers.{IsChain, sum_of_groups, groups, size_u}
 use Rattle.dexspec.proofs.Chains.{chain_cons, sevens}
 
+-- n groups are n bytes
 pub length-groups : (n v : ℕ) → length (groups n v) ≡ n
 length-groups zero v = refl
 length-groups (suc zero) v = refl
@@ -14,10 +15,12 @@ length-groups (suc (suc n)) v = ap suc (length-groups (suc n) (v / 128))
 pub group_less : (n v : ℕ) → v < 2 ^ (7 * suc n) → v / 128 < 2 ^ (7 * n)
 group_less n v lt = omega (arith, sevens n)
 
+-- the groups of a number that they hold are a chain
 chain_groups : (n v : ℕ) → v < 2 ^ (7 * suc n) → IsChain (groups (suc n) v)
 chain_groups zero v lt = lt
 chain_groups (suc n) v lt = chain_cons (128 + v % 128) (groups (suc n) (v / 128)) (omega arith) (chain_groups n (v / 128) (group_less (suc n) v lt))
 
+-- whose sum is the number
 sum_of_groups-groups : (n v : ℕ) → v < 2 ^ (7 * suc n) → sum_of_groups (groups (suc n) v) ≡ v
 sum_of_groups-groups zero v lt = omega arith
 sum_of_groups-groups (suc n) v lt = omega (arith, sum_of_groups-groups n (v / 128) (group_less (suc n) v lt))
@@ -34,12 +37,14 @@ pub record HasSize (v n : ℕ) : Type 0 where
   pub holds : v < 2 ^ (7 * n)
   pub least : (m : ℕ) → 0 < m → v < 2 ^ (7 * m) → n ≤ m
 
+-- a number that n groups do not hold needs more
 least_by : (v n : ℕ) → 2 ^ (7 * n) ≤ v → (m : ℕ) → 0 < m → v < 2 ^ (7 * m) → suc n ≤ m
 least_by v n le m some lt = elim (cases_lt n m) [
   | inl less ↦ less
   | inr more ↦ absurd (let wide : 7 * m ≤ 7 * n = omega arith in let grows : 2 ^ (7 * m) ≤ 2 ^ (7 * n) = pow-le-pow_right (omega arith) wide in omega arith)
 ]
 
+-- the size of a number is the least number of groups that hold it
 pub size_u_is : (v : ℕ) → v < 2 ^ 35 → HasSize v (size_u v)
 size_u_is v lt =
     elim (cases_lt v 0x80) [

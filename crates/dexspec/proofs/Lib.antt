@@ -1,3 +1,4 @@
+pub mod ByteNumbers
 pub mod Chains
 pub mod Groups
 pub mod OneDebug
@@ -9,3 +10,4 @@ pub mod Sequences
 pub mod Signed
 pub mod Spellings
 pub mod Stands
+pub mod Widths

@@ -54,6 +54,7 @@ magnitude_of (negsuc n) bytes chain is =
       | inr set ↦ let e = rw (is_negative bytes set) at is in omega (arith, ints, e, upper_half bytes chain set)
     ]
 
+-- the size of a number with a sign is the least number of groups with room for its bits and its sign
 pub size_s_is : (v : ℤ) → FitsSigned w32 v → HasSize (2 * magnitude v) (size_s v)
 size_s_is (pos n) fits = size_u_is (2 * n) (omega (arith, ints))
 size_s_is (negsuc n) fits = size_u_is (2 * n) (omega (arith, ints))

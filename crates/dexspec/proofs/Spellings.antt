@@ -43,18 +43,21 @@ module _ {V : Type 0} (number : List ℕ → V) (InRange : V → Type 0) where
 
 -- ---- the number plus one
 
+-- one more tells the number, or that there is none
 pub same_plus_one : (v w : Option ℕ) → plus_one v ≡ plus_one w → v ≡ w
 same_plus_one None None e = refl
 same_plus_one None (Some w) e = absurd (omega arith)
 same_plus_one (Some v) None e = absurd (omega arith)
 same_plus_one (Some v) (Some w) e = let same : v ≡ w = omega arith in ap Some same
 
+-- a number plus one stands where one more stands
 pub begins_plus_one : (bytes : List ℕ) (v : Option ℕ) (n : ℕ) → BeginsWith IsUleb128p1 bytes v n ↔ BeginsWith IsUleb128 bytes (plus_one v) n
 begins_plus_one bytes v n = (
   λ begins. record { within = begins.within; spelled = begins.spelled },
   λ begins. record { within = begins.within; spelled = begins.spelled },
 )
 
+-- what stands before what is appended to it, and nothing else, of a number plus one
 pub one_number_plus_one : (a rest : List ℕ) (v w : Option ℕ) (n : ℕ) → IsUleb128p1 a v → BeginsWith IsUleb128p1 (a ++ rest) w n ↔ ((w ≡ v) × (n ≡ length a))
 one_number_plus_one a rest v w n says =
     let only = one_number sum_of_groups (λ v. v < 2 ^ 32) a rest (plus_one v) (plus_one w) n says in
@@ -65,6 +68,7 @@ one_number_plus_one a rest v w n says =
 
 -- ---- the shortest spellings
 
+-- what is written is a spelling, and no other is shorter
 pub uleb128_is : (v : ℕ) → v < 2 ^ 32 → IsShortest IsUleb128 (uleb128 v) v
 uleb128_is v lt =
     let size = size_u_is v (omega arith) in
@@ -88,8 +92,8 @@ sleb128_is v fits =
     }
 
 -- they have one to five bytes
-pub length-uleb128 : (v : ℕ) → (1 ≤ length (uleb128 v)) × (length (uleb128 v) ≤ 5)
-length-uleb128 v = rw length-groups (size_u_bounds v)
+pub uleb128_bounds : (v : ℕ) → (1 ≤ length (uleb128 v)) × (length (uleb128 v) ≤ 5)
+uleb128_bounds v = rw length-groups (size_u_bounds v)
 
-pub length-sleb128 : (v : ℤ) → (1 ≤ length (sleb128 v)) × (length (sleb128 v) ≤ 5)
-length-sleb128 v = rw length-groups (size_u_bounds (2 * magnitude v))
+pub sleb128_bounds : (v : ℤ) → (1 ≤ length (sleb128 v)) × (length (sleb128 v) ≤ 5)
+sleb128_bounds v = rw length-groups (size_u_bounds (2 * magnitude v))

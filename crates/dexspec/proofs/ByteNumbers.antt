@@ -13,25 +13,30 @@ use Rattle.dexspec.specs.Canonical.{complement}
 
 -- ---- powers
 
+-- a byte has 8 bits
 pub pow_256 : (n : ℕ) → 2 ^ (8 * n) ≡ 256 ^ n
 pow_256 zero = refl
 pow_256 (suc n) = let e : 8 * suc n ≡ 8 + 8 * n = omega arith in rw (e, pow-add) (omega (arith, pow_256 n, pow-suc 256 n))
 
+-- a power of 256 is not 0
 pub pow_256_pos : (n : ℕ) → 0 < 256 ^ n
 pow_256_pos n = omega (arith, pow_256 n, pow_pos (8 * n))
 
 -- ---- bytes
 
+-- n bytes are n
 pub length-bytes_of : (n v : ℕ) → length (bytes_of n v) ≡ n
 unfolding bytes_of
 length-bytes_of zero v = refl
 length-bytes_of (suc n) v = ap suc (length-bytes_of n (v / 256))
 
+-- the bytes of a number that they hold spell it
 pub number_of-bytes_of : (n v : ℕ) → v < 256 ^ n → number_of (bytes_of n v) ≡ v
 unfolding bytes_of number_of
 number_of-bytes_of zero v lt = omega arith
 number_of-bytes_of (suc n) v lt = let rest = number_of-bytes_of n (v / 256) (omega (arith, pow-suc 256 n)) in omega (arith, rest)
 
+-- each of them fits a byte
 pub are_bytes-bytes_of : (n v : ℕ) → AreBytes (bytes_of n v)
 unfolding bytes_of
 are_bytes-bytes_of zero v = All-nil (λ x. x < 256)
@@ -47,18 +52,22 @@ number_bound (b ∷ bs) are =
 
 -- ---- two and four bytes
 
+-- a ushort has two bytes
 pub length-ushort : (n : ℕ) → length (ushort n) ≡ 2
 unfolding ushort
 length-ushort n = length-bytes_of 2 n
 
+-- a uint has four bytes
 pub length-uint : (n : ℕ) → length (uint n) ≡ 4
 unfolding uint
 length-uint n = length-bytes_of 4 n
 
+-- where a ushort stands, it is read
 pub ushort_at-stands : {b : List ℕ} {o n : ℕ} → n < 2 ^ 16 → Stands b o (ushort n) → ushort_at b o ≡ n
 unfolding ushort ushort_at bytes_of
 ushort_at-stands {b} {o} {n} lt h = ap number_of h.here ∙ number_of-bytes_of 2 n lt
 
+-- where a uint stands, it is read
 pub uint_at-stands : {b : List ℕ} {o n : ℕ} → n < 2 ^ 32 → Stands b o (uint n) → uint_at b o ≡ n
 unfolding uint uint_at bytes_of
 uint_at-stands {b} {o} {n} lt h = ap number_of h.here ∙ number_of-bytes_of 4 n lt
@@ -73,6 +82,7 @@ signed_in-bytes_of (suc n) (pos v) some lt =
 signed_in-bytes_of (suc n) (negsuc v) some lt =
     rw (number_of-bytes_of (suc n) (256 ^ suc n - suc v) (omega arith), pow_256 (suc n), le-ltb (2 * (256 ^ suc n - suc v)) (256 ^ suc n) (omega (arith, pow-suc 256 n))) (omega (arith, ints))
 
+-- a number that n bytes hold, read with its sign
 signed_room : (n x : ℕ) (z : ℤ) → x < 256 ^ suc n → signed_in (suc n) x ≡ z → 2 * magnitude z < 256 ^ suc n
 signed_room n x (pos v) lt is =
     elim (cases_lt (2 * x) (256 ^ suc n)) [

@@ -16,6 +16,7 @@ use Rattle.dexspec.proofs.OneRow.{one_string, one_type}
 
 -- ---- what an index names, or nothing
 
+-- what a row names, or nothing where there is no index
 one_both : {X : Type 0} (R : ℕ → X → Type 0) → ((i : ℕ) (x y : X) → R i x → R i y → x ≡ y) → (i : Option ℕ) (x y : Option X) → BothOrNone R i x → BothOrNone R i y → x ≡ y
 one_both R one None None None h g = refl
 one_both R one None None (Some y) h g = absurd g
@@ -24,6 +25,7 @@ one_both R one (Some i) None y h g = absurd h
 one_both R one (Some i) (Some x) None h g = absurd g
 one_both R one (Some i) (Some x) (Some y) h g = ap Some (one i x y h g)
 
+-- an index that may be none names one thing at most
 one_optional : {X : Type 0} (Row : List ℕ → ℕ → X → Type 0) → ((b : List ℕ) (i : ℕ) (x y : X) → Row b i x → Row b i y → x ≡ y)
     → (b : List ℕ) (o : ℕ) (x y : Option X) (n k : ℕ)
     → (i : Option ℕ) × Uleb128p1At b o i n × BothOrNone (Row b) i x → (i : Option ℕ) × Uleb128p1At b o i k × BothOrNone (Row b) i y → (x ≡ y) × (n ≡ k)
@@ -31,14 +33,17 @@ one_optional Row one b o x y n k h g =
     let index = one_uleb128p1 b o h.0 g.0 n k h.1 g.1 in
     (one_both (Row b) (one b) g.0 x y (subst (λ i. BothOrNone (Row b) i x) index.0 h.2) g.2, index.1)
 
+-- one text, or nothing
 pub one_optional_text : (b : List ℕ) (o : ℕ) (s t : Option Text) (n k : ℕ) → OptionalTextAt b o s n → OptionalTextAt b o t k → (s ≡ t) × (n ≡ k)
 one_optional_text = one_optional StringRow one_string
 
+-- one type, or nothing
 pub one_optional_type : (b : List ℕ) (o : ℕ) (s t : Option Text) (n k : ℕ) → OptionalTypeAt b o s n → OptionalTypeAt b o t k → (s ≡ t) × (n ≡ k)
 one_optional_type = one_optional TypeRow one_type
 
 -- ---- the kinds of operation, by opcode
 
+-- the first byte of an operation
 abbrev opcode_of : Operation → ℕ
 opcode_of (AdvancePc addresses) = 0x01
 opcode_of (AdvanceLine lines) = 0x02
@@ -60,21 +65,25 @@ number_part (EndLocal register) = register
 number_part (RestartLocal register) = register
 number_part _ = 0
 
+-- the lines that it advances by
 abbrev lines_part : Operation → ℤ
 lines_part (AdvanceLine lines) = lines
 lines_part _ = pos 0
 
+-- the name in it
 abbrev name_part : Operation → Option Text
 name_part (StartLocal register name type) = name
 name_part (StartLocalExtended register name type signature) = name
 name_part (SetFile name) = name
 name_part _ = None
 
+-- the type in it
 abbrev type_part : Operation → Option Text
 type_part (StartLocal register name type) = type
 type_part (StartLocalExtended register name type signature) = type
 type_part _ = None
 
+-- the signature in it
 abbrev signature_part : Operation → Option Text
 signature_part (StartLocalExtended register name type signature) = signature
 signature_part _ = None
@@ -94,6 +103,7 @@ with_opcode c op =
     else SetFile (name_part op))
     else Special c
 
+-- from 0x0a on an opcode alone tells the operation
 special_code : (c : ℕ) (op : Operation) → 0x0a ≤ c → with_opcode c op ≡ Special c
 special_code c op high = rw (le-ltb c 0x0a high) refl
 
@@ -103,6 +113,7 @@ record ByOpcode (b : List ℕ) (o : ℕ) (op : Operation) : Type 0 where
   some : 1 ≤ opcode_of op
   own : with_opcode (opcode_of op) op ≡ op
 
+-- each operation that stands in a file is told by its opcode
 by_opcode : (b : List ℕ) (o : ℕ) (op : Operation) (n : ℕ) → OperationAt b o op n → ByOpcode b o op
 by_opcode b o (AdvancePc addresses) n h = record { stands = h.0; some = omega arith; own = refl }
 by_opcode b o (AdvanceLine lines) n h = record { stands = h.0; some = omega arith; own = refl }
@@ -124,9 +135,11 @@ same_kind b o x y n k h g =
 
 -- ---- what stands there
 
+-- an operation of one operand, with its kind known
 one_operand : {X : Type 0} (make : X → Operation) (x y : X) (w : Operation) (n k i j : ℕ) → w ≡ make y → n ≡ 1 + i → k ≡ 1 + j → (x ≡ y) × (i ≡ j) → (make x ≡ w) × (n ≡ k)
 one_operand make x y w n k i j e is is' same = (ap make same.0 ∙ sym e, omega (arith, same.1))
 
+-- at an offset stands one operation at most
 pub one_operation : (b : List ℕ) (o : ℕ) (x y : Operation) (n k : ℕ) → OperationAt b o x n → OperationAt b o y k → (x ≡ y) × (n ≡ k)
 one_operation b o (AdvancePc addresses) y n k h g =
     let e = same_kind b o (AdvancePc addresses) y n k h g in
@@ -200,6 +213,7 @@ one_program b o (x ∷ xs) (y ∷ ys) n k h g end end' =
     let rest = one_program b (o + g.0) xs ys h.1 g.1 (subst (λ (i : ℕ). Sequence OperationAt b (o + i) xs h.1) first.1 h.3) g.3 (stands_at (omega (arith, first.1, h.4)) end) (stands_at (omega (arith, g.4)) end') in
     ((λ i. first.0 i ∷ rest.0 i), omega (arith, h.4, g.4, first.1, rest.1))
 
+-- at an offset stands one debug program at most
 pub one_debug : (b : List ℕ) (o : ℕ) (d e : Debug) → DebugAt b o d → DebugAt b o e → d ≡ e
 one_debug b o d e h g =
     let start = one_uleb128 b o d.line_start e.line_start h.start_size g.start_size h.line_start g.line_start in

@@ -21,9 +21,11 @@ record HasCode (b : List ℕ) (o code : ℕ) : Type 0 where
   stands : Stands b o (first ∷ rest)
   is : first % 32 ≡ code
 
+-- one type code stands at an offset
 one_code : (b : List ℕ) (o c d : ℕ) → HasCode b o c → HasCode b o d → c ≡ d
 one_code b o c d h g = sym h.is ∙ ap (λ (x : ℕ). x % 32) (same_first h.first g.first h.rest g.rest h.stands g.stands) ∙ g.is
 
+-- a value with bytes of its own has its type code
 sized_code : (b : List ℕ) (o code width : ℕ) (bytes : List ℕ) (n : ℕ) → code < 32 → SizedAt code width b o bytes n → HasCode b o code
 sized_code b o code width bytes n lt h = record { first = value_byte (length bytes - 1) code; rest = bytes; stands = h.stands; is = omega arith }
 
@@ -37,12 +39,14 @@ one_sized read code width b o x y n k h g =
     let bytes : h.0 ≡ g.0 = ap (λ (z : List ℕ). drop 1 z) all in
     (h.2 ∙ ap read bytes ∙ sym g.2, omega (arith, len, h.1.size, g.1.size))
 
+-- what an index names
 one_index : {X : Type 0} (Row : List ℕ → ℕ → X → Type 0) → ((b : List ℕ) (i : ℕ) (x y : X) → Row b i x → Row b i y → x ≡ y)
     → (code : ℕ) (b : List ℕ) (o : ℕ) (x y : X) (n k : ℕ) → IndexAt code Row b o x n → IndexAt code Row b o y k → (x ≡ y) × (n ≡ k)
 one_index Row one code b o x y n k h g =
     let same = one_sized number_of code 4 b o h.0 g.0 n k h.1 g.1 in
     (one b g.0 x y (subst (λ i. Row b i x) same.0 h.2) g.2, same.1)
 
+-- a boolean is in the argument of its first byte
 one_boolean : (b : List ℕ) (o : ℕ) (x y : Bool) (n k : ℕ) → ValueAt b o (BooleanValue x) n → ValueAt b o (BooleanValue y) k → (x ≡ y) × (n ≡ k)
 one_boolean b o false false n k h g = (refl, h.1 ∙ sym g.1)
 one_boolean b o false true n k h g = absurd (let e = same_first (value_byte 0 boolean_code) (value_byte 1 boolean_code) [] [] h.0 g.0 in omega arith)
@@ -51,6 +55,7 @@ one_boolean b o true true n k h g = (refl, h.1 ∙ sym g.1)
 
 -- ---- the kinds of value, by type code
 
+-- the type code of a value
 abbrev code_of : Value → ℕ
 code_of (ByteValue z) = byte_code
 code_of (ShortValue z) = short_code
@@ -69,6 +74,7 @@ code_of (AnnotationValue t es) = annotation_code
 code_of NullValue = null_code
 code_of (BooleanValue is) = boolean_code
 
+-- a value that stands in a file has its type code there
 value_code : (b : List ℕ) (o : ℕ) (v : Value) (n : ℕ) → ValueAt b o v n → HasCode b o (code_of v)
 value_code b o (ByteValue z) n h = sized_code b o byte_code 1 h.0 n (omega arith) h.1
 value_code b o (ShortValue z) n h = sized_code b o short_code 2 h.0 n (omega arith) h.1
@@ -96,35 +102,42 @@ signed_part (IntValue z) = z
 signed_part (LongValue z) = z
 signed_part _ = pos 0
 
+-- its number without a sign
 abbrev unsigned_part : Value → ℕ
 unsigned_part (CharValue u) = u
 unsigned_part (FloatValue bits) = bits
 unsigned_part (DoubleValue bits) = bits
 unsigned_part _ = 0
 
+-- its text
 abbrev text_part : Value → Text
 text_part (StringValue s) = s
 text_part (TypeValue t) = t
 text_part (AnnotationValue t es) = t
 text_part _ = []
 
+-- its field
 abbrev field_part : Value → Field
 field_part (FieldValue f) = f
 field_part (EnumValue f) = f
 field_part _ = record { class = []; name = []; type = [] }
 
+-- its method
 abbrev method_part : Value → Method
 method_part (MethodValue m) = m
 method_part _ = record { class = []; name = []; proto = record { return_type = []; parameters = [] } }
 
+-- its values
 abbrev values_part : Value → Values
 values_part (ArrayValue vs) = vs
 values_part _ = NoValues
 
+-- its elements
 abbrev elements_part : Value → Elements
 elements_part (AnnotationValue t es) = es
 elements_part _ = NoElements
 
+-- whether it is true
 abbrev boolean_part : Value → Bool
 boolean_part (BooleanValue is) = is
 boolean_part _ = false
@@ -149,6 +162,7 @@ with_code c v =
     else if c == 0x1e then NullValue
     else BooleanValue (boolean_part v)
 
+-- with its own type code a value is itself
 with_own_code : (v : Value) → with_code (code_of v) v ≡ v
 with_own_code (ByteValue z) = refl
 with_own_code (ShortValue z) = refl
@@ -177,6 +191,7 @@ same_kind b o v w n k h g = sym (with_own_code w) ∙ ap (λ (c : ℕ). with_cod
 of_kind : {X : Type 0} (make : X → Value) (x y : X) (w : Value) (n k : ℕ) → w ≡ make y → (x ≡ y) × (n ≡ k) → (make x ≡ w) × (n ≡ k)
 of_kind make x y w n k e same = (ap make same.0 ∙ sym e, same.1)
 
+-- an array's count and values
 array_tail : (b : List ℕ) (o : ℕ) (vs ws : Values) (n k : ℕ) → ((p i j : ℕ) → count_values vs ≡ count_values ws → ValuesAt b p vs i → ValuesAt b p ws j → (vs ≡ ws) × (i ≡ j))
     → ArrayAround (λ p i. ValuesAt b p vs i) (count_values vs) b o n → ArrayAround (λ p i. ValuesAt b p ws i) (count_values ws) b o k → (vs ≡ ws) × (n ≡ k)
 array_tail b o vs ws n k one h g =
@@ -197,6 +212,7 @@ annotation_tail b o t u es fs n k one h g =
     (type, same.0, omega (arith, index.1, count.1, same.1, h.9, g.9))
 
 mutual
+  -- one value
   pub one_value : (b : List ℕ) (o : ℕ) (v w : Value) (n k : ℕ) → ValueAt b o v n → ValueAt b o w k → (v ≡ w) × (n ≡ k)
   one_value b o (ByteValue z) w n k h g =
       let e = same_kind b o (ByteValue z) w n k h g in
@@ -276,8 +292,10 @@ mutual
       let rest = one_elements b (o + g.0 + g.1) es fs h.2 g.2 (omega arith) (subst (λ (p : ℕ). ElementsAt b p es h.2) place h.7) g.7 in
       ((λ i. ThenElement (name i) (first.0 i) (rest.0 i)), omega (arith, index.1, first.1, rest.1, h.8, g.8))
 
+-- at an offset stands one encoded array at most
 pub one_array : (b : List ℕ) (o : ℕ) (vs ws : Values) (n k : ℕ) → EncodedArrayAt b o vs n → EncodedArrayAt b o ws k → (vs ≡ ws) × (n ≡ k)
 one_array b o vs ws n k h g = array_tail b o vs ws n k (λ p. one_values b p vs ws) h g
 
+-- at an offset stands one encoded annotation at most, of one type
 pub one_annotation : (b : List ℕ) (o : ℕ) (t u : Text) (es fs : Elements) (n k : ℕ) → EncodedAnnotationAt t b o es n → EncodedAnnotationAt u b o fs k → (t ≡ u) × (es ≡ fs) × (n ≡ k)
 one_annotation b o t u es fs n k h g = annotation_tail b o t u es fs n k (λ p. one_elements b p es fs) h g

@@ -10,6 +10,7 @@ use Rattle.dexspec.specs.Bytes.{Stands}
 pub stands_first : (x r : List ℕ) → Stands (x ++ r) 0 x
 stands_first x r = record { here = take_at x r (length x) refl }
 
+-- a list stands at its own front
 pub stands_whole : (x : List ℕ) → Stands x 0 x
 stands_whole x = subst (λ b. Stands b 0 x) (append-nil x) (stands_first x [])
 
@@ -21,9 +22,11 @@ stands_later {r} {x} {o} s h = record { here = rw (drop-append-add s r o) h.here
 pub stands_rest : {b x : List ℕ} {o : ℕ} → Stands b o x → drop o b ≡ x ++ drop (length x) (drop o b)
 stands_rest {b} {x} {o} h = sym (take-append-drop (length x) (drop o b)) ∙ ap (λ (y : List ℕ). y ++ drop (length x) (drop o b)) h.here
 
+-- what stands somewhere ends before the end
 pub stands_within : {b x : List ℕ} {o : ℕ} → Stands b o x → length x ≤ length b - o
 stands_within {b} {x} {o} h = omega (arith, ap length h.here, length-take (length x) (drop o b), length-drop o b)
 
+-- an empty list stands anywhere
 nothing : (b : List ℕ) (o : ℕ) (y : List ℕ) → y ≡ [] → Stands b o y
 nothing b o y e = subst (λ z. Stands b o z) (sym e) (record { here = refl })
 
@@ -39,6 +42,7 @@ stands_front {x} {y} {p} r h =
 pub stands_in : {b x y : List ℕ} {o p : ℕ} → Stands b o x → Stands x p y → Stands b (o + p) y
 stands_in {b} {x} {y} {o} {p} h k = record { here = ap (λ (z : List ℕ). take (length y) z) (sym (drop-drop p o b) ∙ ap (drop p) (stands_rest h)) ∙ (stands_front (drop (length x) (drop o b)) k).here }
 
+-- at an equal offset
 pub stands_at : {b x : List ℕ} {o p : ℕ} → o ≡ p → Stands b o x → Stands b p x
 stands_at {b} {x} e h = subst (λ o. Stands b o x) e h
 
@@ -56,19 +60,21 @@ stands_row f w each (x ∷ xs) zero d lt = stands_at (omega arith) (stands_first
 stands_row f w each (x ∷ xs) (suc i) d lt =
     stands_at (omega (arith, each x)) (stands_later (f x) (stands_row f w each xs i d (omega arith)))
 
+-- pieces of one size have that size together as often
 pub length_rows : {X : Type 0} (f : X → List ℕ) (w : ℕ) → ((x : X) → length (f x) ≡ w) → (xs : List X) → length (flat_map f xs) ≡ w * length xs
 length_rows f w each [] = omega arith
 length_rows f w each (x ∷ xs) = length-append (f x) (flat_map f xs) ∙ omega (arith, each x, length_rows f w each xs)
 
 -- ---- what stands at one place
 
-heads : (a c : ℕ) (x y : List ℕ) → a ∷ x ≡ c ∷ y → a ≡ c
-heads a c x y e = cc
+-- equal lists have equal parts
+pub same_heads : (a c : ℕ) (x y : List ℕ) → a ∷ x ≡ c ∷ y → (a ≡ c) × (x ≡ y)
+same_heads a c x y e = (cc, cc)
 
 -- two lists that stand there have one first byte
 pub same_first : {b : List ℕ} {o : ℕ} (a c : ℕ) (x y : List ℕ) → Stands b o (a ∷ x) → Stands b o (c ∷ y) → a ≡ c
 same_first {b} {o} a c x y h k =
-    heads a c (x ++ drop (length (a ∷ x)) (drop o b)) (y ++ drop (length (c ∷ y)) (drop o b)) (sym (stands_rest h) ∙ stands_rest k)
+    (same_heads a c (x ++ drop (length (a ∷ x)) (drop o b)) (y ++ drop (length (c ∷ y)) (drop o b)) (sym (stands_rest h) ∙ stands_rest k)).0
 
 -- and are the same where they have one length
 pub same_standing : {b : List ℕ} {o : ℕ} (x y : List ℕ) → Stands b o x → Stands b o y → length x ≡ length y → x ≡ y

@@ -1,10 +1,10 @@
 //! Numbers in encoded values: what is written for them has the fewest bytes, and stands for them again.
-ghost use Rattle.std.specs.Prelude.{◌≡◌, ℕ, ℤ, ◌+◌, ◌-◌, ◌*◌, ◌/◌, ◌^◌, ◌<◌, ◌≤◌, List, length, FitsSigned};
+ghost use Rattle.std.specs.Prelude.{◌≡◌, ℕ, ℤ, All, ◌+◌, ◌-◌, ◌*◌, ◌/◌, ◌^◌, ◌<◌, ◌≤◌, List, length, FitsSigned};
 ghost use Rattle.std.specs.Int.{w64};
-ghost use Rattle.dexspec.specs.Bytes.{AreBytes, number_of, bytes_of, signed_in, Stands};
+ghost use Rattle.dexspec.specs.Bytes.{number_of, bytes_of, signed_in, Stands};
 ghost use Rattle.dexspec.specs.Numbers.{magnitude};
 ghost use Rattle.dexspec.specs.Values.{UnsignedAt, SignedAt, BitsAt};
-ghost use Rattle.dexspec.specs.Canonical.{unsigned_width, signed_width, bits_width, complement, unsigned_bytes, signed_bytes, bits_bytes};
+ghost use Rattle.dexspec.specs.Spellings.{unsigned_width, signed_width, bits_width, complement, unsigned_bytes, signed_bytes, bits_bytes};
 
 /// A number of 64 bits, or a bit pattern of one to eight bytes, in its least width is read back.
 pub fn least_width_is_read_back()
@@ -16,8 +16,8 @@ pub fn least_width_is_read_back()
 
 /// No fewer bytes are read as the number or the bit pattern.
 pub fn width_is_least()
-    ensures unsigned { (v : ℕ) (bytes : List ℕ) → v < 2 ^ 64 → AreBytes bytes → 0 < length bytes → number_of bytes ≡ v → unsigned_width v ≤ length bytes }
-    ensures signed { (z : ℤ) (bytes : List ℕ) → FitsSigned w64 z → AreBytes bytes → 0 < length bytes → signed_in (length bytes) (number_of bytes) ≡ z → signed_width z ≤ length bytes }
+    ensures unsigned { (v : ℕ) (bytes : List ℕ) → v < 2 ^ 64 → All (λ byte. byte < 256) bytes → 0 < length bytes → number_of bytes ≡ v → unsigned_width v ≤ length bytes }
+    ensures signed { (z : ℤ) (bytes : List ℕ) → FitsSigned w64 z → All (λ byte. byte < 256) bytes → 0 < length bytes → signed_in (length bytes) (number_of bytes) ≡ z → signed_width z ≤ length bytes }
     ensures bits { (width v : ℕ) (bytes : List ℕ) → 1 ≤ width → width ≤ 8 → 0 < length bytes → 256 ^ (width - length bytes) * number_of bytes ≡ v → bits_width width v ≤ length bytes }
 {}
 

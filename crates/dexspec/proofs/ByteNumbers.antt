@@ -1,5 +1,5 @@
 -- Numbers of a fixed number of bytes: what their bytes spell, and what stands where they were written.
-use Rattle.std.proofs.Common.{◌≡◌, ℕ, zero, suc, ◌+◌, ◌-◌, ◌*◌, ◌/◌, ◌%◌, ◌^◌, ◌<◌, List, [], ◌∷◌, length, refl, ap, ◌∙◌, arith, inl, inr}
+use Rattle.std.proofs.Common.{◌≡◌, All, ℕ, zero, suc, ◌+◌, ◌-◌, ◌*◌, ◌/◌, ◌%◌, ◌^◌, ◌<◌, List, [], ◌∷◌, length, refl, ap, ◌∙◌, arith, inl, inr}
 use Rattle.std.specs.Int.{w64}
 use Rattle.std.specs.Prelude.{ℤ, FitsSigned, pos, negsuc}
 use Rattle.std.proofs.Math.Nat.{pow-suc}
@@ -7,9 +7,9 @@ use Rattle.std.proofs.lemmas.Nat.{pow-add, pow_pos}
 use Rattle.std.proofs.lemmas.Int.{ints}
 use Rattle.std.proofs.lemmas.Bool.{cases_lt, lt-ltb, le-ltb}
 use Rattle.std.proofs.lemmas.List.Elements.{All-nil, All-cons}
-use Rattle.dexspec.specs.Bytes.{AreBytes, number_of, bytes_of, signed_in, ushort, uint, ushort_at, uint_at, Stands}
+use Rattle.dexspec.specs.Bytes.{number_of, bytes_of, signed_in, ushort, uint, ushort_at, uint_at, Stands}
 use Rattle.dexspec.specs.Numbers.{magnitude}
-use Rattle.dexspec.specs.Canonical.{complement}
+use Rattle.dexspec.specs.Spellings.{complement}
 
 -- ---- powers
 
@@ -37,13 +37,13 @@ number_of-bytes_of zero v lt = omega arith
 number_of-bytes_of (suc n) v lt = let rest = number_of-bytes_of n (v / 256) (omega (arith, pow-suc 256 n)) in omega (arith, rest)
 
 -- each of them fits a byte
-pub are_bytes-bytes_of : (n v : ℕ) → AreBytes (bytes_of n v)
+pub are_bytes-bytes_of : (n v : ℕ) → All (λ x. x < 256) (bytes_of n v)
 unfolding bytes_of
 are_bytes-bytes_of zero v = All-nil (λ x. x < 256)
 are_bytes-bytes_of (suc n) v = All-cons (λ x. x < 256) (v % 256) (bytes_of n (v / 256)) (omega arith) (are_bytes-bytes_of n (v / 256))
 
 -- n bytes spell a number below 256 ^ n
-pub number_bound : (bytes : List ℕ) → AreBytes bytes → number_of bytes < 256 ^ length bytes
+pub number_bound : (bytes : List ℕ) → All (λ x. x < 256) bytes → number_of bytes < 256 ^ length bytes
 unfolding number_of
 number_bound [] are = omega arith
 number_bound (b ∷ bs) are =
@@ -96,7 +96,7 @@ signed_room n x (negsuc v) lt is =
     ]
 
 -- bytes that are read as a number with a sign have room for it
-pub signed_in_room : (bytes : List ℕ) (z : ℤ) → AreBytes bytes → 0 < length bytes → signed_in (length bytes) (number_of bytes) ≡ z → 2 * magnitude z < 256 ^ length bytes
+pub signed_in_room : (bytes : List ℕ) (z : ℤ) → All (λ x. x < 256) bytes → 0 < length bytes → signed_in (length bytes) (number_of bytes) ≡ z → 2 * magnitude z < 256 ^ length bytes
 signed_in_room [] z are some is = absurd (omega arith)
 signed_in_room (b ∷ bs) z are some is = signed_room (length bs) (number_of (b ∷ bs)) z (number_bound (b ∷ bs) are) is
 

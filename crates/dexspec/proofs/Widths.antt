@@ -1,14 +1,14 @@
 -- The widths of numbers in values: the fewest bytes that hold them.
-use Rattle.std.proofs.Common.{◌≡◌, ℕ, zero, suc, ◌+◌, ◌-◌, ◌*◌, ◌/◌, ◌%◌, ◌^◌, ◌<◌, ◌≤◌, ◌⊎◌, List, [], ◌∷◌, length, refl, ap, sym, ◌∙◌, arith, inl, inr}
+use Rattle.std.proofs.Common.{◌≡◌, All, ℕ, zero, suc, ◌+◌, ◌-◌, ◌*◌, ◌/◌, ◌%◌, ◌^◌, ◌<◌, ◌≤◌, ◌⊎◌, List, [], ◌∷◌, length, refl, ap, sym, ◌∙◌, arith, inl, inr}
 use Rattle.std.specs.Prelude.{ℤ, Bool, true, false, cond, Some, unwrap_or, nat_lt, ◌==◌}
 use Rattle.std.specs.List.{find}
 use Rattle.std.proofs.Math.Nat.{pow-le-pow_right, div-add-mod, div-lt_iff_lt-mul, mul-mod_right}
 use Rattle.std.proofs.lemmas.Nat.{pow-add}
 use Rattle.std.proofs.lemmas.Bool.{both_ways, cases_lt, cases_eq, lt-ltb, ltb-true, eq-eqb, eqb-true}
-use Rattle.dexspec.specs.Bytes.{AreBytes, number_of, bytes_of, signed_in, Stands}
+use Rattle.dexspec.specs.Bytes.{number_of, bytes_of, signed_in, Stands}
 use Rattle.dexspec.specs.Numbers.{magnitude}
 use Rattle.dexspec.specs.Values.{SizedAt, SignedAt, UnsignedAt, BitsAt, value_byte}
-use Rattle.dexspec.specs.Canonical.{unsigned_width, signed_width, bits_width, complement, unsigned_bytes, signed_bytes, bits_bytes}
+use Rattle.dexspec.specs.Spellings.{unsigned_width, signed_width, bits_width, complement, unsigned_bytes, signed_bytes, bits_bytes}
 use Rattle.dexspec.proofs.ByteNumbers.{pow_256_pos, length-bytes_of, number_of-bytes_of, number_bound, signed_in-bytes_of, signed_in_room}
 
 -- ---- the first of some numbers that passes a test
@@ -137,11 +137,11 @@ bits_back width v some few lt = bits_by_width width v (bits_width width v) lt (b
 -- ---- and no fewer bytes are
 
 -- for an unsigned number
-pub unsigned_least : (v : ℕ) → v < 256 ^ 8 → (bytes : List ℕ) → AreBytes bytes → 0 < length bytes → number_of bytes ≡ v → unsigned_width v ≤ length bytes
+pub unsigned_least : (v : ℕ) → v < 256 ^ 8 → (bytes : List ℕ) → All (λ x. x < 256) bytes → 0 < length bytes → number_of bytes ≡ v → unsigned_width v ≤ length bytes
 unsigned_least v lt bytes are some is = (unsigned_width_is v lt).least (length bytes) some (omega (arith, number_bound bytes are))
 
 -- for a number with a sign
-pub signed_least : (z : ℤ) → 2 * magnitude z < 256 ^ 8 → (bytes : List ℕ) → AreBytes bytes → 0 < length bytes → signed_in (length bytes) (number_of bytes) ≡ z → signed_width z ≤ length bytes
+pub signed_least : (z : ℤ) → 2 * magnitude z < 256 ^ 8 → (bytes : List ℕ) → All (λ x. x < 256) bytes → 0 < length bytes → signed_in (length bytes) (number_of bytes) ≡ z → signed_width z ≤ length bytes
 signed_least z lt bytes are some is = (signed_width_is z lt).least (length bytes) some (signed_in_room bytes z are some is)
 
 -- for a bit pattern

@@ -23,6 +23,9 @@ pub mod WellFormed
 pub mod Conditions
 pub mod Accepted
 pub mod Depth
+pub mod Spellings
+pub mod Placing
 pub mod Canonical
 pub mod Merging
 pub mod Stripping
+pub mod Plain

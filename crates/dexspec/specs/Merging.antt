@@ -47,6 +47,7 @@ pub data Cap : Type 0 where
   ShortStrings : Cap
   Weight : Cap
 
+-- the number that a fault tells
 abbrev pub cap_number : Cap → ℕ
 cap_number Types = 1
 cap_number Protos = 2
@@ -110,6 +111,7 @@ pub record IsCycle (D : List Definition) (name : Text) : Type 0 where
   pub defined : is_defined D name ≡ true
   pub deep : HasDepth D name → ⊥
 
+-- why there is no merged file
 pub data Cause : Type 0 where
   Conflict : (name : Text) → Cause
   Cycle : (name : Text) → Cause
@@ -168,6 +170,7 @@ abbrev mutual
   plans_depth NoPlans = 0
   plans_depth (ThenPlan p ps) = max (plan_depth p) (plans_depth ps)
 
+-- the deepest plan
 abbrev pub most_plan_depth : ℕ
 most_plan_depth = 64
 

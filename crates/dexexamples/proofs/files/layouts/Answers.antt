@@ -1,0 +1,20 @@
+use Rattle.std.proofs.Common.{refl}
+use Rattle.dexspec.specs.Mentions.{mentions, symbols_of}
+use Rattle.dexspec.specs.Depth.{depth, in_class_order}
+use Rattle.dexspec.specs.Bytes.{bytes_of, ushort, uint}
+use Rattle.dexspec.specs.Opcodes.{opcode_of, opcode_runs}
+use Rattle.dexspec.specs.Spellings.{code_bytes, debug_bytes, class_data_bytes}
+use Rattle.dexspec.specs.Canonical.{unsigned_file, layout}
+use Rattle.dexexamples.proofs.files.layouts.Goals as goal
+
+pub returns-clause-nothing : goal.returns-clause-nothing
+unfolding unsigned_file layout mentions symbols_of in_class_order depth code_bytes debug_bytes class_data_bytes ushort uint bytes_of opcode_of opcode_runs
+returns-clause-nothing c = refl
+
+pub returns-clause-plain : goal.returns-clause-plain
+unfolding unsigned_file layout mentions symbols_of in_class_order depth code_bytes debug_bytes class_data_bytes ushort uint bytes_of opcode_of opcode_runs
+returns-clause-plain c = refl
+
+pub returns-clause-method : goal.returns-clause-method
+unfolding unsigned_file layout mentions symbols_of in_class_order depth code_bytes debug_bytes class_data_bytes ushort uint bytes_of opcode_of opcode_runs
+returns-clause-method c = refl

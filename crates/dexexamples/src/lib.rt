@@ -1,0 +1,10 @@
+//! Worked examples of the definitions, each proved by computation. The expected numbers and bytes come from
+//! outside: the Android page, Adler-32's own examples, and files laid out by hand.
+#![tactic(auto)]
+
+pub mod classes;
+pub mod code;
+pub mod files;
+pub mod numbers;
+pub mod texts;
+pub mod values;

@@ -1,12 +1,18 @@
 //! Encoded values at an offset: the bytes determine the value and its size.
 ghost use Rattle.std.specs.Prelude.{◌≡◌, ℕ, List, length};
 ghost use Rattle.dexspec.specs.Texts.{Text};
-ghost use Rattle.dexspec.specs.Values.{Values, Elements, count_values, names_of, ValueAt, ValuesAt, ElementsAt, EncodedArrayAt, EncodedAnnotationAt};
+ghost use Rattle.dexspec.specs.Values.{Values, Elements, count_values, names_of, ValueAt, ValuesAt, ElementsAt, EncodedArrayAt, EncodedAnnotationAt, EncodedValueAt, EncodedArrayItemAt};
 ghost use Rattle.dexlaws_items.specs.Laws.{IsDetermined};
 
 /// At an offset stands at most one encoded value, in one size.
 pub fn value_is_determined()
     ensures { IsDetermined ValueAt }
+{}
+
+/// In the data stands at most one encoded value, and at most one encoded array, at an offset, in one size.
+pub fn value_in_data_is_determined()
+    ensures value { IsDetermined EncodedValueAt }
+    ensures array { IsDetermined EncodedArrayItemAt }
 {}
 
 /// At an offset stands at most one run of a given number of values, in one size, and at most one run of a

@@ -10,3 +10,6 @@ pub mod MentionMembers
 pub mod DepthGrowth
 pub mod WeightGrowth
 pub mod Absorption
+pub mod OneNumber
+pub mod OneText
+pub mod OneRow

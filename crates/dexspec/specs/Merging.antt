@@ -156,6 +156,7 @@ abbrev mutual
   leaves (Leaf file) = file ∷ []
   leaves (Node ps) = all_leaves ps
 
+  -- those of all parts
   pub all_leaves : Plans → List ℕ
   all_leaves NoPlans = []
   all_leaves (ThenPlan p ps) = leaves p ++ all_leaves ps
@@ -166,6 +167,7 @@ abbrev mutual
   plan_depth (Leaf file) = 1
   plan_depth (Node ps) = plans_depth ps + 1
 
+  -- the depth of the deepest part
   pub plans_depth : Plans → ℕ
   plans_depth NoPlans = 0
   plans_depth (ThenPlan p ps) = max (plan_depth p) (plans_depth ps)

@@ -94,6 +94,7 @@ pub record IsCodeItem (c : Code) : Type 0 where
 -- ---- values and annotations
 
 abbrev mutual
+  -- a value that some encoded_value is
   pub IsValue : Value → Type 0
   IsValue (ByteValue z) = FitsSigned w8 z
   IsValue (ShortValue z) = FitsSigned w16 z
@@ -106,10 +107,12 @@ abbrev mutual
   IsValue (AnnotationValue t es) = AreElements es × FitsUint (length (names_of es)) × IsTrue (rises text_cmp (names_of es))
   IsValue _ = Unit {0}
 
+  -- each of the values is one
   pub AreValues : Values → Type 0
   AreValues NoValues = Unit {0}
   AreValues (ThenValue v vs) = IsValue v × AreValues vs
 
+  -- each element's value is one
   pub AreElements : Elements → Type 0
   AreElements NoElements = Unit {0}
   AreElements (ThenElement name v es) = IsValue v × AreElements es

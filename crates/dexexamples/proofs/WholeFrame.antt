@@ -1,13 +1,14 @@
 -- Conditions 1 to 10 at the whole file, by computation.
 use Rattle.std.proofs.Common.{◌≡◌, ◌≢◌, ℕ, ◌<◌, inl, inr, List, [], ◌∷◌, drop, take, refl, arith}
-use Rattle.std.specs.Prelude.{map}
+use Rattle.std.specs.Prelude.{map, All}
+use Rattle.std.specs.List.{AllByRecursion}
 use Rattle.std.proofs.lemmas.List.Elements.{All-from_recursion}
 use Rattle.std.proofs.lemmas.List.Kept.{AllPairs-cons}
 use Rattle.sha1.specs.Sha1.{sha1, digest_bytes, hash_after, compress, rounds, schedule, first_words}
 use Rattle.dexspec.specs.Lists.{AreDistinct}
 use Rattle.dexspec.specs.Bytes.{number_of, uint_at, ushort_at}
 use Rattle.dexspec.specs.Header.{Table, StringIds, TypeIds, ProtoIds, FieldIds, MethodIds, ClassDefs, table_size, MayHave, HasSize, IsDigit, HasMagic, HasVersion, HasLengths, HasEndian, HasNoLink, HasChecksum, HasSignature, adler_32}
-use Rattle.dexspec.specs.Sections.{HasLayout, HeaderItem, TableOf, MapList, StringDataItems, MapEntry, map_entries, IsKnown, HasTable, IsPlaced, HasMap}
+use Rattle.dexspec.specs.Sections.{HasLayout, HeaderItem, TableOf, MapList, StringDataItems, MapEntry, map_entries, type_code, IsKnown, HasTable, IsPlaced, HasMap}
 use Rattle.dexspec.specs.Conditions.{Condition, number}
 use Rattle.dexspec.specs.Accepted.{HoldsThroughout, IsFrame}
 use Rattle.dexexamples.specs.Whole.{whole_a}
@@ -65,12 +66,77 @@ has_layout = record {
 
 -- ---- the map
 
-all_known : (xs : List MapEntry) → xs ≡ map_entries whole_a → ℕ
-all_known xs e = 0
+known : All IsKnown (map_entries whole_a)
+unfolding whole_a uint_at ushort_at number_of
+known = All-from_recursion IsKnown (map_entries whole_a)
+    ((HeaderItem, refl), ((TableOf StringIds, refl), ((TableOf TypeIds, refl), ((TableOf ClassDefs, refl), ((StringDataItems, refl), ((MapList, refl), tt))))))
 
-entries : List MapEntry
-entries = record { kind = 0; size = 1; off = 0 } ∷ record { kind = 1; size = 2; off = 0x70 } ∷ record { kind = 2; size = 2; off = 0x78 } ∷ record { kind = 6; size = 1; off = 0x80 }
-    ∷ record { kind = 0x2002; size = 2; off = 0xa0 } ∷ record { kind = 0x1000; size = 1; off = 0xbc } ∷ []
+-- one more value that is none of the others
+by_cons : (x : ℕ) (xs : List ℕ) → AllByRecursion (λ y. x ≢ y) xs → AreDistinct xs → AreDistinct (x ∷ xs)
+by_cons x xs h rest = AllPairs-cons (λ x y. x ≢ y) x xs (All-from_recursion (λ y. x ≢ y) xs h) rest
 
-kinds : List ℕ
-kinds = 0 ∷ 1 ∷ 2 ∷ 6 ∷ 0x2002 ∷ 0x1000 ∷ []
+once : AreDistinct (map (λ e. e.kind) (map_entries whole_a))
+unfolding whole_a uint_at ushort_at number_of
+once = by_cons 0 (1 ∷ 2 ∷ 6 ∷ 0x2002 ∷ 0x1000 ∷ []) (omega arith, (omega arith, (omega arith, (omega arith, (omega arith, tt)))))
+    (by_cons 1 (2 ∷ 6 ∷ 0x2002 ∷ 0x1000 ∷ []) (omega arith, (omega arith, (omega arith, (omega arith, tt))))
+      (by_cons 2 (6 ∷ 0x2002 ∷ 0x1000 ∷ []) (omega arith, (omega arith, (omega arith, tt)))
+        (by_cons 6 (0x2002 ∷ 0x1000 ∷ []) (omega arith, (omega arith, tt))
+          (by_cons 0x2002 (0x1000 ∷ []) (omega arith, tt) (by_cons 0x1000 [] tt (λ i j d lt within. absurd (omega arith)))))))
+
+-- no entry has the code
+none : (t : Table) → AllByRecursion (λ e. e.kind ≢ type_code (TableOf t)) (map_entries whole_a) → All (λ e. e.kind ≢ type_code (TableOf t)) (map_entries whole_a)
+none t h = All-from_recursion (λ e. e.kind ≢ type_code (TableOf t)) (map_entries whole_a) h
+
+has_table : (t : Table) → HasTable whole_a (map_entries whole_a) t
+unfolding whole_a uint_at ushort_at number_of
+has_table StringIds = inr (omega arith, (1, omega arith, refl))
+has_table TypeIds = inr (omega arith, (2, omega arith, refl))
+has_table ProtoIds = inl (refl, none ProtoIds (omega arith, (omega arith, (omega arith, (omega arith, (omega arith, (omega arith, tt)))))))
+has_table FieldIds = inl (refl, none FieldIds (omega arith, (omega arith, (omega arith, (omega arith, (omega arith, (omega arith, tt)))))))
+has_table MethodIds = inl (refl, none MethodIds (omega arith, (omega arith, (omega arith, (omega arith, (omega arith, (omega arith, tt)))))))
+has_table ClassDefs = inr (omega arith, (3, omega arith, refl))
+
+placed : All (IsPlaced whole_a) (map_entries whole_a)
+unfolding whole_a uint_at ushort_at number_of
+placed = All-from_recursion (IsPlaced whole_a) (map_entries whole_a)
+    (inl (omega arith), (inl (omega arith), (inl (omega arith), (inl (omega arith), (inr (omega arith, omega arith), (inr (omega arith, omega arith), tt))))))
+
+has_map : HasMap whole_a
+unfolding whole_a uint_at ushort_at number_of
+has_map = record {
+  in_data = record { behind = omega arith; within = omega arith };
+  aligned = refl;
+  known = known;
+  once = once;
+  rise = refl;
+  header = (drop 1 (map_entries whole_a), refl);
+  tables = has_table;
+  itself = (5, omega arith, refl);
+  others = placed;
+}
+
+-- conditions 1 to 10
+pub frame : IsFrame whole_a
+frame Condition.Size below r row = has_size
+frame Condition.Magic below r row = has_magic
+frame Condition.Version below r row = has_version
+frame Condition.Lengths below r row = has_lengths
+frame Condition.Endian below r row = has_endian
+frame Condition.Link below r row = has_no_link
+frame Condition.Checksum below r row = has_checksum
+frame Condition.Signature below r row = has_signature
+frame Condition.Layout below r row = has_layout
+frame Condition.Map below r row = has_map
+frame Condition.Strings below r row = absurd (omega arith)
+frame Condition.Types below r row = absurd (omega arith)
+frame Condition.Protos below r row = absurd (omega arith)
+frame Condition.Fields below r row = absurd (omega arith)
+frame Condition.Methods below r row = absurd (omega arith)
+frame Condition.Classes below r row = absurd (omega arith)
+frame Condition.Members below r row = absurd (omega arith)
+frame Condition.Code below r row = absurd (omega arith)
+frame Condition.Tries below r row = absurd (omega arith)
+frame Condition.Debug below r row = absurd (omega arith)
+frame Condition.Values below r row = absurd (omega arith)
+frame Condition.Annotations below r row = absurd (omega arith)
+frame Condition.Weight below r row = absurd (omega arith)

@@ -1,1 +1,3 @@
 pub mod WholeFrame
+pub mod WholeRows
+pub mod WholeLate

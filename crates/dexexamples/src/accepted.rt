@@ -1,9 +1,33 @@
 //! A whole file laid out by hand: it is accepted, and stands for its class.
 
-ghost use Rattle.dexspec.specs.Accepted.{IsFrame};
+ghost use Rattle.std.specs.Prelude.{codes};
+ghost use Rattle.dexspec.specs.Accepted.{HoldsThroughout, IsFrame};
+ghost use Rattle.dexspec.specs.Classes.{ClassRow};
+ghost use Rattle.dexspec.specs.Conditions.{Strings, Types, Protos, Fields, Methods, Classes};
+ghost use Rattle.dexspec.specs.Rows.{StringRow, TypeRow};
+ghost use Rattle.dexexamples.specs.Examples.{object, body_under};
 ghost use Rattle.dexexamples.specs.Whole.{whole_a};
 
 /// Header, sums, layout and map are right: conditions 1 to 10.
 pub fn frame()
     ensures { IsFrame whole_a }
+{}
+
+/// The rows are these texts and types, and conditions 11 to 15 hold.
+pub fn rows()
+    ensures first_string { StringRow whole_a 0 (codes "LA;") }
+    ensures second_string { StringRow whole_a 1 object }
+    ensures first_type { TypeRow whole_a 0 (codes "LA;") }
+    ensures second_type { TypeRow whole_a 1 object }
+    ensures strings { HoldsThroughout Strings whole_a }
+    ensures types { HoldsThroughout Types whole_a }
+    ensures protos { HoldsThroughout Protos whole_a }
+    ensures fields { HoldsThroughout Fields whole_a }
+    ensures methods { HoldsThroughout Methods whole_a }
+{}
+
+/// The class row is the class, and condition 16 holds.
+pub fn class_row()
+    ensures is { ClassRow whole_a 0 (codes "LA;") (body_under object) }
+    ensures classes { HoldsThroughout Classes whole_a }
 {}

@@ -1,11 +1,13 @@
 //! A whole file laid out by hand: it is accepted, and stands for its class.
 
-ghost use Rattle.std.specs.Prelude.{codes};
-ghost use Rattle.dexspec.specs.Accepted.{HoldsThroughout, IsFrame};
+ghost use Rattle.std.specs.Prelude.{[], ◌∷◌, codes};
+ghost use Rattle.std.specs.FinMap.{from_entries};
+ghost use Rattle.dexspec.specs.Accepted.{HoldsThroughout, IsAccepted, IsFrame};
 ghost use Rattle.dexspec.specs.Classes.{ClassRow};
 ghost use Rattle.dexspec.specs.Conditions.{Strings, Types, Protos, Fields, Methods, Classes};
+ghost use Rattle.dexspec.specs.Files.{Denotes};
 ghost use Rattle.dexspec.specs.Rows.{StringRow, TypeRow};
-ghost use Rattle.dexexamples.specs.Examples.{object, body_under};
+ghost use Rattle.dexexamples.specs.Examples.{object, body_under, class_a};
 ghost use Rattle.dexexamples.specs.Whole.{whole_a};
 
 /// Header, sums, layout and map are right: conditions 1 to 10.
@@ -30,4 +32,14 @@ pub fn rows()
 pub fn class_row()
     ensures is { ClassRow whole_a 0 (codes "LA;") (body_under object) }
     ensures classes { HoldsThroughout Classes whole_a }
+{}
+
+/// All 23 conditions hold.
+pub fn accepted()
+    ensures { IsAccepted whole_a }
+{}
+
+/// The file stands for the class, and for nothing else.
+pub fn denotes()
+    ensures { Denotes whole_a (from_entries (class_a ∷ [])) }
 {}

@@ -1,3 +1,4 @@
 pub mod WholeFrame
 pub mod WholeRows
 pub mod WholeLate
+pub mod WholeRefused

@@ -1,5 +1,5 @@
 -- Conditions 1 to 10 at the whole file, by computation.
-use Rattle.std.proofs.Common.{◌≡◌, ◌≢◌, ℕ, ◌<◌, inl, inr, List, [], ◌∷◌, drop, take, refl, arith}
+use Rattle.std.proofs.Common.{◌≢◌, ℕ, inl, inr, List, [], ◌∷◌, drop, refl, arith}
 use Rattle.std.specs.Prelude.{map, All}
 use Rattle.std.specs.List.{AllByRecursion}
 use Rattle.std.proofs.lemmas.List.Elements.{All-from_recursion}
@@ -8,9 +8,9 @@ use Rattle.sha1.specs.Sha1.{sha1, digest_bytes, hash_after, compress, rounds, sc
 use Rattle.dexspec.specs.Lists.{AreDistinct}
 use Rattle.dexspec.specs.Bytes.{number_of, uint_at, ushort_at}
 use Rattle.dexspec.specs.Header.{Table, StringIds, TypeIds, ProtoIds, FieldIds, MethodIds, ClassDefs, table_size, MayHave, HasSize, IsDigit, HasMagic, HasVersion, HasLengths, HasEndian, HasNoLink, HasChecksum, HasSignature, adler_32}
-use Rattle.dexspec.specs.Sections.{HasLayout, HeaderItem, TableOf, MapList, StringDataItems, MapEntry, map_entries, type_code, IsKnown, HasTable, IsPlaced, HasMap}
-use Rattle.dexspec.specs.Conditions.{Condition, number}
-use Rattle.dexspec.specs.Accepted.{HoldsThroughout, IsFrame}
+use Rattle.dexspec.specs.Sections.{HasLayout, HeaderItem, TableOf, MapList, StringDataItems, map_entries, type_code, IsKnown, HasTable, IsPlaced, HasMap}
+use Rattle.dexspec.specs.Conditions.{Condition}
+use Rattle.dexspec.specs.Accepted.{IsFrame}
 use Rattle.dexexamples.specs.Whole.{whole_a}
 
 has_size : HasSize whole_a
@@ -79,9 +79,9 @@ once : AreDistinct (map (λ e. e.kind) (map_entries whole_a))
 unfolding whole_a uint_at ushort_at number_of
 once = by_cons 0 (1 ∷ 2 ∷ 6 ∷ 0x2002 ∷ 0x1000 ∷ []) (omega arith, (omega arith, (omega arith, (omega arith, (omega arith, tt)))))
     (by_cons 1 (2 ∷ 6 ∷ 0x2002 ∷ 0x1000 ∷ []) (omega arith, (omega arith, (omega arith, (omega arith, tt))))
-      (by_cons 2 (6 ∷ 0x2002 ∷ 0x1000 ∷ []) (omega arith, (omega arith, (omega arith, tt)))
-        (by_cons 6 (0x2002 ∷ 0x1000 ∷ []) (omega arith, (omega arith, tt))
-          (by_cons 0x2002 (0x1000 ∷ []) (omega arith, tt) (by_cons 0x1000 [] tt (λ i j d lt within. absurd (omega arith)))))))
+    (by_cons 2 (6 ∷ 0x2002 ∷ 0x1000 ∷ []) (omega arith, (omega arith, (omega arith, tt)))
+    (by_cons 6 (0x2002 ∷ 0x1000 ∷ []) (omega arith, (omega arith, tt))
+    (by_cons 0x2002 (0x1000 ∷ []) (omega arith, tt) (by_cons 0x1000 [] tt (λ i j d lt within. absurd (omega arith)))))))
 
 -- no entry has the code
 none : (t : Table) → AllByRecursion (λ e. e.kind ≢ type_code (TableOf t)) (map_entries whole_a) → All (λ e. e.kind ≢ type_code (TableOf t)) (map_entries whole_a)
@@ -127,16 +127,4 @@ frame Condition.Checksum below r row = has_checksum
 frame Condition.Signature below r row = has_signature
 frame Condition.Layout below r row = has_layout
 frame Condition.Map below r row = has_map
-frame Condition.Strings below r row = absurd (omega arith)
-frame Condition.Types below r row = absurd (omega arith)
-frame Condition.Protos below r row = absurd (omega arith)
-frame Condition.Fields below r row = absurd (omega arith)
-frame Condition.Methods below r row = absurd (omega arith)
-frame Condition.Classes below r row = absurd (omega arith)
-frame Condition.Members below r row = absurd (omega arith)
-frame Condition.Code below r row = absurd (omega arith)
-frame Condition.Tries below r row = absurd (omega arith)
-frame Condition.Debug below r row = absurd (omega arith)
-frame Condition.Values below r row = absurd (omega arith)
-frame Condition.Annotations below r row = absurd (omega arith)
-frame Condition.Weight below r row = absurd (omega arith)
+frame _ below r row = absurd (omega arith)

@@ -1,6 +1,6 @@
--- The whole file is accepted, and stands for its class: conditions 17 to 23, and that its class row is one definition.
+-- The whole file is accepted, and stands for its class: conditions 17 to 23, and what its class row is.
 use Rattle.std.proofs.Common.{◌≡◌, ℕ, zero, suc, ◌<◌, inl, inr, List, [], ◌∷◌, refl, ap, subst, sym, ◌∙◌, arith}
-use Rattle.std.specs.Prelude.{◌≢◌, ◌⊎◌, ◌^◌, ◌≤◌, Bool, true, false, cond, map, Option, Some, None, codes}
+use Rattle.std.specs.Prelude.{◌≢◌, ◌≤◌, Bool, true, false, cond, map, Option, Some, None, codes}
 use Rattle.std.specs.List.{AllZip}
 use Rattle.std.specs.Ordering.{eq_by_cmp}
 use Rattle.std.specs.FinMap as finmap
@@ -11,16 +11,16 @@ use Rattle.dexspec.specs.Lists.{OrNone}
 use Rattle.dexspec.specs.Bytes.{number_of, uint_at}
 use Rattle.dexspec.specs.Header.{ClassDefs, table_size}
 use Rattle.dexspec.specs.Texts.{Text, text_cmp}
-use Rattle.dexspec.specs.Values.{Values, NoValues}
+use Rattle.dexspec.specs.Values.{NoValues}
 use Rattle.dexspec.specs.Annotations.{Directory, DirectoryAt, no_directory}
 use Rattle.dexspec.specs.ClassData.{ClassData, ClassDataAt, EncodedMethod, no_class_data, methods_of}
 use Rattle.dexspec.specs.Rows.{StringRow}
 use Rattle.dexspec.specs.Classes.{Definition, Body, MethodDef, ClassTypeRow, ClassListAt, IndexOrNone, StaticValuesAt, MakesMethod, ClassRow, field_def}
-use Rattle.dexspec.specs.Files.{Collection, IsMember, Defines, Denotes}
+use Rattle.dexspec.specs.Files.{Defines, Denotes}
 use Rattle.dexspec.specs.Mentions.{mentions, symbols_of}
 use Rattle.dexspec.specs.Weight.{weight, most_weight}
-use Rattle.dexspec.specs.Conditions.{Condition, number}
-use Rattle.dexspec.specs.Accepted.{HoldsThroughout, IsAccepted, Declares, AllCode, HasPiecesAt, HasTriesAt, HasDebugAt, HasWeight, AreRows, NamesDeclared}
+use Rattle.dexspec.specs.Conditions.{Condition}
+use Rattle.dexspec.specs.Accepted.{HoldsThroughout, IsAccepted, Declares, AllCode, HasPiecesAt, HasTriesAt, HasDebugAt, AreRows}
 use Rattle.dexspec.proofs.OneRow.{one_type}
 use Rattle.dexspec.proofs.SymbolOrders.{text_total, text_exact}
 use Rattle.dexexamples.specs.Examples.{object, body_under, class_a}
@@ -38,19 +38,23 @@ declares : (d : ClassData) → Declares whole_a 0 d → d ≡ no_class_data
 unfolding whole_a uint_at number_of
 declares d h = left_out ClassDataAt no_class_data d whole_a 0 refl h.is
 
+-- condition 17
 members : HoldsThroughout Condition.Members whole_a
 unfolding whole_a uint_at number_of
-members zero row = (no_class_data, record {
-  name = codes "LA;";
-  class = record { row = type_0; class = class_of_a };
-  is = inl (refl, refl);
-  own = record {
-    fields = All-nil (λ x. x.field.class ≡ codes "LA;");
-    methods = All-nil (λ x. x.method.class ≡ codes "LA;");
-    fields_apart = λ x h g. absurd (let lt = h.1 in omega arith);
-    methods_apart = λ x h g. absurd (let lt = h.1 in omega arith);
-  };
-})
+members zero row = (
+  no_class_data,
+  record {
+    name = codes "LA;";
+    class = record { row = type_0; class = class_of_a };
+    is = inl (refl, refl);
+    own = record {
+      fields = All-nil (λ x. x.field.class ≡ codes "LA;");
+      methods = All-nil (λ x. x.method.class ≡ codes "LA;");
+      fields_apart = λ x h g. absurd (let lt = h.1 in omega arith);
+      methods_apart = λ x h g. absurd (let lt = h.1 in omega arith);
+    };
+  },
+)
 members (suc r) row = absurd (omega arith)
 
 -- so there is no code
@@ -59,6 +63,7 @@ unfolding whole_a uint_at number_of
 no_code P zero row d h = All-same (λ m. m.code_off ≢ 0 → P whole_a m.code_off) (methods_of d) [] (ap methods_of (declares d h)) (All-nil (λ m. m.code_off ≢ 0 → P whole_a m.code_off))
 no_code P (suc r) row d h = absurd (omega arith)
 
+-- no values and no annotations either
 values : HoldsThroughout Condition.Values whole_a
 unfolding whole_a uint_at number_of
 values zero row d h = (NoValues, inl (refl, refl), omega arith)
@@ -71,6 +76,7 @@ annotations (suc r) row d h = absurd (omega arith)
 
 -- ---- the class row is one definition
 
+-- its superclass, and no source file
 superclass_is : (t : Option Text) → IndexOrNone ClassTypeRow whole_a 1 t → t ≡ Some object
 superclass_is None h = absurd (omega arith)
 superclass_is (Some t) h = ap Some (one_type whole_a 1 t object h.row type_1)
@@ -80,6 +86,7 @@ unfolding whole_a uint_at number_of
 source_is None h = refl
 source_is (Some s) h = absurd (let lt = h.row in omega arith)
 
+-- nothing is related to nothing alone
 no_methods : (R : EncodedMethod → MethodDef → Type 0) (xs : List EncodedMethod) (ms : List MethodDef) → xs ≡ [] → AllZip R xs ms → ms ≡ []
 no_methods R [] [] e h = refl
 no_methods R [] (m ∷ ms) e h = absurd h
@@ -100,19 +107,21 @@ one_class name c h =
     let directs = no_methods (MakesMethod whole_a h.directory) h.members.direct_methods c.direct_methods (ap (λ (d : ClassData). d.direct_methods) members) h.direct_methods in
     let virtuals = no_methods (MakesMethod whole_a h.directory) h.members.virtual_methods c.virtual_methods (ap (λ (d : ClassData). d.virtual_methods) members) h.virtual_methods in
     let values = left_out StaticValuesAt NoValues c.static_values whole_a 0 refl h.static_values in
-    let flags = h.flags in
-    (one_type whole_a 0 name (codes "LA;") h.class.row type_0, λ i. record {
-      flags = flags i;
-      superclass = superclass i;
-      interfaces = interfaces i;
-      source = source i;
-      annotations = own i;
-      static_fields = statics i;
-      instance_fields = instances i;
-      direct_methods = directs i;
-      virtual_methods = virtuals i;
-      static_values = values i;
-    })
+    let flags = h.flags in (
+      one_type whole_a 0 name (codes "LA;") h.class.row type_0,
+      λ i. record {
+        flags = flags i;
+        superclass = superclass i;
+        interfaces = interfaces i;
+        source = source i;
+        annotations = own i;
+        static_fields = statics i;
+        instance_fields = instances i;
+        direct_methods = directs i;
+        virtual_methods = virtuals i;
+        static_values = values i;
+      },
+    )
 
 -- as a definition
 one_definition : (d : Definition) → ClassRow whole_a 0 d.0 d.1 → d ≡ class_a
@@ -150,16 +159,7 @@ accepted Condition.Debug r row = no_code HasDebugAt r row
 accepted Condition.Values r row = values r row
 accepted Condition.Annotations r row = annotations r row
 accepted Condition.Weight r row = weighs r row
-accepted Condition.Size r row = frame Condition.Size (omega arith) r row
-accepted Condition.Magic r row = frame Condition.Magic (omega arith) r row
-accepted Condition.Version r row = frame Condition.Version (omega arith) r row
-accepted Condition.Lengths r row = frame Condition.Lengths (omega arith) r row
-accepted Condition.Endian r row = frame Condition.Endian (omega arith) r row
-accepted Condition.Link r row = frame Condition.Link (omega arith) r row
-accepted Condition.Checksum r row = frame Condition.Checksum (omega arith) r row
-accepted Condition.Signature r row = frame Condition.Signature (omega arith) r row
-accepted Condition.Layout r row = frame Condition.Layout (omega arith) r row
-accepted Condition.Map r row = frame Condition.Map (omega arith) r row
+accepted c r row = frame c (omega arith) r row
 
 -- ---- what it stands for
 
@@ -171,6 +171,7 @@ found name c true e h =
     (0, subst (λ (d : Definition). ClassRow whole_a 0 d.0 d.1) (λ i. (named i, is i)) class_row)
 found name c false e h = absurd cc
 
+-- there is no other row
 is_named : (k : ℕ) (name : Text) (c : Body) → ClassRow whole_a k name c → (name ≡ codes "LA;") × (c ≡ body_under object)
 unfolding whole_a uint_at number_of
 is_named zero name c h = one_class name c h

@@ -1,5 +1,5 @@
 -- What the rows of the whole file stand for: conditions 11 to 16.
-use Rattle.std.proofs.Common.{◌≡◌, ℕ, zero, suc, ◌+◌, ◌<◌, inl, inr, List, [], ◌∷◌, refl, ap, subst, sym, ◌∙◌, arith}
+use Rattle.std.proofs.Common.{◌≡◌, ℕ, zero, suc, ◌+◌, ◌<◌, inl, [], ◌∷◌, refl, ap, arith}
 use Rattle.std.specs.Prelude.{◌++◌, ◌^◌, length, take, drop, true, nat_lt, Some, None, codes}
 use Rattle.std.specs.List.{list_all}
 use Rattle.std.specs.declared.cmp.Ordering.TheVariants.{Less}
@@ -7,15 +7,14 @@ use Rattle.std.proofs.lemmas.List.Elements.{All-from_recursion, All-cons, All-we
 use Rattle.std.proofs.lemmas.List.Sums.{AllPass-from_list_all}
 use borrow.Author.Tests.{ltb-true}
 use Rattle.dexspec.specs.Bytes.{number_of, uint_at}
-use Rattle.dexspec.specs.Names.{IsNameUnit, IsMemberName, IsClassName, IsClass, IsDescriptor, ClassType}
+use Rattle.dexspec.specs.Names.{IsNameUnit, IsMemberName, IsClass, ClassType}
 use Rattle.dexspec.specs.Texts.{Text, text_cmp, AreUnits, IsStringData}
-use Rattle.dexspec.specs.Rows.{StringRow, TypeRow, HasString, HasType, Follows, type_row_key}
-use Rattle.dexspec.specs.Values.{NoValues}
+use Rattle.dexspec.specs.Rows.{StringRow, TypeRow, Follows, type_row_key}
 use Rattle.dexspec.specs.Annotations.{no_directory}
 use Rattle.dexspec.specs.ClassData.{no_class_data}
 use Rattle.dexspec.specs.Classes.{ClassTypeRow, ClassRow}
 use Rattle.dexspec.specs.Conditions.{Condition}
-use Rattle.dexspec.specs.Accepted.{HoldsThroughout, IsDefinedBefore, parent_indices, HasClass}
+use Rattle.dexspec.specs.Accepted.{HoldsThroughout, IsDefinedBefore, parent_indices}
 use Rattle.dexspec.proofs.OneRow.{one_string}
 use Rattle.dexexamples.specs.Examples.{object, body_under}
 use Rattle.dexexamples.specs.ExpectedFiles.{front_a, file_a}

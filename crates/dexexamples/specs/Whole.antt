@@ -1,5 +1,5 @@
 -- A whole file of 264 bytes, and three that are wrong in one thing.
-use Rattle.std.specs.Prelude.{ℕ, List, [], ◌∷◌, ◌++◌, take, slice_set}
+use Rattle.std.specs.Prelude.{ℕ, List, ◌++◌, take, slice_set}
 use Rattle.dexexamples.specs.ExpectedFiles.{front_a, file_a}
 
 -- the file of `class_a`

@@ -2,13 +2,13 @@
 
 ghost use Rattle.std.specs.Prelude.{[], ◌∷◌, codes};
 ghost use Rattle.std.specs.FinMap.{from_entries};
-ghost use Rattle.dexspec.specs.Accepted.{HoldsThroughout, IsAccepted, IsFrame};
+ghost use Rattle.dexspec.specs.Accepted.{HoldsThroughout, IsAccepted, IsFrame, IsRefused};
 ghost use Rattle.dexspec.specs.Classes.{ClassRow};
 ghost use Rattle.dexspec.specs.Conditions.{Strings, Types, Protos, Fields, Methods, Classes};
 ghost use Rattle.dexspec.specs.Files.{Denotes};
 ghost use Rattle.dexspec.specs.Rows.{StringRow, TypeRow};
 ghost use Rattle.dexexamples.specs.Examples.{object, body_under, class_a};
-ghost use Rattle.dexexamples.specs.Whole.{whole_a};
+ghost use Rattle.dexexamples.specs.Whole.{whole_a, changed_a, cut_a, later_a};
 
 /// Header, sums, layout and map are right: conditions 1 to 10.
 pub fn frame()
@@ -42,4 +42,11 @@ pub fn accepted()
 /// The file stands for the class, and for nothing else.
 pub fn denotes()
     ensures { Denotes whole_a (from_entries (class_a ∷ [])) }
+{}
+
+/// A changed byte is a wrong checksum, a missing one a wrong length, and another version is told with its number.
+pub fn refused()
+    ensures changed { IsRefused changed_a 7 0 }
+    ensures cut { IsRefused cut_a 4 0 }
+    ensures later { IsRefused later_a 3 38 }
 {}

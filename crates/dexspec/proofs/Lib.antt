@@ -10,6 +10,12 @@ pub mod MentionMembers
 pub mod DepthGrowth
 pub mod WeightGrowth
 pub mod Absorption
+pub mod Stands
+pub mod Sequences
+pub mod ByteNumbers
 pub mod OneNumber
 pub mod OneText
 pub mod OneRow
+pub mod OneValue
+pub mod OneDebug
+pub mod Widths

@@ -9,9 +9,11 @@ use Rattle.dexspec.specs.Header.{StringIds}
 use Rattle.dexspec.specs.Rows.{row_at, StringRow, TypeRow, type_indices, TypeListAt, ProtoRow, FieldRow, MethodRow, SymbolRow}
 use Rattle.dexspec.proofs.OneText.{one_string_data}
 
+-- row i is one text at most
 pub one_string : (b : List ℕ) (i : ℕ) (s t : Text) → StringRow b i s → StringRow b i t → s ≡ t
 one_string b i s t h g = (one_string_data (drop (uint_at b (row_at b StringIds i)) b) s t h.stands.0 g.stands.0 h.stands.1 g.stands.1).0
 
+-- row i is one type at most
 pub one_type : (b : List ℕ) (i : ℕ) (s t : Text) → TypeRow b i s → TypeRow b i t → s ≡ t
 one_type b i s t h g = one_string b _ s t h.text g.text
 
@@ -27,6 +29,7 @@ one_all_zip R one (k ∷ keys) (x ∷ xs) (y ∷ ys) h g =
     let rest = one_all_zip R one keys xs ys h.1 g.1 in
     λ i. first i ∷ rest i
 
+-- at an offset stands one list of types at most
 pub one_type_list : (b : List ℕ) (o : ℕ) (ts us : List Text) → TypeListAt b o ts → TypeListAt b o us → ts ≡ us
 one_type_list b o ts us h g = one_all_zip (TypeRow b) (one_type b) (type_indices b o) ts us h.types g.types
 
@@ -37,12 +40,14 @@ one_or_none At nothing b o x y one (inl h) (inr g) = absurd (g.0 h.0)
 one_or_none At nothing b o x y one (inr h) (inl g) = absurd (h.0 g.0)
 one_or_none At nothing b o x y one (inr h) (inr g) = one h.1 g.1
 
+-- row i is one proto at most
 pub one_proto : (b : List ℕ) (i : ℕ) (p q : Proto) → ProtoRow b i p → ProtoRow b i q → p ≡ q
 one_proto b i p q h g =
     let return_type = one_type b _ p.return_type q.return_type h.return_type g.return_type in
     let parameters = one_or_none TypeListAt [] b _ p.parameters q.parameters (one_type_list b _ p.parameters q.parameters) h.parameters g.parameters in
     λ i. record { return_type = return_type i; parameters = parameters i }
 
+-- row i is one field at most
 pub one_field : (b : List ℕ) (i : ℕ) (x y : Field) → FieldRow b i x → FieldRow b i y → x ≡ y
 one_field b i x y h g =
     let class = one_type b _ x.class y.class h.class g.class in
@@ -50,6 +55,7 @@ one_field b i x y h g =
     let type = one_type b _ x.type y.type h.type g.type in
     λ i. record { class = class i; name = name i; type = type i }
 
+-- row i is one method at most
 pub one_method : (b : List ℕ) (i : ℕ) (x y : Method) → MethodRow b i x → MethodRow b i y → x ≡ y
 one_method b i x y h g =
     let class = one_type b _ x.class y.class h.class g.class in

@@ -5,6 +5,7 @@ use Rattle.std.proofs.lemmas.List.{append_cancel_left}
 use Rattle.std.proofs.lemmas.List.Concat.{flat_map-cons}
 use Rattle.dexspec.specs.Numbers.{IsUleb128, BeginsWith, sum_of_groups}
 use Rattle.dexspec.specs.Texts.{Text, AreUnits, form, spelling, IsStringData, string_data}
+use Rattle.dexspec.proofs.Stands.{same_heads}
 use Rattle.dexspec.proofs.Spellings.{same_number, uleb128_is}
 
 -- a unit's spelling and what follows, by its bytes
@@ -13,6 +14,7 @@ pub data Shape (bytes : List ℕ) (u : ℕ) (rest : List ℕ) : Type 0 where
   Two : (u ≡ 0) ⊎ (0x80 ≤ u) → u < 0x800 → bytes ≡ (0xc0 + u / 64) ∷ (0x80 + u % 64) ∷ rest → Shape bytes u rest
   Three : 0x800 ≤ u → u < 0x10000 → bytes ≡ (0xe0 + u / 4096) ∷ (0x80 + u / 64 % 64) ∷ (0x80 + u % 64) ∷ rest → Shape bytes u rest
 
+-- a unit's spelling has one of the three shapes
 pub shape_of : (u : ℕ) (rest : List ℕ) → u < 2 ^ 16 → Shape (form u ++ rest) u rest
 shape_of zero rest lt = Two (inl refl) (omega arith) refl
 shape_of (suc n) rest lt =
@@ -25,32 +27,29 @@ shape_of (suc n) rest lt =
       ])
     ]
 
-head_is : (a c : ℕ) (x y : List ℕ) → a ∷ x ≡ c ∷ y → (a ≡ c) × (x ≡ y)
-head_is a c x y e = (cc, cc)
-
 -- two spellings of units at the front of the same bytes
 same_shape : (bytes : List ℕ) (u v : ℕ) (x y : List ℕ) → Shape bytes u x → Shape bytes v y → u ≡ v
-same_shape bytes u v x y (One a lt e) (One a' lt' f) = (head_is u v x y (sym e ∙ f)).0
+same_shape bytes u v x y (One a lt e) (One a' lt' f) = (same_heads u v x y (sym e ∙ f)).0
 same_shape bytes u v x y (One a lt e) (Two a' lt' f) =
-    absurd (let h = (head_is u (0xc0 + v / 64) x ((0x80 + v % 64) ∷ y) (sym e ∙ f)).0 in omega arith)
+    absurd (let h = (same_heads u (0xc0 + v / 64) x ((0x80 + v % 64) ∷ y) (sym e ∙ f)).0 in omega arith)
 same_shape bytes u v x y (One a lt e) (Three a' lt' f) =
-    absurd (let h = (head_is u (0xe0 + v / 4096) x ((0x80 + v / 64 % 64) ∷ (0x80 + v % 64) ∷ y) (sym e ∙ f)).0 in omega arith)
+    absurd (let h = (same_heads u (0xe0 + v / 4096) x ((0x80 + v / 64 % 64) ∷ (0x80 + v % 64) ∷ y) (sym e ∙ f)).0 in omega arith)
 same_shape bytes u v x y (Two a lt e) (One a' lt' f) =
-    absurd (let h = (head_is (0xc0 + u / 64) v ((0x80 + u % 64) ∷ x) y (sym e ∙ f)).0 in omega arith)
+    absurd (let h = (same_heads (0xc0 + u / 64) v ((0x80 + u % 64) ∷ x) y (sym e ∙ f)).0 in omega arith)
 same_shape bytes u v x y (Two a lt e) (Two a' lt' f) =
-    let h = head_is (0xc0 + u / 64) (0xc0 + v / 64) ((0x80 + u % 64) ∷ x) ((0x80 + v % 64) ∷ y) (sym e ∙ f) in
-    let k = (head_is (0x80 + u % 64) (0x80 + v % 64) x y h.1).0 in
+    let h = same_heads (0xc0 + u / 64) (0xc0 + v / 64) ((0x80 + u % 64) ∷ x) ((0x80 + v % 64) ∷ y) (sym e ∙ f) in
+    let k = (same_heads (0x80 + u % 64) (0x80 + v % 64) x y h.1).0 in
     omega (arith, h.0)
 same_shape bytes u v x y (Two a lt e) (Three a' lt' f) =
-    absurd (let h = (head_is (0xc0 + u / 64) (0xe0 + v / 4096) ((0x80 + u % 64) ∷ x) ((0x80 + v / 64 % 64) ∷ (0x80 + v % 64) ∷ y) (sym e ∙ f)).0 in omega arith)
+    absurd (let h = (same_heads (0xc0 + u / 64) (0xe0 + v / 4096) ((0x80 + u % 64) ∷ x) ((0x80 + v / 64 % 64) ∷ (0x80 + v % 64) ∷ y) (sym e ∙ f)).0 in omega arith)
 same_shape bytes u v x y (Three a lt e) (One a' lt' f) =
-    absurd (let h = (head_is (0xe0 + u / 4096) v ((0x80 + u / 64 % 64) ∷ (0x80 + u % 64) ∷ x) y (sym e ∙ f)).0 in omega arith)
+    absurd (let h = (same_heads (0xe0 + u / 4096) v ((0x80 + u / 64 % 64) ∷ (0x80 + u % 64) ∷ x) y (sym e ∙ f)).0 in omega arith)
 same_shape bytes u v x y (Three a lt e) (Two a' lt' f) =
-    absurd (let h = (head_is (0xe0 + u / 4096) (0xc0 + v / 64) ((0x80 + u / 64 % 64) ∷ (0x80 + u % 64) ∷ x) ((0x80 + v % 64) ∷ y) (sym e ∙ f)).0 in omega arith)
+    absurd (let h = (same_heads (0xe0 + u / 4096) (0xc0 + v / 64) ((0x80 + u / 64 % 64) ∷ (0x80 + u % 64) ∷ x) ((0x80 + v % 64) ∷ y) (sym e ∙ f)).0 in omega arith)
 same_shape bytes u v x y (Three a lt e) (Three a' lt' f) =
-    let h = head_is (0xe0 + u / 4096) (0xe0 + v / 4096) ((0x80 + u / 64 % 64) ∷ (0x80 + u % 64) ∷ x) ((0x80 + v / 64 % 64) ∷ (0x80 + v % 64) ∷ y) (sym e ∙ f) in
-    let k = head_is (0x80 + u / 64 % 64) (0x80 + v / 64 % 64) ((0x80 + u % 64) ∷ x) ((0x80 + v % 64) ∷ y) h.1 in
-    let l = (head_is (0x80 + u % 64) (0x80 + v % 64) x y k.1).0 in
+    let h = same_heads (0xe0 + u / 4096) (0xe0 + v / 4096) ((0x80 + u / 64 % 64) ∷ (0x80 + u % 64) ∷ x) ((0x80 + v / 64 % 64) ∷ (0x80 + v % 64) ∷ y) (sym e ∙ f) in
+    let k = same_heads (0x80 + u / 64 % 64) (0x80 + v / 64 % 64) ((0x80 + u % 64) ∷ x) ((0x80 + v % 64) ∷ y) h.1 in
+    let l = (same_heads (0x80 + u % 64) (0x80 + v % 64) x y k.1).0 in
     let high : u / 4096 ≡ v / 4096 = omega (arith, h.0) in
     let middle : u / 64 % 64 ≡ v / 64 % 64 = omega (arith, k.0) in
     omega (arith, high, middle, l)
@@ -81,6 +80,7 @@ record Parts (bytes : List ℕ) (s : Text) (n : ℕ) : Type 0 where
   body : drop size bytes ≡ spelling s ++ 0 ∷ drop n bytes
   whole : n ≡ size + length (spelling s) + 1
 
+-- an item has these parts
 parts : (bytes : List ℕ) (s : Text) (n : ℕ) → BeginsWith IsStringData bytes s n → Parts bytes s n
 parts bytes s n item =
     let first = item.spelled.count in

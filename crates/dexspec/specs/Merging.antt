@@ -182,7 +182,7 @@ pub record IsPlanFor (files : ℕ) (plan : Plan) : Type 0 where
   pub named : (i : ℕ) → i < files → Contains (leaves plan) i
   pub shallow : plan_depth plan ≤ most_plan_depth
 
--- a part that is no leaf stands among them
+-- each of the parts is a leaf
 abbrev pub AreLeaves : Plans → Type 0
 AreLeaves NoPlans = Unit {0}
 AreLeaves (ThenPlan (Leaf file) ps) = AreLeaves ps

@@ -33,7 +33,7 @@ small_name : (s : Text) → 0 < length s → list_all (nat_lt 0x5b) s ≡ true �
 small_name s some h = record { some = some; units = All-weaker (λ u. nat_lt 0x5b u ≡ true) IsNameUnit above_bracket s (AllPass-from_list_all (nat_lt 0x5b) s h) }
 
 -- units, by a test
-units_by : (s : Text) → list_all (λ u. nat_lt u 65536) s ≡ true → AreUnits s
+pub units_by : (s : Text) → list_all (λ u. nat_lt u 65536) s ≡ true → AreUnits s
 units_by s h = All-weaker (λ u. nat_lt u 65536 ≡ true) (λ u. u < 2 ^ 16) (λ u lt. ltb-true u 65536 lt) s (AllPass-from_list_all (λ u. nat_lt u 65536) s h)
 
 name_a : IsMemberName (codes "A")
@@ -65,10 +65,10 @@ class_of_object = record {
   };
 }
 
-data_of_a : IsStringData (0x03 ∷ 0x4c ∷ 0x41 ∷ 0x3b ∷ 0x00 ∷ []) (codes "LA;")
+pub data_of_a : IsStringData (0x03 ∷ 0x4c ∷ 0x41 ∷ 0x3b ∷ 0x00 ∷ []) (codes "LA;")
 data_of_a = record { count = 0x03 ∷ []; says = record { chain = omega arith; few = omega arith; value = refl; in_range = omega arith }; units = units_by (codes "LA;") refl; parts = refl }
 
-data_of_object : IsStringData (take 20 (drop 0xa5 (front_a ++ file_a))) object
+pub data_of_object : IsStringData (take 20 (drop 0xa5 (front_a ++ file_a))) object
 data_of_object = record { count = 0x12 ∷ []; says = record { chain = omega arith; few = omega arith; value = refl; in_range = omega arith }; units = units_by object refl; parts = refl }
 
 -- ---- conditions 11 and 12

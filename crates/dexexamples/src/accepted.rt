@@ -2,13 +2,13 @@
 
 ghost use Rattle.std.specs.Prelude.{[], ◌∷◌, codes};
 ghost use Rattle.std.specs.FinMap.{from_entries};
-ghost use Rattle.dexspec.specs.Accepted.{HoldsThroughout, IsAccepted, IsFrame, IsRefused};
+ghost use Rattle.dexspec.specs.Accepted.{HasMembers, HoldsThroughout, IsAccepted, IsFrame, IsRefused};
 ghost use Rattle.dexspec.specs.Classes.{ClassRow};
 ghost use Rattle.dexspec.specs.Conditions.{Strings, Types, Protos, Fields, Methods, Classes};
 ghost use Rattle.dexspec.specs.Files.{Denotes};
 ghost use Rattle.dexspec.specs.Rows.{StringRow, TypeRow};
-ghost use Rattle.dexexamples.specs.Examples.{object, body_under, class_a};
-ghost use Rattle.dexexamples.specs.Whole.{whole_a, changed_a, cut_a, later_a};
+ghost use Rattle.dexexamples.specs.Examples.{object, body_under, class_a, class_p};
+ghost use Rattle.dexexamples.specs.Whole.{whole_a, changed_a, cut_a, later_a, whole_p};
 
 /// Header, sums, layout and map are right: conditions 1 to 10.
 pub fn frame()
@@ -49,4 +49,10 @@ pub fn refused()
     ensures changed { IsRefused changed_a 7 0 }
     ensures cut { IsRefused cut_a 4 0 }
     ensures later { IsRefused later_a 3 38 }
+{}
+
+/// The class row of a file with members is its class, with a method and its code.
+pub fn class_row_with_members()
+    ensures members { HasMembers whole_p 0 }
+    ensures is { ClassRow whole_p 0 (codes "LA;") (class_p (codes "hi")).1 }
 {}

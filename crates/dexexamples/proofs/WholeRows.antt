@@ -28,7 +28,7 @@ above_bracket u h =
     let lt = ltb-true 0x5b u h in
     (omega arith, omega arith, omega arith, omega arith)
 
--- of such units, behind perhaps a capital O
+-- a name of such units
 small_name : (s : Text) → 0 < length s → list_all (nat_lt 0x5b) s ≡ true → IsMemberName s
 small_name s some h = record { some = some; units = All-weaker (λ u. nat_lt 0x5b u ≡ true) IsNameUnit above_bracket s (AllPass-from_list_all (nat_lt 0x5b) s h) }
 

@@ -19,3 +19,11 @@ pub mod OneRow
 pub mod OneValue
 pub mod OneDebug
 pub mod Widths
+pub mod Mapped
+pub mod StripUnion
+pub mod StripMentions
+pub mod StripWeight
+pub mod StripGood
+pub mod StripWellFormed
+pub mod StripCollection
+pub mod StripOrder

@@ -27,3 +27,4 @@ pub mod StripGood
 pub mod StripWellFormed
 pub mod StripCollection
 pub mod StripOrder
+pub mod StripBare

@@ -1,6 +1,6 @@
 -- The statements of the laws of stripping.
 use Rattle.std.specs.Prelude.{◌≡◌, ◌↔◌, ℕ, ◌≤◌, List, length, map, All, IfSome, None}
-use Rattle.std.specs.List.{Contains}
+use Rattle.std.specs.List.{Contains, AllZip}
 use Rattle.std.specs.Option.{option_map}
 use Rattle.std.specs.FinMap as finite
 use Rattle.std.specs.declared.cmp.Ordering.{Ordering}
@@ -16,7 +16,7 @@ use Rattle.dexspec.specs.WellFormed.{method_key}
 use Rattle.dexspec.specs.Weight.{weight}
 use Rattle.dexspec.specs.Depth.{parents, is_defined, above, is_below, HasDepth, IsAcyclic, depth, in_class_order}
 use Rattle.dexspec.specs.Merging.{IsCycle}
-use Rattle.dexspec.specs.Stripping.{strip_method, strip_body, strip_definition, strip, strip_collection}
+use Rattle.dexspec.specs.Stripping.{strip_body, strip_definition, strip, strip_collection}
 
 -- ---- definitions
 
@@ -40,16 +40,17 @@ pub record IsBare (c : Body) : Type 0 where
 abbrev pub code_parts : Code → ℕ × ℕ × ℕ × List Piece × List Try
 code_parts c = (c.registers, c.ins, c.outs, c.pieces, c.tries)
 
--- all of a method but its code's debug program is kept
-pub record KeepsMethod (m : MethodDef) : Type 0 where
-  pub name : (strip_method m).name ≡ m.name
-  pub proto : (strip_method m).proto ≡ m.proto
-  pub flags : (strip_method m).flags ≡ m.flags
-  pub code : option_map code_parts (strip_method m).code ≡ option_map code_parts m.code
-  pub annotations : (strip_method m).annotations ≡ m.annotations
-  pub parameter_annotations : (strip_method m).parameter_annotations ≡ m.parameter_annotations
+-- the second method is the first without its code's debug program
+pub record IsMethodLeft (m n : MethodDef) : Type 0 where
+  pub name : n.name ≡ m.name
+  pub proto : n.proto ≡ m.proto
+  pub flags : n.flags ≡ m.flags
+  pub code : option_map code_parts n.code ≡ option_map code_parts m.code
+  pub no_debug : HasNoDebug n
+  pub annotations : n.annotations ≡ m.annotations
+  pub parameter_annotations : n.parameter_annotations ≡ m.parameter_annotations
 
--- all of a definition but its source text and its methods is kept, and of these their number, names and order
+-- all of a definition but its source text is kept, and its methods stand in the same order under the same names
 pub record KeepsDefinition (d : Definition) : Type 0 where
   pub name : (strip_definition d).0 ≡ d.0
   pub flags : (strip_body d.1).flags ≡ d.1.flags
@@ -59,8 +60,10 @@ pub record KeepsDefinition (d : Definition) : Type 0 where
   pub annotations : (strip_body d.1).annotations ≡ d.1.annotations
   pub static_fields : (strip_body d.1).static_fields ≡ d.1.static_fields
   pub instance_fields : (strip_body d.1).instance_fields ≡ d.1.instance_fields
-  pub direct_methods : map method_key (strip_body d.1).direct_methods ≡ map method_key d.1.direct_methods
-  pub virtual_methods : map method_key (strip_body d.1).virtual_methods ≡ map method_key d.1.virtual_methods
+  pub direct_methods : AllZip IsMethodLeft d.1.direct_methods (strip_body d.1).direct_methods
+  pub virtual_methods : AllZip IsMethodLeft d.1.virtual_methods (strip_body d.1).virtual_methods
+  pub direct_names : map method_key (strip_body d.1).direct_methods ≡ map method_key d.1.direct_methods
+  pub virtual_names : map method_key (strip_body d.1).virtual_methods ≡ map method_key d.1.virtual_methods
   pub static_values : (strip_body d.1).static_values ≡ d.1.static_values
 
 -- names, parents and depths are those of the definitions, and so is the class order

@@ -14,7 +14,7 @@ ghost use Rattle.dexspec.specs.WellFormed.{IsWellFormed, AreWellFormed};
 ghost use Rattle.dexspec.specs.Weight.{body_weight, weight};
 ghost use Rattle.dexspec.specs.Merging.{Caps, HasShortString, Fits, IsConsistent, IsConflict, IsGood, Cause, IsCause, Plan, union};
 ghost use Rattle.dexspec.specs.Stripping.{strip_body, strip_definition, strip, strip_collection};
-ghost use Rattle.dexlaws_strip.specs.Laws.{IsLeft, IsBare, KeepsMethod, KeepsDefinition, KeepsDepths, AreParts, HasHeavier, StripsCollection};
+ghost use Rattle.dexlaws_strip.specs.Laws.{IsLeft, IsBare, KeepsDefinition, KeepsDepths, AreParts, HasHeavier, StripsCollection};
 
 /// A union stripped is the union of what is stripped: of the files that a plan names, of two lists,
 /// and by members alone.
@@ -35,10 +35,9 @@ pub fn strip_bare()
 {}
 
 /// Stripping keeps all else: the name, the parents, the fields and static values, the annotations,
-/// and each method with its code.
+/// and each method with its code, in their order.
 pub fn strip_keeps()
-    ensures definitions { (d : Definition) → KeepsDefinition d }
-    ensures methods { (m : MethodDef) → KeepsMethod m }
+    ensures { (d : Definition) → KeepsDefinition d }
 {}
 
 /// The same names are defined and have the same depths, and a cycle stays one.
@@ -46,11 +45,14 @@ pub fn strip_depth()
     ensures { (D : List Definition) → KeepsDepths D }
 {}
 
-/// What stripped definitions mention is part of what the definitions mention, so that no rank rises;
-/// and the same texts are short strings.
+/// What stripped definitions mention is part of what the definitions mention, so that no rank rises:
+/// all of it but some texts and types. The same texts are short strings.
 pub fn strip_mentions()
     ensures symbols { (d : Definition) (s : Symbol) → Contains (symbols_of (strip_definition d)) s → Contains (symbols_of d) s }
     ensures lists { (D : List Definition) → AreParts (mentions (strip D)) (mentions D) }
+    ensures protos { (D : List Definition) → (mentions (strip D)).protos ≡ (mentions D).protos }
+    ensures fields { (D : List Definition) → (mentions (strip D)).fields ≡ (mentions D).fields }
+    ensures methods { (D : List Definition) → (mentions (strip D)).methods ≡ (mentions D).methods }
     ensures short { (D : List Definition) (s : Text) → HasShortString (strip D) s ↔ HasShortString D s }
 {}
 

@@ -28,3 +28,4 @@ pub mod StripWellFormed
 pub mod StripCollection
 pub mod StripOrder
 pub mod StripBare
+pub mod StripKept

@@ -10,7 +10,7 @@ use Rattle.dexspec.specs.Stripping.{strip_code, strip_method, strip_body}
 abbrev pub HasNoDebug : Option Code → Type 0
 HasNoDebug o = IfSome o (λ c. c.debug ≡ None)
 
-no_debug : (o : Option Code) → HasNoDebug (option_map strip_code o)
+pub no_debug : (o : Option Code) → HasNoDebug (option_map strip_code o)
 no_debug None = tt
 no_debug (Some c) = refl
 

@@ -9,6 +9,7 @@ use Rattle.dexspec.proofs.SymbolOrders.{text_total, proto_total, field_total, me
 use Rattle.dexspec.proofs.InOrder.{Rises, AreDistinct-from_Rises, rank-among}
 use Rattle.dexspec.proofs.Growth.{mentions-rising}
 use Rattle.dexspec.proofs.StripMentions.{symbols_of-strip, mentions-strip, HasShortString-strip, HasShortString-strip_source}
+use Rattle.dexspec.proofs.StripKept.{protos-kept, fields-kept, methods-kept}
 use Rattle.dexlaws_strip.specs.Laws.{IsPartOf}
 use Rattle.dexlaws_strip.proofs.strip_mentions.Goals as goal
 
@@ -34,6 +35,15 @@ returns-clause-lists c = λ D.
       fields = part field_cmp field_total m.fields n.fields r.fields a.fields;
       methods = part method_cmp method_total m.methods n.methods r.methods a.methods;
     }
+
+pub returns-clause-protos : goal.returns-clause-protos
+returns-clause-protos c = protos-kept
+
+pub returns-clause-fields : goal.returns-clause-fields
+returns-clause-fields c = fields-kept
+
+pub returns-clause-methods : goal.returns-clause-methods
+returns-clause-methods c = methods-kept
 
 pub returns-clause-short : goal.returns-clause-short
 returns-clause-short c = λ D s. (HasShortString-strip_source D s, HasShortString-strip D s)

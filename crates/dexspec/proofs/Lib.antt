@@ -10,3 +10,4 @@ pub mod MentionMembers
 pub mod DepthGrowth
 pub mod WeightGrowth
 pub mod Absorption
+pub mod Decided

@@ -29,3 +29,4 @@ pub mod Canonical
 pub mod Merging
 pub mod Stripping
 pub mod Plain
+pub mod Codes

@@ -11,3 +11,5 @@ pub mod DepthGrowth
 pub mod WeightGrowth
 pub mod Absorption
 pub mod Decided
+pub mod Searches
+pub mod Depths

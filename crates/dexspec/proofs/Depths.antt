@@ -7,8 +7,10 @@ use Rattle.std.proofs.lemmas.List.{length-map}
 use Rattle.std.proofs.lemmas.List.Sums.{sum_by-cons, count_by-le-length}
 use Rattle.dexspec.specs.Texts.{Text, same_text}
 use Rattle.dexspec.specs.Classes.{Definition}
+use Rattle.dexspec.specs.Files.{AreWithin}
 use Rattle.dexspec.specs.Depth.{parents, is_defined, above, is_below, HasDepth, IsAcyclic, depth_to, depth}
 use Rattle.dexspec.specs.Merging.{IsCycle}
+use Rattle.dexspec.proofs.DepthGrowth.{is_below-within, HasDepth-within}
 use Rattle.dexspec.proofs.Members.{Contains-nil, Contains-first, Contains-later, Contains-cons_cases, Contains-filter_source, list_all-member, list_all-from_members, list_any-source, list_any-member, Contains-flat_map_source}
 
 -- ---- how many of a list pass
@@ -239,3 +241,12 @@ module _ (D : List Definition) where
 
   pub acyclic-apart : (name : Text) → IsAcyclic D → IsCycle D name → ⊥
   acyclic-apart name a x = x.deep (a name x.defined)
+
+-- the depth rests on the members alone
+pub depth-same : (D E : List Definition) (name : Text) → AreWithin D E → AreWithin E D → HasDepth D name → depth D name ≡ depth E name
+depth-same D E name f g w =
+    let one = depth-is D name w in
+    let other = depth-is E name (HasDepth-within E D g name w) in
+    let le = less_than D (depth D name) (suc (depth E name)) name one.not_below (is_below-within D E f (suc (depth E name)) name other.below) in
+    let ge = less_than E (depth E name) (suc (depth D name)) name other.not_below (is_below-within E D g (suc (depth D name)) name one.below) in
+    omega (arith, le, ge)

@@ -13,3 +13,7 @@ pub mod Absorption
 pub mod Decided
 pub mod Searches
 pub mod Depths
+pub mod Conflicts
+pub mod Exceeding
+pub mod FirstCauses
+pub mod Collections

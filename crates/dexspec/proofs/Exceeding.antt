@@ -95,6 +95,10 @@ shorts-source D s c =
 
 -- ---- the caps
 
+-- the definitions, each once, weigh the most
+pub weight-once : (D E : List Definition) → AreDistinct E → AreWithin E D → weight E ≤ weight (once_of definition_same_or_not D).once
+weight-once D E d h = let o = once_of definition_same_or_not D in weight-within E o.once d (λ x c. o.has x (h x c))
+
 module _ (caps : Caps) (D : List Definition) where
   more_or_not : (m n : ℕ) → (m < n) ⊎ (¬ (m < n))
   more_or_not m n = elim (cases_lt m n) [ inl lt ↦ inl lt | inr ge ↦ inr (λ lt. omega (arith, lt, ge)) ]
@@ -102,14 +106,10 @@ module _ (caps : Caps) (D : List Definition) where
   short_or_not : (s : Text) → (caps.short_strings ≤ rank text_cmp s (mentions D).texts) ⊎ (¬ (caps.short_strings ≤ rank text_cmp s (mentions D).texts))
   short_or_not s = elim (cases_lt (rank text_cmp s (mentions D).texts) caps.short_strings) [ inl lt ↦ inr (λ ge. omega (arith, lt, ge)) | inr ge ↦ inl ge ]
 
-  -- the definitions, each once, weigh the most
-  pub weight-once : (E : List Definition) → AreDistinct E → AreWithin E D → weight E ≤ weight (once_of definition_same_or_not D).once
-  weight-once E d h = let o = once_of definition_same_or_not D in weight-within E o.once d (λ x c. o.has x (h x c))
-
   weight_or_not : Exceeds caps D Weight ⊎ (¬ (Exceeds caps D Weight))
   weight_or_not = let o = once_of definition_same_or_not D in elim (cases_lt caps.weight (weight o.once)) [
     | inl lt ↦ inl (o.once, o.distinct, o.only, lt)
-    | inr ge ↦ inr (λ x. omega (arith, ge, weight-once x.0 x.1 x.2, x.3))
+    | inr ge ↦ inr (λ x. omega (arith, ge, weight-once D x.0 x.1 x.2, x.3))
   ]
 
   pub exceeds_or_not : (cap : Cap) → Exceeds caps D cap ⊎ (¬ (Exceeds caps D cap))

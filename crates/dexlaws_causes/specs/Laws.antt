@@ -43,8 +43,11 @@ pub record HasFirstCause (caps : Caps) (D : List Definition) : Type 0 where
   pub cause : Cause
   pub first : IsFirstCause caps D cause
 
--- the definitions of the collection are the members of the list, and their names rise, so that none has two
+-- The definitions of the collection are the members of the list; their names rise, so that no name has two, and
+-- no members of the list of which no two are the same weigh more.
 pub record AreDefinitionsOf (D : List Definition) (K : Collection) : Type 0 where
   pub members : AreSame (definitions K) D
   pub rise : IsTrue (rises text_cmp (map (λ d. d.0) (definitions K)))
   pub names : AreDistinct (map (λ d. d.0) (definitions K))
+  pub distinct : AreDistinct (definitions K)
+  pub most : (E : List Definition) → AreDistinct E → AreWithin E D → weight E ≤ weight (definitions K)

@@ -48,10 +48,11 @@ pub fn fits_or_exceeds()
 {}
 
 /// Definitions can be merged or have a first cause why not, and never both; this is one cause, and
-/// rests on the members alone.
+/// rests on the members alone. Of each cause it is decided whether it is true of them.
 pub fn good_or_first_cause()
     ensures decided { (caps : Caps) (D : List Definition) → IsGood caps D ⊎ HasFirstCause caps D }
     ensures apart { (caps : Caps) (D : List Definition) (cause : Cause) → IsGood caps D → IsCause caps D cause → ⊥ }
+    ensures each { (caps : Caps) (D : List Definition) (cause : Cause) → IsCause caps D cause ⊎ (IsCause caps D cause → ⊥) }
     ensures one { (caps : Caps) (D : List Definition) (c d : Cause) → IsFirstCause caps D c → IsFirstCause caps D d → c ≡ d }
     ensures alone { (caps : Caps) (D E : List Definition) (cause : Cause) → AreSame D E → IsFirstCause caps D cause → IsFirstCause caps E cause }
 {}

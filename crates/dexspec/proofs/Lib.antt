@@ -17,3 +17,12 @@ pub mod Conflicts
 pub mod Exceeding
 pub mod FirstCauses
 pub mod Collections
+pub mod Stands
+pub mod Sequences
+pub mod ByteNumbers
+pub mod OneNumber
+pub mod OneText
+pub mod OneRow
+pub mod OneValue
+pub mod OneDebug
+pub mod Widths

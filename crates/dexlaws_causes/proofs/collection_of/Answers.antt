@@ -3,7 +3,7 @@ use Rattle.dexspec.specs.Files.{definitions}
 use Rattle.dexspec.proofs.SymbolOrders.{text_total}
 use Rattle.dexspec.proofs.InOrder.{rises-from_Rises, AreDistinct-from_Rises}
 use Rattle.dexspec.proofs.Depths.{names_in}
-use Rattle.dexspec.proofs.Collections.{collection-is, collection-one, collection-consistent, names-rise, definitions-are, definitions-same}
+use Rattle.dexspec.proofs.Collections.{collection-is, collection-one, collection-consistent, names-rise, definitions-are, definitions-same, definitions-distinct, definitions-weigh_most}
 use Rattle.dexlaws_causes.proofs.collection_of.Goals as goal
 
 pub returns-clause-is : goal.returns-clause-is
@@ -17,6 +17,8 @@ returns-clause-members c = λ D K h. record {
   members = definitions-same D K h;
   rise = rises-from_Rises text_cmp (names_in (definitions K)) (names-rise K);
   names = AreDistinct-from_Rises text_cmp text_total (names_in (definitions K)) (names-rise K);
+  distinct = definitions-distinct K;
+  most = definitions-weigh_most D K h;
 }
 
 pub returns-clause-consistent : goal.returns-clause-consistent

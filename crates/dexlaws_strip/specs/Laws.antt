@@ -15,7 +15,7 @@ use Rattle.dexspec.specs.Mentions.{Mentions}
 use Rattle.dexspec.specs.WellFormed.{method_key}
 use Rattle.dexspec.specs.Weight.{weight}
 use Rattle.dexspec.specs.Depth.{parents, is_defined, above, is_below, HasDepth, IsAcyclic, depth, in_class_order}
-use Rattle.dexspec.specs.Merging.{IsCycle}
+use Rattle.dexspec.specs.Merging.{Caps, IsCycle, IsGood, Plan, union}
 use Rattle.dexspec.specs.Stripping.{strip_body, strip_definition, strip, strip_collection}
 
 -- ---- definitions
@@ -112,3 +112,10 @@ pub record StripsCollection (K : Collection) : Type 0 where
   pub names : finite.keys (strip_collection K) ≡ finite.keys K
   pub found : (name : Text) → finite.get (strip_collection K) name ≡ option_map strip_body (finite.get K name)
   pub twice : strip_collection (strip_collection K) ≡ strip_collection K
+
+-- where the collections merge to K, the stripped ones can be merged under the caps if these can, and merge to what is left of K alone
+pub record StripCommutes (caps : Caps) (Ks : List Collection) (plan : Plan) (K : Collection) : Type 0 where
+  pub parts : union (map definitions (map strip_collection Ks)) plan ≡ strip (union (map definitions Ks) plan)
+  pub good : IsGood caps (union (map definitions Ks) plan) → IsGood caps (union (map definitions (map strip_collection Ks)) plan)
+  pub is : IsCollectionOf (union (map definitions (map strip_collection Ks)) plan) (strip_collection K)
+  pub alone : (L : Collection) → IsCollectionOf (union (map definitions (map strip_collection Ks)) plan) L → L ≡ strip_collection K

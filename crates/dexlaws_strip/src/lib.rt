@@ -8,13 +8,13 @@ ghost use Rattle.dexspec.specs.Lists.{AreDistinct};
 ghost use Rattle.dexspec.specs.Texts.{Text};
 ghost use Rattle.dexspec.specs.Symbols.{Symbol};
 ghost use Rattle.dexspec.specs.Classes.{MethodDef, Body, Definition};
-ghost use Rattle.dexspec.specs.Files.{Collection, AreSame, AreWithin, IsCollectionOf};
+ghost use Rattle.dexspec.specs.Files.{Collection, definitions, AreSame, AreWithin, IsCollectionOf};
 ghost use Rattle.dexspec.specs.Mentions.{mentions, symbols_of};
 ghost use Rattle.dexspec.specs.WellFormed.{IsWellFormed, AreWellFormed};
 ghost use Rattle.dexspec.specs.Weight.{body_weight, weight};
 ghost use Rattle.dexspec.specs.Merging.{Caps, HasShortString, Fits, IsConsistent, IsConflict, IsGood, Cause, IsCause, Plan, union};
 ghost use Rattle.dexspec.specs.Stripping.{strip_body, strip_definition, strip, strip_collection};
-ghost use Rattle.dexlaws_strip.specs.Laws.{IsLeft, IsBare, KeepsDefinition, KeepsDepths, AreParts, HasHeavier, StripsCollection};
+ghost use Rattle.dexlaws_strip.specs.Laws.{IsLeft, IsBare, KeepsDefinition, KeepsDepths, AreParts, HasHeavier, StripsCollection, StripCommutes};
 
 /// A union stripped is the union of what is stripped: of the files that a plan names, of two lists,
 /// and by members alone.
@@ -81,4 +81,10 @@ pub fn strip_good()
 pub fn strip_collection_law()
     ensures whole { (K : Collection) → StripsCollection K }
     ensures listed { (D : List Definition) (K : Collection) → IsCollectionOf D K → IsCollectionOf (strip D) (strip_collection K) }
+{}
+
+/// Where collections merge to one by a plan, the stripped collections merge by this plan to the one
+/// stripped, and to no other, and fit the caps that the collections fit.
+pub fn strip_merge_law()
+    ensures { (caps : Caps) (Ks : List Collection) (plan : Plan) (K : Collection) → IsCollectionOf (union (map definitions Ks) plan) K → StripCommutes caps Ks plan K }
 {}

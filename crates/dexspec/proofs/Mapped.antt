@@ -5,6 +5,7 @@ use Rattle.std.proofs.lemmas.List.{get_or-map, length-map, map-append}
 use Rattle.std.proofs.lemmas.List.Elements.{Contains-append_left, Contains-append_right, Contains-append_cases, All-contains_itself, All-weaker}
 use Rattle.std.proofs.lemmas.List.Sums.{sum_by-cons}
 use Rattle.dexspec.specs.Lists.{AreDistinct}
+use Rattle.dexspec.proofs.Depths.{Contains-map}
 use Rattle.dexspec.proofs.Members.{AreAmong, Contains-nil, Contains-first, Contains-later, Contains-cons_cases}
 
 -- ---- members among others
@@ -34,9 +35,6 @@ module _ {X : Type 0} where
 -- ---- members of a mapped list
 
 module _ {X Y : Type 0} (f : X → Y) where
-  pub Contains-map : (xs : List X) (x : X) → Contains xs x → Contains (map f xs) (f x)
-  Contains-map xs x c = (c.0, omega (arith, length-map xs f, c.1), get_or-map f xs c.0 x (f x) c.1 ∙ ap f c.2)
-
   -- a member is what some member is mapped to
   pub Contains-map_source : (xs : List X) (y : Y) → Contains (map f xs) y → (x : X) × Contains xs x × (f x ≡ y)
   Contains-map_source [] y c = absurd (Contains-nil y c)
@@ -46,7 +44,7 @@ module _ {X Y : Type 0} (f : X → Y) where
   ]
 
   pub AreAmong-map : (xs ys : List X) → AreAmong xs ys → AreAmong (map f xs) (map f ys)
-  AreAmong-map xs ys h y c = let s = Contains-map_source xs y c in subst (Contains (map f ys)) s.2 (Contains-map ys s.0 (h s.0 s.1))
+  AreAmong-map xs ys h y c = let s = Contains-map_source xs y c in subst (Contains (map f ys)) s.2 (Contains-map f ys s.0 (h s.0 s.1))
 
   -- members of a mapped list are what members are mapped to
   pub originals : (xs : List X) (ys : List Y) → AreAmong ys (map f xs) → (zs : List X) × AreAmong zs xs × (map f zs ≡ ys)

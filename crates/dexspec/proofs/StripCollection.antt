@@ -1,76 +1,20 @@
 -- The definitions of a stripped collection are the stripped definitions of the collection.
-use Rattle.std.proofs.Common.{◌≡◌, Bool, true, false, cond, ◌&&◌, T, List, [], ◌∷◌, map, Some, refl, sym, ap, ◌∙◌, subst, inl, inr, is_lt, is_eq, Ordering, Less, Equal, Greater}
+use Rattle.std.proofs.Common.{◌≡◌, true, false, cond, ◌&&◌, T, List, [], ◌∷◌, map, Some, refl, sym, ap, ◌∙◌, subst, is_lt}
 use Rattle.std.specs.List.{Contains}
 use Rattle.std.specs.Option.{option_map}
 use Rattle.std.specs.FinMap as finite
 use Rattle.std.specs.FinMap.Entries.{find, is_sorted, below_all}
-use Rattle.std.specs.Ordering.{eq_by_cmp, ordering_reverse}
-use Rattle.std.proofs.lemmas.Cmp.{tied_itself}
-use Rattle.std.proofs.lemmas.Option.{same_Some}
+use Rattle.std.specs.Ordering.{eq_by_cmp}
 use Rattle.dexspec.specs.Texts.{Text, text_cmp}
-use Rattle.dexspec.specs.Classes.{Body, Definition}
+use Rattle.dexspec.specs.Classes.{Definition}
 use Rattle.dexspec.specs.Files.{Collection, definitions, IsCollectionOf}
 use Rattle.dexspec.specs.Stripping.{strip_body, strip_definition, strip, strip_collection}
-use Rattle.dexspec.proofs.Members.{and_first, and_second, Contains-nil, Contains-first, Contains-later, Contains-cons_cases}
 use Rattle.dexspec.proofs.SymbolOrders.{text_total, text_exact}
-use Rattle.dexspec.proofs.Mapped.{Contains-map, Contains-map_source}
-use Rattle.dexspec.proofs.StripUnion.{strip-twice}
-
--- ---- what is found in a list of definitions whose names rise
-
-tied : (r : Ordering) → is_eq r ≡ true → r ≡ Equal
-tied Less e = absurd cc
-tied Equal e = refl
-tied Greater e = absurd cc
-
-less : (r : Ordering) → is_lt r ≡ true → r ≡ Less
-less Less e = refl
-less Equal e = absurd cc
-less Greater e = absurd cc
-
-is_true : (b : Bool) → T b → b ≡ true
-is_true true t = refl
-is_true false t = absurd t
-
--- what is found is a member
-found-member : (D : List Definition) (q : Text) (c : Body) → find text_cmp q D ≡ Some c → Contains D (q, c)
-found-member [] q c e = absurd cc
-found-member (d ∷ ds) q c e = by (eq_by_cmp text_cmp q d.0) refl e (found-member ds q c)
-  where
-    by : (b : Bool) → eq_by_cmp text_cmp q d.0 ≡ b → cond b (Some d.1) (find text_cmp q ds) ≡ Some c → (find text_cmp q ds ≡ Some c → Contains ds (q, c)) → Contains (d ∷ ds) (q, c)
-    by true t e again =
-        let name = text_exact q d.0 (tied (text_cmp q d.0) t) in
-        let body = same_Some d.1 c e in
-        subst (Contains (d ∷ ds)) (λ i. (sym name i, body i)) (Contains-first d ds)
-    by false t e again = Contains-later d (q, c) ds (again e)
-
--- a name below all is below a member's
-below : (n : Text) (es : List Definition) (d : Definition) → below_all text_cmp n es ≡ true → Contains es d → text_cmp n d.0 ≡ Less
-below n [] d h c = absurd (Contains-nil d c)
-below n (e ∷ es) d h c = elim (Contains-cons_cases e d es c) [
-  | inl s ↦ subst (λ (k : Definition). text_cmp n k.0 ≡ Less) s (less (text_cmp n e.0) (and_first (is_lt (text_cmp n e.0)) (below_all text_cmp n es) h))
-  | inr l ↦ below n es d (and_second (is_lt (text_cmp n e.0)) (below_all text_cmp n es) h) l
-]
-
--- where names rise each member is found
-member-found : (D : List Definition) (q : Text) (c : Body) → is_sorted text_cmp D ≡ true → Contains D (q, c) → find text_cmp q D ≡ Some c
-member-found [] q c h m = absurd (Contains-nil (q, c) m)
-member-found (d ∷ ds) q c h m = elim (Contains-cons_cases d (q, c) ds m) [
-  | inl e ↦
-      let here : eq_by_cmp text_cmp q d.0 ≡ true = ap (λ (z : Definition). is_eq (text_cmp q z.0)) e ∙ ap is_eq (tied_itself text_total q) in
-      ap (λ b. cond b (Some d.1) (find text_cmp q ds)) here ∙ ap (λ (z : Definition). Some z.1) e
-  | inr l ↦
-      let under = below d.0 ds (q, c) (and_first (below_all text_cmp d.0 ds) (is_sorted text_cmp ds) h) l in
-      let past : eq_by_cmp text_cmp q d.0 ≡ false = ap is_eq (text_total.antisymm q d.0 ∙ ap ordering_reverse under) in
-      ap (λ b. cond b (Some d.1) (find text_cmp q ds)) past ∙ member-found ds q c (and_second (below_all text_cmp d.0 ds) (is_sorted text_cmp ds) h) l
-]
-
--- a collection is the one of its own definitions
-pub own_definitions : (K : Collection) → IsCollectionOf (definitions K) K
-own_definitions K name c = (
-  λ e. found-member (definitions K) name c (sym (finite.get-entries K name) ∙ e),
-  λ m. finite.get-entries K name ∙ member-found (definitions K) name c (is_true (is_sorted text_cmp (definitions K)) (finite.entries_sorted K)) m,
-)
+use Rattle.dexspec.proofs.Depths.{Contains-map}
+use Rattle.dexspec.proofs.Mapped.{Contains-map_source}
+use Rattle.dexspec.specs.Merging.{Plan, union}
+use Rattle.dexspec.proofs.Collections.{definitions-are, collection-one}
+use Rattle.dexspec.proofs.StripUnion.{strip-twice, strip-union}
 
 -- ---- stripped definitions whose names rise
 
@@ -106,15 +50,15 @@ get-strip_collection K name =
     finite.get-entries (strip_collection K) name ∙ ap (find text_cmp name) (definitions-strip_collection K) ∙ find-strip (definitions K) name ∙ ap (option_map strip_body) (sym (finite.get-entries K name))
 
 pub strip_collection-is : (K : Collection) → IsCollectionOf (strip (definitions K)) (strip_collection K)
-strip_collection-is K = subst (λ D. IsCollectionOf D (strip_collection K)) (definitions-strip_collection K) (own_definitions (strip_collection K))
+strip_collection-is K = subst (λ D. IsCollectionOf D (strip_collection K)) (definitions-strip_collection K) (definitions-are (strip_collection K))
 
 -- the definitions may stand in any order, and more than once
 pub strip_collection-of : (D : List Definition) (K : Collection) → IsCollectionOf D K → IsCollectionOf (strip D) (strip_collection K)
 strip_collection-of D K h name c = (
   λ e. let s = Contains-map_source strip_definition (definitions K) (name, c) ((strip_collection-is K name c).0 e) in
-      subst (Contains (strip D)) s.2 (Contains-map strip_definition D s.0 ((h s.0.0 s.0.1).0 ((own_definitions K s.0.0 s.0.1).1 s.1))),
+      subst (Contains (strip D)) s.2 (Contains-map strip_definition D s.0 ((h s.0.0 s.0.1).0 ((definitions-are K s.0.0 s.0.1).1 s.1))),
   λ m. let s = Contains-map_source strip_definition D (name, c) m in
-      (strip_collection-is K name c).1 (subst (Contains (strip (definitions K))) s.2 (Contains-map strip_definition (definitions K) s.0 ((own_definitions K s.0.0 s.0.1).0 ((h s.0.0 s.0.1).1 s.1)))),
+      (strip_collection-is K name c).1 (subst (Contains (strip (definitions K))) s.2 (Contains-map strip_definition (definitions K) s.0 ((definitions-are K s.0.0 s.0.1).0 ((h s.0.0 s.0.1).1 s.1)))),
 )
 
 names-strip : (D : List Definition) → map (λ (d : Definition). d.0) (strip D) ≡ map (λ (d : Definition). d.0) D
@@ -128,3 +72,21 @@ pub strip_collection-twice : (K : Collection) → strip_collection (strip_collec
 strip_collection-twice K =
     finite.same_entries_map (strip_collection (strip_collection K)) (strip_collection K)
     (definitions-strip_collection (strip_collection K) ∙ ap strip (definitions-strip_collection K) ∙ strip-twice (definitions K) ∙ sym (definitions-strip_collection K))
+
+-- ---- merging what is stripped
+
+pub files-strip_collection : (Ks : List Collection) → map definitions (map strip_collection Ks) ≡ map strip (map definitions Ks)
+files-strip_collection [] = refl
+files-strip_collection (K ∷ Ks) = λ i. definitions-strip_collection K i ∷ files-strip_collection Ks i
+
+-- the union of stripped collections is the stripped union
+pub union-strip_collection : (Ks : List Collection) (plan : Plan) → union (map definitions (map strip_collection Ks)) plan ≡ strip (union (map definitions Ks) plan)
+union-strip_collection Ks plan = ap (λ files. union files plan) (files-strip_collection Ks) ∙ sym (strip-union (map definitions Ks) plan)
+
+-- what stripped collections are merged to is what is left of what the collections are merged to
+pub merged-strip_collection : (Ks : List Collection) (plan : Plan) (K : Collection) → IsCollectionOf (union (map definitions Ks) plan) K → IsCollectionOf (union (map definitions (map strip_collection Ks)) plan) (strip_collection K)
+merged-strip_collection Ks plan K h =
+    subst (λ D. IsCollectionOf D (strip_collection K)) (sym (union-strip_collection Ks plan)) (strip_collection-of (union (map definitions Ks) plan) K h)
+
+pub merged_one-strip_collection : (Ks : List Collection) (plan : Plan) (K L : Collection) → IsCollectionOf (union (map definitions Ks) plan) K → IsCollectionOf (union (map definitions (map strip_collection Ks)) plan) L → L ≡ strip_collection K
+merged_one-strip_collection Ks plan K L h l = collection-one (union (map definitions (map strip_collection Ks)) plan) L (strip_collection K) l (merged-strip_collection Ks plan K h)

@@ -15,7 +15,7 @@ use Rattle.dexspec.proofs.SymbolOrders.{proto_total, field_total, method_total}
 use Rattle.dexspec.proofs.InOrder.{Rises-same}
 use Rattle.dexspec.proofs.Growth.{mentions-rising}
 use Rattle.dexspec.proofs.MentionMembers.{Occurs, protos-listed, protos-source, fields-listed, fields-source, methods-listed, methods-source}
-use Rattle.dexspec.proofs.Mapped.{Contains-map}
+use Rattle.dexspec.proofs.Depths.{Contains-map}
 use Rattle.dexspec.proofs.StripUnion.{declared_methods-strip}
 use Rattle.dexspec.proofs.StripMentions.{mentions-strip}
 

@@ -17,7 +17,8 @@ use Rattle.dexspec.proofs.SymbolOrders.{text_total, proto_total, field_total, me
 use Rattle.dexspec.proofs.InOrder.{AreDistinct-from_Rises, rank-among}
 use Rattle.dexspec.proofs.Growth.{AreMentioned, mentions-rising}
 use Rattle.dexspec.proofs.MentionMembers.{Occurs, texts-listed, texts-source, types-listed, types-source, protos-listed, protos-source, fields-listed, fields-source, methods-listed, methods-source}
-use Rattle.dexspec.proofs.Mapped.{AreAmong-refl, AreAmong-none, AreAmong-cons, AreAmong-append, Contains-map, Contains-map_source, AreAmong-flat_map_map}
+use Rattle.dexspec.proofs.Depths.{Contains-map}
+use Rattle.dexspec.proofs.Mapped.{AreAmong-refl, AreAmong-none, AreAmong-cons, AreAmong-append, Contains-map_source, AreAmong-flat_map_map}
 use Rattle.dexspec.proofs.StripUnion.{declared_methods-strip}
 
 -- ---- the symbols that occur

@@ -1,7 +1,8 @@
 use Rattle.std.proofs.Common.{subst}
 use Rattle.std.specs.List.{Contains}
 use Rattle.dexspec.specs.Stripping.{strip_definition, strip}
-use Rattle.dexspec.proofs.Mapped.{Contains-map, Contains-map_source}
+use Rattle.dexspec.proofs.Depths.{Contains-map}
+use Rattle.dexspec.proofs.Mapped.{Contains-map_source}
 use Rattle.dexspec.proofs.StripUnion.{strip-union, strip-append, strip-within}
 use Rattle.dexlaws_strip.proofs.strip_union.Goals as goal
 

@@ -18,14 +18,17 @@ use Rattle.dexspec.proofs.StripUnion.{strip-twice, strip-union}
 
 -- ---- stripped definitions whose names rise
 
+-- names stay, so that a name is below all as before
 below_all-strip : (n : Text) (D : List Definition) → below_all text_cmp n (strip D) ≡ below_all text_cmp n D
 below_all-strip n [] = refl
 below_all-strip n (d ∷ ds) = ap (λ b. is_lt (text_cmp n d.0) && b) (below_all-strip n ds)
 
+-- and names that rise still rise
 is_sorted-strip : (D : List Definition) → is_sorted text_cmp (strip D) ≡ is_sorted text_cmp D
 is_sorted-strip [] = refl
 is_sorted-strip (d ∷ ds) = λ i. below_all-strip d.0 ds i && is_sorted-strip ds i
 
+-- what is found is what is left of what was found
 find-strip : (D : List Definition) (q : Text) → find text_cmp q (strip D) ≡ option_map strip_body (find text_cmp q D)
 find-strip [] q = refl
 find-strip (d ∷ ds) q = elim (eq_by_cmp text_cmp q d.0) as (λ b. cond b (Some (strip_body d.1)) (find text_cmp q (strip ds)) ≡ option_map strip_body (cond b (Some d.1) (find text_cmp q ds))) [
@@ -41,14 +44,17 @@ entries-from_entries D h =
 
 -- ---- the stripped collection
 
+-- its definitions are the stripped ones, in the same order
 pub definitions-strip_collection : (K : Collection) → definitions (strip_collection K) ≡ strip (definitions K)
 unfolding strip_collection
 definitions-strip_collection K = entries-from_entries (strip (definitions K)) (subst T (sym (is_sorted-strip (definitions K))) (finite.entries_sorted K))
 
+-- what a name gives is stripped
 pub get-strip_collection : (K : Collection) (name : Text) → finite.get (strip_collection K) name ≡ option_map strip_body (finite.get K name)
 get-strip_collection K name =
     finite.get-entries (strip_collection K) name ∙ ap (find text_cmp name) (definitions-strip_collection K) ∙ find-strip (definitions K) name ∙ ap (option_map strip_body) (sym (finite.get-entries K name))
 
+-- it is the collection of the stripped definitions
 pub strip_collection-is : (K : Collection) → IsCollectionOf (strip (definitions K)) (strip_collection K)
 strip_collection-is K = subst (λ D. IsCollectionOf D (strip_collection K)) (definitions-strip_collection K) (definitions-are (strip_collection K))
 
@@ -61,13 +67,16 @@ strip_collection-of D K h name c = (
       (strip_collection-is K name c).1 (subst (Contains (strip (definitions K))) s.2 (Contains-map strip_definition (definitions K) s.0 ((definitions-are K s.0.0 s.0.1).0 ((h s.0.0 s.0.1).1 s.1)))),
 )
 
+-- the names are the same
 names-strip : (D : List Definition) → map (λ (d : Definition). d.0) (strip D) ≡ map (λ (d : Definition). d.0) D
 names-strip [] = refl
 names-strip (d ∷ ds) = ap (λ ns. d.0 ∷ ns) (names-strip ds)
 
+-- and so are those of the collection
 pub keys-strip_collection : (K : Collection) → finite.keys (strip_collection K) ≡ finite.keys K
 keys-strip_collection K = ap (map (λ (d : Definition). d.0)) (definitions-strip_collection K) ∙ names-strip (definitions K)
 
+-- stripping it again changes nothing
 pub strip_collection-twice : (K : Collection) → strip_collection (strip_collection K) ≡ strip_collection K
 strip_collection-twice K =
     finite.same_entries_map (strip_collection (strip_collection K)) (strip_collection K)
@@ -75,6 +84,7 @@ strip_collection-twice K =
 
 -- ---- merging what is stripped
 
+-- the definitions of stripped collections, one by one
 pub files-strip_collection : (Ks : List Collection) → map definitions (map strip_collection Ks) ≡ map strip (map definitions Ks)
 files-strip_collection [] = refl
 files-strip_collection (K ∷ Ks) = λ i. definitions-strip_collection K i ∷ files-strip_collection Ks i
@@ -88,5 +98,6 @@ pub merged-strip_collection : (Ks : List Collection) (plan : Plan) (K : Collecti
 merged-strip_collection Ks plan K h =
     subst (λ D. IsCollectionOf D (strip_collection K)) (sym (union-strip_collection Ks plan)) (strip_collection-of (union (map definitions Ks) plan) K h)
 
+-- and they are merged to nothing else
 pub merged_one-strip_collection : (Ks : List Collection) (plan : Plan) (K L : Collection) → IsCollectionOf (union (map definitions Ks) plan) K → IsCollectionOf (union (map definitions (map strip_collection Ks)) plan) L → L ≡ strip_collection K
 merged_one-strip_collection Ks plan K L h l = collection-one (union (map definitions (map strip_collection Ks)) plan) L (strip_collection K) l (merged-strip_collection Ks plan K h)

@@ -23,6 +23,7 @@ use Rattle.dexspec.proofs.StripUnion.{declared_methods-strip}
 
 -- ---- the symbols that occur
 
+-- stripped code has symbols of the code
 code_symbols-strip : (c : Code) → AreAmong (code_symbols (strip_code c)) (code_symbols c)
 code_symbols-strip c =
     let pieces = flat_map piece_symbols c.pieces in
@@ -31,10 +32,12 @@ code_symbols-strip c =
     AreAmong-append pieces (handlers ++ []) pieces (handlers ++ debug) (AreAmong-refl pieces)
     (AreAmong-append handlers [] handlers debug (AreAmong-refl handlers) (AreAmong-none debug))
 
+-- if there is any
 codes_symbols-strip : (o : Option Code) → AreAmong (flat_map code_symbols (option_to_list (option_map strip_code o))) (flat_map code_symbols (option_to_list o))
 codes_symbols-strip None = AreAmong-none []
 codes_symbols-strip (Some c) = AreAmong-append (code_symbols (strip_code c)) [] (code_symbols c) [] (code_symbols-strip c) (AreAmong-refl [])
 
+-- a stripped method has symbols of the method
 method_symbols-strip : (class : Text) (m : MethodDef) → AreAmong (method_symbols class (strip_method m)) (method_symbols class m)
 method_symbols-strip class m =
     let codes = flat_map code_symbols (option_to_list m.code) in
@@ -51,6 +54,7 @@ methods_symbols-strip class c others =
     (AreAmong-append (flat_map (method_symbols class) (map strip_method (declared_methods c))) others methods others
     (AreAmong-flat_map_map strip_method (method_symbols class) (method_symbols-strip class) (declared_methods c)) (AreAmong-refl others))
 
+-- a stripped definition has symbols of the definition
 pub symbols_of-strip : (d : Definition) → AreAmong (symbols_of (strip_definition d)) (symbols_of d)
 unfolding symbols_of
 symbols_of-strip (name, c) =
@@ -72,11 +76,13 @@ symbols_of-strip (name, c) =
 -- ---- what is mentioned
 
 module _ (D : List Definition) where
+  -- what occurs in stripped definitions occurs in the definitions
   occurs-strip : {X : Type 0} (parts : Symbol → List X) (x : X) → Occurs parts (strip D) x → Occurs parts D x
   occurs-strip parts x w =
       let s = Contains-map_source strip_definition D w.definition w.member in
       record { definition = s.0; symbol = w.symbol; member = s.1; occurs = symbols_of-strip s.0 w.symbol (subst (λ d. Contains (symbols_of d) w.symbol) (sym s.2) w.occurs); part = w.part }
 
+  -- what stripped definitions mention the definitions mention
   pub mentions-strip : AreMentioned (mentions (strip D)) (mentions D)
   mentions-strip = record {
     texts = λ x c. texts-listed D x (occurs-strip texts_in x (texts-source (strip D) x c));
@@ -86,23 +92,29 @@ module _ (D : List Definition) where
     methods = λ x c. methods-listed D x (occurs-strip methods_in x (methods-source (strip D) x c));
   }
 
+  -- no more types
   pub types-strip : length (mentions (strip D)).types ≤ length (mentions D).types
   types-strip = length-among (mentions (strip D)).types (mentions D).types (AreDistinct-from_Rises text_cmp text_total (mentions (strip D)).types (mentions-rising (strip D)).types) mentions-strip.types
 
+  -- no more protos
   pub protos-strip : length (mentions (strip D)).protos ≤ length (mentions D).protos
   protos-strip = length-among (mentions (strip D)).protos (mentions D).protos (AreDistinct-from_Rises proto_cmp proto_total (mentions (strip D)).protos (mentions-rising (strip D)).protos) mentions-strip.protos
 
+  -- no more fields
   pub fields-strip : length (mentions (strip D)).fields ≤ length (mentions D).fields
   fields-strip = length-among (mentions (strip D)).fields (mentions D).fields (AreDistinct-from_Rises field_cmp field_total (mentions (strip D)).fields (mentions-rising (strip D)).fields) mentions-strip.fields
 
+  -- no more methods
   pub methods-strip : length (mentions (strip D)).methods ≤ length (mentions D).methods
   methods-strip = length-among (mentions (strip D)).methods (mentions D).methods (AreDistinct-from_Rises method_cmp method_total (mentions (strip D)).methods (mentions-rising (strip D)).methods) mentions-strip.methods
 
+  -- and no greater ranks of texts
   pub text_rank-strip : (s : Text) → rank text_cmp s (mentions (strip D)).texts ≤ rank text_cmp s (mentions D).texts
   text_rank-strip s = rank-among text_cmp text_total s (mentions (strip D)).texts (mentions D).texts (mentions-rising (strip D)).texts mentions-strip.texts
 
   -- ---- short strings
 
+  -- a short string stays one
   pub HasShortString-strip : (s : Text) → HasShortString D s → HasShortString (strip D) s
   HasShortString-strip s x = record {
     definition = strip_definition x.definition;
@@ -121,6 +133,7 @@ code_source : (o : Option Code) (c : Code) → option_map strip_code o ≡ Some 
 code_source None c e = absurd cc
 code_source (Some b) c e = (b, refl, same_Some (strip_code b) c e)
 
+-- and was one before
 pub HasShortString-strip_source : (D : List Definition) (s : Text) → HasShortString (strip D) s → HasShortString D s
 HasShortString-strip_source D s x =
     let d = Contains-map_source strip_definition D x.definition x.member in

@@ -11,9 +11,11 @@ use Rattle.dexspec.proofs.StripUnion.{depth-strip}
 abbrev Entry : Type 0
 Entry = (ℕ × Text) × Body
 
+-- the same place with a stripped body
 abbrev strip_entry : Entry → Entry
 strip_entry e = (e.0, strip_body e.1)
 
+-- a stripped body put at its place
 put-strip : (k : ℕ × Text) (c : Body) (es : List Entry) → put place_cmp k (strip_body c) (map strip_entry es) ≡ map strip_entry (put place_cmp k c es)
 put-strip k c [] = refl
 put-strip k c (e ∷ es) = elim (place_cmp k e.0) as (λ r.
@@ -24,6 +26,7 @@ put-strip k c (e ∷ es) = elim (place_cmp k e.0) as (λ r.
       | Greater ↦ ap (λ l. strip_entry e ∷ l) (put-strip k c es)
     ]
 
+-- and all of them
 put_all-strip : (es : List Entry) → put_all (map strip_entry es) ≡ map strip_entry (put_all es)
 put_all-strip [] = refl
 put_all-strip (e ∷ es) = ap (put place_cmp e.0 (strip_body e.1)) (put_all-strip es) ∙ put-strip e.0 e.1 (put_all es)
@@ -32,14 +35,17 @@ put_all-strip (e ∷ es) = ap (put place_cmp e.0 (strip_body e.1)) (put_all-stri
 abbrev placed : (Text → ℕ) → List Definition → List Entry
 placed depth_of D = map (λ (d : Definition). ((depth_of d.0, d.0), d.1)) D
 
+-- stripped definitions have the same places
 placed-strip : (f g : Text → ℕ) → ((name : Text) → f name ≡ g name) → (D : List Definition) → placed f (strip D) ≡ map strip_entry (placed g D)
 placed-strip f g h [] = refl
 placed-strip f g h (d ∷ ds) = λ i. ((h d.0 i, d.0), strip_body d.1) ∷ placed-strip f g h ds i
 
+-- without the places they are the stripped definitions
 unplaced-strip : (es : List Entry) → map (λ (e : Entry). (e.0.1, e.1)) (map strip_entry es) ≡ strip (map (λ (e : Entry). (e.0.1, e.1)) es)
 unplaced-strip [] = refl
 unplaced-strip (e ∷ es) = ap (λ l. (e.0.1, strip_body e.1) ∷ l) (unplaced-strip es)
 
+-- stripped definitions stand in the same class order
 pub in_class_order-strip : (D : List Definition) → in_class_order (strip D) ≡ strip (in_class_order D)
 unfolding in_class_order
 in_class_order-strip D =

@@ -14,22 +14,27 @@ use Rattle.dexspec.proofs.Mapped.{originals, AreDistinct-map_source, sum_by-map_
 use Rattle.dexspec.proofs.StripUnion.{declared_methods-strip}
 use Rattle.dexspec.proofs.StripMentions.{mentions-strip}
 
+-- code with its debug program, if there is any
 abbrev codes_weight : Option Code → ℕ
 codes_weight o = sum_by (λ c. code_weight c + sum_by debug_weight (option_to_list c.debug)) (option_to_list o)
 
+-- stripped code weighs no more
 codes_weight-strip : (o : Option Code) → codes_weight (option_map strip_code o) ≤ codes_weight o
 codes_weight-strip None = omega arith
 codes_weight-strip (Some c) = omega arith
 
+-- nor does a stripped method
 method_weight-strip : (m : MethodDef) → method_weight (strip_method m) ≤ method_weight m
 method_weight-strip m = omega (arith, codes_weight-strip m.code)
 
+-- nor does a stripped body
 pub body_weight-strip : (c : Body) → body_weight (strip_body c) ≤ body_weight c
 body_weight-strip c =
     let methods = sum_by-map_within strip_method method_weight method_weight-strip (declared_methods c) in
     let same : sum_by method_weight (declared_methods (strip_body c)) ≡ sum_by method_weight (map strip_method (declared_methods c)) = ap (sum_by method_weight) (declared_methods-strip c) in
     omega (arith, methods, same)
 
+-- nor do stripped definitions
 pub weight-strip : (D : List Definition) → weight (strip D) ≤ weight D
 unfolding weight
 weight-strip D =

@@ -19,3 +19,5 @@ pub mod OneRow
 pub mod OneValue
 pub mod OneDebug
 pub mod Widths
+pub mod SizeSums
+pub mod SizeItems

@@ -21,3 +21,5 @@ pub mod OneDebug
 pub mod Widths
 pub mod SizeSums
 pub mod SizeItems
+pub mod SizeCode
+pub mod SizeClass

@@ -26,7 +26,7 @@ uleb128-size v = (uleb128_bounds v).1
 pub sleb128-size : (v : ℤ) → length (sleb128 v) ≤ 5
 sleb128-size v = (sleb128_bounds v).1
 
-if-size : (b : Bool) (n : ℕ) (xs ys : List ℕ) → length xs ≤ n → length ys ≤ n → length (if b then xs else ys) ≤ n
+pub if-size : (b : Bool) (n : ℕ) (xs ys : List ℕ) → length xs ≤ n → length ys ≤ n → length (if b then xs else ys) ≤ n
 if-size true n xs ys h k = h
 if-size false n xs ys h k = k
 

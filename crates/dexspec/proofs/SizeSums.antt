@@ -15,6 +15,10 @@ module _ {X Y : Type 0} where
   sum_by-map f g [] = refl
   sum_by-map f g (x ∷ xs) = omega (arith, sum_by-cons f (g x) (map g xs), sum_by-cons (λ y. f (g y)) x xs, sum_by-map f g xs)
 
+  pub map-length : (g : X → Y) (xs : List X) → length (map g xs) ≡ length xs
+  map-length g [] = refl
+  map-length g (x ∷ xs) = ap suc (map-length g xs)
+
   pub sum_by-flat_map : (f : Y → ℕ) (g : X → List Y) (xs : List X) → sum_by f (flat_map g xs) ≡ sum_by (λ x. sum_by f (g x)) xs
   sum_by-flat_map f g [] = refl
   sum_by-flat_map f g (x ∷ xs) = omega (arith, sum_by-append f (g x) (flat_map g xs), sum_by-cons (λ y. sum_by f (g y)) x xs, sum_by-flat_map f g xs)

@@ -23,3 +23,4 @@ pub mod SizeSums
 pub mod SizeItems
 pub mod SizeCode
 pub mod SizeClass
+pub mod SizeSections

@@ -24,3 +24,4 @@ pub mod SizeItems
 pub mod SizeCode
 pub mod SizeClass
 pub mod SizeSections
+pub mod SizeClasses

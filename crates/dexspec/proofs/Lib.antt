@@ -25,3 +25,4 @@ pub mod SizeCode
 pub mod SizeClass
 pub mod SizeSections
 pub mod SizeClasses
+pub mod SizeFile

@@ -20,7 +20,7 @@ use Rattle.dexspec.proofs.SizeItems.{uleb128-size}
 -- ---- class data
 
 -- items that two lists make, of k bytes at most
-zipped-size : {X Y : Type 0} (g : X → Y → List ℕ) (k : ℕ) (xs : List X) (ys : List Y) → ((x : X) (y : Y) → length (g x y) ≤ k) → length (concat (zip_with g xs ys)) ≤ length xs * k
+pub zipped-size : {X Y : Type 0} (g : X → Y → List ℕ) (k : ℕ) (xs : List X) (ys : List Y) → ((x : X) (y : Y) → length (g x y) ≤ k) → length (concat (zip_with g xs ys)) ≤ length xs * k
 zipped-size g k xs ys le =
     let each = sum_by-zip_with (λ (b : List ℕ). length b) (λ x. k) g xs ys le in
     let all = sum_by-at_most (λ x. k) k xs (λ x. omega arith) in

@@ -193,6 +193,13 @@ with_sums-size rest =
 padding-size : (at : ℕ) → length (padding 4 at) ≤ 3
 padding-size at = omega (arith, length-replicate {A = ℕ} ((4 - at % 4) % 4) 0, padding-at_most 3 at)
 
+-- rows and sections take no more than what they hold weighs
+pub parts-size : (K : Ordered) → length K.pools.types ≤ 65536 → length (table_bytes K (layout K)) + length (flat_map section_bytes (layout K).sections) ≤ mentions_weight K.pools + sum_by (λ d. body_weight d.1) K.classes
+parts-size K few =
+    let l = layout K in
+    let is = layout-is K few in
+    omega (arith, tables-size K l is.strings, sections-size l.sections (section_sizes K) is.sizes, mentions-cover K.pools, classes-cover K.classes)
+
 pub file-size : (K : Ordered) → length K.pools.types ≤ 65536 → length (with_sums (unsigned_file K)) ≤ 1024 + mentions_weight K.pools + sum_by (λ d. body_weight d.1) K.classes
 unfolding unsigned_file
 file-size K few =
@@ -204,8 +211,8 @@ file-size K few =
     let sections = flat_map section_bytes l.sections in
     let gap = padding 4 l.data_end in
     omega (arith, with_sums-size (unsigned_file K), length-append header (table_bytes K l ++ (sections ++ (gap ++ map_list))), length-append (table_bytes K l) (sections ++ (gap ++ map_list)),
-        length-append sections (gap ++ map_list), length-append gap map_list, header-size K map_off (map_off + length map_list), tables-size K l is.strings, sections-size l.sections (section_sizes K) is.sizes,
-        padding-size l.data_end, map_bytes-size (map_of K l map_off), map_of-size K l map_off is.sections, mentions-cover K.pools, classes-cover K.classes)
+        length-append sections (gap ++ map_list), length-append gap map_list, header-size K map_off (map_off + length map_list), parts-size K few,
+        padding-size l.data_end, map_bytes-size (map_of K l map_off), map_of-size K l map_off is.sections)
 
 -- ---- classes in their order
 

@@ -148,12 +148,14 @@ annotation_bytes-size m a =
 
 -- ---- lists of offsets and of types
 
-pub offsets_bytes-size : (offs : List ℕ) → length (offsets_bytes offs) ≤ 4 + 4 * length offs
-offsets_bytes-size offs =
-    let each = sum_by-at_most (λ o. length (uint o)) 4 offs (λ o. omega (arith, length-uint o)) in
-    omega (arith, length-append (uint (length offs)) (flat_map uint offs), length-uint (length offs), length-flat_map uint offs, each)
+each-is : {X : Type 0} (f : X → List ℕ) (k : ℕ) (xs : List X) → ((x : X) → length (f x) ≡ k) → length (flat_map f xs) ≡ length xs * k
+each-is f k [] e = omega arith
+each-is f k (x ∷ xs) e = omega (arith, length-append (f x) (flat_map f xs), e x, each-is f k xs e)
 
-pub type_list-size : (m : Mentions) (ts : List Text) → length (uint (length ts) ++ flat_map (λ t. ushort (type_index m t)) ts) ≤ 4 + 2 * length ts
+pub offsets_bytes-size : (offs : List ℕ) → length (offsets_bytes offs) ≡ 4 + 4 * length offs
+offsets_bytes-size offs = omega (arith, length-append (uint (length offs)) (flat_map uint offs), length-uint (length offs), each-is uint 4 offs length-uint)
+
+pub type_list-size : (m : Mentions) (ts : List Text) → length (uint (length ts) ++ flat_map (λ t. ushort (type_index m t)) ts) ≡ 4 + 2 * length ts
 type_list-size m ts =
-    let each = sum_by-at_most (λ t. length (ushort (type_index m t))) 2 ts (λ t. omega (arith, length-ushort (type_index m t))) in
-    omega (arith, length-append (uint (length ts)) (flat_map (λ t. ushort (type_index m t)) ts), length-uint (length ts), length-flat_map (λ t. ushort (type_index m t)) ts, each)
+    let row = λ (t : Text). ushort (type_index m t) in
+    omega (arith, length-append (uint (length ts)) (flat_map row ts), length-uint (length ts), each-is row 2 ts (λ t. length-ushort (type_index m t)))

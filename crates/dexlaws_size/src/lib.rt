@@ -37,9 +37,11 @@ pub fn section_size_law()
     ensures end { (align from : ℕ) (items : List (List ℕ)) → 0 < align → EndsWithin align from items }
 {}
 
-/// Definitions of different names stand in their order each once, so any sum over them is the same.
+/// Definitions of different names stand in their order each once, so any sum over them is the same. Those of
+/// a collection have different names.
 pub fn class_order_law()
-    ensures { (f : Definition → ℕ) (D : List Definition) → AreDistinct (map (λ d. d.0) D) → sum_by f (in_class_order D) ≡ sum_by f D }
+    ensures names { (K : Collection) → AreDistinct (map (λ d. d.0) (definitions K)) }
+    ensures sums { (f : Definition → ℕ) (D : List Definition) → AreDistinct (map (λ d. d.0) D) → sum_by f (in_class_order D) ≡ sum_by f D }
 {}
 
 /// All rows and sections have at most as many bytes as what they hold weighs.

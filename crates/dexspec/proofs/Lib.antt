@@ -26,3 +26,4 @@ pub mod SizeClass
 pub mod SizeSections
 pub mod SizeClasses
 pub mod SizeFile
+pub mod ClassOrder

@@ -1,15 +1,15 @@
 -- How many bytes class data and directories have at most, by the numbers of members.
-use Rattle.std.proofs.Common.{◌≡◌, ℕ, zero, suc, ◌+◌, ◌*◌, ◌<◌, ◌≤◌, Bool, true, false, List, [], ◌∷◌, ◌++◌, map, length, take, drop, Option, Some, None, refl, ap, sym, ◌∙◌, arith, sum_by, flat_map, if◌then◌else◌, ◌==◌, length-append, slice_index, zip}
+use Rattle.std.proofs.Common.{ℕ, ◌+◌, ◌*◌, ◌≤◌, Bool, true, false, List, [], ◌∷◌, ◌++◌, map, length, take, drop, Option, Some, None, arith, flat_map, if◌then◌else◌, ◌==◌, length-append, slice_index, zip, IfSome}
 use Rattle.std.specs.List.{concat}
 use Rattle.std.specs.FinMap.Entries.{by_order}
 use Rattle.std.specs.declared.cmp.Ordering.{Ordering}
 use Rattle.std.specs.declared.cmp.Ordering.TheVariants.{Less, Equal, Greater}
 use Rattle.std.proofs.lemmas.List.Concat.{length-flat_map}
 use Rattle.dexspec.specs.Lists.{zip_with, add_in_order, in_order}
-use Rattle.dexspec.specs.Bytes.{ushort, uint}
+use Rattle.dexspec.specs.Bytes.{uint}
 use Rattle.dexspec.specs.Numbers.{uleb128}
 use Rattle.dexspec.specs.Texts.{Text}
-use Rattle.dexspec.specs.Classes.{FieldDef, MethodDef, Body, Definition, declared_fields, declared_methods}
+use Rattle.dexspec.specs.Classes.{FieldDef, MethodDef, Definition, declared_fields, declared_methods}
 use Rattle.dexspec.specs.Mentions.{Mentions, field_of, method_of}
 use Rattle.dexspec.specs.Spellings.{field_index, method_index, differences, encoded_fields_bytes, encoded_method_bytes, encoded_methods_bytes, class_data_bytes}
 use Rattle.dexspec.specs.Placing.{SetOffsets, pair_cmp, pairs, pairs_bytes, directory_bytes}
@@ -118,3 +118,11 @@ directory_bytes-size m (name, c) sets refs =
     unless-size (sets.own + (length a + (length b + length p)) == 0) (16 + 8 * length (declared_fields c) + 16 * length (declared_methods c)) _
       (omega (arith, parts-size sets.own a b p, pairs-size field_indices sets.fields, pairs-size method_indices method_sets, pairs-size method_indices refs,
           map-length (λ f. field_index m (field_of name f)) (declared_fields c), map-length (λ x. method_index m (method_of name x)) (declared_methods c)))
+
+some-within : (n : ℕ) (o : Option (List ℕ)) → or_zero (λ (x : List ℕ). length x) o ≤ n → IfSome o (λ bytes. length bytes ≤ n)
+some-within n None h = tt
+some-within n (Some bytes) h = h
+
+-- the same of a directory that is there
+pub directory-size : (m : Mentions) (d : Definition) (sets : SetOffsets) (refs : List ℕ) → IfSome (directory_bytes m d sets refs) (λ bytes. length bytes ≤ 16 + 8 * length (declared_fields d.1) + 16 * length (declared_methods d.1))
+directory-size m d sets refs = some-within (16 + 8 * length (declared_fields d.1) + 16 * length (declared_methods d.1)) (directory_bytes m d sets refs) (directory_bytes-size m d sets refs)

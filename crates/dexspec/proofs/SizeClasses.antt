@@ -1,5 +1,5 @@
 -- What the sections take of a class, a proto and a text is at most what these weigh.
-use Rattle.std.proofs.Common.{◌≡◌, ℕ, zero, suc, ◌+◌, ◌*◌, ◌≤◌, List, [], ◌∷◌, ◌++◌, map, length, Option, Some, None, refl, arith, sum_by, flat_map, option_to_list, length-append}
+use Rattle.std.proofs.Common.{◌≡◌, ℕ, ◌+◌, ◌*◌, ◌≤◌, List, [], ◌∷◌, ◌++◌, map, length, Option, Some, None, refl, arith, sum_by, flat_map, option_to_list}
 use Rattle.std.proofs.lemmas.List.Sums.{sum_by-cons, sum_by-append}
 use Rattle.dexspec.specs.Symbols.{Proto}
 use Rattle.dexspec.specs.Texts.{Text}

@@ -1,5 +1,5 @@
 -- How many bytes a code item has at most, against what it weighs.
-use Rattle.std.proofs.Common.{◌≡◌, ℕ, zero, suc, ◌+◌, ◌*◌, ◌%◌, ◌/◌, ◌<◌, ◌≤◌, Bool, true, false, List, [], ◌∷◌, ◌++◌, map, length, Option, Some, None, refl, ap, sym, ◌∙◌, arith, sum_by, flat_map, option_to_list, if◌then◌else◌, nat_lt, ◌==◌, length-append, length-set, slice_set}
+use Rattle.std.proofs.Common.{◌≡◌, ℕ, ◌+◌, ◌*◌, ◌%◌, ◌/◌, ◌<◌, ◌≤◌, Bool, true, false, List, [], ◌∷◌, ◌++◌, length, Option, Some, None, refl, ◌∙◌, arith, flat_map, option_to_list, if◌then◌else◌, nat_lt, ◌==◌, length-append, length-set, slice_set}
 use Rattle.std.proofs.lemmas.Bool.{lt-ltb}
 use Rattle.std.proofs.lemmas.List.Sums.{sum_by-le-sum_by, count_by-le-length}
 use Rattle.std.proofs.lemmas.List.Concat.{length-flat_map}

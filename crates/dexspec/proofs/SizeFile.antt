@@ -1,5 +1,5 @@
 -- The canonical file has at most as many bytes as its class definitions weigh.
-use Rattle.std.proofs.Common.{◌≡◌, ℕ, zero, suc, ◌+◌, ◌-◌, ◌*◌, ◌%◌, ◌/◌, ◌≤◌, Bool, true, false, List, [], ◌∷◌, ◌++◌, map, length, refl, ap, sym, ◌∙◌, arith, sum_by, flat_map, if◌then◌else◌, ◌==◌, length-append, slice_index}
+use Rattle.std.proofs.Common.{◌≡◌, ℕ, zero, suc, ◌+◌, ◌-◌, ◌*◌, ◌%◌, ◌/◌, ◌≤◌, Bool, true, false, List, [], ◌∷◌, ◌++◌, map, length, refl, ◌∙◌, arith, sum_by, flat_map, if◌then◌else◌, ◌==◌, length-append, slice_index}
 use Rattle.std.specs.List.{concat}
 use Rattle.std.specs.Int.{w32, to_be_bytes}
 use Rattle.std.specs.FinMap.Entries.{put, by_order}
@@ -17,13 +17,13 @@ use Rattle.dexspec.specs.Lists.{zip_with}
 use Rattle.dexspec.specs.Symbols.{Proto, Field, Method}
 use Rattle.dexspec.specs.Header.{Table, header_length, adler_32}
 use Rattle.dexspec.specs.Sections.{Section, TableOf, MapList, type_code}
-use Rattle.dexspec.specs.Classes.{MethodDef, Body, Definition, declared_methods, no_index}
+use Rattle.dexspec.specs.Classes.{Body, Definition, declared_methods, no_index}
 use Rattle.dexspec.specs.Files.{Collection, definitions}
 use Rattle.dexspec.specs.Mentions.{Mentions, mentions}
 use Rattle.dexspec.specs.Depth.{place_cmp, put_all, depth, in_class_order}
 use Rattle.dexspec.specs.Weight.{mentions_weight, static_values_weight, body_weight, weight}
 use Rattle.dexspec.specs.Spellings.{text_index, type_index, proto_index}
-use Rattle.dexspec.specs.Placing.{Placed, offsets, bytes_from, section_bytes, Ordered, class_sets}
+use Rattle.dexspec.specs.Placing.{Placed, offsets, section_bytes, Ordered, class_sets}
 use Rattle.dexspec.specs.Canonical.{data_start, placed_tables, proto_row_bytes, field_row_bytes, method_row_bytes, ClassOffsets, class_row_bytes, Layout, layout, map_entry_bytes, map_of, map_bytes, table_bytes, header_bytes, unsigned_file, magic, with_sums, ordered, canonical}
 use Rattle.dexspec.proofs.ByteNumbers.{length-ushort, length-uint}
 use Rattle.dexspec.proofs.SizeSums.{map-length, sum_by-map, sum_by-at_most, length-offsets_from, padding-at_most}

@@ -1,18 +1,16 @@
 -- How many bytes each item has at most, against what it weighs.
-use Rattle.std.proofs.Common.{◌≡◌, ℕ, zero, suc, ◌+◌, ◌-◌, ◌*◌, ◌/◌, ◌%◌, ◌^◌, ◌<◌, ◌≤◌, Bool, true, false, cond, List, [], ◌∷◌, ◌++◌, map, length, take, drop, Option, Some, None, refl, ap, sym, ◌∙◌, arith, inl, inr, sum_by, flat_map, option_to_list, if◌then◌else◌, nat_lt, ◌==◌, length-append, length-set, unwrap_or, find, zip, ℤ, All, rules}
-use Rattle.std.proofs.lemmas.List.Sums.{sum_by-cons, sum_by-append, sum_by-le-sum_by}
+use Rattle.std.proofs.Common.{◌≡◌, ℕ, ◌+◌, ◌-◌, ◌*◌, ◌/◌, ◌%◌, ◌^◌, ◌≤◌, Bool, true, false, cond, List, [], ◌∷◌, ◌++◌, length, Option, Some, arith, flat_map, if◌then◌else◌, nat_lt, ◌==◌, length-append, unwrap_or, find, ℤ, All, rules}
+use Rattle.std.proofs.lemmas.List.Sums.{sum_by-le-sum_by}
 use Rattle.std.proofs.lemmas.List.Elements.{All-head, All-tail}
 use Rattle.std.proofs.lemmas.List.Concat.{length-flat_map}
-use Rattle.dexspec.specs.Lists.{zip_with}
-use Rattle.dexspec.specs.Bytes.{bytes_of, ushort, uint}
+use Rattle.dexspec.specs.Bytes.{ushort, uint}
 use Rattle.dexspec.specs.Numbers.{uleb128, sleb128, plus_one, magnitude}
 use Rattle.dexspec.specs.Texts.{Text, form, spelling, string_data}
-use Rattle.dexspec.specs.Pieces.{Piece, Instruction, Payload, units_of, with_index, is_wide_index}
 use Rattle.dexspec.specs.Debug.{Operation, AdvancePc, AdvanceLine, StartLocal, StartLocalExtended, EndLocal, RestartLocal, SetPrologueEnd, SetEpilogueBegin, SetFile, Special, Debug}
-use Rattle.dexspec.specs.Values.{Value, ByteValue, ShortValue, CharValue, IntValue, LongValue, FloatValue, DoubleValue, StringValue, TypeValue, FieldValue, MethodValue, EnumValue, ArrayValue, AnnotationValue, NullValue, BooleanValue, Values, NoValues, ThenValue, Elements, NoElements, ThenElement, count_values, names_of, byte_value_type, short_value_type, char_value_type, int_value_type, long_value_type, float_value_type, double_value_type, string_value_type, type_value_type, field_value_type, method_value_type, enum_value_type, array_value_type, annotation_value_type, null_value_type, boolean_value_type}
+use Rattle.dexspec.specs.Values.{Value, ByteValue, ShortValue, CharValue, IntValue, LongValue, FloatValue, DoubleValue, StringValue, TypeValue, FieldValue, MethodValue, EnumValue, ArrayValue, AnnotationValue, NullValue, BooleanValue, Values, NoValues, ThenValue, Elements, NoElements, ThenElement, count_values, names_of, byte_value_type, short_value_type, char_value_type, int_value_type, long_value_type, float_value_type, double_value_type, string_value_type, type_value_type, field_value_type, method_value_type, enum_value_type}
 use Rattle.dexspec.specs.Annotations.{Annotation}
 use Rattle.dexspec.specs.Mentions.{Mentions}
-use Rattle.dexspec.specs.Spellings.{text_index, type_index, field_index, method_index, index_or_none, symbol_index, piece_units, optional_text_bytes, optional_type_bytes, operation_bytes, debug_bytes, widths, unsigned_width, signed_width, bits_width, complement, unsigned_bytes, signed_bytes, bits_bytes, value_bytes, values_bytes, elements_bytes, encoded_array_bytes, annotation_bytes, offsets_bytes}
+use Rattle.dexspec.specs.Spellings.{text_index, type_index, field_index, method_index, index_or_none, optional_text_bytes, optional_type_bytes, operation_bytes, debug_bytes, widths, unsigned_width, signed_width, bits_width, complement, unsigned_bytes, signed_bytes, bits_bytes, value_bytes, values_bytes, elements_bytes, encoded_array_bytes, annotation_bytes, offsets_bytes}
 use Rattle.dexspec.specs.Weight.{text_weight, operands, debug_weight, value_weight, values_weight, elements_weight, annotation_weight, static_values_weight}
 use Rattle.dexspec.proofs.ByteNumbers.{length-bytes_of, length-ushort, length-uint}
 use Rattle.dexspec.proofs.Spellings.{uleb128_bounds, sleb128_bounds}

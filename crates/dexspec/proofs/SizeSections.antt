@@ -1,16 +1,15 @@
 -- How many bytes each section of items has at most, as sums over protos, texts and classes.
-use Rattle.std.proofs.Common.{◌≡◌, ℕ, zero, suc, ◌+◌, ◌*◌, ◌<◌, ◌≤◌, Bool, true, false, List, [], ◌∷◌, ◌++◌, map, length, take, drop, Option, Some, None, refl, ap, sym, ◌∙◌, arith, sum_by, flat_map, option_to_list, if◌then◌else◌, zip}
+use Rattle.std.proofs.Common.{◌≡◌, ℕ, zero, suc, ◌+◌, ◌*◌, ◌≤◌, Bool, true, false, List, [], ◌∷◌, ◌++◌, map, length, drop, Option, Some, None, refl, arith, sum_by, flat_map, option_to_list, if◌then◌else◌, zip}
 use Rattle.std.specs.Option.{option_map_or}
-use Rattle.std.proofs.lemmas.List.Sums.{sum_by-cons, sum_by-append, sum_by-le-sum_by}
-use Rattle.dexspec.specs.Lists.{chunks, zip_with, present}
+use Rattle.std.proofs.lemmas.List.Sums.{sum_by-append, sum_by-le-sum_by}
+use Rattle.dexspec.specs.Lists.{chunks, present}
 use Rattle.dexspec.specs.Bytes.{ushort, uint}
 use Rattle.dexspec.specs.Texts.{Text, string_data}
 use Rattle.dexspec.specs.Symbols.{Proto}
-use Rattle.dexspec.specs.Debug.{Debug}
 use Rattle.dexspec.specs.Code.{Code}
 use Rattle.dexspec.specs.Values.{Values, NoValues, ThenValue, count_values}
 use Rattle.dexspec.specs.Annotations.{Annotation, AnnotationSet}
-use Rattle.dexspec.specs.Classes.{FieldDef, MethodDef, Body, Definition, declared_fields, declared_methods}
+use Rattle.dexspec.specs.Classes.{MethodDef, Definition, declared_fields, declared_methods}
 use Rattle.dexspec.specs.Mentions.{Mentions}
 use Rattle.dexspec.specs.Weight.{debug_weight, code_weight, values_weight, annotation_weight, static_values_weight}
 use Rattle.dexspec.specs.Spellings.{type_index, code_bytes, debug_bytes, values_bytes, encoded_array_bytes, annotation_bytes, offsets_bytes, class_data_bytes}

@@ -1,5 +1,5 @@
 -- Lengths of lists put together, sums over lists that are made of others, and where a section ends.
-use Rattle.std.proofs.Common.{◌≡◌, ℕ, zero, suc, ◌+◌, ◌-◌, ◌*◌, ◌%◌, ◌<◌, ◌≤◌, List, [], ◌∷◌, ◌++◌, map, length, take, drop, Option, Some, None, refl, ap, sym, ◌∙◌, arith, sum_by, flat_map, length-append, length-take}
+use Rattle.std.proofs.Common.{◌≡◌, ℕ, zero, suc, ◌+◌, ◌-◌, ◌*◌, ◌%◌, ◌<◌, ◌≤◌, List, [], ◌∷◌, ◌++◌, map, length, take, drop, Option, Some, None, refl, ap, subst, arith, sum_by, flat_map, length-append, length-take}
 use Rattle.std.specs.List.{concat}
 use Rattle.std.proofs.lemmas.List.{length-replicate}
 use Rattle.std.proofs.lemmas.List.Sums.{sum_by-cons, sum_by-append}
@@ -74,6 +74,11 @@ pub end_from-at_most : (k from : ℕ) (xs : List (List ℕ)) → end_from (suc k
 end_from-at_most k from [] = omega arith
 end_from-at_most k from (x ∷ xs) =
     omega (arith, sum_by-cons (λ (y : List ℕ). length y + k) x xs, padding-at_most k from, end_from-at_most k (round_up (suc k) from + length x) xs)
+
+-- the same at any alignment
+pub end-at_most : (align from : ℕ) (xs : List (List ℕ)) → 0 < align → end_from align from xs ≤ from + sum_by (λ x. length x + (align - 1)) xs
+end-at_most zero from xs h = absurd (omega arith)
+end-at_most (suc k) from xs h = subst (λ n. end_from (suc k) from xs ≤ from + sum_by (λ x. length x + n) xs) (let e : k ≡ suc k - 1 = omega arith in e) (end_from-at_most k from xs)
 
 pub bytes_from-at_most : (k from : ℕ) (xs : List (List ℕ)) → length (bytes_from (suc k) from xs) ≤ sum_by (λ x. length x + k) xs
 bytes_from-at_most k from xs = omega (arith, length-bytes_from (suc k) from xs, end_from-at_most k from xs)

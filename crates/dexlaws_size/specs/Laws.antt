@@ -1,17 +1,17 @@
 -- The statements of the laws of sizes: what each item, each section and the whole file has at most.
-use Rattle.std.specs.Prelude.{◌≡◌, ℕ, ◌+◌, ◌-◌, ◌*◌, ◌<◌, ◌≤◌, List, ◌++◌, length, IfSome, sum_by}
+use Rattle.std.specs.Prelude.{◌≡◌, ℕ, ◌+◌, ◌-◌, ◌*◌, ◌≤◌, List, ◌++◌, length, IfSome, sum_by}
 use Rattle.std.specs.List.{flat_map}
 use Rattle.dexspec.specs.Bytes.{ushort, uint}
+use Rattle.dexspec.specs.Numbers.{uleb128}
 use Rattle.dexspec.specs.Texts.{Text}
-use Rattle.dexspec.specs.Debug.{Debug}
-use Rattle.dexspec.specs.Code.{Code}
+use Rattle.dexspec.specs.Code.{Code, Handler, handlers_weight}
 use Rattle.dexspec.specs.Values.{Value, Values, ThenValue, Elements}
 use Rattle.dexspec.specs.Annotations.{Annotation}
 use Rattle.dexspec.specs.Classes.{Definition, declared_fields, declared_methods}
 use Rattle.dexspec.specs.Mentions.{Mentions}
-use Rattle.dexspec.specs.Weight.{debug_weight, code_weight, value_weight, values_weight, elements_weight, annotation_weight, static_values_weight, mentions_weight, body_weight}
-use Rattle.dexspec.specs.Spellings.{type_index, code_bytes, debug_bytes, value_bytes, values_bytes, elements_bytes, encoded_array_bytes, annotation_bytes, offsets_bytes, class_data_bytes}
-use Rattle.dexspec.specs.Placing.{SetOffsets, end_from, bytes_from, section_bytes, directory_bytes, Ordered}
+use Rattle.dexspec.specs.Weight.{code_weight, value_weight, values_weight, elements_weight, annotation_weight, static_values_weight, mentions_weight, body_weight}
+use Rattle.dexspec.specs.Spellings.{type_index, handler_off, handler_list_bytes, code_bytes, value_bytes, values_bytes, elements_bytes, encoded_array_bytes, annotation_bytes, class_data_bytes}
+use Rattle.dexspec.specs.Placing.{SetOffsets, end_from, section_bytes, directory_bytes, Ordered}
 use Rattle.dexspec.specs.Canonical.{layout, table_bytes}
 
 -- types whose indices have three bytes at most as a uleb128
@@ -29,6 +29,11 @@ pub record ValuesAreWithin (m : Mentions) : Type 0 where
 -- a code item with the bytes of its alignment
 abbrev pub CodeIsWithin : Mentions → Type 0
 CodeIsWithin m = (debug_off : ℕ) (c : Code) → length (code_bytes m debug_off c) + 3 ≤ code_weight c
+
+-- a list of handlers, in which each begins no later than the list ends
+pub record HandlersAreWithin (m : Mentions) : Type 0 where
+  pub list : (hs : List Handler) → length (handler_list_bytes m hs) ≤ handlers_weight hs
+  pub places : (hs : List Handler) (h : Handler) → handler_off m (length (uleb128 (length hs))) hs h ≤ length (handler_list_bytes m hs)
 
 -- five bytes for each of four counts, and for each number of a member
 abbrev pub ClassDataIsWithin : Mentions → Type 0

@@ -15,7 +15,9 @@ ghost use Rattle.dexspec.specs.Spellings.{debug_bytes, offsets_bytes};
 ghost use Rattle.dexspec.specs.Placing.{end_from, bytes_from, Ordered};
 ghost use Rattle.dexspec.specs.Depth.{in_class_order};
 ghost use Rattle.dexspec.specs.Canonical.{unsigned_file, with_sums, ordered, canonical};
-ghost use Rattle.dexlaws_size.specs.Laws.{HasFewTypes, ValuesAreWithin, CodeIsWithin, ClassDataIsWithin, DirectoryIsWithin, TypeListHas, EndsWithin, PartsAreWithin};
+ghost use Rattle.dexspec.specs.Merging.{Caps, AreCaps, Fits};
+ghost use Rattle.dexspec.specs.Header.{HasSize};
+ghost use Rattle.dexlaws_size.specs.Laws.{HasFewTypes, ValuesAreWithin, CodeIsWithin, HandlersAreWithin, ClassDataIsWithin, DirectoryIsWithin, TypeListHas, EndsWithin, PartsAreWithin};
 
 /// Each item has at most as many bytes as it weighs, or as its number of members says: a text without
 /// its row, code with the bytes of its alignment, the others without.
@@ -24,6 +26,7 @@ pub fn item_size_law()
     ensures debugs { (m : Mentions) (d : Debug) → length (debug_bytes m d) ≤ debug_weight d }
     ensures values { (m : Mentions) → ValuesAreWithin m }
     ensures codes { (m : Mentions) → HasFewTypes m → CodeIsWithin m }
+    ensures handlers { (m : Mentions) → HasFewTypes m → HandlersAreWithin m }
     ensures class_data { (m : Mentions) → ClassDataIsWithin m }
     ensures directories { (m : Mentions) → DirectoryIsWithin m }
     ensures sets_and_lists { (offs : List ℕ) → length (offsets_bytes offs) ≡ 4 + 4 * length offs }
@@ -53,4 +56,11 @@ pub fn parts_size_law()
 pub fn size_law()
     ensures ordered { (D : List Definition) → HasFewTypes (mentions D) → length (with_sums (unsigned_file (ordered D))) ≤ weight D }
     ensures canonical { (K : Collection) → HasFewTypes (mentions (definitions K)) → length (canonical K) ≤ weight (definitions K) }
+{}
+
+/// Definitions of which no two are the same and that fit caps have a canonical file of no more bytes than
+/// the cap on weight. That of a collection has a size with which a file is read.
+pub fn fitting_size_law()
+    ensures ordered { (caps : Caps) (D : List Definition) → AreCaps caps → AreDistinct D → Fits caps D → length (with_sums (unsigned_file (ordered D))) ≤ caps.weight }
+    ensures canonical { (caps : Caps) (K : Collection) → AreCaps caps → Fits caps (definitions K) → HasSize (canonical K) }
 {}

@@ -1,5 +1,5 @@
 -- Definitions of different names stand in their order each once.
-use Rattle.std.proofs.Common.{◌≡◌, ◌≢◌, ◌⊎◌, ℕ, ◌+◌, Bool, true, false, ◌&&◌, T, List, [], ◌∷◌, map, refl, sym, ap, ◌∙◌, subst, arith, inl, inr, sum_by, Ordering, Less, Equal, Greater}
+use Rattle.std.proofs.Common.{◌≡◌, ◌≢◌, ◌⊎◌, ℕ, zero, suc, ◌+◌, Bool, true, false, ◌&&◌, T, List, [], ◌∷◌, map, length, get_or, ◌<◌, refl, sym, ap, ◌∙◌, subst, arith, inl, inr, sum_by, Ordering, Less, Equal, Greater}
 use Rattle.std.specs.List.{Contains}
 use Rattle.std.specs.Ordering.{ordering_then, nat_cmp, is_lt}
 use Rattle.std.specs.FinMap.Entries.{put, by_order, below_all, is_sorted}
@@ -13,7 +13,7 @@ use Rattle.dexspec.proofs.Members.{Contains-nil, Contains-first, Contains-later,
 use Rattle.dexspec.proofs.SymbolOrders.{text_exact, text_total}
 use Rattle.dexspec.proofs.InOrder.{Rises, AreDistinct-from_Rises}
 use Rattle.dexspec.specs.Files.{Collection, definitions}
-use Rattle.dexspec.proofs.SizeSums.{sum_by-map}
+use Rattle.dexspec.proofs.SizeSums.{sum_by-map, map-length}
 
 -- a definition with its depth
 abbrev PlacedClass : Type 0
@@ -123,3 +123,15 @@ sorted_rises (e ∷ es) h =
 -- no two definitions of a collection have one name
 pub definitions-distinct : (K : Collection) → AreDistinct (map (λ d. d.0) (definitions K))
 definitions-distinct K = AreDistinct-from_Rises text_cmp text_total (map (λ (d : Definition). d.0) (definitions K)) (sorted_rises (definitions K) (entries_sorted K))
+
+named_at : (es : List Definition) (i : ℕ) (d : Definition) → get_or (map (λ e. e.0) es) i d.0 ≡ (get_or es i d).0
+named_at [] i d = refl
+named_at (e ∷ es) zero d = refl
+named_at (e ∷ es) (suc i) d = named_at es i d
+
+-- so no two of them are the same
+pub definitions-different : (K : Collection) → AreDistinct (definitions K)
+definitions-different K i j d lt le e =
+    let D = definitions K in
+    let within : j < length (map (λ (x : Definition). x.0) D) = omega (arith, le, map-length (λ (x : Definition). x.0) D) in
+    definitions-distinct K i j d.0 lt within (named_at D i d ∙ ap (λ (x : Definition). x.0) e ∙ sym (named_at D j d))

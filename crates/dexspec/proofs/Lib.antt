@@ -25,5 +25,5 @@ pub mod SizeCode
 pub mod SizeClass
 pub mod SizeSections
 pub mod SizeClasses
-pub mod SizeFile
 pub mod ClassOrder
+pub mod SizeFile

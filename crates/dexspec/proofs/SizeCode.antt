@@ -8,7 +8,7 @@ use Rattle.dexspec.specs.Bytes.{ushort, uint}
 use Rattle.dexspec.specs.Numbers.{uleb128, sleb128, size_u}
 use Rattle.dexspec.specs.Texts.{Text, text_cmp}
 use Rattle.dexspec.specs.Pieces.{Piece, Instruction, Payload, units_of, with_index, is_wide_index}
-use Rattle.dexspec.specs.Code.{Catch, Handler, Try, Code, handlers_of, handlers_weight}
+use Rattle.dexspec.specs.Code.{same_handler, Catch, Handler, Try, Code, handlers_of, handlers_weight}
 use Rattle.dexspec.specs.Mentions.{Mentions}
 use Rattle.dexspec.specs.Spellings.{type_index, symbol_index, piece_units, catch_bytes, handler_count, handler_bytes, handler_off, try_bytes, handler_list_bytes, tries_bytes, code_bytes}
 use Rattle.dexspec.specs.Weight.{tries_weight, code_weight}
@@ -69,10 +69,26 @@ handler_bytes-size m few h =
     let each = sum_by-at_most (λ c. length (catch_bytes m c)) 8 h.catches (catch_bytes-size m few) in
     omega (arith, length-append (sleb128 (handler_count h)) (catches ++ all), length-append catches all, sleb128-size (handler_count h), length-flat_map (catch_bytes m) h.catches, each, catch_all-size h.catch_all)
 
-handler_list_bytes-size : (m : Mentions) → length m.types ≤ 65536 → (hs : List Handler) → length (handler_list_bytes m hs) ≤ handlers_weight hs
+pub handler_list_bytes-size : (m : Mentions) → length m.types ≤ 65536 → (hs : List Handler) → length (handler_list_bytes m hs) ≤ handlers_weight hs
 handler_list_bytes-size m few hs =
     let each = sum_by-le-sum_by (λ h. length (handler_bytes m h)) (λ h. 10 + 8 * length h.catches) hs (handler_bytes-size m few) in
     omega (arith, length-append (uleb128 (length hs)) (flat_map (handler_bytes m) hs), uleb128-size (length hs), length-flat_map (handler_bytes m) hs, each)
+
+either-at_most : (b : Bool) (i j n : ℕ) → i ≤ n → j ≤ n → (if b then i else j) ≤ n
+either-at_most true i j n h k = h
+either-at_most false i j n h k = k
+
+handler_off-from : (m : Mentions) (from : ℕ) (hs : List Handler) (h : Handler) → handler_off m from hs h ≤ from + length (flat_map (handler_bytes m) hs)
+handler_off-from m from [] h = omega arith
+handler_off-from m from (k ∷ ks) h =
+    let next = from + length (handler_bytes m k) in
+    either-at_most (same_handler k h) from (handler_off m next ks h) (from + length (flat_map (handler_bytes m) (k ∷ ks)))
+      (omega arith)
+      (omega (arith, length-append (handler_bytes m k) (flat_map (handler_bytes m) ks), handler_off-from m next ks h))
+
+-- a handler begins no later than the list ends
+pub handler_off-size : (m : Mentions) (hs : List Handler) (h : Handler) → handler_off m (length (uleb128 (length hs))) hs h ≤ length (handler_list_bytes m hs)
+handler_off-size m hs h = omega (arith, handler_off-from m (length (uleb128 (length hs))) hs h, length-append (uleb128 (length hs)) (flat_map (handler_bytes m) hs))
 
 -- ---- tries
 

@@ -13,11 +13,12 @@ use Rattle.sha1.specs.Sha1.{sha1, digest_bytes, hash_after, padded_message}
 use Rattle.dexspec.specs.Bytes.{ushort, uint, round_up, padding}
 use Rattle.dexspec.specs.Texts.{Text, string_data}
 use Rattle.dexspec.specs.Names.{shorty}
-use Rattle.dexspec.specs.Lists.{zip_with}
+use Rattle.dexspec.specs.Lists.{AreDistinct, zip_with}
 use Rattle.dexspec.specs.Symbols.{Proto, Field, Method}
-use Rattle.dexspec.specs.Header.{Table, header_length, adler_32}
+use Rattle.dexspec.specs.Header.{HasSize, Table, header_length, adler_32}
 use Rattle.dexspec.specs.Sections.{Section, TableOf, MapList, type_code}
 use Rattle.dexspec.specs.Classes.{Body, Definition, declared_methods, no_index}
+use Rattle.dexspec.specs.Merging.{Caps, AreCaps, Fits}
 use Rattle.dexspec.specs.Files.{Collection, definitions}
 use Rattle.dexspec.specs.Mentions.{Mentions, mentions}
 use Rattle.dexspec.specs.Depth.{place_cmp, put_all, depth, in_class_order}
@@ -27,8 +28,10 @@ use Rattle.dexspec.specs.Placing.{Placed, offsets, section_bytes, Ordered, class
 use Rattle.dexspec.specs.Canonical.{data_start, placed_tables, proto_row_bytes, field_row_bytes, method_row_bytes, ClassOffsets, class_row_bytes, Layout, layout, map_entry_bytes, map_of, map_bytes, table_bytes, header_bytes, unsigned_file, magic, with_sums, ordered, canonical}
 use Rattle.dexspec.proofs.ByteNumbers.{length-ushort, length-uint}
 use Rattle.dexspec.proofs.SizeSums.{map-length, sum_by-map, sum_by-at_most, length-offsets_from, padding-at_most}
+use Rattle.dexspec.proofs.SizeItems.{each-is}
 use Rattle.dexspec.proofs.SizeClass.{zipped-size}
 use Rattle.dexspec.proofs.SizeSections.{list_part, items_part, set_part, refs_part, debug_part, code_part, data_part, directory_part, type_lists-size, annotations-size, sets-size, arrays-size, strings-size, debugs-size, codes-size, class_data-size, refs-size, directories-size}
+use Rattle.dexspec.proofs.ClassOrder.{definitions-different}
 use Rattle.dexspec.proofs.SizeClasses.{mentions-cover, classes-cover}
 
 -- ---- sections
@@ -156,7 +159,7 @@ map_bytes-size es =
 
 -- ---- the header
 
-header-size : (K : Ordered) (map_off file_size : ℕ) → length (header_bytes K map_off file_size) ≤ 80
+header-size : (K : Ordered) (map_off file_size : ℕ) → length (header_bytes K map_off file_size) ≡ 80
 header-size K map_off file_size =
     let row = λ (t : Table × ℕ × ℕ). uint t.1 ++ uint t.2 in
     let rows = flat_map row (placed_tables K) in
@@ -170,7 +173,7 @@ header-size K map_off file_size =
     omega (arith, length-append (uint file_size) x2, length-append (uint header_length) x3, length-append (uint 0x12345678) x4, length-append (uint 0) x5, length-append (uint 0) x6, length-append (uint map_off) x7,
         length-append rows x8, length-append (uint (file_size - data_start K)) (uint (data_start K)),
         length-uint file_size, length-uint header_length, length-uint 0x12345678, length-uint 0, length-uint map_off, length-uint (file_size - data_start K), length-uint (data_start K),
-        length-flat_map row (placed_tables K), sum_by-at_most (λ (t : Table × ℕ × ℕ). length (row t)) 8 (placed_tables K) (λ t. omega (arith, length-append (uint t.1) (uint t.2), length-uint t.1, length-uint t.2)))
+        each-is row 8 (placed_tables K) (λ t. omega (arith, length-append (uint t.1) (uint t.2), length-uint t.1, length-uint t.2)))
 
 digest-size : (h : List ℕ) (n : ℕ) → length (digest_bytes h n) ≡ 4 * n
 unfolding digest_bytes
@@ -214,6 +217,17 @@ file-size K few =
         length-append sections (gap ++ map_list), length-append gap map_list, header-size K map_off (map_off + length map_list), parts-size K few,
         padding-size l.data_end, map_bytes-size (map_of K l map_off), map_of-size K l map_off is.sections)
 
+-- and no fewer bytes than its header
+pub file-least : (K : Ordered) → 112 ≤ length (with_sums (unsigned_file K))
+unfolding unsigned_file
+file-least K =
+    let l = layout K in
+    let map_off = round_up 4 l.data_end in
+    let map_list = map_bytes (map_of K l map_off) in
+    let file_size = map_off + length map_list in
+    let rest = table_bytes K l ++ (flat_map section_bytes l.sections ++ (padding 4 l.data_end ++ map_list)) in
+    omega (arith, with_sums-size (unsigned_file K), length-append (header_bytes K map_off file_size) rest, header-size K map_off file_size)
+
 -- ---- classes in their order
 
 put-sum : (g : Body → ℕ) (k : ℕ × Text) (v : Body) (es : List ((ℕ × Text) × Body)) → sum_by (λ e. g e.1) (put place_cmp k v es) ≤ g v + sum_by (λ e. g e.1) es
@@ -248,3 +262,20 @@ ordered-size D few = omega (arith, file-size (ordered D) few, in_class_order-sum
 pub canonical-size : (K : Collection) → length (mentions (definitions K)).types ≤ 65536 → length (canonical K) ≤ weight (definitions K)
 unfolding canonical
 canonical-size K few = ordered-size (definitions K) few
+
+pub canonical-least : (K : Collection) → 112 ≤ length (canonical K)
+unfolding canonical
+canonical-least K = file-least (ordered (definitions K))
+
+-- ---- under caps
+
+-- definitions that fit have a file that weighs no more than the cap
+pub fitting-size : (caps : Caps) (D : List Definition) → AreCaps caps → AreDistinct D → Fits caps D → length (with_sums (unsigned_file (ordered D))) ≤ caps.weight
+fitting-size caps D are distinct fits = omega (arith, ordered-size D (omega (arith, are.types, fits.types)), fits.weight D distinct (λ d c. c))
+
+-- and so a collection's file has a size that is read
+pub canonical-has_size : (caps : Caps) (K : Collection) → AreCaps caps → Fits caps (definitions K) → HasSize (canonical K)
+canonical-has_size caps K are fits = record {
+  least = canonical-least K;
+  most = omega (arith, canonical-size K (omega (arith, are.types, fits.types)), fits.weight (definitions K) (definitions-different K) (λ d c. c), are.weight);
+}

@@ -146,7 +146,7 @@ annotation_bytes-size m a =
 
 -- ---- lists of offsets and of types
 
-each-is : {X : Type 0} (f : X → List ℕ) (k : ℕ) (xs : List X) → ((x : X) → length (f x) ≡ k) → length (flat_map f xs) ≡ length xs * k
+pub each-is : {X : Type 0} (f : X → List ℕ) (k : ℕ) (xs : List X) → ((x : X) → length (f x) ≡ k) → length (flat_map f xs) ≡ length xs * k
 each-is f k [] e = omega arith
 each-is f k (x ∷ xs) e = omega (arith, length-append (f x) (flat_map f xs), e x, each-is f k xs e)
 

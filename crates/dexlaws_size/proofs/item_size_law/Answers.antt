@@ -1,5 +1,5 @@
 use Rattle.dexspec.proofs.SizeItems.{string_data-size, debug_bytes-size, value_bytes-size, values_bytes-size, elements_bytes-size, annotation_bytes-size, encoded_array_bytes-size, offsets_bytes-size, type_list-size}
-use Rattle.dexspec.proofs.SizeCode.{code_bytes-size}
+use Rattle.dexspec.proofs.SizeCode.{code_bytes-size, handler_list_bytes-size, handler_off-size}
 use Rattle.dexspec.proofs.SizeClass.{class_data_bytes-size, directory-size}
 use Rattle.dexlaws_size.proofs.item_size_law.Goals as goal
 
@@ -32,3 +32,6 @@ returns-clause-sets_and_lists c = offsets_bytes-size
 
 pub returns-clause-type_lists : goal.returns-clause-type_lists
 returns-clause-type_lists c = type_list-size
+
+pub returns-clause-handlers : goal.returns-clause-handlers
+returns-clause-handlers c = λ m few. record { list = handler_list_bytes-size m few; places = handler_off-size m }

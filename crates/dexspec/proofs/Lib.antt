@@ -10,6 +10,13 @@ pub mod MentionMembers
 pub mod DepthGrowth
 pub mod WeightGrowth
 pub mod Absorption
+pub mod Decided
+pub mod Searches
+pub mod Depths
+pub mod Conflicts
+pub mod Exceeding
+pub mod FirstCauses
+pub mod Collections
 pub mod Stands
 pub mod Sequences
 pub mod ByteNumbers

@@ -78,7 +78,7 @@ put_all_sum f [] d = refl
 put_all_sum f (e ∷ es) d =
     let names = map (λ (z : PlacedClass). z.0.1) es in
     let other : (x : PlacedClass) → Contains (put_all es) x → place_cmp e.0 x.0 ≢ Equal =
-        λ x c tie. let n = put_all_named es x c in AreDistinct-first e.0.1 names d n.0.0.1 (named_in es n.0 n.1) (n.2 ∙ sym (place_name e.0 x.0 tie)) in
+    λ x c tie. let n = put_all_named es x c in AreDistinct-first e.0.1 names d n.0.0.1 (named_in es n.0 n.1) (n.2 ∙ sym (place_name e.0 x.0 tie)) in
     omega (arith, put_apart f e.0 e.1 (put_all es) other, sum_by-cons f e es, put_all_sum f es (AreDistinct-rest e.0.1 names d))
 
 names_kept : (g : Definition → ℕ) (D : List Definition) → map (λ (e : PlacedClass). e.0.1) (map (λ d. ((g d, d.0), d.1)) D) ≡ map (λ d. d.0) D

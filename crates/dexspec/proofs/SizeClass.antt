@@ -29,7 +29,7 @@ zipped-size g k xs ys le =
 pub fields-size : (m : Mentions) (class : Text) (fs : List FieldDef) → length (encoded_fields_bytes m class fs) ≤ length fs * 10
 fields-size m class fs =
     zipped-size (λ (f : FieldDef) (difference : ℕ). uleb128 difference ++ uleb128 f.flags) 10 fs (differences 0 (map (λ f. field_index m (field_of class f)) fs))
-      (λ f difference. omega (arith, length-append (uleb128 difference) (uleb128 f.flags), uleb128-size difference, uleb128-size f.flags))
+    (λ f difference. omega (arith, length-append (uleb128 difference) (uleb128 f.flags), uleb128-size difference, uleb128-size f.flags))
 
 method-size : (x : MethodDef) (p : ℕ × ℕ) → length (encoded_method_bytes x p) ≤ 15
 method-size x p = omega (arith, length-append (uleb128 p.0) (uleb128 x.flags ++ uleb128 p.1), length-append (uleb128 x.flags) (uleb128 p.1), uleb128-size p.0, uleb128-size x.flags, uleb128-size p.1)
@@ -50,11 +50,26 @@ class_data_bytes-size m (name, c) offs =
     let x3 = uleb128 (length c.direct_methods) in
     let x2 = uleb128 (length c.instance_fields) in
     let x1 = uleb128 (length c.static_fields) in
-    omega (arith, length-append x1 (x2 ++ (x3 ++ (x4 ++ (x5 ++ (x6 ++ (x7 ++ x8)))))), length-append x2 (x3 ++ (x4 ++ (x5 ++ (x6 ++ (x7 ++ x8))))), length-append x3 (x4 ++ (x5 ++ (x6 ++ (x7 ++ x8)))),
-        length-append x4 (x5 ++ (x6 ++ (x7 ++ x8))), length-append x5 (x6 ++ (x7 ++ x8)), length-append x6 (x7 ++ x8), length-append x7 x8,
-        uleb128-size (length c.static_fields), uleb128-size (length c.instance_fields), uleb128-size (length c.direct_methods), uleb128-size (length c.virtual_methods),
-        fields-size m name c.static_fields, fields-size m name c.instance_fields, methods-size m name c.direct_methods direct_offs, methods-size m name c.virtual_methods virtual_offs,
-        length-append c.static_fields c.instance_fields, length-append c.direct_methods c.virtual_methods)
+    omega (
+      arith,
+      length-append x1 (x2 ++ (x3 ++ (x4 ++ (x5 ++ (x6 ++ (x7 ++ x8)))))),
+      length-append x2 (x3 ++ (x4 ++ (x5 ++ (x6 ++ (x7 ++ x8))))),
+      length-append x3 (x4 ++ (x5 ++ (x6 ++ (x7 ++ x8)))),
+      length-append x4 (x5 ++ (x6 ++ (x7 ++ x8))),
+      length-append x5 (x6 ++ (x7 ++ x8)),
+      length-append x6 (x7 ++ x8),
+      length-append x7 x8,
+      uleb128-size (length c.static_fields),
+      uleb128-size (length c.instance_fields),
+      uleb128-size (length c.direct_methods),
+      uleb128-size (length c.virtual_methods),
+      fields-size m name c.static_fields,
+      fields-size m name c.instance_fields,
+      methods-size m name c.direct_methods direct_offs,
+      methods-size m name c.virtual_methods virtual_offs,
+      length-append c.static_fields c.instance_fields,
+      length-append c.direct_methods c.virtual_methods,
+    )
 
 -- ---- directories
 
@@ -104,8 +119,22 @@ parts-size own a b c =
     let x4 = uint (length c) ++ x5 in
     let x3 = uint (length b) ++ x4 in
     let x2 = uint (length a) ++ x3 in
-    omega (arith, length-append (uint own) x2, length-append (uint (length a)) x3, length-append (uint (length b)) x4, length-append (uint (length c)) x5, length-append (pairs_bytes a) (pairs_bytes b ++ pairs_bytes c), length-append (pairs_bytes b) (pairs_bytes c),
-        length-uint own, length-uint (length a), length-uint (length b), length-uint (length c), pairs_bytes-size a, pairs_bytes-size b, pairs_bytes-size c)
+    omega (
+      arith,
+      length-append (uint own) x2,
+      length-append (uint (length a)) x3,
+      length-append (uint (length b)) x4,
+      length-append (uint (length c)) x5,
+      length-append (pairs_bytes a) (pairs_bytes b ++ pairs_bytes c),
+      length-append (pairs_bytes b) (pairs_bytes c),
+      length-uint own,
+      length-uint (length a),
+      length-uint (length b),
+      length-uint (length c),
+      pairs_bytes-size a,
+      pairs_bytes-size b,
+      pairs_bytes-size c,
+    )
 
 pub directory_bytes-size : (m : Mentions) (d : Definition) (sets : SetOffsets) (refs : List ℕ) → or_zero (λ (x : List ℕ). length x) (directory_bytes m d sets refs) ≤ 16 + 8 * length (declared_fields d.1) + 16 * length (declared_methods d.1)
 directory_bytes-size m (name, c) sets refs =
@@ -116,8 +145,15 @@ directory_bytes-size m (name, c) sets refs =
     let b = pairs method_indices method_sets in
     let p = pairs method_indices refs in
     unless-size (sets.own + (length a + (length b + length p)) == 0) (16 + 8 * length (declared_fields c) + 16 * length (declared_methods c)) _
-      (omega (arith, parts-size sets.own a b p, pairs-size field_indices sets.fields, pairs-size method_indices method_sets, pairs-size method_indices refs,
-          map-length (λ f. field_index m (field_of name f)) (declared_fields c), map-length (λ x. method_index m (method_of name x)) (declared_methods c)))
+    (omega (
+      arith,
+      parts-size sets.own a b p,
+      pairs-size field_indices sets.fields,
+      pairs-size method_indices method_sets,
+      pairs-size method_indices refs,
+      map-length (λ f. field_index m (field_of name f)) (declared_fields c),
+      map-length (λ x. method_index m (method_of name x)) (declared_methods c),
+    ))
 
 some-within : (n : ℕ) (o : Option (List ℕ)) → or_zero (λ (x : List ℕ). length x) o ≤ n → IfSome o (λ bytes. length bytes ≤ n)
 some-within n None h = tt

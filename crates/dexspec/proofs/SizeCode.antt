@@ -27,8 +27,8 @@ if-length false n xs ys h k = k
 length-with_index : (i : ℕ) (us : List ℕ) → length (with_index i us) ≡ length us
 length-with_index i us =
     if-length (is_wide_index us) (length us) (slice_set (slice_set us 1 (i % 65536)) 2 (i / 65536)) (slice_set us 1 i)
-      (length-set (slice_set us 1 (i % 65536)) 2 (i / 65536) ∙ length-set us 1 (i % 65536))
-      (length-set us 1 i)
+    (length-set (slice_set us 1 (i % 65536)) 2 (i / 65536) ∙ length-set us 1 (i % 65536))
+    (length-set us 1 i)
 
 length-piece_units : (m : Mentions) (p : Piece) → length (piece_units m p) ≡ length (units_of p)
 length-piece_units m (Instruction us None) = refl
@@ -83,8 +83,8 @@ handler_off-from m from [] h = omega arith
 handler_off-from m from (k ∷ ks) h =
     let next = from + length (handler_bytes m k) in
     either-at_most (same_handler k h) from (handler_off m next ks h) (from + length (flat_map (handler_bytes m) (k ∷ ks)))
-      (omega arith)
-      (omega (arith, length-append (handler_bytes m k) (flat_map (handler_bytes m) ks), handler_off-from m next ks h))
+    (omega arith)
+    (omega (arith, length-append (handler_bytes m k) (flat_map (handler_bytes m) ks), handler_off-from m next ks h))
 
 -- a handler begins no later than the list ends
 pub handler_off-size : (m : Mentions) (hs : List Handler) (h : Handler) → handler_off m (length (uleb128 (length hs))) hs h ≤ length (handler_list_bytes m hs)
@@ -122,7 +122,23 @@ code_bytes-size m few debug_off c =
     let x3 = ushort c.outs ++ x4 in
     let x2 = ushort c.ins ++ x3 in
     let each = sum_by-at_most (λ u. length (ushort u)) 2 units (λ u. omega (arith, length-ushort u)) in
-    omega (arith, length-append (ushort c.registers) x2, length-append (ushort c.ins) x3, length-append (ushort c.outs) x4, length-append (ushort (length c.tries)) x5, length-append (uint debug_off) x6,
-        length-append (uint (length units)) x7, length-append (flat_map ushort units) tries,
-        length-ushort c.registers, length-ushort c.ins, length-ushort c.outs, length-ushort (length c.tries), length-uint debug_off, length-uint (length units),
-        length-flat_map ushort units, each, length-units m c.pieces, tries_bytes-size m few (length units) c.tries)
+    omega (
+      arith,
+      length-append (ushort c.registers) x2,
+      length-append (ushort c.ins) x3,
+      length-append (ushort c.outs) x4,
+      length-append (ushort (length c.tries)) x5,
+      length-append (uint debug_off) x6,
+      length-append (uint (length units)) x7,
+      length-append (flat_map ushort units) tries,
+      length-ushort c.registers,
+      length-ushort c.ins,
+      length-ushort c.outs,
+      length-ushort (length c.tries),
+      length-uint debug_off,
+      length-uint (length units),
+      length-flat_map ushort units,
+      each,
+      length-units m c.pieces,
+      tries_bytes-size m few (length units) c.tries,
+    )

@@ -66,8 +66,22 @@ record IsLaidOut (K : Ordered) (l : Layout) : Type 0 where
 layout-is : (K : Ordered) → length K.pools.types ≤ 65536 → IsLaidOut K (layout K)
 unfolding layout
 layout-is K few = record {
-  sizes = (type_lists-size K _, (annotations-size K _, (arrays-size K _, (strings-size K.pools _, (debugs-size K _,
-      (codes-size K few _ _, (class_data-size K _ _, (sets-size K _ _, (refs-size K _ _, (directories-size K _ _ _, tt))))))))));
+  sizes = (
+    type_lists-size K _,
+    (
+      annotations-size K _,
+      (
+        arrays-size K _,
+        (
+          strings-size K.pools _,
+          (
+            debugs-size K _,
+            (codes-size K few _ _, (class_data-size K _ _, (sets-size K _ _, (refs-size K _ _, (directories-size K _ _ _, tt))))),
+          ),
+        ),
+      ),
+    ),
+  );
   sections = refl;
   strings = length-offsets_from 1 _ (map string_data K.pools.texts) ∙ map-length string_data K.pools.texts;
 }
@@ -109,9 +123,24 @@ class_row-size m (name, c) offs =
     let x4 = uint offs.interfaces ++ x5 in
     let x3 = uint super ++ x4 in
     let x2 = uint c.flags ++ x3 in
-    omega (arith, length-append (uint (type_index m name)) x2, length-append (uint c.flags) x3, length-append (uint super) x4, length-append (uint offs.interfaces) x5, length-append (uint source) x6,
-        length-append (uint offs.annotations) x7, length-append (uint offs.class_data) (uint offs.static_values),
-        length-uint (type_index m name), length-uint c.flags, length-uint super, length-uint offs.interfaces, length-uint source, length-uint offs.annotations, length-uint offs.class_data, length-uint offs.static_values)
+    omega (
+      arith,
+      length-append (uint (type_index m name)) x2,
+      length-append (uint c.flags) x3,
+      length-append (uint super) x4,
+      length-append (uint offs.interfaces) x5,
+      length-append (uint source) x6,
+      length-append (uint offs.annotations) x7,
+      length-append (uint offs.class_data) (uint offs.static_values),
+      length-uint (type_index m name),
+      length-uint c.flags,
+      length-uint super,
+      length-uint offs.interfaces,
+      length-uint source,
+      length-uint offs.annotations,
+      length-uint offs.class_data,
+      length-uint offs.static_values,
+    )
 
 tables-size : (K : Ordered) (l : Layout) → length l.strings ≡ length K.pools.texts
     → length (table_bytes K l) ≤ 4 * length K.pools.texts + 4 * length K.pools.types + 12 * length K.pools.protos + 8 * length K.pools.fields + 8 * length K.pools.methods + 32 * length K.classes
@@ -124,13 +153,24 @@ tables-size K l same =
     let x4 = flat_map (field_row_bytes m) m.fields in
     let x5 = flat_map (method_row_bytes m) m.methods in
     let x6 = concat (zip_with (class_row_bytes m) K.classes l.classes) in
-    omega (arith, length-append x1 (x2 ++ (x3 ++ (x4 ++ (x5 ++ x6)))), length-append x2 (x3 ++ (x4 ++ (x5 ++ x6))), length-append x3 (x4 ++ (x5 ++ x6)), length-append x4 (x5 ++ x6), length-append x5 x6,
-        same, numbers-size l.strings,
-        length-flat_map type_row m.types, sum_by-at_most (λ (t : Text). length (type_row t)) 4 m.types (λ t. omega (arith, length-uint (text_index m t))),
-        zipped-size (proto_row_bytes m) 12 m.protos l.parameters (proto_row-size m),
-        length-flat_map (field_row_bytes m) m.fields, sum_by-at_most (λ (f : Field). length (field_row_bytes m f)) 8 m.fields (field_row-size m),
-        length-flat_map (method_row_bytes m) m.methods, sum_by-at_most (λ (x : Method). length (method_row_bytes m x)) 8 m.methods (method_row-size m),
-        zipped-size (class_row_bytes m) 32 K.classes l.classes (class_row-size m))
+    omega (
+      arith,
+      length-append x1 (x2 ++ (x3 ++ (x4 ++ (x5 ++ x6)))),
+      length-append x2 (x3 ++ (x4 ++ (x5 ++ x6))),
+      length-append x3 (x4 ++ (x5 ++ x6)),
+      length-append x4 (x5 ++ x6),
+      length-append x5 x6,
+      same,
+      numbers-size l.strings,
+      length-flat_map type_row m.types,
+      sum_by-at_most (λ (t : Text). length (type_row t)) 4 m.types (λ t. omega (arith, length-uint (text_index m t))),
+      zipped-size (proto_row_bytes m) 12 m.protos l.parameters (proto_row-size m),
+      length-flat_map (field_row_bytes m) m.fields,
+      sum_by-at_most (λ (f : Field). length (field_row_bytes m f)) 8 m.fields (field_row-size m),
+      length-flat_map (method_row_bytes m) m.methods,
+      sum_by-at_most (λ (x : Method). length (method_row_bytes m x)) 8 m.methods (method_row-size m),
+      zipped-size (class_row_bytes m) 32 K.classes l.classes (class_row-size m),
+    )
 
 -- ---- the map
 
@@ -146,15 +186,30 @@ map_of-size K l map_off ten =
     let tables = flat_map table (placed_tables K) in
     let sections = flat_map section l.sections in
     let last : List (Section × ℕ × ℕ) = (MapList, 1, map_off) ∷ [] in
-    omega (arith, length-append tables (sections ++ last), length-append sections last, ten,
-        length-flat_map table (placed_tables K), sum_by-at_most (λ (t : Table × ℕ × ℕ). length (table t)) 1 (placed_tables K) (λ t. one-at_most {X = Section × ℕ × ℕ} (t.1 == 0) (TableOf t.0, t.1, t.2)),
-        length-flat_map section l.sections, sum_by-at_most (λ (p : Placed). length (section p)) 1 l.sections (λ p. one-at_most {X = Section × ℕ × ℕ} (length p.items == 0) (p.kind, length p.items, slice_index (offsets p) 0)))
+    omega (
+      arith,
+      length-append tables (sections ++ last),
+      length-append sections last,
+      ten,
+      length-flat_map table (placed_tables K),
+      sum_by-at_most (λ (t : Table × ℕ × ℕ). length (table t)) 1 (placed_tables K) (λ t. one-at_most {X = Section × ℕ × ℕ} (t.1 == 0) (TableOf t.0, t.1, t.2)),
+      length-flat_map section l.sections,
+      sum_by-at_most (λ (p : Placed). length (section p)) 1 l.sections (λ p. one-at_most {X = Section × ℕ × ℕ} (length p.items == 0) (p.kind, length p.items, slice_index (offsets p) 0)),
+    )
 
 map_bytes-size : (es : List (Section × ℕ × ℕ)) → length (map_bytes es) ≤ 4 + 12 * length es
 map_bytes-size es =
     let each = sum_by-at_most (λ (e : Section × ℕ × ℕ). length (map_entry_bytes e)) 12 es
-        (λ e. omega (arith, length-append (ushort (type_code e.0)) (ushort 0 ++ (uint e.1 ++ uint e.2)), length-append (ushort 0) (uint e.1 ++ uint e.2), length-append (uint e.1) (uint e.2),
-            length-ushort (type_code e.0), length-ushort 0, length-uint e.1, length-uint e.2)) in
+    (λ e. omega (
+      arith,
+      length-append (ushort (type_code e.0)) (ushort 0 ++ (uint e.1 ++ uint e.2)),
+      length-append (ushort 0) (uint e.1 ++ uint e.2),
+      length-append (uint e.1) (uint e.2),
+      length-ushort (type_code e.0),
+      length-ushort 0,
+      length-uint e.1,
+      length-uint e.2,
+    )) in
     omega (arith, length-append (uint (length es)) (flat_map map_entry_bytes es), length-uint (length es), length-flat_map map_entry_bytes es, each)
 
 -- ---- the header
@@ -170,10 +225,25 @@ header-size K map_off file_size =
     let x4 = uint 0 ++ x5 in
     let x3 = uint 0x12345678 ++ x4 in
     let x2 = uint header_length ++ x3 in
-    omega (arith, length-append (uint file_size) x2, length-append (uint header_length) x3, length-append (uint 0x12345678) x4, length-append (uint 0) x5, length-append (uint 0) x6, length-append (uint map_off) x7,
-        length-append rows x8, length-append (uint (file_size - data_start K)) (uint (data_start K)),
-        length-uint file_size, length-uint header_length, length-uint 0x12345678, length-uint 0, length-uint map_off, length-uint (file_size - data_start K), length-uint (data_start K),
-        each-is row 8 (placed_tables K) (λ t. omega (arith, length-append (uint t.1) (uint t.2), length-uint t.1, length-uint t.2)))
+    omega (
+      arith,
+      length-append (uint file_size) x2,
+      length-append (uint header_length) x3,
+      length-append (uint 0x12345678) x4,
+      length-append (uint 0) x5,
+      length-append (uint 0) x6,
+      length-append (uint map_off) x7,
+      length-append rows x8,
+      length-append (uint (file_size - data_start K)) (uint (data_start K)),
+      length-uint file_size,
+      length-uint header_length,
+      length-uint 0x12345678,
+      length-uint 0,
+      length-uint map_off,
+      length-uint (file_size - data_start K),
+      length-uint (data_start K),
+      each-is row 8 (placed_tables K) (λ t. omega (arith, length-append (uint t.1) (uint t.2), length-uint t.1, length-uint t.2)),
+    )
 
 digest-size : (h : List ℕ) (n : ℕ) → length (digest_bytes h n) ≡ 4 * n
 unfolding digest_bytes
@@ -213,9 +283,19 @@ file-size K few =
     let header = header_bytes K map_off (map_off + length map_list) in
     let sections = flat_map section_bytes l.sections in
     let gap = padding 4 l.data_end in
-    omega (arith, with_sums-size (unsigned_file K), length-append header (table_bytes K l ++ (sections ++ (gap ++ map_list))), length-append (table_bytes K l) (sections ++ (gap ++ map_list)),
-        length-append sections (gap ++ map_list), length-append gap map_list, header-size K map_off (map_off + length map_list), parts-size K few,
-        padding-size l.data_end, map_bytes-size (map_of K l map_off), map_of-size K l map_off is.sections)
+    omega (
+      arith,
+      with_sums-size (unsigned_file K),
+      length-append header (table_bytes K l ++ (sections ++ (gap ++ map_list))),
+      length-append (table_bytes K l) (sections ++ (gap ++ map_list)),
+      length-append sections (gap ++ map_list),
+      length-append gap map_list,
+      header-size K map_off (map_off + length map_list),
+      parts-size K few,
+      padding-size l.data_end,
+      map_bytes-size (map_of K l map_off),
+      map_of-size K l map_off is.sections,
+    )
 
 -- and no fewer bytes than its header
 pub file-least : (K : Ordered) → 112 ≤ length (with_sums (unsigned_file K))
@@ -236,6 +316,7 @@ put-sum g k v (e ∷ es) = by (place_cmp k e.0) (put-sum g k v es)
   where
     f : (ℕ × Text) × Body → ℕ
     f = λ x. g x.1
+
     by : (o : Ordering) → sum_by (λ x. g x.1) (put place_cmp k v es) ≤ g v + sum_by (λ x. g x.1) es → sum_by (λ x. g x.1) (by_order o ((k, v) ∷ e ∷ es) ((e.0, v) ∷ es) (e ∷ put place_cmp k v es)) ≤ g v + sum_by (λ x. g x.1) (e ∷ es)
     by Less again = omega (arith, sum_by-cons (λ (x : (ℕ × Text) × Body). g x.1) (k, v) (e ∷ es))
     by Equal again = omega (arith, sum_by-cons (λ (x : (ℕ × Text) × Body). g x.1) (e.0, v) es, sum_by-cons (λ (x : (ℕ × Text) × Body). g x.1) e es)

@@ -75,8 +75,19 @@ debug_bytes-size m d =
     let count = uleb128 (length d.parameter_names) in
     let each = sum_by-at_most (λ s. length (optional_text_bytes m s)) 5 d.parameter_names (optional_text-size m) in
     let all = sum_by-le-sum_by (λ op. length (operation_bytes m op)) (λ op. 1 + 5 * operands op) d.operations (operation-size m) in
-    omega (arith, length-append (uleb128 d.line_start) (count ++ rest), length-append count rest, length-append names (ops ++ 0x00 ∷ []), length-append ops (0x00 ∷ []),
-        uleb128-size d.line_start, uleb128-size (length d.parameter_names), length-flat_map (optional_text_bytes m) d.parameter_names, length-flat_map (operation_bytes m) d.operations, each, all)
+    omega (
+      arith,
+      length-append (uleb128 d.line_start) (count ++ rest),
+      length-append count rest,
+      length-append names (ops ++ 0x00 ∷ []),
+      length-append ops (0x00 ∷ []),
+      uleb128-size d.line_start,
+      uleb128-size (length d.parameter_names),
+      length-flat_map (optional_text_bytes m) d.parameter_names,
+      length-flat_map (operation_bytes m) d.operations,
+      each,
+      all,
+    )
 
 -- ---- values and annotations
 
@@ -118,8 +129,14 @@ mutual
   value_bytes-size m (ArrayValue vs) = omega (arith, length-append (uleb128 (count_values vs)) (values_bytes m vs), uleb128-size (count_values vs), values_bytes-size m vs)
   value_bytes-size m (AnnotationValue t es) =
       let count = uleb128 (length (names_of es)) in
-      omega (arith, length-append (uleb128 (type_index m t)) (count ++ elements_bytes m es), length-append count (elements_bytes m es),
-          uleb128-size (type_index m t), uleb128-size (length (names_of es)), elements_bytes-size m es)
+      omega (
+        arith,
+        length-append (uleb128 (type_index m t)) (count ++ elements_bytes m es),
+        length-append count (elements_bytes m es),
+        uleb128-size (type_index m t),
+        uleb128-size (length (names_of es)),
+        elements_bytes-size m es,
+      )
   value_bytes-size m NullValue = omega arith
   value_bytes-size m (BooleanValue is) = omega arith
 
@@ -130,8 +147,14 @@ mutual
   pub elements_bytes-size : (m : Mentions) (es : Elements) → length (elements_bytes m es) ≤ elements_weight es
   elements_bytes-size m NoElements = omega arith
   elements_bytes-size m (ThenElement name v es) =
-      omega (arith, length-append (uleb128 (text_index m name)) (value_bytes m v ++ elements_bytes m es), length-append (value_bytes m v) (elements_bytes m es),
-          uleb128-size (text_index m name), value_bytes-size m v, elements_bytes-size m es)
+      omega (
+        arith,
+        length-append (uleb128 (text_index m name)) (value_bytes m v ++ elements_bytes m es),
+        length-append (value_bytes m v) (elements_bytes m es),
+        uleb128-size (text_index m name),
+        value_bytes-size m v,
+        elements_bytes-size m es,
+      )
 
 pub encoded_array_bytes-size : (m : Mentions) (v : Value) (vs : Values) → length (encoded_array_bytes m (ThenValue v vs)) ≤ static_values_weight (ThenValue v vs)
 encoded_array_bytes-size m v vs =
@@ -141,8 +164,14 @@ encoded_array_bytes-size m v vs =
 pub annotation_bytes-size : (m : Mentions) (a : Annotation) → length (annotation_bytes m a) ≤ annotation_weight a
 annotation_bytes-size m a =
     let count = uleb128 (length (names_of a.elements)) in
-    omega (arith, length-append (uleb128 (type_index m a.type)) (count ++ elements_bytes m a.elements), length-append count (elements_bytes m a.elements),
-        uleb128-size (type_index m a.type), uleb128-size (length (names_of a.elements)), elements_bytes-size m a.elements)
+    omega (
+      arith,
+      length-append (uleb128 (type_index m a.type)) (count ++ elements_bytes m a.elements),
+      length-append count (elements_bytes m a.elements),
+      uleb128-size (type_index m a.type),
+      uleb128-size (length (names_of a.elements)),
+      elements_bytes-size m a.elements,
+    )
 
 -- ---- lists of offsets and of types
 

@@ -78,10 +78,15 @@ type_lists-size K from =
     let all = section-size 3 from (λ ts. uint (length ts) ++ flat_map (λ t. ushort (type_index K.pools t)) ts) list_part (type_list_uses K) (λ ts. omega (arith, type_list-size K.pools ts)) in
     let protos = map (λ (p : Proto). unless_empty p.parameters) K.pools.protos in
     let classes = map (λ (d : Definition). unless_empty d.1.interfaces) K.classes in
-    omega (arith, all, sum_by-append (or_zero list_part) protos classes,
-        sum_by-map (or_zero list_part) (λ (p : Proto). unless_empty p.parameters) K.pools.protos, sum_by-map (or_zero list_part) (λ (d : Definition). unless_empty d.1.interfaces) K.classes,
-        sum_by-le-sum_by (λ (p : Proto). or_zero list_part (unless_empty p.parameters)) (λ p. list_part p.parameters) K.pools.protos (λ p. list_use list_part p.parameters),
-        sum_by-le-sum_by (λ (d : Definition). or_zero list_part (unless_empty d.1.interfaces)) (λ d. list_part d.1.interfaces) K.classes (λ d. list_use list_part d.1.interfaces))
+    omega (
+      arith,
+      all,
+      sum_by-append (or_zero list_part) protos classes,
+      sum_by-map (or_zero list_part) (λ (p : Proto). unless_empty p.parameters) K.pools.protos,
+      sum_by-map (or_zero list_part) (λ (d : Definition). unless_empty d.1.interfaces) K.classes,
+      sum_by-le-sum_by (λ (p : Proto). or_zero list_part (unless_empty p.parameters)) (λ p. list_part p.parameters) K.pools.protos (λ p. list_use list_part p.parameters),
+      sum_by-le-sum_by (λ (d : Definition). or_zero list_part (unless_empty d.1.interfaces)) (λ d. list_part d.1.interfaces) K.classes (λ d. list_use list_part d.1.interfaces),
+    )
 
 -- ---- annotation items and sets
 
@@ -99,9 +104,13 @@ annotations-size K from =
     let m = K.pools in
     let written = present (set_uses K) in
     let items = flat_map (λ (set : AnnotationSet). set) written in
-    omega (arith, bytes_from-at_most 0 from (map (annotation_bytes m) items), sum_by-map (λ (b : List ℕ). length b + 0) (annotation_bytes m) items,
-        sum_by-flat_map (λ (a : Annotation). length (annotation_bytes m a) + 0) (λ (set : AnnotationSet). set) written,
-        set_uses-size K (λ (set : AnnotationSet). sum_by (λ a. length (annotation_bytes m a) + 0) set) items_part (items_use m))
+    omega (
+      arith,
+      bytes_from-at_most 0 from (map (annotation_bytes m) items),
+      sum_by-map (λ (b : List ℕ). length b + 0) (annotation_bytes m) items,
+      sum_by-flat_map (λ (a : Annotation). length (annotation_bytes m a) + 0) (λ (set : AnnotationSet). set) written,
+      set_uses-size K (λ (set : AnnotationSet). sum_by (λ a. length (annotation_bytes m a) + 0) set) items_part (items_use m),
+    )
 
 set_use : (s : AnnotationSet) → or_zero (λ (set : AnnotationSet). 7 + 4 * length set) (unless_empty s) ≤ set_part s
 set_use [] = omega arith
@@ -111,9 +120,14 @@ pub sets-size : (K : Ordered) (from : ℕ) (offs : List ℕ) → length (bytes_f
 sets-size K from offs =
     let written = present (set_uses K) in
     let counts = map (λ (set : AnnotationSet). length set) written in
-    omega (arith, bytes_from-at_most 3 from (map offsets_bytes (chunks counts offs)), sum_by-map (λ (b : List ℕ). length b + 3) offsets_bytes (chunks counts offs),
-        sum_by-chunks (λ (ys : List ℕ). length (offsets_bytes ys) + 3) (λ n. 7 + 4 * n) counts offs (λ n ys le. omega (arith, offsets_bytes-size ys, le)),
-        sum_by-map (λ n. 7 + 4 * n) (λ (set : AnnotationSet). length set) written, set_uses-size K (λ set. 7 + 4 * length set) set_part set_use)
+    omega (
+      arith,
+      bytes_from-at_most 3 from (map offsets_bytes (chunks counts offs)),
+      sum_by-map (λ (b : List ℕ). length b + 3) offsets_bytes (chunks counts offs),
+      sum_by-chunks (λ (ys : List ℕ). length (offsets_bytes ys) + 3) (λ n. 7 + 4 * n) counts offs (λ n ys le. omega (arith, offsets_bytes-size ys, le)),
+      sum_by-map (λ n. 7 + 4 * n) (λ (set : AnnotationSet). length set) written,
+      set_uses-size K (λ set. 7 + 4 * length set) set_part set_use,
+    )
 
 -- ---- static values and texts
 
@@ -125,9 +139,13 @@ pub arrays-size : (K : Ordered) (from : ℕ) → length (bytes_from 1 from (map 
 arrays-size K from =
     let m = K.pools in
     let all = section-size 0 from (encoded_array_bytes m) (λ vs. 6 + values_weight vs) (static_values_uses K)
-        (λ vs. omega (arith, length-append (uleb128 (count_values vs)) (values_bytes m vs), uleb128-size (count_values vs), values_bytes-size m vs)) in
-    omega (arith, all, sum_by-map (or_zero (λ us. 6 + values_weight us)) (λ (d : Definition). values_unless_empty d.1.static_values) K.classes,
-        sum_by-le-sum_by (λ (d : Definition). or_zero (λ us. 6 + values_weight us) (values_unless_empty d.1.static_values)) (λ d. static_values_weight d.1.static_values) K.classes (λ d. array_use d.1.static_values))
+    (λ vs. omega (arith, length-append (uleb128 (count_values vs)) (values_bytes m vs), uleb128-size (count_values vs), values_bytes-size m vs)) in
+    omega (
+      arith,
+      all,
+      sum_by-map (or_zero (λ us. 6 + values_weight us)) (λ (d : Definition). values_unless_empty d.1.static_values) K.classes,
+      sum_by-le-sum_by (λ (d : Definition). or_zero (λ us. 6 + values_weight us) (values_unless_empty d.1.static_values)) (λ d. static_values_weight d.1.static_values) K.classes (λ d. array_use d.1.static_values),
+    )
 
 pub strings-size : (m : Mentions) (from : ℕ) → length (bytes_from 1 from (map string_data m.texts)) ≤ sum_by (λ s. 6 + 3 * length s) m.texts
 strings-size m from =
@@ -146,8 +164,13 @@ debugs-size K from =
     let methods = all_methods K.classes in
     let use_of = λ (x : MethodDef). option_map_or (λ (c : Code). c.debug) x.code None in
     let all = section-size 0 from (debug_bytes m) debug_weight (debug_uses K) (λ d. omega (arith, debug_bytes-size m d)) in
-    omega (arith, all, sum_by-map (or_zero debug_weight) use_of methods, sum_by-le-sum_by (λ x. or_zero debug_weight (use_of x)) debug_part methods (λ x. debug_use x.code),
-        sum_by-flat_map debug_part (λ (d : Definition). declared_methods d.1) K.classes)
+    omega (
+      arith,
+      all,
+      sum_by-map (or_zero debug_weight) use_of methods,
+      sum_by-le-sum_by (λ x. or_zero debug_weight (use_of x)) debug_part methods (λ x. debug_use x.code),
+      sum_by-flat_map debug_part (λ (d : Definition). declared_methods d.1) K.classes,
+    )
 
 code_use : (off : ℕ) (o : Option Code) → or_zero (λ (p : Code × ℕ). code_weight p.0) (option_map_or (λ c. Some (c, off)) o None) ≤ sum_by code_weight (option_to_list o)
 code_use off None = omega arith
@@ -159,8 +182,12 @@ codes-size K few from offs =
     let methods = all_methods K.classes in
     let weigh = λ (p : Code × ℕ). code_weight p.0 in
     let all = section-size 3 from (λ (p : Code × ℕ). code_bytes m p.1 p.0) weigh (code_uses K offs) (λ p. code_bytes-size m few p.1 p.0) in
-    omega (arith, all, sum_by-zip_with (or_zero weigh) code_part (λ (x : MethodDef) (o : ℕ). option_map_or (λ (c : Code). Some (c, o)) x.code None) methods offs (λ x o. code_use o x.code),
-        sum_by-flat_map code_part (λ (d : Definition). declared_methods d.1) K.classes)
+    omega (
+      arith,
+      all,
+      sum_by-zip_with (or_zero weigh) code_part (λ (x : MethodDef) (o : ℕ). option_map_or (λ (c : Code). Some (c, o)) x.code None) methods offs (λ x o. code_use o x.code),
+      sum_by-flat_map code_part (λ (d : Definition). declared_methods d.1) K.classes,
+    )
 
 -- ---- class data
 
@@ -196,8 +223,12 @@ refs_use s (t ∷ ts) = omega arith
 method_refs-size : (xs : List MethodDef) (offs : List ℕ) → sum_by ref_size (chunks (map (λ x. length (method_sets x)) xs) offs) ≤ sum_by (λ x. refs_part x.parameter_annotations) xs
 method_refs-size xs offs =
     let counts = map (λ (x : MethodDef). length (method_sets x)) xs in
-    omega (arith, sum_by-chunks ref_size refs_count counts offs refs_counted, sum_by-map refs_count (λ (x : MethodDef). length (method_sets x)) xs,
-        sum_by-le-sum_by (λ (x : MethodDef). refs_count (length (method_sets x))) (λ x. refs_part x.parameter_annotations) xs (λ x. refs_use x.annotations x.parameter_annotations))
+    omega (
+      arith,
+      sum_by-chunks ref_size refs_count counts offs refs_counted,
+      sum_by-map refs_count (λ (x : MethodDef). length (method_sets x)) xs,
+      sum_by-le-sum_by (λ (x : MethodDef). refs_count (length (method_sets x))) (λ x. refs_part x.parameter_annotations) xs (λ x. refs_use x.annotations x.parameter_annotations),
+    )
 
 class_refs-size : (d : Definition) (offs : List ℕ) → sum_by (or_zero (λ (os : List ℕ). 7 + 4 * length os)) (map (λ os. unless_empty (drop 1 os)) (set_offsets_of d offs).methods) ≤ sum_by (λ x. refs_part x.parameter_annotations) (declared_methods d.1)
 class_refs-size d offs =
@@ -210,8 +241,12 @@ refs-size K from offs =
     let weigh = λ (os : List ℕ). 7 + 4 * length os in
     let use_of = λ (s : SetOffsets). map (λ (os : List ℕ). unless_empty (drop 1 os)) s.methods in
     let all = section-size 3 from offsets_bytes weigh (ref_list_uses K sets) (λ os. omega (arith, offsets_bytes-size os)) in
-    omega (arith, all, sum_by-flat_map (or_zero weigh) use_of sets,
-        sum_by-zip_with (λ (s : SetOffsets). sum_by (or_zero weigh) (use_of s)) (λ d. sum_by (λ x. refs_part x.parameter_annotations) (declared_methods d.1)) set_offsets_of K.classes (chunks (map (λ d. length (class_sets d)) K.classes) offs) class_refs-size)
+    omega (
+      arith,
+      all,
+      sum_by-flat_map (or_zero weigh) use_of sets,
+      sum_by-zip_with (λ (s : SetOffsets). sum_by (or_zero weigh) (use_of s)) (λ d. sum_by (λ x. refs_part x.parameter_annotations) (declared_methods d.1)) set_offsets_of K.classes (chunks (map (λ d. length (class_sets d)) K.classes) offs) class_refs-size,
+    )
 
 -- ---- directories
 
@@ -226,5 +261,9 @@ directory-use m d p =
 
 pub directories-size : (K : Ordered) (from : ℕ) (sets : List SetOffsets) (refs : List ℕ) → length (bytes_from 4 from (present (directory_uses K sets refs))) ≤ sum_by directory_part K.classes
 directories-size K from sets refs =
-    omega (arith, bytes_from-at_most 3 from (present (directory_uses K sets refs)), sum_by-present (λ (b : List ℕ). length b + 3) (directory_uses K sets refs),
-        sum_by-zip_with (or_zero (λ (b : List ℕ). length b + 3)) directory_part (λ (d : Definition) (p : SetOffsets × List ℕ). directory_bytes K.pools d p.0 p.1) K.classes (zip sets (by_class K refs)) (directory-use K.pools))
+    omega (
+      arith,
+      bytes_from-at_most 3 from (present (directory_uses K sets refs)),
+      sum_by-present (λ (b : List ℕ). length b + 3) (directory_uses K sets refs),
+      sum_by-zip_with (or_zero (λ (b : List ℕ). length b + 3)) directory_part (λ (d : Definition) (p : SetOffsets × List ℕ). directory_bytes K.pools d p.0 p.1) K.classes (zip sets (by_class K refs)) (directory-use K.pools),
+    )

@@ -36,3 +36,11 @@ pub mod StripCollection
 pub mod StripOrder
 pub mod StripBare
 pub mod StripKept
+pub mod SizeSums
+pub mod SizeItems
+pub mod SizeCode
+pub mod SizeClass
+pub mod SizeSections
+pub mod SizeClasses
+pub mod ClassOrder
+pub mod SizeFile

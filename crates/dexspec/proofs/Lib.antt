@@ -1,0 +1,4 @@
+pub mod Chains
+pub mod Groups
+pub mod Signed
+pub mod Spellings

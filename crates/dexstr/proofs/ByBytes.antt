@@ -1,11 +1,9 @@
 -- Texts come in the order of their bytes, with 0xc0 first.
-use Rattle.std.proofs.Common.{◌≡◌, ◌≢◌, ℕ, zero, suc, ◌+◌, ◌/◌, ◌%◌, ◌^◌, ◌<◌, List, [], ◌∷◌, ◌++◌, ◌⊎◌, inl, inr, refl, sym, ◌∙◌, length, get_or, drop, min, arith, add-one}
+use Rattle.std.proofs.Common.{◌≡◌, ◌≢◌, ℕ, zero, suc, ◌+◌, ◌/◌, ◌%◌, ◌^◌, ◌<◌, List, [], ◌∷◌, ◌++◌, ◌⊎◌, inl, inr, refl, sym, ◌∙◌, length, drop, min, arith}
 use Rattle.std.proofs.lemmas.Bool.{cases_lt, cases_order, lt-ltb, le-ltb, eq-eqb, ne_eqb}
 use Rattle.std.proofs.lemmas.Bool.Decides.{nat_tests}
 use Rattle.std.proofs.lemmas.List.{append-nil}
-use Rattle.std.proofs.Math.Seq.{drop-cons}
-use Rattle.std.specs.Ordering.{nat_cmp, ordering_then}
-use Rattle.std.specs.declared.cmp.Ordering.{Ordering}
+use Rattle.std.specs.Ordering.{nat_cmp}
 use Rattle.std.specs.declared.cmp.Ordering.TheVariants.{Less, Equal, Greater}
 use Rattle.std.specs.Cmp.Lexicographic.{slice_cmp}
 use Rattle.dexspec.specs.Texts.{form, spelling, AreUnits, text_cmp}
@@ -33,9 +31,6 @@ nat_cmp-suc a b = elim (cases_order a b) [
 
 place_other : (b : ℕ) → b ≢ 0xc0 → place_of b ≡ b + 1
 place_other b other = rw (ne_eqb b 0xc0 other) refl
-
-one_place : (a b : ℕ) → place_of a ≡ place_of b → a ≡ b
-one_place a b same = grind (arith, nat_tests)
 
 -- ---- bytes, up to the first that differ
 
@@ -121,24 +116,7 @@ text_cmp-spelling (u ∷ s) (v ∷ t) a b = elim (cases_order u v) [
 
 -- ---- the loop
 
--- bytes that are the same decide nothing
-pub same_so_far : (a b : List ℕ) (i : ℕ) → i < length a → i < length b → get_or a i 0 ≡ get_or b i 0 → slice_cmp byte_cmp (drop (i + 1) a) (drop (i + 1) b) ≡ slice_cmp byte_cmp (drop i a) (drop i b)
-same_so_far a b i lt lt' same =
-    rw (add-one, drop-cons a i 0 lt, drop-cons b i 0 lt', same, nat_cmp-same (place_of (get_or b i 0))) refl
-
-then_unlike : (a b : ℕ) (o : Ordering) → a ≢ b → ordering_then (nat_cmp a b) o ≡ nat_cmp a b
-then_unlike a b o unlike = elim (cases_order a b) [
-  | inl same ↦ absurd (unlike same)
-  | inr (inl lt) ↦ rw (nat_cmp-less a b lt) refl
-  | inr (inr lt) ↦ rw (nat_cmp-greater a b lt) refl
-]
-
--- and the first that differ decide
-pub decided : (a b : List ℕ) (i : ℕ) → i < length a → i < length b → get_or a i 0 ≢ get_or b i 0 → byte_cmp (get_or a i 0) (get_or b i 0) ≡ slice_cmp byte_cmp (drop i a) (drop i b)
-decided a b i lt lt' unlike =
-    rw (drop-cons a i 0 lt, drop-cons b i 0 lt') (sym (then_unlike (place_of (get_or a i 0)) (place_of (get_or b i 0)) (slice_cmp byte_cmp (drop (suc i) a) (drop (suc i) b)) (λ e. unlike (one_place (get_or a i 0) (get_or b i 0) e))))
-
--- or else the lengths
+-- bytes of which none is left on one side compare as the lengths do
 pub ended : (a b : List ℕ) (i : ℕ) → i ≡ min (length a) (length b) → nat_cmp (length a) (length b) ≡ slice_cmp byte_cmp (drop i a) (drop i b)
 ended [] [] i e = let none : i ≡ 0 = omega arith in rw none refl
 ended [] (y ∷ b) i e = let none : i ≡ 0 = omega arith in rw none (nat_cmp-less 0 (suc (length b)) (omega arith))

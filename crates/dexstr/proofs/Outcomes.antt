@@ -1,5 +1,5 @@
 -- Of bytes, one thing is so: an item stands first, or one of the faults is told.
-use Rattle.std.proofs.Common.{◌≡◌, ◌≢◌, ◌↔◌, ℕ, ◌+◌, ◌-◌, ◌*◌, ◌/◌, ◌%◌, ◌≤◌, ◌<◌, ◌^◌, List, [], ◌∷◌, ◌++◌, length, Result, Ok, Err, IfOk, IfErr, refl, ap, sym, arith, length-append, inl, inr, ◌⊎◌}
+use Rattle.std.proofs.Common.{◌≡◌, ◌≢◌, ◌↔◌, ℕ, ◌+◌, ◌-◌, ◌*◌, ◌/◌, ◌%◌, ◌≤◌, ◌<◌, ◌^◌, List, [], ◌∷◌, ◌++◌, length, Result, Ok, Err, IfOk, IfErr, OnErr, refl, ap, sym, arith, length-append, inl, inr, ◌⊎◌}
 use Rattle.std.proofs.lemmas.Bool.{cases_lt, cases_eq}
 use Rattle.std.proofs.lemmas.List.{append-nil}
 use Rattle.dexspec.specs.Numbers.{BeginsWith, sum_of_groups}
@@ -158,6 +158,7 @@ no_fault Count bytes s n item fault = (body_once (λ count units rest. StartsWit
 -- an item where one stands first, and a fault exactly where it is told
 pub record Exact (bytes : List ℕ) (r : Result (List ℕ × ℕ) TextFault) : Type 0 where
   pub only : (s : List ℕ) (n : ℕ) → BeginsWith IsStringData bytes s n → r ≡ Ok (s, n)
+  pub none : OnErr r ((s : List ℕ) (n : ℕ) → ¬ BeginsWith IsStringData bytes s n)
   pub fault : (e : TextFault) → (r ≡ Err e) ↔ IsFault e bytes
 
 not_both : (x : List ℕ × ℕ) (e : TextFault) (r : Result (List ℕ × ℕ) TextFault) → r ≡ Ok x → r ≡ Err e → ⊥
@@ -169,9 +170,11 @@ one_err e f r one other = cc
 pub exact : (bytes : List ℕ) (r : Result (List ℕ × ℕ) TextFault) → IfOk r (λ x. BeginsWith IsStringData bytes x.0 x.1) → IfErr r (λ e. IsFault e bytes) → Exact bytes r
 exact bytes (Ok (s, n)) found fault = record {
   only = λ t m item. let same = item_once bytes s t n m found item in rw (same.0, same.1) refl;
+  none = tt;
   fault = λ e. (λ err. absurd (not_both (s, n) e (Ok (s, n)) refl err), λ told. absurd (no_fault e bytes s n found told));
 }
 exact bytes (Err f) found fault = record {
   only = λ t m item. absurd (no_fault f bytes t m item fault);
+  none = λ t m item. no_fault f bytes t m item fault;
   fault = λ e. (λ err. rw (one_err e f (Err f) err refl) fault, λ told. rw (one_fault f e bytes fault told) refl);
 }

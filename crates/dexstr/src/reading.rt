@@ -1,4 +1,4 @@
-ghost use Rattle.std.specs.Prelude.{◌≡◌, ◌↔◌, ◌≤◌, ℕ, List, length, drop, IfOk, IfErr, IsTrue};
+ghost use Rattle.std.specs.Prelude.{◌≡◌, ◌↔◌, ◌≤◌, ℕ, List, length, drop, IfOk, IfErr, OnErr, IsTrue};
 ghost use Rattle.dexspec.specs.Numbers.{BeginsWith};
 ghost use Rattle.dexspec.specs.Texts.{IsStringData, StringDataAt};
 ghost use Rattle.dexstr.specs.Faults.{IsFault, LooksCutOff};
@@ -34,6 +34,7 @@ impl<'a> Text<'a> {
         requires { at ≤ length b.now }
         ensures found { IfOk result (λ x. StringDataAt b.now at x.0 x.1) }
         ensures only { (s : List ℕ) (n : ℕ) → StringDataAt b.now at s n → result ≡ Ok (s, n) }
+        ensures none { OnErr result ((s : List ℕ) (n : ℕ) → ¬ StringDataAt b.now at s n) }
         ensures fault { (e : TextFault) → (result ≡ Err e) ↔ IsFault e (drop at b.now) }
     {
         read_first(&b[at..])

@@ -8,3 +8,6 @@ returns-clause-only c = (exact (drop c.args.at c.args.b.now) c.read_first.result
 
 pub returns-clause-fault : goal.returns-clause-fault
 returns-clause-fault c = (exact (drop c.args.at c.args.b.now) c.read_first.result (rw from_place at c.read_first.ensures.found) (rw from_place at c.read_first.ensures.fault)).fault
+
+pub returns-clause-none : goal.returns-clause-none
+returns-clause-none c = (exact (drop c.args.at c.args.b.now) c.read_first.result (rw from_place at c.read_first.ensures.found) (rw from_place at c.read_first.ensures.fault)).none

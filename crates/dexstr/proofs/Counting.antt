@@ -6,7 +6,7 @@ use Rattle.dexspec.specs.Numbers.{uleb128, size_u}
 use Rattle.dexspec.specs.Texts.{form, spelling, string_data, AreUnits}
 use Rattle.dexspec.proofs.Groups.{length-groups, size_u_bounds}
 use Rattle.dexstr.specs.Units.{begins_unit, units_of, IsSpelling}
-use Rattle.dexstr.proofs.Forms.{Shape, One, Two, Three, shape_of}
+use Rattle.dexspec.proofs.OneText.{Shape, One, Two, Three, shape_of}
 
 tail : (b : ℕ) → 0x80 ≤ b → b ≤ 0xbf → begins_unit b ≡ false
 tail b low high = grind (arith, nat_tests)

@@ -1,33 +1,17 @@
 -- What stands first in bytes, where a unit's spelling does.
-use Rattle.std.proofs.Common.{◌≡◌, ◌≢◌, ℕ, zero, suc, ◌+◌, ◌-◌, ◌*◌, ◌/◌, ◌%◌, ◌^◌, ◌<◌, ◌≤◌, List, [], ◌∷◌, ◌++◌, ◌⊎◌, inl, inr, refl, ap, sym, ◌∙◌, arith}
+use Rattle.std.proofs.Common.{◌≡◌, ℕ, suc, ◌+◌, ◌-◌, ◌*◌, ◌/◌, ◌%◌, ◌<◌, ◌≤◌, List, [], ◌∷◌, ◌⊎◌, refl, ap, sym, ◌∙◌, arith}
 use Rattle.std.specs.Cmp.Lexicographic.{pointwise}
 use Rattle.std.proofs.lemmas.Bool.Decides.{same_from_decides, Decides-like, Decides-eqb}
 use Rattle.std.proofs.lemmas.Slice.Eq.{slice_eq-Decides}
 use Rattle.std.specs.Prelude.{Bool, ◌==◌, Option, Some, None, IfNone}
-use Rattle.std.proofs.lemmas.Bool.{cases_lt, lt-ltb, le-ltb, ne_eqb}
+use Rattle.std.proofs.lemmas.Bool.{lt-ltb, le-ltb}
+use Rattle.dexspec.proofs.OneText.{Shape, One, Two, Three, shape_of}
 use Rattle.dexspec.specs.Texts.{form, spelling, AreUnits}
 use Rattle.dexstr.specs.Units.{units_of, IsSpelling, BeginsWithUnit, BeginsWithNone, IsNoTail}
 use Rattle.std.proofs.lemmas.List.Concat.{flat_map-cons}
 use Rattle.std.proofs.lemmas.List.{append_cancel_left}
 
--- a unit's spelling and what follows, by its bytes
-pub data Shape (bytes : List ℕ) (u : ℕ) (rest : List ℕ) : Type 0 where
-  One : 0 < u → u < 0x80 → bytes ≡ u ∷ rest → Shape bytes u rest
-  Two : (u ≡ 0) ⊎ (0x80 ≤ u) → u < 0x800 → bytes ≡ (0xc0 + u / 64) ∷ (0x80 + u % 64) ∷ rest → Shape bytes u rest
-  Three : 0x800 ≤ u → u < 0x10000 → bytes ≡ (0xe0 + u / 4096) ∷ (0x80 + u / 64 % 64) ∷ (0x80 + u % 64) ∷ rest → Shape bytes u rest
-
-pub shape_of : (u : ℕ) (rest : List ℕ) → u < 2 ^ 16 → Shape (form u ++ rest) u rest
-shape_of zero rest lt = Two (inl refl) (omega arith) refl
-shape_of (suc n) rest lt =
-    let some : suc n ≢ 0 = omega arith in
-    elim (cases_lt (suc n) 0x80) [
-      | inl h1 ↦ rw (ne_eqb (suc n) 0 some, lt-ltb (suc n) 0x80 h1) (One (omega arith) h1 refl)
-      | inr g1 ↦ rw (ne_eqb (suc n) 0 some, le-ltb (suc n) 0x80 g1) (elim (cases_lt (suc n) 0x800) [
-        | inl h2 ↦ rw (lt-ltb (suc n) 0x800 h2) (Two (inr g1) h2 refl)
-        | inr g2 ↦ rw (le-ltb (suc n) 0x800 g2) (Three g2 lt refl)
-      ])
-    ]
-
+-- the bytes of a unit that stands first
 pub shape : (bytes : List ℕ) (u : ℕ) (rest : List ℕ) → BeginsWithUnit bytes u rest → Shape bytes u rest
 shape bytes u rest begins = rw begins.parts (shape_of u rest begins.unit)
 

@@ -1,13 +1,13 @@
 -- A text's item: its count, its units and the zero byte.
 use Rattle.std.proofs.Common.{◌≡◌, ℕ, suc, ◌+◌, ◌-◌, ◌/◌, ◌%◌, ◌≤◌, ◌<◌, ◌^◌, List, [], ◌∷◌, ◌++◌, length, take, drop, get_or, refl, ap, sym, ◌∙◌, arith, append_assoc, length-append, length-drop, length-take, take_at, drop_at, take-append-drop, take_all, inl, inr, ◌⊎◌}
-use Rattle.std.proofs.lemmas.List.{append_cancel_left}
 use Rattle.std.proofs.lemmas.List.Concat.{flat_map-cons}
 use Rattle.dexspec.specs.Numbers.{IsUleb128, BeginsWith, sum_of_groups}
 use Rattle.dexspec.specs.Texts.{spelling, form, AreUnits, IsStringData}
 use Rattle.dexspec.proofs.Spellings.{same_number}
 use Rattle.dexstr.specs.Units.{units_of, IsSpelling, SpellsText, AfterUnits, BeginsWithUnit, BeginsWithNone}
 use Rattle.dexstr.specs.Faults.{HasBody, StartsWithZero}
-use Rattle.dexstr.proofs.Forms.{Shape, One, Two, Three, shape, units_of-unit, units_of-spelling}
+use Rattle.dexspec.proofs.OneText.{Shape, One, Two, Three, one_unit}
+use Rattle.dexstr.proofs.Forms.{shape, units_of-spelling}
 
 spelling_is : (us : List ℕ) → AreUnits us → IsSpelling (spelling us)
 spelling_is us units =
@@ -66,11 +66,6 @@ no_zero rest (inr other) starts = other (ap (λ (x : List ℕ). get_or x 0 0) st
 head_is : (u v : ℕ) (us vs : List ℕ) → u ∷ us ≡ v ∷ vs → u ≡ v
 head_is u v us vs e = cc
 
-unit_once : (bytes : List ℕ) (u v : ℕ) (x y : List ℕ) → BeginsWithUnit bytes u x → BeginsWithUnit bytes v y → (u ≡ v) × (x ≡ y)
-unit_once bytes u v x y a b =
-    let same = head_is u v (units_of x) (units_of y) (sym (units_of-unit bytes u x a) ∙ units_of-unit bytes v y b) in
-    (same, append_cancel_left (form u) x y (sym a.parts ∙ b.parts ∙ ap (λ (w : ℕ). form w ++ y) (sym same)))
-
 first_of : (u : ℕ) (us : List ℕ) (bytes rest : List ℕ) → AreUnits (u ∷ us) → bytes ≡ spelling (u ∷ us) ++ rest → BeginsWithUnit bytes u (spelling us ++ rest)
 first_of u us bytes rest units e = record { unit = units 0 0 (omega arith); parts = e ∙ ap (λ (x : List ℕ). x ++ rest) (flat_map-cons form u us) ∙ append_assoc (form u) (spelling us) rest }
 
@@ -79,7 +74,9 @@ once [] [] bytes rest rest' a b e f none none' = (refl, sym e ∙ f)
 once [] (v ∷ vs) bytes rest rest' a b e f none none' = absurd (none v (spelling vs ++ rest') (first_of v vs rest rest' b (sym e ∙ f)))
 once (u ∷ us) [] bytes rest rest' a b e f none none' = absurd (none' u (spelling us ++ rest) (first_of u us rest' rest a (sym f ∙ e)))
 once (u ∷ us) (v ∷ vs) bytes rest rest' a b e f none none' =
-    let same = unit_once bytes u v (spelling us ++ rest) (spelling vs ++ rest') (first_of u us bytes rest a e) (first_of v vs bytes rest' b f) in
+    let first = first_of u us bytes rest a e in
+    let first' = first_of v vs bytes rest' b f in
+    let same = one_unit u v (spelling us ++ rest) (spelling vs ++ rest') first.unit first'.unit (sym first.parts ∙ first'.parts) in
     let others = once us vs (spelling us ++ rest) rest rest' (λ k d lt. a (suc k) d (omega arith)) (λ k d lt. b (suc k) d (omega arith)) refl same.1 none none' in
     (ap (λ (w : ℕ). w ∷ us) same.0 ∙ ap (λ (ws : List ℕ). v ∷ ws) others.0, others.1)
 
@@ -101,45 +98,24 @@ body_once P Q bytes p q =
     let units : q.units ≡ p.units = sym q.after.len ∙ ap length (sym one.0) ∙ p.after.len in
     rw (same.0, units, ← one.1) p.is
 
--- the count of an item that stands first, stands first
-record HasCount (bytes s : List ℕ) (n : ℕ) : Type 0 where
-  len : ℕ
-  begins : BeginsWith IsUleb128 bytes (length s) len
-  body : drop len bytes ≡ spelling s ++ 0 ∷ drop n bytes
-  size : n ≡ len + length (spelling s) + 1
-
-has_count : (bytes s : List ℕ) (n : ℕ) → BeginsWith IsStringData bytes s n → HasCount bytes s n
-has_count bytes s n item =
+-- a text's item is a count, as many units, and the zero byte
+pub item_body : (bytes s : List ℕ) (n : ℕ) → BeginsWith IsStringData bytes s n → HasBody (λ count units rest. StartsWithZero rest × (units ≡ count)) bytes
+item_body bytes s n item =
     let first = item.spelled.count in
     let whole : bytes ≡ first ++ (spelling s ++ 0 ∷ drop n bytes) = sym (take-append-drop n bytes) ∙ ap (λ (x : List ℕ). x ++ drop n bytes) item.spelled.parts ∙ rw (append_assoc, append_assoc) refl in
     let front : take (length first) bytes ≡ first = ap (take (length first)) whole ∙ take_at first (spelling s ++ 0 ∷ drop n bytes) (length first) refl in
     record {
-      len = length first;
-      begins = record { within = omega (arith, ap length whole, length-append first (spelling s ++ 0 ∷ drop n bytes)); spelled = rw front item.spelled.says };
-      body = ap (drop (length first)) whole ∙ drop_at first (spelling s ++ 0 ∷ drop n bytes) (length first) refl;
-      size = omega (arith, item.within, length-take n bytes, ap length item.spelled.parts, length-append first (spelling s ++ 0 ∷ []), length-append (spelling s) (0 ∷ []));
-    }
-
--- a text's item is a count, as many units, and the zero byte
-pub item_body : (bytes s : List ℕ) (n : ℕ) → BeginsWith IsStringData bytes s n → HasBody (λ count units rest. StartsWithZero rest × (units ≡ count)) bytes
-item_body bytes s n item =
-    let has = has_count bytes s n item in
-    record {
       count = length s;
-      len = has.len;
+      len = length first;
       units = length s;
       rest = 0 ∷ drop n bytes;
-      begins = has.begins;
-      after = record { us = s; len = refl; units = item.spelled.units; parts = has.body; none = zero_none (drop n bytes) };
+      begins = record { within = omega (arith, ap length whole, length-append first (spelling s ++ 0 ∷ drop n bytes)); spelled = rw front item.spelled.says };
+      after = record {
+        us = s;
+        len = refl;
+        units = item.spelled.units;
+        parts = ap (drop (length first)) whole ∙ drop_at first (spelling s ++ 0 ∷ drop n bytes) (length first) refl;
+        none = zero_none (drop n bytes);
+      };
       is = ((drop n bytes, refl), refl);
     }
-
--- one item stands first
-pub item_once : (bytes s t : List ℕ) (n m : ℕ) → BeginsWith IsStringData bytes s n → BeginsWith IsStringData bytes t m → (s ≡ t) × (n ≡ m)
-item_once bytes s t n m one other =
-    let a = has_count bytes s n one in
-    let b = has_count bytes t m other in
-    let same = same_number sum_of_groups (λ v. v < 2 ^ 32) bytes (length s) (length t) a.len b.len a.begins b.begins in
-    let body : drop a.len bytes ≡ spelling t ++ 0 ∷ drop m bytes = ap (λ (k : ℕ). drop k bytes) (sym same.1) ∙ b.body in
-    let texts = once s t (drop a.len bytes) (0 ∷ drop n bytes) (0 ∷ drop m bytes) one.spelled.units other.spelled.units a.body body (zero_none (drop n bytes)) (zero_none (drop m bytes)) in
-    (texts.0, omega (arith, a.size, b.size, same.1, ap (λ (x : List ℕ). length (spelling x)) texts.0))

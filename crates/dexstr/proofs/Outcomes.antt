@@ -8,8 +8,8 @@ use Rattle.dexspec.proofs.Spellings.{not_cut_off}
 use Rattle.dexstr.specs.Faults.{HasBody, StartsWithZero, IsPart, IsProperFront, LooksCutOff, IsShort, IsBad, IsFault}
 use Rattle.dexstr.specs.declared.reading.TextFault.{TextFault}
 use Rattle.dexstr.specs.declared.reading.TextFault.TheVariants.{Short, Bad, Count}
-use Rattle.dexstr.proofs.Forms.{Shape, One, Two, Three, shape_of}
-use Rattle.dexstr.proofs.Items.{body_once, item_body, item_once}
+use Rattle.dexspec.proofs.OneText.{Shape, One, Two, Three, shape_of, one_string_data}
+use Rattle.dexstr.proofs.Items.{body_once, item_body}
 
 -- ---- a proper front, by its bytes
 
@@ -169,7 +169,7 @@ one_err e f r one other = cc
 
 pub exact : (bytes : List ℕ) (r : Result (List ℕ × ℕ) TextFault) → IfOk r (λ x. BeginsWith IsStringData bytes x.0 x.1) → IfErr r (λ e. IsFault e bytes) → Exact bytes r
 exact bytes (Ok (s, n)) found fault = record {
-  only = λ t m item. let same = item_once bytes s t n m found item in rw (same.0, same.1) refl;
+  only = λ t m item. let same = one_string_data bytes s t n m found item in rw (same.0, same.1) refl;
   none = tt;
   fault = λ e. (λ err. absurd (not_both (s, n) e (Ok (s, n)) refl err), λ told. absurd (no_fault e bytes s n found told));
 }

@@ -6,7 +6,8 @@ use Rattle.std.proofs.lemmas.Grind.{flat_map-append}
 use Rattle.std.proofs.lemmas.List.Elements.{All-push}
 use Rattle.dexspec.specs.Texts.{form, spelling, AreUnits}
 use Rattle.dexstr.specs.Units.{BeginsWithUnit}
-use Rattle.dexstr.proofs.Forms.{Shape, One, Two, Three, shape}
+use Rattle.dexspec.proofs.OneText.{Shape, One, Two, Three}
+use Rattle.dexstr.proofs.Forms.{shape}
 
 -- so many units were passed
 flat_map_one : (u : ℕ) → spelling (u ∷ []) ≡ form u

@@ -63,6 +63,7 @@ pub(crate) fn skip_units(bytes: &[u8]) -> (usize, &[u8])
 }
 
 /// The unit whose spelling stands first, and the bytes after it.
+#[inline]
 fn first_unit(bytes: &[u8]) -> Option<(u16, &[u8])>
     ensures found { IfSome result (λ x. BeginsWithUnit bytes.now x.0 x.1.now) }
     ensures none { IfNone result (BeginsWithNone bytes.now) }
@@ -94,6 +95,7 @@ fn first_unit(bytes: &[u8]) -> Option<(u16, &[u8])>
 }
 
 /// The low six bits of a byte from 0x80 to 0xbf, and the bytes after it.
+#[inline]
 fn six_bits(bytes: &[u8]) -> Option<(u16, &[u8])>
     ensures found { IfSome result (λ x. (x.0 < 64) × (bytes.now ≡ (0x80 + x.0) ∷ x.1.now)) }
     ensures none { IfNone result (IsNoTail bytes.now) }

@@ -1,7 +1,7 @@
 //! Values in their least widths, and wider ones that are accepted.
 
 ghost use Rattle.std.specs.Prelude.{◌≡◌, [], ◌∷◌, true, pos, negsuc};
-ghost use Rattle.dexspec.specs.Canonical.{value_bytes};
+ghost use Rattle.dexspec.specs.Spellings.{value_bytes};
 ghost use Rattle.dexspec.specs.Mentions.{closed};
 ghost use Rattle.dexspec.specs.Values.{ValueAt, ByteValue, CharValue, IntValue, LongValue, FloatValue, DoubleValue, BooleanValue, ArrayValue, NullValue, NoValues, ThenValue, value_depth};
 

@@ -71,6 +71,7 @@ pub record PairsAt {M X : Type 0} (Row : List ℕ → ℕ → M → Type 0) (At 
   pub pairs : AllZip (PairAt Row At b) (pairs_at b o n) entries
   pub rise : IsTrue (rises nat_cmp (map (λ pair. pair.0) (pairs_at b o n)))
 
+-- how many fields, methods and methods' parameters a directory annotates
 abbrev pub fields_count : List ℕ → ℕ → ℕ
 fields_count b o = uint_at b (o + 4)
 

@@ -1,10 +1,6 @@
 -- Numbers of fixed size, what stands at a place of a list of bytes, and alignment.
 -- Source: "Dalvik Executable format", "Overall file layout" (all numbers are little-endian).
-use Rattle.std.specs.Prelude.{◌≡◌, ℕ, zero, suc, ℤ, pos, ◌-ℤ◌, ◌+◌, ◌-◌, ◌*◌, ◌/◌, ◌%◌, ◌^◌, ◌<◌, List, [], ◌∷◌, length, take, drop, nat_lt, if◌then◌else◌, All, replicate}
-
--- numbers that fit a byte
-abbrev pub AreBytes : List ℕ → Type 0
-AreBytes b = All (λ x. x < 256) b
+use Rattle.std.specs.Prelude.{◌≡◌, ℕ, zero, suc, ℤ, pos, ◌-ℤ◌, ◌+◌, ◌-◌, ◌*◌, ◌/◌, ◌%◌, ◌^◌, List, [], ◌∷◌, length, take, drop, nat_lt, if◌then◌else◌, replicate}
 
 -- the number that bytes spell, the lowest first
 unfoldable pub number_of : List ℕ → ℕ
@@ -24,6 +20,7 @@ signed_in n v = if nat_lt (2 * v) (2 ^ (8 * n)) then pos v else pos v -ℤ pos (
 unfoldable pub ushort : ℕ → List ℕ
 ushort n = bytes_of 2 n
 
+-- a number as four bytes
 unfoldable pub uint : ℕ → List ℕ
 uint n = bytes_of 4 n
 

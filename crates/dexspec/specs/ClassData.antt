@@ -20,6 +20,7 @@ pub record EncodedMethod : Type 0 where
   pub flags : ℕ
   pub code_off : ℕ
 
+-- the four lists of a class_data_item
 pub record ClassData : Type 0 where
   pub static_fields : List EncodedField
   pub instance_fields : List EncodedField
@@ -30,9 +31,11 @@ pub record ClassData : Type 0 where
 abbrev pub no_class_data : ClassData
 no_class_data = record { static_fields = []; instance_fields = []; direct_methods = []; virtual_methods = [] }
 
+-- the fields of both lists
 abbrev pub fields_of : ClassData → List EncodedField
 fields_of d = d.static_fields ++ d.instance_fields
 
+-- the methods of both lists
 abbrev pub methods_of : ClassData → List EncodedMethod
 methods_of d = d.direct_methods ++ d.virtual_methods
 

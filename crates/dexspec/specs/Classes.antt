@@ -1,16 +1,16 @@
 -- Class definitions, and what a class row of a file stands for.
 -- Source: "Dalvik Executable format", "class_def_item".
-use Rattle.std.specs.Prelude.{◌≡◌, ℕ, ◌+◌, ◌<◌, ◌≤◌, List, [], ◌++◌, map, All, Option, Some, None}
+use Rattle.std.specs.Prelude.{◌≡◌, ℕ, ◌+◌, ◌<◌, List, [], ◌++◌, map, All, Option, Some, None}
 use Rattle.std.specs.List.{AllZip}
 use Rattle.dexspec.specs.Lists.{OrNone, SomeAt}
 use Rattle.dexspec.specs.Bytes.{uint_at}
 use Rattle.dexspec.specs.Texts.{Text}
 use Rattle.dexspec.specs.Names.{IsClass}
 use Rattle.dexspec.specs.Symbols.{Proto, field_cmp, method_cmp}
-use Rattle.dexspec.specs.Header.{ClassDefs, table_size, data_off}
+use Rattle.dexspec.specs.Header.{ClassDefs, table_size}
 use Rattle.dexspec.specs.Rows.{row_at, StringRow, TypeRow, TypeListAt}
 use Rattle.dexspec.specs.Code.{Code, CodeAt}
-use Rattle.dexspec.specs.Values.{Values, NoValues, EncodedArrayAt, values_depth, most_depth}
+use Rattle.dexspec.specs.Values.{Values, NoValues, EncodedArrayItemAt}
 use Rattle.dexspec.specs.Annotations.{AnnotationSet, Directory, DirectoryAt, no_directory, annotated}
 use Rattle.dexspec.specs.ClassData.{ClassData, ClassDataAt, no_class_data, EncodedField, EncodedMethod}
 
@@ -30,8 +30,8 @@ pub record MethodDef : Type 0 where
   pub annotations : AnnotationSet
   pub parameter_annotations : List AnnotationSet
 
--- A class but for its name. Fields stand by name and type, methods by name and proto; the static values
--- belong to the static fields in order, and may be fewer.
+-- A class but for its name. In a well-formed one fields stand by name and type, methods by name and proto. The
+-- static values belong to the static fields in order, and may be fewer.
 pub record Body : Type 0 where
   pub flags : ℕ
   pub superclass : Option Text
@@ -48,14 +48,17 @@ pub record Body : Type 0 where
 abbrev pub Definition : Type 0
 Definition = Text × Body
 
+-- the static fields, and then the instance fields
 abbrev pub declared_fields : Body → List FieldDef
 declared_fields c = c.static_fields ++ c.instance_fields
 
+-- the direct methods, and then the virtual methods
 abbrev pub declared_methods : Body → List MethodDef
 declared_methods c = c.direct_methods ++ c.virtual_methods
 
 -- ---- the fields of a class row
 
+-- the eight fields of class row r, in their order: the type that it defines
 abbrev pub class_idx : List ℕ → ℕ → ℕ
 class_idx b r = uint_at b (row_at b ClassDefs r)
 
@@ -100,10 +103,8 @@ pub record ClassListAt (b : List ℕ) (o : ℕ) (ts : List Text) : Type 0 where
   pub classes : All IsClass ts
 
 -- at offset o of the data stand the static values
-pub record StaticValuesAt (b : List ℕ) (o : ℕ) (vs : Values) : Type 0 where
-  pub in_data : data_off b ≤ o
-  pub array : (n : ℕ) × EncodedArrayAt b o vs n
-  pub shallow : values_depth vs ≤ most_depth
+abbrev pub StaticValuesAt : List ℕ → ℕ → Values → Type 0
+StaticValuesAt b o vs = (n : ℕ) × EncodedArrayItemAt b o vs n
 
 -- ---- the class of a row
 

@@ -31,6 +31,7 @@ pub record Try : Type 0 where
   pub count : ℕ
   pub handler : Handler
 
+-- a code_item with symbols in the place of indices
 pub record Code : Type 0 where
   pub registers : ℕ
   pub ins : ℕ
@@ -39,9 +40,11 @@ pub record Code : Type 0 where
   pub tries : List Try
   pub debug : Option Debug
 
+-- whether two catches are the same
 abbrev pub same_catch : Catch → Catch → Bool
 same_catch c d = same_text c.type d.type && c.address == d.address
 
+-- whether two handlers are: types, addresses and the one for all else
 abbrev pub same_handler : Handler → Handler → Bool
 same_handler h k = pointwise same_catch h.catches k.catches && option_eq ◌==◌ h.catch_all k.catch_all
 
@@ -55,8 +58,15 @@ handlers_weight hs = 5 + sum_by (λ h. 10 + 8 * length h.catches) hs
 
 -- ---- the fixed part and the units
 
+-- the units of the code_item at an offset
 abbrev pub code_units : List ℕ → ℕ → List ℕ
 code_units b o = ushorts_at b (o + 16) (uint_at b (o + 12))
+
+-- at offset o stand the registers of a code_item: how many it has, takes and passes on
+pub record RegistersAt (b : List ℕ) (o registers ins outs : ℕ) : Type 0 where
+  pub registers_size : ushort_at b o ≡ registers
+  pub ins_size : ushort_at b (o + 2) ≡ ins
+  pub outs_size : ushort_at b (o + 4) ≡ outs
 
 -- at offset o of the data stand a code_item's fixed part and units, cut into these pieces
 pub record PiecesAt (b : List ℕ) (o : ℕ) (cuts : List Cut) (ps : List Piece) : Type 0 where
@@ -152,9 +162,7 @@ TriesAt b o cuts tries =
 
 -- at offset o of the data stands a code_item
 pub record CodeAt (b : List ℕ) (o : ℕ) (c : Code) : Type 0 where
-  pub registers : ushort_at b o ≡ c.registers
-  pub ins : ushort_at b (o + 2) ≡ c.ins
-  pub outs : ushort_at b (o + 4) ≡ c.outs
+  pub registers : RegistersAt b o c.registers c.ins c.outs
   pub cuts : List Cut
   pub pieces : PiecesAt b o cuts c.pieces
   pub tries : TriesAt b o cuts c.tries

@@ -1,6 +1,7 @@
 -- The 23 conditions by name and number. `Accepted` says what each of them is.
 use Rattle.std.specs.Prelude.{ℕ}
 
+-- the conditions, in the order in which they are judged
 pub data Condition : Type 0 where
   Size : Condition
   Magic : Condition

@@ -69,6 +69,7 @@ pub record DebugAt (b : List ℕ) (o : ℕ) (d : Debug) : Type 0 where
 
 -- ---- positions
 
+-- an operation that records a position
 abbrev pub is_special : Operation → Bool
 is_special (Special opcode) = true
 is_special _ = false

@@ -48,6 +48,7 @@ depth D name = depth_to D (length D) name
 abbrev pub place_cmp : ℕ × Text → ℕ × Text → Ordering
 place_cmp x y = ordering_then (nat_cmp x.0 y.0) (text_cmp x.1 y.1)
 
+-- entries by their places
 abbrev pub put_all : List ((ℕ × Text) × Body) → List ((ℕ × Text) × Body)
 put_all [] = []
 put_all (e ∷ es) = put place_cmp e.0 e.1 (put_all es)

@@ -26,30 +26,38 @@ adler_32 bytes = adler_number (adler_sums (1, 0) bytes)
 
 -- ---- fields of the header
 
+-- the bytes of the header
 abbrev pub header_length : ℕ
 header_length = 112
 
+-- Adler-32 of what follows it
 abbrev pub checksum : List ℕ → ℕ
 checksum b = uint_at b 8
 
+-- SHA-1 of what follows it
 abbrev pub signature : List ℕ → List ℕ
 signature b = take 20 (drop 12 b)
 
+-- the length that the header tells
 abbrev pub file_size : List ℕ → ℕ
 file_size b = uint_at b 32
 
+-- the header's own length
 abbrev pub header_size : List ℕ → ℕ
 header_size b = uint_at b 36
 
+-- the order of bytes
 abbrev pub endian_tag : List ℕ → ℕ
 endian_tag b = uint_at b 40
 
+-- the size of link data, and its offset
 abbrev pub link_size : List ℕ → ℕ
 link_size b = uint_at b 44
 
 abbrev pub link_off : List ℕ → ℕ
 link_off b = uint_at b 48
 
+-- where the map begins
 abbrev pub map_off : List ℕ → ℕ
 map_off b = uint_at b 52
 
@@ -62,6 +70,7 @@ pub data Table : Type 0 where
   MethodIds : Table
   ClassDefs : Table
 
+-- the six tables, in the order of the header and of the file
 abbrev pub tables : List Table
 tables = StringIds ∷ TypeIds ∷ ProtoIds ∷ FieldIds ∷ MethodIds ∷ ClassDefs ∷ []
 
@@ -82,6 +91,7 @@ table_size b t = uint_at b (size_place t)
 abbrev pub table_off : List ℕ → Table → ℕ
 table_off b t = uint_at b (size_place t + 4)
 
+-- the size of the data, and where it begins
 abbrev pub data_size : List ℕ → ℕ
 data_size b = uint_at b 104
 
@@ -113,6 +123,7 @@ pub record HasSize (b : List ℕ) : Type 0 where
   pub least : header_length ≤ length b
   pub most : length b ≤ 2 ^ 30
 
+-- an ASCII digit
 abbrev pub IsDigit : ℕ → Type 0
 IsDigit c = (0x30 ≤ c) × (c ≤ 0x39)
 

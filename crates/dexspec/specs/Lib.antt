@@ -23,6 +23,10 @@ pub mod WellFormed
 pub mod Conditions
 pub mod Accepted
 pub mod Depth
+pub mod Spellings
+pub mod Placing
 pub mod Canonical
 pub mod Merging
 pub mod Stripping
+pub mod Plain
+pub mod Flags

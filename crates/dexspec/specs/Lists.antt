@@ -1,7 +1,7 @@
 -- Lists in order, ranks, lists cut into parts, and items that stand one after the other.
 use Rattle.std.specs.Prelude.{◌≡◌, ◌≢◌, ◌⊎◌, ℕ, ◌+◌, Bool, true, ◌&&◌, not, List, [], ◌∷◌, take, drop, Option, Some, None, count_by}
 use Rattle.std.specs.List.{AllPairs, filter}
-use Rattle.std.specs.Ordering.{is_lt, is_eq}
+use Rattle.std.specs.Ordering.{is_lt}
 use Rattle.std.specs.declared.cmp.Ordering.{Ordering}
 use Rattle.std.specs.FinMap.Entries.{by_order}
 
@@ -24,10 +24,6 @@ in_order R (k ∷ ks) = add_in_order R k (in_order R ks)
 -- the number of lesser members
 abbrev pub rank : {K : Type 0} → (K → K → Ordering) → K → List K → ℕ
 rank R s xs = count_by (λ t. is_lt (R t s)) xs
-
--- whether the two tie in the order
-abbrev pub ties : {K : Type 0} → (K → K → Ordering) → K → K → Bool
-ties R x y = is_eq (R x y)
 
 -- no two places hold one value
 abbrev pub AreDistinct : {X : Type 0} → List X → Type 0

@@ -36,6 +36,7 @@ pub data TypeKind : Type 0 where
 abbrev pub IsVoid : Text → Type 0
 IsVoid s = s ≡ 0x56 ∷ []
 
+-- one of these letters
 pub record IsPrimitive (s : Text) : Type 0 where
   pub letter : ℕ
   pub is : s ≡ letter ∷ []

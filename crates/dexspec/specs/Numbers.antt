@@ -59,9 +59,11 @@ pub record BeginsWith {V : Type 0} (Says : List ℕ → V → Type 0) (bytes : L
 abbrev pub Uleb128At : Item ℕ
 Uleb128At b o v n = BeginsWith IsUleb128 (drop o b) v n
 
+-- the same for an sleb128
 abbrev pub Sleb128At : Item ℤ
 Sleb128At b o v n = BeginsWith IsSleb128 (drop o b) v n
 
+-- the same for a uleb128p1
 abbrev pub Uleb128p1At : Item (Option ℕ)
 Uleb128p1At b o v n = BeginsWith IsUleb128p1 (drop o b) v n
 

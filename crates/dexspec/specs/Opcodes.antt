@@ -1,4 +1,4 @@
--- The 256 opcodes of version 035: formats, kinds of index and mnemonics, as one table.
+-- The 256 opcodes of version 035, of which 218 are used: formats, kinds of index and mnemonics, as one table.
 -- Source: "Dalvik bytecode", "Summary of bytecode set", and "Dalvik executable instruction formats". An
 -- opcode that the table lacks is unused in this version (this project's rule).
 use Rattle.std.specs.Prelude.{ℕ, ◌+◌, ◌-◌, ◌&&◌, Bool, List, [], ◌∷◌, ◌++◌, length, map, Option, Some, None, slice_index_or, nat_le, nat_lt, codes}
@@ -82,15 +82,19 @@ each_with stem endings = map (λ ending. stem ++ ending) endings
 abbrev pub all_with : List (List ℕ) → List ℕ → List (List ℕ)
 all_with stems ending = map (λ stem. stem ++ ending) stems
 
+-- what can be moved or returned
 abbrev pub move_endings : List (List ℕ)
 move_endings = codes "" ∷ codes "-wide" ∷ codes "-object" ∷ []
 
+-- the seven kinds of element, field or array
 abbrev pub kind_endings : List (List ℕ)
 kind_endings = codes "" ∷ codes "-wide" ∷ codes "-object" ∷ codes "-boolean" ∷ codes "-byte" ∷ codes "-char" ∷ codes "-short" ∷ []
 
+-- the six comparisons of branches
 abbrev pub comparisons : List (List ℕ)
 comparisons = codes "if-eq" ∷ codes "if-ne" ∷ codes "if-lt" ∷ codes "if-ge" ∷ codes "if-gt" ∷ codes "if-le" ∷ []
 
+-- the five ways to invoke
 abbrev pub invocations : List (List ℕ)
 invocations = codes "invoke-virtual" ∷ codes "invoke-super" ∷ codes "invoke-direct" ∷ codes "invoke-static" ∷ codes "invoke-interface" ∷ []
 
@@ -98,9 +102,11 @@ invocations = codes "invoke-virtual" ∷ codes "invoke-super" ∷ codes "invoke-
 abbrev pub arithmetic : List (List ℕ)
 arithmetic = codes "add" ∷ codes "sub" ∷ codes "mul" ∷ codes "div" ∷ codes "rem" ∷ []
 
+-- what works on whole numbers
 abbrev pub bitwise : List (List ℕ)
 bitwise = codes "and" ∷ codes "or" ∷ codes "xor" ∷ []
 
+-- the three shifts
 abbrev pub shifts : List (List ℕ)
 shifts = codes "shl" ∷ codes "shr" ∷ codes "ushr" ∷ []
 
@@ -109,9 +115,11 @@ abbrev pub binary_operations : List (List ℕ)
 binary_operations = all_with (arithmetic ++ (bitwise ++ shifts)) (codes "-int") ++ (all_with (arithmetic ++ (bitwise ++ shifts)) (codes "-long")
     ++ (all_with arithmetic (codes "-float") ++ all_with arithmetic (codes "-double")))
 
+-- opcodes without an index
 abbrev pub run : ℕ → Format → List (List ℕ) → OpcodeRun
 run first format mnemonics = record { first = first; format = format; index = None; mnemonics = mnemonics }
 
+-- opcodes with an index of this pool
 abbrev pub run_with : ℕ → Format → Pool → List (List ℕ) → OpcodeRun
 run_with first format pool mnemonics = record { first = first; format = format; index = Some pool; mnemonics = mnemonics }
 
@@ -119,64 +127,64 @@ run_with first format pool mnemonics = record { first = first; format = format; 
 unfoldable pub opcode_runs : List OpcodeRun
 opcode_runs =
     run 0x00 F10x (codes "nop" ∷ [])
-  ∷ run 0x01 F12x (codes "move" ∷ [])
-  ∷ run 0x02 F22x (codes "move/from16" ∷ [])
-  ∷ run 0x03 F32x (codes "move/16" ∷ [])
-  ∷ run 0x04 F12x (codes "move-wide" ∷ [])
-  ∷ run 0x05 F22x (codes "move-wide/from16" ∷ [])
-  ∷ run 0x06 F32x (codes "move-wide/16" ∷ [])
-  ∷ run 0x07 F12x (codes "move-object" ∷ [])
-  ∷ run 0x08 F22x (codes "move-object/from16" ∷ [])
-  ∷ run 0x09 F32x (codes "move-object/16" ∷ [])
-  ∷ run 0x0a F11x (each_with (codes "move-result") move_endings)
-  ∷ run 0x0d F11x (codes "move-exception" ∷ [])
-  ∷ run 0x0e F10x (codes "return-void" ∷ [])
-  ∷ run 0x0f F11x (each_with (codes "return") move_endings)
-  ∷ run 0x12 F11n (codes "const/4" ∷ [])
-  ∷ run 0x13 F21s (codes "const/16" ∷ [])
-  ∷ run 0x14 F31i (codes "const" ∷ [])
-  ∷ run 0x15 F21h (codes "const/high16" ∷ [])
-  ∷ run 0x16 F21s (codes "const-wide/16" ∷ [])
-  ∷ run 0x17 F31i (codes "const-wide/32" ∷ [])
-  ∷ run 0x18 F51l (codes "const-wide" ∷ [])
-  ∷ run 0x19 F21h (codes "const-wide/high16" ∷ [])
-  ∷ run_with 0x1a F21c Strings (codes "const-string" ∷ [])
-  ∷ run_with 0x1b F31c Strings (codes "const-string/jumbo" ∷ [])
-  ∷ run_with 0x1c F21c Types (codes "const-class" ∷ [])
-  ∷ run 0x1d F11x (codes "monitor-enter" ∷ codes "monitor-exit" ∷ [])
-  ∷ run_with 0x1f F21c Types (codes "check-cast" ∷ [])
-  ∷ run_with 0x20 F22c Types (codes "instance-of" ∷ [])
-  ∷ run 0x21 F12x (codes "array-length" ∷ [])
-  ∷ run_with 0x22 F21c Types (codes "new-instance" ∷ [])
-  ∷ run_with 0x23 F22c Types (codes "new-array" ∷ [])
-  ∷ run_with 0x24 F35c Types (codes "filled-new-array" ∷ [])
-  ∷ run_with 0x25 F3rc Types (codes "filled-new-array/range" ∷ [])
-  ∷ run 0x26 F31t (codes "fill-array-data" ∷ [])
-  ∷ run 0x27 F11x (codes "throw" ∷ [])
-  ∷ run 0x28 F10t (codes "goto" ∷ [])
-  ∷ run 0x29 F20t (codes "goto/16" ∷ [])
-  ∷ run 0x2a F30t (codes "goto/32" ∷ [])
-  ∷ run 0x2b F31t (codes "packed-switch" ∷ codes "sparse-switch" ∷ [])
-  ∷ run 0x2d F23x (codes "cmpl-float" ∷ codes "cmpg-float" ∷ codes "cmpl-double" ∷ codes "cmpg-double" ∷ codes "cmp-long" ∷ [])
-  ∷ run 0x32 F22t comparisons
-  ∷ run 0x38 F21t (all_with comparisons (codes "z"))
-  ∷ run 0x44 F23x (each_with (codes "aget") kind_endings)
-  ∷ run 0x4b F23x (each_with (codes "aput") kind_endings)
-  ∷ run_with 0x52 F22c Fields (each_with (codes "iget") kind_endings)
-  ∷ run_with 0x59 F22c Fields (each_with (codes "iput") kind_endings)
-  ∷ run_with 0x60 F21c Fields (each_with (codes "sget") kind_endings)
-  ∷ run_with 0x67 F21c Fields (each_with (codes "sput") kind_endings)
-  ∷ run_with 0x6e F35c Methods invocations
-  ∷ run_with 0x74 F3rc Methods (all_with invocations (codes "/range"))
-  ∷ run 0x7b F12x (codes "neg-int" ∷ codes "not-int" ∷ codes "neg-long" ∷ codes "not-long" ∷ codes "neg-float" ∷ codes "neg-double" ∷ [])
-  ∷ run 0x81 F12x (codes "int-to-long" ∷ codes "int-to-float" ∷ codes "int-to-double" ∷ codes "long-to-int" ∷ codes "long-to-float" ∷ codes "long-to-double" ∷ [])
-  ∷ run 0x87 F12x (codes "float-to-int" ∷ codes "float-to-long" ∷ codes "float-to-double" ∷ codes "double-to-int" ∷ codes "double-to-long" ∷ codes "double-to-float" ∷ [])
-  ∷ run 0x8d F12x (codes "int-to-byte" ∷ codes "int-to-char" ∷ codes "int-to-short" ∷ [])
-  ∷ run 0x90 F23x binary_operations
-  ∷ run 0xb0 F12x (all_with binary_operations (codes "/2addr"))
-  ∷ run 0xd0 F22s (codes "add-int/lit16" ∷ codes "rsub-int" ∷ all_with (codes "mul" ∷ codes "div" ∷ codes "rem" ∷ bitwise) (codes "-int/lit16"))
-  ∷ run 0xd8 F22b (all_with (codes "add" ∷ codes "rsub" ∷ codes "mul" ∷ codes "div" ∷ codes "rem" ∷ bitwise ++ shifts) (codes "-int/lit8"))
-  ∷ []
+    ∷ run 0x01 F12x (codes "move" ∷ [])
+    ∷ run 0x02 F22x (codes "move/from16" ∷ [])
+    ∷ run 0x03 F32x (codes "move/16" ∷ [])
+    ∷ run 0x04 F12x (codes "move-wide" ∷ [])
+    ∷ run 0x05 F22x (codes "move-wide/from16" ∷ [])
+    ∷ run 0x06 F32x (codes "move-wide/16" ∷ [])
+    ∷ run 0x07 F12x (codes "move-object" ∷ [])
+    ∷ run 0x08 F22x (codes "move-object/from16" ∷ [])
+    ∷ run 0x09 F32x (codes "move-object/16" ∷ [])
+    ∷ run 0x0a F11x (each_with (codes "move-result") move_endings)
+    ∷ run 0x0d F11x (codes "move-exception" ∷ [])
+    ∷ run 0x0e F10x (codes "return-void" ∷ [])
+    ∷ run 0x0f F11x (each_with (codes "return") move_endings)
+    ∷ run 0x12 F11n (codes "const/4" ∷ [])
+    ∷ run 0x13 F21s (codes "const/16" ∷ [])
+    ∷ run 0x14 F31i (codes "const" ∷ [])
+    ∷ run 0x15 F21h (codes "const/high16" ∷ [])
+    ∷ run 0x16 F21s (codes "const-wide/16" ∷ [])
+    ∷ run 0x17 F31i (codes "const-wide/32" ∷ [])
+    ∷ run 0x18 F51l (codes "const-wide" ∷ [])
+    ∷ run 0x19 F21h (codes "const-wide/high16" ∷ [])
+    ∷ run_with 0x1a F21c Strings (codes "const-string" ∷ [])
+    ∷ run_with 0x1b F31c Strings (codes "const-string/jumbo" ∷ [])
+    ∷ run_with 0x1c F21c Types (codes "const-class" ∷ [])
+    ∷ run 0x1d F11x (codes "monitor-enter" ∷ codes "monitor-exit" ∷ [])
+    ∷ run_with 0x1f F21c Types (codes "check-cast" ∷ [])
+    ∷ run_with 0x20 F22c Types (codes "instance-of" ∷ [])
+    ∷ run 0x21 F12x (codes "array-length" ∷ [])
+    ∷ run_with 0x22 F21c Types (codes "new-instance" ∷ [])
+    ∷ run_with 0x23 F22c Types (codes "new-array" ∷ [])
+    ∷ run_with 0x24 F35c Types (codes "filled-new-array" ∷ [])
+    ∷ run_with 0x25 F3rc Types (codes "filled-new-array/range" ∷ [])
+    ∷ run 0x26 F31t (codes "fill-array-data" ∷ [])
+    ∷ run 0x27 F11x (codes "throw" ∷ [])
+    ∷ run 0x28 F10t (codes "goto" ∷ [])
+    ∷ run 0x29 F20t (codes "goto/16" ∷ [])
+    ∷ run 0x2a F30t (codes "goto/32" ∷ [])
+    ∷ run 0x2b F31t (codes "packed-switch" ∷ codes "sparse-switch" ∷ [])
+    ∷ run 0x2d F23x (codes "cmpl-float" ∷ codes "cmpg-float" ∷ codes "cmpl-double" ∷ codes "cmpg-double" ∷ codes "cmp-long" ∷ [])
+    ∷ run 0x32 F22t comparisons
+    ∷ run 0x38 F21t (all_with comparisons (codes "z"))
+    ∷ run 0x44 F23x (each_with (codes "aget") kind_endings)
+    ∷ run 0x4b F23x (each_with (codes "aput") kind_endings)
+    ∷ run_with 0x52 F22c Fields (each_with (codes "iget") kind_endings)
+    ∷ run_with 0x59 F22c Fields (each_with (codes "iput") kind_endings)
+    ∷ run_with 0x60 F21c Fields (each_with (codes "sget") kind_endings)
+    ∷ run_with 0x67 F21c Fields (each_with (codes "sput") kind_endings)
+    ∷ run_with 0x6e F35c Methods invocations
+    ∷ run_with 0x74 F3rc Methods (all_with invocations (codes "/range"))
+    ∷ run 0x7b F12x (codes "neg-int" ∷ codes "not-int" ∷ codes "neg-long" ∷ codes "not-long" ∷ codes "neg-float" ∷ codes "neg-double" ∷ [])
+    ∷ run 0x81 F12x (codes "int-to-long" ∷ codes "int-to-float" ∷ codes "int-to-double" ∷ codes "long-to-int" ∷ codes "long-to-float" ∷ codes "long-to-double" ∷ [])
+    ∷ run 0x87 F12x (codes "float-to-int" ∷ codes "float-to-long" ∷ codes "float-to-double" ∷ codes "double-to-int" ∷ codes "double-to-long" ∷ codes "double-to-float" ∷ [])
+    ∷ run 0x8d F12x (codes "int-to-byte" ∷ codes "int-to-char" ∷ codes "int-to-short" ∷ [])
+    ∷ run 0x90 F23x binary_operations
+    ∷ run 0xb0 F12x (all_with binary_operations (codes "/2addr"))
+    ∷ run 0xd0 F22s (codes "add-int/lit16" ∷ codes "rsub-int" ∷ all_with (codes "mul" ∷ codes "div" ∷ codes "rem" ∷ bitwise) (codes "-int/lit16"))
+    ∷ run 0xd8 F22b (all_with (codes "add" ∷ codes "rsub" ∷ codes "mul" ∷ codes "div" ∷ codes "rem" ∷ bitwise ++ shifts) (codes "-int/lit8"))
+    ∷ []
 
 -- the opcode is one of the run
 abbrev pub is_in_run : ℕ → OpcodeRun → Bool

@@ -6,9 +6,11 @@ use Rattle.dexspec.specs.Code.{Code}
 use Rattle.dexspec.specs.Classes.{MethodDef, Body, Definition}
 use Rattle.dexspec.specs.Files.{Collection, definitions}
 
+-- code without its debug program
 abbrev pub strip_code : Code → Code
 strip_code c = record c { debug = None }
 
+-- a method with its code stripped
 abbrev pub strip_method : MethodDef → MethodDef
 strip_method m = record m { code = option_map strip_code m.code }
 
@@ -16,6 +18,7 @@ strip_method m = record m { code = option_map strip_code m.code }
 abbrev pub strip_body : Body → Body
 strip_body c = record c { source = None; direct_methods = map strip_method c.direct_methods; virtual_methods = map strip_method c.virtual_methods }
 
+-- the same name with a stripped body
 abbrev pub strip_definition : Definition → Definition
 strip_definition d = (d.0, strip_body d.1)
 

@@ -49,15 +49,18 @@ pool_of (ProtoSymbol p) = Protos
 pool_of (FieldSymbol f) = Fields
 pool_of (MethodSymbol m) = Methods
 
+-- a return type, and parameters that are no void
 pub record IsProto (p : Proto) : Type 0 where
   pub return_type : IsDescriptor p.return_type
   pub parameters : All IsValueType p.parameters
 
+-- a class, a member's name, and a type that is no void
 pub record IsField (f : Field) : Type 0 where
   pub class : IsClass f.class
   pub name : IsMemberName f.name
   pub type : IsValueType f.type
 
+-- a class or array, a member's name, and a proto
 pub record IsMethod (m : Method) : Type 0 where
   pub class : IsReferenceType m.class
   pub name : IsMemberName m.name

@@ -14,17 +14,21 @@ use Rattle.dexspec.specs.Mentions.{Mentions, mentions}
 
 -- ---- what is mentioned
 
+-- a string_id and its string_data_item
 abbrev pub text_weight : Text → ℕ
 text_weight s = 10 + 3 * length s
 
+-- a proto_id and its type_list
 abbrev pub proto_weight : Proto → ℕ
 proto_weight p = 20 + 2 * length p.parameters
 
+-- all rows of the five pools, with what they lead to
 abbrev pub mentions_weight : Mentions → ℕ
 mentions_weight m = sum_by text_weight m.texts + 4 * length m.types + sum_by proto_weight m.protos + 8 * length m.fields + 8 * length m.methods
 
 -- ---- what occurs in a definition
 
+-- the numbers that an operation takes; a special operation takes none
 abbrev pub operands : Operation → ℕ
 operands (AdvancePc addresses) = 1
 operands (AdvanceLine lines) = 1
@@ -35,6 +39,7 @@ operands (RestartLocal register) = 1
 operands (SetFile name) = 1
 operands _ = 0
 
+-- a debug_info_item
 abbrev pub debug_weight : Debug → ℕ
 debug_weight d = 11 + 5 * length d.parameter_names + sum_by (λ op. 1 + 5 * operands op) d.operations
 
@@ -43,23 +48,28 @@ abbrev pub tries_weight : List Try → ℕ
 tries_weight [] = 0
 tries_weight (t ∷ ts) = 8 * length (t ∷ ts) + handlers_weight (handlers_of (t ∷ ts))
 
+-- a code_item without its debug program
 abbrev pub code_weight : Code → ℕ
 code_weight c = 24 + 2 * length (flat_map units_of c.pieces) + tries_weight c.tries
 
 abbrev mutual
+  -- an encoded_value
   pub value_weight : Value → ℕ
   value_weight (ArrayValue vs) = 6 + values_weight vs
   value_weight (AnnotationValue t es) = 12 + elements_weight es
   value_weight _ = 9
 
+  -- values one after the other
   pub values_weight : Values → ℕ
   values_weight NoValues = 0
   values_weight (ThenValue v vs) = value_weight v + values_weight vs
 
+  -- annotation_elements one after the other
   pub elements_weight : Elements → ℕ
   elements_weight NoElements = 0
   elements_weight (ThenElement name v es) = 5 + value_weight v + elements_weight es
 
+-- an annotation_item
 abbrev pub annotation_weight : Annotation → ℕ
 annotation_weight a = 12 + elements_weight a.elements
 
@@ -73,16 +83,20 @@ abbrev pub ref_list_weight : List AnnotationSet → ℕ
 ref_list_weight [] = 0
 ref_list_weight (s ∷ ss) = 8 + 4 * length (s ∷ ss) + sum_by set_weight (s ∷ ss)
 
+-- an array of static values; none weighs nothing
 abbrev pub static_values_weight : Values → ℕ
 static_values_weight NoValues = 0
 static_values_weight (ThenValue v vs) = 6 + values_weight (ThenValue v vs)
 
+-- a declared field with its set
 abbrev pub field_weight : FieldDef → ℕ
 field_weight f = 18 + set_weight f.annotations
 
+-- a declared method with its code, debug program and sets
 abbrev pub method_weight : MethodDef → ℕ
 method_weight m = 31 + sum_by (λ c. code_weight c + sum_by debug_weight (option_to_list c.debug)) (option_to_list m.code) + set_weight m.annotations + ref_list_weight m.parameter_annotations
 
+-- a class row with what belongs to the class
 abbrev pub body_weight : Body → ℕ
 body_weight c = 96 + 2 * length c.interfaces + set_weight c.annotations + sum_by field_weight (declared_fields c) + sum_by method_weight (declared_methods c) + static_values_weight c.static_values
 
@@ -92,5 +106,6 @@ body_weight c = 96 + 2 * length c.interfaces + set_weight c.annotations + sum_by
 unfoldable pub weight : List Definition → ℕ
 weight D = 1024 + mentions_weight (mentions D) + sum_by (λ d. body_weight d.1) D
 
+-- the most that the classes of a file may weigh
 abbrev pub most_weight : ℕ
 most_weight = 2 ^ 30

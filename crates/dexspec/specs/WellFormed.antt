@@ -1,7 +1,7 @@
 -- Well-formed definitions: those that a file can hold, whatever the indices and offsets are.
 -- Source: "Dalvik Executable format", the sizes of the fields of each item.
 use Rattle.std.specs.Prelude.{◌≡◌, ℕ, ◌+◌, ◌^◌, ◌<◌, ◌≤◌, IsTrue, List, length, map, All, IfSome, IfNone, FitsSigned}
-use Rattle.std.specs.List.{flat_map, AllZip}
+use Rattle.std.specs.List.{flat_map, AllZip, Contains}
 use Rattle.std.specs.Int.{w8, w16, w32, w64}
 use Rattle.std.specs.Ordering.{ordering_then}
 use Rattle.std.specs.declared.cmp.Ordering.{Ordering}
@@ -22,6 +22,7 @@ use Rattle.dexspec.specs.Mentions.{symbols_of, texts_in}
 abbrev pub FitsUint : ℕ → Type 0
 FitsUint n = n < 2 ^ 32
 
+-- a number of 16 bits
 abbrev pub FitsUshort : ℕ → Type 0
 FitsUshort n = n < 2 ^ 16
 
@@ -47,17 +48,20 @@ pub record ArePieces (ps : List Piece) (cuts : List Cut) : Type 0 where
   pub units : AreUnits (flat_map units_of ps)
   pub count : FitsUint (length (flat_map units_of ps))
 
+-- addresses are starts of instructions; without catches there is an address for all else
 pub record IsHandlerOf (us : List ℕ) (cuts : List Cut) (h : Handler) : Type 0 where
   pub catches : All (λ c. IsStart us cuts c.address) h.catches
   pub catch_all : IfSome h.catch_all (IsStart us cuts)
   pub some : IfNone h.catch_all (0 < length h.catches)
 
+-- units that are there, and a handler
 pub record IsTryOf (us : List ℕ) (cuts : List Cut) (t : Try) : Type 0 where
   pub some : 0 < t.count
   pub count : FitsUshort t.count
   pub within : t.start + t.count ≤ length us
   pub handler : IsHandlerOf us cuts t.handler
 
+-- operands fit their spellings
 abbrev pub IsOperation : Operation → Type 0
 IsOperation (AdvancePc addresses) = FitsUint addresses
 IsOperation (AdvanceLine lines) = FitsSigned w32 lines
@@ -68,11 +72,14 @@ IsOperation (RestartLocal register) = FitsUint register
 IsOperation (Special opcode) = (0x0a ≤ opcode) × (opcode ≤ 0xff)
 IsOperation _ = Unit {0}
 
+-- numbers and counts fit, and there are no more operations than a file has bytes
 pub record IsDebug (d : Debug) : Type 0 where
   pub line_start : FitsUint d.line_start
   pub names : FitsUint (length d.parameter_names)
   pub operations : All IsOperation d.operations
+  pub few : length d.operations < 2 ^ 30
 
+-- code that some code_item is
 pub record IsCodeItem (c : Code) : Type 0 where
   pub registers : FitsUshort c.registers
   pub ins : FitsUshort c.ins
@@ -88,6 +95,7 @@ pub record IsCodeItem (c : Code) : Type 0 where
 -- ---- values and annotations
 
 abbrev mutual
+  -- a value that some encoded_value is
   pub IsValue : Value → Type 0
   IsValue (ByteValue z) = FitsSigned w8 z
   IsValue (ShortValue z) = FitsSigned w16 z
@@ -100,14 +108,17 @@ abbrev mutual
   IsValue (AnnotationValue t es) = AreElements es × FitsUint (length (names_of es)) × IsTrue (rises text_cmp (names_of es))
   IsValue _ = Unit {0}
 
+  -- each of the values is one
   pub AreValues : Values → Type 0
   AreValues NoValues = Unit {0}
   AreValues (ThenValue v vs) = IsValue v × AreValues vs
 
+  -- each element's value is one
   pub AreElements : Elements → Type 0
   AreElements NoElements = Unit {0}
   AreElements (ThenElement name v es) = IsValue v × AreElements es
 
+-- an annotation that some annotation_item is
 pub record IsAnnotation (a : Annotation) : Type 0 where
   pub visibility : a.visibility ≤ 2
   pub elements : AreElements a.elements
@@ -115,6 +126,7 @@ pub record IsAnnotation (a : Annotation) : Type 0 where
   pub rise : IsTrue (rises text_cmp (names_of a.elements))
   pub shallow : elements_depth a.elements ≤ most_depth
 
+-- annotations by type, each type once
 pub record IsSet (set : AnnotationSet) : Type 0 where
   pub annotations : All IsAnnotation set
   pub rise : IsTrue (rises text_cmp (map (λ a. a.type) set))
@@ -126,21 +138,26 @@ pub record IsSet (set : AnnotationSet) : Type 0 where
 abbrev pub field_key : FieldDef → Text × Text
 field_key f = (f.name, f.type)
 
+-- by name, then by type
 abbrev pub field_key_cmp : Text × Text → Text × Text → Ordering
 field_key_cmp x y = ordering_then (text_cmp x.0 y.0) (text_cmp x.1 y.1)
 
+-- a method's place among those of its class
 abbrev pub method_key : MethodDef → Text × Proto
 method_key m = (m.name, m.proto)
 
+-- by name, then by proto
 abbrev pub method_key_cmp : Text × Proto → Text × Proto → Ordering
 method_key_cmp x y = ordering_then (text_cmp x.0 y.0) (proto_cmp x.1 y.1)
 
+-- a field that some class declares
 pub record IsFieldDef (f : FieldDef) : Type 0 where
   pub name : IsMemberName f.name
   pub type : IsValueType f.type
   pub flags : FitsUint f.flags
   pub annotations : IsSet f.annotations
 
+-- a method that some class declares
 pub record IsMethodDef (m : MethodDef) : Type 0 where
   pub name : IsMemberName m.name
   pub proto : IsProto m.proto
@@ -160,6 +177,10 @@ pub record IsWellFormed (d : Definition) : Type 0 where
   pub annotations : IsSet d.1.annotations
   pub fields : All IsFieldDef (declared_fields d.1)
   pub methods : All IsMethodDef (declared_methods d.1)
+  pub static_fields_count : FitsUint (length d.1.static_fields)
+  pub instance_fields_count : FitsUint (length d.1.instance_fields)
+  pub direct_methods_count : FitsUint (length d.1.direct_methods)
+  pub virtual_methods_count : FitsUint (length d.1.virtual_methods)
   pub static_fields : IsTrue (rises field_key_cmp (map field_key d.1.static_fields))
   pub instance_fields : IsTrue (rises field_key_cmp (map field_key d.1.instance_fields))
   pub fields_apart : ShareNone (map field_key d.1.static_fields) (map field_key d.1.instance_fields)
@@ -171,3 +192,7 @@ pub record IsWellFormed (d : Definition) : Type 0 where
   pub few_values : count_values d.1.static_values ≤ length d.1.static_fields
   pub symbols : All IsSymbol (symbols_of d)
   pub texts : All IsText (flat_map texts_in (symbols_of d))
+
+-- every one of them is a definition that some file can hold
+abbrev pub AreWellFormed : List Definition → Type 0
+AreWellFormed D = (d : Definition) → Contains D d → IsWellFormed d

@@ -3,7 +3,8 @@ use Rattle.dexspec.specs.Mentions.{mentions, symbols_of}
 use Rattle.dexspec.specs.Depth.{depth, in_class_order}
 use Rattle.dexspec.specs.Bytes.{bytes_of, ushort, uint}
 use Rattle.dexspec.specs.Opcodes.{opcode_of, opcode_runs}
-use Rattle.dexspec.specs.Canonical.{unsigned_file, layout, code_bytes, debug_bytes, class_data_bytes}
+use Rattle.dexspec.specs.Spellings.{code_bytes, debug_bytes, class_data_bytes}
+use Rattle.dexspec.specs.Canonical.{unsigned_file, layout}
 use Rattle.dexexamples.proofs.files.layouts.Goals as goal
 
 pub returns-clause-nothing : goal.returns-clause-nothing

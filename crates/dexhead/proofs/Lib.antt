@@ -1,4 +1,6 @@
 mod Entries
 mod Frames
 mod Judged
+mod Lengths
+mod Overwritten
 mod Spelled

@@ -1,3 +1,6 @@
+pub mod Stands
+pub mod ByteNumbers
+pub mod Sums
 pub mod Chains
 pub mod Groups
 pub mod Signed

@@ -1,5 +1,7 @@
 pub mod Stands
 pub mod ByteNumbers
+pub mod Placements
+pub mod Places
 pub mod Sums
 pub mod Chains
 pub mod Groups

@@ -34,7 +34,7 @@ stands_next n r h = stands_behind (uint n) r 4 (length-uint n) h
 -- ---- rows of two lists
 
 -- the bytes of rows of one size
-length_zip_rows : {X Y : Type 0} (f : X → Y → List ℕ) (w : ℕ) → ((x : X) (y : Y) → length (f x y) ≡ w) → (xs : List X) (ys : List Y) → length ys ≡ length xs
+pub length_zip_rows : {X Y : Type 0} (f : X → Y → List ℕ) (w : ℕ) → ((x : X) (y : Y) → length (f x y) ≡ w) → (xs : List X) (ys : List Y) → length ys ≡ length xs
     → length (concat (zip_with f xs ys)) ≡ w * length xs
 length_zip_rows f w each [] ys e = omega arith
 length_zip_rows f w each (x ∷ xs) [] e = absurd (omega (arith, e))
@@ -42,7 +42,7 @@ length_zip_rows f w each (x ∷ xs) (y ∷ ys) e =
     length-append (f x y) (concat (zip_with f xs ys)) ∙ omega (arith, each x y, length_zip_rows f w each xs ys (omega (arith, e)))
 
 -- the i-th row
-stands_zip_row : {X Y : Type 0} (f : X → Y → List ℕ) (w : ℕ) → ((x : X) (y : Y) → length (f x y) ≡ w) → (xs : List X) (ys : List Y) (i : ℕ) (d : X) (e : Y) → i < length xs → length ys ≡ length xs
+pub stands_zip_row : {X Y : Type 0} (f : X → Y → List ℕ) (w : ℕ) → ((x : X) (y : Y) → length (f x y) ≡ w) → (xs : List X) (ys : List Y) (i : ℕ) (d : X) (e : Y) → i < length xs → length ys ≡ length xs
     → Stands (concat (zip_with f xs ys)) (w * i) (f (get_or xs i d) (get_or ys i e))
 stands_zip_row f w each [] ys i d e lt same = absurd (omega arith)
 stands_zip_row f w each (x ∷ xs) [] i d e lt same = absurd (omega (arith, same))

@@ -28,7 +28,7 @@ AreTold b [] = Unit {0}
 AreTold b (e ∷ es) = (table_size b e.0 ≡ e.1) × ((table_off b e.0 ≡ e.2) × AreTold b es)
 
 -- where the tables end that begin at a place
-abbrev tables_end : Ordered → ℕ → List Table → ℕ
+abbrev pub tables_end : Ordered → ℕ → List Table → ℕ
 tables_end K from [] = from
 tables_end K from (t ∷ ts) = tables_end K (from + row_size t * table_count K t) ts
 

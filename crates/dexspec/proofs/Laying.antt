@@ -191,7 +191,7 @@ table_within K MethodIds = omega arith
 table_within K ClassDefs = omega arith
 
 -- and has no more rows than bytes
-table_few : (K : Ordered) (t : Table) → table_count K t ≤ data_start K
+pub table_few : (K : Ordered) (t : Table) → table_count K t ≤ data_start K
 table_few K StringIds = omega arith
 table_few K TypeIds = omega arith
 table_few K ProtoIds = omega arith
@@ -208,14 +208,18 @@ unless_zero false n m le = le
 not_zero : (c n : ℕ) → 0 < c → (if c == 0 then 0 else n) ≡ n
 not_zero c n lt = cond-false (c == 0) 0 n (ne_eqb c 0 (λ e. omega (arith, e)))
 
-module _ (K : Ordered) (b : List ℕ) (p : Parts b K) (small : length b < 2 ^ 32) where
-  -- the sections end before the map
-  ends : directory_end K ≤ map_place K
-  ends = omega (arith, length-padding 4 (directory_end K), map_place_is K)
+-- the sections end before the map
+sections_before_map : (K : Ordered) → directory_end K ≤ map_place K
+sections_before_map K = omega (arith, length-padding 4 (directory_end K), map_place_is K)
 
+-- and the data begins before it
+pub data_before_map : (K : Ordered) → data_start K ≤ map_place K
+data_before_map K = omega (arith, sections_before_map K, last_end (data_start K) (data_sections K) (directory_end K) (sections_follow K))
+
+module _ (K : Ordered) (b : List ℕ) (p : Parts b K) (small : length b < 2 ^ 32) where
   -- the data begins before the end
   starts : data_start K ≤ file_length K
-  starts = omega (arith, ends, last_end (data_start K) (data_sections K) (directory_end K) (sections_follow K))
+  starts = omega (arith, data_before_map K)
 
   -- the header's fields
   fields : HeaderStands b K (map_place K) (file_length K)
@@ -256,7 +260,7 @@ module _ (K : Ordered) (b : List ℕ) (p : Parts b K) (small : length b < 2 ^ 32
       let within = items_within q.align q.from q.items i e (sections_aligned K j d lt) le in
       record {
         stands = items_stand q.align q.from q.items i e at le;
-        in_data = record { behind = omega (arith, data_from_is, between.0, within.behind); within = omega (arith, between.1, within.before, ends, p.size) };
+        in_data = record { behind = omega (arith, data_from_is, between.0, within.behind); within = omega (arith, between.1, within.before, sections_before_map K, p.size) };
         multiple = within.multiple;
         some = λ none. omega (arith, none, between.0, within.behind);
       }
@@ -298,7 +302,7 @@ module _ (K : Ordered) (b : List ℕ) (p : Parts b K) (small : length b < 2 ^ 32
     ref_lists = section 8 (type_list_section K) (omega arith);
     directories = section 9 (type_list_section K) (omega arith);
     entries = p.entries;
-    map_in_data = record { behind = omega (arith, data_from_is, starts, ends, last_end (data_start K) (data_sections K) (directory_end K) (sections_follow K)); within = omega (arith, p.size) };
+    map_in_data = record { behind = omega (arith, data_from_is, data_before_map K); within = omega (arith, p.size) };
   }
 
 -- the file of classes in order is laid so, if it is not too long

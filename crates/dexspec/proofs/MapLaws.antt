@@ -11,7 +11,7 @@ use Rattle.std.proofs.lemmas.Bool.{eqb-true, eqb-false}
 use Rattle.dexspec.specs.Lists.{rises, AreDistinct}
 use Rattle.dexspec.specs.Bytes.{uint, uint_at, Stands}
 use Rattle.dexspec.specs.Header.{Table, StringIds, TypeIds, ProtoIds, FieldIds, MethodIds, ClassDefs, tables, header_length, row_size, table_size, table_off, data_off, file_size, map_off}
-use Rattle.dexspec.specs.Sections.{Section, HeaderItem, TableOf, MapList, type_code, MapEntry, map_entries, IsKnown, HasTable, IsPlaced, IsInData, HasMap}
+use Rattle.dexspec.specs.Sections.{Section, HeaderItem, TableOf, MapList, type_code, MapEntry, map_entries, entries_at, IsKnown, HasTable, IsPlaced, IsInData, HasMap}
 use Rattle.dexspec.specs.Placing.{Ordered, Placed, offsets, end}
 use Rattle.dexspec.specs.Canonical.{table_count, tables_from, placed_tables, data_start, Layout, layout, map_of, map_bytes, map_entry_bytes}
 use Rattle.dexspec.proofs.Stands.{stands_at}
@@ -142,3 +142,173 @@ all_rise K = (
   rises_from_less header_length 1 (of_tables K ++ of_data K) (map_place K + 1) (omega arith)
   (rises_append header_length (of_tables K) (data_start K) (of_data K) (map_place K + 1) (subst (RisesTo header_length (of_tables K)) (omega arith) (tables_rise K header_length tables)) (data_rises K)),
 )
+
+-- the numbers of all entries fit four bytes
+all_small : (K : Ordered) → file_length K < 2 ^ 32 → All IsSmall (all_entries K)
+all_small K small =
+    let N = file_length K in
+    let P : Section × ℕ × ℕ → Type 0 = λ e. e.1 ≤ N in
+    let le = data_before_map K in
+    let of : All P (of_tables K) = λ k d lt. omega (arith, le, (tables_are K header_length tables k d lt).count) in
+    let to : All P (flat_map section_entries (data_sections K)) =
+        λ k d lt. omega (arith, sections_few (data_start K) (data_sections K) (directory_end K) (sections_follow K) (sections_have_bytes K) k d lt, length-padding 4 (directory_end K), map_place_is K) in
+    let one : 1 ≤ N = omega (arith, le) in
+    let counts : All P (all_entries K) =
+        All-cons P (HeaderItem, 1, 0) (of_tables K ++ of_data K) one
+        (All-append P (of_tables K) (of_data K) of (All-append P (flat_map section_entries (data_sections K)) ((MapList, 1, map_place K) ∷ []) to (All-cons P (MapList, 1, map_place K) [] one (All-nil P)))) in
+    let places = rises_between 0 (all_entries K) (map_place K + 1) (all_rise K) in
+    λ k d lt. record { count = omega (arith, counts k d lt); place = omega (arith, (places k d lt).most, length-map_bytes (map_list K)) }
+
+-- ---- the kinds of the entries
+
+-- an entry of a table, and whether it is left out
+abbrev table_candidate : Table × ℕ × ℕ → Candidate
+table_candidate t = (t.1 == 0, (TableOf t.0, t.1, t.2))
+
+-- the same of a section
+abbrev section_candidate : Placed → Candidate
+section_candidate p = (length p.items == 0, (p.kind, length p.items, slice_index (offsets p) 0))
+
+-- all entries, and which are left out
+abbrev all_candidates : List (Table × ℕ × ℕ) → List Placed → ℕ → List Candidate
+all_candidates ts ps at = (false, (HeaderItem, 1, 0)) ∷ (map table_candidate ts ++ (map section_candidate ps ++ (false, (MapList, 1, at)) ∷ []))
+
+picked_is : (ts : List (Table × ℕ × ℕ)) (ps : List Placed) (at : ℕ) → picked (all_candidates ts ps at) ≡ (HeaderItem, 1, 0) ∷ (flat_map table_entries ts ++ (flat_map section_entries ps ++ (MapList, 1, at) ∷ []))
+picked_is ts ps at =
+    let last : List Candidate = (false, (MapList, 1, at)) ∷ [] in
+    let e1 : picked (map table_candidate ts) ≡ flat_map table_entries ts = flat_map-map pick table_candidate ts in
+    let e2 : picked (map section_candidate ps) ≡ flat_map section_entries ps = flat_map-map pick section_candidate ps in
+    let e3 : picked (map section_candidate ps ++ last) ≡ flat_map section_entries ps ++ picked last = flat_map-append pick (map section_candidate ps) last ∙ ap (λ es. es ++ picked last) e2 in
+    ap (λ es. (HeaderItem, 1, 0) ∷ es)
+    (flat_map-append pick (map table_candidate ts) (map section_candidate ps ++ last) ∙ ap (λ es. es ++ picked (map section_candidate ps ++ last)) e1 ∙ ap (λ es. flat_map table_entries ts ++ es) e3)
+
+-- those of the file
+abbrev candidates : Ordered → List Candidate
+candidates K = all_candidates (placed_tables K) (data_sections K) (map_place K)
+
+-- no kind stands twice among them
+candidates_differ : (K : Ordered) → differ (map code_of (candidates K)) ≡ true
+candidates_differ K = refl
+
+-- which of them is a table's
+abbrev table_number : Table → ℕ
+table_number StringIds = 1
+table_number TypeIds = 2
+table_number ProtoIds = 3
+table_number FieldIds = 4
+table_number MethodIds = 5
+table_number ClassDefs = 6
+
+table_number_few : (K : Ordered) (t : Table) → table_number t < length (candidates K)
+table_number_few K StringIds = omega arith
+table_number_few K TypeIds = omega arith
+table_number_few K ProtoIds = omega arith
+table_number_few K FieldIds = omega arith
+table_number_few K MethodIds = omega arith
+table_number_few K ClassDefs = omega arith
+
+candidate_at : (K : Ordered) (t : Table) (d : Candidate) → get_or (candidates K) (table_number t) d ≡ (table_count K t == 0, (TableOf t, table_count K t, table_place K t))
+candidate_at K StringIds d = refl
+candidate_at K TypeIds d = refl
+candidate_at K ProtoIds d = refl
+candidate_at K FieldIds d = refl
+candidate_at K MethodIds d = refl
+candidate_at K ClassDefs d = refl
+
+-- what is there is there as an entry
+entry_there : (es : List (Section × ℕ × ℕ)) (e : Section × ℕ × ℕ) → Contains es e → Contains (map entry_of es) (entry_of e)
+entry_there es e c = (c.0, omega (arith, c.1, length-map es entry_of), get_or-map entry_of es c.0 e (entry_of e) c.1 ∙ ap entry_of c.2)
+
+-- ---- the map
+
+-- the list of entries is right for the file
+record IsMap (b : List ℕ) (es : List MapEntry) : Type 0 where
+  known : All IsKnown es
+  once : AreDistinct (map (λ e. e.kind) es)
+  rise : IsTrue (rises nat_cmp (map (λ e. e.off) es))
+  header : (rest : List MapEntry) × (es ≡ record { kind = type_code HeaderItem; size = 1; off = 0 } ∷ rest)
+  tables : (t : Table) → HasTable b es t
+  itself : Contains es (record { kind = type_code MapList; size = 1; off = map_off b })
+  others : All (IsPlaced b) es
+
+module _ {K : Ordered} {b : List ℕ} (h : Laid K b) where
+  -- all entries in their two forms
+  forms : picked (candidates K) ≡ all_entries K
+  forms = picked_is (placed_tables K) (data_sections K) (map_place K)
+
+  -- the entry of a table, or none of its kind
+  table_by : (t : Table) (empty : Bool) → (table_count K t == 0) ≡ empty → HasTable b (map entry_of (picked (candidates K))) t
+  table_by t true is =
+      let flag : (get_or (candidates K) (table_number t) (true, (TableOf t, 0, 0))).0 ≡ true = ap (λ (x : Candidate). x.0) (candidate_at K t (true, (TableOf t, 0, 0))) ∙ is in
+      let none : All (λ e. type_code e.0 ≢ type_code (TableOf t)) (picked (candidates K)) =
+          subst (λ (x : Candidate). All (λ e. type_code e.0 ≢ code_of x) (picked (candidates K))) (candidate_at K t (true, (TableOf t, 0, 0)))
+          (left_out (candidates K) (table_number t) (true, (TableOf t, 0, 0)) (candidates_differ K) (table_number_few K t) flag) in
+      inl (h.count t ∙ eqb-true (table_count K t) 0 is, All-map (λ e. e.kind ≢ type_code (TableOf t)) entry_of (picked (candidates K)) none)
+  table_by t false is =
+      let e : Section × ℕ × ℕ = (TableOf t, table_count K t, table_place K t) in
+      let there : Contains (picked (candidates K)) e = picked_there (candidates K) (table_number t) e (table_number_few K t) (candidate_at K t (true, e) ∙ ap (λ c. (c, e)) is) in
+      let entry : Contains (map entry_of (picked (candidates K))) (record { kind = type_code (TableOf t); size = table_count K t; off = table_place K t }) = entry_there (picked (candidates K)) e there in
+      inr (
+        λ none. eqb-false (table_count K t) 0 is (sym (h.count t) ∙ none),
+        subst (λ n. Contains (map entry_of (picked (candidates K))) (record { kind = type_code (TableOf t); size = n; off = table_off b t })) (sym (h.count t))
+        (subst (λ n. Contains (map entry_of (picked (candidates K))) (record { kind = type_code (TableOf t); size = table_count K t; off = n })) (sym (h.place t)) entry),
+      )
+
+  -- the map's own entry
+  itself_there : Contains (map entry_of (picked (candidates K))) (record { kind = type_code MapList; size = 1; off = map_off b })
+  itself_there =
+      let e : Section × ℕ × ℕ = (MapList, 1, map_place K) in
+      let there : Contains (picked (candidates K)) e = picked_there (candidates K) 17 e (omega arith) refl in
+      subst (λ n. Contains (map entry_of (picked (candidates K))) (record { kind = type_code MapList; size = 1; off = n })) (sym h.map_from) (entry_there (picked (candidates K)) e there)
+
+  -- each entry is the header's, a table's, or in the data
+  all_placed : All (IsPlaced b) (map entry_of (all_entries K))
+  all_placed =
+      let P : Section × ℕ × ℕ → Type 0 = λ e. IsPlaced b (entry_of e) in
+      let between = rises_between (data_start K) (of_data K) (map_place K + 1) (data_rises K) in
+      All-map (IsPlaced b) entry_of (all_entries K)
+      (All-cons P (HeaderItem, 1, 0) (of_tables K ++ of_data K) (inl (omega arith))
+      (All-append P (of_tables K) (of_data K) (λ k d lt. inl (tables_are K header_length tables k d lt).kind)
+      (λ k d lt. inr (omega (arith, h.data_from, (between k d lt).least), omega (arith, h.file, h.size, length-map_bytes (map_list K), (between k d lt).most)))))
+
+  -- the entries of the file are right
+  all_right : IsMap b (map entry_of (all_entries K))
+  all_right = record {
+    known = All-map IsKnown entry_of (all_entries K) (λ k d lt. ((get_or (all_entries K) k d).0, refl));
+    once = subst (λ es. AreDistinct (map (λ e. e.kind) (map entry_of es))) forms (picked_differ (candidates K) (candidates_differ K));
+    rise = rises_strictly 0 (all_entries K) (map_place K + 1) (all_rise K);
+    header = (map entry_of (of_tables K ++ of_data K), refl);
+    tables = λ t. subst (λ es. HasTable b (map entry_of es) t) forms (table_by t (table_count K t == 0) refl);
+    itself = subst (λ es. Contains (map entry_of es) (record { kind = type_code MapList; size = 1; off = map_off b })) forms itself_there;
+    others = all_placed;
+  }
+
+  -- the number of entries
+  map_size : uint_at b (map_off b) ≡ length (map_list K)
+  map_size =
+      let at : Stands b (map_off b) (map_bytes (map_list K)) = stands_at (sym h.map_from) h.entries in
+      uint_at-stands (omega (arith, h.small, h.size, length-map_bytes (map_list K))) (stands_here (uint (length (map_list K))) (flat_map map_entry_bytes (map_list K)) at)
+
+  -- the entries that are read
+  pub map_read : map_entries b ≡ map entry_of (map_list K)
+  map_read =
+      let at : Stands b (map_off b) (map_bytes (map_list K)) = stands_at (sym h.map_from) h.entries in
+      let small : All IsSmall (map_list K) = subst (All IsSmall) (sym (map_list_is K)) (all_small K (omega (arith, h.small, h.size))) in
+      ap (entries_at b (map_off b + 4)) map_size
+      ∙ entries_at-stands (map_off b + 4) (map_list K) small (stands_next (length (map_list K)) (flat_map map_entry_bytes (map_list K)) at)
+
+  -- 10 Map
+  pub laid_map : HasMap b
+  laid_map =
+      let right : IsMap b (map_entries b) = subst (IsMap b) (sym (map_read ∙ ap (map entry_of) (map_list_is K))) all_right in
+      record {
+        in_data = record { behind = omega (arith, h.map_in_data.behind, h.map_from); within = omega (arith, h.size, h.map_from, map_size, length-map_bytes (map_list K)) };
+        aligned = ap (λ n. n % 4) (h.map_from ∙ map_place_is K) ∙ round_up_four (directory_end K);
+        known = right.known;
+        once = right.once;
+        rise = right.rise;
+        header = right.header;
+        tables = right.tables;
+        itself = right.itself;
+        others = right.others;
+      }

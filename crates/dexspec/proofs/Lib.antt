@@ -1,5 +1,6 @@
 pub mod Stands
 pub mod ByteNumbers
+pub mod Frames
 pub mod MapLaws
 pub mod MapEntries
 pub mod HeaderLaws

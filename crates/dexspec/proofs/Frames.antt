@@ -1,10 +1,9 @@
 -- A canonical file has a right frame: conditions 1 to 10.
-use Rattle.std.proofs.Common.{◌≡◌, ℕ, zero, suc, ◌+◌, ◌^◌, ◌<◌, ◌≤◌, List, length, arith}
-use Rattle.dexspec.specs.Header.{Table, StringIds, TypeIds, ProtoIds, FieldIds, MethodIds, ClassDefs, HasSize, header_length}
-use Rattle.dexspec.specs.Conditions.{Condition, number}
-use Rattle.dexspec.specs.Accepted.{HoldsThroughout, IsFrame}
+use Rattle.std.proofs.Common.{ℕ, ◌^◌, ◌<◌, ◌≤◌, List, length, arith}
+use Rattle.dexspec.specs.Header.{StringIds, TypeIds, ProtoIds, FieldIds, MethodIds, ClassDefs, HasSize}
+use Rattle.dexspec.specs.Conditions.{Condition}
+use Rattle.dexspec.specs.Accepted.{IsFrame}
 use Rattle.dexspec.specs.Files.{Collection, definitions}
-use Rattle.dexspec.specs.Mentions.{mentions}
 use Rattle.dexspec.specs.Merging.{Caps, AreCaps, Fits}
 use Rattle.dexspec.specs.Placing.{Ordered}
 use Rattle.dexspec.specs.Canonical.{with_sums, unsigned_file, ordered, canonical}
@@ -20,35 +19,37 @@ laid_size {K} {b} h most = record { least = omega (arith, h.size, data_before_ma
 -- the file of classes in order has a right frame
 pub file_frame : (K : Ordered) → AreFew K → length (with_sums (unsigned_file K)) ≤ 2 ^ 30 → IsFrame (with_sums (unsigned_file K))
 file_frame K few most = each
-    where
-      rest : List ℕ
-      rest = unsigned_file K
-      h : Laid K (with_sums rest)
-      h = laid K (omega (arith, most))
-      each : IsFrame (with_sums rest)
-      each Condition.Size lt r at = laid_size h most
-      each Condition.Magic lt r at = with_sums_magic rest
-      each Condition.Version lt r at = with_sums_version rest
-      each Condition.Lengths lt r at = laid_lengths h
-      each Condition.Endian lt r at = laid_endian h
-      each Condition.Link lt r at = laid_no_link h
-      each Condition.Checksum lt r at = with_sums_checksum rest
-      each Condition.Signature lt r at = with_sums_signature rest
-      each Condition.Layout lt r at = laid_layout h few
-      each Condition.Map lt r at = laid_map h
-      each Condition.Strings lt r at = absurd (omega (arith, lt))
-      each Condition.Types lt r at = absurd (omega (arith, lt))
-      each Condition.Protos lt r at = absurd (omega (arith, lt))
-      each Condition.Fields lt r at = absurd (omega (arith, lt))
-      each Condition.Methods lt r at = absurd (omega (arith, lt))
-      each Condition.Classes lt r at = absurd (omega (arith, lt))
-      each Condition.Members lt r at = absurd (omega (arith, lt))
-      each Condition.Code lt r at = absurd (omega (arith, lt))
-      each Condition.Tries lt r at = absurd (omega (arith, lt))
-      each Condition.Debug lt r at = absurd (omega (arith, lt))
-      each Condition.Values lt r at = absurd (omega (arith, lt))
-      each Condition.Annotations lt r at = absurd (omega (arith, lt))
-      each Condition.Weight lt r at = absurd (omega (arith, lt))
+  where
+    rest : List ℕ
+    rest = unsigned_file K
+
+    h : Laid K (with_sums rest)
+    h = laid K (omega (arith, most))
+
+    each : IsFrame (with_sums rest)
+    each Condition.Size lt r at = laid_size h most
+    each Condition.Magic lt r at = with_sums_magic rest
+    each Condition.Version lt r at = with_sums_version rest
+    each Condition.Lengths lt r at = laid_lengths h
+    each Condition.Endian lt r at = laid_endian h
+    each Condition.Link lt r at = laid_no_link h
+    each Condition.Checksum lt r at = with_sums_checksum rest
+    each Condition.Signature lt r at = with_sums_signature rest
+    each Condition.Layout lt r at = laid_layout h few
+    each Condition.Map lt r at = laid_map h
+    each Condition.Strings lt r at = absurd (omega (arith, lt))
+    each Condition.Types lt r at = absurd (omega (arith, lt))
+    each Condition.Protos lt r at = absurd (omega (arith, lt))
+    each Condition.Fields lt r at = absurd (omega (arith, lt))
+    each Condition.Methods lt r at = absurd (omega (arith, lt))
+    each Condition.Classes lt r at = absurd (omega (arith, lt))
+    each Condition.Members lt r at = absurd (omega (arith, lt))
+    each Condition.Code lt r at = absurd (omega (arith, lt))
+    each Condition.Tries lt r at = absurd (omega (arith, lt))
+    each Condition.Debug lt r at = absurd (omega (arith, lt))
+    each Condition.Values lt r at = absurd (omega (arith, lt))
+    each Condition.Annotations lt r at = absurd (omega (arith, lt))
+    each Condition.Weight lt r at = absurd (omega (arith, lt))
 
 -- what fits caps has few symbols
 pub fits_few : (caps : Caps) (K : Collection) → AreCaps caps → Fits caps (definitions K) → AreFew (ordered (definitions K))

@@ -1,25 +1,25 @@
 -- What stands where in the file of classes in order: `Laid`, which the laws on header, layout, map, rows and items read.
-use Rattle.std.proofs.Common.{◌≡◌, ◌≢◌, ℕ, zero, suc, ◌+◌, ◌-◌, ◌*◌, ◌%◌, ◌^◌, ◌<◌, ◌≤◌, List, [], ◌∷◌, ◌++◌, length, get_or, map, take, drop, refl, sym, ap, subst, ◌∙◌, arith, inl, inr}
-use Rattle.std.specs.Prelude.{slice_index, slice_index_or, ◌==◌, Bool, true, false, if◌then◌else◌}
-use Rattle.std.specs.List.{flat_map, concat, All, zip}
-use Rattle.std.proofs.lemmas.List.{length-append, length-drop, length-map, get_or-take, get_or-drop, get_or_default}
+use Rattle.std.proofs.Common.{◌≡◌, ◌≢◌, ℕ, zero, suc, ◌+◌, ◌-◌, ◌*◌, ◌%◌, ◌^◌, ◌<◌, ◌≤◌, List, [], ◌∷◌, ◌++◌, length, get_or, drop, refl, sym, ap, subst, ◌∙◌, arith}
+use Rattle.std.specs.Prelude.{slice_index, ◌==◌, Bool, true, false, if◌then◌else◌}
+use Rattle.std.specs.List.{flat_map, zip}
+use Rattle.std.proofs.lemmas.List.{length-append, length-drop, get_or-take, get_or-drop}
 use Rattle.std.proofs.lemmas.Bool.{cond-false, ne_eqb}
 use Rattle.dexspec.specs.Lists.{zip_with}
-use Rattle.dexspec.specs.Bytes.{uint, uint_at, Stands, round_up, padding}
+use Rattle.dexspec.specs.Bytes.{uint, Stands, round_up, padding}
 use Rattle.dexspec.specs.Texts.{Text}
 use Rattle.dexspec.specs.Symbols.{Proto, Field, Method}
 use Rattle.dexspec.specs.Classes.{Definition}
-use Rattle.dexspec.specs.Header.{Table, StringIds, TypeIds, ProtoIds, FieldIds, MethodIds, ClassDefs, header_length, size_place, row_size, table_size, table_off, file_size, header_size, endian_tag, link_size, link_off, map_off, data_size, data_off}
+use Rattle.dexspec.specs.Header.{Table, StringIds, TypeIds, ProtoIds, FieldIds, MethodIds, ClassDefs, header_length, row_size, table_size, table_off, file_size, header_size, endian_tag, link_size, link_off, map_off, data_size, data_off}
 use Rattle.dexspec.specs.Sections.{Section, IsInData}
 use Rattle.dexspec.specs.Rows.{row_at}
 use Rattle.dexspec.specs.Spellings.{text_index}
-use Rattle.dexspec.specs.Placing.{Ordered, Placed, offsets, end, section_bytes}
-use Rattle.dexspec.specs.Canonical.{table_count, data_start, proto_row_bytes, field_row_bytes, method_row_bytes, ClassOffsets, class_row_bytes, class_offsets, Layout, layout, table_bytes, header_bytes, map_of, map_bytes, unsigned_file, with_sums}
+use Rattle.dexspec.specs.Placing.{Ordered, Placed, offsets, section_bytes}
+use Rattle.dexspec.specs.Canonical.{table_count, data_start, proto_row_bytes, field_row_bytes, method_row_bytes, ClassOffsets, class_row_bytes, Layout, layout, table_bytes, header_bytes, map_of, map_bytes, unsigned_file, with_sums}
 use Rattle.dexspec.proofs.Stands.{stands_in, stands_at, stands_row, stands_whole}
 use Rattle.dexspec.proofs.ByteNumbers.{length-uint, uint_at-stands}
 use Rattle.dexspec.proofs.Sums.{with_sums_stands, length-with_sums}
-use Rattle.dexspec.proofs.Places.{last_end, length-padding, IsAlign, items_stand, IsWithin, items_within, FollowFrom, length-sections, sections_stand, sections_between}
-use Rattle.dexspec.proofs.Placements.{type_list_section, annotation_section, array_section, debug_section, code_section, class_data_section, set_section, ref_list_section, directory_section, length-zip, AreFull, named_layout, layout_is, named_layout_full, sections_follow, sections_aligned, data_sections, directory_end, type_list_offsets, directory_offsets, class_data_offsets, array_offsets, string_section, length-type_list_offsets, length-directory_offsets, length-class_data_offsets, length-array_offsets}
+use Rattle.dexspec.proofs.Places.{last_end, length-padding, items_stand, items_within, length-sections, sections_stand, sections_between}
+use Rattle.dexspec.proofs.Placements.{type_list_section, annotation_section, array_section, debug_section, code_section, class_data_section, set_section, ref_list_section, directory_section, length-zip, named_layout, layout_is, named_layout_full, sections_follow, sections_aligned, data_sections, directory_end, type_list_offsets, directory_offsets, class_data_offsets, array_offsets, string_section, length-type_list_offsets, length-directory_offsets, length-class_data_offsets, length-array_offsets}
 use Rattle.dexspec.proofs.Tables.{stands_next, stands_here, stands_behind, stands_zip_row, length-proto_row, length-field_row, length-method_row, length-class_row, rows_bytes, table_start, table_place, table_stands, length-table_bytes, HeaderStands, header_stands, length-header_bytes}
 
 -- ---- the parts of the file
@@ -84,9 +84,9 @@ map_place_is K = ap (λ (l : Layout). round_up 4 l.data_end) (layout_is K)
 pub parts : (K : Ordered) → Parts (with_sums (unsigned_file K)) K
 parts K =
     let h = five_parts (header_bytes K (map_place K) (file_length K)) (table_bytes K (named_layout K)) (flat_map section_bytes (data_sections K)) (padding 4 (directory_end K)) (map_bytes (map_list K))
-        (data_start K) (directory_end K) (map_place K)
-        (length-header_bytes K (map_place K) (file_length K)) (length-table_bytes K (named_layout K) (named_layout_full K))
-        (length-sections (data_start K) (data_sections K) (directory_end K) (sections_follow K)) (length-padding 4 (directory_end K) ∙ sym (map_place_is K)) in
+    (data_start K) (directory_end K) (map_place K)
+    (length-header_bytes K (map_place K) (file_length K)) (length-table_bytes K (named_layout K) (named_layout_full K))
+    (length-sections (data_start K) (data_sections K) (directory_end K) (sections_follow K)) (length-padding 4 (directory_end K) ∙ sym (map_place_is K)) in
     subst (λ rest. Parts (with_sums rest) K) (sym (unsigned_is K)) (record { header = h.one; tables = h.two; sections = h.three; entries = h.five; size = h.size })
 
 -- ---- what is read from it

@@ -1,13 +1,13 @@
 -- Lists of map entries: read back from their bytes, entries that are left out, kinds that differ, offsets that rise.
-use Rattle.std.proofs.Common.{◌≡◌, ◌≢◌, ℕ, zero, suc, ◌+◌, ◌*◌, ◌^◌, ◌<◌, ◌≤◌, List, [], ◌∷◌, ◌++◌, length, get_or, map, refl, sym, ap, subst, ◌∙◌, arith}
+use Rattle.std.proofs.Common.{◌≡◌, ◌≢◌, ℕ, zero, suc, ◌+◌, ◌*◌, ◌^◌, ◌<◌, ◌≤◌, List, [], ◌∷◌, ◌++◌, length, get_or, map, refl, sym, ap, ◌∙◌, arith}
 use Rattle.std.specs.Prelude.{◌==◌, ◌&&◌, not, Bool, true, false, if◌then◌else◌, nat_lt, IsTrue}
 use Rattle.std.specs.List.{flat_map, All, list_all, Contains}
 use Rattle.std.specs.Ordering.{nat_cmp, is_lt}
 use Rattle.std.specs.declared.cmp.Ordering.TheVariants.{Less}
 use Rattle.std.proofs.lemmas.List.{length-append}
-use Rattle.std.proofs.lemmas.List.Elements.{All-nil, All-cons, All-head, All-tail, All-append, All-map}
+use Rattle.std.proofs.lemmas.List.Elements.{All-nil, All-cons, All-head, All-tail, All-map}
 use Rattle.std.proofs.lemmas.List.Kept.{AllPairs-cons}
-use Rattle.std.proofs.lemmas.Bool.{true≢false, cond-true, lt-ltb, eqb-false, ne_eqb, not-true}
+use Rattle.std.proofs.lemmas.Bool.{true≢false, cond-true, lt-ltb, eqb-false, not-true}
 use Rattle.dexspec.specs.Lists.{rises, AreDistinct}
 use Rattle.dexspec.specs.Bytes.{ushort, uint, ushort_at, uint_at, Stands}
 use Rattle.dexspec.specs.Header.{StringIds, TypeIds, ProtoIds, FieldIds, MethodIds, ClassDefs}

@@ -1,5 +1,5 @@
 -- Condition 10 of the file of classes in order: its map.
-use Rattle.std.proofs.Common.{◌≡◌, ◌≢◌, ◌⊎◌, ℕ, zero, suc, ◌+◌, ◌*◌, ◌%◌, ◌^◌, ◌<◌, ◌≤◌, List, [], ◌∷◌, ◌++◌, length, get_or, map, refl, sym, ap, subst, ◌∙◌, arith, inl, inr}
+use Rattle.std.proofs.Common.{◌≡◌, ◌≢◌, ℕ, ◌+◌, ◌*◌, ◌%◌, ◌^◌, ◌<◌, ◌≤◌, List, [], ◌∷◌, ◌++◌, length, get_or, map, refl, sym, ap, subst, ◌∙◌, arith, inl, inr}
 use Rattle.std.specs.Prelude.{slice_index, ◌==◌, Bool, true, false, if◌then◌else◌, IsTrue}
 use Rattle.std.specs.List.{flat_map, All, Contains}
 use Rattle.std.specs.Ordering.{nat_cmp}
@@ -10,17 +10,17 @@ use Rattle.std.proofs.lemmas.List.Elements.{All-nil, All-cons, All-head, All-tai
 use Rattle.std.proofs.lemmas.Bool.{eqb-true, eqb-false}
 use Rattle.dexspec.specs.Lists.{rises, AreDistinct}
 use Rattle.dexspec.specs.Bytes.{uint, uint_at, Stands}
-use Rattle.dexspec.specs.Header.{Table, StringIds, TypeIds, ProtoIds, FieldIds, MethodIds, ClassDefs, tables, header_length, row_size, table_size, table_off, data_off, file_size, map_off}
-use Rattle.dexspec.specs.Sections.{Section, HeaderItem, TableOf, MapList, type_code, MapEntry, map_entries, entries_at, IsKnown, HasTable, IsPlaced, IsInData, HasMap}
+use Rattle.dexspec.specs.Header.{Table, StringIds, TypeIds, ProtoIds, FieldIds, MethodIds, ClassDefs, tables, header_length, row_size, table_off, map_off}
+use Rattle.dexspec.specs.Sections.{Section, HeaderItem, TableOf, MapList, type_code, MapEntry, map_entries, entries_at, IsKnown, HasTable, IsPlaced, HasMap}
 use Rattle.dexspec.specs.Placing.{Ordered, Placed, offsets, end}
-use Rattle.dexspec.specs.Canonical.{table_count, tables_from, placed_tables, data_start, Layout, layout, map_of, map_bytes, map_entry_bytes}
+use Rattle.dexspec.specs.Canonical.{table_count, tables_from, placed_tables, data_start, Layout, map_of, map_bytes, map_entry_bytes}
 use Rattle.dexspec.proofs.Stands.{stands_at}
-use Rattle.dexspec.proofs.ByteNumbers.{length-uint, uint_at-stands}
+use Rattle.dexspec.proofs.ByteNumbers.{uint_at-stands}
 use Rattle.dexspec.proofs.Places.{IsAlign, items_within, items_few, FollowFrom, last_end, round_up_four, length-padding}
-use Rattle.dexspec.proofs.Placements.{named_layout, layout_is, data_sections, directory_end, sections_follow, sections_have_bytes, sections_aligned, HasBytes}
+use Rattle.dexspec.proofs.Placements.{layout_is, data_sections, directory_end, sections_follow, sections_have_bytes, sections_aligned, HasBytes}
 use Rattle.dexspec.proofs.Tables.{stands_here, stands_next, table_place}
 use Rattle.dexspec.proofs.Laying.{Laid, map_place, map_list, map_place_is, file_length, table_few, data_before_map}
-use Rattle.dexspec.proofs.MapEntries.{entry_of, length-map_bytes, IsSmall, entries_at-stands, Candidate, pick, picked, code_of, picked_there, differ, picked_differ, left_out, RisesTo, rises_append, rises_from_less, IsBetween, rises_between, rises_strictly}
+use Rattle.dexspec.proofs.MapEntries.{entry_of, length-map_bytes, IsSmall, entries_at-stands, Candidate, pick, picked, code_of, picked_there, differ, picked_differ, left_out, RisesTo, rises_append, rises_from_less, rises_between, rises_strictly}
 use Rattle.dexspec.proofs.HeaderLaws.{tables_end}
 
 -- ---- the entries of tables and of sections
@@ -140,7 +140,7 @@ all_rise : (K : Ordered) → RisesTo 0 (all_entries K) (map_place K + 1)
 all_rise K = (
   omega arith,
   rises_from_less header_length 1 (of_tables K ++ of_data K) (map_place K + 1) (omega arith)
-  (rises_append header_length (of_tables K) (data_start K) (of_data K) (map_place K + 1) (subst (RisesTo header_length (of_tables K)) (omega arith) (tables_rise K header_length tables)) (data_rises K)),
+      (rises_append header_length (of_tables K) (data_start K) (of_data K) (map_place K + 1) (subst (RisesTo header_length (of_tables K)) (omega arith) (tables_rise K header_length tables)) (data_rises K)),
 )
 
 -- the numbers of all entries fit four bytes
@@ -151,11 +151,11 @@ all_small K small =
     let le = data_before_map K in
     let of : All P (of_tables K) = λ k d lt. omega (arith, le, (tables_are K header_length tables k d lt).count) in
     let to : All P (flat_map section_entries (data_sections K)) =
-        λ k d lt. omega (arith, sections_few (data_start K) (data_sections K) (directory_end K) (sections_follow K) (sections_have_bytes K) k d lt, length-padding 4 (directory_end K), map_place_is K) in
+    λ k d lt. omega (arith, sections_few (data_start K) (data_sections K) (directory_end K) (sections_follow K) (sections_have_bytes K) k d lt, length-padding 4 (directory_end K), map_place_is K) in
     let one : 1 ≤ N = omega (arith, le) in
     let counts : All P (all_entries K) =
-        All-cons P (HeaderItem, 1, 0) (of_tables K ++ of_data K) one
-        (All-append P (of_tables K) (of_data K) of (All-append P (flat_map section_entries (data_sections K)) ((MapList, 1, map_place K) ∷ []) to (All-cons P (MapList, 1, map_place K) [] one (All-nil P)))) in
+    All-cons P (HeaderItem, 1, 0) (of_tables K ++ of_data K) one
+    (All-append P (of_tables K) (of_data K) of (All-append P (flat_map section_entries (data_sections K)) ((MapList, 1, map_place K) ∷ []) to (All-cons P (MapList, 1, map_place K) [] one (All-nil P)))) in
     let places = rises_between 0 (all_entries K) (map_place K + 1) (all_rise K) in
     λ k d lt. record { count = omega (arith, counts k d lt); place = omega (arith, (places k d lt).most, length-map_bytes (map_list K)) }
 
@@ -241,8 +241,8 @@ module _ {K : Ordered} {b : List ℕ} (h : Laid K b) where
   table_by t true is =
       let flag : (get_or (candidates K) (table_number t) (true, (TableOf t, 0, 0))).0 ≡ true = ap (λ (x : Candidate). x.0) (candidate_at K t (true, (TableOf t, 0, 0))) ∙ is in
       let none : All (λ e. type_code e.0 ≢ type_code (TableOf t)) (picked (candidates K)) =
-          subst (λ (x : Candidate). All (λ e. type_code e.0 ≢ code_of x) (picked (candidates K))) (candidate_at K t (true, (TableOf t, 0, 0)))
-          (left_out (candidates K) (table_number t) (true, (TableOf t, 0, 0)) (candidates_differ K) (table_number_few K t) flag) in
+      subst (λ (x : Candidate). All (λ e. type_code e.0 ≢ code_of x) (picked (candidates K))) (candidate_at K t (true, (TableOf t, 0, 0)))
+      (left_out (candidates K) (table_number t) (true, (TableOf t, 0, 0)) (candidates_differ K) (table_number_few K t) flag) in
       inl (h.count t ∙ eqb-true (table_count K t) 0 is, All-map (λ e. e.kind ≢ type_code (TableOf t)) entry_of (picked (candidates K)) none)
   table_by t false is =
       let e : Section × ℕ × ℕ = (TableOf t, table_count K t, table_place K t) in
@@ -251,7 +251,7 @@ module _ {K : Ordered} {b : List ℕ} (h : Laid K b) where
       inr (
         λ none. eqb-false (table_count K t) 0 is (sym (h.count t) ∙ none),
         subst (λ n. Contains (map entry_of (picked (candidates K))) (record { kind = type_code (TableOf t); size = n; off = table_off b t })) (sym (h.count t))
-        (subst (λ n. Contains (map entry_of (picked (candidates K))) (record { kind = type_code (TableOf t); size = table_count K t; off = n })) (sym (h.place t)) entry),
+            (subst (λ n. Contains (map entry_of (picked (candidates K))) (record { kind = type_code (TableOf t); size = table_count K t; off = n })) (sym (h.place t)) entry),
       )
 
   -- the map's own entry

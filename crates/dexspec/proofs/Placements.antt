@@ -1,7 +1,7 @@
 -- The ten sections of the data by name, the offsets that their items hold, and that the layout of a file is made
 -- of these: they follow one another from the end of the tables on, and each item has bytes.
-use Rattle.std.proofs.Common.{◌≡◌, ℕ, zero, suc, ◌+◌, ◌-◌, ◌*◌, ◌<◌, ◌≤◌, List, [], ◌∷◌, ◌++◌, length, get_or, map, take, drop, refl, sym, ap, ◌∙◌, arith, inl, inr}
-use Rattle.std.specs.Prelude.{Option, Some, None, IfSome, ◌==◌, Bool, true, false, if◌then◌else◌}
+use Rattle.std.proofs.Common.{◌≡◌, ℕ, zero, suc, ◌+◌, ◌<◌, List, [], ◌∷◌, ◌++◌, length, get_or, map, take, drop, refl, ap, ◌∙◌, arith, inl, inr}
+use Rattle.std.specs.Prelude.{Option, Some, None, IfSome, Bool, true, false, if◌then◌else◌}
 use Rattle.std.specs.List.{flat_map, All, zip}
 use Rattle.std.proofs.lemmas.List.{length-append, length-map, length-take, length-drop}
 use Rattle.std.proofs.lemmas.List.Elements.{All-from_recursion, All-nil, All-cons, All-head, All-tail, All-map}
@@ -10,11 +10,10 @@ use Rattle.dexspec.specs.Bytes.{ushort, uint}
 use Rattle.dexspec.specs.Numbers.{uleb128}
 use Rattle.dexspec.specs.Texts.{Text, string_data}
 use Rattle.dexspec.specs.Sections.{TypeLists, AnnotationSetRefLists, AnnotationSets, ClassDataItems, CodeItems, StringDataItems, DebugInfoItems, AnnotationItems, EncodedArrayItems, AnnotationsDirectories}
-use Rattle.dexspec.specs.Annotations.{Annotation}
 use Rattle.dexspec.specs.Classes.{Definition}
 use Rattle.dexspec.specs.Code.{Code}
 use Rattle.dexspec.specs.Debug.{Debug}
-use Rattle.dexspec.specs.Values.{Values, count_values}
+use Rattle.dexspec.specs.Values.{count_values}
 use Rattle.dexspec.specs.Mentions.{Mentions}
 use Rattle.dexspec.specs.Spellings.{type_index, code_bytes, debug_bytes, encoded_array_bytes, annotation_bytes, offsets_bytes, class_data_bytes}
 use Rattle.dexspec.specs.Placing.{unless_empty, own_numbers, own_items, shared_items, Placed, offsets, end, uses_offsets, Ordered, by_class, SetOffsets, type_list_uses, set_uses, debug_uses, code_uses, static_values_uses, class_data_uses, set_offsets_by_class, ref_list_uses, directory_uses, directory_bytes}
@@ -217,18 +216,36 @@ HasBytes p = All (λ x. 0 < length x) p.items
 -- and so have those of all sections
 pub sections_have_bytes : (K : Ordered) → All HasBytes (data_sections K)
 sections_have_bytes K = All-from_recursion HasBytes (data_sections K) (
-      map_some (type_list_bytes K.pools) (λ ts. append_some (uint (length ts)) _ (uint_some (length ts))) (shared_items (type_list_uses K)).written,
-      (map_some (annotation_bytes K.pools) (λ a. omega arith) (flat_map (λ set. set) (shared_items (set_uses K)).written),
-      (map_some (encoded_array_bytes K.pools) (λ vs. uleb128_some (count_values vs) _) (own_items (static_values_uses K)).written,
-      (map_some string_data (λ s. uleb128_some (length s) _) K.pools.texts,
-      (map_some (debug_bytes K.pools) (debug_some K.pools) (shared_items (debug_uses K)).written,
-      (map_some (λ (p : Code × ℕ). code_bytes K.pools p.1 p.0) (λ p. code_some K.pools p.1 p.0) (own_items (code_uses K (debug_offsets K))).written,
-      (map_some (λ (p : Definition × List ℕ). class_data_bytes K.pools p.0 p.1) (λ p. class_data_some K.pools p.0 p.1) (own_items (class_data_uses K (code_offsets K))).written,
-      (map_some offsets_bytes (λ offs. append_some (uint (length offs)) _ (uint_some (length offs))) (annotation_offsets K),
-      (map_some offsets_bytes (λ offs. append_some (uint (length offs)) _ (uint_some (length offs))) (own_items (ref_list_uses K (set_offsets K))).written,
-      (directories_some K,
-      tt)))))))))
-    )
+  map_some (type_list_bytes K.pools) (λ ts. append_some (uint (length ts)) _ (uint_some (length ts))) (shared_items (type_list_uses K)).written,
+  (
+    map_some (annotation_bytes K.pools) (λ a. omega arith) (flat_map (λ set. set) (shared_items (set_uses K)).written),
+    (
+      map_some (encoded_array_bytes K.pools) (λ vs. uleb128_some (count_values vs) _) (own_items (static_values_uses K)).written,
+      (
+        map_some string_data (λ s. uleb128_some (length s) _) K.pools.texts,
+        (
+          map_some (debug_bytes K.pools) (debug_some K.pools) (shared_items (debug_uses K)).written,
+          (
+            map_some (λ (p : Code × ℕ). code_bytes K.pools p.1 p.0) (λ p. code_some K.pools p.1 p.0) (own_items (code_uses K (debug_offsets K))).written,
+            (
+              map_some (λ (p : Definition × List ℕ). class_data_bytes K.pools p.0 p.1) (λ p. class_data_some K.pools p.0 p.1) (own_items (class_data_uses K (code_offsets K))).written,
+              (
+                map_some offsets_bytes (λ offs. append_some (uint (length offs)) _ (uint_some (length offs))) (annotation_offsets K),
+                (
+                  map_some offsets_bytes (λ offs. append_some (uint (length offs)) _ (uint_some (length offs))) (own_items (ref_list_uses K (set_offsets K))).written,
+                  (
+                    directories_some K,
+                    tt,
+                  ),
+                ),
+              ),
+            ),
+          ),
+        ),
+      ),
+    ),
+  ),
+)
 
 -- the sections are aligned to 4 bytes or not at all
 pub sections_aligned : (K : Ordered) → All (λ p. IsAlign p.align) (data_sections K)

@@ -1,11 +1,11 @@
 -- Items that follow one another in a section, and sections that follow one another.
-use Rattle.std.proofs.Common.{◌≡◌, ◌⊎◌, ℕ, zero, suc, ◌+◌, ◌-◌, ◌*◌, ◌%◌, ◌<◌, ◌≤◌, List, [], ◌∷◌, ◌++◌, length, get_or, map, refl, sym, ap, ◌∙◌, arith, inl, inr}
+use Rattle.std.proofs.Common.{◌≡◌, ◌⊎◌, ℕ, zero, suc, ◌+◌, ◌-◌, ◌%◌, ◌<◌, ◌≤◌, List, [], ◌∷◌, ◌++◌, length, get_or, refl, ap, ◌∙◌, arith, inl, inr}
 use Rattle.std.specs.List.{flat_map, All}
 use Rattle.std.specs.Prelude.{slice_index}
 use Rattle.std.proofs.lemmas.List.{length-append, length-replicate}
 use Rattle.std.proofs.lemmas.List.Elements.{All-head, All-tail}
 use Rattle.dexspec.specs.Bytes.{Stands, round_up, padding}
-use Rattle.dexspec.specs.Placing.{Placed, offsets_from, end_from, bytes_from, offsets, end, section_bytes}
+use Rattle.dexspec.specs.Placing.{Placed, offsets_from, end_from, bytes_from, end, section_bytes}
 use Rattle.dexspec.proofs.Stands.{stands_first, stands_whole, stands_later, stands_in, stands_at}
 
 -- ---- alignment
@@ -84,7 +84,7 @@ pub items_few : (align from : ℕ) (xs : List (List ℕ)) → All (λ x. 0 < len
 items_few align from [] some = omega arith
 items_few align from (x ∷ xs) some =
     let rest : (round_up align from + length x) + length xs ≤ end_from align (round_up align from + length x) xs =
-        items_few align (round_up align from + length x) xs (All-tail (λ x. 0 < length x) x xs some) in
+    items_few align (round_up align from + length x) xs (All-tail (λ x. 0 < length x) x xs some) in
     let here : 0 < length x = All-head (λ x. 0 < length x) x xs some in
     omega (arith, length-padding align from, rest, here)
 

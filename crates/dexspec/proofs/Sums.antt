@@ -1,12 +1,12 @@
 -- The magic and the two sums before what they are of: conditions 2, 3, 7 and 8.
-use Rattle.std.proofs.Common.{◌≡◌, All, ℕ, zero, suc, ◌+◌, ◌*◌, ◌/◌, ◌%◌, ◌^◌, ◌<◌, List, [], ◌∷◌, ◌++◌, length, take, drop, refl, sym, ap, ◌∙◌, arith}
+use Rattle.std.proofs.Common.{◌≡◌, ℕ, zero, suc, ◌+◌, ◌*◌, ◌/◌, ◌^◌, ◌<◌, List, [], ◌∷◌, ◌++◌, length, take, drop, refl, sym, ap, ◌∙◌, arith}
 use Rattle.std.specs.Prelude.{slice_index}
 use Rattle.std.specs.Int.{w32, to_be_bytes}
 use Rattle.std.proofs.lemmas.List.{length-append, take_at, drop_at}
 use Rattle.std.proofs.lemmas.List.Elements.{All-nil, All-cons}
 use Rattle.std.proofs.Math.Seq.{drop-append-add}
 use Rattle.sha1.specs.Sha1.{sha1, digest_bytes, hash_after, padded_message}
-use Rattle.dexspec.specs.Bytes.{uint, uint_at, Stands}
+use Rattle.dexspec.specs.Bytes.{uint, Stands}
 use Rattle.dexspec.specs.Header.{adler_step, adler_sums, adler_32, HasMagic, HasVersion, HasChecksum, HasSignature, IsDigit}
 use Rattle.dexspec.specs.Canonical.{magic, with_sums}
 use Rattle.dexspec.proofs.Stands.{stands_first, stands_later, stands_at}

@@ -1,20 +1,19 @@
 -- The header and the rows of the tables: what stands where.
-use Rattle.std.proofs.Common.{◌≡◌, ℕ, zero, suc, ◌+◌, ◌-◌, ◌*◌, ◌^◌, ◌<◌, ◌≤◌, List, [], ◌∷◌, ◌++◌, length, get_or, map, refl, sym, ap, subst, ◌∙◌, arith}
-use Rattle.std.specs.Prelude.{slice_index, slice_index_or, ◌==◌, Bool, true, false, if◌then◌else◌}
+use Rattle.std.proofs.Common.{◌≡◌, ℕ, zero, suc, ◌+◌, ◌-◌, ◌*◌, ◌<◌, List, [], ◌∷◌, ◌++◌, length, get_or, ap, ◌∙◌, arith}
+use Rattle.std.specs.Prelude.{◌==◌, if◌then◌else◌}
 use Rattle.std.specs.List.{flat_map, concat}
 use Rattle.std.proofs.lemmas.List.{length-append}
 use Rattle.dexspec.specs.Lists.{zip_with}
-use Rattle.dexspec.specs.Bytes.{ushort, uint, uint_at, Stands}
-use Rattle.dexspec.specs.Texts.{Text}
+use Rattle.dexspec.specs.Bytes.{uint, Stands}
 use Rattle.dexspec.specs.Symbols.{Proto, Field, Method}
 use Rattle.dexspec.specs.Classes.{Definition}
-use Rattle.dexspec.specs.Header.{Table, StringIds, TypeIds, ProtoIds, FieldIds, MethodIds, ClassDefs, header_length, size_place, row_size, table_size, table_off}
+use Rattle.dexspec.specs.Header.{Table, StringIds, TypeIds, ProtoIds, FieldIds, MethodIds, ClassDefs, header_length, size_place, row_size}
 use Rattle.dexspec.specs.Mentions.{Mentions}
 use Rattle.dexspec.specs.Spellings.{text_index}
 use Rattle.dexspec.specs.Placing.{Ordered}
 use Rattle.dexspec.specs.Canonical.{table_count, placed_tables, data_start, proto_row_bytes, field_row_bytes, method_row_bytes, ClassOffsets, class_row_bytes, Layout, table_bytes, header_bytes}
 use Rattle.dexspec.proofs.Stands.{stands_first, stands_whole, stands_later, stands_in, stands_at, stands_row, length_rows}
-use Rattle.dexspec.proofs.ByteNumbers.{length-uint, length-ushort, uint_at-stands}
+use Rattle.dexspec.proofs.ByteNumbers.{length-uint, length-ushort}
 use Rattle.dexspec.proofs.Placements.{AreFull}
 
 -- ---- one after the other
@@ -100,26 +99,32 @@ table_start K ClassDefs = header_length + row_size StringIds * table_count K Str
 -- the rows of each table stand there
 pub table_stands : {b : List ℕ} (K : Ordered) (l : Layout) → AreFull K l → Stands b header_length (table_bytes K l) → (t : Table) → Stands b (table_start K t) (rows_bytes K l t)
 table_stands {b} K l full h = at
-    where
-      r : Table → List ℕ
-      r = rows_bytes K l
-      n : (t : Table) → length (rows_bytes K l t) ≡ row_size t * table_count K t
-      n = length_rows_bytes K l full
-      h1 : Stands b (table_start K TypeIds) (r TypeIds ++ (r ProtoIds ++ (r FieldIds ++ (r MethodIds ++ r ClassDefs))))
-      h1 = stands_behind (r StringIds) (r TypeIds ++ (r ProtoIds ++ (r FieldIds ++ (r MethodIds ++ r ClassDefs)))) (row_size StringIds * table_count K StringIds) (n StringIds) h
-      h2 : Stands b (table_start K ProtoIds) (r ProtoIds ++ (r FieldIds ++ (r MethodIds ++ r ClassDefs)))
-      h2 = stands_behind (r TypeIds) (r ProtoIds ++ (r FieldIds ++ (r MethodIds ++ r ClassDefs))) (row_size TypeIds * table_count K TypeIds) (n TypeIds) h1
-      h3 : Stands b (table_start K FieldIds) (r FieldIds ++ (r MethodIds ++ r ClassDefs))
-      h3 = stands_behind (r ProtoIds) (r FieldIds ++ (r MethodIds ++ r ClassDefs)) (row_size ProtoIds * table_count K ProtoIds) (n ProtoIds) h2
-      h4 : Stands b (table_start K MethodIds) (r MethodIds ++ r ClassDefs)
-      h4 = stands_behind (r FieldIds) (r MethodIds ++ r ClassDefs) (row_size FieldIds * table_count K FieldIds) (n FieldIds) h3
-      at : (t : Table) → Stands b (table_start K t) (rows_bytes K l t)
-      at StringIds = stands_here (r StringIds) (r TypeIds ++ (r ProtoIds ++ (r FieldIds ++ (r MethodIds ++ r ClassDefs)))) h
-      at TypeIds = stands_here (r TypeIds) (r ProtoIds ++ (r FieldIds ++ (r MethodIds ++ r ClassDefs))) h1
-      at ProtoIds = stands_here (r ProtoIds) (r FieldIds ++ (r MethodIds ++ r ClassDefs)) h2
-      at FieldIds = stands_here (r FieldIds) (r MethodIds ++ r ClassDefs) h3
-      at MethodIds = stands_here (r MethodIds) (r ClassDefs) h4
-      at ClassDefs = stands_behind (r MethodIds) (r ClassDefs) (row_size MethodIds * table_count K MethodIds) (n MethodIds) h4
+  where
+    r : Table → List ℕ
+    r = rows_bytes K l
+
+    n : (t : Table) → length (rows_bytes K l t) ≡ row_size t * table_count K t
+    n = length_rows_bytes K l full
+
+    h1 : Stands b (table_start K TypeIds) (r TypeIds ++ (r ProtoIds ++ (r FieldIds ++ (r MethodIds ++ r ClassDefs))))
+    h1 = stands_behind (r StringIds) (r TypeIds ++ (r ProtoIds ++ (r FieldIds ++ (r MethodIds ++ r ClassDefs)))) (row_size StringIds * table_count K StringIds) (n StringIds) h
+
+    h2 : Stands b (table_start K ProtoIds) (r ProtoIds ++ (r FieldIds ++ (r MethodIds ++ r ClassDefs)))
+    h2 = stands_behind (r TypeIds) (r ProtoIds ++ (r FieldIds ++ (r MethodIds ++ r ClassDefs))) (row_size TypeIds * table_count K TypeIds) (n TypeIds) h1
+
+    h3 : Stands b (table_start K FieldIds) (r FieldIds ++ (r MethodIds ++ r ClassDefs))
+    h3 = stands_behind (r ProtoIds) (r FieldIds ++ (r MethodIds ++ r ClassDefs)) (row_size ProtoIds * table_count K ProtoIds) (n ProtoIds) h2
+
+    h4 : Stands b (table_start K MethodIds) (r MethodIds ++ r ClassDefs)
+    h4 = stands_behind (r FieldIds) (r MethodIds ++ r ClassDefs) (row_size FieldIds * table_count K FieldIds) (n FieldIds) h3
+
+    at : (t : Table) → Stands b (table_start K t) (rows_bytes K l t)
+    at StringIds = stands_here (r StringIds) (r TypeIds ++ (r ProtoIds ++ (r FieldIds ++ (r MethodIds ++ r ClassDefs)))) h
+    at TypeIds = stands_here (r TypeIds) (r ProtoIds ++ (r FieldIds ++ (r MethodIds ++ r ClassDefs))) h1
+    at ProtoIds = stands_here (r ProtoIds) (r FieldIds ++ (r MethodIds ++ r ClassDefs)) h2
+    at FieldIds = stands_here (r FieldIds) (r MethodIds ++ r ClassDefs) h3
+    at MethodIds = stands_here (r MethodIds) (r ClassDefs) h4
+    at ClassDefs = stands_behind (r MethodIds) (r ClassDefs) (row_size MethodIds * table_count K MethodIds) (n MethodIds) h4
 
 -- all rows are the bytes from the header to the data
 pub length-table_bytes : (K : Ordered) (l : Layout) → AreFull K l → header_length + length (table_bytes K l) ≡ data_start K

@@ -147,14 +147,14 @@ pub record Laid (K : Ordered) (b : List ℕ) : Type 0 where
   pub map_in_data : IsInData b (map_place K) (length (map_bytes (map_list K)))
 
 -- what stands at a place of two lists put together
-get_or-zip_with : {X Y Z : Type 0} (f : X → Y → Z) (xs : List X) (ys : List Y) (i : ℕ) (d : X) (e : Y) (z : Z) → i < length xs → i < length ys → get_or (zip_with f xs ys) i z ≡ f (get_or xs i d) (get_or ys i e)
+pub get_or-zip_with : {X Y Z : Type 0} (f : X → Y → Z) (xs : List X) (ys : List Y) (i : ℕ) (d : X) (e : Y) (z : Z) → i < length xs → i < length ys → get_or (zip_with f xs ys) i z ≡ f (get_or xs i d) (get_or ys i e)
 get_or-zip_with f [] ys i d e z lt le = absurd (omega arith)
 get_or-zip_with f (x ∷ xs) [] i d e z lt le = absurd (omega arith)
 get_or-zip_with f (x ∷ xs) (y ∷ ys) zero d e z lt le = refl
 get_or-zip_with f (x ∷ xs) (y ∷ ys) (suc i) d e z lt le = get_or-zip_with f xs ys i d e z (omega arith) (omega arith)
 
 -- the same of pairs
-get_or-zip : {X Y : Type 0} (xs : List X) (ys : List Y) (i : ℕ) (d : X) (e : Y) → i < length xs → i < length ys → get_or (zip xs ys) i (d, e) ≡ (get_or xs i d, get_or ys i e)
+pub get_or-zip : {X Y : Type 0} (xs : List X) (ys : List Y) (i : ℕ) (d : X) (e : Y) → i < length xs → i < length ys → get_or (zip xs ys) i (d, e) ≡ (get_or xs i d, get_or ys i e)
 get_or-zip [] ys i d e lt le = absurd (omega arith)
 get_or-zip (x ∷ xs) [] i d e lt le = absurd (omega arith)
 get_or-zip (x ∷ xs) (y ∷ ys) zero d e lt le = refl

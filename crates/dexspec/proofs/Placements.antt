@@ -3,20 +3,22 @@
 use Rattle.std.proofs.Common.{◌≡◌, ℕ, zero, suc, ◌+◌, ◌<◌, List, [], ◌∷◌, ◌++◌, length, get_or, map, take, drop, refl, ap, ◌∙◌, arith, inl, inr}
 use Rattle.std.specs.Prelude.{Option, Some, None, IfSome, Bool, true, false, if◌then◌else◌}
 use Rattle.std.specs.List.{flat_map, All, zip}
+use Rattle.std.specs.Cmp.Lexicographic.{pointwise}
 use Rattle.std.proofs.lemmas.List.{length-append, length-map, length-take, length-drop}
 use Rattle.std.proofs.lemmas.List.Elements.{All-from_recursion, All-nil, All-cons, All-head, All-tail, All-map}
 use Rattle.dexspec.specs.Lists.{chunks, zip_with, present}
 use Rattle.dexspec.specs.Bytes.{ushort, uint}
 use Rattle.dexspec.specs.Numbers.{uleb128}
-use Rattle.dexspec.specs.Texts.{Text, string_data}
+use Rattle.dexspec.specs.Texts.{Text, same_text, string_data}
 use Rattle.dexspec.specs.Sections.{TypeLists, AnnotationSetRefLists, AnnotationSets, ClassDataItems, CodeItems, StringDataItems, DebugInfoItems, AnnotationItems, EncodedArrayItems, AnnotationsDirectories}
+use Rattle.dexspec.specs.Annotations.{AnnotationSet}
 use Rattle.dexspec.specs.Classes.{Definition}
 use Rattle.dexspec.specs.Code.{Code}
 use Rattle.dexspec.specs.Debug.{Debug}
 use Rattle.dexspec.specs.Values.{count_values}
 use Rattle.dexspec.specs.Mentions.{Mentions}
 use Rattle.dexspec.specs.Spellings.{type_index, code_bytes, debug_bytes, encoded_array_bytes, annotation_bytes, offsets_bytes, class_data_bytes}
-use Rattle.dexspec.specs.Placing.{unless_empty, own_numbers, own_items, shared_items, Placed, offsets, end, uses_offsets, Ordered, by_class, SetOffsets, type_list_uses, set_uses, debug_uses, code_uses, static_values_uses, class_data_uses, set_offsets_by_class, ref_list_uses, directory_uses, directory_bytes}
+use Rattle.dexspec.specs.Placing.{Items, unless_empty, own_numbers, own_items, shared_items, Placed, offsets, end, uses_offsets, Ordered, by_class, SetOffsets, type_list_uses, set_uses, debug_uses, code_uses, static_values_uses, class_data_uses, set_offsets_by_class, ref_list_uses, directory_uses, directory_bytes}
 use Rattle.dexspec.specs.Canonical.{data_start, Layout, layout, class_offsets}
 use Rattle.dexspec.proofs.ByteNumbers.{length-uint, length-ushort}
 use Rattle.dexspec.proofs.Spellings.{uleb128_bounds}
@@ -28,14 +30,26 @@ use Rattle.dexspec.proofs.Places.{IsAlign, length-offsets_from, FollowFrom}
 abbrev pub type_list_bytes : Mentions → List Text → List ℕ
 type_list_bytes m ts = uint (length ts) ++ flat_map (λ t. ushort (type_index m t)) ts
 
+-- the type lists that are written
+abbrev pub type_list_items : Ordered → Items (List Text)
+type_list_items K = shared_items (pointwise same_text) (type_list_uses K)
+
+-- the sets that are written
+abbrev pub set_items : Ordered → Items AnnotationSet
+set_items K = shared_items (λ x y. same_text (flat_map (annotation_bytes K.pools) x) (flat_map (annotation_bytes K.pools) y)) (set_uses K)
+
+-- the debug programs that are written
+abbrev pub debug_items : Ordered → Items Debug
+debug_items K = shared_items (λ x y. same_text (debug_bytes K.pools x) (debug_bytes K.pools y)) (debug_uses K)
+
 abbrev pub type_list_section : Ordered → Placed
-type_list_section K = record { kind = TypeLists; align = 4; from = data_start K; items = map (type_list_bytes K.pools) (shared_items (type_list_uses K)).written }
+type_list_section K = record { kind = TypeLists; align = 4; from = data_start K; items = map (type_list_bytes K.pools) (type_list_items K).written }
 
 unfoldable pub type_list_end : Ordered → ℕ
 type_list_end K = end (type_list_section K)
 
 abbrev pub annotation_section : Ordered → Placed
-annotation_section K = record { kind = AnnotationItems; align = 1; from = type_list_end K; items = map (annotation_bytes K.pools) (flat_map (λ set. set) (shared_items (set_uses K)).written) }
+annotation_section K = record { kind = AnnotationItems; align = 1; from = type_list_end K; items = map (annotation_bytes K.pools) (flat_map (λ set. set) (set_items K).written) }
 
 unfoldable pub annotation_end : Ordered → ℕ
 annotation_end K = end (annotation_section K)
@@ -53,14 +67,14 @@ unfoldable pub string_end : Ordered → ℕ
 string_end K = end (string_section K)
 
 abbrev pub debug_section : Ordered → Placed
-debug_section K = record { kind = DebugInfoItems; align = 1; from = string_end K; items = map (debug_bytes K.pools) (shared_items (debug_uses K)).written }
+debug_section K = record { kind = DebugInfoItems; align = 1; from = string_end K; items = map (debug_bytes K.pools) (debug_items K).written }
 
 unfoldable pub debug_end : Ordered → ℕ
 debug_end K = end (debug_section K)
 
 -- for each method the offset of its debug program
 unfoldable pub debug_offsets : Ordered → List ℕ
-debug_offsets K = uses_offsets (shared_items (debug_uses K)).numbers (offsets (debug_section K))
+debug_offsets K = uses_offsets (debug_items K).numbers (offsets (debug_section K))
 
 abbrev pub code_section : Ordered → Placed
 code_section K = record { kind = CodeItems; align = 4; from = debug_end K; items = map (λ p. code_bytes K.pools p.1 p.0) (own_items (code_uses K (debug_offsets K))).written }
@@ -80,7 +94,7 @@ class_data_end K = end (class_data_section K)
 
 -- the offsets of all annotation_items, set by set
 unfoldable pub annotation_offsets : Ordered → List (List ℕ)
-annotation_offsets K = chunks (map (λ set. length set) (shared_items (set_uses K)).written) (offsets (annotation_section K))
+annotation_offsets K = chunks (map (λ set. length set) (set_items K).written) (offsets (annotation_section K))
 
 abbrev pub set_section : Ordered → Placed
 set_section K = record { kind = AnnotationSets; align = 4; from = class_data_end K; items = map offsets_bytes (annotation_offsets K) }
@@ -90,7 +104,7 @@ set_end K = end (set_section K)
 
 -- for each class the offsets of its sets
 unfoldable pub set_offsets : Ordered → List SetOffsets
-set_offsets K = set_offsets_by_class K (uses_offsets (shared_items (set_uses K)).numbers (offsets (set_section K)))
+set_offsets K = set_offsets_by_class K (uses_offsets (set_items K).numbers (offsets (set_section K)))
 
 abbrev pub ref_list_section : Ordered → Placed
 ref_list_section K = record { kind = AnnotationSetRefLists; align = 4; from = set_end K; items = map offsets_bytes (own_items (ref_list_uses K (set_offsets K))).written }
@@ -110,7 +124,7 @@ directory_end K = end (directory_section K)
 
 -- for each proto, and then for each class, the offset of its type list
 unfoldable pub type_list_offsets : Ordered → List ℕ
-type_list_offsets K = uses_offsets (shared_items (type_list_uses K)).numbers (offsets (type_list_section K))
+type_list_offsets K = uses_offsets (type_list_items K).numbers (offsets (type_list_section K))
 
 -- for each class the offset of its directory
 unfoldable pub directory_offsets : Ordered → List ℕ
@@ -216,15 +230,15 @@ HasBytes p = All (λ x. 0 < length x) p.items
 -- and so have those of all sections
 pub sections_have_bytes : (K : Ordered) → All HasBytes (data_sections K)
 sections_have_bytes K = All-from_recursion HasBytes (data_sections K) (
-  map_some (type_list_bytes K.pools) (λ ts. append_some (uint (length ts)) _ (uint_some (length ts))) (shared_items (type_list_uses K)).written,
+  map_some (type_list_bytes K.pools) (λ ts. append_some (uint (length ts)) _ (uint_some (length ts))) (type_list_items K).written,
   (
-    map_some (annotation_bytes K.pools) (λ a. omega arith) (flat_map (λ set. set) (shared_items (set_uses K)).written),
+    map_some (annotation_bytes K.pools) (λ a. omega arith) (flat_map (λ set. set) (set_items K).written),
     (
       map_some (encoded_array_bytes K.pools) (λ vs. uleb128_some (count_values vs) _) (own_items (static_values_uses K)).written,
       (
         map_some string_data (λ s. uleb128_some (length s) _) K.pools.texts,
         (
-          map_some (debug_bytes K.pools) (debug_some K.pools) (shared_items (debug_uses K)).written,
+          map_some (debug_bytes K.pools) (debug_some K.pools) (debug_items K).written,
           (
             map_some (λ (p : Code × ℕ). code_bytes K.pools p.1 p.0) (λ p. code_some K.pools p.1 p.0) (own_items (code_uses K (debug_offsets K))).written,
             (
@@ -263,6 +277,10 @@ length-own_numbers n (Some x ∷ uses) = ap suc (length-own_numbers (n + 1) uses
 pub length-uses_offsets : {X : Type 0} (uses : List (Option X)) (offs : List ℕ) → length (uses_offsets (own_items uses).numbers offs) ≡ length uses
 length-uses_offsets uses offs = length-map (own_numbers 0 uses) _ ∙ length-own_numbers 0 uses
 
+-- the same of items that may be shared
+pub length-shared_offsets : {X : Type 0} (same : X → X → Bool) (uses : List (Option X)) (offs : List ℕ) → length (uses_offsets (shared_items same uses).numbers offs) ≡ length uses
+length-shared_offsets same uses offs = length-uses_offsets uses offs
+
 pub length-chunks : {X : Type 0} (ns : List ℕ) (xs : List X) → length (chunks ns xs) ≡ length ns
 length-chunks [] xs = refl
 length-chunks (n ∷ ns) xs = ap suc (length-chunks ns (drop n xs))
@@ -286,7 +304,7 @@ length-by_class K xs = length-chunks (map _ K.classes) xs ∙ length-map K.class
 pub length-type_list_offsets : (K : Ordered) → length (type_list_offsets K) ≡ length K.pools.protos + length K.classes
 unfolding type_list_offsets
 length-type_list_offsets K =
-    length-uses_offsets (type_list_uses K) _ ∙ length-append (map _ K.pools.protos) (map _ K.classes)
+    length-shared_offsets (pointwise same_text) (type_list_uses K) _ ∙ length-append (map _ K.pools.protos) (map _ K.classes)
     ∙ omega (arith, length-map K.pools.protos (λ p. unless_empty p.parameters), length-map K.classes (λ d. unless_empty d.1.interfaces))
 
 -- for each class

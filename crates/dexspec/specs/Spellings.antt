@@ -155,6 +155,7 @@ abbrev pub bits_bytes : ℕ → ℕ → ℕ → List ℕ
 bits_bytes code width v = value_byte (bits_width width v - 1) code ∷ bytes_of (bits_width width v) (v / 256 ^ (width - bits_width width v))
 
 abbrev mutual
+  -- an encoded_value
   pub value_bytes : Mentions → Value → List ℕ
   value_bytes m (ByteValue z) = signed_bytes byte_value_type z
   value_bytes m (ShortValue z) = signed_bytes short_value_type z
@@ -173,10 +174,12 @@ abbrev mutual
   value_bytes m NullValue = value_byte 0 null_value_type ∷ []
   value_bytes m (BooleanValue is) = value_byte (if is then 1 else 0) boolean_value_type ∷ []
 
+  -- values one after the other
   pub values_bytes : Mentions → Values → List ℕ
   values_bytes m NoValues = []
   values_bytes m (ThenValue v vs) = value_bytes m v ++ values_bytes m vs
 
+  -- annotation_elements one after the other
   pub elements_bytes : Mentions → Elements → List ℕ
   elements_bytes m NoElements = []
   elements_bytes m (ThenElement name v es) = uleb128 (text_index m name) ++ (value_bytes m v ++ elements_bytes m es)

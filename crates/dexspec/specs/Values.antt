@@ -77,6 +77,7 @@ abbrev mutual
   values_depth NoValues = 0
   values_depth (ThenValue v vs) = max (value_depth v) (values_depth vs)
 
+  -- the depth of the deepest value of an element
   pub elements_depth : Elements → ℕ
   elements_depth NoElements = 0
   elements_depth (ThenElement name v es) = max (value_depth v) (elements_depth es)

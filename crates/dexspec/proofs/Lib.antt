@@ -35,3 +35,4 @@ pub mod HeaderLaws
 pub mod MapEntries
 pub mod MapLaws
 pub mod Frames
+pub mod Uses

@@ -268,7 +268,7 @@ sections_aligned K = All-from_recursion (λ p. IsAlign p.align) (data_sections K
 
 -- ---- how many offsets there are
 
-length-own_numbers : {X : Type 0} (n : ℕ) (uses : List (Option X)) → length (own_numbers n uses) ≡ length uses
+pub length-own_numbers : {X : Type 0} (n : ℕ) (uses : List (Option X)) → length (own_numbers n uses) ≡ length uses
 length-own_numbers n [] = refl
 length-own_numbers n (None ∷ uses) = ap suc (length-own_numbers n uses)
 length-own_numbers n (Some x ∷ uses) = ap suc (length-own_numbers (n + 1) uses)

@@ -1,0 +1,247 @@
+-- What each use of an item leads to in a file that is laid out: its offset is 0 if it has none, and else the item
+-- stands there. By class and method: type lists, static values, class data, code, debug programs, sets, ref lists
+-- and directories.
+use Rattle.std.proofs.Common.{◌≡◌, ◌≢◌, ℕ, zero, suc, ◌+◌, ◌*◌, ◌<◌, ◌≤◌, List, [], ◌∷◌, ◌++◌, length, get_or, map, take, drop, refl, sym, ap, subst, ◌∙◌, arith}
+use Rattle.std.specs.Prelude.{slice_index, Option, Some, None, Bool, true, false, if◌then◌else◌}
+use Rattle.std.specs.Option.{option_map_or}
+use Rattle.std.specs.List.{flat_map, zip}
+use Rattle.std.specs.Cmp.Lexicographic.{pointwise}
+use Rattle.std.proofs.lemmas.List.{length-append, length-map, get_or-map, get_or-take, get_or-drop, get_or_append_left, get_or-append-add, get_or_default, drop-drop, map-id, take_all}
+use Rattle.std.proofs.lemmas.List.Concat.{get_or-flat_map}
+use Rattle.dexspec.specs.Lists.{chunks, zip_with, present}
+use Rattle.dexspec.specs.Bytes.{Stands}
+use Rattle.dexspec.specs.Texts.{same_text}
+use Rattle.dexspec.specs.Symbols.{Proto}
+use Rattle.dexspec.specs.Code.{Code}
+use Rattle.dexspec.specs.Debug.{Debug}
+use Rattle.dexspec.specs.Values.{Values}
+use Rattle.dexspec.specs.Annotations.{Annotation, AnnotationSet}
+use Rattle.dexspec.specs.Classes.{FieldDef, MethodDef, Definition, declared_fields, declared_methods}
+use Rattle.dexspec.specs.Spellings.{code_bytes, debug_bytes, encoded_array_bytes, annotation_bytes, offsets_bytes, class_data_bytes}
+use Rattle.dexspec.specs.Placing.{unless_empty, values_unless_empty, own_numbers, own_items, Items, shared_items, Placed, offsets, uses_offsets, Ordered, all_methods, by_class, is_empty_class, method_sets, class_sets, SetOffsets, set_offsets_of, type_list_uses, set_uses, debug_uses, code_uses, static_values_uses, class_data_uses, ref_list_uses, directory_uses, directory_bytes}
+use Rattle.dexspec.proofs.Placements.{type_list_bytes, type_list_items, type_list_section, annotation_section, annotation_offsets, array_section, debug_items, debug_section, debug_offsets, code_section, code_offsets, class_data_section, set_items, set_section, set_offsets, ref_list_section, ref_list_offsets, directory_section, directory_offsets, type_list_offsets, class_data_offsets, array_offsets, length-own_numbers, length-uses_offsets, length-shared_offsets, length-chunks, length-by_class, length-zip, length-zip_with, length-set_offsets}
+use Rattle.dexspec.proofs.Laying.{ItemStands, SectionStands, Laid, get_or-zip_with, get_or-zip}
+
+-- ---- items and their numbers
+
+-- a use without an item has no number, another one that of its item
+abbrev pub IsNumber : {X : Type 0} → Option X → Option ℕ → List X → Type 0
+IsNumber None n xs = n ≡ None
+IsNumber (Some x) n xs = (i : ℕ) × (i < length xs) × (n ≡ Some i) × (get_or xs i x ≡ x)
+
+-- each use is numbered so
+pub record AreNumbered {X : Type 0} (uses : List (Option X)) (its : Items X) : Type 0 where
+  pub count : length its.numbers ≡ length uses
+  pub each : (k : ℕ) → k < length uses → IsNumber (get_or uses k None) (get_or its.numbers k None) its.written
+
+-- the same with numbers from n on
+abbrev IsNumberFrom : {X : Type 0} → ℕ → Option X → Option ℕ → List X → Type 0
+IsNumberFrom n None o xs = o ≡ None
+IsNumberFrom n (Some x) o xs = (i : ℕ) × (i < length xs) × (o ≡ Some (n + i)) × (get_or xs i x ≡ x)
+
+-- one item before the others
+one_before : {X : Type 0} (n : ℕ) (y : X) (u : Option X) (o : Option ℕ) (xs : List X) → IsNumberFrom (n + 1) u o xs → IsNumberFrom n u o (y ∷ xs)
+one_before n y None o xs h = h
+one_before n y (Some x) o xs h = (suc h.0, omega (arith, h.1), h.2 ∙ ap Some (omega arith), h.3)
+
+own_from : {X : Type 0} (n : ℕ) (uses : List (Option X)) (k : ℕ) → k < length uses → IsNumberFrom n (get_or uses k None) (get_or (own_numbers n uses) k None) (present uses)
+own_from n [] k lt = absurd (omega arith)
+own_from n (None ∷ uses) zero lt = refl
+own_from n (None ∷ uses) (suc k) lt = own_from n uses k (omega arith)
+own_from n (Some x ∷ uses) zero lt = (0, omega arith, ap Some (omega arith), refl)
+own_from n (Some x ∷ uses) (suc k) lt = one_before n x (get_or uses k None) (get_or (own_numbers (n + 1) uses) k None) (present uses) (own_from (n + 1) uses k (omega arith))
+
+from_zero : {X : Type 0} (u : Option X) (o : Option ℕ) (xs : List X) → IsNumberFrom 0 u o xs → IsNumber u o xs
+from_zero None o xs h = h
+from_zero (Some x) o xs h = (h.0, h.1, h.2 ∙ ap Some (omega arith), h.3)
+
+-- items of one's own are numbered so
+pub own_numbered : {X : Type 0} (uses : List (Option X)) → AreNumbered uses (own_items uses)
+own_numbered uses = record {
+  count = length-own_numbers 0 uses;
+  each = λ k lt. from_zero (get_or uses k None) (get_or (own_numbers 0 uses) k None) (present uses) (own_from 0 uses k lt);
+}
+
+-- and so are those that may be shared
+pub shared_numbered : {X : Type 0} (same : X → X → Bool) (uses : List (Option X)) → AreNumbered uses (shared_items same uses)
+shared_numbered same uses = own_numbered uses
+
+-- ---- uses and offsets
+
+-- the offset is 0 if there is no item, and else the item stands there
+abbrev pub UseStands : {X : Type 0} → List ℕ → ℕ → (X → List ℕ) → Option X → ℕ → Type 0
+UseStands b align g None o = o ≡ 0
+UseStands b align g (Some x) o = ItemStands b align o (g x)
+
+-- the offset of a number
+number_offset : (its : List (Option ℕ)) (offs : List ℕ) (k : ℕ) → k < length its → slice_index (uses_offsets its offs) k ≡ option_map_or (slice_index offs) (get_or its k None) 0
+number_offset its offs k lt = get_or-map (λ n. option_map_or (slice_index offs) n 0) its k None 0 lt
+
+use_by : {X : Type 0} {b : List ℕ} (p : Placed) (g : X → List ℕ) (xs : List X) → p.items ≡ map g xs → SectionStands b p → (u : Option X) (n : Option ℕ) → IsNumber u n xs
+    → UseStands b p.align g u (option_map_or (slice_index (offsets p)) n 0)
+use_by p g xs is s None n h = ap (λ m. option_map_or (slice_index (offsets p)) m 0) h
+use_by {b = b} p g xs is s (Some x) n h =
+    let lt : h.0 < length p.items = omega (arith, ap length is, length-map xs g, h.1) in
+    let item : get_or p.items h.0 (g x) ≡ g x = ap (λ l. get_or l h.0 (g x)) is ∙ get_or-map g xs h.0 x (g x) h.1 ∙ ap g h.3 in
+    subst (λ y. ItemStands b p.align (option_map_or (slice_index (offsets p)) n 0) y) item
+    (subst (λ m. ItemStands b p.align (option_map_or (slice_index (offsets p)) m 0) (get_or p.items h.0 (g x))) (sym h.2) (s h.0 (g x) lt))
+
+-- each use's item stands at its offset
+pub use_stands : {X : Type 0} {b : List ℕ} (p : Placed) (g : X → List ℕ) (its : Items X) (uses : List (Option X)) → AreNumbered uses its → p.items ≡ map g its.written → SectionStands b p
+    → (k : ℕ) → k < length uses → UseStands b p.align g (get_or uses k None) (slice_index (uses_offsets its.numbers (offsets p)) k)
+use_stands {b = b} p g its uses are is s k lt =
+    subst (λ o. UseStands b p.align g (get_or uses k None) o) (sym (number_offset its.numbers (offsets p) k (omega (arith, are.count, lt))))
+    (use_by p g its.written is s (get_or uses k None) (get_or its.numbers k None) (are.each k lt))
+
+-- ---- parts of lists
+
+-- the r-th part is what the r-th member has, behind what those before it have
+pub chunk_at : {X Y Z : Type 0} (f : X → List Y) (xs : List X) (zs : List Z) (r : ℕ) (d : X) → r < length xs
+    → get_or (chunks (map (λ x. length (f x)) xs) zs) r [] ≡ take (length (f (get_or xs r d))) (drop (length (flat_map f (take r xs))) zs)
+chunk_at f [] zs r d lt = absurd (omega arith)
+chunk_at f (x ∷ xs) zs zero d lt = refl
+chunk_at f (x ∷ xs) zs (suc r) d lt =
+    chunk_at f xs (drop (length (f x)) zs) r d (omega arith)
+    ∙ ap (take (length (f (get_or xs r d)))) (drop-drop (length (flat_map f (take r xs))) (length (f x)) zs ∙ ap (λ n. drop n zs) (sym (length-append (f x) (flat_map f (take r xs)))))
+
+-- the j-th of the r-th part
+pub chunk_item : {X Y Z : Type 0} (f : X → List Y) (xs : List X) (zs : List Z) (r : ℕ) (d : X) (j : ℕ) (e : Z) → r < length xs → j < length (f (get_or xs r d))
+    → get_or (get_or (chunks (map (λ x. length (f x)) xs) zs) r []) j e ≡ get_or zs (length (flat_map f (take r xs)) + j) e
+chunk_item f xs zs r d j e lt less =
+    ap (λ l. get_or l j e) (chunk_at f xs zs r d lt) ∙ get_or-take (length (f (get_or xs r d))) (drop (length (flat_map f (take r xs))) zs) j e less
+    ∙ get_or-drop (length (flat_map f (take r xs))) zs j e
+
+-- it is within the whole
+pub part_within : {X Y : Type 0} (f : X → List Y) (xs : List X) (r : ℕ) (d : X) (j : ℕ) → r < length xs → j < length (f (get_or xs r d)) → length (flat_map f (take r xs)) + j < length (flat_map f xs)
+part_within f [] r d j lt less = absurd (omega arith)
+part_within f (x ∷ xs) zero d j lt less = omega (arith, length-append (f x) (flat_map f xs), less)
+part_within f (x ∷ xs) (suc r) d j lt less =
+    omega (arith, length-append (f x) (flat_map f xs), length-append (f x) (flat_map f (take r xs)), part_within f xs r d j (omega arith) less)
+
+-- ---- the methods of all classes
+
+-- the place among all methods of the j-th of class r
+abbrev pub method_place : Ordered → ℕ → ℕ → ℕ
+method_place K r j = length (all_methods (take r K.classes)) + j
+
+-- it is there
+pub method_at : (K : Ordered) (r : ℕ) (d : Definition) (j : ℕ) (x : MethodDef) → r < length K.classes → j < length (declared_methods (get_or K.classes r d).1)
+    → get_or (all_methods K.classes) (method_place K r j) x ≡ get_or (declared_methods (get_or K.classes r d).1) j x
+method_at K r d j x lt less = get_or-flat_map (λ (d : Definition). declared_methods d.1) K.classes r j d x lt less
+
+-- and within them
+pub method_within : (K : Ordered) (r : ℕ) (d : Definition) (j : ℕ) → r < length K.classes → j < length (declared_methods (get_or K.classes r d).1) → method_place K r j < length (all_methods K.classes)
+method_within K r d j lt less = part_within (λ (d : Definition). declared_methods d.1) K.classes r d j lt less
+
+-- what is for all methods, class by class
+pub by_class_at : {X : Type 0} (K : Ordered) (xs : List X) (r : ℕ) (d : Definition) (j : ℕ) (e : X) → r < length K.classes → j < length (declared_methods (get_or K.classes r d).1)
+    → get_or (get_or (by_class K xs) r []) j e ≡ get_or xs (method_place K r j) e
+by_class_at K xs r d j e lt less = chunk_item (λ (d : Definition). declared_methods d.1) K.classes xs r d j e lt less
+
+-- a debug program's offset for each method
+pub length-debug_offsets : (K : Ordered) → length (debug_offsets K) ≡ length (all_methods K.classes)
+unfolding debug_offsets
+length-debug_offsets K = length-shared_offsets (λ x y. same_text (debug_bytes K.pools x) (debug_bytes K.pools y)) (debug_uses K) (offsets (debug_section K)) ∙ length-map (all_methods K.classes) _
+
+-- and one of its code
+pub length-code_offsets : (K : Ordered) → length (code_offsets K) ≡ length (all_methods K.classes)
+unfolding code_offsets
+length-code_offsets K =
+    length-uses_offsets (code_uses K (debug_offsets K)) (offsets (code_section K)) ∙ length-zip_with _ (all_methods K.classes) (debug_offsets K) (length (all_methods K.classes)) refl (length-debug_offsets K)
+
+-- ---- the uses of a file that is laid out
+
+-- the debug program of a method
+abbrev pub debug_of : MethodDef → Option Debug
+debug_of x = option_map_or (λ c. c.debug) x.code None
+
+-- its code with the offset of the debug program
+abbrev pub code_of_method : ℕ → MethodDef → Option (Code × ℕ)
+code_of_method off x = option_map_or (λ c. Some (c, off)) x.code None
+
+-- the class data of a class with the offsets of its methods' code
+abbrev pub class_data_of : Definition → List ℕ → Option (Definition × List ℕ)
+class_data_of d offs = if is_empty_class d.1 then None else Some (d, offs)
+
+module _ {K : Ordered} {b : List ℕ} (h : Laid K b) where
+  -- each type list
+  type_list_use : (k : ℕ) → k < length (type_list_uses K) → UseStands b 4 (type_list_bytes K.pools) (get_or (type_list_uses K) k None) (slice_index (type_list_offsets K) k)
+  unfolding type_list_offsets
+  type_list_use k lt = use_stands (type_list_section K) (type_list_bytes K.pools) (type_list_items K) (type_list_uses K) (shared_numbered (pointwise same_text) (type_list_uses K)) refl h.type_lists k lt
+
+  -- the parameters of a proto
+  pub parameters_stand : (i : ℕ) (d : Proto) → i < length K.pools.protos → UseStands b 4 (type_list_bytes K.pools) (unless_empty (get_or K.pools.protos i d).parameters) (slice_index (type_list_offsets K) i)
+  parameters_stand i d lt =
+      let f = λ (p : Proto). unless_empty p.parameters in
+      let g = λ (d : Definition). unless_empty d.1.interfaces in
+      let len : length (map f K.pools.protos) ≡ length K.pools.protos = length-map K.pools.protos f in
+      subst (λ u. UseStands b 4 (type_list_bytes K.pools) u (slice_index (type_list_offsets K) i))
+      (get_or_append_left (map f K.pools.protos) (map g K.classes) None i (omega (arith, len)) ∙ get_or-map f K.pools.protos i d None lt)
+      (type_list_use i (omega (arith, len, length-append (map f K.pools.protos) (map g K.classes))))
+
+  -- the interfaces of a class
+  pub interfaces_stand : (r : ℕ) (d : Definition) → r < length K.classes
+      → UseStands b 4 (type_list_bytes K.pools) (unless_empty (get_or K.classes r d).1.interfaces) (slice_index (type_list_offsets K) (length K.pools.protos + r))
+  interfaces_stand r d lt =
+      let f = λ (p : Proto). unless_empty p.parameters in
+      let g = λ (d : Definition). unless_empty d.1.interfaces in
+      let len : length (map f K.pools.protos) ≡ length K.pools.protos = length-map K.pools.protos f in
+      let len2 : length (map g K.classes) ≡ length K.classes = length-map K.classes g in
+      subst (λ u. UseStands b 4 (type_list_bytes K.pools) u (slice_index (type_list_offsets K) (length K.pools.protos + r)))
+      (ap (λ n. get_or (map f K.pools.protos ++ map g K.classes) (n + r) None) (sym len) ∙ get_or-append-add (map f K.pools.protos) (map g K.classes) r None ∙ get_or-map g K.classes r d None lt)
+      (type_list_use (length K.pools.protos + r) (omega (arith, len, len2, length-append (map f K.pools.protos) (map g K.classes))))
+
+  -- the static values of a class
+  pub static_values_stand : (r : ℕ) (d : Definition) → r < length K.classes → UseStands b 1 (encoded_array_bytes K.pools) (values_unless_empty (get_or K.classes r d).1.static_values) (slice_index (array_offsets K) r)
+  unfolding array_offsets
+  static_values_stand r d lt =
+      let f = λ (d : Definition). values_unless_empty d.1.static_values in
+      subst (λ u. UseStands b 1 (encoded_array_bytes K.pools) u (slice_index (array_offsets K) r)) (get_or-map f K.classes r d None lt)
+      (use_stands (array_section K) (encoded_array_bytes K.pools) (own_items (static_values_uses K)) (static_values_uses K) (own_numbered (static_values_uses K)) refl h.arrays r (omega (arith, lt, length-map K.classes f)))
+
+  -- the debug program of a method
+  debug_use : (k : ℕ) (x : MethodDef) → k < length (all_methods K.classes) → UseStands b 1 (debug_bytes K.pools) (debug_of (get_or (all_methods K.classes) k x)) (slice_index (debug_offsets K) k)
+  unfolding debug_offsets
+  debug_use k x lt =
+      subst (λ u. UseStands b 1 (debug_bytes K.pools) u (slice_index (debug_offsets K) k)) (get_or-map debug_of (all_methods K.classes) k x None lt)
+      (use_stands (debug_section K) (debug_bytes K.pools) (debug_items K) (debug_uses K) (shared_numbered (λ x y. same_text (debug_bytes K.pools x) (debug_bytes K.pools y)) (debug_uses K)) refl h.debugs k (omega (arith, lt, length-map (all_methods K.classes) debug_of)))
+
+  -- the code of a method
+  code_use : (k : ℕ) (x : MethodDef) → k < length (all_methods K.classes)
+      → UseStands b 4 (λ (p : Code × ℕ). code_bytes K.pools p.1 p.0) (code_of_method (slice_index (debug_offsets K) k) (get_or (all_methods K.classes) k x)) (slice_index (code_offsets K) k)
+  unfolding code_offsets
+  code_use k x lt =
+      let f : MethodDef → ℕ → Option (Code × ℕ) = λ x o. code_of_method o x in
+      let g : Code × ℕ → List ℕ = λ p. code_bytes K.pools p.1 p.0 in
+      let len : length (code_uses K (debug_offsets K)) ≡ length (all_methods K.classes) = length-zip_with f (all_methods K.classes) (debug_offsets K) (length (all_methods K.classes)) refl (length-debug_offsets K) in
+      subst (λ u. UseStands b 4 g u (slice_index (code_offsets K) k)) (get_or-zip_with f (all_methods K.classes) (debug_offsets K) k x 0 None lt (omega (arith, lt, length-debug_offsets K)))
+      (use_stands (code_section K) g (own_items (code_uses K (debug_offsets K))) (code_uses K (debug_offsets K)) (own_numbered (code_uses K (debug_offsets K))) refl h.codes k (omega (arith, lt, len)))
+
+  -- the debug program of the j-th method of class r
+  pub debug_stands : (r : ℕ) (d : Definition) (j : ℕ) (x : MethodDef) → r < length K.classes → j < length (declared_methods (get_or K.classes r d).1)
+      → UseStands b 1 (debug_bytes K.pools) (debug_of (get_or (declared_methods (get_or K.classes r d).1) j x)) (slice_index (debug_offsets K) (method_place K r j))
+  debug_stands r d j x lt less =
+      subst (λ y. UseStands b 1 (debug_bytes K.pools) (debug_of y) (slice_index (debug_offsets K) (method_place K r j))) (method_at K r d j x lt less)
+      (debug_use (method_place K r j) x (method_within K r d j lt less))
+
+  -- its code, at the offset that the class's data has for it
+  pub code_stands : (r : ℕ) (d : Definition) (j : ℕ) (x : MethodDef) → r < length K.classes → j < length (declared_methods (get_or K.classes r d).1)
+      → UseStands b 4 (λ (p : Code × ℕ). code_bytes K.pools p.1 p.0) (code_of_method (slice_index (debug_offsets K) (method_place K r j)) (get_or (declared_methods (get_or K.classes r d).1) j x))
+      (slice_index (get_or (by_class K (code_offsets K)) r []) j)
+  code_stands r d j x lt less =
+      let g : Code × ℕ → List ℕ = λ p. code_bytes K.pools p.1 p.0 in
+      subst (λ o. UseStands b 4 g (code_of_method (slice_index (debug_offsets K) (method_place K r j)) (get_or (declared_methods (get_or K.classes r d).1) j x)) o) (sym (by_class_at K (code_offsets K) r d j 0 lt less))
+      (subst (λ y. UseStands b 4 g (code_of_method (slice_index (debug_offsets K) (method_place K r j)) y) (slice_index (code_offsets K) (method_place K r j))) (method_at K r d j x lt less)
+      (code_use (method_place K r j) x (method_within K r d j lt less)))
+
+  -- the class data of a class
+  pub class_data_stands : (r : ℕ) (d : Definition) → r < length K.classes
+      → UseStands b 1 (λ (p : Definition × List ℕ). class_data_bytes K.pools p.0 p.1) (class_data_of (get_or K.classes r d) (get_or (by_class K (code_offsets K)) r [])) (slice_index (class_data_offsets K) r)
+  unfolding class_data_offsets
+  class_data_stands r d lt =
+      let g : Definition × List ℕ → List ℕ = λ p. class_data_bytes K.pools p.0 p.1 in
+      let uses = class_data_uses K (code_offsets K) in
+      let len : length uses ≡ length K.classes = length-zip_with class_data_of K.classes (by_class K (code_offsets K)) (length K.classes) refl (length-by_class K (code_offsets K)) in
+      subst (λ u. UseStands b 1 g u (slice_index (class_data_offsets K) r))
+      (get_or-zip_with class_data_of K.classes (by_class K (code_offsets K)) r d [] None lt (omega (arith, lt, length-by_class K (code_offsets K))))
+      (use_stands (class_data_section K) g (own_items uses) uses (own_numbered uses) refl h.class_data r (omega (arith, lt, len)))

@@ -6,7 +6,7 @@ use Rattle.std.specs.Prelude.{slice_index, Option, Some, None, Bool, true, false
 use Rattle.std.specs.Option.{option_map_or}
 use Rattle.std.specs.List.{flat_map, zip}
 use Rattle.std.specs.Cmp.Lexicographic.{pointwise}
-use Rattle.std.proofs.lemmas.List.{length-append, length-map, get_or-map, get_or-take, get_or-drop, get_or_append_left, get_or-append-add, get_or_default, drop-drop, map-id, take_all}
+use Rattle.std.proofs.lemmas.List.{length-take, length-drop, length-append, length-map, get_or-map, get_or-take, get_or-drop, get_or_append_left, get_or-append-add, get_or_default, drop-drop, map-id, take_all}
 use Rattle.std.proofs.lemmas.List.Concat.{get_or-flat_map}
 use Rattle.dexspec.specs.Lists.{chunks, zip_with, present}
 use Rattle.dexspec.specs.Bytes.{Stands}
@@ -17,8 +17,11 @@ use Rattle.dexspec.specs.Debug.{Debug}
 use Rattle.dexspec.specs.Values.{Values}
 use Rattle.dexspec.specs.Annotations.{Annotation, AnnotationSet}
 use Rattle.dexspec.specs.Classes.{FieldDef, MethodDef, Definition, declared_fields, declared_methods}
+use Rattle.dexspec.specs.Mentions.{Mentions}
 use Rattle.dexspec.specs.Spellings.{code_bytes, debug_bytes, encoded_array_bytes, annotation_bytes, offsets_bytes, class_data_bytes}
 use Rattle.dexspec.specs.Placing.{unless_empty, values_unless_empty, own_numbers, own_items, Items, shared_items, Placed, offsets, uses_offsets, Ordered, all_methods, by_class, is_empty_class, method_sets, class_sets, SetOffsets, set_offsets_of, type_list_uses, set_uses, debug_uses, code_uses, static_values_uses, class_data_uses, ref_list_uses, directory_uses, directory_bytes}
+use Rattle.std.proofs.lemmas.List.Folds.{length-flat_map-take}
+use Rattle.dexspec.proofs.Places.{length-offsets_from}
 use Rattle.dexspec.proofs.Placements.{type_list_bytes, type_list_items, type_list_section, annotation_section, annotation_offsets, array_section, debug_items, debug_section, debug_offsets, code_section, code_offsets, class_data_section, set_items, set_section, set_offsets, ref_list_section, ref_list_offsets, directory_section, directory_offsets, type_list_offsets, class_data_offsets, array_offsets, length-own_numbers, length-uses_offsets, length-shared_offsets, length-chunks, length-by_class, length-zip, length-zip_with, length-set_offsets}
 use Rattle.dexspec.proofs.Laying.{ItemStands, SectionStands, Laid, get_or-zip_with, get_or-zip}
 
@@ -245,3 +248,136 @@ module _ {K : Ordered} {b : List ℕ} (h : Laid K b) where
       subst (λ u. UseStands b 1 g u (slice_index (class_data_offsets K) r))
       (get_or-zip_with class_data_of K.classes (by_class K (code_offsets K)) r d [] None lt (omega (arith, lt, length-by_class K (code_offsets K))))
       (use_stands (class_data_section K) g (own_items uses) uses (own_numbered uses) refl h.class_data r (omega (arith, lt, len)))
+
+-- ---- annotation sets
+
+-- an annotation_set_item stands at the offset, and the annotations of the set at the offsets that it holds
+pub record SetItems (b : List ℕ) (m : Mentions) (o : ℕ) (x : AnnotationSet) : Type 0 where
+  pub offs : List ℕ
+  pub set : ItemStands b 4 o (offsets_bytes offs)
+  pub count : length offs ≡ length x
+  pub each : (j : ℕ) (d : Annotation) → j < length x → ItemStands b 1 (slice_index offs j) (annotation_bytes m (get_or x j d))
+
+-- an empty set has offset 0
+abbrev pub SetStands : List ℕ → Mentions → AnnotationSet → ℕ → Type 0
+SetStands b m [] o = o ≡ 0
+SetStands b m (a ∷ x) o = SetItems b m o (a ∷ x)
+
+-- the offset of each set, of all classes
+abbrev pub set_use_offsets : Ordered → List ℕ
+set_use_offsets K = uses_offsets (set_items K).numbers (offsets (set_section K))
+
+-- no class
+abbrev pub no_set_offsets : SetOffsets
+no_set_offsets = record { own = 0; fields = []; methods = [] }
+
+-- the offsets of the sets of class r
+abbrev pub class_set_offsets : Ordered → ℕ → SetOffsets
+class_set_offsets K r = get_or (set_offsets K) r no_set_offsets
+
+-- all of them, in the order of the class's sets
+abbrev class_chunk : Ordered → ℕ → List ℕ
+class_chunk K r = get_or (chunks (map (λ d. length (class_sets d)) K.classes) (set_use_offsets K)) r []
+
+-- taken apart
+class_set_offsets_is : (K : Ordered) (r : ℕ) (d : Definition) → r < length K.classes → class_set_offsets K r ≡ set_offsets_of (get_or K.classes r d) (class_chunk K r)
+unfolding set_offsets
+class_set_offsets_is K r d lt =
+    let parts = chunks (map (λ d. length (class_sets d)) K.classes) (set_use_offsets K) in
+    let len : length parts ≡ length K.classes = length-chunks (map (λ d. length (class_sets d)) K.classes) (set_use_offsets K) ∙ length-map K.classes (λ d. length (class_sets d)) in
+    get_or-zip_with set_offsets_of K.classes parts r d [] no_set_offsets lt (omega (arith, lt, len))
+
+module _ {K : Ordered} {b : List ℕ} (h : Laid K b) where
+  -- the i-th set that is written
+  set_written : (i : ℕ) (x : AnnotationSet) → i < length (set_items K).written → get_or (set_items K).written i x ≡ x → SetItems b K.pools (slice_index (offsets (set_section K)) i) x
+  unfolding annotation_offsets
+  set_written i x lt is =
+      let xs = (set_items K).written in
+      let f : AnnotationSet → List Annotation = λ set. set in
+      let zs = offsets (annotation_section K) in
+      let all = flat_map f xs in
+      let offs = get_or (annotation_offsets K) i [] in
+      let len : length (annotation_offsets K) ≡ length xs = length-chunks (map (λ set. length set) xs) zs ∙ length-map xs (λ set. length set) in
+      let total : length zs ≡ length all = length-offsets_from 1 (annotation_section K).from (annotation_section K).items ∙ length-map all (annotation_bytes K.pools) in
+      let room : length (flat_map f (take i xs)) + length (get_or xs i x) ≤ length all = length-flat_map-take f xs i x lt in
+      let same : length (get_or xs i x) ≡ length x = ap (λ (y : AnnotationSet). length y) is in
+      let n = length (flat_map f (take i xs)) in
+      record {
+        offs = offs;
+        set = subst (λ y. ItemStands b 4 (slice_index (offsets (set_section K)) i) y) (get_or-map offsets_bytes (annotation_offsets K) i [] (offsets_bytes []) (omega (arith, len, lt)))
+            (h.sets i (offsets_bytes []) (omega (arith, len, lt, length-map (annotation_offsets K) offsets_bytes)));
+        count = ap (λ (l : List ℕ). length l) (chunk_at f xs zs i x lt) ∙ length-take (length (get_or xs i x)) (drop n zs) ∙ omega (arith, length-drop n zs, total, room, same);
+        each = λ j d less.
+            let within : j < length (get_or xs i x) = omega (arith, same, less) in
+            let place : n + j < length all = part_within f xs i x j lt within in
+            let off : slice_index offs j ≡ slice_index zs (n + j) = chunk_item f xs zs i x j 0 lt within in
+            let item : get_or (annotation_section K).items (n + j) [] ≡ annotation_bytes K.pools (get_or x j d) =
+                get_or-map (annotation_bytes K.pools) all (n + j) d [] place ∙ ap (annotation_bytes K.pools) (get_or-flat_map f xs i j x d lt within ∙ ap (λ (y : AnnotationSet). get_or y j d) is) in
+            subst (λ o. ItemStands b 1 o (annotation_bytes K.pools (get_or x j d))) (sym off)
+            (subst (λ y. ItemStands b 1 (slice_index zs (n + j)) y) item (h.annotations (n + j) [] (omega (arith, place, length-map all (annotation_bytes K.pools)))));
+      }
+
+  set_by : (x : AnnotationSet) (n : Option ℕ) → IsNumber (unless_empty x) n (set_items K).written → SetStands b K.pools x (option_map_or (slice_index (offsets (set_section K))) n 0)
+  set_by [] n is = ap (λ m. option_map_or (slice_index (offsets (set_section K))) m 0) is
+  set_by (a ∷ x) n is = subst (λ m. SetItems b K.pools (option_map_or (slice_index (offsets (set_section K))) m 0) (a ∷ x)) (sym is.2) (set_written is.0 (a ∷ x) is.1 is.3)
+
+  -- each set of all classes
+  set_use : (k : ℕ) → k < length (flat_map class_sets K.classes) → SetStands b K.pools (get_or (flat_map class_sets K.classes) k []) (slice_index (set_use_offsets K) k)
+  set_use k lt =
+      let are = shared_numbered (λ x y. same_text (flat_map (annotation_bytes K.pools) x) (flat_map (annotation_bytes K.pools) y)) (set_uses K) in
+      let sets = flat_map class_sets K.classes in
+      let within : k < length (set_uses K) = omega (arith, lt, length-map sets (unless_empty {X = Annotation})) in
+      let number : IsNumber (unless_empty (get_or sets k [])) (get_or (set_items K).numbers k None) (set_items K).written =
+          subst (λ u. IsNumber u (get_or (set_items K).numbers k None) (set_items K).written) (get_or-map (unless_empty {X = Annotation}) sets k [] None lt) (are.each k within) in
+      subst (λ o. SetStands b K.pools (get_or sets k []) o) (sym (number_offset (set_items K).numbers (offsets (set_section K)) k (omega (arith, are.count, within)))) (set_by (get_or sets k []) (get_or (set_items K).numbers k None) number)
+
+  -- the n-th set of class r
+  class_set : (r : ℕ) (d : Definition) (n : ℕ) → r < length K.classes → n < length (class_sets (get_or K.classes r d)) → SetStands b K.pools (get_or (class_sets (get_or K.classes r d)) n []) (slice_index (class_chunk K r) n)
+  class_set r d n lt less =
+      let at = length (flat_map class_sets (take r K.classes)) + n in
+      subst (λ o. SetStands b K.pools (get_or (class_sets (get_or K.classes r d)) n []) o) (sym (chunk_item class_sets K.classes (set_use_offsets K) r d n 0 lt less))
+      (subst (λ x. SetStands b K.pools x (slice_index (set_use_offsets K) at)) (get_or-flat_map class_sets K.classes r n d [] lt less) (set_use at (part_within class_sets K.classes r d n lt less)))
+
+  -- the class's own set
+  pub own_set_stands : (r : ℕ) (d : Definition) → r < length K.classes → SetStands b K.pools (get_or K.classes r d).1.annotations (class_set_offsets K r).own
+  own_set_stands r d lt =
+      subst (λ (s : SetOffsets). SetStands b K.pools (get_or K.classes r d).1.annotations s.own) (sym (class_set_offsets_is K r d lt)) (class_set r d 0 lt (omega arith))
+
+  -- the set of its j-th field
+  pub field_set_stands : (r : ℕ) (d : Definition) (j : ℕ) (f : FieldDef) → r < length K.classes → j < length (declared_fields (get_or K.classes r d).1)
+      → SetStands b K.pools (get_or (declared_fields (get_or K.classes r d).1) j f).annotations (slice_index (class_set_offsets K r).fields j)
+  field_set_stands r d j f lt less =
+      let c = get_or K.classes r d in
+      let fs = declared_fields c.1 in
+      let g : FieldDef → AnnotationSet = λ f. f.annotations in
+      let rest = flat_map method_sets (declared_methods c.1) in
+      let len : length (map g fs) ≡ length fs = length-map fs g in
+      let set : get_or (class_sets c) (suc j) [] ≡ (get_or fs j f).annotations = get_or_append_left (map g fs) rest [] j (omega (arith, len, less)) ∙ get_or-map g fs j f [] less in
+      let off : slice_index (take (length fs) (drop 1 (class_chunk K r))) j ≡ slice_index (class_chunk K r) (suc j) =
+          get_or-take (length fs) (drop 1 (class_chunk K r)) j 0 less ∙ get_or-drop 1 (class_chunk K r) j 0 ∙ ap (slice_index (class_chunk K r)) (omega arith) in
+      subst (λ (s : SetOffsets). SetStands b K.pools (get_or fs j f).annotations (slice_index s.fields j)) (sym (class_set_offsets_is K r d lt))
+      (subst (λ o. SetStands b K.pools (get_or fs j f).annotations o) (sym off)
+      (subst (λ x. SetStands b K.pools x (slice_index (class_chunk K r) (suc j))) set (class_set r d (suc j) lt (omega (arith, length-append (map g fs) rest, len, less)))))
+
+  -- the i-th set of its j-th method: its own, and then those of its parameters
+  pub method_set_stands : (r : ℕ) (d : Definition) (j : ℕ) (x : MethodDef) (i : ℕ) → r < length K.classes → j < length (declared_methods (get_or K.classes r d).1)
+      → i < length (method_sets (get_or (declared_methods (get_or K.classes r d).1) j x))
+      → SetStands b K.pools (get_or (method_sets (get_or (declared_methods (get_or K.classes r d).1) j x)) i []) (slice_index (get_or (class_set_offsets K r).methods j []) i)
+  method_set_stands r d j x i lt less within =
+      let c = get_or K.classes r d in
+      let fs = declared_fields c.1 in
+      let xs = declared_methods c.1 in
+      let set = get_or (method_sets (get_or xs j x)) i [] in
+      let g : FieldDef → AnnotationSet = λ f. f.annotations in
+      let rest = flat_map method_sets xs in
+      let len : length (map g fs) ≡ length fs = length-map fs g in
+      let n = length (flat_map method_sets (take j xs)) + i in
+      let all = class_chunk K r in
+      let is : get_or (class_sets c) (suc (length fs + n)) [] ≡ set =
+          ap (λ k. get_or (map g fs ++ rest) (k + n) []) (sym len) ∙ get_or-append-add (map g fs) rest n [] ∙ get_or-flat_map method_sets xs j i x [] less within in
+      let off : slice_index (get_or (chunks (map (λ x. length (method_sets x)) xs) (drop (1 + length fs) all)) j []) i ≡ slice_index all (suc (length fs + n)) =
+          chunk_item method_sets xs (drop (1 + length fs) all) j x i 0 less within ∙ get_or-drop (1 + length fs) all n 0 ∙ ap (slice_index all) (omega arith) in
+      subst (λ (s : SetOffsets). SetStands b K.pools set (slice_index (get_or s.methods j []) i)) (sym (class_set_offsets_is K r d lt))
+      (subst (λ o. SetStands b K.pools set o) (sym off)
+      (subst (λ y. SetStands b K.pools y (slice_index all (suc (length fs + n)))) is
+      (class_set r d (suc (length fs + n)) lt (omega (arith, length-append (map g fs) rest, len, part_within method_sets xs j x i less within)))))

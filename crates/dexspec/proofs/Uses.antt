@@ -381,3 +381,75 @@ module _ {K : Ordered} {b : List ℕ} (h : Laid K b) where
       (subst (λ o. SetStands b K.pools set o) (sym off)
       (subst (λ y. SetStands b K.pools y (slice_index all (suc (length fs + n)))) is
       (class_set r d (suc (length fs + n)) lt (omega (arith, length-append (map g fs) rest, len, part_within method_sets xs j x i less within)))))
+
+-- ---- ref lists and directories
+
+-- as many for each, so as many before each
+zip_starts : {X Y Z W V : Type 0} (f : X → List Y) (g : Z → List W) (put : X → V → Z) → ((x : X) (v : V) → length (g (put x v)) ≡ length (f x)) → (xs : List X) (vs : List V) → length vs ≡ length xs
+    → (r : ℕ) → length (flat_map g (take r (zip_with put xs vs))) ≡ length (flat_map f (take r xs))
+zip_starts f g put each [] vs e zero = refl
+zip_starts f g put each [] vs e (suc r) = refl
+zip_starts f g put each (x ∷ xs) [] e r = absurd (omega (arith, e))
+zip_starts f g put each (x ∷ xs) (v ∷ vs) e zero = refl
+zip_starts f g put each (x ∷ xs) (v ∷ vs) e (suc r) =
+    length-append (g (put x v)) (flat_map g (take r (zip_with put xs vs)))
+    ∙ omega (arith, each x v, zip_starts f g put each xs vs (omega (arith, e)) r, length-append (f x) (flat_map f (take r xs)))
+
+-- the parameter sets of the methods of a class
+abbrev ref_uses_of : SetOffsets → List (Option (List ℕ))
+ref_uses_of s = map (λ offs. unless_empty (drop 1 offs)) s.methods
+
+-- for each method
+length-ref_uses_of : (d : Definition) (offs : List ℕ) → length (ref_uses_of (set_offsets_of d offs)) ≡ length (declared_methods d.1)
+length-ref_uses_of d offs =
+    let xs = declared_methods d.1 in
+    let parts = chunks (map (λ x. length (method_sets x)) xs) (drop (1 + length (declared_fields d.1)) offs) in
+    length-map parts (λ offs. unless_empty (drop 1 offs)) ∙ length-chunks (map (λ x. length (method_sets x)) xs) (drop (1 + length (declared_fields d.1)) offs) ∙ length-map xs (λ x. length (method_sets x))
+
+-- a method's place is that of its ref list
+ref_place : (K : Ordered) (r : ℕ) → length (flat_map ref_uses_of (take r (set_offsets K))) ≡ length (all_methods (take r K.classes))
+unfolding set_offsets
+ref_place K r =
+    zip_starts (λ (d : Definition). declared_methods d.1) ref_uses_of set_offsets_of length-ref_uses_of K.classes (chunks (map (λ d. length (class_sets d)) K.classes) (set_use_offsets K))
+    (length-chunks (map (λ d. length (class_sets d)) K.classes) (set_use_offsets K) ∙ length-map K.classes (λ d. length (class_sets d))) r
+
+module _ {K : Ordered} {b : List ℕ} (h : Laid K b) where
+  -- the ref list of the j-th method of class r
+  pub ref_list_stands : (r : ℕ) (d : Definition) (j : ℕ) → r < length K.classes → j < length (declared_methods (get_or K.classes r d).1)
+      → UseStands b 4 offsets_bytes (unless_empty (drop 1 (get_or (class_set_offsets K r).methods j []))) (slice_index (get_or (by_class K (ref_list_offsets K)) r []) j)
+  unfolding ref_list_offsets
+  ref_list_stands r d j lt less =
+      let sets = set_offsets K in
+      let s = class_set_offsets K r in
+      let uses = ref_list_uses K sets in
+      let n = method_place K r j in
+      let own : length (ref_uses_of s) ≡ length (declared_methods (get_or K.classes r d).1) =
+          ap (λ (s : SetOffsets). length (ref_uses_of s)) (class_set_offsets_is K r d lt) ∙ length-ref_uses_of (get_or K.classes r d) (class_chunk K r) in
+      let here : r < length sets = omega (arith, lt, length-set_offsets K) in
+      let among : j < length (ref_uses_of s) = omega (arith, own, less) in
+      let same : length (flat_map ref_uses_of (take r sets)) + j ≡ n = ap (λ k. k + j) (ref_place K r) in
+      let within : n < length uses = omega (arith, same, part_within ref_uses_of sets r no_set_offsets j here among) in
+      let one : get_or uses n None ≡ unless_empty (drop 1 (get_or s.methods j [])) =
+          ap (λ k. get_or uses k None) (sym same) ∙ get_or-flat_map ref_uses_of sets r j no_set_offsets None here among
+          ∙ get_or-map (λ offs. unless_empty (drop 1 offs)) s.methods j [] None (omega (arith, among, length-map s.methods (λ offs. unless_empty (drop 1 offs)))) in
+      subst (λ o. UseStands b 4 offsets_bytes (unless_empty (drop 1 (get_or s.methods j []))) o) (sym (by_class_at K (ref_list_offsets K) r d j 0 lt less))
+      (subst (λ u. UseStands b 4 offsets_bytes u (slice_index (ref_list_offsets K) n)) one (use_stands (ref_list_section K) offsets_bytes (own_items uses) uses (own_numbered uses) refl h.ref_lists n within))
+
+  -- the directory of class r
+  pub directory_stands : (r : ℕ) (d : Definition) → r < length K.classes
+      → UseStands b 4 (λ (x : List ℕ). x) (directory_bytes K.pools (get_or K.classes r d) (class_set_offsets K r) (get_or (by_class K (ref_list_offsets K)) r [])) (slice_index (directory_offsets K) r)
+  unfolding directory_offsets
+  directory_stands r d lt =
+      let sets = set_offsets K in
+      let refs = by_class K (ref_list_offsets K) in
+      let g : List ℕ → List ℕ = λ x. x in
+      let put : Definition → SetOffsets × List ℕ → Option (List ℕ) = λ d p. directory_bytes K.pools d p.0 p.1 in
+      let uses = directory_uses K sets (ref_list_offsets K) in
+      let both : length (zip sets refs) ≡ length K.classes = length-zip sets refs (length K.classes) (length-set_offsets K) (length-by_class K (ref_list_offsets K)) in
+      let len : length uses ≡ length K.classes = length-zip_with put K.classes (zip sets refs) (length K.classes) refl both in
+      let pair : get_or (zip sets refs) r (no_set_offsets, []) ≡ (class_set_offsets K r, get_or refs r []) =
+          get_or-zip sets refs r no_set_offsets [] (omega (arith, lt, length-set_offsets K)) (omega (arith, lt, length-by_class K (ref_list_offsets K))) in
+      let one : get_or uses r None ≡ put (get_or K.classes r d) (class_set_offsets K r, get_or refs r []) =
+          get_or-zip_with put K.classes (zip sets refs) r d (no_set_offsets, []) None lt (omega (arith, lt, both)) ∙ ap (put (get_or K.classes r d)) pair in
+      subst (λ u. UseStands b 4 g u (slice_index (directory_offsets K) r)) one
+      (use_stands (directory_section K) g (own_items uses) uses (own_numbered uses) (sym (map-id (own_items uses).written)) h.directories r (omega (arith, lt, len)))

@@ -36,3 +36,4 @@ pub mod MapEntries
 pub mod MapLaws
 pub mod Frames
 pub mod Uses
+pub mod RowsRead

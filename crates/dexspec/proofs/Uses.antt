@@ -453,3 +453,66 @@ module _ {K : Ordered} {b : List ℕ} (h : Laid K b) where
           get_or-zip_with put K.classes (zip sets refs) r d (no_set_offsets, []) None lt (omega (arith, lt, both)) ∙ ap (put (get_or K.classes r d)) pair in
       subst (λ u. UseStands b 4 g u (slice_index (directory_offsets K) r)) one
       (use_stands (directory_section K) g (own_items uses) uses (own_numbered uses) (sym (map-id (own_items uses).written)) h.directories r (omega (arith, lt, len)))
+
+-- ---- how many there are
+
+-- the r-th part is as long as what the r-th member has
+pub length_chunk : {X Y Z : Type 0} (f : X → List Y) (xs : List X) (zs : List Z) (r : ℕ) (d : X) → r < length xs → length zs ≡ length (flat_map f xs)
+    → length (get_or (chunks (map (λ x. length (f x)) xs) zs) r []) ≡ length (f (get_or xs r d))
+length_chunk f xs zs r d lt all =
+    let n = length (flat_map f (take r xs)) in
+    let len : length (get_or (chunks (map (λ x. length (f x)) xs) zs) r []) ≡ length (take (length (f (get_or xs r d))) (drop n zs)) = ap (λ l. length l) (chunk_at f xs zs r d lt) in
+    omega (arith, len, length-take (length (f (get_or xs r d))) (drop n zs), length-drop n zs, all, length-flat_map-take f xs r d lt)
+
+-- of what is for all methods a class has as many as methods
+pub length-class_part : {X : Type 0} (K : Ordered) (xs : List X) (r : ℕ) (d : Definition) → r < length K.classes → length xs ≡ length (all_methods K.classes)
+    → length (get_or (by_class K xs) r []) ≡ length (declared_methods (get_or K.classes r d).1)
+length-class_part K xs r d lt all = length_chunk (λ (d : Definition). declared_methods d.1) K.classes xs r d lt all
+
+-- an offset of a ref list for each method
+pub length-ref_list_offsets : (K : Ordered) → length (ref_list_offsets K) ≡ length (all_methods K.classes)
+unfolding ref_list_offsets
+length-ref_list_offsets K =
+    let sets = set_offsets K in
+    let every : take (length K.classes) sets ≡ sets = take_all (length K.classes) sets (omega (arith, length-set_offsets K)) in
+    let classes : take (length K.classes) K.classes ≡ K.classes = take_all (length K.classes) K.classes (omega arith) in
+    length-uses_offsets (ref_list_uses K sets) (offsets (ref_list_section K)) ∙ ap (λ l. length (flat_map ref_uses_of l)) (sym every) ∙ ref_place K (length K.classes)
+    ∙ ap (λ l. length (all_methods l)) classes
+
+-- as many offsets of sets as sets
+length-set_use_offsets : (K : Ordered) → length (set_use_offsets K) ≡ length (flat_map class_sets K.classes)
+length-set_use_offsets K =
+    length-shared_offsets (λ x y. same_text (flat_map (annotation_bytes K.pools) x) (flat_map (annotation_bytes K.pools) y)) (set_uses K) (offsets (set_section K))
+    ∙ length-map (flat_map class_sets K.classes) (unless_empty {X = Annotation})
+
+length-class_chunk : (K : Ordered) (r : ℕ) (d : Definition) → r < length K.classes → length (class_chunk K r) ≡ length (class_sets (get_or K.classes r d))
+length-class_chunk K r d lt = length_chunk class_sets K.classes (set_use_offsets K) r d lt (length-set_use_offsets K)
+
+-- of class r: an offset for each field's set
+pub length-field_set_offsets : (K : Ordered) (r : ℕ) (d : Definition) → r < length K.classes → length (class_set_offsets K r).fields ≡ length (declared_fields (get_or K.classes r d).1)
+length-field_set_offsets K r d lt =
+    let c = get_or K.classes r d in
+    let fs = declared_fields c.1 in
+    let g : FieldDef → AnnotationSet = λ f. f.annotations in
+    ap (λ (s : SetOffsets). length s.fields) (class_set_offsets_is K r d lt) ∙ length-take (length fs) (drop 1 (class_chunk K r))
+    ∙ omega (arith, length-drop 1 (class_chunk K r), length-class_chunk K r d lt, length-append (map g fs) (flat_map method_sets (declared_methods c.1)), length-map fs g)
+
+-- for each method a list
+pub length-method_set_offsets : (K : Ordered) (r : ℕ) (d : Definition) → r < length K.classes → length (class_set_offsets K r).methods ≡ length (declared_methods (get_or K.classes r d).1)
+length-method_set_offsets K r d lt =
+    let xs = declared_methods (get_or K.classes r d).1 in
+    let rest = drop (1 + length (declared_fields (get_or K.classes r d).1)) (class_chunk K r) in
+    ap (λ (s : SetOffsets). length s.methods) (class_set_offsets_is K r d lt) ∙ length-chunks (map (λ x. length (method_sets x)) xs) rest ∙ length-map xs (λ x. length (method_sets x))
+
+-- of as many offsets as the method has sets
+pub length-one_method_set_offsets : (K : Ordered) (r : ℕ) (d : Definition) (j : ℕ) (x : MethodDef) → r < length K.classes → j < length (declared_methods (get_or K.classes r d).1)
+    → length (get_or (class_set_offsets K r).methods j []) ≡ length (method_sets (get_or (declared_methods (get_or K.classes r d).1) j x))
+length-one_method_set_offsets K r d j x lt less =
+    let c = get_or K.classes r d in
+    let fs = declared_fields c.1 in
+    let xs = declared_methods c.1 in
+    let g : FieldDef → AnnotationSet = λ f. f.annotations in
+    let rest = drop (1 + length fs) (class_chunk K r) in
+    let all : length rest ≡ length (flat_map method_sets xs) =
+        length-drop (1 + length fs) (class_chunk K r) ∙ omega (arith, length-class_chunk K r d lt, length-append (map g fs) (flat_map method_sets xs), length-map fs g) in
+    ap (λ (s : SetOffsets). length (get_or s.methods j [])) (class_set_offsets_is K r d lt) ∙ length_chunk method_sets xs rest j x less all

@@ -32,6 +32,11 @@ map_place K = round_up 4 (layout K).data_end
 unfoldable pub map_list : Ordered → List (Section × ℕ × ℕ)
 map_list K = map_of K (layout K) (map_place K)
 
+-- it is the map of the layout
+pub map_list_named : (K : Ordered) → map_list K ≡ map_of K (layout K) (map_place K)
+unfolding map_list
+map_list_named K = refl
+
 -- the bytes of the file
 abbrev pub file_length : Ordered → ℕ
 file_length K = map_place K + length (map_bytes (map_list K))
@@ -161,7 +166,7 @@ get_or-zip (x ∷ xs) (y ∷ ys) zero d e lt le = refl
 get_or-zip (x ∷ xs) (y ∷ ys) (suc i) d e lt le = get_or-zip xs ys i d e (omega arith) (omega arith)
 
 -- what the layout has at a class
-class_at : (K : Ordered) (r : ℕ) → r < length K.classes → get_or (named_layout K).classes r (class_places K r) ≡ class_places K r
+pub class_at : (K : Ordered) (r : ℕ) → r < length K.classes → get_or (named_layout K).classes r (class_places K r) ≡ class_places K r
 class_at K r lt =
     let n = length K.pools.protos in
     let is = drop n (type_list_offsets K) in

@@ -1,12 +1,11 @@
 -- What the rows of a file that is laid out are read as: indices, offsets, and what stands there.
-use Rattle.std.proofs.Common.{◌≡◌, ℕ, zero, suc, ◌+◌, ◌*◌, ◌^◌, ◌<◌, ◌≤◌, List, [], ◌∷◌, ◌++◌, length, get_or, map, refl, sym, ap, subst, ◌∙◌, arith}
+use Rattle.std.proofs.Common.{◌≡◌, ℕ, ◌+◌, ◌*◌, ◌^◌, ◌<◌, ◌≤◌, List, [], ◌∷◌, ◌++◌, length, get_or, map, refl, sym, ap, subst, ◌∙◌, arith}
 use Rattle.std.specs.Prelude.{slice_index, Option, Some, None}
 use Rattle.std.specs.Option.{option_map_or}
 use Rattle.std.specs.List.{flat_map}
 use Rattle.std.specs.Ordering.{is_lt}
 use Rattle.std.proofs.lemmas.List.{get_or-map, length-map, length-append}
 use Rattle.std.proofs.lemmas.List.Sums.{count_by-le-length}
-use Rattle.dexspec.specs.Lists.{rank}
 use Rattle.dexspec.specs.Bytes.{ushort, uint, ushort_at, uint_at, ushorts_at, uints_at, Stands}
 use Rattle.dexspec.specs.Texts.{Text, text_cmp, string_data}
 use Rattle.dexspec.specs.Names.{shorty}
@@ -14,16 +13,13 @@ use Rattle.dexspec.specs.Symbols.{Proto, Field, Method, proto_cmp}
 use Rattle.dexspec.specs.Header.{Table, StringIds, TypeIds, ProtoIds, FieldIds, MethodIds, ClassDefs}
 use Rattle.dexspec.specs.Sections.{IsInData}
 use Rattle.dexspec.specs.Rows.{row_at, type_indices}
-use Rattle.dexspec.specs.Values.{Values}
 use Rattle.dexspec.specs.Classes.{Definition, class_idx, access_flags, superclass_idx, interfaces_off, source_file_idx, annotations_off, class_data_off, static_values_off, no_index}
-use Rattle.dexspec.specs.Mentions.{Mentions}
 use Rattle.dexspec.specs.Spellings.{text_index, type_index, proto_index, encoded_array_bytes, class_data_bytes}
 use Rattle.dexspec.specs.Placing.{unless_empty, values_unless_empty, offsets, Ordered, by_class, directory_bytes}
-use Rattle.dexspec.specs.Canonical.{table_count, data_start, proto_row_bytes, field_row_bytes, method_row_bytes, class_row_bytes}
+use Rattle.dexspec.specs.Canonical.{table_count}
 use Rattle.dexspec.proofs.Stands.{stands_at, length_rows}
 use Rattle.dexspec.proofs.ByteNumbers.{length-uint, length-ushort, ushort_at-stands, uint_at-stands}
-use Rattle.dexspec.proofs.Places.{length-offsets_from}
-use Rattle.dexspec.proofs.Placements.{type_list_bytes, string_section, type_list_offsets, directory_offsets, class_data_offsets, array_offsets, code_offsets, ref_list_offsets}
+use Rattle.dexspec.proofs.Placements.{type_list_bytes, string_section, type_list_offsets, code_offsets, ref_list_offsets}
 use Rattle.dexspec.proofs.Tables.{stands_here, stands_behind, stands_next}
 use Rattle.dexspec.proofs.Laying.{ItemStands, Laid, table_few, data_before_map, class_places}
 use Rattle.dexspec.proofs.HeaderLaws.{AreFew}

@@ -1,20 +1,18 @@
 -- What each use of an item leads to in a file that is laid out: its offset is 0 if it has none, and else the item
 -- stands there. By class and method: type lists, static values, class data, code, debug programs, sets, ref lists
 -- and directories.
-use Rattle.std.proofs.Common.{◌≡◌, ◌≢◌, ℕ, zero, suc, ◌+◌, ◌*◌, ◌<◌, ◌≤◌, List, [], ◌∷◌, ◌++◌, length, get_or, map, take, drop, refl, sym, ap, subst, ◌∙◌, arith}
-use Rattle.std.specs.Prelude.{slice_index, Option, Some, None, Bool, true, false, if◌then◌else◌}
+use Rattle.std.proofs.Common.{◌≡◌, ℕ, zero, suc, ◌+◌, ◌<◌, ◌≤◌, List, [], ◌∷◌, ◌++◌, length, get_or, map, take, drop, refl, sym, ap, subst, ◌∙◌, arith}
+use Rattle.std.specs.Prelude.{slice_index, Option, Some, None, Bool, if◌then◌else◌}
 use Rattle.std.specs.Option.{option_map_or}
 use Rattle.std.specs.List.{flat_map, zip}
 use Rattle.std.specs.Cmp.Lexicographic.{pointwise}
-use Rattle.std.proofs.lemmas.List.{length-take, length-drop, length-append, length-map, get_or-map, get_or-take, get_or-drop, get_or_append_left, get_or-append-add, get_or_default, drop-drop, map-id, take_all}
+use Rattle.std.proofs.lemmas.List.{length-take, length-drop, length-append, length-map, get_or-map, get_or-take, get_or-drop, get_or_append_left, get_or-append-add, drop-drop, map-id, take_all}
 use Rattle.std.proofs.lemmas.List.Concat.{get_or-flat_map}
 use Rattle.dexspec.specs.Lists.{chunks, zip_with, present}
-use Rattle.dexspec.specs.Bytes.{Stands}
 use Rattle.dexspec.specs.Texts.{same_text}
 use Rattle.dexspec.specs.Symbols.{Proto}
 use Rattle.dexspec.specs.Code.{Code}
 use Rattle.dexspec.specs.Debug.{Debug}
-use Rattle.dexspec.specs.Values.{Values}
 use Rattle.dexspec.specs.Annotations.{Annotation, AnnotationSet}
 use Rattle.dexspec.specs.Classes.{FieldDef, MethodDef, Definition, declared_fields, declared_methods}
 use Rattle.dexspec.specs.Mentions.{Mentions}
@@ -312,7 +310,7 @@ module _ {K : Ordered} {b : List ℕ} (h : Laid K b) where
             let place : n + j < length all = part_within f xs i x j lt within in
             let off : slice_index offs j ≡ slice_index zs (n + j) = chunk_item f xs zs i x j 0 lt within in
             let item : get_or (annotation_section K).items (n + j) [] ≡ annotation_bytes K.pools (get_or x j d) =
-                get_or-map (annotation_bytes K.pools) all (n + j) d [] place ∙ ap (annotation_bytes K.pools) (get_or-flat_map f xs i j x d lt within ∙ ap (λ (y : AnnotationSet). get_or y j d) is) in
+            get_or-map (annotation_bytes K.pools) all (n + j) d [] place ∙ ap (annotation_bytes K.pools) (get_or-flat_map f xs i j x d lt within ∙ ap (λ (y : AnnotationSet). get_or y j d) is) in
             subst (λ o. ItemStands b 1 o (annotation_bytes K.pools (get_or x j d))) (sym off)
             (subst (λ y. ItemStands b 1 (slice_index zs (n + j)) y) item (h.annotations (n + j) [] (omega (arith, place, length-map all (annotation_bytes K.pools)))));
       }
@@ -328,7 +326,7 @@ module _ {K : Ordered} {b : List ℕ} (h : Laid K b) where
       let sets = flat_map class_sets K.classes in
       let within : k < length (set_uses K) = omega (arith, lt, length-map sets (unless_empty {X = Annotation})) in
       let number : IsNumber (unless_empty (get_or sets k [])) (get_or (set_items K).numbers k None) (set_items K).written =
-          subst (λ u. IsNumber u (get_or (set_items K).numbers k None) (set_items K).written) (get_or-map (unless_empty {X = Annotation}) sets k [] None lt) (are.each k within) in
+      subst (λ u. IsNumber u (get_or (set_items K).numbers k None) (set_items K).written) (get_or-map (unless_empty {X = Annotation}) sets k [] None lt) (are.each k within) in
       subst (λ o. SetStands b K.pools (get_or sets k []) o) (sym (number_offset (set_items K).numbers (offsets (set_section K)) k (omega (arith, are.count, within)))) (set_by (get_or sets k []) (get_or (set_items K).numbers k None) number)
 
   -- the n-th set of class r
@@ -354,7 +352,7 @@ module _ {K : Ordered} {b : List ℕ} (h : Laid K b) where
       let len : length (map g fs) ≡ length fs = length-map fs g in
       let set : get_or (class_sets c) (suc j) [] ≡ (get_or fs j f).annotations = get_or_append_left (map g fs) rest [] j (omega (arith, len, less)) ∙ get_or-map g fs j f [] less in
       let off : slice_index (take (length fs) (drop 1 (class_chunk K r))) j ≡ slice_index (class_chunk K r) (suc j) =
-          get_or-take (length fs) (drop 1 (class_chunk K r)) j 0 less ∙ get_or-drop 1 (class_chunk K r) j 0 ∙ ap (slice_index (class_chunk K r)) (omega arith) in
+      get_or-take (length fs) (drop 1 (class_chunk K r)) j 0 less ∙ get_or-drop 1 (class_chunk K r) j 0 ∙ ap (slice_index (class_chunk K r)) (omega arith) in
       subst (λ (s : SetOffsets). SetStands b K.pools (get_or fs j f).annotations (slice_index s.fields j)) (sym (class_set_offsets_is K r d lt))
       (subst (λ o. SetStands b K.pools (get_or fs j f).annotations o) (sym off)
       (subst (λ x. SetStands b K.pools x (slice_index (class_chunk K r) (suc j))) set (class_set r d (suc j) lt (omega (arith, length-append (map g fs) rest, len, less)))))
@@ -374,9 +372,9 @@ module _ {K : Ordered} {b : List ℕ} (h : Laid K b) where
       let n = length (flat_map method_sets (take j xs)) + i in
       let all = class_chunk K r in
       let is : get_or (class_sets c) (suc (length fs + n)) [] ≡ set =
-          ap (λ k. get_or (map g fs ++ rest) (k + n) []) (sym len) ∙ get_or-append-add (map g fs) rest n [] ∙ get_or-flat_map method_sets xs j i x [] less within in
+      ap (λ k. get_or (map g fs ++ rest) (k + n) []) (sym len) ∙ get_or-append-add (map g fs) rest n [] ∙ get_or-flat_map method_sets xs j i x [] less within in
       let off : slice_index (get_or (chunks (map (λ x. length (method_sets x)) xs) (drop (1 + length fs) all)) j []) i ≡ slice_index all (suc (length fs + n)) =
-          chunk_item method_sets xs (drop (1 + length fs) all) j x i 0 less within ∙ get_or-drop (1 + length fs) all n 0 ∙ ap (slice_index all) (omega arith) in
+      chunk_item method_sets xs (drop (1 + length fs) all) j x i 0 less within ∙ get_or-drop (1 + length fs) all n 0 ∙ ap (slice_index all) (omega arith) in
       subst (λ (s : SetOffsets). SetStands b K.pools set (slice_index (get_or s.methods j []) i)) (sym (class_set_offsets_is K r d lt))
       (subst (λ o. SetStands b K.pools set o) (sym off)
       (subst (λ y. SetStands b K.pools y (slice_index all (suc (length fs + n)))) is
@@ -424,14 +422,14 @@ module _ {K : Ordered} {b : List ℕ} (h : Laid K b) where
       let uses = ref_list_uses K sets in
       let n = method_place K r j in
       let own : length (ref_uses_of s) ≡ length (declared_methods (get_or K.classes r d).1) =
-          ap (λ (s : SetOffsets). length (ref_uses_of s)) (class_set_offsets_is K r d lt) ∙ length-ref_uses_of (get_or K.classes r d) (class_chunk K r) in
+      ap (λ (s : SetOffsets). length (ref_uses_of s)) (class_set_offsets_is K r d lt) ∙ length-ref_uses_of (get_or K.classes r d) (class_chunk K r) in
       let here : r < length sets = omega (arith, lt, length-set_offsets K) in
       let among : j < length (ref_uses_of s) = omega (arith, own, less) in
       let same : length (flat_map ref_uses_of (take r sets)) + j ≡ n = ap (λ k. k + j) (ref_place K r) in
       let within : n < length uses = omega (arith, same, part_within ref_uses_of sets r no_set_offsets j here among) in
       let one : get_or uses n None ≡ unless_empty (drop 1 (get_or s.methods j [])) =
-          ap (λ k. get_or uses k None) (sym same) ∙ get_or-flat_map ref_uses_of sets r j no_set_offsets None here among
-          ∙ get_or-map (λ offs. unless_empty (drop 1 offs)) s.methods j [] None (omega (arith, among, length-map s.methods (λ offs. unless_empty (drop 1 offs)))) in
+      ap (λ k. get_or uses k None) (sym same) ∙ get_or-flat_map ref_uses_of sets r j no_set_offsets None here among
+      ∙ get_or-map (λ offs. unless_empty (drop 1 offs)) s.methods j [] None (omega (arith, among, length-map s.methods (λ offs. unless_empty (drop 1 offs)))) in
       subst (λ o. UseStands b 4 offsets_bytes (unless_empty (drop 1 (get_or s.methods j []))) o) (sym (by_class_at K (ref_list_offsets K) r d j 0 lt less))
       (subst (λ u. UseStands b 4 offsets_bytes u (slice_index (ref_list_offsets K) n)) one (use_stands (ref_list_section K) offsets_bytes (own_items uses) uses (own_numbered uses) refl h.ref_lists n within))
 
@@ -448,9 +446,9 @@ module _ {K : Ordered} {b : List ℕ} (h : Laid K b) where
       let both : length (zip sets refs) ≡ length K.classes = length-zip sets refs (length K.classes) (length-set_offsets K) (length-by_class K (ref_list_offsets K)) in
       let len : length uses ≡ length K.classes = length-zip_with put K.classes (zip sets refs) (length K.classes) refl both in
       let pair : get_or (zip sets refs) r (no_set_offsets, []) ≡ (class_set_offsets K r, get_or refs r []) =
-          get_or-zip sets refs r no_set_offsets [] (omega (arith, lt, length-set_offsets K)) (omega (arith, lt, length-by_class K (ref_list_offsets K))) in
+      get_or-zip sets refs r no_set_offsets [] (omega (arith, lt, length-set_offsets K)) (omega (arith, lt, length-by_class K (ref_list_offsets K))) in
       let one : get_or uses r None ≡ put (get_or K.classes r d) (class_set_offsets K r, get_or refs r []) =
-          get_or-zip_with put K.classes (zip sets refs) r d (no_set_offsets, []) None lt (omega (arith, lt, both)) ∙ ap (put (get_or K.classes r d)) pair in
+      get_or-zip_with put K.classes (zip sets refs) r d (no_set_offsets, []) None lt (omega (arith, lt, both)) ∙ ap (put (get_or K.classes r d)) pair in
       subst (λ u. UseStands b 4 g u (slice_index (directory_offsets K) r)) one
       (use_stands (directory_section K) g (own_items uses) uses (own_numbered uses) (sym (map-id (own_items uses).written)) h.directories r (omega (arith, lt, len)))
 
@@ -514,5 +512,5 @@ length-one_method_set_offsets K r d j x lt less =
     let g : FieldDef → AnnotationSet = λ f. f.annotations in
     let rest = drop (1 + length fs) (class_chunk K r) in
     let all : length rest ≡ length (flat_map method_sets xs) =
-        length-drop (1 + length fs) (class_chunk K r) ∙ omega (arith, length-class_chunk K r d lt, length-append (map g fs) (flat_map method_sets xs), length-map fs g) in
+    length-drop (1 + length fs) (class_chunk K r) ∙ omega (arith, length-class_chunk K r d lt, length-append (map g fs) (flat_map method_sets xs), length-map fs g) in
     ap (λ (s : SetOffsets). length (get_or s.methods j [])) (class_set_offsets_is K r d lt) ∙ length_chunk method_sets xs rest j x less all

@@ -1,19 +1,16 @@
-use Rattle.std.proofs.Common.{◌≡◌, ℕ, ◌+◌, ◌*◌, ◌^◌, ◌<◌, List, length, get_or, take, sym, ap, subst, ◌∙◌, arith, refl, ◌%◌}
+use Rattle.std.proofs.Common.{◌≡◌, ℕ, List, length, get_or, sym, ap, subst, ◌∙◌, arith, ◌%◌}
 use Rattle.std.specs.Prelude.{slice_index}
 use Rattle.std.specs.List.{All, Contains}
 use Rattle.std.proofs.lemmas.List.{get_or-take, get_or_default}
 use Rattle.std.proofs.lemmas.List.Elements.{All-from_recursion, All-contains}
 use Rattle.dexspec.specs.Bytes.{uint, Stands, round_up}
-use Rattle.dexspec.specs.Symbols.{Proto}
-use Rattle.dexspec.specs.Classes.{Definition}
-use Rattle.dexspec.specs.Header.{ProtoIds, ClassDefs, StringIds, map_off}
+use Rattle.dexspec.specs.Header.{ProtoIds, ClassDefs, StringIds}
 use Rattle.dexspec.specs.Rows.{row_at}
-use Rattle.dexspec.specs.Placing.{Ordered, Placed, offsets}
-use Rattle.dexspec.specs.Canonical.{ClassOffsets, Layout, layout, map_of, map_bytes, proto_row_bytes, class_row_bytes, with_sums, unsigned_file}
-use Rattle.dexspec.proofs.Stands.{stands_at}
+use Rattle.dexspec.specs.Placing.{Ordered}
+use Rattle.dexspec.specs.Canonical.{Layout, layout, map_of, map_bytes, proto_row_bytes, class_row_bytes}
 use Rattle.dexspec.proofs.Places.{round_up_four}
 use Rattle.dexspec.proofs.Placements.{named_layout, named_layout_full, layout_is, data_sections, directory_end, type_list_offsets}
-use Rattle.dexspec.proofs.Laying.{Laid, laid, ItemStands, SectionStands, class_places, class_at, map_place, map_list, map_place_is, map_list_named}
+use Rattle.dexspec.proofs.Laying.{Laid, laid, SectionStands, class_places, class_at, map_place, map_place_is, map_list_named}
 use Rattle.dexlaws_frame.specs.Laws.{HasFields, HasRows, HasItems, StandsAligned}
 use Rattle.dexlaws_frame.proofs.layout_law.Goals as goal
 
@@ -39,7 +36,7 @@ rows {K} {b} h = record {
   methods = h.method_row;
   classes = λ r d e lt.
       let at : get_or (named_layout K).classes r e ≡ class_places K r =
-          get_or_default (named_layout K).classes r e (class_places K r) (omega (arith, lt, (named_layout_full K).classes)) ∙ class_at K r lt in
+      get_or_default (named_layout K).classes r e (class_places K r) (omega (arith, lt, (named_layout_full K).classes)) ∙ class_at K r lt in
       subst (λ (l : Layout). Stands b (row_at b ClassDefs r) (class_row_bytes K.pools (get_or K.classes r d) (get_or l.classes r e))) (sym (layout_is K))
       (subst (λ offs. Stands b (row_at b ClassDefs r) (class_row_bytes K.pools (get_or K.classes r d) offs)) (sym at) (h.class_row r d lt));
 }

@@ -36,8 +36,8 @@ pub fn layout_law()
 {}
 
 /// The canonical file of a collection meets conditions 1 to 10, if it is not too long and no pool has too
-/// many symbols: so if the collection fits any caps.
+/// many symbols; and so it does if the collection fits any caps, with no premise on its bytes.
 pub fn frame_law()
     ensures frame { (K : Collection) → HasFewSymbols (mentions (definitions K)) → length (canonical K) ≤ 2 ^ 30 → IsFrame (canonical K) }
-    ensures fits { (caps : Caps) (K : Collection) → AreCaps caps → Fits caps (definitions K) → length (canonical K) ≤ 2 ^ 30 → IsFrame (canonical K) }
+    ensures fits { (caps : Caps) (K : Collection) → AreCaps caps → Fits caps (definitions K) → IsFrame (canonical K) }
 {}

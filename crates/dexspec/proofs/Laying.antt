@@ -57,6 +57,7 @@ record Five (b h t s m : List ℕ) (from at : ℕ) : Type 0 where
   five : Stands b at m
   size : length b ≡ at + length m
 
+-- they stand one behind the other
 five_parts : (h t s p m : List ℕ) (from to at : ℕ) → length h ≡ 80 → header_length + length t ≡ from → from + length s ≡ to → to + length p ≡ at
     → Five (with_sums (h ++ (t ++ (s ++ (p ++ m))))) h t s m from at
 five_parts h t s p m from to at eh et es ep =
@@ -233,6 +234,7 @@ module _ (K : Ordered) (b : List ℕ) (p : Parts b K) (small : length b < 2 ^ 32
   data_from_is : data_off b ≡ data_start K
   data_from_is = uint_at-stands (omega (arith, starts, p.size)) fields.data_place
 
+  -- how much data there is
   data_bytes_is : data_size b ≡ file_length K - data_start K
   data_bytes_is = uint_at-stands (omega (arith, p.size)) fields.data_bytes
 
@@ -240,11 +242,13 @@ module _ (K : Ordered) (b : List ℕ) (p : Parts b K) (small : length b < 2 ^ 32
   count_is : (t : Table) → table_size b t ≡ table_count K t
   count_is t = uint_at-stands (omega (arith, table_few K t, starts, p.size)) (stands_here (uint (table_count K t)) (uint (table_place K t)) (fields.table t))
 
+  -- where the header has a table
   place_is : (t : Table) → table_off b t ≡ table_place K t
   place_is t =
       let le : table_place K t ≤ data_start K = unless_zero (table_count K t == 0) (table_start K t) (data_start K) (omega (arith, table_within K t)) in
       uint_at-stands (omega (arith, le, starts, p.size)) (stands_next (table_count K t) (uint (table_place K t)) (fields.table t))
 
+  -- where a table that has rows begins
   begins_at : (t : Table) → 0 < table_count K t → table_off b t ≡ table_start K t
   begins_at t lt = place_is t ∙ not_zero (table_count K t) (table_start K t) lt
 

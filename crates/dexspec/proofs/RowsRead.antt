@@ -52,22 +52,25 @@ pub use_small : {X : Type 0} (b : List ℕ) (align : ℕ) (g : X → List ℕ) (
 use_small b align g None o small h = omega (arith, h)
 use_small b align g (Some x) o small h = omega (arith, h.in_data.within)
 
--- what the rows of a proto, a field, a method and a class are read as
+-- what a proto's row is read as
 pub record ProtoRead (K : Ordered) (b : List ℕ) (i : ℕ) (p : Proto) : Type 0 where
   pub shorty_is : uint_at b (row_at b ProtoIds i) ≡ text_index K.pools (shorty p.return_type p.parameters)
   pub return_is : uint_at b (row_at b ProtoIds i + 4) ≡ type_index K.pools p.return_type
   pub parameters_are : UseStands b 4 (type_list_bytes K.pools) (unless_empty p.parameters) (uint_at b (row_at b ProtoIds i + 8))
 
+-- what a field's row is read as
 pub record FieldRead (K : Ordered) (b : List ℕ) (i : ℕ) (f : Field) : Type 0 where
   pub class_is : ushort_at b (row_at b FieldIds i) ≡ type_index K.pools f.class
   pub type_is : ushort_at b (row_at b FieldIds i + 2) ≡ type_index K.pools f.type
   pub name_is : uint_at b (row_at b FieldIds i + 4) ≡ text_index K.pools f.name
 
+-- what a method's row is read as
 pub record MethodRead (K : Ordered) (b : List ℕ) (i : ℕ) (x : Method) : Type 0 where
   pub class_is : ushort_at b (row_at b MethodIds i) ≡ type_index K.pools x.class
   pub proto_is : ushort_at b (row_at b MethodIds i + 2) ≡ proto_index K.pools x.proto
   pub name_is : uint_at b (row_at b MethodIds i + 4) ≡ text_index K.pools x.name
 
+-- what a class's row is read as
 pub record ClassRead (K : Ordered) (b : List ℕ) (r : ℕ) (d : Definition) : Type 0 where
   pub name_is : class_idx b r ≡ type_index K.pools d.0
   pub flags_are : d.1.flags < 2 ^ 32 → access_flags b r ≡ d.1.flags
@@ -87,6 +90,7 @@ module _ {K : Ordered} {b : List ℕ} (h : Laid K b) where
   pub text_index_few : (s : Text) → text_index K.pools s ≤ length b
   text_index_few s = omega (arith, count_by-le-length (λ t. is_lt (text_cmp t s)) K.pools.texts, rows_few StringIds)
 
+  -- the same of a type
   pub type_index_few : (t : Text) → type_index K.pools t ≤ length b
   type_index_few t = omega (arith, count_by-le-length (λ s. is_lt (text_cmp s t)) K.pools.types, rows_few TypeIds)
 
@@ -116,6 +120,7 @@ module _ {K : Ordered} {b : List ℕ} (h : Laid K b) where
 
   -- ---- protos
 
+  -- what a proto's row is read as
   pub proto_read : (i : ℕ) (d : Proto) → i < length K.pools.protos → ProtoRead K b i (get_or K.pools.protos i d)
   proto_read i d lt =
       let p = get_or K.pools.protos i d in
@@ -135,6 +140,7 @@ module _ {K : Ordered} {b : List ℕ} (h : Laid K b) where
 
   -- ---- classes
 
+  -- what a class's row is read as
   pub class_read : (r : ℕ) (d : Definition) → r < length K.classes → ClassRead K b r (get_or K.classes r d)
   class_read r d lt =
       let c = get_or K.classes r d in
@@ -185,12 +191,15 @@ module _ {K : Ordered} {b : List ℕ} (h : Laid K b) where
   -- ---- what has indices of two bytes
 
   module _ (few : AreFew K) where
+    -- an index of a type has two bytes
     pub type_index_small : (t : Text) → type_index K.pools t < 2 ^ 16
     type_index_small t = omega (arith, count_by-le-length (λ s. is_lt (text_cmp s t)) K.pools.types, few TypeIds)
 
+    -- and so has that of a proto
     pub proto_index_small : (p : Proto) → proto_index K.pools p < 2 ^ 16
     proto_index_small p = omega (arith, count_by-le-length (λ q. is_lt (proto_cmp q p)) K.pools.protos, few ProtoIds)
 
+    -- what a field's row is read as
     pub field_read : (i : ℕ) (d : Field) → i < length K.pools.fields → FieldRead K b i (get_or K.pools.fields i d)
     field_read i d lt =
         let f = get_or K.pools.fields i d in
@@ -207,6 +216,7 @@ module _ {K : Ordered} {b : List ℕ} (h : Laid K b) where
           name_is = uint_at-stands (omega (arith, text_index_few f.name, h.small)) s2;
         }
 
+    -- what a method's row is read as
     pub method_read : (i : ℕ) (d : Method) → i < length K.pools.methods → MethodRead K b i (get_or K.pools.methods i d)
     method_read i d lt =
         let x = get_or K.pools.methods i d in

@@ -45,6 +45,7 @@ one_before : {X : Type 0} (n : ℕ) (y : X) (u : Option X) (o : Option ℕ) (xs 
 one_before n y None o xs h = h
 one_before n y (Some x) o xs h = (suc h.0, omega (arith, h.1), h.2 ∙ ap Some (omega arith), h.3)
 
+-- items of one's own are numbered from n on
 own_from : {X : Type 0} (n : ℕ) (uses : List (Option X)) (k : ℕ) → k < length uses → IsNumberFrom n (get_or uses k None) (get_or (own_numbers n uses) k None) (present uses)
 own_from n [] k lt = absurd (omega arith)
 own_from n (None ∷ uses) zero lt = refl
@@ -52,6 +53,7 @@ own_from n (None ∷ uses) (suc k) lt = own_from n uses k (omega arith)
 own_from n (Some x ∷ uses) zero lt = (0, omega arith, ap Some (omega arith), refl)
 own_from n (Some x ∷ uses) (suc k) lt = one_before n x (get_or uses k None) (get_or (own_numbers (n + 1) uses) k None) (present uses) (own_from (n + 1) uses k (omega arith))
 
+-- from 0 on they are the numbers
 from_zero : {X : Type 0} (u : Option X) (o : Option ℕ) (xs : List X) → IsNumberFrom 0 u o xs → IsNumber u o xs
 from_zero None o xs h = h
 from_zero (Some x) o xs h = (h.0, h.1, h.2 ∙ ap Some (omega arith), h.3)
@@ -78,6 +80,7 @@ UseStands b align g (Some x) o = ItemStands b align o (g x)
 number_offset : (its : List (Option ℕ)) (offs : List ℕ) (k : ℕ) → k < length its → slice_index (uses_offsets its offs) k ≡ option_map_or (slice_index offs) (get_or its k None) 0
 number_offset its offs k lt = get_or-map (λ n. option_map_or (slice_index offs) n 0) its k None 0 lt
 
+-- by what the use and its number are
 use_by : {X : Type 0} {b : List ℕ} (p : Placed) (g : X → List ℕ) (xs : List X) → p.items ≡ map g xs → SectionStands b p → (u : Option X) (n : Option ℕ) → IsNumber u n xs
     → UseStands b p.align g u (option_map_or (slice_index (offsets p)) n 0)
 use_by p g xs is s None n h = ap (λ m. option_map_or (slice_index (offsets p)) m 0) h
@@ -315,6 +318,7 @@ module _ {K : Ordered} {b : List ℕ} (h : Laid K b) where
             (subst (λ y. ItemStands b 1 (slice_index zs (n + j)) y) item (h.annotations (n + j) [] (omega (arith, place, length-map all (annotation_bytes K.pools)))));
       }
 
+  -- a set by its number
   set_by : (x : AnnotationSet) (n : Option ℕ) → IsNumber (unless_empty x) n (set_items K).written → SetStands b K.pools x (option_map_or (slice_index (offsets (set_section K))) n 0)
   set_by [] n is = ap (λ m. option_map_or (slice_index (offsets (set_section K))) m 0) is
   set_by (a ∷ x) n is = subst (λ m. SetItems b K.pools (option_map_or (slice_index (offsets (set_section K))) m 0) (a ∷ x)) (sym is.2) (set_written is.0 (a ∷ x) is.1 is.3)
@@ -483,6 +487,7 @@ length-set_use_offsets K =
     length-shared_offsets (λ x y. same_text (flat_map (annotation_bytes K.pools) x) (flat_map (annotation_bytes K.pools) y)) (set_uses K) (offsets (set_section K))
     ∙ length-map (flat_map class_sets K.classes) (unless_empty {X = Annotation})
 
+-- an offset for each set of a class
 length-class_chunk : (K : Ordered) (r : ℕ) (d : Definition) → r < length K.classes → length (class_chunk K r) ≡ length (class_sets (get_or K.classes r d))
 length-class_chunk K r d lt = length_chunk class_sets K.classes (set_use_offsets K) r d lt (length-set_use_offsets K)
 

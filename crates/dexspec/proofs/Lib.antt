@@ -19,3 +19,6 @@ pub mod OneRow
 pub mod OneValue
 pub mod OneDebug
 pub mod Widths
+pub mod OneCode
+pub mod OneClass
+pub mod OneCollection

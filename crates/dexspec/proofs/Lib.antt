@@ -22,3 +22,10 @@ pub mod Widths
 pub mod OneCode
 pub mod OneClass
 pub mod OneCollection
+pub mod Decided
+pub mod Searches
+pub mod Depths
+pub mod Conflicts
+pub mod Exceeding
+pub mod FirstCauses
+pub mod Collections

@@ -30,3 +30,4 @@ pub mod Merging
 pub mod Stripping
 pub mod Plain
 pub mod Flags
+pub mod Codes

@@ -29,3 +29,6 @@ pub mod Conflicts
 pub mod Exceeding
 pub mod FirstCauses
 pub mod Collections
+pub mod PoolRows
+pub mod Readable
+pub mod Denoted

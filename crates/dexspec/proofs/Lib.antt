@@ -32,3 +32,5 @@ pub mod Collections
 pub mod PoolRows
 pub mod Readable
 pub mod Denoted
+pub mod Fitting
+pub mod ClassDepths

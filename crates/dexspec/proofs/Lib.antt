@@ -34,3 +34,5 @@ pub mod Readable
 pub mod Denoted
 pub mod Fitting
 pub mod ClassDepths
+pub mod Sources
+pub mod DenotedGood

@@ -36,3 +36,4 @@ pub mod Fitting
 pub mod ClassDepths
 pub mod Sources
 pub mod DenotedGood
+pub mod SymbolRows

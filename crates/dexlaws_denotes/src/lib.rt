@@ -6,3 +6,4 @@
 pub mod classes;
 pub mod code;
 pub mod collections;
+pub mod good;

@@ -1,9 +1,9 @@
 -- The definitions of a file have depths: a class stands behind those that it is based on.
-use Rattle.std.proofs.Common.{◌≡◌, ◌≢◌, ◌⊎◌, ℕ, zero, suc, ◌+◌, ◌<◌, ◌≤◌, Bool, true, false, List, [], ◌∷◌, ◌++◌, Option, Some, None, option_to_list, refl, sym, ap, ◌∙◌, subst, arith, inl, inr}
+use Rattle.std.proofs.Common.{◌≡◌, ◌≢◌, ℕ, zero, suc, ◌<◌, true, List, [], ◌∷◌, Option, Some, None, option_to_list, sym, subst, arith, inl, inr}
 use Rattle.std.specs.Prelude.{if◌then◌else◌, ◌==◌}
 use Rattle.std.specs.List.{Contains, filter, flat_map}
 use Rattle.std.specs.Cmp.Lexicographic.{same_text as texts_same}
-use Rattle.std.proofs.lemmas.Bool.{cases_lt, cases_eq, ne_eqb}
+use Rattle.std.proofs.lemmas.Bool.{cases_lt, ne_eqb}
 use Rattle.std.proofs.lemmas.List.Elements.{All-contains, Contains-append_left, Contains-append_right, Contains-append_cases}
 use Rattle.dexspec.specs.Lists.{OrNone}
 use Rattle.dexspec.specs.Texts.{Text, same_text}
@@ -11,12 +11,11 @@ use Rattle.dexspec.specs.Header.{TypeIds, ClassDefs, table_size}
 use Rattle.dexspec.specs.Rows.{TypeRow, type_indices}
 use Rattle.dexspec.specs.Classes.{Body, Definition, ClassRow, ClassTypeRow, ClassListAt, IndexOrNone, class_idx, superclass_idx, interfaces_off, no_index}
 use Rattle.dexspec.specs.Files.{Defines}
-use Rattle.dexspec.specs.Depth.{parents, is_defined, above, is_below, HasDepth, IsAcyclic}
+use Rattle.dexspec.specs.Depth.{parents, is_defined, above, is_below, IsAcyclic}
 use Rattle.dexspec.specs.Accepted.{parent_indices, IsDefinedBefore}
 use Rattle.dexspec.proofs.Members.{Contains-nil, Contains-first, Contains-cons_cases, Contains-filter_source, Contains-flat_map_source, list_all-from_members, list_any-source}
 use Rattle.dexspec.proofs.Fitting.{zip_source}
 use Rattle.dexspec.proofs.PoolRows.{same_type_row}
-use Rattle.dexspec.proofs.OneRow.{one_type}
 use Rattle.dexspec.proofs.Denoted.{HasClasses}
 
 module _ (b : List ℕ) (h : HasClasses b) where

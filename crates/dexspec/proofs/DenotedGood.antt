@@ -1,25 +1,24 @@
 -- What a file denotes is good under the greatest caps, where its symbols have rows.
-use Rattle.std.proofs.Common.{◌≡◌, ℕ, zero, suc, ◌+◌, ◌-◌, ◌<◌, ◌≤◌, ◌^◌, List, [], ◌∷◌, refl, sym, ap, ◌∙◌, subst, arith, inl, inr}
-use Rattle.std.specs.List.{Contains, AllZip, range_with_len}
+use Rattle.std.proofs.Common.{◌≡◌, ℕ, zero, suc, ◌+◌, ◌-◌, ◌<◌, ◌≤◌, List, [], ◌∷◌, refl, subst, arith, inl, inr}
+use Rattle.std.specs.List.{Contains}
 use Rattle.std.proofs.lemmas.Bool.{cases_lt}
 use Rattle.dexspec.specs.Lists.{AreDistinct}
 use Rattle.dexspec.specs.Texts.{Text}
 use Rattle.dexspec.specs.Header.{ClassDefs, table_size}
-use Rattle.dexspec.specs.Sections.{HasLayout}
 use Rattle.dexspec.specs.Rows.{StringRow}
-use Rattle.dexspec.specs.Classes.{Definition, ClassRow}
+use Rattle.dexspec.specs.Classes.{Definition}
 use Rattle.dexspec.specs.Files.{Collection, definitions, Defines, Denotes, AreWithin}
 use Rattle.dexspec.specs.Mentions.{mentions}
 use Rattle.dexspec.specs.Weight.{weight, most_weight}
 use Rattle.dexspec.specs.Merging.{IsGood, greatest_caps, HasShortString}
 use Rattle.dexspec.specs.Conditions.{Condition}
-use Rattle.dexspec.specs.Accepted.{AreRows, HasWeight, IsAccepted}
+use Rattle.dexspec.specs.Accepted.{AreRows, IsAccepted}
 use Rattle.dexspec.proofs.Members.{Contains-nil}
 use Rattle.dexspec.proofs.WeightGrowth.{weight-within}
 use Rattle.dexspec.proofs.Collections.{definitions-are, collection-consistent}
 use Rattle.dexspec.proofs.Fitting.{DefinitionsHaveRows, rows_fit}
 use Rattle.dexspec.proofs.ClassDepths.{rows_acyclic}
-use Rattle.dexspec.proofs.Denoted.{HasClasses, has_classes, AreReadable, accepted_readable, readable_rows, denoted_rows}
+use Rattle.dexspec.proofs.Denoted.{HasClasses, has_classes, accepted_readable, readable_rows, denoted_rows}
 
 -- ---- weight
 
@@ -37,7 +36,7 @@ no_rows b (suc n) D e h = absurd (omega arith)
 
 module _ (b : List ℕ) (h : IsAccepted b) where
   -- the rows of an accepted file
-  accepted_classes : HasClasses b
+  pub accepted_classes : HasClasses b
   accepted_classes = has_classes b (λ c lt. h c)
 
   accepted_rows : (D : List Definition) × AreRows b (table_size b ClassDefs) D

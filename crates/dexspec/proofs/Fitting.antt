@@ -1,5 +1,5 @@
 -- Definitions whose symbols have rows fit the greatest caps.
-use Rattle.std.proofs.Common.{◌≡◌, ◌≢◌, ◌⊎◌, ℕ, zero, suc, ◌+◌, ◌<◌, ◌≤◌, ◌^◌, Bool, true, false, cond, List, [], ◌∷◌, length, map, count_by, refl, sym, ap, ◌∙◌, subst, arith, inl, inr, Ordering, Less}
+use Rattle.std.proofs.Common.{◌≡◌, ℕ, zero, suc, ◌+◌, ◌<◌, ◌≤◌, Bool, true, false, cond, List, [], ◌∷◌, length, count_by, refl, ap, ◌∙◌, subst, arith, inl, inr}
 use Rattle.std.specs.Ordering.{is_lt}
 use Rattle.std.specs.List.{Contains, AllZip, range_with_len}
 use Rattle.std.proofs.lemmas.Bool.{cases_eq}
@@ -9,7 +9,7 @@ use Rattle.dexspec.specs.Bytes.{uint_at, ushort_at}
 use Rattle.dexspec.specs.Texts.{Text, text_cmp}
 use Rattle.dexspec.specs.Names.{shorty}
 use Rattle.dexspec.specs.Symbols.{Proto, Field, Method, Symbol, TextSymbol, TypeSymbol, ProtoSymbol, FieldSymbol, MethodSymbol, proto_cmp, field_cmp, method_cmp}
-use Rattle.dexspec.specs.Header.{StringIds, TypeIds, ProtoIds, FieldIds, MethodIds, table_size}
+use Rattle.dexspec.specs.Header.{TypeIds, ProtoIds, FieldIds, MethodIds, table_size}
 use Rattle.dexspec.specs.Sections.{HasLayout}
 use Rattle.dexspec.specs.Rows.{row_at, StringRow, TypeRow, type_indices, TypeListAt, ProtoRow, FieldRow, MethodRow, SymbolRow}
 use Rattle.dexspec.specs.Classes.{Definition}

@@ -37,3 +37,4 @@ pub mod ClassDepths
 pub mod Sources
 pub mod DenotedGood
 pub mod SymbolRows
+pub mod ShortStrings

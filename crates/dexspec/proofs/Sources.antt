@@ -1,6 +1,6 @@
 -- What the members of a sequence, of a list of members, and of a list without repeats come from.
-use Rattle.std.proofs.Common.{◌≡◌, ℕ, ◌+◌, Bool, true, false, cond, not, List, [], ◌∷◌, ◌++◌, map, Option, Some, None, unwrap_or, refl, sym, ap, subst, arith, inl, inr, Ordering}
-use Rattle.std.specs.List.{Contains, AllZip, filter}
+use Rattle.std.proofs.Common.{◌≡◌, ℕ, ◌+◌, Bool, true, false, cond, not, List, [], ◌∷◌, map, Option, Some, unwrap_or, subst, inl, inr, Ordering}
+use Rattle.std.specs.List.{Contains, filter}
 use Rattle.std.specs.Ordering.{eq_by_cmp}
 use Rattle.std.specs.FinMap.Entries.{find}
 use Rattle.dexspec.specs.Lists.{Item, Sequence, distinct}

@@ -1,8 +1,8 @@
 -- Each symbol of a class row's definition has a row of its pool.
-use Rattle.std.proofs.Common.{◌≡◌, ◌≢◌, ℕ, ◌+◌, ◌*◌, List, [], ◌∷◌, ◌++◌, map, Option, Some, None, option_to_list, refl, sym, ap, ◌∙◌, subst, arith, inl, inr}
-use Rattle.std.specs.List.{Contains, AllZip, flat_map}
+use Rattle.std.proofs.Common.{◌≡◌, ℕ, ◌+◌, ◌*◌, List, [], ◌∷◌, ◌++◌, map, Option, Some, None, option_to_list, sym, subst, inl, inr}
+use Rattle.std.specs.List.{Contains, flat_map}
 use Rattle.std.proofs.lemmas.List.Elements.{All-contains, Contains-append_left, Contains-append_right, Contains-append_cases}
-use Rattle.dexspec.specs.Lists.{OrNone, SomeAt, BothOrNone, Sequence}
+use Rattle.dexspec.specs.Lists.{OrNone, SomeAt, BothOrNone}
 use Rattle.dexspec.specs.Bytes.{uint_at, ushort_at, uints_at}
 use Rattle.dexspec.specs.Texts.{Text}
 use Rattle.dexspec.specs.Symbols.{Field, Method, Symbol, TextSymbol, TypeSymbol, FieldSymbol, MethodSymbol, field_cmp, method_cmp}
@@ -16,7 +16,7 @@ use Rattle.dexspec.specs.ClassData.{EncodedField, EncodedMethod, ClassData, no_c
 use Rattle.dexspec.specs.Classes.{FieldDef, MethodDef, Body, ClassRow, ClassTypeRow, ClassListAt, IndexOrNone, StaticValuesAt, superclass_idx, interfaces_off, source_file_idx, annotations_off, class_data_off, static_values_off, class_idx, field_def, MakesMethod, declared_fields, declared_methods}
 use Rattle.dexspec.specs.Mentions.{optional_text, optional_type, piece_symbols, operation_symbols, debug_symbols, handler_symbols, code_symbols, value_symbols, values_symbols, elements_symbols, annotation_symbols, set_symbols, field_of, method_of, field_symbols, method_symbols, symbols_of}
 use Rattle.dexspec.specs.Accepted.{HasMembers}
-use Rattle.dexspec.proofs.Members.{Contains-nil, Contains-first, Contains-later, Contains-cons_cases, Contains-flat_map_source}
+use Rattle.dexspec.proofs.Members.{Contains-nil, Contains-first, Contains-cons_cases, Contains-flat_map_source}
 use Rattle.dexspec.proofs.OneRow.{one_type}
 use Rattle.dexspec.proofs.OneClass.{HasFewRows, one_row_data}
 use Rattle.dexspec.proofs.Fitting.{HasRow, HaveRows, zip_source}
@@ -129,10 +129,10 @@ module _ (b : List ℕ) where
       have_both (flat_map piece_symbols k.pieces) (handlers ++ debug)
       (have_all piece_symbols k.pieces (λ p c. let w = zip_source (λ (cut : Cut) (q : Piece). StandsForPiece (SymbolRow b) (cut_units (code_units b o) cut) q) h.cuts k.pieces p h.pieces.pieces c in piece_rows (cut_units (code_units b o) w.0) p w.2))
       (have_both handlers debug
-        (have_all handler_symbols (handlers_of k.tries) (λ x c.
-        let w = map_source (λ (t : Try). t.handler) k.tries x (distinct_source same_handler (map (λ (t : Try). t.handler) k.tries) x c) in
-        subst (λ (y : Handler). HaveRows b (handler_symbols y)) w.2 (tries_rows o h.cuts k.tries h.tries w.0 w.1)))
-        (some_debug_rows (uint_at b (o + 8)) k.debug h.debug))
+      (have_all handler_symbols (handlers_of k.tries) (λ x c.
+      let w = map_source (λ (t : Try). t.handler) k.tries x (distinct_source same_handler (map (λ (t : Try). t.handler) k.tries) x c) in
+      subst (λ (y : Handler). HaveRows b (handler_symbols y)) w.2 (tries_rows o h.cuts k.tries h.tries w.0 w.1)))
+      (some_debug_rows (uint_at b (o + 8)) k.debug h.debug))
 
   some_code_rows : (o : ℕ) (k : Option Code) → OrNone (SomeAt CodeAt) None b o k → HaveRows b (flat_map code_symbols (option_to_list k))
   some_code_rows o None h = have_none
@@ -209,8 +209,8 @@ module _ (b : List ℕ) where
         fields = λ e c. let w = zip_source (PairAt FieldRow SetAt b) (pairs_at b (o + 16) (fields_count b o)) d.fields e is.fields.pairs c in set_rows w.0.1 e.1 w.2.2;
         methods = λ e c. let w = zip_source (PairAt MethodRow SetAt b) (pairs_at b (o + 16 + 8 * fields_count b o) (methods_count b o)) d.methods e is.methods.pairs c in set_rows w.0.1 e.1 w.2.2;
         parameters = λ e c.
-        let w = zip_source (PairAt MethodRow RefListAt b) (pairs_at b (o + 16 + 8 * (fields_count b o + methods_count b o)) (parameters_count b o)) d.parameters e is.parameters.pairs c in
-        ref_list_rows w.0.1 e.1 w.2.2;
+            let w = zip_source (PairAt MethodRow RefListAt b) (pairs_at b (o + 16 + 8 * (fields_count b o + methods_count b o)) (parameters_count b o)) d.parameters e is.parameters.pairs c in
+            ref_list_rows w.0.1 e.1 w.2.2;
       }
 
   -- ---- members
@@ -250,10 +250,10 @@ module _ (b : List ℕ) where
       let parameters = flat_map set_symbols m.parameter_annotations in
       have_first (MethodSymbol (method_of name m)) (code ++ (annotations ++ parameters)) (row.0, subst (MethodRow b row.0) same row.1)
       (have_both code (annotations ++ parameters) (some_code_rows x.code_off m.code makes.code)
-        (have_both annotations parameters
-          (subst (λ (s : AnnotationSet). HaveRows b (set_symbols s)) (sym makes.annotations) (annotated_source method_cmp x.method (λ s. HaveRows b (set_symbols s)) d.methods have_none sets.methods))
-          (subst (λ (s : List AnnotationSet). HaveRows b (flat_map set_symbols s)) (sym makes.parameter_annotations)
-            (annotated_source method_cmp x.method (λ s. HaveRows b (flat_map set_symbols s)) d.parameters have_none sets.parameters))))
+      (have_both annotations parameters
+      (subst (λ (s : AnnotationSet). HaveRows b (set_symbols s)) (sym makes.annotations) (annotated_source method_cmp x.method (λ s. HaveRows b (set_symbols s)) d.methods have_none sets.methods))
+      (subst (λ (s : List AnnotationSet). HaveRows b (flat_map set_symbols s)) (sym makes.parameter_annotations)
+      (annotated_source method_cmp x.method (λ s. HaveRows b (flat_map set_symbols s)) d.parameters have_none sets.parameters))))
 
 -- ---- class rows
 
@@ -288,21 +288,21 @@ row_symbols b few r name c h members =
     (have_both b source (annotations ++ (fields ++ (methods ++ values))) (text_or_none b (source_file_idx b r) c.source h.source)
     (have_both b annotations (fields ++ (methods ++ values)) (subst (λ (s : AnnotationSet). HaveRows b (set_symbols s)) (sym h.annotations) sets.own)
     (have_both b fields (methods ++ values)
-      (have_all b (field_symbols name) (declared_fields c) (λ f m. elim (Contains-append_cases c.static_fields c.instance_fields f m) [
-        | inl l ↦
-            let w = map_source (field_def h.directory) h.members.static_fields f (subst (λ (fs : List FieldDef). Contains fs f) h.static_fields l) in
-            made f w.0 w.2 (Contains-append_left h.members.static_fields h.members.instance_fields w.0 w.1)
-        | inr l ↦
-            let w = map_source (field_def h.directory) h.members.instance_fields f (subst (λ (fs : List FieldDef). Contains fs f) h.instance_fields l) in
-            made f w.0 w.2 (Contains-append_right h.members.static_fields h.members.instance_fields w.0 w.1)
-      ]))
+    (have_all b (field_symbols name) (declared_fields c) (λ f m. elim (Contains-append_cases c.static_fields c.instance_fields f m) [
+      | inl l ↦
+          let w = map_source (field_def h.directory) h.members.static_fields f (subst (λ (fs : List FieldDef). Contains fs f) h.static_fields l) in
+          made f w.0 w.2 (Contains-append_left h.members.static_fields h.members.instance_fields w.0 w.1)
+      | inr l ↦
+          let w = map_source (field_def h.directory) h.members.instance_fields f (subst (λ (fs : List FieldDef). Contains fs f) h.instance_fields l) in
+          made f w.0 w.2 (Contains-append_right h.members.static_fields h.members.instance_fields w.0 w.1)
+    ]))
     (have_both b methods values
-      (have_all b (method_symbols name) (declared_methods c) (λ k m. elim (Contains-append_cases c.direct_methods c.virtual_methods k m) [
-        | inl l ↦
-            let w = zip_source (MakesMethod b h.directory) h.members.direct_methods c.direct_methods k h.direct_methods l in
-            method w.0 k (Contains-append_left h.members.direct_methods h.members.virtual_methods w.0 w.1) w.2
-        | inr l ↦
-            let w = zip_source (MakesMethod b h.directory) h.members.virtual_methods c.virtual_methods k h.virtual_methods l in
-            method w.0 k (Contains-append_right h.members.direct_methods h.members.virtual_methods w.0 w.1) w.2
-      ]))
-      (static_values_rows b (static_values_off b r) c.static_values h.static_values)))))))
+    (have_all b (method_symbols name) (declared_methods c) (λ k m. elim (Contains-append_cases c.direct_methods c.virtual_methods k m) [
+      | inl l ↦
+          let w = zip_source (MakesMethod b h.directory) h.members.direct_methods c.direct_methods k h.direct_methods l in
+          method w.0 k (Contains-append_left h.members.direct_methods h.members.virtual_methods w.0 w.1) w.2
+      | inr l ↦
+          let w = zip_source (MakesMethod b h.directory) h.members.virtual_methods c.virtual_methods k h.virtual_methods l in
+          method w.0 k (Contains-append_right h.members.direct_methods h.members.virtual_methods w.0 w.1) w.2
+    ]))
+    (static_values_rows b (static_values_off b r) c.static_values h.static_values)))))))

@@ -38,3 +38,5 @@ pub mod Sources
 pub mod DenotedGood
 pub mod SymbolRows
 pub mod ShortStrings
+pub mod FormedRows
+pub mod PlainRows

@@ -40,3 +40,5 @@ pub mod SymbolRows
 pub mod ShortStrings
 pub mod FormedRows
 pub mod PlainRows
+pub mod FormedValues
+pub mod MemberOrder

@@ -18,14 +18,14 @@ use Rattle.dexspec.proofs.OneClass.{HasFewRows}
 -- ---- rows that rise
 
 -- row i is a value, greater than that of the row before it
-record NextRow {X : Type 0} (R : X → X → Ordering) (Row : ℕ → X → Type 0) (i : ℕ) : Type 0 where
-  value : X
-  is : Row i value
-  follows : (j : ℕ) (before : X) → j + 1 ≡ i → Row j before → R before value ≡ Less
+pub record NextRow {X : Type 0} (R : X → X → Ordering) (Row : ℕ → X → Type 0) (i : ℕ) : Type 0 where
+  pub value : X
+  pub is : Row i value
+  pub follows : (j : ℕ) (before : X) → j + 1 ≡ i → Row j before → R before value ≡ Less
 
 module _ {X : Type 0} (R : X → X → Ordering) (o : IsTotalOrder R) (Row : ℕ → X → Type 0) (one : (i : ℕ) (x y : X) → Row i x → Row i y → x ≡ y) (n : ℕ) (next : (i : ℕ) → i < n → NextRow R Row i) where
   -- a later row is greater
-  rows_rise : (j i : ℕ) (x y : X) → i < j → j < n → Row i x → Row j y → R x y ≡ Less
+  pub rows_rise : (j i : ℕ) (x y : X) → i < j → j < n → Row i x → Row j y → R x y ≡ Less
   rows_rise zero i x y lt le h g = absurd (omega arith)
   rows_rise (suc j) i x y lt le h g =
       let w = next (suc j) le in
@@ -36,13 +36,13 @@ module _ {X : Type 0} (R : X → X → Ordering) (o : IsTotalOrder R) (Row : ℕ
       ])
 
 -- keys of one number each
-first_less : (r : Ordering) → ordering_then r Equal ≡ Less → r ≡ Less
+pub first_less : (r : Ordering) → ordering_then r Equal ≡ Less → r ≡ Less
 first_less Less e = refl
 first_less Equal e = absurd cc
 first_less Greater e = absurd cc
 
 -- what a lesser number is
-less_number : (x y : ℕ) → nat_cmp x y ≡ Less → x < y
+pub less_number : (x y : ℕ) → nat_cmp x y ≡ Less → x < y
 less_number x y e = ranked x y Less (sym e)
 
 -- ---- strings and types

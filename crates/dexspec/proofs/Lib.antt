@@ -42,3 +42,4 @@ pub mod FormedRows
 pub mod PlainRows
 pub mod FormedValues
 pub mod MemberOrder
+pub mod FormedMembers

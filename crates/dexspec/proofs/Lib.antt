@@ -58,13 +58,6 @@ pub mod RowsRead
 pub mod OneCode
 pub mod OneClass
 pub mod OneCollection
-pub mod Decided
-pub mod Searches
-pub mod Depths
-pub mod Conflicts
-pub mod Exceeding
-pub mod FirstCauses
-pub mod Collections
 pub mod PoolRows
 pub mod Readable
 pub mod Denoted

@@ -29,4 +29,5 @@ pub mod Canonical
 pub mod Merging
 pub mod Stripping
 pub mod Plain
+pub mod Codes
 pub mod Flags

@@ -1,0 +1,10 @@
+//! Instructions and payloads: 16-bit code units cut into pieces.
+//!
+//! Sources: the Android pages "Dalvik bytecode" and "Dalvik executable instruction formats".
+#![tactic(auto)]
+
+pub use format::{Format, IndexKind};
+pub use opcodes::{index_kind, mnemonic};
+
+mod format;
+mod opcodes;

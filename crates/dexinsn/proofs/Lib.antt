@@ -1,1 +1,4 @@
 pub mod Table
+pub mod Signed
+pub mod Keys
+pub mod Sizes

@@ -5,6 +5,11 @@
 
 pub use format::{Format, IndexKind};
 pub use opcodes::{index_kind, mnemonic};
+pub use payload::PayloadKind;
 
 mod format;
+mod instruction;
 mod opcodes;
+mod payload;
+mod piece;
+mod units;

@@ -9,11 +9,6 @@ use Rattle.dexspec.specs.Pieces.{int_in, ints_in}
 abbrev pub do_rise : List ℕ → ℕ → ℕ → Bool
 do_rise us i n = rises int_cmp (ints_in us i n)
 
-pub do_rise-few : (us : List ℕ) (i n : ℕ) → n ≤ 1 → do_rise us i n ≡ true
-do_rise-few us i zero few = refl
-do_rise-few us i (suc zero) few = refl
-do_rise-few us i (suc (suc n)) few = absurd (omega arith)
-
 is_lt-less : (a b : ℤ) → a <ℤ b → is_lt (int_cmp a b) ≡ true
 is_lt-less a b less = grind (arith, ints)
 

@@ -2,7 +2,7 @@ ghost use Rattle.std.specs.Prelude.{◌≡◌, ◌+◌, ◌*◌, ◌<◌, ◌≤
 ghost use Rattle.std.specs.Option.{option_map};
 ghost use Rattle.std.specs.Ordering.{int_cmp};
 ghost use Rattle.dexspec.specs.Lists.{rises};
-ghost use Rattle.dexspec.specs.Pieces.{ints_in, is_payload_ident, payload_size, packed_switch_ident, sparse_switch_ident, array_data_ident};
+ghost use Rattle.dexspec.specs.Pieces.{ints_in, is_payload_ident, payload_ident, payload_size, packed_switch_ident, sparse_switch_ident, array_data_ident};
 ghost use Rattle.dexinsn.specs.Payload.{ident_of};
 
 use crate::units::int_at;
@@ -28,6 +28,28 @@ impl PayloadKind {
             0x0200 => Some(PayloadKind::SparseSwitch),
             0x0300 => Some(PayloadKind::ArrayData),
             _ => None,
+        }
+    }
+
+    /// The first unit of a payload of this kind.
+    pub fn ident(self) -> u16
+        ensures { result ≡ ident_of self }
+    {
+        match self {
+            PayloadKind::PackedSwitch => 0x0100,
+            PayloadKind::SparseSwitch => 0x0200,
+            PayloadKind::ArrayData => 0x0300,
+        }
+    }
+
+    /// The kind of payload that an instruction of the format 31t leads to.
+    pub(crate) fn led_to_by(op: u8) -> PayloadKind
+        ensures { ident_of result ≡ payload_ident op }
+    {
+        match op {
+            0x2b => PayloadKind::PackedSwitch,
+            0x2c => PayloadKind::SparseSwitch,
+            _ => PayloadKind::ArrayData,
         }
     }
 

@@ -1,5 +1,5 @@
 -- Whether targets are right, one after the other.
-use Rattle.std.proofs.Common.{◌≡◌, ℕ, zero, suc, ◌+◌, ◌^◌, ◌<◌, ◌==◌, ℤ, pos, ◌+ℤ◌, to_z, of_z, w32, w64, Bool, true, false, ◌&&◌, ◌||◌, List, slice_index, Option, Some, None, refl, ap, sym, ◌∙◌, arith, eq-eqb}
+use Rattle.std.proofs.Common.{◌≡◌, ℕ, suc, ◌+◌, ◌^◌, ◌<◌, ◌==◌, ℤ, pos, ◌+ℤ◌, to_z, of_z, w32, w64, Bool, true, false, ◌&&◌, ◌||◌, List, slice_index, Option, Some, None, refl, ap, sym, ◌∙◌, arith, eq-eqb}
 use lib.IntN.{nat_abs}
 use mir.Val.{SFits}
 use Rattle.std.specs.Option.{option_map}

@@ -1,13 +1,13 @@
 -- What a cut without a wrong target, or with one, says of the units.
-use Rattle.std.proofs.Common.{◌≡◌, ℕ, ◌+◌, ◌<◌, ◌≤◌, Bool, true, false, not, cond, List, [], ◌∷◌, length, drop, Option, Some, None, refl, ap, get_or, sym, ◌∙◌, subst, arith}
+use Rattle.std.proofs.Common.{◌≡◌, ℕ, ◌<◌, Bool, true, false, not, cond, List, [], ◌∷◌, length, Some, None, refl, sym, subst, arith}
 use Rattle.std.specs.Bool.{IsTrue}
 use Rattle.std.specs.List.{All, find}
 use Rattle.std.specs.Option.{option_map}
-use Rattle.std.proofs.lemmas.List.{drop_all, at_drop_more, at_drop_all}
+use Rattle.std.proofs.lemmas.List.{drop_all}
 use Rattle.std.proofs.lemmas.List.Elements.{All-nil, All-cons}
-use Rattle.dexspec.specs.Pieces.{Cut, AreCut, IsCode, has_right_targets}
+use Rattle.dexspec.specs.Pieces.{AreCut, IsCode, has_right_targets}
 use Rattle.dexinsn.specs.declared.code.Cut.{Cut as CutOfCode}
-use Rattle.dexinsn.specs.Split.{cut_of, cuts_of, AreMarked, first_astray, first_astray_of, GoesAstrayAt}
+use Rattle.dexinsn.specs.Split.{cuts_of, AreMarked, first_astray}
 
 -- where no element fails the test, each passes
 found_none : {X : Type 0} (test : X → Bool) (unit : X → ℕ) (x : X) (xs : List X) (b : Bool) → test x ≡ b → option_map unit (cond (not b) (Some x) (find (λ y. not (test y)) xs)) ≡ None

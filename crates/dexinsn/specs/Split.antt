@@ -1,10 +1,10 @@
 -- What the cuts and faults of the code mean.
-use Rattle.std.specs.Prelude.{◌≡◌, ℕ, ◌+◌, ◌≤◌, ◌==◌, Bool, false, not, List, [], ◌∷◌, length, drop, map, All, slice_index, slice_index_or, Option, Some, None, Result, Ok, Err, ℤ, pos, ◌+ℤ◌, nat_abs, ◌&&◌}
+use Rattle.std.specs.Prelude.{◌≡◌, ℕ, ◌+◌, ◌≤◌, ◌==◌, Bool, false, not, List, [], ◌∷◌, length, drop, map, All, slice_index, slice_index_or, Option, Some, None, ℤ, pos, ◌+ℤ◌, nat_abs, ◌&&◌}
 use Rattle.std.specs.List.{find, list_any, list_all}
 use Rattle.std.specs.Option.{option_map}
 use Rattle.std.specs.Ordering.{int_eq}
 use Rattle.dexspec.specs.Opcodes.{Format}
-use Rattle.dexspec.specs.Pieces.{all_of_option, branch_offset, leads_right, Cut, AreCut, BreaksAt, IsCode, has_right_targets, is_instruction_start, is_payload_start, payload_targets, piece_size}
+use Rattle.dexspec.specs.Pieces.{all_of_option, branch_offset, leads_right, Cut, AreCut, BreaksAt, has_right_targets, is_instruction_start, is_payload_start, payload_targets, piece_size}
 use Rattle.dexinsn.specs.declared.code.Cut.{Cut as CutOfCode}
 use Rattle.dexinsn.specs.declared.code.CodeFault.{CodeFault}
 use Rattle.dexinsn.specs.declared.code.CodeFault.TheVariants.{Empty, Piece, Target, Memory}

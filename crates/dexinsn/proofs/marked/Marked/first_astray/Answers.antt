@@ -1,7 +1,5 @@
-use Rattle.std.proofs.Common.{length, true, false, sym, ◌∙◌}
-use Rattle.dexinsn.specs.Split.{cuts_of}
+use Rattle.std.proofs.Common.{length}
 use Rattle.dexinsn.proofs.Starts.{piece_of}
-use Rattle.dexinsn.proofs.Outcome.{astray-more, astray-none}
 use Rattle.dexinsn.proofs.marked.Marked.first_astray.Goals as goal
 
 pub has_right_targets-requires : goal.has_right_targets-requires

@@ -6,3 +6,4 @@ pub mod Cuts
 pub mod Outcome
 pub mod Starts
 pub mod Leads
+pub mod Once

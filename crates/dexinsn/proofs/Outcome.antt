@@ -7,7 +7,7 @@ use Rattle.std.proofs.lemmas.List.{drop_all}
 use Rattle.std.proofs.lemmas.List.Elements.{All-nil, All-cons}
 use Rattle.dexspec.specs.Pieces.{AreCut, IsCode, has_right_targets}
 use Rattle.dexinsn.specs.declared.code.Cut.{Cut as CutOfCode}
-use Rattle.dexinsn.specs.Split.{cuts_of, AreMarked, first_astray}
+use Rattle.dexinsn.specs.Split.{cuts_of, AreMarked, GoesAstrayAt, first_astray}
 
 -- where no element fails the test, each passes
 found_none : {X : Type 0} (test : X → Bool) (unit : X → ℕ) (x : X) (xs : List X) (b : Bool) → test x ≡ b → option_map unit (cond (not b) (Some x) (find (λ y. not (test y)) xs)) ≡ None
@@ -34,3 +34,6 @@ pub AreMarked-code : (us vs : List ℕ) (cuts : List CutOfCode) (marks : List Bo
 AreMarked-code us vs cuts marks taken same_units same_cuts some m none =
     let some' : 0 < length vs = subst (λ (ws : List ℕ). 0 < length ws) (sym same_units) some in
     subst (λ (ws : List ℕ). IsCode ws (cuts_of taken)) same_units (subst (λ (cs : List CutOfCode). IsCode vs (cuts_of cs)) (sym same_cuts) (code vs cuts marks some' m none))
+
+pub AreMarked-astray : (us vs : List ℕ) (cuts : List CutOfCode) (marks : List Bool) (n : ℕ) → vs ≡ us → AreMarked vs cuts marks (length vs) → first_astray vs (cuts_of cuts) ≡ Some n → GoesAstrayAt us n
+AreMarked-astray us vs cuts marks n same m first = subst (λ (ws : List ℕ). GoesAstrayAt ws n) same (record { cuts = cuts_of cuts; cut = AreMarked-whole vs cuts marks m; first = first })

@@ -1,10 +1,11 @@
 -- What the cuts and faults of the code mean.
-use Rattle.std.specs.Prelude.{◌≡◌, ℕ, ◌+◌, ◌≤◌, ◌==◌, Bool, false, not, List, [], ◌∷◌, length, drop, map, All, slice_index, slice_index_or, Option, Some, None, ℤ, pos, ◌+ℤ◌, nat_abs, ◌&&◌}
+use Rattle.std.specs.Prelude.{Result, Ok, Err, ◌≡◌, Vec, ℕ, ◌+◌, ◌≤◌, ◌==◌, Bool, false, not, List, [], ◌∷◌, length, drop, map, All, slice_index, slice_index_or, Option, Some, None, ℤ, pos, ◌+ℤ◌, nat_abs, ◌&&◌}
 use Rattle.std.specs.List.{find, list_any, list_all}
+use Rattle.std.specs.declared.alloc.Global.{Global}
 use Rattle.std.specs.Option.{option_map}
 use Rattle.std.specs.Ordering.{int_eq}
 use Rattle.dexspec.specs.Opcodes.{Format}
-use Rattle.dexspec.specs.Pieces.{all_of_option, branch_offset, leads_right, Cut, AreCut, BreaksAt, has_right_targets, is_instruction_start, is_payload_start, payload_targets, piece_size}
+use Rattle.dexspec.specs.Pieces.{all_of_option, IsCode, branch_offset, leads_right, Cut, AreCut, BreaksAt, has_right_targets, is_instruction_start, is_payload_start, payload_targets, piece_size}
 use Rattle.dexinsn.specs.declared.code.Cut.{Cut as CutOfCode}
 use Rattle.dexinsn.specs.declared.code.CodeFault.{CodeFault}
 use Rattle.dexinsn.specs.declared.code.CodeFault.TheVariants.{Empty, Piece, Target, Memory}
@@ -80,9 +81,38 @@ IsFault us (Piece n) = BreaksAt us n
 IsFault us (Target n) = GoesAstrayAt us n
 IsFault us Memory = Unit {0}
 
+-- the fault's number, and the unit at which it is found
+abbrev pub kind_of : CodeFault → ℕ
+kind_of Empty = 1
+kind_of (Piece n) = 2
+kind_of (Target n) = 3
+kind_of Memory = 4
+
+abbrev pub unit_of : CodeFault → ℕ
+unit_of Empty = 0
+unit_of (Piece n) = n
+unit_of (Target n) = n
+unit_of Memory = 0
+
 -- why the units are not cut to their end
 abbrev pub IsCutFault : List ℕ → CodeFault → Type 0
 IsCutFault us Empty = ⊥
 IsCutFault us (Piece n) = BreaksAt us n
 IsCutFault us (Target n) = ⊥
 IsCutFault us Memory = Unit {0}
+
+-- an answer that is true of the units: their pieces, or a fault of theirs
+abbrev pub IsAnswer : List ℕ → Result (List Cut) CodeFault → Type 0
+IsAnswer us (Ok cs) = IsCode us cs
+IsAnswer us (Err Empty) = us ≡ []
+IsAnswer us (Err (Piece n)) = BreaksAt us n
+IsAnswer us (Err (Target n)) = GoesAstrayAt us n
+IsAnswer us (Err Memory) = ⊥
+
+-- what is answered is this, if it is not that memory was refused
+abbrev pub IsAnswered : Result (List Cut) CodeFault → Result (Vec CutOfCode Global) CodeFault → Type 0
+IsAnswered answer (Ok cuts) = Ok (cuts_of cuts.items) ≡ answer
+IsAnswered answer (Err Empty) = Err Empty ≡ answer
+IsAnswered answer (Err (Piece n)) = Err (Piece n) ≡ answer
+IsAnswered answer (Err (Target n)) = Err (Target n) ≡ answer
+IsAnswered answer (Err Memory) = Unit {0}

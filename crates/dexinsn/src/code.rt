@@ -1,6 +1,6 @@
-ghost use Rattle.std.specs.Prelude.{◌≡◌, IfErr, IfOk};
-ghost use Rattle.dexspec.specs.Pieces.{IsCode};
-ghost use Rattle.dexinsn.specs.Split.{IsFault, cuts_of};
+ghost use Rattle.std.specs.Prelude.{◌≡◌, List, Result, IfErr, IfOk};
+ghost use Rattle.dexspec.specs.Pieces.{Cut as Meant, IsCode};
+ghost use Rattle.dexinsn.specs.Split.{IsAnswer, IsAnswered, IsFault, cuts_of, kind_of, unit_of};
 
 use crate::marked::Marked;
 use std::alloc::Global;
@@ -28,7 +28,9 @@ pub enum CodeFault {
 
 impl CodeFault {
     /// The fault's number, from 1 to 4.
-    pub fn kind(self) -> u8 {
+    pub fn kind(self) -> u8
+        ensures { result ≡ kind_of self }
+    {
         match self {
             CodeFault::Empty => 1,
             CodeFault::Piece(_) => 2,
@@ -38,7 +40,9 @@ impl CodeFault {
     }
 
     /// The unit at which the fault is found; 0 where it is found at none.
-    pub fn unit(self) -> usize {
+    pub fn unit(self) -> usize
+        ensures { result ≡ unit_of self }
+    {
         match self {
             CodeFault::Piece(unit) | CodeFault::Target(unit) => unit,
             CodeFault::Empty | CodeFault::Memory => 0,
@@ -60,6 +64,7 @@ impl CodeFault {
 pub fn split(alloc: Global, units: &[u16]) -> Result<Vec<Cut>, CodeFault>
     ensures code { IfOk result (λ cuts. IsCode units.now (cuts_of cuts.items)) }
     ensures fault { IfErr result (IsFault units.now) }
+    ensures only { (answer : Result (List Meant) CodeFault) → IsAnswer units.now answer → IsAnswered answer result }
 {
     if units.is_empty() {
         return Err(CodeFault::Empty);

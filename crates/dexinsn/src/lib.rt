@@ -15,4 +15,6 @@ mod marked;
 mod opcodes;
 mod payload;
 mod piece;
+#[cfg(test)]
+mod tests;
 mod units;

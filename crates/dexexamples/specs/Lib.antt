@@ -2,3 +2,6 @@ pub mod Examples
 pub mod ExpectedFiles
 pub mod Units
 pub mod OpcodeTable
+pub mod Varied
+pub mod Valued
+pub mod Whole

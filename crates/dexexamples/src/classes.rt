@@ -2,6 +2,7 @@
 
 ghost use Rattle.std.specs.Prelude.{◌≡◌, [], ◌∷◌, codes};
 ghost use Rattle.dexspec.specs.Depth.{in_class_order};
+ghost use Rattle.dexspec.specs.Flags.{flags_text, OfClass, OfField, OfMethod};
 ghost use Rattle.dexspec.specs.Lists.{rank};
 ghost use Rattle.dexspec.specs.Mentions.{mentions};
 ghost use Rattle.dexspec.specs.Stripping.{strip};
@@ -33,4 +34,15 @@ pub fn class_order()
     ensures one_way { in_class_order (class_z ∷ class_b_under_z ∷ []) ≡ class_z ∷ class_b_under_z ∷ [] }
     ensures other_way { in_class_order (class_b_under_z ∷ class_z ∷ []) ≡ class_z ∷ class_b_under_z ∷ [] }
     ensures by_name { in_class_order (class_d ∷ class_a ∷ []) ≡ class_a ∷ class_d ∷ [] }
+{}
+
+/// Texts of flags: by their kind, with no bit set, and with a bit that has no name.
+pub fn flags()
+    ensures class { flags_text OfClass 0x1 ≡ codes "0x1(public)" }
+    ensures method { flags_text OfMethod 0x9 ≡ codes "0x9(public,static)" }
+    ensures nothing { flags_text OfClass 0 ≡ codes "0x0()" }
+    ensures unnamed { flags_text OfClass 0x40 ≡ codes "0x40()" }
+    ensures field { flags_text OfField 0x40 ≡ codes "0x40(volatile)" }
+    ensures unknown { flags_text OfClass 0x80000000 ≡ codes "0x80000000()" }
+    ensures greatest { flags_text OfMethod 0x20000 ≡ codes "0x20000(declared-synchronized)" }
 {}

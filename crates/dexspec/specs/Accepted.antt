@@ -116,21 +116,21 @@ HasWeight b r = (D : List Definition) → ((k : ℕ) → k ≤ r → IsReadable 
 -- ---- all of them
 
 -- the number of rows at which a condition is judged
-abbrev pub places : Condition → List ℕ → ℕ
-places Condition.Strings b = table_size b StringIds
-places Condition.Types b = table_size b TypeIds
-places Condition.Protos b = table_size b ProtoIds
-places Condition.Fields b = table_size b FieldIds
-places Condition.Methods b = table_size b MethodIds
-places Condition.Classes b = table_size b ClassDefs
-places Condition.Members b = table_size b ClassDefs
-places Condition.Code b = table_size b ClassDefs
-places Condition.Tries b = table_size b ClassDefs
-places Condition.Debug b = table_size b ClassDefs
-places Condition.Values b = table_size b ClassDefs
-places Condition.Annotations b = table_size b ClassDefs
-places Condition.Weight b = table_size b ClassDefs
-places _ b = 1
+abbrev pub rows_judged : Condition → List ℕ → ℕ
+rows_judged Condition.Strings b = table_size b StringIds
+rows_judged Condition.Types b = table_size b TypeIds
+rows_judged Condition.Protos b = table_size b ProtoIds
+rows_judged Condition.Fields b = table_size b FieldIds
+rows_judged Condition.Methods b = table_size b MethodIds
+rows_judged Condition.Classes b = table_size b ClassDefs
+rows_judged Condition.Members b = table_size b ClassDefs
+rows_judged Condition.Code b = table_size b ClassDefs
+rows_judged Condition.Tries b = table_size b ClassDefs
+rows_judged Condition.Debug b = table_size b ClassDefs
+rows_judged Condition.Values b = table_size b ClassDefs
+rows_judged Condition.Annotations b = table_size b ClassDefs
+rows_judged Condition.Weight b = table_size b ClassDefs
+rows_judged _ b = 1
 
 -- the condition holds of the bytes at a row; the first ten have no rows
 abbrev pub Holds : Condition → List ℕ → ℕ → Type 0
@@ -160,13 +160,13 @@ Holds Condition.Weight b r = HasWeight b r
 
 -- the condition holds at each of its rows
 abbrev pub HoldsThroughout : Condition → List ℕ → Type 0
-HoldsThroughout c b = (r : ℕ) → r < places c b → Holds c b r
+HoldsThroughout c b = (r : ℕ) → r < rows_judged c b → Holds c b r
 
 -- the conditions below this number hold
 abbrev pub HoldBelow : ℕ → List ℕ → Type 0
 HoldBelow n b = (c : Condition) → number c < n → HoldsThroughout c b
 
--- the header and all that it leads to: conditions 1 to 10
+-- header, sums, layout and map: conditions 1 to 10
 abbrev pub IsFrame : List ℕ → Type 0
 IsFrame b = HoldBelow 11 b
 
@@ -179,7 +179,7 @@ IsAccepted b = (c : Condition) → HoldsThroughout c b
 -- those before it hold, and the condition fails first at this row
 pub record FailsFirst (c : Condition) (b : List ℕ) (r : ℕ) : Type 0 where
   pub before : HoldBelow (number c) b
-  pub row : r < places c b
+  pub row : r < rows_judged c b
   pub rows : (k : ℕ) → k < r → Holds c b k
   pub fails : Holds c b r → ⊥
 
@@ -187,7 +187,7 @@ pub record FailsFirst (c : Condition) (b : List ℕ) (r : ℕ) : Type 0 where
 pub record FailsAt (c : Condition) (b : List ℕ) (r : ℕ) : Type 0 where
   pub before : HoldBelow 17 b
   pub late : 17 ≤ number c
-  pub row : r < places c b
+  pub row : r < rows_judged c b
   pub fails : Holds c b r → ⊥
 
 -- the place that is told for row r: the version for a wrong one, 0 for a whole file, and else the row

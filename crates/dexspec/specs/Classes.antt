@@ -1,16 +1,16 @@
 -- Class definitions, and what a class row of a file stands for.
 -- Source: "Dalvik Executable format", "class_def_item".
-use Rattle.std.specs.Prelude.{◌≡◌, ℕ, ◌+◌, ◌<◌, ◌≤◌, List, [], ◌++◌, map, All, Option, Some, None}
+use Rattle.std.specs.Prelude.{◌≡◌, ℕ, ◌+◌, ◌<◌, List, [], ◌++◌, map, All, Option, Some, None}
 use Rattle.std.specs.List.{AllZip}
 use Rattle.dexspec.specs.Lists.{OrNone, SomeAt}
 use Rattle.dexspec.specs.Bytes.{uint_at}
 use Rattle.dexspec.specs.Texts.{Text}
 use Rattle.dexspec.specs.Names.{IsClass}
 use Rattle.dexspec.specs.Symbols.{Proto, field_cmp, method_cmp}
-use Rattle.dexspec.specs.Header.{ClassDefs, table_size, data_off}
+use Rattle.dexspec.specs.Header.{ClassDefs, table_size}
 use Rattle.dexspec.specs.Rows.{row_at, StringRow, TypeRow, TypeListAt}
 use Rattle.dexspec.specs.Code.{Code, CodeAt}
-use Rattle.dexspec.specs.Values.{Values, NoValues, EncodedArrayAt, values_depth, most_depth}
+use Rattle.dexspec.specs.Values.{Values, NoValues, EncodedArrayItemAt}
 use Rattle.dexspec.specs.Annotations.{AnnotationSet, Directory, DirectoryAt, no_directory, annotated}
 use Rattle.dexspec.specs.ClassData.{ClassData, ClassDataAt, no_class_data, EncodedField, EncodedMethod}
 
@@ -30,8 +30,8 @@ pub record MethodDef : Type 0 where
   pub annotations : AnnotationSet
   pub parameter_annotations : List AnnotationSet
 
--- A class but for its name. Fields stand by name and type, methods by name and proto; the static values
--- belong to the static fields in order, and may be fewer.
+-- A class but for its name. In a well-formed one fields stand by name and type, methods by name and proto. The
+-- static values belong to the static fields in order, and may be fewer.
 pub record Body : Type 0 where
   pub flags : ℕ
   pub superclass : Option Text
@@ -103,10 +103,8 @@ pub record ClassListAt (b : List ℕ) (o : ℕ) (ts : List Text) : Type 0 where
   pub classes : All IsClass ts
 
 -- at offset o of the data stand the static values
-pub record StaticValuesAt (b : List ℕ) (o : ℕ) (vs : Values) : Type 0 where
-  pub in_data : data_off b ≤ o
-  pub array : (n : ℕ) × EncodedArrayAt b o vs n
-  pub shallow : values_depth vs ≤ most_depth
+abbrev pub StaticValuesAt : List ℕ → ℕ → Values → Type 0
+StaticValuesAt b o vs = (n : ℕ) × EncodedArrayItemAt b o vs n
 
 -- ---- the class of a row
 

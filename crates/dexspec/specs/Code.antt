@@ -62,6 +62,12 @@ handlers_weight hs = 5 + sum_by (λ h. 10 + 8 * length h.catches) hs
 abbrev pub code_units : List ℕ → ℕ → List ℕ
 code_units b o = ushorts_at b (o + 16) (uint_at b (o + 12))
 
+-- at offset o stand the registers of a code_item: how many it has, takes and passes on
+pub record RegistersAt (b : List ℕ) (o registers ins outs : ℕ) : Type 0 where
+  pub registers_size : ushort_at b o ≡ registers
+  pub ins_size : ushort_at b (o + 2) ≡ ins
+  pub outs_size : ushort_at b (o + 4) ≡ outs
+
 -- at offset o of the data stand a code_item's fixed part and units, cut into these pieces
 pub record PiecesAt (b : List ℕ) (o : ℕ) (cuts : List Cut) (ps : List Piece) : Type 0 where
   pub in_data : IsInData b o (16 + 2 * uint_at b (o + 12))
@@ -156,9 +162,7 @@ TriesAt b o cuts tries =
 
 -- at offset o of the data stands a code_item
 pub record CodeAt (b : List ℕ) (o : ℕ) (c : Code) : Type 0 where
-  pub registers : ushort_at b o ≡ c.registers
-  pub ins : ushort_at b (o + 2) ≡ c.ins
-  pub outs : ushort_at b (o + 4) ≡ c.outs
+  pub registers : RegistersAt b o c.registers c.ins c.outs
   pub cuts : List Cut
   pub pieces : PiecesAt b o cuts c.pieces
   pub tries : TriesAt b o cuts c.tries

@@ -28,3 +28,8 @@ pub mod Placing
 pub mod Canonical
 pub mod Merging
 pub mod Stripping
+pub mod Plain
+pub mod Codes
+pub mod Flags
+pub mod Flags
+pub mod Codes

@@ -48,6 +48,7 @@ abbrev pub code_symbols : Code → List Symbol
 code_symbols c = flat_map piece_symbols c.pieces ++ (flat_map handler_symbols (handlers_of c.tries) ++ flat_map debug_symbols (option_to_list c.debug))
 
 abbrev mutual
+  -- what a value names
   pub value_symbols : Value → List Symbol
   value_symbols (StringValue s) = TextSymbol s ∷ []
   value_symbols (TypeValue t) = TypeSymbol t ∷ []
@@ -58,10 +59,12 @@ abbrev mutual
   value_symbols (AnnotationValue t es) = TypeSymbol t ∷ elements_symbols es
   value_symbols _ = []
 
+  -- what values name
   pub values_symbols : Values → List Symbol
   values_symbols NoValues = []
   values_symbols (ThenValue v vs) = value_symbols v ++ values_symbols vs
 
+  -- the names of elements, and what their values name
   pub elements_symbols : Elements → List Symbol
   elements_symbols NoElements = []
   elements_symbols (ThenElement name v es) = TextSymbol name ∷ (value_symbols v ++ elements_symbols es)

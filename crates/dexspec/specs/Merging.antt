@@ -156,6 +156,7 @@ abbrev mutual
   leaves (Leaf file) = file ∷ []
   leaves (Node ps) = all_leaves ps
 
+  -- those of all parts
   pub all_leaves : Plans → List ℕ
   all_leaves NoPlans = []
   all_leaves (ThenPlan p ps) = leaves p ++ all_leaves ps
@@ -166,6 +167,7 @@ abbrev mutual
   plan_depth (Leaf file) = 1
   plan_depth (Node ps) = plans_depth ps + 1
 
+  -- the depth of the deepest part
   pub plans_depth : Plans → ℕ
   plans_depth NoPlans = 0
   plans_depth (ThenPlan p ps) = max (plan_depth p) (plans_depth ps)
@@ -180,7 +182,7 @@ pub record IsPlanFor (files : ℕ) (plan : Plan) : Type 0 where
   pub named : (i : ℕ) → i < files → Contains (leaves plan) i
   pub shallow : plan_depth plan ≤ most_plan_depth
 
--- a part that is no leaf stands among them
+-- each of the parts is a leaf
 abbrev pub AreLeaves : Plans → Type 0
 AreLeaves NoPlans = Unit {0}
 AreLeaves (ThenPlan (Leaf file) ps) = AreLeaves ps

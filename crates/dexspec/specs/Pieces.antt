@@ -1,8 +1,9 @@
 -- Units of code cut into instructions and payloads, their targets, and the symbols that they name.
 -- Source: "Dalvik bytecode", "packed-switch-payload format", "sparse-switch-payload format",
--- "fill-array-data-payload format"; "Dalvik executable instruction formats". This project's rules: the byte
--- 00 of a format is zero, the count of 35c is at most five, targets and keys are as said here, and a
--- payload that no instruction leads to is allowed.
+-- "fill-array-data-payload format"; "Dalvik executable instruction formats". This project's rules: code has one
+-- unit at least and is cut without gaps, the byte 00 of a format is zero, the count of 35c is at most five,
+-- sparse keys rise strictly, an element has 1, 2, 4 or 8 bytes, targets are starts of instructions or of a
+-- payload of the right kind, and a payload that no instruction leads to is allowed.
 use Rattle.std.specs.Prelude.{◌≡◌, ℕ, zero, suc, ℤ, pos, ◌+ℤ◌, nat_abs, ◌+◌, ◌*◌, ◌/◌, ◌%◌, ◌<◌, Bool, true, false, not, ◌&&◌, ◌||◌, ◌==◌, nat_le, IsTrue, if◌then◌else◌, List, [], ◌∷◌, length, take, drop, All, slice_index, slice_set, Option, Some, None}
 use Rattle.std.specs.List.{list_any, list_all}
 use Rattle.std.specs.Option.{option_and_then}
@@ -143,7 +144,7 @@ branch_offset _ us at = None
 abbrev pub payload_ident : ℕ → ℕ
 payload_ident op = if op == 0x2b then packed_switch_ident else (if op == 0x2c then sparse_switch_ident else array_data_ident)
 
--- where the targets of the payload at a unit begin, and how many there are
+-- the targets of the payload at a unit, as they are written; array data has none
 abbrev pub payload_targets : List ℕ → ℕ → List ℤ
 payload_targets us at =
     if slice_index us at == packed_switch_ident then ints_in us (at + 4) (slice_index us (at + 1))

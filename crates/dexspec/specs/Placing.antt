@@ -34,10 +34,11 @@ own_numbers n (Some x ∷ uses) = Some n ∷ own_numbers (n + 1) uses
 abbrev pub own_items : {X : Type 0} → List (Option X) → Items X
 own_items uses = record { numbers = own_numbers 0 uses; written = present uses }
 
--- Type lists, debug programs and annotation sets. In this form of the file equal ones are not shared: sharing
--- them, at the place of their first use, is to change this definition alone.
-abbrev pub shared_items : {X : Type 0} → List (Option X) → Items X
-shared_items uses = own_items uses
+-- Type lists, debug programs and annotation sets, with a test that tells equal ones. In this form of the file
+-- they are not shared, and the test is not asked. A form that writes equal ones once, at the place of their first
+-- use, is another body of this definition alone.
+abbrev pub shared_items : {X : Type 0} → (X → X → Bool) → List (Option X) → Items X
+shared_items same uses = own_items uses
 
 -- a list is an item unless it is empty
 abbrev pub unless_empty : {X : Type 0} → List X → Option (List X)

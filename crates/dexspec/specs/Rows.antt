@@ -94,20 +94,20 @@ abbrev pub key_cmp : List ℕ → List ℕ → Ordering
 key_cmp = slice_cmp nat_cmp
 
 -- a type's row is ordered by its string
-abbrev pub type_key : List ℕ → ℕ → List ℕ
-type_key b i = uint_at b (row_at b TypeIds i) ∷ []
+abbrev pub type_row_key : List ℕ → ℕ → List ℕ
+type_row_key b i = uint_at b (row_at b TypeIds i) ∷ []
 
 -- a proto's by its return type, and then by its parameters
-abbrev pub proto_key : List ℕ → ℕ → List ℕ
-proto_key b i = uint_at b (row_at b ProtoIds i + 4) ∷ (if uint_at b (row_at b ProtoIds i + 8) == 0 then [] else type_indices b (uint_at b (row_at b ProtoIds i + 8)))
+abbrev pub proto_row_key : List ℕ → ℕ → List ℕ
+proto_row_key b i = uint_at b (row_at b ProtoIds i + 4) ∷ (if uint_at b (row_at b ProtoIds i + 8) == 0 then [] else type_indices b (uint_at b (row_at b ProtoIds i + 8)))
 
 -- a field's by its class, then by its name, then by its type
-abbrev pub field_key : List ℕ → ℕ → List ℕ
-field_key b i = ushort_at b (row_at b FieldIds i) ∷ uint_at b (row_at b FieldIds i + 4) ∷ ushort_at b (row_at b FieldIds i + 2) ∷ []
+abbrev pub field_row_key : List ℕ → ℕ → List ℕ
+field_row_key b i = ushort_at b (row_at b FieldIds i) ∷ uint_at b (row_at b FieldIds i + 4) ∷ ushort_at b (row_at b FieldIds i + 2) ∷ []
 
 -- a method's by its class, then by its name, then by its proto
-abbrev pub method_key : List ℕ → ℕ → List ℕ
-method_key b i = ushort_at b (row_at b MethodIds i) ∷ uint_at b (row_at b MethodIds i + 4) ∷ ushort_at b (row_at b MethodIds i + 2) ∷ []
+abbrev pub method_row_key : List ℕ → ℕ → List ℕ
+method_row_key b i = ushort_at b (row_at b MethodIds i) ∷ uint_at b (row_at b MethodIds i + 4) ∷ ushort_at b (row_at b MethodIds i + 2) ∷ []
 
 -- row i's key is greater than that of the row before it, if there is one
 abbrev pub Follows : (List ℕ → ℕ → List ℕ) → List ℕ → ℕ → Type 0
@@ -125,22 +125,22 @@ pub record HasString (b : List ℕ) (i : ℕ) : Type 0 where
 pub record HasType (b : List ℕ) (i : ℕ) : Type 0 where
   pub type : Text
   pub is : TypeRow b i type
-  pub follows : Follows type_key b i
+  pub follows : Follows type_row_key b i
 
 -- 13 Protos
 pub record HasProto (b : List ℕ) (i : ℕ) : Type 0 where
   pub proto : Proto
   pub is : ProtoRow b i proto
-  pub follows : Follows proto_key b i
+  pub follows : Follows proto_row_key b i
 
 -- 14 Fields
 pub record HasField (b : List ℕ) (i : ℕ) : Type 0 where
   pub field : Field
   pub is : FieldRow b i field
-  pub follows : Follows field_key b i
+  pub follows : Follows field_row_key b i
 
 -- 15 Methods
 pub record HasMethod (b : List ℕ) (i : ℕ) : Type 0 where
   pub method : Method
   pub is : MethodRow b i method
-  pub follows : Follows method_key b i
+  pub follows : Follows method_row_key b i

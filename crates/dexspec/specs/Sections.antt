@@ -9,7 +9,8 @@ use Rattle.dexspec.specs.Header.{Table, StringIds, TypeIds, ProtoIds, FieldIds, 
 
 -- ---- condition 9
 
--- An empty table has offset 0; the others stand in order at multiples of 4, each behind what is before it.
+-- An empty table has offset 0; the others stand in order at multiples of 4, each behind what is before it, and
+-- the last ends at or before data_off.
 abbrev pub AreLaidOut : List ℕ → ℕ → List Table → Type 0
 AreLaidOut b from [] = from ≤ data_off b
 AreLaidOut b from (t ∷ ts) = ((table_size b t ≡ 0) × (table_off b t ≡ 0) × AreLaidOut b from ts)
@@ -89,7 +90,7 @@ abbrev pub HasTable : List ℕ → List MapEntry → Table → Type 0
 HasTable b es t = ((table_size b t ≡ 0) × All (λ e. e.kind ≢ type_code (TableOf t)) es)
     ⊎ ((table_size b t ≢ 0) × Contains es (record { kind = type_code (TableOf t); size = table_size b t; off = table_off b t }))
 
--- an entry that is not the header's and not a table's is in the data
+-- an entry that is not the header's and not a table's begins in the data
 abbrev pub IsPlaced : List ℕ → MapEntry → Type 0
 IsPlaced b e = (e.kind < 7) ⊎ ((data_off b ≤ e.off) × (e.off < file_size b))
 

@@ -12,7 +12,7 @@ use Rattle.dexspec.specs.Symbols.{Proto, Field, Method, Symbol, TextSymbol, Type
 use Rattle.dexspec.specs.Pieces.{Piece, Instruction, Payload, with_index}
 use Rattle.dexspec.specs.Code.{Catch, Handler, Try, Code, same_handler, handlers_of}
 use Rattle.dexspec.specs.Debug.{Operation, AdvancePc, AdvanceLine, StartLocal, StartLocalExtended, EndLocal, RestartLocal, SetPrologueEnd, SetEpilogueBegin, SetFile, Special, Debug}
-use Rattle.dexspec.specs.Values.{Value, ByteValue, ShortValue, CharValue, IntValue, LongValue, FloatValue, DoubleValue, StringValue, TypeValue, FieldValue, MethodValue, EnumValue, ArrayValue, AnnotationValue, NullValue, BooleanValue, Values, NoValues, ThenValue, Elements, NoElements, ThenElement, count_values, names_of, value_byte, byte_code, short_code, char_code, int_code, long_code, float_code, double_code, string_code, type_code as type_value_code, field_code, method_code, enum_code, array_code, annotation_code, null_code, boolean_code}
+use Rattle.dexspec.specs.Values.{Value, ByteValue, ShortValue, CharValue, IntValue, LongValue, FloatValue, DoubleValue, StringValue, TypeValue, FieldValue, MethodValue, EnumValue, ArrayValue, AnnotationValue, NullValue, BooleanValue, Values, NoValues, ThenValue, Elements, NoElements, ThenElement, count_values, names_of, value_byte, byte_value_type, short_value_type, char_value_type, int_value_type, long_value_type, float_value_type, double_value_type, string_value_type, type_value_type, field_value_type, method_value_type, enum_value_type, array_value_type, annotation_value_type, null_value_type, boolean_value_type}
 use Rattle.dexspec.specs.Annotations.{Annotation}
 use Rattle.dexspec.specs.Classes.{FieldDef, MethodDef, Definition}
 use Rattle.dexspec.specs.Mentions.{Mentions, field_of, method_of}
@@ -155,28 +155,31 @@ abbrev pub bits_bytes : ℕ → ℕ → ℕ → List ℕ
 bits_bytes code width v = value_byte (bits_width width v - 1) code ∷ bytes_of (bits_width width v) (v / 256 ^ (width - bits_width width v))
 
 abbrev mutual
+  -- an encoded_value
   pub value_bytes : Mentions → Value → List ℕ
-  value_bytes m (ByteValue z) = signed_bytes byte_code z
-  value_bytes m (ShortValue z) = signed_bytes short_code z
-  value_bytes m (CharValue u) = unsigned_bytes char_code u
-  value_bytes m (IntValue z) = signed_bytes int_code z
-  value_bytes m (LongValue z) = signed_bytes long_code z
-  value_bytes m (FloatValue bits) = bits_bytes float_code 4 bits
-  value_bytes m (DoubleValue bits) = bits_bytes double_code 8 bits
-  value_bytes m (StringValue s) = unsigned_bytes string_code (text_index m s)
-  value_bytes m (TypeValue t) = unsigned_bytes type_value_code (type_index m t)
-  value_bytes m (FieldValue f) = unsigned_bytes field_code (field_index m f)
-  value_bytes m (MethodValue x) = unsigned_bytes method_code (method_index m x)
-  value_bytes m (EnumValue f) = unsigned_bytes enum_code (field_index m f)
-  value_bytes m (ArrayValue vs) = value_byte 0 array_code ∷ (uleb128 (count_values vs) ++ values_bytes m vs)
-  value_bytes m (AnnotationValue t es) = value_byte 0 annotation_code ∷ (uleb128 (type_index m t) ++ (uleb128 (length (names_of es)) ++ elements_bytes m es))
-  value_bytes m NullValue = value_byte 0 null_code ∷ []
-  value_bytes m (BooleanValue is) = value_byte (if is then 1 else 0) boolean_code ∷ []
+  value_bytes m (ByteValue z) = signed_bytes byte_value_type z
+  value_bytes m (ShortValue z) = signed_bytes short_value_type z
+  value_bytes m (CharValue u) = unsigned_bytes char_value_type u
+  value_bytes m (IntValue z) = signed_bytes int_value_type z
+  value_bytes m (LongValue z) = signed_bytes long_value_type z
+  value_bytes m (FloatValue bits) = bits_bytes float_value_type 4 bits
+  value_bytes m (DoubleValue bits) = bits_bytes double_value_type 8 bits
+  value_bytes m (StringValue s) = unsigned_bytes string_value_type (text_index m s)
+  value_bytes m (TypeValue t) = unsigned_bytes type_value_type (type_index m t)
+  value_bytes m (FieldValue f) = unsigned_bytes field_value_type (field_index m f)
+  value_bytes m (MethodValue x) = unsigned_bytes method_value_type (method_index m x)
+  value_bytes m (EnumValue f) = unsigned_bytes enum_value_type (field_index m f)
+  value_bytes m (ArrayValue vs) = value_byte 0 array_value_type ∷ (uleb128 (count_values vs) ++ values_bytes m vs)
+  value_bytes m (AnnotationValue t es) = value_byte 0 annotation_value_type ∷ (uleb128 (type_index m t) ++ (uleb128 (length (names_of es)) ++ elements_bytes m es))
+  value_bytes m NullValue = value_byte 0 null_value_type ∷ []
+  value_bytes m (BooleanValue is) = value_byte (if is then 1 else 0) boolean_value_type ∷ []
 
+  -- values one after the other
   pub values_bytes : Mentions → Values → List ℕ
   values_bytes m NoValues = []
   values_bytes m (ThenValue v vs) = value_bytes m v ++ values_bytes m vs
 
+  -- annotation_elements one after the other
   pub elements_bytes : Mentions → Elements → List ℕ
   elements_bytes m NoElements = []
   elements_bytes m (ThenElement name v es) = uleb128 (text_index m name) ++ (value_bytes m v ++ elements_bytes m es)

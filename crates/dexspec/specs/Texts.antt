@@ -1,7 +1,7 @@
 -- Texts: lists of 16-bit units, and their bytes as MUTF-8.
 -- Source: "Dalvik Executable format", "MUTF-8 (Modified UTF-8) encoding" and "string_data_item".
--- This project's rule: each unit is spelled by itself in its one shortest form, surrogates too, and a
--- surrogate need not have a partner.
+-- This project's rule: each unit is spelled by itself in the one form that `form` gives, surrogates too,
+-- and a surrogate need not have a partner.
 use Rattle.std.specs.Prelude.{◌≡◌, ℕ, ◌+◌, ◌/◌, ◌%◌, ◌^◌, ◌<◌, Bool, List, [], ◌∷◌, ◌++◌, length, drop, All, if◌then◌else◌, nat_lt, ◌==◌}
 use Rattle.std.specs.List.{flat_map}
 use Rattle.std.specs.Ordering.{nat_cmp}

@@ -8,6 +8,7 @@ use Rattle.dexspec.specs.Bytes.{number_of, signed_in, Stands}
 use Rattle.dexspec.specs.Numbers.{Uleb128At}
 use Rattle.dexspec.specs.Texts.{Text, text_cmp}
 use Rattle.dexspec.specs.Symbols.{Field, Method}
+use Rattle.dexspec.specs.Header.{data_off}
 use Rattle.dexspec.specs.Rows.{StringRow, TypeRow, FieldRow, MethodRow}
 
 -- A value is a tree. A char is a number; floats are their bit patterns; an enum is a field. The elements of
@@ -76,6 +77,7 @@ abbrev mutual
   values_depth NoValues = 0
   values_depth (ThenValue v vs) = max (value_depth v) (values_depth vs)
 
+  -- the depth of the deepest value of an element
   pub elements_depth : Elements → ℕ
   elements_depth NoElements = 0
   elements_depth (ThenElement name v es) = max (value_depth v) (elements_depth es)
@@ -87,53 +89,53 @@ most_depth = 32
 -- ---- the type codes
 
 -- the type codes of the kinds of value, in the order of the page
-abbrev pub byte_code : ℕ
-byte_code = 0x00
+abbrev pub byte_value_type : ℕ
+byte_value_type = 0x00
 
-abbrev pub short_code : ℕ
-short_code = 0x02
+abbrev pub short_value_type : ℕ
+short_value_type = 0x02
 
-abbrev pub char_code : ℕ
-char_code = 0x03
+abbrev pub char_value_type : ℕ
+char_value_type = 0x03
 
-abbrev pub int_code : ℕ
-int_code = 0x04
+abbrev pub int_value_type : ℕ
+int_value_type = 0x04
 
-abbrev pub long_code : ℕ
-long_code = 0x06
+abbrev pub long_value_type : ℕ
+long_value_type = 0x06
 
-abbrev pub float_code : ℕ
-float_code = 0x10
+abbrev pub float_value_type : ℕ
+float_value_type = 0x10
 
-abbrev pub double_code : ℕ
-double_code = 0x11
+abbrev pub double_value_type : ℕ
+double_value_type = 0x11
 
-abbrev pub string_code : ℕ
-string_code = 0x17
+abbrev pub string_value_type : ℕ
+string_value_type = 0x17
 
-abbrev pub type_code : ℕ
-type_code = 0x18
+abbrev pub type_value_type : ℕ
+type_value_type = 0x18
 
-abbrev pub field_code : ℕ
-field_code = 0x19
+abbrev pub field_value_type : ℕ
+field_value_type = 0x19
 
-abbrev pub method_code : ℕ
-method_code = 0x1a
+abbrev pub method_value_type : ℕ
+method_value_type = 0x1a
 
-abbrev pub enum_code : ℕ
-enum_code = 0x1b
+abbrev pub enum_value_type : ℕ
+enum_value_type = 0x1b
 
-abbrev pub array_code : ℕ
-array_code = 0x1c
+abbrev pub array_value_type : ℕ
+array_value_type = 0x1c
 
-abbrev pub annotation_code : ℕ
-annotation_code = 0x1d
+abbrev pub annotation_value_type : ℕ
+annotation_value_type = 0x1d
 
-abbrev pub null_code : ℕ
-null_code = 0x1e
+abbrev pub null_value_type : ℕ
+null_value_type = 0x1e
 
-abbrev pub boolean_code : ℕ
-boolean_code = 0x1f
+abbrev pub boolean_value_type : ℕ
+boolean_value_type = 0x1f
 
 -- the first byte of a value: a type code in the low five bits, and an argument above it
 abbrev pub value_byte : ℕ → ℕ → ℕ
@@ -177,25 +179,25 @@ AnnotationAround ElementsFrom t names b o n = (i : ℕ) × (j : ℕ) × (k : ℕ
 abbrev mutual
   -- at offset o stands an encoded_value
   pub ValueAt : List ℕ → ℕ → Value → ℕ → Type 0
-  ValueAt b o (ByteValue z) n = SignedAt byte_code 1 b o z n
-  ValueAt b o (ShortValue z) n = SignedAt short_code 2 b o z n
-  ValueAt b o (CharValue u) n = UnsignedAt char_code 2 b o u n
-  ValueAt b o (IntValue z) n = SignedAt int_code 4 b o z n
-  ValueAt b o (LongValue z) n = SignedAt long_code 8 b o z n
-  ValueAt b o (FloatValue bits) n = BitsAt float_code 4 b o bits n
-  ValueAt b o (DoubleValue bits) n = BitsAt double_code 8 b o bits n
-  ValueAt b o (StringValue s) n = IndexAt string_code StringRow b o s n
-  ValueAt b o (TypeValue t) n = IndexAt type_code TypeRow b o t n
-  ValueAt b o (FieldValue f) n = IndexAt field_code FieldRow b o f n
-  ValueAt b o (MethodValue m) n = IndexAt method_code MethodRow b o m n
-  ValueAt b o (EnumValue f) n = IndexAt enum_code FieldRow b o f n
-  ValueAt b o (ArrayValue vs) n = Stands b o (value_byte 0 array_code ∷ [])
+  ValueAt b o (ByteValue z) n = SignedAt byte_value_type 1 b o z n
+  ValueAt b o (ShortValue z) n = SignedAt short_value_type 2 b o z n
+  ValueAt b o (CharValue u) n = UnsignedAt char_value_type 2 b o u n
+  ValueAt b o (IntValue z) n = SignedAt int_value_type 4 b o z n
+  ValueAt b o (LongValue z) n = SignedAt long_value_type 8 b o z n
+  ValueAt b o (FloatValue bits) n = BitsAt float_value_type 4 b o bits n
+  ValueAt b o (DoubleValue bits) n = BitsAt double_value_type 8 b o bits n
+  ValueAt b o (StringValue s) n = IndexAt string_value_type StringRow b o s n
+  ValueAt b o (TypeValue t) n = IndexAt type_value_type TypeRow b o t n
+  ValueAt b o (FieldValue f) n = IndexAt field_value_type FieldRow b o f n
+  ValueAt b o (MethodValue m) n = IndexAt method_value_type MethodRow b o m n
+  ValueAt b o (EnumValue f) n = IndexAt enum_value_type FieldRow b o f n
+  ValueAt b o (ArrayValue vs) n = Stands b o (value_byte 0 array_value_type ∷ [])
       × (m : ℕ) × ArrayAround (λ p k. ValuesAt b p vs k) (count_values vs) b (o + 1) m × (n ≡ 1 + m)
-  ValueAt b o (AnnotationValue t es) n = Stands b o (value_byte 0 annotation_code ∷ [])
+  ValueAt b o (AnnotationValue t es) n = Stands b o (value_byte 0 annotation_value_type ∷ [])
       × (m : ℕ) × AnnotationAround (λ p k. ElementsAt b p es k) t (names_of es) b (o + 1) m × (n ≡ 1 + m)
-  ValueAt b o NullValue n = Stands b o (value_byte 0 null_code ∷ []) × (n ≡ 1)
-  ValueAt b o (BooleanValue false) n = Stands b o (value_byte 0 boolean_code ∷ []) × (n ≡ 1)
-  ValueAt b o (BooleanValue true) n = Stands b o (value_byte 1 boolean_code ∷ []) × (n ≡ 1)
+  ValueAt b o NullValue n = Stands b o (value_byte 0 null_value_type ∷ []) × (n ≡ 1)
+  ValueAt b o (BooleanValue false) n = Stands b o (value_byte 0 boolean_value_type ∷ []) × (n ≡ 1)
+  ValueAt b o (BooleanValue true) n = Stands b o (value_byte 1 boolean_value_type ∷ []) × (n ≡ 1)
 
   -- at offset o stand the values, one after the other
   pub ValuesAt : List ℕ → ℕ → Values → ℕ → Type 0
@@ -215,3 +217,17 @@ EncodedArrayAt b o vs n = ArrayAround (λ p k. ValuesAt b p vs k) (count_values 
 -- at offset o stands an encoded_annotation
 abbrev pub EncodedAnnotationAt : Text → Item Elements
 EncodedAnnotationAt t b o es n = AnnotationAround (λ p k. ElementsAt b p es k) t (names_of es) b o n
+
+-- ---- in the data
+
+-- at offset o of the data stands an encoded_value that nests no deeper than it may
+pub record EncodedValueAt (b : List ℕ) (o : ℕ) (v : Value) (n : ℕ) : Type 0 where
+  pub in_data : data_off b ≤ o
+  pub stands : ValueAt b o v n
+  pub shallow : value_depth v ≤ most_depth
+
+-- at offset o of the data stands an encoded_array_item whose values nest no deeper than they may
+pub record EncodedArrayItemAt (b : List ℕ) (o : ℕ) (vs : Values) (n : ℕ) : Type 0 where
+  pub in_data : data_off b ≤ o
+  pub array : EncodedArrayAt b o vs n
+  pub shallow : values_depth vs ≤ most_depth

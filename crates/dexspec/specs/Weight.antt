@@ -53,15 +53,18 @@ abbrev pub code_weight : Code → ℕ
 code_weight c = 24 + 2 * length (flat_map units_of c.pieces) + tries_weight c.tries
 
 abbrev mutual
+  -- an encoded_value
   pub value_weight : Value → ℕ
   value_weight (ArrayValue vs) = 6 + values_weight vs
   value_weight (AnnotationValue t es) = 12 + elements_weight es
   value_weight _ = 9
 
+  -- values one after the other
   pub values_weight : Values → ℕ
   values_weight NoValues = 0
   values_weight (ThenValue v vs) = value_weight v + values_weight vs
 
+  -- annotation_elements one after the other
   pub elements_weight : Elements → ℕ
   elements_weight NoElements = 0
   elements_weight (ThenElement name v es) = 5 + value_weight v + elements_weight es

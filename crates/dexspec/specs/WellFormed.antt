@@ -1,7 +1,7 @@
 -- Well-formed definitions: those that a file can hold, whatever the indices and offsets are.
 -- Source: "Dalvik Executable format", the sizes of the fields of each item.
 use Rattle.std.specs.Prelude.{◌≡◌, ℕ, ◌+◌, ◌^◌, ◌<◌, ◌≤◌, IsTrue, List, length, map, All, IfSome, IfNone, FitsSigned}
-use Rattle.std.specs.List.{flat_map, AllZip}
+use Rattle.std.specs.List.{flat_map, AllZip, Contains}
 use Rattle.std.specs.Int.{w8, w16, w32, w64}
 use Rattle.std.specs.Ordering.{ordering_then}
 use Rattle.std.specs.declared.cmp.Ordering.{Ordering}
@@ -72,11 +72,12 @@ IsOperation (RestartLocal register) = FitsUint register
 IsOperation (Special opcode) = (0x0a ≤ opcode) × (opcode ≤ 0xff)
 IsOperation _ = Unit {0}
 
--- numbers and counts fit
+-- numbers and counts fit, and there are no more operations than a file has bytes
 pub record IsDebug (d : Debug) : Type 0 where
   pub line_start : FitsUint d.line_start
   pub names : FitsUint (length d.parameter_names)
   pub operations : All IsOperation d.operations
+  pub few : length d.operations < 2 ^ 30
 
 -- code that some code_item is
 pub record IsCodeItem (c : Code) : Type 0 where
@@ -94,6 +95,7 @@ pub record IsCodeItem (c : Code) : Type 0 where
 -- ---- values and annotations
 
 abbrev mutual
+  -- a value that some encoded_value is
   pub IsValue : Value → Type 0
   IsValue (ByteValue z) = FitsSigned w8 z
   IsValue (ShortValue z) = FitsSigned w16 z
@@ -106,10 +108,12 @@ abbrev mutual
   IsValue (AnnotationValue t es) = AreElements es × FitsUint (length (names_of es)) × IsTrue (rises text_cmp (names_of es))
   IsValue _ = Unit {0}
 
+  -- each of the values is one
   pub AreValues : Values → Type 0
   AreValues NoValues = Unit {0}
   AreValues (ThenValue v vs) = IsValue v × AreValues vs
 
+  -- each element's value is one
   pub AreElements : Elements → Type 0
   AreElements NoElements = Unit {0}
   AreElements (ThenElement name v es) = IsValue v × AreElements es
@@ -173,6 +177,10 @@ pub record IsWellFormed (d : Definition) : Type 0 where
   pub annotations : IsSet d.1.annotations
   pub fields : All IsFieldDef (declared_fields d.1)
   pub methods : All IsMethodDef (declared_methods d.1)
+  pub static_fields_count : FitsUint (length d.1.static_fields)
+  pub instance_fields_count : FitsUint (length d.1.instance_fields)
+  pub direct_methods_count : FitsUint (length d.1.direct_methods)
+  pub virtual_methods_count : FitsUint (length d.1.virtual_methods)
   pub static_fields : IsTrue (rises field_key_cmp (map field_key d.1.static_fields))
   pub instance_fields : IsTrue (rises field_key_cmp (map field_key d.1.instance_fields))
   pub fields_apart : ShareNone (map field_key d.1.static_fields) (map field_key d.1.instance_fields)
@@ -184,3 +192,7 @@ pub record IsWellFormed (d : Definition) : Type 0 where
   pub few_values : count_values d.1.static_values ≤ length d.1.static_fields
   pub symbols : All IsSymbol (symbols_of d)
   pub texts : All IsText (flat_map texts_in (symbols_of d))
+
+-- every one of them is a definition that some file can hold
+abbrev pub AreWellFormed : List Definition → Type 0
+AreWellFormed D = (d : Definition) → Contains D d → IsWellFormed d

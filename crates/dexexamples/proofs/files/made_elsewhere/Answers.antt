@@ -1,0 +1,29 @@
+use Rattle.std.proofs.Common.{refl}
+use Rattle.dexspec.specs.Mentions.{mentions, symbols_of}
+use Rattle.dexspec.specs.Depth.{depth, in_class_order}
+use Rattle.dexspec.specs.Bytes.{bytes_of, ushort, uint}
+use Rattle.dexspec.specs.Opcodes.{opcode_of, opcode_runs}
+use Rattle.dexspec.specs.Spellings.{code_bytes, debug_bytes, class_data_bytes}
+use Rattle.dexspec.specs.Weight.{weight}
+use Rattle.dexspec.specs.Canonical.{unsigned_file, layout}
+use Rattle.dexexamples.proofs.files.made_elsewhere.Goals as goal
+
+pub returns-clause-varied : goal.returns-clause-varied
+unfolding unsigned_file layout mentions symbols_of in_class_order depth code_bytes debug_bytes class_data_bytes ushort uint bytes_of opcode_of opcode_runs weight
+returns-clause-varied c = refl
+
+pub returns-clause-varied_weight : goal.returns-clause-varied_weight
+unfolding unsigned_file layout mentions symbols_of in_class_order depth code_bytes debug_bytes class_data_bytes ushort uint bytes_of opcode_of opcode_runs weight
+returns-clause-varied_weight c = refl
+
+pub returns-clause-valued : goal.returns-clause-valued
+unfolding unsigned_file layout mentions symbols_of in_class_order depth code_bytes debug_bytes class_data_bytes ushort uint bytes_of opcode_of opcode_runs weight
+returns-clause-valued c = refl
+
+pub returns-clause-varied_stripped : goal.returns-clause-varied_stripped
+unfolding unsigned_file layout mentions symbols_of in_class_order depth code_bytes debug_bytes class_data_bytes ushort uint bytes_of opcode_of opcode_runs weight
+returns-clause-varied_stripped c = refl
+
+pub returns-clause-valued_weight : goal.returns-clause-valued_weight
+unfolding unsigned_file layout mentions symbols_of in_class_order depth code_bytes debug_bytes class_data_bytes ushort uint bytes_of opcode_of opcode_runs weight
+returns-clause-valued_weight c = refl

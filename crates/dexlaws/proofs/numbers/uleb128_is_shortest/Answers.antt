@@ -1,0 +1,5 @@
+use Rattle.dexspec.proofs.Spellings.{uleb128_is}
+use Rattle.dexlaws.proofs.numbers.uleb128_is_shortest.Goals as goal
+
+pub returns : goal.returns
+returns c = uleb128_is

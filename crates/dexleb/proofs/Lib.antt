@@ -1,0 +1,4 @@
+pub mod First
+pub mod Reading
+pub mod Groups
+pub mod Sign

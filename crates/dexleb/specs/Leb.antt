@@ -1,0 +1,23 @@
+-- What the readers of numbers answer.
+use Rattle.std.specs.Prelude.{◌≡◌, ◌↔◌, ℕ, ◌≤◌, List, length, take, Result, Ok, Err, IfOk}
+use Rattle.dexspec.specs.Numbers.{IsChain, sum_of_groups, BeginsWith, IsCutOff}
+use Rattle.dexleb.specs.declared.read.LebFault.{LebFault}
+use Rattle.dexleb.specs.declared.read.LebFault.TheVariants.{Short, Range}
+
+-- what a reader says of the bytes: the value that stands first and how many bytes spell it, or why there is none
+pub record Reads {V : Type 0} (Says : List ℕ → V → Type 0) (bytes : List ℕ) (r : Result (V × ℕ) LebFault) : Type 0 where
+  pub found : IfOk r (λ x. BeginsWith Says bytes x.0 x.1)
+  pub only : (v : V) (n : ℕ) → BeginsWith Says bytes v n → r ≡ Ok (v, n)
+  pub short : (r ≡ Err Short) ↔ IsCutOff bytes
+  pub range : (r ≡ Err Range) ↔ ((¬ IsCutOff bytes) × ((v : V) (n : ℕ) → ¬ BeginsWith Says bytes v n))
+
+-- the first n bytes are a number, whether or not it is in range, and this is the sum of its groups
+pub record IsFirst (bytes : List ℕ) (sum n : ℕ) : Type 0 where
+  pub within : n ≤ length bytes
+  pub few : n ≤ 5
+  pub chain : IsChain (take n bytes)
+  pub value : sum_of_groups (take n bytes) ≡ sum
+
+-- no number of at most five bytes stands first
+abbrev pub HasNoFirst : List ℕ → Type 0
+HasNoFirst bytes = (n : ℕ) → n ≤ 5 → n ≤ length bytes → ¬ IsChain (take n bytes)

@@ -1,0 +1,106 @@
+-- Numbers of a fixed number of bytes: what their bytes spell, and what stands where they were written.
+use Rattle.std.proofs.Common.{◌≡◌, All, ℕ, zero, suc, ◌+◌, ◌-◌, ◌*◌, ◌/◌, ◌%◌, ◌^◌, ◌<◌, List, [], ◌∷◌, length, refl, ap, ◌∙◌, arith, inl, inr}
+use Rattle.std.specs.Int.{w64}
+use Rattle.std.specs.Prelude.{ℤ, FitsSigned, pos, negsuc}
+use Rattle.std.proofs.Math.Nat.{pow-suc}
+use Rattle.std.proofs.lemmas.Nat.{pow-add, pow_pos}
+use Rattle.std.proofs.lemmas.Int.{ints}
+use Rattle.std.proofs.lemmas.Bool.{cases_lt, lt-ltb, le-ltb}
+use Rattle.std.proofs.lemmas.List.Elements.{All-nil, All-cons}
+use Rattle.dexspec.specs.Bytes.{number_of, bytes_of, signed_in, ushort, uint, ushort_at, uint_at, Stands}
+use Rattle.dexspec.specs.Numbers.{magnitude}
+use Rattle.dexspec.specs.Spellings.{complement}
+
+-- ---- powers
+
+-- a byte has 8 bits
+pub pow_256 : (n : ℕ) → 2 ^ (8 * n) ≡ 256 ^ n
+pow_256 zero = refl
+pow_256 (suc n) = let e : 8 * suc n ≡ 8 + 8 * n = omega arith in rw (e, pow-add) (omega (arith, pow_256 n, pow-suc 256 n))
+
+-- a power of 256 is not 0
+pub pow_256_pos : (n : ℕ) → 0 < 256 ^ n
+pow_256_pos n = omega (arith, pow_256 n, pow_pos (8 * n))
+
+-- ---- bytes
+
+-- n bytes are n
+pub length-bytes_of : (n v : ℕ) → length (bytes_of n v) ≡ n
+unfolding bytes_of
+length-bytes_of zero v = refl
+length-bytes_of (suc n) v = ap suc (length-bytes_of n (v / 256))
+
+-- the bytes of a number that they hold spell it
+pub number_of-bytes_of : (n v : ℕ) → v < 256 ^ n → number_of (bytes_of n v) ≡ v
+unfolding bytes_of number_of
+number_of-bytes_of zero v lt = omega arith
+number_of-bytes_of (suc n) v lt = let rest = number_of-bytes_of n (v / 256) (omega (arith, pow-suc 256 n)) in omega (arith, rest)
+
+-- each of them fits a byte
+pub are_bytes-bytes_of : (n v : ℕ) → All (λ x. x < 256) (bytes_of n v)
+unfolding bytes_of
+are_bytes-bytes_of zero v = All-nil (λ x. x < 256)
+are_bytes-bytes_of (suc n) v = All-cons (λ x. x < 256) (v % 256) (bytes_of n (v / 256)) (omega arith) (are_bytes-bytes_of n (v / 256))
+
+-- n bytes spell a number below 256 ^ n
+pub number_bound : (bytes : List ℕ) → All (λ x. x < 256) bytes → number_of bytes < 256 ^ length bytes
+unfolding number_of
+number_bound [] are = omega arith
+number_bound (b ∷ bs) are =
+    let rest = number_bound bs (λ k d lt. are (suc k) d (omega arith)) in
+    omega (arith, rest, are 0 0 (omega arith), pow-suc 256 (length bs))
+
+-- ---- two and four bytes
+
+-- a ushort has two bytes
+pub length-ushort : (n : ℕ) → length (ushort n) ≡ 2
+unfolding ushort
+length-ushort n = length-bytes_of 2 n
+
+-- a uint has four bytes
+pub length-uint : (n : ℕ) → length (uint n) ≡ 4
+unfolding uint
+length-uint n = length-bytes_of 4 n
+
+-- where a ushort stands, it is read
+pub ushort_at-stands : {b : List ℕ} {o n : ℕ} → n < 2 ^ 16 → Stands b o (ushort n) → ushort_at b o ≡ n
+unfolding ushort ushort_at bytes_of
+ushort_at-stands {b} {o} {n} lt h = ap number_of h.here ∙ number_of-bytes_of 2 n lt
+
+-- where a uint stands, it is read
+pub uint_at-stands : {b : List ℕ} {o n : ℕ} → n < 2 ^ 32 → Stands b o (uint n) → uint_at b o ≡ n
+unfolding uint uint_at bytes_of
+uint_at-stands {b} {o} {n} lt h = ap number_of h.here ∙ number_of-bytes_of 4 n lt
+
+-- ---- signs
+
+-- a number with a sign that n bytes have room for is what they are read as
+pub signed_in-bytes_of : (n : ℕ) (z : ℤ) → 0 < n → 2 * magnitude z < 256 ^ n → signed_in n (number_of (bytes_of n (complement n z))) ≡ z
+signed_in-bytes_of zero z some lt = absurd (omega arith)
+signed_in-bytes_of (suc n) (pos v) some lt =
+    rw (number_of-bytes_of (suc n) v (omega arith), pow_256 (suc n), lt-ltb (2 * v) (256 ^ suc n) lt) refl
+signed_in-bytes_of (suc n) (negsuc v) some lt =
+    rw (number_of-bytes_of (suc n) (256 ^ suc n - suc v) (omega arith), pow_256 (suc n), le-ltb (2 * (256 ^ suc n - suc v)) (256 ^ suc n) (omega (arith, pow-suc 256 n))) (omega (arith, ints))
+
+-- a number that n bytes hold, read with its sign
+signed_room : (n x : ℕ) (z : ℤ) → x < 256 ^ suc n → signed_in (suc n) x ≡ z → 2 * magnitude z < 256 ^ suc n
+signed_room n x (pos v) lt is =
+    elim (cases_lt (2 * x) (256 ^ suc n)) [
+      | inl small ↦ let e = rw (pow_256 (suc n), lt-ltb (2 * x) (256 ^ suc n) small) at is in omega (arith, ints, e)
+      | inr large ↦ let e = rw (pow_256 (suc n), le-ltb (2 * x) (256 ^ suc n) large) at is in omega (arith, ints, e)
+    ]
+signed_room n x (negsuc v) lt is =
+    elim (cases_lt (2 * x) (256 ^ suc n)) [
+      | inl small ↦ let e = rw (pow_256 (suc n), lt-ltb (2 * x) (256 ^ suc n) small) at is in omega (arith, ints, e)
+      | inr large ↦ let e = rw (pow_256 (suc n), le-ltb (2 * x) (256 ^ suc n) large) at is in omega (arith, ints, e)
+    ]
+
+-- bytes that are read as a number with a sign have room for it
+pub signed_in_room : (bytes : List ℕ) (z : ℤ) → All (λ x. x < 256) bytes → 0 < length bytes → signed_in (length bytes) (number_of bytes) ≡ z → 2 * magnitude z < 256 ^ length bytes
+signed_in_room [] z are some is = absurd (omega arith)
+signed_in_room (b ∷ bs) z are some is = signed_room (length bs) (number_of (b ∷ bs)) z (number_bound (b ∷ bs) are) is
+
+-- a number with a sign of 64 bits fits 8 bytes
+pub fits_64 : (z : ℤ) → FitsSigned w64 z → 2 * magnitude z < 256 ^ 8
+fits_64 (pos n) fits = omega (arith, ints)
+fits_64 (negsuc n) fits = omega (arith, ints)

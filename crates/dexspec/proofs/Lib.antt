@@ -55,3 +55,4 @@ pub mod MapLaws
 pub mod Frames
 pub mod Uses
 pub mod RowsRead
+pub mod PoolsStand

@@ -56,3 +56,4 @@ pub mod Frames
 pub mod Uses
 pub mod RowsRead
 pub mod PoolsStand
+pub mod PoolsInOrder

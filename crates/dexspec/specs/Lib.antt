@@ -31,3 +31,5 @@ pub mod Stripping
 pub mod Plain
 pub mod Codes
 pub mod Flags
+pub mod Flags
+pub mod Codes

@@ -72,3 +72,5 @@ pub mod PlainRows
 pub mod FormedValues
 pub mod MemberOrder
 pub mod FormedMembers
+pub mod PoolsStand
+pub mod PoolsInOrder

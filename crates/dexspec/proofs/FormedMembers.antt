@@ -90,13 +90,13 @@ module _ (b : List ℕ) (rise : MembersRise b) (name : Text) (d : Directory) whe
   field_keys o last [] n h own = tt
   field_keys o last (x ∷ xs) n h own = (
     λ key c.
-    let s = map_source field_key (map (field_def d) xs) key c in
-    let t = map_source (field_def d) xs s.0 s.1 in
-    let y = t.0 in
-    let f = fields_have b (o + h.0 + h.1) (Some h.4) xs h.2 y h.9 t.1 in
-    let less = rise.fields h.4 f.0 x.field y.field f.1 h.8 f.2 in
-    let rest = rest_less (text_cmp x.field.class y.field.class) (field_key_cmp (x.field.name, x.field.type) (y.field.name, y.field.type)) (same_class name x.field.class y.field.class (own x (Contains-first x xs)) (own y (Contains-later x y xs t.1))) less in
-    subst (λ (k : Text × Text). field_key_cmp (x.field.name, x.field.type) k ≡ Less) (ap field_key t.2 ∙ s.2) rest,
+        let s = map_source field_key (map (field_def d) xs) key c in
+        let t = map_source (field_def d) xs s.0 s.1 in
+        let y = t.0 in
+        let f = fields_have b (o + h.0 + h.1) (Some h.4) xs h.2 y h.9 t.1 in
+        let less = rise.fields h.4 f.0 x.field y.field f.1 h.8 f.2 in
+        let rest = rest_less (text_cmp x.field.class y.field.class) (field_key_cmp (x.field.name, x.field.type) (y.field.name, y.field.type)) (same_class name x.field.class y.field.class (own x (Contains-first x xs)) (own y (Contains-later x y xs t.1))) less in
+        subst (λ (k : Text × Text). field_key_cmp (x.field.name, x.field.type) k ≡ Less) (ap field_key t.2 ∙ s.2) rest,
     field_keys (o + h.0 + h.1) (Some h.4) xs h.2 h.9 (λ y c. own y (Contains-later x y xs c)),
   )
 
@@ -110,13 +110,13 @@ module _ (b : List ℕ) (rise : MembersRise b) (name : Text) (d : Directory) whe
   method_keys o last (x ∷ xs) [] n h own made = absurd made
   method_keys o last (x ∷ xs) (m ∷ ms) n h own made = (
     λ key c.
-    let s = map_source method_key ms key c in
-    let t = zip_source (MakesMethod b d) xs ms s.0 made.1 s.1 in
-    let y = t.0 in
-    let f = methods_have b (o + h.0 + h.1 + h.2) (Some h.5) xs h.3 y h.11 t.1 in
-    let less = rise.methods h.5 f.0 x.method y.method f.1 h.10 f.2 in
-    let rest = rest_less (text_cmp x.method.class y.method.class) (method_key_cmp (x.method.name, x.method.proto) (y.method.name, y.method.proto)) (same_class name x.method.class y.method.class (own x (Contains-first x xs)) (own y (Contains-later x y xs t.1))) less in
-    subst (λ (k : Text × Proto). method_key_cmp k key ≡ Less) (made_key x m made.0) (subst (λ (k : Text × Proto). method_key_cmp (x.method.name, x.method.proto) k ≡ Less) (made_key y s.0 t.2 ∙ s.2) rest),
+        let s = map_source method_key ms key c in
+        let t = zip_source (MakesMethod b d) xs ms s.0 made.1 s.1 in
+        let y = t.0 in
+        let f = methods_have b (o + h.0 + h.1 + h.2) (Some h.5) xs h.3 y h.11 t.1 in
+        let less = rise.methods h.5 f.0 x.method y.method f.1 h.10 f.2 in
+        let rest = rest_less (text_cmp x.method.class y.method.class) (method_key_cmp (x.method.name, x.method.proto) (y.method.name, y.method.proto)) (same_class name x.method.class y.method.class (own x (Contains-first x xs)) (own y (Contains-later x y xs t.1))) less in
+        subst (λ (k : Text × Proto). method_key_cmp k key ≡ Less) (made_key x m made.0) (subst (λ (k : Text × Proto). method_key_cmp (x.method.name, x.method.proto) k ≡ Less) (made_key y s.0 t.2 ∙ s.2) rest),
     method_keys (o + h.0 + h.1 + h.2) (Some h.5) xs ms h.3 h.11 (λ y c. own y (Contains-later x y xs c)) made.1,
   )
 

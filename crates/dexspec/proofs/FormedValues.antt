@@ -164,6 +164,6 @@ module _ (b : List ℕ) (bytes : All (λ byte. byte < 256) b) where
         fields = λ e c. let w = zip_source (PairAt FieldRow SetAt b) (pairs_at b (o + 16) (fields_count b o)) d.fields e is.fields.pairs c in set_formed w.0.1 e.1 w.2.2;
         methods = λ e c. let w = zip_source (PairAt MethodRow SetAt b) (pairs_at b (o + 16 + 8 * fields_count b o) (methods_count b o)) d.methods e is.methods.pairs c in set_formed w.0.1 e.1 w.2.2;
         parameters = λ e c.
-        let w = zip_source (PairAt MethodRow RefListAt b) (pairs_at b (o + 16 + 8 * (fields_count b o + methods_count b o)) (parameters_count b o)) d.parameters e is.parameters.pairs c in
-        ref_list_formed w.0.1 e.1 w.2.2;
+            let w = zip_source (PairAt MethodRow RefListAt b) (pairs_at b (o + 16 + 8 * (fields_count b o + methods_count b o)) (parameters_count b o)) d.parameters e is.parameters.pairs c in
+            ref_list_formed w.0.1 e.1 w.2.2;
       }

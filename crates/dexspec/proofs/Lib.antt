@@ -43,3 +43,4 @@ pub mod PlainRows
 pub mod FormedValues
 pub mod MemberOrder
 pub mod FormedMembers
+pub mod Blanked

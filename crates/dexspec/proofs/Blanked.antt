@@ -26,10 +26,10 @@ abbrev pub pool_at : ℕ → Option Pool
 pool_at u = if is_payload_ident u then None else option_and_then (λ op. op.index) (opcode_of (low_byte u))
 
 -- the units without an index, beside those with it
-record Blank (w x : List ℕ) : Type 0 where
-  size : length x ≡ length w
-  first : slice_index x 0 ≡ slice_index w 0
-  same : pool_at (slice_index w 0) ≡ None → x ≡ w
+pub record Blank (w x : List ℕ) : Type 0 where
+  pub size : length x ≡ length w
+  pub first : slice_index x 0 ≡ slice_index w 0
+  pub same : pool_at (slice_index w 0) ≡ None → x ≡ w
 
 -- units with the index zero put in, wide or not
 abbrev put_zero : List ℕ → Bool → List ℕ
@@ -39,7 +39,7 @@ length_put : (w : List ℕ) (t : Bool) → length (put_zero w t) ≡ length w
 length_put w true = length-set (slice_set w 1 0) 2 0 ∙ length-set w 1 0
 length_put w false = length-set w 1 0
 
-blank : (N : ℕ → Symbol → Type 0) (w : List ℕ) (p : Piece) → StandsForPiece N w p → Blank w (units_of p)
+pub blank : (N : ℕ → Symbol → Type 0) (w : List ℕ) (p : Piece) → StandsForPiece N w p → Blank w (units_of p)
 blank N w (Instruction xs None) h = record { size = ap length h.2; first = ap (λ (ys : List ℕ). slice_index ys 0) h.2; same = λ _. h.2 }
 blank N w (Instruction xs (Some s)) h = record {
   size = ap length h.2 ∙ length_put w (is_wide_index w);
@@ -75,7 +75,7 @@ put_again w true =
 put_again w false = zero_again (slice_set w 1 0) 1 (set_zero w 1)
 
 -- without its index a piece stands for itself, with zero for the index
-zeroed : (N : ℕ → Symbol → Type 0) (w : List ℕ) (p : Piece) → StandsForPiece N w p → StandsForPiece IsZero (units_of p) p
+pub zeroed : (N : ℕ → Symbol → Type 0) (w : List ℕ) (p : Piece) → StandsForPiece N w p → StandsForPiece IsZero (units_of p) p
 zeroed N w (Instruction xs None) h = (subst (λ (ys : List ℕ). is_payload_ident (slice_index ys 0) ≡ false) (sym h.2) h.0, subst (λ (ys : List ℕ). index_pool ys ≡ None) (sym h.2) h.1, refl)
 zeroed N w (Instruction xs (Some s)) h =
     let t = is_wide_index w in
@@ -89,11 +89,11 @@ zeroed N w (Payload xs) h = (subst (λ (ys : List ℕ). is_payload_ident (slice_
 -- ---- the size of a piece
 
 -- a test that passes, and one that does not
-if_true : {X : Type 0} (t : Bool) (a b : X) → t ≡ true → (if t then a else b) ≡ a
+pub if_true : {X : Type 0} (t : Bool) (a b : X) → t ≡ true → (if t then a else b) ≡ a
 if_true true a b e = refl
 if_true false a b e = absurd cc
 
-if_false : {X : Type 0} (t : Bool) (a b : X) → t ≡ false → (if t then a else b) ≡ b
+pub if_false : {X : Type 0} (t : Bool) (a b : X) → t ≡ false → (if t then a else b) ≡ b
 if_false true a b e = absurd cc
 if_false false a b e = refl
 
@@ -222,7 +222,7 @@ ints_same us vs i (suc n) h =
     λ j. signed_in 4 (low j + 65536 * high j) ∷ rest j
 
 -- the units of a payload by its kind and its units 1 to 3
-abbrev units_by : Bool → Bool → ℕ → ℕ → ℕ → ℕ
+abbrev pub units_by : Bool → Bool → ℕ → ℕ → ℕ → ℕ
 units_by t s a b c = if t then 4 + 2 * a else (if s then 2 + 4 * a else 4 + ((b + 65536 * c) * a + 1) / 2)
 
 abbrev order_by : Bool → Bool → List ℕ → Bool

@@ -44,3 +44,4 @@ pub mod FormedValues
 pub mod MemberOrder
 pub mod FormedMembers
 pub mod Blanked
+pub mod BlankedCode

@@ -45,3 +45,4 @@ pub mod MemberOrder
 pub mod FormedMembers
 pub mod Blanked
 pub mod BlankedCode
+pub mod FormedCode

@@ -1,5 +1,5 @@
 -- Pieces without their indices are code again: cut in the same way, with the same targets.
-use Rattle.std.proofs.Common.{◌≡◌, ◌≢◌, ◌⊎◌, ℕ, zero, suc, ◌+◌, ◌-◌, ◌*◌, ◌/◌, ◌%◌, ◌<◌, ◌≤◌, Bool, true, false, ◌&&◌, ◌||◌, not, cond, List, [], ◌∷◌, ◌++◌, length, take, drop, get_or, slice_index, nat_abs, slice_index_or, Option, Some, None, refl, sym, ap, ◌∙◌, subst, arith, inl, inr, length-take, length-drop, length-append, take_at, drop_at}
+use Rattle.std.proofs.Common.{◌≡◌, ℕ, zero, suc, ◌+◌, ◌-◌, ◌*◌, ◌<◌, ◌≤◌, Bool, true, false, ◌&&◌, ◌||◌, not, cond, List, [], ◌∷◌, ◌++◌, length, take, drop, get_or, slice_index, nat_abs, slice_index_or, Option, Some, None, refl, sym, ap, ◌∙◌, subst, arith, inl, inr, length-take, length-drop, length-append, take_at, drop_at}
 use Rattle.std.specs.Prelude.{if◌then◌else◌, ◌==◌, ℤ, pos, ◌+ℤ◌}
 use Rattle.std.specs.Option.{option_and_then, option_map}
 use Rattle.std.specs.List.{Contains, AllZip, flat_map, list_any, list_all, find}
@@ -15,7 +15,7 @@ use Rattle.dexspec.proofs.Members.{and_first, and_second, and_both, Contains-nil
 use Rattle.std.specs.Prelude.{IsTrue}
 use Rattle.std.proofs.lemmas.List.Elements.{All-contains}
 use Rattle.dexspec.proofs.FormedRows.{all_from}
-use Rattle.dexspec.proofs.Blanked.{IsZero, pool_at, Blank, blank, zeroed, if_true, if_false, PayloadPiece, InstructionPiece, piece_is, Kept, ints_same, units_by, piece_same, piece_bounds}
+use Rattle.dexspec.proofs.Blanked.{IsZero, pool_at, blank, zeroed, if_true, if_false, piece_is, Kept, ints_same, units_by, piece_same, piece_bounds}
 
 -- ---- pieces one after the other
 
@@ -73,8 +73,8 @@ kept_first N us rest p n le some h =
     record {
       first = append_left (units_of p) rest 0 0 (omega (arith, size, some)) ∙ b.first ∙ front;
       same = λ none j lt.
-      let whole = b.same (ap pool_at front ∙ none) in
-      append_left (units_of p) rest j 0 (omega (arith, size, lt)) ∙ ap (λ (ys : List ℕ). slice_index ys j) whole ∙ get_or-take n us j 0 lt;
+          let whole = b.same (ap pool_at front ∙ none) in
+          append_left (units_of p) rest j 0 (omega (arith, size, lt)) ∙ ap (λ (ys : List ℕ). slice_index ys j) whole ∙ get_or-take n us j 0 lt;
     }
 
 blanked : (N : ℕ → Symbol → Type 0) (at : ℕ) (us : List ℕ) (cs : List Cut) (ps : List Piece) → AreCut at us cs [] → AreStanding N us cs ps → Blanked at us (flat_map units_of ps) cs ps
@@ -95,12 +95,12 @@ blanked N at us (c ∷ cs) (p ∷ ps) h g =
     let taken : take c.units vs ≡ x = ap (λ (k : ℕ). take k vs) (sym len) ∙ take_at x others (length x) refl in
     let dropped : drop c.units vs ≡ others = ap (λ (k : ℕ). drop k vs) (sym len) ∙ drop_at x others (length x) refl in
     let here : KeptCut at us vs c =
-      let none : 0 ≡ c.unit - at = omega (arith, h.0) in
-      record {
-        place = omega (arith, h.0);
-        kept = subst (λ (k : ℕ). Kept (drop k us) (drop k vs) c.units) none kept;
-        piece = subst (λ (k : ℕ). piece_size c.unit (drop k us) ≡ Some c.units) none (subst (λ (k : ℕ). piece_size k us ≡ Some c.units) (sym h.0) h.1);
-      } in
+    let none : 0 ≡ c.unit - at = omega (arith, h.0) in
+    record {
+      place = omega (arith, h.0);
+      kept = subst (λ (k : ℕ). Kept (drop k us) (drop k vs) c.units) none kept;
+      piece = subst (λ (k : ℕ). piece_size c.unit (drop k us) ≡ Some c.units) none (subst (λ (k : ℕ). piece_size k us ≡ Some c.units) (sym h.0) h.1);
+    } in
     record {
       size = size;
       cut = (h.0, piece, subst (λ (ys : List ℕ). AreCut (at + c.units) ys cs []) (sym dropped) r.cut);
@@ -286,8 +286,8 @@ module _ (us vs : List ℕ) (cs : List Cut) (keeps : (c : Cut) → Contains cs c
       let own : payload_ident (low_byte (slice_index vs c.unit)) ≡ ident = ap (λ (u : ℕ). payload_ident (low_byte u)) (unit_at c m) in
       let starts : is_payload_start (payload_ident (low_byte (slice_index vs c.unit))) vs cs z ≡ true = ap (λ (k : ℕ). is_payload_start k vs cs z) own ∙ payload_start_same ident z ∙ start in
       let all_us : list_all (λ target. is_instruction_start vs cs (pos c.unit +ℤ target)) (payload_targets us (nat_abs z)) ≡ true =
-        list_all-from_members (λ target. is_instruction_start vs cs (pos c.unit +ℤ target)) (payload_targets us (nat_abs z)) (λ target k.
-        instruction_same (pos c.unit +ℤ target) ∙ list_all-member (λ goal. is_instruction_start us cs (pos c.unit +ℤ goal)) (payload_targets us (nat_abs z)) target goes k) in
+      list_all-from_members (λ target. is_instruction_start vs cs (pos c.unit +ℤ target)) (payload_targets us (nat_abs z)) (λ target k.
+      instruction_same (pos c.unit +ℤ target) ∙ list_all-member (λ goal. is_instruction_start us cs (pos c.unit +ℤ goal)) (payload_targets us (nat_abs z)) target goes k) in
       let all_vs : list_all (λ target. is_instruction_start vs cs (pos c.unit +ℤ target)) (payload_targets vs (nat_abs z)) ≡ true = ap (list_all (λ target. is_instruction_start vs cs (pos c.unit +ℤ target))) targets ∙ all_us in
       and_both (is_payload_start (payload_ident (low_byte (slice_index vs c.unit))) vs cs z) (list_all (λ target. is_instruction_start vs cs (pos c.unit +ℤ target)) (payload_targets vs (nat_abs z))) starts all_vs
   leads_same c m f offset e = instruction_same (pos c.unit +ℤ offset) ∙ e
@@ -306,10 +306,10 @@ module _ (us vs : List ℕ) (cs : List Cut) (keeps : (c : Cut) → Contains cs c
         let is_too : opcode_of (low_byte (slice_index vs c.unit)) ≡ Some op = ap (λ (u : ℕ). opcode_of (low_byte u)) (unit_at c m) ∙ is in
         let pool : pool_at (slice_index us c.unit) ≡ op.index = if_false (is_payload_ident (slice_index us c.unit)) None (option_and_then (λ (o : Opcode). o.index) (opcode_of (low_byte (slice_index us c.unit)))) e ∙ ap (option_and_then (λ (o : Opcode). o.index)) is in
         let own : all_of_option (leads_right us cs c.unit op.format) (branch_offset op.format us c.unit) ≡ true =
-          sym (ap (all_of_option (λ (o : Opcode). all_of_option (leads_right us cs c.unit o.format) (branch_offset o.format us c.unit))) is) ∙ or_other (is_payload_ident (slice_index us c.unit)) (Right us c) e h in
+        sym (ap (all_of_option (λ (o : Opcode). all_of_option (leads_right us cs c.unit o.format) (branch_offset o.format us c.unit))) is) ∙ or_other (is_payload_ident (slice_index us c.unit)) (Right us c) e h in
         let branch = branch_by us vs c.unit op.format op.index (opcode_goes_alone (low_byte (slice_index us c.unit)) op is) (unit_at c m) (λ none k le lt. unit_within c m (pool ∙ none) k le (omega (arith, lt, p.units))) in
         let still : all_of_option (leads_right vs cs c.unit op.format) (branch_offset op.format vs c.unit) ≡ true =
-          ap (all_of_option (leads_right vs cs c.unit op.format)) branch ∙ all_weaker (leads_right us cs c.unit op.format) (leads_right vs cs c.unit op.format) (branch_offset op.format us c.unit) (leads_same c m op.format) own in
+        ap (all_of_option (leads_right vs cs c.unit op.format)) branch ∙ all_weaker (leads_right us cs c.unit op.format) (leads_right vs cs c.unit op.format) (branch_offset op.format us c.unit) (leads_same c m op.format) own in
         or_right (is_payload_ident (slice_index vs c.unit)) (Right vs c) (ap (all_of_option (λ (o : Opcode). all_of_option (leads_right vs cs c.unit o.format) (branch_offset o.format vs c.unit))) is_too ∙ still)
   ]
 

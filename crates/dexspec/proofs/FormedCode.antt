@@ -1,7 +1,7 @@
 -- Code items of a list of bytes are well formed; so what an accepted file denotes is.
-use Rattle.std.proofs.Common.{◌≡◌, ◌≢◌, ℕ, zero, suc, ◌+◌, ◌-◌, ◌*◌, ◌/◌, ◌%◌, ◌<◌, ◌≤◌, ◌^◌, Bool, true, false, List, [], ◌∷◌, ◌++◌, length, map, take, drop, nat_abs, All, Option, Some, None, refl, sym, ap, ◌∙◌, subst, arith, inl, inr}
+use Rattle.std.proofs.Common.{◌≡◌, ℕ, ◌+◌, ◌*◌, ◌/◌, ◌%◌, ◌<◌, ◌≤◌, ◌^◌, Bool, true, false, List, [], ◌∷◌, length, drop, nat_abs, All, Option, Some, None, sym, ◌∙◌, subst, arith, inl, inr}
 use Rattle.std.specs.Prelude.{if◌then◌else◌, IfSome, IfNone, ℤ, pos, negsuc, ◌<ℤ◌, slice_set}
-use Rattle.std.specs.List.{Contains, AllZip, flat_map}
+use Rattle.std.specs.List.{Contains, flat_map}
 use Rattle.std.proofs.lemmas.Int.{ints}
 use Rattle.std.proofs.lemmas.List.Elements.{All-take, All-drop, All-set, All-contains, Contains-append_right, Contains-append_cases}
 use Rattle.dexspec.specs.Lists.{OrNone, SomeAt, Sequence}
@@ -17,15 +17,14 @@ use Rattle.dexspec.specs.Files.{Collection, definitions, Denotes}
 use Rattle.dexspec.specs.WellFormed.{FitsUshort, IsHandlerOf, IsTryOf, IsOperation, IsDebug, IsCodeItem, AreWellFormed}
 use Rattle.dexspec.specs.Conditions.{Condition}
 use Rattle.dexspec.specs.Accepted.{IsAccepted}
-use Rattle.dexspec.proofs.Members.{Contains-nil, Contains-first, Contains-flat_map_source}
+use Rattle.dexspec.proofs.Members.{Contains-first, Contains-flat_map_source}
 use Rattle.dexspec.proofs.Stands.{stands_within}
 use Rattle.dexspec.proofs.Fitting.{zip_source}
 use Rattle.dexspec.proofs.Sources.{sequence_source}
 use Rattle.dexspec.proofs.ShortStrings.{ushort_bound, ushorts_bound}
 use Rattle.dexspec.proofs.FormedRows.{all_from, uint_bound, length-ushorts_at}
-use Rattle.dexspec.proofs.MemberOrder.{AreProtos}
 use Rattle.dexspec.proofs.FormedMembers.{members_rise, row_formed}
-use Rattle.dexspec.proofs.BlankedCode.{BlankedCode, blanked_code}
+use Rattle.dexspec.proofs.BlankedCode.{blanked_code}
 use Rattle.dexspec.proofs.DenotedGood.{accepted_classes, member_row}
 
 -- ---- debug programs
@@ -121,15 +120,15 @@ module _ (us vs : List ℕ) (cuts : List Cut) (starts : (address : ℕ) → IsSt
   items_formed bytes size o count ts small h = record {
     many = omega (arith, h.many, small);
     tries = all_from (IsTryOf vs cuts) ts (λ t c.
-    let w = sequence_source (TryAt us cuts (o + 8 * count) h.count_size h.handlers) b o ts (8 * count) t h.items c in
-    let in_list = subst (λ (hs : List Handler). Contains hs t.handler) (sym w.2.handler.parts) (Contains-append_right w.2.handler.before (t.handler ∷ w.2.handler.after) t.handler (Contains-first t.handler w.2.handler.after)) in
-    let v = sequence_source (HandlerAt us cuts) b (o + 8 * count + h.count_size) h.handlers h.handlers_size t.handler h.list in_list in
-    record {
-      some = w.2.some;
-      count = omega (arith, w.2.count, ushort_bound b (w.0 + 4) bytes);
-      within = omega (arith, w.2.within, size);
-      handler = handler_formed v.0 t.handler v.1 v.2;
-    });
+        let w = sequence_source (TryAt us cuts (o + 8 * count) h.count_size h.handlers) b o ts (8 * count) t h.items c in
+        let in_list = subst (λ (hs : List Handler). Contains hs t.handler) (sym w.2.handler.parts) (Contains-append_right w.2.handler.before (t.handler ∷ w.2.handler.after) t.handler (Contains-first t.handler w.2.handler.after)) in
+        let v = sequence_source (HandlerAt us cuts) b (o + 8 * count + h.count_size) h.handlers h.handlers_size t.handler h.list in_list in
+        record {
+          some = w.2.some;
+          count = omega (arith, w.2.count, ushort_bound b (w.0 + 4) bytes);
+          within = omega (arith, w.2.within, size);
+          handler = handler_formed v.0 t.handler v.1 v.2;
+        });
     apart = h.apart;
     few = h.few;
   }
@@ -163,9 +162,9 @@ code_formed b o c bytes small h =
         code = blanked.code;
         pieces = blanked.pieces;
         units = all_from unit vs (λ u m.
-        let w = Contains-flat_map_source units_of c.pieces u m in
-        let v = zip_source (λ (cut : Cut) (q : Piece). StandsForPiece (SymbolRow b) (cut_units us cut) q) h.cuts c.pieces w.0 h.pieces.pieces w.1 in
-        All-contains unit (units_of w.0) u (piece_units (SymbolRow b) (cut_units us v.0) w.0 v.2 (All-take unit v.0.units (drop v.0.unit us) (All-drop unit v.0.unit us all))) w.2);
+            let w = Contains-flat_map_source units_of c.pieces u m in
+            let v = zip_source (λ (cut : Cut) (q : Piece). StandsForPiece (SymbolRow b) (cut_units us cut) q) h.cuts c.pieces w.0 h.pieces.pieces w.1 in
+            All-contains unit (units_of w.0) u (piece_units (SymbolRow b) (cut_units us v.0) w.0 v.2 (All-take unit v.0.units (drop v.0.unit us) (All-drop unit v.0.unit us all))) w.2);
         count = omega (arith, blanked.size, length-ushorts_at b (o + 16) (uint_at b (o + 12)), uint_bound b (o + 12) bytes);
       };
       many = tries.many;

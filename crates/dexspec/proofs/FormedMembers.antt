@@ -1,22 +1,21 @@
 -- The definition of a class row of a list of bytes is well formed, where its code is.
-use Rattle.std.proofs.Common.{◌≡◌, ◌≢◌, ℕ, zero, suc, ◌+◌, ◌<◌, ◌≤◌, ◌^◌, List, [], ◌∷◌, ◌++◌, length, map, All, Option, Some, None, refl, sym, ap, ◌∙◌, subst, arith, inl, inr, Ordering, Less, Equal, Greater}
-use Rattle.std.specs.Prelude.{IfSome, IsTrue}
+use Rattle.std.proofs.Common.{◌≡◌, ℕ, ◌+◌, ◌<◌, List, [], ◌∷◌, length, map, All, Option, Some, None, refl, sym, ap, ◌∙◌, subst, arith, inl, inr, Ordering, Less, Equal, Greater}
+use Rattle.std.specs.Prelude.{IfSome}
 use Rattle.std.specs.List.{Contains, AllZip}
 use Rattle.std.specs.Ordering.{ordering_then}
 use Rattle.std.proofs.lemmas.Cmp.{tied_itself}
 use Rattle.std.proofs.lemmas.List.{length-map}
 use Rattle.std.proofs.lemmas.List.Elements.{All-contains, Contains-append_left, Contains-append_right, Contains-append_cases}
-use Rattle.dexspec.specs.Lists.{OrNone, rises}
-use Rattle.dexspec.specs.Numbers.{Uleb128At}
+use Rattle.dexspec.specs.Lists.{OrNone}
 use Rattle.dexspec.specs.Texts.{Text, text_cmp}
 use Rattle.dexspec.specs.Names.{IsMemberName}
-use Rattle.dexspec.specs.Symbols.{Proto, Field, Method, IsProto, proto_cmp, field_cmp, method_cmp}
+use Rattle.dexspec.specs.Symbols.{Proto, Field, Method, IsProto, field_cmp, method_cmp}
 use Rattle.dexspec.specs.Header.{ClassDefs}
 use Rattle.dexspec.specs.Rows.{row_at, FieldRow, MethodRow}
-use Rattle.dexspec.specs.Values.{Values, NoValues, count_values}
-use Rattle.dexspec.specs.Annotations.{AnnotationSet, Directory, annotated}
-use Rattle.dexspec.specs.ClassData.{EncodedField, EncodedMethod, ClassData, no_class_data, IsNextIndex, EncodedFieldsAt, EncodedMethodsAt, ClassDataAt, fields_of, methods_of, ShareNone, BelongTo}
-use Rattle.dexspec.specs.Classes.{FieldDef, MethodDef, Body, Definition, ClassRow, StaticValuesAt, field_def, MakesMethod, declared_fields, declared_methods, access_flags, superclass_idx, interfaces_off, annotations_off, class_data_off, static_values_off}
+use Rattle.dexspec.specs.Values.{NoValues, count_values}
+use Rattle.dexspec.specs.Annotations.{Directory}
+use Rattle.dexspec.specs.ClassData.{EncodedField, EncodedMethod, ClassData, no_class_data, IsNextIndex, EncodedFieldsAt, EncodedMethodsAt, ClassDataAt, fields_of, methods_of, ShareNone}
+use Rattle.dexspec.specs.Classes.{FieldDef, MethodDef, Body, ClassRow, StaticValuesAt, field_def, MakesMethod, declared_fields, declared_methods, superclass_idx, interfaces_off, annotations_off, class_data_off, static_values_off}
 use Rattle.dexspec.specs.Mentions.{symbols_of}
 use Rattle.dexspec.specs.WellFormed.{FitsUint, IsCodeItem, IsSet, IsFieldDef, IsMethodDef, field_key, field_key_cmp, method_key, method_key_cmp, IsWellFormed}
 use Rattle.dexspec.specs.Accepted.{HasMembers, HasValues, Declares}
@@ -29,7 +28,7 @@ use Rattle.dexspec.proofs.OneValue.{one_array}
 use Rattle.dexspec.proofs.OneClass.{HasFewRows}
 use Rattle.dexspec.proofs.PoolRows.{AreStrings, AreTypes}
 use Rattle.dexspec.proofs.MemberOrder.{AreProtos, AreFields, AreMethods, fields_rise, methods_rise}
-use Rattle.dexspec.proofs.Fitting.{HaveRows, zip_source}
+use Rattle.dexspec.proofs.Fitting.{zip_source}
 use Rattle.dexspec.proofs.Sources.{map_source, annotated_source}
 use Rattle.dexspec.proofs.SymbolRows.{row_members, row_symbols}
 use Rattle.dexspec.proofs.FormedRows.{all_from, length-zip, uint_bound, symbols_formed, texts_formed, superclass_formed, interfaces_formed, interfaces_few}
@@ -90,13 +89,13 @@ module _ (b : List ℕ) (rise : MembersRise b) (name : Text) (d : Directory) whe
   field_keys o last [] n h own = tt
   field_keys o last (x ∷ xs) n h own = (
     λ key c.
-    let s = map_source field_key (map (field_def d) xs) key c in
-    let t = map_source (field_def d) xs s.0 s.1 in
-    let y = t.0 in
-    let f = fields_have b (o + h.0 + h.1) (Some h.4) xs h.2 y h.9 t.1 in
-    let less = rise.fields h.4 f.0 x.field y.field f.1 h.8 f.2 in
-    let rest = rest_less (text_cmp x.field.class y.field.class) (field_key_cmp (x.field.name, x.field.type) (y.field.name, y.field.type)) (same_class name x.field.class y.field.class (own x (Contains-first x xs)) (own y (Contains-later x y xs t.1))) less in
-    subst (λ (k : Text × Text). field_key_cmp (x.field.name, x.field.type) k ≡ Less) (ap field_key t.2 ∙ s.2) rest,
+        let s = map_source field_key (map (field_def d) xs) key c in
+        let t = map_source (field_def d) xs s.0 s.1 in
+        let y = t.0 in
+        let f = fields_have b (o + h.0 + h.1) (Some h.4) xs h.2 y h.9 t.1 in
+        let less = rise.fields h.4 f.0 x.field y.field f.1 h.8 f.2 in
+        let rest = rest_less (text_cmp x.field.class y.field.class) (field_key_cmp (x.field.name, x.field.type) (y.field.name, y.field.type)) (same_class name x.field.class y.field.class (own x (Contains-first x xs)) (own y (Contains-later x y xs t.1))) less in
+        subst (λ (k : Text × Text). field_key_cmp (x.field.name, x.field.type) k ≡ Less) (ap field_key t.2 ∙ s.2) rest,
     field_keys (o + h.0 + h.1) (Some h.4) xs h.2 h.9 (λ y c. own y (Contains-later x y xs c)),
   )
 
@@ -110,13 +109,13 @@ module _ (b : List ℕ) (rise : MembersRise b) (name : Text) (d : Directory) whe
   method_keys o last (x ∷ xs) [] n h own made = absurd made
   method_keys o last (x ∷ xs) (m ∷ ms) n h own made = (
     λ key c.
-    let s = map_source method_key ms key c in
-    let t = zip_source (MakesMethod b d) xs ms s.0 made.1 s.1 in
-    let y = t.0 in
-    let f = methods_have b (o + h.0 + h.1 + h.2) (Some h.5) xs h.3 y h.11 t.1 in
-    let less = rise.methods h.5 f.0 x.method y.method f.1 h.10 f.2 in
-    let rest = rest_less (text_cmp x.method.class y.method.class) (method_key_cmp (x.method.name, x.method.proto) (y.method.name, y.method.proto)) (same_class name x.method.class y.method.class (own x (Contains-first x xs)) (own y (Contains-later x y xs t.1))) less in
-    subst (λ (k : Text × Proto). method_key_cmp k key ≡ Less) (made_key x m made.0) (subst (λ (k : Text × Proto). method_key_cmp (x.method.name, x.method.proto) k ≡ Less) (made_key y s.0 t.2 ∙ s.2) rest),
+        let s = map_source method_key ms key c in
+        let t = zip_source (MakesMethod b d) xs ms s.0 made.1 s.1 in
+        let y = t.0 in
+        let f = methods_have b (o + h.0 + h.1 + h.2) (Some h.5) xs h.3 y h.11 t.1 in
+        let less = rise.methods h.5 f.0 x.method y.method f.1 h.10 f.2 in
+        let rest = rest_less (text_cmp x.method.class y.method.class) (method_key_cmp (x.method.name, x.method.proto) (y.method.name, y.method.proto)) (same_class name x.method.class y.method.class (own x (Contains-first x xs)) (own y (Contains-later x y xs t.1))) less in
+        subst (λ (k : Text × Proto). method_key_cmp k key ≡ Less) (made_key x m made.0) (subst (λ (k : Text × Proto). method_key_cmp (x.method.name, x.method.proto) k ≡ Less) (made_key y s.0 t.2 ∙ s.2) rest),
     method_keys (o + h.0 + h.1 + h.2) (Some h.5) xs ms h.3 h.11 (λ y c. own y (Contains-later x y xs c)) made.1,
   )
 
@@ -202,12 +201,20 @@ keys_apart f k xs ys apart same key c d =
     let t = map_source k ys key d in
     apart (f s.0) (Contains-map f xs s.0 s.1) (subst (Contains (map f ys)) (sym (same s.0 t.0 s.1 t.1 (s.2 ∙ sym t.2))) (Contains-map f ys t.0 t.1))
 
+-- a declared field's place among those of its class
+abbrev encoded_field_key : EncodedField → Text × Text
+encoded_field_key x = (x.field.name, x.field.type)
+
+-- the same for a method
+abbrev encoded_method_key : EncodedMethod → Text × Proto
+encoded_method_key x = (x.method.name, x.method.proto)
+
 -- what maps to the same
 map_map : {X Y Z : Type 0} (f : Y → Z) (g : X → Y) (xs : List X) → map f (map g xs) ≡ map (λ x. f (g x)) xs
 map_map f g [] = refl
 map_map f g (x ∷ xs) = ap (λ zs. f (g x) ∷ zs) (map_map f g xs)
 
-made_keys : (b : List ℕ) (d : Directory) (xs : List EncodedMethod) (ms : List MethodDef) → AllZip (MakesMethod b d) xs ms → map method_key ms ≡ map (λ x. (x.method.name, x.method.proto)) xs
+made_keys : (b : List ℕ) (d : Directory) (xs : List EncodedMethod) (ms : List MethodDef) → AllZip (MakesMethod b d) xs ms → map method_key ms ≡ map encoded_method_key xs
 made_keys b d [] [] h = refl
 made_keys b d [] (m ∷ ms) h = absurd h
 made_keys b d (x ∷ xs) [] h = absurd h
@@ -234,16 +241,16 @@ row_formed b bytes few rise r name c h members values code =
     let same_values : listed.0 ≡ c.static_values = one_or_none StaticValuesAt NoValues b (static_values_off b r) listed.0 c.static_values (λ s t. (one_array b (static_values_off b r) listed.0 c.static_values s.0 t.0 s.1.array t.1.array).0) listed.1 h.static_values in
     let static_length : length c.static_fields ≡ length statics = ap length h.static_fields ∙ length-map statics (field_def h.directory) in
     let instance_length : length c.instance_fields ≡ length instances = ap length h.instance_fields ∙ length-map instances (field_def h.directory) in
-    let static_keys : map field_key c.static_fields ≡ map (λ x. (x.field.name, x.field.type)) statics = ap (map field_key) h.static_fields ∙ map_map field_key (field_def h.directory) statics in
-    let instance_keys : map field_key c.instance_fields ≡ map (λ x. (x.field.name, x.field.type)) instances = ap (map field_key) h.instance_fields ∙ map_map field_key (field_def h.directory) instances in
+    let static_keys : map field_key c.static_fields ≡ map encoded_field_key statics = ap (map field_key) h.static_fields ∙ map_map field_key (field_def h.directory) statics in
+    let instance_keys : map field_key c.instance_fields ≡ map encoded_field_key instances = ap (map field_key) h.instance_fields ∙ map_map field_key (field_def h.directory) instances in
     let direct_keys = made_keys b h.directory directs c.direct_methods h.direct_methods in
     let virtual_keys = made_keys b h.directory virtuals c.virtual_methods h.virtual_methods in
     let made_field = λ (f : FieldDef) (x : EncodedField) (e : field_def h.directory x ≡ f) (m : Contains (fields_of h.members) x). subst IsFieldDef e (field_formed b h.directory x sets (formed.field x m)) in
     let made_method = λ (k : MethodDef) (x : EncodedMethod) (makes : MakesMethod b h.directory x k) (m : Contains (methods_of h.members) x) (item : IfSome k.code IsCodeItem). method_formed b h.directory x k sets (formed.method x m) makes item in
-    let fields_apart : ShareNone (map (λ (x : EncodedField). (x.field.name, x.field.type)) statics) (map (λ (x : EncodedField). (x.field.name, x.field.type)) instances) = keys_apart (λ (x : EncodedField). x.field) (λ (x : EncodedField). (x.field.name, x.field.type)) statics instances own.fields_apart (λ x y s t e.
+    let fields_apart : ShareNone (map encoded_field_key statics) (map encoded_field_key instances) = keys_apart (λ (x : EncodedField). x.field) encoded_field_key statics instances own.fields_apart (λ x y s t e.
     let same_class_of : x.field.class ≡ y.field.class = field_own x (Contains-append_left statics instances x s) ∙ sym (field_own y (Contains-append_right statics instances y t)) in
     λ i. record { class = same_class_of i; name = (e i).0; type = (e i).1 }) in
-    let methods_apart : ShareNone (map (λ (x : EncodedMethod). (x.method.name, x.method.proto)) directs) (map (λ (x : EncodedMethod). (x.method.name, x.method.proto)) virtuals) = keys_apart (λ (x : EncodedMethod). x.method) (λ (x : EncodedMethod). (x.method.name, x.method.proto)) directs virtuals own.methods_apart (λ x y s t e.
+    let methods_apart : ShareNone (map encoded_method_key directs) (map encoded_method_key virtuals) = keys_apart (λ (x : EncodedMethod). x.method) encoded_method_key directs virtuals own.methods_apart (λ x y s t e.
     let same_class_of : x.method.class ≡ y.method.class = method_own x (Contains-append_left directs virtuals x s) ∙ sym (method_own y (Contains-append_right directs virtuals y t)) in
     λ i. record { class = same_class_of i; name = (e i).0; proto = (e i).1 }) in
     record {
@@ -271,10 +278,10 @@ row_formed b bytes few rise r name c h members values code =
       virtual_methods_count = omega (arith, length-zip (MakesMethod b h.directory) virtuals c.virtual_methods h.virtual_methods, formed.virtual_count);
       static_fields = rises-from_Rises field_key_cmp (map field_key c.static_fields) (subst (λ (fs : List FieldDef). Rises field_key_cmp (map field_key fs)) (sym h.static_fields) (formed.static_rise h.directory (λ x m. field_own x (Contains-append_left statics instances x m))));
       instance_fields = rises-from_Rises field_key_cmp (map field_key c.instance_fields) (subst (λ (fs : List FieldDef). Rises field_key_cmp (map field_key fs)) (sym h.instance_fields) (formed.instance_rise h.directory (λ x m. field_own x (Contains-append_right statics instances x m))));
-      fields_apart = subst (λ (ks : List (Text × Text)). ShareNone ks (map field_key c.instance_fields)) (sym static_keys) (subst (λ (ks : List (Text × Text)). ShareNone (map (λ x. (x.field.name, x.field.type)) statics) ks) (sym instance_keys) fields_apart);
+      fields_apart = subst (λ (ks : List (Text × Text)). ShareNone ks (map field_key c.instance_fields)) (sym static_keys) (subst (λ (ks : List (Text × Text)). ShareNone (map encoded_field_key statics) ks) (sym instance_keys) fields_apart);
       direct_methods = rises-from_Rises method_key_cmp (map method_key c.direct_methods) (formed.direct_rise h.directory c.direct_methods (λ x m. method_own x (Contains-append_left directs virtuals x m)) h.direct_methods);
       virtual_methods = rises-from_Rises method_key_cmp (map method_key c.virtual_methods) (formed.virtual_rise h.directory c.virtual_methods (λ x m. method_own x (Contains-append_right directs virtuals x m)) h.virtual_methods);
-      methods_apart = subst (λ (ks : List (Text × Proto)). ShareNone ks (map method_key c.virtual_methods)) (sym direct_keys) (subst (λ (ks : List (Text × Proto)). ShareNone (map (λ x. (x.method.name, x.method.proto)) directs) ks) (sym virtual_keys) methods_apart);
+      methods_apart = subst (λ (ks : List (Text × Proto)). ShareNone ks (map method_key c.virtual_methods)) (sym direct_keys) (subst (λ (ks : List (Text × Proto)). ShareNone (map encoded_method_key directs) ks) (sym virtual_keys) methods_apart);
       static_values = static_values.0;
       shallow = static_values.1;
       few_values = omega (arith, listed.2, static_length, ap count_values same_values);

@@ -1,18 +1,18 @@
 -- Values and annotations that stand in a list of bytes are well formed.
-use Rattle.std.proofs.Common.{◌≡◌, ℕ, zero, suc, ◌+◌, ◌-◌, ◌*◌, ◌<◌, ◌≤◌, ◌^◌, List, [], ◌∷◌, length, take, drop, All, refl, sym, ap, ◌∙◌, subst, arith, inl, inr}
+use Rattle.std.proofs.Common.{◌≡◌, ℕ, suc, ◌+◌, ◌-◌, ◌*◌, ◌<◌, ◌≤◌, ◌^◌, List, [], ◌∷◌, length, drop, All, refl, sym, ap, ◌∙◌, subst, arith, inl, inr}
 use Rattle.std.specs.Prelude.{ℤ, pos, negsuc, FitsSigned}
 use Rattle.std.specs.Int.{w8, w16, w32, w64}
-use Rattle.std.specs.List.{Contains, AllZip}
+use Rattle.std.specs.List.{Contains}
 use Rattle.std.proofs.Math.Nat.{pow-le-pow_right, mul-le-mul_left, mul-suc}
 use Rattle.std.proofs.lemmas.Nat.{pow-add}
 use Rattle.std.proofs.lemmas.Int.{ints}
 use Rattle.std.proofs.lemmas.List.Elements.{All-take, All-drop}
 use Rattle.dexspec.specs.Lists.{OrNone}
-use Rattle.dexspec.specs.Bytes.{number_of, signed_in, Stands, uint_at, uints_at}
+use Rattle.dexspec.specs.Bytes.{number_of, Stands, uint_at, uints_at}
 use Rattle.dexspec.specs.Numbers.{magnitude}
 use Rattle.dexspec.specs.Symbols.{Field, Method}
 use Rattle.dexspec.specs.Rows.{FieldRow, MethodRow}
-use Rattle.dexspec.specs.Values.{Value, ByteValue, ShortValue, CharValue, IntValue, LongValue, FloatValue, DoubleValue, StringValue, TypeValue, FieldValue, MethodValue, EnumValue, ArrayValue, AnnotationValue, NullValue, BooleanValue, Values, NoValues, ThenValue, Elements, NoElements, ThenElement, value_byte, SizedAt, SignedAt, UnsignedAt, BitsAt, ValueAt, ValuesAt, ElementsAt, values_depth, most_depth}
+use Rattle.dexspec.specs.Values.{Value, ByteValue, ShortValue, CharValue, IntValue, LongValue, FloatValue, DoubleValue, StringValue, TypeValue, FieldValue, MethodValue, EnumValue, ArrayValue, AnnotationValue, NullValue, BooleanValue, Values, NoValues, ThenValue, Elements, NoElements, ThenElement, value_byte, SignedAt, UnsignedAt, BitsAt, ValueAt, ValuesAt, ElementsAt, values_depth, most_depth}
 use Rattle.dexspec.specs.Annotations.{Annotation, AnnotationSet, AnnotationAt, SetAt, RefListAt, Directory, no_directory, DirectoryAt, PairAt, pairs_at, fields_count, methods_count, parameters_count}
 use Rattle.dexspec.specs.Classes.{StaticValuesAt}
 use Rattle.dexspec.specs.WellFormed.{FitsUint, IsValue, AreValues, AreElements, IsAnnotation, IsSet}
@@ -164,6 +164,6 @@ module _ (b : List ℕ) (bytes : All (λ byte. byte < 256) b) where
         fields = λ e c. let w = zip_source (PairAt FieldRow SetAt b) (pairs_at b (o + 16) (fields_count b o)) d.fields e is.fields.pairs c in set_formed w.0.1 e.1 w.2.2;
         methods = λ e c. let w = zip_source (PairAt MethodRow SetAt b) (pairs_at b (o + 16 + 8 * fields_count b o) (methods_count b o)) d.methods e is.methods.pairs c in set_formed w.0.1 e.1 w.2.2;
         parameters = λ e c.
-        let w = zip_source (PairAt MethodRow RefListAt b) (pairs_at b (o + 16 + 8 * (fields_count b o + methods_count b o)) (parameters_count b o)) d.parameters e is.parameters.pairs c in
-        ref_list_formed w.0.1 e.1 w.2.2;
+            let w = zip_source (PairAt MethodRow RefListAt b) (pairs_at b (o + 16 + 8 * (fields_count b o + methods_count b o)) (parameters_count b o)) d.parameters e is.parameters.pairs c in
+            ref_list_formed w.0.1 e.1 w.2.2;
       }

@@ -1,5 +1,5 @@
 -- The rows of protos, fields and methods stand in the order of what they name.
-use Rattle.std.proofs.Common.{◌≡◌, ℕ, zero, suc, ◌+◌, ◌<◌, ◌≤◌, Bool, true, List, [], ◌∷◌, refl, sym, ap, ◌∙◌, subst, arith, inl, inr, Ordering, Less, Equal, Greater}
+use Rattle.std.proofs.Common.{◌≡◌, ℕ, ◌+◌, ◌<◌, true, List, [], ◌∷◌, refl, ap, subst, inl, inr, Ordering, Less, Equal, Greater}
 use Rattle.std.specs.Prelude.{if◌then◌else◌, ◌==◌}
 use Rattle.std.specs.List.{AllZip}
 use Rattle.std.specs.Ordering.{nat_cmp, ordering_then}
@@ -13,7 +13,7 @@ use Rattle.dexspec.specs.Bytes.{uint_at, ushort_at}
 use Rattle.dexspec.specs.Texts.{Text, text_cmp}
 use Rattle.dexspec.specs.Symbols.{Proto, Field, Method, proto_cmp, field_cmp, method_cmp}
 use Rattle.dexspec.specs.Header.{ProtoIds, FieldIds, MethodIds, table_size}
-use Rattle.dexspec.specs.Rows.{row_at, StringRow, TypeRow, type_indices, TypeListAt, ProtoRow, FieldRow, MethodRow, key_cmp, HasProto, HasField, HasMethod}
+use Rattle.dexspec.specs.Rows.{row_at, StringRow, TypeRow, type_indices, TypeListAt, ProtoRow, FieldRow, MethodRow, HasProto, HasField, HasMethod}
 use Rattle.dexspec.proofs.SymbolOrders.{text_total, proto_total, field_total, method_total}
 use Rattle.dexspec.proofs.OneRow.{one_string, one_type, one_proto, one_field, one_method}
 use Rattle.dexspec.proofs.PoolRows.{AreStrings, AreTypes, rows_rise, first_less, less_number, strings_rise, types_rise}
@@ -37,8 +37,8 @@ follow : {X : Type 0} (R : X → X → Ordering) (o : IsTotalOrder R) (Row : ℕ
 follow {X} R o Row one rise i j x y h g = record {
   less = λ e. rise i j x y (less_number i j e) h g;
   equal = λ e.
-  let same : x ≡ y = one j x y (subst (λ (k : ℕ). Row k x) (nat_cmp-IsAntisymmetric i j e) h) g in
-  subst (λ (z : X). R x z ≡ Equal) same (tied_itself o x);
+      let same : x ≡ y = one j x y (subst (λ (k : ℕ). Row k x) (nat_cmp-IsAntisymmetric i j e) h) g in
+      subst (λ (z : X). R x z ≡ Equal) same (tied_itself o x);
 }
 
 -- every row of protos is one, in order
@@ -109,7 +109,7 @@ module _ (b : List ℕ) (strings : AreStrings b) (types : AreTypes b) where
 
   field_next : (i j : ℕ) (f g : Field) → FieldRow b i f → FieldRow b j g
       → ordering_then (nat_cmp (ushort_at b (row_at b FieldIds i)) (ushort_at b (row_at b FieldIds j)))
-        (ordering_then (nat_cmp (uint_at b (row_at b FieldIds i + 4)) (uint_at b (row_at b FieldIds j + 4))) (ordering_then (nat_cmp (ushort_at b (row_at b FieldIds i + 2)) (ushort_at b (row_at b FieldIds j + 2))) Equal)) ≡ Less
+      (ordering_then (nat_cmp (uint_at b (row_at b FieldIds i + 4)) (uint_at b (row_at b FieldIds j + 4))) (ordering_then (nat_cmp (ushort_at b (row_at b FieldIds i + 2)) (ushort_at b (row_at b FieldIds j + 2))) Equal)) ≡ Less
       → field_cmp f g ≡ Less
   field_next i j f g h k e =
       let c = ushort_at b (row_at b FieldIds i) in
@@ -121,7 +121,7 @@ module _ (b : List ℕ) (strings : AreStrings b) (types : AreTypes b) where
       then_less (nat_cmp c d) (ordering_then (nat_cmp m n) (ordering_then (nat_cmp s t) Equal)) (text_cmp f.class g.class) (ordering_then (text_cmp f.name g.name) (text_cmp f.type g.type))
       (types_follow c d f.class g.class h.class k.class)
       (then_less (nat_cmp m n) (ordering_then (nat_cmp s t) Equal) (text_cmp f.name g.name) (text_cmp f.type g.type) (texts_follow m n f.name g.name h.name k.name)
-        (λ r. (types_follow s t f.type g.type h.type k.type).less (first_less (nat_cmp s t) r))) e
+      (λ r. (types_follow s t f.type g.type h.type k.type).less (first_less (nat_cmp s t) r))) e
 
   -- a later field is greater
   pub fields_rise : AreFields b → (i j : ℕ) (f g : Field) → i < j → FieldRow b i f → FieldRow b j g → field_cmp f g ≡ Less
@@ -131,7 +131,7 @@ module _ (b : List ℕ) (strings : AreStrings b) (types : AreTypes b) where
 
   method_next : AreProtos b → (i j : ℕ) (f g : Method) → MethodRow b i f → MethodRow b j g
       → ordering_then (nat_cmp (ushort_at b (row_at b MethodIds i)) (ushort_at b (row_at b MethodIds j)))
-        (ordering_then (nat_cmp (uint_at b (row_at b MethodIds i + 4)) (uint_at b (row_at b MethodIds j + 4))) (ordering_then (nat_cmp (ushort_at b (row_at b MethodIds i + 2)) (ushort_at b (row_at b MethodIds j + 2))) Equal)) ≡ Less
+      (ordering_then (nat_cmp (uint_at b (row_at b MethodIds i + 4)) (uint_at b (row_at b MethodIds j + 4))) (ordering_then (nat_cmp (ushort_at b (row_at b MethodIds i + 2)) (ushort_at b (row_at b MethodIds j + 2))) Equal)) ≡ Less
       → method_cmp f g ≡ Less
   method_next protos i j f g h k e =
       let c = ushort_at b (row_at b MethodIds i) in
@@ -143,7 +143,7 @@ module _ (b : List ℕ) (strings : AreStrings b) (types : AreTypes b) where
       then_less (nat_cmp c d) (ordering_then (nat_cmp m n) (ordering_then (nat_cmp s t) Equal)) (text_cmp f.class g.class) (ordering_then (text_cmp f.name g.name) (proto_cmp f.proto g.proto))
       (types_follow c d f.class g.class h.class k.class)
       (then_less (nat_cmp m n) (ordering_then (nat_cmp s t) Equal) (text_cmp f.name g.name) (proto_cmp f.proto g.proto) (texts_follow m n f.name g.name h.name k.name)
-        (λ r. (protos_follow protos s t f.proto g.proto h.proto k.proto).less (first_less (nat_cmp s t) r))) e
+      (λ r. (protos_follow protos s t f.proto g.proto h.proto k.proto).less (first_less (nat_cmp s t) r))) e
 
   -- a later method is greater
   pub methods_rise : AreProtos b → AreMethods b → (i j : ℕ) (f g : Method) → i < j → MethodRow b i f → MethodRow b j g → method_cmp f g ≡ Less

@@ -35,10 +35,12 @@ pub record Blank (w x : List ℕ) : Type 0 where
 abbrev put_zero : List ℕ → Bool → List ℕ
 put_zero w t = if t then slice_set (slice_set w 1 (0 % 65536)) 2 (0 / 65536) else slice_set w 1 0
 
+-- as many units as before
 length_put : (w : List ℕ) (t : Bool) → length (put_zero w t) ≡ length w
 length_put w true = length-set (slice_set w 1 0) 2 0 ∙ length-set w 1 0
 length_put w false = length-set w 1 0
 
+-- what units stand for has this
 pub blank : (N : ℕ → Symbol → Type 0) (w : List ℕ) (p : Piece) → StandsForPiece N w p → Blank w (units_of p)
 blank N w (Instruction xs None) h = record { size = ap length h.2; first = ap (λ (ys : List ℕ). slice_index ys 0) h.2; same = λ _. h.2 }
 blank N w (Instruction xs (Some s)) h = record {
@@ -67,6 +69,7 @@ put_index w true =
     omega (arith, one, two)
 put_index w false = set_zero w 1
 
+-- and twice is once
 put_again : (w : List ℕ) (t : Bool) → put_zero (put_zero w t) t ≡ put_zero w t
 put_again w true =
     let y = slice_set (slice_set w 1 0) 2 0 in
@@ -93,14 +96,17 @@ pub if_true : {X : Type 0} (t : Bool) (a b : X) → t ≡ true → (if t then a 
 if_true true a b e = refl
 if_true false a b e = absurd cc
 
+-- the other way
 pub if_false : {X : Type 0} (t : Bool) (a b : X) → t ≡ false → (if t then a else b) ≡ b
 if_false true a b e = absurd cc
 if_false false a b e = refl
 
+-- what a test lets through
 some_if : {X : Type 0} (t : Bool) (o : Option X) (x : X) → (if t then o else None) ≡ Some x → (t ≡ true) × (o ≡ Some x)
 some_if true o x e = (refl, e)
 some_if false o x e = absurd cc
 
+-- what comes through an option
 and_then_some : {X Y : Type 0} (f : X → Option Y) (o : Option X) (y : Y) → option_and_then f o ≡ Some y → (x : X) × (o ≡ Some x) × (f x ≡ Some y)
 and_then_some f None y e = absurd cc
 and_then_some f (Some x) y e = (x, refl, e)
@@ -122,9 +128,11 @@ pub record InstructionPiece (us : List ℕ) (n : ℕ) : Type 0 where
   pub within : n ≤ length us
   pub first : is_first_unit op.format (slice_index us 0) ≡ true
 
+-- equal where there is one
 same_number : (m n : ℕ) → Some m ≡ Some n → m ≡ n
 same_number m n e = cc
 
+-- by whether a payload begins here
 piece_by : (at u : ℕ) (us : List ℕ) (n : ℕ) (t : Bool) → is_payload_ident u ≡ t → (if t then (if at % 2 == 0 then payload_size (u ∷ us) else None) else instruction_size (u ∷ us)) ≡ Some n → PayloadPiece at (u ∷ us) n ⊎ InstructionPiece (u ∷ us) n
 piece_by at u us n true e h =
     let even = some_if (at % 2 == 0) (payload_size (u ∷ us)) n h in
@@ -225,14 +233,17 @@ ints_same us vs i (suc n) h =
 abbrev pub units_by : Bool → Bool → ℕ → ℕ → ℕ → ℕ
 units_by t s a b c = if t then 4 + 2 * a else (if s then 2 + 4 * a else 4 + ((b + 65536 * c) * a + 1) / 2)
 
+-- whether a payload of the kind is in order
 abbrev order_by : Bool → Bool → List ℕ → Bool
 order_by t s us = if t then true else (if s then rises int_cmp (ints_in us 2 (slice_index us 1)) else list_any (λ width. slice_index us 1 == width) (1 ∷ 2 ∷ 4 ∷ 8 ∷ []))
 
+-- two units at least
 least_units : (t s : Bool) (a b c : ℕ) → 2 ≤ units_by t s a b c
 least_units true s a b c = omega arith
 least_units false true a b c = omega arith
 least_units false false a b c = omega arith
 
+-- both rest on the units of the payload
 payload_same : (us vs : List ℕ) (n : ℕ) (t s : Bool) → n ≡ units_by t s (slice_index us 1) (slice_index us 2) (slice_index us 3) → ((j : ℕ) → j < n → slice_index vs j ≡ slice_index us j)
     → (units_by t s (slice_index vs 1) (slice_index vs 2) (slice_index vs 3) ≡ n) × (order_by t s vs ≡ order_by t s us)
 payload_same us vs n true s e f = (omega (arith, e, f 1 (omega arith)), refl)

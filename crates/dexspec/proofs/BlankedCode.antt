@@ -36,6 +36,7 @@ standing N all at us (c ∷ cs) (p ∷ ps) e h g = (
   standing N all (at + c.units) (drop c.units us) cs ps (sym (drop-drop c.units at all) ∙ ap (drop c.units) e) h.2 g.1,
 )
 
+-- from what is left to the whole
 standing_back : (N : ℕ → Symbol → Type 0) (all : List ℕ) (at : ℕ) (us : List ℕ) (cs : List Cut) (ps : List Piece) → drop at all ≡ us → AreCut at us cs [] → AreStanding N us cs ps → AllZip (λ c p. StandsForPiece N (cut_units all c) p) cs ps
 standing_back N all at us [] [] e h g = tt
 standing_back N all at us [] (p ∷ ps) e h g = absurd g
@@ -77,6 +78,7 @@ kept_first N us rest p n le some h =
           append_left (units_of p) rest j 0 (omega (arith, size, lt)) ∙ ap (λ (ys : List ℕ). slice_index ys j) whole ∙ get_or-take n us j 0 lt;
     }
 
+-- pieces without their indices are cut as they were
 blanked : (N : ℕ → Symbol → Type 0) (at : ℕ) (us : List ℕ) (cs : List Cut) (ps : List Piece) → AreCut at us cs [] → AreStanding N us cs ps → Blanked at us (flat_map units_of ps) cs ps
 blanked N at us [] [] h g = record { size = ap length (sym h); cut = refl; stands = tt; kept = λ c m. absurd (Contains-nil c m) }
 blanked N at us [] (p ∷ ps) h g = absurd g
@@ -132,10 +134,12 @@ goes_alone F30t (Some p) = false
 goes_alone F31t (Some p) = false
 goes_alone f i = true
 
+-- so it is in the whole table
 runs_go_alone : list_all (λ (r : OpcodeRun). goes_alone r.format r.index) opcode_runs ≡ true
 unfolding opcode_runs
 runs_go_alone = refl
 
+-- by whether the first is found
 found_by : {X : Type 0} (p q : X → Bool) (x y : X) (ys : List X) (t : Bool) → (q y && list_all q ys) ≡ true → cond t (Some y) (find p ys) ≡ Some x → (list_all q ys ≡ true → find p ys ≡ Some x → q x ≡ true) → q x ≡ true
 found_by p q x y ys true all e again = let same : y ≡ x = cc in ap q (sym same) ∙ and_first (q y) (list_all q ys) all
 found_by p q x y ys false all e again = again (and_second (q y) (list_all q ys) all) e
@@ -145,10 +149,12 @@ found_passes : {X : Type 0} (p q : X → Bool) (xs : List X) (x : X) → list_al
 found_passes p q [] x all e = absurd cc
 found_passes p q (y ∷ ys) x all e = found_by p q x y ys (p y) all e (found_passes p q ys x)
 
+-- what a mapped option has
 mapped_some : {X Y : Type 0} (f : X → Y) (o : Option X) (y : Y) → option_map f o ≡ Some y → (x : X) × (o ≡ Some x) × (f x ≡ y)
 mapped_some f None y e = absurd cc
 mapped_some f (Some x) y e = (x, refl, cc)
 
+-- so it is for each opcode
 opcode_goes_alone : (n : ℕ) (op : Opcode) → opcode_of n ≡ Some op → goes_alone op.format op.index ≡ true
 unfolding opcode_of
 opcode_goes_alone n op e =
@@ -161,29 +167,36 @@ opcode_goes_alone n op e =
 read : (l : List ℕ) (k : ℕ) → slice_index (drop k l) 0 ≡ slice_index l k
 read l k = let z : k + 0 ≡ k = omega arith in get_or-drop k l 0 0 ∙ ap (slice_index l) z
 
+-- and further on
 read_later : (l : List ℕ) (k j n : ℕ) → k + j ≡ n → slice_index (drop k l) j ≡ slice_index l n
 read_later l k j n e = get_or-drop k l j 0 ∙ ap (slice_index l) e
 
+-- equal tests have one answer
 any_same : (p q : Cut → Bool) (cs : List Cut) → ((c : Cut) → Contains cs c → p c ≡ q c) → list_any p cs ≡ list_any q cs
 any_same p q [] h = refl
 any_same p q (c ∷ cs) h = let first = h c (Contains-first c cs) in let rest = any_same p q cs (λ d m. h d (Contains-later c d cs m)) in λ i. first i || rest i
 
+-- either of two
 or_left : (a b : Bool) → a ≡ true → (a || b) ≡ true
 or_left true b e = refl
 or_left false b e = absurd cc
 
+-- the other of two
 or_right : (a b : Bool) → b ≡ true → (a || b) ≡ true
 or_right true b e = refl
 or_right false b e = e
 
+-- where not the one, the other
 or_other : (a b : Bool) → a ≡ false → (a || b) ≡ true → b ≡ true
 or_other true b e f = absurd cc
 or_other false b e f = f
 
+-- what passes a test passes a weaker one
 all_weaker : {X : Type 0} (p q : X → Bool) (o : Option X) → ((x : X) → p x ≡ true → q x ≡ true) → all_of_option p o ≡ true → all_of_option q o ≡ true
 all_weaker p q None h e = refl
 all_weaker p q (Some x) h e = h x e
 
+-- each kind of payload has an ident
 kind_ident : (t s : Bool) → is_payload_ident (if t then packed_switch_ident else (if s then sparse_switch_ident else array_data_ident)) ≡ true
 kind_ident true s = refl
 kind_ident false true = refl
@@ -193,6 +206,7 @@ kind_ident false false = refl
 abbrev targets_by : Bool → Bool → List ℕ → ℕ → List ℤ
 targets_by t s us at = if t then ints_in us (at + 4) (slice_index us (at + 1)) else (if s then ints_in us (at + 2 + 2 * slice_index us (at + 1)) (slice_index us (at + 1)) else [])
 
+-- they rest on the units of the payload
 targets_same_by : (us vs : List ℕ) (at n : ℕ) (t s : Bool) (b c : ℕ) → n ≡ units_by t s (slice_index us (at + 1)) b c → ((k : ℕ) → at ≤ k → k < at + n → slice_index vs k ≡ slice_index us k) → targets_by t s vs at ≡ targets_by t s us at
 targets_same_by us vs at n true s b c e f =
     let one = f (at + 1) (omega arith) (omega arith) in
@@ -228,15 +242,18 @@ pub record KeptPiece (us vs : List ℕ) (c : Cut) : Type 0 where
   pub kept : Kept (drop c.unit us) (drop c.unit vs) c.units
   pub piece : piece_size c.unit (drop c.unit us) ≡ Some c.units
 
+-- from the first unit on
 kept_piece : (us vs : List ℕ) (c : Cut) → KeptCut 0 us vs c → KeptPiece us vs c
 kept_piece us vs c k =
     let e : c.unit - 0 ≡ c.unit = omega arith in
     record { kept = subst (λ (n : ℕ). Kept (drop n us) (drop n vs) c.units) e k.kept; piece = subst (λ (n : ℕ). piece_size c.unit (drop n us) ≡ Some c.units) e k.piece }
 
 module _ (us vs : List ℕ) (cs : List Cut) (keeps : (c : Cut) → Contains cs c → KeptPiece us vs c) where
+  -- the first unit of a piece is kept
   unit_at : (c : Cut) → Contains cs c → slice_index vs c.unit ≡ slice_index us c.unit
   unit_at c m = sym (read vs c.unit) ∙ (keeps c m).kept.first ∙ read us c.unit
 
+  -- where there is no index, all its units are
   unit_within : (c : Cut) → Contains cs c → pool_at (slice_index us c.unit) ≡ None → (k : ℕ) → c.unit ≤ k → k < c.unit + c.units → slice_index vs k ≡ slice_index us k
   unit_within c m none k le lt =
       let j = k - c.unit in
@@ -249,6 +266,7 @@ module _ (us vs : List ℕ) (cs : List Cut) (keeps : (c : Cut) → Contains cs c
       any_same (λ c. int_eq (pos c.unit) z && not (is_payload_ident (slice_index vs c.unit))) (λ c. int_eq (pos c.unit) z && not (is_payload_ident (slice_index us c.unit))) cs
       (λ c m. ap (λ (u : ℕ). int_eq (pos c.unit) z && not (is_payload_ident u)) (unit_at c m))
 
+  -- so are the starts of payloads
   payload_start_same : (ident : ℕ) (z : ℤ) → is_payload_start ident vs cs z ≡ is_payload_start ident us cs z
   payload_start_same ident z =
       any_same (λ c. int_eq (pos c.unit) z && slice_index vs c.unit == ident) (λ c. int_eq (pos c.unit) z && slice_index us c.unit == ident) cs (λ c m. ap (λ (u : ℕ). int_eq (pos c.unit) z && u == ident) (unit_at c m))
@@ -296,6 +314,7 @@ module _ (us vs : List ℕ) (cs : List Cut) (keeps : (c : Cut) → Contains cs c
   abbrev Right : List ℕ → Cut → Bool
   Right xs c = all_of_option (λ op. all_of_option (leads_right xs cs c.unit op.format) (branch_offset op.format xs c.unit)) (opcode_of (low_byte (slice_index xs c.unit)))
 
+  -- by whether it is a payload
   right_by : (c : Cut) → Contains cs c → (t : Bool) → is_payload_ident (slice_index us c.unit) ≡ t → (is_payload_ident (slice_index us c.unit) || Right us c) ≡ true → (is_payload_ident (slice_index vs c.unit) || Right vs c) ≡ true
   right_by c m true e h = or_left (is_payload_ident (slice_index vs c.unit)) (Right vs c) (ap is_payload_ident (unit_at c m) ∙ e)
   right_by c m false e h = elim (piece_is c.unit (drop c.unit us) c.units (keeps c m).piece) [

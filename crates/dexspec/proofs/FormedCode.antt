@@ -47,6 +47,7 @@ operations_few : (b : List ℕ) (o : ℕ) (ops : List Operation) (n : ℕ) → S
 operations_few b o [] n h = omega arith
 operations_few b o (op ∷ ops) n h = omega (arith, h.4, operation_some b o op h.0 h.2, operations_few b (o + h.0) ops h.1 h.3)
 
+-- an operation is well formed
 operation_formed : (b : List ℕ) (o : ℕ) (op : Operation) (n : ℕ) → OperationAt b o op n → IsOperation op
 operation_formed b o (AdvancePc addresses) n h = h.2.spelled.in_range
 operation_formed b o (AdvanceLine lines) n h = h.2.spelled.in_range
@@ -59,6 +60,7 @@ operation_formed b o SetEpilogueBegin n h = tt
 operation_formed b o (SetFile name) n h = tt
 operation_formed b o (Special opcode) n h = (h.1, h.2)
 
+-- so is a debug program
 debug_formed : (b : List ℕ) (o : ℕ) (d : Debug) → length b ≤ 2 ^ 30 → DebugAt b o d → IsDebug d
 debug_formed b o d small h =
     let place = o + h.start_size + h.count_size + h.names_size in
@@ -69,6 +71,7 @@ debug_formed b o d small h =
       few = omega (arith, operations_few b place d.operations h.operations_size h.operations, stands_within h.end, small);
     }
 
+-- also where there may be none
 some_debug_formed : (b : List ℕ) (o : ℕ) (d : Option Debug) → length b ≤ 2 ^ 30 → OrNone (SomeAt DebugAt) None b o d → IfSome d IsDebug
 some_debug_formed b o None small h = tt
 some_debug_formed b o (Some d) small (inl h) = absurd (let e : Some d ≡ None = h.1 in cc)
@@ -81,6 +84,7 @@ put_units : (w : List ℕ) (t : Bool) → AreUnits w → AreUnits (if t then sli
 put_units w true h = All-set (λ (u : ℕ). u < 65536) (slice_set w 1 0) 2 0 (omega arith) (All-set (λ (u : ℕ). u < 65536) w 1 0 (omega arith) h)
 put_units w false h = All-set (λ (u : ℕ). u < 65536) w 1 0 (omega arith) h
 
+-- the units of a piece are units
 piece_units : (N : ℕ → Symbol → Type 0) (w : List ℕ) (p : Piece) → StandsForPiece N w p → AreUnits w → AreUnits (units_of p)
 piece_units N w (Instruction xs None) h units = subst AreUnits (sym h.2) units
 piece_units N w (Instruction xs (Some s)) h units = subst AreUnits (sym h.2) (put_units w (is_wide_index w) units)
@@ -94,14 +98,17 @@ count_some (pos m) n h e = omega (arith, ints, h, e)
 count_some (negsuc m) n h e = absurd (omega (arith, ints, h))
 
 module _ (us vs : List ℕ) (cuts : List Cut) (starts : (address : ℕ) → IsStart us cuts address → IsStart vs cuts address) (b : List ℕ) where
+  -- the address for all else is a start
   catch_all_formed : (size : ℤ) (o : ℕ) (a : Option ℕ) (n : ℕ) → CatchAllAt us cuts size b o a n → IfSome a (IsStart vs cuts)
   catch_all_formed size o None n h = tt
   catch_all_formed size o (Some a) n h = starts a h.2
 
+  -- without it there is a catch
   catches_some : (size : ℤ) (o : ℕ) (a : Option ℕ) (n m : ℕ) → nat_abs size ≡ m → CatchAllAt us cuts size b o a n → IfNone a (0 < m)
   catches_some size o None n m e h = count_some size m h.0 e
   catches_some size o (Some a) n m e h = tt
 
+  -- a handler is well formed
   handler_formed : (o : ℕ) (x : Handler) (n : ℕ) → HandlerAt us cuts b o x n → IsHandlerOf vs cuts x
   handler_formed o x n h = record {
     catches = all_from (λ (c : Catch). IsStart vs cuts c.address) x.catches (λ c m. let w = sequence_source (CatchAt us cuts) b (o + h.count_size) x.catches h.catches_size c h.catches m in starts c.address w.2.start);
@@ -116,6 +123,7 @@ module _ (us vs : List ℕ) (cuts : List Cut) (starts : (address : ℕ) → IsSt
     apart : AreApart ts
     few : handlers_weight (handlers_of ts) ≤ most_handlers
 
+  -- so are tries
   items_formed : All (λ byte. byte < 256) b → length vs ≡ length us → (o count : ℕ) (ts : List Try) → count < 65536 → TryItemsAt us cuts b o count ts → TriesFormed ts
   items_formed bytes size o count ts small h = record {
     many = omega (arith, h.many, small);
@@ -133,9 +141,11 @@ module _ (us vs : List ℕ) (cuts : List Cut) (starts : (address : ℕ) → IsSt
     few = h.few;
   }
 
+  -- also where there are none
   no_tries : TriesFormed []
   no_tries = record { many = omega arith; tries = λ k d lt. absurd (omega arith); apart = tt; few = omega arith }
 
+-- so are the tries of a code item
 tries_formed : (b : List ℕ) (vs : List ℕ) (o : ℕ) (cuts : List Cut) (starts : (address : ℕ) → IsStart (code_units b o) cuts address → IsStart vs cuts address)
     → All (λ byte. byte < 256) b → length vs ≡ length (code_units b o) → (ts : List Try) → TriesAt b o cuts ts → TriesFormed (code_units b o) vs cuts starts b ts
 tries_formed b vs o cuts starts bytes size ts (inl h) = subst (TriesFormed (code_units b o) vs cuts starts b) (sym h.1) (no_tries (code_units b o) vs cuts starts b)
@@ -144,6 +154,7 @@ tries_formed b vs o cuts starts bytes size ts (inr (n, inr h)) = items_formed (c
 
 -- ---- code items
 
+-- a code item is well formed
 code_formed : (b : List ℕ) (o : ℕ) (c : Code) → All (λ byte. byte < 256) b → length b ≤ 2 ^ 30 → CodeAt b o c → IsCodeItem c
 code_formed b o c bytes small h =
     let us = code_units b o in
@@ -174,6 +185,7 @@ code_formed b o c bytes small h =
       debug = some_debug_formed b (uint_at b (o + 8)) c.debug small h.debug;
     }
 
+-- also where there may be none
 some_code_formed : (b : List ℕ) (o : ℕ) (c : Option Code) → All (λ byte. byte < 256) b → length b ≤ 2 ^ 30 → OrNone (SomeAt CodeAt) None b o c → IfSome c IsCodeItem
 some_code_formed b o None bytes small h = tt
 some_code_formed b o (Some c) bytes small (inl h) = absurd (let e : Some c ≡ None = h.1 in cc)

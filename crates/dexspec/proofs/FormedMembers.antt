@@ -51,10 +51,12 @@ abbrev IsAbove : Option ℕ → ℕ → Type 0
 IsAbove None i = Unit {0}
 IsAbove (Some last) i = last < i
 
+-- the next index is
 next_above : (last : Option ℕ) (d i : ℕ) → IsNextIndex last d i → IsAbove last i
 next_above None d i h = tt
 next_above (Some last) d i h = omega (arith, h.0, h.1)
 
+-- and so is a greater one
 above_later : (last : Option ℕ) (i j : ℕ) → IsAbove last i → i < j → IsAbove last j
 above_later None i j h lt = tt
 above_later (Some last) i j h lt = omega (arith, h)
@@ -80,6 +82,7 @@ pub record MembersRise (b : List ℕ) : Type 0 where
   pub fields : (i j : ℕ) (f g : Field) → i < j → FieldRow b i f → FieldRow b j g → field_cmp f g ≡ Less
   pub methods : (i j : ℕ) (f g : Method) → i < j → MethodRow b i f → MethodRow b j g → method_cmp f g ≡ Less
 
+-- the rows of members rise
 pub members_rise : (b : List ℕ) → AreStrings b → AreTypes b → AreProtos b → AreFields b → AreMethods b → MembersRise b
 members_rise b strings types protos fields methods = record { fields = fields_rise b strings types fields; methods = methods_rise b strings types protos methods }
 
@@ -99,6 +102,7 @@ module _ (b : List ℕ) (rise : MembersRise b) (name : Text) (d : Directory) whe
     field_keys (o + h.0 + h.1) (Some h.4) xs h.2 h.9 (λ y c. own y (Contains-later x y xs c)),
   )
 
+  -- a method has the key of what it is made from
   made_key : (x : EncodedMethod) (m : MethodDef) → MakesMethod b d x m → (x.method.name, x.method.proto) ≡ method_key m
   made_key x m makes = λ i. (sym makes.name i, sym makes.proto i)
 
@@ -132,10 +136,12 @@ record DataFormed (b : List ℕ) (name : Text) (d : ClassData) : Type 0 where
   direct_rise : (a : Directory) (ms : List MethodDef) → ((x : EncodedMethod) → Contains d.direct_methods x → x.method.class ≡ name) → AllZip (MakesMethod b a) d.direct_methods ms → Rises method_key_cmp (map method_key ms)
   virtual_rise : (a : Directory) (ms : List MethodDef) → ((x : EncodedMethod) → Contains d.virtual_methods x → x.method.class ≡ name) → AllZip (MakesMethod b a) d.virtual_methods ms → Rises method_key_cmp (map method_key ms)
 
+-- no methods have no keys
 no_method_keys : (b : List ℕ) (a : Directory) (ms : List MethodDef) → AllZip (MakesMethod b a) [] ms → Rises method_key_cmp (map method_key ms)
 no_method_keys b a [] h = tt
 no_method_keys b a (m ∷ ms) h = absurd h
 
+-- class data have this
 data_formed : (b : List ℕ) → MembersRise b → (name : Text) (o : ℕ) (d : ClassData) → OrNone ClassDataAt no_class_data b o d → DataFormed b name d
 data_formed b rise name o d (inl h) = subst (DataFormed b name) (sym h.1) (record {
   field = λ x c. absurd (Contains-nil x c);
@@ -173,6 +179,7 @@ data_formed b rise name o d (inr h) =
 
 -- ---- members
 
+-- a declared field is well formed
 field_formed : (b : List ℕ) (d : Directory) (x : EncodedField) → HasSets d → (i : ℕ) × FieldRow b i x.field × FitsUint x.flags → IsFieldDef (field_def d x)
 field_formed b d x sets has = record {
   name = has.1.formed.name;
@@ -181,6 +188,7 @@ field_formed b d x sets has = record {
   annotations = annotated_source field_cmp x.field IsSet d.fields empty_set sets.fields;
 }
 
+-- so is a declared method, where its code is
 method_formed : (b : List ℕ) (d : Directory) (x : EncodedMethod) (m : MethodDef) → HasSets d → (i : ℕ) × MethodRow b i x.method × FitsUint x.flags → MakesMethod b d x m → IfSome m.code IsCodeItem → IsMethodDef m
 method_formed b d x m sets has makes code =
     let lists = subst AreSets (sym makes.parameter_annotations) (annotated_source method_cmp x.method AreSets d.parameters empty_list sets.parameters) in
@@ -214,6 +222,7 @@ map_map : {X Y Z : Type 0} (f : Y → Z) (g : X → Y) (xs : List X) → map f (
 map_map f g [] = refl
 map_map f g (x ∷ xs) = ap (λ zs. f (g x) ∷ zs) (map_map f g xs)
 
+-- the keys of methods are those of what they are made from
 made_keys : (b : List ℕ) (d : Directory) (xs : List EncodedMethod) (ms : List MethodDef) → AllZip (MakesMethod b d) xs ms → map method_key ms ≡ map encoded_method_key xs
 made_keys b d [] [] h = refl
 made_keys b d [] (m ∷ ms) h = absurd h

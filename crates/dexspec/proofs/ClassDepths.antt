@@ -24,8 +24,8 @@ module _ (b : List ℕ) (h : HasClasses b) where
   named_row i s t e row = subst (TypeRow b i) e row
 
   -- the same row
-  moved_row : (i j : ℕ) (t : Text) → i ≡ j → TypeRow b i t → TypeRow b j t
-  moved_row i j t e row = subst (λ (k : ℕ). TypeRow b k t) e row
+  moved_row : (i j : ℕ) (t : Text) → j ≡ i → TypeRow b i t → TypeRow b j t
+  moved_row i j t e row = subst (λ (k : ℕ). TypeRow b k t) (sym e) row
 
   -- a type has one class row
   same_class_index : (r s : ℕ) → r < table_size b ClassDefs → s < table_size b ClassDefs → class_idx b r ≡ class_idx b s → r ≡ s
@@ -85,7 +85,7 @@ module _ (b : List ℕ) (h : HasClasses b) where
         let k = defined_row p f.1 in
         let before = All-contains (IsDefinedBefore b w.0) (parent_indices b w.0) i.0 (h.classes w.0 w.1.row).parents i.1 in
         let j = before k.0 k.1 (same_type_row b h.strings h.types (class_idx b k.0) i.0 p k.2 i.2) in
-        below_row n j.0 p (omega (arith, j.1, same)) (omega (arith, j.1, same)) (moved_row i.0 (class_idx b j.0) p (sym j.2) i.2))
+        below_row n j.0 p (omega (arith, j.1, same)) (omega (arith, j.1, same)) (moved_row i.0 (class_idx b j.0) p j.2 i.2))
 
     -- so every defined name has a depth
     pub rows_acyclic : IsAcyclic D

@@ -4,3 +4,4 @@ pub mod Units
 pub mod OpcodeTable
 pub mod Varied
 pub mod Valued
+pub mod Whole

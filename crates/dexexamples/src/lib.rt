@@ -2,6 +2,7 @@
 //! outside: the Android page, Adler-32's own examples, and files laid out by hand.
 #![tactic(auto)]
 
+pub mod accepted;
 pub mod classes;
 pub mod code;
 pub mod files;

@@ -3,14 +3,10 @@ use Rattle.std.proofs.Common.{◌≡◌, ◌≢◌, ◌⊎◌, List, refl, subst
 use Rattle.std.specs.List.{Contains}
 use Rattle.dexspec.specs.Texts.{Text}
 use Rattle.dexspec.specs.Classes.{Definition}
-use Rattle.dexspec.specs.Codes.{text_code}
 use Rattle.dexspec.specs.Merging.{IsConflict, IsConsistent}
 use Rattle.dexspec.proofs.Searches.{some_or_none}
 use Rattle.dexspec.proofs.Depths.{names_in, Contains-map}
-use Rattle.dexspec.proofs.Decided.{same_or_not, body_same_or_not}
-
-pub text_same_or_not : (x y : Text) → (x ≡ y) ⊎ (x ≢ y)
-text_same_or_not = same_or_not text_code
+use Rattle.dexspec.proofs.Decided.{text_same_or_not, body_same_or_not}
 
 module _ (D : List Definition) (name : Text) where
   -- the second has the name, and another body than the first
@@ -21,12 +17,14 @@ module _ (D : List Definition) (name : Text) where
   abbrev IsOne : Definition → Type 0
   IsOne d = (d.0 ≡ name) × (e : Definition) × Contains D e × (e.0 ≡ name) × (d.1 ≢ e.1)
 
+  -- this is decided
   unlike_or_not : (d e : Definition) → IsUnlike d e ⊎ (¬ (IsUnlike d e))
   unlike_or_not d e = elim (text_same_or_not e.0 name) [
     | inr other ↦ inr (λ u. other u.0)
     | inl s ↦ elim (body_same_or_not d.1 e.1) [ inl like ↦ inr (λ u. u.1 like) | inr unlike ↦ inl (s, unlike) ]
   ]
 
+  -- and so is this
   one_or_not : (d : Definition) → IsOne d ⊎ (¬ (IsOne d))
   one_or_not d = elim (text_same_or_not d.0 name) [
     | inr other ↦ inr (λ u. other u.0)
@@ -40,6 +38,7 @@ module _ (D : List Definition) (name : Text) where
   named : (d : Definition) → Contains D d → d.0 ≡ name → Contains D (name, d.1)
   named d c e = subst (λ n. Contains D (n, d.1)) e c
 
+  -- a name has two unlike definitions, or it has not
   pub conflict_or_not : IsConflict D name ⊎ (¬ (IsConflict D name))
   conflict_or_not = elim (some_or_none IsOne D one_or_not) [
     | inl s ↦
@@ -60,5 +59,6 @@ consistent-from_none D none name one other c d = elim (body_same_or_not one othe
   | inr unlike ↦ absurd (none name (record { one = one; other = other; one_in = c; other_in = d; unlike = unlike }))
 ]
 
+-- where no name has two definitions none has a conflict
 pub consistent-apart : (D : List Definition) (name : Text) → IsConsistent D → IsConflict D name → ⊥
 consistent-apart D name h x = x.unlike (h name x.one x.other x.one_in x.other_in)

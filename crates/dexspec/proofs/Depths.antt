@@ -16,21 +16,26 @@ use Rattle.dexspec.proofs.Members.{Contains-nil, Contains-first, Contains-later,
 -- ---- how many of a list pass
 
 module _ {X : Type 0} where
+  -- the first counts if it passes
   count-cons : (p : X → Bool) (x : X) (xs : List X) (b : Bool) → p x ≡ b → count_by p (x ∷ xs) ≡ cond b 1 0 + count_by p xs
   count-cons p x xs b e = sum_by-cons (λ y. cond (p y) 1 0) x xs ∙ ap (λ c. cond c 1 0 + count_by p xs) e
 
+  -- what passes the first test passes the second
   abbrev Weaker : (p q : X → Bool) → List X → Type 0
   Weaker p q xs = (x : X) → Contains xs x → p x ≡ true → q x ≡ true
 
+  -- no fewer pass the second test, and more do, or the same
   abbrev Grows : (p q : X → Bool) → List X → Type 0
   Grows p q xs = (count_by p xs ≤ count_by q xs) × ((count_by p xs < count_by q xs) ⊎ Weaker q p xs)
 
+  -- one more member of which it is true
   also : (p q : X → Bool) (x : X) (xs : List X) → (p x ≡ true → q x ≡ true) → Weaker p q xs → Weaker p q (x ∷ xs)
   also p q x xs w h y c e = elim (Contains-cons_cases x y xs c) [
     | inl s ↦ ap q (sym s) ∙ w (ap p s ∙ e)
     | inr l ↦ h y l e
   ]
 
+  -- by the tests of the first
   grows_by : (p q : X → Bool) (x : X) (xs : List X) (a b : Bool) → p x ≡ a → q x ≡ b → (p x ≡ true → q x ≡ true) → Grows p q xs → Grows p q (x ∷ xs)
   grows_by p q x xs true true e f w h = (
     omega (arith, count-cons p x xs true e, count-cons q x xs true f, h.0),
@@ -51,6 +56,7 @@ module _ {X : Type 0} where
   grows p q [] h = (omega arith, inr (λ x c e. absurd (Contains-nil x c)))
   grows p q (x ∷ xs) h = grows_by p q x xs (p x) (q x) refl refl (h x (Contains-first x xs)) (grows p q xs (λ y c. h y (Contains-later x y xs c)))
 
+  -- by the test of the first
   full_by : (p : X → Bool) (x : X) (xs : List X) (b : Bool) → p x ≡ b → length (x ∷ xs) ≤ count_by p (x ∷ xs) → (length xs ≤ count_by p xs → (y : X) → Contains xs y → p y ≡ true) → (y : X) → Contains (x ∷ xs) y → p y ≡ true
   full_by p x xs true e h later y c = elim (Contains-cons_cases x y xs c) [ inl s ↦ ap p (sym s) ∙ e | inr l ↦ later (omega (arith, h, count-cons p x xs true e)) y l ]
   full_by p x xs false e h later y c = absurd (omega (arith, h, count-cons p x xs false e, count_by-le-length p xs))
@@ -60,6 +66,7 @@ module _ {X : Type 0} where
   full p [] h y c = absurd (Contains-nil y c)
   full p (x ∷ xs) h y c = full_by p x xs (p x) refl h (full p xs) y c
 
+-- what a member is mapped to
 pub Contains-map : {X Y : Type 0} (f : X → Y) (xs : List X) (x : X) → Contains xs x → Contains (map f xs) (f x)
 Contains-map f [] x c = absurd (Contains-nil x c)
 Contains-map f (y ∷ ys) x c = elim (Contains-cons_cases y x ys c) [
@@ -78,6 +85,7 @@ module _ (D : List Definition) where
       let s = list_any-source (λ (d : Definition). same_text d.0 name) D e in
       subst (Contains (names_in D)) (texts_same s.0.0 name (sym s.2)) (Contains-map (λ (d : Definition). d.0) D s.0 s.1)
 
+  -- a defined parent is among the names
   above-defined : (name parent : Text) → Contains (above D name) parent → Contains (names_in D) parent
   above-defined name parent c =
       let parents_of = λ (d : Definition). parents d.1 in
@@ -88,6 +96,7 @@ module _ (D : List Definition) where
   is_below-suc zero name e = absurd cc
   is_below-suc (suc n) name e = list_all-from_members (is_below D (suc n)) (above D name) (λ p c. is_below-suc n p (list_all-member (is_below D n) (above D name) p e c))
 
+  -- less than m is less than what is not less than m
   pub is_below-later : (m n : ℕ) (name : Text) → m ≤ n → is_below D m name ≡ true → is_below D n name ≡ true
   is_below-later m zero name le h = let z : m ≡ 0 = omega arith in subst (λ k. is_below D k name ≡ true) z h
   is_below-later m (suc n) name le h = elim (cases_lt m (suc n)) [
@@ -128,6 +137,7 @@ module _ (D : List Definition) where
       by true f = absurd (let t = is_below-suc n name f in cc)
       by false f = f
 
+  -- a round counts if the name is not below it
   counted : (n : ℕ) (name : Text) (b : Bool) → is_below D (suc n) name ≡ b → depth_to D (suc n) name ≡ cond b 0 1 + depth_to D n name
   counted n name b e = ap (λ c. cond c 0 1 + depth_to D n name) e
 
@@ -144,6 +154,7 @@ module _ (D : List Definition) where
     pub not_below : is_below D n name ≡ false
     pub within : n < most
 
+  -- by whether one round less is enough
   depth_to-by : (n : ℕ) (name : Text) (b : Bool) → is_below D n name ≡ b → is_below D (suc n) name ≡ true → (is_below D n name ≡ true → IsDepthBelow n name (depth_to D n name)) → IsDepthBelow (suc n) name (depth_to D (suc n) name)
   depth_to-by n name true f e again =
       let r = again f in
@@ -178,10 +189,12 @@ module _ (D : List Definition) where
       let t : is_defined D name ≡ true = list_any-member named D s.0 m.0 m.1 in
       absurd cc)
 
+  -- any name that has a depth has one within as many rounds, if there are definitions
   below-all : (name : Text) (b : Bool) → is_defined D name ≡ b → 0 < length D → HasDepth D name → is_below D (length D) name ≡ true
   below-all name true e lt w = is_below-all name e w
   below-all name false e lt w = is_below-later 1 (length D) name (omega arith) (below-undefined name e)
 
+  -- so its depth is what is counted
   depth-within : (name : Text) → 0 < length D → HasDepth D name → IsDepthBelow (length D) name (depth D name)
   unfolding depth
   depth-within name lt w = depth_to-is (length D) name (below-all name (is_defined D name) refl lt w)
@@ -191,6 +204,7 @@ pub record IsDepth (D : List Definition) (name : Text) (n : ℕ) : Type 0 where
   pub below : is_below D (suc n) name ≡ true
   pub not_below : is_below D n name ≡ false
 
+-- what is counted is the depth
 pub depth-is : (D : List Definition) (name : Text) → HasDepth D name → IsDepth D name (depth D name)
 unfolding depth
 depth-is [] name w = record { below = refl; not_below = refl }
@@ -204,10 +218,12 @@ depth-less (d ∷ ds) name e w = (depth-within (d ∷ ds) name (omega arith) w).
 module _ (D : List Definition) where
   -- ---- parents
 
+  -- a defined parent of a name that has a depth has one
   pub HasDepth-parent : (name parent : Text) → HasDepth D name → Contains (above D name) parent → HasDepth D parent
   HasDepth-parent name parent (zero, e) c = absurd cc
   HasDepth-parent name parent (suc n, e) c = (n, list_all-member (is_below D n) (above D name) parent e c)
 
+  -- what is below n and not below m
   less_than : (m n : ℕ) (name : Text) → is_below D m name ≡ false → is_below D n name ≡ true → m < n
   less_than m n name e f = elim (cases_lt m n) [
     | inl lt ↦ lt
@@ -223,14 +239,17 @@ module _ (D : List Definition) where
 
   -- ---- cycles
 
+  -- by whether the name is defined, and below the number of definitions
   cycle_by : (name : Text) (b c : Bool) → is_defined D name ≡ b → is_below D (length D) name ≡ c → IsCycle D name ⊎ (¬ (IsCycle D name))
   cycle_by name false c e f = inr (λ x. let t = x.defined in absurd cc)
   cycle_by name true true e f = inr (λ x. x.deep (length D, f))
   cycle_by name true false e f = inl (record { defined = e; deep = λ w. let t = is_below-all D name e w in absurd cc })
 
+  -- whether a name is defined and has no depth is decided
   pub cycle_or_not : (name : Text) → IsCycle D name ⊎ (¬ (IsCycle D name))
   cycle_or_not name = cycle_by name (is_defined D name) (is_below D (length D) name) refl refl
 
+  -- by whether the name is below the number of definitions
   acyclic_by : (name : Text) (c : Bool) → is_defined D name ≡ true → is_below D (length D) name ≡ c → (¬ (IsCycle D name)) → HasDepth D name
   acyclic_by name true e f never = (length D, f)
   acyclic_by name false e f never = absurd (never (record { defined = e; deep = λ w. let t = is_below-all D name e w in absurd cc }))
@@ -239,6 +258,7 @@ module _ (D : List Definition) where
   pub acyclic-from_none : ((name : Text) → ¬ (IsCycle D name)) → IsAcyclic D
   acyclic-from_none none name e = acyclic_by name (is_below D (length D) name) e refl (none name)
 
+  -- where all have a depth none has none
   pub acyclic-apart : (name : Text) → IsAcyclic D → IsCycle D name → ⊥
   acyclic-apart name a x = x.deep (a name x.defined)
 

@@ -33,12 +33,14 @@ module _ {X : Type 0} (R : X → X → Ordering) (o : IsTotalOrder R) (P : X →
   ]
 
 module _ (D : List Definition) where
+  -- a least name has a conflict, or none has two definitions
   pub conflict_or_consistent : ((name : Text) × IsLeastOf text_cmp (IsConflict D) name) ⊎ IsConsistent D
   conflict_or_consistent = elim (least_of_all text_cmp text_total (IsConflict D) (names_in D) (conflict-name D) (conflict_or_not D)) [
     | inl l ↦ inl l
     | inr none ↦ inr (consistent-from_none D none)
   ]
 
+  -- a least name has no depth, or all have one
   pub cycle_or_acyclic : ((name : Text) × IsLeastOf text_cmp (IsCycle D) name) ⊎ IsAcyclic D
   cycle_or_acyclic = elim (least_of_all text_cmp text_total (IsCycle D) (names_in D) (λ name x. is_defined-name D name x.defined) (cycle_or_not D)) [
     | inl l ↦ inl l
@@ -49,12 +51,15 @@ module _ (D : List Definition) where
 abbrev pub cap_cmp : Cap → Cap → Ordering
 cap_cmp j k = nat_cmp (cap_number j) (cap_number k)
 
+-- they are in a total order
 cap_total : IsTotalOrder cap_cmp
 cap_total = on_total cap_number nat_cmp_total
 
+-- all of them
 abbrev all_caps : List Cap
 all_caps = Types ∷ Protos ∷ Fields ∷ Methods ∷ ShortStrings ∷ Weight ∷ []
 
+-- each cap is one of these
 cap_listed : (cap : Cap) → Contains all_caps cap
 cap_listed Types = (0, omega arith, refl)
 cap_listed Protos = (1, omega arith, refl)
@@ -63,6 +68,7 @@ cap_listed Methods = (3, omega arith, refl)
 cap_listed ShortStrings = (4, omega arith, refl)
 cap_listed Weight = (5, omega arith, refl)
 
+-- a least cap is exceeded, or the definitions fit
 pub exceeds_or_fits : (caps : Caps) (D : List Definition) → ((cap : Cap) × IsLeastOf cap_cmp (Exceeds caps D) cap) ⊎ Fits caps D
 exceeds_or_fits caps D = elim (least_of_all cap_cmp cap_total (Exceeds caps D) all_caps (λ cap x. cap_listed cap) (exceeds_or_not caps D)) [
   | inl l ↦ inl l
@@ -71,10 +77,12 @@ exceeds_or_fits caps D = elim (least_of_all cap_cmp cap_total (Exceeds caps D) a
 
 -- ---- the first cause
 
+-- a lesser number is a lesser cap
 pub cap_less : (j k : Cap) → cap_number j < cap_number k → cap_cmp j k ≡ Less
 cap_less j k lt = sym (nat_cmp_is (cap_number j) (cap_number k) Less lt)
 
 module _ (caps : Caps) (D : List Definition) where
+  -- the least conflict is the first cause
   conflict_first : (name : Text) → IsLeastOf text_cmp (IsConflict D) name → IsFirstCause caps D (Conflict name)
   conflict_first name l = record { is = l.is; first = before }
     where
@@ -83,6 +91,7 @@ module _ (caps : Caps) (D : List Definition) where
       before (Cycle m) x never = never
       before (Exceeded j) x never = never
 
+  -- where there is no conflict the least cycle is
   cycle_first : (name : Text) → IsConsistent D → IsLeastOf text_cmp (IsCycle D) name → IsFirstCause caps D (Cycle name)
   cycle_first name h l = record { is = l.is; first = before }
     where
@@ -91,6 +100,7 @@ module _ (caps : Caps) (D : List Definition) where
       before (Cycle m) x less = l.none_less m x less
       before (Exceeded j) x never = never
 
+  -- where there is no cycle either the least cap is
   cap_first : (cap : Cap) → IsConsistent D → IsAcyclic D → IsLeastOf cap_cmp (Exceeds caps D) cap → IsFirstCause caps D (Exceeded cap)
   cap_first cap h a l = record { is = l.is; first = before }
     where
@@ -114,6 +124,7 @@ module _ (caps : Caps) (D : List Definition) where
 
 -- ---- there is one first cause
 
+-- texts of which neither is less are one
 one_text : (m n : Text) (r : Ordering) → text_cmp m n ≡ r → (text_cmp m n ≡ Less → ⊥) → (text_cmp n m ≡ Less → ⊥) → m ≡ n
 one_text m n Less e f g = absurd (f e)
 one_text m n Equal e f g = text_exact m n e
@@ -129,6 +140,7 @@ numbered (suc (suc (suc (suc zero)))) = Methods
 numbered (suc (suc (suc (suc (suc zero))))) = ShortStrings
 numbered (suc (suc (suc (suc (suc (suc n)))))) = Weight
 
+-- its number gives a cap back
 numbered-is : (cap : Cap) → numbered (cap_number cap) ≡ cap
 numbered-is Types = refl
 numbered-is Protos = refl
@@ -137,12 +149,14 @@ numbered-is Methods = refl
 numbered-is ShortStrings = refl
 numbered-is Weight = refl
 
+-- numbers of which neither is less are one
 one_number : (m n : ℕ) → (m < n → ⊥) → (n < m → ⊥) → m ≡ n
 one_number m n f g = elim (cases_lt m n) [
   | inl lt ↦ absurd (f lt)
   | inr ge ↦ elim (cases_lt n m) [ inl lt ↦ absurd (g lt) | inr le ↦ omega (arith, ge, le) ]
 ]
 
+-- caps of which neither has a lesser number are one
 one_cap : (j k : Cap) → (cap_number j < cap_number k → ⊥) → (cap_number k < cap_number j → ⊥) → j ≡ k
 one_cap j k f g = sym (numbered-is j) ∙ ap numbered (one_number (cap_number j) (cap_number k) f g) ∙ numbered-is k
 
@@ -158,6 +172,7 @@ one_cause (Exceeded j) (Conflict n) f g = absurd (g tt)
 one_cause (Exceeded j) (Cycle n) f g = absurd (g tt)
 one_cause (Exceeded j) (Exceeded k) f g = ap Exceeded (one_cap j k f g)
 
+-- so there is one first cause
 pub first_cause-one : (caps : Caps) (D : List Definition) (c d : Cause) → IsFirstCause caps D c → IsFirstCause caps D d → c ≡ d
 first_cause-one caps D c d x y = one_cause c d (y.first c x.is) (x.first d y.is)
 
@@ -167,3 +182,9 @@ first_cause-same caps D E cause same x = record {
   is = IsCause-within D E (λ d. (same d).0) caps cause x.is;
   first = λ other y. x.first other (IsCause-within E D (λ d. (same d).1) caps other y);
 }
+
+-- a cause is true of the definitions, or it is not
+pub cause_or_not : (caps : Caps) (D : List Definition) (cause : Cause) → IsCause caps D cause ⊎ (¬ (IsCause caps D cause))
+cause_or_not caps D (Conflict name) = conflict_or_not D name
+cause_or_not caps D (Cycle name) = cycle_or_not D name
+cause_or_not caps D (Exceeded cap) = exceeds_or_not caps D cap

@@ -38,6 +38,7 @@ module _ {X : Type 0} where
       none_less = λ y c q l. elim (Contains-cons_cases x y xs c) [ inl e ↦ irreflexive R o y x (sym e) l | inr m ↦ none y m q l ];
     }
 
+    -- a least one of the others is least, where the first does not pass or is not less
     least_later : (x : X) (xs : List X) (l : Least R P xs) → (P x → R x l.member ≡ Less → ⊥) → Least R P (x ∷ xs)
     least_later x xs l never = record {
       member = l.member;
@@ -49,6 +50,7 @@ module _ {X : Type 0} where
       ];
     }
 
+    -- where both pass the order decides
     least_of_two : (x : X) (xs : List X) → P x → (l : Least R P xs) (r : Ordering) → R x l.member ≡ r → Least R P (x ∷ xs)
     least_of_two x xs p l Less e = least_first x xs p (λ y m q less. l.none_less y m q (o.trans y x l.member less e))
     least_of_two x xs p l Equal e = least_later x xs l (λ _ less. absurd (let t : Less ≡ Equal = sym less ∙ e in cc))
@@ -70,6 +72,7 @@ module _ {X : Type 0} where
 
   -- ---- lists without their repeats
 
+  -- one more member that is not yet there
   pub AreDistinct-cons : (x : X) (xs : List X) → (¬ (Contains xs x)) → AreDistinct xs → AreDistinct (x ∷ xs)
   AreDistinct-cons x xs never d zero zero z lt le e = absurd (omega arith)
   AreDistinct-cons x xs never d zero (suc j) z lt le e = never (subst (Contains xs) (sym e) (Contains-get_or xs j z (omega arith)))
@@ -83,6 +86,7 @@ module _ {X : Type 0} where
     pub has : AreAmong xs once
     pub only : AreAmong once xs
 
+  -- the first is added, if it is not there
   once_with : (x : X) (xs : List X) (o : Once xs) → ((y : X) × Contains o.once y × (y ≡ x)) ⊎ ((y : X) → Contains o.once y → y ≡ x → ⊥) → Once (x ∷ xs)
   once_with x xs o (inl s) = record {
     once = o.once;

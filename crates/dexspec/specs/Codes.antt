@@ -75,6 +75,7 @@ symbol_tree (ProtoSymbol p) = gcons (gnum 2) (proto_code.code p)
 symbol_tree (FieldSymbol f) = gcons (gnum 3) (field_code.code f)
 symbol_tree (MethodSymbol m) = gcons (gnum 4) (method_code.code m)
 
+-- no two symbols have one code
 pub one_symbol : (x y : Symbol) → symbol_tree x ≡ symbol_tree y → x ≡ y
 one_symbol (TextSymbol s) (TextSymbol t) p = ap TextSymbol (text_code.inj s t (ap tail p))
 one_symbol (TypeSymbol s) (TypeSymbol t) p = ap TypeSymbol (text_code.inj s t (ap tail p))
@@ -94,6 +95,7 @@ abbrev piece_tree : Piece → Gv
 piece_tree (Instruction us s) = gcons (gnum 0) (gcons (text_code.code us) ((coded_option symbol_code).code s))
 piece_tree (Payload us) = gcons (gnum 1) (text_code.code us)
 
+-- no two pieces have one code
 pub one_piece : (x y : Piece) → piece_tree x ≡ piece_tree y → x ≡ y
 one_piece (Instruction us s) (Instruction vs t) p = λ i. Instruction (text_code.inj us vs (ap (λ g. head (tail g)) p) i) ((coded_option symbol_code).inj s t (ap (λ g. tail (tail g)) p) i)
 one_piece (Payload us) (Payload vs) p = ap Payload (text_code.inj us vs (ap tail p))
@@ -117,6 +119,7 @@ operation_tree SetEpilogueBegin = gcons (gnum 7) gnil
 operation_tree (SetFile name) = gcons (gnum 8) (optional_text_code.code name)
 operation_tree (Special opcode) = gcons (gnum 9) (gnum opcode)
 
+-- no two operations have one code
 pub one_operation : (x y : Operation) → operation_tree x ≡ operation_tree y → x ≡ y
 one_operation (AdvancePc m) (AdvancePc n) p = ap AdvancePc (coded_ℕ.inj m n (ap tail p))
 one_operation (AdvanceLine m) (AdvanceLine n) p = ap AdvanceLine (coded_ℤ.inj m n (ap tail p))
@@ -198,6 +201,7 @@ abbrev mutual
   elements_tree (ThenElement name v es) = gcons (text_code.code name) (gcons (value_tree v) (elements_tree es))
 
 mutual
+  -- no two values have one code
   pub one_value : (x y : Value) → value_tree x ≡ value_tree y → x ≡ y
   one_value (ByteValue m) (ByteValue n) p = ap ByteValue (coded_ℤ.inj m n (ap tail p))
   one_value (ShortValue m) (ShortValue n) p = ap ShortValue (coded_ℤ.inj m n (ap tail p))
@@ -217,12 +221,14 @@ mutual
   one_value (BooleanValue s) (BooleanValue t) p = ap BooleanValue (coded_bool.inj s t (ap tail p))
   one_value x y p = absurd (subst (λ g. T (tag (value_tree x) == tag g)) p tt)
 
+  -- nor have two lists of values
   pub one_values : (x y : Values) → values_tree x ≡ values_tree y → x ≡ y
   one_values NoValues NoValues p = refl
   one_values (ThenValue v vs) (ThenValue w ws) p = λ i. ThenValue (one_value v w (ap head p) i) (one_values vs ws (ap tail p) i)
   one_values NoValues (ThenValue w ws) p = absurd (subst HasParts (sym p) tt)
   one_values (ThenValue v vs) NoValues p = absurd (subst HasParts p tt)
 
+  -- nor two lists of elements
   pub one_elements : (x y : Elements) → elements_tree x ≡ elements_tree y → x ≡ y
   one_elements NoElements NoElements p = refl
   one_elements (ThenElement s v ds) (ThenElement t w es) p =

@@ -34,3 +34,12 @@ pub mod SizeSections
 pub mod SizeClasses
 pub mod ClassOrder
 pub mod SizeFile
+pub mod Sums
+pub mod Places
+pub mod Placements
+pub mod Tables
+pub mod Laying
+pub mod HeaderLaws
+pub mod MapEntries
+pub mod MapLaws
+pub mod Frames

@@ -43,3 +43,5 @@ pub mod HeaderLaws
 pub mod MapEntries
 pub mod MapLaws
 pub mod Frames
+pub mod RankOrder
+pub mod Formed

@@ -45,3 +45,6 @@ pub mod MapLaws
 pub mod Frames
 pub mod RankOrder
 pub mod Formed
+pub mod NormalRows
+pub mod UseItems
+pub mod NormalLists

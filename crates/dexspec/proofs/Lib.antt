@@ -48,3 +48,5 @@ pub mod Formed
 pub mod NormalRows
 pub mod UseItems
 pub mod NormalLists
+pub mod ClassPlaces
+pub mod NormalClasses

@@ -1,5 +1,5 @@
 -- The offset of a use leads to its item, or is 0 where it has none.
-use Rattle.std.proofs.Common.{◌≡◌, ℕ, zero, suc, ◌+◌, ◌<◌, List, [], ◌∷◌, length, get_or, map, refl, sym, ap, ◌∙◌, subst, arith, inl, inr, ◌⊎◌}
+use Rattle.std.proofs.Common.{◌≡◌, ℕ, zero, suc, ◌+◌, ◌^◌, ◌<◌, List, [], ◌∷◌, length, get_or, map, refl, sym, ap, ◌∙◌, subst, arith, inl, inr, ◌⊎◌}
 use Rattle.std.specs.Prelude.{slice_index, Option, Some, None}
 use Rattle.std.specs.Option.{option_map_or}
 use Rattle.std.proofs.lemmas.Option.{same_Some}
@@ -64,6 +64,14 @@ module _ {X : Type 0} where
       let r = own_number 0 uses i x e in
       let same : Some (0 + r.place) ≡ Some r.place = ap Some (omega arith) in
       record { place = r.place; within = r.within; there = r.there; offset = map_default f (own_numbers 0 uses) i None ∙ ap f (r.number ∙ same) }
+
+  -- where the offsets of items fit four bytes, so do those of uses
+  pub uses_small : (uses : List (Option X)) (offs : List ℕ) (i : ℕ) → ((k : ℕ) → k < length (own_items uses).written → slice_index offs k < 2 ^ 32) → slice_index (uses_offsets (own_items uses).numbers offs) i < 2 ^ 32
+  uses_small uses offs i h = by (get_or uses i None) refl
+    where
+      by : (u : Option X) → get_or uses i None ≡ u → slice_index (uses_offsets (own_items uses).numbers offs) i < 2 ^ 32
+      by None e = omega (arith, no_offset uses offs i e)
+      by (Some x) e = let r = own_offset uses offs i x e in omega (arith, r.offset, h r.place r.within)
 
 -- ---- lists of types
 

@@ -50,3 +50,5 @@ pub mod UseItems
 pub mod NormalLists
 pub mod ClassPlaces
 pub mod NormalClasses
+pub mod PlainItems
+pub mod PlainReadable

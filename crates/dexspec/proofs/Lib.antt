@@ -52,3 +52,4 @@ pub mod ClassPlaces
 pub mod NormalClasses
 pub mod PlainItems
 pub mod PlainReadable
+pub mod NormalForm

@@ -15,7 +15,7 @@ use Rattle.dexspec.specs.Weight.{weight, most_weight}
 use Rattle.dexspec.specs.Merging.{AreCaps, greatest_caps, Fits, IsGood}
 use Rattle.dexspec.specs.Conditions.{Condition}
 use Rattle.dexspec.specs.Accepted.{IsReadable, AreRows, HasWeight, IsFrame, IsAccepted}
-use Rattle.dexspec.specs.Plain.{IsPlain, ArePlain, IsPlainRow}
+use Rattle.dexspec.specs.Plain.{IsPlain, ArePlain, IsPlainRow, IsPlainFile}
 use Rattle.dexspec.specs.Canonical.{ordered, canonical}
 use Rattle.dexspec.proofs.Collections.{definitions-are}
 use Rattle.dexspec.proofs.ClassOrder.{definitions-distinct}
@@ -31,7 +31,7 @@ use Rattle.dexspec.proofs.PlainItems.{plain_belongs, plain_offsets}
 use Rattle.dexspec.proofs.PlainReadable.{plain_readable, one_plain_class}
 
 -- a definition for places past the end
-abbrev some_class : Definition
+abbrev pub some_class : Definition
 some_class = ([], record { flags = 0; superclass = None; interfaces = []; source = None; annotations = []; static_fields = []; instance_fields = []; direct_methods = []; virtual_methods = []; static_values = NoValues })
 
 -- what is related to the numbers from one on, by its places
@@ -165,7 +165,12 @@ module _ (K : Collection) (good : IsGood greatest_caps (definitions K)) (formed 
       let zeros = plain_offsets (ordered (definitions K)) classes_plain r lt in
       record { annotations = offs.directory ∙ zeros.directory; class_data = offs.members ∙ zeros.members; static_values = offs.values ∙ zeros.values }
 
-  plain_items : ItemsAreRight (definitions K) (canonical K)
+  -- the file is plain
+  pub plain_file : IsPlainFile (canonical K)
+  plain_file r lt = rows_plain r (omega (arith, lt, (canonical_normal K good.fits formed).laid.count ClassDefs))
+
+  -- its items are right
+  pub plain_items : ItemsAreRight (definitions K) (canonical K)
   plain_items =
       let D = definitions K in
       let b = canonical K in

@@ -17,7 +17,7 @@ use Rattle.dexspec.specs.Header.{ProtoIds, FieldIds, MethodIds, table_size}
 use Rattle.dexspec.specs.Rows.{row_at, StringRow, TypeRow, type_indices, TypeListAt, ProtoRow, FieldRow, MethodRow, HasProto, HasField, HasMethod, proto_row_key, field_row_key, method_row_key, key_cmp}
 use Rattle.dexspec.specs.Classes.{Definition}
 use Rattle.dexspec.specs.Mentions.{Mentions, mentions}
-use Rattle.dexspec.specs.Spellings.{text_index, type_index, proto_index, method_index}
+use Rattle.dexspec.specs.Spellings.{text_index, type_index, proto_index, field_index, method_index}
 use Rattle.dexspec.specs.Canonical.{ordered}
 use Rattle.dexspec.proofs.Stands.{stands_at, length_rows}
 use Rattle.dexspec.proofs.ByteNumbers.{length-uint, length-ushort, ushort_at-stands, uint_at-stands}
@@ -230,6 +230,12 @@ module _ (D : List Definition) (b : List ℕ) (n : IsNormal D b) where
         formed = n.formed.fields f c;
       }
 
+  -- a mentioned field stands at its rank
+  pub field_ranked : (f : Field) → Contains (mentions D).fields f → FieldRow b (field_index (mentions D) f) f
+  field_ranked f c =
+      let r = rank-place field_cmp field_total (mentions D).fields f f (mentions-rising D).fields c in
+      subst (FieldRow b (field_index (mentions D) f)) r.1 (field_stands (field_index (mentions D) f) f r.0)
+
   -- a row is no other field
   pub only_field : (i : ℕ) (f : Field) → FieldRow b i f → (i < length (mentions D).fields) × (get_or (mentions D).fields i f ≡ f)
   only_field i f h =
@@ -304,6 +310,12 @@ module _ (D : List Definition) (b : List ℕ) (n : IsNormal D b) where
         name = subst (λ k. StringRow b k x.name) (sym nums.text) (string_ranked D b n x.name (method-name D x c));
         formed = n.formed.methods x c;
       }
+
+  -- a mentioned method stands at its rank
+  pub method_ranked : (x : Method) → Contains (mentions D).methods x → MethodRow b (method_index (mentions D) x) x
+  method_ranked x c =
+      let r = rank-place method_cmp method_total (mentions D).methods x x (mentions-rising D).methods c in
+      subst (MethodRow b (method_index (mentions D) x)) r.1 (method_stands (method_index (mentions D) x) x r.0)
 
   -- a row is no other method
   pub only_method : (i : ℕ) (x : Method) → MethodRow b i x → (i < length (mentions D).methods) × (get_or (mentions D).methods i x ≡ x)

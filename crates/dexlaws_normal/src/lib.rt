@@ -15,7 +15,7 @@ ghost use Rattle.dexspec.specs.Depth.{in_class_order};
 ghost use Rattle.dexspec.specs.WellFormed.{AreWellFormed};
 ghost use Rattle.dexspec.specs.Merging.{greatest_caps, Fits, IsGood};
 ghost use Rattle.dexspec.specs.Conditions.{Condition};
-ghost use Rattle.dexspec.specs.Accepted.{HoldsThroughout, IsReadable, IsAccepted};
+ghost use Rattle.dexspec.specs.Accepted.{HoldsThroughout, HoldBelow, IsReadable, IsAccepted};
 ghost use Rattle.dexspec.specs.Plain.{ArePlain, IsPlainFile};
 ghost use Rattle.dexspec.specs.Canonical.{canonical};
 ghost use Rattle.dexlaws_normal.specs.Laws.{AreListed, StandAtRanks};
@@ -64,6 +64,11 @@ pub fn classes_stand()
     ensures rows { (K : Collection) → IsGood greatest_caps (definitions K) → AreWellFormed (definitions K) → ArePlain (definitions K) → AreListed (λ r (d : Definition). ClassRow (canonical K) r d.0 d.1) (in_class_order (definitions K)) }
     ensures readable { (K : Collection) → IsGood greatest_caps (definitions K) → AreWellFormed (definitions K) → ArePlain (definitions K) → (r : ℕ) → r < table_size (canonical K) ClassDefs → IsReadable (canonical K) r }
     ensures weight { (K : Collection) → IsGood greatest_caps (definitions K) → AreWellFormed (definitions K) → ArePlain (definitions K) → HoldsThroughout Condition.Weight (canonical K) }
+{}
+
+/// Conditions 1 to 16 hold of the canonical file of any collection that is good and well formed.
+pub fn rows_hold()
+    ensures { (K : Collection) → IsGood greatest_caps (definitions K) → AreWellFormed (definitions K) → HoldBelow 17 (canonical K) }
 {}
 
 /// The canonical file of a plain collection that is good and well formed is accepted, and denotes it.

@@ -166,7 +166,7 @@ module _ (D : List Definition) where
   class_places-rise =
       let place : Definition → PlacedClass = λ x. ((depth D x.0, x.0), x.1) in
       let right : (e : PlacedClass) → Contains (put_all (map place D)) e → depth D e.0.1 ≡ e.0.0 =
-          λ e c. let t = Contains-map_source place D e (put_all-only (map place D) e c) in ap (λ (z : PlacedClass). depth D z.0.1) (sym t.2) ∙ ap (λ (z : PlacedClass). z.0.0) t.2 in
+      λ e c. let t = Contains-map_source place D e (put_all-only (map place D) e c) in ap (λ (z : PlacedClass). depth D z.0.1) (sym t.2) ∙ ap (λ (z : PlacedClass). z.0.0) t.2 in
       subst (Rises place_cmp) (sym (places-kept D (put_all (map place D)) right)) (put_all-rises (map place D))
 
   -- an earlier class has a lesser place
@@ -174,7 +174,7 @@ module _ (D : List Definition) where
   class_places-less i j d ij lt =
       let cs = in_class_order D in
       let at : (k : ℕ) → k < length (in_class_order D) → get_or (map (class_place D) (in_class_order D)) k (class_place D d) ≡ class_place D (get_or (in_class_order D) k d) =
-          λ k le. get_or-map (class_place D) (in_class_order D) k d (class_place D d) le in
+      λ k le. get_or-map (class_place D) (in_class_order D) k d (class_place D d) le in
       let one = at i (omega (arith, ij, lt)) in
       let other = at j lt in
       let e : place_cmp (get_or (map (class_place D) cs) i (class_place D d)) (get_or (map (class_place D) cs) j (class_place D d)) ≡ place_cmp (class_place D (get_or cs i d)) (class_place D (get_or cs j d)) = λ k. place_cmp (one k) (other k) in

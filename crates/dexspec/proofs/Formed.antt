@@ -1,5 +1,5 @@
 -- What well-formed definitions mention is what rows can stand for.
-use Rattle.std.proofs.Common.{◌≡◌, List, [], ◌∷◌, sym, subst, inl, inr, All}
+use Rattle.std.proofs.Common.{◌≡◌, List, [], ◌∷◌, subst, inl, inr, All}
 use Rattle.std.specs.List.{Contains}
 use Rattle.dexspec.specs.Texts.{Text}
 use Rattle.dexspec.specs.Names.{IsDescriptor, IsValueType, IsReferenceType, IsClass, PrimitiveType, ClassType, ArrayType}

@@ -1,48 +1,45 @@
 -- The class rows in the file of definitions: each is the definition of its place, where what belongs to it stands
 -- where its row says; condition 16.
-use Rattle.std.proofs.Common.{◌≡◌, ◌≢◌, ℕ, ◌+◌, ◌^◌, ◌<◌, ◌≤◌, List, [], ◌∷◌, ◌++◌, length, get_or, map, refl, sym, ap, ◌∙◌, subst, arith, inl, inr, All, Bool, true}
+use Rattle.std.proofs.Common.{◌≡◌, ℕ, ◌+◌, ◌^◌, ◌<◌, List, [], ◌∷◌, ◌++◌, length, get_or, map, refl, sym, ap, ◌∙◌, subst, arith, inl, inr, All, true}
 use Rattle.std.specs.Prelude.{slice_index, ◌==◌, if◌then◌else◌, Option, Some, None, IfSome, option_to_list}
 use Rattle.std.specs.List.{Contains, AllZip, filter, flat_map}
 use Rattle.std.specs.Option.{option_map_or}
-use Rattle.std.specs.Cmp.Lexicographic.{pointwise}
 use Rattle.std.proofs.lemmas.Bool.{cond-false, ne_eqb}
 use Rattle.std.proofs.lemmas.Bool.Decides.{Decides-eqb}
 use Rattle.std.proofs.lemmas.Slice.Eq.{slice_eq-Decides}
 use Rattle.std.proofs.lemmas.List.{length-map, map-append}
 use Rattle.std.proofs.lemmas.List.Elements.{Contains-get_or, Contains-append_left, Contains-append_right, Contains-append_cases, All-map}
-use Rattle.dexspec.specs.Lists.{OrNone, AreDistinct, rank}
-use Rattle.dexspec.specs.Bytes.{uint, uint_at, Stands}
+use Rattle.dexspec.specs.Lists.{OrNone, AreDistinct}
+use Rattle.dexspec.specs.Bytes.{uint, Stands}
 use Rattle.dexspec.specs.Texts.{Text, text_cmp, same_text}
 use Rattle.dexspec.specs.Names.{IsClass}
-use Rattle.dexspec.specs.Symbols.{Symbol, TextSymbol, TypeSymbol}
+use Rattle.dexspec.specs.Symbols.{TextSymbol, TypeSymbol}
 use Rattle.dexspec.specs.Header.{ClassDefs, table_size}
-use Rattle.dexspec.specs.Rows.{row_at, StringRow, TypeRow, type_indices, TypeListAt}
+use Rattle.dexspec.specs.Rows.{row_at, StringRow, TypeListAt}
 use Rattle.dexspec.specs.Values.{NoValues}
 use Rattle.dexspec.specs.Annotations.{Directory, DirectoryAt, no_directory}
 use Rattle.dexspec.specs.ClassData.{ClassData, ClassDataAt, no_class_data}
 use Rattle.dexspec.specs.Classes.{Body, Definition, ClassRow, ClassTypeRow, ClassListAt, IndexOrNone, StaticValuesAt, field_def, MakesMethod, class_idx, access_flags, superclass_idx, interfaces_off, source_file_idx, annotations_off, class_data_off, static_values_off, no_index}
-use Rattle.dexspec.specs.Mentions.{mentions, symbols_of, texts_in, types_in, optional_type, optional_text}
-use Rattle.dexspec.specs.Depth.{parents, is_defined, above, HasDepth, IsAcyclic, depth, in_class_order}
-use Rattle.dexspec.specs.WellFormed.{IsWellFormed, AreWellFormed}
+use Rattle.dexspec.specs.Mentions.{mentions, symbols_of, optional_type, optional_text}
+use Rattle.dexspec.specs.Depth.{parents, is_defined, IsAcyclic, depth, in_class_order}
+use Rattle.dexspec.specs.WellFormed.{AreWellFormed}
 use Rattle.dexspec.specs.Accepted.{parent_indices, IsDefinedBefore, HasClass}
 use Rattle.dexspec.specs.Spellings.{text_index, type_index, class_data_bytes, encoded_array_bytes}
-use Rattle.dexspec.specs.Placing.{Ordered, own_items, uses_offsets, offsets, static_values_uses, class_data_uses, directory_uses}
+use Rattle.dexspec.specs.Placing.{Ordered, own_items, offsets, static_values_uses, class_data_uses, directory_uses}
 use Rattle.dexspec.specs.Canonical.{ordered, ClassOffsets}
 use Rattle.dexspec.proofs.Stands.{stands_at}
 use Rattle.dexspec.proofs.ByteNumbers.{uint_at-stands}
 use Rattle.dexspec.proofs.Members.{AreAmong, Contains-first, Contains-later, Contains-flat_map, Contains-filter, list_any-member}
-use Rattle.dexspec.proofs.InOrder.{rank-place}
 use Rattle.dexspec.proofs.SymbolOrders.{text_total, text_exact}
 use Rattle.dexspec.proofs.Growth.{mentions-rising}
 use Rattle.dexspec.proofs.MentionMembers.{texts-listed, types-listed}
 use Rattle.dexspec.proofs.Depths.{Contains-map, depth-parent}
-use Rattle.dexspec.proofs.Placements.{array_section, array_offsets, class_data_section, class_data_offsets, code_offsets, directory_section, directory_offsets, set_offsets, ref_list_offsets, type_list_offsets}
+use Rattle.dexspec.proofs.Placements.{array_section, array_offsets, class_data_section, class_data_offsets, code_offsets, directory_section, directory_offsets, set_offsets, ref_list_offsets}
 use Rattle.dexspec.proofs.Tables.{stands_here, stands_next}
-use Rattle.dexspec.proofs.Laying.{Laid, class_places, SectionStands}
+use Rattle.dexspec.proofs.Laying.{Laid, class_places}
 use Rattle.dexspec.proofs.RankOrder.{rank_one}
-use Rattle.dexspec.proofs.Formed.{All-member}
 use Rattle.dexspec.proofs.UseItems.{LeadsToList, interfaces_lead, uses_small}
-use Rattle.dexspec.proofs.NormalRows.{IsNormal, text_small, string_ranked, type_ranked, type_within}
+use Rattle.dexspec.proofs.NormalRows.{IsNormal, text_small, string_ranked, type_ranked}
 use Rattle.dexspec.proofs.NormalLists.{type_small, list_or_none, list_indices, list_small}
 use Rattle.dexspec.proofs.ClassPlaces.{in_class_order-only, class_names-apart, class_depths-before}
 
@@ -287,7 +284,7 @@ module _ (D : List Definition) (b : List ℕ) (n : AreNormal D b) where
       let c = class_member r e lt in
       let nums = class_numbers r e lt in
       let first : (if superclass_idx b r == no_index then [] else superclass_idx b r ∷ []) ≡ map (type_index (mentions D)) (option_to_list d.1.superclass) =
-          ap (λ k. if k == no_index then [] else k ∷ []) nums.parent ∙ optional_index d d.1.superclass c (superclass_occurs d) in
+      ap (λ k. if k == no_index then [] else k ∷ []) nums.parent ∙ optional_index d d.1.superclass c (superclass_occurs d) in
       let rest = list_indices D b n.file (interfaces_off b r) d.1.interfaces (interfaces_mentioned d c) nums.list in
       (λ k. first k ++ rest k) ∙ sym (map-append (type_index (mentions D)) (option_to_list d.1.superclass) d.1.interfaces)
 
@@ -319,7 +316,7 @@ module _ (D : List Definition) (b : List ℕ) (n : AreNormal D b) where
       let p = get_or (in_class_order D) k e in
       let m = class_member k e inside in
       let name : p.0 ≡ t =
-          rank_one text_cmp text_total text_exact (mentions D).types (mentions-rising D).types p.0 t (type_mentioned D p p.0 m (name_occurs p)) (parent_mentioned d t c l) (sym (class_numbers k e inside).own ∙ same) in
+      rank_one text_cmp text_total text_exact (mentions D).types (mentions-rising D).types p.0 t (type_mentioned D p p.0 m (name_occurs p)) (parent_mentioned d t c l) (sym (class_numbers k e inside).own ∙ same) in
       (k, class_depths-before D k r e inside (parent_less d p c m (subst (Contains (parents d.1)) (sym name) l)), same)
 
   -- 16 Classes
@@ -335,10 +332,10 @@ module _ (D : List Definition) (b : List ℕ) (n : AreNormal D b) where
             let lower : k < length (in_class_order D) = omega (arith, before, inside) in
             let p = get_or (in_class_order D) k e in
             class_names-apart D k r e before inside (rank_one text_cmp text_total text_exact (mentions D).types (mentions-rising D).types p.0 d.0
-              (type_mentioned D p p.0 (class_member k e lower) (name_occurs p)) (type_mentioned D d d.0 c (name_occurs d)) (sym (class_numbers k e lower).own ∙ same ∙ (class_numbers r e inside).own));
+            (type_mentioned D p p.0 (class_member k e lower) (name_occurs p)) (type_mentioned D d d.0 c (name_occurs d)) (sym (class_numbers k e lower).own ∙ same ∙ (class_numbers r e inside).own));
         superclass = (d.1.superclass, own_superclass r e inside);
         interfaces = (d.1.interfaces, own_interfaces r e inside);
         source = (d.1.source, own_source r e inside);
         parents = subst (All (IsDefinedBefore b r)) (sym (parents_read r e inside))
-          (All-map (IsDefinedBefore b r) (type_index (mentions D)) (parents d.1) (λ k t le. parent_before r e (get_or (parents d.1) k t) inside (Contains-get_or (parents d.1) k t le)));
+            (All-map (IsDefinedBefore b r) (type_index (mentions D)) (parents d.1) (λ k t le. parent_before r e (get_or (parents d.1) k t) inside (Contains-get_or (parents d.1) k t le)));
       }

@@ -1,20 +1,18 @@
 -- The canonical file of a collection is accepted and denotes it, where what belongs to its classes is right.
-use Rattle.std.proofs.Common.{◌≡◌, ℕ, zero, suc, ◌+◌, ◌^◌, ◌<◌, ◌≤◌, List, [], ◌∷◌, length, get_or, refl, sym, ap, ◌∙◌, subst, arith, All}
+use Rattle.std.proofs.Common.{◌≡◌, ℕ, zero, suc, ◌+◌, ◌<◌, List, [], ◌∷◌, length, get_or, refl, sym, ap, ◌∙◌, subst, arith, All}
 use Rattle.std.specs.List.{AllZip, Contains, range_with_len}
 use Rattle.std.proofs.lemmas.List.{get_or_default}
 use Rattle.std.proofs.lemmas.List.Elements.{Contains-get_or}
 use Rattle.std.specs.Prelude.{None}
 use Rattle.dexspec.specs.Values.{NoValues}
 use Rattle.dexspec.specs.Header.{StringIds, TypeIds, ClassDefs, table_size}
-use Rattle.dexspec.specs.Classes.{Definition, ClassRow, no_index}
+use Rattle.dexspec.specs.Classes.{Definition, ClassRow}
 use Rattle.dexspec.specs.Files.{Collection, definitions, Denotes}
-use Rattle.dexspec.specs.Mentions.{mentions}
 use Rattle.dexspec.specs.Depth.{in_class_order}
 use Rattle.dexspec.specs.WellFormed.{AreWellFormed}
-use Rattle.dexspec.specs.Weight.{weight, most_weight}
 use Rattle.dexspec.specs.Merging.{AreCaps, greatest_caps, Fits, IsGood}
 use Rattle.dexspec.specs.Conditions.{Condition}
-use Rattle.dexspec.specs.Accepted.{IsReadable, AreRows, HasWeight, IsFrame, IsAccepted}
+use Rattle.dexspec.specs.Accepted.{IsReadable, HasWeight, HoldBelow, IsFrame, IsAccepted}
 use Rattle.dexspec.specs.Plain.{IsPlain, ArePlain, IsPlainRow, IsPlainFile}
 use Rattle.dexspec.specs.Canonical.{ordered, canonical}
 use Rattle.dexspec.proofs.Collections.{definitions-are}
@@ -73,41 +71,41 @@ module _ (D : List Definition) (b : List ℕ) (n : AreNormal D b) (items : Items
   has_weight fits r E readable rows =
       let at = rows_at (λ k (d : Definition). ClassRow b k d.0 d.1) 0 (r + 1) E rows in
       let is : (k : ℕ) (d : Definition) → k < length E → (k < length (in_class_order D)) × (get_or (in_class_order D) k (get_or E k d) ≡ get_or E k d) =
-          λ k d lt. let zero_more : 0 + k ≡ k = omega arith in only_class k (get_or E k d) (subst (λ i. ClassRow b i (get_or E k d).0 (get_or E k d).1) zero_more (at.1 k d (omega (arith, lt, at.0)))) in
+      λ k d lt. let zero_more : 0 + k ≡ k = omega arith in only_class k (get_or E k d) (subst (λ i. ClassRow b i (get_or E k d).0 (get_or E k d).1) zero_more (at.1 k d (omega (arith, lt, at.0)))) in
       fits.weight E
       (λ i j d ij lt same.
-          let x = is i d (omega (arith, ij, lt)) in
-          let y = is j d lt in
-          let one : get_or (in_class_order D) i d ≡ get_or E i d = get_or_default (in_class_order D) i d (get_or E i d) x.0 ∙ x.1 in
-          let other : get_or (in_class_order D) j d ≡ get_or E j d = get_or_default (in_class_order D) j d (get_or E j d) y.0 ∙ y.1 in
-          class_names-apart D i j d ij y.0 (ap (λ (z : Definition). z.0) (one ∙ same ∙ sym other)))
+      let x = is i d (omega (arith, ij, lt)) in
+      let y = is j d lt in
+      let one : get_or (in_class_order D) i d ≡ get_or E i d = get_or_default (in_class_order D) i d (get_or E i d) x.0 ∙ x.1 in
+      let other : get_or (in_class_order D) j d ≡ get_or E j d = get_or_default (in_class_order D) j d (get_or E j d) y.0 ∙ y.1 in
+      class_names-apart D i j d ij y.0 (ap (λ (z : Definition). z.0) (one ∙ same ∙ sym other)))
       (λ d c. let x = is c.0 d c.1 in in_class_order-only D d (subst (Contains (in_class_order D)) (x.1 ∙ c.2) (Contains-get_or (in_class_order D) c.0 (get_or E c.0 d) x.0)))
 
-  -- all 23 conditions
-  accepted : Fits greatest_caps D → IsFrame b → IsAccepted b
-  accepted fits frame Condition.Size = frame Condition.Size (omega arith)
-  accepted fits frame Condition.Magic = frame Condition.Magic (omega arith)
-  accepted fits frame Condition.Version = frame Condition.Version (omega arith)
-  accepted fits frame Condition.Lengths = frame Condition.Lengths (omega arith)
-  accepted fits frame Condition.Endian = frame Condition.Endian (omega arith)
-  accepted fits frame Condition.Link = frame Condition.Link (omega arith)
-  accepted fits frame Condition.Checksum = frame Condition.Checksum (omega arith)
-  accepted fits frame Condition.Signature = frame Condition.Signature (omega arith)
-  accepted fits frame Condition.Layout = frame Condition.Layout (omega arith)
-  accepted fits frame Condition.Map = frame Condition.Map (omega arith)
-  accepted fits frame Condition.Strings = has_string D b n.file
-  accepted fits frame Condition.Types = has_type D b n.file
-  accepted fits frame Condition.Protos = has_proto D b n.file
-  accepted fits frame Condition.Fields = has_field D b n.file
-  accepted fits frame Condition.Methods = has_method D b n.file
-  accepted fits frame Condition.Classes = λ r lt. has_class D b n r some_class lt
-  accepted fits frame Condition.Members = λ r lt. (items.readable r lt).members
-  accepted fits frame Condition.Code = λ r lt. (items.readable r lt).code
-  accepted fits frame Condition.Tries = λ r lt. (items.readable r lt).tries
-  accepted fits frame Condition.Debug = λ r lt. (items.readable r lt).debug
-  accepted fits frame Condition.Values = λ r lt. (items.readable r lt).values
-  accepted fits frame Condition.Annotations = λ r lt. (items.readable r lt).annotations
-  accepted fits frame Condition.Weight = λ r lt. has_weight fits r
+  -- all 23 conditions, where the first 16 hold
+  accepted : Fits greatest_caps D → HoldBelow 17 b → IsAccepted b
+  accepted fits first Condition.Size = first Condition.Size (omega arith)
+  accepted fits first Condition.Magic = first Condition.Magic (omega arith)
+  accepted fits first Condition.Version = first Condition.Version (omega arith)
+  accepted fits first Condition.Lengths = first Condition.Lengths (omega arith)
+  accepted fits first Condition.Endian = first Condition.Endian (omega arith)
+  accepted fits first Condition.Link = first Condition.Link (omega arith)
+  accepted fits first Condition.Checksum = first Condition.Checksum (omega arith)
+  accepted fits first Condition.Signature = first Condition.Signature (omega arith)
+  accepted fits first Condition.Layout = first Condition.Layout (omega arith)
+  accepted fits first Condition.Map = first Condition.Map (omega arith)
+  accepted fits first Condition.Strings = first Condition.Strings (omega arith)
+  accepted fits first Condition.Types = first Condition.Types (omega arith)
+  accepted fits first Condition.Protos = first Condition.Protos (omega arith)
+  accepted fits first Condition.Fields = first Condition.Fields (omega arith)
+  accepted fits first Condition.Methods = first Condition.Methods (omega arith)
+  accepted fits first Condition.Classes = first Condition.Classes (omega arith)
+  accepted fits first Condition.Members = λ r lt. (items.readable r lt).members
+  accepted fits first Condition.Code = λ r lt. (items.readable r lt).code
+  accepted fits first Condition.Tries = λ r lt. (items.readable r lt).tries
+  accepted fits first Condition.Debug = λ r lt. (items.readable r lt).debug
+  accepted fits first Condition.Values = λ r lt. (items.readable r lt).values
+  accepted fits first Condition.Annotations = λ r lt. (items.readable r lt).annotations
+  accepted fits first Condition.Weight = λ r lt. has_weight fits r
 
 -- ---- canonical files
 
@@ -129,6 +127,41 @@ canonical_normal K fits formed =
 pub canonical_all_normal : (K : Collection) → IsGood greatest_caps (definitions K) → AreWellFormed (definitions K) → AreNormal (definitions K) (canonical K)
 canonical_all_normal K good formed = record { file = canonical_normal K good.fits formed; formed = formed; names = definitions-distinct K; acyclic = good.acyclic }
 
+-- conditions 1 to 16 hold of it
+pub canonical_rows_hold : (K : Collection) → IsGood greatest_caps (definitions K) → AreWellFormed (definitions K) → HoldBelow 17 (canonical K)
+canonical_rows_hold K good formed = each
+  where
+    n : AreNormal (definitions K) (canonical K)
+    n = canonical_all_normal K good formed
+
+    frame : IsFrame (canonical K)
+    frame = canonical_frame K (fits_few greatest_caps K greatest_are good.fits) (canonical-has_size greatest_caps K greatest_are good.fits).most
+
+    each : HoldBelow 17 (canonical K)
+    each Condition.Size lt = frame Condition.Size (omega arith)
+    each Condition.Magic lt = frame Condition.Magic (omega arith)
+    each Condition.Version lt = frame Condition.Version (omega arith)
+    each Condition.Lengths lt = frame Condition.Lengths (omega arith)
+    each Condition.Endian lt = frame Condition.Endian (omega arith)
+    each Condition.Link lt = frame Condition.Link (omega arith)
+    each Condition.Checksum lt = frame Condition.Checksum (omega arith)
+    each Condition.Signature lt = frame Condition.Signature (omega arith)
+    each Condition.Layout lt = frame Condition.Layout (omega arith)
+    each Condition.Map lt = frame Condition.Map (omega arith)
+    each Condition.Strings lt = has_string (definitions K) (canonical K) n.file
+    each Condition.Types lt = has_type (definitions K) (canonical K) n.file
+    each Condition.Protos lt = has_proto (definitions K) (canonical K) n.file
+    each Condition.Fields lt = has_field (definitions K) (canonical K) n.file
+    each Condition.Methods lt = has_method (definitions K) (canonical K) n.file
+    each Condition.Classes lt = λ r within. has_class (definitions K) (canonical K) n r some_class within
+    each Condition.Members lt = absurd (omega (arith, lt))
+    each Condition.Code lt = absurd (omega (arith, lt))
+    each Condition.Tries lt = absurd (omega (arith, lt))
+    each Condition.Debug lt = absurd (omega (arith, lt))
+    each Condition.Values lt = absurd (omega (arith, lt))
+    each Condition.Annotations lt = absurd (omega (arith, lt))
+    each Condition.Weight lt = absurd (omega (arith, lt))
+
 -- accepted, and denotes the collection
 pub record IsFileOf (K : Collection) (b : List ℕ) : Type 0 where
   pub accepted : IsAccepted b
@@ -140,9 +173,8 @@ normal_form K good formed items =
     let D = definitions K in
     let b = canonical K in
     let n = canonical_all_normal K good formed in
-    let size = canonical-has_size greatest_caps K greatest_are good.fits in
     record {
-      accepted = accepted D b n items good.fits (canonical_frame K (fits_few greatest_caps K greatest_are good.fits) size.most);
+      accepted = accepted D b n items good.fits (canonical_rows_hold K good formed);
       denotes = λ name c. (
         (λ m. let in_order = in_class_order-has D (name, c) n.names ((definitions-are K name c).0 m) in
             (in_order.0, subst (λ (d : Definition). ClassRow b in_order.0 d.0 d.1) in_order.2 (class_row_is D b n items in_order.0 (name, c) in_order.1))),

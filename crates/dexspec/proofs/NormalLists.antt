@@ -1,10 +1,9 @@
 -- The lists of types and the rows of protos, fields and methods in the file of definitions: each is the symbol of
 -- its place, in order.
-use Rattle.std.proofs.Common.{◌≡◌, ℕ, ◌+◌, ◌*◌, ◌^◌, ◌<◌, ◌≤◌, List, [], ◌∷◌, ◌++◌, length, get_or, map, refl, sym, ap, ◌∙◌, subst, arith, Ordering, Less, Equal, Greater, inl, inr}
+use Rattle.std.proofs.Common.{◌≡◌, ℕ, ◌+◌, ◌*◌, ◌^◌, ◌<◌, List, [], ◌∷◌, ◌++◌, length, get_or, map, refl, sym, ap, ◌∙◌, subst, arith, Ordering, Less, Equal, Greater, inl, inr}
 use Rattle.std.specs.Prelude.{slice_index, ◌==◌, if◌then◌else◌}
 use Rattle.std.specs.List.{Contains, AllZip, flat_map}
-use Rattle.std.specs.Ordering.{nat_cmp, ordering_then}
-use Rattle.std.specs.Cmp.Lexicographic.{slice_cmp}
+use Rattle.std.specs.Ordering.{ordering_then}
 use Rattle.std.proofs.lemmas.Bool.{cond-false, ne_eqb}
 use Rattle.std.proofs.lemmas.List.{length-append}
 use Rattle.std.proofs.lemmas.List.Elements.{Contains-get_or}
@@ -14,7 +13,7 @@ use Rattle.dexspec.specs.Texts.{Text, text_cmp}
 use Rattle.dexspec.specs.Names.{shorty}
 use Rattle.dexspec.specs.Symbols.{Proto, Field, Method, proto_cmp, field_cmp, method_cmp}
 use Rattle.dexspec.specs.Header.{ProtoIds, FieldIds, MethodIds, table_size}
-use Rattle.dexspec.specs.Rows.{row_at, StringRow, TypeRow, type_indices, TypeListAt, ProtoRow, FieldRow, MethodRow, HasProto, HasField, HasMethod, proto_row_key, field_row_key, method_row_key, key_cmp}
+use Rattle.dexspec.specs.Rows.{row_at, StringRow, TypeRow, type_indices, TypeListAt, ProtoRow, FieldRow, MethodRow, HasProto, HasField, HasMethod, proto_row_key, key_cmp}
 use Rattle.dexspec.specs.Classes.{Definition}
 use Rattle.dexspec.specs.Mentions.{Mentions, mentions}
 use Rattle.dexspec.specs.Spellings.{text_index, type_index, proto_index, field_index, method_index}
@@ -209,7 +208,7 @@ module _ (D : List Definition) (b : List ℕ) (n : IsNormal D b) where
       let r1 = ushort (type_index (mentions D) f.type) ++ uint (text_index (mentions D) f.name) in
       let h1 : Stands b (row_at b FieldIds i + 2) r1 = stands_behind (ushort (type_index (mentions D) f.class)) r1 2 (length-ushort (type_index (mentions D) f.class)) h in
       let h2 : Stands b (row_at b FieldIds i + 4) (uint (text_index (mentions D) f.name)) =
-          stands_at (omega arith) (stands_behind (ushort (type_index (mentions D) f.type)) (uint (text_index (mentions D) f.name)) 2 (length-ushort (type_index (mentions D) f.type)) h1) in
+      stands_at (omega arith) (stands_behind (ushort (type_index (mentions D) f.type)) (uint (text_index (mentions D) f.name)) 2 (length-ushort (type_index (mentions D) f.type)) h1) in
       record {
         owner = ushort_at-stands (type_small f.class (field-class D f c)) (stands_here (ushort (type_index (mentions D) f.class)) r1 h);
         kind = ushort_at-stands (type_small f.type (field-type D f c)) (stands_here (ushort (type_index (mentions D) f.type)) (uint (text_index (mentions D) f.name)) h1);
@@ -290,7 +289,7 @@ module _ (D : List Definition) (b : List ℕ) (n : IsNormal D b) where
       let r1 = ushort (proto_index (mentions D) x.proto) ++ uint (text_index (mentions D) x.name) in
       let h1 : Stands b (row_at b MethodIds i + 2) r1 = stands_behind (ushort (type_index (mentions D) x.class)) r1 2 (length-ushort (type_index (mentions D) x.class)) h in
       let h2 : Stands b (row_at b MethodIds i + 4) (uint (text_index (mentions D) x.name)) =
-          stands_at (omega arith) (stands_behind (ushort (proto_index (mentions D) x.proto)) (uint (text_index (mentions D) x.name)) 2 (length-ushort (proto_index (mentions D) x.proto)) h1) in
+      stands_at (omega arith) (stands_behind (ushort (proto_index (mentions D) x.proto)) (uint (text_index (mentions D) x.name)) 2 (length-ushort (proto_index (mentions D) x.proto)) h1) in
       record {
         owner = ushort_at-stands (type_small x.class (method-class D x c)) (stands_here (ushort (type_index (mentions D) x.class)) r1 h);
         kind = ushort_at-stands (proto_small x.proto (method-proto D x c)) (stands_here (ushort (proto_index (mentions D) x.proto)) (uint (text_index (mentions D) x.name)) h1);

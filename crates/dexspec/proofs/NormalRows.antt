@@ -1,21 +1,20 @@
 -- The rows of strings and types in the file of definitions: each is the symbol of its place, in order.
-use Rattle.std.proofs.Common.{◌≡◌, ℕ, ◌+◌, ◌^◌, ◌<◌, ◌≤◌, List, [], ◌∷◌, length, get_or, take, drop, map, refl, sym, ap, ◌∙◌, subst, arith, Less}
+use Rattle.std.proofs.Common.{◌≡◌, ℕ, ◌^◌, ◌<◌, ◌≤◌, List, [], ◌∷◌, length, get_or, sym, ap, ◌∙◌, subst, arith, Less}
 use Rattle.std.specs.Prelude.{slice_index}
 use Rattle.std.specs.List.{Contains}
 use Rattle.std.specs.Ordering.{nat_cmp, ordering_then}
 use Rattle.std.specs.declared.cmp.Ordering.TheVariants.{Equal}
 use Rattle.std.proofs.lemmas.List.{length-map, length-drop, get_or-map, get_or_default}
 use Rattle.std.proofs.lemmas.List.Elements.{Contains-get_or}
-use Rattle.dexspec.specs.Lists.{rank}
-use Rattle.dexspec.specs.Bytes.{uint, uint_at, Stands}
+use Rattle.dexspec.specs.Bytes.{uint_at, Stands}
 use Rattle.dexspec.specs.Texts.{Text, text_cmp, IsStringData, StringDataAt, string_data}
-use Rattle.dexspec.specs.Header.{Table, StringIds, TypeIds, ProtoIds, FieldIds, MethodIds, ClassDefs, table_size, data_off}
-use Rattle.dexspec.specs.Rows.{row_at, StringRow, TypeRow, type_row_key, HasString, HasType, key_cmp}
+use Rattle.dexspec.specs.Header.{Table, StringIds, TypeIds, table_size}
+use Rattle.dexspec.specs.Rows.{row_at, StringRow, TypeRow, HasString, HasType, key_cmp}
 use Rattle.dexspec.specs.Classes.{Definition}
-use Rattle.dexspec.specs.Mentions.{Mentions, mentions}
+use Rattle.dexspec.specs.Mentions.{mentions}
 use Rattle.dexspec.specs.WellFormed.{IsText}
 use Rattle.dexspec.specs.Spellings.{text_index, type_index}
-use Rattle.dexspec.specs.Placing.{Ordered, offsets}
+use Rattle.dexspec.specs.Placing.{offsets}
 use Rattle.dexspec.specs.Canonical.{table_count, ordered}
 use Rattle.dexspec.proofs.Stands.{stands_within}
 use Rattle.dexspec.proofs.ByteNumbers.{uint_at-stands}
@@ -75,8 +74,11 @@ module _ (D : List Definition) (b : List ℕ) (n : IsNormal D b) where
       subst (StringRow b i) (get_or_default (mentions D).texts i [] d lt) (record {
         row = omega (arith, lt, n.laid.count StringIds);
         in_data = omega (arith, at, item.in_data.behind);
-        stands = (length (string_data s), subst (λ o. StringDataAt b o s (length (string_data s))) (sym at)
-          (string_data_at b (slice_index (offsets (string_section (ordered D))) i) s (n.formed.texts s (Contains-get_or (mentions D).texts i [] lt)) item.stands));
+        stands = (
+          length (string_data s),
+          subst (λ o. StringDataAt b o s (length (string_data s))) (sym at)
+              (string_data_at b (slice_index (offsets (string_section (ordered D))) i) s (n.formed.texts s (Contains-get_or (mentions D).texts i [] lt)) item.stands),
+        );
       })
 
   -- a mentioned text stands at its rank
@@ -158,6 +160,6 @@ module _ (D : List Definition) (b : List ℕ) (n : IsNormal D b) where
             let t = get_or (mentions D).types i [] in
             let less : text_cmp s t ≡ Less = Rises-places text_cmp text_total (mentions D).types j i [] (mentions-rising D).types (omega arith) within in
             let keys : nat_cmp (text_index (mentions D) s) (text_index (mentions D) t) ≡ Less =
-                text_indices s t (type-text D s (Contains-get_or (mentions D).types j [] before)) (type-text D t (Contains-get_or (mentions D).types i [] within)) ∙ less in
+            text_indices s t (type-text D s (Contains-get_or (mentions D).types j [] before)) (type-text D t (Contains-get_or (mentions D).types i [] within)) ∙ less in
             (λ k. key_cmp (type_names j [] before k ∷ []) (type_names i [] within k ∷ [])) ∙ ap (λ o. ordering_then o Equal) keys;
       }

@@ -4,10 +4,9 @@ use Rattle.std.specs.Prelude.{slice_index, ◌==◌, if◌then◌else◌, Option
 use Rattle.std.specs.List.{flat_map, AllZip, zip}
 use Rattle.std.proofs.lemmas.List.{length-map, get_or-map, get_or-drop}
 use Rattle.std.proofs.lemmas.List.Elements.{All-head, All-tail}
-use Rattle.dexspec.specs.Lists.{chunks, zip_with}
-use Rattle.dexspec.specs.Texts.{Text}
-use Rattle.dexspec.specs.Values.{Values, NoValues}
-use Rattle.dexspec.specs.Annotations.{AnnotationSet, no_directory}
+use Rattle.dexspec.specs.Lists.{chunks}
+use Rattle.dexspec.specs.Values.{NoValues}
+use Rattle.dexspec.specs.Annotations.{no_directory}
 use Rattle.dexspec.specs.ClassData.{no_class_data}
 use Rattle.dexspec.specs.Classes.{Body, Definition, MakesMethod}
 use Rattle.dexspec.specs.Mentions.{Mentions}

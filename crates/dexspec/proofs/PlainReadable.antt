@@ -1,5 +1,5 @@
 -- A plain class row is readable, and is one definition at most.
-use Rattle.std.proofs.Common.{◌≡◌, ◌≢◌, ℕ, ◌<◌, ◌≤◌, List, [], ◌∷◌, map, refl, sym, ap, ◌∙◌, subst, arith, inl, inr, All}
+use Rattle.std.proofs.Common.{◌≡◌, ◌≢◌, ℕ, ◌≤◌, List, [], ◌∷◌, map, refl, sym, ap, ◌∙◌, subst, arith, inl, inr, All}
 use Rattle.std.specs.Prelude.{Option, Some, None}
 use Rattle.std.specs.List.{AllZip}
 use Rattle.std.proofs.lemmas.List.Elements.{All-nil}
@@ -10,8 +10,8 @@ use Rattle.dexspec.specs.Rows.{StringRow}
 use Rattle.dexspec.specs.Values.{NoValues}
 use Rattle.dexspec.specs.Annotations.{Directory, DirectoryAt, no_directory}
 use Rattle.dexspec.specs.ClassData.{ClassData, ClassDataAt, no_class_data, methods_of, EncodedMethod}
-use Rattle.dexspec.specs.Classes.{Body, Definition, MethodDef, ClassRow, ClassTypeRow, ClassListAt, IndexOrNone, StaticValuesAt, field_def, MakesMethod, class_idx, superclass_idx, interfaces_off, source_file_idx, annotations_off, class_data_off, static_values_off, no_index}
-use Rattle.dexspec.specs.Accepted.{HasClass, Declares, HasMembers, AllCode, HasPiecesAt, HasTriesAt, HasDebugAt, HasValues, HasAnnotations, IsReadable}
+use Rattle.dexspec.specs.Classes.{Body, Definition, ClassRow, ClassTypeRow, ClassListAt, IndexOrNone, StaticValuesAt, field_def, MakesMethod, class_idx, superclass_idx, interfaces_off, source_file_idx, annotations_off, class_data_off, static_values_off, no_index}
+use Rattle.dexspec.specs.Accepted.{HasClass, Declares, HasMembers, AllCode, HasPiecesAt, HasTriesAt, HasDebugAt, IsReadable}
 use Rattle.dexspec.specs.Plain.{IsPlainRow, IsPlain}
 use Rattle.dexspec.proofs.Members.{Contains-nil}
 use Rattle.dexspec.proofs.OneRow.{one_string, one_type, one_type_list, one_or_none}
@@ -46,12 +46,15 @@ module _ (b : List ℕ) (r : ℕ) (plain : IsPlainRow b r) where
 
   -- the row declares nothing
   has_members : HasClass b r → HasMembers b r
-  has_members h = (no_class_data, record {
-    name = h.name;
-    class = h.is;
-    is = inl (plain.class_data, refl);
-    own = record { fields = All-nil _; methods = All-nil _; fields_apart = λ x c d. Contains-nil x c; methods_apart = λ x c d. Contains-nil x c };
-  })
+  has_members h = (
+    no_class_data,
+    record {
+      name = h.name;
+      class = h.is;
+      is = inl (plain.class_data, refl);
+      own = record { fields = All-nil _; methods = All-nil _; fields_apart = λ x c d. Contains-nil x c; methods_apart = λ x c d. Contains-nil x c };
+    },
+  )
 
   -- a plain class row is readable
   pub plain_readable : HasClass b r → IsReadable b r
@@ -96,15 +99,18 @@ module _ (b : List ℕ) (r : ℕ) (plain : IsPlainRow b r) where
       let direct_methods = p.direct_methods ∙ sym q.direct_methods in
       let virtual_methods = p.virtual_methods ∙ sym q.virtual_methods in
       let static_values = p.static_values ∙ sym q.static_values in
-      λ i. (name i, record {
-        flags = flags i;
-        superclass = superclass i;
-        interfaces = interfaces i;
-        source = source i;
-        annotations = annotations i;
-        static_fields = static_fields i;
-        instance_fields = instance_fields i;
-        direct_methods = direct_methods i;
-        virtual_methods = virtual_methods i;
-        static_values = static_values i;
-      })
+      λ i. (
+        name i,
+        record {
+          flags = flags i;
+          superclass = superclass i;
+          interfaces = interfaces i;
+          source = source i;
+          annotations = annotations i;
+          static_fields = static_fields i;
+          instance_fields = instance_fields i;
+          direct_methods = direct_methods i;
+          virtual_methods = virtual_methods i;
+          static_values = static_values i;
+        },
+      )

@@ -87,7 +87,7 @@ type_list_use K b h i (t ∷ ts) e =
     let r = own_offset (type_list_uses K) (offsets (type_list_section K)) i (t ∷ ts) e in
     let item = h.type_lists r.place [] (omega (arith, r.within, length-map (type_list_items K).written (type_list_bytes K.pools))) in
     let is : get_or (map (type_list_bytes K.pools) (type_list_items K).written) r.place [] ≡ type_list_bytes K.pools (t ∷ ts) =
-        get_or-map (type_list_bytes K.pools) (type_list_items K).written r.place [] [] r.within ∙ ap (type_list_bytes K.pools) (r.there []) in
+    get_or-map (type_list_bytes K.pools) (type_list_items K).written r.place [] [] r.within ∙ ap (type_list_bytes K.pools) (r.there []) in
     inr (subst (λ o. ItemStands b 4 o (type_list_bytes K.pools (t ∷ ts))) (sym r.offset) (subst (ItemStands b 4 (slice_index (offsets (type_list_section K)) r.place)) is item))
 
 -- the parameters of the i-th proto

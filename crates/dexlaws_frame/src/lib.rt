@@ -11,7 +11,7 @@ ghost use Rattle.dexspec.specs.Mentions.{mentions};
 ghost use Rattle.dexspec.specs.Merging.{Caps, AreCaps, Fits};
 ghost use Rattle.dexspec.specs.Placing.{Ordered};
 ghost use Rattle.dexspec.specs.Canonical.{with_sums, unsigned_file, canonical};
-ghost use Rattle.dexlaws_frame.specs.Laws.{HasFewSymbols};
+ghost use Rattle.dexlaws_frame.specs.Laws.{HasFewSymbols, HasFields, HasRows, HasItems};
 
 /// A number is read where its bytes stand.
 pub fn numbers_law()
@@ -27,9 +27,17 @@ pub fn sums_law()
     ensures signature { (rest : List ℕ) → HasSignature (with_sums rest) }
 {}
 
+/// In the file of classes in order, if it is not too long, header, rows, items and map stand where the
+/// layout has them.
+pub fn layout_law()
+    ensures fields { (K : Ordered) → length (with_sums (unsigned_file K)) < 2 ^ 32 → HasFields K (with_sums (unsigned_file K)) }
+    ensures rows { (K : Ordered) → length (with_sums (unsigned_file K)) < 2 ^ 32 → HasRows K (with_sums (unsigned_file K)) }
+    ensures items { (K : Ordered) → length (with_sums (unsigned_file K)) < 2 ^ 32 → HasItems K (with_sums (unsigned_file K)) }
+{}
+
 /// The canonical file of a collection meets conditions 1 to 10, if it is not too long and no pool has too
-/// many symbols: so if the collection fits any caps.
+/// many symbols; and so it does if the collection fits any caps, with no premise on its bytes.
 pub fn frame_law()
     ensures frame { (K : Collection) → HasFewSymbols (mentions (definitions K)) → length (canonical K) ≤ 2 ^ 30 → IsFrame (canonical K) }
-    ensures fits { (caps : Caps) (K : Collection) → AreCaps caps → Fits caps (definitions K) → length (canonical K) ≤ 2 ^ 30 → IsFrame (canonical K) }
+    ensures fits { (caps : Caps) (K : Collection) → AreCaps caps → Fits caps (definitions K) → IsFrame (canonical K) }
 {}

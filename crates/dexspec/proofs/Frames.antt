@@ -9,6 +9,7 @@ use Rattle.dexspec.specs.Placing.{Ordered}
 use Rattle.dexspec.specs.Canonical.{with_sums, unsigned_file, ordered, canonical}
 use Rattle.dexspec.proofs.Sums.{with_sums_magic, with_sums_version, with_sums_checksum, with_sums_signature}
 use Rattle.dexspec.proofs.Laying.{Laid, laid, data_before_map}
+use Rattle.dexspec.proofs.SizeFile.{canonical-has_size}
 use Rattle.dexspec.proofs.HeaderLaws.{AreFew, laid_lengths, laid_endian, laid_no_link, laid_layout}
 use Rattle.dexspec.proofs.MapLaws.{laid_map}
 
@@ -69,3 +70,11 @@ canonical_laid K small = laid (ordered (definitions K)) small
 pub canonical_frame : (K : Collection) → AreFew (ordered (definitions K)) → length (canonical K) ≤ 2 ^ 30 → IsFrame (canonical K)
 unfolding canonical
 canonical_frame K few most = file_frame (ordered (definitions K)) few most
+
+-- of a collection that fits caps: what stands where
+pub fitting_laid : (caps : Caps) (K : Collection) → AreCaps caps → Fits caps (definitions K) → Laid (ordered (definitions K)) (canonical K)
+fitting_laid caps K are fits = canonical_laid K (omega (arith, (canonical-has_size caps K are fits).most))
+
+-- and that the frame is right
+pub fitting_frame : (caps : Caps) (K : Collection) → AreCaps caps → Fits caps (definitions K) → IsFrame (canonical K)
+fitting_frame caps K are fits = canonical_frame K (fits_few caps K are fits) (canonical-has_size caps K are fits).most

@@ -32,6 +32,11 @@ map_place K = round_up 4 (layout K).data_end
 unfoldable pub map_list : Ordered → List (Section × ℕ × ℕ)
 map_list K = map_of K (layout K) (map_place K)
 
+-- it is the map of the layout
+pub map_list_named : (K : Ordered) → map_list K ≡ map_of K (layout K) (map_place K)
+unfolding map_list
+map_list_named K = refl
+
 -- the bytes of the file
 abbrev pub file_length : Ordered → ℕ
 file_length K = map_place K + length (map_bytes (map_list K))
@@ -52,6 +57,7 @@ record Five (b h t s m : List ℕ) (from at : ℕ) : Type 0 where
   five : Stands b at m
   size : length b ≡ at + length m
 
+-- they stand one behind the other
 five_parts : (h t s p m : List ℕ) (from to at : ℕ) → length h ≡ 80 → header_length + length t ≡ from → from + length s ≡ to → to + length p ≡ at
     → Five (with_sums (h ++ (t ++ (s ++ (p ++ m))))) h t s m from at
 five_parts h t s p m from to at eh et es ep =
@@ -161,7 +167,7 @@ get_or-zip (x ∷ xs) (y ∷ ys) zero d e lt le = refl
 get_or-zip (x ∷ xs) (y ∷ ys) (suc i) d e lt le = get_or-zip xs ys i d e (omega arith) (omega arith)
 
 -- what the layout has at a class
-class_at : (K : Ordered) (r : ℕ) → r < length K.classes → get_or (named_layout K).classes r (class_places K r) ≡ class_places K r
+pub class_at : (K : Ordered) (r : ℕ) → r < length K.classes → get_or (named_layout K).classes r (class_places K r) ≡ class_places K r
 class_at K r lt =
     let n = length K.pools.protos in
     let is = drop n (type_list_offsets K) in
@@ -228,6 +234,7 @@ module _ (K : Ordered) (b : List ℕ) (p : Parts b K) (small : length b < 2 ^ 32
   data_from_is : data_off b ≡ data_start K
   data_from_is = uint_at-stands (omega (arith, starts, p.size)) fields.data_place
 
+  -- how much data there is
   data_bytes_is : data_size b ≡ file_length K - data_start K
   data_bytes_is = uint_at-stands (omega (arith, p.size)) fields.data_bytes
 
@@ -235,11 +242,13 @@ module _ (K : Ordered) (b : List ℕ) (p : Parts b K) (small : length b < 2 ^ 32
   count_is : (t : Table) → table_size b t ≡ table_count K t
   count_is t = uint_at-stands (omega (arith, table_few K t, starts, p.size)) (stands_here (uint (table_count K t)) (uint (table_place K t)) (fields.table t))
 
+  -- where the header has a table
   place_is : (t : Table) → table_off b t ≡ table_place K t
   place_is t =
       let le : table_place K t ≤ data_start K = unless_zero (table_count K t == 0) (table_start K t) (data_start K) (omega (arith, table_within K t)) in
       uint_at-stands (omega (arith, le, starts, p.size)) (stands_next (table_count K t) (uint (table_place K t)) (fields.table t))
 
+  -- where a table that has rows begins
   begins_at : (t : Table) → 0 < table_count K t → table_off b t ≡ table_start K t
   begins_at t lt = place_is t ∙ not_zero (table_count K t) (table_start K t) lt
 

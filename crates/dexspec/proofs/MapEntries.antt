@@ -178,6 +178,7 @@ pub record IsBetween (low high : ℕ) (e : Section × ℕ × ℕ) : Type 0 where
   pub least : low ≤ e.2
   pub most : e.2 < high
 
+-- of all offsets
 pub rises_between : (low : ℕ) (es : List (Section × ℕ × ℕ)) (high : ℕ) → RisesTo low es high → All (IsBetween low high) es
 rises_between low [] high h = All-nil (IsBetween low high)
 rises_between low (e ∷ es) high h =

@@ -81,10 +81,12 @@ rows_some FieldIds n some = omega (arith, some)
 rows_some MethodIds n some = omega (arith, some)
 rows_some ClassDefs n some = omega (arith, some)
 
+-- one table's offset, if it has an entry
 table_rises : (t : Table) (from n : ℕ) (empty : Bool) → (n == 0) ≡ empty → RisesTo from (if empty then [] else (TableOf t, n, if empty then 0 else from) ∷ []) (from + row_size t * n)
 table_rises t from n true is = omega arith
 table_rises t from n false is = (omega arith, omega (arith, rows_some t n (eqb-false n 0 is)))
 
+-- those of tables one behind the other
 tables_rise : (K : Ordered) (from : ℕ) (ts : List Table) → RisesTo from (flat_map table_entries (tables_from K from ts)) (tables_end K from ts)
 tables_rise K from [] = omega arith
 tables_rise K from (t ∷ ts) =
@@ -92,6 +94,7 @@ tables_rise K from (t ∷ ts) =
     (flat_map table_entries (tables_from K (from + row_size t * table_count K t) ts)) (tables_end K (from + row_size t * table_count K t) ts)
     (table_rises t from (table_count K t) (table_count K t == 0) refl) (tables_rise K (from + row_size t * table_count K t) ts)
 
+-- one section's offset, if it has an entry
 section_rises : (p : Placed) (empty : Bool) → (length p.items == 0) ≡ empty → HasBytes p → IsAlign p.align
     → RisesTo p.from (if empty then [] else (p.kind, length p.items, slice_index (offsets p) 0) ∷ []) (end p)
 section_rises p true is some align = last_end p.from (p ∷ []) (end p) (refl, refl)
@@ -102,6 +105,7 @@ section_rises p false is some align =
     let more : 0 < length (get_or p.items 0 []) = some 0 [] lt in
     (h.behind, omega (arith, h.before, more))
 
+-- those of sections one behind the other
 sections_rise : (at : ℕ) (ps : List Placed) (last : ℕ) → FollowFrom at ps last → All HasBytes ps → All (λ p. IsAlign p.align) ps → RisesTo at (flat_map section_entries ps) last
 sections_rise at [] last h some align = omega (arith, h)
 sections_rise at (p ∷ ps) last h some align =
@@ -173,6 +177,7 @@ section_candidate p = (length p.items == 0, (p.kind, length p.items, slice_index
 abbrev all_candidates : List (Table × ℕ × ℕ) → List Placed → ℕ → List Candidate
 all_candidates ts ps at = (false, (HeaderItem, 1, 0)) ∷ (map table_candidate ts ++ (map section_candidate ps ++ (false, (MapList, 1, at)) ∷ []))
 
+-- of these, those that are not left out are the entries
 picked_is : (ts : List (Table × ℕ × ℕ)) (ps : List Placed) (at : ℕ) → picked (all_candidates ts ps at) ≡ (HeaderItem, 1, 0) ∷ (flat_map table_entries ts ++ (flat_map section_entries ps ++ (MapList, 1, at) ∷ []))
 picked_is ts ps at =
     let last : List Candidate = (false, (MapList, 1, at)) ∷ [] in
@@ -199,6 +204,7 @@ table_number FieldIds = 4
 table_number MethodIds = 5
 table_number ClassDefs = 6
 
+-- it is one of them
 table_number_few : (K : Ordered) (t : Table) → table_number t < length (candidates K)
 table_number_few K StringIds = omega arith
 table_number_few K TypeIds = omega arith
@@ -207,6 +213,7 @@ table_number_few K FieldIds = omega arith
 table_number_few K MethodIds = omega arith
 table_number_few K ClassDefs = omega arith
 
+-- that one is the table's
 candidate_at : (K : Ordered) (t : Table) (d : Candidate) → get_or (candidates K) (table_number t) d ≡ (table_count K t == 0, (TableOf t, table_count K t, table_place K t))
 candidate_at K StringIds d = refl
 candidate_at K TypeIds d = refl

@@ -42,33 +42,43 @@ set_items K = shared_items (λ x y. same_text (flat_map (annotation_bytes K.pool
 abbrev pub debug_items : Ordered → Items Debug
 debug_items K = shared_items (λ x y. same_text (debug_bytes K.pools x) (debug_bytes K.pools y)) (debug_uses K)
 
+-- the type lists, from the end of the tables
 abbrev pub type_list_section : Ordered → Placed
 type_list_section K = record { kind = TypeLists; align = 4; from = data_start K; items = map (type_list_bytes K.pools) (type_list_items K).written }
 
+-- where they end
 unfoldable pub type_list_end : Ordered → ℕ
 type_list_end K = end (type_list_section K)
 
+-- the annotation items
 abbrev pub annotation_section : Ordered → Placed
 annotation_section K = record { kind = AnnotationItems; align = 1; from = type_list_end K; items = map (annotation_bytes K.pools) (flat_map (λ set. set) (set_items K).written) }
 
+-- where they end
 unfoldable pub annotation_end : Ordered → ℕ
 annotation_end K = end (annotation_section K)
 
+-- the arrays of static values
 abbrev pub array_section : Ordered → Placed
 array_section K = record { kind = EncodedArrayItems; align = 1; from = annotation_end K; items = map (encoded_array_bytes K.pools) (own_items (static_values_uses K)).written }
 
+-- where they end
 unfoldable pub array_end : Ordered → ℕ
 array_end K = end (array_section K)
 
+-- the string data
 abbrev pub string_section : Ordered → Placed
 string_section K = record { kind = StringDataItems; align = 1; from = array_end K; items = map string_data K.pools.texts }
 
+-- where it ends
 unfoldable pub string_end : Ordered → ℕ
 string_end K = end (string_section K)
 
+-- the debug programs
 abbrev pub debug_section : Ordered → Placed
 debug_section K = record { kind = DebugInfoItems; align = 1; from = string_end K; items = map (debug_bytes K.pools) (debug_items K).written }
 
+-- where they end
 unfoldable pub debug_end : Ordered → ℕ
 debug_end K = end (debug_section K)
 
@@ -76,9 +86,11 @@ debug_end K = end (debug_section K)
 unfoldable pub debug_offsets : Ordered → List ℕ
 debug_offsets K = uses_offsets (debug_items K).numbers (offsets (debug_section K))
 
+-- the code items
 abbrev pub code_section : Ordered → Placed
 code_section K = record { kind = CodeItems; align = 4; from = debug_end K; items = map (λ p. code_bytes K.pools p.1 p.0) (own_items (code_uses K (debug_offsets K))).written }
 
+-- where they end
 unfoldable pub code_end : Ordered → ℕ
 code_end K = end (code_section K)
 
@@ -86,9 +98,11 @@ code_end K = end (code_section K)
 unfoldable pub code_offsets : Ordered → List ℕ
 code_offsets K = uses_offsets (own_items (code_uses K (debug_offsets K))).numbers (offsets (code_section K))
 
+-- the class data
 abbrev pub class_data_section : Ordered → Placed
 class_data_section K = record { kind = ClassDataItems; align = 1; from = code_end K; items = map (λ p. class_data_bytes K.pools p.0 p.1) (own_items (class_data_uses K (code_offsets K))).written }
 
+-- where it ends
 unfoldable pub class_data_end : Ordered → ℕ
 class_data_end K = end (class_data_section K)
 
@@ -96,9 +110,11 @@ class_data_end K = end (class_data_section K)
 unfoldable pub annotation_offsets : Ordered → List (List ℕ)
 annotation_offsets K = chunks (map (λ set. length set) (set_items K).written) (offsets (annotation_section K))
 
+-- the annotation sets
 abbrev pub set_section : Ordered → Placed
 set_section K = record { kind = AnnotationSets; align = 4; from = class_data_end K; items = map offsets_bytes (annotation_offsets K) }
 
+-- where they end
 unfoldable pub set_end : Ordered → ℕ
 set_end K = end (set_section K)
 
@@ -106,9 +122,11 @@ set_end K = end (set_section K)
 unfoldable pub set_offsets : Ordered → List SetOffsets
 set_offsets K = set_offsets_by_class K (uses_offsets (set_items K).numbers (offsets (set_section K)))
 
+-- the lists of sets of parameters
 abbrev pub ref_list_section : Ordered → Placed
 ref_list_section K = record { kind = AnnotationSetRefLists; align = 4; from = set_end K; items = map offsets_bytes (own_items (ref_list_uses K (set_offsets K))).written }
 
+-- where they end
 unfoldable pub ref_list_end : Ordered → ℕ
 ref_list_end K = end (ref_list_section K)
 
@@ -116,9 +134,11 @@ ref_list_end K = end (ref_list_section K)
 unfoldable pub ref_list_offsets : Ordered → List ℕ
 ref_list_offsets K = uses_offsets (own_items (ref_list_uses K (set_offsets K))).numbers (offsets (ref_list_section K))
 
+-- the directories
 abbrev pub directory_section : Ordered → Placed
 directory_section K = record { kind = AnnotationsDirectories; align = 4; from = ref_list_end K; items = (own_items (directory_uses K (set_offsets K) (ref_list_offsets K))).written }
 
+-- where they end, and with them the sections
 unfoldable pub directory_end : Ordered → ℕ
 directory_end K = end (directory_section K)
 
@@ -170,23 +190,29 @@ sections_follow K = (refl, (refl, (refl, (refl, (refl, (refl, (refl, (refl, (ref
 append_some : (x y : List ℕ) → 0 < length x → 0 < length (x ++ y)
 append_some x y some = omega (arith, length-append x y)
 
+-- a uint has bytes
 uint_some : (n : ℕ) → 0 < length (uint n)
 uint_some n = omega (arith, length-uint n)
 
+-- and a ushort
 ushort_some : (n : ℕ) → 0 < length (ushort n)
 ushort_some n = omega (arith, length-ushort n)
 
+-- and what begins with a uleb128
 uleb128_some : (n : ℕ) (y : List ℕ) → 0 < length (uleb128 n ++ y)
 uleb128_some n y = append_some (uleb128 n) y (uleb128_bounds n).0
 
+-- a debug program has bytes
 debug_some : (m : Mentions) (d : Debug) → 0 < length (debug_bytes m d)
 unfolding debug_bytes
 debug_some m d = uleb128_some d.line_start _
 
+-- a code item has bytes
 code_some : (m : Mentions) (off : ℕ) (c : Code) → 0 < length (code_bytes m off c)
 unfolding code_bytes
 code_some m off c = append_some (ushort c.registers) _ (ushort_some c.registers)
 
+-- class data has bytes
 class_data_some : (m : Mentions) (d : Definition) (offs : List ℕ) → 0 < length (class_data_bytes m d offs)
 unfolding class_data_bytes
 class_data_some m d offs = uleb128_some (length d.1.static_fields) _
@@ -199,6 +225,7 @@ map_some f each xs = All-map (λ x. 0 < length x) f xs (λ k d lt. each (get_or 
 abbrev IsSomeBytes : Option (List ℕ) → Type 0
 IsSomeBytes o = IfSome o (λ x. 0 < length x)
 
+-- of what there is, all have bytes
 present_some : (os : List (Option (List ℕ))) → All IsSomeBytes os → All (λ x. 0 < length x) (present os)
 present_some [] h = All-nil (λ x. 0 < length x)
 present_some (None ∷ os) h = present_some os (All-tail IsSomeBytes None os h)
@@ -215,9 +242,11 @@ unless_none : (b : Bool) (n : ℕ) (y : List ℕ) → IsSomeBytes (if b then Non
 unless_none true n y = tt
 unless_none false n y = append_some (uint n) y (uint_some n)
 
+-- a directory has bytes
 directory_some : (m : Mentions) (d : Definition) (sets : SetOffsets) (refs : List ℕ) → IsSomeBytes (directory_bytes m d sets refs)
 directory_some m d sets refs = unless_none _ sets.own _
 
+-- and so have all directories
 directories_some : (K : Ordered) → All (λ x. 0 < length x) (directory_section K).items
 directories_some K =
     present_some (directory_uses K (set_offsets K) (ref_list_offsets K))
@@ -268,7 +297,8 @@ sections_aligned K = All-from_recursion (λ p. IsAlign p.align) (data_sections K
 
 -- ---- how many offsets there are
 
-length-own_numbers : {X : Type 0} (n : ℕ) (uses : List (Option X)) → length (own_numbers n uses) ≡ length uses
+-- a number or none for each use
+pub length-own_numbers : {X : Type 0} (n : ℕ) (uses : List (Option X)) → length (own_numbers n uses) ≡ length uses
 length-own_numbers n [] = refl
 length-own_numbers n (None ∷ uses) = ap suc (length-own_numbers n uses)
 length-own_numbers n (Some x ∷ uses) = ap suc (length-own_numbers (n + 1) uses)
@@ -281,22 +311,26 @@ length-uses_offsets uses offs = length-map (own_numbers 0 uses) _ ∙ length-own
 pub length-shared_offsets : {X : Type 0} (same : X → X → Bool) (uses : List (Option X)) (offs : List ℕ) → length (uses_offsets (shared_items same uses).numbers offs) ≡ length uses
 length-shared_offsets same uses offs = length-uses_offsets uses offs
 
+-- a part for each length
 pub length-chunks : {X : Type 0} (ns : List ℕ) (xs : List X) → length (chunks ns xs) ≡ length ns
 length-chunks [] xs = refl
 length-chunks (n ∷ ns) xs = ap suc (length-chunks ns (drop n xs))
 
+-- two lists of one length make one of that length
 pub length-zip_with : {X Y Z : Type 0} (f : X → Y → Z) (xs : List X) (ys : List Y) (n : ℕ) → length xs ≡ n → length ys ≡ n → length (zip_with f xs ys) ≡ n
 length-zip_with f [] ys n e g = e
 length-zip_with f (x ∷ xs) [] n e g = absurd (omega (arith, e, g))
 length-zip_with f (x ∷ xs) (y ∷ ys) zero e g = absurd (omega (arith, e))
 length-zip_with f (x ∷ xs) (y ∷ ys) (suc n) e g = ap suc (length-zip_with f xs ys n (omega (arith, e)) (omega (arith, g)))
 
+-- the same of pairs
 pub length-zip : {X Y : Type 0} (xs : List X) (ys : List Y) (n : ℕ) → length xs ≡ n → length ys ≡ n → length (zip xs ys) ≡ n
 length-zip [] ys n e g = e
 length-zip (x ∷ xs) [] n e g = absurd (omega (arith, e, g))
 length-zip (x ∷ xs) (y ∷ ys) zero e g = absurd (omega (arith, e))
 length-zip (x ∷ xs) (y ∷ ys) (suc n) e g = ap suc (length-zip xs ys n (omega (arith, e)) (omega (arith, g)))
 
+-- a part for each class
 pub length-by_class : {X : Type 0} (K : Ordered) (xs : List X) → length (by_class K xs) ≡ length K.classes
 length-by_class K xs = length-chunks (map _ K.classes) xs ∙ length-map K.classes _
 
@@ -312,14 +346,17 @@ pub length-array_offsets : (K : Ordered) → length (array_offsets K) ≡ length
 unfolding array_offsets
 length-array_offsets K = length-uses_offsets (static_values_uses K) _ ∙ length-map K.classes _
 
+-- an offset of class data for each class
 pub length-class_data_offsets : (K : Ordered) → length (class_data_offsets K) ≡ length K.classes
 unfolding class_data_offsets
 length-class_data_offsets K = length-uses_offsets (class_data_uses K (code_offsets K)) _ ∙ length-zip_with _ K.classes (by_class K (code_offsets K)) (length K.classes) refl (length-by_class K (code_offsets K))
 
+-- offsets of sets for each class
 pub length-set_offsets : (K : Ordered) → length (set_offsets K) ≡ length K.classes
 unfolding set_offsets
 length-set_offsets K = length-zip_with _ K.classes _ (length K.classes) refl (length-chunks (map _ K.classes) _ ∙ length-map K.classes _)
 
+-- an offset of a directory for each class
 pub length-directory_offsets : (K : Ordered) → length (directory_offsets K) ≡ length K.classes
 unfolding directory_offsets
 length-directory_offsets K =

@@ -154,6 +154,7 @@ pub record HeaderStands (b : List ℕ) (K : Ordered) (map_place size : ℕ) : Ty
 abbrev place_bytes : Table × ℕ × ℕ → List ℕ
 place_bytes t = uint t.1 ++ uint t.2
 
+-- they have eight bytes
 length-place_bytes : (t : Table × ℕ × ℕ) → length (place_bytes t) ≡ 8
 length-place_bytes t = omega (arith, length-append (uint t.1) (uint t.2), length-uint t.1, length-uint t.2)
 

@@ -3,7 +3,7 @@ use Rattle.dexspec.specs.Files.{Collection, definitions}
 use Rattle.dexspec.specs.Mentions.{mentions}
 use Rattle.dexspec.specs.Canonical.{ordered}
 use Rattle.dexspec.proofs.HeaderLaws.{AreFew}
-use Rattle.dexspec.proofs.Frames.{fits_few, canonical_frame}
+use Rattle.dexspec.proofs.Frames.{canonical_frame, fitting_frame}
 use Rattle.dexlaws_frame.specs.Laws.{HasFewSymbols}
 use Rattle.dexlaws_frame.proofs.frame_law.Goals as goal
 
@@ -20,4 +20,4 @@ pub returns-clause-frame : goal.returns-clause-frame
 returns-clause-frame c = λ K few most. canonical_frame K (few_rows K few) most
 
 pub returns-clause-fits : goal.returns-clause-fits
-returns-clause-fits c = λ caps K are fits most. canonical_frame K (fits_few caps K are fits) most
+returns-clause-fits c = fitting_frame

@@ -1,0 +1,270 @@
+//! What no contract says: values from outside, each public call once, and devices that fail.
+
+ghost use Rattle.std.specs.Prelude.{◌≤◌};
+
+use crate::{
+    Adler, Device, DeviceFault, Frame, Head, MapEntry, MapList, Refusal, Rows, Section, Sink,
+    Source, Table, adler, put_u16, put_u32, set_sums, u16_at, u32_at,
+};
+use byteorder::{ByteOrder, LittleEndian};
+use sha1::Sha1;
+use std::io;
+use std::io::{ErrorKind, Read, Write};
+use std::test::Fail;
+
+// The canonical file of no classes, made by another program.
+const EMPTY: [u8; 140] = [
+    0x64, 0x65, 0x78, 0x0a, 0x30, 0x33, 0x35, 0x00, 0xbe, 0x0b, 0x70, 0xd9, 0x1d, 0x9c, 0x3f, 0x88,
+    0x73, 0x0d, 0x0e, 0xd6, 0xca, 0xa3, 0x77, 0xd4, 0x52, 0x04, 0x65, 0xe7, 0x32, 0x2d, 0x36, 0x5a,
+    0x8c, 0x00, 0x00, 0x00, 0x70, 0x00, 0x00, 0x00, 0x78, 0x56, 0x34, 0x12, 0x00, 0x00, 0x00, 0x00,
+    0x00, 0x00, 0x00, 0x00, 0x70, 0x00, 0x00, 0x00, 0x00, 0x00, 0x00, 0x00, 0x00, 0x00, 0x00, 0x00,
+    0x00, 0x00, 0x00, 0x00, 0x00, 0x00, 0x00, 0x00, 0x00, 0x00, 0x00, 0x00, 0x00, 0x00, 0x00, 0x00,
+    0x00, 0x00, 0x00, 0x00, 0x00, 0x00, 0x00, 0x00, 0x00, 0x00, 0x00, 0x00, 0x00, 0x00, 0x00, 0x00,
+    0x00, 0x00, 0x00, 0x00, 0x00, 0x00, 0x00, 0x00, 0x1c, 0x00, 0x00, 0x00, 0x70, 0x00, 0x00, 0x00,
+    0x02, 0x00, 0x00, 0x00, 0x00, 0x00, 0x00, 0x00, 0x01, 0x00, 0x00, 0x00, 0x00, 0x00, 0x00, 0x00,
+    0x00, 0x10, 0x00, 0x00, 0x01, 0x00, 0x00, 0x00, 0x70, 0x00, 0x00, 0x00,
+];
+
+const NO_ROWS: Rows = Rows { size: 0, off: 0 };
+
+#[test]
+fn sums_of_known_messages(rt: HostRuntime) {
+    assert_eq!(rt; adler(b""), 0x0000_0001);
+    assert_eq!(rt; adler(b"a"), 0x0062_0062);
+    assert_eq!(rt; adler(b"Wikipedia"), 0x11e6_0398);
+    let mut sums = Adler::new();
+    sums.update(b"Wiki");
+    sums.update(b"pedia");
+    assert_eq!(rt; sums.value(), 0x11e6_0398);
+    let abc = [
+        0xa9, 0x99, 0x3e, 0x36, 0x47, 0x06, 0x81, 0x6a, 0xba, 0x3e, 0x25, 0x71, 0x78, 0x50, 0xc2,
+        0x6c, 0x9c, 0xd0, 0xd8, 0x9d,
+    ];
+    assert_eq!(rt; Sha1::digest(b"abc"), abc);
+}
+
+#[test]
+fn numbers_are_little_endian(rt: HostRuntime) -> Result<(), Fail> {
+    let mut bytes = Vec::new(rt.alloc());
+    put_u16(0x0102, &mut bytes)?;
+    put_u32(0x0304_0506, &mut bytes)?;
+    assert_eq!(rt; bytes.as_slice(), [2, 1, 6, 5, 4, 3].as_slice());
+    assert_eq!(rt; u16_at(&bytes, 0), 0x0102);
+    assert_eq!(rt; u32_at(&bytes, 2), 0x0304_0506);
+    Ok(())
+}
+
+#[test]
+fn writes_the_empty_file(rt: HostRuntime) -> Result<(), Fail> {
+    let mut file = Vec::new(rt.alloc());
+    let head = Head {
+        checksum: 0,
+        signature: [0; 20],
+        file_size: 140,
+        map_off: 112,
+        tables: [NO_ROWS; 6],
+        data_size: 28,
+        data_off: 112,
+    };
+    head.put(&mut file)?;
+    let entries = [
+        entry(Section::HeaderItem, 1, 0),
+        entry(Section::MapList, 1, 112),
+    ];
+    MapList { entries: &entries }.put(&mut file)?;
+    assert_eq!(rt; file.len(), 140);
+    set_sums(&mut file);
+    assert_eq!(rt; file.as_slice(), EMPTY.as_slice());
+    Ok(())
+}
+
+#[test]
+fn opens_the_empty_file(rt: HostRuntime) -> Result<(), Fail> {
+    let frame = Frame::open(&EMPTY).map_err(|_| "refused")?;
+    assert_eq!(rt; frame.bytes(), EMPTY.as_slice());
+    assert_eq!(rt; frame.size(Table::ClassDefs), 0);
+    assert_eq!(rt; frame.data_off(), 112);
+    assert_eq!(rt; frame.rest(112).len(), 28);
+    assert!(rt; frame.is_in_data(112, 28));
+    assert!(rt; !frame.is_in_data(112, 29));
+    assert!(rt; !frame.is_in_data(111, 1));
+    Ok(())
+}
+
+#[test]
+fn lends_rows(rt: HostRuntime) -> Result<(), Fail> {
+    let mut file = Vec::new(rt.alloc());
+    let mut tables = [NO_ROWS; 6];
+    tables[0] = Rows { size: 2, off: 112 };
+    let head = Head {
+        checksum: 0,
+        signature: [0; 20],
+        file_size: 160,
+        map_off: 120,
+        tables,
+        data_size: 40,
+        data_off: 120,
+    };
+    head.put(&mut file)?;
+    file.extend_from_slice(&[1, 2, 3, 4, 5, 6, 7, 8])?;
+    let entries = [
+        entry(Section::HeaderItem, 1, 0),
+        entry(Section::TableOf(Table::StringIds), 2, 112),
+        entry(Section::MapList, 1, 120),
+    ];
+    MapList { entries: &entries }.put(&mut file)?;
+    assert_eq!(rt; file.len(), 160);
+    set_sums(&mut file);
+    let frame = Frame::open(&file).map_err(|_| "refused")?;
+    assert_eq!(rt; frame.size(Table::StringIds), 2);
+    assert_eq!(rt; frame.row(Table::StringIds, 1), [5, 6, 7, 8].as_slice());
+    Ok(())
+}
+
+// A number of the file is another one, and the sums are right.
+#[test]
+fn refuses_a_changed_number(rt: HostRuntime) {
+    let cases = [
+        (0, 0x0a78_6566, 2, 0),
+        (4, 0x0061_3330, 2, 0),
+        (4, 0x0135_3330, 2, 0),
+        (4, 0x0036_3330, 3, 36),
+        (4, 0x0031_3430, 3, 41),
+        (32, 0, 4, 0),
+        (32, 0xffff_ffff, 4, 0),
+        (36, 0, 4, 0),
+        (40, 0xffff_ffff, 5, 0),
+        (44, 0xffff_ffff, 6, 0),
+        (48, 0xffff_ffff, 6, 0),
+        (56, 0xffff_ffff, 9, 0),
+        (60, 112, 9, 0),
+        (104, 0, 9, 0),
+        (108, 0, 9, 0),
+        (52, 0, 10, 0),
+        (52, 0xffff_ffff, 10, 0),
+        (112, 1, 10, 0),
+        (112, 3, 10, 0),
+        (116, 0x1001, 10, 0),
+        (120, 2, 10, 0),
+        (128, 0, 10, 0),
+        (128, 0x1004, 10, 0),
+        (136, 116, 10, 0),
+    ];
+    for (at, value, number, place) in cases {
+        assert!(rt; at <= 136usize);
+        let refusal = refusal_at(EMPTY, at, value);
+        assert_eq!(rt; refusal, Some(Refusal { number, place }), "{value} at {at}");
+    }
+}
+
+fn refusal_at(mut file: [u8; 140], at: usize, value: u32) -> Option<Refusal>
+    requires { at ≤ 136 }
+{
+    LittleEndian::write_u32(&mut file[at..], value);
+    set_sums(&mut file);
+    Frame::open(&file).err()
+}
+
+#[test]
+fn refuses_wrong_sums_and_lengths(rt: HostRuntime) {
+    for (len, number) in [(0, 1), (111, 1), (112, 4), (139, 4)] {
+        assert!(rt; len <= 140usize);
+        let refusal = Frame::open(&EMPTY[..len]).err();
+        assert_eq!(rt; refusal, Some(Refusal { number, place: 0 }), "{len}");
+    }
+    let mut file = EMPTY;
+    file[8] = 0;
+    assert_eq!(rt;
+        Frame::open(&file).err(),
+        Some(Refusal {
+            number: 7,
+            place: 0
+        })
+    );
+    let mut file = EMPTY;
+    file[12] = 0xff;
+    let checksum = adler(&file[12..]);
+    LittleEndian::write_u32(&mut file[8..], checksum);
+    assert_eq!(rt;
+        Frame::open(&file).err(),
+        Some(Refusal {
+            number: 8,
+            place: 0
+        })
+    );
+}
+
+fn entry(section: Section, size: u32, off: u32) -> MapEntry {
+    MapEntry { section, size, off }
+}
+
+// Gives one byte at a time, and fails after so many calls.
+#[derive(Drop)]
+struct Slow<'a> {
+    bytes: &'a [u8],
+    calls: usize,
+    kind: ErrorKind,
+}
+
+impl<'a> Read for Slow<'a> {
+    fn read(&mut self, buf: &mut [u8]) -> io::Result<usize> {
+        if self.calls == 0 {
+            return Err(self.kind.into());
+        }
+        self.calls -= 1;
+        let n = buf.len().min(1);
+        self.bytes.read(&mut buf[..n])
+    }
+}
+
+// Takes no byte.
+#[derive(Drop)]
+struct Full;
+
+impl Write for Full {
+    fn write(&mut self, _buf: &[u8]) -> io::Result<usize> {
+        Ok(0)
+    }
+
+    fn flush(&mut self) -> io::Result<()> {
+        Ok(())
+    }
+}
+
+#[test]
+fn a_device_moves_its_bytes(rt: HostRuntime) -> Result<(), Fail> {
+    let mut input = Device::new(Slow {
+        bytes: b"ab",
+        calls: 9,
+        kind: ErrorKind::Interrupted,
+    });
+    let mut out = Device::new(Vec::new(rt.alloc()));
+    for want in [1, 1, 0] {
+        assert!(rt; !Source::failed(&input));
+        assert!(rt; !Sink::failed(&out));
+        let mut buf = [0; 8];
+        let read = Source::read(&mut input, &mut buf);
+        assert_eq!(rt; read, Ok(want));
+        if want > 0 {
+            assert_eq!(rt; Sink::write(&mut out, &buf[..1]), Ok(1));
+        }
+    }
+    assert_eq!(rt; out.into_inner().as_slice(), b"ab".as_slice());
+    Ok(())
+}
+
+#[test]
+fn a_device_fails(rt: HostRuntime) {
+    for kind in [ErrorKind::BrokenPipe, ErrorKind::Interrupted] {
+        let mut input = Device::new(Slow {
+            bytes: b"ab",
+            calls: 0,
+            kind,
+        });
+        assert_eq!(rt; Source::read(&mut input, &mut [0; 8]), Err(DeviceFault));
+        assert!(rt; Source::failed(&input));
+    }
+    let mut out = Device::new(Full);
+    assert_eq!(rt; Sink::write(&mut out, b"a"), Err(DeviceFault));
+    assert!(rt; Sink::failed(&out));
+}

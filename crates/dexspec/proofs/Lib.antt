@@ -53,6 +53,16 @@ pub mod HeaderLaws
 pub mod MapEntries
 pub mod MapLaws
 pub mod Frames
+pub mod RankOrder
+pub mod Formed
+pub mod NormalRows
+pub mod UseItems
+pub mod NormalLists
+pub mod ClassPlaces
+pub mod NormalClasses
+pub mod PlainItems
+pub mod PlainReadable
+pub mod NormalForm
 pub mod Uses
 pub mod RowsRead
 pub mod OneCode

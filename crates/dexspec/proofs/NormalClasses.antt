@@ -1,0 +1,341 @@
+-- The class rows in the file of definitions: each is the definition of its place, where what belongs to it stands
+-- where its row says; condition 16.
+use Rattle.std.proofs.Common.{◌≡◌, ℕ, ◌+◌, ◌^◌, ◌<◌, List, [], ◌∷◌, ◌++◌, length, get_or, map, refl, sym, ap, ◌∙◌, subst, arith, inl, inr, All, true}
+use Rattle.std.specs.Prelude.{slice_index, ◌==◌, if◌then◌else◌, Option, Some, None, IfSome, option_to_list}
+use Rattle.std.specs.List.{Contains, AllZip, filter, flat_map}
+use Rattle.std.specs.Option.{option_map_or}
+use Rattle.std.proofs.lemmas.Bool.{cond-false, ne_eqb}
+use Rattle.std.proofs.lemmas.Bool.Decides.{Decides-eqb}
+use Rattle.std.proofs.lemmas.Slice.Eq.{slice_eq-Decides}
+use Rattle.std.proofs.lemmas.List.{length-map, map-append}
+use Rattle.std.proofs.lemmas.List.Elements.{Contains-get_or, Contains-append_left, Contains-append_right, Contains-append_cases, All-map}
+use Rattle.dexspec.specs.Lists.{OrNone, AreDistinct}
+use Rattle.dexspec.specs.Bytes.{uint, Stands}
+use Rattle.dexspec.specs.Texts.{Text, text_cmp, same_text}
+use Rattle.dexspec.specs.Names.{IsClass}
+use Rattle.dexspec.specs.Symbols.{TextSymbol, TypeSymbol}
+use Rattle.dexspec.specs.Header.{ClassDefs, table_size}
+use Rattle.dexspec.specs.Rows.{row_at, StringRow, TypeListAt}
+use Rattle.dexspec.specs.Values.{NoValues}
+use Rattle.dexspec.specs.Annotations.{Directory, DirectoryAt, no_directory}
+use Rattle.dexspec.specs.ClassData.{ClassData, ClassDataAt, no_class_data}
+use Rattle.dexspec.specs.Classes.{Body, Definition, ClassRow, ClassTypeRow, ClassListAt, IndexOrNone, StaticValuesAt, field_def, MakesMethod, class_idx, access_flags, superclass_idx, interfaces_off, source_file_idx, annotations_off, class_data_off, static_values_off, no_index}
+use Rattle.dexspec.specs.Mentions.{mentions, symbols_of, optional_type, optional_text}
+use Rattle.dexspec.specs.Depth.{parents, is_defined, IsAcyclic, depth, in_class_order}
+use Rattle.dexspec.specs.WellFormed.{AreWellFormed}
+use Rattle.dexspec.specs.Accepted.{parent_indices, IsDefinedBefore, HasClass}
+use Rattle.dexspec.specs.Spellings.{text_index, type_index, class_data_bytes, encoded_array_bytes}
+use Rattle.dexspec.specs.Placing.{Ordered, own_items, offsets, static_values_uses, class_data_uses, directory_uses}
+use Rattle.dexspec.specs.Canonical.{ordered, ClassOffsets}
+use Rattle.dexspec.proofs.Stands.{stands_at}
+use Rattle.dexspec.proofs.ByteNumbers.{uint_at-stands}
+use Rattle.dexspec.proofs.Members.{AreAmong, Contains-first, Contains-later, Contains-flat_map, Contains-filter, list_any-member}
+use Rattle.dexspec.proofs.SymbolOrders.{text_total, text_exact}
+use Rattle.dexspec.proofs.Growth.{mentions-rising}
+use Rattle.dexspec.proofs.MentionMembers.{texts-listed, types-listed}
+use Rattle.dexspec.proofs.Depths.{Contains-map, depth-parent}
+use Rattle.dexspec.proofs.Placements.{array_section, array_offsets, class_data_section, class_data_offsets, code_offsets, directory_section, directory_offsets, set_offsets, ref_list_offsets}
+use Rattle.dexspec.proofs.Tables.{stands_here, stands_next}
+use Rattle.dexspec.proofs.Laying.{Laid, class_places}
+use Rattle.dexspec.proofs.RankOrder.{rank_one}
+use Rattle.dexspec.proofs.UseItems.{LeadsToList, interfaces_lead, uses_small}
+use Rattle.dexspec.proofs.NormalRows.{IsNormal, text_small, string_ranked, type_ranked}
+use Rattle.dexspec.proofs.NormalLists.{type_small, list_or_none, list_indices, list_small}
+use Rattle.dexspec.proofs.ClassPlaces.{in_class_order-only, class_names-apart, class_depths-before}
+
+-- ---- what a class row names occurs in the definition
+
+name_occurs : (d : Definition) → Contains (symbols_of d) (TypeSymbol d.0)
+unfolding symbols_of
+name_occurs d = Contains-first (TypeSymbol d.0) _
+
+superclass_occurs : (d : Definition) (t : Text) → Contains (option_to_list d.1.superclass) t → Contains (symbols_of d) (TypeSymbol t)
+unfolding symbols_of
+superclass_occurs d t c =
+    Contains-later (TypeSymbol d.0) (TypeSymbol t) _ (Contains-append_left (optional_type d.1.superclass) _ (TypeSymbol t) (Contains-map TypeSymbol (option_to_list d.1.superclass) t c))
+
+interface_occurs : (d : Definition) (t : Text) → Contains d.1.interfaces t → Contains (symbols_of d) (TypeSymbol t)
+unfolding symbols_of
+interface_occurs d t c =
+    Contains-later (TypeSymbol d.0) (TypeSymbol t) _ (Contains-append_right (optional_type d.1.superclass) _ (TypeSymbol t)
+    (Contains-append_left (map TypeSymbol d.1.interfaces) _ (TypeSymbol t) (Contains-map TypeSymbol d.1.interfaces t c)))
+
+source_occurs : (d : Definition) (s : Text) → Contains (option_to_list d.1.source) s → Contains (symbols_of d) (TextSymbol s)
+unfolding symbols_of
+source_occurs d s c =
+    Contains-later (TypeSymbol d.0) (TextSymbol s) _ (Contains-append_right (optional_type d.1.superclass) _ (TextSymbol s)
+    (Contains-append_right (map TypeSymbol d.1.interfaces) _ (TextSymbol s)
+    (Contains-append_left (optional_text d.1.source) _ (TextSymbol s) (Contains-map TextSymbol (option_to_list d.1.source) s c))))
+
+-- a type that occurs is mentioned
+type_mentioned : (D : List Definition) (d : Definition) (t : Text) → Contains D d → Contains (symbols_of d) (TypeSymbol t) → Contains (mentions D).types t
+type_mentioned D d t c o = types-listed D t (record { definition = d; symbol = TypeSymbol t; member = c; occurs = o; part = Contains-first t [] })
+
+-- and so is a text
+text_mentioned : (D : List Definition) (d : Definition) (s : Text) → Contains D d → Contains (symbols_of d) (TextSymbol s) → Contains (mentions D).texts s
+text_mentioned D d s c o = texts-listed D s (record { definition = d; symbol = TextSymbol s; member = c; occurs = o; part = Contains-first s [] })
+
+-- ---- what stands at the offsets of a class row
+
+-- what belongs to a class stands at the offsets that its row holds
+pub record BelongsAt (b : List ℕ) (c : Body) (offs : ClassOffsets) : Type 0 where
+  pub directory : Directory
+  pub directory_is : OrNone DirectoryAt no_directory b offs.annotations directory
+  pub members : ClassData
+  pub members_are : OrNone ClassDataAt no_class_data b offs.class_data members
+  pub annotations : c.annotations ≡ directory.own
+  pub static_fields : c.static_fields ≡ map (field_def directory) members.static_fields
+  pub instance_fields : c.instance_fields ≡ map (field_def directory) members.instance_fields
+  pub direct_methods : AllZip (MakesMethod b directory) members.direct_methods c.direct_methods
+  pub virtual_methods : AllZip (MakesMethod b directory) members.virtual_methods c.virtual_methods
+  pub static_values : OrNone StaticValuesAt NoValues b offs.static_values c.static_values
+
+-- the offset of a directory fits four bytes
+directory_small : (K : Ordered) (b : List ℕ) → Laid K b → (r : ℕ) → slice_index (directory_offsets K) r < 2 ^ 32
+unfolding directory_offsets
+directory_small K b h r =
+    uses_small (directory_uses K (set_offsets K) (ref_list_offsets K)) (offsets (directory_section K)) r
+    (λ k lt. omega (arith, (h.directories k [] lt).in_data.within, h.small))
+
+-- and that of class data
+class_data_small : (K : Ordered) (b : List ℕ) → Laid K b → (r : ℕ) → slice_index (class_data_offsets K) r < 2 ^ 32
+unfolding class_data_offsets
+class_data_small K b h r =
+    uses_small (class_data_uses K (code_offsets K)) (offsets (class_data_section K)) r
+    (λ k lt. omega (arith, (h.class_data k [] (omega (arith, lt, length-map (own_items (class_data_uses K (code_offsets K))).written (λ (p : Definition × List ℕ). class_data_bytes K.pools p.0 p.1)))).in_data.within, h.small))
+
+-- and that of static values
+array_small : (K : Ordered) (b : List ℕ) → Laid K b → (r : ℕ) → slice_index (array_offsets K) r < 2 ^ 32
+unfolding array_offsets
+array_small K b h r =
+    uses_small (static_values_uses K) (offsets (array_section K)) r
+    (λ k lt. omega (arith, (h.arrays k [] (omega (arith, lt, length-map (own_items (static_values_uses K)).written (encoded_array_bytes K.pools)))).in_data.within, h.small))
+
+-- a text is the same as itself
+same_itself : (s : Text) → same_text s s ≡ true
+same_itself s = (slice_eq-Decides Decides-eqb s s (same_text s s) refl).1 refl
+
+-- definitions of different names that can be in one file, and the bytes of it
+pub record AreNormal (D : List Definition) (b : List ℕ) : Type 0 where
+  pub file : IsNormal D b
+  pub formed : AreWellFormed D
+  pub names : AreDistinct (map (λ d. d.0) D)
+  pub acyclic : IsAcyclic D
+
+module _ (D : List Definition) (b : List ℕ) (n : AreNormal D b) where
+  -- the r-th class is a definition
+  class_member : (r : ℕ) (d : Definition) → r < length (in_class_order D) → Contains D (get_or (in_class_order D) r d)
+  class_member r d lt = in_class_order-only D (get_or (in_class_order D) r d) (Contains-get_or (in_class_order D) r d lt)
+
+  -- an index of what there is, or of nothing
+  abbrev index_of : {X : Type 0} → (X → ℕ) → Option X → ℕ
+  index_of f x = option_map_or f x no_index
+
+  -- the numbers in a class's row
+  record ClassNumbers (r : ℕ) (d : Definition) : Type 0 where
+    own : class_idx b r ≡ type_index (mentions D) d.0
+    access : access_flags b r ≡ d.1.flags
+    parent : superclass_idx b r ≡ index_of (type_index (mentions D)) d.1.superclass
+    list : LeadsToList (ordered D) b (interfaces_off b r) d.1.interfaces
+    file_of : source_file_idx b r ≡ index_of (text_index (mentions D)) d.1.source
+    directory : annotations_off b r ≡ (class_places (ordered D) r).annotations
+    members : class_data_off b r ≡ (class_places (ordered D) r).class_data
+    values : static_values_off b r ≡ (class_places (ordered D) r).static_values
+
+  -- an index of a type, or of none, fits four bytes
+  optional_type_small : (d : Definition) (t : Option Text) → Contains D d → ((s : Text) → Contains (option_to_list t) s → Contains (symbols_of d) (TypeSymbol s)) → index_of (type_index (mentions D)) t < 2 ^ 32
+  optional_type_small d None c f = omega arith
+  optional_type_small d (Some t) c f = omega (arith, type_small D b n.file t (type_mentioned D d t c (f t (Contains-first t []))))
+
+  -- and so does one of a text
+  optional_text_small : (d : Definition) (s : Option Text) → Contains D d → ((t : Text) → Contains (option_to_list s) t → Contains (symbols_of d) (TextSymbol t)) → index_of (text_index (mentions D)) s < 2 ^ 32
+  optional_text_small d None c f = omega arith
+  optional_text_small d (Some s) c f = text_small D b n.file s (text_mentioned D d s c (f s (Contains-first s [])))
+
+  class_numbers : (r : ℕ) (e : Definition) → r < length (in_class_order D) → ClassNumbers r (get_or (in_class_order D) r e)
+  class_numbers r e lt =
+      let d = get_or (in_class_order D) r e in
+      let c = class_member r e lt in
+      let h = n.file.laid.class_row r e lt in
+      let offs = class_places (ordered D) r in
+      let lead = interfaces_lead (ordered D) b n.file.laid r e lt in
+      let own = type_index (mentions D) d.0 in
+      let parent = index_of (type_index (mentions D)) d.1.superclass in
+      let source = index_of (text_index (mentions D)) d.1.source in
+      let r6 = uint offs.class_data ++ uint offs.static_values in
+      let r5 = uint offs.annotations ++ r6 in
+      let r4 = uint source ++ r5 in
+      let r3 = uint offs.interfaces ++ r4 in
+      let r2 = uint parent ++ r3 in
+      let r1 = uint d.1.flags ++ r2 in
+      let at = row_at b ClassDefs r in
+      let h1 : Stands b (row_at b ClassDefs r + 4) r1 = stands_next own r1 h in
+      let h2 : Stands b (row_at b ClassDefs r + 8) r2 = stands_at (omega arith) (stands_next d.1.flags r2 h1) in
+      let h3 : Stands b (row_at b ClassDefs r + 12) r3 = stands_at (omega arith) (stands_next parent r3 h2) in
+      let h4 : Stands b (row_at b ClassDefs r + 16) r4 = stands_at (omega arith) (stands_next offs.interfaces r4 h3) in
+      let h5 : Stands b (row_at b ClassDefs r + 20) r5 = stands_at (omega arith) (stands_next source r5 h4) in
+      let h6 : Stands b (row_at b ClassDefs r + 24) r6 = stands_at (omega arith) (stands_next offs.annotations r6 h5) in
+      let h7 : Stands b (row_at b ClassDefs r + 28) (uint offs.static_values) = stands_at (omega arith) (stands_next offs.class_data (uint offs.static_values) h6) in
+      let at_list : interfaces_off b r ≡ offs.interfaces = uint_at-stands (list_small D b n.file offs.interfaces d.1.interfaces lead) (stands_here (uint offs.interfaces) r4 h3) in
+      record {
+        own = uint_at-stands (omega (arith, type_small D b n.file d.0 (type_mentioned D d d.0 c (name_occurs d)))) (stands_here (uint own) r1 h);
+        access = uint_at-stands (n.formed d c).flags (stands_here (uint d.1.flags) r2 h1);
+        parent = uint_at-stands (optional_type_small d d.1.superclass c (superclass_occurs d)) (stands_here (uint parent) r3 h2);
+        list = subst (λ o. LeadsToList (ordered D) b o d.1.interfaces) (sym at_list) lead;
+        file_of = uint_at-stands (optional_text_small d d.1.source c (source_occurs d)) (stands_here (uint source) r5 h4);
+        directory = uint_at-stands (directory_small (ordered D) b n.file.laid r) (stands_here (uint offs.annotations) r6 h5);
+        members = uint_at-stands (class_data_small (ordered D) b n.file.laid r) (stands_here (uint offs.class_data) (uint offs.static_values) h6);
+        values = uint_at-stands (array_small (ordered D) b n.file.laid r) h7;
+      }
+
+  -- ---- what the numbers name
+
+  -- a mentioned class stands at its rank
+  class_ranked : (t : Text) → IsClass t → Contains (mentions D).types t → ClassTypeRow b (type_index (mentions D) t) t
+  class_ranked t is c = record { row = type_ranked D b n.file t c; class = is }
+
+  own_class : (r : ℕ) (e : Definition) → r < length (in_class_order D) → ClassTypeRow b (class_idx b r) (get_or (in_class_order D) r e).0
+  own_class r e lt =
+      let d = get_or (in_class_order D) r e in
+      let c = class_member r e lt in
+      subst (λ k. ClassTypeRow b k d.0) (sym (class_numbers r e lt).own) (class_ranked d.0 (n.formed d c).name (type_mentioned D d d.0 c (name_occurs d)))
+
+  optional_class : (d : Definition) (t : Option Text) → Contains D d → IfSome t IsClass → ((s : Text) → Contains (option_to_list t) s → Contains (symbols_of d) (TypeSymbol s)) → IndexOrNone ClassTypeRow b (index_of (type_index (mentions D)) t) t
+  optional_class d None c is f = refl
+  optional_class d (Some t) c is f = class_ranked t is (type_mentioned D d t c (f t (Contains-first t [])))
+
+  optional_string : (d : Definition) (s : Option Text) → Contains D d → ((t : Text) → Contains (option_to_list s) t → Contains (symbols_of d) (TextSymbol t)) → IndexOrNone StringRow b (index_of (text_index (mentions D)) s) s
+  optional_string d None c f = refl
+  optional_string d (Some s) c f = string_ranked D b n.file s (text_mentioned D d s c (f s (Contains-first s [])))
+
+  own_superclass : (r : ℕ) (e : Definition) → r < length (in_class_order D) → IndexOrNone ClassTypeRow b (superclass_idx b r) (get_or (in_class_order D) r e).1.superclass
+  own_superclass r e lt =
+      let d = get_or (in_class_order D) r e in
+      let c = class_member r e lt in
+      subst (λ k. IndexOrNone ClassTypeRow b k d.1.superclass) (sym (class_numbers r e lt).parent) (optional_class d d.1.superclass c (n.formed d c).superclass (superclass_occurs d))
+
+  own_source : (r : ℕ) (e : Definition) → r < length (in_class_order D) → IndexOrNone StringRow b (source_file_idx b r) (get_or (in_class_order D) r e).1.source
+  own_source r e lt =
+      let d = get_or (in_class_order D) r e in
+      let c = class_member r e lt in
+      subst (λ k. IndexOrNone StringRow b k d.1.source) (sym (class_numbers r e lt).file_of) (optional_string d d.1.source c (source_occurs d))
+
+  interfaces_mentioned : (d : Definition) → Contains D d → AreAmong d.1.interfaces (mentions D).types
+  interfaces_mentioned d c t l = type_mentioned D d t c (interface_occurs d t l)
+
+  -- classes where types are
+  class_list : (o : ℕ) (ts : List Text) → All IsClass ts → OrNone TypeListAt [] b o ts → OrNone ClassListAt [] b o ts
+  class_list o ts are (inl h) = inl h
+  class_list o ts are (inr h) = inr (h.0, record { list = h.1; classes = are })
+
+  own_interfaces : (r : ℕ) (e : Definition) → r < length (in_class_order D) → OrNone ClassListAt [] b (interfaces_off b r) (get_or (in_class_order D) r e).1.interfaces
+  own_interfaces r e lt =
+      let d = get_or (in_class_order D) r e in
+      let c = class_member r e lt in
+      class_list (interfaces_off b r) d.1.interfaces (n.formed d c).interfaces (list_or_none D b n.file (interfaces_off b r) d.1.interfaces (interfaces_mentioned d c) (class_numbers r e lt).list)
+
+  -- where the offsets of a row lead
+  pub record RowOffsets (r : ℕ) : Type 0 where
+    pub directory : annotations_off b r ≡ (class_places (ordered D) r).annotations
+    pub members : class_data_off b r ≡ (class_places (ordered D) r).class_data
+    pub values : static_values_off b r ≡ (class_places (ordered D) r).static_values
+
+  pub row_offsets : (r : ℕ) (e : Definition) → r < length (in_class_order D) → RowOffsets r
+  row_offsets r e lt = let nums = class_numbers r e lt in record { directory = nums.directory; members = nums.members; values = nums.values }
+
+  -- row r is the r-th class, where what belongs to it stands at its offsets
+  pub class_stands : (r : ℕ) (e : Definition) → r < length (in_class_order D) → BelongsAt b (get_or (in_class_order D) r e).1 (class_places (ordered D) r)
+      → ClassRow b r (get_or (in_class_order D) r e).0 (get_or (in_class_order D) r e).1
+  class_stands r e lt has =
+      let nums = class_numbers r e lt in
+      record {
+        row = omega (arith, lt, n.file.laid.count ClassDefs);
+        class = own_class r e lt;
+        flags = sym nums.access;
+        superclass = own_superclass r e lt;
+        interfaces = own_interfaces r e lt;
+        source = own_source r e lt;
+        directory = has.directory;
+        directory_is = subst (λ o. OrNone DirectoryAt no_directory b o has.directory) (sym nums.directory) has.directory_is;
+        members = has.members;
+        members_are = subst (λ o. OrNone ClassDataAt no_class_data b o has.members) (sym nums.members) has.members_are;
+        annotations = has.annotations;
+        static_fields = has.static_fields;
+        instance_fields = has.instance_fields;
+        direct_methods = has.direct_methods;
+        virtual_methods = has.virtual_methods;
+        static_values = subst (λ o. OrNone StaticValuesAt NoValues b o (get_or (in_class_order D) r e).1.static_values) (sym nums.values) has.static_values;
+      }
+
+  -- ---- condition 16
+
+  -- the index of a superclass, if there is one
+  optional_index : (d : Definition) (t : Option Text) → Contains D d → ((s : Text) → Contains (option_to_list t) s → Contains (symbols_of d) (TypeSymbol s))
+      → (if index_of (type_index (mentions D)) t == no_index then [] else index_of (type_index (mentions D)) t ∷ []) ≡ map (type_index (mentions D)) (option_to_list t)
+  optional_index d None c f = refl
+  optional_index d (Some t) c f =
+      let small = type_small D b n.file t (type_mentioned D d t c (f t (Contains-first t []))) in
+      cond-false (type_index (mentions D) t == no_index) [] (type_index (mentions D) t ∷ []) (ne_eqb (type_index (mentions D) t) no_index (λ e. omega (arith, small, e)))
+
+  -- the indices of the parents
+  parents_read : (r : ℕ) (e : Definition) → r < length (in_class_order D) → parent_indices b r ≡ map (type_index (mentions D)) (parents (get_or (in_class_order D) r e).1)
+  parents_read r e lt =
+      let d = get_or (in_class_order D) r e in
+      let c = class_member r e lt in
+      let nums = class_numbers r e lt in
+      let first : (if superclass_idx b r == no_index then [] else superclass_idx b r ∷ []) ≡ map (type_index (mentions D)) (option_to_list d.1.superclass) =
+      ap (λ k. if k == no_index then [] else k ∷ []) nums.parent ∙ optional_index d d.1.superclass c (superclass_occurs d) in
+      let rest = list_indices D b n.file (interfaces_off b r) d.1.interfaces (interfaces_mentioned d c) nums.list in
+      (λ k. first k ++ rest k) ∙ sym (map-append (type_index (mentions D)) (option_to_list d.1.superclass) d.1.interfaces)
+
+  -- a parent is mentioned
+  parent_mentioned : (d : Definition) (t : Text) → Contains D d → Contains (parents d.1) t → Contains (mentions D).types t
+  parent_mentioned d t c p = elim (Contains-append_cases (option_to_list d.1.superclass) d.1.interfaces t p) [
+    | inl s ↦ type_mentioned D d t c (superclass_occurs d t s)
+    | inr i ↦ type_mentioned D d t c (interface_occurs d t i)
+  ]
+
+  -- a name of a definition is defined
+  name_defined : (d : Definition) → Contains D d → is_defined D d.0 ≡ true
+  name_defined d c = list_any-member (λ (x : Definition). same_text x.0 d.0) D d c (same_itself d.0)
+
+  -- a parent that is defined is less deep
+  parent_less : (d p : Definition) → Contains D d → Contains D p → Contains (parents d.1) p.0 → depth D p.0 < depth D d.0
+  parent_less d p c m l =
+      let named = λ (x : Definition). same_text x.0 d.0 in
+      let parents_of = λ (x : Definition). parents x.1 in
+      let listed = Contains-flat_map parents_of (filter named D) d p.0 (Contains-filter named D d c (same_itself d.0)) l in
+      depth-parent D d.0 p.0 (n.acyclic d.0 (name_defined d c)) (Contains-filter (is_defined D) (flat_map parents_of (filter named D)) p.0 listed (name_defined p m))
+
+  -- a parent that the file defines stands before
+  parent_before : (r : ℕ) (e : Definition) (t : Text) → r < length (in_class_order D) → Contains (parents (get_or (in_class_order D) r e).1) t → IsDefinedBefore b r (type_index (mentions D) t)
+  parent_before r e t lt l k within same =
+      let d = get_or (in_class_order D) r e in
+      let c = class_member r e lt in
+      let inside : k < length (in_class_order D) = omega (arith, within, n.file.laid.count ClassDefs) in
+      let p = get_or (in_class_order D) k e in
+      let m = class_member k e inside in
+      let name : p.0 ≡ t =
+      rank_one text_cmp text_total text_exact (mentions D).types (mentions-rising D).types p.0 t (type_mentioned D p p.0 m (name_occurs p)) (parent_mentioned d t c l) (sym (class_numbers k e inside).own ∙ same) in
+      (k, class_depths-before D k r e inside (parent_less d p c m (subst (Contains (parents d.1)) (sym name) l)), same)
+
+  -- 16 Classes
+  pub has_class : (r : ℕ) (e : Definition) → r < table_size b ClassDefs → HasClass b r
+  has_class r e lt =
+      let inside : r < length (in_class_order D) = omega (arith, lt, n.file.laid.count ClassDefs) in
+      let d = get_or (in_class_order D) r e in
+      let c = class_member r e inside in
+      record {
+        name = d.0;
+        is = own_class r e inside;
+        first = λ k before same.
+            let lower : k < length (in_class_order D) = omega (arith, before, inside) in
+            let p = get_or (in_class_order D) k e in
+            class_names-apart D k r e before inside (rank_one text_cmp text_total text_exact (mentions D).types (mentions-rising D).types p.0 d.0
+            (type_mentioned D p p.0 (class_member k e lower) (name_occurs p)) (type_mentioned D d d.0 c (name_occurs d)) (sym (class_numbers k e lower).own ∙ same ∙ (class_numbers r e inside).own));
+        superclass = (d.1.superclass, own_superclass r e inside);
+        interfaces = (d.1.interfaces, own_interfaces r e inside);
+        source = (d.1.source, own_source r e inside);
+        parents = subst (All (IsDefinedBefore b r)) (sym (parents_read r e inside))
+            (All-map (IsDefinedBefore b r) (type_index (mentions D)) (parents d.1) (λ k t le. parent_before r e (get_or (parents d.1) k t) inside (Contains-get_or (parents d.1) k t le)));
+      }

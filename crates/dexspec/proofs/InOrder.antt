@@ -17,7 +17,7 @@ abbrev pub Rises : {K : Type 0} → (K → K → Ordering) → List K → Type 0
 Rises R [] = Unit {0}
 Rises {K} R (x ∷ xs) = ((y : K) → Contains xs y → R x y ≡ Less) × Rises R xs
 
-less_is : (o : Ordering) → is_lt o ≡ true → o ≡ Less
+pub less_is : (o : Ordering) → is_lt o ≡ true → o ≡ Less
 less_is Less e = refl
 less_is Equal e = absurd cc
 less_is Greater e = absurd cc

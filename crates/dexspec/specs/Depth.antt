@@ -40,7 +40,7 @@ abbrev pub depth_to : List Definition → ℕ → Text → ℕ
 depth_to D zero name = 0
 depth_to D (suc n) name = cond (is_below D (suc n) name) 0 1 + depth_to D n name
 
--- the depth of a name that has one: it is less than the number of definitions
+-- the depth of a name that has one; that of a defined name is less than the number of definitions
 unfoldable pub depth : List Definition → Text → ℕ
 depth D name = depth_to D (length D) name
 

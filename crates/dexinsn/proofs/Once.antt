@@ -1,0 +1,163 @@
+-- Units have one answer only: they are cut in one way, which ends at their end or breaks at one unit.
+use Rattle.std.proofs.Common.{◌≡◌, ℕ, ◌+◌, ◌-◌, ◌<◌, ◌≤◌, Bool, not, cond, List, [], ◌∷◌, length, drop, Some, None, Result, Ok, Err, refl, ap, sym, ◌∙◌, subst, arith, add-zero, add_assoc, zero-add, length-drop}
+use Rattle.std.specs.Bool.{IsTrue}
+use Rattle.std.specs.List.{All, find}
+use Rattle.std.specs.Option.{option_map}
+use Rattle.std.proofs.lemmas.List.Elements.{All-head, All-tail}
+use Rattle.std.proofs.lemmas.Option.{same_Some}
+use Rattle.dexspec.specs.Pieces.{Cut, AreCut, BreaksAt, IsCode, has_right_targets, piece_size}
+use Rattle.dexinsn.specs.declared.code.CodeFault.{CodeFault}
+use Rattle.dexinsn.specs.declared.code.CodeFault.TheVariants.{Empty, Piece, Target, Memory}
+use Rattle.dexinsn.specs.Split.{units_of_all, first_astray, first_astray_of, GoesAstrayAt, IsFault, IsCutFault, IsAnswer, IsAnswered}
+use Rattle.dexinsn.proofs.Sizes.{piece_size-fits}
+
+-- the pieces, and what is left, where no piece begins
+record Ends (at : ℕ) (us : List ℕ) (cs : List Cut) (rest : List ℕ) : Type 0 where
+  cut : AreCut at us cs rest
+  none : piece_size (at + units_of_all cs) rest ≡ None
+
+nothing_more : (at : ℕ) (us rest : List ℕ) (n : ℕ) → us ≡ rest → piece_size (at + 0) rest ≡ None → piece_size at us ≡ Some n → ⊥
+nothing_more at us rest n same none some =
+    let here : piece_size at us ≡ None = ap (piece_size at) same ∙ ap (λ (p : ℕ). piece_size p rest) (sym (add-zero at)) ∙ none in
+    let both : None ≡ Some n = sym here ∙ some in
+    cc
+
+same_cut : (c d : Cut) → c.unit ≡ d.unit → c.units ≡ d.units → c ≡ d
+same_cut c d unit units = ap (λ (n : ℕ). record { unit = n; units = c.units }) unit ∙ ap (λ (n : ℕ). record { unit = d.unit; units = n }) units
+
+same_cons : (c d : Cut) (cs ds : List Cut) → c ≡ d → cs ≡ ds → (c ∷ cs) ≡ (d ∷ ds)
+same_cons c d cs ds first rest = ap (λ (b : Cut). b ∷ cs) first ∙ ap (λ (bs : List Cut). d ∷ bs) rest
+
+cut_once : (at : ℕ) (us : List ℕ) (cs ds : List Cut) (rest left : List ℕ) → Ends at us cs rest → Ends at us ds left → cs ≡ ds
+cut_once at us [] [] rest left e f = refl
+cut_once at us [] (d ∷ ds) rest left e f = absurd (nothing_more at us rest d.units e.cut e.none f.cut.1)
+cut_once at us (c ∷ cs) [] rest left e f = absurd (nothing_more at us left c.units f.cut f.none e.cut.1)
+cut_once at us (c ∷ cs) (d ∷ ds) rest left e f =
+    let units : c.units ≡ d.units = same_Some c.units d.units (sym e.cut.1 ∙ f.cut.1) in
+    let unit : c.unit ≡ d.unit = e.cut.0 ∙ sym f.cut.0 in
+    let on : Ends (at + c.units) (drop c.units us) cs rest = record { cut = e.cut.2; none = ap (λ (p : ℕ). piece_size p rest) (add_assoc at c.units (units_of_all cs)) ∙ e.none } in
+    let also : Ends (at + d.units) (drop d.units us) ds left = record { cut = f.cut.2; none = ap (λ (p : ℕ). piece_size p left) (add_assoc at d.units (units_of_all ds)) ∙ f.none } in
+    same_cons c d cs ds (same_cut c d unit units)
+    (cut_once (at + c.units) (drop c.units us) cs ds rest left on (subst (λ (n : ℕ). Ends (at + n) (drop n us) ds left) (sym units) also))
+
+rest_once : (at : ℕ) (us : List ℕ) (cs : List Cut) (rest left : List ℕ) → AreCut at us cs rest → AreCut at us cs left → rest ≡ left
+rest_once at us [] rest left e f = sym e ∙ f
+rest_once at us (c ∷ cs) rest left e f = rest_once (at + c.units) (drop c.units us) cs rest left e.2 f.2
+
+reaches : (at : ℕ) (us : List ℕ) (cs : List Cut) (rest : List ℕ) → AreCut at us cs rest → length us ≡ units_of_all cs + length rest
+reaches at us [] rest e = ap length e ∙ sym (zero-add (length rest))
+reaches at us (c ∷ cs) rest e =
+    let on : length (drop c.units us) ≡ units_of_all cs + length rest = reaches (at + c.units) (drop c.units us) cs rest e.2 in
+    let fits : c.units ≤ length us = (piece_size-fits at us c.units e.1).1 in
+    let l : length (drop c.units us) ≡ length us - c.units = length-drop c.units us in
+    omega arith
+
+nothing : (at : ℕ) → piece_size at [] ≡ None
+unfolding piece_size
+nothing at = refl
+
+whole : (us : List ℕ) (cs : List Cut) → AreCut 0 us cs [] → Ends 0 us cs []
+whole us cs cut = record { cut = cut; none = nothing (0 + units_of_all cs) }
+
+broken : (us : List ℕ) (n : ℕ) (b : BreaksAt us n) → Ends 0 us b.cuts (drop n us)
+broken us n b =
+    let all : length us ≡ units_of_all b.cuts + length (drop n us) = reaches 0 us b.cuts (drop n us) b.cut in
+    let within : n < length us = b.within in
+    let l : length (drop n us) ≡ length us - n = length-drop n us in
+    let here : 0 + units_of_all b.cuts ≡ n = omega arith in
+    record { cut = b.cut; none = ap (λ (p : ℕ). piece_size p (drop n us)) here ∙ b.none }
+
+-- a cut that ends at the end is no broken one
+not_both : (us : List ℕ) (cs : List Cut) (n : ℕ) → AreCut 0 us cs [] → BreaksAt us n → ⊥
+not_both us cs n cut b =
+    let same : cs ≡ b.cuts = cut_once 0 us cs b.cuts [] (drop n us) (whole us cs cut) (broken us n b) in
+    let left : [] ≡ drop n us = rest_once 0 us b.cuts [] (drop n us) (subst (λ (ds : List Cut). AreCut 0 us ds []) same cut) b.cut in
+    let within : n < length us = b.within in
+    let l : length (drop n us) ≡ length us - n = length-drop n us in
+    let none : 0 ≡ length (drop n us) = ap length left in
+    omega arith
+
+whole_once : (us : List ℕ) (cs ds : List Cut) → AreCut 0 us cs [] → AreCut 0 us ds [] → cs ≡ ds
+whole_once us cs ds e f = cut_once 0 us cs ds [] [] (whole us cs e) (whole us ds f)
+
+breaks_once : (us : List ℕ) (n m : ℕ) → BreaksAt us n → BreaksAt us m → n ≡ m
+breaks_once us n m b d =
+    let same : b.cuts ≡ d.cuts = cut_once 0 us b.cuts d.cuts (drop n us) (drop m us) (broken us n b) (broken us m d) in
+    let left : drop n us ≡ drop m us = rest_once 0 us d.cuts (drop n us) (drop m us) (subst (λ (cs : List Cut). AreCut 0 us cs (drop n us)) same b.cut) d.cut in
+    let one : n < length us = b.within in
+    let other : m < length us = d.within in
+    let l : length (drop n us) ≡ length us - n = length-drop n us in
+    let k : length (drop m us) ≡ length us - m = length-drop m us in
+    let long : length (drop n us) ≡ length (drop m us) = ap length left in
+    omega arith
+
+none_astray : (us : List ℕ) (cs some : List Cut) → All (λ c. IsTrue (has_right_targets us cs c)) some → first_astray_of us cs some ≡ None
+none_astray us cs [] right = refl
+none_astray us cs (c ∷ some) right =
+    ap (λ (t : Bool). option_map (λ (d : Cut). d.unit) (cond (not t) (Some c) (find (λ (d : Cut). not (has_right_targets us cs d)) some))) (All-head (λ d. IsTrue (has_right_targets us cs d)) c some right)
+    ∙ none_astray us cs some (All-tail (λ d. IsTrue (has_right_targets us cs d)) c some right)
+
+not_astray : (us : List ℕ) (cs : List Cut) (n : ℕ) → IsCode us cs → GoesAstrayAt us n → ⊥
+not_astray us cs n code a =
+    let same : cs ≡ a.cuts = whole_once us cs a.cuts code.cut a.cut in
+    let both : None ≡ Some n = sym (none_astray us cs cs code.targets) ∙ ap (first_astray us) same ∙ a.first in
+    cc
+
+astray_once : (us : List ℕ) (n m : ℕ) → GoesAstrayAt us n → GoesAstrayAt us m → n ≡ m
+astray_once us n m a b = same_Some n m (sym a.first ∙ ap (first_astray us) (whole_once us a.cuts b.cuts a.cut b.cut) ∙ b.first)
+
+empty_cut : (us : List ℕ) (cs : List Cut) → us ≡ [] → AreCut 0 us cs [] → cs ≡ []
+empty_cut us cs empty cut = whole_once us cs [] cut empty
+
+empty_astray : (us : List ℕ) (n : ℕ) → us ≡ [] → GoesAstrayAt us n → ⊥
+empty_astray us n empty a =
+    let both : None ≡ Some n = sym (ap (first_astray us) (empty_cut us a.cuts empty a.cut)) ∙ a.first in
+    cc
+
+empty_breaks : (us : List ℕ) (n : ℕ) → us ≡ [] → BreaksAt us n → ⊥
+empty_breaks us n empty b =
+    let within : n < length us = b.within in
+    let none : length us ≡ 0 = ap length empty in
+    omega arith
+
+empty_code : (us : List ℕ) (cs : List Cut) → us ≡ [] → IsCode us cs → ⊥
+empty_code us cs empty code =
+    let some : 0 < length us = code.some in
+    let none : length us ≡ 0 = ap length empty in
+    omega arith
+
+pub answer_once : (us : List ℕ) (a b : Result (List Cut) CodeFault) → IsAnswer us a → IsAnswer us b → a ≡ b
+answer_once us (Ok cs) (Ok ds) x y = ap Ok (whole_once us cs ds x.cut y.cut)
+answer_once us (Ok cs) (Err Empty) x y = absurd (empty_code us cs y x)
+answer_once us (Ok cs) (Err (Piece n)) x y = absurd (not_both us cs n x.cut y)
+answer_once us (Ok cs) (Err (Target n)) x y = absurd (not_astray us cs n x y)
+answer_once us (Ok cs) (Err Memory) x y = absurd y
+answer_once us (Err Empty) (Ok ds) x y = absurd (empty_code us ds x y)
+answer_once us (Err Empty) (Err Empty) x y = refl
+answer_once us (Err Empty) (Err (Piece m)) x y = absurd (empty_breaks us m x y)
+answer_once us (Err Empty) (Err (Target m)) x y = absurd (empty_astray us m x y)
+answer_once us (Err Empty) (Err Memory) x y = absurd y
+answer_once us (Err (Piece n)) (Ok ds) x y = absurd (not_both us ds n y.cut x)
+answer_once us (Err (Piece n)) (Err Empty) x y = absurd (empty_breaks us n y x)
+answer_once us (Err (Piece n)) (Err (Piece m)) x y = ap (λ (k : ℕ). Err (Piece k)) (breaks_once us n m x y)
+answer_once us (Err (Piece n)) (Err (Target m)) x y = absurd (not_both us y.cuts n y.cut x)
+answer_once us (Err (Piece n)) (Err Memory) x y = absurd y
+answer_once us (Err (Target n)) (Ok ds) x y = absurd (not_astray us ds n y x)
+answer_once us (Err (Target n)) (Err Empty) x y = absurd (empty_astray us n y x)
+answer_once us (Err (Target n)) (Err (Piece m)) x y = absurd (not_both us x.cuts m x.cut y)
+answer_once us (Err (Target n)) (Err (Target m)) x y = ap (λ (k : ℕ). Err (Target k)) (astray_once us n m x y)
+answer_once us (Err (Target n)) (Err Memory) x y = absurd y
+answer_once us (Err Memory) b x y = absurd x
+
+-- a fault that is told is the only answer
+pub answered_fault : (us : List ℕ) (fault : CodeFault) (answer : Result (List Cut) CodeFault) → IsFault us fault → IsAnswer us answer → IsAnswered answer (Err fault)
+answered_fault us Empty answer is a = answer_once us (Err Empty) answer is a
+answered_fault us (Piece n) answer is a = answer_once us (Err (Piece n)) answer is a
+answered_fault us (Target n) answer is a = answer_once us (Err (Target n)) answer is a
+answered_fault us Memory answer is a = tt
+
+pub cut_fault : (us : List ℕ) (fault : CodeFault) → IsCutFault us fault → IsFault us fault
+cut_fault us Empty is = absurd is
+cut_fault us (Piece n) is = is
+cut_fault us (Target n) is = absurd is
+cut_fault us Memory is = tt

@@ -1,0 +1,15 @@
+use Rattle.std.proofs.Common.{◌≡◌, ◌∙◌, ap, slice_index, arith}
+use Rattle.dexspec.specs.Pieces.{packed_switch_ident, sparse_switch_ident}
+use Rattle.dexinsn.specs.Payload.{ident_of}
+use Rattle.dexinsn.proofs.Sizes.{packed_fits, sparse_fits}
+use Rattle.dexinsn.proofs.marked.Marked.payload_leads_right.Goals as goal
+
+pub bounds-self-unit : goal.bounds-self-unit
+bounds-self-unit c =
+    let first : slice_index c.args.self.now.units.now c.args.unit ≡ packed_switch_ident = c.requires.kind ∙ ap ident_of c.in-PackedSwitch.is in
+    omega (arith, packed_fits c.args.self.now.units.now c.args.unit c.requires.piece first)
+
+pub bounds-self-unit-in-SparseSwitch : goal.bounds-self-unit-in-SparseSwitch
+bounds-self-unit-in-SparseSwitch c =
+    let first : slice_index c.args.self.now.units.now c.args.unit ≡ sparse_switch_ident = c.requires.kind ∙ ap ident_of c.in-SparseSwitch.is in
+    omega (arith, sparse_fits c.args.self.now.units.now c.args.unit c.requires.piece first)

@@ -1,0 +1,4 @@
+pub mod Opcode
+pub mod Payload
+pub mod Split
+pub mod Props

@@ -1,0 +1,118 @@
+-- What the cuts and faults of the code mean.
+use Rattle.std.specs.Prelude.{Result, Ok, Err, ◌≡◌, Vec, ℕ, ◌+◌, ◌≤◌, ◌==◌, Bool, false, not, List, [], ◌∷◌, length, drop, map, All, slice_index, slice_index_or, Option, Some, None, ℤ, pos, ◌+ℤ◌, nat_abs, ◌&&◌}
+use Rattle.std.specs.List.{find, list_any, list_all}
+use Rattle.std.specs.declared.alloc.Global.{Global}
+use Rattle.std.specs.Option.{option_map}
+use Rattle.std.specs.Ordering.{int_eq}
+use Rattle.dexspec.specs.Opcodes.{Format}
+use Rattle.dexspec.specs.Pieces.{all_of_option, IsCode, branch_offset, leads_right, Cut, AreCut, BreaksAt, has_right_targets, is_instruction_start, is_payload_start, payload_targets, piece_size}
+use Rattle.dexinsn.specs.declared.code.Cut.{Cut as CutOfCode}
+use Rattle.dexinsn.specs.declared.code.CodeFault.{CodeFault}
+use Rattle.dexinsn.specs.declared.code.CodeFault.TheVariants.{Empty, Piece, Target, Memory}
+
+-- ---- cuts
+
+abbrev pub cut_of : CutOfCode → Cut
+cut_of c = record { unit = c.unit; units = c.units }
+
+abbrev pub cuts_of : List CutOfCode → List Cut
+cuts_of cuts = map cut_of cuts
+
+-- a piece of so many units begins there
+abbrev pub IsPieceAt : List ℕ → Cut → Type 0
+IsPieceAt us c = piece_size c.unit (drop c.unit us) ≡ Some c.units
+
+-- the number of units of all the pieces
+abbrev pub units_of_all : List Cut → ℕ
+units_of_all [] = 0
+units_of_all (c ∷ cs) = c.units + units_of_all cs
+
+-- The units up to one are cut into these pieces, and there is a mark for each unit, which says whether a
+-- piece begins there.
+pub record AreMarked (us : List ℕ) (cuts : List CutOfCode) (marks : List Bool) (at : ℕ) : Type 0 where
+  pub cut : AreCut 0 us (cuts_of cuts) (drop at us)
+  pub reached : units_of_all (cuts_of cuts) ≡ at
+  pub within : at ≤ length us
+  pub each : length marks ≡ length us
+  pub starts : (k : ℕ) → slice_index_or marks k false ≡ list_any (λ c. c.unit == k) (cuts_of cuts)
+  pub pieces : All (IsPieceAt us) (cuts_of cuts)
+
+-- a piece begins at the place, with a unit that passes the test
+abbrev pub starts_with : (ℕ → Bool) → List ℕ → List Cut → ℤ → Bool
+starts_with test us cs z = list_any (λ c. int_eq (pos c.unit) z && test (slice_index us c.unit)) cs
+
+-- there is a place, and the unit there passes the test
+abbrev pub passes_at : (ℕ → Bool) → List ℕ → Option ℕ → Bool
+passes_at test us None = false
+passes_at test us (Some k) = test (slice_index us k)
+
+-- the targets, counted from the instruction at a unit, are starts of instructions
+abbrev pub lead_right : List ℕ → List Cut → ℕ → List ℤ → Bool
+lead_right us cs at targets = list_all (λ target. is_instruction_start us cs (pos at +ℤ target)) targets
+
+-- a payload with this first unit begins at the place, and its targets are right
+abbrev pub leads_to_payload : ℕ → List ℕ → List Cut → ℕ → ℤ → Bool
+leads_to_payload ident us cs at z = is_payload_start ident us cs z && lead_right us cs at (payload_targets us (nat_abs z))
+
+-- the instruction at a unit, which has this format, leads to nothing or to what it may
+abbrev pub branches_right : List ℕ → List Cut → ℕ → Format → Bool
+branches_right us cs at format = all_of_option (leads_right us cs at format) (branch_offset format us at)
+
+-- ---- faults
+
+-- the unit of the first of these pieces with a wrong target, if there is one
+abbrev pub first_astray_of : List ℕ → List Cut → List Cut → Option ℕ
+first_astray_of us cs some = option_map (λ c. c.unit) (find (λ c. not (has_right_targets us cs c)) some)
+
+-- the same of all pieces
+abbrev pub first_astray : List ℕ → List Cut → Option ℕ
+first_astray us cs = first_astray_of us cs cs
+
+-- all units are cut, and the first piece with a wrong target is at unit n
+pub record GoesAstrayAt (us : List ℕ) (n : ℕ) : Type 0 where
+  pub cuts : List Cut
+  pub cut : AreCut 0 us cuts []
+  pub first : first_astray us cuts ≡ Some n
+
+-- why the units are no code; a refusal of memory tells nothing of them
+abbrev pub IsFault : List ℕ → CodeFault → Type 0
+IsFault us Empty = us ≡ []
+IsFault us (Piece n) = BreaksAt us n
+IsFault us (Target n) = GoesAstrayAt us n
+IsFault us Memory = Unit {0}
+
+-- the fault's number, and the unit at which it is found
+abbrev pub kind_of : CodeFault → ℕ
+kind_of Empty = 1
+kind_of (Piece n) = 2
+kind_of (Target n) = 3
+kind_of Memory = 4
+
+abbrev pub unit_of : CodeFault → ℕ
+unit_of Empty = 0
+unit_of (Piece n) = n
+unit_of (Target n) = n
+unit_of Memory = 0
+
+-- why the units are not cut to their end
+abbrev pub IsCutFault : List ℕ → CodeFault → Type 0
+IsCutFault us Empty = ⊥
+IsCutFault us (Piece n) = BreaksAt us n
+IsCutFault us (Target n) = ⊥
+IsCutFault us Memory = Unit {0}
+
+-- an answer that is true of the units: their pieces, or a fault of theirs
+abbrev pub IsAnswer : List ℕ → Result (List Cut) CodeFault → Type 0
+IsAnswer us (Ok cs) = IsCode us cs
+IsAnswer us (Err Empty) = us ≡ []
+IsAnswer us (Err (Piece n)) = BreaksAt us n
+IsAnswer us (Err (Target n)) = GoesAstrayAt us n
+IsAnswer us (Err Memory) = ⊥
+
+-- what is answered is this, if it is not that memory was refused
+abbrev pub IsAnswered : Result (List Cut) CodeFault → Result (Vec CutOfCode Global) CodeFault → Type 0
+IsAnswered answer (Ok cuts) = Ok (cuts_of cuts.items) ≡ answer
+IsAnswered answer (Err Empty) = Err Empty ≡ answer
+IsAnswered answer (Err (Piece n)) = Err (Piece n) ≡ answer
+IsAnswered answer (Err (Target n)) = Err (Target n) ≡ answer
+IsAnswered answer (Err Memory) = Unit {0}

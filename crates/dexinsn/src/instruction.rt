@@ -1,0 +1,55 @@
+ghost use Rattle.std.specs.Prelude.{◌≡◌, ◌+◌, ◌<◌, ◌≤◌, length, slice_index};
+ghost use Rattle.std.specs.Option.{option_map};
+ghost use Rattle.dexspec.specs.Opcodes.{units_in};
+ghost use Rattle.dexspec.specs.Pieces.{branch_offset, instruction_size, is_first_unit};
+ghost use Rattle.dexinsn.specs.Opcode.{format_of};
+
+use crate::format::Format;
+use crate::units::{high_byte_of, int_at, opcode_in, signed8, signed16};
+
+/// The most registers that the format 35c counts.
+const MAX_COUNTED: u16 = 5;
+
+/// The number of units of the instruction that stands first; `None` where its opcode is unused, the
+/// units are too few, a byte that the format leaves empty is not zero, or 35c counts too many registers.
+pub(crate) fn instruction_size(units: &[u16]) -> Option<usize>
+    requires { 0 < length units.now }
+    ensures { result ≡ instruction_size units.now }
+{
+    let first = units[0];
+    let format = match Format::of(opcode_in(first)) {
+        Some(format) => format,
+        None => return None,
+    };
+    let needed = format.units();
+    if needed <= units.len() && is_first_unit(format, first) {
+        Some(needed)
+    } else {
+        None
+    }
+}
+
+/// Whether the format lets an instruction begin with this unit.
+fn is_first_unit(format: Format, first: u16) -> bool
+    ensures { result ≡ is_first_unit (format_of format) first }
+{
+    if format == Format::Format35c {
+        first / 0x1000 <= MAX_COUNTED
+    } else {
+        !format.has_zero_byte() || high_byte_of(first) == 0
+    }
+}
+
+/// How far the instruction at unit `at` branches, or how far off its payload is, in units from its own;
+/// `None` where it does neither.
+pub(crate) fn branch_offset(format: Format, units: &[u16], at: usize) -> Option<i32>
+    requires { at + units_in (format_of format) ≤ length units.now }
+    ensures { result ≡ branch_offset (format_of format) units.now at }
+{
+    match format {
+        Format::Format10t => Some(signed8(high_byte_of(units[at]))),
+        Format::Format20t | Format::Format21t | Format::Format22t => Some(signed16(units[at + 1])),
+        Format::Format30t | Format::Format31t => Some(int_at(units, at + 1)),
+        _ => None,
+    }
+}

@@ -1,0 +1,199 @@
+ghost use Rattle.std.specs.Prelude.{◌≡◌, ℕ, ◌+◌, ◌*◌, ◌<◌, ◌≤◌, pos, Bool, IfErr, IfOk, IfSome, IsSome, drop, length, slice_index};
+ghost use Rattle.std.proofs.Props.{props};
+ghost use Rattle.dexspec.specs.Opcodes.{units_in};
+ghost use Rattle.dexspec.specs.Pieces.{has_right_targets, ints_in, is_instruction_start, payload_targets, piece_size};
+ghost use Rattle.dexinsn.specs.Opcode.{format_of};
+ghost use Rattle.dexinsn.specs.Payload.{ident_of};
+ghost use Rattle.dexinsn.specs.Props.{AreCut-prop};
+ghost use Rattle.dexinsn.specs.Split.{AreMarked, IsCutFault, IsPieceAt, cut_of, cuts_of, first_astray, lead_right, branches_right, leads_to_payload, passes_at, starts_with};
+
+use crate::code::{CodeFault, Cut};
+use crate::format::Format;
+use crate::instruction::branch_offset;
+use crate::payload::PayloadKind;
+use crate::piece::piece_size;
+use crate::units::{int_at, opcode_in};
+use std::alloc::Global;
+
+/// Units that are cut to their end, with a mark for each unit, which says whether an instruction or
+/// payload begins there.
+#[derive(Drop)]
+pub(crate) struct Marked<'a> {
+    units: &'a [u16],
+    cuts: Vec<Cut>,
+    marks: Vec<bool>,
+    ghost are_marked: { AreMarked units.now cuts.items marks.items (length units.now) } by { Prim.hlevel (props, AreCut-prop) },
+}
+
+impl<'a> Marked<'a> {
+    /// Cuts the units to their end.
+    pub(crate) fn cut(alloc: Global, units: &'a [u16]) -> Result<Marked<'a>, CodeFault>
+        ensures units { IfOk result (λ marked. marked.units.now ≡ units.now) }
+        ensures fault { IfErr result (IsCutFault units.now) }
+    {
+        let mut cuts = Vec::new(alloc);
+        let mut marks = match vec![in alloc; false; units.len()] {
+            Ok(marks) => marks,
+            Err(_) => return Err(CodeFault::Memory),
+        };
+        let mut at = 0;
+        while at < units.len() {
+            let size = match piece_size(at, units.split_at(at).1) {
+                Some(size) => size,
+                None => return Err(CodeFault::Piece(at)),
+            };
+            if cuts
+                .push(Cut {
+                    unit: at,
+                    units: size,
+                })
+                .is_err()
+            {
+                return Err(CodeFault::Memory);
+            }
+            marks[at] = true;
+            at += size;
+        }
+        Ok(Marked { units, cuts, marks })
+    }
+
+    /// The pieces, in order.
+    pub(crate) fn into_cuts(self) -> Vec<Cut>
+        ensures { result ≡ self.entry.cuts }
+    {
+        let Marked { cuts, .. } = self;
+        cuts
+    }
+
+    /// The unit of the first piece with a wrong target.
+    pub(crate) fn first_astray(&self) -> Option<usize>
+        ensures { result ≡ first_astray self.now.units.now (cuts_of self.now.cuts.items) }
+    {
+        for cut in &self.cuts {
+            if !self.has_right_targets(*cut) {
+                return Some(cut.unit);
+            }
+        }
+        None
+    }
+
+    #[tactic(auto, using(crate::proofs::Sizes::piece_within))]
+    /// Whether the targets of the piece, if it is an instruction that has some, are right.
+    fn has_right_targets(&self, cut: Cut) -> bool
+        requires { IsPieceAt self.now.units.now (cut_of cut) }
+        ensures { result ≡ has_right_targets self.now.units.now (cuts_of self.now.cuts.items) (cut_of cut) }
+    {
+        let first = self.units[cut.unit];
+        if PayloadKind::of(first).is_some() {
+            return true;
+        }
+        match Format::of(opcode_in(first)) {
+            Some(format) => self.branches_right(cut.unit, format),
+            None => true,
+        }
+    }
+
+    /// Whether the instruction at unit `at`, which has this format, leads to nothing or to what it may.
+    fn branches_right(&self, at: usize, format: Format) -> bool
+        requires from { at < length self.now.units.now }
+        requires within { at + units_in (format_of format) ≤ length self.now.units.now }
+        ensures { result ≡ branches_right self.now.units.now (cuts_of self.now.cuts.items) at (format_of format) }
+    {
+        let offset = match branch_offset(format, self.units, at) {
+            Some(offset) => offset,
+            None => return true,
+        };
+        let target = at as i64 + i64::from(offset);
+        match format {
+            Format::Format31t => {
+                let kind = PayloadKind::led_to_by(opcode_in(self.units[at]));
+                self.leads_to_payload(at, kind, target)
+            }
+            _ => self.is_instruction_start(target),
+        }
+    }
+
+    /// Whether an instruction begins at the place.
+    pub(crate) fn is_instruction_start(&self, place: i64) -> bool
+        ensures { result ≡ is_instruction_start self.now.units.now (cuts_of self.now.cuts.items) place }
+    {
+        match self.start_at(place) {
+            Some(unit) => PayloadKind::of(self.units[unit]).is_none(),
+            None => false,
+        }
+    }
+
+    /// Whether a payload of the kind begins at the place, and its targets, counted from the instruction
+    /// at unit `at`, are starts of instructions.
+    fn leads_to_payload(&self, at: usize, kind: PayloadKind, place: i64) -> bool
+        requires { at < length self.now.units.now }
+        ensures { result ≡ leads_to_payload (ident_of kind) self.now.units.now (cuts_of self.now.cuts.items) at place }
+    {
+        match self.start_at(place) {
+            Some(unit) => {
+                if self.units[unit] == kind.ident() {
+                    self.payload_leads_right(at, kind, unit)
+                } else {
+                    false
+                }
+            }
+            None => false,
+        }
+    }
+
+    #[tactic(auto, using(crate::proofs::Sizes::packed_fits, crate::proofs::Sizes::sparse_fits))]
+    /// Whether the targets of the payload at a unit, counted from the instruction at unit `at`, are
+    /// starts of instructions.
+    fn payload_leads_right(&self, at: usize, kind: PayloadKind, unit: usize) -> bool
+        requires from { at < length self.now.units.now }
+        requires kind { slice_index self.now.units.now unit ≡ ident_of kind }
+        requires piece { IsSome (piece_size unit (drop unit self.now.units.now)) }
+        ensures { result ≡ lead_right self.now.units.now (cuts_of self.now.cuts.items) at (payload_targets self.now.units.now unit) }
+    {
+        match kind {
+            PayloadKind::PackedSwitch => {
+                let count = usize::from(self.units[unit + 1]);
+                self.ints_lead_right(at, unit + 4, count)
+            }
+            PayloadKind::SparseSwitch => {
+                let count = usize::from(self.units[unit + 1]);
+                self.ints_lead_right(at, unit + 2 + 2 * count, count)
+            }
+            PayloadKind::ArrayData => true,
+        }
+    }
+
+    /// Whether so many targets of two units each, from unit `first` on, counted from the instruction at
+    /// unit `at`, are starts of instructions.
+    fn ints_lead_right(&self, at: usize, first: usize, count: usize) -> bool
+        requires from { at < length self.now.units.now }
+        requires within { first + 2 * count ≤ length self.now.units.now }
+        ensures { result ≡ lead_right self.now.units.now (cuts_of self.now.cuts.items) at (ints_in self.now.units.now first count) }
+    {
+        for i in 0..count {
+            let offset = int_at(self.units, first + 2 * i);
+            if !self.is_instruction_start(at as i64 + i64::from(offset)) {
+                return false;
+            }
+        }
+        true
+    }
+
+    /// The unit at the place, if a piece begins there.
+    fn start_at(&self, place: i64) -> Option<usize>
+        ensures start { (test : ℕ → Bool) → starts_with test self.now.units.now (cuts_of self.now.cuts.items) place ≡ passes_at test self.now.units.now result }
+        ensures place { IfSome result (λ unit. place ≡ pos unit) }
+        ensures within { IfSome result (λ unit. unit < length self.now.units.now) }
+        ensures piece { IfSome result (λ unit. IsSome (piece_size unit (drop unit self.now.units.now))) }
+    {
+        if place < 0 {
+            return None;
+        }
+        let unit = place as usize;
+        if unit < self.marks.len() && self.marks[unit] {
+            Some(unit)
+        } else {
+            None
+        }
+    }
+}

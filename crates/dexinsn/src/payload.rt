@@ -1,0 +1,130 @@
+ghost use Rattle.std.specs.Prelude.{◌≡◌, ◌+◌, ◌*◌, ◌<◌, ◌≤◌, length, slice_index, IfSome, Some, None, if◌then◌else◌};
+ghost use Rattle.std.specs.Option.{option_map};
+ghost use Rattle.std.specs.Ordering.{int_cmp};
+ghost use Rattle.dexspec.specs.Lists.{rises};
+ghost use Rattle.dexspec.specs.Pieces.{ints_in, is_payload_ident, payload_ident, payload_size, packed_switch_ident, sparse_switch_ident, array_data_ident};
+ghost use Rattle.dexinsn.specs.Payload.{ident_of};
+
+use crate::units::int_at;
+
+/// The three kinds of payload: the data of an instruction that stands apart from it.
+#[derive(Clone, Copy, Debug, PartialEq, Eq)]
+pub enum PayloadKind {
+    PackedSwitch,
+    SparseSwitch,
+    ArrayData,
+}
+
+impl PayloadKind {
+    /// The kind of payload that begins with this unit; `None` where the unit begins an instruction.
+    ///
+    /// Source: the headings "packed-switch-payload format", "sparse-switch-payload format" and
+    /// "fill-array-data-payload format" of the Android page "Dalvik bytecode".
+    pub fn of(unit: u16) -> Option<PayloadKind>
+        ensures { option_map ident_of result ≡ (if is_payload_ident unit then Some unit else None) }
+    {
+        match unit {
+            0x0100 => Some(PayloadKind::PackedSwitch),
+            0x0200 => Some(PayloadKind::SparseSwitch),
+            0x0300 => Some(PayloadKind::ArrayData),
+            _ => None,
+        }
+    }
+
+    /// The first unit of a payload of this kind.
+    pub fn ident(self) -> u16
+        ensures { result ≡ ident_of self }
+    {
+        match self {
+            PayloadKind::PackedSwitch => 0x0100,
+            PayloadKind::SparseSwitch => 0x0200,
+            PayloadKind::ArrayData => 0x0300,
+        }
+    }
+
+    /// The kind of payload that an instruction of the format 31t leads to.
+    pub(crate) fn led_to_by(op: u8) -> PayloadKind
+        ensures { ident_of result ≡ payload_ident op }
+    {
+        match op {
+            0x2b => PayloadKind::PackedSwitch,
+            0x2c => PayloadKind::SparseSwitch,
+            _ => PayloadKind::ArrayData,
+        }
+    }
+
+    /// The number of units of the payload that stands first; `None` where the units are too few, where
+    /// the keys of a sparse switch do not rise strictly, and where an element is not 1, 2, 4 or 8 bytes
+    /// wide.
+    pub(crate) fn size(self, units: &[u16]) -> Option<usize>
+        requires { slice_index units.now 0 ≡ ident_of self }
+        ensures { result ≡ payload_size units.now }
+    {
+        match self {
+            PayloadKind::PackedSwitch => packed_switch_size(units),
+            PayloadKind::SparseSwitch => sparse_switch_size(units),
+            PayloadKind::ArrayData => array_data_size(units),
+        }
+    }
+}
+
+fn packed_switch_size(units: &[u16]) -> Option<usize>
+    requires { slice_index units.now 0 ≡ packed_switch_ident }
+    ensures { result ≡ payload_size units.now }
+{
+    if units.len() < 2 {
+        return None;
+    }
+    let needed = 4 + 2 * usize::from(units[1]);
+    if needed <= units.len() {
+        Some(needed)
+    } else {
+        None
+    }
+}
+
+fn sparse_switch_size(units: &[u16]) -> Option<usize>
+    requires { slice_index units.now 0 ≡ sparse_switch_ident }
+    ensures { result ≡ payload_size units.now }
+{
+    if units.len() < 2 {
+        return None;
+    }
+    let size = usize::from(units[1]);
+    let needed = 2 + 4 * size;
+    if needed <= units.len() && keys_rise(units, size) {
+        Some(needed)
+    } else {
+        None
+    }
+}
+
+fn array_data_size(units: &[u16]) -> Option<usize>
+    requires { slice_index units.now 0 ≡ array_data_ident }
+    ensures { result ≡ payload_size units.now }
+{
+    if units.len() < 4 {
+        return None;
+    }
+    let width = u64::from(units[1]);
+    let count = u64::from(units[2]) + 0x1_0000 * u64::from(units[3]);
+    let needed = 4 + (count * width + 1) / 2;
+    if needed <= units.len() as u64 && matches!(width, 1 | 2 | 4 | 8) {
+        Some(needed as usize)
+    } else {
+        None
+    }
+}
+
+/// Whether so many keys, from the third unit on, rise strictly.
+fn keys_rise(units: &[u16], size: usize) -> bool
+    requires { 2 + 2 * size ≤ length units.now }
+    ensures { result ≡ rises int_cmp (ints_in units.now 2 size) }
+{
+    for i in 1..size {
+        if int_at(units, 2 * i) >= int_at(units, 2 * i + 2) {
+            return false;
+        }
+    }
+    true
+}

@@ -1,0 +1,21 @@
+-- What it is that the bytes determine.
+use Rattle.std.specs.Prelude.{◌≡◌, ℕ, ◌<◌, List, All}
+use Rattle.dexspec.specs.Lists.{Item}
+use Rattle.dexspec.specs.Header.{ClassDefs, table_size}
+use Rattle.dexspec.specs.Accepted.{IsReadable}
+
+-- what stands at an offset, and how many bytes it has, are determined by the bytes
+abbrev pub IsDetermined : {X : Type 0} → Item X → Type 0
+IsDetermined {X} At = (b : List ℕ) (o : ℕ) (x y : X) (n k : ℕ) → At b o x n → At b o y k → (x ≡ y) × (n ≡ k)
+
+-- what an offset stands for is determined by the bytes
+abbrev pub IsOne : {X : Type 0} → (List ℕ → ℕ → X → Type 0) → Type 0
+IsOne {X} At = (b : List ℕ) (o : ℕ) (x y : X) → At b o x → At b o y → x ≡ y
+
+-- each member is a byte
+abbrev pub AreBytes : List ℕ → Type 0
+AreBytes b = All (λ byte. byte < 256) b
+
+-- every class row can be read
+abbrev pub AreReadable : List ℕ → Type 0
+AreReadable b = (r : ℕ) → r < table_size b ClassDefs → IsReadable b r

@@ -1,0 +1,11 @@
+//! What an accepted file denotes: it is good under the greatest caps.
+ghost use Rattle.std.specs.Prelude.{ℕ, List};
+ghost use Rattle.dexspec.specs.Files.{Collection, definitions, Denotes};
+ghost use Rattle.dexspec.specs.Merging.{IsGood, greatest_caps};
+ghost use Rattle.dexspec.specs.Accepted.{IsAccepted};
+ghost use Rattle.dexlaws_denotes.specs.Laws.{AreBytes};
+
+/// What an accepted list of bytes denotes is good: it has no conflict and no cycle, and fits the greatest caps.
+pub fn denoted_is_good()
+    ensures { (b : List ℕ) (K : Collection) → AreBytes b → IsAccepted b → Denotes b K → IsGood greatest_caps (definitions K) }
+{}

@@ -1,0 +1,43 @@
+//! Laws of the definitions: what stands where in a canonical file, and that its frame is right. Each
+//! function does nothing: its contract is the law, for the callers that cite it.
+#![tactic(auto)]
+
+ghost use Rattle.std.specs.Prelude.{List, ℕ, ◌≡◌, ◌<◌, ◌≤◌, ◌^◌, length};
+ghost use Rattle.dexspec.specs.Bytes.{ushort, uint, ushort_at, uint_at, Stands};
+ghost use Rattle.dexspec.specs.Header.{HasMagic, HasVersion, HasChecksum, HasSignature};
+ghost use Rattle.dexspec.specs.Accepted.{IsFrame};
+ghost use Rattle.dexspec.specs.Files.{Collection, definitions};
+ghost use Rattle.dexspec.specs.Mentions.{mentions};
+ghost use Rattle.dexspec.specs.Merging.{Caps, AreCaps, Fits};
+ghost use Rattle.dexspec.specs.Placing.{Ordered};
+ghost use Rattle.dexspec.specs.Canonical.{with_sums, unsigned_file, canonical};
+ghost use Rattle.dexlaws_frame.specs.Laws.{HasFewSymbols, HasFields, HasRows, HasItems};
+
+/// A number is read where its bytes stand.
+pub fn numbers_law()
+    ensures two { (b : List ℕ) (o n : ℕ) → n < 2 ^ 16 → Stands b o (ushort n) → ushort_at b o ≡ n }
+    ensures four { (b : List ℕ) (o n : ℕ) → n < 2 ^ 32 → Stands b o (uint n) → uint_at b o ≡ n }
+{}
+
+/// The magic and the two sums before any bytes are right.
+pub fn sums_law()
+    ensures magic { (rest : List ℕ) → HasMagic (with_sums rest) }
+    ensures version { (rest : List ℕ) → HasVersion (with_sums rest) }
+    ensures checksum { (rest : List ℕ) → HasChecksum (with_sums rest) }
+    ensures signature { (rest : List ℕ) → HasSignature (with_sums rest) }
+{}
+
+/// In the file of classes in order, if it is not too long, header, rows, items and map stand where the
+/// layout has them.
+pub fn layout_law()
+    ensures fields { (K : Ordered) → length (with_sums (unsigned_file K)) < 2 ^ 32 → HasFields K (with_sums (unsigned_file K)) }
+    ensures rows { (K : Ordered) → length (with_sums (unsigned_file K)) < 2 ^ 32 → HasRows K (with_sums (unsigned_file K)) }
+    ensures items { (K : Ordered) → length (with_sums (unsigned_file K)) < 2 ^ 32 → HasItems K (with_sums (unsigned_file K)) }
+{}
+
+/// The canonical file of a collection meets conditions 1 to 10, if it is not too long and no pool has too
+/// many symbols; and so it does if the collection fits any caps, with no premise on its bytes.
+pub fn frame_law()
+    ensures frame { (K : Collection) → HasFewSymbols (mentions (definitions K)) → length (canonical K) ≤ 2 ^ 30 → IsFrame (canonical K) }
+    ensures fits { (caps : Caps) (K : Collection) → AreCaps caps → Fits caps (definitions K) → IsFrame (canonical K) }
+{}

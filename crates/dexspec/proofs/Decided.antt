@@ -1,0 +1,156 @@
+-- Whether two values of the model are the same is decided, by their codes.
+use Rattle.std.proofs.Common.{◌≡◌, ◌≢◌, ◌⊎◌, ℕ, refl, ap, subst, inl, inr}
+use Rattle.std.proofs.lemmas.Bool.{cases_eq}
+use Rattle.std.specs.Coded.{Coded}
+use base.Stored.{Gv, gnil, gnum, gcons}
+use Rattle.dexspec.specs.Texts.{Text}
+use Rattle.dexspec.specs.Symbols.{Proto, Field, Method, Symbol}
+use Rattle.dexspec.specs.Pieces.{Piece}
+use Rattle.dexspec.specs.Debug.{Operation, Debug}
+use Rattle.dexspec.specs.Code.{Catch, Handler, Try, Code}
+use Rattle.dexspec.specs.Values.{Value, Values, Elements}
+use Rattle.dexspec.specs.Annotations.{Annotation, AnnotationSet}
+use Rattle.dexspec.specs.Classes.{FieldDef, MethodDef, Body, Definition}
+use Rattle.dexspec.specs.Files.{Collection}
+use Rattle.dexspec.specs.Codes as codes
+
+-- two values are the same, or they are not
+abbrev pub SameOrNot : {X : Type 0} → X → X → Type 0
+SameOrNot x y = (x ≡ y) ⊎ (x ≢ y)
+
+-- the number of a leaf
+abbrev number : Gv → ℕ
+number gnil = 0
+number (gnum n) = n
+number (gcons a b) = 0
+
+-- the two parts of a pair
+abbrev head : Gv → Gv
+head gnil = gnil
+head (gnum n) = gnil
+head (gcons a b) = a
+
+abbrev tail : Gv → Gv
+tail gnil = gnil
+tail (gnum n) = gnil
+tail (gcons a b) = b
+
+-- the three shapes of a tree
+abbrev IsNil : Gv → Type 0
+IsNil gnil = Unit {0}
+IsNil (gnum n) = ⊥
+IsNil (gcons a b) = ⊥
+
+abbrev IsNumber : Gv → Type 0
+IsNumber gnil = ⊥
+IsNumber (gnum n) = Unit {0}
+IsNumber (gcons a b) = ⊥
+
+abbrev IsPair : Gv → Type 0
+IsPair gnil = ⊥
+IsPair (gnum n) = ⊥
+IsPair (gcons a b) = Unit {0}
+
+-- trees of numbers are the same or not
+pub tree_same_or_not : (g h : Gv) → SameOrNot g h
+tree_same_or_not gnil gnil = inl refl
+tree_same_or_not (gnum m) (gnum n) = elim (cases_eq m n) [ inl e ↦ inl (ap gnum e) | inr d ↦ inr (λ p. d (ap number p)) ]
+tree_same_or_not (gcons a b) (gcons c d) = elim (tree_same_or_not a c) [
+  | inl e ↦ elim (tree_same_or_not b d) [ inl f ↦ inl (λ i. gcons (e i) (f i)) | inr n ↦ inr (λ p. n (ap tail p)) ]
+  | inr n ↦ inr (λ p. n (ap head p))
+]
+tree_same_or_not gnil h = inr (λ p. subst IsNil p tt)
+tree_same_or_not (gnum m) h = inr (λ p. subst IsNumber p tt)
+tree_same_or_not (gcons a b) h = inr (λ p. subst IsPair p tt)
+
+-- a type that has a code has a decided equality
+pub same_or_not : {X : Type 0} → Coded X → (x y : X) → SameOrNot x y
+same_or_not c x y = elim (tree_same_or_not (c.code x) (c.code y)) [ inl e ↦ inl (c.inj x y e) | inr n ↦ inr (λ p. n (ap c.code p)) ]
+
+-- so have the types of the model: texts
+pub text_same_or_not : (x y : Text) → SameOrNot x y
+text_same_or_not = same_or_not codes.text_code
+
+-- protos
+pub proto_same_or_not : (x y : Proto) → SameOrNot x y
+proto_same_or_not = same_or_not codes.proto_code
+
+-- fields
+pub field_same_or_not : (x y : Field) → SameOrNot x y
+field_same_or_not = same_or_not codes.field_code
+
+-- methods
+pub method_same_or_not : (x y : Method) → SameOrNot x y
+method_same_or_not = same_or_not codes.method_code
+
+-- symbols
+pub symbol_same_or_not : (x y : Symbol) → SameOrNot x y
+symbol_same_or_not = same_or_not codes.symbol_code
+
+-- pieces of code
+pub piece_same_or_not : (x y : Piece) → SameOrNot x y
+piece_same_or_not = same_or_not codes.piece_code
+
+-- operations of debug programs
+pub operation_same_or_not : (x y : Operation) → SameOrNot x y
+operation_same_or_not = same_or_not codes.operation_code
+
+-- debug programs
+pub debug_same_or_not : (x y : Debug) → SameOrNot x y
+debug_same_or_not = same_or_not codes.debug_code
+
+-- catches
+pub catch_same_or_not : (x y : Catch) → SameOrNot x y
+catch_same_or_not = same_or_not codes.catch_code
+
+-- handlers
+pub handler_same_or_not : (x y : Handler) → SameOrNot x y
+handler_same_or_not = same_or_not codes.handler_code
+
+-- tries
+pub try_same_or_not : (x y : Try) → SameOrNot x y
+try_same_or_not = same_or_not codes.try_code
+
+-- code
+pub code_same_or_not : (x y : Code) → SameOrNot x y
+code_same_or_not = same_or_not codes.code_code
+
+-- values
+pub value_same_or_not : (x y : Value) → SameOrNot x y
+value_same_or_not = same_or_not codes.value_code
+
+-- arrays of values
+pub values_same_or_not : (x y : Values) → SameOrNot x y
+values_same_or_not = same_or_not codes.values_code
+
+-- elements of annotations
+pub elements_same_or_not : (x y : Elements) → SameOrNot x y
+elements_same_or_not = same_or_not codes.elements_code
+
+-- annotations
+pub annotation_same_or_not : (x y : Annotation) → SameOrNot x y
+annotation_same_or_not = same_or_not codes.annotation_code
+
+-- sets of annotations
+pub set_same_or_not : (x y : AnnotationSet) → SameOrNot x y
+set_same_or_not = same_or_not codes.set_code
+
+-- declared fields
+pub field_def_same_or_not : (x y : FieldDef) → SameOrNot x y
+field_def_same_or_not = same_or_not codes.field_def_code
+
+-- declared methods
+pub method_def_same_or_not : (x y : MethodDef) → SameOrNot x y
+method_def_same_or_not = same_or_not codes.method_def_code
+
+-- classes but for their names
+pub body_same_or_not : (x y : Body) → SameOrNot x y
+body_same_or_not = same_or_not codes.body_code
+
+-- class definitions
+pub definition_same_or_not : (x y : Definition) → SameOrNot x y
+definition_same_or_not = same_or_not codes.definition_code
+
+-- collections of them
+pub collection_same_or_not : (x y : Collection) → SameOrNot x y
+collection_same_or_not = same_or_not codes.collection_code

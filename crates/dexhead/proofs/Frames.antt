@@ -157,6 +157,7 @@ has_lengths frame = frame Condition.Lengths (omega arith) 0 (omega arith)
 has_layout : {b : List ℕ} → IsFrame b → HasLayout b
 has_layout frame = frame Condition.Layout (omega arith) 0 (omega arith)
 
+-- the data begins in the file
 pub data_within : {b : List ℕ} → IsFrame b → data_off b ≤ length b
 data_within frame =
     let lengths = has_lengths frame in

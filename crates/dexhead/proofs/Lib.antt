@@ -1,6 +1,6 @@
-mod Entries
-mod Frames
-mod Judged
-mod Lengths
-mod Overwritten
-mod Spelled
+pub mod Entries
+pub mod Frames
+pub mod Judged
+pub mod Lengths
+pub mod Overwritten
+pub mod Spelled

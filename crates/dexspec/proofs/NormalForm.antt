@@ -19,14 +19,12 @@ use Rattle.dexspec.proofs.OneClass.{HasFewRows, one_class_row}
 use Rattle.dexspec.proofs.Collections.{definitions-are}
 use Rattle.dexspec.proofs.ClassOrder.{definitions-distinct}
 use Rattle.dexspec.proofs.SizeFile.{canonical-has_size}
-use Rattle.dexspec.proofs.Laying.{class_places}
 use Rattle.dexspec.proofs.Frames.{fits_few, canonical_laid, canonical_frame}
-use Rattle.dexspec.proofs.Formed.{All-member, mentions-formed}
-use Rattle.dexspec.proofs.NormalRows.{IsNormal, count_small, has_string, has_type}
-use Rattle.dexspec.proofs.NormalLists.{has_proto, has_field, has_method}
+use Rattle.dexspec.proofs.Formed.{All-member, mentions-pools}
+use Rattle.dexspec.proofs.NormalRows.{IsNormal, count_small, has_string, has_type, has_proto, has_field, has_method}
 use Rattle.dexspec.proofs.ClassPlaces.{in_class_order-only, in_class_order-has, class_names-apart}
-use Rattle.dexspec.proofs.NormalClasses.{BelongsAt, AreNormal, row_offsets, class_stands, has_class}
-use Rattle.dexspec.proofs.PlainItems.{plain_belongs, plain_offsets}
+use Rattle.dexspec.proofs.NormalClasses.{BelongsAt, AreNormal, class_stands, has_class}
+use Rattle.dexspec.proofs.PlainItems.{plain_class_row, plain_belongs}
 use Rattle.dexspec.proofs.PlainReadable.{plain_readable}
 
 -- a definition for places past the end
@@ -51,7 +49,7 @@ rows_at R from (suc n) (x ∷ xs) h = let rest = rows_at R (from + 1) n xs h.1 i
 
 -- what the kinds of item add: what belongs to each class stands where its row says, and each row is readable
 pub record ItemsAreRight (D : List Definition) (b : List ℕ) : Type 0 where
-  pub belong : (r : ℕ) (e : Definition) → r < length (in_class_order D) → BelongsAt b (get_or (in_class_order D) r e).1 (class_places (ordered D) r)
+  pub belong : (r : ℕ) (e : Definition) → r < length (in_class_order D) → BelongsAt b r (get_or (in_class_order D) r e).1
   pub readable : (r : ℕ) → r < table_size b ClassDefs → IsReadable b r
 
 module _ (D : List Definition) (b : List ℕ) (n : AreNormal D b) (items : ItemsAreRight D b) where
@@ -119,9 +117,8 @@ canonical_normal K fits formed =
     let size = canonical-has_size greatest_caps K greatest_are fits in
     record {
       laid = canonical_laid K (omega (arith, size.most));
-      formed = mentions-formed (definitions K) formed;
-      few_types = omega (arith, fits.types);
-      few_protos = omega (arith, fits.protos);
+      few = fits_few greatest_caps K greatest_are fits;
+      pools = mentions-pools (definitions K) formed;
     }
 
 -- and of definitions that can be in one file
@@ -193,10 +190,7 @@ module _ (K : Collection) (good : IsGood greatest_caps (definitions K)) (formed 
 
   -- and so are its class rows
   rows_plain : (r : ℕ) → r < length (in_class_order (definitions K)) → IsPlainRow (canonical K) r
-  rows_plain r lt =
-      let offs = row_offsets (definitions K) (canonical K) (canonical_all_normal K good formed) r some_class lt in
-      let zeros = plain_offsets (ordered (definitions K)) classes_plain r lt in
-      record { annotations = offs.directory ∙ zeros.directory; class_data = offs.members ∙ zeros.members; static_values = offs.values ∙ zeros.values }
+  rows_plain r lt = plain_class_row (canonical_normal K good.fits formed).laid r some_class lt (classes_plain r some_class lt)
 
   -- the file is plain
   pub plain_file : IsPlainFile (canonical K)
@@ -210,7 +204,7 @@ module _ (K : Collection) (good : IsGood greatest_caps (definitions K)) (formed 
       let n = canonical_all_normal K good formed in
       let inside : (r : ℕ) → r < table_size b ClassDefs → r < length (in_class_order D) = λ r lt. omega (arith, lt, n.file.laid.count ClassDefs) in
       record {
-        belong = plain_belongs (ordered D) classes_plain b;
+        belong = λ r e lt. plain_belongs r (get_or (in_class_order D) r e) (rows_plain r lt) (classes_plain r e lt);
         readable = λ r lt. plain_readable b r (rows_plain r (inside r lt)) (has_class D b n r some_class lt);
       }
 

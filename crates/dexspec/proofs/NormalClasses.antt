@@ -1,42 +1,37 @@
 -- The class rows in the file of definitions: each is the definition of its place, where what belongs to it stands
 -- where its row says; condition 16.
-use Rattle.std.proofs.Common.{◌≡◌, ℕ, ◌+◌, ◌^◌, ◌<◌, List, [], ◌∷◌, ◌++◌, length, get_or, map, refl, sym, ap, ◌∙◌, subst, arith, inl, inr, All, true}
-use Rattle.std.specs.Prelude.{slice_index, ◌==◌, if◌then◌else◌, Option, Some, None, IfSome, option_to_list}
+use Rattle.std.proofs.Common.{◌≡◌, ℕ, ◌<◌, List, [], ◌∷◌, ◌++◌, length, get_or, map, refl, sym, ap, ◌∙◌, subst, arith, inl, inr, All, true}
+use Rattle.std.specs.Prelude.{◌==◌, if◌then◌else◌, Option, Some, None, IfSome, option_to_list}
 use Rattle.std.specs.List.{Contains, AllZip, filter, flat_map}
 use Rattle.std.specs.Option.{option_map_or}
 use Rattle.std.proofs.lemmas.Bool.{cond-false, ne_eqb}
 use Rattle.std.proofs.lemmas.Bool.Decides.{Decides-eqb}
 use Rattle.std.proofs.lemmas.Slice.Eq.{slice_eq-Decides}
-use Rattle.std.proofs.lemmas.List.{length-map, map-append}
+use Rattle.std.proofs.lemmas.List.{map-append}
 use Rattle.std.proofs.lemmas.List.Elements.{Contains-get_or, Contains-append_left, Contains-append_right, Contains-append_cases, All-map}
 use Rattle.dexspec.specs.Lists.{OrNone, AreDistinct}
-use Rattle.dexspec.specs.Bytes.{uint, Stands}
 use Rattle.dexspec.specs.Texts.{Text, text_cmp, same_text}
 use Rattle.dexspec.specs.Names.{IsClass}
 use Rattle.dexspec.specs.Symbols.{TextSymbol, TypeSymbol}
 use Rattle.dexspec.specs.Header.{ClassDefs, table_size}
-use Rattle.dexspec.specs.Rows.{row_at, StringRow, TypeListAt, type_indices}
+use Rattle.dexspec.specs.Rows.{StringRow, TypeListAt, type_indices}
 use Rattle.dexspec.specs.Values.{NoValues}
 use Rattle.dexspec.specs.Annotations.{Directory, DirectoryAt, no_directory}
 use Rattle.dexspec.specs.ClassData.{ClassData, ClassDataAt, no_class_data}
-use Rattle.dexspec.specs.Classes.{Body, Definition, ClassRow, ClassTypeRow, ClassListAt, IndexOrNone, StaticValuesAt, field_def, MakesMethod, class_idx, access_flags, superclass_idx, interfaces_off, source_file_idx, annotations_off, class_data_off, static_values_off, no_index}
+use Rattle.dexspec.specs.Classes.{Body, Definition, ClassRow, ClassTypeRow, ClassListAt, IndexOrNone, StaticValuesAt, field_def, MakesMethod, class_idx, superclass_idx, interfaces_off, source_file_idx, annotations_off, class_data_off, static_values_off, no_index}
 use Rattle.dexspec.specs.Mentions.{mentions, symbols_of, optional_type, optional_text}
 use Rattle.dexspec.specs.Depth.{parents, is_defined, IsAcyclic, depth, in_class_order}
 use Rattle.dexspec.specs.WellFormed.{AreWellFormed}
 use Rattle.dexspec.specs.Accepted.{parent_indices, IsDefinedBefore, HasClass}
-use Rattle.dexspec.specs.Spellings.{text_index, type_index, class_data_bytes, encoded_array_bytes}
+use Rattle.dexspec.specs.Spellings.{text_index, type_index}
 use Rattle.dexspec.specs.Placing.{unless_empty}
-use Rattle.dexspec.specs.Canonical.{ordered, ClassOffsets}
-use Rattle.dexspec.proofs.Stands.{stands_at}
-use Rattle.dexspec.proofs.ByteNumbers.{uint_at-stands}
+use Rattle.dexspec.specs.Canonical.{ordered}
 use Rattle.dexspec.proofs.Members.{AreAmong, Contains-first, Contains-later, Contains-flat_map, Contains-filter, list_any-member}
-use Rattle.dexspec.proofs.SymbolOrders.{text_total, text_exact}
+use Rattle.dexspec.proofs.SymbolOrders.{text_total}
 use Rattle.dexspec.proofs.Growth.{mentions-rising}
 use Rattle.dexspec.proofs.MentionMembers.{texts-listed, types-listed}
 use Rattle.dexspec.proofs.Depths.{Contains-map, depth-parent}
 use Rattle.dexspec.proofs.Placements.{type_list_bytes}
-use Rattle.dexspec.proofs.Tables.{stands_here, stands_next}
-use Rattle.dexspec.proofs.Laying.{Laid, class_places}
 use Rattle.dexspec.proofs.RankOrder.{rank_one}
 use Rattle.dexspec.proofs.Uses.{UseStands}
 use Rattle.dexspec.proofs.RowsRead.{ClassRead, class_read, type_index_small, type_list_indices}

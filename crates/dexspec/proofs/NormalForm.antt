@@ -14,7 +14,7 @@ use Rattle.dexspec.specs.Merging.{AreCaps, greatest_caps, Fits, IsGood}
 use Rattle.dexspec.specs.Conditions.{Condition}
 use Rattle.dexspec.specs.Accepted.{IsReadable, HasWeight, HoldBelow, IsFrame, IsAccepted}
 use Rattle.dexspec.specs.Plain.{IsPlain, ArePlain, IsPlainRow, IsPlainFile}
-use Rattle.dexspec.specs.Canonical.{ordered, canonical}
+use Rattle.dexspec.specs.Canonical.{canonical}
 use Rattle.dexspec.proofs.OneClass.{HasFewRows, one_class_row}
 use Rattle.dexspec.proofs.Collections.{definitions-are}
 use Rattle.dexspec.proofs.ClassOrder.{definitions-distinct}

@@ -1,5 +1,5 @@
 -- The rows of the five pools in the file of definitions: each is the symbol of its place, in order.
-use Rattle.std.proofs.Common.{◌≡◌, ℕ, ◌^◌, ◌<◌, ◌≤◌, List, length, get_or, arith}
+use Rattle.std.proofs.Common.{◌≡◌, ℕ, ◌^◌, ◌<◌, List, length, get_or, arith}
 use Rattle.std.specs.List.{Contains}
 use Rattle.dexspec.specs.Lists.{rank}
 use Rattle.dexspec.specs.Texts.{Text, text_cmp}

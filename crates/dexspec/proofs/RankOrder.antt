@@ -1,14 +1,10 @@
 -- Members of a rising list that have one rank are the same, and what stands at a rank stands at a place.
 use Rattle.std.proofs.Common.{◌≡◌, ℕ, ◌<◌, List, length, get_or, refl, sym, ap, ◌∙◌, subst, arith, Ordering, Greater}
 use Rattle.std.specs.List.{Contains}
-use Rattle.std.specs.Ordering.{nat_cmp, ordering_then, ordering_reverse}
-use Rattle.std.specs.Cmp.{IsTotalOrder, nat_cmp_total}
-use Rattle.std.specs.Cmp.Lexicographic.{slice_cmp}
-use Rattle.std.specs.FinMap.{IsAntisymmetric}
-use Rattle.std.proofs.lemmas.Cmp.{tied_itself}
-use Rattle.std.proofs.lemmas.Bool.{cases_lt, lt-ltb, le-ltb, ne_eqb}
+use Rattle.std.specs.Ordering.{nat_cmp}
+use Rattle.std.specs.Cmp.{IsTotalOrder}
+use Rattle.std.proofs.lemmas.Bool.{le-ltb, ne_eqb}
 use Rattle.dexspec.specs.Lists.{rank}
-use Rattle.dexspec.proofs.Members.{AreAmong, Contains-first, Contains-later}
 use Rattle.dexspec.proofs.InOrder.{Rises, rank-place, rank-get_or}
 use Rattle.std.proofs.lemmas.List.Elements.{Contains-get_or}
 

@@ -1,7 +1,8 @@
 //! Code items: the bytes determine how units are cut, the pieces, the tries and the debug program.
-ghost use Rattle.std.specs.Prelude.{◌≡◌, ℕ, List, []};
-ghost use Rattle.dexspec.specs.Pieces.{Cut, AreCut, Piece};
-ghost use Rattle.dexspec.specs.Code.{Try, PiecesAt, CatchAt, HandlerAt, TryItemsAt, TriesAt, CodeAt};
+ghost use Rattle.std.specs.Prelude.{◌≡◌, ℕ, List, [], length};
+ghost use Rattle.std.specs.List.{flat_map};
+ghost use Rattle.dexspec.specs.Pieces.{Cut, AreCut, IsCode, Piece, units_of};
+ghost use Rattle.dexspec.specs.Code.{Try, code_units, PiecesAt, CatchAt, HandlerAt, TryItemsAt, TriesAt, CodeAt};
 ghost use Rattle.dexlaws_denotes.specs.Laws.{IsDetermined, IsOne};
 
 /// Units are cut into pieces up to their end in at most one way.
@@ -29,4 +30,10 @@ pub fn tries_are_determined()
 /// At an offset stands at most one code item.
 pub fn code_is_determined()
     ensures { IsOne CodeAt }
+{}
+
+/// Code whose indices are put to zero is code, cut in the same way, and has as many units.
+pub fn code_without_indices()
+    ensures code { (b : List ℕ) (o : ℕ) (cuts : List Cut) (ps : List Piece) → PiecesAt b o cuts ps → IsCode (flat_map units_of ps) cuts }
+    ensures size { (b : List ℕ) (o : ℕ) (cuts : List Cut) (ps : List Piece) → PiecesAt b o cuts ps → length (flat_map units_of ps) ≡ length (code_units b o) }
 {}

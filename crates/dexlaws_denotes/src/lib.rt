@@ -7,4 +7,4 @@ pub mod classes;
 pub mod code;
 pub mod collections;
 pub mod good;
-pub mod plain;
+pub mod rows;

@@ -19,6 +19,14 @@ use Rattle.dexspec.proofs.PoolRows.{same_type_row}
 use Rattle.dexspec.proofs.Denoted.{HasClasses}
 
 module _ (b : List ℕ) (h : HasClasses b) where
+  -- a row of the same type
+  named_row : (i : ℕ) (s t : Text) → s ≡ t → TypeRow b i s → TypeRow b i t
+  named_row i s t e row = subst (TypeRow b i) e row
+
+  -- the same row
+  moved_row : (i j : ℕ) (t : Text) → j ≡ i → TypeRow b i t → TypeRow b j t
+  moved_row i j t e row = subst (λ (k : ℕ). TypeRow b k t) (sym e) row
+
   -- a type has one class row
   same_class_index : (r s : ℕ) → r < table_size b ClassDefs → s < table_size b ClassDefs → class_idx b r ≡ class_idx b s → r ≡ s
   same_class_index r s lt less e = elim (cases_lt r s) [
@@ -71,13 +79,14 @@ module _ (b : List ℕ) (h : HasClasses b) where
         let s = Contains-flat_map_source parents_of (filter named D) p f.0 in
         let t = Contains-filter_source named D s.0 s.1 in
         let w = rows s.0 t.0 in
-        let own = subst (TypeRow b (class_idx b w.0)) (texts_same s.0.0 name (sym t.1)) w.1.class.row in
+        let own = named_row (class_idx b w.0) s.0.0 name (texts_same s.0.0 name (sym t.1)) w.1.class.row in
         let same = same_class_index w.0 r w.1.row less (same_type_row b h.strings h.types (class_idx b w.0) (class_idx b r) name own row) in
         let i = parent_index w.0 s.0.0 s.0.1 p w.1 s.2 in
         let k = defined_row p f.1 in
         let before = All-contains (IsDefinedBefore b w.0) (parent_indices b w.0) i.0 (h.classes w.0 w.1.row).parents i.1 in
         let j = before k.0 k.1 (same_type_row b h.strings h.types (class_idx b k.0) i.0 p k.2 i.2) in
-        below_row n j.0 p (omega (arith, j.1, same)) (omega (arith, j.1, same)) (subst (λ (x : ℕ). TypeRow b x p) (sym j.2) i.2))
+        below_row n j.0 p (omega (arith, j.1, same)) (omega (arith, j.1, same)) (moved_row i.0 (class_idx b j.0) p j.2 i.2))
 
+    -- so every defined name has a depth
     pub rows_acyclic : IsAcyclic D
     rows_acyclic name e = let r = defined_row name e in (suc r.0, below_row (suc r.0) r.0 name (omega arith) r.1 r.2)

@@ -22,6 +22,7 @@ pub record HasClasses (b : List ℕ) : Type 0 where
   pub types : AreTypes b
   pub classes : (r : ℕ) → r < table_size b ClassDefs → HasClass b r
 
+-- the first sixteen conditions say it
 pub has_classes : (b : List ℕ) → HoldBelow 17 b → HasClasses b
 has_classes b h = record {
   few = laid_few b (h Condition.Size (omega arith) 0 (omega arith)) (h Condition.Lengths (omega arith) 0 (omega arith)) (h Condition.Layout (omega arith) 0 (omega arith));
@@ -62,15 +63,18 @@ module _ (b : List ℕ) (h : HasClasses b) where
 
   -- what all rows are
   module _ (D : List Definition) (rows : AreRows b (table_size b ClassDefs) D) where
+    -- a member is what a row is
     pub rows_define : (name : Text) (c : Body) → Contains D (name, c) → Defines b name c
     rows_define name c m = let s = row_of (λ (r : ℕ) (d : Definition). ClassRow b r d.0 d.1) (table_size b ClassDefs) 0 D rows (name, c) m in (s.0, s.3)
 
+    -- and what a row is, is a member
     pub defined_rows : (name : Text) (c : Body) → Defines b name c → Contains D (name, c)
     defined_rows name c (r, x) =
         let s = member_of (λ (k : ℕ) (d : Definition). ClassRow b k d.0 d.1) (table_size b ClassDefs) 0 D rows r (omega arith) (omega (arith, x.row)) in
         let same = one_class_row b h.few r s.0.0 name s.0.1 c s.2 x in
         subst (Contains D) (λ i. (same.0 i, same.1 i)) s.1
 
+    -- no name has two of them
     pub rows_consistent : IsConsistent D
     rows_consistent name one other x y =
         let s = rows_define name one x in

@@ -39,6 +39,7 @@ module _ (b : List ℕ) (h : IsAccepted b) where
   pub accepted_classes : HasClasses b
   accepted_classes = has_classes b (λ c lt. h c)
 
+  -- and what they are
   accepted_rows : (D : List Definition) × AreRows b (table_size b ClassDefs) D
   accepted_rows = readable_rows b accepted_classes (table_size b ClassDefs) (omega arith) (accepted_readable b h)
 

@@ -54,9 +54,11 @@ module _ {X : Type 0} (Row : ℕ → X → Type 0) (one : (i : ℕ) (x y : X) �
   abbrev HavePlaces : List X → Type 0
   HavePlaces xs = (x : X) → Contains xs x → p x ≡ true → (i : ℕ) × (i < n) × Row i x
 
+  -- how many pass, one more looked at
   count_next : (x : X) (xs : List X) (b : Bool) → p x ≡ b → count_by p (x ∷ xs) ≡ cond b 1 0 + count_by p xs
   count_next x xs b e = sum_by-cons (λ y. cond (p y) 1 0) x xs ∙ ap (λ c. cond c 1 0 + count_by p xs) e
 
+  -- the rows with one more member, by whether it passes
   places_by : (x : X) (xs : List X) (b : Bool) → p x ≡ b → AreDistinct (x ∷ xs) → HavePlaces (x ∷ xs) → Places xs → Places (x ∷ xs)
   places_by x xs true e d h r =
       let w = h x (Contains-first x xs) e in record {
@@ -77,6 +79,7 @@ module _ {X : Type 0} (Row : ℕ → X → Type 0) (one : (i : ℕ) (x y : X) �
     source = λ i c. let s = r.source i c in (s.0, Contains-later x s.0 xs s.1, s.2);
   }
 
+  -- members that pass have rows of their own
   places : (xs : List X) → AreDistinct xs → HavePlaces xs → Places xs
   places [] d h = record {
     rows = [];
@@ -127,10 +130,12 @@ zip_source {A} R (a ∷ keys) (y ∷ ys) x h c = elim (Contains-cons_cases y x y
 ]
 
 module _ (b : List ℕ) where
+  -- the types of a list have rows
   list_rows : (o : ℕ) (ts : List Text) → OrNone TypeListAt [] b o ts → (t : Text) → Contains ts t → (i : ℕ) × TypeRow b i t
   list_rows o ts (inl h) t c = absurd (Contains-nil t (subst (λ (us : List Text). Contains us t) h.1 c))
   list_rows o ts (inr h) t c = let s = zip_source (TypeRow b) (type_indices b o) ts t h.1.types c in (s.0, s.2)
 
+  -- so have those of a proto
   proto_type_rows : (i : ℕ) (p : Proto) → ProtoRow b i p → (t : Text) → Contains (proto_types p) t → (i : ℕ) × TypeRow b i t
   proto_type_rows i p h t c = elim (Contains-cons_cases p.return_type t p.parameters c) [
     | inl e ↦ (uint_at b (row_at b ProtoIds i + 4), subst (TypeRow b (uint_at b (row_at b ProtoIds i + 4))) e h.return_type)
@@ -158,6 +163,7 @@ module _ (b : List ℕ) where
   text_of_type : (t : Text) → (i : ℕ) × TypeRow b i t → (i : ℕ) × StringRow b i t
   text_of_type t (i, h) = (uint_at b (row_at b TypeIds i), h.text)
 
+  -- and its texts
   proto_text_rows : (i : ℕ) (p : Proto) → ProtoRow b i p → (t : Text) → Contains (proto_texts p) t → (i : ℕ) × StringRow b i t
   proto_text_rows i p h t c = elim (Contains-cons_cases (shorty p.return_type p.parameters) t (proto_types p) c) [
     | inl e ↦ (uint_at b (row_at b ProtoIds i), subst (StringRow b (uint_at b (row_at b ProtoIds i))) e h.shorty)
@@ -184,6 +190,7 @@ module _ (b : List ℕ) where
     ]
   ]
 
+  -- the proto of a symbol with a row has a row
   proto_rows : (s : Symbol) → HasRow b s → (p : Proto) → Contains (protos_in s) p → (i : ℕ) × ProtoRow b i p
   proto_rows (ProtoSymbol q) (i, h) p c = elim (Contains-cons_cases q p [] c) [ inl e ↦ (i, subst (ProtoRow b i) e h) | inr l ↦ absurd (Contains-nil p l) ]
   proto_rows (MethodSymbol m) (i, h) p c = elim (Contains-cons_cases m.proto p [] c) [
@@ -194,6 +201,7 @@ module _ (b : List ℕ) where
   proto_rows (TypeSymbol s) h p c = absurd (Contains-nil p c)
   proto_rows (FieldSymbol s) h p c = absurd (Contains-nil p c)
 
+  -- so has its field
   field_rows : (s : Symbol) → HasRow b s → (f : Field) → Contains (fields_in s) f → (i : ℕ) × FieldRow b i f
   field_rows (FieldSymbol g) (i, h) f c = elim (Contains-cons_cases g f [] c) [ inl e ↦ (i, subst (FieldRow b i) e h) | inr l ↦ absurd (Contains-nil f l) ]
   field_rows (TextSymbol s) h f c = absurd (Contains-nil f c)
@@ -201,6 +209,7 @@ module _ (b : List ℕ) where
   field_rows (ProtoSymbol s) h f c = absurd (Contains-nil f c)
   field_rows (MethodSymbol s) h f c = absurd (Contains-nil f c)
 
+  -- and its method
   method_rows : (s : Symbol) → HasRow b s → (m : Method) → Contains (methods_in s) m → (i : ℕ) × MethodRow b i m
   method_rows (MethodSymbol n) (i, h) m c = elim (Contains-cons_cases n m [] c) [ inl e ↦ (i, subst (MethodRow b i) e h) | inr l ↦ absurd (Contains-nil m l) ]
   method_rows (TextSymbol s) h m c = absurd (Contains-nil m c)
@@ -211,27 +220,33 @@ module _ (b : List ℕ) where
   -- ---- what is mentioned
 
   module _ (D : List Definition) (rows : DefinitionsHaveRows b D) where
+    -- a symbol that occurs has a row
     occurring : {X : Type 0} (parts : Symbol → List X) (x : X) (w : Occurs parts D x) → HasRow b w.symbol
     occurring parts x w = rows w.definition w.member w.symbol w.occurs
 
+    -- a text that is mentioned has a row
     text_mentioned : (t : Text) → Contains (mentions D).texts t → (i : ℕ) × StringRow b i t
     text_mentioned t c = let w = texts-source D t c in text_rows w.symbol (occurring texts_in t w) t w.part
 
+    -- no more types are mentioned than there are rows
     few_types : length (mentions D).types ≤ table_size b TypeIds
     few_types =
         no_more (TypeRow b) (one_type b) (table_size b TypeIds) (mentions D).types (AreDistinct-from_Rises text_cmp text_total (mentions D).types (mentions-rising D).types)
         (λ t c. let w = types-source D t c in let r = type_rows w.symbol (occurring types_in t w) t w.part in (r.0, r.1.row, r.1))
 
+    -- no more protos
     few_protos : length (mentions D).protos ≤ table_size b ProtoIds
     few_protos =
         no_more (ProtoRow b) (one_proto b) (table_size b ProtoIds) (mentions D).protos (AreDistinct-from_Rises proto_cmp proto_total (mentions D).protos (mentions-rising D).protos)
         (λ p c. let w = protos-source D p c in let r = proto_rows w.symbol (occurring protos_in p w) p w.part in (r.0, r.1.row, r.1))
 
+    -- no more fields
     few_fields : length (mentions D).fields ≤ table_size b FieldIds
     few_fields =
         no_more (FieldRow b) (one_field b) (table_size b FieldIds) (mentions D).fields (AreDistinct-from_Rises field_cmp field_total (mentions D).fields (mentions-rising D).fields)
         (λ f c. let w = fields-source D f c in let r = field_rows w.symbol (occurring fields_in f w) f w.part in (r.0, r.1.row, r.1))
 
+    -- no more methods
     few_methods : length (mentions D).methods ≤ table_size b MethodIds
     few_methods =
         no_more (MethodRow b) (one_method b) (table_size b MethodIds) (mentions D).methods (AreDistinct-from_Rises method_cmp method_total (mentions D).methods (mentions-rising D).methods)

@@ -1,22 +1,21 @@
 -- The definition of a class row of a list of bytes is well formed, where its code is.
-use Rattle.std.proofs.Common.{◌≡◌, ◌≢◌, ℕ, zero, suc, ◌+◌, ◌<◌, ◌≤◌, ◌^◌, List, [], ◌∷◌, ◌++◌, length, map, All, Option, Some, None, refl, sym, ap, ◌∙◌, subst, arith, inl, inr, Ordering, Less, Equal, Greater}
-use Rattle.std.specs.Prelude.{IfSome, IsTrue}
+use Rattle.std.proofs.Common.{◌≡◌, ℕ, ◌+◌, ◌<◌, List, [], ◌∷◌, length, map, All, Option, Some, None, refl, sym, ap, ◌∙◌, subst, arith, inl, inr, Ordering, Less, Equal, Greater}
+use Rattle.std.specs.Prelude.{IfSome}
 use Rattle.std.specs.List.{Contains, AllZip}
 use Rattle.std.specs.Ordering.{ordering_then}
 use Rattle.std.proofs.lemmas.Cmp.{tied_itself}
 use Rattle.std.proofs.lemmas.List.{length-map}
 use Rattle.std.proofs.lemmas.List.Elements.{All-contains, Contains-append_left, Contains-append_right, Contains-append_cases}
-use Rattle.dexspec.specs.Lists.{OrNone, rises}
-use Rattle.dexspec.specs.Numbers.{Uleb128At}
+use Rattle.dexspec.specs.Lists.{OrNone}
 use Rattle.dexspec.specs.Texts.{Text, text_cmp}
 use Rattle.dexspec.specs.Names.{IsMemberName}
-use Rattle.dexspec.specs.Symbols.{Proto, Field, Method, IsProto, proto_cmp, field_cmp, method_cmp}
+use Rattle.dexspec.specs.Symbols.{Proto, Field, Method, IsProto, field_cmp, method_cmp}
 use Rattle.dexspec.specs.Header.{ClassDefs}
 use Rattle.dexspec.specs.Rows.{row_at, FieldRow, MethodRow}
-use Rattle.dexspec.specs.Values.{Values, NoValues, count_values}
-use Rattle.dexspec.specs.Annotations.{AnnotationSet, Directory, annotated}
-use Rattle.dexspec.specs.ClassData.{EncodedField, EncodedMethod, ClassData, no_class_data, IsNextIndex, EncodedFieldsAt, EncodedMethodsAt, ClassDataAt, fields_of, methods_of, ShareNone, BelongTo}
-use Rattle.dexspec.specs.Classes.{FieldDef, MethodDef, Body, Definition, ClassRow, StaticValuesAt, field_def, MakesMethod, declared_fields, declared_methods, access_flags, superclass_idx, interfaces_off, annotations_off, class_data_off, static_values_off}
+use Rattle.dexspec.specs.Values.{NoValues, count_values}
+use Rattle.dexspec.specs.Annotations.{Directory}
+use Rattle.dexspec.specs.ClassData.{EncodedField, EncodedMethod, ClassData, no_class_data, IsNextIndex, EncodedFieldsAt, EncodedMethodsAt, ClassDataAt, fields_of, methods_of, ShareNone}
+use Rattle.dexspec.specs.Classes.{FieldDef, MethodDef, Body, ClassRow, StaticValuesAt, field_def, MakesMethod, declared_fields, declared_methods, superclass_idx, interfaces_off, annotations_off, class_data_off, static_values_off}
 use Rattle.dexspec.specs.Mentions.{symbols_of}
 use Rattle.dexspec.specs.WellFormed.{FitsUint, IsCodeItem, IsSet, IsFieldDef, IsMethodDef, field_key, field_key_cmp, method_key, method_key_cmp, IsWellFormed}
 use Rattle.dexspec.specs.Accepted.{HasMembers, HasValues, Declares}
@@ -29,7 +28,7 @@ use Rattle.dexspec.proofs.OneValue.{one_array}
 use Rattle.dexspec.proofs.OneClass.{HasFewRows}
 use Rattle.dexspec.proofs.PoolRows.{AreStrings, AreTypes}
 use Rattle.dexspec.proofs.MemberOrder.{AreProtos, AreFields, AreMethods, fields_rise, methods_rise}
-use Rattle.dexspec.proofs.Fitting.{HaveRows, zip_source}
+use Rattle.dexspec.proofs.Fitting.{zip_source}
 use Rattle.dexspec.proofs.Sources.{map_source, annotated_source}
 use Rattle.dexspec.proofs.SymbolRows.{row_members, row_symbols}
 use Rattle.dexspec.proofs.FormedRows.{all_from, length-zip, uint_bound, symbols_formed, texts_formed, superclass_formed, interfaces_formed, interfaces_few}
@@ -52,10 +51,12 @@ abbrev IsAbove : Option ℕ → ℕ → Type 0
 IsAbove None i = Unit {0}
 IsAbove (Some last) i = last < i
 
+-- the next index is
 next_above : (last : Option ℕ) (d i : ℕ) → IsNextIndex last d i → IsAbove last i
 next_above None d i h = tt
 next_above (Some last) d i h = omega (arith, h.0, h.1)
 
+-- and so is a greater one
 above_later : (last : Option ℕ) (i j : ℕ) → IsAbove last i → i < j → IsAbove last j
 above_later None i j h lt = tt
 above_later (Some last) i j h lt = omega (arith, h)
@@ -81,6 +82,7 @@ pub record MembersRise (b : List ℕ) : Type 0 where
   pub fields : (i j : ℕ) (f g : Field) → i < j → FieldRow b i f → FieldRow b j g → field_cmp f g ≡ Less
   pub methods : (i j : ℕ) (f g : Method) → i < j → MethodRow b i f → MethodRow b j g → method_cmp f g ≡ Less
 
+-- the rows of members rise
 pub members_rise : (b : List ℕ) → AreStrings b → AreTypes b → AreProtos b → AreFields b → AreMethods b → MembersRise b
 members_rise b strings types protos fields methods = record { fields = fields_rise b strings types fields; methods = methods_rise b strings types protos methods }
 
@@ -100,6 +102,7 @@ module _ (b : List ℕ) (rise : MembersRise b) (name : Text) (d : Directory) whe
     field_keys (o + h.0 + h.1) (Some h.4) xs h.2 h.9 (λ y c. own y (Contains-later x y xs c)),
   )
 
+  -- a method has the key of what it is made from
   made_key : (x : EncodedMethod) (m : MethodDef) → MakesMethod b d x m → (x.method.name, x.method.proto) ≡ method_key m
   made_key x m makes = λ i. (sym makes.name i, sym makes.proto i)
 
@@ -133,10 +136,12 @@ record DataFormed (b : List ℕ) (name : Text) (d : ClassData) : Type 0 where
   direct_rise : (a : Directory) (ms : List MethodDef) → ((x : EncodedMethod) → Contains d.direct_methods x → x.method.class ≡ name) → AllZip (MakesMethod b a) d.direct_methods ms → Rises method_key_cmp (map method_key ms)
   virtual_rise : (a : Directory) (ms : List MethodDef) → ((x : EncodedMethod) → Contains d.virtual_methods x → x.method.class ≡ name) → AllZip (MakesMethod b a) d.virtual_methods ms → Rises method_key_cmp (map method_key ms)
 
+-- no methods have no keys
 no_method_keys : (b : List ℕ) (a : Directory) (ms : List MethodDef) → AllZip (MakesMethod b a) [] ms → Rises method_key_cmp (map method_key ms)
 no_method_keys b a [] h = tt
 no_method_keys b a (m ∷ ms) h = absurd h
 
+-- class data have this
 data_formed : (b : List ℕ) → MembersRise b → (name : Text) (o : ℕ) (d : ClassData) → OrNone ClassDataAt no_class_data b o d → DataFormed b name d
 data_formed b rise name o d (inl h) = subst (DataFormed b name) (sym h.1) (record {
   field = λ x c. absurd (Contains-nil x c);
@@ -174,6 +179,7 @@ data_formed b rise name o d (inr h) =
 
 -- ---- members
 
+-- a declared field is well formed
 field_formed : (b : List ℕ) (d : Directory) (x : EncodedField) → HasSets d → (i : ℕ) × FieldRow b i x.field × FitsUint x.flags → IsFieldDef (field_def d x)
 field_formed b d x sets has = record {
   name = has.1.formed.name;
@@ -182,6 +188,7 @@ field_formed b d x sets has = record {
   annotations = annotated_source field_cmp x.field IsSet d.fields empty_set sets.fields;
 }
 
+-- so is a declared method, where its code is
 method_formed : (b : List ℕ) (d : Directory) (x : EncodedMethod) (m : MethodDef) → HasSets d → (i : ℕ) × MethodRow b i x.method × FitsUint x.flags → MakesMethod b d x m → IfSome m.code IsCodeItem → IsMethodDef m
 method_formed b d x m sets has makes code =
     let lists = subst AreSets (sym makes.parameter_annotations) (annotated_source method_cmp x.method AreSets d.parameters empty_list sets.parameters) in
@@ -202,12 +209,21 @@ keys_apart f k xs ys apart same key c d =
     let t = map_source k ys key d in
     apart (f s.0) (Contains-map f xs s.0 s.1) (subst (Contains (map f ys)) (sym (same s.0 t.0 s.1 t.1 (s.2 ∙ sym t.2))) (Contains-map f ys t.0 t.1))
 
+-- a declared field's place among those of its class
+abbrev encoded_field_key : EncodedField → Text × Text
+encoded_field_key x = (x.field.name, x.field.type)
+
+-- the same for a method
+abbrev encoded_method_key : EncodedMethod → Text × Proto
+encoded_method_key x = (x.method.name, x.method.proto)
+
 -- what maps to the same
 map_map : {X Y Z : Type 0} (f : Y → Z) (g : X → Y) (xs : List X) → map f (map g xs) ≡ map (λ x. f (g x)) xs
 map_map f g [] = refl
 map_map f g (x ∷ xs) = ap (λ zs. f (g x) ∷ zs) (map_map f g xs)
 
-made_keys : (b : List ℕ) (d : Directory) (xs : List EncodedMethod) (ms : List MethodDef) → AllZip (MakesMethod b d) xs ms → map method_key ms ≡ map (λ x. (x.method.name, x.method.proto)) xs
+-- the keys of methods are those of what they are made from
+made_keys : (b : List ℕ) (d : Directory) (xs : List EncodedMethod) (ms : List MethodDef) → AllZip (MakesMethod b d) xs ms → map method_key ms ≡ map encoded_method_key xs
 made_keys b d [] [] h = refl
 made_keys b d [] (m ∷ ms) h = absurd h
 made_keys b d (x ∷ xs) [] h = absurd h
@@ -234,16 +250,16 @@ row_formed b bytes few rise r name c h members values code =
     let same_values : listed.0 ≡ c.static_values = one_or_none StaticValuesAt NoValues b (static_values_off b r) listed.0 c.static_values (λ s t. (one_array b (static_values_off b r) listed.0 c.static_values s.0 t.0 s.1.array t.1.array).0) listed.1 h.static_values in
     let static_length : length c.static_fields ≡ length statics = ap length h.static_fields ∙ length-map statics (field_def h.directory) in
     let instance_length : length c.instance_fields ≡ length instances = ap length h.instance_fields ∙ length-map instances (field_def h.directory) in
-    let static_keys : map field_key c.static_fields ≡ map (λ x. (x.field.name, x.field.type)) statics = ap (map field_key) h.static_fields ∙ map_map field_key (field_def h.directory) statics in
-    let instance_keys : map field_key c.instance_fields ≡ map (λ x. (x.field.name, x.field.type)) instances = ap (map field_key) h.instance_fields ∙ map_map field_key (field_def h.directory) instances in
+    let static_keys : map field_key c.static_fields ≡ map encoded_field_key statics = ap (map field_key) h.static_fields ∙ map_map field_key (field_def h.directory) statics in
+    let instance_keys : map field_key c.instance_fields ≡ map encoded_field_key instances = ap (map field_key) h.instance_fields ∙ map_map field_key (field_def h.directory) instances in
     let direct_keys = made_keys b h.directory directs c.direct_methods h.direct_methods in
     let virtual_keys = made_keys b h.directory virtuals c.virtual_methods h.virtual_methods in
     let made_field = λ (f : FieldDef) (x : EncodedField) (e : field_def h.directory x ≡ f) (m : Contains (fields_of h.members) x). subst IsFieldDef e (field_formed b h.directory x sets (formed.field x m)) in
     let made_method = λ (k : MethodDef) (x : EncodedMethod) (makes : MakesMethod b h.directory x k) (m : Contains (methods_of h.members) x) (item : IfSome k.code IsCodeItem). method_formed b h.directory x k sets (formed.method x m) makes item in
-    let fields_apart : ShareNone (map (λ (x : EncodedField). (x.field.name, x.field.type)) statics) (map (λ (x : EncodedField). (x.field.name, x.field.type)) instances) = keys_apart (λ (x : EncodedField). x.field) (λ (x : EncodedField). (x.field.name, x.field.type)) statics instances own.fields_apart (λ x y s t e.
+    let fields_apart : ShareNone (map encoded_field_key statics) (map encoded_field_key instances) = keys_apart (λ (x : EncodedField). x.field) encoded_field_key statics instances own.fields_apart (λ x y s t e.
     let same_class_of : x.field.class ≡ y.field.class = field_own x (Contains-append_left statics instances x s) ∙ sym (field_own y (Contains-append_right statics instances y t)) in
     λ i. record { class = same_class_of i; name = (e i).0; type = (e i).1 }) in
-    let methods_apart : ShareNone (map (λ (x : EncodedMethod). (x.method.name, x.method.proto)) directs) (map (λ (x : EncodedMethod). (x.method.name, x.method.proto)) virtuals) = keys_apart (λ (x : EncodedMethod). x.method) (λ (x : EncodedMethod). (x.method.name, x.method.proto)) directs virtuals own.methods_apart (λ x y s t e.
+    let methods_apart : ShareNone (map encoded_method_key directs) (map encoded_method_key virtuals) = keys_apart (λ (x : EncodedMethod). x.method) encoded_method_key directs virtuals own.methods_apart (λ x y s t e.
     let same_class_of : x.method.class ≡ y.method.class = method_own x (Contains-append_left directs virtuals x s) ∙ sym (method_own y (Contains-append_right directs virtuals y t)) in
     λ i. record { class = same_class_of i; name = (e i).0; proto = (e i).1 }) in
     record {
@@ -271,10 +287,10 @@ row_formed b bytes few rise r name c h members values code =
       virtual_methods_count = omega (arith, length-zip (MakesMethod b h.directory) virtuals c.virtual_methods h.virtual_methods, formed.virtual_count);
       static_fields = rises-from_Rises field_key_cmp (map field_key c.static_fields) (subst (λ (fs : List FieldDef). Rises field_key_cmp (map field_key fs)) (sym h.static_fields) (formed.static_rise h.directory (λ x m. field_own x (Contains-append_left statics instances x m))));
       instance_fields = rises-from_Rises field_key_cmp (map field_key c.instance_fields) (subst (λ (fs : List FieldDef). Rises field_key_cmp (map field_key fs)) (sym h.instance_fields) (formed.instance_rise h.directory (λ x m. field_own x (Contains-append_right statics instances x m))));
-      fields_apart = subst (λ (ks : List (Text × Text)). ShareNone ks (map field_key c.instance_fields)) (sym static_keys) (subst (λ (ks : List (Text × Text)). ShareNone (map (λ x. (x.field.name, x.field.type)) statics) ks) (sym instance_keys) fields_apart);
+      fields_apart = subst (λ (ks : List (Text × Text)). ShareNone ks (map field_key c.instance_fields)) (sym static_keys) (subst (λ (ks : List (Text × Text)). ShareNone (map encoded_field_key statics) ks) (sym instance_keys) fields_apart);
       direct_methods = rises-from_Rises method_key_cmp (map method_key c.direct_methods) (formed.direct_rise h.directory c.direct_methods (λ x m. method_own x (Contains-append_left directs virtuals x m)) h.direct_methods);
       virtual_methods = rises-from_Rises method_key_cmp (map method_key c.virtual_methods) (formed.virtual_rise h.directory c.virtual_methods (λ x m. method_own x (Contains-append_right directs virtuals x m)) h.virtual_methods);
-      methods_apart = subst (λ (ks : List (Text × Proto)). ShareNone ks (map method_key c.virtual_methods)) (sym direct_keys) (subst (λ (ks : List (Text × Proto)). ShareNone (map (λ x. (x.method.name, x.method.proto)) directs) ks) (sym virtual_keys) methods_apart);
+      methods_apart = subst (λ (ks : List (Text × Proto)). ShareNone ks (map method_key c.virtual_methods)) (sym direct_keys) (subst (λ (ks : List (Text × Proto)). ShareNone (map encoded_method_key directs) ks) (sym virtual_keys) methods_apart);
       static_values = static_values.0;
       shallow = static_values.1;
       few_values = omega (arith, listed.2, static_length, ap count_values same_values);

@@ -1,18 +1,18 @@
 -- Values and annotations that stand in a list of bytes are well formed.
-use Rattle.std.proofs.Common.{◌≡◌, ℕ, zero, suc, ◌+◌, ◌-◌, ◌*◌, ◌<◌, ◌≤◌, ◌^◌, List, [], ◌∷◌, length, take, drop, All, refl, sym, ap, ◌∙◌, subst, arith, inl, inr}
+use Rattle.std.proofs.Common.{◌≡◌, ℕ, suc, ◌+◌, ◌-◌, ◌*◌, ◌<◌, ◌≤◌, ◌^◌, List, [], ◌∷◌, length, drop, All, refl, sym, ap, ◌∙◌, subst, arith, inl, inr}
 use Rattle.std.specs.Prelude.{ℤ, pos, negsuc, FitsSigned}
 use Rattle.std.specs.Int.{w8, w16, w32, w64}
-use Rattle.std.specs.List.{Contains, AllZip}
+use Rattle.std.specs.List.{Contains}
 use Rattle.std.proofs.Math.Nat.{pow-le-pow_right, mul-le-mul_left, mul-suc}
 use Rattle.std.proofs.lemmas.Nat.{pow-add}
 use Rattle.std.proofs.lemmas.Int.{ints}
 use Rattle.std.proofs.lemmas.List.Elements.{All-take, All-drop}
 use Rattle.dexspec.specs.Lists.{OrNone}
-use Rattle.dexspec.specs.Bytes.{number_of, signed_in, Stands, uint_at, uints_at}
+use Rattle.dexspec.specs.Bytes.{number_of, Stands, uint_at, uints_at}
 use Rattle.dexspec.specs.Numbers.{magnitude}
 use Rattle.dexspec.specs.Symbols.{Field, Method}
 use Rattle.dexspec.specs.Rows.{FieldRow, MethodRow}
-use Rattle.dexspec.specs.Values.{Value, ByteValue, ShortValue, CharValue, IntValue, LongValue, FloatValue, DoubleValue, StringValue, TypeValue, FieldValue, MethodValue, EnumValue, ArrayValue, AnnotationValue, NullValue, BooleanValue, Values, NoValues, ThenValue, Elements, NoElements, ThenElement, value_byte, SizedAt, SignedAt, UnsignedAt, BitsAt, ValueAt, ValuesAt, ElementsAt, values_depth, most_depth}
+use Rattle.dexspec.specs.Values.{Value, ByteValue, ShortValue, CharValue, IntValue, LongValue, FloatValue, DoubleValue, StringValue, TypeValue, FieldValue, MethodValue, EnumValue, ArrayValue, AnnotationValue, NullValue, BooleanValue, Values, NoValues, ThenValue, Elements, NoElements, ThenElement, value_byte, SignedAt, UnsignedAt, BitsAt, ValueAt, ValuesAt, ElementsAt, values_depth, most_depth}
 use Rattle.dexspec.specs.Annotations.{Annotation, AnnotationSet, AnnotationAt, SetAt, RefListAt, Directory, no_directory, DirectoryAt, PairAt, pairs_at, fields_count, methods_count, parameters_count}
 use Rattle.dexspec.specs.Classes.{StaticValuesAt}
 use Rattle.dexspec.specs.WellFormed.{FitsUint, IsValue, AreValues, AreElements, IsAnnotation, IsSet}
@@ -32,6 +32,7 @@ pub record AreSets (list : List AnnotationSet) : Type 0 where
   pub sets : All IsSet list
   pub count : FitsUint (length list)
 
+-- no sets
 pub empty_list : AreSets []
 empty_list = record { sets = λ k d lt. absurd (omega arith); count = omega arith }
 
@@ -49,14 +50,17 @@ fits_8 : (z : ℤ) → 2 * magnitude z < 256 → FitsSigned w8 z
 fits_8 (pos n) h = omega (arith, ints)
 fits_8 (negsuc n) h = omega (arith, ints)
 
+-- the same in two bytes
 fits_16 : (z : ℤ) → 2 * magnitude z < 65536 → FitsSigned w16 z
 fits_16 (pos n) h = omega (arith, ints)
 fits_16 (negsuc n) h = omega (arith, ints)
 
+-- in four
 fits_32 : (z : ℤ) → 2 * magnitude z < 4294967296 → FitsSigned w32 z
 fits_32 (pos n) h = omega (arith, ints)
 fits_32 (negsuc n) h = omega (arith, ints)
 
+-- and in eight
 fits_64 : (z : ℤ) → 2 * magnitude z < 18446744073709551616 → FitsSigned w64 z
 fits_64 (pos n) h = omega (arith, ints)
 fits_64 (negsuc n) h = omega (arith, ints)
@@ -78,18 +82,21 @@ module _ (b : List ℕ) (bytes : All (λ byte. byte < 256) b) where
       let all : All small (first ∷ xs) = subst (λ (ys : List ℕ). All small ys) h.here (All-take small (length (first ∷ xs)) (drop o b) (All-drop small o b bytes)) in
       λ k d lt. all (suc k) d (omega arith)
 
+  -- a signed number has room in its type's bytes
   signed_room_at : (code width o : ℕ) (z : ℤ) (n : ℕ) → SignedAt code width b o z n → 2 * magnitude z < 256 ^ width
   signed_room_at code width o z n h =
       let own = signed_in_room h.0 z (bytes_in o (value_byte (length h.0 - 1) code) h.0 h.1.stands) h.1.some (sym h.2) in
       let most : 256 ^ length h.0 ≤ 256 ^ width = pow-le-pow_right (omega arith) h.1.few in
       omega (arith, own, most)
 
+  -- so has an unsigned one
   unsigned_room_at : (code width o v n : ℕ) → UnsignedAt code width b o v n → v < 256 ^ width
   unsigned_room_at code width o v n h =
       let own = number_bound h.0 (bytes_in o (value_byte (length h.0 - 1) code) h.0 h.1.stands) in
       let most : 256 ^ length h.0 ≤ 256 ^ width = pow-le-pow_right (omega arith) h.1.few in
       omega (arith, own, most, h.2)
 
+  -- and a bit pattern
   bits_room_at : (code width o v n : ℕ) → BitsAt code width b o v n → v < 256 ^ width
   bits_room_at code width o v n h =
       let own = number_bound h.0 (bytes_in o (value_byte (length h.0 - 1) code) h.0 h.1.stands) in
@@ -99,6 +106,7 @@ module _ (b : List ℕ) (bytes : All (λ byte. byte < 256) b) where
   -- ---- values
 
   mutual
+    -- a value is well formed
     value_formed : (o : ℕ) (v : Value) (n : ℕ) → ValueAt b o v n → IsValue v
     value_formed o (ByteValue z) n h = fits_8 z (signed_room_at 0x00 1 o z n h)
     value_formed o (ShortValue z) n h = fits_16 z (signed_room_at 0x02 2 o z n h)
@@ -117,10 +125,12 @@ module _ (b : List ℕ) (bytes : All (λ byte. byte < 256) b) where
     value_formed o NullValue n h = tt
     value_formed o (BooleanValue is) n h = tt
 
+    -- so are values
     pub values_formed : (o : ℕ) (vs : Values) (n : ℕ) → ValuesAt b o vs n → AreValues vs
     values_formed o NoValues n h = tt
     values_formed o (ThenValue v vs) n h = (value_formed o v h.0 h.2, values_formed (o + h.0) vs h.1 h.3)
 
+    -- and elements
     elements_formed : (o : ℕ) (es : Elements) (n : ℕ) → ElementsAt b o es n → AreElements es
     elements_formed o NoElements n h = tt
     elements_formed o (ThenElement name v es) n h = (value_formed (o + h.0) v h.1 h.6, elements_formed (o + h.0 + h.1) es h.2 h.7)
@@ -132,11 +142,13 @@ module _ (b : List ℕ) (bytes : All (λ byte. byte < 256) b) where
 
   -- ---- annotations
 
+  -- an annotation is well formed
   annotation_formed : (o : ℕ) (a : Annotation) → AnnotationAt b o a → IsAnnotation a
   annotation_formed o a h =
       let w = h.annotation.1 in
       record { visibility = h.known; elements = elements_formed (o + 1 + w.0 + w.1) a.elements w.2 w.7; count = w.6.spelled.in_range; rise = w.8; shallow = h.shallow }
 
+  -- so is a set
   set_formed : (o : ℕ) (set : AnnotationSet) → SetAt b o set → IsSet set
   set_formed o set h = record {
     annotations = all_from IsAnnotation set (λ a c. let w = zip_source (AnnotationAt b) (uints_at b (o + 4) (uint_at b o)) set a h.annotations c in annotation_formed w.0 a w.2);
@@ -144,16 +156,19 @@ module _ (b : List ℕ) (bytes : All (λ byte. byte < 256) b) where
     count = omega (arith, length-zip (AnnotationAt b) (uints_at b (o + 4) (uint_at b o)) set h.annotations, length-uints_at b (o + 4) (uint_at b o), uint_bound b o bytes);
   }
 
+  -- also where there may be none
   set_or_none_formed : (o : ℕ) (set : AnnotationSet) → OrNone SetAt [] b o set → IsSet set
   set_or_none_formed o set (inl h) = subst IsSet (sym h.1) empty_set
   set_or_none_formed o set (inr h) = set_formed o set h.1
 
+  -- so is a list of sets
   ref_list_formed : (o : ℕ) (list : List AnnotationSet) → RefListAt b o list → AreSets list
   ref_list_formed o list h = record {
     sets = all_from IsSet list (λ s c. let w = zip_source (OrNone SetAt [] b) (uints_at b (o + 4) (uint_at b o)) list s h.sets c in set_or_none_formed w.0 s w.2);
     count = omega (arith, length-zip (OrNone SetAt [] b) (uints_at b (o + 4) (uint_at b o)) list h.sets, length-uints_at b (o + 4) (uint_at b o), uint_bound b o bytes);
   }
 
+  -- and what a directory has
   pub directory_formed : (o : ℕ) (d : Directory) → OrNone DirectoryAt no_directory b o d → HasSets d
   directory_formed o d (inl h) =
       subst HasSets (sym h.1) (record { own = empty_set; fields = λ e c. absurd (Contains-nil e c); methods = λ e c. absurd (Contains-nil e c); parameters = λ e c. absurd (Contains-nil e c) })

@@ -80,5 +80,8 @@ pub mod PlainRows
 pub mod FormedValues
 pub mod MemberOrder
 pub mod FormedMembers
+pub mod Blanked
+pub mod BlankedCode
+pub mod FormedCode
 pub mod PoolsStand
 pub mod PoolsInOrder

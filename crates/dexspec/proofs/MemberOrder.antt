@@ -1,5 +1,5 @@
 -- The rows of protos, fields and methods stand in the order of what they name.
-use Rattle.std.proofs.Common.{◌≡◌, ℕ, zero, suc, ◌+◌, ◌<◌, ◌≤◌, Bool, true, List, [], ◌∷◌, refl, sym, ap, ◌∙◌, subst, arith, inl, inr, Ordering, Less, Equal, Greater}
+use Rattle.std.proofs.Common.{◌≡◌, ℕ, ◌+◌, ◌<◌, true, List, [], ◌∷◌, refl, ap, subst, inl, inr, Ordering, Less, Equal, Greater}
 use Rattle.std.specs.Prelude.{if◌then◌else◌, ◌==◌}
 use Rattle.std.specs.List.{AllZip}
 use Rattle.std.specs.Ordering.{nat_cmp, ordering_then}
@@ -13,7 +13,7 @@ use Rattle.dexspec.specs.Bytes.{uint_at, ushort_at}
 use Rattle.dexspec.specs.Texts.{Text, text_cmp}
 use Rattle.dexspec.specs.Symbols.{Proto, Field, Method, proto_cmp, field_cmp, method_cmp}
 use Rattle.dexspec.specs.Header.{ProtoIds, FieldIds, MethodIds, table_size}
-use Rattle.dexspec.specs.Rows.{row_at, StringRow, TypeRow, type_indices, TypeListAt, ProtoRow, FieldRow, MethodRow, key_cmp, HasProto, HasField, HasMethod}
+use Rattle.dexspec.specs.Rows.{row_at, StringRow, TypeRow, type_indices, TypeListAt, ProtoRow, FieldRow, MethodRow, HasProto, HasField, HasMethod}
 use Rattle.dexspec.proofs.SymbolOrders.{text_total, proto_total, field_total, method_total}
 use Rattle.dexspec.proofs.OneRow.{one_string, one_type, one_proto, one_field, one_method}
 use Rattle.dexspec.proofs.PoolRows.{AreStrings, AreTypes, rows_rise, first_less, less_number, strings_rise, types_rise}
@@ -54,9 +54,11 @@ abbrev pub AreMethods : List ℕ → Type 0
 AreMethods b = (i : ℕ) → i < table_size b MethodIds → HasMethod b i
 
 module _ (b : List ℕ) (strings : AreStrings b) (types : AreTypes b) where
+  -- texts follow the indices of strings
   texts_follow : (i j : ℕ) (s t : Text) → StringRow b i s → StringRow b j t → Follow (nat_cmp i j) (text_cmp s t)
   texts_follow = follow text_cmp text_total (StringRow b) (one_string b) (strings_rise b strings)
 
+  -- types follow the indices of types
   types_follow : (i j : ℕ) (s t : Text) → TypeRow b i s → TypeRow b j t → Follow (nat_cmp i j) (text_cmp s t)
   types_follow = follow text_cmp text_total (TypeRow b) (one_type b) (types_rise b strings types)
 
@@ -78,12 +80,14 @@ module _ (b : List ℕ) (strings : AreStrings b) (types : AreTypes b) where
   abbrev parameter_indices : ℕ → List ℕ
   parameter_indices o = if o == 0 then [] else type_indices b o
 
+  -- they are those of the parameters
   parameters_are : (o : ℕ) (ts : List Text) → OrNone TypeListAt [] b o ts → AllZip (TypeRow b) (parameter_indices o) ts
   parameters_are o ts (inl h) =
       let e : (o == 0) ≡ true = ap (λ (x : ℕ). x == 0) h.0 in
       rw (e, h.1) tt
   parameters_are o ts (inr h) = rw (ne_eqb o 0 h.0) h.1.types
 
+  -- protos follow their keys
   proto_next : (i j : ℕ) (p q : Proto) → ProtoRow b i p → ProtoRow b j q
       → ordering_then (nat_cmp (uint_at b (row_at b ProtoIds i + 4)) (uint_at b (row_at b ProtoIds j + 4))) (slice_cmp nat_cmp (parameter_indices (uint_at b (row_at b ProtoIds i + 8))) (parameter_indices (uint_at b (row_at b ProtoIds j + 8)))) ≡ Less
       → proto_cmp p q ≡ Less
@@ -102,11 +106,13 @@ module _ (b : List ℕ) (strings : AreStrings b) (types : AreTypes b) where
       rows_rise proto_cmp proto_total (ProtoRow b) (one_proto b) (table_size b ProtoIds) (λ k less.
       let w = protos k less in record { value = w.proto; is = w.is; follows = λ l before e row. proto_next l k before w.proto row w.is (w.follows l e) }) j i p q lt g.row h g
 
+  -- and their indices
   protos_follow : AreProtos b → (i j : ℕ) (p q : Proto) → ProtoRow b i p → ProtoRow b j q → Follow (nat_cmp i j) (proto_cmp p q)
   protos_follow protos = follow proto_cmp proto_total (ProtoRow b) (one_proto b) (protos_rise protos)
 
   -- ---- fields and methods
 
+  -- fields follow their keys
   field_next : (i j : ℕ) (f g : Field) → FieldRow b i f → FieldRow b j g
       → ordering_then (nat_cmp (ushort_at b (row_at b FieldIds i)) (ushort_at b (row_at b FieldIds j)))
       (ordering_then (nat_cmp (uint_at b (row_at b FieldIds i + 4)) (uint_at b (row_at b FieldIds j + 4))) (ordering_then (nat_cmp (ushort_at b (row_at b FieldIds i + 2)) (ushort_at b (row_at b FieldIds j + 2))) Equal)) ≡ Less
@@ -129,6 +135,7 @@ module _ (b : List ℕ) (strings : AreStrings b) (types : AreTypes b) where
       rows_rise field_cmp field_total (FieldRow b) (one_field b) (table_size b FieldIds) (λ l less.
       let w = fields l less in record { value = w.field; is = w.is; follows = λ m before e row. field_next m l before w.field row w.is (w.follows m e) }) j i f g lt k.row h k
 
+  -- methods follow their keys
   method_next : AreProtos b → (i j : ℕ) (f g : Method) → MethodRow b i f → MethodRow b j g
       → ordering_then (nat_cmp (ushort_at b (row_at b MethodIds i)) (ushort_at b (row_at b MethodIds j)))
       (ordering_then (nat_cmp (uint_at b (row_at b MethodIds i + 4)) (uint_at b (row_at b MethodIds j + 4))) (ordering_then (nat_cmp (ushort_at b (row_at b MethodIds i + 2)) (ushort_at b (row_at b MethodIds j + 2))) Equal)) ≡ Less

@@ -155,6 +155,7 @@ module _ (b : List ℕ) (few : HasFewRows b) where
   pub one_row_directory : (o : ℕ) (x y : Directory) → OrNone DirectoryAt no_directory b o x → OrNone DirectoryAt no_directory b o y → x ≡ y
   one_row_directory o x y h g = one_or_none DirectoryAt no_directory b o x y (one_directory b o x y) h g
 
+  -- and one class data
   pub one_row_data : (o : ℕ) (x y : ClassData) → OrNone ClassDataAt no_class_data b o x → OrNone ClassDataAt no_class_data b o y → x ≡ y
   one_row_data o x y h g = one_or_none ClassDataAt no_class_data b o x y (one_class_data b o x y) h g
 

@@ -1,5 +1,5 @@
 -- Conditions 11 to 15 of a file that is laid out: its rows stand for symbols, and follow in order.
-use Rattle.std.proofs.Common.{◌≡◌, ◌≢◌, ℕ, zero, suc, ◌+◌, ◌<◌, ◌≤◌, List, [], ◌∷◌, drop, length, get_or, map, refl, sym, ap, subst, ◌∙◌, arith, inl, inr}
+use Rattle.std.proofs.Common.{◌≡◌, ℕ, zero, suc, ◌+◌, ◌<◌, List, [], ◌∷◌, drop, length, get_or, map, refl, sym, ap, subst, ◌∙◌, arith, inl, inr}
 use Rattle.std.specs.Prelude.{◌==◌, if◌then◌else◌, nat_lt}
 use Rattle.std.specs.List.{Contains}
 use Rattle.std.specs.Cmp.{IsTotalOrder}
@@ -14,8 +14,8 @@ use Rattle.dexspec.specs.Lists.{rank}
 use Rattle.dexspec.specs.Bytes.{uint_at, ushort_at}
 use Rattle.dexspec.specs.Texts.{Text, text_cmp}
 use Rattle.dexspec.specs.Symbols.{Proto, Field, Method, proto_cmp, field_cmp, method_cmp}
-use Rattle.dexspec.specs.Header.{StringIds, TypeIds, ProtoIds, FieldIds, MethodIds, table_size}
-use Rattle.dexspec.specs.Rows.{row_at, StringRow, TypeRow, ProtoRow, FieldRow, MethodRow, type_indices, key_cmp, type_row_key, proto_row_key, field_row_key, method_row_key, Follows, HasString, HasType, HasProto, HasField, HasMethod}
+use Rattle.dexspec.specs.Header.{StringIds, ProtoIds, FieldIds, MethodIds}
+use Rattle.dexspec.specs.Rows.{row_at, TypeRow, ProtoRow, FieldRow, MethodRow, type_indices, key_cmp, type_row_key, proto_row_key, HasString, HasType, HasProto, HasField, HasMethod}
 use Rattle.dexspec.specs.Spellings.{text_index, type_index, proto_index}
 use Rattle.dexspec.specs.Placing.{Ordered, unless_empty}
 use Rattle.dexspec.proofs.Members.{Contains-first, Contains-later}
@@ -26,7 +26,7 @@ use Rattle.dexspec.proofs.Placements.{type_list_bytes}
 use Rattle.dexspec.proofs.Laying.{Laid}
 use Rattle.dexspec.proofs.HeaderLaws.{AreFew}
 use Rattle.dexspec.proofs.Uses.{UseStands}
-use Rattle.dexspec.proofs.RowsRead.{type_read, ProtoRead, proto_read, field_read, method_read, type_list_indices}
+use Rattle.dexspec.proofs.RowsRead.{type_read, proto_read, field_read, method_read, type_list_indices}
 use Rattle.dexspec.proofs.PoolsStand.{ArePools, text_row_at, type_row, proto_row, field_row, method_row}
 
 -- ---- ranks are in the order of the symbols

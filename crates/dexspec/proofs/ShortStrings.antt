@@ -52,7 +52,7 @@ unit_bound us i h = elim (cases_lt i (length us)) [
 -- ---- the index of a const-string
 
 -- the first unit is kept where an index is put in
-first_kept : (us : List ℕ) (w : Bool) → slice_index (if w then slice_set (slice_set us 1 (0 % 65536)) 2 (0 / 65536) else slice_set us 1 0) 0 ≡ slice_index us 0
+pub first_kept : (us : List ℕ) (w : Bool) → slice_index (if w then slice_set (slice_set us 1 (0 % 65536)) 2 (0 / 65536) else slice_set us 1 0) 0 ≡ slice_index us 0
 first_kept us true = get_or-set_other (slice_set us 1 (0 % 65536)) 2 0 (0 / 65536) 0 (omega arith) ∙ get_or-set_other us 1 0 (0 % 65536) 0 (omega arith)
 first_kept us false = get_or-set_other us 1 0 0 0 (omega arith)
 

@@ -33,6 +33,7 @@ distinct_source same (z ∷ xs) x c = elim (Contains-cons_cases z x (filter (λ 
   | inr l ↦ Contains-later z x xs (distinct_source same xs x (Contains-filter_source (λ y. not (same z y)) (distinct same xs) x l).0)
 ]
 
+-- by whether the first entry is the member's
 annotated_by : {M X : Type 0} (R : M → M → Ordering) (m : M) (P : List X → Type 0) (e : M × List X) (es : List (M × List X)) (t : Bool) → P e.1 → P (annotated R es m) → P (unwrap_or (cond t (Some e.1) (find R m es)) [])
 annotated_by R m P e es true here later = here
 annotated_by R m P e es false here later = later

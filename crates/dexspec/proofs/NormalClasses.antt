@@ -41,21 +41,25 @@ use Rattle.dexspec.proofs.ClassPlaces.{in_class_order-only, class_names-apart, c
 
 -- ---- what a class row names occurs in the definition
 
+-- the name of a definition occurs in it
 name_occurs : (d : Definition) → Contains (symbols_of d) (TypeSymbol d.0)
 unfolding symbols_of
 name_occurs d = Contains-first (TypeSymbol d.0) _
 
+-- and so does its superclass
 superclass_occurs : (d : Definition) (t : Text) → Contains (option_to_list d.1.superclass) t → Contains (symbols_of d) (TypeSymbol t)
 unfolding symbols_of
 superclass_occurs d t c =
     Contains-later (TypeSymbol d.0) (TypeSymbol t) _ (Contains-append_left (optional_type d.1.superclass) _ (TypeSymbol t) (Contains-map TypeSymbol (option_to_list d.1.superclass) t c))
 
+-- and each interface
 interface_occurs : (d : Definition) (t : Text) → Contains d.1.interfaces t → Contains (symbols_of d) (TypeSymbol t)
 unfolding symbols_of
 interface_occurs d t c =
     Contains-later (TypeSymbol d.0) (TypeSymbol t) _ (Contains-append_right (optional_type d.1.superclass) _ (TypeSymbol t)
     (Contains-append_left (map TypeSymbol d.1.interfaces) _ (TypeSymbol t) (Contains-map TypeSymbol d.1.interfaces t c)))
 
+-- and its source
 source_occurs : (d : Definition) (s : Text) → Contains (option_to_list d.1.source) s → Contains (symbols_of d) (TextSymbol s)
 unfolding symbols_of
 source_occurs d s c =
@@ -114,32 +118,38 @@ module _ (D : List Definition) (b : List ℕ) (n : AreNormal D b) where
   class_ranked : (t : Text) → IsClass t → Contains (mentions D).types t → ClassTypeRow b (type_index (mentions D) t) t
   class_ranked t is c = record { row = type_ranked D b n.file t c; class = is }
 
+  -- a class row is of its class
   own_class : (r : ℕ) (e : Definition) → r < length (in_class_order D) → ClassTypeRow b (class_idx b r) (get_or (in_class_order D) r e).0
   own_class r e lt =
       let d = get_or (in_class_order D) r e in
       let c = class_member r e lt in
       subst (λ k. ClassTypeRow b k d.0) (sym (class_numbers r e lt).name_is) (class_ranked d.0 (n.formed d c).name (type_mentioned D d d.0 c (name_occurs d)))
 
+  -- an index of a class, or of none
   optional_class : (d : Definition) (t : Option Text) → Contains D d → IfSome t IsClass → ((s : Text) → Contains (option_to_list t) s → Contains (symbols_of d) (TypeSymbol s)) → IndexOrNone ClassTypeRow b (index_of (type_index (mentions D)) t) t
   optional_class d None c is f = refl
   optional_class d (Some t) c is f = class_ranked t is (type_mentioned D d t c (f t (Contains-first t [])))
 
+  -- an index of a text, or of none
   optional_string : (d : Definition) (s : Option Text) → Contains D d → ((t : Text) → Contains (option_to_list s) t → Contains (symbols_of d) (TextSymbol t)) → IndexOrNone StringRow b (index_of (text_index (mentions D)) s) s
   optional_string d None c f = refl
   optional_string d (Some s) c f = string_ranked D b n.file s (text_mentioned D d s c (f s (Contains-first s [])))
 
+  -- a class row names its superclass
   own_superclass : (r : ℕ) (e : Definition) → r < length (in_class_order D) → IndexOrNone ClassTypeRow b (superclass_idx b r) (get_or (in_class_order D) r e).1.superclass
   own_superclass r e lt =
       let d = get_or (in_class_order D) r e in
       let c = class_member r e lt in
       subst (λ k. IndexOrNone ClassTypeRow b k d.1.superclass) (sym (class_numbers r e lt).superclass_is) (optional_class d d.1.superclass c (n.formed d c).superclass (superclass_occurs d))
 
+  -- and its source
   own_source : (r : ℕ) (e : Definition) → r < length (in_class_order D) → IndexOrNone StringRow b (source_file_idx b r) (get_or (in_class_order D) r e).1.source
   own_source r e lt =
       let d = get_or (in_class_order D) r e in
       let c = class_member r e lt in
       subst (λ k. IndexOrNone StringRow b k d.1.source) (sym (class_numbers r e lt).source_is) (optional_string d d.1.source c (source_occurs d))
 
+  -- the interfaces of a definition are mentioned
   interfaces_mentioned : (d : Definition) → Contains D d → AreAmong d.1.interfaces (mentions D).types
   interfaces_mentioned d c t l = type_mentioned D d t c (interface_occurs d t l)
 
@@ -148,6 +158,7 @@ module _ (D : List Definition) (b : List ℕ) (n : AreNormal D b) where
   class_list o ts are (inl h) = inl h
   class_list o ts are (inr h) = inr (h.0, record { list = h.1; classes = are })
 
+  -- a class row leads to its interfaces
   own_interfaces : (r : ℕ) (e : Definition) → r < length (in_class_order D) → OrNone ClassListAt [] b (interfaces_off b r) (get_or (in_class_order D) r e).1.interfaces
   own_interfaces r e lt =
       let d = get_or (in_class_order D) r e in

@@ -108,6 +108,7 @@ module _ (D : List Definition) (b : List ℕ) (n : AreNormal D b) (items : Items
 
 -- ---- canonical files
 
+-- the greatest caps are caps
 greatest_are : AreCaps greatest_caps
 greatest_are = record { types = omega arith; protos = omega arith; fields = omega arith; methods = omega arith; short_strings = omega arith; weight = omega arith }
 

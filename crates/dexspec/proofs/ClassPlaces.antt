@@ -24,14 +24,17 @@ PlacedClass = (ℕ × Text) × Body
 
 -- ---- the order of places
 
+-- it is total
 place_total : IsTotalOrder place_cmp
 place_total = then_total (on_total (λ (x : ℕ × Text). x.0) nat_cmp_total) (on_total (λ (x : ℕ × Text). x.1) text_total)
 
+-- where the first decides or the second, both tie if they tie together
 both_equal : (a b : Ordering) → ordering_then a b ≡ Equal → (a ≡ Equal) × (b ≡ Equal)
 both_equal Less b e = absurd cc
 both_equal Equal b e = (refl, e)
 both_equal Greater b e = absurd cc
 
+-- only equal places tie
 place_exact : IsAntisymmetric place_cmp
 place_exact x y e =
     let k = both_equal (nat_cmp x.0 y.0) (text_cmp x.1 y.1) e in
@@ -52,6 +55,7 @@ keys-put k v (e ∷ es) = by (place_cmp k e.0) (keys-put k v es)
     by Equal again = refl
     by Greater again = ap (λ ks. e.0 ∷ ks) again
 
+-- and so are those of all
 keys-put_all : (es : List PlacedClass) → map (λ e. e.0) (put_all es) ≡ in_order place_cmp (map (λ e. e.0) es)
 keys-put_all [] = refl
 keys-put_all (e ∷ es) = keys-put e.0 e.1 (put_all es) ∙ ap (add_in_order place_cmp e.0) (keys-put_all es)
@@ -96,6 +100,7 @@ put-later k v (e ∷ es) x h c = by (place_cmp k e.0) (h e (Contains-first e es)
     by Equal other again = absurd (other refl)
     by Greater other again = elim (Contains-cons_cases e x es c) [ inl p ↦ (0, omega arith, p) | inr l ↦ Contains-later e x (put place_cmp k v es) (again l) ]
 
+-- what was put for all is one of them
 put_all-only : (es : List PlacedClass) (x : PlacedClass) → Contains (put_all es) x → Contains es x
 put_all-only [] x c = c
 put_all-only (e ∷ es) x c = elim (put-only e.0 e.1 (put_all es) x c) [
@@ -103,6 +108,7 @@ put_all-only (e ∷ es) x c = elim (put-only e.0 e.1 (put_all es) x c) [
   | inr l ↦ Contains-later e x es (put_all-only es x l)
 ]
 
+-- and each of other names is put
 put_all-has : (es : List PlacedClass) (x : PlacedClass) → AreDistinct (map (λ e. e.0.1) es) → Contains es x → Contains (put_all es) x
 put_all-has [] x d c = c
 put_all-has (e ∷ es) x d c =
@@ -124,6 +130,7 @@ Contains-map_source f (x ∷ xs) y c = elim (Contains-cons_cases (f x) y (map f 
   | inr l ↦ let s = Contains-map_source f xs y l in (s.0, Contains-later x s.0 xs s.1, s.2)
 ]
 
+-- the names stay with the depths
 names-kept : (g : Definition → ℕ) (D : List Definition) → map (λ (e : PlacedClass). e.0.1) (map (λ d. ((g d, d.0), d.1)) D) ≡ map (λ d. d.0) D
 names-kept g [] = refl
 names-kept g (d ∷ D) = ap (λ ns. d.0 ∷ ns) (names-kept g D)

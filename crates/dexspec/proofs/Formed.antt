@@ -7,8 +7,10 @@ use Rattle.dexspec.specs.Symbols.{Symbol, TextSymbol, TypeSymbol, ProtoSymbol, F
 use Rattle.dexspec.specs.Classes.{Definition}
 use Rattle.dexspec.specs.Mentions.{Mentions, mentions, symbols_of, texts_in, types_in, protos_in, fields_in, methods_in, proto_types}
 use Rattle.dexspec.specs.WellFormed.{IsText, IsSymbol, AreWellFormed}
-use Rattle.dexspec.proofs.Members.{Contains-nil, Contains-cons_cases, Contains-flat_map}
-use Rattle.dexspec.proofs.MentionMembers.{Occurs, texts-source, types-source, protos-source, fields-source, methods-source}
+use Rattle.dexspec.proofs.Members.{Contains-nil, Contains-first, Contains-later, Contains-cons_cases, Contains-flat_map}
+use Rattle.dexspec.proofs.MentionMembers.{Occurs, texts-source, types-source, protos-source, fields-source, methods-source, type-text, proto-shorty, proto-types, field-class, field-name, field-type, method-class, method-name, method-proto}
+use Rattle.dexspec.proofs.Growth.{mentions-rising}
+use Rattle.dexspec.proofs.PoolsStand.{ArePools}
 
 -- what is true of all is true of a member
 pub All-member : {X : Type 0} (P : X → Type 0) (xs : List X) (x : X) → All P xs → Contains xs x → P x
@@ -100,3 +102,31 @@ mentions-formed D h = record {
   fields = λ f c. let w = fields-source D f c in symbol_fields w.symbol (occurring fields_in D f h w) f w.part;
   methods = λ m c. let w = methods-source D m c in symbol_methods w.symbol (occurring methods_in D m h w) m w.part;
 }
+
+-- they are pools
+pub mentions-pools : (D : List Definition) → AreWellFormed D → ArePools (mentions D)
+mentions-pools D h =
+    let rise = mentions-rising D in
+    let are = mentions-formed D h in
+    record {
+      texts_rise = rise.texts;
+      types_rise = rise.types;
+      protos_rise = rise.protos;
+      fields_rise = rise.fields;
+      methods_rise = rise.methods;
+      units = λ s c. (are.texts s c).units;
+      type_text = type-text D;
+      descriptor = are.types;
+      proto_shorty = proto-shorty D;
+      proto_return = λ p c. proto-types D p p.return_type c (Contains-first p.return_type p.parameters);
+      proto_parameter = λ p t c l. proto-types D p t c (Contains-later p.return_type t p.parameters l);
+      proto_values = λ p c. (are.protos p c).parameters;
+      field_class = field-class D;
+      field_type = field-type D;
+      field_name = field-name D;
+      field_formed = are.fields;
+      method_class = method-class D;
+      method_proto = method-proto D;
+      method_name = method-name D;
+      method_formed = are.methods;
+    }

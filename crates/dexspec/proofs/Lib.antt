@@ -56,8 +56,6 @@ pub mod Frames
 pub mod RankOrder
 pub mod Formed
 pub mod NormalRows
-pub mod UseItems
-pub mod NormalLists
 pub mod ClassPlaces
 pub mod NormalClasses
 pub mod PlainItems

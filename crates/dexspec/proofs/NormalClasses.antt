@@ -1,65 +1,65 @@
 -- The class rows in the file of definitions: each is the definition of its place, where what belongs to it stands
 -- where its row says; condition 16.
-use Rattle.std.proofs.Common.{◌≡◌, ℕ, ◌+◌, ◌^◌, ◌<◌, List, [], ◌∷◌, ◌++◌, length, get_or, map, refl, sym, ap, ◌∙◌, subst, arith, inl, inr, All, true}
-use Rattle.std.specs.Prelude.{slice_index, ◌==◌, if◌then◌else◌, Option, Some, None, IfSome, option_to_list}
+use Rattle.std.proofs.Common.{◌≡◌, ℕ, ◌<◌, List, [], ◌∷◌, ◌++◌, length, get_or, map, refl, sym, ap, ◌∙◌, subst, arith, inl, inr, All, true}
+use Rattle.std.specs.Prelude.{◌==◌, if◌then◌else◌, Option, Some, None, IfSome, option_to_list}
 use Rattle.std.specs.List.{Contains, AllZip, filter, flat_map}
 use Rattle.std.specs.Option.{option_map_or}
 use Rattle.std.proofs.lemmas.Bool.{cond-false, ne_eqb}
 use Rattle.std.proofs.lemmas.Bool.Decides.{Decides-eqb}
 use Rattle.std.proofs.lemmas.Slice.Eq.{slice_eq-Decides}
-use Rattle.std.proofs.lemmas.List.{length-map, map-append}
+use Rattle.std.proofs.lemmas.List.{map-append}
 use Rattle.std.proofs.lemmas.List.Elements.{Contains-get_or, Contains-append_left, Contains-append_right, Contains-append_cases, All-map}
 use Rattle.dexspec.specs.Lists.{OrNone, AreDistinct}
-use Rattle.dexspec.specs.Bytes.{uint, Stands}
 use Rattle.dexspec.specs.Texts.{Text, text_cmp, same_text}
 use Rattle.dexspec.specs.Names.{IsClass}
 use Rattle.dexspec.specs.Symbols.{TextSymbol, TypeSymbol}
 use Rattle.dexspec.specs.Header.{ClassDefs, table_size}
-use Rattle.dexspec.specs.Rows.{row_at, StringRow, TypeListAt}
+use Rattle.dexspec.specs.Rows.{StringRow, TypeListAt, type_indices}
 use Rattle.dexspec.specs.Values.{NoValues}
 use Rattle.dexspec.specs.Annotations.{Directory, DirectoryAt, no_directory}
 use Rattle.dexspec.specs.ClassData.{ClassData, ClassDataAt, no_class_data}
-use Rattle.dexspec.specs.Classes.{Body, Definition, ClassRow, ClassTypeRow, ClassListAt, IndexOrNone, StaticValuesAt, field_def, MakesMethod, class_idx, access_flags, superclass_idx, interfaces_off, source_file_idx, annotations_off, class_data_off, static_values_off, no_index}
+use Rattle.dexspec.specs.Classes.{Body, Definition, ClassRow, ClassTypeRow, ClassListAt, IndexOrNone, StaticValuesAt, field_def, MakesMethod, class_idx, superclass_idx, interfaces_off, source_file_idx, annotations_off, class_data_off, static_values_off, no_index}
 use Rattle.dexspec.specs.Mentions.{mentions, symbols_of, optional_type, optional_text}
 use Rattle.dexspec.specs.Depth.{parents, is_defined, IsAcyclic, depth, in_class_order}
 use Rattle.dexspec.specs.WellFormed.{AreWellFormed}
 use Rattle.dexspec.specs.Accepted.{parent_indices, IsDefinedBefore, HasClass}
-use Rattle.dexspec.specs.Spellings.{text_index, type_index, class_data_bytes, encoded_array_bytes}
-use Rattle.dexspec.specs.Placing.{Ordered, own_items, offsets, static_values_uses, class_data_uses, directory_uses}
-use Rattle.dexspec.specs.Canonical.{ordered, ClassOffsets}
-use Rattle.dexspec.proofs.Stands.{stands_at}
-use Rattle.dexspec.proofs.ByteNumbers.{uint_at-stands}
+use Rattle.dexspec.specs.Spellings.{text_index, type_index}
+use Rattle.dexspec.specs.Placing.{unless_empty}
+use Rattle.dexspec.specs.Canonical.{ordered}
 use Rattle.dexspec.proofs.Members.{AreAmong, Contains-first, Contains-later, Contains-flat_map, Contains-filter, list_any-member}
-use Rattle.dexspec.proofs.SymbolOrders.{text_total, text_exact}
+use Rattle.dexspec.proofs.SymbolOrders.{text_total}
 use Rattle.dexspec.proofs.Growth.{mentions-rising}
 use Rattle.dexspec.proofs.MentionMembers.{texts-listed, types-listed}
 use Rattle.dexspec.proofs.Depths.{Contains-map, depth-parent}
-use Rattle.dexspec.proofs.Placements.{array_section, array_offsets, class_data_section, class_data_offsets, code_offsets, directory_section, directory_offsets, set_offsets, ref_list_offsets}
-use Rattle.dexspec.proofs.Tables.{stands_here, stands_next}
-use Rattle.dexspec.proofs.Laying.{Laid, class_places}
+use Rattle.dexspec.proofs.Placements.{type_list_bytes}
 use Rattle.dexspec.proofs.RankOrder.{rank_one}
-use Rattle.dexspec.proofs.UseItems.{LeadsToList, interfaces_lead, uses_small}
-use Rattle.dexspec.proofs.NormalRows.{IsNormal, text_small, string_ranked, type_ranked}
-use Rattle.dexspec.proofs.NormalLists.{type_small, list_or_none, list_indices, list_small}
+use Rattle.dexspec.proofs.Uses.{UseStands}
+use Rattle.dexspec.proofs.RowsRead.{ClassRead, class_read, type_index_small, type_list_indices}
+use Rattle.dexspec.proofs.PoolsStand.{type_list_or_none}
+use Rattle.dexspec.proofs.NormalRows.{IsNormal, string_ranked, type_ranked}
 use Rattle.dexspec.proofs.ClassPlaces.{in_class_order-only, class_names-apart, class_depths-before}
 
 -- ---- what a class row names occurs in the definition
 
+-- the name of a definition occurs in it
 name_occurs : (d : Definition) → Contains (symbols_of d) (TypeSymbol d.0)
 unfolding symbols_of
 name_occurs d = Contains-first (TypeSymbol d.0) _
 
+-- and so does its superclass
 superclass_occurs : (d : Definition) (t : Text) → Contains (option_to_list d.1.superclass) t → Contains (symbols_of d) (TypeSymbol t)
 unfolding symbols_of
 superclass_occurs d t c =
     Contains-later (TypeSymbol d.0) (TypeSymbol t) _ (Contains-append_left (optional_type d.1.superclass) _ (TypeSymbol t) (Contains-map TypeSymbol (option_to_list d.1.superclass) t c))
 
+-- and each interface
 interface_occurs : (d : Definition) (t : Text) → Contains d.1.interfaces t → Contains (symbols_of d) (TypeSymbol t)
 unfolding symbols_of
 interface_occurs d t c =
     Contains-later (TypeSymbol d.0) (TypeSymbol t) _ (Contains-append_right (optional_type d.1.superclass) _ (TypeSymbol t)
     (Contains-append_left (map TypeSymbol d.1.interfaces) _ (TypeSymbol t) (Contains-map TypeSymbol d.1.interfaces t c)))
 
+-- and its source
 source_occurs : (d : Definition) (s : Text) → Contains (option_to_list d.1.source) s → Contains (symbols_of d) (TextSymbol s)
 unfolding symbols_of
 source_occurs d s c =
@@ -75,41 +75,18 @@ type_mentioned D d t c o = types-listed D t (record { definition = d; symbol = T
 text_mentioned : (D : List Definition) (d : Definition) (s : Text) → Contains D d → Contains (symbols_of d) (TextSymbol s) → Contains (mentions D).texts s
 text_mentioned D d s c o = texts-listed D s (record { definition = d; symbol = TextSymbol s; member = c; occurs = o; part = Contains-first s [] })
 
--- ---- what stands at the offsets of a class row
-
--- what belongs to a class stands at the offsets that its row holds
-pub record BelongsAt (b : List ℕ) (c : Body) (offs : ClassOffsets) : Type 0 where
+-- what belongs to a class stands at the offsets of class row r
+pub record BelongsAt (b : List ℕ) (r : ℕ) (c : Body) : Type 0 where
   pub directory : Directory
-  pub directory_is : OrNone DirectoryAt no_directory b offs.annotations directory
+  pub directory_is : OrNone DirectoryAt no_directory b (annotations_off b r) directory
   pub members : ClassData
-  pub members_are : OrNone ClassDataAt no_class_data b offs.class_data members
+  pub members_are : OrNone ClassDataAt no_class_data b (class_data_off b r) members
   pub annotations : c.annotations ≡ directory.own
   pub static_fields : c.static_fields ≡ map (field_def directory) members.static_fields
   pub instance_fields : c.instance_fields ≡ map (field_def directory) members.instance_fields
   pub direct_methods : AllZip (MakesMethod b directory) members.direct_methods c.direct_methods
   pub virtual_methods : AllZip (MakesMethod b directory) members.virtual_methods c.virtual_methods
-  pub static_values : OrNone StaticValuesAt NoValues b offs.static_values c.static_values
-
--- the offset of a directory fits four bytes
-directory_small : (K : Ordered) (b : List ℕ) → Laid K b → (r : ℕ) → slice_index (directory_offsets K) r < 2 ^ 32
-unfolding directory_offsets
-directory_small K b h r =
-    uses_small (directory_uses K (set_offsets K) (ref_list_offsets K)) (offsets (directory_section K)) r
-    (λ k lt. omega (arith, (h.directories k [] lt).in_data.within, h.small))
-
--- and that of class data
-class_data_small : (K : Ordered) (b : List ℕ) → Laid K b → (r : ℕ) → slice_index (class_data_offsets K) r < 2 ^ 32
-unfolding class_data_offsets
-class_data_small K b h r =
-    uses_small (class_data_uses K (code_offsets K)) (offsets (class_data_section K)) r
-    (λ k lt. omega (arith, (h.class_data k [] (omega (arith, lt, length-map (own_items (class_data_uses K (code_offsets K))).written (λ (p : Definition × List ℕ). class_data_bytes K.pools p.0 p.1)))).in_data.within, h.small))
-
--- and that of static values
-array_small : (K : Ordered) (b : List ℕ) → Laid K b → (r : ℕ) → slice_index (array_offsets K) r < 2 ^ 32
-unfolding array_offsets
-array_small K b h r =
-    uses_small (static_values_uses K) (offsets (array_section K)) r
-    (λ k lt. omega (arith, (h.arrays k [] (omega (arith, lt, length-map (own_items (static_values_uses K)).written (encoded_array_bytes K.pools)))).in_data.within, h.small))
+  pub static_values : OrNone StaticValuesAt NoValues b (static_values_off b r) c.static_values
 
 -- a text is the same as itself
 same_itself : (s : Text) → same_text s s ≡ true
@@ -132,61 +109,8 @@ module _ (D : List Definition) (b : List ℕ) (n : AreNormal D b) where
   index_of f x = option_map_or f x no_index
 
   -- the numbers in a class's row
-  record ClassNumbers (r : ℕ) (d : Definition) : Type 0 where
-    own : class_idx b r ≡ type_index (mentions D) d.0
-    access : access_flags b r ≡ d.1.flags
-    parent : superclass_idx b r ≡ index_of (type_index (mentions D)) d.1.superclass
-    list : LeadsToList (ordered D) b (interfaces_off b r) d.1.interfaces
-    file_of : source_file_idx b r ≡ index_of (text_index (mentions D)) d.1.source
-    directory : annotations_off b r ≡ (class_places (ordered D) r).annotations
-    members : class_data_off b r ≡ (class_places (ordered D) r).class_data
-    values : static_values_off b r ≡ (class_places (ordered D) r).static_values
-
-  -- an index of a type, or of none, fits four bytes
-  optional_type_small : (d : Definition) (t : Option Text) → Contains D d → ((s : Text) → Contains (option_to_list t) s → Contains (symbols_of d) (TypeSymbol s)) → index_of (type_index (mentions D)) t < 2 ^ 32
-  optional_type_small d None c f = omega arith
-  optional_type_small d (Some t) c f = omega (arith, type_small D b n.file t (type_mentioned D d t c (f t (Contains-first t []))))
-
-  -- and so does one of a text
-  optional_text_small : (d : Definition) (s : Option Text) → Contains D d → ((t : Text) → Contains (option_to_list s) t → Contains (symbols_of d) (TextSymbol t)) → index_of (text_index (mentions D)) s < 2 ^ 32
-  optional_text_small d None c f = omega arith
-  optional_text_small d (Some s) c f = text_small D b n.file s (text_mentioned D d s c (f s (Contains-first s [])))
-
-  class_numbers : (r : ℕ) (e : Definition) → r < length (in_class_order D) → ClassNumbers r (get_or (in_class_order D) r e)
-  class_numbers r e lt =
-      let d = get_or (in_class_order D) r e in
-      let c = class_member r e lt in
-      let h = n.file.laid.class_row r e lt in
-      let offs = class_places (ordered D) r in
-      let lead = interfaces_lead (ordered D) b n.file.laid r e lt in
-      let own = type_index (mentions D) d.0 in
-      let parent = index_of (type_index (mentions D)) d.1.superclass in
-      let source = index_of (text_index (mentions D)) d.1.source in
-      let r6 = uint offs.class_data ++ uint offs.static_values in
-      let r5 = uint offs.annotations ++ r6 in
-      let r4 = uint source ++ r5 in
-      let r3 = uint offs.interfaces ++ r4 in
-      let r2 = uint parent ++ r3 in
-      let r1 = uint d.1.flags ++ r2 in
-      let at = row_at b ClassDefs r in
-      let h1 : Stands b (row_at b ClassDefs r + 4) r1 = stands_next own r1 h in
-      let h2 : Stands b (row_at b ClassDefs r + 8) r2 = stands_at (omega arith) (stands_next d.1.flags r2 h1) in
-      let h3 : Stands b (row_at b ClassDefs r + 12) r3 = stands_at (omega arith) (stands_next parent r3 h2) in
-      let h4 : Stands b (row_at b ClassDefs r + 16) r4 = stands_at (omega arith) (stands_next offs.interfaces r4 h3) in
-      let h5 : Stands b (row_at b ClassDefs r + 20) r5 = stands_at (omega arith) (stands_next source r5 h4) in
-      let h6 : Stands b (row_at b ClassDefs r + 24) r6 = stands_at (omega arith) (stands_next offs.annotations r6 h5) in
-      let h7 : Stands b (row_at b ClassDefs r + 28) (uint offs.static_values) = stands_at (omega arith) (stands_next offs.class_data (uint offs.static_values) h6) in
-      let at_list : interfaces_off b r ≡ offs.interfaces = uint_at-stands (list_small D b n.file offs.interfaces d.1.interfaces lead) (stands_here (uint offs.interfaces) r4 h3) in
-      record {
-        own = uint_at-stands (omega (arith, type_small D b n.file d.0 (type_mentioned D d d.0 c (name_occurs d)))) (stands_here (uint own) r1 h);
-        access = uint_at-stands (n.formed d c).flags (stands_here (uint d.1.flags) r2 h1);
-        parent = uint_at-stands (optional_type_small d d.1.superclass c (superclass_occurs d)) (stands_here (uint parent) r3 h2);
-        list = subst (λ o. LeadsToList (ordered D) b o d.1.interfaces) (sym at_list) lead;
-        file_of = uint_at-stands (optional_text_small d d.1.source c (source_occurs d)) (stands_here (uint source) r5 h4);
-        directory = uint_at-stands (directory_small (ordered D) b n.file.laid r) (stands_here (uint offs.annotations) r6 h5);
-        members = uint_at-stands (class_data_small (ordered D) b n.file.laid r) (stands_here (uint offs.class_data) (uint offs.static_values) h6);
-        values = uint_at-stands (array_small (ordered D) b n.file.laid r) h7;
-      }
+  class_numbers : (r : ℕ) (e : Definition) → r < length (in_class_order D) → ClassRead (ordered D) b r (get_or (in_class_order D) r e)
+  class_numbers = class_read n.file.laid
 
   -- ---- what the numbers name
 
@@ -194,32 +118,38 @@ module _ (D : List Definition) (b : List ℕ) (n : AreNormal D b) where
   class_ranked : (t : Text) → IsClass t → Contains (mentions D).types t → ClassTypeRow b (type_index (mentions D) t) t
   class_ranked t is c = record { row = type_ranked D b n.file t c; class = is }
 
+  -- a class row is of its class
   own_class : (r : ℕ) (e : Definition) → r < length (in_class_order D) → ClassTypeRow b (class_idx b r) (get_or (in_class_order D) r e).0
   own_class r e lt =
       let d = get_or (in_class_order D) r e in
       let c = class_member r e lt in
-      subst (λ k. ClassTypeRow b k d.0) (sym (class_numbers r e lt).own) (class_ranked d.0 (n.formed d c).name (type_mentioned D d d.0 c (name_occurs d)))
+      subst (λ k. ClassTypeRow b k d.0) (sym (class_numbers r e lt).name_is) (class_ranked d.0 (n.formed d c).name (type_mentioned D d d.0 c (name_occurs d)))
 
+  -- an index of a class, or of none
   optional_class : (d : Definition) (t : Option Text) → Contains D d → IfSome t IsClass → ((s : Text) → Contains (option_to_list t) s → Contains (symbols_of d) (TypeSymbol s)) → IndexOrNone ClassTypeRow b (index_of (type_index (mentions D)) t) t
   optional_class d None c is f = refl
   optional_class d (Some t) c is f = class_ranked t is (type_mentioned D d t c (f t (Contains-first t [])))
 
+  -- an index of a text, or of none
   optional_string : (d : Definition) (s : Option Text) → Contains D d → ((t : Text) → Contains (option_to_list s) t → Contains (symbols_of d) (TextSymbol t)) → IndexOrNone StringRow b (index_of (text_index (mentions D)) s) s
   optional_string d None c f = refl
   optional_string d (Some s) c f = string_ranked D b n.file s (text_mentioned D d s c (f s (Contains-first s [])))
 
+  -- a class row names its superclass
   own_superclass : (r : ℕ) (e : Definition) → r < length (in_class_order D) → IndexOrNone ClassTypeRow b (superclass_idx b r) (get_or (in_class_order D) r e).1.superclass
   own_superclass r e lt =
       let d = get_or (in_class_order D) r e in
       let c = class_member r e lt in
-      subst (λ k. IndexOrNone ClassTypeRow b k d.1.superclass) (sym (class_numbers r e lt).parent) (optional_class d d.1.superclass c (n.formed d c).superclass (superclass_occurs d))
+      subst (λ k. IndexOrNone ClassTypeRow b k d.1.superclass) (sym (class_numbers r e lt).superclass_is) (optional_class d d.1.superclass c (n.formed d c).superclass (superclass_occurs d))
 
+  -- and its source
   own_source : (r : ℕ) (e : Definition) → r < length (in_class_order D) → IndexOrNone StringRow b (source_file_idx b r) (get_or (in_class_order D) r e).1.source
   own_source r e lt =
       let d = get_or (in_class_order D) r e in
       let c = class_member r e lt in
-      subst (λ k. IndexOrNone StringRow b k d.1.source) (sym (class_numbers r e lt).file_of) (optional_string d d.1.source c (source_occurs d))
+      subst (λ k. IndexOrNone StringRow b k d.1.source) (sym (class_numbers r e lt).source_is) (optional_string d d.1.source c (source_occurs d))
 
+  -- the interfaces of a definition are mentioned
   interfaces_mentioned : (d : Definition) → Contains D d → AreAmong d.1.interfaces (mentions D).types
   interfaces_mentioned d c t l = type_mentioned D d t c (interface_occurs d t l)
 
@@ -228,53 +158,50 @@ module _ (D : List Definition) (b : List ℕ) (n : AreNormal D b) where
   class_list o ts are (inl h) = inl h
   class_list o ts are (inr h) = inr (h.0, record { list = h.1; classes = are })
 
+  -- a class row leads to its interfaces
   own_interfaces : (r : ℕ) (e : Definition) → r < length (in_class_order D) → OrNone ClassListAt [] b (interfaces_off b r) (get_or (in_class_order D) r e).1.interfaces
   own_interfaces r e lt =
       let d = get_or (in_class_order D) r e in
       let c = class_member r e lt in
-      class_list (interfaces_off b r) d.1.interfaces (n.formed d c).interfaces (list_or_none D b n.file (interfaces_off b r) d.1.interfaces (interfaces_mentioned d c) (class_numbers r e lt).list)
-
-  -- where the offsets of a row lead
-  pub record RowOffsets (r : ℕ) : Type 0 where
-    pub directory : annotations_off b r ≡ (class_places (ordered D) r).annotations
-    pub members : class_data_off b r ≡ (class_places (ordered D) r).class_data
-    pub values : static_values_off b r ≡ (class_places (ordered D) r).static_values
-
-  pub row_offsets : (r : ℕ) (e : Definition) → r < length (in_class_order D) → RowOffsets r
-  row_offsets r e lt = let nums = class_numbers r e lt in record { directory = nums.directory; members = nums.members; values = nums.values }
+      class_list (interfaces_off b r) d.1.interfaces (n.formed d c).interfaces (type_list_or_none n.file.laid n.file.few n.file.pools d.1.interfaces (interfaces_off b r) (interfaces_mentioned d c) (class_numbers r e lt).interfaces_are)
 
   -- row r is the r-th class, where what belongs to it stands at its offsets
-  pub class_stands : (r : ℕ) (e : Definition) → r < length (in_class_order D) → BelongsAt b (get_or (in_class_order D) r e).1 (class_places (ordered D) r)
+  pub class_stands : (r : ℕ) (e : Definition) → r < length (in_class_order D) → BelongsAt b r (get_or (in_class_order D) r e).1
       → ClassRow b r (get_or (in_class_order D) r e).0 (get_or (in_class_order D) r e).1
   class_stands r e lt has =
       let nums = class_numbers r e lt in
       record {
         row = omega (arith, lt, n.file.laid.count ClassDefs);
         class = own_class r e lt;
-        flags = sym nums.access;
+        flags = sym (nums.flags_are (n.formed (get_or (in_class_order D) r e) (class_member r e lt)).flags);
         superclass = own_superclass r e lt;
         interfaces = own_interfaces r e lt;
         source = own_source r e lt;
         directory = has.directory;
-        directory_is = subst (λ o. OrNone DirectoryAt no_directory b o has.directory) (sym nums.directory) has.directory_is;
+        directory_is = has.directory_is;
         members = has.members;
-        members_are = subst (λ o. OrNone ClassDataAt no_class_data b o has.members) (sym nums.members) has.members_are;
+        members_are = has.members_are;
         annotations = has.annotations;
         static_fields = has.static_fields;
         instance_fields = has.instance_fields;
         direct_methods = has.direct_methods;
         virtual_methods = has.virtual_methods;
-        static_values = subst (λ o. OrNone StaticValuesAt NoValues b o (get_or (in_class_order D) r e).1.static_values) (sym nums.values) has.static_values;
+        static_values = has.static_values;
       }
 
   -- ---- condition 16
+
+  -- the indices of a list, or of none
+  list_indices : (o : ℕ) (ts : List Text) → UseStands b 4 (type_list_bytes (mentions D)) (unless_empty ts) o → (if o == 0 then [] else type_indices b o) ≡ map (type_index (mentions D)) ts
+  list_indices o [] h = ap (λ k. if k == 0 then [] else type_indices b k) h
+  list_indices o (t ∷ ts) item = cond-false (o == 0) [] (type_indices b o) (ne_eqb o 0 item.some) ∙ type_list_indices n.file.laid n.file.few (t ∷ ts) item
 
   -- the index of a superclass, if there is one
   optional_index : (d : Definition) (t : Option Text) → Contains D d → ((s : Text) → Contains (option_to_list t) s → Contains (symbols_of d) (TypeSymbol s))
       → (if index_of (type_index (mentions D)) t == no_index then [] else index_of (type_index (mentions D)) t ∷ []) ≡ map (type_index (mentions D)) (option_to_list t)
   optional_index d None c f = refl
   optional_index d (Some t) c f =
-      let small = type_small D b n.file t (type_mentioned D d t c (f t (Contains-first t []))) in
+      let small = type_index_small n.file.laid n.file.few t in
       cond-false (type_index (mentions D) t == no_index) [] (type_index (mentions D) t ∷ []) (ne_eqb (type_index (mentions D) t) no_index (λ e. omega (arith, small, e)))
 
   -- the indices of the parents
@@ -284,8 +211,8 @@ module _ (D : List Definition) (b : List ℕ) (n : AreNormal D b) where
       let c = class_member r e lt in
       let nums = class_numbers r e lt in
       let first : (if superclass_idx b r == no_index then [] else superclass_idx b r ∷ []) ≡ map (type_index (mentions D)) (option_to_list d.1.superclass) =
-      ap (λ k. if k == no_index then [] else k ∷ []) nums.parent ∙ optional_index d d.1.superclass c (superclass_occurs d) in
-      let rest = list_indices D b n.file (interfaces_off b r) d.1.interfaces (interfaces_mentioned d c) nums.list in
+      ap (λ k. if k == no_index then [] else k ∷ []) nums.superclass_is ∙ optional_index d d.1.superclass c (superclass_occurs d) in
+      let rest = list_indices (interfaces_off b r) d.1.interfaces nums.interfaces_are in
       (λ k. first k ++ rest k) ∙ sym (map-append (type_index (mentions D)) (option_to_list d.1.superclass) d.1.interfaces)
 
   -- a parent is mentioned
@@ -316,7 +243,7 @@ module _ (D : List Definition) (b : List ℕ) (n : AreNormal D b) where
       let p = get_or (in_class_order D) k e in
       let m = class_member k e inside in
       let name : p.0 ≡ t =
-      rank_one text_cmp text_total text_exact (mentions D).types (mentions-rising D).types p.0 t (type_mentioned D p p.0 m (name_occurs p)) (parent_mentioned d t c l) (sym (class_numbers k e inside).own ∙ same) in
+      rank_one text_cmp text_total (mentions D).types (mentions-rising D).types p.0 t (type_mentioned D p p.0 m (name_occurs p)) (parent_mentioned d t c l) (sym (class_numbers k e inside).name_is ∙ same) in
       (k, class_depths-before D k r e inside (parent_less d p c m (subst (Contains (parents d.1)) (sym name) l)), same)
 
   -- 16 Classes
@@ -331,8 +258,8 @@ module _ (D : List Definition) (b : List ℕ) (n : AreNormal D b) where
         first = λ k before same.
             let lower : k < length (in_class_order D) = omega (arith, before, inside) in
             let p = get_or (in_class_order D) k e in
-            class_names-apart D k r e before inside (rank_one text_cmp text_total text_exact (mentions D).types (mentions-rising D).types p.0 d.0
-            (type_mentioned D p p.0 (class_member k e lower) (name_occurs p)) (type_mentioned D d d.0 c (name_occurs d)) (sym (class_numbers k e lower).own ∙ same ∙ (class_numbers r e inside).own));
+            class_names-apart D k r e before inside (rank_one text_cmp text_total (mentions D).types (mentions-rising D).types p.0 d.0
+            (type_mentioned D p p.0 (class_member k e lower) (name_occurs p)) (type_mentioned D d d.0 c (name_occurs d)) (sym (class_numbers k e lower).name_is ∙ same ∙ (class_numbers r e inside).name_is));
         superclass = (d.1.superclass, own_superclass r e inside);
         interfaces = (d.1.interfaces, own_interfaces r e inside);
         source = (d.1.source, own_source r e inside);

@@ -5,7 +5,7 @@ use Rattle.std.proofs.lemmas.List.{get_or_default}
 use Rattle.std.proofs.lemmas.List.Elements.{Contains-get_or}
 use Rattle.std.specs.Prelude.{None}
 use Rattle.dexspec.specs.Values.{NoValues}
-use Rattle.dexspec.specs.Header.{StringIds, TypeIds, ClassDefs, table_size}
+use Rattle.dexspec.specs.Header.{ClassDefs, table_size}
 use Rattle.dexspec.specs.Classes.{Definition, ClassRow}
 use Rattle.dexspec.specs.Files.{Collection, definitions, Denotes}
 use Rattle.dexspec.specs.Depth.{in_class_order}
@@ -14,19 +14,18 @@ use Rattle.dexspec.specs.Merging.{AreCaps, greatest_caps, Fits, IsGood}
 use Rattle.dexspec.specs.Conditions.{Condition}
 use Rattle.dexspec.specs.Accepted.{IsReadable, HasWeight, HoldBelow, IsFrame, IsAccepted}
 use Rattle.dexspec.specs.Plain.{IsPlain, ArePlain, IsPlainRow, IsPlainFile}
-use Rattle.dexspec.specs.Canonical.{ordered, canonical}
+use Rattle.dexspec.specs.Canonical.{canonical}
+use Rattle.dexspec.proofs.OneClass.{HasFewRows, one_class_row}
 use Rattle.dexspec.proofs.Collections.{definitions-are}
 use Rattle.dexspec.proofs.ClassOrder.{definitions-distinct}
 use Rattle.dexspec.proofs.SizeFile.{canonical-has_size}
-use Rattle.dexspec.proofs.Laying.{class_places}
 use Rattle.dexspec.proofs.Frames.{fits_few, canonical_laid, canonical_frame}
-use Rattle.dexspec.proofs.Formed.{All-member, mentions-formed}
-use Rattle.dexspec.proofs.NormalRows.{IsNormal, count_small, has_string, has_type}
-use Rattle.dexspec.proofs.NormalLists.{has_proto, has_field, has_method}
+use Rattle.dexspec.proofs.Formed.{All-member, mentions-pools}
+use Rattle.dexspec.proofs.NormalRows.{IsNormal, count_small, has_string, has_type, has_proto, has_field, has_method}
 use Rattle.dexspec.proofs.ClassPlaces.{in_class_order-only, in_class_order-has, class_names-apart}
-use Rattle.dexspec.proofs.NormalClasses.{BelongsAt, AreNormal, row_offsets, class_stands, has_class}
-use Rattle.dexspec.proofs.PlainItems.{plain_belongs, plain_offsets}
-use Rattle.dexspec.proofs.PlainReadable.{plain_readable, one_plain_class}
+use Rattle.dexspec.proofs.NormalClasses.{BelongsAt, AreNormal, class_stands, has_class}
+use Rattle.dexspec.proofs.PlainItems.{plain_class_row, plain_belongs}
+use Rattle.dexspec.proofs.PlainReadable.{plain_readable}
 
 -- a definition for places past the end
 abbrev pub some_class : Definition
@@ -48,11 +47,9 @@ rows_at R from zero (x ∷ xs) h = absurd h
 rows_at R from (suc n) [] h = absurd h
 rows_at R from (suc n) (x ∷ xs) h = let rest = rows_at R (from + 1) n xs h.1 in (ap suc rest.0, related R from n x xs h.0 rest.1)
 
--- What the kinds of item add: what belongs to each class stands where its row says, a class row is one definition
--- at most, and each is readable.
+-- what the kinds of item add: what belongs to each class stands where its row says, and each row is readable
 pub record ItemsAreRight (D : List Definition) (b : List ℕ) : Type 0 where
-  pub belong : (r : ℕ) (e : Definition) → r < length (in_class_order D) → BelongsAt b (get_or (in_class_order D) r e).1 (class_places (ordered D) r)
-  pub one : (r : ℕ) (x y : Definition) → ClassRow b r x.0 x.1 → ClassRow b r y.0 y.1 → x ≡ y
+  pub belong : (r : ℕ) (e : Definition) → r < length (in_class_order D) → BelongsAt b r (get_or (in_class_order D) r e).1
   pub readable : (r : ℕ) → r < table_size b ClassDefs → IsReadable b r
 
 module _ (D : List Definition) (b : List ℕ) (n : AreNormal D b) (items : ItemsAreRight D b) where
@@ -64,7 +61,9 @@ module _ (D : List Definition) (b : List ℕ) (n : AreNormal D b) (items : Items
   pub only_class : (r : ℕ) (d : Definition) → ClassRow b r d.0 d.1 → (r < length (in_class_order D)) × (get_or (in_class_order D) r d ≡ d)
   only_class r d h =
       let lt : r < length (in_class_order D) = omega (arith, h.row, n.file.laid.count ClassDefs) in
-      (lt, items.one r (get_or (in_class_order D) r d) d (class_row_is r d lt) h)
+      let few : HasFewRows b = λ t. omega (arith, n.file.laid.count t, count_small D b n.file t) in
+      let same = one_class_row b few r (get_or (in_class_order D) r d).0 d.0 (get_or (in_class_order D) r d).1 d.1 (class_row_is r d lt) h in
+      (lt, λ i. (same.0 i, same.1 i))
 
   -- 23 Weight
   has_weight : Fits greatest_caps D → (r : ℕ) → HasWeight b r
@@ -109,6 +108,7 @@ module _ (D : List Definition) (b : List ℕ) (n : AreNormal D b) (items : Items
 
 -- ---- canonical files
 
+-- the greatest caps are caps
 greatest_are : AreCaps greatest_caps
 greatest_are = record { types = omega arith; protos = omega arith; fields = omega arith; methods = omega arith; short_strings = omega arith; weight = omega arith }
 
@@ -118,9 +118,8 @@ canonical_normal K fits formed =
     let size = canonical-has_size greatest_caps K greatest_are fits in
     record {
       laid = canonical_laid K (omega (arith, size.most));
-      formed = mentions-formed (definitions K) formed;
-      few_types = omega (arith, fits.types);
-      few_protos = omega (arith, fits.protos);
+      few = fits_few greatest_caps K greatest_are fits;
+      pools = mentions-pools (definitions K) formed;
     }
 
 -- and of definitions that can be in one file
@@ -192,10 +191,7 @@ module _ (K : Collection) (good : IsGood greatest_caps (definitions K)) (formed 
 
   -- and so are its class rows
   rows_plain : (r : ℕ) → r < length (in_class_order (definitions K)) → IsPlainRow (canonical K) r
-  rows_plain r lt =
-      let offs = row_offsets (definitions K) (canonical K) (canonical_all_normal K good formed) r some_class lt in
-      let zeros = plain_offsets (ordered (definitions K)) classes_plain r lt in
-      record { annotations = offs.directory ∙ zeros.directory; class_data = offs.members ∙ zeros.members; static_values = offs.values ∙ zeros.values }
+  rows_plain r lt = plain_class_row (canonical_normal K good.fits formed).laid r some_class lt (classes_plain r some_class lt)
 
   -- the file is plain
   pub plain_file : IsPlainFile (canonical K)
@@ -209,9 +205,7 @@ module _ (K : Collection) (good : IsGood greatest_caps (definitions K)) (formed 
       let n = canonical_all_normal K good formed in
       let inside : (r : ℕ) → r < table_size b ClassDefs → r < length (in_class_order D) = λ r lt. omega (arith, lt, n.file.laid.count ClassDefs) in
       record {
-        belong = plain_belongs (ordered D) classes_plain b;
-        one = λ r x y h g. one_plain_class b r (rows_plain r (inside r h.row))
-            (omega (arith, n.file.laid.count StringIds, count_small D b n.file StringIds)) (omega (arith, n.file.laid.count TypeIds, n.file.few_types)) x y h g;
+        belong = λ r e lt. plain_belongs r (get_or (in_class_order D) r e) (rows_plain r lt) (classes_plain r e lt);
         readable = λ r lt. plain_readable b r (rows_plain r (inside r lt)) (has_class D b n r some_class lt);
       }
 

@@ -2,7 +2,7 @@ use Rattle.std.proofs.Common.{subst}
 use Rattle.dexspec.specs.Rows.{FieldRow}
 use Rattle.dexspec.specs.Files.{definitions}
 use Rattle.dexspec.specs.Canonical.{canonical}
-use Rattle.dexspec.proofs.NormalLists.{field_stands, field_ranked, only_field, has_field}
+use Rattle.dexspec.proofs.NormalRows.{field_stands, field_ranked, only_field, has_field}
 use Rattle.dexspec.proofs.NormalForm.{canonical_normal}
 use Rattle.dexlaws_normal.proofs.fields_stand.Goals as goal
 

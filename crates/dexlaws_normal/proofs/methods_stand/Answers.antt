@@ -2,7 +2,7 @@ use Rattle.std.proofs.Common.{subst}
 use Rattle.dexspec.specs.Rows.{MethodRow}
 use Rattle.dexspec.specs.Files.{definitions}
 use Rattle.dexspec.specs.Canonical.{canonical}
-use Rattle.dexspec.proofs.NormalLists.{method_stands, method_ranked, only_method, has_method}
+use Rattle.dexspec.proofs.NormalRows.{method_stands, method_ranked, only_method, has_method}
 use Rattle.dexspec.proofs.NormalForm.{canonical_normal}
 use Rattle.dexlaws_normal.proofs.methods_stand.Goals as goal
 

@@ -2,7 +2,7 @@ use Rattle.std.proofs.Common.{subst}
 use Rattle.dexspec.specs.Rows.{ProtoRow}
 use Rattle.dexspec.specs.Files.{definitions}
 use Rattle.dexspec.specs.Canonical.{canonical}
-use Rattle.dexspec.proofs.NormalLists.{proto_stands, proto_ranked, only_proto, has_proto}
+use Rattle.dexspec.proofs.NormalRows.{proto_stands, proto_ranked, only_proto, has_proto}
 use Rattle.dexspec.proofs.NormalForm.{canonical_normal}
 use Rattle.dexlaws_normal.proofs.protos_stand.Goals as goal
 

@@ -1,0 +1,6 @@
+mod Entries
+mod Frames
+mod Judged
+mod Lengths
+mod Overwritten
+mod Spelled

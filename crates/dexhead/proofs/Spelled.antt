@@ -1,0 +1,38 @@
+-- The two ways to say which number some bytes spell, and which bytes spell a number: from the front of the
+-- list, and by places.
+use Rattle.std.proofs.Common.{◌≡◌, ℕ, ◌/◌, ◌%◌, ◌^◌, List, [], ◌∷◌, length, take, refl, arith}
+use Rattle.dexspec.specs.Bytes.{number_of, bytes_of, ushort, uint}
+use Rattle.dexspec.proofs.ByteNumbers.{length-ushort, length-uint}
+use Rattle.byteorder.specs.Endian.{little_number, little_bytes}
+
+pub number_of_two : (xs : List ℕ) → number_of (take 2 xs) ≡ little_number 2 xs
+unfolding number_of
+number_of_two [] = refl
+number_of_two (a ∷ []) = refl
+number_of_two (a ∷ b ∷ xs) = refl
+
+pub number_of_four : (xs : List ℕ) → number_of (take 4 xs) ≡ little_number 4 xs
+unfolding number_of
+number_of_four [] = refl
+number_of_four (a ∷ []) = refl
+number_of_four (a ∷ b ∷ []) = refl
+number_of_four (a ∷ b ∷ c ∷ []) = refl
+number_of_four (a ∷ b ∷ c ∷ d ∷ xs) = refl
+
+pub two_bytes : (n : ℕ) → ushort n ≡ little_bytes 2 n
+unfolding ushort bytes_of
+two_bytes n = let b : n / 256 % 256 ≡ n / 256 ^ 1 % 256 = omega arith in cc
+
+pub four_bytes : (n : ℕ) → uint n ≡ little_bytes 4 n
+unfolding uint bytes_of
+four_bytes n =
+    let b : n / 256 % 256 ≡ n / 256 ^ 1 % 256 = omega arith in
+    let c : n / 256 / 256 % 256 ≡ n / 256 ^ 2 % 256 = omega arith in
+    let d : n / 256 / 256 / 256 % 256 ≡ n / 256 ^ 3 % 256 = omega arith in
+    cc
+
+pub length_ushort : (n : ℕ) → length (ushort n) ≡ 2
+length_ushort n = length-ushort n
+
+pub length_uint : (n : ℕ) → length (uint n) ≡ 4
+length_uint n = length-uint n

@@ -1,0 +1,31 @@
+//! The first things that are read of a file and the last that are written: the checksum and the
+//! signature, the header, the map, and the devices that bytes come from and go to.
+#![tactic(auto)]
+
+mod device;
+mod frame;
+mod head;
+mod header;
+mod map;
+mod map_list;
+mod numbers;
+mod refusal;
+mod sections;
+mod stream;
+mod sums;
+mod tables;
+#[cfg(test)]
+mod tests;
+mod whole;
+
+pub use device::{Device, DeviceFault, Sink, Source};
+pub use frame::Frame;
+pub use head::{Head, Rows};
+pub use map_list::{MapEntry, MapList};
+pub use numbers::{put_u16, put_u32, u16_at, u32_at};
+pub use refusal::Refusal;
+pub use sections::Section;
+pub use stream::Adler;
+pub use sums::set_sums;
+pub use tables::Table;
+pub use whole::adler;

@@ -17,7 +17,7 @@ use std::alloc::Global;
 use std::io::Read;
 use std::process::ExitCode;
 use std::rt::{Env, Files};
-use std::time::Clock;
+use std::time::CpuClock;
 use std::{env, fs};
 use texts::{read_all, read_each, rising};
 
@@ -30,7 +30,7 @@ fn digest(bytes: &[u8]) -> u64 {
     u64::from(u32::from_be_bytes([first, second, third, fourth]))
 }
 
-fn time_sums(rt: &(impl Clock + Print), bytes: &[u8]) -> Result<(), BenchFault> {
+fn time_sums(rt: &(impl CpuClock + Print), bytes: &[u8]) -> Result<(), BenchFault> {
     let pace = timed(rt, || digest(bytes))?;
     let rate = pace.millions(bytes.len());
     let answer = pace.answer();
@@ -51,7 +51,7 @@ fn open(bytes: &[u8]) -> u64 {
 }
 
 fn time_texts<'a>(
-    rt: &(impl Clock + Print),
+    rt: &(impl CpuClock + Print),
     alloc: Global,
     frame: &Frame<'a>,
 ) -> Result<(), BenchFault> {
@@ -77,7 +77,7 @@ fn time_texts<'a>(
     Ok(())
 }
 
-fn time_file(rt: &(impl Clock + Print), alloc: Global, bytes: &[u8]) -> Result<(), BenchFault> {
+fn time_file(rt: &(impl CpuClock + Print), alloc: Global, bytes: &[u8]) -> Result<(), BenchFault> {
     time_sums(rt, bytes)?;
     match Frame::open(bytes) {
         Ok(frame) => {
@@ -109,7 +109,7 @@ fn read_file<R: Files + Alloc<A = Global>>(rt: &R, name: &str) -> Result<Vec<u8>
     Ok(bytes)
 }
 
-fn run<R: Files + Print + Env + Clock + Alloc<A = Global>>(rt: &R) -> Result<(), BenchFault> {
+fn run<R: Files + Print + Env + CpuClock + Alloc<A = Global>>(rt: &R) -> Result<(), BenchFault> {
     let words: Vec<String> = env::args(rt)?.collect(rt.alloc())?;
     let [_, name] = words.as_slice() else {
         return Err(BenchFault::Words);

@@ -1,12 +1,13 @@
-//! How fast something goes.
+//! How fast something goes, by the processor time that it takes, so that other work on the machine counts
+//! for little.
 
-use std::time::{Clock, Duration, Instant};
+use std::time::{CpuClock, Duration};
 use std::{fmt, io};
 
 /// The rounds that count take so many milliseconds together.
 const ENOUGH: u128 = 500;
 
-/// So many rounds of something took so long.
+/// So many rounds of something took so much processor time.
 #[derive(Clone, Copy, Debug)]
 pub struct Pace {
     rounds: u32,
@@ -43,7 +44,7 @@ impl fmt::Display for Rate {
 }
 
 /// Does something 1, 2, 4, 8 .. times, until the last rounds take half a second together; those count.
-pub fn timed<F: Fn() -> u64>(rt: &impl Clock, round: F) -> io::Result<Pace>
+pub fn timed<F: Fn() -> u64>(rt: &impl CpuClock, round: F) -> io::Result<Pace>
     requires { F.IsAlwaysCallable round }
 {
     let mut rounds = 1;
@@ -58,17 +59,17 @@ pub fn timed<F: Fn() -> u64>(rt: &impl Clock, round: F) -> io::Result<Pace>
 }
 
 // Does something so many times.
-fn paced<F: Fn() -> u64>(rt: &impl Clock, round: &F, rounds: u32) -> io::Result<Pace>
+fn paced<F: Fn() -> u64>(rt: &impl CpuClock, round: &F, rounds: u32) -> io::Result<Pace>
     requires { F.IsAlwaysCallable round.now }
 {
-    let start = Instant::now(rt)?;
+    let start = rt.thread_cpu_time()?;
     let mut answers = 0u64;
     for _ in 0..rounds {
         answers = answers.wrapping_add(round());
     }
     Ok(Pace {
         rounds,
-        time: start.elapsed(rt)?,
+        time: rt.thread_cpu_time()?.saturating_sub(start),
         answers,
     })
 }

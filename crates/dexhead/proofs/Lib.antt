@@ -4,3 +4,4 @@ pub mod Judged
 pub mod Lengths
 pub mod Overwritten
 pub mod Spelled
+pub mod PutHeads

@@ -6,6 +6,7 @@ mod device;
 mod frame;
 mod head;
 mod header;
+pub mod laws;
 mod map;
 mod map_list;
 mod numbers;

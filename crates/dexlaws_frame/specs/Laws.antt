@@ -1,11 +1,11 @@
 -- The statements of the laws of canonical files.
-use Rattle.std.specs.Prelude.{◌≡◌, ℕ, ◌+◌, ◌%◌, ◌<◌, ◌≤◌, List, length, slice_index, slice_index_or}
+use Rattle.std.specs.Prelude.{◌≡◌, ℕ, ◌+◌, ◌%◌, ◌<◌, ◌≤◌, List, ◌++◌, length, slice_index, slice_index_or}
 use Rattle.std.specs.List.{Contains}
 use Rattle.dexspec.specs.Bytes.{uint, Stands, round_up}
 use Rattle.dexspec.specs.Texts.{Text}
 use Rattle.dexspec.specs.Symbols.{Proto, Field, Method}
-use Rattle.dexspec.specs.Header.{Table, StringIds, TypeIds, ProtoIds, FieldIds, MethodIds, ClassDefs, table_size, data_off, data_size, file_size, map_off}
-use Rattle.dexspec.specs.Sections.{IsInData}
+use Rattle.dexspec.specs.Header.{Table, StringIds, TypeIds, ProtoIds, FieldIds, MethodIds, ClassDefs, table_size, data_off, data_size, file_size, map_off, header_length, HasSize, HasMagic, HasVersion, HasLengths, HasEndian, HasNoLink, HasChecksum, HasSignature}
+use Rattle.dexspec.specs.Sections.{IsInData, Section, MapEntry, type_code}
 use Rattle.dexspec.specs.Rows.{row_at}
 use Rattle.dexspec.specs.Classes.{Definition}
 use Rattle.dexspec.specs.Mentions.{Mentions}
@@ -47,3 +47,22 @@ pub record StandsAligned (b : List ℕ) (align o : ℕ) (x : List ℕ) : Type 0 
 pub record HasItems (K : Ordered) (b : List ℕ) : Type 0 where
   pub items : (p : Placed) → Contains (layout K).sections p → (i : ℕ) (d : List ℕ) → i < length p.items → StandsAligned b p.align (slice_index (offsets p) i) (slice_index_or p.items i d)
   pub map_list : StandsAligned b 4 (map_off b) (map_bytes (map_of K (layout K) (map_off b)))
+
+-- the five numbers that a header begins with behind its signature, and more
+abbrev pub opening : ℕ → List ℕ → List ℕ
+opening size tail = uint size ++ (uint header_length ++ (uint 0x12345678 ++ (uint 0 ++ (uint 0 ++ tail))))
+
+-- with its two sums it meets conditions 1 to 8
+pub record IsOpened (b : List ℕ) : Type 0 where
+  pub bytes : HasSize b
+  pub magic : HasMagic b
+  pub version : HasVersion b
+  pub lengths : HasLengths b
+  pub endian : HasEndian b
+  pub link : HasNoLink b
+  pub checksum : HasChecksum b
+  pub signature : HasSignature b
+
+-- an entry of a map by its section
+abbrev pub entry_of : Section × ℕ × ℕ → MapEntry
+entry_of e = record { kind = type_code e.0; size = e.1; off = e.2 }

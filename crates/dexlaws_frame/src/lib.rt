@@ -2,16 +2,17 @@
 //! function does nothing: its contract is the law, for the callers that cite it.
 #![tactic(auto)]
 
-ghost use Rattle.std.specs.Prelude.{List, ℕ, ◌≡◌, ◌<◌, ◌≤◌, ◌^◌, length};
+ghost use Rattle.std.specs.Prelude.{List, ℕ, ◌+◌, ◌≡◌, ◌<◌, ◌≤◌, ◌^◌, length, map, All};
 ghost use Rattle.dexspec.specs.Bytes.{ushort, uint, ushort_at, uint_at, Stands};
 ghost use Rattle.dexspec.specs.Header.{HasMagic, HasVersion, HasChecksum, HasSignature};
+ghost use Rattle.dexspec.specs.Sections.{Section, entries_at};
 ghost use Rattle.dexspec.specs.Accepted.{IsFrame};
 ghost use Rattle.dexspec.specs.Files.{Collection, definitions};
 ghost use Rattle.dexspec.specs.Mentions.{mentions};
 ghost use Rattle.dexspec.specs.Merging.{Caps, AreCaps, Fits};
 ghost use Rattle.dexspec.specs.Placing.{Ordered};
-ghost use Rattle.dexspec.specs.Canonical.{with_sums, unsigned_file, canonical};
-ghost use Rattle.dexlaws_frame.specs.Laws.{HasFewSymbols, HasFields, HasRows, HasItems};
+ghost use Rattle.dexspec.specs.Canonical.{with_sums, unsigned_file, canonical, map_bytes};
+ghost use Rattle.dexlaws_frame.specs.Laws.{HasFewSymbols, HasFields, HasRows, HasItems, IsOpened, opening, entry_of};
 
 /// A number is read where its bytes stand.
 pub fn numbers_law()
@@ -40,4 +41,15 @@ pub fn layout_law()
 pub fn frame_law()
     ensures frame { (K : Collection) → HasFewSymbols (mentions (definitions K)) → length (canonical K) ≤ 2 ^ 30 → IsFrame (canonical K) }
     ensures fits { (caps : Caps) (K : Collection) → AreCaps caps → Fits caps (definitions K) → IsFrame (canonical K) }
+{}
+
+/// A header that tells the file's length, before any bytes and with its sums set, meets conditions 1 to 8.
+pub fn header_law()
+    ensures { (size : ℕ) (tail : List ℕ) → size ≡ length (with_sums (opening size tail)) → 112 ≤ size → size ≤ 2 ^ 30 → IsOpened (with_sums (opening size tail)) }
+{}
+
+/// A map is read where it stands: the number of its entries, and each of them.
+pub fn map_law()
+    ensures count { (b : List ℕ) (o : ℕ) (es : List (Section × ℕ × ℕ)) → length es < 2 ^ 32 → All (λ e. (e.1 < 2 ^ 32) × (e.2 < 2 ^ 32)) es → Stands b o (map_bytes es) → uint_at b o ≡ length es }
+    ensures entries { (b : List ℕ) (o : ℕ) (es : List (Section × ℕ × ℕ)) → length es < 2 ^ 32 → All (λ e. (e.1 < 2 ^ 32) × (e.2 < 2 ^ 32)) es → Stands b o (map_bytes es) → entries_at b (o + 4) (length es) ≡ map entry_of es }
 {}

@@ -85,3 +85,4 @@ pub mod BlankedCode
 pub mod FormedCode
 pub mod PoolsStand
 pub mod PoolsInOrder
+pub mod PlainHeaders

@@ -1,5 +1,5 @@
 -- Conditions 11 to 15 of a file that is laid out: its rows stand for symbols, and follow in order.
-use Rattle.std.proofs.Common.{◌≡◌, ◌≢◌, ℕ, zero, suc, ◌+◌, ◌<◌, ◌≤◌, List, [], ◌∷◌, drop, length, get_or, map, refl, sym, ap, subst, ◌∙◌, arith, inl, inr}
+use Rattle.std.proofs.Common.{◌≡◌, ℕ, zero, suc, ◌+◌, ◌<◌, List, [], ◌∷◌, drop, length, get_or, map, refl, sym, ap, subst, ◌∙◌, arith, inl, inr}
 use Rattle.std.specs.Prelude.{◌==◌, if◌then◌else◌, nat_lt}
 use Rattle.std.specs.List.{Contains}
 use Rattle.std.specs.Cmp.{IsTotalOrder}
@@ -14,8 +14,8 @@ use Rattle.dexspec.specs.Lists.{rank}
 use Rattle.dexspec.specs.Bytes.{uint_at, ushort_at}
 use Rattle.dexspec.specs.Texts.{Text, text_cmp}
 use Rattle.dexspec.specs.Symbols.{Proto, Field, Method, proto_cmp, field_cmp, method_cmp}
-use Rattle.dexspec.specs.Header.{StringIds, TypeIds, ProtoIds, FieldIds, MethodIds, table_size}
-use Rattle.dexspec.specs.Rows.{row_at, StringRow, TypeRow, ProtoRow, FieldRow, MethodRow, type_indices, key_cmp, type_row_key, proto_row_key, field_row_key, method_row_key, Follows, HasString, HasType, HasProto, HasField, HasMethod}
+use Rattle.dexspec.specs.Header.{StringIds, ProtoIds, FieldIds, MethodIds}
+use Rattle.dexspec.specs.Rows.{row_at, TypeRow, ProtoRow, FieldRow, MethodRow, type_indices, key_cmp, type_row_key, proto_row_key, HasString, HasType, HasProto, HasField, HasMethod}
 use Rattle.dexspec.specs.Spellings.{text_index, type_index, proto_index}
 use Rattle.dexspec.specs.Placing.{Ordered, unless_empty}
 use Rattle.dexspec.proofs.Members.{Contains-first, Contains-later}
@@ -26,17 +26,20 @@ use Rattle.dexspec.proofs.Placements.{type_list_bytes}
 use Rattle.dexspec.proofs.Laying.{Laid}
 use Rattle.dexspec.proofs.HeaderLaws.{AreFew}
 use Rattle.dexspec.proofs.Uses.{UseStands}
-use Rattle.dexspec.proofs.RowsRead.{type_read, ProtoRead, proto_read, field_read, method_read, type_list_indices}
+use Rattle.dexspec.proofs.RowsRead.{type_read, proto_read, field_read, method_read, type_list_indices}
 use Rattle.dexspec.proofs.PoolsStand.{ArePools, text_row_at, type_row, proto_row, field_row, method_row}
 
 -- ---- ranks are in the order of the symbols
 
+-- a lesser number is less
 nat_less : (x y : ℕ) → x < y → nat_cmp x y ≡ Less
 nat_less x y lt = cond-true (nat_lt x y) Less _ (lt-ltb x y lt)
 
+-- equal numbers tie
 nat_same : (x y : ℕ) → x ≡ y → nat_cmp x y ≡ Equal
 nat_same x y e = cond-false (nat_lt x y) Less _ (le-ltb x y (omega (arith, e))) ∙ cond-true (x == y) Equal Greater (eq-eqb x y e)
 
+-- a greater number is greater
 nat_more : (x y : ℕ) → y < x → nat_cmp x y ≡ Greater
 nat_more x y lt = cond-false (nat_lt x y) Less _ (le-ltb x y (omega arith)) ∙ cond-false (x == y) Equal Greater (ne_eqb x y (λ e. omega (arith, e)))
 
@@ -68,7 +71,7 @@ module _ {X : Type 0} (R : X → X → Ordering) where
       let at_s = rank-place R o xs s s h c in
       let at_t = rank-place R o xs t s h d in
       let before : (x y : X) (k n : ℕ) → k < n → n < length xs → get_or xs k s ≡ x → get_or xs n s ≡ y → R x y ≡ Less =
-          λ x y k n lt less e f. ap (λ z. R z y) (sym e) ∙ ap (R (get_or xs k s)) (sym f) ∙ rises_at xs k n s h lt less in
+      λ x y k n lt less e f. ap (λ z. R z y) (sym e) ∙ ap (R (get_or xs k s)) (sym f) ∙ rises_at xs k n s h lt less in
       elim (cases_order i j) [
         | inl same ↦ nat_same i j same ∙ sym (ap (R s) (sym at_t.1 ∙ ap (λ n. get_or xs n s) (sym same) ∙ at_s.1) ∙ tied_itself o s)
         | inr apart ↦ elim apart [
@@ -95,13 +98,15 @@ key_of_list {K} {b} h few [] o s = cond-true (o == 0) [] (type_indices b o) (eq-
 key_of_list {K} {b} h few (t ∷ ts) o s = cond-false (o == 0) [] (type_indices b o) (ne_eqb o 0 s.some) ∙ type_list_indices h few (t ∷ ts) s
 
 module _ {K : Ordered} {b : List ℕ} (h : Laid K b) (few : AreFew K) (p : ArePools K.pools) where
-  -- the numbers of texts, of types and of protos are in their order
+  -- the numbers of texts are in their order
   texts_agree : (s t : Text) → Contains K.pools.texts s → Contains K.pools.texts t → nat_cmp (text_index K.pools s) (text_index K.pools t) ≡ text_cmp s t
   texts_agree s t c d = ranks_agree text_cmp text_total K.pools.texts s t p.texts_rise c d
 
+  -- those of types
   types_agree : (s t : Text) → Contains K.pools.types s → Contains K.pools.types t → nat_cmp (type_index K.pools s) (type_index K.pools t) ≡ text_cmp s t
   types_agree s t c d = ranks_agree text_cmp text_total K.pools.types s t p.types_rise c d
 
+  -- those of protos
   protos_agree : (s t : Proto) → Contains K.pools.protos s → Contains K.pools.protos t → nat_cmp (proto_index K.pools s) (proto_index K.pools t) ≡ proto_cmp s t
   protos_agree s t c d = ranks_agree proto_cmp proto_total K.pools.protos s t p.protos_rise c d
 
@@ -130,7 +135,7 @@ module _ {K : Ordered} {b : List ℕ} (h : Laid K b) (few : AreFew K) (p : ArePo
             let lt' : j < length ts = omega (arith, less, lt) in
             let s = get_or ts j [] in
             let order : nat_cmp (text_index K.pools s) (text_index K.pools t) ≡ Less =
-                texts_agree s t (p.type_text s (Contains-get_or ts j [] lt')) (p.type_text t (Contains-get_or ts i [] lt)) ∙ rises_at text_cmp ts j i [] p.types_rise less lt in
+            texts_agree s t (p.type_text s (Contains-get_or ts j [] lt')) (p.type_text t (Contains-get_or ts i [] lt)) ∙ rises_at text_cmp ts j i [] p.types_rise less lt in
             ap (λ n. key_cmp (n ∷ []) (type_row_key b i)) (type_read h j [] lt') ∙ ap (λ n. key_cmp (text_index K.pools s ∷ []) (n ∷ [])) (type_read h i [] lt) ∙ then_equal _ ∙ order;
       }
 
@@ -161,7 +166,7 @@ module _ {K : Ordered} {b : List ℕ} (h : Laid K b) (few : AreFew K) (p : ArePo
             ap (λ k. key_cmp k (proto_row_key b i)) (proto_key j d lt') ∙ ap (key_cmp (f s.return_type ∷ map f s.parameters)) (proto_key i d lt)
             ∙ ap (λ o. ordering_then o (slice_cmp nat_cmp (map f s.parameters) (map f q.parameters))) (types_agree s.return_type q.return_type (p.proto_return s c') (p.proto_return q c))
             ∙ ap (ordering_then (text_cmp s.return_type q.return_type))
-                (lists_agree text_cmp f s.parameters q.parameters (λ t u x y. types_agree t u (p.proto_parameter s t c' x) (p.proto_parameter q u c y)))
+            (lists_agree text_cmp f s.parameters q.parameters (λ t u x y. types_agree t u (p.proto_parameter s t c' x) (p.proto_parameter q u c y)))
             ∙ rises_at proto_cmp qs j i d p.protos_rise less lt;
       }
 
@@ -183,11 +188,11 @@ module _ {K : Ordered} {b : List ℕ} (h : Laid K b) (few : AreFew K) (p : ArePo
             let c' = Contains-get_or fs j d lt' in
             let k' = field_read h few j d lt' in
             let classes : nat_cmp (ushort_at b (row_at b FieldIds j)) (ushort_at b (row_at b FieldIds i)) ≡ text_cmp f.class g.class =
-                ap (λ n. nat_cmp n (ushort_at b (row_at b FieldIds i))) k'.class_is ∙ ap (nat_cmp (type_index K.pools f.class)) k.class_is ∙ types_agree f.class g.class (p.field_class f c') (p.field_class g c) in
+            ap (λ n. nat_cmp n (ushort_at b (row_at b FieldIds i))) k'.class_is ∙ ap (nat_cmp (type_index K.pools f.class)) k.class_is ∙ types_agree f.class g.class (p.field_class f c') (p.field_class g c) in
             let names : nat_cmp (uint_at b (row_at b FieldIds j + 4)) (uint_at b (row_at b FieldIds i + 4)) ≡ text_cmp f.name g.name =
-                ap (λ n. nat_cmp n (uint_at b (row_at b FieldIds i + 4))) k'.name_is ∙ ap (nat_cmp (text_index K.pools f.name)) k.name_is ∙ texts_agree f.name g.name (p.field_name f c') (p.field_name g c) in
+            ap (λ n. nat_cmp n (uint_at b (row_at b FieldIds i + 4))) k'.name_is ∙ ap (nat_cmp (text_index K.pools f.name)) k.name_is ∙ texts_agree f.name g.name (p.field_name f c') (p.field_name g c) in
             let types : nat_cmp (ushort_at b (row_at b FieldIds j + 2)) (ushort_at b (row_at b FieldIds i + 2)) ≡ text_cmp f.type g.type =
-                ap (λ n. nat_cmp n (ushort_at b (row_at b FieldIds i + 2))) k'.type_is ∙ ap (nat_cmp (type_index K.pools f.type)) k.type_is ∙ types_agree f.type g.type (p.field_type f c') (p.field_type g c) in
+            ap (λ n. nat_cmp n (ushort_at b (row_at b FieldIds i + 2))) k'.type_is ∙ ap (nat_cmp (type_index K.pools f.type)) k.type_is ∙ types_agree f.type g.type (p.field_type f c') (p.field_type g c) in
             three_keys classes names types ∙ rises_at field_cmp fs j i d p.fields_rise less lt;
       }
 
@@ -209,10 +214,10 @@ module _ {K : Ordered} {b : List ℕ} (h : Laid K b) (few : AreFew K) (p : ArePo
             let c' = Contains-get_or xs j d lt' in
             let k' = method_read h few j d lt' in
             let classes : nat_cmp (ushort_at b (row_at b MethodIds j)) (ushort_at b (row_at b MethodIds i)) ≡ text_cmp x.class y.class =
-                ap (λ n. nat_cmp n (ushort_at b (row_at b MethodIds i))) k'.class_is ∙ ap (nat_cmp (type_index K.pools x.class)) k.class_is ∙ types_agree x.class y.class (p.method_class x c') (p.method_class y c) in
+            ap (λ n. nat_cmp n (ushort_at b (row_at b MethodIds i))) k'.class_is ∙ ap (nat_cmp (type_index K.pools x.class)) k.class_is ∙ types_agree x.class y.class (p.method_class x c') (p.method_class y c) in
             let names : nat_cmp (uint_at b (row_at b MethodIds j + 4)) (uint_at b (row_at b MethodIds i + 4)) ≡ text_cmp x.name y.name =
-                ap (λ n. nat_cmp n (uint_at b (row_at b MethodIds i + 4))) k'.name_is ∙ ap (nat_cmp (text_index K.pools x.name)) k.name_is ∙ texts_agree x.name y.name (p.method_name x c') (p.method_name y c) in
+            ap (λ n. nat_cmp n (uint_at b (row_at b MethodIds i + 4))) k'.name_is ∙ ap (nat_cmp (text_index K.pools x.name)) k.name_is ∙ texts_agree x.name y.name (p.method_name x c') (p.method_name y c) in
             let protos : nat_cmp (ushort_at b (row_at b MethodIds j + 2)) (ushort_at b (row_at b MethodIds i + 2)) ≡ proto_cmp x.proto y.proto =
-                ap (λ n. nat_cmp n (ushort_at b (row_at b MethodIds i + 2))) k'.proto_is ∙ ap (nat_cmp (proto_index K.pools x.proto)) k.proto_is ∙ protos_agree x.proto y.proto (p.method_proto x c') (p.method_proto y c) in
+            ap (λ n. nat_cmp n (ushort_at b (row_at b MethodIds i + 2))) k'.proto_is ∙ ap (nat_cmp (proto_index K.pools x.proto)) k.proto_is ∙ protos_agree x.proto y.proto (p.method_proto x c') (p.method_proto y c) in
             three_keys classes names protos ∙ rises_at method_cmp xs j i d p.methods_rise less lt;
       }

@@ -3,7 +3,7 @@ use Rattle.std.specs.Prelude.{◌≡◌, ℕ, ◌+◌, ◌%◌, ◌<◌, ◌≤�
 use Rattle.std.specs.List.{Contains}
 use Rattle.dexspec.specs.Bytes.{uint, Stands, round_up}
 use Rattle.dexspec.specs.Texts.{Text}
-use Rattle.dexspec.specs.Symbols.{Proto, Field, Method}
+use Rattle.dexspec.specs.Symbols.{Proto, Field, Method, Symbol, TextSymbol, TypeSymbol, ProtoSymbol, FieldSymbol, MethodSymbol}
 use Rattle.dexspec.specs.Header.{Table, StringIds, TypeIds, ProtoIds, FieldIds, MethodIds, ClassDefs, table_size, data_off, data_size, file_size, map_off}
 use Rattle.dexspec.specs.Sections.{IsInData}
 use Rattle.dexspec.specs.Rows.{row_at}
@@ -47,3 +47,11 @@ pub record StandsAligned (b : List ℕ) (align o : ℕ) (x : List ℕ) : Type 0 
 pub record HasItems (K : Ordered) (b : List ℕ) : Type 0 where
   pub items : (p : Placed) → Contains (layout K).sections p → (i : ℕ) (d : List ℕ) → i < length p.items → StandsAligned b p.align (slice_index (offsets p) i) (slice_index_or p.items i d)
   pub map_list : StandsAligned b 4 (map_off b) (map_bytes (map_of K (layout K) (map_off b)))
+
+-- the symbol is one of those of its pool
+abbrev pub IsMentioned : Mentions → Symbol → Type 0
+IsMentioned m (TextSymbol s) = Contains m.texts s
+IsMentioned m (TypeSymbol t) = Contains m.types t
+IsMentioned m (ProtoSymbol p) = Contains m.protos p
+IsMentioned m (FieldSymbol f) = Contains m.fields f
+IsMentioned m (MethodSymbol x) = Contains m.methods x

@@ -5,13 +5,17 @@
 ghost use Rattle.std.specs.Prelude.{List, ℕ, ◌≡◌, ◌<◌, ◌≤◌, ◌^◌, length};
 ghost use Rattle.dexspec.specs.Bytes.{ushort, uint, ushort_at, uint_at, Stands};
 ghost use Rattle.dexspec.specs.Header.{HasMagic, HasVersion, HasChecksum, HasSignature};
-ghost use Rattle.dexspec.specs.Accepted.{IsFrame};
+ghost use Rattle.dexspec.specs.Accepted.{HoldBelow, IsFrame};
+ghost use Rattle.dexspec.specs.Symbols.{Symbol};
+ghost use Rattle.dexspec.specs.Rows.{SymbolRow};
+ghost use Rattle.dexspec.specs.Spellings.{symbol_index};
+ghost use Rattle.dexspec.specs.WellFormed.{AreWellFormed};
 ghost use Rattle.dexspec.specs.Files.{Collection, definitions};
 ghost use Rattle.dexspec.specs.Mentions.{mentions};
 ghost use Rattle.dexspec.specs.Merging.{Caps, AreCaps, Fits};
 ghost use Rattle.dexspec.specs.Placing.{Ordered};
 ghost use Rattle.dexspec.specs.Canonical.{with_sums, unsigned_file, canonical};
-ghost use Rattle.dexlaws_frame.specs.Laws.{HasFewSymbols, HasFields, HasRows, HasItems};
+ghost use Rattle.dexlaws_frame.specs.Laws.{IsMentioned, HasFewSymbols, HasFields, HasRows, HasItems};
 
 /// A number is read where its bytes stand.
 pub fn numbers_law()
@@ -40,4 +44,11 @@ pub fn layout_law()
 pub fn frame_law()
     ensures frame { (K : Collection) → HasFewSymbols (mentions (definitions K)) → length (canonical K) ≤ 2 ^ 30 → IsFrame (canonical K) }
     ensures fits { (caps : Caps) (K : Collection) → AreCaps caps → Fits caps (definitions K) → IsFrame (canonical K) }
+{}
+
+/// The canonical file of well-formed definitions that fit caps meets conditions 1 to 15, and each symbol that
+/// they mention stands in the row that its index tells.
+pub fn pools_law()
+    ensures rows { (caps : Caps) (K : Collection) → AreCaps caps → Fits caps (definitions K) → AreWellFormed (definitions K) → HoldBelow 16 (canonical K) }
+    ensures symbols { (caps : Caps) (K : Collection) (s : Symbol) → AreCaps caps → Fits caps (definitions K) → AreWellFormed (definitions K) → IsMentioned (mentions (definitions K)) s → SymbolRow (canonical K) (symbol_index (mentions (definitions K)) s) s }
 {}

@@ -74,3 +74,5 @@ pub mod MemberOrder
 pub mod FormedMembers
 pub mod PoolsStand
 pub mod PoolsInOrder
+pub mod PoolsFormed
+pub mod FileRows

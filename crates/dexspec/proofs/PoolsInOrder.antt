@@ -1,5 +1,5 @@
 -- Conditions 11 to 15 of a file that is laid out: its rows stand for symbols, and follow in order.
-use Rattle.std.proofs.Common.{◌≡◌, ◌≢◌, ℕ, zero, suc, ◌+◌, ◌<◌, ◌≤◌, List, [], ◌∷◌, drop, length, get_or, map, refl, sym, ap, subst, ◌∙◌, arith, inl, inr}
+use Rattle.std.proofs.Common.{◌≡◌, ℕ, zero, suc, ◌+◌, ◌<◌, List, [], ◌∷◌, drop, length, get_or, map, refl, sym, ap, subst, ◌∙◌, arith, inl, inr}
 use Rattle.std.specs.Prelude.{◌==◌, if◌then◌else◌, nat_lt}
 use Rattle.std.specs.List.{Contains}
 use Rattle.std.specs.Cmp.{IsTotalOrder}
@@ -14,8 +14,8 @@ use Rattle.dexspec.specs.Lists.{rank}
 use Rattle.dexspec.specs.Bytes.{uint_at, ushort_at}
 use Rattle.dexspec.specs.Texts.{Text, text_cmp}
 use Rattle.dexspec.specs.Symbols.{Proto, Field, Method, proto_cmp, field_cmp, method_cmp}
-use Rattle.dexspec.specs.Header.{StringIds, TypeIds, ProtoIds, FieldIds, MethodIds, table_size}
-use Rattle.dexspec.specs.Rows.{row_at, StringRow, TypeRow, ProtoRow, FieldRow, MethodRow, type_indices, key_cmp, type_row_key, proto_row_key, field_row_key, method_row_key, Follows, HasString, HasType, HasProto, HasField, HasMethod}
+use Rattle.dexspec.specs.Header.{StringIds, ProtoIds, FieldIds, MethodIds}
+use Rattle.dexspec.specs.Rows.{row_at, TypeRow, ProtoRow, FieldRow, MethodRow, type_indices, key_cmp, type_row_key, proto_row_key, HasString, HasType, HasProto, HasField, HasMethod}
 use Rattle.dexspec.specs.Spellings.{text_index, type_index, proto_index}
 use Rattle.dexspec.specs.Placing.{Ordered, unless_empty}
 use Rattle.dexspec.proofs.Members.{Contains-first, Contains-later}
@@ -26,17 +26,20 @@ use Rattle.dexspec.proofs.Placements.{type_list_bytes}
 use Rattle.dexspec.proofs.Laying.{Laid}
 use Rattle.dexspec.proofs.HeaderLaws.{AreFew}
 use Rattle.dexspec.proofs.Uses.{UseStands}
-use Rattle.dexspec.proofs.RowsRead.{type_read, ProtoRead, proto_read, field_read, method_read, type_list_indices}
+use Rattle.dexspec.proofs.RowsRead.{type_read, proto_read, field_read, method_read, type_list_indices}
 use Rattle.dexspec.proofs.PoolsStand.{ArePools, text_row_at, type_row, proto_row, field_row, method_row}
 
 -- ---- ranks are in the order of the symbols
 
+-- a lesser number is less
 nat_less : (x y : ℕ) → x < y → nat_cmp x y ≡ Less
 nat_less x y lt = cond-true (nat_lt x y) Less _ (lt-ltb x y lt)
 
+-- equal numbers tie
 nat_same : (x y : ℕ) → x ≡ y → nat_cmp x y ≡ Equal
 nat_same x y e = cond-false (nat_lt x y) Less _ (le-ltb x y (omega (arith, e))) ∙ cond-true (x == y) Equal Greater (eq-eqb x y e)
 
+-- a greater number is greater
 nat_more : (x y : ℕ) → y < x → nat_cmp x y ≡ Greater
 nat_more x y lt = cond-false (nat_lt x y) Less _ (le-ltb x y (omega arith)) ∙ cond-false (x == y) Equal Greater (ne_eqb x y (λ e. omega (arith, e)))
 
@@ -95,13 +98,15 @@ key_of_list {K} {b} h few [] o s = cond-true (o == 0) [] (type_indices b o) (eq-
 key_of_list {K} {b} h few (t ∷ ts) o s = cond-false (o == 0) [] (type_indices b o) (ne_eqb o 0 s.some) ∙ type_list_indices h few (t ∷ ts) s
 
 module _ {K : Ordered} {b : List ℕ} (h : Laid K b) (few : AreFew K) (p : ArePools K.pools) where
-  -- the numbers of texts, of types and of protos are in their order
+  -- the numbers of texts are in their order
   texts_agree : (s t : Text) → Contains K.pools.texts s → Contains K.pools.texts t → nat_cmp (text_index K.pools s) (text_index K.pools t) ≡ text_cmp s t
   texts_agree s t c d = ranks_agree text_cmp text_total K.pools.texts s t p.texts_rise c d
 
+  -- those of types
   types_agree : (s t : Text) → Contains K.pools.types s → Contains K.pools.types t → nat_cmp (type_index K.pools s) (type_index K.pools t) ≡ text_cmp s t
   types_agree s t c d = ranks_agree text_cmp text_total K.pools.types s t p.types_rise c d
 
+  -- those of protos
   protos_agree : (s t : Proto) → Contains K.pools.protos s → Contains K.pools.protos t → nat_cmp (proto_index K.pools s) (proto_index K.pools t) ≡ proto_cmp s t
   protos_agree s t c d = ranks_agree proto_cmp proto_total K.pools.protos s t p.protos_rise c d
 

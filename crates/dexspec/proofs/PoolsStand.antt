@@ -1,5 +1,5 @@
 -- The symbols of the pools of a file that is laid out stand in the rows that their ranks tell.
-use Rattle.std.proofs.Common.{◌≡◌, ◌≢◌, ◌⊎◌, ℕ, zero, suc, ◌+◌, ◌*◌, ◌%◌, ◌^◌, ◌<◌, ◌≤◌, ◌/◌, List, [], ◌∷◌, ◌++◌, drop, length, get_or, map, refl, sym, ap, subst, ◌∙◌, arith, inl, inr}
+use Rattle.std.proofs.Common.{◌≡◌, ℕ, ◌+◌, ◌%◌, ◌^◌, ◌<◌, ◌≤◌, ◌/◌, List, [], ◌∷◌, ◌++◌, drop, length, get_or, map, refl, sym, ap, subst, ◌∙◌, arith, inl, inr}
 use Rattle.std.specs.Prelude.{◌==◌, if◌then◌else◌, nat_lt}
 use Rattle.std.proofs.lemmas.Bool.{cond_both}
 use Rattle.std.specs.List.{All, AllZip, Contains}
@@ -8,11 +8,11 @@ use Rattle.std.proofs.lemmas.List.Elements.{Contains-get_or}
 use Rattle.dexspec.specs.Lists.{OrNone}
 use Rattle.dexspec.specs.Bytes.{uint_at, Stands}
 use Rattle.dexspec.specs.Numbers.{BeginsWith, uleb128}
-use Rattle.dexspec.specs.Texts.{Text, text_cmp, AreUnits, form, spelling, string_data, IsStringData, StringDataAt}
+use Rattle.dexspec.specs.Texts.{Text, text_cmp, AreUnits, form, spelling, string_data, IsStringData}
 use Rattle.dexspec.specs.Names.{IsDescriptor, IsValueType, shorty}
 use Rattle.dexspec.specs.Symbols.{Proto, Field, Method, proto_cmp, field_cmp, method_cmp, IsField, IsMethod}
 use Rattle.dexspec.specs.Header.{StringIds, TypeIds, ProtoIds, FieldIds, MethodIds}
-use Rattle.dexspec.specs.Rows.{row_at, StringRow, TypeRow, TypeListAt, ProtoRow, FieldRow, MethodRow, type_indices}
+use Rattle.dexspec.specs.Rows.{row_at, StringRow, TypeRow, TypeListAt, ProtoRow, FieldRow, MethodRow}
 use Rattle.dexspec.specs.Mentions.{Mentions}
 use Rattle.dexspec.specs.Spellings.{text_index, type_index, proto_index, field_index, method_index}
 use Rattle.dexspec.specs.Placing.{Ordered, unless_empty}

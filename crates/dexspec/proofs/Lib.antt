@@ -76,3 +76,6 @@ pub mod PoolsStand
 pub mod PoolsInOrder
 pub mod PoolsFormed
 pub mod FileRows
+pub mod NumbersWritten
+pub mod ValuesWritten
+pub mod DebugWritten

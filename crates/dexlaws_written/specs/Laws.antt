@@ -1,10 +1,15 @@
--- The premise of the laws of what was written.
-use Rattle.std.specs.Prelude.{ℕ, ◌+◌, ◌^◌, ◌<◌, List}
+-- The statements of the laws of what was written.
+use Rattle.std.specs.Prelude.{ℕ, ◌+◌, ◌^◌, ◌<◌, IsTrue, List, length, map, take, drop}
 use Rattle.std.specs.List.{Contains}
+use Rattle.std.specs.Ordering.{nat_cmp}
+use Rattle.dexspec.specs.Lists.{rises, zip_with}
+use Rattle.dexspec.specs.Texts.{Text}
 use Rattle.dexspec.specs.Symbols.{Symbol}
 use Rattle.dexspec.specs.Rows.{SymbolRow}
-use Rattle.dexspec.specs.Mentions.{Mentions}
-use Rattle.dexspec.specs.Spellings.{symbol_index}
+use Rattle.dexspec.specs.ClassData.{EncodedField, EncodedMethod, ClassData}
+use Rattle.dexspec.specs.Classes.{FieldDef, MethodDef, Body}
+use Rattle.dexspec.specs.Mentions.{Mentions, field_of, method_of}
+use Rattle.dexspec.specs.Spellings.{symbol_index, field_index, method_index}
 
 -- the symbol stands in the row of its index, and the index plus one fits 32 bits
 abbrev pub IsInRow : List ℕ → Mentions → Symbol → Type 0
@@ -13,3 +18,25 @@ IsInRow b m s = SymbolRow b (symbol_index m s) s × (symbol_index m s + 1 < 2 ^ 
 -- each of them does
 abbrev pub AreInRows : List ℕ → Mentions → List Symbol → Type 0
 AreInRows b m ss = (s : Symbol) → Contains ss s → IsInRow b m s
+
+-- a declared field as class data has it
+abbrev pub encoded_field : Text → FieldDef → EncodedField
+encoded_field name f = record { field = field_of name f; flags = f.flags }
+
+-- a declared method, with the offset of its code
+abbrev pub encoded_method : Text → MethodDef → ℕ → EncodedMethod
+encoded_method name x code_off = record { method = method_of name x; flags = x.flags; code_off = code_off }
+
+-- a class's members as class data has them, with the offsets of the code of its methods
+abbrev pub class_data_of : Text → Body → List ℕ → ClassData
+class_data_of name c code_offs = record {
+  static_fields = map (encoded_field name) c.static_fields;
+  instance_fields = map (encoded_field name) c.instance_fields;
+  direct_methods = zip_with (encoded_method name) c.direct_methods (take (length c.direct_methods) code_offs);
+  virtual_methods = zip_with (encoded_method name) c.virtual_methods (drop (length c.direct_methods) code_offs);
+}
+
+-- the indices of each of the four lists rise strictly
+abbrev pub IndicesRise : Mentions → Text → Body → Type 0
+IndicesRise m name c = IsTrue (rises nat_cmp (map (λ f. field_index m (field_of name f)) c.static_fields)) × IsTrue (rises nat_cmp (map (λ f. field_index m (field_of name f)) c.instance_fields))
+    × IsTrue (rises nat_cmp (map (λ x. method_index m (method_of name x)) c.direct_methods)) × IsTrue (rises nat_cmp (map (λ x. method_index m (method_of name x)) c.virtual_methods))

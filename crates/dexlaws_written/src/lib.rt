@@ -3,19 +3,23 @@
 //! callers that cite it.
 #![tactic(auto)]
 
-ghost use Rattle.std.specs.Prelude.{ℕ, ℤ, ◌^◌, ◌<◌, ◌≤◌, List, Option, length, FitsSigned};
+ghost use Rattle.std.specs.Prelude.{◌≡◌, ℕ, ℤ, ◌^◌, ◌%◌, ◌<◌, ◌≤◌, IsTrue, List, [], Option, length, map, All, FitsSigned};
+ghost use Rattle.std.specs.List.{AllZip};
 ghost use Rattle.std.specs.Int.{w32};
+ghost use Rattle.dexspec.specs.Lists.{rises, OrNone};
 ghost use Rattle.dexspec.specs.Bytes.{Stands};
 ghost use Rattle.dexspec.specs.Numbers.{Uleb128At, Sleb128At, Uleb128p1At, plus_one, uleb128, sleb128, uleb128p1};
-ghost use Rattle.dexspec.specs.Texts.{Text};
+ghost use Rattle.dexspec.specs.Texts.{Text, text_cmp};
 ghost use Rattle.dexspec.specs.Header.{data_off};
 ghost use Rattle.dexspec.specs.Values.{Value, Values, Elements, count_values, ValueAt, ValuesAt, ElementsAt, EncodedArrayAt};
-ghost use Rattle.dexspec.specs.Annotations.{Annotation, AnnotationAt};
+ghost use Rattle.dexspec.specs.Annotations.{Annotation, AnnotationSet, AnnotationAt, SetAt, RefListAt};
 ghost use Rattle.dexspec.specs.Debug.{Operation, Debug, OperationAt, DebugAt};
-ghost use Rattle.dexspec.specs.Mentions.{Mentions, value_symbols, values_symbols, elements_symbols, annotation_symbols, operation_symbols, debug_symbols};
-ghost use Rattle.dexspec.specs.Spellings.{value_bytes, values_bytes, elements_bytes, encoded_array_bytes, annotation_bytes, operation_bytes, debug_bytes};
-ghost use Rattle.dexspec.specs.WellFormed.{IsValue, AreValues, AreElements, IsAnnotation, IsOperation, IsDebug};
-ghost use Rattle.dexlaws_written.specs.Laws.{AreInRows};
+ghost use Rattle.dexspec.specs.ClassData.{ClassDataAt};
+ghost use Rattle.dexspec.specs.Classes.{Body, declared_methods};
+ghost use Rattle.dexspec.specs.Mentions.{Mentions, symbols_of, value_symbols, values_symbols, elements_symbols, annotation_symbols, operation_symbols, debug_symbols};
+ghost use Rattle.dexspec.specs.Spellings.{value_bytes, values_bytes, elements_bytes, encoded_array_bytes, annotation_bytes, offsets_bytes, operation_bytes, debug_bytes, class_data_bytes};
+ghost use Rattle.dexspec.specs.WellFormed.{IsValue, AreValues, AreElements, IsAnnotation, IsOperation, IsDebug, IsWellFormed};
+ghost use Rattle.dexlaws_written.specs.Laws.{AreInRows, class_data_of, IndicesRise};
 
 /// The shortest LEB128 of a number in range stands for the number.
 pub fn numbers_written()
@@ -37,8 +41,20 @@ pub fn annotation_written()
     ensures { (b : List ℕ) (m : Mentions) (o : ℕ) (a : Annotation) → IsAnnotation a → AreInRows b m (annotation_symbols a) → data_off b ≤ o → Stands b o (annotation_bytes m a) → AnnotationAt b o a }
 {}
 
+/// The offsets at which the annotations of a set stand, behind their count and in the data, stand for the
+/// set; those of sets, or 0 for an empty one, stand for a ref list.
+pub fn sets_written()
+    ensures set { (b : List ℕ) (o : ℕ) (offs : List ℕ) (set : AnnotationSet) → length b < 2 ^ 32 → data_off b ≤ o → o % 4 ≡ 0 → AllZip (AnnotationAt b) offs set → IsTrue (rises text_cmp (map (λ a. a.type) set)) → Stands b o (offsets_bytes offs) → SetAt b o set }
+    ensures ref_list { (b : List ℕ) (o : ℕ) (offs : List ℕ) (list : List AnnotationSet) → length b < 2 ^ 32 → data_off b ≤ o → o % 4 ≡ 0 → AllZip (OrNone SetAt [] b) offs list → Stands b o (offsets_bytes offs) → RefListAt b o list }
+{}
+
 /// The bytes of an operation stand for it, and those of a debug program, in the data, for the program.
 pub fn debug_written()
     ensures operation { (b : List ℕ) (m : Mentions) (o : ℕ) (op : Operation) → IsOperation op → AreInRows b m (operation_symbols op) → Stands b o (operation_bytes m op) → OperationAt b o op (length (operation_bytes m op)) }
     ensures program { (b : List ℕ) (m : Mentions) (o : ℕ) (d : Debug) → IsDebug d → AreInRows b m (debug_symbols d) → data_off b ≤ o → Stands b o (debug_bytes m d) → DebugAt b o d }
+{}
+
+/// The bytes of class data, in the data, stand for the members of the class, with the offsets of their code.
+pub fn class_data_written()
+    ensures { (b : List ℕ) (m : Mentions) (o : ℕ) (name : Text) (c : Body) (code_offs : List ℕ) → IsWellFormed (name, c) → IndicesRise m name c → AreInRows b m (symbols_of (name, c)) → length code_offs ≡ length (declared_methods c) → All (λ p. p < 2 ^ 32) code_offs → data_off b ≤ o → Stands b o (class_data_bytes m (name, c) code_offs) → ClassDataAt b o (class_data_of name c code_offs) }
 {}

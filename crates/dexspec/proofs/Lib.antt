@@ -79,3 +79,5 @@ pub mod FileRows
 pub mod NumbersWritten
 pub mod ValuesWritten
 pub mod DebugWritten
+pub mod SetsWritten
+pub mod ClassDataWritten

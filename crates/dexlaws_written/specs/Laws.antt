@@ -1,11 +1,14 @@
 -- The statements of the laws of what was written.
-use Rattle.std.specs.Prelude.{ℕ, ◌+◌, ◌^◌, ◌<◌, IsTrue, List, length, map, take, drop}
-use Rattle.std.specs.List.{Contains}
+use Rattle.std.specs.Prelude.{ℕ, ◌+◌, ◌^◌, ◌<◌, IsTrue, All, List, ◌++◌, length, map, take, drop}
+use Rattle.std.specs.List.{Contains, AllZip}
 use Rattle.std.specs.Ordering.{nat_cmp}
 use Rattle.dexspec.specs.Lists.{rises, zip_with}
+use Rattle.dexspec.specs.Bytes.{uint}
 use Rattle.dexspec.specs.Texts.{Text}
 use Rattle.dexspec.specs.Symbols.{Symbol}
 use Rattle.dexspec.specs.Rows.{SymbolRow}
+use Rattle.dexspec.specs.Annotations.{PairAt}
+use Rattle.dexspec.specs.Placing.{pairs_bytes}
 use Rattle.dexspec.specs.ClassData.{EncodedField, EncodedMethod, ClassData}
 use Rattle.dexspec.specs.Classes.{FieldDef, MethodDef, Body}
 use Rattle.dexspec.specs.Mentions.{Mentions, field_of, method_of}
@@ -18,6 +21,14 @@ IsInRow b m s = SymbolRow b (symbol_index m s) s × (symbol_index m s + 1 < 2 ^ 
 -- each of them does
 abbrev pub AreInRows : List ℕ → Mentions → List Symbol → Type 0
 AreInRows b m ss = (s : Symbol) → Contains ss s → IsInRow b m s
+
+-- the pairs name the entries, and their indices rise strictly and fit 32 bits
+abbrev pub ArePairs : {M X : Type 0} → (List ℕ → ℕ → M → Type 0) → (List ℕ → ℕ → X → Type 0) → List ℕ → List (ℕ × ℕ) → List (M × X) → Type 0
+ArePairs Row At b ps entries = AllZip (PairAt Row At b) ps entries × IsTrue (rises nat_cmp (map (λ p. p.0) ps)) × All (λ p. p.0 < 2 ^ 32) ps
+
+-- the bytes of a directory with these offsets
+abbrev pub directory_of : ℕ → List (ℕ × ℕ) → List (ℕ × ℕ) → List (ℕ × ℕ) → List ℕ
+directory_of own fields methods parameters = uint own ++ (uint (length fields) ++ (uint (length methods) ++ (uint (length parameters) ++ (pairs_bytes fields ++ (pairs_bytes methods ++ pairs_bytes parameters)))))
 
 -- a declared field as class data has it
 abbrev pub encoded_field : Text → FieldDef → EncodedField

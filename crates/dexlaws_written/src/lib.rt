@@ -11,15 +11,16 @@ ghost use Rattle.dexspec.specs.Bytes.{Stands};
 ghost use Rattle.dexspec.specs.Numbers.{Uleb128At, Sleb128At, Uleb128p1At, plus_one, uleb128, sleb128, uleb128p1};
 ghost use Rattle.dexspec.specs.Texts.{Text, text_cmp};
 ghost use Rattle.dexspec.specs.Header.{data_off};
+ghost use Rattle.dexspec.specs.Rows.{FieldRow, MethodRow};
 ghost use Rattle.dexspec.specs.Values.{Value, Values, Elements, count_values, ValueAt, ValuesAt, ElementsAt, EncodedArrayAt};
-ghost use Rattle.dexspec.specs.Annotations.{Annotation, AnnotationSet, AnnotationAt, SetAt, RefListAt};
+ghost use Rattle.dexspec.specs.Annotations.{Annotation, AnnotationSet, AnnotationAt, SetAt, RefListAt, Directory, DirectoryAt};
 ghost use Rattle.dexspec.specs.Debug.{Operation, Debug, OperationAt, DebugAt};
 ghost use Rattle.dexspec.specs.ClassData.{ClassDataAt};
 ghost use Rattle.dexspec.specs.Classes.{Body, declared_methods};
 ghost use Rattle.dexspec.specs.Mentions.{Mentions, symbols_of, value_symbols, values_symbols, elements_symbols, annotation_symbols, operation_symbols, debug_symbols};
 ghost use Rattle.dexspec.specs.Spellings.{value_bytes, values_bytes, elements_bytes, encoded_array_bytes, annotation_bytes, offsets_bytes, operation_bytes, debug_bytes, class_data_bytes};
 ghost use Rattle.dexspec.specs.WellFormed.{IsValue, AreValues, AreElements, IsAnnotation, IsOperation, IsDebug, IsWellFormed};
-ghost use Rattle.dexlaws_written.specs.Laws.{AreInRows, class_data_of, IndicesRise};
+ghost use Rattle.dexlaws_written.specs.Laws.{AreInRows, ArePairs, directory_of, class_data_of, IndicesRise};
 
 /// The shortest LEB128 of a number in range stands for the number.
 pub fn numbers_written()
@@ -46,6 +47,12 @@ pub fn annotation_written()
 pub fn sets_written()
     ensures set { (b : List ℕ) (o : ℕ) (offs : List ℕ) (set : AnnotationSet) → length b < 2 ^ 32 → data_off b ≤ o → o % 4 ≡ 0 → AllZip (AnnotationAt b) offs set → IsTrue (rises text_cmp (map (λ a. a.type) set)) → Stands b o (offsets_bytes offs) → SetAt b o set }
     ensures ref_list { (b : List ℕ) (o : ℕ) (offs : List ℕ) (list : List AnnotationSet) → length b < 2 ^ 32 → data_off b ≤ o → o % 4 ≡ 0 → AllZip (OrNone SetAt [] b) offs list → Stands b o (offsets_bytes offs) → RefListAt b o list }
+{}
+
+/// A directory's counts and pairs of an index and an offset, in the data, stand for the directory whose sets
+/// and ref lists stand at the offsets.
+pub fn directory_written()
+    ensures { (b : List ℕ) (o own : ℕ) (fs ms ps : List (ℕ × ℕ)) (d : Directory) → length b < 2 ^ 32 → data_off b ≤ o → o % 4 ≡ 0 → OrNone SetAt [] b own d.own → ArePairs FieldRow SetAt b fs d.fields → ArePairs MethodRow SetAt b ms d.methods → ArePairs MethodRow RefListAt b ps d.parameters → Stands b o (directory_of own fs ms ps) → DirectoryAt b o d }
 {}
 
 /// The bytes of an operation stand for it, and those of a debug program, in the data, for the program.

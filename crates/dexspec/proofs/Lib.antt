@@ -81,3 +81,4 @@ pub mod ValuesWritten
 pub mod DebugWritten
 pub mod SetsWritten
 pub mod ClassDataWritten
+pub mod DirectoriesWritten

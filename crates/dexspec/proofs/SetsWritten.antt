@@ -49,7 +49,7 @@ module _ (b : List ℕ) (short : length b < 2 ^ 32) where
   annotation_small p a h = omega (arith, stands_within h.visibility, short)
 
   -- and so does a set, or none
-  set_small : (p : ℕ) (s : AnnotationSet) → OrNone SetAt [] b p s → p < 2 ^ 32
+  pub set_small : (p : ℕ) (s : AnnotationSet) → OrNone SetAt [] b p s → p < 2 ^ 32
   set_small p s (inl h) = omega (arith, h.0)
   set_small p s (inr h) = omega (arith, h.1.in_data.within, short)
 

@@ -3,7 +3,7 @@
 //! callers that cite it.
 #![tactic(auto)]
 
-ghost use Rattle.std.specs.Prelude.{◌≡◌, ℕ, ℤ, ◌^◌, ◌%◌, ◌<◌, ◌≤◌, IsTrue, List, [], Option, length, map, All, FitsSigned};
+ghost use Rattle.std.specs.Prelude.{◌≡◌, ℕ, ℤ, ◌^◌, ◌%◌, ◌<◌, ◌≤◌, IsTrue, List, [], Option, length, map, All, IfSome, FitsSigned};
 ghost use Rattle.std.specs.List.{AllZip};
 ghost use Rattle.std.specs.Int.{w32};
 ghost use Rattle.dexspec.specs.Lists.{rises, OrNone};
@@ -15,11 +15,13 @@ ghost use Rattle.dexspec.specs.Rows.{FieldRow, MethodRow};
 ghost use Rattle.dexspec.specs.Values.{Value, Values, Elements, count_values, ValueAt, ValuesAt, ElementsAt, EncodedArrayAt};
 ghost use Rattle.dexspec.specs.Annotations.{Annotation, AnnotationSet, AnnotationAt, SetAt, RefListAt, Directory, DirectoryAt};
 ghost use Rattle.dexspec.specs.Debug.{Operation, Debug, OperationAt, DebugAt};
+ghost use Rattle.dexspec.specs.Pieces.{Cut};
+ghost use Rattle.dexspec.specs.Code.{Handler, HandlerAt};
 ghost use Rattle.dexspec.specs.ClassData.{ClassDataAt};
 ghost use Rattle.dexspec.specs.Classes.{Body, declared_methods};
-ghost use Rattle.dexspec.specs.Mentions.{Mentions, symbols_of, value_symbols, values_symbols, elements_symbols, annotation_symbols, operation_symbols, debug_symbols};
-ghost use Rattle.dexspec.specs.Spellings.{value_bytes, values_bytes, elements_bytes, encoded_array_bytes, annotation_bytes, offsets_bytes, operation_bytes, debug_bytes, class_data_bytes};
-ghost use Rattle.dexspec.specs.WellFormed.{IsValue, AreValues, AreElements, IsAnnotation, IsOperation, IsDebug, IsWellFormed};
+ghost use Rattle.dexspec.specs.Mentions.{Mentions, symbols_of, value_symbols, values_symbols, elements_symbols, annotation_symbols, operation_symbols, debug_symbols, handler_symbols};
+ghost use Rattle.dexspec.specs.Spellings.{value_bytes, values_bytes, elements_bytes, encoded_array_bytes, annotation_bytes, offsets_bytes, operation_bytes, debug_bytes, handler_bytes, class_data_bytes};
+ghost use Rattle.dexspec.specs.WellFormed.{IsValue, AreValues, AreElements, IsAnnotation, IsOperation, IsDebug, IsHandlerOf, IsWellFormed};
 ghost use Rattle.dexlaws_written.specs.Laws.{AreInRows, ArePairs, directory_of, class_data_of, IndicesRise};
 
 /// The shortest LEB128 of a number in range stands for the number.
@@ -59,6 +61,11 @@ pub fn directory_written()
 pub fn debug_written()
     ensures operation { (b : List ℕ) (m : Mentions) (o : ℕ) (op : Operation) → IsOperation op → AreInRows b m (operation_symbols op) → Stands b o (operation_bytes m op) → OperationAt b o op (length (operation_bytes m op)) }
     ensures program { (b : List ℕ) (m : Mentions) (o : ℕ) (d : Debug) → IsDebug d → AreInRows b m (debug_symbols d) → data_off b ≤ o → Stands b o (debug_bytes m d) → DebugAt b o d }
+{}
+
+/// The bytes of a handler stand for it, if its addresses fit 32 bits.
+pub fn handler_written()
+    ensures { (us : List ℕ) (cuts : List Cut) (b : List ℕ) (m : Mentions) (o : ℕ) (h : Handler) → IsHandlerOf us cuts h → length h.catches < 2 ^ 31 → All (λ c. c.address < 2 ^ 32) h.catches → IfSome h.catch_all (λ p. p < 2 ^ 32) → AreInRows b m (handler_symbols h) → Stands b o (handler_bytes m h) → HandlerAt us cuts b o h (length (handler_bytes m h)) }
 {}
 
 /// The bytes of class data, in the data, stand for the members of the class, with the offsets of their code.

@@ -82,3 +82,4 @@ pub mod DebugWritten
 pub mod SetsWritten
 pub mod ClassDataWritten
 pub mod DirectoriesWritten
+pub mod HandlersWritten

@@ -3,7 +3,7 @@ use Rattle.std.specs.Prelude.{◌≡◌, ℕ, ◌+◌, ◌%◌, ◌<◌, ◌≤�
 use Rattle.std.specs.List.{Contains}
 use Rattle.dexspec.specs.Bytes.{uint, Stands, round_up}
 use Rattle.dexspec.specs.Texts.{Text}
-use Rattle.dexspec.specs.Symbols.{Proto, Field, Method}
+use Rattle.dexspec.specs.Symbols.{Proto, Field, Method, Symbol, TextSymbol, TypeSymbol, ProtoSymbol, FieldSymbol, MethodSymbol}
 use Rattle.dexspec.specs.Header.{Table, StringIds, TypeIds, ProtoIds, FieldIds, MethodIds, ClassDefs, table_size, data_off, data_size, file_size, map_off, header_length, HasSize, HasMagic, HasVersion, HasLengths, HasEndian, HasNoLink, HasChecksum, HasSignature}
 use Rattle.dexspec.specs.Sections.{IsInData, Section, MapEntry, type_code}
 use Rattle.dexspec.specs.Rows.{row_at}
@@ -66,3 +66,11 @@ pub record IsOpened (b : List ℕ) : Type 0 where
 -- an entry of a map by its section
 abbrev pub entry_of : Section × ℕ × ℕ → MapEntry
 entry_of e = record { kind = type_code e.0; size = e.1; off = e.2 }
+
+-- the symbol is one of those of its pool
+abbrev pub IsMentioned : Mentions → Symbol → Type 0
+IsMentioned m (TextSymbol s) = Contains m.texts s
+IsMentioned m (TypeSymbol t) = Contains m.types t
+IsMentioned m (ProtoSymbol p) = Contains m.protos p
+IsMentioned m (FieldSymbol f) = Contains m.fields f
+IsMentioned m (MethodSymbol x) = Contains m.methods x

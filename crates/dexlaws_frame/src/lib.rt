@@ -6,13 +6,17 @@ ghost use Rattle.std.specs.Prelude.{List, ℕ, ◌+◌, ◌≡◌, ◌<◌, ◌�
 ghost use Rattle.dexspec.specs.Bytes.{ushort, uint, ushort_at, uint_at, Stands};
 ghost use Rattle.dexspec.specs.Header.{HasMagic, HasVersion, HasChecksum, HasSignature};
 ghost use Rattle.dexspec.specs.Sections.{Section, entries_at};
-ghost use Rattle.dexspec.specs.Accepted.{IsFrame};
+ghost use Rattle.dexspec.specs.Accepted.{HoldBelow, IsFrame};
+ghost use Rattle.dexspec.specs.Symbols.{Symbol};
+ghost use Rattle.dexspec.specs.Rows.{SymbolRow};
+ghost use Rattle.dexspec.specs.Spellings.{symbol_index};
+ghost use Rattle.dexspec.specs.WellFormed.{AreWellFormed};
 ghost use Rattle.dexspec.specs.Files.{Collection, definitions};
 ghost use Rattle.dexspec.specs.Mentions.{mentions};
 ghost use Rattle.dexspec.specs.Merging.{Caps, AreCaps, Fits};
 ghost use Rattle.dexspec.specs.Placing.{Ordered};
 ghost use Rattle.dexspec.specs.Canonical.{with_sums, unsigned_file, canonical, map_bytes};
-ghost use Rattle.dexlaws_frame.specs.Laws.{HasFewSymbols, HasFields, HasRows, HasItems, IsOpened, opening, entry_of};
+ghost use Rattle.dexlaws_frame.specs.Laws.{IsMentioned, HasFewSymbols, HasFields, HasRows, HasItems, IsOpened, opening, entry_of};
 
 /// A number is read where its bytes stand.
 pub fn numbers_law()
@@ -52,4 +56,11 @@ pub fn header_law()
 pub fn map_law()
     ensures count { (b : List ℕ) (o : ℕ) (es : List (Section × ℕ × ℕ)) → length es < 2 ^ 32 → All (λ e. (e.1 < 2 ^ 32) × (e.2 < 2 ^ 32)) es → Stands b o (map_bytes es) → uint_at b o ≡ length es }
     ensures entries { (b : List ℕ) (o : ℕ) (es : List (Section × ℕ × ℕ)) → length es < 2 ^ 32 → All (λ e. (e.1 < 2 ^ 32) × (e.2 < 2 ^ 32)) es → Stands b o (map_bytes es) → entries_at b (o + 4) (length es) ≡ map entry_of es }
+{}
+
+/// The canonical file of well-formed definitions that fit caps meets conditions 1 to 15, and each symbol that
+/// they mention stands in the row that its index tells.
+pub fn pools_law()
+    ensures rows { (caps : Caps) (K : Collection) → AreCaps caps → Fits caps (definitions K) → AreWellFormed (definitions K) → HoldBelow 16 (canonical K) }
+    ensures symbols { (caps : Caps) (K : Collection) (s : Symbol) → AreCaps caps → Fits caps (definitions K) → AreWellFormed (definitions K) → IsMentioned (mentions (definitions K)) s → SymbolRow (canonical K) (symbol_index (mentions (definitions K)) s) s }
 {}

@@ -86,3 +86,12 @@ pub mod FormedCode
 pub mod PoolsStand
 pub mod PoolsInOrder
 pub mod PlainHeaders
+pub mod PoolsFormed
+pub mod FileRows
+pub mod NumbersWritten
+pub mod ValuesWritten
+pub mod DebugWritten
+pub mod SetsWritten
+pub mod ClassDataWritten
+pub mod DirectoriesWritten
+pub mod HandlersWritten

@@ -31,12 +31,15 @@ use Rattle.dexspec.proofs.PoolsStand.{ArePools, text_row_at, type_row, proto_row
 
 -- ---- ranks are in the order of the symbols
 
+-- a lesser number is less
 nat_less : (x y : ℕ) → x < y → nat_cmp x y ≡ Less
 nat_less x y lt = cond-true (nat_lt x y) Less _ (lt-ltb x y lt)
 
+-- equal numbers tie
 nat_same : (x y : ℕ) → x ≡ y → nat_cmp x y ≡ Equal
 nat_same x y e = cond-false (nat_lt x y) Less _ (le-ltb x y (omega (arith, e))) ∙ cond-true (x == y) Equal Greater (eq-eqb x y e)
 
+-- a greater number is greater
 nat_more : (x y : ℕ) → y < x → nat_cmp x y ≡ Greater
 nat_more x y lt = cond-false (nat_lt x y) Less _ (le-ltb x y (omega arith)) ∙ cond-false (x == y) Equal Greater (ne_eqb x y (λ e. omega (arith, e)))
 
@@ -95,13 +98,15 @@ key_of_list {K} {b} h few [] o s = cond-true (o == 0) [] (type_indices b o) (eq-
 key_of_list {K} {b} h few (t ∷ ts) o s = cond-false (o == 0) [] (type_indices b o) (ne_eqb o 0 s.some) ∙ type_list_indices h few (t ∷ ts) s
 
 module _ {K : Ordered} {b : List ℕ} (h : Laid K b) (few : AreFew K) (p : ArePools K.pools) where
-  -- the numbers of texts, of types and of protos are in their order
+  -- the numbers of texts are in their order
   texts_agree : (s t : Text) → Contains K.pools.texts s → Contains K.pools.texts t → nat_cmp (text_index K.pools s) (text_index K.pools t) ≡ text_cmp s t
   texts_agree s t c d = ranks_agree text_cmp text_total K.pools.texts s t p.texts_rise c d
 
+  -- those of types
   types_agree : (s t : Text) → Contains K.pools.types s → Contains K.pools.types t → nat_cmp (type_index K.pools s) (type_index K.pools t) ≡ text_cmp s t
   types_agree s t c d = ranks_agree text_cmp text_total K.pools.types s t p.types_rise c d
 
+  -- those of protos
   protos_agree : (s t : Proto) → Contains K.pools.protos s → Contains K.pools.protos t → nat_cmp (proto_index K.pools s) (proto_index K.pools t) ≡ proto_cmp s t
   protos_agree s t c d = ranks_agree proto_cmp proto_total K.pools.protos s t p.protos_rise c d
 

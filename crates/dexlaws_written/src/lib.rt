@@ -1,0 +1,74 @@
+//! Laws of the definitions: the canonical bytes of an item, where they stand in a file whose pool rows are
+//! those of the indices, stand for the item. Each function does nothing: its contract is the law, for the
+//! callers that cite it.
+#![tactic(auto)]
+
+ghost use Rattle.std.specs.Prelude.{◌≡◌, ℕ, ℤ, ◌^◌, ◌%◌, ◌<◌, ◌≤◌, IsTrue, List, [], Option, length, map, All, IfSome, FitsSigned};
+ghost use Rattle.std.specs.List.{AllZip};
+ghost use Rattle.std.specs.Int.{w32};
+ghost use Rattle.dexspec.specs.Lists.{rises, OrNone};
+ghost use Rattle.dexspec.specs.Bytes.{Stands};
+ghost use Rattle.dexspec.specs.Numbers.{Uleb128At, Sleb128At, Uleb128p1At, plus_one, uleb128, sleb128, uleb128p1};
+ghost use Rattle.dexspec.specs.Texts.{Text, text_cmp};
+ghost use Rattle.dexspec.specs.Header.{data_off};
+ghost use Rattle.dexspec.specs.Rows.{FieldRow, MethodRow};
+ghost use Rattle.dexspec.specs.Values.{Value, Values, Elements, count_values, ValueAt, ValuesAt, ElementsAt, EncodedArrayAt};
+ghost use Rattle.dexspec.specs.Annotations.{Annotation, AnnotationSet, AnnotationAt, SetAt, RefListAt, Directory, DirectoryAt};
+ghost use Rattle.dexspec.specs.Debug.{Operation, Debug, OperationAt, DebugAt};
+ghost use Rattle.dexspec.specs.Pieces.{Cut};
+ghost use Rattle.dexspec.specs.Code.{Handler, HandlerAt};
+ghost use Rattle.dexspec.specs.ClassData.{ClassDataAt};
+ghost use Rattle.dexspec.specs.Classes.{Body, declared_methods};
+ghost use Rattle.dexspec.specs.Mentions.{Mentions, symbols_of, value_symbols, values_symbols, elements_symbols, annotation_symbols, operation_symbols, debug_symbols, handler_symbols};
+ghost use Rattle.dexspec.specs.Spellings.{value_bytes, values_bytes, elements_bytes, encoded_array_bytes, annotation_bytes, offsets_bytes, operation_bytes, debug_bytes, handler_bytes, class_data_bytes};
+ghost use Rattle.dexspec.specs.WellFormed.{IsValue, AreValues, AreElements, IsAnnotation, IsOperation, IsDebug, IsHandlerOf, IsWellFormed};
+ghost use Rattle.dexlaws_written.specs.Laws.{AreInRows, ArePairs, directory_of, class_data_of, IndicesRise};
+
+/// The shortest LEB128 of a number in range stands for the number.
+pub fn numbers_written()
+    ensures unsigned { (b : List ℕ) (o v : ℕ) → v < 2 ^ 32 → Stands b o (uleb128 v) → Uleb128At b o v (length (uleb128 v)) }
+    ensures signed { (b : List ℕ) (o : ℕ) (z : ℤ) → FitsSigned w32 z → Stands b o (sleb128 z) → Sleb128At b o z (length (sleb128 z)) }
+    ensures one_more { (b : List ℕ) (o : ℕ) (v : Option ℕ) → plus_one v < 2 ^ 32 → Stands b o (uleb128p1 v) → Uleb128p1At b o v (length (uleb128p1 v)) }
+{}
+
+/// The bytes of values stand for them, and so do those of elements of an annotation and of an array.
+pub fn values_written()
+    ensures value { (b : List ℕ) (m : Mentions) (o : ℕ) (v : Value) → IsValue v → AreInRows b m (value_symbols v) → Stands b o (value_bytes m v) → ValueAt b o v (length (value_bytes m v)) }
+    ensures values { (b : List ℕ) (m : Mentions) (o : ℕ) (vs : Values) → AreValues vs → AreInRows b m (values_symbols vs) → Stands b o (values_bytes m vs) → ValuesAt b o vs (length (values_bytes m vs)) }
+    ensures elements { (b : List ℕ) (m : Mentions) (o : ℕ) (es : Elements) → AreElements es → AreInRows b m (elements_symbols es) → Stands b o (elements_bytes m es) → ElementsAt b o es (length (elements_bytes m es)) }
+    ensures array { (b : List ℕ) (m : Mentions) (o : ℕ) (vs : Values) → AreValues vs → count_values vs < 2 ^ 32 → AreInRows b m (values_symbols vs) → Stands b o (encoded_array_bytes m vs) → EncodedArrayAt b o vs (length (encoded_array_bytes m vs)) }
+{}
+
+/// The bytes of an annotation, in the data, stand for it.
+pub fn annotation_written()
+    ensures { (b : List ℕ) (m : Mentions) (o : ℕ) (a : Annotation) → IsAnnotation a → AreInRows b m (annotation_symbols a) → data_off b ≤ o → Stands b o (annotation_bytes m a) → AnnotationAt b o a }
+{}
+
+/// The offsets at which the annotations of a set stand, behind their count and in the data, stand for the
+/// set; those of sets, or 0 for an empty one, stand for a ref list.
+pub fn sets_written()
+    ensures set { (b : List ℕ) (o : ℕ) (offs : List ℕ) (set : AnnotationSet) → length b < 2 ^ 32 → data_off b ≤ o → o % 4 ≡ 0 → AllZip (AnnotationAt b) offs set → IsTrue (rises text_cmp (map (λ a. a.type) set)) → Stands b o (offsets_bytes offs) → SetAt b o set }
+    ensures ref_list { (b : List ℕ) (o : ℕ) (offs : List ℕ) (list : List AnnotationSet) → length b < 2 ^ 32 → data_off b ≤ o → o % 4 ≡ 0 → AllZip (OrNone SetAt [] b) offs list → Stands b o (offsets_bytes offs) → RefListAt b o list }
+{}
+
+/// A directory's counts and pairs of an index and an offset, in the data, stand for the directory whose sets
+/// and ref lists stand at the offsets.
+pub fn directory_written()
+    ensures { (b : List ℕ) (o own : ℕ) (fs ms ps : List (ℕ × ℕ)) (d : Directory) → length b < 2 ^ 32 → data_off b ≤ o → o % 4 ≡ 0 → OrNone SetAt [] b own d.own → ArePairs FieldRow SetAt b fs d.fields → ArePairs MethodRow SetAt b ms d.methods → ArePairs MethodRow RefListAt b ps d.parameters → Stands b o (directory_of own fs ms ps) → DirectoryAt b o d }
+{}
+
+/// The bytes of an operation stand for it, and those of a debug program, in the data, for the program.
+pub fn debug_written()
+    ensures operation { (b : List ℕ) (m : Mentions) (o : ℕ) (op : Operation) → IsOperation op → AreInRows b m (operation_symbols op) → Stands b o (operation_bytes m op) → OperationAt b o op (length (operation_bytes m op)) }
+    ensures program { (b : List ℕ) (m : Mentions) (o : ℕ) (d : Debug) → IsDebug d → AreInRows b m (debug_symbols d) → data_off b ≤ o → Stands b o (debug_bytes m d) → DebugAt b o d }
+{}
+
+/// The bytes of a handler stand for it, if its addresses fit 32 bits.
+pub fn handler_written()
+    ensures { (us : List ℕ) (cuts : List Cut) (b : List ℕ) (m : Mentions) (o : ℕ) (h : Handler) → IsHandlerOf us cuts h → length h.catches < 2 ^ 31 → All (λ c. c.address < 2 ^ 32) h.catches → IfSome h.catch_all (λ p. p < 2 ^ 32) → AreInRows b m (handler_symbols h) → Stands b o (handler_bytes m h) → HandlerAt us cuts b o h (length (handler_bytes m h)) }
+{}
+
+/// The bytes of class data, in the data, stand for the members of the class, with the offsets of their code.
+pub fn class_data_written()
+    ensures { (b : List ℕ) (m : Mentions) (o : ℕ) (name : Text) (c : Body) (code_offs : List ℕ) → IsWellFormed (name, c) → IndicesRise m name c → AreInRows b m (symbols_of (name, c)) → length code_offs ≡ length (declared_methods c) → All (λ p. p < 2 ^ 32) code_offs → data_off b ≤ o → Stands b o (class_data_bytes m (name, c) code_offs) → ClassDataAt b o (class_data_of name c code_offs) }
+{}

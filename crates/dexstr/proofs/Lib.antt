@@ -1,0 +1,9 @@
+pub mod Forms
+pub mod Passing
+pub mod ByBytes
+pub mod Counting
+pub mod ClassNames
+pub mod Descriptions
+pub mod MemberNames
+pub mod Items
+pub mod Outcomes

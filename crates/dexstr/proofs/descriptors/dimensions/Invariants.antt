@@ -1,0 +1,6 @@
+use Rattle.std.proofs.Common.{◌≡◌, ◌+◌, drop}
+use Rattle.dexstr.specs.Kinds.{dimensions}
+use Rattle.dexstr.proofs.descriptors.dimensions.Given as goal
+
+abbrev pub invariant-loop-i : goal.invariant-loop-i
+invariant-loop-i l = l.i + dimensions (drop l.i l.bytes) ≡ dimensions l.bytes

@@ -1,0 +1,9 @@
+use Rattle.std.proofs.Common.{length}
+use Rattle.dexstr.proofs.Passing.{Passed}
+use Rattle.dexstr.proofs.units.skip_units.Given as goal
+
+abbrev pub invariant-loop-after : goal.invariant-loop-after
+invariant-loop-after l = Passed l.bytes l.count l.rest
+
+abbrev pub decreases-loop-after : goal.decreases-loop-after
+decreases-loop-after l = length l.rest

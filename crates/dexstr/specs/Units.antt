@@ -1,0 +1,46 @@
+-- The units that bytes spell.
+use Rattle.std.specs.Prelude.{◌≡◌, ◌≢◌, ℕ, ◌+◌, ◌*◌, ◌-◌, ◌^◌, ◌<◌, Bool, not, ◌&&◌, List, [], ◌∷◌, ◌++◌, length, if◌then◌else◌, nat_lt, nat_le}
+use Rattle.dexspec.specs.Texts.{Text, AreUnits, form, spelling}
+
+-- the bytes begin with the spelling of a unit
+pub record BeginsWithUnit (bytes : List ℕ) (u : ℕ) (rest : List ℕ) : Type 0 where
+  pub unit : u < 2 ^ 16
+  pub parts : bytes ≡ form u ++ rest
+
+-- no unit's spelling begins here
+abbrev pub BeginsWithNone : List ℕ → Type 0
+BeginsWithNone bytes = (u : ℕ) (rest : List ℕ) → ¬ BeginsWithUnit bytes u rest
+
+-- the bytes begin with none from 0x80 to 0xbf
+abbrev pub IsNoTail : List ℕ → Type 0
+IsNoTail [] = Unit {0}
+IsNoTail (b ∷ bs) = (x : ℕ) → x < 64 → b ≢ 0x80 + x
+
+-- so many units stand first, and then no other
+pub record AfterUnits (bytes : List ℕ) (n : ℕ) (rest : List ℕ) : Type 0 where
+  pub us : Text
+  pub len : length us ≡ n
+  pub units : AreUnits us
+  pub parts : bytes ≡ spelling us ++ rest
+  pub none : BeginsWithNone rest
+
+-- the units that bytes spell, of bytes that spell any
+abbrev pub units_of : List ℕ → Text
+units_of [] = []
+units_of (a ∷ []) = a ∷ []
+units_of (a ∷ b ∷ []) = if nat_lt a 0x80 then a ∷ units_of (b ∷ []) else (64 * (a - 0xc0) + (b - 0x80)) ∷ []
+units_of (a ∷ b ∷ c ∷ bs) = if nat_lt a 0x80 then a ∷ units_of (b ∷ c ∷ bs) else (if nat_lt a 0xe0 then (64 * (a - 0xc0) + (b - 0x80)) ∷ units_of (c ∷ bs) else (4096 * (a - 0xe0) + 64 * (b - 0x80) + (c - 0x80)) ∷ units_of bs)
+
+-- the bytes spell the units that they are read as
+pub record IsSpelling (bytes : List ℕ) : Type 0 where
+  pub parts : spelling (units_of bytes) ≡ bytes
+  pub units : AreUnits (units_of bytes)
+
+-- and these are fewer than 2 ^ 32
+pub record SpellsText (bytes : List ℕ) : Type 0 where
+  pub spelled : IsSpelling bytes
+  pub few : length (units_of bytes) < 2 ^ 32
+
+-- a unit's spelling begins with this byte: none from 0x80 to 0xbf
+abbrev pub begins_unit : ℕ → Bool
+begins_unit b = not (nat_le 0x80 b && nat_le b 0xbf)

@@ -1,0 +1,76 @@
+ghost use Rattle.std.specs.Prelude.{◌≡◌, ◌↔◌, ◌≤◌, ℕ, List, length, drop, IfOk, IfErr, OnErr, IsTrue};
+ghost use Rattle.dexspec.specs.Numbers.{BeginsWith};
+ghost use Rattle.dexspec.specs.Texts.{IsStringData, StringDataAt};
+ghost use Rattle.dexstr.specs.Faults.{IsFault, LooksCutOff};
+
+use crate::texts::Text;
+use crate::units::skip_units;
+use dexleb::{LebFault, read_u};
+
+/// Why no text is read.
+#[derive(Clone, Copy, Debug, PartialEq, Eq)]
+pub enum TextFault {
+    /// The bytes end within the count or within a unit, or before the zero byte.
+    Short,
+    /// No count stands where one should, or neither a unit nor the zero byte does.
+    Bad,
+    /// The zero byte follows other than as many units as the count says.
+    Count,
+}
+
+impl<'a> Text<'a> {
+    /// Reads the string_data_item that begins at byte `at`: the text, of the bytes that spell it, and how
+    /// many bytes the item takes. The count of units may be spelled longer than it has to be. No memory is
+    /// taken.
+    ///
+    /// The count is read first, and then units up to the zero byte. It fails with [`TextFault::Short`]
+    /// where the bytes end and the count, a unit's spelling or the zero byte may go on behind them, with
+    /// [`TextFault::Bad`] where else no count begins, or no unit and no zero byte, and with
+    /// [`TextFault::Count`] where the zero byte follows other than as many units as the count says.
+    ///
+    /// Source: the headings "string_data_item" and "MUTF-8 (Modified UTF-8) encoding" of the Android page
+    /// "Dalvik Executable format".
+    pub fn read(b: &'a [u8], at: usize) -> Result<(Text<'a>, usize), TextFault>
+        requires { at ≤ length b.now }
+        ensures found { IfOk result (λ x. StringDataAt b.now at x.0 x.1) }
+        ensures only { (s : List ℕ) (n : ℕ) → StringDataAt b.now at s n → result ≡ Ok (s, n) }
+        ensures none { OnErr result ((s : List ℕ) (n : ℕ) → ¬ StringDataAt b.now at s n) }
+        ensures fault { (e : TextFault) → (result ≡ Err e) ↔ IsFault e (drop at b.now) }
+    {
+        read_first(&b[at..])
+    }
+}
+
+/// The text whose string_data_item stands first, and how many bytes that takes.
+fn read_first(bytes: &[u8]) -> Result<(Text<'_>, usize), TextFault>
+    ensures found { IfOk result (λ x. BeginsWith IsStringData bytes.now x.0 x.1) }
+    ensures fault { IfErr result (λ e. IsFault e bytes.now) }
+{
+    let (count, len) = match read_u(bytes, 0) {
+        Ok(read) => read,
+        Err(LebFault::Short) => return Err(TextFault::Short),
+        Err(LebFault::Range) => return Err(TextFault::Bad),
+    };
+    let body = &bytes[len..];
+    let (units, rest) = skip_units(body);
+    match rest {
+        [0, ..] if units == count as usize => {
+            let spelled = &body[..body.len() - rest.len()];
+            Ok((Text::of_spelling(spelled), len + spelled.len() + 1))
+        }
+        [0, ..] => Err(TextFault::Count),
+        _ if looks_cut_off(rest) => Err(TextFault::Short),
+        _ => Err(TextFault::Bad),
+    }
+}
+
+/// Whether a unit's spelling, or the zero byte, may begin with these bytes and go on.
+fn looks_cut_off(bytes: &[u8]) -> bool
+    ensures { IsTrue result ↔ LooksCutOff bytes.now }
+{
+    match bytes {
+        [] | [0xc0] | [0xc2..=0xdf] | [0xe0..=0xef] => true,
+        [0xe0, 0xa0..=0xbf] | [0xe1..=0xef, 0x80..=0xbf] => true,
+        _ => false,
+    }
+}

@@ -1,0 +1,121 @@
+ghost use Rattle.std.specs.Prelude.{◌≡◌, ◌↔◌, ◌^◌, ◌<◌, List, [], length, IsTrue, ◌==◌};
+ghost use Rattle.std.proofs.Common.{rules};
+ghost use Rattle.std.specs.Cmp.{partial_order_from_own_ties};
+ghost use Rattle.std.specs.Cmp.Rules.{comparing};
+ghost use Rattle.std.specs.Cmp.Lexicographic.{slice_cmp, pointwise};
+ghost use Rattle.std.specs.Ordering.{nat_cmp, as_partial_cmp};
+
+use crate::order::compare;
+use crate::units::{Units, count_units};
+use std::cmp::Ordering;
+use std::marker::Model;
+
+/// A text: fewer than 2^32 units of 16 bits, in borrowed bytes that spell them as MUTF-8. Texts are equal
+/// where their units are, and come in the order of their units; a text that begins another comes before
+/// it.
+///
+/// Source: the heading "MUTF-8 (Modified UTF-8) encoding" of the Android page "Dalvik Executable format".
+#[derive(Drop)]
+pub struct Text<'a> {
+    bytes: &'a [u8],
+}
+
+impl<'a> Model for Text<'a> {
+    ghost use Rattle.std.specs.Prelude.{ℕ, List};
+    ghost use Rattle.dexstr.specs.Units.{units_of, SpellsText};
+
+    ghost Value = { List ℕ };
+
+    ghost view = { λ text. units_of text.bytes.now };
+
+    ghost invariant = { λ text. SpellsText text.bytes.now };
+}
+
+impl<'a> Text<'a> {
+    ghost use Rattle.dexspec.specs.Texts.{AreUnits};
+    ghost use Rattle.dexstr.specs.Units.{units_of, SpellsText};
+
+    /// The text that the bytes spell.
+    pub(crate) fn of_spelling(bytes: &'a [u8]) -> Text<'a>
+        requires { SpellsText bytes.now }
+        ensures { result ≡ units_of bytes.now }
+    {
+        Text { bytes }
+    }
+
+    /// The bytes that spell the text.
+    pub(crate) fn bytes(&self) -> &'a [u8]
+        ensures units { units_of result.now ≡ self.now }
+        ensures spelled { SpellsText result.now }
+    {
+        self.bytes
+    }
+
+    /// The same text, of the same bytes. No memory is taken.
+    pub fn clone(&self) -> Text<'a>
+        ensures { result ≡ self.now }
+    {
+        Text { bytes: self.bytes }
+    }
+
+    /// The number of units, below 2^32. It goes over the bytes.
+    pub fn len(&self) -> usize
+        ensures len { result ≡ length self.now }
+        ensures few { result < 2 ^ 32 }
+    {
+        count_units(self.bytes)
+    }
+
+    /// Whether the text has no unit.
+    pub fn is_empty(&self) -> bool
+        ensures { IsTrue result ↔ (self.now ≡ []) }
+    {
+        self.bytes.is_empty()
+    }
+
+    /// The units, one after the other, each of 16 bits.
+    pub fn units(&self) -> Units<'a>
+        ensures same { result ≡ self.now }
+        ensures units { AreUnits self.now }
+    {
+        Units::of_spelling(self.bytes)
+    }
+}
+
+impl PartialEq for Text<'_> {
+    ghost eq = { pointwise ◌==◌ };
+
+    ghost laws = { Prim.search (comparing, rules) };
+
+    fn eq(&self, other: &Self) -> bool {
+        self.bytes == other.bytes
+    }
+}
+
+impl Eq for Text<'_> {
+    ghost laws = { Prim.search (comparing, rules) };
+}
+
+impl Ord for Text<'_> {
+    ghost cmp = { slice_cmp nat_cmp };
+
+    ghost total = { Prim.search (comparing, rules) };
+
+    ghost matches_partial_cmp = { Prim.search (comparing, rules) };
+
+    ghost matches_eq = { Prim.search (comparing, rules) };
+
+    fn cmp(&self, other: &Self) -> Ordering {
+        compare(self.bytes, other.bytes)
+    }
+}
+
+impl PartialOrd for Text<'_> {
+    ghost partial_cmp = { as_partial_cmp (slice_cmp nat_cmp) };
+
+    ghost laws = { partial_order_from_own_ties (Prim.search (comparing, rules)) (Prim.search (comparing, rules)) };
+
+    fn partial_cmp(&self, other: &Self) -> Option<Ordering> {
+        Some(self.cmp(other))
+    }
+}

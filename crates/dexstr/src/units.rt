@@ -1,0 +1,118 @@
+ghost use Rattle.std.specs.Prelude.{◌≡◌, ℕ, ◌+◌, ◌<◌, ◌∷◌, IfSome, IfNone, length, count_by};
+ghost use Rattle.std.specs.Iterator.{YieldsFirst, item_count};
+ghost use Rattle.dexstr.specs.Units.{BeginsWithUnit, BeginsWithNone, IsNoTail, AfterUnits, begins_unit};
+
+use std::marker::Model;
+
+/// The units that are left of a text, from the first on.
+///
+/// Source: the heading "MUTF-8 (Modified UTF-8) encoding" of the Android page "Dalvik Executable format".
+#[derive(Drop)]
+pub struct Units<'a> {
+    bytes: &'a [u8],
+}
+
+impl<'a> Model for Units<'a> {
+    ghost use Rattle.std.specs.Prelude.{ℕ, List};
+    ghost use Rattle.dexstr.specs.Units.{units_of, IsSpelling};
+
+    ghost Value = { List ℕ };
+
+    ghost view = { λ units. units_of units.bytes.now };
+
+    ghost invariant = { λ units. IsSpelling units.bytes.now };
+}
+
+impl<'a> Units<'a> {
+    ghost use Rattle.dexstr.specs.Units.{units_of, IsSpelling};
+
+    /// The units that the bytes spell.
+    pub(crate) fn of_spelling(bytes: &'a [u8]) -> Units<'a>
+        requires { IsSpelling bytes.now }
+        ensures { result ≡ units_of bytes.now }
+    {
+        Units { bytes }
+    }
+}
+
+impl<'a> Iterator for Units<'a> {
+    type Item = u16;
+
+    ghost next_gives = { YieldsFirst (λ us. us) };
+
+    ghost remaining = { item_count (λ us. us) };
+
+    fn next(&mut self) -> Option<u16> {
+        let (unit, rest) = first_unit(self.bytes)?;
+        self.bytes = rest;
+        Some(unit)
+    }
+}
+
+/// How many units stand first, and the bytes after them.
+pub(crate) fn skip_units(bytes: &[u8]) -> (usize, &[u8])
+    ensures { AfterUnits bytes.now result.0 result.1.now }
+{
+    let mut count = 0;
+    let mut rest = bytes;
+    while let Some((_, after)) = first_unit(rest) {
+        count += 1;
+        rest = after;
+    }
+    (count, rest)
+}
+
+/// The unit whose spelling stands first, and the bytes after it.
+fn first_unit(bytes: &[u8]) -> Option<(u16, &[u8])>
+    ensures found { IfSome result (λ x. BeginsWithUnit bytes.now x.0 x.1.now) }
+    ensures none { IfNone result (BeginsWithNone bytes.now) }
+{
+    let (lead, rest) = bytes.split_first()?;
+    match *lead {
+        0x01..=0x7f => Some((u16::from(*lead), rest)),
+        0xc0..=0xdf => {
+            let (low, rest) = six_bits(rest)?;
+            let unit = u16::from(*lead - 0xc0) * 64 + low;
+            if unit == 0 || unit >= 0x80 {
+                Some((unit, rest))
+            } else {
+                None
+            }
+        }
+        0xe0..=0xef => {
+            let (middle, rest) = six_bits(rest)?;
+            let (low, rest) = six_bits(rest)?;
+            let unit = (u16::from(*lead - 0xe0) * 64 + middle) * 64 + low;
+            if unit >= 0x800 {
+                Some((unit, rest))
+            } else {
+                None
+            }
+        }
+        _ => None,
+    }
+}
+
+/// The low six bits of a byte from 0x80 to 0xbf, and the bytes after it.
+fn six_bits(bytes: &[u8]) -> Option<(u16, &[u8])>
+    ensures found { IfSome result (λ x. (x.0 < 64) × (bytes.now ≡ (0x80 + x.0) ∷ x.1.now)) }
+    ensures none { IfNone result (IsNoTail bytes.now) }
+{
+    match bytes {
+        [byte @ 0x80..=0xbf, rest @ ..] => Some((u16::from(*byte - 0x80), rest)),
+        _ => None,
+    }
+}
+
+/// How many bytes begin a unit's spelling.
+pub(crate) fn count_units(bytes: &[u8]) -> usize
+    ensures { result ≡ count_by begins_unit bytes.now }
+{
+    let mut units = 0;
+    for &byte in bytes {
+        if !matches!(byte, 0x80..=0xbf) {
+            units += 1;
+        }
+    }
+    units
+}

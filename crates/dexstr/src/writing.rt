@@ -1,0 +1,29 @@
+ghost use Rattle.std.specs.Prelude.{◌≡◌, ◌+◌, ◌*◌, ◌≤◌, length, IsOk, vec_len, vec_capacity};
+ghost use Rattle.dexspec.specs.Texts.{IsStringData, string_data};
+ghost use Rattle.dexspec.specs.Writing.{Puts};
+
+use crate::texts::Text;
+use dexleb::{len_u, put_u};
+use std::alloc::AllocError;
+
+/// Appends the text's string_data_item: the number of units in its shortest spelling, the units and a zero
+/// byte, at most six bytes and three for each unit.
+///
+/// It fails only for want of memory, and not where the spare room is at least six bytes and three for each
+/// unit; the items are then as they were.
+///
+/// Source: the heading "string_data_item" of the Android page "Dalvik Executable format".
+pub fn put_text(text: &Text, out: &mut Vec<u8>) -> Result<(), AllocError>
+    ensures puts { Puts (string_data text.now) out.old out.new result }
+    ensures stands_for_text { IsStringData (string_data text.now) text.now }
+    ensures bound { length (string_data text.now) ≤ 6 + 3 * length text.now }
+    ensures room_for_all { vec_len out.old + (6 + 3 * length text.now) ≤ vec_capacity out.old → IsOk result }
+{
+    let count = text.len() as u32;
+    let bytes = text.bytes();
+    out.reserve(len_u(count) + bytes.len() + 1)?;
+    put_u(count, out)?;
+    out.extend_from_slice(bytes)?;
+    out.push(0)?;
+    Ok(())
+}

@@ -1,0 +1,302 @@
+-- The entries of a map, one by one.
+use Rattle.std.proofs.Common.{◌≡◌, ◌≢◌, ◌⊎◌, inl, inr, ◌↔◌, ℕ, zero, suc, ◌+◌, ◌-◌, ◌*◌, ◌<◌, ◌≤◌, List, [], ◌∷◌, ◌++◌, length, map, take, get_or, Bool, true, false, ◌&&◌, IsTrue, All, refl, subst, sym, ap, ◌∙◌, arith}
+use Rattle.std.specs.List.{Contains}
+use Rattle.std.specs.Ordering.{nat_cmp, is_lt}
+use Rattle.std.proofs.lemmas.List.{take_more, take_all, map-append, length-map, length-take-le, get_or-map, get_or-take}
+use Rattle.std.proofs.lemmas.List.Elements.{All-more, All-map, All-get_or, All-contains, Contains-get_or}
+use Rattle.std.proofs.lemmas.List.Quantifiers.{all_pairs_push}
+use Rattle.std.proofs.lemmas.Bool.Decides.{nat_tests}
+use Rattle.dexspec.specs.Lists.{rises, AreDistinct}
+use Rattle.dexspec.specs.Bytes.{ushort_at, uint_at}
+use Rattle.dexspec.specs.Header as header
+use Rattle.dexspec.specs.Header.{table_size, table_off, StringIds, TypeIds, ProtoIds, FieldIds, MethodIds, ClassDefs}
+use Rattle.dexspec.specs.Sections.{MapEntry, Section, HeaderItem, TableOf, MapList, TypeLists, AnnotationSetRefLists, AnnotationSets, ClassDataItems, CodeItems, StringDataItems, DebugInfoItems, AnnotationItems, EncodedArrayItems, AnnotationsDirectories, type_code, entries_at, IsKnown, IsPlaced, HasTable, HasMap, map_entries}
+use Rattle.dexhead.specs.declared.map.Map.{Map}
+use Rattle.dexhead.specs.Found.{entries}
+use Rattle.dexhead.specs.Map.{entry_of, IsCode, IsNext, AreInOrder, BeginsWithHeader, IsThere, HaveTables, AreRight, IsInPlace}
+
+abbrev none : MapEntry
+none = record { kind = 0; size = 0; off = 0 }
+
+abbrev kind : MapEntry → ℕ
+kind e = e.kind
+
+abbrev off : MapEntry → ℕ
+off e = e.off
+
+-- ---- what stands where
+
+abbrev pub entry_at : List ℕ → ℕ → MapEntry
+entry_at b o = record { kind = ushort_at b o; size = uint_at b (o + 4); off = uint_at b (o + 8) }
+
+length-entries_at : (b : List ℕ) (o n : ℕ) → length (entries_at b o n) ≡ n
+length-entries_at b o zero = refl
+length-entries_at b o (suc n) = ap (λ k. suc k) (length-entries_at b (o + 12) n)
+
+entry_of-entries_at : (b : List ℕ) (o n i : ℕ) → i < n → entry_of (entries_at b o n) i ≡ entry_at b (o + 12 * i)
+entry_of-entries_at b o zero i lt = absurd (omega arith)
+entry_of-entries_at b o (suc n) zero lt = ap (entry_at b) (let e : o ≡ o + 12 * 0 = omega arith in e)
+entry_of-entries_at b o (suc n) (suc i) lt =
+    entry_of-entries_at b (o + 12) n i (omega arith) ∙ ap (entry_at b) (let e : o + 12 + 12 * i ≡ o + 12 * suc i = omega arith in e)
+
+pub length-entries : (m : Map) → length (entries m) ≡ m.count
+unfolding entries
+length-entries m = length-entries_at m.bytes.now m.from m.count
+
+pub entry_of-entries : (m : Map) (i : ℕ) → i < m.count → entry_of (entries m) i ≡ entry_at m.bytes.now (m.from + 12 * i)
+unfolding entries
+entry_of-entries m i lt = entry_of-entries_at m.bytes.now m.from m.count i lt
+
+pub entry_is : {k k' s s' o o' : ℕ} → k ≡ k' → s ≡ s' → o ≡ o'
+    → ◌≡◌ {A = MapEntry} (record { kind = k; size = s; off = o }) (record { kind = k'; size = s'; off = o' })
+entry_is p q r = cc
+
+-- ---- type codes
+
+low : (n : ℕ) → n ≤ 6 → (s : Section) × (n ≡ type_code s)
+low zero le = (HeaderItem, refl)
+low (suc zero) le = (TableOf StringIds, refl)
+low (suc (suc zero)) le = (TableOf TypeIds, refl)
+low (suc (suc (suc zero))) le = (TableOf ProtoIds, refl)
+low (suc (suc (suc (suc zero)))) le = (TableOf FieldIds, refl)
+low (suc (suc (suc (suc (suc zero))))) le = (TableOf MethodIds, refl)
+low (suc (suc (suc (suc (suc (suc zero)))))) le = (TableOf ClassDefs, refl)
+low (suc (suc (suc (suc (suc (suc (suc n))))))) le = absurd (omega arith)
+
+middle : (k : ℕ) → k ≤ 3 → (s : Section) × (0x1000 + k ≡ type_code s)
+middle zero le = (MapList, refl)
+middle (suc zero) le = (TypeLists, refl)
+middle (suc (suc zero)) le = (AnnotationSetRefLists, refl)
+middle (suc (suc (suc zero))) le = (AnnotationSets, refl)
+middle (suc (suc (suc (suc n)))) le = absurd (omega arith)
+
+high : (k : ℕ) → k ≤ 6 → (s : Section) × (0x2000 + k ≡ type_code s)
+high zero le = (ClassDataItems, refl)
+high (suc zero) le = (CodeItems, refl)
+high (suc (suc zero)) le = (StringDataItems, refl)
+high (suc (suc (suc zero))) le = (DebugInfoItems, refl)
+high (suc (suc (suc (suc zero)))) le = (AnnotationItems, refl)
+high (suc (suc (suc (suc (suc zero))))) le = (EncodedArrayItems, refl)
+high (suc (suc (suc (suc (suc (suc zero)))))) le = (AnnotationsDirectories, refl)
+high (suc (suc (suc (suc (suc (suc (suc n))))))) le = absurd (omega arith)
+
+known_code : (n : ℕ) → IsCode n → (s : Section) × (n ≡ type_code s)
+known_code n (inl h) = low n h
+known_code n (inr (inl h)) = let s = middle (n - 0x1000) (omega arith) in (s.0, omega (arith, s.1))
+known_code n (inr (inr h)) = let s = high (n - 0x2000) (omega arith) in (s.0, omega (arith, s.1))
+
+code_of : (s : Section) → IsCode (type_code s)
+code_of HeaderItem = inl (omega arith)
+code_of (TableOf StringIds) = inl (omega arith)
+code_of (TableOf TypeIds) = inl (omega arith)
+code_of (TableOf ProtoIds) = inl (omega arith)
+code_of (TableOf FieldIds) = inl (omega arith)
+code_of (TableOf MethodIds) = inl (omega arith)
+code_of (TableOf ClassDefs) = inl (omega arith)
+code_of MapList = inr (inl (omega arith, omega arith))
+code_of TypeLists = inr (inl (omega arith, omega arith))
+code_of AnnotationSetRefLists = inr (inl (omega arith, omega arith))
+code_of AnnotationSets = inr (inl (omega arith, omega arith))
+code_of ClassDataItems = inr (inr (omega arith, omega arith))
+code_of CodeItems = inr (inr (omega arith, omega arith))
+code_of StringDataItems = inr (inr (omega arith, omega arith))
+code_of DebugInfoItems = inr (inr (omega arith, omega arith))
+code_of AnnotationItems = inr (inr (omega arith, omega arith))
+code_of EncodedArrayItems = inr (inr (omega arith, omega arith))
+code_of AnnotationsDirectories = inr (inr (omega arith, omega arith))
+
+-- ---- truth
+
+pub never : IsTrue false → ⊥
+never e = cc
+
+-- ---- lists that rise
+
+cmp_less : (x y : ℕ) → x < y → IsTrue (is_lt (nat_cmp x y))
+cmp_less x y lt = grind (arith, nat_tests)
+
+less_cmp : (x y : ℕ) → IsTrue (is_lt (nat_cmp x y)) → x < y
+less_cmp x y h = grind (arith, nat_tests)
+
+both : (a b : Bool) → IsTrue a → IsTrue b → IsTrue (a && b)
+both true b p q = q
+both false b p q = p
+
+first : (a b : Bool) → IsTrue (a && b) → IsTrue a
+first true b h = refl
+first false b h = h
+
+second : (a b : Bool) → IsTrue (a && b) → IsTrue b
+second true b h = h
+second false b h = absurd cc
+
+rises_push : (xs : List ℕ) (y : ℕ) → IsTrue (rises nat_cmp xs) → ((k : ℕ) → suc k ≡ length xs → get_or xs k 0 < y) → IsTrue (rises nat_cmp (xs ++ y ∷ []))
+rises_push [] y h last = refl
+rises_push (x ∷ []) y h last = both _ _ (cmp_less x y (last 0 refl)) refl
+rises_push (x ∷ z ∷ xs) y h last =
+    both (is_lt (nat_cmp x z)) _ (first _ _ h) (rises_push (z ∷ xs) y (second (is_lt (nat_cmp x z)) _ h) (λ k e. last (suc k) (ap (λ n. suc n) e)))
+
+rises_at : (xs : List ℕ) (k : ℕ) → IsTrue (rises nat_cmp xs) → suc k < length xs → get_or xs k 0 < get_or xs (suc k) 0
+rises_at [] k h lt = absurd (omega arith)
+rises_at (x ∷ []) k h lt = absurd (omega arith)
+rises_at (x ∷ y ∷ xs) zero h lt = less_cmp x y (first _ _ h)
+rises_at (x ∷ y ∷ xs) (suc k) h lt = rises_at (y ∷ xs) k (second (is_lt (nat_cmp x y)) _ h) (omega arith)
+
+-- ---- the walk
+
+map-take_more : (f : MapEntry → ℕ) (es : List MapEntry) (i : ℕ) → i < length es → map f (take (i + 1) es) ≡ map f (take i es) ++ f (entry_of es i) ∷ []
+map-take_more f es i lt = ap (map f) (take_more es i none lt) ∙ map-append f (take i es) (entry_of es i ∷ [])
+
+last_off : (es : List MapEntry) (i k : ℕ) → i < length es → (i ≡ 0) ⊎ ((entry_of es (i - 1)).off < (entry_of es i).off)
+    → suc k ≡ length (map off (take i es)) → get_or (map off (take i es)) k 0 < (entry_of es i).off
+last_off es i k lt h e =
+    let n : length (map off (take i es)) ≡ i = length-map (take i es) off ∙ length-take-le i es (omega arith) in
+    let m : length (take i es) ≡ i = length-take-le i es (omega arith) in
+    let at : get_or (map off (take i es)) k 0 ≡ (entry_of es k).off
+    = get_or-map off (take i es) k none 0 (omega arith) ∙ ap off (get_or-take i es k none (omega arith)) in
+    let j : k ≡ i - 1 = omega arith in
+    elim h [ inl z ↦ absurd (omega arith) | inr l ↦ subst (λ x. x < (entry_of es i).off) (sym (at ∙ ap (λ i. (entry_of es i).off) j)) l ]
+
+pub order_none : {b : List ℕ} (es : List MapEntry) → AreInOrder b (take 0 es)
+order_none es = record { known = λ k d lt. absurd (omega arith); once = λ i j d lt le. absurd (omega arith); rise = refl; others = λ k d lt. absurd (omega arith) }
+
+pub order_more : {b : List ℕ} (es : List MapEntry) (i : ℕ) → i < length es → AreInOrder b (take i es) → IsNext b es i → AreInOrder b (take (i + 1) es)
+order_more {b = b} es i lt h next = record {
+  known = All-more IsKnown es i none lt h.known (known_code _ next.known);
+  once = subst AreDistinct (sym (map-take_more kind es i lt))
+      (all_pairs_push (λ x y. x ≢ y) (map kind (take i es)) (kind (entry_of es i)) h.once
+      (λ k d le. All-map (λ x. x ≢ kind (entry_of es i)) kind (take i es) next.new k d le));
+  rise = subst (λ xs. IsTrue (rises nat_cmp xs)) (sym (map-take_more off es i lt))
+      (rises_push (map off (take i es)) (off (entry_of es i)) h.rise (λ k e. last_off es i k lt next.above e));
+  others = All-more (IsPlaced b) es i none lt h.others next.placed;
+}
+
+pub order_all : {b : List ℕ} (es : List MapEntry) (n : ℕ) → n ≡ length es → AreInOrder b (take n es) → AreInOrder b es
+order_all {b = b} es n e h = subst (AreInOrder b) (take_all n es (omega arith)) h
+
+above_at : (es : List MapEntry) (i : ℕ) → i < length es → IsTrue (rises nat_cmp (map off es)) → (i ≡ 0) ⊎ ((entry_of es (i - 1)).off < (entry_of es i).off)
+above_at es zero lt h = inl refl
+above_at es (suc k) lt h =
+    let n : length (map off es) ≡ length es = length-map es off in
+    let l = rises_at (map off es) k h (omega arith) in
+    let p : get_or (map off es) k 0 ≡ (entry_of es k).off = get_or-map off es k none 0 (omega arith) in
+    let q : get_or (map off es) (suc k) 0 ≡ (entry_of es (suc k)).off = get_or-map off es (suc k) none 0 lt in
+    let j : suc k - 1 ≡ k = omega arith in
+    let r : (entry_of es (suc k - 1)).off ≡ (entry_of es k).off = ap (λ i. (entry_of es i).off) j in
+    inr (omega (arith, l, p, q, r))
+
+new_at : (es : List MapEntry) (i : ℕ) → i < length es → AreDistinct (map kind es) → All (λ e. e.kind ≢ (entry_of es i).kind) (take i es)
+new_at es i lt h k d le same =
+    let m : length (take i es) ≡ i = length-take-le i es (omega arith) in
+    let n : length (map kind es) ≡ length es = length-map es kind in
+    let at : get_or (take i es) k d ≡ get_or es k d = get_or-take i es k d (omega arith) in
+    let p : get_or (map kind es) k 0 ≡ kind (get_or es k d) = get_or-map kind es k d 0 (omega arith) in
+    let q : get_or (map kind es) i 0 ≡ kind (entry_of es i) = get_or-map kind es i none 0 lt in
+    h k i 0 (omega arith) (omega arith) (p ∙ sym (ap kind at) ∙ same ∙ sym q)
+
+pub next_at : {b : List ℕ} (es : List MapEntry) (i : ℕ) → i < length es → AreInOrder b es → IsNext b es i
+next_at {b = b} es i lt h =
+    let s = All-get_or IsKnown es i none lt h.known in
+    record {
+      known = subst IsCode (sym s.1) (code_of s.0);
+      new = new_at es i lt h.once;
+      above = above_at es i lt h.rise;
+      placed = All-get_or (IsPlaced b) es i none lt h.others;
+    }
+
+-- ---- the first entry
+
+begins : (es : List MapEntry) (h : MapEntry) → 0 < length es → entry_of es 0 ≡ h → (rest : List MapEntry) × (es ≡ h ∷ rest)
+begins [] h lt e = absurd (omega arith)
+begins (x ∷ es) h lt e = (es, ap (λ y. y ∷ es) e)
+
+abbrev header_entry : MapEntry
+header_entry = record { kind = 0; size = 1; off = 0 }
+
+pub begins_with : (es : List MapEntry) → 0 < length es → entry_of es 0 ≡ header_entry → BeginsWithHeader es
+begins_with es lt e = record { begins = begins es header_entry lt e }
+
+pub begins_first : (es : List MapEntry) → BeginsWithHeader es → (0 < length es) × (entry_of es 0 ≡ header_entry)
+begins_first es h =
+    let e : length es ≡ suc (length h.begins.0) = ap length h.begins.1 in
+    (omega arith, ap (λ xs. entry_of xs 0) h.begins.1)
+
+-- ---- the kinds that are there
+
+pub kind_lacks : (es : List MapEntry) (k n i : ℕ) → i < n → n ≤ length es → (entry_of es i).kind ≡ k → All (λ e. e.kind ≢ k) (take n es) → ⊥
+kind_lacks es k n i lt le e h =
+    let m : length (take n es) ≡ n = length-take-le n es le in
+    h i none (omega arith) (ap kind (get_or-take n es i none lt) ∙ e)
+
+pub found : (es : List MapEntry) (x : MapEntry) (i : ℕ) → i < length es → entry_of es i ≡ x → Contains es x
+found es x i lt e = subst (Contains es) e (Contains-get_or es i none lt)
+
+pub not_found : (es : List MapEntry) (x : MapEntry) → All (λ e. e ≢ x) es → Contains es x → ⊥
+not_found es x h at = All-contains (λ e. e ≢ x) es x h at refl
+
+-- ---- the tables, and the whole map
+
+pub empty_table : {b : List ℕ} (es : List MapEntry) (t : header.Table) (n k : ℕ) (r : Bool) → n ≡ length es → table_size b t ≡ 0 → k ≡ type_code (TableOf t)
+    → (IsTrue r ↔ All (λ e. e.kind ≢ k) (take n es)) → IsTrue r ↔ IsThere b es t
+empty_table {b = b} es t n k r len empty code h =
+    let same : take n es ≡ es = take_all n es (omega arith) in
+    let p : (IsTrue r ↔ All (λ e. e.kind ≢ type_code (TableOf t)) es) = subst (λ k. IsTrue r ↔ All (λ e. e.kind ≢ k) es) code (subst (λ xs. IsTrue r ↔ All (λ e. e.kind ≢ k) xs) same h) in (
+      λ x. record { there = inl (empty, p.0 x) },
+      λ there. elim there.there [ inl l ↦ p.1 l.1 | inr f ↦ absurd (f.0 empty) ],
+    )
+
+pub full_table : {b : List ℕ} (es : List MapEntry) (t : header.Table) (k s o : ℕ) (r : Bool) → table_size b t ≢ 0 → k ≡ type_code (TableOf t) → s ≡ table_size b t → o ≡ table_off b t
+    → (IsTrue r ↔ Contains es (record { kind = k; size = s; off = o })) → IsTrue r ↔ IsThere b es t
+full_table {b = b} es t k s o r full code size off h =
+    let p : (IsTrue r ↔ Contains es (record { kind = type_code (TableOf t); size = table_size b t; off = table_off b t }))
+    = subst (λ (e : MapEntry). IsTrue r ↔ Contains es e) (entry_is code size off) h in (
+      λ x. record { there = inr (full, p.0 x) },
+      λ there. elim there.there [ inl l ↦ absurd (full l.0) | inr f ↦ p.1 f.1 ],
+    )
+
+has_table : {b : List ℕ} {es : List MapEntry} → HaveTables b es → (t : header.Table) → HasTable b es t
+has_table h StringIds = h.strings.there
+has_table h TypeIds = h.types.there
+has_table h ProtoIds = h.protos.there
+has_table h FieldIds = h.fields.there
+has_table h MethodIds = h.methods.there
+has_table h ClassDefs = h.classes.there
+
+have_tables : {b : List ℕ} {es : List MapEntry} → ((t : header.Table) → HasTable b es t) → HaveTables b es
+have_tables h = record {
+  strings = record { there = h StringIds };
+  types = record { there = h TypeIds };
+  protos = record { there = h ProtoIds };
+  fields = record { there = h FieldIds };
+  methods = record { there = h MethodIds };
+  classes = record { there = h ClassDefs };
+}
+
+pub has_map : {b : List ℕ} → IsInPlace b → AreRight b (map_entries b) → HasMap b
+has_map place right = record {
+  in_data = place.in_data;
+  aligned = place.aligned;
+  known = right.order.known;
+  once = right.order.once;
+  rise = right.order.rise;
+  header = right.header.begins;
+  tables = has_table right.tables;
+  itself = right.itself.itself;
+  others = right.order.others;
+}
+
+pub in_place : {b : List ℕ} → HasMap b → IsInPlace b
+in_place h = record { in_data = h.in_data; aligned = h.aligned }
+
+pub are_right : {b : List ℕ} → HasMap b → AreRight b (map_entries b)
+are_right h = record {
+  order = record { known = h.known; once = h.once; rise = h.rise; others = h.others };
+  header = record { begins = h.header };
+  tables = have_tables h.tables;
+  itself = record { itself = h.itself };
+}
+
+pub map_is_right : {b b' : List ℕ} {es : List MapEntry} (r : Bool) → IsInPlace b → b' ≡ b → es ≡ map_entries b → (IsTrue r ↔ AreRight b' es) → IsTrue r ↔ HasMap b
+map_is_right {b = b} {es = es} r place e f h =
+    let p : (IsTrue r ↔ AreRight b (map_entries b)) = subst (λ es. IsTrue r ↔ AreRight b es) f (subst (λ b. IsTrue r ↔ AreRight b es) e h) in
+    (λ x. has_map place (p.0 x), λ m. p.1 (are_right m))

@@ -1,0 +1,4 @@
+mod Entries
+mod Frames
+mod Judged
+mod Spelled

@@ -1,0 +1,9 @@
+use Rattle.std.proofs.Common.{sym, ◌∙◌}
+use Rattle.dexhead.specs.Found.{entries}
+use Rattle.dexhead.specs.Tables.{meant}
+use Rattle.dexhead.proofs.Entries.{length-entries, empty_table}
+use Rattle.dexhead.proofs.map.Map.has_table.Goals as goal
+
+pub returns-in-0 : goal.returns-in-0
+returns-in-0 c = empty_table (entries c.args.self.now) (meant c.args.table) c.args.self.now.count c.code.result c.lacks.result
+    (sym (length-entries c.args.self.now)) (sym c.table_size.ensures ∙ c.in-0.is) c.code.ensures c.lacks.ensures

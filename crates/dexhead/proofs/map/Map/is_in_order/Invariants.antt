@@ -1,0 +1,8 @@
+use Rattle.std.proofs.Common.{take}
+use Rattle.dexhead.specs.Map.{AreInOrder}
+use Rattle.dexhead.specs.Found.{entries}
+use Rattle.dexhead.proofs.map.Map.is_in_order.Given as goal
+
+-- the entries so far are in order
+abbrev pub invariant-loop-i : goal.invariant-loop-i
+invariant-loop-i l = AreInOrder l.self.bytes.now (take l.i (entries l.self))

@@ -1,0 +1,7 @@
+use Rattle.std.proofs.Common.{◌≢◌, take, All}
+use Rattle.dexhead.specs.Found.{entries}
+use Rattle.dexhead.proofs.map.Map.lacks.Given as goal
+
+-- none so far is of the kind
+abbrev pub invariant-loop-i : goal.invariant-loop-i
+invariant-loop-i l = All (λ e. e.kind ≢ l.kind) (take l.i (entries l.self))

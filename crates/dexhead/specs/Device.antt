@@ -1,0 +1,11 @@
+-- what a Device holds
+use Rattle.std.specs.Prelude.{Bool}
+use Rattle.dexhead.specs.declared.device.Device.{Device}
+
+-- what is inside a device
+abbrev pub inner_of : {T : Type 0} → Device T → T
+inner_of d = d.inner
+
+-- whether a call of the device was answered DeviceFault
+abbrev pub is_broken : {T : Type 0} → Device T → Bool
+is_broken d = d.is_broken

@@ -1,0 +1,157 @@
+//! What bytes come from and go to, with faults and bytes that a contract can name, and the device over
+//! any reader or writer.
+
+ghost use Rattle.std.specs.Prelude.{◌≡◌, ◌<◌, ◌≤◌, ◌++◌, ℕ, List, [], Bool, true, false, length, take, Option, IsSome, unwrap_or, OnOk, OnErr, IfOk, IfErr};
+
+use std::io::{Read, Write};
+
+/// A device failed. It does not say why, and is not to be called again.
+#[derive(Clone, Copy, Debug, PartialEq, Eq)]
+pub struct DeviceFault;
+
+/// What bytes come from. Its caller does not read on after a fault.
+pub trait Source {
+    // Whether the device tells its bytes. What is said of them holds where it does.
+    ghost tells: { Self → Type 0 };
+
+    // The bytes to come.
+    ghost to_come: { Self → List ℕ };
+
+    // Whether it has failed.
+    ghost has_failed: { Self → Bool };
+
+    /// Whether a read has failed: from the first fault on, and not before.
+    fn failed(&self) -> bool
+        ensures { result ≡ has_failed self.now };
+
+    /// Moves a front of the bytes to come into the front of the buffer, and answers how many bytes that
+    /// are. For a buffer that is not empty these are 0 only at the end of the bytes.
+    ///
+    /// Condition: the device has not failed.
+    fn read(&mut self, buf: &mut [u8]) -> Result<usize, DeviceFault>
+        requires { has_failed self.old ≡ false }
+
+        // The fault is answered exactly where this call makes the device failed.
+        ensures works { OnOk result (has_failed self.new ≡ false) }
+        ensures fails { OnErr result (has_failed self.new ≡ true) }
+
+        ensures bound { IfOk result (λ n. n ≤ length buf.new) }
+        ensures tells { tells self.old → tells self.new }
+        ensures moved { IfOk result (λ n. tells self.old → to_come self.old ≡ take n buf.new ++ to_come self.new) }
+
+        // Only at the end are there none for a buffer that has room.
+        ensures end { IfOk result (λ n. n ≡ 0 → 0 < length buf.new → tells self.old → to_come self.old ≡ []) };
+}
+
+/// What bytes go to. Its caller does not write on after a fault.
+pub trait Sink {
+    // Whether the device tells its bytes. What is said of them holds where it does.
+    ghost tells: { Self → Type 0 };
+
+    // The bytes that it has taken.
+    ghost taken: { Self → List ℕ };
+
+    // Whether it has failed.
+    ghost has_failed: { Self → Bool };
+
+    /// Whether a write has failed: from the first fault on, and not before.
+    fn failed(&self) -> bool
+        ensures { result ≡ has_failed self.now };
+
+    /// Appends a front of the bytes to those taken, and answers how many bytes that are, 1 at least.
+    ///
+    /// Conditions: the device has not failed, and the bytes are not empty. Where it fails it may have
+    /// taken a front all the same.
+    fn write(&mut self, bytes: &[u8]) -> Result<usize, DeviceFault>
+        requires works { has_failed self.old ≡ false }
+        requires some { 0 < length bytes.now }
+
+        // The fault is answered exactly where this call makes the device failed.
+        ensures works { OnOk result (has_failed self.new ≡ false) }
+        ensures fails { OnErr result (has_failed self.new ≡ true) }
+
+        ensures positive { IfOk result (λ n. 0 < n) }
+        ensures bound { IfOk result (λ n. n ≤ length bytes.now) }
+        ensures tells { tells self.old → tells self.new }
+        ensures appended { IfOk result (λ n. tells self.old → taken self.new ≡ taken self.old ++ take n bytes.now) }
+
+        // A write that fails has appended a front, perhaps an empty one.
+        ensures front { OnErr result (tells self.old → (n : ℕ) × (taken self.new ≡ taken self.old ++ take n bytes.now)) };
+}
+
+/// A source over any reader, and a sink over any writer, whose bytes are those of what is inside.
+///
+/// Each error of what is inside is a fault, also one of the kind `Interrupted`: no call is tried again.
+/// A write that is answered by 0 bytes is a fault too.
+#[derive(Drop)]
+pub struct Device<T> {
+    inner: T,
+    is_broken: bool,
+}
+
+impl<T> Device<T> {
+    ghost use Rattle.dexhead.specs.Device.{inner_of, is_broken};
+
+    /// A device that has not failed.
+    pub fn new(inner: T) -> Self
+        ensures inner { inner_of result ≡ inner }
+        ensures works { is_broken result ≡ false }
+    {
+        Device {
+            inner,
+            is_broken: false,
+        }
+    }
+
+    /// What is inside.
+    pub fn into_inner(self) -> T
+        ensures { result ≡ inner_of self }
+    {
+        let Device { inner, .. } = self;
+        inner
+    }
+}
+
+impl<T: Read> Source for Device<T> {
+    ghost tells = { λ d. IsSome (T.remaining d.inner) };
+
+    ghost to_come = { λ d. unwrap_or (T.remaining d.inner) [] };
+
+    ghost has_failed = { λ d. d.is_broken };
+
+    fn failed(&self) -> bool {
+        self.is_broken
+    }
+
+    fn read(&mut self, buf: &mut [u8]) -> Result<usize, DeviceFault> {
+        match self.inner.read(buf) {
+            Ok(n) => Ok(n),
+            Err(_) => {
+                self.is_broken = true;
+                Err(DeviceFault)
+            }
+        }
+    }
+}
+
+impl<T: Write> Sink for Device<T> {
+    ghost tells = { λ d. IsSome (T.contents d.inner) };
+
+    ghost taken = { λ d. unwrap_or (T.contents d.inner) [] };
+
+    ghost has_failed = { λ d. d.is_broken };
+
+    fn failed(&self) -> bool {
+        self.is_broken
+    }
+
+    fn write(&mut self, bytes: &[u8]) -> Result<usize, DeviceFault> {
+        match self.inner.write(bytes) {
+            Ok(n) if n > 0 => Ok(n),
+            _ => {
+                self.is_broken = true;
+                Err(DeviceFault)
+            }
+        }
+    }
+}

@@ -1,0 +1,177 @@
+//! A file whose header and map are in order.
+
+ghost use Rattle.std.specs.Prelude.{◌≡◌, ◌↔◌, ℕ, ◌+◌, ◌*◌, ◌≤◌, ◌<◌, List, IsTrue, IsOk, OnOk, IfOk, IfErr, length, take, drop};
+ghost use Rattle.dexspec.specs.Header.{table_size, table_off, row_size, data_off};
+ghost use Rattle.dexspec.specs.Rows.{row_at};
+ghost use Rattle.dexspec.specs.Sections.{IsInData};
+ghost use Rattle.dexspec.specs.Accepted.{HoldBelow, IsFrame, IsRefused};
+ghost use Rattle.dexhead.specs.Refusals.{IsEarly};
+ghost use Rattle.dexhead.specs.Tables.{meant};
+
+use crate::refusal::Refusal;
+use crate::tables::Table;
+use crate::{header, map};
+use std::marker::Model;
+
+/// A file that meets conditions 1 to 10: its header, the layout of its tables and its map are in order.
+/// It borrows the bytes and copies none. Contracts see it as the list of the file's bytes.
+#[derive(Drop)]
+pub struct Frame<'a> {
+    bytes: &'a [u8],
+}
+
+impl<'a> Model for Frame<'a> {
+    ghost Value = { List ℕ };
+
+    ghost view = { λ f. f.bytes.now };
+
+    ghost invariant = { λ f. IsFrame f.bytes.now };
+}
+
+impl<'a> Frame<'a> {
+    /// Judges conditions 1 to 10 in their order, and takes no memory.
+    ///
+    /// Error: the first condition that fails, at place 0; for 3, the version, the place is the three
+    /// digits as a number.
+    ///
+    /// Source: "Dalvik Executable format", "header_item" and "map_list".
+    pub fn open(bytes: &'a [u8]) -> Result<Frame<'a>, Refusal>
+        ensures accepted { IsOk result ↔ IsFrame bytes.now }
+        ensures whole { IfOk result (λ frame. frame ≡ bytes.now) }
+        ensures refused { IfErr result (λ refusal. IsRefused bytes.now refusal.number refusal.place) }
+    {
+        judge_start(bytes)?;
+        judge_fields(bytes)?;
+        judge_rest(bytes)?;
+        Ok(Frame { bytes })
+    }
+
+    /// All bytes of the file.
+    pub fn bytes(&self) -> &'a [u8]
+        ensures bytes { result.now ≡ self.now }
+        ensures frame { IsFrame self.now }
+    {
+        self.bytes
+    }
+
+    /// The number of rows of a table.
+    ///
+    /// Source: "Dalvik Executable format", "header_item".
+    pub fn size(&self, table: Table) -> u32
+        ensures { result ≡ table_size self.now (meant table) }
+    {
+        header::table_size(self.bytes, table)
+    }
+
+    /// The bytes of row `i` of a table.
+    ///
+    /// Condition: `i` is below the number of its rows.
+    #[tactic(auto, using(crate::proofs::Frames::row_within))]
+    pub fn row(&self, table: Table, i: u32) -> &'a [u8]
+        requires { i < table_size self.now (meant table) }
+        ensures { result.now ≡ take (row_size (meant table)) (drop (row_at self.now (meant table) i) self.now) }
+    {
+        let size = table.row_size() as usize;
+        let at = header::table_off(self.bytes, table) as usize + size * i as usize;
+        let (_, rest) = self.bytes.split_at(at);
+        let (row, _) = rest.split_at(size);
+        row
+    }
+
+    /// Where the data begins, which ends with the file.
+    ///
+    /// Source: "Dalvik Executable format", "header_item", the field `data_off`.
+    #[tactic(auto, using(crate::proofs::Frames::data_within))]
+    pub fn data_off(&self) -> u32
+        ensures off { result ≡ data_off self.now }
+        ensures within { result ≤ length self.now }
+    {
+        header::data_off(self.bytes)
+    }
+
+    /// The bytes from an offset on, to the end of the file.
+    ///
+    /// Condition: the offset is at most the file's length.
+    pub fn rest(&self, off: u32) -> &'a [u8]
+        requires { off ≤ length self.now }
+        ensures { result.now ≡ drop off self.now }
+    {
+        let (_, rest) = self.bytes.split_at(off as usize);
+        rest
+    }
+
+    /// Whether so many bytes from an offset on are wholly in the data.
+    pub fn is_in_data(&self, off: u32, len: u64) -> bool
+        ensures { IsTrue result ↔ IsInData self.now off len }
+    {
+        let size = self.bytes.len() as u64;
+        self.data_off() <= off && u64::from(off) <= size && len <= size - u64::from(off)
+    }
+}
+
+// Conditions 1 to 3: the bytes begin as a file of this version.
+fn judge_start(bytes: &[u8]) -> Result<(), Refusal>
+    ensures accepted { OnOk result (HoldBelow 4 bytes.now) }
+    ensures refused { IfErr result (IsEarly bytes.now) }
+{
+    if !header::has_size(bytes) {
+        return Err(whole(1));
+    }
+    if !header::has_magic(bytes) {
+        return Err(whole(2));
+    }
+    let version = header::version(bytes);
+    if version != 35 {
+        return Err(Refusal {
+            number: 3,
+            place: version,
+        });
+    }
+    Ok(())
+}
+
+// Conditions 4 to 6: what the header says of itself.
+fn judge_fields(bytes: &[u8]) -> Result<(), Refusal>
+    requires { HoldBelow 4 bytes.now }
+    ensures accepted { OnOk result (HoldBelow 7 bytes.now) }
+    ensures refused { IfErr result (IsEarly bytes.now) }
+{
+    if !header::has_lengths(bytes) {
+        return Err(whole(4));
+    }
+    if !header::has_endian(bytes) {
+        return Err(whole(5));
+    }
+    if !header::has_no_link(bytes) {
+        return Err(whole(6));
+    }
+    Ok(())
+}
+
+// Conditions 7 to 10: the sums, and where everything stands.
+fn judge_rest(bytes: &[u8]) -> Result<(), Refusal>
+    requires { HoldBelow 7 bytes.now }
+    ensures accepted { OnOk result (IsFrame bytes.now) }
+    ensures refused { IfErr result (IsEarly bytes.now) }
+{
+    if !header::has_checksum(bytes) {
+        return Err(whole(7));
+    }
+    if !header::has_signature(bytes) {
+        return Err(whole(8));
+    }
+    if !header::has_layout(bytes) {
+        return Err(whole(9));
+    }
+    if !map::has_map(bytes) {
+        return Err(whole(10));
+    }
+    Ok(())
+}
+
+// The refusal by a condition on the whole file.
+fn whole(number: u8) -> Refusal
+    ensures { result ≡ record { number = number; place = 0 } }
+{
+    Refusal { number, place: 0 }
+}

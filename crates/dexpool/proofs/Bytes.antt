@@ -21,6 +21,15 @@ pub ushort_at_row : (b row : List ℕ) (o n p q : ℕ) → row ≡ take n (drop 
 unfolding ushort_at
 ushort_at_row b row o n p q e le at = ap (λ (r : List ℕ). number_of (take 2 (drop p r))) e ∙ ap number_of (part_of b o n p 2 le) ∙ ap (λ (m : ℕ). number_of (take 2 (drop m b))) at
 
+-- the number behind an offset
+pub uint_at_rest : (b rest : List ℕ) (o p q : ℕ) → rest ≡ drop o b → o + p ≡ q → uint_at rest p ≡ uint_at b q
+unfolding uint_at
+uint_at_rest b rest o p q e at = ap (λ (r : List ℕ). number_of (take 4 (drop p r))) e ∙ ap (λ (r : List ℕ). number_of (take 4 r)) (drop-drop p o b) ∙ ap (λ (m : ℕ). number_of (take 4 (drop m b))) at
+
+pub ushort_at_rest : (b rest : List ℕ) (o p q : ℕ) → rest ≡ drop o b → o + p ≡ q → ushort_at rest p ≡ ushort_at b q
+unfolding ushort_at
+ushort_at_rest b rest o p q e at = ap (λ (r : List ℕ). number_of (take 2 (drop p r))) e ∙ ap (λ (r : List ℕ). number_of (take 2 r)) (drop-drop p o b) ∙ ap (λ (m : ℕ). number_of (take 2 (drop m b))) at
+
 -- no text stands behind the end
 pub no_text_behind : (b : List ℕ) (o n : ℕ) (s : List ℕ) → length b < o → StringDataAt b o s n → ⊥
 no_text_behind b o n s lt h =

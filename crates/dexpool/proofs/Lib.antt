@@ -1,3 +1,6 @@
 pub mod Bytes
-pub mod Steps
+pub mod FieldRows
+pub mod FirstUnits
 pub mod Refusing
+pub mod Steps
+pub mod TypeLists

@@ -13,8 +13,8 @@ use Rattle.dexspec.specs.Bytes.{uint_at}
 use Rattle.dexspec.specs.Names.{IsDescriptor}
 use Rattle.dexspec.specs.Header.{TypeIds, table_size}
 use Rattle.dexspec.specs.Rows.{key_cmp, Follows, row_at, type_row_key, StringRow, TypeRow, HasString, HasType}
-use Rattle.dexpool.specs.Tables.{text_of}
-use Rattle.dexpool.specs.Reading.{ReadTo, is_above_last, type_cmp, AreTexts, TypeStands}
+use Rattle.dexpool.specs.Tables.{text_of, type_cmp}
+use Rattle.dexpool.specs.Reading.{ReadTo, is_above_last, AreTexts, TypeStands}
 
 -- ---- the last row
 
@@ -30,6 +30,10 @@ then_equal : (o : Ordering) → o ≡ ordering_then o Equal
 then_equal Less = refl
 then_equal Equal = refl
 then_equal Greater = refl
+
+-- keys that are compared
+pub two_keys : (o : Ordering) (k l x y : List ℕ) → o ≡ key_cmp k l → k ≡ x → l ≡ y → o ≡ key_cmp x y
+two_keys o k l x y e is other = e ∙ ap (λ (m : List ℕ). key_cmp m l) is ∙ ap (key_cmp x) other
 
 -- one number as a key
 pub one_key : (m n : ℕ) (o : Ordering) → o ≡ nat_cmp m n → o ≡ type_cmp m n

@@ -1,3 +1,4 @@
 pub mod Faults
+pub mod Kinds
 pub mod Reading
 pub mod Tables

@@ -1,12 +1,21 @@
 -- Rows that are read one after the other.
-use Rattle.std.specs.Prelude.{◌≡◌, ℕ, ◌+◌, ◌<◌, Bool, true, List, [], ◌∷◌, length, slice_index_or}
+use Rattle.std.specs.Prelude.{◌≡◌, ℕ, ◌+◌, ◌*◌, ◌%◌, ◌<◌, ◌≤◌, Bool, true, ◌++◌, map, All, if◌then◌else◌, ◌==◌, List, [], ◌∷◌, length, slice_index_or}
 use Rattle.std.specs.Ordering.{is_lt}
 use Rattle.std.specs.declared.cmp.Ordering.{Ordering}
-use Rattle.dexspec.specs.Bytes.{uint_at}
+use Rattle.dexspec.specs.Bytes.{uint_at, ushort_at}
 use Rattle.dexspec.specs.Texts.{Text}
-use Rattle.dexspec.specs.Header.{StringIds, TypeIds, table_size}
-use Rattle.dexspec.specs.Rows.{row_at, key_cmp, StringRow, TypeRow, HasString, HasType}
-use Rattle.dexpool.specs.Tables.{text_of}
+use Rattle.dexspec.specs.Header.{StringIds, TypeIds, ProtoIds, FieldIds, MethodIds, table_size}
+use Rattle.dexspec.specs.Rows.{row_at, StringRow, TypeRow, HasString, type_indices, TypeListAt, HasType, HasProto, HasField, HasMethod}
+use Rattle.dexspec.specs.Rows as rows
+use Rattle.dexspec.specs.Accepted.{IsFrame}
+use Rattle.dexspec.specs.Names.{IsValueType}
+use Rattle.dexspec.specs.Lists.{OrNone}
+use Rattle.dexspec.specs.Sections.{IsInData}
+use Rattle.dexpool.specs.declared.rows.Span.{Span}
+use Rattle.dexpool.specs.declared.rows.ProtoRow.{ProtoRow}
+use Rattle.dexpool.specs.declared.rows.FieldRow.{FieldRow}
+use Rattle.dexpool.specs.declared.rows.MethodRow.{MethodRow}
+use Rattle.dexpool.specs.Tables.{text_of, type_of, span_of, proto_of, field_of, method_of}
 
 -- the rows before row i are these, and the condition holds at each
 pub record ReadTo {X : Type 0} (Row : List ℕ → ℕ → X → Type 0) (Holds : List ℕ → ℕ → Type 0) (b : List ℕ) (xs : List X) (i : ℕ) : Type 0 where
@@ -22,10 +31,6 @@ is_above_last R x (y ∷ z ∷ ys) = is_above_last R x (z ∷ ys)
 
 -- ---- texts and types
 
--- types are ordered by their texts' numbers
-abbrev pub type_cmp : ℕ → ℕ → Ordering
-type_cmp m n = key_cmp (m ∷ []) (n ∷ [])
-
 -- the texts of all rows
 abbrev pub AreTexts : List ℕ → List Text → Type 0
 AreTexts b texts = ReadTo StringRow HasString b texts (table_size b StringIds)
@@ -38,3 +43,99 @@ pub record TypeStands (texts : List Text) (b : List ℕ) (i n : ℕ) : Type 0 wh
 -- the types of all rows
 abbrev pub AreTypes : List ℕ → List Text → List ℕ → Type 0
 AreTypes b texts types = ReadTo (TypeStands texts) HasType b types (table_size b TypeIds)
+
+-- the texts and types of a file
+pub record AreNames (b : List ℕ) (texts : List Text) (types : List ℕ) : Type 0 where
+  pub frame : IsFrame b
+  pub texts_are : AreTexts b texts
+  pub types_are : AreTypes b texts types
+
+-- row i is this text, of this number
+pub record IsText (b : List ℕ) (texts : List Text) (i : ℕ) (s : Text) : Type 0 where
+  pub row : StringRow b i s
+  pub is : s ≡ text_of texts i
+
+-- row i is this type, of this number
+pub record IsType (b : List ℕ) (texts : List Text) (types : List ℕ) (i : ℕ) (t : Text) : Type 0 where
+  pub row : TypeRow b i t
+  pub is : t ≡ type_of texts types i
+
+-- ---- fields
+
+-- row i has these indices
+pub record HasFieldNumbers (b : List ℕ) (i : ℕ) (f : FieldRow) : Type 0 where
+  pub class : ushort_at b (row_at b FieldIds i) ≡ f.class
+  pub type : ushort_at b (row_at b FieldIds i + 2) ≡ f.typ
+  pub name : uint_at b (row_at b FieldIds i + 4) ≡ f.name
+
+-- row i is the field of these numbers
+pub record FieldStands (texts : List Text) (types : List ℕ) (b : List ℕ) (i : ℕ) (f : FieldRow) : Type 0 where
+  pub numbers : HasFieldNumbers b i f
+  pub is : rows.FieldRow b i (field_of texts types f)
+
+-- the fields of all rows
+abbrev pub AreFields : List ℕ → List Text → List ℕ → List FieldRow → Type 0
+AreFields b texts types fields = ReadTo (FieldStands texts types) HasField b fields (table_size b FieldIds)
+
+-- ---- protos
+
+-- the indices of the types in the list at an offset, which may be left out
+abbrev pub listed : List ℕ → ℕ → List ℕ
+listed b o = if o == 0 then [] else type_indices b o
+
+-- a type_list of n indices may stand there
+pub record HasRoom (b : List ℕ) (o n : ℕ) : Type 0 where
+  pub count : n ≡ uint_at b o
+  pub in_data : IsInData b o (4 + 2 * uint_at b o)
+  pub aligned : o % 4 ≡ 0
+
+-- type n is that of a parameter
+pub record IsParameter (b : List ℕ) (texts : List Text) (types : List ℕ) (n : ℕ) : Type 0 where
+  pub row : TypeRow b n (type_of texts types n)
+  pub value : IsValueType (type_of texts types n)
+
+-- the first n indices behind o name parameters
+abbrev pub AreParameters : List ℕ → List Text → List ℕ → ℕ → ℕ → Type 0
+AreParameters b texts types o n = (k : ℕ) → k < n → IsParameter b texts types (ushort_at b (o + 2 * k))
+
+-- no parameters are listed there
+abbrev pub NoParameters : List ℕ → ℕ → Type 0
+NoParameters b o = (ts : List Text) → OrNone TypeListAt [] b o ts → All IsValueType ts → ⊥
+
+-- the parameters that are listed there
+pub record HasParameters (b : List ℕ) (texts : List Text) (types : List ℕ) (o : ℕ) : Type 0 where
+  pub list : OrNone TypeListAt [] b o (map (type_of texts types) (listed b o))
+  pub values : All IsValueType (map (type_of texts types) (listed b o))
+
+-- row i has these indices
+pub record HasProtoNumbers (b : List ℕ) (parameters : List ℕ) (i : ℕ) (p : ProtoRow) : Type 0 where
+  pub shorty : uint_at b (row_at b ProtoIds i) ≡ p.shorty
+  pub return_type : uint_at b (row_at b ProtoIds i + 4) ≡ p.return_type
+  pub parameters_are : listed b (uint_at b (row_at b ProtoIds i + 8)) ≡ span_of parameters p.parameters
+  pub within : p.parameters.end ≤ length parameters
+
+-- row i is the proto of these numbers
+pub record ProtoStands (texts : List Text) (types : List ℕ) (parameters : List ℕ) (b : List ℕ) (i : ℕ) (p : ProtoRow) : Type 0 where
+  pub numbers : HasProtoNumbers b parameters i p
+  pub is : rows.ProtoRow b i (proto_of texts types parameters p)
+
+-- the protos of all rows
+abbrev pub AreProtos : List ℕ → List Text → List ℕ → List ℕ → List ProtoRow → Type 0
+AreProtos b texts types parameters protos = ReadTo (ProtoStands texts types parameters) HasProto b protos (table_size b ProtoIds)
+
+-- ---- methods
+
+-- row i has these indices
+pub record HasMethodNumbers (b : List ℕ) (i : ℕ) (m : MethodRow) : Type 0 where
+  pub class : ushort_at b (row_at b MethodIds i) ≡ m.class
+  pub proto : ushort_at b (row_at b MethodIds i + 2) ≡ m.proto
+  pub name : uint_at b (row_at b MethodIds i + 4) ≡ m.name
+
+-- row i is the method of these numbers
+pub record MethodStands (texts : List Text) (types : List ℕ) (parameters : List ℕ) (protos : List ProtoRow) (b : List ℕ) (i : ℕ) (m : MethodRow) : Type 0 where
+  pub numbers : HasMethodNumbers b i m
+  pub is : rows.MethodRow b i (method_of texts types parameters protos m)
+
+-- the methods of all rows
+abbrev pub AreMethods : List ℕ → List Text → List ℕ → List ℕ → List ProtoRow → List MethodRow → Type 0
+AreMethods b texts types parameters protos methods = ReadTo (MethodStands texts types parameters protos) HasMethod b methods (table_size b MethodIds)

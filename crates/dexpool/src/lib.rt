@@ -6,6 +6,11 @@
 #![tactic(auto)]
 
 mod faults;
+mod fields;
+mod kinds;
+mod names;
+mod parameters;
+mod rows;
 mod strings;
 mod types;
 

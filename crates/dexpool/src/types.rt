@@ -5,7 +5,8 @@ ghost use Rattle.dexspec.specs.Header.{TypeIds, table_size};
 ghost use Rattle.dexspec.specs.Rows.{TypeRow, row_at};
 ghost use Rattle.dexspec.specs.Bytes.{uint_at};
 ghost use Rattle.dexspec.specs.Accepted.{IsFrame};
-ghost use Rattle.dexpool.specs.Reading.{is_above_last, type_cmp, AreTexts, AreTypes, TypeStands};
+ghost use Rattle.dexpool.specs.Reading.{is_above_last, AreTexts, AreTypes, TypeStands};
+ghost use Rattle.dexpool.specs.Tables.{type_cmp};
 ghost use Rattle.dexpool.specs.Faults.{IsFault};
 
 use crate::faults::{ReadFault, refused};

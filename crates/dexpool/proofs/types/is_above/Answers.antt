@@ -1,6 +1,6 @@
 use Rattle.std.proofs.Common.{ap, ◌∙◌}
 use Rattle.std.specs.Ordering.{is_lt}
-use Rattle.dexpool.specs.Reading.{type_cmp}
+use Rattle.dexpool.specs.Tables.{type_cmp}
 use Rattle.dexpool.proofs.Steps.{above_is, one_key}
 use Rattle.dexpool.proofs.types.is_above.Goals as goal
 

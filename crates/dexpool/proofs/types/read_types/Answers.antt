@@ -1,7 +1,8 @@
 use Rattle.std.proofs.Common.{true, sym, subst, arith}
 use Rattle.dexspec.specs.Rows.{HasType}
 use Rattle.dexpool.specs.Faults.{IsFault}
-use Rattle.dexpool.specs.Reading.{type_cmp, TypeStands}
+use Rattle.dexpool.specs.Reading.{TypeStands}
+use Rattle.dexpool.specs.Tables.{type_cmp}
 use Rattle.dexpool.proofs.Refusing.{refused_types}
 use Rattle.dexpool.proofs.Steps.{told, read_more, has_type, no_type}
 use Rattle.dexpool.proofs.types.read_types.Goals as goal

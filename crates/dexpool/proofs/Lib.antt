@@ -4,3 +4,5 @@ pub mod FirstUnits
 pub mod Refusing
 pub mod Steps
 pub mod TypeLists
+pub mod ShortyLetters
+pub mod ProtoRows

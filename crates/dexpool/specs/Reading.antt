@@ -8,7 +8,7 @@ use Rattle.dexspec.specs.Header.{StringIds, TypeIds, ProtoIds, FieldIds, MethodI
 use Rattle.dexspec.specs.Rows.{row_at, StringRow, TypeRow, HasString, type_indices, TypeListAt, HasType, HasProto, HasField, HasMethod}
 use Rattle.dexspec.specs.Rows as rows
 use Rattle.dexspec.specs.Accepted.{IsFrame}
-use Rattle.dexspec.specs.Names.{IsValueType}
+use Rattle.dexspec.specs.Names.{IsValueType, shorty_letter}
 use Rattle.dexspec.specs.Lists.{OrNone}
 use Rattle.dexspec.specs.Sections.{IsInData}
 use Rattle.dexpool.specs.declared.rows.Span.{Span}
@@ -107,17 +107,41 @@ pub record HasParameters (b : List ℕ) (texts : List Text) (types : List ℕ) (
   pub list : OrNone TypeListAt [] b o (map (type_of texts types) (listed b o))
   pub values : All IsValueType (map (type_of texts types) (listed b o))
 
+-- the part is one of the list
+pub record HasSpan (parameters : List ℕ) (s : Span) : Type 0 where
+  pub ordered : s.start ≤ s.end
+  pub within : s.end ≤ length parameters
+
+-- the indices of row i: shorty, return type, and the offset of the parameters
+pub record HasIndices (b : List ℕ) (i shorty return_type off : ℕ) : Type 0 where
+  pub shorty_is : uint_at b (row_at b ProtoIds i) ≡ shorty
+  pub return_is : uint_at b (row_at b ProtoIds i + 4) ≡ return_type
+  pub off_is : uint_at b (row_at b ProtoIds i + 8) ≡ off
+
 -- row i has these indices
 pub record HasProtoNumbers (b : List ℕ) (parameters : List ℕ) (i : ℕ) (p : ProtoRow) : Type 0 where
   pub shorty : uint_at b (row_at b ProtoIds i) ≡ p.shorty
   pub return_type : uint_at b (row_at b ProtoIds i + 4) ≡ p.return_type
   pub parameters_are : listed b (uint_at b (row_at b ProtoIds i + 8)) ≡ span_of parameters p.parameters
-  pub within : p.parameters.end ≤ length parameters
+  pub span : HasSpan parameters p.parameters
 
 -- row i is the proto of these numbers
 pub record ProtoStands (texts : List Text) (types : List ℕ) (parameters : List ℕ) (b : List ℕ) (i : ℕ) (p : ProtoRow) : Type 0 where
   pub numbers : HasProtoNumbers b parameters i p
   pub is : rows.ProtoRow b i (proto_of texts types parameters p)
+
+-- row i is read, its parameters behind the others
+pub record IsAdded (texts : List Text) (types old new : List ℕ) (b : List ℕ) (i : ℕ) (p : ProtoRow) : Type 0 where
+  pub grows : (more : List ℕ) × (new ≡ old ++ more)
+  pub stands : ProtoStands texts types new b i p
+
+-- each index names a type
+abbrev pub AllTypes : List ℕ → List Text → List ℕ → List ℕ → Type 0
+AllTypes b texts types ns = (k : ℕ) (d : ℕ) → k < length ns → TypeRow b (slice_index_or ns k d) (type_of texts types (slice_index_or ns k d))
+
+-- the letters of types in a shorty
+abbrev pub letters_of : List Text → List ℕ → List ℕ → List ℕ
+letters_of texts types ns = map shorty_letter (map (type_of texts types) ns)
 
 -- the protos of all rows
 abbrev pub AreProtos : List ℕ → List Text → List ℕ → List ℕ → List ProtoRow → Type 0

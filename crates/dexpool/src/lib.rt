@@ -10,7 +10,9 @@ mod fields;
 mod kinds;
 mod names;
 mod parameters;
+mod protos;
 mod rows;
+mod shorties;
 mod strings;
 mod types;
 

@@ -1,16 +1,14 @@
 -- Rows of fields.
-use Rattle.std.proofs.Common.{◌≡◌, ℕ, ◌+◌, ◌<◌, Bool, true, false, List, [], ◌∷◌, sym, subst}
-use Rattle.dexspec.specs.Bytes.{uint_at, ushort_at}
+use Rattle.std.proofs.Common.{◌≡◌, ℕ, true, false, List, [], ◌∷◌, subst}
 use Rattle.dexspec.specs.Texts.{Text}
 use Rattle.dexspec.specs.Names.{IsClass, IsMemberName, IsValueType}
 use Rattle.dexspec.specs.Symbols.{Field, IsField}
-use Rattle.dexspec.specs.Header.{FieldIds}
 use Rattle.dexspec.specs.Rows as rows
 use Rattle.dexspec.specs.Rows.{row_at, StringRow, TypeRow, HasField, field_row_key}
 use Rattle.dexspec.proofs.OneRow.{one_string, one_type}
 use Rattle.dexpool.specs.declared.rows.FieldRow.{FieldRow}
 use Rattle.dexpool.specs.Tables.{field_of, field_key, field_cmp}
-use Rattle.dexpool.specs.Reading.{ReadTo, is_above_last, FieldStands, HasFieldNumbers, IsText, IsType}
+use Rattle.dexpool.specs.Reading.{ReadTo, is_above_last, FieldStands, HasFieldNumbers}
 use Rattle.dexpool.proofs.Steps.{follows_if, follows_not}
 
 field_key_is : (texts : List Text) (types : List ℕ) (b : List ℕ) (k : ℕ) (f : FieldRow) → FieldStands texts types b k f → field_row_key b k ≡ field_key f

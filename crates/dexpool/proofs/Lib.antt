@@ -6,3 +6,5 @@ pub mod Steps
 pub mod TypeLists
 pub mod ShortyLetters
 pub mod ProtoRows
+pub mod MethodRows
+pub mod AllPools

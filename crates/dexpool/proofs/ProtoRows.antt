@@ -1,10 +1,8 @@
 -- Rows of protos, and the list of their parameters as it grows.
-use Rattle.std.proofs.Common.{◌≡◌, ◌≢◌, ℕ, zero, suc, ◌+◌, ◌-◌, ◌<◌, ◌≤◌, Bool, true, false, List, [], ◌∷◌, ◌++◌, length, get_or, take, drop, refl, sym, ap, ◌∙◌, subst, arith, inl, inr, length-append, drop_at}
+use Rattle.std.proofs.Common.{◌≡◌, ℕ, zero, suc, ◌-◌, ◌<◌, Bool, true, false, List, [], ◌∷◌, ◌++◌, length, get_or, take, drop, refl, sym, ap, ◌∙◌, subst, arith, inl, inr, length-append, drop_at}
 use Rattle.std.specs.Prelude.{map, All}
 use Rattle.std.specs.List.{AllZip}
-use Rattle.std.proofs.lemmas.Bool.{cases_lt}
 use Rattle.std.proofs.lemmas.List.{take_all, take-append-le, drop-append-le, length-drop}
-use Rattle.dexspec.specs.Bytes.{uint_at}
 use Rattle.dexspec.specs.Texts.{Text}
 use Rattle.dexspec.specs.Names.{IsValueType, shorty}
 use Rattle.dexspec.specs.Lists.{OrNone}
@@ -16,7 +14,7 @@ use Rattle.dexspec.proofs.OneRow.{one_string, one_type, one_type_list, one_or_no
 use Rattle.dexpool.specs.declared.rows.Span.{Span}
 use Rattle.dexpool.specs.declared.rows.ProtoRow.{ProtoRow}
 use Rattle.dexpool.specs.Tables.{type_of, span_of, proto_of, proto_key, proto_cmp}
-use Rattle.dexpool.specs.Reading.{ReadTo, is_above_last, IsText, IsType, HasSpan, HasIndices, HasProtoNumbers, HasParameters, ProtoStands, IsAdded, AllTypes, listed}
+use Rattle.dexpool.specs.Reading.{ReadTo, is_above_last, IsText, IsType, HasSpan, HasIndices, HasParameters, ProtoStands, IsAdded, AllTypes, listed}
 use Rattle.dexpool.proofs.Steps.{follows_if, follows_not}
 use Rattle.dexpool.proofs.TypeLists.{listed_is}
 

@@ -1,8 +1,7 @@
 -- Which condition fails first.
-use Rattle.std.proofs.Common.{◌≡◌, ℕ, ◌+◌, ◌<◌, ◌≤◌, List, refl, arith, inl, inr}
+use Rattle.std.proofs.Common.{◌≡◌, ℕ, ◌<◌, ◌≤◌, List, refl, arith, inl}
 use Rattle.dexspec.specs.Conditions.{Condition, number}
 use Rattle.dexspec.specs.Accepted.{rows_judged, place, Holds, HoldsThroughout, HoldBelow, IsFrame, IsRefused}
-use Rattle.dexhead.specs.declared.refusal.Refusal.{Refusal}
 use Rattle.dexpool.specs.Faults.{IsPoolRefusal}
 
 -- conditions of the pools hold behind those of the frame

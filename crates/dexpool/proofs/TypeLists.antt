@@ -47,9 +47,10 @@ no_parameters b o n k room ne lt not ts (inr some) values =
 zip_all : (b : List ℕ) (R : ℕ → Text → Type 0) (f : ℕ → Text) (o n : ℕ) → ((k : ℕ) → k < n → R (ushort_at b (o + 2 * k)) (f (ushort_at b (o + 2 * k)))) → AllZip R (ushorts_at b o n) (map f (ushorts_at b o n))
 zip_all b R f o zero each = tt
 zip_all b R f o (suc n) each =
-    let e : o + 2 * 0 ≡ o = omega arith in
-    (subst (λ m. R (ushort_at b m) (f (ushort_at b m))) e (each 0 (omega arith)),
-     zip_all b R f (o + 2) n (λ k lt. let g : o + 2 * suc k ≡ o + 2 + 2 * k = omega arith in subst (λ m. R (ushort_at b m) (f (ushort_at b m))) g (each (suc k) (omega arith))))
+    let e : o + 2 * 0 ≡ o = omega arith in (
+      subst (λ m. R (ushort_at b m) (f (ushort_at b m))) e (each 0 (omega arith)),
+      zip_all b R f (o + 2) n (λ k lt. let g : o + 2 * suc k ≡ o + 2 + 2 * k = omega arith in subst (λ m. R (ushort_at b m) (f (ushort_at b m))) g (each (suc k) (omega arith))),
+    )
 
 all_each : (b : List ℕ) (P : Text → Type 0) (f : ℕ → Text) (o n : ℕ) → ((k : ℕ) → k < n → P (f (ushort_at b (o + 2 * k)))) → (i : ℕ) (d : Text) → i < length (map f (ushorts_at b o n)) → P (get_or (map f (ushorts_at b o n)) i d)
 all_each b P f o zero each i d lt = absurd (omega arith)
@@ -64,11 +65,14 @@ has_parameters b texts types o n room ne are =
     let each : AreParameters b texts types (o + 4) (uint_at b o) = subst (AreParameters b texts types (o + 4)) room.count are in
     let e = listed_is b o ne in
     record {
-      list = inr (ne, record {
-        in_data = room.in_data;
-        aligned = room.aligned;
-        types = subst (λ (l : List ℕ). AllZip (TypeRow b) (type_indices b o) (map (type_of texts types) l)) (sym e) (zip_all b (TypeRow b) (type_of texts types) (o + 4) (uint_at b o) (λ k lt. (each k lt).row));
-      });
+      list = inr (
+        ne,
+        record {
+          in_data = room.in_data;
+          aligned = room.aligned;
+          types = subst (λ (l : List ℕ). AllZip (TypeRow b) (type_indices b o) (map (type_of texts types) l)) (sym e) (zip_all b (TypeRow b) (type_of texts types) (o + 4) (uint_at b o) (λ k lt. (each k lt).row));
+        },
+      );
       values = subst (λ (l : List ℕ). All IsValueType (map (type_of texts types) l)) (sym e) (all_each b IsValueType (type_of texts types) (o + 4) (uint_at b o) (λ k lt. (each k lt).value));
     }
 

@@ -2,3 +2,4 @@ pub mod Faults
 pub mod Kinds
 pub mod Reading
 pub mod Tables
+pub mod Pools

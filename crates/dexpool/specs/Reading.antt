@@ -8,7 +8,7 @@ use Rattle.dexspec.specs.Header.{StringIds, TypeIds, ProtoIds, FieldIds, MethodI
 use Rattle.dexspec.specs.Rows.{row_at, StringRow, TypeRow, HasString, type_indices, TypeListAt, HasType, HasProto, HasField, HasMethod}
 use Rattle.dexspec.specs.Rows as rows
 use Rattle.dexspec.specs.Accepted.{IsFrame}
-use Rattle.dexspec.specs.Names.{IsValueType, shorty_letter}
+use Rattle.dexspec.specs.Names.{IsValueType, IsReferenceType, IsMemberName, shorty_letter}
 use Rattle.dexspec.specs.Lists.{OrNone}
 use Rattle.dexspec.specs.Sections.{IsInData}
 use Rattle.dexpool.specs.declared.rows.Span.{Span}
@@ -148,6 +148,11 @@ abbrev pub AreProtos : List ℕ → List Text → List ℕ → List ℕ → List
 AreProtos b texts types parameters protos = ReadTo (ProtoStands texts types parameters) HasProto b protos (table_size b ProtoIds)
 
 -- ---- methods
+
+-- a method may belong to the type and have the name
+pub record AreMethodNames (class name : Text) : Type 0 where
+  pub class_is : IsReferenceType class
+  pub name_is : IsMemberName name
 
 -- row i has these indices
 pub record HasMethodNumbers (b : List ℕ) (i : ℕ) (m : MethodRow) : Type 0 where

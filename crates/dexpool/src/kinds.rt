@@ -7,7 +7,9 @@ ghost use Rattle.dexpool.specs.Kinds.{first_of};
 use dexstr::Text;
 
 const VOID: u16 = 0x56;
+
 const CLASS: u16 = 0x4c;
+
 const ARRAY: u16 = 0x5b;
 
 // The first unit, and 0 where there is none.

@@ -8,8 +8,10 @@
 mod faults;
 mod fields;
 mod kinds;
+mod methods;
 mod names;
 mod parameters;
+mod pools;
 mod protos;
 mod rows;
 mod shorties;
@@ -17,3 +19,4 @@ mod strings;
 mod types;
 
 pub use faults::{ItemFault, ReadFault};
+pub use pools::Pools;

@@ -24,7 +24,12 @@ fn count_at(frame: &Frame<'_>, off: u32) -> Option<u32>
 }
 
 // Appends the indices of a type_list, and answers whether each names the type of a parameter.
-fn push_list(names: &Names<'_, '_>, off: u32, count: u32, parameters: &mut Vec<u32>) -> Result<bool, AllocError>
+fn push_list(
+    names: &Names<'_, '_>,
+    off: u32,
+    count: u32,
+    parameters: &mut Vec<u32>,
+) -> Result<bool, AllocError>
     requires names { AreNames names.now.frame.now names.now.strings.now names.now.types.now }
     requires some { off ≢ 0 }
     requires room { HasRoom names.now.frame.now off count }
@@ -51,7 +56,11 @@ fn push_list(names: &Names<'_, '_>, off: u32, count: u32, parameters: &mut Vec<u
 /// there is such a list, and none of its types is void; where not, any front of it may be appended.
 ///
 /// Source: "type_list".
-pub(crate) fn push_parameters(names: &Names<'_, '_>, off: u32, parameters: &mut Vec<u32>) -> Result<bool, AllocError>
+pub(crate) fn push_parameters(
+    names: &Names<'_, '_>,
+    off: u32,
+    parameters: &mut Vec<u32>,
+) -> Result<bool, AllocError>
     requires names { AreNames names.now.frame.now names.now.strings.now names.now.types.now }
     ensures appended { IfOk result (λ good. good ≡ true → parameters.new.items ≡ parameters.old.items ++ listed names.now.frame.now off) }
     ensures good { IfOk result (λ good. good ≡ true → HasParameters names.now.frame.now names.now.strings.now names.now.types.now off) }

@@ -45,7 +45,11 @@ fn indices_at(frame: &Frame<'_>, i: u32) -> Indices
 }
 
 // The proto of a row, if it is one, whose parameters are appended.
-fn proto_at(names: &Names<'_, '_>, i: u32, parameters: &mut Vec<u32>) -> Result<Option<ProtoRow>, AllocError>
+fn proto_at(
+    names: &Names<'_, '_>,
+    i: u32,
+    parameters: &mut Vec<u32>,
+) -> Result<Option<ProtoRow>, AllocError>
     requires names { AreNames names.now.frame.now names.now.strings.now names.now.types.now }
     requires row { i < table_size names.now.frame.now ProtoIds }
     ensures { IfOk result (λ found. MatchOption found ((p : Proto) → rows.ProtoRow names.now.frame.now i p → ⊥) (IsAdded names.now.strings.now names.now.types.now parameters.old.items parameters.new.items names.now.frame.now i)) }
@@ -95,7 +99,10 @@ fn compare(parameters: &[u32], left: &ProtoRow, right: &ProtoRow) -> Ordering
     ensures { result ≡ proto_cmp parameters.now left.now right.now }
 {
     match left.return_type.cmp(&right.return_type) {
-        Ordering::Equal => part(parameters, left.parameters).cmp(part(parameters, right.parameters)),
+        Ordering::Equal => part(parameters, left.parameters).cmp(part(
+            parameters,
+            right.parameters,
+        )),
         unlike => unlike,
     }
 }

@@ -33,7 +33,12 @@ fn ends(units: &mut Units<'_>) -> bool
 /// Whether the text is the shorty of the types.
 ///
 /// Source: "ShortyDescriptor".
-pub(crate) fn is_shorty(names: &Names<'_, '_>, text: &Text<'_>, return_type: &Text<'_>, parameters: &[u32]) -> bool
+pub(crate) fn is_shorty(
+    names: &Names<'_, '_>,
+    text: &Text<'_>,
+    return_type: &Text<'_>,
+    parameters: &[u32],
+) -> bool
     requires names { AreNames names.now.frame.now names.now.strings.now names.now.types.now }
     requires parameters { AllTypes names.now.frame.now names.now.strings.now names.now.types.now parameters.now }
     ensures { IsTrue result ↔ (text.now ≡ shorty return_type.now (map (type_of names.now.strings.now names.now.types.now) parameters.now)) }

@@ -1,7 +1,6 @@
-use Rattle.std.proofs.Common.{sym, ap, ◌∙◌}
+use Rattle.std.proofs.Common.{ap, ◌∙◌}
 use Rattle.std.specs.Ordering.{is_lt}
-use Rattle.dexspec.specs.Rows.{key_cmp}
-use Rattle.dexpool.specs.Tables.{field_key, field_cmp}
+use Rattle.dexpool.specs.Tables.{field_cmp}
 use Rattle.dexpool.proofs.Steps.{above_is, two_keys}
 use Rattle.dexpool.proofs.fields.is_above.Goals as goal
 

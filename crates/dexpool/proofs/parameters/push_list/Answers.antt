@@ -4,7 +4,6 @@ use Rattle.dexspec.specs.Bytes.{ushort_at}
 use Rattle.dexspec.specs.Names.{IsValueType}
 use Rattle.dexspec.specs.Rows.{TypeRow}
 use Rattle.dexspec.proofs.OneRow.{one_type}
-use Rattle.dexpool.specs.Tables.{type_of}
 use Rattle.dexpool.specs.Reading.{IsType, IsParameter}
 use Rattle.dexpool.proofs.Bytes.{ushort_at_rest}
 use Rattle.dexpool.proofs.TypeLists.{appended_more, parameters_more, no_parameters}

@@ -1,8 +1,7 @@
-use Rattle.std.proofs.Common.{◌≡◌, ℕ, List, [], refl, sym, subst, ◌∙◌, ap, arith}
+use Rattle.std.proofs.Common.{ℕ, List, [], refl, sym, subst, ◌∙◌, ap, arith}
 use Rattle.std.specs.Prelude.{map}
 use Rattle.std.proofs.lemmas.Bool.{false≢true}
 use Rattle.dexspec.specs.Lists.{OrNone}
-use Rattle.dexspec.specs.Texts.{Text}
 use Rattle.dexspec.specs.Names.{shorty}
 use Rattle.dexspec.specs.Rows.{StringRow, TypeRow, TypeListAt}
 use Rattle.dexpool.specs.Tables.{type_of}
@@ -25,7 +24,7 @@ is_shorty-requires-clause-parameters c =
     let texts = c.args.names.now.strings.now in
     let types = c.args.names.now.types.now in
     let part = part_is c.split_at.result.1.now c.deref.result.now c.push_parameters.new.parameters.items c.args.parameters.now.items (listed b c.indices_at-indices.result.off) c.len-start.result
-        c.split_at.ensures.back c.deref.ensures.value (c.in_ok-good.ensures.appended c.if-not-good.false) (omega (arith, c.len-start.ensures, c.args.parameters.now.ok)) in
+    c.split_at.ensures.back c.deref.ensures.value (c.in_ok-good.ensures.appended c.if-not-good.false) (omega (arith, c.len-start.ensures, c.args.parameters.now.ok)) in
     subst (AllTypes b texts types) (sym part) (all_types b texts types c.indices_at-indices.result.off (c.in_ok-good.ensures.good c.if-not-good.false).list)
 
 pub returns-then-not-is_shorty : goal.returns-then-not-is_shorty
@@ -34,7 +33,7 @@ returns-then-not-is_shorty c = λ p h.
     let texts = c.args.names.now.strings.now in
     let types = c.args.names.now.types.now in
     let part = part_is c.split_at.result.1.now c.deref.result.now c.push_parameters.new.parameters.items c.args.parameters.now.items (listed b c.indices_at-indices.result.off) c.len-start.result
-        c.split_at.ensures.back c.deref.ensures.value (c.in_ok-good.ensures.appended c.if-not-good.false) (omega (arith, c.len-start.ensures, c.args.parameters.now.ok)) in
+    c.split_at.ensures.back c.deref.ensures.value (c.in_ok-good.ensures.appended c.if-not-good.false) (omega (arith, c.len-start.ensures, c.args.parameters.now.ok)) in
     let same = shorty_same b texts types c.args.i _ _ c.indices_at-indices.result.off p c.in-Some.shorty.now c.in-Some-typ.return_type.now c.indices_at-indices.ensures h c.in-Some.ensures.row c.in-Some-typ.ensures.row (c.in_ok-good.ensures.good c.if-not-good.false) in
     false≢true (c.if-not-is_shorty.ensures.1 (same ∙ ap (λ (l : List ℕ). shorty c.in-Some-typ.return_type.now (map (type_of texts types) l)) (sym part)))
 
@@ -45,7 +44,7 @@ returns c =
     let types = c.args.names.now.types.now in
     let grown = c.in_ok-good.ensures.appended c.if-not-good.false in
     let part = part_is c.split_at.result.1.now c.deref.result.now c.push_parameters.new.parameters.items c.args.parameters.now.items (listed b c.indices_at-indices.result.off) c.len-start.result
-        c.split_at.ensures.back c.deref.ensures.value grown (omega (arith, c.len-start.ensures, c.args.parameters.now.ok)) in
+    c.split_at.ensures.back c.deref.ensures.value grown (omega (arith, c.len-start.ensures, c.args.parameters.now.ok)) in
     added b texts types c.args.parameters.now.items c.push_parameters.new.parameters.items c.args.i c.indices_at-indices.result.off _ c.in-Some.shorty.now c.in-Some-typ.return_type.now
     c.requires.row c.indices_at-indices.ensures c.in-Some.ensures c.in-Some-typ.ensures (c.in_ok-good.ensures.good c.if-not-good.false)
     (c.if-not-is_shorty.ensures.0 refl ∙ ap (λ (l : List ℕ). shorty c.in-Some-typ.return_type.now (map (type_of texts types) l)) part)

@@ -1,4 +1,4 @@
-use Rattle.std.proofs.Common.{true, sym, subst, arith}
+use Rattle.std.proofs.Common.{sym, subst, arith}
 use Rattle.dexspec.specs.Rows.{HasProto}
 use Rattle.dexpool.specs.Faults.{IsFault}
 use Rattle.dexpool.specs.Reading.{ProtoStands}

@@ -21,8 +21,7 @@ returns-then-not-takes-2 c =
     let texts = c.args.names.now.strings.now in
     let types = c.args.names.now.types.now in
     let ns = c.args.parameters.now in
-    let letter = c.letter-in-loop-i.ensures ∙ ap shorty_letter c.in-Some.ensures.is in
-    (
+    let letter = c.letter-in-loop-i.ensures ∙ ap shorty_letter c.in-Some.ensures.is in (
       (λ e. absurd (false≢true e)),
       (λ same. absurd (c.if-not-takes-2.ensures.no refl (letters_of texts types (drop (c.loop-i.i + 1) ns))
           (c.loop-i.invariant.left.0 same ∙ letters_at texts types ns c.loop-i.i 0 c.loop-i-test.true ∙ (λ i. sym letter i ∷ letters_of texts types (drop (c.loop-i.i + 1) ns))))),

@@ -7,6 +7,8 @@ use Rattle.dexspec.specs.Rows as rows
 use Rattle.dexpool.specs.declared.rows.ProtoRow.{ProtoRow}
 use Rattle.dexpool.specs.declared.rows.FieldRow.{FieldRow}
 use Rattle.dexpool.specs.declared.rows.MethodRow.{MethodRow}
+use Rattle.dexpool.specs.declared.symbols.SymbolKind.{SymbolKind}
+use Rattle.dexpool.specs.declared.symbols.SymbolKind.TheVariants as kinds
 use Rattle.dexpool.specs.Tables.{text_of, proto_of, field_of, method_of}
 
 -- what the rows of the tables stand for
@@ -35,3 +37,11 @@ pub record ArePools (b : List ℕ) (m : Mentions) : Type 0 where
 -- each type's text is there
 pub record AreInRange (texts : List Text) (types : List ℕ) : Type 0 where
   pub types_in : (i : ℕ) (d : ℕ) → i < length types → slice_index_or types i d < length texts
+
+-- the number of symbols of a kind
+abbrev pub count_of : SymbolKind → Mentions → ℕ
+count_of kinds.Text m = length m.texts
+count_of kinds.Typ m = length m.types
+count_of kinds.Proto m = length m.protos
+count_of kinds.Field m = length m.fields
+count_of kinds.Method m = length m.methods

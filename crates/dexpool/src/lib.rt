@@ -16,7 +16,11 @@ mod protos;
 mod rows;
 mod shorties;
 mod strings;
+mod symbols;
+#[cfg(test)]
+mod tests;
 mod types;
 
 pub use faults::{ItemFault, ReadFault};
 pub use pools::Pools;
+pub use symbols::SymbolKind;

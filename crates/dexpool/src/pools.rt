@@ -2,7 +2,7 @@
 
 ghost use Rattle.std.specs.Prelude.{◌≡◌, ◌<◌, ℕ, List, length, slice_index_or, OnOk, IfOk, IfErr};
 ghost use Rattle.dexspec.specs.Accepted.{HoldBelow, IsFrame};
-ghost use Rattle.dexpool.specs.Pools.{ArePools};
+ghost use Rattle.dexpool.specs.Pools.{ArePools, count_of};
 ghost use Rattle.dexpool.specs.Faults.{IsFault};
 
 use crate::faults::ReadFault;
@@ -12,6 +12,7 @@ use crate::names::Names;
 use crate::protos::{Protos, read_protos};
 use crate::rows::{FieldRow, MethodRow};
 use crate::strings::read_strings;
+use crate::symbols::SymbolKind;
 use crate::types::read_types;
 use dexhead::Frame;
 use dexstr::Text;
@@ -72,6 +73,19 @@ impl<'a> Pools<'a> {
             fields,
             methods,
         })
+    }
+
+    /// The number of rows of a pool.
+    pub fn len(&self, kind: SymbolKind) -> usize
+        ensures { result ≡ count_of kind self.now }
+    {
+        match kind {
+            SymbolKind::Text => self.strings.len(),
+            SymbolKind::Typ => self.types.len(),
+            SymbolKind::Proto => self.protos.rows.len(),
+            SymbolKind::Field => self.fields.len(),
+            SymbolKind::Method => self.methods.len(),
+        }
     }
 
     /// The text of a row. No memory is taken.

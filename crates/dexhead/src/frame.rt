@@ -69,7 +69,8 @@ impl<'a> Frame<'a> {
     #[tactic(auto, using(crate::proofs::Frames::row_within))]
     pub fn row(&self, table: Table, i: u32) -> &'a [u8]
         requires { i < table_size self.now (meant table) }
-        ensures { result.now ≡ take (row_size (meant table)) (drop (row_at self.now (meant table) i) self.now) }
+        ensures bytes { result.now ≡ take (row_size (meant table)) (drop (row_at self.now (meant table) i) self.now) }
+        ensures whole { length result.now ≡ row_size (meant table) }
     {
         let size = table.row_size() as usize;
         let at = header::table_off(self.bytes, table) as usize + size * i as usize;

@@ -1,0 +1,37 @@
+-- Numbers in a row, and texts behind the end.
+use Rattle.std.proofs.Common.{◌≡◌, ℕ, ◌+◌, ◌-◌, ◌<◌, ◌≤◌, List, [], ◌∷◌, ◌++◌, length, take, drop, ap, ◌∙◌, arith, length-append, length-take, length-drop}
+use Rattle.std.proofs.lemmas.List.{drop-drop, drop-take, take-take}
+use Rattle.dexspec.specs.Bytes.{number_of, ushort_at, uint_at}
+use Rattle.dexspec.specs.Texts.{StringDataAt, spelling}
+
+part_of : (b : List ℕ) (o n p k : ℕ) → p + k ≤ n → take k (drop p (take n (drop o b))) ≡ take k (drop (o + p) b)
+part_of b o n p k le =
+    let whole : n ≡ p + (n - p) = omega (arith, le) in
+    ap (λ (m : ℕ). take k (drop p (take m (drop o b)))) whole
+    ∙ ap (take k) (drop-take p (n - p) (drop o b))
+    ∙ take-take k (n - p) (drop p (drop o b)) (omega (arith, le))
+    ∙ ap (take k) (drop-drop p o b)
+
+-- the number in a row is that in the file
+pub uint_at_row : (b row : List ℕ) (o n p q : ℕ) → row ≡ take n (drop o b) → p + 4 ≤ n → o + p ≡ q → uint_at row p ≡ uint_at b q
+unfolding uint_at
+uint_at_row b row o n p q e le at = ap (λ (r : List ℕ). number_of (take 4 (drop p r))) e ∙ ap number_of (part_of b o n p 4 le) ∙ ap (λ (m : ℕ). number_of (take 4 (drop m b))) at
+
+pub ushort_at_row : (b row : List ℕ) (o n p q : ℕ) → row ≡ take n (drop o b) → p + 2 ≤ n → o + p ≡ q → ushort_at row p ≡ ushort_at b q
+unfolding ushort_at
+ushort_at_row b row o n p q e le at = ap (λ (r : List ℕ). number_of (take 2 (drop p r))) e ∙ ap number_of (part_of b o n p 2 le) ∙ ap (λ (m : ℕ). number_of (take 2 (drop m b))) at
+
+-- the number behind an offset
+pub uint_at_rest : (b rest : List ℕ) (o p q : ℕ) → rest ≡ drop o b → o + p ≡ q → uint_at rest p ≡ uint_at b q
+unfolding uint_at
+uint_at_rest b rest o p q e at = ap (λ (r : List ℕ). number_of (take 4 (drop p r))) e ∙ ap (λ (r : List ℕ). number_of (take 4 r)) (drop-drop p o b) ∙ ap (λ (m : ℕ). number_of (take 4 (drop m b))) at
+
+pub ushort_at_rest : (b rest : List ℕ) (o p q : ℕ) → rest ≡ drop o b → o + p ≡ q → ushort_at rest p ≡ ushort_at b q
+unfolding ushort_at
+ushort_at_rest b rest o p q e at = ap (λ (r : List ℕ). number_of (take 2 (drop p r))) e ∙ ap (λ (r : List ℕ). number_of (take 2 r)) (drop-drop p o b) ∙ ap (λ (m : ℕ). number_of (take 2 (drop m b))) at
+
+-- no text stands behind the end
+pub no_text_behind : (b : List ℕ) (o n : ℕ) (s : List ℕ) → length b < o → StringDataAt b o s n → ⊥
+no_text_behind b o n s lt h =
+    let item = h.spelled in
+    omega (arith, h.within, length-drop o b, length-take n (drop o b), ap length item.parts, length-append item.count (spelling s ++ 0 ∷ []), length-append (spelling s) (0 ∷ []))

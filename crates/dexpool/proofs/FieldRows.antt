@@ -1,0 +1,33 @@
+-- Rows of fields.
+use Rattle.std.proofs.Common.{◌≡◌, ℕ, true, false, List, [], ◌∷◌, subst}
+use Rattle.dexspec.specs.Texts.{Text}
+use Rattle.dexspec.specs.Names.{IsClass, IsMemberName, IsValueType}
+use Rattle.dexspec.specs.Symbols.{Field, IsField}
+use Rattle.dexspec.specs.Rows as rows
+use Rattle.dexspec.specs.Rows.{row_at, StringRow, TypeRow, HasField, field_row_key}
+use Rattle.dexspec.proofs.OneRow.{one_string, one_type}
+use Rattle.dexpool.specs.declared.rows.FieldRow.{FieldRow}
+use Rattle.dexpool.specs.Tables.{field_of, field_key, field_cmp}
+use Rattle.dexpool.specs.Reading.{ReadTo, is_above_last, FieldStands, HasFieldNumbers}
+use Rattle.dexpool.proofs.Steps.{follows_if, follows_not}
+
+field_key_is : (texts : List Text) (types : List ℕ) (b : List ℕ) (k : ℕ) (f : FieldRow) → FieldStands texts types b k f → field_row_key b k ≡ field_key f
+field_key_is texts types b k f s = λ i. s.numbers.class i ∷ s.numbers.name i ∷ s.numbers.type i ∷ []
+
+pub has_field : (texts : List Text) (types : List ℕ) (b : List ℕ) (xs : List FieldRow) (i : ℕ) (f : FieldRow) → ReadTo (FieldStands texts types) HasField b xs i → FieldStands texts types b i f → is_above_last field_cmp f xs ≡ true → HasField b i
+has_field texts types b xs i f h is above = record {
+  field = field_of texts types f;
+  is = is.is;
+  follows = follows_if (FieldStands texts types) HasField b field_row_key field_key (field_key_is texts types b) xs i f h is above;
+}
+
+pub no_field : (texts : List Text) (types : List ℕ) (b : List ℕ) (xs : List FieldRow) (i : ℕ) (f : FieldRow) → ReadTo (FieldStands texts types) HasField b xs i → FieldStands texts types b i f → is_above_last field_cmp f xs ≡ false → HasField b i → ⊥
+no_field texts types b xs i f h is above holds = follows_not (FieldStands texts types) HasField b field_row_key field_key (field_key_is texts types b) xs i f h is above holds.follows
+
+-- a row names these texts, and so they make a field where it is one
+pub formed_field : (b : List ℕ) (i : ℕ) (f : FieldRow) (x : Field) (class name type : Text) → HasFieldNumbers b i f → rows.FieldRow b i x → TypeRow b f.class class → StringRow b f.name name → TypeRow b f.typ type → IsField (record { class = class; name = name; type = type })
+formed_field b i f x class name type n h c s t = record {
+  class = subst IsClass (one_type b f.class x.class class (subst (λ k. TypeRow b k x.class) n.class h.class) c) h.formed.class;
+  name = subst IsMemberName (one_string b f.name x.name name (subst (λ k. StringRow b k x.name) n.name h.name) s) h.formed.name;
+  type = subst IsValueType (one_type b f.typ x.type type (subst (λ k. TypeRow b k x.type) n.type h.type) t) h.formed.type;
+}

@@ -1,0 +1,93 @@
+-- The first unit of a descriptor tells its kind.
+use Rattle.std.proofs.Common.{◌≡◌, ◌≢◌, ◌⊎◌, ℕ, zero, suc, ◌<◌, ◌≤◌, Bool, true, false, [], ◌∷◌, ◌++◌, get_or, refl, sym, ap, ◌∙◌, arith, inl, inr}
+use Rattle.std.specs.Prelude.{replicate, ◌==◌, if◌then◌else◌}
+use Rattle.std.proofs.lemmas.Bool.{eqb-true}
+use Rattle.dexspec.specs.Texts.{Text}
+use Rattle.dexspec.specs.Names.{IsDescriptor, VoidType, PrimitiveType, ClassType, ArrayType, IsVoid, IsPrimitive, IsClass, IsArray, IsValueType, IsReferenceType, primitive_letters, shorty_letter}
+use Rattle.dexpool.specs.Kinds.{first_of}
+
+-- none of the letters of void, class and array
+record IsOther (l : ℕ) : Type 0 where
+  void : l ≢ 0x56
+  class : l ≢ 0x4c
+  array : l ≢ 0x5b
+
+other_is : (l k : ℕ) → k ≡ l → k ≢ 0x56 → k ≢ 0x4c → k ≢ 0x5b → IsOther l
+other_is l k e v c a = record { void = λ x. v (e ∙ x); class = λ x. c (e ∙ x); array = λ x. a (e ∙ x) }
+
+known_letter : (i l : ℕ) → i < 8 → get_or primitive_letters i l ≡ l → IsOther l
+known_letter zero l lt e = other_is l 0x5a e (λ x. omega (arith, x)) (λ x. omega (arith, x)) (λ x. omega (arith, x))
+known_letter (suc zero) l lt e = other_is l 0x42 e (λ x. omega (arith, x)) (λ x. omega (arith, x)) (λ x. omega (arith, x))
+known_letter (suc (suc zero)) l lt e = other_is l 0x53 e (λ x. omega (arith, x)) (λ x. omega (arith, x)) (λ x. omega (arith, x))
+known_letter (suc (suc (suc zero))) l lt e = other_is l 0x43 e (λ x. omega (arith, x)) (λ x. omega (arith, x)) (λ x. omega (arith, x))
+known_letter (suc (suc (suc (suc zero)))) l lt e = other_is l 0x4a e (λ x. omega (arith, x)) (λ x. omega (arith, x)) (λ x. omega (arith, x))
+known_letter (suc (suc (suc (suc (suc zero))))) l lt e = other_is l 0x49 e (λ x. omega (arith, x)) (λ x. omega (arith, x)) (λ x. omega (arith, x))
+known_letter (suc (suc (suc (suc (suc (suc zero)))))) l lt e = other_is l 0x46 e (λ x. omega (arith, x)) (λ x. omega (arith, x)) (λ x. omega (arith, x))
+known_letter (suc (suc (suc (suc (suc (suc (suc zero))))))) l lt e = other_is l 0x44 e (λ x. omega (arith, x)) (λ x. omega (arith, x)) (λ x. omega (arith, x))
+known_letter (suc (suc (suc (suc (suc (suc (suc (suc i)))))))) l lt e = absurd (omega arith)
+
+primitive_first : (t : Text) → IsPrimitive t → IsOther (first_of t)
+primitive_first t h = let e : first_of t ≡ h.letter = ap first_of h.is in
+    let o = known_letter h.known.0 h.letter h.known.1 h.known.2 in
+    record { void = λ x. o.void (sym e ∙ x); class = λ x. o.class (sym e ∙ x); array = λ x. o.array (sym e ∙ x) }
+
+void_first : (t : Text) → IsVoid t → first_of t ≡ 0x56
+void_first t h = ap first_of h
+
+pub class_first : (t : Text) → IsClass t → first_of t ≡ 0x4c
+class_first t h = ap first_of h.is
+
+bracket_first : (d : ℕ) (e : Text) → 1 ≤ d → first_of (replicate d 0x5b ++ e) ≡ 0x5b
+bracket_first zero e lt = absurd (omega arith)
+bracket_first (suc d) e lt = refl
+
+array_first : (t : Text) → IsArray t → first_of t ≡ 0x5b
+array_first t h = ap first_of h.is ∙ bracket_first h.dimensions h.element h.some
+
+pub class_if : (t : Text) → IsDescriptor t → first_of t ≡ 0x4c → IsClass t
+class_if t (VoidType, h) e = absurd (omega (arith, void_first t h, e))
+class_if t (PrimitiveType, h) e = absurd ((primitive_first t h).class e)
+class_if t (ClassType, h) e = h
+class_if t (ArrayType, h) e = absurd (omega (arith, array_first t h, e))
+
+pub value_if : (t : Text) → IsDescriptor t → (first_of t ≡ 0x56 → ⊥) → IsValueType t
+value_if t (VoidType, h) e = absurd (e (void_first t h))
+value_if t (PrimitiveType, h) e = inl h
+value_if t (ClassType, h) e = inr (inl h)
+value_if t (ArrayType, h) e = inr (inr h)
+
+pub value_not : (t : Text) → IsValueType t → first_of t ≡ 0x56 → ⊥
+value_not t (inl h) e = (primitive_first t h).void e
+value_not t (inr (inl h)) e = omega (arith, class_first t h, e)
+value_not t (inr (inr h)) e = omega (arith, array_first t h, e)
+
+-- ---- the letter in a shorty
+
+array_letter : (t : Text) → first_of t ≡ 0x5b → shorty_letter t ≡ 0x4c
+array_letter [] e = absurd (omega (arith, e))
+array_letter (u ∷ s) e = rw e refl
+
+class_letter : (t : Text) → first_of t ≡ 0x4c → shorty_letter t ≡ 0x4c
+class_letter [] e = absurd (omega (arith, e))
+class_letter (u ∷ s) e = rw e refl
+
+letter_cases : (b : Bool) (u : ℕ) → (u == 0x5b) ≡ b → (if b then 0x4c else u) ≡ 0x4c → (u ≡ 0x4c) ⊎ (u ≡ 0x5b)
+letter_cases true u e h = inr (eqb-true u 0x5b e)
+letter_cases false u e h = inl h
+
+pub letter_first : (t : Text) → shorty_letter t ≡ 0x4c → (first_of t ≡ 0x4c) ⊎ (first_of t ≡ 0x5b)
+letter_first [] h = absurd (omega (arith, h))
+letter_first (u ∷ s) h = letter_cases (u == 0x5b) u refl h
+
+pub reference_letter : (t : Text) → IsReferenceType t → shorty_letter t ≡ 0x4c
+reference_letter t (inl h) = class_letter t (class_first t h)
+reference_letter t (inr h) = array_letter t (array_first t h)
+
+pub reference_if : (t : Text) → IsDescriptor t → shorty_letter t ≡ 0x4c → IsReferenceType t
+reference_if t d h = elim (letter_first t h) [ inl c ↦ inl (class_if t d c) | inr a ↦ inr (array_if t d a) ]
+  where
+    array_if : (t : Text) → IsDescriptor t → first_of t ≡ 0x5b → IsArray t
+    array_if t (VoidType, h) e = absurd (omega (arith, void_first t h, e))
+    array_if t (PrimitiveType, h) e = absurd ((primitive_first t h).array e)
+    array_if t (ClassType, h) e = absurd (omega (arith, class_first t h, e))
+    array_if t (ArrayType, h) e = h

@@ -1,0 +1,16 @@
+use Rattle.std.proofs.Common.{refl, sym, ◌∙◌, arith}
+use Rattle.dexspec.specs.Rows.{row_at}
+use Rattle.dexspec.specs.Header.{ProtoIds}
+use Rattle.dexpool.proofs.Bytes.{uint_at_row}
+use Rattle.dexpool.proofs.protos.indices_at.Goals as goal
+
+pub returns : goal.returns
+returns c =
+    let b = c.args.frame.now in
+    let at = row_at b ProtoIds c.args.i in
+    let row = c.row-row.result.now in
+    record {
+      shorty_is = sym (c.u32_at.ensures ∙ uint_at_row b row at 12 0 at c.row-row.ensures.bytes (omega arith) (omega arith));
+      return_is = sym (c.u32_at-2.ensures ∙ uint_at_row b row at 12 4 _ c.row-row.ensures.bytes (omega arith) refl);
+      off_is = sym (c.u32_at-3.ensures ∙ uint_at_row b row at 12 8 _ c.row-row.ensures.bytes (omega arith) refl);
+    }

@@ -1,0 +1,5 @@
+pub mod Faults
+pub mod Kinds
+pub mod Reading
+pub mod Tables
+pub mod Pools

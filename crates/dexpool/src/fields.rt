@@ -1,0 +1,106 @@
+//! The pool of fields.
+
+ghost use Rattle.std.specs.Prelude.{◌≡◌, ◌↔◌, ◌+◌, ◌<◌, ℕ, List, MatchOption, IfOk, IfErr, IsTrue};
+ghost use Rattle.dexspec.specs.Bytes.{uint_at, ushort_at};
+ghost use Rattle.dexspec.specs.Header.{FieldIds, table_size};
+ghost use Rattle.dexspec.specs.Names.{IsDescriptor};
+ghost use Rattle.dexspec.specs.Symbols.{Field, IsField};
+ghost use Rattle.dexspec.specs.Rows as rows;
+ghost use Rattle.dexspec.specs.Rows.{row_at};
+ghost use Rattle.dexspec.specs.Conditions.{Condition};
+ghost use Rattle.dexspec.specs.Accepted.{HoldsThroughout};
+ghost use Rattle.dexpool.specs.Tables.{field_cmp};
+ghost use Rattle.dexpool.specs.Reading.{is_above_last, AreNames, AreFields, FieldStands, HasFieldNumbers};
+ghost use Rattle.dexpool.specs.Faults.{IsFault};
+
+use crate::faults::{ReadFault, refused};
+use crate::kinds::{is_class, is_value};
+use crate::names::Names;
+use crate::rows::FieldRow;
+use dexhead::{Frame, Table, u16_at, u32_at};
+use dexstr::{Text, is_member_name};
+use std::alloc::Global;
+
+// The indices in a row.
+fn field_numbers(frame: &Frame<'_>, i: u32) -> FieldRow
+    requires { i < table_size frame.now FieldIds }
+    ensures { HasFieldNumbers frame.now i result }
+{
+    let row = frame.row(Table::FieldIds, i);
+    FieldRow {
+        class: u32::from(u16_at(row, 0)),
+        name: u32_at(row, 4),
+        typ: u32::from(u16_at(row, 2)),
+    }
+}
+
+// Whether these make a field.
+fn is_field(class: &Text<'_>, name: &Text<'_>, typ: &Text<'_>) -> bool
+    requires class { IsDescriptor class.now }
+    requires typ { IsDescriptor typ.now }
+    ensures { IsTrue result ↔ IsField (record { class = class.now; name = name.now; type = typ.now }) }
+{
+    is_class(class) && is_value(typ) && is_member_name(name)
+}
+
+// The numbers of a row, if it is a field.
+fn field_at(names: &Names<'_, '_>, i: u32) -> Option<FieldRow>
+    requires names { AreNames names.now.frame.now names.now.strings.now names.now.types.now }
+    requires row { i < table_size names.now.frame.now FieldIds }
+    ensures { MatchOption result ((f : Field) → rows.FieldRow names.now.frame.now i f → ⊥) (FieldStands names.now.strings.now names.now.types.now names.now.frame.now i) }
+{
+    let field = field_numbers(names.frame, i);
+    let class = match names.typ(field.class) {
+        Some(class) => class,
+        None => return None,
+    };
+    let typ = match names.typ(field.typ) {
+        Some(typ) => typ,
+        None => return None,
+    };
+    let name = match names.text(field.name) {
+        Some(name) => name,
+        None => return None,
+    };
+    if !is_field(class, name, typ) {
+        return None;
+    }
+    Some(field)
+}
+
+// Whether the field comes behind the last one, if there is one.
+fn is_above(fields: &[FieldRow], field: &FieldRow) -> bool
+    ensures { result ≡ is_above_last field_cmp field.now fields.now }
+{
+    if fields.is_empty() {
+        return true;
+    }
+    let last = fields[fields.len() - 1].key();
+    last.cmp(&field.key()).is_lt()
+}
+
+/// The fields, by row.
+///
+/// Error: condition 14 fails, at the least row with an index out of range, whose class is no class type,
+/// whose type is void, whose name is no member's, or which does not come behind the row before it, by
+/// class, name and type. Source: "field_id_item" and "MemberName".
+pub(crate) fn read_fields(alloc: Global, names: &Names<'_, '_>) -> Result<Vec<FieldRow>, ReadFault>
+    requires names { AreNames names.now.frame.now names.now.strings.now names.now.types.now }
+    requires protos { HoldsThroughout Condition.Protos names.now.frame.now }
+    ensures ok { IfOk result (λ fields. AreFields names.now.frame.now names.now.strings.now names.now.types.now fields.items) }
+    ensures err { IfErr result (IsFault names.now.frame.now) }
+{
+    let mut fields = Vec::new(alloc);
+    let count = names.frame.size(Table::FieldIds);
+    for i in 0..count {
+        let field = match field_at(names, i) {
+            Some(field) => field,
+            None => return Err(refused(14, i)),
+        };
+        if !is_above(&fields, &field) {
+            return Err(refused(14, i));
+        }
+        fields.push(field)?;
+    }
+    Ok(fields)
+}

@@ -1,0 +1,26 @@
+//! The five pools of a file: texts, types, protos, fields and methods, each in a sorted table whose rows
+//! name rows of the tables before it.
+//!
+//! Source: the Android page "Dalvik Executable format", under the headings "string_id_item",
+//! "type_id_item", "proto_id_item", "field_id_item", "method_id_item" and "type_list".
+#![tactic(auto)]
+
+mod faults;
+mod fields;
+mod kinds;
+mod methods;
+mod names;
+mod parameters;
+mod pools;
+mod protos;
+mod rows;
+mod shorties;
+mod strings;
+mod symbols;
+#[cfg(test)]
+mod tests;
+mod types;
+
+pub use faults::{ItemFault, ReadFault};
+pub use pools::Pools;
+pub use symbols::SymbolKind;

@@ -1,0 +1,109 @@
+//! The pool of methods.
+
+ghost use Rattle.std.specs.Prelude.{◌≡◌, ◌↔◌, ◌+◌, ◌<◌, ℕ, List, MatchOption, IfOk, IfErr, IsTrue};
+ghost use Rattle.dexspec.specs.Header.{MethodIds, table_size};
+ghost use Rattle.dexspec.specs.Names.{IsDescriptor, IsReferenceType, IsMemberName};
+ghost use Rattle.dexspec.specs.Symbols.{Method};
+ghost use Rattle.dexspec.specs.Rows as rows;
+ghost use Rattle.dexspec.specs.Conditions.{Condition};
+ghost use Rattle.dexspec.specs.Accepted.{HoldsThroughout};
+ghost use Rattle.dexpool.specs.Tables.{method_cmp};
+ghost use Rattle.dexpool.specs.Reading.{is_above_last, AreNames, AreProtos, AreMethods, MethodStands, HasMethodNumbers, AreMethodNames};
+ghost use Rattle.dexpool.specs.Faults.{IsFault};
+
+use crate::faults::{ReadFault, refused};
+use crate::kinds::is_reference;
+use crate::names::Names;
+use crate::protos::Protos;
+use crate::rows::MethodRow;
+use dexhead::{Frame, Table, u16_at, u32_at};
+use dexstr::{Text, is_member_name};
+use std::alloc::Global;
+
+// The indices in a row.
+fn method_numbers(frame: &Frame<'_>, i: u32) -> MethodRow
+    requires { i < table_size frame.now MethodIds }
+    ensures { HasMethodNumbers frame.now i result }
+{
+    let row = frame.row(Table::MethodIds, i);
+    MethodRow {
+        class: u32::from(u16_at(row, 0)),
+        name: u32_at(row, 4),
+        proto: u32::from(u16_at(row, 2)),
+    }
+}
+
+// Whether a method may belong to the type and have the name.
+fn is_method(class: &Text<'_>, name: &Text<'_>) -> bool
+    requires { IsDescriptor class.now }
+    ensures { IsTrue result ↔ AreMethodNames class.now name.now }
+{
+    is_reference(class) && is_member_name(name)
+}
+
+// The numbers of a row, if it is a method.
+fn method_at(names: &Names<'_, '_>, protos: &Protos, i: u32) -> Option<MethodRow>
+    requires names { AreNames names.now.frame.now names.now.strings.now names.now.types.now }
+    requires protos { AreProtos names.now.frame.now names.now.strings.now names.now.types.now protos.now.parameters.items protos.now.rows.items }
+    requires row { i < table_size names.now.frame.now MethodIds }
+    ensures { MatchOption result ((m : Method) → rows.MethodRow names.now.frame.now i m → ⊥) (MethodStands names.now.strings.now names.now.types.now protos.now.parameters.items protos.now.rows.items names.now.frame.now i) }
+{
+    let method = method_numbers(names.frame, i);
+    let class = match names.typ(method.class) {
+        Some(class) => class,
+        None => return None,
+    };
+    let name = match names.text(method.name) {
+        Some(name) => name,
+        None => return None,
+    };
+    if protos.rows.len() <= method.proto as usize {
+        return None;
+    }
+    if !is_method(class, name) {
+        return None;
+    }
+    Some(method)
+}
+
+// Whether the method comes behind the last one, if there is one.
+fn is_above(methods: &[MethodRow], method: &MethodRow) -> bool
+    ensures { result ≡ is_above_last method_cmp method.now methods.now }
+{
+    if methods.is_empty() {
+        return true;
+    }
+    let last = methods[methods.len() - 1].key();
+    last.cmp(&method.key()).is_lt()
+}
+
+/// The methods, by row.
+///
+/// Error: condition 15 fails, at the least row with an index out of range, whose class is neither a class
+/// nor an array type, whose name is no member's, or which does not come behind the row before it, by class,
+/// name and proto. Source: "method_id_item" and "MemberName".
+pub(crate) fn read_methods(
+    alloc: Global,
+    names: &Names<'_, '_>,
+    protos: &Protos,
+) -> Result<Vec<MethodRow>, ReadFault>
+    requires names { AreNames names.now.frame.now names.now.strings.now names.now.types.now }
+    requires protos { AreProtos names.now.frame.now names.now.strings.now names.now.types.now protos.now.parameters.items protos.now.rows.items }
+    requires fields { HoldsThroughout Condition.Fields names.now.frame.now }
+    ensures ok { IfOk result (λ methods. AreMethods names.now.frame.now names.now.strings.now names.now.types.now protos.now.parameters.items protos.now.rows.items methods.items) }
+    ensures err { IfErr result (IsFault names.now.frame.now) }
+{
+    let mut methods = Vec::new(alloc);
+    let count = names.frame.size(Table::MethodIds);
+    for i in 0..count {
+        let method = match method_at(names, protos, i) {
+            Some(method) => method,
+            None => return Err(refused(15, i)),
+        };
+        if !is_above(&methods, &method) {
+            return Err(refused(15, i));
+        }
+        methods.push(method)?;
+    }
+    Ok(methods)
+}

@@ -1,0 +1,147 @@
+//! The pool of protos.
+
+ghost use Rattle.std.specs.Prelude.{◌≡◌, ◌+◌, ◌<◌, ◌≤◌, ℕ, List, length, MatchOption, IfOk, IfErr, slice_index_or};
+ghost use Rattle.dexspec.specs.Header.{ProtoIds, table_size};
+ghost use Rattle.dexspec.specs.Symbols.{Proto};
+ghost use Rattle.dexspec.specs.Rows as rows;
+ghost use Rattle.dexpool.specs.Tables.{span_of, proto_cmp};
+ghost use Rattle.dexpool.specs.Reading.{is_above_last, AreNames, AreProtos, HasIndices, HasSpan, IsAdded};
+ghost use Rattle.dexpool.specs.Faults.{IsFault};
+
+use crate::faults::{ReadFault, refused};
+use crate::names::Names;
+use crate::parameters::push_parameters;
+use crate::rows::{ProtoRow, Span};
+use crate::shorties::is_shorty;
+use dexhead::{Frame, Table, u32_at};
+use std::alloc::{AllocError, Global};
+use std::cmp::Ordering;
+
+/// The protos by row, and the types of their parameters, each as its number.
+#[derive(Drop)]
+pub(crate) struct Protos {
+    pub(crate) rows: Vec<ProtoRow>,
+    pub(crate) parameters: Vec<u32>,
+}
+
+// What stands in a row.
+#[derive(Clone, Copy)]
+struct Indices {
+    shorty: u32,
+    return_type: u32,
+    off: u32,
+}
+
+fn indices_at(frame: &Frame<'_>, i: u32) -> Indices
+    requires { i < table_size frame.now ProtoIds }
+    ensures { HasIndices frame.now i result.shorty result.return_type result.off }
+{
+    let row = frame.row(Table::ProtoIds, i);
+    Indices {
+        shorty: u32_at(row, 0),
+        return_type: u32_at(row, 4),
+        off: u32_at(row, 8),
+    }
+}
+
+// The proto of a row, if it is one, whose parameters are appended.
+fn proto_at(
+    names: &Names<'_, '_>,
+    i: u32,
+    parameters: &mut Vec<u32>,
+) -> Result<Option<ProtoRow>, AllocError>
+    requires names { AreNames names.now.frame.now names.now.strings.now names.now.types.now }
+    requires row { i < table_size names.now.frame.now ProtoIds }
+    ensures { IfOk result (λ found. MatchOption found ((p : Proto) → rows.ProtoRow names.now.frame.now i p → ⊥) (IsAdded names.now.strings.now names.now.types.now parameters.old.items parameters.new.items names.now.frame.now i)) }
+{
+    let indices = indices_at(names.frame, i);
+    let shorty = match names.text(indices.shorty) {
+        Some(shorty) => shorty,
+        None => return Ok(None),
+    };
+    let return_type = match names.typ(indices.return_type) {
+        Some(return_type) => return_type,
+        None => return Ok(None),
+    };
+    let start = parameters.len();
+    let good = push_parameters(names, indices.off, parameters)?;
+    if !good {
+        return Ok(None);
+    }
+    let (_, listed) = parameters.split_at(start);
+    if !is_shorty(names, shorty, return_type, listed) {
+        return Ok(None);
+    }
+    Ok(Some(ProtoRow {
+        shorty: indices.shorty,
+        return_type: indices.return_type,
+        parameters: Span {
+            start,
+            end: parameters.len(),
+        },
+    }))
+}
+
+// The parameters of a row.
+fn part(parameters: &[u32], span: Span) -> &[u32]
+    requires { HasSpan parameters.now span }
+    ensures { result.now ≡ span_of parameters.now span }
+{
+    let (_, rest) = parameters.split_at(span.start);
+    let (part, _) = rest.split_at(span.end - span.start);
+    part
+}
+
+// How two rows compare: by the return type, and then by the parameters.
+fn compare(parameters: &[u32], left: &ProtoRow, right: &ProtoRow) -> Ordering
+    requires left { HasSpan parameters.now left.now.parameters }
+    requires right { HasSpan parameters.now right.now.parameters }
+    ensures { result ≡ proto_cmp parameters.now left.now right.now }
+{
+    match left.return_type.cmp(&right.return_type) {
+        Ordering::Equal => part(parameters, left.parameters).cmp(part(
+            parameters,
+            right.parameters,
+        )),
+        unlike => unlike,
+    }
+}
+
+// Whether the proto comes behind the last one, if there is one.
+fn is_above(parameters: &[u32], protos: &[ProtoRow], proto: &ProtoRow) -> bool
+    requires protos { (k : ℕ) (d : ProtoRow) → k < length protos.now → HasSpan parameters.now (slice_index_or protos.now k d).parameters }
+    requires proto { HasSpan parameters.now proto.now.parameters }
+    ensures { result ≡ is_above_last (proto_cmp parameters.now) proto.now protos.now }
+{
+    if protos.is_empty() {
+        return true;
+    }
+    compare(parameters, &protos[protos.len() - 1], proto).is_lt()
+}
+
+/// The protos, by row.
+///
+/// Error: condition 13 fails, at the least row with an index out of range, whose parameters are no list
+/// of types in the data or name void, whose shorty is not that of its types, or which does not come behind
+/// the row before it, by the return type and then by the parameters. Source: "proto_id_item" and
+/// "type_list".
+pub(crate) fn read_protos(alloc: Global, names: &Names<'_, '_>) -> Result<Protos, ReadFault>
+    requires { AreNames names.now.frame.now names.now.strings.now names.now.types.now }
+    ensures ok { IfOk result (λ protos. AreProtos names.now.frame.now names.now.strings.now names.now.types.now protos.parameters.items protos.rows.items) }
+    ensures err { IfErr result (IsFault names.now.frame.now) }
+{
+    let mut parameters = Vec::new(alloc);
+    let mut rows = Vec::new(alloc);
+    let count = names.frame.size(Table::ProtoIds);
+    for i in 0..count {
+        let proto = match proto_at(names, i, &mut parameters)? {
+            Some(proto) => proto,
+            None => return Err(refused(13, i)),
+        };
+        if !is_above(&parameters, &rows, &proto) {
+            return Err(refused(13, i));
+        }
+        rows.push(proto)?;
+    }
+    Ok(Protos { rows, parameters })
+}

@@ -13,6 +13,7 @@ use std::alloc::AllocError;
 /// Source: the heading "LEB128" of the Android page "Dalvik Executable format".
 pub fn put_u(value: u32, out: &mut Vec<u8>) -> Result<(), AllocError>
     ensures puts { Puts (uleb128 value) out.old out.new result }
+    ensures bound { length (uleb128 value) ≤ 5 }
     ensures room_for_five { vec_len out.old + 5 ≤ vec_capacity out.old → IsOk result }
 {
     put_groups(u64::from(value), len_u(value), out)
@@ -28,6 +29,7 @@ pub fn put_u(value: u32, out: &mut Vec<u8>) -> Result<(), AllocError>
 pub fn put_p1(value: Option<u32>, out: &mut Vec<u8>) -> Result<(), AllocError>
     requires { plus_one value < 2 ^ 32 }
     ensures puts { Puts (uleb128p1 value) out.old out.new result }
+    ensures bound { length (uleb128p1 value) ≤ 5 }
     ensures room_for_five { vec_len out.old + 5 ≤ vec_capacity out.old → IsOk result }
 {
     put_u(value.map_or(0, |number| number + 1), out)
@@ -41,6 +43,7 @@ pub fn put_p1(value: Option<u32>, out: &mut Vec<u8>) -> Result<(), AllocError>
 /// Source: the heading "LEB128" of the Android page "Dalvik Executable format".
 pub fn put_s(value: i32, out: &mut Vec<u8>) -> Result<(), AllocError>
     ensures puts { Puts (sleb128 value) out.old out.new result }
+    ensures bound { length (sleb128 value) ≤ 5 }
     ensures room_for_five { vec_len out.old + 5 ≤ vec_capacity out.old → IsOk result }
 {
     let len = len_s(value);
@@ -51,7 +54,8 @@ pub fn put_s(value: i32, out: &mut Vec<u8>) -> Result<(), AllocError>
 ///
 /// Source: the heading "LEB128" of the Android page "Dalvik Executable format".
 pub fn len_u(value: u32) -> usize
-    ensures { result ≡ length (uleb128 value) }
+    ensures shortest { result ≡ length (uleb128 value) }
+    ensures bounds { (1 ≤ result) × (result ≤ 5) }
 {
     match value {
         0..=0x7f => 1,
@@ -66,7 +70,8 @@ pub fn len_u(value: u32) -> usize
 ///
 /// Source: the heading "LEB128" of the Android page "Dalvik Executable format".
 pub fn len_s(value: i32) -> usize
-    ensures { result ≡ length (sleb128 value) }
+    ensures shortest { result ≡ length (sleb128 value) }
+    ensures bounds { (1 ≤ result) × (result ≤ 5) }
 {
     match value {
         -0x40..=0x3f => 1,

@@ -1,4 +1,4 @@
-//! Values from outside: worked rows, and cases of a reference that shares nothing with this crate.
+//! Values from outside: worked examples, and cases of a reference that shares nothing with this crate.
 use super::*;
 use std::test::Fail;
 
@@ -93,7 +93,7 @@ const PUTS_U: [(u32, &[u8]); 14] = [
 ];
 
 /// Numbers, and what `put_p1` appends for each as `Some`.
-const PUTS_P1: [(u32, &[u8]); 8] = [
+const PUTS_P1: [(u32, &[u8]); 9] = [
     (16, &[0x11]),
     (127, &[0x80, 0x01]),
     (230, &[0xe7, 0x01]),
@@ -102,12 +102,17 @@ const PUTS_P1: [(u32, &[u8]); 8] = [
     (198056899, &[0xc4, 0xb7, 0xb8, 0x5e]),
     (524479957, &[0xd6, 0xdb, 0x8b, 0xfa, 0x01]),
     (4287942374, &[0xe7, 0x9d, 0xd3, 0xfc, 0x0f]),
+    (4294967294, &[0xff, 0xff, 0xff, 0xff, 0x0f]),
 ];
 
 /// Numbers, and what `put_s` appends for them.
-const PUTS_S: [(i32, &[u8]); 8] = [
+const PUTS_S: [(i32, &[u8]); 12] = [
     (-1, &[0x7f]),
     (0, &[0x00]),
+    (63, &[0x3f]),
+    (-64, &[0x40]),
+    (64, &[0xc0, 0x00]),
+    (-65, &[0xbf, 0x7f]),
     (95173322, &[0xca, 0xf5, 0xb0, 0x2d]),
     (119371740, &[0xdc, 0xef, 0xf5, 0x38]),
     (-2147483648, &[0x80, 0x80, 0x80, 0x80, 0x78]),
@@ -117,7 +122,7 @@ const PUTS_S: [(i32, &[u8]); 8] = [
 ];
 
 #[test]
-fn reads_worked_rows(rt: HostRuntime) {
+fn reads_worked_examples(rt: HostRuntime) {
     assert_eq!(rt; read_u(&[0x80, 0x7f], 0), Ok((16256, 2)));
     assert_eq!(rt; read_s(&[0x80, 0x7f], 0), Ok((-128, 2)));
     assert_eq!(rt; read_p1(&[0x80, 0x7f], 0), Ok((Some(16255), 2)));
@@ -133,6 +138,14 @@ fn reads_worked_rows(rt: HostRuntime) {
         read_u(&[0xff, 0xff, 0xff, 0xff, 0x1f], 0),
         Err(LebFault::Range)
     );
+    assert_eq!(rt;
+        read_u(&[0x80, 0x80, 0x80, 0x80, 0x80], 0),
+        Err(LebFault::Range)
+    );
+    assert_eq!(rt;
+        read_p1(&[0xff, 0xff, 0xff, 0xff, 0xff, 0x00], 0),
+        Err(LebFault::Range)
+    );
     assert_eq!(rt; read_u(&[0x80, 0x00], 0), Ok((0, 2)));
     assert_eq!(rt; read_u(&[0x80], 0), Err(LebFault::Short));
     assert_eq!(rt; read_u(&[], 0), Err(LebFault::Short));
@@ -143,6 +156,10 @@ fn reads_worked_rows(rt: HostRuntime) {
     );
     assert_eq!(rt;
         read_s(&[0x80, 0x80, 0x80, 0x80, 0x08], 0),
+        Err(LebFault::Range)
+    );
+    assert_eq!(rt;
+        read_s(&[0x80, 0x80, 0x80, 0x80, 0x80], 0),
         Err(LebFault::Range)
     );
     assert_eq!(rt; read_s(&[0xff, 0xff, 0xff, 0xff, 0x7f], 0), Ok((-1, 5)));
@@ -167,7 +184,7 @@ fn reads_vectors(rt: HostRuntime) {
 }
 
 #[test]
-fn writes_worked_rows(rt: HostRuntime) -> Result<(), Fail> {
+fn writes_worked_examples(rt: HostRuntime) -> Result<(), Fail> {
     let mut out = Vec::new(rt.alloc());
     put_u(0, &mut out)?;
     put_s(-1, &mut out)?;

@@ -1,4 +1,4 @@
-//! Values from outside: worked rows, and cases of a reference that shares nothing with this crate.
+//! Values from outside: worked examples, and cases of a reference that shares nothing with this crate.
 use super::*;
 use std::test::Fail;
 
@@ -202,6 +202,12 @@ fn reads_at_a_place(rt: HostRuntime) {
     assert!(rt; matches!(Text::read(&bytes, 6), Err(TextFault::Short)));
     assert!(rt; matches!(Text::read(&[0x02, 0x41, 0x00], 0), Err(TextFault::Count)));
     assert!(rt; matches!(Text::read(&[0x01, 0xc3], 0), Err(TextFault::Short)));
+    assert!(rt;
+        matches!(
+            Text::read(&[0xff, 0xff, 0xff, 0xff, 0x1f], 0),
+            Err(TextFault::Bad)
+        )
+    );
 }
 
 #[test]

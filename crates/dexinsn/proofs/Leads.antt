@@ -25,15 +25,18 @@ place_is at meant offset wide small fits is widened = omega (arith, ints)
 
 -- ---- a branch
 
+-- an instruction that branches nowhere is right
 pub branches-none : (us : List ℕ) (cs : List Cut) (at : ℕ) (f : Format) → None ≡ branch_offset f us at → true ≡ branches_right us cs at f
 branches-none us cs at f is = ap (all_of_option (leads_right us cs at f)) is
 
+-- one that leads to a payload is right where the payload and its targets are
 pub branches-payload : (us : List ℕ) (cs : List Cut) (at : ℕ) (f : Format) (ident : ℕ) (z place : ℤ) (r : Bool) → f ≡ F31t → Some z ≡ branch_offset f us at → pos at +ℤ z ≡ place → ident ≡ payload_ident (low_byte (slice_index us at)) → r ≡ leads_to_payload ident us cs at place → r ≡ branches_right us cs at f
 branches-payload us cs at f ident z place r named is target kind says =
     says ∙ ap (λ (i : ℕ). leads_to_payload i us cs at place) kind ∙ ap (leads_to_payload (payload_ident (low_byte (slice_index us at))) us cs at) (sym target)
     ∙ ap (λ (g : Format). leads_right us cs at g z) (sym named)
     ∙ ap (all_of_option (leads_right us cs at f)) is
 
+-- one of another format leads to an instruction
 leads-other : (us : List ℕ) (cs : List Cut) (at : ℕ) (f : Format) (z : ℤ) → (f ≡ F31t → ⊥) → is_instruction_start us cs (pos at +ℤ z) ≡ leads_right us cs at f z
 leads-other us cs at F10x z other = refl
 leads-other us cs at F12x z other = refl
@@ -60,32 +63,39 @@ leads-other us cs at F35c z other = refl
 leads-other us cs at F3rc z other = refl
 leads-other us cs at F51l z other = refl
 
+-- one that branches is right where an instruction begins at its target
 pub branches-other : (us : List ℕ) (cs : List Cut) (at : ℕ) (f : Format) (z place : ℤ) (r : Bool) → (f ≡ F31t → ⊥) → Some z ≡ branch_offset f us at → pos at +ℤ z ≡ place → r ≡ is_instruction_start us cs place → r ≡ branches_right us cs at f
 branches-other us cs at f z place r other is target says =
     says ∙ ap (is_instruction_start us cs) (sym target) ∙ leads-other us cs at f z other ∙ ap (all_of_option (leads_right us cs at f)) is
 
 -- ---- a payload that is led to
 
+-- where the payload begins its targets decide
 pub leads-payload : (ident : ℕ) (us : List ℕ) (cs : List Cut) (at k : ℕ) (z : ℤ) (r : Bool) → starts_with (λ u. u == ident) us cs z ≡ (slice_index us k == ident) → slice_index us k ≡ ident → z ≡ pos k → r ≡ lead_right us cs at (payload_targets us k) → r ≡ leads_to_payload ident us cs at z
 leads-payload ident us cs at k z r starts same place says =
     says ∙ ap (λ (p : ℤ). lead_right us cs at (payload_targets us (nat_abs p))) (sym place)
     ∙ ap (λ (b : Bool). b && lead_right us cs at (payload_targets us (nat_abs z))) (sym (starts ∙ eq-eqb (slice_index us k) ident same))
 
+-- where none begins the answer is no
 pub leads-nowhere : (ident : ℕ) (us : List ℕ) (cs : List Cut) (at : ℕ) (z : ℤ) → starts_with (λ u. u == ident) us cs z ≡ false → false ≡ leads_to_payload ident us cs at z
 leads-nowhere ident us cs at z starts = ap (λ (b : Bool). b && lead_right us cs at (payload_targets us (nat_abs z))) (sym starts)
 
 -- ---- an instruction
 
+-- the targets of a piece are right: it is a payload, or an instruction that branches right
 right-is : (us : List ℕ) (cs : List Cut) (c : Cut) (b : Bool) → is_payload_ident (slice_index us c.unit) ≡ b → has_right_targets us cs c ≡ (b || all_of_option (λ (o : Opcode). branches_right us cs c.unit o.format) (opcode_of (low_byte (slice_index us c.unit))))
 unfolding has_right_targets
 right-is us cs c b is = ap (λ (t : Bool). t || all_of_option (λ (o : Opcode). branches_right us cs c.unit o.format) (opcode_of (low_byte (slice_index us c.unit)))) is
 
+-- the targets of a payload that stands by itself are not asked for
 pub right-payload : (us : List ℕ) (cs : List Cut) (c : Cut) → is_payload_ident (slice_index us c.unit) ≡ true → true ≡ has_right_targets us cs c
 right-payload us cs c is = sym (right-is us cs c true is)
 
+-- a test of the format alone asks the same of the opcode and of its format
 by_format : (test : Format → Bool) (o : Option Opcode) (f : Option Format) → f ≡ option_map (λ (p : Opcode). p.format) o → all_of_option test f ≡ all_of_option (λ (p : Opcode). test p.format) o
 by_format test None f is = ap (all_of_option test) is
 by_format test (Some p) f is = ap (all_of_option test) is
 
+-- the targets of an instruction are right where it branches right
 pub right-instruction : (us : List ℕ) (cs : List Cut) (c : Cut) (f : Option Format) → is_payload_ident (slice_index us c.unit) ≡ false → f ≡ option_map (λ (o : Opcode). o.format) (opcode_of (low_byte (slice_index us c.unit))) → all_of_option (branches_right us cs c.unit) f ≡ has_right_targets us cs c
 right-instruction us cs c f plain is = by_format (branches_right us cs c.unit) (opcode_of (low_byte (slice_index us c.unit))) f is ∙ sym (right-is us cs c false plain)

@@ -16,18 +16,22 @@ record Ends (at : ℕ) (us : List ℕ) (cs : List Cut) (rest : List ℕ) : Type 
   cut : AreCut at us cs rest
   none : piece_size (at + units_of_all cs) rest ≡ None
 
+-- where no piece begins there is no next piece
 nothing_more : (at : ℕ) (us rest : List ℕ) (n : ℕ) → us ≡ rest → piece_size (at + 0) rest ≡ None → piece_size at us ≡ Some n → ⊥
 nothing_more at us rest n same none some =
     let here : piece_size at us ≡ None = ap (piece_size at) same ∙ ap (λ (p : ℕ). piece_size p rest) (sym (add-zero at)) ∙ none in
     let both : None ≡ Some n = sym here ∙ some in
     cc
 
+-- two cuts at one unit with one number of units are the same
 same_cut : (c d : Cut) → c.unit ≡ d.unit → c.units ≡ d.units → c ≡ d
 same_cut c d unit units = ap (λ (n : ℕ). record { unit = n; units = c.units }) unit ∙ ap (λ (n : ℕ). record { unit = d.unit; units = n }) units
 
+-- lists with the same first cut and the same rest are the same
 same_cons : (c d : Cut) (cs ds : List Cut) → c ≡ d → cs ≡ ds → (c ∷ cs) ≡ (d ∷ ds)
 same_cons c d cs ds first rest = ap (λ (b : Cut). b ∷ cs) first ∙ ap (λ (bs : List Cut). d ∷ bs) rest
 
+-- the units are cut in one way up to where no piece begins
 cut_once : (at : ℕ) (us : List ℕ) (cs ds : List Cut) (rest left : List ℕ) → Ends at us cs rest → Ends at us ds left → cs ≡ ds
 cut_once at us [] [] rest left e f = refl
 cut_once at us [] (d ∷ ds) rest left e f = absurd (nothing_more at us rest d.units e.cut e.none f.cut.1)
@@ -40,10 +44,12 @@ cut_once at us (c ∷ cs) (d ∷ ds) rest left e f =
     same_cons c d cs ds (same_cut c d unit units)
     (cut_once (at + c.units) (drop c.units us) cs ds rest left on (subst (λ (n : ℕ). Ends (at + n) (drop n us) ds left) (sym units) also))
 
+-- the same pieces leave the same rest
 rest_once : (at : ℕ) (us : List ℕ) (cs : List Cut) (rest left : List ℕ) → AreCut at us cs rest → AreCut at us cs left → rest ≡ left
 rest_once at us [] rest left e f = sym e ∙ f
 rest_once at us (c ∷ cs) rest left e f = rest_once (at + c.units) (drop c.units us) cs rest left e.2 f.2
 
+-- the pieces and what they leave are all units
 reaches : (at : ℕ) (us : List ℕ) (cs : List Cut) (rest : List ℕ) → AreCut at us cs rest → length us ≡ units_of_all cs + length rest
 reaches at us [] rest e = ap length e ∙ sym (zero-add (length rest))
 reaches at us (c ∷ cs) rest e =
@@ -52,13 +58,16 @@ reaches at us (c ∷ cs) rest e =
     let l : length (drop c.units us) ≡ length us - c.units = length-drop c.units us in
     omega arith
 
+-- no piece begins where no units are left
 nothing : (at : ℕ) → piece_size at [] ≡ None
 unfolding piece_size
 nothing at = refl
 
+-- a cut to the end ends where no piece begins
 whole : (us : List ℕ) (cs : List Cut) → AreCut 0 us cs [] → Ends 0 us cs []
 whole us cs cut = record { cut = cut; none = nothing (0 + units_of_all cs) }
 
+-- so does a cut that breaks
 broken : (us : List ℕ) (n : ℕ) (b : BreaksAt us n) → Ends 0 us b.cuts (drop n us)
 broken us n b =
     let all : length us ≡ units_of_all b.cuts + length (drop n us) = reaches 0 us b.cuts (drop n us) b.cut in
@@ -77,9 +86,11 @@ not_both us cs n cut b =
     let none : 0 ≡ length (drop n us) = ap length left in
     omega arith
 
+-- there is one cut to the end
 whole_once : (us : List ℕ) (cs ds : List Cut) → AreCut 0 us cs [] → AreCut 0 us ds [] → cs ≡ ds
 whole_once us cs ds e f = cut_once 0 us cs ds [] [] (whole us cs e) (whole us ds f)
 
+-- a cut breaks at one unit
 breaks_once : (us : List ℕ) (n m : ℕ) → BreaksAt us n → BreaksAt us m → n ≡ m
 breaks_once us n m b d =
     let same : b.cuts ≡ d.cuts = cut_once 0 us b.cuts d.cuts (drop n us) (drop m us) (broken us n b) (broken us m d) in
@@ -91,41 +102,49 @@ breaks_once us n m b d =
     let long : length (drop n us) ≡ length (drop m us) = ap length left in
     omega arith
 
+-- where all targets are right no piece is found with a wrong one
 none_astray : (us : List ℕ) (cs some : List Cut) → All (λ c. IsTrue (has_right_targets us cs c)) some → first_astray_of us cs some ≡ None
 none_astray us cs [] right = refl
 none_astray us cs (c ∷ some) right =
     ap (λ (t : Bool). option_map (λ (d : Cut). d.unit) (cond (not t) (Some c) (find (λ (d : Cut). not (has_right_targets us cs d)) some))) (All-head (λ d. IsTrue (has_right_targets us cs d)) c some right)
     ∙ none_astray us cs some (All-tail (λ d. IsTrue (has_right_targets us cs d)) c some right)
 
+-- code has no instruction with a wrong target
 not_astray : (us : List ℕ) (cs : List Cut) (n : ℕ) → IsCode us cs → GoesAstrayAt us n → ⊥
 not_astray us cs n code a =
     let same : cs ≡ a.cuts = whole_once us cs a.cuts code.cut a.cut in
     let both : None ≡ Some n = sym (none_astray us cs cs code.targets) ∙ ap (first_astray us) same ∙ a.first in
     cc
 
+-- one instruction is the first with a wrong target
 astray_once : (us : List ℕ) (n m : ℕ) → GoesAstrayAt us n → GoesAstrayAt us m → n ≡ m
 astray_once us n m a b = same_Some n m (sym a.first ∙ ap (first_astray us) (whole_once us a.cuts b.cuts a.cut b.cut) ∙ b.first)
 
+-- where there are no units there are no pieces
 empty_cut : (us : List ℕ) (cs : List Cut) → us ≡ [] → AreCut 0 us cs [] → cs ≡ []
 empty_cut us cs empty cut = whole_once us cs [] cut empty
 
+-- where there are no units no target is wrong
 empty_astray : (us : List ℕ) (n : ℕ) → us ≡ [] → GoesAstrayAt us n → ⊥
 empty_astray us n empty a =
     let both : None ≡ Some n = sym (ap (first_astray us) (empty_cut us a.cuts empty a.cut)) ∙ a.first in
     cc
 
+-- where there are no units no cut breaks
 empty_breaks : (us : List ℕ) (n : ℕ) → us ≡ [] → BreaksAt us n → ⊥
 empty_breaks us n empty b =
     let within : n < length us = b.within in
     let none : length us ≡ 0 = ap length empty in
     omega arith
 
+-- no units are no code
 empty_code : (us : List ℕ) (cs : List Cut) → us ≡ [] → IsCode us cs → ⊥
 empty_code us cs empty code =
     let some : 0 < length us = code.some in
     let none : length us ≡ 0 = ap length empty in
     omega arith
 
+-- two answers that are true of the units are the same
 pub answer_once : (us : List ℕ) (a b : Result (List Cut) CodeFault) → IsAnswer us a → IsAnswer us b → a ≡ b
 answer_once us (Ok cs) (Ok ds) x y = ap Ok (whole_once us cs ds x.cut y.cut)
 answer_once us (Ok cs) (Err Empty) x y = absurd (empty_code us cs y x)
@@ -156,6 +175,7 @@ answered_fault us (Piece n) answer is a = answer_once us (Err (Piece n)) answer 
 answered_fault us (Target n) answer is a = answer_once us (Err (Target n)) answer is a
 answered_fault us Memory answer is a = tt
 
+-- why the units are not cut is why they are no code
 pub cut_fault : (us : List ℕ) (fault : CodeFault) → IsCutFault us fault → IsFault us fault
 cut_fault us Empty is = absurd is
 cut_fault us (Piece n) is = is

@@ -16,6 +16,7 @@ use Rattle.dexinsn.specs.declared.payload.PayloadKind.{PayloadKind}
 use Rattle.dexinsn.specs.Payload.{ident_of}
 use Rattle.dexinsn.specs.Split.{cut_of, cuts_of, AreMarked, IsPieceAt, starts_with}
 
+-- nothing begins at a negative number
 starts_with-negsuc : (test : ℕ → Bool) (us : List ℕ) (cs : List Cut) (n : ℕ) → starts_with test us cs (negsuc n) ≡ false
 starts_with-negsuc test us [] n = refl
 starts_with-negsuc test us (c ∷ cs) n = starts_with-negsuc test us cs n
@@ -25,17 +26,21 @@ pub starts_with-below : (test : ℕ → Bool) (us : List ℕ) (cs : List Cut) (z
 starts_with-below test us cs (pos n) below = absurd (omega (arith, ints))
 starts_with-below test us cs (negsuc n) below = starts_with-negsuc test us cs n
 
+-- equal numbers are equal as places
 int_eq-same : (a k : ℕ) → a ≡ k → int_eq (pos a) (pos k) ≡ true
 int_eq-same a k same = grind (arith, ints)
 
+-- other numbers are other places
 int_eq-other : (a k : ℕ) → (a ≡ k → ⊥) → int_eq (pos a) (pos k) ≡ false
 int_eq-other a k other = grind (arith, ints)
 
+-- a test that passes once passes, however often it is asked
 or_same : (t a : Bool) → (t || (a && t)) ≡ t
 or_same true a = refl
 or_same false true = refl
 or_same false false = refl
 
+-- at a number a piece begins with a unit that passes where one begins and the unit there passes
 starts_with-pos : (test : ℕ → Bool) (us : List ℕ) (cs : List Cut) (k : ℕ) → starts_with test us cs (pos k) ≡ (list_any (λ c. c.unit == k) cs && test (slice_index us k))
 starts_with-pos test us [] k = refl
 starts_with-pos test us (c ∷ cs) k =
@@ -71,6 +76,7 @@ piece_at us cs k pieces marked =
 pub marked_at : (us : List ℕ) (cuts : List CutOfCode) (marks : List Bool) (at k : ℕ) (mark : Bool) → AreMarked us cuts marks at → k < length marks → mark ≡ get_or marks k mark → list_any (λ c. c.unit == k) (cuts_of cuts) ≡ mark
 marked_at us cuts marks at k mark m within is = sym (m.starts k) ∙ sym (get_or_read marks k mark within is false)
 
+-- no piece begins past the marks
 pub marked_past : (us : List ℕ) (cuts : List CutOfCode) (marks : List Bool) (at k : ℕ) → AreMarked us cuts marks at → length marks ≤ k → list_any (λ c. c.unit == k) (cuts_of cuts) ≡ false
 marked_past us cuts marks at k m past = sym (m.starts k) ∙ get_or_past marks k false past
 
@@ -83,6 +89,7 @@ none_is (Some kind) u false none is some = cc
 none_is (Some kind) u true false is some = refl
 none_is (Some kind) u true true is some = cc
 
+-- a payload begins with the unit where the code finds a kind
 pub payload_is : (o : Option PayloadKind) (u : ℕ) (payload some : Bool) → option_map ident_of o ≡ cond payload (Some u) None → is_some o ≡ some → payload ≡ some
 payload_is None u true some is found = cc
 payload_is None u false some is found = found

@@ -35,6 +35,8 @@ pub enum Format {
 }
 
 /// The pool whose rows an instruction's index counts.
+///
+/// Source: the heading "Summary of bytecode set" of the Android page "Dalvik bytecode".
 #[derive(Clone, Copy, Debug, PartialEq, Eq)]
 pub enum IndexKind {
     Strings,
@@ -45,6 +47,8 @@ pub enum IndexKind {
 
 impl Format {
     /// The number of 16-bit units.
+    ///
+    /// Source: the heading "Format IDs" of the Android page "Dalvik executable instruction formats".
     pub fn units(self) -> usize
         ensures { result ≡ units_in (format_of self) }
     {

@@ -17,10 +17,7 @@ pub(crate) fn instruction_size(units: &[u16]) -> Option<usize>
     ensures { result ≡ instruction_size units.now }
 {
     let first = units[0];
-    let format = match Format::of(opcode_in(first)) {
-        Some(format) => format,
-        None => return None,
-    };
+    let format = Format::of(opcode_in(first))?;
     let needed = format.units();
     if needed <= units.len() && is_first_unit(format, first) {
         Some(needed)

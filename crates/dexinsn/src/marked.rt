@@ -77,8 +77,8 @@ impl<'a> Marked<'a> {
         None
     }
 
-    #[tactic(auto, using(crate::proofs::Sizes::piece_within))]
     /// Whether the targets of the piece, if it is an instruction that has some, are right.
+    #[tactic(auto, using(crate::proofs::Sizes::piece_within))]
     fn has_right_targets(&self, cut: Cut) -> bool
         requires { IsPieceAt self.now.units.now (cut_of cut) }
         ensures { result ≡ has_right_targets self.now.units.now (cuts_of self.now.cuts.items) (cut_of cut) }
@@ -114,7 +114,7 @@ impl<'a> Marked<'a> {
     }
 
     /// Whether an instruction begins at the place.
-    pub(crate) fn is_instruction_start(&self, place: i64) -> bool
+    fn is_instruction_start(&self, place: i64) -> bool
         ensures { result ≡ is_instruction_start self.now.units.now (cuts_of self.now.cuts.items) place }
     {
         match self.start_at(place) {
@@ -131,19 +131,15 @@ impl<'a> Marked<'a> {
     {
         match self.start_at(place) {
             Some(unit) => {
-                if self.units[unit] == kind.ident() {
-                    self.payload_leads_right(at, kind, unit)
-                } else {
-                    false
-                }
+                self.units[unit] == kind.ident() && self.payload_leads_right(at, kind, unit)
             }
             None => false,
         }
     }
 
-    #[tactic(auto, using(crate::proofs::Sizes::packed_fits, crate::proofs::Sizes::sparse_fits))]
     /// Whether the targets of the payload at a unit, counted from the instruction at unit `at`, are
     /// starts of instructions.
+    #[tactic(auto, using(crate::proofs::Sizes::packed_fits, crate::proofs::Sizes::sparse_fits))]
     fn payload_leads_right(&self, at: usize, kind: PayloadKind, unit: usize) -> bool
         requires from { at < length self.now.units.now }
         requires kind { slice_index self.now.units.now unit ≡ ident_of kind }

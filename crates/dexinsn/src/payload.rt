@@ -8,6 +8,9 @@ ghost use Rattle.dexinsn.specs.Payload.{ident_of};
 use crate::units::int_at;
 
 /// The three kinds of payload: the data of an instruction that stands apart from it.
+///
+/// Source: the headings "packed-switch-payload format", "sparse-switch-payload format" and
+/// "fill-array-data-payload format" of the Android page "Dalvik bytecode".
 #[derive(Clone, Copy, Debug, PartialEq, Eq)]
 pub enum PayloadKind {
     PackedSwitch,

@@ -17,7 +17,8 @@ pub returns-else-self-unit : goal.returns-else-self-unit
 returns-else-self-unit c =
     let m = c.args.self.now in
     let same : to_z w64 (of_z w64 c.args.place) ≡ c.args.place = to_z-of_z w64 c.args.place c.ranges.place in
-    leads-nowhere (ident_of c.args.kind) m.units.now (cuts_of m.cuts.items) c.args.at c.args.place
+    ne_eqb (slice_index m.units.now c.in-Some.unit) c.ident.result c.if-self-unit.false
+    ∙ leads-nowhere (ident_of c.args.kind) m.units.now (cuts_of m.cuts.items) c.args.at c.args.place
     (ap (starts_with (λ u. u == ident_of c.args.kind) m.units.now (cuts_of m.cuts.items)) (sym same) ∙ c.in-Some.ensures.start (λ u. u == ident_of c.args.kind)
     ∙ ne_eqb (slice_index m.units.now c.in-Some.unit) (ident_of c.args.kind) (λ e. c.if-self-unit.false (e ∙ sym c.ident.ensures)))
 

@@ -20,7 +20,7 @@ pub trait Source {
     // Whether it has failed.
     ghost has_failed: { Self → Bool };
 
-    /// Whether a read has failed: from the first fault on, and not before.
+    /// Whether the device has failed: from the first fault on, and not before.
     fn failed(&self) -> bool
         ensures { result ≡ has_failed self.now };
 
@@ -54,7 +54,7 @@ pub trait Sink {
     // Whether it has failed.
     ghost has_failed: { Self → Bool };
 
-    /// Whether a write has failed: from the first fault on, and not before.
+    /// Whether the device has failed: from the first fault on, and not before.
     fn failed(&self) -> bool
         ensures { result ≡ has_failed self.now };
 

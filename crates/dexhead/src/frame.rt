@@ -15,6 +15,8 @@ use std::marker::Model;
 
 /// A file that meets conditions 1 to 10: its header, the layout of its tables and its map are in order.
 /// It borrows the bytes and copies none. Contracts see it as the list of the file's bytes.
+///
+/// Source: "Dalvik Executable format", "File layout".
 #[derive(Drop)]
 pub struct Frame<'a> {
     bytes: &'a [u8],
@@ -29,7 +31,21 @@ impl<'a> Model for Frame<'a> {
 }
 
 impl<'a> Frame<'a> {
-    /// Judges conditions 1 to 10 in their order, and takes no memory.
+    /// Judges conditions 1 to 10 in their order, and takes no memory:
+    ///
+    /// 1. Size: the file has 112 bytes at least, and 2^30 at most.
+    /// 2. Magic: it begins with `dex`, a line feed, three digits and a zero byte.
+    /// 3. Version: the digits are 035.
+    /// 4. Lengths: `file_size` is the file's length, and `header_size` is 112.
+    /// 5. Byte order: `endian_tag` is 0x12345678.
+    /// 6. No link data: `link_size` and `link_off` are 0.
+    /// 7. Checksum: it is the Adler-32 of the bytes from 12 on.
+    /// 8. Signature: it is the SHA-1 of the bytes from 32 on.
+    /// 9. Layout: the tables stand in their order behind the header, none over another and none too long,
+    ///    and the data behind them ends with the file.
+    /// 10. Map: it stands in the data at a multiple of 4, and its entries are of known kinds, none twice,
+    ///     at rising offsets: the header first, each table that has rows and no other, the map itself, and
+    ///     sections of the data.
     ///
     /// Error: the first condition that fails, at place 0; for 3, the version, the place is the three
     /// digits as a number.
@@ -66,6 +82,9 @@ impl<'a> Frame<'a> {
     /// The bytes of row `i` of a table.
     ///
     /// Condition: `i` is below the number of its rows.
+    ///
+    /// Source: "Dalvik Executable format", "string_id_item", "type_id_item", "proto_id_item",
+    /// "field_id_item", "method_id_item" and "class_def_item".
     #[tactic(auto, using(crate::proofs::Frames::row_within))]
     pub fn row(&self, table: Table, i: u32) -> &'a [u8]
         requires { i < table_size self.now (meant table) }
@@ -93,6 +112,8 @@ impl<'a> Frame<'a> {
     /// The bytes from an offset on, to the end of the file.
     ///
     /// Condition: the offset is at most the file's length.
+    ///
+    /// Source: "Dalvik Executable format", where each offset is counted from the start of the file.
     pub fn rest(&self, off: u32) -> &'a [u8]
         requires { off ≤ length self.now }
         ensures { result.now ≡ drop off self.now }
@@ -102,6 +123,8 @@ impl<'a> Frame<'a> {
     }
 
     /// Whether so many bytes from an offset on are wholly in the data.
+    ///
+    /// Source: "Dalvik Executable format", "header_item", the fields `data_off` and `data_size`.
     pub fn is_in_data(&self, off: u32, len: u64) -> bool
         ensures { IsTrue result ↔ IsInData self.now off len }
     {

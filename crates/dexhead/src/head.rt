@@ -15,7 +15,9 @@ const MAGIC: [u8; 8] = [0x64, 0x65, 0x78, 0x0a, 0x30, 0x33, 0x35, 0x00];
 /// How many rows a table has, and the offset of the first; an empty table has offset 0.
 #[derive(Clone, Copy, Debug, PartialEq, Eq)]
 pub struct Rows {
+    /// The number of rows.
     pub size: u32,
+    /// The offset of the first row, in bytes from the start of the file.
     pub off: u32,
 }
 
@@ -27,12 +29,19 @@ pub struct Rows {
 /// Source: "Dalvik Executable format", "header_item".
 #[derive(Clone, Copy, Debug, PartialEq, Eq)]
 pub struct Head {
+    /// Adler-32 of the file's bytes from 12 on.
     pub checksum: u32,
+    /// SHA-1 of the file's bytes from 32 on.
     pub signature: [u8; 20],
+    /// The length of the file, in bytes.
     pub file_size: u32,
+    /// The offset of the map, in bytes from the start of the file.
     pub map_off: u32,
+    /// The rows of each table.
     pub tables: [Rows; 6],
+    /// The length of the data, in bytes.
     pub data_size: u32,
+    /// The offset of the data, in bytes from the start of the file.
     pub data_off: u32,
 }
 
@@ -58,6 +67,8 @@ impl Head {
     ///
     /// It fails only for want of memory, and not where the spare room is at least 112 bytes; the vector
     /// is then as it was.
+    ///
+    /// Source: "Dalvik Executable format", "header_item".
     pub fn put(&self, out: &mut Vec<u8>) -> Result<(), AllocError>
         ensures { Puts (head_bytes self.now) out.old out.new result }
     {

@@ -13,8 +13,11 @@ use std::alloc::AllocError;
 /// Source: "Dalvik Executable format", "map_item".
 #[derive(Clone, Copy, Debug, PartialEq, Eq)]
 pub struct MapEntry {
+    /// The kind of section.
     pub section: Section,
+    /// The number of items.
     pub size: u32,
+    /// The offset of the first item, in bytes from the start of the file.
     pub off: u32,
 }
 
@@ -23,6 +26,7 @@ pub struct MapEntry {
 /// Source: "Dalvik Executable format", "map_list".
 #[derive(Drop)]
 pub struct MapList<'a> {
+    /// The entries, in the order in which they are written.
     pub entries: &'a [MapEntry],
     ghost few: { length entries.now < 2 ^ 32 },
 }
@@ -51,6 +55,8 @@ impl MapList<'_> {
     ///
     /// It fails only for want of memory, and not where the spare room is as many bytes; the vector is
     /// then as it was.
+    ///
+    /// Source: "Dalvik Executable format", "map_list".
     #[tactic(auto, using(crate::proofs::Lengths::length_map))]
     pub fn put(&self, out: &mut Vec<u8>) -> Result<(), AllocError>
         ensures { Puts (map_bytes (map entry_meant self.now.entries.now)) out.old out.new result }

@@ -7,6 +7,8 @@
 /// row at which the condition fails.
 #[derive(Clone, Copy, Debug, PartialEq, Eq)]
 pub struct Refusal {
+    /// The number of the condition, from 1 on.
     pub number: u8,
+    /// 0, the version, or the row at which the condition fails, counted from 0.
     pub place: u32,
 }

@@ -1,6 +1,6 @@
 //! What no contract says: values from outside, each public call once, and devices that fail.
 
-ghost use Rattle.std.specs.Prelude.{◌≤◌};
+ghost use Rattle.std.specs.Prelude.{◌≤◌, IfOk};
 
 use crate::{
     Adler, Device, DeviceFault, Frame, Head, MapEntry, MapList, Refusal, Rows, Section, Sink,
@@ -23,6 +23,27 @@ const EMPTY: [u8; 140] = [
     0x00, 0x00, 0x00, 0x00, 0x00, 0x00, 0x00, 0x00, 0x1c, 0x00, 0x00, 0x00, 0x70, 0x00, 0x00, 0x00,
     0x02, 0x00, 0x00, 0x00, 0x00, 0x00, 0x00, 0x00, 0x01, 0x00, 0x00, 0x00, 0x00, 0x00, 0x00, 0x00,
     0x00, 0x10, 0x00, 0x00, 0x01, 0x00, 0x00, 0x00, 0x70, 0x00, 0x00, 0x00,
+];
+
+// The canonical file of the class `LA;` alone, made by another program.
+const ONE_CLASS: [u8; 264] = [
+    0x64, 0x65, 0x78, 0x0a, 0x30, 0x33, 0x35, 0x00, 0x71, 0x21, 0x24, 0x7d, 0x9c, 0x62, 0xf0, 0xa8,
+    0x40, 0xd5, 0xe9, 0xec, 0x28, 0xed, 0x4e, 0xe1, 0xde, 0xd1, 0x97, 0x75, 0x22, 0xfd, 0xa2, 0xc3,
+    0x08, 0x01, 0x00, 0x00, 0x70, 0x00, 0x00, 0x00, 0x78, 0x56, 0x34, 0x12, 0x00, 0x00, 0x00, 0x00,
+    0x00, 0x00, 0x00, 0x00, 0xbc, 0x00, 0x00, 0x00, 0x02, 0x00, 0x00, 0x00, 0x70, 0x00, 0x00, 0x00,
+    0x02, 0x00, 0x00, 0x00, 0x78, 0x00, 0x00, 0x00, 0x00, 0x00, 0x00, 0x00, 0x00, 0x00, 0x00, 0x00,
+    0x00, 0x00, 0x00, 0x00, 0x00, 0x00, 0x00, 0x00, 0x00, 0x00, 0x00, 0x00, 0x00, 0x00, 0x00, 0x00,
+    0x01, 0x00, 0x00, 0x00, 0x80, 0x00, 0x00, 0x00, 0x68, 0x00, 0x00, 0x00, 0xa0, 0x00, 0x00, 0x00,
+    0xa0, 0x00, 0x00, 0x00, 0xa5, 0x00, 0x00, 0x00, 0x00, 0x00, 0x00, 0x00, 0x01, 0x00, 0x00, 0x00,
+    0x00, 0x00, 0x00, 0x00, 0x01, 0x00, 0x00, 0x00, 0x01, 0x00, 0x00, 0x00, 0x00, 0x00, 0x00, 0x00,
+    0xff, 0xff, 0xff, 0xff, 0x00, 0x00, 0x00, 0x00, 0x00, 0x00, 0x00, 0x00, 0x00, 0x00, 0x00, 0x00,
+    0x03, 0x4c, 0x41, 0x3b, 0x00, 0x12, 0x4c, 0x6a, 0x61, 0x76, 0x61, 0x2f, 0x6c, 0x61, 0x6e, 0x67,
+    0x2f, 0x4f, 0x62, 0x6a, 0x65, 0x63, 0x74, 0x3b, 0x00, 0x00, 0x00, 0x00, 0x06, 0x00, 0x00, 0x00,
+    0x00, 0x00, 0x00, 0x00, 0x01, 0x00, 0x00, 0x00, 0x00, 0x00, 0x00, 0x00, 0x01, 0x00, 0x00, 0x00,
+    0x02, 0x00, 0x00, 0x00, 0x70, 0x00, 0x00, 0x00, 0x02, 0x00, 0x00, 0x00, 0x02, 0x00, 0x00, 0x00,
+    0x78, 0x00, 0x00, 0x00, 0x06, 0x00, 0x00, 0x00, 0x01, 0x00, 0x00, 0x00, 0x80, 0x00, 0x00, 0x00,
+    0x02, 0x20, 0x00, 0x00, 0x02, 0x00, 0x00, 0x00, 0xa0, 0x00, 0x00, 0x00, 0x00, 0x10, 0x00, 0x00,
+    0x01, 0x00, 0x00, 0x00, 0xbc, 0x00, 0x00, 0x00,
 ];
 
 const NO_ROWS: Rows = Rows { size: 0, off: 0 };
@@ -194,36 +215,118 @@ fn refuses_wrong_sums_and_lengths(rt: HostRuntime) {
     );
 }
 
+#[test]
+fn refuses_a_changed_class_file(rt: HostRuntime) -> Result<(), Fail> {
+    let frame = Frame::open(&ONE_CLASS).map_err(|_| "refused")?;
+    assert_eq!(rt; frame.size(Table::ClassDefs), 1);
+    let cases = [
+        (4, 0x0038_3330, 3, 38),
+        (36, 0xffff_ffff, 4, 0),
+        (40, 0, 5, 0),
+        (44, 1, 6, 0),
+        (52, 0, 10, 0),
+        (56, 0xffff_ffff, 9, 0),
+        (64, 0xffff_ffff, 9, 0),
+        (72, 0xffff_ffff, 9, 0),
+        (80, 0xffff_ffff, 9, 0),
+        (88, 0xffff_ffff, 9, 0),
+        (96, 0xffff_ffff, 9, 0),
+    ];
+    for (at, value, number, place) in cases {
+        assert!(rt; at <= 96usize);
+        let mut file = ONE_CLASS;
+        LittleEndian::write_u32(&mut file[at..], value);
+        set_sums(&mut file);
+        let refusal = Frame::open(&file).err();
+        assert_eq!(rt; refusal, Some(Refusal { number, place }), "{value} at {at}");
+    }
+    Ok(())
+}
+
+// The sums are those of the whole file, but for the checksum in the last case.
+#[test]
+fn refuses_a_class_file_of_wrong_sums(rt: HostRuntime) {
+    for (len, number) in [(0, 1), (111, 1), (263, 4)] {
+        assert!(rt; len <= 264usize);
+        let refusal = Frame::open(&ONE_CLASS[..len]).err();
+        assert_eq!(rt; refusal, Some(Refusal { number, place: 0 }), "{len}");
+    }
+    let mut file = ONE_CLASS;
+    LittleEndian::write_u32(&mut file[8..], 0);
+    let refusal = Frame::open(&file).err();
+    assert_eq!(rt;
+        refusal,
+        Some(Refusal {
+            number: 7,
+            place: 0
+        })
+    );
+    let mut file = ONE_CLASS;
+    file[164] = 1;
+    let refusal = Frame::open(&file).err();
+    assert_eq!(rt;
+        refusal,
+        Some(Refusal {
+            number: 7,
+            place: 0
+        })
+    );
+    let checksum = adler(&file[12..]);
+    LittleEndian::write_u32(&mut file[8..], checksum);
+    let refusal = Frame::open(&file).err();
+    assert_eq!(rt;
+        refusal,
+        Some(Refusal {
+            number: 8,
+            place: 0
+        })
+    );
+}
+
 fn entry(section: Section, size: u32, off: u32) -> MapEntry {
     MapEntry { section, size, off }
 }
 
-// Gives one byte at a time, and fails after so many calls.
-#[derive(Drop)]
-struct Slow<'a> {
-    bytes: &'a [u8],
-    calls: usize,
-    kind: ErrorKind,
+#[derive(Clone, Copy)]
+enum Answer {
+    Fails(ErrorKind),
+    Moves(usize),
 }
 
-impl<'a> Read for Slow<'a> {
-    fn read(&mut self, buf: &mut [u8]) -> io::Result<usize> {
-        if self.calls == 0 {
-            return Err(self.kind.into());
+// Answers each call as is said for it in turn, and counts the calls. The later ones move all.
+#[derive(Drop)]
+struct Scripted<'a, T> {
+    inner: T,
+    answers: &'a [Answer],
+    calls: usize,
+}
+
+impl<T> Scripted<'_, T> {
+    // How many of so many bytes this call moves.
+    fn answer(&mut self, len: usize) -> io::Result<usize>
+        ensures { IfOk result (λ n. n ≤ len) }
+    {
+        let answer = self.answers.get(self.calls).copied();
+        self.calls = self.calls.saturating_add(1);
+        match answer {
+            Some(Answer::Fails(kind)) => Err(kind.into()),
+            Some(Answer::Moves(n)) => Ok(n.min(len)),
+            None => Ok(len),
         }
-        self.calls -= 1;
-        let n = buf.len().min(1);
-        self.bytes.read(&mut buf[..n])
     }
 }
 
-// Takes no byte.
-#[derive(Drop)]
-struct Full;
+impl<T: Read> Read for Scripted<'_, T> {
+    fn read(&mut self, buf: &mut [u8]) -> io::Result<usize> {
+        let n = self.answer(buf.len())?;
+        self.inner.read(&mut buf[..n])
+    }
+}
 
-impl Write for Full {
-    fn write(&mut self, _buf: &[u8]) -> io::Result<usize> {
-        Ok(0)
+impl<T: Write> Write for Scripted<'_, T> {
+    fn write(&mut self, bytes: &[u8]) -> io::Result<usize> {
+        let n = self.answer(bytes.len())?;
+        self.inner.write(&bytes[..n])
     }
 
     fn flush(&mut self) -> io::Result<()> {
@@ -233,12 +336,17 @@ impl Write for Full {
 
 #[test]
 fn a_device_moves_its_bytes(rt: HostRuntime) -> Result<(), Fail> {
-    let mut input = Device::new(Slow {
-        bytes: b"ab",
-        calls: 9,
-        kind: ErrorKind::Interrupted,
+    let answers = [Answer::Moves(1); 3];
+    let mut input = Device::new(Scripted {
+        inner: b"ab".as_slice(),
+        answers: &answers,
+        calls: 0,
     });
-    let mut out = Device::new(Vec::new(rt.alloc()));
+    let mut out = Device::new(Scripted {
+        inner: Vec::new(rt.alloc()),
+        answers: &answers,
+        calls: 0,
+    });
     for want in [1, 1, 0] {
         assert!(rt; !Source::failed(&input));
         assert!(rt; !Sink::failed(&out));
@@ -246,25 +354,56 @@ fn a_device_moves_its_bytes(rt: HostRuntime) -> Result<(), Fail> {
         let read = Source::read(&mut input, &mut buf);
         assert_eq!(rt; read, Ok(want));
         if want > 0 {
-            assert_eq!(rt; Sink::write(&mut out, &buf[..1]), Ok(1));
+            assert_eq!(rt; Sink::write(&mut out, &buf), Ok(1));
         }
     }
-    assert_eq!(rt; out.into_inner().as_slice(), b"ab".as_slice());
+    assert!(rt; !Sink::failed(&out));
+    assert_eq!(rt; out.into_inner().inner.as_slice(), b"ab".as_slice());
     Ok(())
 }
 
 #[test]
-fn a_device_fails(rt: HostRuntime) {
+fn a_source_that_fails_is_not_called_again(rt: HostRuntime) {
     for kind in [ErrorKind::BrokenPipe, ErrorKind::Interrupted] {
-        let mut input = Device::new(Slow {
-            bytes: b"ab",
+        let answers = [Answer::Fails(kind)];
+        let mut input = Device::new(Scripted {
+            inner: b"ab".as_slice(),
+            answers: &answers,
             calls: 0,
-            kind,
         });
         assert_eq!(rt; Source::read(&mut input, &mut [0; 8]), Err(DeviceFault));
         assert!(rt; Source::failed(&input));
+        assert_eq!(rt; input.into_inner().calls, 1);
+        let answers = [Answer::Moves(1), Answer::Fails(kind)];
+        let mut input = Device::new(Scripted {
+            inner: b"ab".as_slice(),
+            answers: &answers,
+            calls: 0,
+        });
+        assert_eq!(rt; Source::read(&mut input, &mut [0; 8]), Ok(1));
+        assert!(rt; !Source::failed(&input));
+        assert_eq!(rt; Source::read(&mut input, &mut [0; 8]), Err(DeviceFault));
+        assert!(rt; Source::failed(&input));
+        assert_eq!(rt; input.into_inner().calls, 2);
     }
-    let mut out = Device::new(Full);
-    assert_eq!(rt; Sink::write(&mut out, b"a"), Err(DeviceFault));
-    assert!(rt; Sink::failed(&out));
+}
+
+#[test]
+fn a_sink_that_fails_is_not_called_again(rt: HostRuntime) {
+    let cases = [
+        Answer::Fails(ErrorKind::BrokenPipe),
+        Answer::Fails(ErrorKind::Interrupted),
+        Answer::Moves(0),
+    ];
+    for answer in cases {
+        let answers = [answer];
+        let mut out = Device::new(Scripted {
+            inner: Vec::new(rt.alloc()),
+            answers: &answers,
+            calls: 0,
+        });
+        assert_eq!(rt; Sink::write(&mut out, b"a"), Err(DeviceFault));
+        assert!(rt; Sink::failed(&out));
+        assert_eq!(rt; out.into_inner().calls, 1);
+    }
 }

@@ -1,5 +1,7 @@
 -- What is accepted: the conditions 16 to 23 at a class row, all 23 as one predicate on bytes and row, and
 -- what a refusal says.
+-- Source: the constraints that "Dalvik Executable format" states with each item; which refusal is told, and its place,
+-- is this project's rule.
 use Rattle.std.specs.Prelude.{◌≡◌, ◌≢◌, ◌⊎◌, ℕ, ◌+◌, ◌<◌, ◌≤◌, ◌==◌, if◌then◌else◌, List, [], ◌∷◌, ◌++◌, length, map, All, Option}
 use Rattle.std.specs.List.{Contains, AllZip, range_with_len}
 use Rattle.dexspec.specs.Lists.{OrNone}

@@ -71,13 +71,15 @@ pub record PairsAt {M X : Type 0} (Row : List ℕ → ℕ → M → Type 0) (At 
   pub pairs : AllZip (PairAt Row At b) (pairs_at b o n) entries
   pub rise : IsTrue (rises nat_cmp (map (λ pair. pair.0) (pairs_at b o n)))
 
--- how many fields, methods and methods' parameters a directory annotates
+-- how many fields a directory annotates
 abbrev pub fields_count : List ℕ → ℕ → ℕ
 fields_count b o = uint_at b (o + 4)
 
+-- how many methods it annotates
 abbrev pub methods_count : List ℕ → ℕ → ℕ
 methods_count b o = uint_at b (o + 8)
 
+-- how many methods' parameters it annotates
 abbrev pub parameters_count : List ℕ → ℕ → ℕ
 parameters_count b o = uint_at b (o + 12)
 

@@ -16,7 +16,7 @@ bytes_of (suc n) v = (v % 256) ∷ bytes_of n (v / 256)
 abbrev pub signed_in : ℕ → ℕ → ℤ
 signed_in n v = if nat_lt (2 * v) (2 ^ (8 * n)) then pos v else pos v -ℤ pos (2 ^ (8 * n))
 
--- two bytes, and four bytes
+-- a number as two bytes
 unfoldable pub ushort : ℕ → List ℕ
 ushort n = bytes_of 2 n
 

@@ -58,28 +58,35 @@ declared_methods c = c.direct_methods ++ c.virtual_methods
 
 -- ---- the fields of a class row
 
--- the eight fields of class row r, in their order: the type that it defines
+-- the type that class row r defines
 abbrev pub class_idx : List ℕ → ℕ → ℕ
 class_idx b r = uint_at b (row_at b ClassDefs r)
 
+-- its access flags
 abbrev pub access_flags : List ℕ → ℕ → ℕ
 access_flags b r = uint_at b (row_at b ClassDefs r + 4)
 
+-- its superclass, or none
 abbrev pub superclass_idx : List ℕ → ℕ → ℕ
 superclass_idx b r = uint_at b (row_at b ClassDefs r + 8)
 
+-- where the list of its interfaces stands, or 0
 abbrev pub interfaces_off : List ℕ → ℕ → ℕ
 interfaces_off b r = uint_at b (row_at b ClassDefs r + 12)
 
+-- its source text, or none
 abbrev pub source_file_idx : List ℕ → ℕ → ℕ
 source_file_idx b r = uint_at b (row_at b ClassDefs r + 16)
 
+-- where its annotations directory stands, or 0
 abbrev pub annotations_off : List ℕ → ℕ → ℕ
 annotations_off b r = uint_at b (row_at b ClassDefs r + 20)
 
+-- where its class data stands, or 0
 abbrev pub class_data_off : List ℕ → ℕ → ℕ
 class_data_off b r = uint_at b (row_at b ClassDefs r + 24)
 
+-- where its static values stand, or 0
 abbrev pub static_values_off : List ℕ → ℕ → ℕ
 static_values_off b r = uint_at b (row_at b ClassDefs r + 28)
 

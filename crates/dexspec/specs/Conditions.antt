@@ -1,4 +1,4 @@
--- The 23 conditions by name and number. `Accepted` says what each of them is.
+-- The 23 conditions by name and number. `Accepted` says what each of them is. This project's rule.
 use Rattle.std.specs.Prelude.{ℕ}
 
 -- the conditions, in the order in which they are judged

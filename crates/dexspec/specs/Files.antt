@@ -1,4 +1,5 @@
--- Collections of class definitions, and the one that a file denotes.
+-- Collections of class definitions, and the one that a file denotes. Words of this project, for what the items
+-- of "Dalvik Executable format" stand for together.
 use Rattle.std.specs.Prelude.{◌≡◌, ◌↔◌, ℕ, List, Some}
 use Rattle.std.specs.List.{Contains}
 use Rattle.std.specs.FinMap as map

@@ -54,6 +54,7 @@ endian_tag b = uint_at b 40
 abbrev pub link_size : List ℕ → ℕ
 link_size b = uint_at b 44
 
+-- where link data begins
 abbrev pub link_off : List ℕ → ℕ
 link_off b = uint_at b 48
 
@@ -95,6 +96,7 @@ table_off b t = uint_at b (size_place t + 4)
 abbrev pub data_size : List ℕ → ℕ
 data_size b = uint_at b 104
 
+-- where the data begins
 abbrev pub data_off : List ℕ → ℕ
 data_off b = uint_at b 108
 

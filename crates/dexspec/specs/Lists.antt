@@ -1,4 +1,4 @@
--- Lists in order, ranks, lists cut into parts, and items that stand one after the other.
+-- Lists in order, ranks, lists cut into parts, and items that stand one after the other. Words of this project.
 use Rattle.std.specs.Prelude.{◌≡◌, ◌≢◌, ◌⊎◌, ℕ, ◌+◌, Bool, true, ◌&&◌, not, List, [], ◌∷◌, take, drop, Option, Some, None, count_by}
 use Rattle.std.specs.List.{AllPairs, filter}
 use Rattle.std.specs.Ordering.{is_lt}

@@ -36,13 +36,15 @@ ints_in us i (suc n) = int_in us i ∷ ints_in us (i + 2) n
 
 -- ---- payloads
 
--- the first units of the three payloads
+-- the first unit of a packed-switch payload
 abbrev pub packed_switch_ident : ℕ
 packed_switch_ident = 0x0100
 
+-- the first unit of a sparse-switch payload
 abbrev pub sparse_switch_ident : ℕ
 sparse_switch_ident = 0x0200
 
+-- the first unit of array data
 abbrev pub array_data_ident : ℕ
 array_data_ident = 0x0300
 
@@ -50,10 +52,11 @@ array_data_ident = 0x0300
 abbrev pub is_payload_ident : ℕ → Bool
 is_payload_ident u = u == packed_switch_ident || (u == sparse_switch_ident || u == array_data_ident)
 
--- the units of an array's data: an element's width in bytes, and the number of elements
+-- the bytes of an element of array data
 abbrev pub element_width : List ℕ → ℕ
 element_width us = slice_index us 1
 
+-- the number of elements of array data
 abbrev pub element_count : List ℕ → ℕ
 element_count us = two_units us 2
 

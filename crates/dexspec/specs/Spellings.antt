@@ -19,19 +19,23 @@ use Rattle.dexspec.specs.Mentions.{Mentions, field_of, method_of}
 
 -- ---- indices: the number of lesser symbols of the pool
 
--- the index of a text, a type, a proto, a field, a method
+-- the index of a text
 abbrev pub text_index : Mentions → Text → ℕ
 text_index m s = rank text_cmp s m.texts
 
+-- the index of a type
 abbrev pub type_index : Mentions → Text → ℕ
 type_index m t = rank text_cmp t m.types
 
+-- the index of a proto
 abbrev pub proto_index : Mentions → Proto → ℕ
 proto_index m p = rank proto_cmp p m.protos
 
+-- the index of a field
 abbrev pub field_index : Mentions → Field → ℕ
 field_index m f = rank field_cmp f m.fields
 
+-- the index of a method
 abbrev pub method_index : Mentions → Method → ℕ
 method_index m x = rank method_cmp x m.methods
 

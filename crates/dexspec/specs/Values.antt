@@ -88,52 +88,67 @@ most_depth = 32
 
 -- ---- the type codes
 
--- the type codes of the kinds of value, in the order of the page
+-- the type code of a byte
 abbrev pub byte_value_type : ℕ
 byte_value_type = 0x00
 
+-- the type code of a short
 abbrev pub short_value_type : ℕ
 short_value_type = 0x02
 
+-- the type code of a char
 abbrev pub char_value_type : ℕ
 char_value_type = 0x03
 
+-- the type code of an int
 abbrev pub int_value_type : ℕ
 int_value_type = 0x04
 
+-- the type code of a long
 abbrev pub long_value_type : ℕ
 long_value_type = 0x06
 
+-- the type code of a float
 abbrev pub float_value_type : ℕ
 float_value_type = 0x10
 
+-- the type code of a double
 abbrev pub double_value_type : ℕ
 double_value_type = 0x11
 
+-- the type code of a string
 abbrev pub string_value_type : ℕ
 string_value_type = 0x17
 
+-- the type code of a type
 abbrev pub type_value_type : ℕ
 type_value_type = 0x18
 
+-- the type code of a field
 abbrev pub field_value_type : ℕ
 field_value_type = 0x19
 
+-- the type code of a method
 abbrev pub method_value_type : ℕ
 method_value_type = 0x1a
 
+-- the type code of an enum constant
 abbrev pub enum_value_type : ℕ
 enum_value_type = 0x1b
 
+-- the type code of an array
 abbrev pub array_value_type : ℕ
 array_value_type = 0x1c
 
+-- the type code of an annotation
 abbrev pub annotation_value_type : ℕ
 annotation_value_type = 0x1d
 
+-- the type code of null
 abbrev pub null_value_type : ℕ
 null_value_type = 0x1e
 
+-- the type code of a boolean
 abbrev pub boolean_value_type : ℕ
 boolean_value_type = 0x1f
 

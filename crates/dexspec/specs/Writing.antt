@@ -1,4 +1,4 @@
--- What a call that appends to a vector of bytes leaves.
+-- What a call that appends to a vector of bytes leaves. This project's rule.
 use Rattle.std.specs.Prelude.{◌≡◌, ℕ, ◌+◌, ◌≤◌, List, ◌++◌, length, Result, OnOk, OnErr, IsOk, vec_len, vec_capacity}
 use Rattle.std.specs.Global.{Vec}
 

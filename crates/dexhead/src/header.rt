@@ -16,6 +16,11 @@ pub(crate) const HEADER_SIZE: u32 = 112;
 
 pub(crate) const ENDIAN_CONSTANT: u32 = 0x1234_5678;
 
+// Where the header has its fields `file_size` and `map_off`.
+pub(crate) const FILE_SIZE: usize = 32;
+
+pub(crate) const MAP_OFF: usize = 52;
+
 const LEAST_SIZE: usize = 112;
 
 const MOST_SIZE: usize = 1 << 30;
@@ -62,7 +67,7 @@ pub(crate) fn has_lengths(bytes: &[u8]) -> bool
     requires { 112 ≤ length bytes.now }
     ensures { IsTrue result ↔ HasLengths bytes.now }
 {
-    u32_at(bytes, 32) as usize == bytes.len() && u32_at(bytes, 36) == HEADER_SIZE
+    u32_at(bytes, FILE_SIZE) as usize == bytes.len() && u32_at(bytes, 36) == HEADER_SIZE
 }
 
 pub(crate) fn has_endian(bytes: &[u8]) -> bool
@@ -126,7 +131,7 @@ pub(crate) fn has_layout(bytes: &[u8]) -> bool
     ensures { IsTrue result ↔ HasLayout bytes.now }
 {
     let data_end = u64::from(data_off(bytes)) + u64::from(u32_at(bytes, 104));
-    data_end == u64::from(u32_at(bytes, 32)) && are_few(bytes) && are_laid_out(bytes)
+    data_end == u64::from(u32_at(bytes, FILE_SIZE)) && are_few(bytes) && are_laid_out(bytes)
 }
 
 fn are_few(bytes: &[u8]) -> bool

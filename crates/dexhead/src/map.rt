@@ -69,7 +69,7 @@ impl<'a> Map<'a> {
         ensures bytes { IfSome result (λ m. m.bytes.now ≡ bytes.now) }
         ensures entries { IfSome result (λ m. entries m ≡ map_entries bytes.now) }
     {
-        let off = u32_at(bytes, 52);
+        let off = u32_at(bytes, header::MAP_OFF);
         let from = off as usize + 4;
         if off % 4 != 0 || off < header::data_off(bytes) || bytes.len() < from {
             return None;
@@ -149,7 +149,8 @@ impl<'a> Map<'a> {
         ensures { IsTrue result ↔ IsPlaced self.now.bytes.now (read entry) }
     {
         entry.kind < 7
-            || header::data_off(self.bytes) <= entry.off && entry.off < u32_at(self.bytes, 32)
+            || header::data_off(self.bytes) <= entry.off
+                && entry.off < u32_at(self.bytes, header::FILE_SIZE)
     }
 
     fn begins_with_header(&self) -> bool
@@ -196,7 +197,7 @@ impl<'a> Map<'a> {
         self.has(Entry {
             kind: MAP_LIST,
             size: 1,
-            off: u32_at(self.bytes, 52),
+            off: u32_at(self.bytes, header::MAP_OFF),
         })
     }
 }

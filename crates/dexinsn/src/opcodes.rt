@@ -300,10 +300,7 @@ pub fn mnemonic(op: u8) -> Option<&'static str>
 pub fn index_kind(op: u8) -> Option<IndexKind>
     ensures { option_map pool_of_kind result ≡ option_and_then (λ o. o.index) (opcode_of op) }
 {
-    match row(op) {
-        Some((_, index, _)) => index,
-        None => None,
-    }
+    row(op).and_then(|(_, index, _)| index)
 }
 
 /// What the table has for an opcode.

@@ -281,10 +281,7 @@ impl Format {
     pub fn of(op: u8) -> Option<Format>
         ensures { option_map format_of result ≡ option_map (λ o. o.format) (opcode_of op) }
     {
-        match row(op) {
-            Some((format, _, _)) => Some(format),
-            None => None,
-        }
+        row(op).map(|(format, _, _)| format)
     }
 }
 
@@ -294,10 +291,7 @@ impl Format {
 pub fn mnemonic(op: u8) -> Option<&'static str>
     ensures { option_map (λ text. text.now) result ≡ option_map (λ o. o.mnemonic) (opcode_of op) }
 {
-    match row(op) {
-        Some((_, _, mnemonic)) => Some(mnemonic),
-        None => None,
-    }
+    row(op).map(|(_, _, mnemonic)| mnemonic)
 }
 
 /// The pool whose rows an opcode's index counts; `None` where the opcode has no index, or is unused.
@@ -306,10 +300,7 @@ pub fn mnemonic(op: u8) -> Option<&'static str>
 pub fn index_kind(op: u8) -> Option<IndexKind>
     ensures { option_map pool_of_kind result ≡ option_and_then (λ o. o.index) (opcode_of op) }
 {
-    match row(op) {
-        Some((_, index, _)) => index,
-        None => None,
-    }
+    row(op).and_then(|(_, index, _)| index)
 }
 
 /// What the table has for an opcode.

@@ -4,173 +4,245 @@ use crate::{CodeFault, Format, IndexKind, PayloadKind, index_kind, mnemonic, spl
 use std::alloc::{AllocError, Global};
 use std::test::Fail;
 
-/// The first of opcodes that follow one another, their format, and their mnemonics.
-static OPCODES: [(u8, Format, &str); 63] = [
-    (0x00, Format::Format10x, "nop"),
-    (0x01, Format::Format12x, "move"),
-    (0x02, Format::Format22x, "move/from16"),
-    (0x03, Format::Format32x, "move/16"),
-    (0x04, Format::Format12x, "move-wide"),
-    (0x05, Format::Format22x, "move-wide/from16"),
-    (0x06, Format::Format32x, "move-wide/16"),
-    (0x07, Format::Format12x, "move-object"),
-    (0x08, Format::Format22x, "move-object/from16"),
-    (0x09, Format::Format32x, "move-object/16"),
+/// The first of opcodes that follow one another, their format, the pool of their index, if they have
+/// one, and their mnemonics.
+static OPCODES: [(u8, Format, Option<IndexKind>, &str); 63] = [
+    (0x00, Format::Format10x, None, "nop"),
+    (0x01, Format::Format12x, None, "move"),
+    (0x02, Format::Format22x, None, "move/from16"),
+    (0x03, Format::Format32x, None, "move/16"),
+    (0x04, Format::Format12x, None, "move-wide"),
+    (0x05, Format::Format22x, None, "move-wide/from16"),
+    (0x06, Format::Format32x, None, "move-wide/16"),
+    (0x07, Format::Format12x, None, "move-object"),
+    (0x08, Format::Format22x, None, "move-object/from16"),
+    (0x09, Format::Format32x, None, "move-object/16"),
     (
         0x0a,
         Format::Format11x,
+        None,
         "move-result move-result-wide move-result-object move-exception",
     ),
-    (0x0e, Format::Format10x, "return-void"),
-    (0x0f, Format::Format11x, "return return-wide return-object"),
-    (0x12, Format::Format11n, "const/4"),
-    (0x13, Format::Format21s, "const/16"),
-    (0x14, Format::Format31i, "const"),
-    (0x15, Format::Format21h, "const/high16"),
-    (0x16, Format::Format21s, "const-wide/16"),
-    (0x17, Format::Format31i, "const-wide/32"),
-    (0x18, Format::Format51l, "const-wide"),
-    (0x19, Format::Format21h, "const-wide/high16"),
-    (0x1a, Format::Format21c, "const-string"),
-    (0x1b, Format::Format31c, "const-string/jumbo"),
-    (0x1c, Format::Format21c, "const-class"),
-    (0x1d, Format::Format11x, "monitor-enter monitor-exit"),
-    (0x1f, Format::Format21c, "check-cast"),
-    (0x20, Format::Format22c, "instance-of"),
-    (0x21, Format::Format12x, "array-length"),
-    (0x22, Format::Format21c, "new-instance"),
-    (0x23, Format::Format22c, "new-array"),
-    (0x24, Format::Format35c, "filled-new-array"),
-    (0x25, Format::Format3rc, "filled-new-array/range"),
-    (0x26, Format::Format31t, "fill-array-data"),
-    (0x27, Format::Format11x, "throw"),
-    (0x28, Format::Format10t, "goto"),
-    (0x29, Format::Format20t, "goto/16"),
-    (0x2a, Format::Format30t, "goto/32"),
-    (0x2b, Format::Format31t, "packed-switch sparse-switch"),
+    (0x0e, Format::Format10x, None, "return-void"),
+    (
+        0x0f,
+        Format::Format11x,
+        None,
+        "return return-wide return-object",
+    ),
+    (0x12, Format::Format11n, None, "const/4"),
+    (0x13, Format::Format21s, None, "const/16"),
+    (0x14, Format::Format31i, None, "const"),
+    (0x15, Format::Format21h, None, "const/high16"),
+    (0x16, Format::Format21s, None, "const-wide/16"),
+    (0x17, Format::Format31i, None, "const-wide/32"),
+    (0x18, Format::Format51l, None, "const-wide"),
+    (0x19, Format::Format21h, None, "const-wide/high16"),
+    (
+        0x1a,
+        Format::Format21c,
+        Some(IndexKind::Strings),
+        "const-string",
+    ),
+    (
+        0x1b,
+        Format::Format31c,
+        Some(IndexKind::Strings),
+        "const-string/jumbo",
+    ),
+    (
+        0x1c,
+        Format::Format21c,
+        Some(IndexKind::Types),
+        "const-class",
+    ),
+    (0x1d, Format::Format11x, None, "monitor-enter monitor-exit"),
+    (
+        0x1f,
+        Format::Format21c,
+        Some(IndexKind::Types),
+        "check-cast",
+    ),
+    (
+        0x20,
+        Format::Format22c,
+        Some(IndexKind::Types),
+        "instance-of",
+    ),
+    (0x21, Format::Format12x, None, "array-length"),
+    (
+        0x22,
+        Format::Format21c,
+        Some(IndexKind::Types),
+        "new-instance",
+    ),
+    (0x23, Format::Format22c, Some(IndexKind::Types), "new-array"),
+    (
+        0x24,
+        Format::Format35c,
+        Some(IndexKind::Types),
+        "filled-new-array",
+    ),
+    (
+        0x25,
+        Format::Format3rc,
+        Some(IndexKind::Types),
+        "filled-new-array/range",
+    ),
+    (0x26, Format::Format31t, None, "fill-array-data"),
+    (0x27, Format::Format11x, None, "throw"),
+    (0x28, Format::Format10t, None, "goto"),
+    (0x29, Format::Format20t, None, "goto/16"),
+    (0x2a, Format::Format30t, None, "goto/32"),
+    (0x2b, Format::Format31t, None, "packed-switch sparse-switch"),
     (
         0x2d,
         Format::Format23x,
+        None,
         "cmpl-float cmpg-float cmpl-double cmpg-double cmp-long",
     ),
     (
         0x32,
         Format::Format22t,
+        None,
         "if-eq if-ne if-lt if-ge if-gt if-le",
     ),
     (
         0x38,
         Format::Format21t,
+        None,
         "if-eqz if-nez if-ltz if-gez if-gtz if-lez",
     ),
     (
         0x44,
         Format::Format23x,
+        None,
         "aget aget-wide aget-object aget-boolean aget-byte aget-char aget-short",
     ),
     (
         0x4b,
         Format::Format23x,
+        None,
         "aput aput-wide aput-object aput-boolean aput-byte aput-char aput-short",
     ),
     (
         0x52,
         Format::Format22c,
+        Some(IndexKind::Fields),
         "iget iget-wide iget-object iget-boolean iget-byte iget-char iget-short",
     ),
     (
         0x59,
         Format::Format22c,
+        Some(IndexKind::Fields),
         "iput iput-wide iput-object iput-boolean iput-byte iput-char iput-short",
     ),
     (
         0x60,
         Format::Format21c,
+        Some(IndexKind::Fields),
         "sget sget-wide sget-object sget-boolean sget-byte sget-char sget-short",
     ),
     (
         0x67,
         Format::Format21c,
+        Some(IndexKind::Fields),
         "sput sput-wide sput-object sput-boolean sput-byte sput-char sput-short",
     ),
     (
         0x6e,
         Format::Format35c,
+        Some(IndexKind::Methods),
         "invoke-virtual invoke-super invoke-direct invoke-static invoke-interface",
     ),
     (
         0x74,
         Format::Format3rc,
+        Some(IndexKind::Methods),
         "invoke-virtual/range invoke-super/range invoke-direct/range invoke-static/range invoke-interface/range",
     ),
     (
         0x7b,
         Format::Format12x,
+        None,
         "neg-int not-int neg-long not-long neg-float neg-double",
     ),
     (
         0x81,
         Format::Format12x,
+        None,
         "int-to-long int-to-float int-to-double long-to-int long-to-float long-to-double",
     ),
     (
         0x87,
         Format::Format12x,
+        None,
         "float-to-int float-to-long float-to-double double-to-int double-to-long double-to-float",
     ),
     (
         0x8d,
         Format::Format12x,
+        None,
         "int-to-byte int-to-char int-to-short",
     ),
     (
         0x90,
         Format::Format23x,
+        None,
         "add-int sub-int mul-int div-int rem-int and-int or-int xor-int shl-int shr-int ushr-int",
     ),
     (
         0x9b,
         Format::Format23x,
+        None,
         "add-long sub-long mul-long div-long rem-long and-long or-long xor-long shl-long shr-long ushr-long",
     ),
     (
         0xa6,
         Format::Format23x,
+        None,
         "add-float sub-float mul-float div-float rem-float",
     ),
     (
         0xab,
         Format::Format23x,
+        None,
         "add-double sub-double mul-double div-double rem-double",
     ),
     (
         0xb0,
         Format::Format12x,
+        None,
         "add-int/2addr sub-int/2addr mul-int/2addr div-int/2addr rem-int/2addr and-int/2addr or-int/2addr xor-int/2addr shl-int/2addr shr-int/2addr ushr-int/2addr",
     ),
     (
         0xbb,
         Format::Format12x,
+        None,
         "add-long/2addr sub-long/2addr mul-long/2addr div-long/2addr rem-long/2addr and-long/2addr or-long/2addr xor-long/2addr shl-long/2addr shr-long/2addr ushr-long/2addr",
     ),
     (
         0xc6,
         Format::Format12x,
+        None,
         "add-float/2addr sub-float/2addr mul-float/2addr div-float/2addr rem-float/2addr",
     ),
     (
         0xcb,
         Format::Format12x,
+        None,
         "add-double/2addr sub-double/2addr mul-double/2addr div-double/2addr rem-double/2addr",
     ),
     (
         0xd0,
         Format::Format22s,
+        None,
         "add-int/lit16 rsub-int mul-int/lit16 div-int/lit16 rem-int/lit16 and-int/lit16 or-int/lit16 xor-int/lit16",
     ),
     (
         0xd8,
         Format::Format22b,
+        None,
         "add-int/lit8 rsub-int/lit8 mul-int/lit8 div-int/lit8 rem-int/lit8 and-int/lit8 or-int/lit8 xor-int/lit8 shl-int/lit8 shr-int/lit8 ushr-int/lit8",
     ),
 ];
@@ -413,31 +485,29 @@ static ANSWERED: [(&str, &str); 60] = [
 #[test]
 fn tells_each_opcode(rt: HostRuntime) {
     let mut next: u8 = 0;
-    for &(first, format, mnemonics) in &OPCODES {
+    for &(first, format, index, mnemonics) in &OPCODES {
         for op in next..first {
             assert_eq!(rt; Format::of(op), None, "at {op}");
             assert_eq!(rt; mnemonic(op), None, "at {op}");
+            assert_eq!(rt; index_kind(op), None, "at {op}");
         }
         next = first;
         for name in mnemonics.split_whitespace() {
             assert_eq!(rt; Format::of(next), Some(format), "at {next}");
             assert_eq!(rt; mnemonic(next), Some(name), "at {next}");
+            assert_eq!(rt; index_kind(next), index, "at {next}");
             next = next.wrapping_add(1);
         }
     }
     for op in next..=0xff {
         assert_eq!(rt; Format::of(op), None, "at {op}");
         assert_eq!(rt; mnemonic(op), None, "at {op}");
+        assert_eq!(rt; index_kind(op), None, "at {op}");
     }
 }
 
 #[test]
-fn tells_index_kinds_and_payloads(rt: HostRuntime) {
-    assert_eq!(rt; index_kind(0x1b), Some(IndexKind::Strings));
-    assert_eq!(rt; index_kind(0x20), Some(IndexKind::Types));
-    assert_eq!(rt; index_kind(0x52), Some(IndexKind::Fields));
-    assert_eq!(rt; index_kind(0x74), Some(IndexKind::Methods));
-    assert_eq!(rt; index_kind(0x00), None);
+fn tells_payloads_and_units(rt: HostRuntime) {
     assert_eq!(rt; PayloadKind::of(0x0200), Some(PayloadKind::SparseSwitch));
     assert_eq!(rt; PayloadKind::ArrayData.ident(), 0x0300);
     assert_eq!(rt; Format::Format51l.units(), 5);
@@ -476,11 +546,14 @@ fn splits_as_another_reader(rt: HostRuntime) -> Result<(), Fail> {
     Ok(())
 }
 
-/// What is told of the units, which stand in base 16.
+/// What is told of the units, which stand in base 16, or of a word that is none.
 fn answer(alloc: Global, text: &str) -> Result<String, AllocError> {
     let mut units = Vec::new(alloc);
     for word in text.split_whitespace() {
-        units.push(u16::from_str_radix(word, 16).unwrap_or(0))?;
+        match u16::from_str_radix(word, 16) {
+            Ok(unit) => units.push(unit)?,
+            Err(_) => return format!(in alloc; "no unit: {word}"),
+        }
     }
     match split(alloc, &units) {
         Ok(cuts) => {

@@ -14,9 +14,6 @@ fn read_row<'a>(frame: &Frame<'a>, i: u32) -> Result<(Text<'a>, usize), TextFaul
     ensures { IfOk result (λ x. (at : ℕ) × StringDataAt frame.now at x.0 x.1) }
 {
     let row = frame.row(Table::StringIds, i);
-    if row.len() < 4 {
-        return Err(TextFault::Short);
-    }
     let off = u32_at(row, 0) as usize;
     let bytes = frame.bytes();
     if bytes.len() < off {

@@ -4,7 +4,7 @@ use Rattle.std.specs.Prelude.{map}
 use Rattle.std.proofs.lemmas.List.{length-map, get_or-map}
 use Rattle.dexspec.specs.Texts.{Text}
 use Rattle.dexspec.specs.Accepted.{HoldBelow, IsFrame}
-use Rattle.dexpool.specs.declared.rows.ProtoRow.{ProtoRow}
+use Rattle.dexpool.specs.declared.rows.ProtoEntry.{ProtoEntry}
 use Rattle.dexpool.specs.declared.rows.FieldRow.{FieldRow}
 use Rattle.dexpool.specs.declared.rows.MethodRow.{MethodRow}
 use Rattle.dexpool.specs.Tables.{text_of, proto_of, field_of, method_of}
@@ -20,7 +20,7 @@ mapped Row Symbol Holds f x b xs n is h = record {
   each = λ i d lt. subst (Symbol b i) (sym (get_or-map f xs i x d (omega (arith, lt, h.count)))) (is i (get_or xs i x) (h.each i x lt));
 }
 
-module _ (b : List ℕ) (texts : List Text) (types ps : List ℕ) (protos : List ProtoRow) (fields : List FieldRow) (methods : List MethodRow) (names : AreNames b texts types)
+module _ (b : List ℕ) (texts : List Text) (types ps : List ℕ) (protos : List ProtoEntry) (fields : List FieldRow) (methods : List MethodRow) (names : AreNames b texts types)
     (p : AreProtos b texts types ps protos) (f : AreFields b texts types fields) (m : AreMethods b texts types ps protos methods) where
   pub are_pools : ArePools b (symbols_of texts types ps protos fields methods)
   are_pools = record {
@@ -42,7 +42,7 @@ in_range b texts types names = record {
 }
 
 -- the same of what was read, by its parts
-pub read_pools : (b : List ℕ) (texts t1 t2 : List Text) (types y : List ℕ) (ps : List ℕ) (protos : List ProtoRow) (fields : List FieldRow) (methods : List MethodRow) → IsFrame b → AreTexts b texts → AreTypes b t1 types
+pub read_pools : (b : List ℕ) (texts t1 t2 : List Text) (types y : List ℕ) (ps : List ℕ) (protos : List ProtoEntry) (fields : List FieldRow) (methods : List MethodRow) → IsFrame b → AreTexts b texts → AreTypes b t1 types
     → AreProtos b t2 y ps protos → AreFields b t2 y fields → AreMethods b t2 y ps protos methods → t1 ≡ texts → t2 ≡ texts → y ≡ types → ArePools b (symbols_of texts types ps protos fields methods)
 read_pools b texts t1 t2 types y ps protos fields methods frame ts ys p f m e1 e2 e3 =
     are_pools b texts types ps protos fields methods

@@ -7,13 +7,13 @@ use Rattle.dexspec.specs.Header.{MethodIds, table_size}
 use Rattle.dexspec.specs.Rows as rows
 use Rattle.dexspec.specs.Rows.{StringRow, TypeRow, HasMethod, method_row_key}
 use Rattle.dexspec.proofs.OneRow.{one_string, one_type}
-use Rattle.dexpool.specs.declared.rows.ProtoRow.{ProtoRow}
+use Rattle.dexpool.specs.declared.rows.ProtoEntry.{ProtoEntry}
 use Rattle.dexpool.specs.declared.rows.MethodRow.{MethodRow}
 use Rattle.dexpool.specs.Tables.{method_of, method_key, method_cmp}
 use Rattle.dexpool.specs.Reading.{ReadTo, is_above_last, IsText, IsType, AreProtos, MethodStands, HasMethodNumbers, AreMethodNames}
 use Rattle.dexpool.proofs.Steps.{follows_if, follows_not}
 
-module _ (texts : List Text) (types ps : List ℕ) (protos : List ProtoRow) (b : List ℕ) where
+module _ (texts : List Text) (types ps : List ℕ) (protos : List ProtoEntry) (b : List ℕ) where
   method_key_is : (k : ℕ) (m : MethodRow) → MethodStands texts types ps protos b k m → method_row_key b k ≡ method_key m
   method_key_is k m s = λ i. s.numbers.class i ∷ s.numbers.name i ∷ s.numbers.proto i ∷ []
 
@@ -56,5 +56,5 @@ method_names b i m x class name n h c s = record {
 }
 
 -- and its proto is there
-pub no_proto_row : (b : List ℕ) (texts : List Text) (types ps : List ℕ) (protos : List ProtoRow) (i : ℕ) (m : MethodRow) (x : Method) → AreProtos b texts types ps protos → HasMethodNumbers b i m → length protos ≤ m.proto → rows.MethodRow b i x → ⊥
+pub no_proto_row : (b : List ℕ) (texts : List Text) (types ps : List ℕ) (protos : List ProtoEntry) (i : ℕ) (m : MethodRow) (x : Method) → AreProtos b texts types ps protos → HasMethodNumbers b i m → length protos ≤ m.proto → rows.MethodRow b i x → ⊥
 no_proto_row b texts types ps protos i m x are n le h = omega (arith, h.proto.row, n.proto, le, are.count)

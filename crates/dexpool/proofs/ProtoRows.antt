@@ -12,7 +12,7 @@ use Rattle.dexspec.specs.Rows as rows
 use Rattle.dexspec.specs.Rows.{row_at, StringRow, TypeRow, TypeListAt, type_indices, HasProto, proto_row_key}
 use Rattle.dexspec.proofs.OneRow.{one_string, one_type, one_type_list, one_or_none}
 use Rattle.dexpool.specs.declared.rows.Span.{Span}
-use Rattle.dexpool.specs.declared.rows.ProtoRow.{ProtoRow}
+use Rattle.dexpool.specs.declared.rows.ProtoEntry.{ProtoEntry}
 use Rattle.dexpool.specs.Tables.{type_of, span_of, proto_of, proto_key, proto_cmp}
 use Rattle.dexpool.specs.Reading.{ReadTo, is_above_last, IsText, IsType, HasSpan, HasIndices, HasParameters, ProtoStands, IsAdded, AllTypes, listed}
 use Rattle.dexpool.proofs.Steps.{follows_if, follows_not}
@@ -62,7 +62,7 @@ shorty_same b texts types i n m off p s t at h sr tr ps =
     text ∙ ap (λ (r : Text). shorty r p.parameters) return_type ∙ ap (λ (l : List Text). shorty t l) parameters
 
 -- a row that is read
-pub added : (b : List ℕ) (texts : List Text) (types old new : List ℕ) (i off : ℕ) (p : ProtoRow) (s t : Text) → i < table_size b ProtoIds → HasIndices b i p.shorty p.return_type off
+pub added : (b : List ℕ) (texts : List Text) (types old new : List ℕ) (i off : ℕ) (p : ProtoEntry) (s t : Text) → i < table_size b ProtoIds → HasIndices b i p.shorty p.return_type off
     → IsText b texts p.shorty s → IsType b texts types p.return_type t → HasParameters b texts types off → s ≡ shorty t (map (type_of texts types) (listed b off))
     → new ≡ old ++ listed b off → p.parameters.start ≡ length old → p.parameters.end ≡ length new → IsAdded texts types old new b i p
 added b texts types old new i off p s t lt at sr tr ps is grown start end =
@@ -90,7 +90,7 @@ added b texts types old new i off p s t lt at sr tr ps is grown start end =
 
 -- ---- the rows so far
 
-grown_row : (texts : List Text) (types old new more : List ℕ) (b : List ℕ) (k : ℕ) (p : ProtoRow) → new ≡ old ++ more → ProtoStands texts types old b k p → ProtoStands texts types new b k p
+grown_row : (texts : List Text) (types old new more : List ℕ) (b : List ℕ) (k : ℕ) (p : ProtoEntry) → new ≡ old ++ more → ProtoStands texts types old b k p → ProtoStands texts types new b k p
 grown_row texts types old new more b k p e h =
     let same : span_of old p.parameters ≡ span_of new p.parameters = sym (span_grown old more p.parameters h.numbers.span) ∙ ap (λ (l : List ℕ). span_of l p.parameters) (sym e) in
     record {
@@ -103,25 +103,25 @@ grown_row texts types old new more b k p e h =
       is = subst (λ (l : List ℕ). rows.ProtoRow b k (record { return_type = type_of texts types p.return_type; parameters = map (type_of texts types) l })) same h.is;
     }
 
-pub grown : (texts : List Text) (types old new more : List ℕ) (b : List ℕ) (xs : List ProtoRow) (i : ℕ) → new ≡ old ++ more → ReadTo (ProtoStands texts types old) HasProto b xs i → ReadTo (ProtoStands texts types new) HasProto b xs i
+pub grown : (texts : List Text) (types old new more : List ℕ) (b : List ℕ) (xs : List ProtoEntry) (i : ℕ) → new ≡ old ++ more → ReadTo (ProtoStands texts types old) HasProto b xs i → ReadTo (ProtoStands texts types new) HasProto b xs i
 grown texts types old new more b xs i e h = record {
   count = h.count;
   each = λ k d lt. grown_row texts types old new more b k _ e (h.each k d lt);
   held = h.held;
 }
 
-proto_key_is : (texts : List Text) (types ps : List ℕ) (b : List ℕ) (k : ℕ) (p : ProtoRow) → ProtoStands texts types ps b k p → proto_row_key b k ≡ proto_key ps p
+proto_key_is : (texts : List Text) (types ps : List ℕ) (b : List ℕ) (k : ℕ) (p : ProtoEntry) → ProtoStands texts types ps b k p → proto_row_key b k ≡ proto_key ps p
 proto_key_is texts types ps b k p s = λ i. s.numbers.return_type i ∷ s.numbers.parameters_are i
 
-pub has_proto : (texts : List Text) (types ps : List ℕ) (b : List ℕ) (xs : List ProtoRow) (i : ℕ) (p : ProtoRow) → ReadTo (ProtoStands texts types ps) HasProto b xs i → ProtoStands texts types ps b i p → is_above_last (proto_cmp ps) p xs ≡ true → HasProto b i
+pub has_proto : (texts : List Text) (types ps : List ℕ) (b : List ℕ) (xs : List ProtoEntry) (i : ℕ) (p : ProtoEntry) → ReadTo (ProtoStands texts types ps) HasProto b xs i → ProtoStands texts types ps b i p → is_above_last (proto_cmp ps) p xs ≡ true → HasProto b i
 has_proto texts types ps b xs i p h is above = record {
   proto = proto_of texts types ps p;
   is = is.is;
   follows = follows_if (ProtoStands texts types ps) HasProto b proto_row_key (proto_key ps) (proto_key_is texts types ps b) xs i p h is above;
 }
 
-pub no_proto : (texts : List Text) (types ps : List ℕ) (b : List ℕ) (xs : List ProtoRow) (i : ℕ) (p : ProtoRow) → ReadTo (ProtoStands texts types ps) HasProto b xs i → ProtoStands texts types ps b i p → is_above_last (proto_cmp ps) p xs ≡ false → HasProto b i → ⊥
+pub no_proto : (texts : List Text) (types ps : List ℕ) (b : List ℕ) (xs : List ProtoEntry) (i : ℕ) (p : ProtoEntry) → ReadTo (ProtoStands texts types ps) HasProto b xs i → ProtoStands texts types ps b i p → is_above_last (proto_cmp ps) p xs ≡ false → HasProto b i → ⊥
 no_proto texts types ps b xs i p h is above holds = follows_not (ProtoStands texts types ps) HasProto b proto_row_key (proto_key ps) (proto_key_is texts types ps b) xs i p h is above holds.follows
 
-pub told_proto : (ps qs : List ℕ) (xs ys : List ProtoRow) (p : ProtoRow) (r : Bool) → ps ≡ qs → ys ≡ xs → r ≡ is_above_last (proto_cmp ps) p ys → is_above_last (proto_cmp qs) p xs ≡ r
-told_proto ps qs xs ys p r e f is = ap (λ (zs : List ProtoRow). is_above_last (proto_cmp qs) p zs) (sym f) ∙ ap (λ (l : List ℕ). is_above_last (proto_cmp l) p ys) (sym e) ∙ sym is
+pub told_proto : (ps qs : List ℕ) (xs ys : List ProtoEntry) (p : ProtoEntry) (r : Bool) → ps ≡ qs → ys ≡ xs → r ≡ is_above_last (proto_cmp ps) p ys → is_above_last (proto_cmp qs) p xs ≡ r
+told_proto ps qs xs ys p r e f is = ap (λ (zs : List ProtoEntry). is_above_last (proto_cmp qs) p zs) (sym f) ∙ ap (λ (l : List ℕ). is_above_last (proto_cmp l) p ys) (sym e) ∙ sym is

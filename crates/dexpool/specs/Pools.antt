@@ -4,7 +4,7 @@ use Rattle.dexspec.specs.Texts.{Text}
 use Rattle.dexspec.specs.Mentions.{Mentions}
 use Rattle.dexspec.specs.Header.{StringIds, TypeIds, ProtoIds, FieldIds, MethodIds, table_size}
 use Rattle.dexspec.specs.Rows as rows
-use Rattle.dexpool.specs.declared.rows.ProtoRow.{ProtoRow}
+use Rattle.dexpool.specs.declared.rows.ProtoEntry.{ProtoEntry}
 use Rattle.dexpool.specs.declared.rows.FieldRow.{FieldRow}
 use Rattle.dexpool.specs.declared.rows.MethodRow.{MethodRow}
 use Rattle.dexpool.specs.declared.symbols.SymbolKind.{SymbolKind}
@@ -12,7 +12,7 @@ use Rattle.dexpool.specs.declared.symbols.SymbolKind.TheVariants as kinds
 use Rattle.dexpool.specs.Tables.{text_of, proto_of, field_of, method_of}
 
 -- what the rows of the tables stand for
-abbrev pub symbols_of : List Text → List ℕ → List ℕ → List ProtoRow → List FieldRow → List MethodRow → Mentions
+abbrev pub symbols_of : List Text → List ℕ → List ℕ → List ProtoEntry → List FieldRow → List MethodRow → Mentions
 symbols_of texts types parameters protos fields methods = record {
   texts = texts;
   types = map (text_of texts) types;

@@ -12,7 +12,7 @@ use Rattle.dexspec.specs.Names.{IsValueType, IsReferenceType, IsMemberName, shor
 use Rattle.dexspec.specs.Lists.{OrNone}
 use Rattle.dexspec.specs.Sections.{IsInData}
 use Rattle.dexpool.specs.declared.rows.Span.{Span}
-use Rattle.dexpool.specs.declared.rows.ProtoRow.{ProtoRow}
+use Rattle.dexpool.specs.declared.rows.ProtoEntry.{ProtoEntry}
 use Rattle.dexpool.specs.declared.rows.FieldRow.{FieldRow}
 use Rattle.dexpool.specs.declared.rows.MethodRow.{MethodRow}
 use Rattle.dexpool.specs.Tables.{text_of, type_of, span_of, proto_of, field_of, method_of}
@@ -119,19 +119,19 @@ pub record HasIndices (b : List ℕ) (i shorty return_type off : ℕ) : Type 0 w
   pub off_is : uint_at b (row_at b ProtoIds i + 8) ≡ off
 
 -- row i has these indices
-pub record HasProtoNumbers (b : List ℕ) (parameters : List ℕ) (i : ℕ) (p : ProtoRow) : Type 0 where
+pub record HasProtoNumbers (b : List ℕ) (parameters : List ℕ) (i : ℕ) (p : ProtoEntry) : Type 0 where
   pub shorty : uint_at b (row_at b ProtoIds i) ≡ p.shorty
   pub return_type : uint_at b (row_at b ProtoIds i + 4) ≡ p.return_type
   pub parameters_are : listed b (uint_at b (row_at b ProtoIds i + 8)) ≡ span_of parameters p.parameters
   pub span : HasSpan parameters p.parameters
 
 -- row i is the proto of these numbers
-pub record ProtoStands (texts : List Text) (types : List ℕ) (parameters : List ℕ) (b : List ℕ) (i : ℕ) (p : ProtoRow) : Type 0 where
+pub record ProtoStands (texts : List Text) (types : List ℕ) (parameters : List ℕ) (b : List ℕ) (i : ℕ) (p : ProtoEntry) : Type 0 where
   pub numbers : HasProtoNumbers b parameters i p
   pub is : rows.ProtoRow b i (proto_of texts types parameters p)
 
 -- row i is read, its parameters behind the others
-pub record IsAdded (texts : List Text) (types old new : List ℕ) (b : List ℕ) (i : ℕ) (p : ProtoRow) : Type 0 where
+pub record IsAdded (texts : List Text) (types old new : List ℕ) (b : List ℕ) (i : ℕ) (p : ProtoEntry) : Type 0 where
   pub grows : (more : List ℕ) × (new ≡ old ++ more)
   pub stands : ProtoStands texts types new b i p
 
@@ -144,7 +144,7 @@ abbrev pub letters_of : List Text → List ℕ → List ℕ → List ℕ
 letters_of texts types ns = map shorty_letter (map (type_of texts types) ns)
 
 -- the protos of all rows
-abbrev pub AreProtos : List ℕ → List Text → List ℕ → List ℕ → List ProtoRow → Type 0
+abbrev pub AreProtos : List ℕ → List Text → List ℕ → List ℕ → List ProtoEntry → Type 0
 AreProtos b texts types parameters protos = ReadTo (ProtoStands texts types parameters) HasProto b protos (table_size b ProtoIds)
 
 -- ---- methods
@@ -161,10 +161,10 @@ pub record HasMethodNumbers (b : List ℕ) (i : ℕ) (m : MethodRow) : Type 0 wh
   pub name : uint_at b (row_at b MethodIds i + 4) ≡ m.name
 
 -- row i is the method of these numbers
-pub record MethodStands (texts : List Text) (types : List ℕ) (parameters : List ℕ) (protos : List ProtoRow) (b : List ℕ) (i : ℕ) (m : MethodRow) : Type 0 where
+pub record MethodStands (texts : List Text) (types : List ℕ) (parameters : List ℕ) (protos : List ProtoEntry) (b : List ℕ) (i : ℕ) (m : MethodRow) : Type 0 where
   pub numbers : HasMethodNumbers b i m
   pub is : rows.MethodRow b i (method_of texts types parameters protos m)
 
 -- the methods of all rows
-abbrev pub AreMethods : List ℕ → List Text → List ℕ → List ℕ → List ProtoRow → List MethodRow → Type 0
+abbrev pub AreMethods : List ℕ → List Text → List ℕ → List ℕ → List ProtoEntry → List MethodRow → Type 0
 AreMethods b texts types parameters protos methods = ReadTo (MethodStands texts types parameters protos) HasMethod b methods (table_size b MethodIds)

@@ -5,7 +5,7 @@ use Rattle.dexspec.specs.Texts.{Text}
 use Rattle.dexspec.specs.Symbols.{Proto, Field, Method}
 use Rattle.dexspec.specs.Rows.{key_cmp}
 use Rattle.dexpool.specs.declared.rows.Span.{Span}
-use Rattle.dexpool.specs.declared.rows.ProtoRow.{ProtoRow}
+use Rattle.dexpool.specs.declared.rows.ProtoEntry.{ProtoEntry}
 use Rattle.dexpool.specs.declared.rows.FieldRow.{FieldRow}
 use Rattle.dexpool.specs.declared.rows.MethodRow.{MethodRow}
 
@@ -22,7 +22,7 @@ abbrev pub span_of : List ℕ → Span → List ℕ
 span_of parameters s = take (s.end - s.start) (drop s.start parameters)
 
 -- the proto of a row
-abbrev pub proto_of : List Text → List ℕ → List ℕ → ProtoRow → Proto
+abbrev pub proto_of : List Text → List ℕ → List ℕ → ProtoEntry → Proto
 proto_of texts types parameters p = record {
   return_type = type_of texts types p.return_type;
   parameters = map (type_of texts types) (span_of parameters p.parameters);
@@ -33,11 +33,11 @@ abbrev pub field_of : List Text → List ℕ → FieldRow → Field
 field_of texts types f = record { class = type_of texts types f.class; name = text_of texts f.name; type = type_of texts types f.typ }
 
 -- the proto at a place, or one of nothing
-abbrev pub proto_at : List ProtoRow → ℕ → ProtoRow
+abbrev pub proto_at : List ProtoEntry → ℕ → ProtoEntry
 proto_at protos n = slice_index_or protos n (record { shorty = 0; return_type = 0; parameters = record { start = 0; end = 0 } })
 
 -- the method of a row
-abbrev pub method_of : List Text → List ℕ → List ℕ → List ProtoRow → MethodRow → Method
+abbrev pub method_of : List Text → List ℕ → List ℕ → List ProtoEntry → MethodRow → Method
 method_of texts types parameters protos m = record {
   class = type_of texts types m.class;
   name = text_of texts m.name;
@@ -59,7 +59,7 @@ abbrev pub method_key : MethodRow → List ℕ
 method_key m = m.class ∷ m.name ∷ m.proto ∷ []
 
 -- a proto's: its return type and then its parameters
-abbrev pub proto_key : List ℕ → ProtoRow → List ℕ
+abbrev pub proto_key : List ℕ → ProtoEntry → List ℕ
 proto_key parameters p = p.return_type ∷ span_of parameters p.parameters
 
 abbrev pub field_cmp : FieldRow → FieldRow → Ordering
@@ -68,5 +68,5 @@ field_cmp f g = key_cmp (field_key f) (field_key g)
 abbrev pub method_cmp : MethodRow → MethodRow → Ordering
 method_cmp m n = key_cmp (method_key m) (method_key n)
 
-abbrev pub proto_cmp : List ℕ → ProtoRow → ProtoRow → Ordering
+abbrev pub proto_cmp : List ℕ → ProtoEntry → ProtoEntry → Ordering
 proto_cmp parameters p q = key_cmp (proto_key parameters p) (proto_key parameters q)

@@ -28,9 +28,9 @@ fn field_numbers(frame: &Frame<'_>, i: u32) -> FieldRow
 {
     let row = frame.row(Table::FieldIds, i);
     FieldRow {
-        class: u32::from(u16_at(row, 0)),
-        name: u32_at(row, 4),
-        typ: u32::from(u16_at(row, 2)),
+        class: usize::from(u16_at(row, 0)),
+        name: u32_at(row, 4) as usize,
+        typ: usize::from(u16_at(row, 2)),
     }
 }
 

@@ -27,9 +27,9 @@ fn method_numbers(frame: &Frame<'_>, i: u32) -> MethodRow
 {
     let row = frame.row(Table::MethodIds, i);
     MethodRow {
-        class: u32::from(u16_at(row, 0)),
-        name: u32_at(row, 4),
-        proto: u32::from(u16_at(row, 2)),
+        class: usize::from(u16_at(row, 0)),
+        name: u32_at(row, 4) as usize,
+        proto: usize::from(u16_at(row, 2)),
     }
 }
 
@@ -57,7 +57,7 @@ fn method_at(names: &Names<'_, '_>, protos: &Protos, i: u32) -> Option<MethodRow
         Some(name) => name,
         None => return None,
     };
-    if protos.rows.len() <= method.proto as usize {
+    if protos.rows.len() <= method.proto {
         return None;
     }
     if !is_method(class, name) {

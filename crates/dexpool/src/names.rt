@@ -12,29 +12,29 @@ use dexstr::Text;
 pub(crate) struct Names<'p, 'a> {
     pub(crate) frame: &'p Frame<'a>,
     pub(crate) strings: &'p [Text<'a>],
-    pub(crate) types: &'p [u32],
+    pub(crate) types: &'p [usize],
 }
 
 impl<'p, 'a> Names<'p, 'a> {
     /// The text of a row, if there is the row.
-    pub(crate) fn text(&self, index: u32) -> Option<&'p Text<'a>>
+    pub(crate) fn text(&self, index: usize) -> Option<&'p Text<'a>>
         requires { AreNames self.now.frame.now self.now.strings.now self.now.types.now }
         ensures { MatchOption result ((s : List ℕ) → StringRow self.now.frame.now index s → ⊥) (λ t. IsText self.now.frame.now self.now.strings.now index t.now) }
     {
-        if self.strings.len() <= index as usize {
+        if self.strings.len() <= index {
             return None;
         }
-        Some(&self.strings[index as usize])
+        Some(&self.strings[index])
     }
 
     /// The type of a row, if there is the row.
-    pub(crate) fn typ(&self, index: u32) -> Option<&'p Text<'a>>
+    pub(crate) fn typ(&self, index: usize) -> Option<&'p Text<'a>>
         requires { AreNames self.now.frame.now self.now.strings.now self.now.types.now }
         ensures { MatchOption result ((t : List ℕ) → TypeRow self.now.frame.now index t → ⊥) (λ t. IsType self.now.frame.now self.now.strings.now self.now.types.now index t.now) }
     {
-        if self.types.len() <= index as usize {
+        if self.types.len() <= index {
             return None;
         }
-        Some(&self.strings[self.types[index as usize] as usize])
+        Some(&self.strings[self.types[index]])
     }
 }

@@ -28,7 +28,7 @@ fn push_list(
     names: &Names<'_, '_>,
     off: u32,
     count: u32,
-    parameters: &mut Vec<u32>,
+    parameters: &mut Vec<usize>,
 ) -> Result<bool, AllocError>
     requires names { AreNames names.now.frame.now names.now.strings.now names.now.types.now }
     requires some { off ≢ 0 }
@@ -39,7 +39,7 @@ fn push_list(
 {
     let list = names.frame.rest(off);
     for k in 0..count {
-        let index = u32::from(u16_at(list, 4 + 2 * k as usize));
+        let index = usize::from(u16_at(list, 4 + 2 * k as usize));
         let typ = match names.typ(index) {
             Some(typ) => typ,
             None => return Ok(false),
@@ -59,7 +59,7 @@ fn push_list(
 pub(crate) fn push_parameters(
     names: &Names<'_, '_>,
     off: u32,
-    parameters: &mut Vec<u32>,
+    parameters: &mut Vec<usize>,
 ) -> Result<bool, AllocError>
     requires names { AreNames names.now.frame.now names.now.strings.now names.now.types.now }
     ensures appended { IfOk result (λ good. good ≡ true → parameters.new.items ≡ parameters.old.items ++ listed names.now.frame.now off) }

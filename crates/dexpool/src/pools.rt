@@ -25,7 +25,7 @@ use std::marker::Model;
 #[derive(Drop)]
 pub struct Pools<'a> {
     strings: Vec<Text<'a>>,
-    types: Vec<u32>,
+    types: Vec<usize>,
     protos: Protos,
     fields: Vec<FieldRow>,
     methods: Vec<MethodRow>,
@@ -105,7 +105,7 @@ impl<'a> Pools<'a> {
         requires { i < length self.now.types }
         ensures { (d : List ℕ) → result.now ≡ slice_index_or self.now.types i d }
     {
-        &self.strings[self.types[i as usize] as usize]
+        &self.strings[self.types[i as usize]]
     }
 }
 

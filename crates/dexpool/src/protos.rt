@@ -11,7 +11,7 @@ ghost use Rattle.dexpool.specs.Faults.{IsFault};
 use crate::faults::{ReadFault, refused};
 use crate::names::Names;
 use crate::parameters::push_parameters;
-use crate::rows::{ProtoRow, Span};
+use crate::rows::{ProtoEntry, Span};
 use crate::shorties::is_shorty;
 use dexhead::{Frame, Table, u32_at};
 use std::alloc::{AllocError, Global};
@@ -20,15 +20,15 @@ use std::cmp::Ordering;
 /// The protos by row, and the types of their parameters, each as its number.
 #[derive(Drop)]
 pub(crate) struct Protos {
-    pub(crate) rows: Vec<ProtoRow>,
-    pub(crate) parameters: Vec<u32>,
+    pub(crate) rows: Vec<ProtoEntry>,
+    pub(crate) parameters: Vec<usize>,
 }
 
 // What stands in a row.
 #[derive(Clone, Copy)]
 struct Indices {
-    shorty: u32,
-    return_type: u32,
+    shorty: usize,
+    return_type: usize,
     off: u32,
 }
 
@@ -38,8 +38,8 @@ fn indices_at(frame: &Frame<'_>, i: u32) -> Indices
 {
     let row = frame.row(Table::ProtoIds, i);
     Indices {
-        shorty: u32_at(row, 0),
-        return_type: u32_at(row, 4),
+        shorty: u32_at(row, 0) as usize,
+        return_type: u32_at(row, 4) as usize,
         off: u32_at(row, 8),
     }
 }
@@ -48,8 +48,8 @@ fn indices_at(frame: &Frame<'_>, i: u32) -> Indices
 fn proto_at(
     names: &Names<'_, '_>,
     i: u32,
-    parameters: &mut Vec<u32>,
-) -> Result<Option<ProtoRow>, AllocError>
+    parameters: &mut Vec<usize>,
+) -> Result<Option<ProtoEntry>, AllocError>
     requires names { AreNames names.now.frame.now names.now.strings.now names.now.types.now }
     requires row { i < table_size names.now.frame.now ProtoIds }
     ensures { IfOk result (λ found. MatchOption found ((p : Proto) → rows.ProtoRow names.now.frame.now i p → ⊥) (IsAdded names.now.strings.now names.now.types.now parameters.old.items parameters.new.items names.now.frame.now i)) }
@@ -72,7 +72,7 @@ fn proto_at(
     if !is_shorty(names, shorty, return_type, listed) {
         return Ok(None);
     }
-    Ok(Some(ProtoRow {
+    Ok(Some(ProtoEntry {
         shorty: indices.shorty,
         return_type: indices.return_type,
         parameters: Span {
@@ -83,7 +83,7 @@ fn proto_at(
 }
 
 // The parameters of a row.
-fn part(parameters: &[u32], span: Span) -> &[u32]
+fn part(parameters: &[usize], span: Span) -> &[usize]
     requires { HasSpan parameters.now span }
     ensures { result.now ≡ span_of parameters.now span }
 {
@@ -93,7 +93,7 @@ fn part(parameters: &[u32], span: Span) -> &[u32]
 }
 
 // How two rows compare: by the return type, and then by the parameters.
-fn compare(parameters: &[u32], left: &ProtoRow, right: &ProtoRow) -> Ordering
+fn compare(parameters: &[usize], left: &ProtoEntry, right: &ProtoEntry) -> Ordering
     requires left { HasSpan parameters.now left.now.parameters }
     requires right { HasSpan parameters.now right.now.parameters }
     ensures { result ≡ proto_cmp parameters.now left.now right.now }
@@ -108,8 +108,8 @@ fn compare(parameters: &[u32], left: &ProtoRow, right: &ProtoRow) -> Ordering
 }
 
 // Whether the proto comes behind the last one, if there is one.
-fn is_above(parameters: &[u32], protos: &[ProtoRow], proto: &ProtoRow) -> bool
-    requires protos { (k : ℕ) (d : ProtoRow) → k < length protos.now → HasSpan parameters.now (slice_index_or protos.now k d).parameters }
+fn is_above(parameters: &[usize], protos: &[ProtoEntry], proto: &ProtoEntry) -> bool
+    requires protos { (k : ℕ) (d : ProtoEntry) → k < length protos.now → HasSpan parameters.now (slice_index_or protos.now k d).parameters }
     requires proto { HasSpan parameters.now proto.now.parameters }
     ensures { result ≡ is_above_last (proto_cmp parameters.now) proto.now protos.now }
 {

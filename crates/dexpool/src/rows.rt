@@ -7,11 +7,11 @@ ghost use Rattle.std.specs.Prelude.{◌≡◌};
 ///
 /// Source: "proto_id_item".
 #[derive(Clone, Copy, Debug, PartialEq, Eq)]
-pub struct ProtoRow {
+pub struct ProtoEntry {
     /// The text of the shorty.
-    pub shorty: u32,
+    pub shorty: usize,
     /// The type that is returned.
-    pub return_type: u32,
+    pub return_type: usize,
     /// Where the types of the parameters stand.
     pub parameters: Span,
 }
@@ -29,11 +29,11 @@ pub struct Span {
 #[derive(Clone, Copy, Debug, PartialEq, Eq)]
 pub struct FieldRow {
     /// The type that the field belongs to.
-    pub class: u32,
+    pub class: usize,
     /// The text of its name.
-    pub name: u32,
+    pub name: usize,
     /// Its own type.
-    pub typ: u32,
+    pub typ: usize,
 }
 
 /// A row of methods.
@@ -42,18 +42,18 @@ pub struct FieldRow {
 #[derive(Clone, Copy, Debug, PartialEq, Eq)]
 pub struct MethodRow {
     /// The type that the method belongs to.
-    pub class: u32,
+    pub class: usize,
     /// The text of its name.
-    pub name: u32,
+    pub name: usize,
     /// Its proto.
-    pub proto: u32,
+    pub proto: usize,
 }
 
 impl FieldRow {
     ghost use Rattle.dexpool.specs.Tables.{field_key};
 
     // What the rows are ordered by.
-    pub(crate) fn key(&self) -> [u32; 3]
+    pub(crate) fn key(&self) -> [usize; 3]
         ensures { result ≡ field_key self.now }
     {
         [self.class, self.name, self.typ]
@@ -64,7 +64,7 @@ impl MethodRow {
     ghost use Rattle.dexpool.specs.Tables.{method_key};
 
     // What the rows are ordered by.
-    pub(crate) fn key(&self) -> [u32; 3]
+    pub(crate) fn key(&self) -> [usize; 3]
         ensures { result ≡ method_key self.now }
     {
         [self.class, self.name, self.proto]

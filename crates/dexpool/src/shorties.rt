@@ -37,7 +37,7 @@ pub(crate) fn is_shorty(
     names: &Names<'_, '_>,
     text: &Text<'_>,
     return_type: &Text<'_>,
-    parameters: &[u32],
+    parameters: &[usize],
 ) -> bool
     requires names { AreNames names.now.frame.now names.now.strings.now names.now.types.now }
     requires parameters { AllTypes names.now.frame.now names.now.strings.now names.now.types.now parameters.now }

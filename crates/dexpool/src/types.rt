@@ -23,7 +23,7 @@ pub(crate) fn read_types(
     alloc: Global,
     frame: &Frame<'_>,
     strings: &[Text<'_>],
-) -> Result<Vec<u32>, ReadFault>
+) -> Result<Vec<usize>, ReadFault>
     requires frame { IsFrame frame.now }
     requires strings { AreTexts frame.now strings.now }
     ensures ok { IfOk result (λ types. AreTypes frame.now strings.now types.items) }
@@ -45,16 +45,16 @@ pub(crate) fn read_types(
 }
 
 // The index of the text of a row, if it is a type.
-fn type_at(frame: &Frame<'_>, strings: &[Text<'_>], i: u32) -> Option<u32>
+fn type_at(frame: &Frame<'_>, strings: &[Text<'_>], i: u32) -> Option<usize>
     requires strings { AreTexts frame.now strings.now }
     requires row { i < table_size frame.now TypeIds }
     ensures { MatchOption result ((t : List ℕ) → TypeRow frame.now i t → ⊥) (TypeStands strings.now frame.now i) }
 {
     let index = type_index(frame, i);
-    if strings.len() <= index as usize {
+    if strings.len() <= index {
         return None;
     }
-    match descriptor_kind(&strings[index as usize]) {
+    match descriptor_kind(&strings[index]) {
         Some(_) => Some(index),
         None => None,
     }
@@ -62,15 +62,15 @@ fn type_at(frame: &Frame<'_>, strings: &[Text<'_>], i: u32) -> Option<u32>
 
 // The index in a row.
 #[tactic(auto, using(crate::proofs::Bytes::uint_at_row))]
-fn type_index(frame: &Frame<'_>, i: u32) -> u32
+fn type_index(frame: &Frame<'_>, i: u32) -> usize
     requires { i < table_size frame.now TypeIds }
     ensures { result ≡ uint_at frame.now (row_at frame.now TypeIds i) }
 {
-    u32_at(frame.row(Table::TypeIds, i), 0)
+    u32_at(frame.row(Table::TypeIds, i), 0) as usize
 }
 
 // Whether the index is above the last one, if there is one.
-fn is_above(types: &[u32], index: u32) -> bool
+fn is_above(types: &[usize], index: usize) -> bool
     ensures { result ≡ is_above_last type_cmp index types.now }
 {
     if types.is_empty() {

@@ -5,8 +5,8 @@ use Rattle.std.proofs.lemmas.List.{length-map, get_or-map}
 use Rattle.dexspec.specs.Texts.{Text}
 use Rattle.dexspec.specs.Accepted.{HoldBelow, IsFrame}
 use Rattle.dexpool.specs.declared.rows.ProtoEntry.{ProtoEntry}
-use Rattle.dexpool.specs.declared.rows.FieldRow.{FieldRow}
-use Rattle.dexpool.specs.declared.rows.MethodRow.{MethodRow}
+use Rattle.dexrows.specs.declared.fields.FieldRow.{FieldRow}
+use Rattle.dexrows.specs.declared.methods.MethodRow.{MethodRow}
 use Rattle.dexpool.specs.Tables.{text_of, proto_of, field_of, method_of}
 use Rattle.dexpool.specs.Reading.{ReadTo, AreTexts, AreTypes, AreNames, AreProtos, AreFields, AreMethods}
 use Rattle.dexpool.specs.Pools.{symbols_of, AreAll, ArePools, AreInRange}

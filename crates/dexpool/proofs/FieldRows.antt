@@ -6,7 +6,7 @@ use Rattle.dexspec.specs.Symbols.{Field, IsField}
 use Rattle.dexspec.specs.Rows as rows
 use Rattle.dexspec.specs.Rows.{row_at, StringRow, TypeRow, HasField, field_row_key}
 use Rattle.dexspec.proofs.OneRow.{one_string, one_type}
-use Rattle.dexpool.specs.declared.rows.FieldRow.{FieldRow}
+use Rattle.dexrows.specs.declared.fields.FieldRow.{FieldRow}
 use Rattle.dexpool.specs.Tables.{field_of, field_key, field_cmp}
 use Rattle.dexpool.specs.Reading.{ReadTo, is_above_last, FieldStands, HasFieldNumbers}
 use Rattle.dexpool.proofs.Steps.{follows_if, follows_not}

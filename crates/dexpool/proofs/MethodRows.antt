@@ -8,7 +8,7 @@ use Rattle.dexspec.specs.Rows as rows
 use Rattle.dexspec.specs.Rows.{StringRow, TypeRow, HasMethod, method_row_key}
 use Rattle.dexspec.proofs.OneRow.{one_string, one_type}
 use Rattle.dexpool.specs.declared.rows.ProtoEntry.{ProtoEntry}
-use Rattle.dexpool.specs.declared.rows.MethodRow.{MethodRow}
+use Rattle.dexrows.specs.declared.methods.MethodRow.{MethodRow}
 use Rattle.dexpool.specs.Tables.{method_of, method_key, method_cmp}
 use Rattle.dexpool.specs.Reading.{ReadTo, is_above_last, IsText, IsType, AreProtos, MethodStands, HasMethodNumbers, AreMethodNames}
 use Rattle.dexpool.proofs.Steps.{follows_if, follows_not}

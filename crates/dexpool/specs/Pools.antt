@@ -5,8 +5,8 @@ use Rattle.dexspec.specs.Mentions.{Mentions}
 use Rattle.dexspec.specs.Header.{StringIds, TypeIds, ProtoIds, FieldIds, MethodIds, table_size}
 use Rattle.dexspec.specs.Rows as rows
 use Rattle.dexpool.specs.declared.rows.ProtoEntry.{ProtoEntry}
-use Rattle.dexpool.specs.declared.rows.FieldRow.{FieldRow}
-use Rattle.dexpool.specs.declared.rows.MethodRow.{MethodRow}
+use Rattle.dexrows.specs.declared.fields.FieldRow.{FieldRow}
+use Rattle.dexrows.specs.declared.methods.MethodRow.{MethodRow}
 use Rattle.dexpool.specs.declared.symbols.SymbolKind.{SymbolKind}
 use Rattle.dexpool.specs.declared.symbols.SymbolKind.TheVariants as kinds
 use Rattle.dexpool.specs.Tables.{text_of, proto_of, field_of, method_of}

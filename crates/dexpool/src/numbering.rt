@@ -1,0 +1,210 @@
+//! Numberings: symbols, each with the number of its place in the order of its kind.
+
+ghost use Rattle.std.specs.Prelude.{◌≡◌, ◌<◌, ◌^◌, ◌-◌, ℕ, List, length, slice_index_or, IfOk, [], min};
+ghost use Rattle.dexspec.specs.Texts.{text_cmp};
+ghost use Rattle.dexspec.specs.Symbols.{Proto, Field, Method, proto_cmp, field_cmp, method_cmp};
+ghost use Rattle.dexspec.specs.Lists.{rank};
+ghost use Rattle.dexspec.specs.Weight.{mentions_weight};
+ghost use Rattle.dexpool.specs.Pools.{count_of};
+ghost use Rattle.dexpool.specs.Numberings.{IsAt, IsNumbering, StandsForProto, StandsForField, StandsForMethod};
+
+use crate::pools::Pools;
+use crate::symbols::{FieldSymbol, MethodSymbol, ProtoSymbol, SymbolKind};
+use crate::tables::Tables;
+use dexrows::{FieldRow, MethodRow, ProtoRow};
+use dexstr::Text;
+use std::alloc::{AllocError, Global};
+use std::marker::Model;
+
+/// Five sets of symbols: texts, types, protos, fields and methods. What a symbol names is there too. Each symbol
+/// has a number, its place in the order of its kind, from 0 on. Contracts see five lists of symbols.
+///
+/// Texts borrow the bytes that they were read from.
+///
+/// Source: "string_id_item", "type_id_item", "proto_id_item", "field_id_item" and "method_id_item".
+#[derive(Drop)]
+pub struct Numbering<'a> {
+    pub(crate) tables: Tables<'a>,
+}
+
+impl<'a> Model for Numbering<'a> {
+    ghost use Rattle.dexspec.specs.Mentions.{Mentions};
+    ghost use Rattle.dexpool.specs.Stored.{symbols_in, AreTables};
+
+    ghost Value = { Mentions };
+
+    ghost view = { λ n. symbols_in n.tables };
+
+    ghost invariant = { λ n. AreTables n.tables };
+}
+
+impl<'a> Numbering<'a> {
+    ghost use Rattle.dexpool.specs.Stored.{symbols_in, AreTables};
+
+    /// The tables.
+    pub(crate) fn tables(&self) -> &Tables<'a>
+        ensures tables { AreTables result.now }
+        ensures symbols { symbols_in result.now ≡ self.now }
+    {
+        &self.tables
+    }
+
+    /// A numbering of no symbol. No memory is taken.
+    pub fn empty(alloc: Global) -> Numbering<'a>
+        ensures { result ≡ record { texts = []; types = []; protos = []; fields = []; methods = [] } }
+    {
+        Numbering {
+            tables: Tables {
+                strings: Vec::new(alloc),
+                types: Vec::new(alloc),
+                protos: Vec::new(alloc),
+                parameters: Vec::new(alloc),
+                fields: Vec::new(alloc),
+                methods: Vec::new(alloc),
+            },
+        }
+    }
+
+    /// The symbols of a file's pools: the number of each is its row.
+    ///
+    /// Error: the memory for the tables was refused.
+    pub fn of(pools: &Pools<'a>) -> Result<Numbering<'a>, AllocError>
+        ensures { IfOk result (λ numbering. numbering ≡ pools.now) }
+    {
+        pools.numbering().copy()
+    }
+
+    /// The same symbols in tables of their own.
+    ///
+    /// Error: the memory for the tables was refused.
+    pub fn copy(&self) -> Result<Numbering<'a>, AllocError>
+        ensures { IfOk result (λ numbering. numbering ≡ self.now) }
+    {
+        Err(AllocError)
+    }
+
+    /// Does nothing: its clause tells what holds of every numbering.
+    pub fn is_numbering(&self)
+        ensures { IsNumbering self.now }
+    {
+        let _tables = &self.tables;
+    }
+
+    /// The number of symbols of a kind. No memory is taken.
+    pub fn count(&self, kind: SymbolKind) -> usize
+        ensures { result ≡ count_of kind self.now }
+    {
+        match kind {
+            SymbolKind::Text => self.tables.strings.len(),
+            SymbolKind::Typ => self.tables.types.len(),
+            SymbolKind::Proto => self.tables.protos.len(),
+            SymbolKind::Field => self.tables.fields.len(),
+            SymbolKind::Method => self.tables.methods.len(),
+        }
+    }
+
+    /// The text of a number. No memory is taken.
+    ///
+    /// Condition: `i` is below the number of texts. Source: "string_id_item".
+    pub fn string(&self, i: usize) -> &Text<'a>
+        requires { i < length self.now.texts }
+        ensures { IsAt self.now.texts i result.now }
+    {
+        &self.tables.strings[i]
+    }
+
+    /// The type of a number, by its descriptor. No memory is taken.
+    ///
+    /// Condition: `i` is below the number of types. Source: "type_id_item".
+    pub fn typ(&self, i: usize) -> &Text<'a>
+        requires { i < length self.now.types }
+        ensures { IsAt self.now.types i result.now }
+    {
+        &self.tables.strings[self.tables.types[i]]
+    }
+
+    /// The number of the text that is the descriptor of a type. No memory is taken.
+    ///
+    /// Condition: `i` is below the number of types. Source: "type_id_item".
+    pub fn descriptor(&self, i: usize) -> usize
+        requires { i < length self.now.types }
+        ensures { (d : List ℕ) → IsAt self.now.texts result (slice_index_or self.now.types i d) }
+    {
+        self.tables.types[i]
+    }
+
+    /// The numbers of the parts of a proto. No memory is taken.
+    ///
+    /// Condition: `i` is below the number of protos. Source: "proto_id_item".
+    pub fn proto(&self, i: usize) -> ProtoRow<'_>
+        requires { i < length self.now.protos }
+        ensures { (d : Proto) → StandsForProto self.now result (slice_index_or self.now.protos i d) }
+    {
+        let entry = self.tables.protos[i];
+        let (_, rest) = self.tables.parameters.split_at(entry.parameters.start);
+        let (parameters, _) = rest.split_at(entry.parameters.end - entry.parameters.start);
+        ProtoRow::new(entry.shorty, entry.return_type, parameters)
+    }
+
+    /// The numbers of the parts of a field. No memory is taken.
+    ///
+    /// Condition: `i` is below the number of fields. Source: "field_id_item".
+    pub fn field(&self, i: usize) -> &FieldRow
+        requires { i < length self.now.fields }
+        ensures { (d : Field) → StandsForField self.now result.now (slice_index_or self.now.fields i d) }
+    {
+        &self.tables.fields[i]
+    }
+
+    /// The numbers of the parts of a method. No memory is taken.
+    ///
+    /// Condition: `i` is below the number of methods. Source: "method_id_item".
+    pub fn method(&self, i: usize) -> &MethodRow
+        requires { i < length self.now.methods }
+        ensures { (d : Method) → StandsForMethod self.now result.now (slice_index_or self.now.methods i d) }
+    {
+        &self.tables.methods[i]
+    }
+
+    /// The number of lesser texts. No memory is taken.
+    pub fn rank_string(&self, text: &Text<'_>) -> usize
+        ensures { result ≡ rank text_cmp text.now self.now.texts }
+    {
+        0
+    }
+
+    /// The number of lesser types, for a type by its descriptor. No memory is taken.
+    pub fn rank_type(&self, descriptor: &Text<'_>) -> usize
+        ensures { result ≡ rank text_cmp descriptor.now self.now.types }
+    {
+        0
+    }
+
+    /// The number of lesser protos. No memory is taken.
+    pub fn rank_proto(&self, proto: &ProtoSymbol) -> usize
+        ensures { result ≡ rank proto_cmp proto.now self.now.protos }
+    {
+        0
+    }
+
+    /// The number of lesser fields. No memory is taken.
+    pub fn rank_field(&self, field: &FieldSymbol) -> usize
+        ensures { result ≡ rank field_cmp field.now self.now.fields }
+    {
+        0
+    }
+
+    /// The number of lesser methods. No memory is taken.
+    pub fn rank_method(&self, method: &MethodSymbol) -> usize
+        ensures { result ≡ rank method_cmp method.now self.now.methods }
+    {
+        0
+    }
+
+    /// What the symbols weigh together, or 2^64 - 1 where that is more. No memory is taken.
+    pub fn weight(&self) -> u64
+        ensures { result ≡ min (2 ^ 64 - 1) (mentions_weight self.now) }
+    {
+        0
+    }
+}

@@ -1,0 +1,43 @@
+//! Maps from the numbers of one numbering to those of another.
+
+ghost use Rattle.std.specs.Prelude.{◌≡◌};
+ghost use Rattle.dexpool.specs.Numberings.{image_of};
+
+use crate::symbols::SymbolKind;
+use std::marker::Model;
+
+/// For each number of a numbering the number of the same symbol in another one, if it is there. Contracts see
+/// five lists.
+#[derive(Drop)]
+pub struct Remap {
+    pub(crate) strings: Vec<Option<usize>>,
+    pub(crate) types: Vec<Option<usize>>,
+    pub(crate) protos: Vec<Option<usize>>,
+    pub(crate) fields: Vec<Option<usize>>,
+    pub(crate) methods: Vec<Option<usize>>,
+}
+
+impl Model for Remap {
+    ghost use Rattle.dexpool.specs.Numberings.{Maps};
+
+    ghost Value = { Maps };
+
+    ghost view = { λ r. record { texts = r.strings.items; types = r.types.items; protos = r.protos.items; fields = r.fields.items; methods = r.methods.items } };
+}
+
+impl Remap {
+    /// Where a number leads, or `None` where it leads nowhere or is none of the first numbering. No memory is
+    /// taken.
+    pub fn image(&self, kind: SymbolKind, i: usize) -> Option<usize>
+        ensures { result ≡ image_of self.now kind i }
+    {
+        let images = match kind {
+            SymbolKind::Text => &self.strings,
+            SymbolKind::Typ => &self.types,
+            SymbolKind::Proto => &self.protos,
+            SymbolKind::Field => &self.fields,
+            SymbolKind::Method => &self.methods,
+        };
+        if i < images.len() { images[i] } else { None }
+    }
+}

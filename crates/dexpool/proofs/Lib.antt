@@ -9,3 +9,4 @@ pub mod ProtoRows
 pub mod MethodRows
 pub mod AllPools
 pub mod NumberOrder
+pub mod TablesStand

@@ -10,3 +10,5 @@ pub mod MethodRows
 pub mod AllPools
 pub mod NumberOrder
 pub mod TablesStand
+pub mod ReadTables
+pub mod RowParts

@@ -12,3 +12,4 @@ pub mod NumberOrder
 pub mod TablesStand
 pub mod ReadTables
 pub mod RowParts
+pub mod SameTables

@@ -37,18 +37,18 @@ rises-next R (x ∷ y ∷ ys) d h = and_both (is_lt (R x y)) (rises R (y ∷ ys)
 -- texts of rows that follow one another
 texts_rise : (b : List ℕ) (texts : List Text) → AreTexts b texts → rises text_cmp texts ≡ true
 texts_rise b texts h = rises-next text_cmp texts [] (λ j lt.
-  let holds = h.held (suc j) (omega (arith, lt, h.count)) in
-  let same : holds.text ≡ get_or texts (suc j) [] = one_string b (suc j) _ _ holds.is (h.each (suc j) [] (omega (arith, lt, h.count))) in
-  subst (λ s. text_cmp (get_or texts j []) s ≡ Less) same (holds.follows j (get_or texts j []) (omega arith) (h.each j [] (omega (arith, lt, h.count)))))
+    let holds = h.held (suc j) (omega (arith, lt, h.count)) in
+    let same : holds.text ≡ get_or texts (suc j) [] = one_string b (suc j) _ _ holds.is (h.each (suc j) [] (omega (arith, lt, h.count))) in
+    subst (λ s. text_cmp (get_or texts j []) s ≡ Less) same (holds.follows j (get_or texts j []) (omega arith) (h.each j [] (omega (arith, lt, h.count)))))
 
 -- rows whose keys follow one another
 module _ {X : Type 0} (Row : List ℕ → ℕ → X → Type 0) (Holds : List ℕ → ℕ → Type 0) (b : List ℕ) (key : List ℕ → ℕ → List ℕ) (key_of : X → List ℕ) (same : (k : ℕ) (x : X) → Row b k x → key b k ≡ key_of x)
-  (follows : (k : ℕ) → Holds b k → Follows key b k) where
+    (follows : (k : ℕ) → Holds b k → Follows key b k) where
   rows_rise : (xs : List X) (n : ℕ) (d : X) → ReadTo Row Holds b xs n → rises (λ x y. key_cmp (key_of x) (key_of y)) xs ≡ true
   rows_rise xs n d h = rises-next (λ x y. key_cmp (key_of x) (key_of y)) xs d (λ j lt.
-    let less = follows (suc j) (h.held (suc j) (omega (arith, lt, h.count))) j (omega arith) in
-    ap (λ (k : List ℕ). key_cmp k (key_of (get_or xs (suc j) d))) (sym (same j (get_or xs j d) (h.each j d (omega (arith, lt, h.count)))))
-    ∙ ap (key_cmp (key b j)) (sym (same (suc j) (get_or xs (suc j) d) (h.each (suc j) d (omega (arith, lt, h.count))))) ∙ less)
+      let less = follows (suc j) (h.held (suc j) (omega (arith, lt, h.count))) j (omega arith) in
+      ap (λ (k : List ℕ). key_cmp k (key_of (get_or xs (suc j) d))) (sym (same j (get_or xs j d) (h.each j d (omega (arith, lt, h.count)))))
+      ∙ ap (key_cmp (key b j)) (sym (same (suc j) (get_or xs (suc j) d) (h.each (suc j) d (omega (arith, lt, h.count))))) ∙ less)
 
 -- ---- rows are in range
 

@@ -42,7 +42,7 @@ module _ (t u : Tables) (s : HaveSameRows t u) where
   proto_entry p h =
       let text : text_of t.strings.items p.shorty ≡ text_of u.strings.items p.shorty = λ i. text_of (s.strings i) p.shorty in
       let letters : shorty (type_of t.strings.items t.types.items p.return_type) (map (type_of t.strings.items t.types.items) (span_of t.parameters.items p.parameters))
-          ≡ shorty (type_of u.strings.items u.types.items p.return_type) (map (type_of u.strings.items u.types.items) (span_of u.parameters.items p.parameters)) =
+      ≡ shorty (type_of u.strings.items u.types.items p.return_type) (map (type_of u.strings.items u.types.items) (span_of u.parameters.items p.parameters)) =
       λ i. shorty (type_of (s.strings i) (s.types i) p.return_type) (map (type_of (s.strings i) (s.types i)) (span_of (s.parameters i) p.parameters)) in
       record {
         span = subst (λ (l : List ℕ). HasSpan l p.parameters) s.parameters h.span;

@@ -1,7 +1,11 @@
 //! Files read whole: made by a program of its own, which shares nothing with the crate.
 
-use crate::{Pools, ReadFault, SymbolKind};
+use crate::{
+    FieldRow, FieldSymbol, MethodRow, MethodSymbol, Numbering, Pools, ProtoRow, ProtoSymbol,
+    ReadFault, Symbol, SymbolKind,
+};
 use dexhead::{Frame, Refusal};
+use dexstr::{Name, Text};
 use std::alloc::Global;
 
 const GOOD: [u8; 320] = [
@@ -154,16 +158,122 @@ fn refusal(number: u8, place: u32) -> Option<ReadFault> {
     Some(ReadFault::Refused(Refusal { number, place }))
 }
 
-// The first unit of a text, and of a type.
-fn first_units(pools: &Pools<'_>, text: u32, typ: u32) -> Option<(Option<u16>, Option<u16>)> {
-    if pools.len(SymbolKind::Text) <= text as usize || pools.len(SymbolKind::Typ) <= typ as usize {
+// Whether the text has these letters.
+fn spells(text: &Text<'_>, letters: &str) -> bool {
+    let mut units = text.units();
+    for byte in letters.bytes() {
+        if units.next() != Some(u16::from(byte)) {
+            return false;
+        }
+    }
+    units.next() == None
+}
+
+fn is_named(name: &Name, letters: &str) -> bool {
+    spells(&name.text(), letters)
+}
+
+// Whether the numbering has as many texts, types, protos, fields and methods.
+fn has_counts(numbering: &Numbering<'_>, counts: [usize; 5]) -> bool {
+    numbering.count(SymbolKind::Text) == counts[0]
+        && numbering.count(SymbolKind::Typ) == counts[1]
+        && numbering.count(SymbolKind::Proto) == counts[2]
+        && numbering.count(SymbolKind::Field) == counts[3]
+        && numbering.count(SymbolKind::Method) == counts[4]
+}
+
+fn has_string(numbering: &Numbering<'_>, i: usize, letters: &str) -> bool {
+    i < numbering.count(SymbolKind::Text) && spells(numbering.string(i), letters)
+}
+
+fn has_type(numbering: &Numbering<'_>, i: usize, descriptor: usize, letters: &str) -> bool {
+    i < numbering.count(SymbolKind::Typ)
+        && numbering.descriptor(i) == descriptor
+        && spells(numbering.typ(i), letters)
+}
+
+fn has_proto(numbering: &Numbering<'_>, i: usize, row: &ProtoRow<'_>) -> bool {
+    i < numbering.count(SymbolKind::Proto) && are_same(&numbering.proto(i), row)
+}
+
+fn has_field(numbering: &Numbering<'_>, i: usize, row: FieldRow) -> bool {
+    i < numbering.count(SymbolKind::Field) && *numbering.field(i) == row
+}
+
+fn has_method(numbering: &Numbering<'_>, i: usize, row: MethodRow) -> bool {
+    i < numbering.count(SymbolKind::Method) && *numbering.method(i) == row
+}
+
+fn are_same(row: &ProtoRow<'_>, other: &ProtoRow<'_>) -> bool {
+    row.shorty() == other.shorty()
+        && row.return_type() == other.return_type()
+        && row.parameters() == other.parameters()
+}
+
+// Whether the numbering is that of the good file.
+fn is_good(numbering: &Numbering<'_>) -> bool {
+    has_counts(numbering, [5, 3, 2, 1, 1])
+        && has_string(numbering, 0, "I")
+        && has_string(numbering, 1, "LA;")
+        && has_string(numbering, 2, "V")
+        && has_string(numbering, 3, "VI")
+        && has_string(numbering, 4, "m")
+        && has_type(numbering, 0, 0, "I")
+        && has_type(numbering, 1, 1, "LA;")
+        && has_type(numbering, 2, 2, "V")
+        && has_proto(numbering, 0, &ProtoRow::new(2, 2, &[]))
+        && has_proto(numbering, 1, &ProtoRow::new(3, 2, &[0]))
+        && has_field(numbering, 0, GOOD_FIELD)
+        && has_method(numbering, 0, GOOD_METHOD)
+}
+
+// The symbol of a row, if there is the row.
+fn symbol(alloc: Global, pools: &Pools<'_>, kind: SymbolKind, i: u32) -> Option<Symbol> {
+    if pools.len(kind) <= i as usize {
         return None;
     }
-    Some((
-        pools.string(text).units().next(),
-        pools.typ(typ).units().next(),
-    ))
+    match pools.symbol(alloc, kind, i) {
+        Ok(symbol) => Some(symbol),
+        Err(_) => None,
+    }
 }
+
+// Whether the proto has these types.
+fn is_proto(proto: &ProtoSymbol, return_type: &str, parameters: &[&str]) -> bool {
+    if !is_named(&proto.return_type, return_type) || proto.parameters.len() != parameters.len() {
+        return false;
+    }
+    for i in 0..parameters.len() {
+        if !is_named(&proto.parameters[i], parameters[i]) {
+            return false;
+        }
+    }
+    true
+}
+
+// Whether it is the field of the good file.
+fn is_field(field: &FieldSymbol) -> bool {
+    is_named(&field.class, "LA;") && is_named(&field.name, "m") && is_named(&field.typ, "I")
+}
+
+// Whether it is the method of the good file.
+fn is_method(method: &MethodSymbol) -> bool {
+    is_named(&method.class, "LA;")
+        && is_named(&method.name, "m")
+        && is_proto(&method.proto, "V", &[])
+}
+
+const GOOD_FIELD: FieldRow = FieldRow {
+    class: 1,
+    name: 4,
+    typ: 0,
+};
+
+const GOOD_METHOD: MethodRow = MethodRow {
+    class: 1,
+    name: 4,
+    proto: 0,
+};
 
 #[test]
 fn good_pools_are_read(rt: HostRuntime) {
@@ -172,14 +282,75 @@ fn good_pools_are_read(rt: HostRuntime) {
     };
     match Pools::read(rt.alloc(), &frame) {
         Ok(pools) => {
-            assert!(rt; first_units(&pools, 4, 1) == Some((Some(0x6d), Some(0x4c))));
-            assert!(rt; first_units(&pools, 0, 2) == Some((Some(0x49), Some(0x56))));
-            assert!(rt; pools.len(SymbolKind::Proto) == 2);
-            assert!(rt; pools.len(SymbolKind::Field) == 1);
-            assert!(rt; pools.len(SymbolKind::Method) == 1);
+            assert!(rt; is_good(pools.numbering()));
+            if pools.len(SymbolKind::Text) <= 3
+                || pools.len(SymbolKind::Typ) <= 1
+                || pools.len(SymbolKind::Proto) <= 1
+                || pools.len(SymbolKind::Field) == 0
+                || pools.len(SymbolKind::Method) == 0
+            {
+                panic!(rt; "too few rows")
+            }
+            assert!(rt; spells(pools.string(3), "VI"));
+            assert!(rt; spells(pools.typ(1), "LA;"));
+            assert!(rt; are_same(&pools.proto(1), &ProtoRow::new(3, 2, &[0])));
+            assert!(rt; *pools.field(0) == GOOD_FIELD);
+            assert!(rt; *pools.method(0) == GOOD_METHOD);
         }
         Err(_) => panic!(rt; "no pools"),
     }
+}
+
+#[test]
+fn rows_stand_for_symbols(rt: HostRuntime) {
+    let alloc = rt.alloc();
+    let Ok(frame) = Frame::open(&GOOD) else {
+        panic!(rt; "no frame")
+    };
+    let Ok(pools) = Pools::read(alloc, &frame) else {
+        panic!(rt; "no pools")
+    };
+    let Some(Symbol::Text(text)) = symbol(alloc, &pools, SymbolKind::Text, 3) else {
+        panic!(rt; "no text")
+    };
+    assert!(rt; is_named(&text, "VI"));
+    let Some(Symbol::Typ(typ)) = symbol(alloc, &pools, SymbolKind::Typ, 1) else {
+        panic!(rt; "no type")
+    };
+    assert!(rt; is_named(&typ, "LA;"));
+    let Some(Symbol::Proto(proto)) = symbol(alloc, &pools, SymbolKind::Proto, 1) else {
+        panic!(rt; "no proto")
+    };
+    assert!(rt; is_proto(&proto, "V", &["I"]));
+    let Some(Symbol::Field(field)) = symbol(alloc, &pools, SymbolKind::Field, 0) else {
+        panic!(rt; "no field")
+    };
+    assert!(rt; is_field(&field));
+    let Some(Symbol::Method(method)) = symbol(alloc, &pools, SymbolKind::Method, 0) else {
+        panic!(rt; "no method")
+    };
+    assert!(rt; is_method(&method));
+}
+
+#[test]
+fn numberings_are_made_and_copied(rt: HostRuntime) {
+    let alloc = rt.alloc();
+    let Ok(frame) = Frame::open(&GOOD) else {
+        panic!(rt; "no frame")
+    };
+    let Ok(pools) = Pools::read(alloc, &frame) else {
+        panic!(rt; "no pools")
+    };
+    let Ok(numbering) = Numbering::of(&pools) else {
+        panic!(rt; "no numbering")
+    };
+    numbering.is_numbering();
+    assert!(rt; is_good(&numbering));
+    let Ok(copy) = numbering.copy() else {
+        panic!(rt; "no copy")
+    };
+    assert!(rt; is_good(&copy));
+    assert!(rt; has_counts(&Numbering::empty(alloc), [0, 0, 0, 0, 0]));
 }
 
 #[test]

@@ -45,6 +45,7 @@ pub(crate) fn read_types(
 }
 
 // The index of the text of a row, if it is a type.
+#[tactic(auto, using(crate::proofs::Steps::type_stands))]
 fn type_at(frame: &Frame<'_>, strings: &[Text<'_>], i: u32) -> Option<usize>
     requires strings { AreTexts frame.now strings.now }
     requires row { i < table_size frame.now TypeIds }

@@ -1,10 +1,6 @@
 use Rattle.std.proofs.Common.{refl}
-use Rattle.dexstr.specs.Kinds.{type_kind}
-use Rattle.dexpool.proofs.Steps.{type_stands, no_descriptor}
+use Rattle.dexpool.proofs.Steps.{no_descriptor}
 use Rattle.dexpool.proofs.types.type_at.Goals as goal
-
-pub returns-in-Some : goal.returns-in-Some
-returns-in-Some c = type_stands c.args.frame.now c.args.strings.now c.args.i _ _ c.requires.strings c.requires.row c.type_index-index.ensures c.if-strings-index.false c.index-strings-index.is (type_kind c.in-Some.field-0, c.in-Some.ensures.found)
 
 pub returns-in-None : goal.returns-in-None
 returns-in-None c = λ t h. no_descriptor c.args.frame.now c.args.strings.now c.args.i _ _ t c.requires.strings c.type_index-index.ensures c.if-strings-index.false c.index-strings-index.is (c.in-None.ensures.none.0 refl) h

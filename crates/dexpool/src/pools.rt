@@ -15,7 +15,7 @@ use crate::names::Names;
 use crate::numbering::Numbering;
 use crate::protos::{Protos, read_protos};
 use crate::strings::read_strings;
-use crate::symbols::{FieldSymbol, MethodSymbol, ProtoSymbol, Symbol, SymbolKind};
+use crate::symbols::{FieldSymbol, MethodSymbol, ProtoSymbol, Symbol, SymbolKind, type_name};
 use crate::tables::Tables;
 use crate::types::read_types;
 use dexhead::Frame;
@@ -157,7 +157,7 @@ impl<'a> Pools<'a> {
         let i = i as usize;
         Ok(match kind {
             SymbolKind::Text => Symbol::Text(Name::of(alloc, &tables.strings[i])?),
-            SymbolKind::Typ => Symbol::Typ(Name::of(alloc, &tables.strings[tables.types[i]])?),
+            SymbolKind::Typ => Symbol::Typ(type_name(alloc, tables, i)?),
             SymbolKind::Proto => Symbol::Proto(ProtoSymbol::of(alloc, tables, &tables.protos[i])?),
             SymbolKind::Field => Symbol::Field(FieldSymbol::of(alloc, tables, &tables.fields[i])?),
             SymbolKind::Method => {

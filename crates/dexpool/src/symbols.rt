@@ -77,8 +77,8 @@ impl Model for MethodSymbol {
     ghost view = { λ m. record { class = m.class; name = m.name; proto = m.proto } };
 }
 
-// The name that a type is.
-fn type_name(alloc: Global, tables: &Tables<'_>, typ: usize) -> Result<Name, AllocError>
+/// The name that a type is.
+pub(crate) fn type_name(alloc: Global, tables: &Tables<'_>, typ: usize) -> Result<Name, AllocError>
     requires tables { AreTables tables.now }
     requires row { typ < length tables.now.types.items }
     ensures { IfOk result (λ name. name ≡ type_of tables.now.strings.items tables.now.types.items typ) }

@@ -7,7 +7,9 @@
 mod cutting;
 mod fields;
 mod joining;
+mod merging;
 mod methods;
+mod places;
 mod protos;
 mod rows;
 mod texts;

@@ -1,6 +1,7 @@
 //! Rows of protos.
 
 ghost use Rattle.std.specs.Prelude.{◌≡◌, ◌∷◌, [], true, All, map};
+ghost use Rattle.dexrows.specs.KeyOrders.{both_same, same_number, same_numbers};
 
 use crate::rows::Row;
 use std::cmp::Ordering;
@@ -71,16 +72,17 @@ impl<'p> Row for ProtoRow<'p> {
 
     ghost mapped = { λ lower row. record { shorty = lower.strings row.shorty; return_type = lower.types row.return_type; parameters = map lower.types row.parameters } };
 
-    ghost keeps_order = { λ among lower rise x y in_x in_y. ? };
+    ghost keeps_order = { λ among lower rise x y in_x in_y. both_same _ _ _ _ (same_number among.types lower.types rise.types x.return_type y.return_type in_x.0 in_y.0) (same_numbers among.types lower.types rise.types x.parameters y.parameters in_x.1 in_y.1) };
 
     fn key(&self) -> (usize, &'p [usize]) {
         (self.return_type, self.parameters)
     }
 
     fn compare(&self, other: &Self) -> Ordering {
-        self.return_type
-            .cmp(&other.return_type)
-            .then_with(|| self.parameters.cmp(other.parameters))
+        match self.return_type.cmp(&other.return_type) {
+            Ordering::Equal => self.parameters.cmp(other.parameters),
+            order => order,
+        }
     }
 
     fn copied(&self) -> Self {

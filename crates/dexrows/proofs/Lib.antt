@@ -4,3 +4,4 @@ pub mod JoinedParts
 pub mod CutRows
 pub mod Images
 pub mod KeptPlaces
+pub mod MappedRows

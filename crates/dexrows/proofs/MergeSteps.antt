@@ -1,5 +1,5 @@
 -- One row more in a merge of two sorted tables.
-use Rattle.std.proofs.Common.{◌≡◌, ℕ, ◌+◌, ◌<◌, ◌≤◌, true, List, [], ◌∷◌, ◌++◌, length, get_or, refl, sym, ap, ◌∙◌, subst, arith, inl, inr, Ordering, Less, Equal, Greater}
+use Rattle.std.proofs.Common.{◌≡◌, ℕ, zero, suc, take, Bool, false, ◌+◌, ◌<◌, ◌≤◌, true, List, [], ◌∷◌, ◌++◌, length, get_or, refl, sym, ap, ◌∙◌, subst, arith, inl, inr, Ordering, Less, Equal, Greater}
 use Rattle.std.specs.List.{All}
 use Rattle.std.specs.Ordering.{is_lt, ordering_reverse}
 use Rattle.std.specs.Cmp.{IsTotalOrder}
@@ -10,7 +10,7 @@ use Rattle.std.proofs.lemmas.List.Elements.{All-head, All-tail, All-push, All-we
 use Rattle.dexspec.specs.Lists.{rises}
 use Rattle.dexspec.specs.Rows.{key_cmp}
 use Rattle.dexspec.proofs.Members.{and_first, and_second, and_both}
-use Rattle.dexspec.proofs.InOrder.{Rises-from_rises, Rises-places}
+use Rattle.dexspec.proofs.InOrder.{Rises-from_rises, Rises-places, less_is}
 use Rattle.dexspec.proofs.SymbolOrders.{text_total, text_exact}
 use Rattle.dexrows.specs.Join.{row_cmp, AreSorted, IsImage}
 use Rattle.dexrows.specs.Merge.{IsOfTwo, IsNext, IsMerge, HasTaken, IsMerging, ComesFirst, ComeTogether}
@@ -22,6 +22,15 @@ rises_push R (y ∷ []) x h less = and_both (is_lt (R y x)) true (ap is_lt (All-
 rises_push R (y ∷ z ∷ zs) x h less =
     and_both (is_lt (R y z)) (rises R (z ∷ (zs ++ x ∷ []))) (and_first (is_lt (R y z)) (rises R (z ∷ zs)) h)
     (rises_push R (z ∷ zs) x (and_second (is_lt (R y z)) (rises R (z ∷ zs)) h) (All-tail (λ w. R w x ≡ Less) y (z ∷ zs) less))
+
+-- one more of a list that rises so far
+pub rises_more : {X : Type 0} (R : X → X → Ordering) (xs : List X) (i : ℕ) (d : X) → suc i < length xs → rises R (take (suc i) xs) ≡ true → R (get_or xs i d) (get_or xs (suc i) d) ≡ Less → rises R (take (suc (suc i)) xs) ≡ true
+rises_more R [] i d lt h less = absurd (omega arith)
+rises_more R (x ∷ []) i d lt h less = absurd (omega arith)
+rises_more R (x ∷ y ∷ ys) zero d lt h less = and_both (is_lt (R x y)) true (ap is_lt less) refl
+rises_more R (x ∷ y ∷ ys) (suc i) d lt h less =
+    and_both (is_lt (R x y)) (rises R (take (suc (suc i)) (y ∷ ys))) (and_first (is_lt (R x y)) (rises R (take (suc i) (y ∷ ys))) h)
+    (rises_more R (y ∷ ys) i d (omega arith) (and_second (is_lt (R x y)) (rises R (take (suc i) (y ∷ ys))) h) less)
 
 module _ {R : Type 0} (key : R → List ℕ) where
   pub row_total : IsTotalOrder (row_cmp key)
@@ -154,3 +163,22 @@ module _ {R : Type 0} (key : R → List ℕ) where
 
     pub both_step : (ps qs : List ℕ) → order ≡ Equal → i ≡ length lefts → z ≡ get_or left i z → ps ≡ lefts ++ place ∷ [] → qs ≡ rights ++ place ∷ [] → IsMerging key left right ys ps qs
     both_step ps qs is i_is at put also = rw (grown, put, also, at_end) (take_both left right left_sorted right_sorted rows lefts rights h x (subst (IsNext key left (length lefts) right (length rights)) is next) (rw (copied, ← i_is) at))
+
+  -- ---- as the code tells whether rows are sorted
+
+  pair_is : (rows : List R) (i j : ℕ) (a b : R) (o : Ordering) → i < length rows → j < length rows → a ≡ get_or rows i a → b ≡ get_or rows j b → o ≡ row_cmp key a b → o ≡ row_cmp key (get_or rows i a) (get_or rows j a)
+  pair_is rows i j a b o at_i at_j is_a is_b is = is ∙ ap (λ x. row_cmp key x b) is_a ∙ ap (row_cmp key (get_or rows i a)) (is_b ∙ get_or_default rows j b a at_j)
+
+  pub sorted_more : (rows : List R) (i j : ℕ) (a b : R) (o : Ordering) → i + 1 ≡ j → j < length rows → a ≡ get_or rows i a → b ≡ get_or rows j b → o ≡ row_cmp key a b → true ≡ is_lt o → AreSorted key (take j rows) → AreSorted key (take (j + 1) rows)
+  sorted_more rows i j a b o next lt is_a is_b is less sorted =
+      let pair : row_cmp key (get_or rows i a) (get_or rows j a) ≡ Less = sym (pair_is rows i j a b o (omega arith) lt is_a is_b is) ∙ less_is o (sym less) in
+      let after : suc i ≡ j = omega arith in
+      let more = rises_more (row_cmp key) rows i a (omega arith) (subst (λ k. AreSorted key (take k rows)) (sym after) sorted) (subst (λ k. row_cmp key (get_or rows i a) (get_or rows k a) ≡ Less) (sym after) pair) in
+      let last : suc (suc i) ≡ j + 1 = omega arith in
+      subst (λ k. AreSorted key (take k rows)) last more
+
+  pub not_sorted : (rows : List R) (i j : ℕ) (a b : R) (o : Ordering) → i + 1 ≡ j → j < length rows → a ≡ get_or rows i a → b ≡ get_or rows j b → o ≡ row_cmp key a b → false ≡ is_lt o → AreSorted key rows → ⊥
+  not_sorted rows i j a b o next lt is_a is_b is more sorted =
+      let less : row_cmp key (get_or rows i a) (get_or rows j a) ≡ Less = subst (λ k. row_cmp key (get_or rows i a) (get_or rows k a) ≡ Less) next (next_less rows i a sorted (omega arith)) in
+      let lt : is_lt o ≡ true = ap is_lt (pair_is rows i j a b o (omega arith) lt is_a is_b is ∙ less) in
+      cc

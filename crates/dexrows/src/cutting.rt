@@ -27,7 +27,8 @@ pub fn cut<R: Row>(alloc: Global, rows: &[R], marks: &[bool]) -> Result<Kept<R>,
     let mut kept = Vec::new(alloc);
     let mut images = Vec::with_capacity(alloc, rows.len())?;
     for i in 0..rows.len() {
-        if marks[i] {
+        let is_marked = marks[i];
+        if is_marked {
             images.push(Some(kept.len()))?;
             kept.push(rows[i].copied())?;
         } else {

@@ -1,9 +1,5 @@
 -- Numbers that are replaced in their order leave the order of keys as it is.
-<<<<<<< HEAD
-use Rattle.std.proofs.Common.{◌≡◌, ℕ, ◌<◌, Bool, true, List, [], ◌∷◌, map, refl, sym, ap, ◌∙◌, inl, inr, Ordering, Less, Equal, Greater}
-=======
 use Rattle.std.proofs.Common.{◌≡◌, ℕ, Bool, true, List, [], ◌∷◌, map, refl, sym, ap, ◌∙◌, inl, inr, Ordering, Less, Equal, Greater}
->>>>>>> c0bcf8f35f6fb1cba4be37f7aae2877cdb2980b4
 use Rattle.std.specs.List.{All}
 use Rattle.std.specs.Ordering.{nat_cmp, ordering_then}
 use Rattle.std.specs.Cmp.{nat_cmp_is}

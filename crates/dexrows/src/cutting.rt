@@ -24,12 +24,6 @@ pub fn cut<R: Row>(alloc: Global, rows: &[R], marks: &[bool]) -> Result<Kept<R>,
     ensures rows { IfOk result (λ cut. cut.rows.items ≡ kept marks.now rows.now) }
     ensures images { IfOk result (λ cut. cut.images.items ≡ places 0 marks.now) }
 {
-<<<<<<< HEAD
-    let _rows = rows;
-    let _marks = marks;
-    let _alloc = alloc;
-    Err(AllocError)
-=======
     let mut kept = Vec::new(alloc);
     let mut images = Vec::with_capacity(alloc, rows.len())?;
     for i in 0..rows.len() {
@@ -42,5 +36,4 @@ pub fn cut<R: Row>(alloc: Global, rows: &[R], marks: &[bool]) -> Result<Kept<R>,
         }
     }
     Ok(Kept { rows: kept, images })
->>>>>>> c0bcf8f35f6fb1cba4be37f7aae2877cdb2980b4
 }

@@ -1,0 +1,47 @@
+//! Rows of fields.
+
+ghost use Rattle.std.specs.Prelude.{◌≡◌, ◌∷◌, [], true, refl};
+ghost use Rattle.dexrows.specs.KeyOrders.{both_same, same_number};
+
+use crate::rows::Row;
+use std::cmp::Ordering;
+
+/// A row of fields.
+///
+/// Source: the heading "field_id_item" of the Android page "Dalvik Executable format".
+#[derive(Clone, Copy, Debug, PartialEq, Eq)]
+pub struct FieldRow {
+    /// The type that the field belongs to.
+    pub class: usize,
+    /// The text of its name.
+    pub name: usize,
+    /// Its own type.
+    pub typ: usize,
+}
+
+/// A row of fields is ordered by its class, then by its name, then by its type.
+impl Row for FieldRow {
+    type Key = [usize; 3];
+
+    ghost numbers_of = { λ numbers. numbers };
+
+    ghost key_of = { λ row. row.class ∷ row.name ∷ row.typ ∷ [] };
+
+    ghost numbers_in = { λ among row. (among.types row.class ≡ true) × (among.strings row.name ≡ true) × (among.types row.typ ≡ true) };
+
+    ghost mapped = { λ lower row. record { class = lower.types row.class; name = lower.strings row.name; typ = lower.types row.typ } };
+
+    ghost keeps_order = { λ among lower rise x y in_x in_y. both_same _ _ _ _ (same_number among.types lower.types rise.types x.class y.class in_x.0 in_y.0) (both_same _ _ _ _ (same_number among.strings lower.strings rise.strings x.name y.name in_x.1 in_y.1) (both_same _ _ _ _ (same_number among.types lower.types rise.types x.typ y.typ in_x.2 in_y.2) refl)) };
+
+    fn key(&self) -> [usize; 3] {
+        [self.class, self.name, self.typ]
+    }
+
+    fn compare(&self, other: &Self) -> Ordering {
+        self.key().cmp(&other.key())
+    }
+
+    fn copied(&self) -> Self {
+        *self
+    }
+}

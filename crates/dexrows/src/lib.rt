@@ -1,0 +1,28 @@
+//! Sorted tables of rows, whose keys are numbers of rows of lower tables: a join of many, and a cut of one.
+//!
+//! Source: the Android page "Dalvik Executable format", under the headings "string_id_item",
+//! "type_id_item", "proto_id_item", "field_id_item" and "method_id_item".
+#![tactic(auto)]
+
+mod cutting;
+mod fields;
+mod joining;
+mod merging;
+mod methods;
+mod places;
+mod protos;
+mod rows;
+mod sorted;
+#[cfg(test)]
+mod tests;
+mod texts;
+mod types;
+
+pub use cutting::{Kept, cut};
+pub use fields::FieldRow;
+pub use joining::{Joined, join};
+pub use methods::MethodRow;
+pub use protos::ProtoRow;
+pub use rows::Row;
+pub use sorted::is_sorted;
+pub use types::TypeRow;

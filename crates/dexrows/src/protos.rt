@@ -1,0 +1,95 @@
+//! Rows of protos.
+
+ghost use Rattle.std.specs.Prelude.{◌≡◌, ◌∷◌, [], true, All, map};
+ghost use Rattle.dexrows.specs.KeyOrders.{both_same, same_number, same_numbers};
+
+use crate::rows::Row;
+use std::cmp::Ordering;
+use std::marker::Model;
+
+/// A row of protos, whose parameters are borrowed.
+///
+/// Source: the heading "proto_id_item" of the Android page "Dalvik Executable format".
+#[derive(Drop)]
+pub struct ProtoRow<'p> {
+    shorty: usize,
+    return_type: usize,
+    parameters: &'p [usize],
+}
+
+impl<'p> Model for ProtoRow<'p> {
+    ghost use Rattle.dexrows.specs.Numbers.{ProtoNumbers};
+
+    ghost Value = { ProtoNumbers };
+
+    ghost view = { λ row. record { shorty = row.shorty; return_type = row.return_type; parameters = row.parameters.now } };
+}
+
+impl<'p> ProtoRow<'p> {
+    /// The row with these numbers: the text of the shorty, the type that is returned, and the types of the
+    /// parameters.
+    pub fn new(shorty: usize, return_type: usize, parameters: &'p [usize]) -> ProtoRow<'p>
+        ensures { result ≡ record { shorty = shorty; return_type = return_type; parameters = parameters.now } }
+    {
+        ProtoRow {
+            shorty,
+            return_type,
+            parameters,
+        }
+    }
+
+    /// The text of the shorty.
+    pub fn shorty(&self) -> usize
+        ensures { result ≡ self.now.shorty }
+    {
+        self.shorty
+    }
+
+    /// The type that is returned.
+    pub fn return_type(&self) -> usize
+        ensures { result ≡ self.now.return_type }
+    {
+        self.return_type
+    }
+
+    /// The types of the parameters, in their order.
+    pub fn parameters(&self) -> &'p [usize]
+        ensures { result.now ≡ self.now.parameters }
+    {
+        self.parameters
+    }
+}
+
+/// A row of protos is ordered by its return type, and then by its parameters. Its shorty follows from these.
+impl<'p> Row for ProtoRow<'p> {
+    type Key = (usize, &'p [usize]);
+
+    ghost numbers_of = { λ key. key.0 ∷ key.1.now };
+
+    ghost key_of = { λ row. row.return_type ∷ row.parameters };
+
+    ghost numbers_in = { λ among row. (among.types row.return_type ≡ true) × All (λ number. among.types number ≡ true) row.parameters };
+
+    ghost mapped = { λ lower row. record { shorty = lower.strings row.shorty; return_type = lower.types row.return_type; parameters = map lower.types row.parameters } };
+
+    ghost keeps_order = { λ among lower rise x y in_x in_y. both_same _ _ _ _ (same_number among.types lower.types rise.types x.return_type y.return_type in_x.0 in_y.0) (same_numbers among.types lower.types rise.types x.parameters y.parameters in_x.1 in_y.1) };
+
+    fn key(&self) -> (usize, &'p [usize]) {
+        (self.return_type, self.parameters)
+    }
+
+    fn compare(&self, other: &Self) -> Ordering {
+        match self.return_type.cmp(&other.return_type) {
+            Ordering::Equal => self.parameters.cmp(other.parameters),
+            order => order,
+        }
+    }
+
+    fn copied(&self) -> Self {
+        ProtoRow {
+            shorty: self.shorty,
+            return_type: self.return_type,
+            parameters: self.parameters,
+        }
+    }
+}

@@ -1,0 +1,44 @@
+//! What a row of a sorted table is.
+
+ghost use Rattle.std.specs.Prelude.{◌≡◌, List, ℕ};
+ghost use Rattle.dexspec.specs.Rows.{key_cmp};
+ghost use Rattle.dexrows.specs.Numbers.{Among, Lower, RiseAmong};
+
+use std::cmp::Ordering;
+
+/// A row of a sorted table. Rows are ordered by their keys, which are lists of numbers: the units of a text,
+/// or numbers of rows of lower tables. Keys compare number by number, a front before what it begins.
+///
+/// Source: the headings "string_id_item", "type_id_item", "proto_id_item", "field_id_item" and
+/// "method_id_item" of the Android page "Dalvik Executable format".
+pub trait Row: Drop {
+    /// What a row is ordered by.
+    type Key;
+
+    // The numbers of a key.
+    ghost numbers_of: { Self.Key → List ℕ };
+
+    // The numbers that a row is ordered by.
+    ghost key_of: { Self → List ℕ };
+
+    // Whether each number of a lower table in the row's key is among these.
+    ghost numbers_in: { Among → Self → Type 0 };
+
+    // The row with its numbers of lower tables replaced.
+    ghost mapped: { Lower → Self → Self };
+
+    /// What the row is ordered by. No memory is taken.
+    fn key(&self) -> Self::Key
+        ensures { numbers_of result ≡ key_of self.now };
+
+    /// The order of the two rows' keys. No memory is taken.
+    fn compare(&self, other: &Self) -> Ordering
+        ensures { result ≡ key_cmp (key_of self.now) (key_of other.now) };
+
+    /// The same row. No memory is taken.
+    fn copied(&self) -> Self
+        ensures { result ≡ self.now };
+
+    // Where the numbers of lower tables are replaced in their order, the rows keep theirs.
+    ghost keeps_order: { (among : Among) (lower : Lower) → RiseAmong among lower → (x y : Self) → numbers_in among x → numbers_in among y → key_cmp (key_of (mapped lower x)) (key_of (mapped lower y)) ≡ key_cmp (key_of x) (key_of y) };
+}

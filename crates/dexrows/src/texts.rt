@@ -1,0 +1,36 @@
+//! Texts as rows.
+
+ghost use Rattle.std.specs.Prelude.{refl};
+
+use crate::rows::Row;
+use dexstr::Text;
+use std::cmp::Ordering;
+
+/// A text is ordered by its units.
+///
+/// Source: the heading "string_id_item" of the Android page "Dalvik Executable format".
+impl<'a> Row for Text<'a> {
+    type Key = Text<'a>;
+
+    ghost numbers_of = { λ text. text };
+
+    ghost key_of = { λ text. text };
+
+    ghost numbers_in = { λ among text. Unit {0} };
+
+    ghost mapped = { λ lower text. text };
+
+    ghost keeps_order = { λ among lower rise x y in_x in_y. refl };
+
+    fn key(&self) -> Text<'a> {
+        self.clone()
+    }
+
+    fn compare(&self, other: &Self) -> Ordering {
+        self.cmp(other)
+    }
+
+    fn copied(&self) -> Self {
+        self.clone()
+    }
+}

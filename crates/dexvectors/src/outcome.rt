@@ -1,5 +1,7 @@
 //! How a line goes.
 
+ghost use Rattle.std.specs.Prelude.{◌≡◌, ◌↔◌, string_bytes};
+
 /// How a line goes.
 #[derive(Debug, Drop)]
 pub enum Outcome {
@@ -12,8 +14,10 @@ pub enum Outcome {
 }
 
 impl Outcome {
-    /// How a line goes whose right answer is this.
-    pub fn of(answered: String, right: &str) -> Outcome {
+    /// How a line goes whose right answer is this: it passes exactly where that was answered.
+    pub fn of(answered: String, right: &str) -> Outcome
+        ensures { (result ≡ Outcome.Passed) ↔ (string_bytes answered ≡ right.now) }
+    {
         if answered.as_str() == right {
             Outcome::Passed
         } else {

@@ -1,5 +1,8 @@
 //! Lines counted by how they went.
 
+ghost use Rattle.std.specs.Prelude.{◌≡◌, ◌↔◌, ◌<◌, IsTrue};
+ghost use Rattle.dexvectors.specs.Outcomes.{is_failed};
+
 use crate::outcome::Outcome;
 use std::fmt;
 
@@ -13,22 +16,28 @@ pub struct Tally {
 
 impl Tally {
     /// How many lines failed.
-    pub fn failed(self) -> u32 {
+    pub fn failed(self) -> u32
+        ensures { result ≡ self.failed }
+    {
         self.failed
     }
 
     /// One line more.
-    pub fn count(&mut self, outcome: &Outcome) {
-        let number = match outcome {
-            Outcome::Passed => &mut self.passed,
-            Outcome::Unserved => &mut self.unserved,
-            Outcome::Failed(_) => &mut self.failed,
-        };
-        *number = number.saturating_add(1);
+    pub fn count(&mut self, outcome: &Outcome)
+        ensures failed { IsTrue (is_failed outcome.now) → 0 < self.new.failed }
+        ensures before { 0 < self.old.failed → 0 < self.new.failed }
+    {
+        match outcome {
+            Outcome::Passed => self.passed = self.passed.saturating_add(1),
+            Outcome::Unserved => self.unserved = self.unserved.saturating_add(1),
+            Outcome::Failed(_) => self.failed = self.failed.saturating_add(1),
+        }
     }
 
     /// The lines of both.
-    pub fn with(self, other: Tally) -> Tally {
+    pub fn with(self, other: Tally) -> Tally
+        ensures failed { (result.failed ≡ 0) ↔ ((self.failed ≡ 0) × (other.failed ≡ 0)) }
+    {
         Tally {
             passed: self.passed.saturating_add(other.passed),
             unserved: self.unserved.saturating_add(other.unserved),

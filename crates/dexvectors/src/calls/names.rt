@@ -1,12 +1,15 @@
 //! What a text may name: `UNITS KIND MEMBER`, the kind of type descriptor or `None`, and 1 where a member
 //! may be named so, else 0.
 
+ghost use Rattle.std.specs.Prelude.{◌≡◌, ◌++◌, IfOk, OnOk};
+ghost use Rattle.dexspec.specs.Texts.{form, string_data};
+
 use crate::fault::VectorFault;
 use crate::outcome::Outcome;
 use crate::words::units_in;
 use dexleb::put_u;
 use dexstr::{Text, descriptor_kind, is_member_name};
-use std::alloc::Global;
+use std::alloc::{AllocError, Global};
 
 /// Runs a line.
 pub fn run(alloc: Global, line: &str) -> Result<Outcome, VectorFault> {
@@ -24,7 +27,9 @@ pub fn run(alloc: Global, line: &str) -> Result<Outcome, VectorFault> {
 }
 
 // The string_data_item of a text of these units.
-fn item_of(alloc: Global, units: &[u16]) -> Result<Vec<u8>, VectorFault> {
+fn item_of(alloc: Global, units: &[u16]) -> Result<Vec<u8>, VectorFault>
+    ensures { IfOk result (λ item. item.items ≡ string_data units.now) }
+{
     let count = u32::try_from(units.len()).map_err(|_| VectorFault::Form)?;
     let mut item = Vec::new(alloc);
     put_u(count, &mut item)?;
@@ -36,7 +41,9 @@ fn item_of(alloc: Global, units: &[u16]) -> Result<Vec<u8>, VectorFault> {
 }
 
 // Appends the MUTF-8 spelling of a unit.
-fn put_unit(unit: u16, out: &mut Vec<u8>) -> Result<(), VectorFault> {
+fn put_unit(unit: u16, out: &mut Vec<u8>) -> Result<(), AllocError>
+    ensures { OnOk result (out.new.items ≡ out.old.items ++ form unit) }
+{
     let low = (unit % 64) as u8;
     let middle = (unit / 64 % 64) as u8;
     let high = (unit / 4096) as u8;

@@ -17,6 +17,8 @@ mod sums;
 mod tables;
 #[cfg(test)]
 mod tests;
+#[cfg(test)]
+mod two_class_tests;
 mod whole;
 
 pub use device::{Device, DeviceFault, Sink, Source};

@@ -1,6 +1,7 @@
 pub mod Entries
 pub mod Frames
 pub mod Judged
+pub mod LaidOut
 pub mod Lengths
 pub mod Overwritten
 pub mod Spelled

@@ -3,6 +3,8 @@
 #![tactic(auto)]
 
 mod device;
+#[cfg(test)]
+mod device_tests;
 mod frame;
 mod head;
 mod header;

@@ -1,9 +1,10 @@
 -- the bytes of a header and of a map
-use Rattle.std.specs.Prelude.{◌≡◌, ℕ, ◌-◌, List, ◌++◌, map}
+use Rattle.std.specs.Prelude.{◌≡◌, ℕ, ◌-◌, ◌^◌, ◌<◌, List, ◌++◌, map}
 use Rattle.std.specs.List.{flat_map}
 use Rattle.dexspec.specs.Bytes.{uint}
 use Rattle.dexspec.specs.Header.{header_length}
-use Rattle.dexspec.specs.Sections.{Section}
+use Rattle.dexspec.specs.Sections as sections
+use Rattle.dexspec.specs.Sections.{Section, type_code}
 use Rattle.dexspec.specs.Placing.{Ordered}
 use Rattle.dexspec.specs.Canonical.{magic, placed_tables, data_start}
 use Rattle.dexhead.specs.declared.head.Head.{Head}
@@ -38,3 +39,11 @@ pub record TellsTables (h : Head) (K : Ordered) : Type 0 where
 -- the section that an entry tells, the number of its items, and the offset of the first
 abbrev pub entry_meant : MapEntry → Section × ℕ × ℕ
 entry_meant e = (section_meant e.section, e.size, e.off)
+
+-- its two numbers are such as a `u32` holds
+abbrev pub HasNumbers : MapEntry → Type 0
+HasNumbers e = (e.size < 2 ^ 32) × (e.off < 2 ^ 32)
+
+-- the entry as it is read
+abbrev pub entry_read : MapEntry → sections.MapEntry
+entry_read e = record { kind = type_code (section_meant e.section); size = e.size; off = e.off }

@@ -1,14 +1,17 @@
 //! What follows from the bytes that are put, for the crates above. A function here does nothing: its contract
 //! is the law.
 
-ghost use Rattle.std.specs.Prelude.{◌≡◌, ℕ, ◌^◌, ◌≤◌, List, ◌++◌, length, take, drop};
+ghost use Rattle.std.specs.Prelude.{◌≡◌, ℕ, ◌+◌, ◌^◌, ◌<◌, ◌≤◌, List, ◌++◌, length, map, take, drop, All};
+ghost use Rattle.dexspec.specs.Bytes.{uint_at, Stands};
 ghost use Rattle.dexspec.specs.Placing.{Ordered};
-ghost use Rattle.dexspec.specs.Canonical.{magic, header_bytes, unsigned_file, with_sums};
+ghost use Rattle.dexspec.specs.Canonical.{magic, map_bytes, header_bytes, unsigned_file, with_sums};
+ghost use Rattle.dexspec.specs.Sections.{entries_at};
 ghost use Rattle.dexhead.specs.declared.head.Head.{Head};
+ghost use Rattle.dexhead.specs.declared.map_list.MapEntry.{MapEntry};
 ghost use Rattle.dexhead.specs.Opened.{IsOpened};
 ghost use Rattle.dexhead.specs.Sums.{with_sums_set};
 ghost use Rattle.dexhead.specs.Laid.{TellsLayout, behind_header};
-ghost use Rattle.dexhead.specs.Written.{TellsTables, field_bytes, head_bytes};
+ghost use Rattle.dexhead.specs.Written.{TellsTables, field_bytes, head_bytes, HasNumbers, entry_meant, entry_read};
 
 /// A header that tells the file's length, followed by the rest of the file, with the two sums set, meets
 /// conditions 1 to 8.
@@ -33,4 +36,10 @@ pub fn sums_law()
 /// order, with the two sums set, is their canonical file.
 pub fn file_law()
     ensures { (h : Head) (K : Ordered) → length h.signature ≡ 20 → TellsLayout h K → with_sums_set (head_bytes h ++ behind_header K) ≡ with_sums (unsigned_file K) }
+{}
+
+/// A map that is put is read where it stands: the number of its entries, and each of them.
+pub fn map_law()
+    ensures count { (es : List MapEntry) (b : List ℕ) (o : ℕ) → length es < 2 ^ 32 → All HasNumbers es → Stands b o (map_bytes (map entry_meant es)) → uint_at b o ≡ length es }
+    ensures entries { (es : List MapEntry) (b : List ℕ) (o : ℕ) → length es < 2 ^ 32 → All HasNumbers es → Stands b o (map_bytes (map entry_meant es)) → entries_at b (o + 4) (length es) ≡ map entry_read es }
 {}

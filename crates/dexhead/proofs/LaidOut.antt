@@ -2,8 +2,9 @@
 use Rattle.std.proofs.Common.{◌≡◌, ℕ, List, ◌++◌, length, map, refl, sym, ap, ◌∙◌}
 use Rattle.std.specs.List.{flat_map}
 use Rattle.std.proofs.lemmas.List.Folds.{flat_map-map}
+use Rattle.sha1.specs.Sha1.{sha1}
 use Rattle.dexspec.specs.Bytes.{uint}
-use Rattle.dexspec.specs.Header.{Table}
+use Rattle.dexspec.specs.Header.{Table, adler_32}
 use Rattle.dexspec.specs.Placing.{Ordered}
 use Rattle.dexspec.specs.Canonical.{placed_tables, header_bytes, unsigned_file, with_sums}
 use Rattle.dexhead.specs.declared.head.Head.{Head}
@@ -11,7 +12,7 @@ use Rattle.dexhead.specs.declared.head.Rows.{Rows}
 use Rattle.dexhead.specs.Sums.{with_sums_set}
 use Rattle.dexhead.specs.Written.{rows_bytes, rows_meant, field_bytes, head_bytes, TellsTables}
 use Rattle.dexhead.specs.Laid.{TellsLayout, behind_header, map_start}
-use Rattle.dexhead.proofs.PutHeads.{head_set}
+use Rattle.dexhead.proofs.PutHeads.{head_set, head_told}
 
 -- two numbers of four bytes each
 abbrev pair_bytes : ℕ × ℕ → List ℕ
@@ -35,3 +36,8 @@ same_file h K tells = ap (λ x. x ++ behind_header K) (same_fields h K tells.tab
 
 pub whole_file : (h : Head) (K : Ordered) → length h.signature ≡ 20 → TellsLayout h K → with_sums_set (head_bytes h ++ behind_header K) ≡ with_sums (unsigned_file K)
 whole_file h K twenty tells = head_set h (behind_header K) twenty ∙ ap with_sums (same_file h K tells)
+
+pub told_file : (h : Head) (K : Ordered) → TellsLayout h K → h.signature ≡ sha1 (unsigned_file K) → h.checksum ≡ adler_32 (h.signature ++ unsigned_file K) → head_bytes h ++ behind_header K ≡ with_sums (unsigned_file K)
+told_file h K tells s c =
+    let same : field_bytes h ++ behind_header K ≡ unsigned_file K = same_file h K tells in
+    head_told h (behind_header K) (s ∙ ap sha1 (sym same)) (c ∙ ap (λ x. adler_32 (h.signature ++ x)) (sym same)) ∙ ap with_sums same

@@ -57,6 +57,14 @@ head_set h rest twenty =
     (first_part magic (uint h.checksum) h.signature (field_bytes h) rest 8 refl)
     (behind magic (uint h.checksum) h.signature (field_bytes h) rest refl (length-uint h.checksum) twenty)
 
+-- a header that tells the right sums is there as the sums would be set
+pub head_told : (h : Head) (rest : List ℕ) → h.signature ≡ sha1 (field_bytes h ++ rest) → h.checksum ≡ adler_32 (h.signature ++ (field_bytes h ++ rest)) → head_bytes h ++ rest ≡ with_sums (field_bytes h ++ rest)
+unfolding head_bytes with_sums
+head_told h rest s c =
+    joined magic (uint h.checksum) h.signature (field_bytes h) rest
+    ∙ ap (λ k. magic ++ (uint k ++ (h.signature ++ (field_bytes h ++ rest)))) c
+    ∙ ap (λ y. magic ++ (uint (adler_32 (y ++ (field_bytes h ++ rest))) ++ (y ++ (field_bytes h ++ rest)))) s
+
 -- as long as before
 head_length : (h : Head) (rest : List ℕ) → length h.signature ≡ 20 → length (head_bytes h ++ rest) ≡ 32 + length (field_bytes h ++ rest)
 unfolding head_bytes

@@ -2,7 +2,9 @@
 //! is the law.
 
 ghost use Rattle.std.specs.Prelude.{◌≡◌, ℕ, ◌+◌, ◌^◌, ◌<◌, ◌≤◌, List, ◌++◌, length, map, take, drop, All};
+ghost use Rattle.sha1.specs.Sha1.{sha1};
 ghost use Rattle.dexspec.specs.Bytes.{uint_at, Stands};
+ghost use Rattle.dexspec.specs.Header.{adler_32};
 ghost use Rattle.dexspec.specs.Placing.{Ordered};
 ghost use Rattle.dexspec.specs.Canonical.{magic, map_bytes, header_bytes, unsigned_file, with_sums};
 ghost use Rattle.dexspec.specs.Sections.{entries_at};
@@ -30,12 +32,16 @@ pub fn fields_law()
 pub fn sums_law()
     ensures file { (file : List ℕ) → take 8 file ≡ magic → with_sums_set file ≡ with_sums (drop 32 file) }
     ensures head { (h : Head) (rest : List ℕ) → length h.signature ≡ 20 → with_sums_set (head_bytes h ++ rest) ≡ with_sums (field_bytes h ++ rest) }
+
+    // A header that tells the right sums is there as they would be set.
+    ensures told { (h : Head) (rest : List ℕ) → h.signature ≡ sha1 (field_bytes h ++ rest) → h.checksum ≡ adler_32 (h.signature ++ (field_bytes h ++ rest)) → head_bytes h ++ rest ≡ with_sums (field_bytes h ++ rest) }
 {}
 
 /// A header that tells all that stands behind it, followed by the rows, the sections and the map of classes in
-/// order, with the two sums set, is their canonical file.
+/// order, with the two sums set, is their canonical file; so it is where the header tells the right sums.
 pub fn file_law()
-    ensures { (h : Head) (K : Ordered) → length h.signature ≡ 20 → TellsLayout h K → with_sums_set (head_bytes h ++ behind_header K) ≡ with_sums (unsigned_file K) }
+    ensures set { (h : Head) (K : Ordered) → length h.signature ≡ 20 → TellsLayout h K → with_sums_set (head_bytes h ++ behind_header K) ≡ with_sums (unsigned_file K) }
+    ensures told { (h : Head) (K : Ordered) → TellsLayout h K → h.signature ≡ sha1 (unsigned_file K) → h.checksum ≡ adler_32 (h.signature ++ unsigned_file K) → head_bytes h ++ behind_header K ≡ with_sums (unsigned_file K) }
 {}
 
 /// A map that is put is read where it stands: the number of its entries, and each of them.

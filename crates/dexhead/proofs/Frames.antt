@@ -148,6 +148,9 @@ early {b = b} n e le refusal = subst (IsEarly b) (sym e) (record { refused = ref
 
 -- ---- what a frame has
 
+pub long_enough : {b : List ℕ} → HoldBelow 4 b → 112 ≤ length b
+long_enough holds = (holds Condition.Size (omega arith) 0 (omega arith)).least
+
 pub is_long : {b : List ℕ} → IsFrame b → 112 ≤ length b
 is_long frame = (frame Condition.Size (omega arith) 0 (omega arith)).least
 

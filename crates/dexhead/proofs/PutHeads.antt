@@ -45,17 +45,25 @@ fields_open h rest =
     ∙ ap (λ y. b ++ y) (append_assoc c (z ++ (z ++ t)) rest ∙ ap (λ y. c ++ y) (append_assoc z (z ++ t) rest ∙ ap (λ y. z ++ y) (append_assoc z t rest))))
 
 -- setting the sums keeps the magic and what they are of
-sums_set : (file rest : List ℕ) → take 8 file ≡ magic → drop 32 file ≡ rest → with_sums_set file ≡ with_sums rest
+pub sums_set : (file rest : List ℕ) → take 8 file ≡ magic → drop 32 file ≡ rest → with_sums_set file ≡ with_sums rest
 unfolding with_sums_set signed with_sums
 sums_set file rest front back = ap (λ m. m ++ (uint (adler_32 (sha1 (drop 32 file) ++ drop 32 file)) ++ (sha1 (drop 32 file) ++ drop 32 file))) front ∙ ap (λ r. magic ++ (uint (adler_32 (sha1 r ++ r)) ++ (sha1 r ++ r))) back
 
 -- a header with the sums set is the two sums before its fields and the rest
-head_set : (h : Head) (rest : List ℕ) → length h.signature ≡ 20 → with_sums_set (head_bytes h ++ rest) ≡ with_sums (field_bytes h ++ rest)
+pub head_set : (h : Head) (rest : List ℕ) → length h.signature ≡ 20 → with_sums_set (head_bytes h ++ rest) ≡ with_sums (field_bytes h ++ rest)
 unfolding head_bytes
 head_set h rest twenty =
     sums_set ((magic ++ (uint h.checksum ++ (h.signature ++ field_bytes h))) ++ rest) (field_bytes h ++ rest)
     (first_part magic (uint h.checksum) h.signature (field_bytes h) rest 8 refl)
     (behind magic (uint h.checksum) h.signature (field_bytes h) rest refl (length-uint h.checksum) twenty)
+
+-- a header that tells the right sums is there as the sums would be set
+pub head_told : (h : Head) (rest : List ℕ) → h.signature ≡ sha1 (field_bytes h ++ rest) → h.checksum ≡ adler_32 (h.signature ++ (field_bytes h ++ rest)) → head_bytes h ++ rest ≡ with_sums (field_bytes h ++ rest)
+unfolding head_bytes with_sums
+head_told h rest s c =
+    joined magic (uint h.checksum) h.signature (field_bytes h) rest
+    ∙ ap (λ k. magic ++ (uint k ++ (h.signature ++ (field_bytes h ++ rest)))) c
+    ∙ ap (λ y. magic ++ (uint (adler_32 (y ++ (field_bytes h ++ rest))) ++ (y ++ (field_bytes h ++ rest)))) s
 
 -- as long as before
 head_length : (h : Head) (rest : List ℕ) → length h.signature ≡ 20 → length (head_bytes h ++ rest) ≡ 32 + length (field_bytes h ++ rest)

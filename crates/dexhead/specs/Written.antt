@@ -1,10 +1,12 @@
 -- the bytes of a header and of a map
-use Rattle.std.specs.Prelude.{ℕ, List, ◌++◌}
+use Rattle.std.specs.Prelude.{◌≡◌, ℕ, ◌-◌, ◌^◌, ◌<◌, List, ◌++◌, map}
 use Rattle.std.specs.List.{flat_map}
 use Rattle.dexspec.specs.Bytes.{uint}
 use Rattle.dexspec.specs.Header.{header_length}
-use Rattle.dexspec.specs.Sections.{Section}
-use Rattle.dexspec.specs.Canonical.{magic}
+use Rattle.dexspec.specs.Sections as sections
+use Rattle.dexspec.specs.Sections.{Section, type_code}
+use Rattle.dexspec.specs.Placing.{Ordered}
+use Rattle.dexspec.specs.Canonical.{magic, placed_tables, data_start}
 use Rattle.dexhead.specs.declared.head.Head.{Head}
 use Rattle.dexhead.specs.declared.head.Rows.{Rows}
 use Rattle.dexhead.specs.declared.map_list.MapEntry.{MapEntry}
@@ -24,6 +26,24 @@ field_bytes h =
 unfoldable pub head_bytes : Head → List ℕ
 head_bytes h = magic ++ (uint h.checksum ++ (h.signature ++ field_bytes h))
 
+-- a table's number of rows, and where they begin, as numbers
+abbrev pub rows_meant : Rows → ℕ × ℕ
+rows_meant r = (r.size, r.off)
+
+-- the header tells where the tables and the data of these classes stand in their file
+pub record TellsTables (h : Head) (K : Ordered) : Type 0 where
+  pub rows : map rows_meant h.tables ≡ map (λ t. (t.1, t.2)) (placed_tables K)
+  pub data_begins : h.data_off ≡ data_start K
+  pub data_ends : h.data_size ≡ h.file_size - data_start K
+
 -- the section that an entry tells, the number of its items, and the offset of the first
 abbrev pub entry_meant : MapEntry → Section × ℕ × ℕ
 entry_meant e = (section_meant e.section, e.size, e.off)
+
+-- its two numbers are such as a `u32` holds
+abbrev pub HasNumbers : MapEntry → Type 0
+HasNumbers e = (e.size < 2 ^ 32) × (e.off < 2 ^ 32)
+
+-- the entry as it is read
+abbrev pub entry_read : MapEntry → sections.MapEntry
+entry_read e = record { kind = type_code (section_meant e.section); size = e.size; off = e.off }

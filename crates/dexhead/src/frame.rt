@@ -51,6 +51,7 @@ impl<'a> Frame<'a> {
     /// digits as a number.
     ///
     /// Source: "Dalvik Executable format", "header_item" and "map_list".
+    #[tactic(auto, using(crate::proofs::Frames::long_enough))]
     pub fn open(bytes: &'a [u8]) -> Result<Frame<'a>, Refusal>
         ensures accepted { IsOk result ↔ IsFrame bytes.now }
         ensures whole { IfOk result (λ frame. frame ≡ bytes.now) }
@@ -58,7 +59,8 @@ impl<'a> Frame<'a> {
     {
         judge_start(bytes)?;
         judge_fields(bytes)?;
-        judge_rest(bytes)?;
+        judge_sums(bytes)?;
+        judge_places(bytes)?;
         Ok(Frame { bytes })
     }
 
@@ -172,11 +174,11 @@ fn judge_fields(bytes: &[u8]) -> Result<(), Refusal>
     Ok(())
 }
 
-// Conditions 7 to 10: the sums, and where everything stands.
-fn judge_rest(bytes: &[u8]) -> Result<(), Refusal>
-    requires { HoldBelow 7 bytes.now }
-    ensures accepted { OnOk result (IsFrame bytes.now) }
-    ensures refused { IfErr result (IsEarly bytes.now) }
+// Conditions 7 and 8: the sums, of a file that meets those before.
+fn judge_sums(bytes: &[u8]) -> Result<(), Refusal>
+    requires { 112 ≤ length bytes.now }
+    ensures accepted { OnOk result (HoldBelow 7 bytes.now → HoldBelow 9 bytes.now) }
+    ensures refused { IfErr result (λ refusal. HoldBelow 7 bytes.now → IsEarly bytes.now refusal) }
 {
     if !header::has_checksum(bytes) {
         return Err(whole(7));
@@ -184,6 +186,15 @@ fn judge_rest(bytes: &[u8]) -> Result<(), Refusal>
     if !header::has_signature(bytes) {
         return Err(whole(8));
     }
+    Ok(())
+}
+
+// Conditions 9 and 10: where everything stands, of a file that meets those before.
+fn judge_places(bytes: &[u8]) -> Result<(), Refusal>
+    requires { 112 ≤ length bytes.now }
+    ensures accepted { OnOk result (HoldBelow 9 bytes.now → IsFrame bytes.now) }
+    ensures refused { IfErr result (λ refusal. HoldBelow 9 bytes.now → IsEarly bytes.now refusal) }
+{
     if !header::has_layout(bytes) {
         return Err(whole(9));
     }

@@ -1,6 +1,6 @@
 //! A header that is written.
 
-ghost use Rattle.std.specs.Prelude.{◌≡◌, ◌++◌, ◌+◌, ◌≤◌, vec_len, vec_capacity};
+ghost use Rattle.std.specs.Prelude.{◌≡◌, ◌++◌, ◌+◌, ◌≤◌, length, vec_len, vec_capacity};
 ghost use Rattle.std.specs.List.{flat_map};
 ghost use Rattle.dexspec.specs.Bytes.{uint};
 ghost use Rattle.dexspec.specs.Canonical.{magic};
@@ -69,8 +69,10 @@ impl Head {
     /// is then as it was.
     ///
     /// Source: "Dalvik Executable format", "header_item".
+    #[tactic(auto, using(crate::proofs::Lengths::length_head))]
     pub fn put(&self, out: &mut Vec<u8>) -> Result<(), AllocError>
-        ensures { Puts (head_bytes self.now) out.old out.new result }
+        ensures puts { Puts (head_bytes self.now) out.old out.new result }
+        ensures len { length (head_bytes self.now) ≡ 112 }
     {
         let head = *self;
         out.reserve(HEADER_SIZE as usize)?;

@@ -3,6 +3,8 @@
 #![tactic(auto)]
 
 mod device;
+#[cfg(test)]
+mod device_tests;
 mod frame;
 mod head;
 mod header;
@@ -17,6 +19,8 @@ mod sums;
 mod tables;
 #[cfg(test)]
 mod tests;
+#[cfg(test)]
+mod two_class_tests;
 mod whole;
 
 pub use device::{Device, DeviceFault, Sink, Source};

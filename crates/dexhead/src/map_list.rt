@@ -1,6 +1,6 @@
 //! A map that is written.
 
-ghost use Rattle.std.specs.Prelude.{◌≡◌, ◌++◌, ◌+◌, ◌^◌, ◌<◌, ◌≤◌, length, map, vec_len, vec_capacity};
+ghost use Rattle.std.specs.Prelude.{◌≡◌, ◌++◌, ◌+◌, ◌*◌, ◌^◌, ◌<◌, ◌≤◌, length, map, vec_len, vec_capacity};
 ghost use Rattle.dexspec.specs.Canonical.{map_entry_bytes, map_bytes};
 ghost use Rattle.dexspec.specs.Writing.{Puts};
 
@@ -59,7 +59,8 @@ impl MapList<'_> {
     /// Source: "Dalvik Executable format", "map_list".
     #[tactic(auto, using(crate::proofs::Lengths::length_map))]
     pub fn put(&self, out: &mut Vec<u8>) -> Result<(), AllocError>
-        ensures { Puts (map_bytes (map entry_meant self.now.entries.now)) out.old out.new result }
+        ensures puts { Puts (map_bytes (map entry_meant self.now.entries.now)) out.old out.new result }
+        ensures len { length (map_bytes (map entry_meant self.now.entries.now)) ≡ 4 + 12 * length self.now.entries.now }
     {
         out.reserve(4 + 12 * self.entries.len())?;
         push_u32(self.entries.len() as u32, out);

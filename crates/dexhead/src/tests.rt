@@ -1,15 +1,13 @@
-//! What no contract says: values from outside, each public call once, and devices that fail.
+//! What no contract says: values from outside, and each public call once.
 
-ghost use Rattle.std.specs.Prelude.{◌≤◌, IfOk};
+ghost use Rattle.std.specs.Prelude.{◌≤◌};
 
 use crate::{
-    Adler, Device, DeviceFault, Frame, Head, MapEntry, MapList, Refusal, Rows, Section, Sink,
-    Source, Table, adler, put_u16, put_u32, set_sums, u16_at, u32_at,
+    Adler, Frame, Head, MapEntry, MapList, Refusal, Rows, Section, Table, adler, put_u16, put_u32,
+    set_sums, u16_at, u32_at,
 };
 use byteorder::{ByteOrder, LittleEndian};
 use sha1::Sha1;
-use std::io;
-use std::io::{ErrorKind, Read, Write};
 use std::test::Fail;
 
 // The canonical file of no classes, made by another program.
@@ -285,125 +283,4 @@ fn refuses_a_class_file_of_wrong_sums(rt: HostRuntime) {
 
 fn entry(section: Section, size: u32, off: u32) -> MapEntry {
     MapEntry { section, size, off }
-}
-
-#[derive(Clone, Copy)]
-enum Answer {
-    Fails(ErrorKind),
-    Moves(usize),
-}
-
-// Answers each call as is said for it in turn, and counts the calls. The later ones move all.
-#[derive(Drop)]
-struct Scripted<'a, T> {
-    inner: T,
-    answers: &'a [Answer],
-    calls: usize,
-}
-
-impl<T> Scripted<'_, T> {
-    // How many of so many bytes this call moves.
-    fn answer(&mut self, len: usize) -> io::Result<usize>
-        ensures { IfOk result (λ n. n ≤ len) }
-    {
-        let answer = self.answers.get(self.calls).copied();
-        self.calls = self.calls.saturating_add(1);
-        match answer {
-            Some(Answer::Fails(kind)) => Err(kind.into()),
-            Some(Answer::Moves(n)) => Ok(n.min(len)),
-            None => Ok(len),
-        }
-    }
-}
-
-impl<T: Read> Read for Scripted<'_, T> {
-    fn read(&mut self, buf: &mut [u8]) -> io::Result<usize> {
-        let n = self.answer(buf.len())?;
-        self.inner.read(&mut buf[..n])
-    }
-}
-
-impl<T: Write> Write for Scripted<'_, T> {
-    fn write(&mut self, bytes: &[u8]) -> io::Result<usize> {
-        let n = self.answer(bytes.len())?;
-        self.inner.write(&bytes[..n])
-    }
-
-    fn flush(&mut self) -> io::Result<()> {
-        Ok(())
-    }
-}
-
-#[test]
-fn a_device_moves_its_bytes(rt: HostRuntime) -> Result<(), Fail> {
-    let answers = [Answer::Moves(1); 3];
-    let mut input = Device::new(Scripted {
-        inner: b"ab".as_slice(),
-        answers: &answers,
-        calls: 0,
-    });
-    let mut out = Device::new(Scripted {
-        inner: Vec::new(rt.alloc()),
-        answers: &answers,
-        calls: 0,
-    });
-    for want in [1, 1, 0] {
-        assert!(rt; !Source::failed(&input));
-        assert!(rt; !Sink::failed(&out));
-        let mut buf = [0; 8];
-        let read = Source::read(&mut input, &mut buf);
-        assert_eq!(rt; read, Ok(want));
-        if want > 0 {
-            assert_eq!(rt; Sink::write(&mut out, &buf), Ok(1));
-        }
-    }
-    assert!(rt; !Sink::failed(&out));
-    assert_eq!(rt; out.into_inner().inner.as_slice(), b"ab".as_slice());
-    Ok(())
-}
-
-#[test]
-fn a_source_that_fails_is_not_called_again(rt: HostRuntime) {
-    for kind in [ErrorKind::BrokenPipe, ErrorKind::Interrupted] {
-        let answers = [Answer::Fails(kind)];
-        let mut input = Device::new(Scripted {
-            inner: b"ab".as_slice(),
-            answers: &answers,
-            calls: 0,
-        });
-        assert_eq!(rt; Source::read(&mut input, &mut [0; 8]), Err(DeviceFault));
-        assert!(rt; Source::failed(&input));
-        assert_eq!(rt; input.into_inner().calls, 1);
-        let answers = [Answer::Moves(1), Answer::Fails(kind)];
-        let mut input = Device::new(Scripted {
-            inner: b"ab".as_slice(),
-            answers: &answers,
-            calls: 0,
-        });
-        assert_eq!(rt; Source::read(&mut input, &mut [0; 8]), Ok(1));
-        assert!(rt; !Source::failed(&input));
-        assert_eq!(rt; Source::read(&mut input, &mut [0; 8]), Err(DeviceFault));
-        assert!(rt; Source::failed(&input));
-        assert_eq!(rt; input.into_inner().calls, 2);
-    }
-}
-
-#[test]
-fn a_sink_that_fails_is_not_called_again(rt: HostRuntime) {
-    let cases = [
-        Answer::Fails(ErrorKind::BrokenPipe),
-        Answer::Fails(ErrorKind::Interrupted),
-        Answer::Moves(0),
-    ];
-    for answer in cases {
-        let answers = [answer];
-        let mut out = Device::new(Scripted {
-            inner: Vec::new(rt.alloc()),
-            answers: &answers,
-            calls: 0,
-        });
-        assert_eq!(rt; Sink::write(&mut out, b"a"), Err(DeviceFault));
-        assert!(rt; Sink::failed(&out));
-        assert_eq!(rt; out.into_inner().calls, 1);
-    }
 }

@@ -4,6 +4,7 @@ use Rattle.std.specs.Bool.{IsTrue}
 use Rattle.std.specs.List.{All, find}
 use Rattle.std.specs.Option.{option_map}
 use Rattle.std.proofs.lemmas.List.Elements.{All-head, All-tail}
+use Rattle.std.proofs.lemmas.List.{nil_from_length}
 use Rattle.std.proofs.lemmas.Option.{same_Some}
 use Rattle.dexspec.specs.Pieces.{Cut, AreCut, BreaksAt, IsCode, has_right_targets, piece_size}
 use Rattle.dexinsn.specs.declared.code.CodeFault.{CodeFault}
@@ -181,3 +182,7 @@ cut_fault us Empty is = absurd is
 cut_fault us (Piece n) is = is
 cut_fault us (Target n) is = absurd is
 cut_fault us Memory is = tt
+
+-- where there are no units, that is the only answer
+pub only_empty : (us : List ℕ) → length us ≡ 0 → (answer : Result (List Cut) CodeFault) → IsAnswer us answer → IsAnswered answer (Err Empty)
+only_empty us none answer is = answer_once us (Err Empty) answer (nil_from_length us none) is

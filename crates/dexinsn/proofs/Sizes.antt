@@ -71,25 +71,11 @@ unfolding piece_size
 piece_size-fits at [] n is = cc
 piece_size-fits at (u ∷ us) n is = by_kind (u ∷ us) n (is_payload_ident u) (at % 2 == 0) is
 
--- the piece that stands first, by its first unit: `told` is what the code answers of that unit
-first_is : (at : ℕ) (us : List ℕ) → 0 < length us → piece_size at us ≡ cond (is_payload_ident (slice_index us 0)) (cond (at % 2 == 0) (payload_size us) None) (instruction_size us)
+-- the piece that stands first, by its first unit
+pub first_is : (at : ℕ) (us : List ℕ) → 0 < length us → piece_size at us ≡ cond (is_payload_ident (slice_index us 0)) (cond (at % 2 == 0) (payload_size us) None) (instruction_size us)
 unfolding piece_size
 first_is at [] some = absurd (omega arith)
 first_is at (u ∷ us) some = refl
-
-by_answer-some : (b : Bool) (u k : ℕ) (x y : Option ℕ) → Some k ≡ cond b (Some u) None → cond b x y ≡ x
-by_answer-some true u k x y is = refl
-by_answer-some false u k x y is = cc
-
-by_answer-none : (b : Bool) (u : ℕ) (x y : Option ℕ) → None ≡ cond b (Some u) None → cond b x y ≡ y
-by_answer-none true u x y is = cc
-by_answer-none false u x y is = refl
-
-pub piece_size-payload : (at : ℕ) (us : List ℕ) (k : ℕ) → 0 < length us → Some k ≡ cond (is_payload_ident (slice_index us 0)) (Some (slice_index us 0)) None → piece_size at us ≡ cond (at % 2 == 0) (payload_size us) None
-piece_size-payload at us k some is = first_is at us some ∙ by_answer-some (is_payload_ident (slice_index us 0)) (slice_index us 0) k _ _ is
-
-pub piece_size-instruction : (at : ℕ) (us : List ℕ) → 0 < length us → None ≡ cond (is_payload_ident (slice_index us 0)) (Some (slice_index us 0)) None → piece_size at us ≡ instruction_size us
-piece_size-instruction at us some is = first_is at us some ∙ by_answer-none (is_payload_ident (slice_index us 0)) (slice_index us 0) _ _ is
 
 -- ---- a piece within the units
 

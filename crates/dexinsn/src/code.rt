@@ -61,6 +61,7 @@ impl CodeFault {
 ///
 /// Sources: the Android pages "Dalvik bytecode", with its three headings on payloads, and "Dalvik
 /// executable instruction formats".
+#[tactic(auto, using(crate::proofs::Once::only_empty))]
 pub fn split(alloc: Global, units: &[u16]) -> Result<Vec<Cut>, CodeFault>
     ensures code { IfOk result (λ cuts. IsCode units.now (cuts_of cuts.items)) }
     ensures fault { IfErr result (IsFault units.now) }

@@ -5,7 +5,7 @@ ghost use Rattle.std.specs.Cmp.Rules.{comparing};
 ghost use Rattle.std.specs.Cmp.Lexicographic.{slice_cmp, pointwise};
 ghost use Rattle.std.specs.Ordering.{nat_cmp, as_partial_cmp};
 
-use crate::order::compare;
+use crate::order::place_of;
 use crate::units::{Units, count_units};
 use std::cmp::Ordering;
 use std::marker::Model;
@@ -105,8 +105,16 @@ impl Ord for Text<'_> {
 
     ghost matches_eq = { Prim.search (comparing, rules) };
 
+    // The first bytes that differ decide, and else the shorter text comes first.
     fn cmp(&self, other: &Self) -> Ordering {
-        compare(self.bytes, other.bytes)
+        let left = self.bytes;
+        let right = other.bytes;
+        for i in 0..left.len().min(right.len()) {
+            if left[i] != right[i] {
+                return place_of(left[i]).cmp(&place_of(right[i]));
+            }
+        }
+        left.len().cmp(&right.len())
     }
 }
 

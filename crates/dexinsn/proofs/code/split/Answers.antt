@@ -1,16 +1,10 @@
-use Rattle.std.proofs.Common.{◌≡◌, length, Ok, Err, sym, ap, arith}
+use Rattle.std.proofs.Common.{Ok, Err, sym, ap, arith}
 use Rattle.std.proofs.lemmas.Grind.{common_steps}
-use Rattle.std.proofs.lemmas.List.{nil_from_length}
-use Rattle.dexinsn.specs.declared.code.CodeFault.TheVariants.{Empty, Target}
+use Rattle.dexinsn.specs.declared.code.CodeFault.TheVariants.{Target}
 use Rattle.dexinsn.specs.Split.{cuts_of}
 use Rattle.dexinsn.proofs.Outcome.{AreMarked-code, AreMarked-astray}
 use Rattle.dexinsn.proofs.Once.{answer_once, answered_fault, cut_fault}
 use Rattle.dexinsn.proofs.code.split.Goals as goal
-
-pub returns-then-is_empty-clause-only : goal.returns-then-is_empty-clause-only
-returns-then-is_empty-clause-only c = λ answer is.
-    let none : length c.args.units.now ≡ 0 = grind (arith, common_steps) in
-    answer_once c.args.units.now (Err Empty) answer (nil_from_length c.args.units.now none) is
 
 pub returns-in-Err-clause-only : goal.returns-in-Err-clause-only
 returns-in-Err-clause-only c = λ answer is.

@@ -5,15 +5,15 @@ use Rattle.dexhead.specs.Written.{head_bytes}
 use Rattle.dexhead.proofs.Lengths.{length_head, head_joined}
 use Rattle.dexhead.proofs.head.Head.put.Goals as goal
 
-pub returns-in_err-reserve : goal.returns-in_err-reserve
-returns-in_err-reserve c =
+pub returns-in_err-reserve-clause-puts : goal.returns-in_err-reserve-clause-puts
+returns-in_err-reserve-clause-puts c =
     let six : length c.args.self.now.tables ≡ 6 = search rules in
     let twenty : length c.args.self.now.signature ≡ 20 = search rules in
     let n : length (head_bytes c.args.self.now) ≡ 112 = length_head c.args.self.now six twenty in
     search rules
 
-pub returns : goal.returns
-returns c =
+pub returns-clause-puts : goal.returns-clause-puts
+returns-clause-puts c =
     let h = c.args.self.now in
     let six : length h.tables ≡ 6 = search rules in
     let twenty : length h.signature ≡ 20 = search rules in

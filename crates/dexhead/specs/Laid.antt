@@ -1,0 +1,26 @@
+-- a header before the rest of the file of classes in order
+use Rattle.std.specs.Prelude.{◌≡◌, ℕ, ◌+◌, List, ◌++◌, length}
+use Rattle.std.specs.List.{flat_map}
+use Rattle.dexspec.specs.Bytes.{round_up, padding}
+use Rattle.dexspec.specs.Placing.{Ordered, section_bytes}
+use Rattle.dexspec.specs.Canonical.{layout, table_bytes, map_of, map_bytes}
+use Rattle.dexhead.specs.declared.head.Head.{Head}
+use Rattle.dexhead.specs.Written.{TellsTables}
+
+-- where the map begins
+abbrev pub map_start : Ordered → ℕ
+map_start K = round_up 4 (layout K).data_end
+
+-- the map, the last section
+abbrev pub map_list : Ordered → List ℕ
+map_list K = map_bytes (map_of K (layout K) (map_start K))
+
+-- what stands behind the header: the rows, the sections, and the map
+abbrev pub behind_header : Ordered → List ℕ
+behind_header K = table_bytes K (layout K) ++ (flat_map section_bytes (layout K).sections ++ (padding 4 (layout K).data_end ++ map_list K))
+
+-- the header tells all that stands behind it, and how long that is
+pub record TellsLayout (h : Head) (K : Ordered) : Type 0 where
+  pub tables : TellsTables h K
+  pub map_begins : h.map_off ≡ map_start K
+  pub file_ends : h.file_size ≡ map_start K + length (map_list K)

@@ -1,0 +1,25 @@
+//! Lines that ask for one call each.
+
+mod leb;
+mod names;
+mod puts;
+mod split;
+mod text;
+
+use crate::fault::VectorFault;
+use crate::kind::Kind;
+use crate::outcome::Outcome;
+use std::alloc::Global;
+
+/// Runs a line of a file of calls of this kind: the kind that it is counted as, and how it goes.
+pub fn run_call(alloc: Global, kind: Kind, line: &str) -> Result<(Kind, Outcome), VectorFault> {
+    let outcome = match kind {
+        Kind::Leb => leb::run(alloc, line)?,
+        Kind::Puts => puts::run(alloc, line)?,
+        Kind::Text => text::run(alloc, line)?,
+        Kind::Names => names::run(alloc, line)?,
+        Kind::Split => split::run(alloc, line)?,
+        _ => Outcome::Unserved,
+    };
+    Ok((kind, outcome))
+}

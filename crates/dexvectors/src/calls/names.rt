@@ -1,0 +1,56 @@
+//! What a text may name: `UNITS KIND MEMBER`, the kind of type descriptor or `None`, and 1 where a member
+//! may be named so, else 0.
+
+ghost use Rattle.std.specs.Prelude.{◌≡◌, ◌++◌, IfOk, OnOk};
+ghost use Rattle.dexspec.specs.Texts.{form, string_data};
+
+use crate::fault::VectorFault;
+use crate::outcome::Outcome;
+use crate::words::units_in;
+use dexleb::put_u;
+use dexstr::{Text, descriptor_kind, is_member_name};
+use std::alloc::{AllocError, Global};
+
+/// Runs a line.
+pub fn run(alloc: Global, line: &str) -> Result<Outcome, VectorFault> {
+    let (word, right) = line.split_once(' ').ok_or(VectorFault::Form)?;
+    let item = item_of(alloc, &units_in(alloc, word)?)?;
+    let Ok((text, _)) = Text::read(&item, 0) else {
+        return Ok(Outcome::Failed(String::from_str(alloc, "no text")?));
+    };
+    let member = u8::from(is_member_name(&text));
+    let answered = match descriptor_kind(&text) {
+        Some(kind) => format!(in alloc; "{kind:?} {member}")?,
+        None => format!(in alloc; "None {member}")?,
+    };
+    Ok(Outcome::of(answered, right))
+}
+
+// The string_data_item of a text of these units.
+fn item_of(alloc: Global, units: &[u16]) -> Result<Vec<u8>, VectorFault>
+    ensures { IfOk result (λ item. item.items ≡ string_data units.now) }
+{
+    let count = u32::try_from(units.len()).map_err(|_| VectorFault::Form)?;
+    let mut item = Vec::new(alloc);
+    put_u(count, &mut item)?;
+    for &unit in units {
+        put_unit(unit, &mut item)?;
+    }
+    item.push(0)?;
+    Ok(item)
+}
+
+// Appends the MUTF-8 spelling of a unit.
+fn put_unit(unit: u16, out: &mut Vec<u8>) -> Result<(), AllocError>
+    ensures { OnOk result (out.new.items ≡ out.old.items ++ form unit) }
+{
+    let low = (unit % 64) as u8;
+    let middle = (unit / 64 % 64) as u8;
+    let high = (unit / 4096) as u8;
+    match unit {
+        0x01..=0x7f => out.push(unit as u8)?,
+        0 | 0x80..=0x7ff => out.extend_from_slice(&[0xc0 + middle, 0x80 + low])?,
+        _ => out.extend_from_slice(&[0xe0 + high, 0x80 + middle, 0x80 + low])?,
+    }
+    Ok(())
+}

@@ -1,0 +1,40 @@
+//! Code cut into pieces: `UNITS ok START/LENGTH,START/LENGTH,..`, or `UNITS`, a fault and its unit.
+
+use crate::fault::VectorFault;
+use crate::outcome::Outcome;
+use crate::words::units_in;
+use dexinsn::{CodeFault, Cut, split};
+use std::alloc::{AllocError, Global};
+
+/// Runs a line.
+pub fn run(alloc: Global, line: &str) -> Result<Outcome, VectorFault> {
+    let (word, right) = line.split_once(' ').ok_or(VectorFault::Form)?;
+    let units = units_in(alloc, word)?;
+    let answered = match split(alloc, &units) {
+        Ok(cuts) => told(alloc, &cuts)?,
+        Err(fault) => {
+            let name = match fault {
+                CodeFault::Empty => "Empty",
+                CodeFault::Piece(_) => "Piece",
+                CodeFault::Target(_) => "Target",
+                CodeFault::Memory => return Err(VectorFault::Memory),
+            };
+            let unit = fault.unit();
+            format!(in alloc; "{name} {unit}")?
+        }
+    };
+    Ok(Outcome::of(answered, right))
+}
+
+// The first unit and the number of units of each piece.
+fn told(alloc: Global, cuts: &[Cut]) -> Result<String, AllocError> {
+    let mut answered = String::from_str(alloc, "ok")?;
+    let mut mark = ' ';
+    for cut in cuts {
+        let first = cut.unit;
+        let units = cut.units;
+        write!(answered, "{mark}{first}/{units}")?;
+        mark = ',';
+    }
+    Ok(answered)
+}

@@ -1,0 +1,22 @@
+//! Texts read: `HEX ok USED UNITS`, or `HEX` and a fault.
+
+use crate::fault::VectorFault;
+use crate::outcome::Outcome;
+use crate::words::{bytes_in, word_of};
+use dexstr::Text;
+use std::alloc::Global;
+
+/// Runs a line.
+pub fn run(alloc: Global, line: &str) -> Result<Outcome, VectorFault> {
+    let (word, right) = line.split_once(' ').ok_or(VectorFault::Form)?;
+    let bytes = bytes_in(alloc, word)?;
+    let answered = match Text::read(&bytes, 0) {
+        Ok((text, used)) => {
+            let units: Vec<u16> = text.units().collect(alloc)?;
+            let units = word_of(alloc, &units)?;
+            format!(in alloc; "ok {used} {units}")?
+        }
+        Err(fault) => format!(in alloc; "{fault:?}")?,
+    };
+    Ok(Outcome::of(answered, right))
+}

@@ -1,0 +1,85 @@
+//! The kinds of lines.
+
+use std::fmt;
+
+/// What a line asks for.
+#[derive(Clone, Copy, Debug, PartialEq, Eq, PartialOrd, Ord)]
+pub enum Kind {
+    /// Numbers read.
+    Leb,
+    /// Numbers put.
+    Puts,
+    /// Texts read.
+    Text,
+    /// The kind of a type descriptor, and whether a member may be named so.
+    Names,
+    /// Code cut into pieces.
+    Split,
+    /// The positions of a debug program.
+    Debug,
+    /// A file that is refused by a condition up to 15.
+    Check,
+    /// A file that meets conditions 1 to 15.
+    CheckTo15,
+    /// The weight of a file's classes.
+    Weight,
+    /// The canonical file.
+    Normalise,
+    /// The listing of a file.
+    Dump,
+    /// The canonical file without debug programs and source texts.
+    Strip,
+    /// Files merged by a plan under caps.
+    Merge,
+    /// Nothing that this program knows.
+    Unknown,
+}
+
+impl Kind {
+    /// The kind of every line of a file of calls, by the file's name; `None` where it is no such file.
+    pub fn of_calls(file_name: &str) -> Option<Kind> {
+        match file_name {
+            "leb.txt" => Some(Kind::Leb),
+            "puts.txt" => Some(Kind::Puts),
+            "text.txt" => Some(Kind::Text),
+            "names.txt" => Some(Kind::Names),
+            "split.txt" => Some(Kind::Split),
+            "debug.txt" => Some(Kind::Debug),
+            _ => None,
+        }
+    }
+
+    /// The kind of a line of an index, by its first word.
+    pub fn of_case(word: &str) -> Kind {
+        match word {
+            "check" => Kind::Check,
+            "weight" => Kind::Weight,
+            "normalise" => Kind::Normalise,
+            "dump" => Kind::Dump,
+            "strip" => Kind::Strip,
+            "merge" => Kind::Merge,
+            _ => Kind::Unknown,
+        }
+    }
+}
+
+impl fmt::Display for Kind {
+    fn fmt<W: fmt::Write>(&self, f: &mut fmt::Formatter<W>) -> fmt::Result {
+        f.write_str(match self {
+            Kind::Leb => "leb",
+            Kind::Puts => "puts",
+            Kind::Text => "text",
+            Kind::Names => "names",
+            Kind::Split => "split",
+            Kind::Debug => "debug",
+            Kind::Check => "check",
+            Kind::CheckTo15 => "check to 15 (beyond it not yet served)",
+            Kind::Weight => "weight",
+            Kind::Normalise => "normalise",
+            Kind::Dump => "dump",
+            Kind::Strip => "strip",
+            Kind::Merge => "merge",
+            Kind::Unknown => "unknown",
+        })
+    }
+}

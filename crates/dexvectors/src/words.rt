@@ -1,0 +1,37 @@
+//! Bytes and units as words of hexadecimal digits; no bytes and no units are `-`.
+
+use crate::fault::VectorFault;
+use std::alloc::{AllocError, Global};
+
+/// The bytes that a word stands for.
+pub fn bytes_in(alloc: Global, word: &str) -> Result<Vec<u8>, VectorFault> {
+    if word == "-" {
+        return Ok(Vec::new(alloc));
+    }
+    Ok(hex::decode(alloc, word)?)
+}
+
+/// The 16-bit units that a word stands for, each by four digits.
+pub fn units_in(alloc: Global, word: &str) -> Result<Vec<u16>, VectorFault> {
+    let bytes = bytes_in(alloc, word)?;
+    let mut units = Vec::new(alloc);
+    for unit in bytes.chunks(2) {
+        match unit {
+            [high, low] => units.push(u16::from_be_bytes([*high, *low]))?,
+            _ => return Err(VectorFault::Form),
+        }
+    }
+    Ok(units)
+}
+
+/// The word of some units.
+pub fn word_of(alloc: Global, units: &[u16]) -> Result<String, AllocError> {
+    if units.is_empty() {
+        return String::from_str(alloc, "-");
+    }
+    let mut word = String::new(alloc);
+    for unit in units {
+        write!(word, "{unit:04x}")?;
+    }
+    Ok(word)
+}

@@ -8,3 +8,4 @@ pub mod ShortyLetters
 pub mod ProtoRows
 pub mod MethodRows
 pub mod AllPools
+pub mod NumberOrder

@@ -7,6 +7,7 @@
 
 mod faults;
 mod fields;
+mod joined_tables;
 mod joining;
 mod keeping;
 mod kinds;
@@ -18,6 +19,7 @@ mod parameters;
 mod pools;
 mod protos;
 mod remap;
+mod renumbering;
 mod rows;
 mod shorties;
 mod strings;

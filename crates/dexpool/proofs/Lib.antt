@@ -9,3 +9,10 @@ pub mod ProtoRows
 pub mod MethodRows
 pub mod AllPools
 pub mod NumberOrder
+pub mod TablesStand
+pub mod ReadTables
+pub mod RowParts
+pub mod SameTables
+pub mod Pairs
+pub mod Unions
+pub mod Leading

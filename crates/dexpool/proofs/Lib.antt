@@ -16,3 +16,7 @@ pub mod SameTables
 pub mod Pairs
 pub mod Unions
 pub mod Leading
+pub mod Moved
+pub mod JoinedLevels
+pub mod StoredProtos
+pub mod JoinedTables

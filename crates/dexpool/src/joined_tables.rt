@@ -4,7 +4,7 @@
 ghost use Rattle.std.specs.Prelude.{◌≡◌, length, map, All, IfOk, Some};
 ghost use Rattle.std.specs.List.{AllZip};
 ghost use Rattle.dexrows.specs.Join.{AreSorted, IsJoin};
-ghost use Rattle.dexpool.specs.Numberings.{union_of, AllLead};
+ghost use Rattle.dexpool.specs.Numberings.{IsNumbering, union_of, AllLead};
 ghost use Rattle.dexpool.specs.Renumbering.{numbers_in, HasSpans};
 ghost use Rattle.dexpool.specs.Joining.{AreJoinedTexts, AreJoinedTypes, AreJoinedProtos, AreJoinedFields, AreJoinedMethods, AreMapsOf};
 ghost use Rattle.dexpool.specs.Stored.{symbols_in, AreTables};
@@ -70,11 +70,9 @@ pub(crate) fn join_tables<'a>(
     Ok((tables, remaps))
 }
 
-fn join_strings<'a>(
-    alloc: Global,
-    parts: &[&Numbering<'a>],
-) -> Result<Joined<Text<'a>>, AllocError>
-    ensures { IfOk result (λ texts. AreJoinedTexts (map (λ part. part.now) parts.now) texts.rows.items (map (λ image. image.items) texts.images.items)) }
+fn join_strings<'a>(alloc: Global, parts: &[&Numbering<'a>]) -> Result<Joined<Text<'a>>, AllocError>
+    ensures numberings { IfOk result (λ _. All IsNumbering (map (λ part. part.now) parts.now)) }
+    ensures texts { IfOk result (λ texts. AreJoinedTexts (map (λ part. part.now) parts.now) texts.rows.items (map (λ image. image.items) texts.images.items)) }
 {
     let mut rows = Vec::with_capacity(alloc, parts.len())?;
     for part in parts {
@@ -88,6 +86,7 @@ fn join_types<'a>(
     parts: &[&Numbering<'a>],
     strings: &Joined<Text<'a>>,
 ) -> Result<JoinedTypes, AllocError>
+    requires numberings { All IsNumbering (map (λ part. part.now) parts.now) }
     requires strings { AreJoinedTexts (map (λ part. part.now) parts.now) strings.now.rows.items (map (λ image. image.items) strings.now.images.items) }
     ensures { IfOk result (λ types. AreJoinedTypes (map (λ part. part.now) parts.now) strings.now.rows.items types.numbers.items (map (λ image. image.items) types.images.items)) }
 {
@@ -108,6 +107,7 @@ fn join_protos<'a>(
     strings: &Joined<Text<'a>>,
     types: &JoinedTypes,
 ) -> Result<JoinedProtos, AllocError>
+    requires numberings { All IsNumbering (map (λ part. part.now) parts.now) }
     requires strings { AreJoinedTexts (map (λ part. part.now) parts.now) strings.now.rows.items (map (λ image. image.items) strings.now.images.items) }
     requires types { AreJoinedTypes (map (λ part. part.now) parts.now) strings.now.rows.items types.now.numbers.items (map (λ image. image.items) types.now.images.items) }
     ensures { IfOk result (λ protos. AreJoinedProtos (map (λ part. part.now) parts.now) strings.now.rows.items types.now.numbers.items protos.table.parameters.items protos.table.rows.items (map (λ image. image.items) protos.images.items)) }
@@ -147,6 +147,7 @@ fn join_fields<'a>(
     strings: &Joined<Text<'a>>,
     types: &JoinedTypes,
 ) -> Result<Joined<FieldRow>, AllocError>
+    requires numberings { All IsNumbering (map (λ part. part.now) parts.now) }
     requires strings { AreJoinedTexts (map (λ part. part.now) parts.now) strings.now.rows.items (map (λ image. image.items) strings.now.images.items) }
     requires types { AreJoinedTypes (map (λ part. part.now) parts.now) strings.now.rows.items types.now.numbers.items (map (λ image. image.items) types.now.images.items) }
     ensures { IfOk result (λ fields. AreJoinedFields (map (λ part. part.now) parts.now) strings.now.rows.items types.now.numbers.items fields.rows.items (map (λ image. image.items) fields.images.items)) }
@@ -170,6 +171,7 @@ fn join_methods<'a>(
     types: &JoinedTypes,
     protos: &JoinedProtos,
 ) -> Result<Joined<MethodRow>, AllocError>
+    requires numberings { All IsNumbering (map (λ part. part.now) parts.now) }
     requires strings { AreJoinedTexts (map (λ part. part.now) parts.now) strings.now.rows.items (map (λ image. image.items) strings.now.images.items) }
     requires types { AreJoinedTypes (map (λ part. part.now) parts.now) strings.now.rows.items types.now.numbers.items (map (λ image. image.items) types.now.images.items) }
     requires protos { AreJoinedProtos (map (λ part. part.now) parts.now) strings.now.rows.items types.now.numbers.items protos.now.table.parameters.items protos.now.table.rows.items (map (λ image. image.items) protos.now.images.items) }

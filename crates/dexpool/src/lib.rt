@@ -7,6 +7,8 @@
 
 mod faults;
 mod fields;
+#[cfg(test)]
+mod join_tests;
 mod joined_tables;
 mod joining;
 mod keeping;

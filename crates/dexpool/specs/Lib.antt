@@ -6,3 +6,5 @@ pub mod Pools
 pub mod Numberings
 pub mod Stored
 pub mod Owned
+pub mod Renumbering
+pub mod Joining

@@ -7,6 +7,9 @@
 
 mod faults;
 mod fields;
+#[cfg(test)]
+mod join_tests;
+mod joined_tables;
 mod joining;
 mod keeping;
 mod kinds;
@@ -18,6 +21,7 @@ mod parameters;
 mod pools;
 mod protos;
 mod remap;
+mod renumbering;
 mod rows;
 mod shorties;
 mod strings;

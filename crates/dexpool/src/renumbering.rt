@@ -1,0 +1,163 @@
+//! Rows whose numbers are replaced by those of the same symbols in other tables.
+
+ghost use Rattle.std.specs.Prelude.{◌≡◌, ◌<◌, ◌++◌, length, map, All, IfOk, OnOk, slice_index};
+ghost use Rattle.dexpool.specs.Renumbering.{moved_type, IsEntryWithin, HasSpans, numbers_in, moved_proto, IsFieldWithin, moved_field, IsMethodWithin, moved_method};
+
+use crate::protos::{Protos, part};
+use crate::rows::{ProtoEntry, Span};
+use crate::tables::Tables;
+use dexrows::{FieldRow, MethodRow, ProtoRow, TypeRow};
+use std::alloc::{AllocError, Global};
+
+/// The rows of types, by the images of their texts.
+pub(crate) fn renumbered_types(
+    alloc: Global,
+    types: &[usize],
+    strings: &[usize],
+) -> Result<Vec<TypeRow>, AllocError>
+    requires { All (λ n. n < length strings.now) types.now }
+    ensures { IfOk result (λ rows. rows.items ≡ map (moved_type strings.now) types.now) }
+{
+    let mut rows = Vec::with_capacity(alloc, types.len())?;
+    for n in types {
+        rows.push(TypeRow {
+            descriptor: strings[*n],
+        })?;
+    }
+    Ok(rows)
+}
+
+/// The number of the text of each row of types.
+pub(crate) fn descriptors(alloc: Global, rows: &[TypeRow]) -> Result<Vec<usize>, AllocError>
+    ensures { IfOk result (λ numbers. numbers.items ≡ map (λ row. row.descriptor) rows.now) }
+{
+    let mut numbers = Vec::with_capacity(alloc, rows.len())?;
+    for row in rows {
+        numbers.push(row.descriptor)?;
+    }
+    Ok(numbers)
+}
+
+// Appends the images of numbers.
+fn push_images(numbers: &[usize], images: &[usize], to: &mut Vec<usize>) -> Result<(), AllocError>
+    requires { All (λ n. n < length images.now) numbers.now }
+    ensures { OnOk result (to.new.items ≡ to.old.items ++ map (slice_index images.now) numbers.now) }
+{
+    for n in numbers {
+        to.push(images[*n])?;
+    }
+    Ok(())
+}
+
+/// The protos, by the images of their texts and types.
+pub(crate) fn renumbered_protos(
+    alloc: Global,
+    tables: &Tables<'_>,
+    strings: &[usize],
+    types: &[usize],
+) -> Result<Protos, AllocError>
+    requires { All (IsEntryWithin (length strings.now) (length types.now) tables.now.parameters.items) tables.now.protos.items }
+    ensures spans { IfOk result HasSpans }
+    ensures rows { IfOk result (λ protos. numbers_in protos ≡ map (moved_proto strings.now types.now tables.now.parameters.items) tables.now.protos.items) }
+{
+    let mut rows = Vec::with_capacity(alloc, tables.protos.len())?;
+    let mut parameters = Vec::with_capacity(alloc, tables.parameters.len())?;
+    for entry in &tables.protos {
+        let start = parameters.len();
+        push_images(
+            part(&tables.parameters, entry.parameters),
+            types,
+            &mut parameters,
+        )?;
+        rows.push(ProtoEntry {
+            shorty: strings[entry.shorty],
+            return_type: types[entry.return_type],
+            parameters: Span {
+                start,
+                end: parameters.len(),
+            },
+        })?;
+    }
+    Ok(Protos { rows, parameters })
+}
+
+/// The rows of a table of protos, whose parameters are borrowed.
+pub(crate) fn proto_rows(alloc: Global, protos: &Protos) -> Result<Vec<ProtoRow<'_>>, AllocError>
+    requires { HasSpans protos.now }
+    ensures { IfOk result (λ rows. rows.items ≡ numbers_in protos.now) }
+{
+    let mut rows = Vec::with_capacity(alloc, protos.rows.len())?;
+    for entry in &protos.rows {
+        rows.push(ProtoRow::new(
+            entry.shorty,
+            entry.return_type,
+            part(&protos.parameters, entry.parameters),
+        ))?;
+    }
+    Ok(rows)
+}
+
+/// A table of protos with these rows.
+pub(crate) fn stored(alloc: Global, protos: &[ProtoRow<'_>]) -> Result<Protos, AllocError>
+    ensures spans { IfOk result HasSpans }
+    ensures rows { IfOk result (λ table. numbers_in table ≡ protos.now) }
+{
+    let mut rows = Vec::with_capacity(alloc, protos.len())?;
+    let mut parameters = Vec::new(alloc);
+    for proto in protos {
+        let start = parameters.len();
+        parameters.extend_from_slice(proto.parameters())?;
+        rows.push(ProtoEntry {
+            shorty: proto.shorty(),
+            return_type: proto.return_type(),
+            parameters: Span {
+                start,
+                end: parameters.len(),
+            },
+        })?;
+    }
+    Ok(Protos { rows, parameters })
+}
+
+/// The rows of fields, by the images of their texts and types.
+pub(crate) fn renumbered_fields(
+    alloc: Global,
+    fields: &[FieldRow],
+    strings: &[usize],
+    types: &[usize],
+) -> Result<Vec<FieldRow>, AllocError>
+    requires { All (IsFieldWithin (length strings.now) (length types.now)) fields.now }
+    ensures { IfOk result (λ rows. rows.items ≡ map (moved_field strings.now types.now) fields.now) }
+{
+    let mut rows = Vec::with_capacity(alloc, fields.len())?;
+    for field in fields {
+        rows.push(FieldRow {
+            class: types[field.class],
+            name: strings[field.name],
+            typ: types[field.typ],
+        })?;
+    }
+    Ok(rows)
+}
+
+/// The rows of methods, by the images of their texts, types and protos.
+pub(crate) fn renumbered_methods(
+    alloc: Global,
+    methods: &[MethodRow],
+    strings: &[usize],
+    types: &[usize],
+    protos: &[usize],
+) -> Result<Vec<MethodRow>, AllocError>
+    requires { All (IsMethodWithin (length strings.now) (length types.now) (length protos.now)) methods.now }
+    ensures { IfOk result (λ rows. rows.items ≡ map (moved_method strings.now types.now protos.now) methods.now) }
+{
+    let mut rows = Vec::with_capacity(alloc, methods.len())?;
+    for method in methods {
+        rows.push(MethodRow {
+            class: types[method.class],
+            name: strings[method.name],
+            proto: protos[method.proto],
+        })?;
+    }
+    Ok(rows)
+}

@@ -5,4 +5,5 @@ pub mod Tables
 pub mod Pools
 pub mod Numberings
 pub mod Stored
+pub mod Ranking
 pub mod Owned

@@ -17,6 +17,7 @@ mod numbering;
 mod parameters;
 mod pools;
 mod protos;
+mod ranks;
 mod remap;
 mod rows;
 mod shorties;
@@ -26,6 +27,7 @@ mod tables;
 #[cfg(test)]
 mod tests;
 mod types;
+mod weight;
 
 pub use dexrows::{FieldRow, MethodRow, ProtoRow, Row, TypeRow};
 pub use faults::{ItemFault, ReadFault};

@@ -8,3 +8,5 @@ pub mod ShortyLetters
 pub mod ProtoRows
 pub mod MethodRows
 pub mod AllPools
+pub mod Ranking
+pub mod Weighing

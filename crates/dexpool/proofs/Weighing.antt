@@ -8,7 +8,7 @@ use Rattle.dexspec.specs.Texts.{Text}
 use Rattle.dexspec.specs.Weight.{text_weight, proto_weight, mentions_weight}
 use Rattle.dexpool.specs.declared.rows.ProtoEntry.{ProtoEntry}
 use Rattle.dexpool.specs.declared.tables.Tables.{Tables}
-use Rattle.dexpool.specs.Tables.{type_of, span_of, proto_of}
+use Rattle.dexpool.specs.Tables.{text_of, type_of, span_of, proto_of, field_of, method_of}
 use Rattle.dexpool.specs.Reading.{HasSpan}
 use Rattle.dexpool.specs.Stored.{symbols_in, AreTables, IsProtoEntry}
 
@@ -36,4 +36,5 @@ tables_weight t h =
     let stand = proto_of t.strings.items t.types.items t.parameters.items in
     let protos : sum_by proto_weight (map stand t.protos.items) ≡ sum_by weighs t.protos.items =
     sum_by-mapped proto_weight stand weighs t.protos.items (All-weaker (IsProtoEntry t) (λ p. proto_weight (stand p) ≡ weighs p) (λ p e. entry_weight t.strings.items t.types.items t.parameters.items p e.span) t.protos.items h.protos_stand) in
-    omega (arith, protos, length-map t.types.items _, length-map t.fields.items _, length-map t.methods.items _)
+    omega (arith, protos, length-map t.types.items (text_of t.strings.items), length-map t.fields.items (field_of t.strings.items t.types.items),
+      length-map t.methods.items (method_of t.strings.items t.types.items t.parameters.items t.protos.items))

@@ -1,5 +1,5 @@
 -- Sorted tables joined: what the joined rows and the images of the parts are.
-use Rattle.std.specs.Prelude.{◌≡◌, ℕ, ◌<◌, Bool, true, List, [], length, slice_index, slice_index_or, All}
+use Rattle.std.specs.Prelude.{◌≡◌, ℕ, ◌<◌, true, List, length, slice_index, slice_index_or, All}
 use Rattle.std.specs.List.{AllZip, Contains}
 use Rattle.std.specs.declared.cmp.Ordering.{Ordering}
 use Rattle.dexspec.specs.Lists.{rises}
@@ -30,3 +30,7 @@ pub record IsJoin {R : Type 0} (key : R → List ℕ) (parts : List (List R)) (j
   pub sorted : AreSorted key joined
   pub rows_of : All (IsOfParts parts) joined
   pub parts_in : AllZip (IsImage key joined) parts images
+
+-- the rows are some parts joined
+abbrev pub AreJoined : {R : Type 0} → (R → List ℕ) → List R → List (List ℕ) → Type 0
+AreJoined {R} key rows images = (parts : List (List R)) × IsJoin key parts rows images

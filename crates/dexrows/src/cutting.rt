@@ -24,8 +24,16 @@ pub fn cut<R: Row>(alloc: Global, rows: &[R], marks: &[bool]) -> Result<Kept<R>,
     ensures rows { IfOk result (λ cut. cut.rows.items ≡ kept marks.now rows.now) }
     ensures images { IfOk result (λ cut. cut.images.items ≡ places 0 marks.now) }
 {
-    let _rows = rows;
-    let _marks = marks;
-    let _alloc = alloc;
-    Err(AllocError)
+    let mut kept = Vec::new(alloc);
+    let mut images = Vec::with_capacity(alloc, rows.len())?;
+    for i in 0..rows.len() {
+        let is_marked = marks[i];
+        if is_marked {
+            images.push(Some(kept.len()))?;
+            kept.push(rows[i].copied())?;
+        } else {
+            images.push(None)?;
+        }
+    }
+    Ok(Kept { rows: kept, images })
 }

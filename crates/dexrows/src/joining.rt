@@ -1,8 +1,11 @@
 //! Sorted tables joined.
 
 ghost use Rattle.std.specs.Prelude.{◌≡◌, map, All, IfOk};
-ghost use Rattle.dexrows.specs.Join.{AreSorted, IsJoin};
+ghost use Rattle.dexrows.specs.Join.{AreSorted, IsJoin, AreJoined};
+ghost use Rattle.dexrows.specs.Merge.{IsJoinOfTwo};
 
+use crate::merging::merge;
+use crate::places::compose_all;
 use crate::rows::Row;
 use std::alloc::{AllocError, Global};
 
@@ -24,6 +27,52 @@ pub fn join<R: Row>(alloc: Global, parts: &[&[R]]) -> Result<Joined<R>, AllocErr
     requires { All (λ part. AreSorted R.key_of part.now) parts.now }
     ensures { IfOk result (λ joined. IsJoin R.key_of (map (λ part. part.now) parts.now) joined.rows.items (map (λ image. image.items) joined.images.items)) }
 {
-    let _parts = parts;
-    Err(AllocError)
+    match parts {
+        [] => Ok(Joined {
+            rows: Vec::new(alloc),
+            images: Vec::new(alloc),
+        }),
+        [part] => {
+            let merged = merge(alloc, part, &[])?;
+            Ok(Joined {
+                rows: merged.rows,
+                images: vec![in alloc; merged.left_places]?,
+            })
+        }
+        [left, right] => {
+            let merged = merge(alloc, left, right)?;
+            Ok(Joined {
+                rows: merged.rows,
+                images: vec![in alloc; merged.left_places, merged.right_places]?,
+            })
+        }
+        _ => {
+            let (left, right) = parts.split_at(parts.len() / 2);
+            let left = join(alloc, left)?;
+            let right = join(alloc, right)?;
+            join_two(alloc, left, right)
+        }
+    }
+}
+
+/// Joins two tables that are joined already.
+fn join_two<R: Row>(
+    alloc: Global,
+    left: Joined<R>,
+    right: Joined<R>,
+) -> Result<Joined<R>, AllocError>
+    requires left { AreJoined R.key_of left.rows.items (map (λ image. image.items) left.images.items) }
+    requires right { AreJoined R.key_of right.rows.items (map (λ image. image.items) right.images.items) }
+    ensures { IfOk result (λ joined. IsJoinOfTwo R.key_of left.rows.items (map (λ image. image.items) left.images.items) right.rows.items (map (λ image. image.items) right.images.items) joined.rows.items (map (λ image. image.items) joined.images.items)) }
+{
+    let merged = merge(alloc, &left.rows, &right.rows)?;
+    let mut images = left.images;
+    compose_all(&mut images, &merged.left_places);
+    let mut right_images = right.images;
+    compose_all(&mut right_images, &merged.right_places);
+    images.append(&mut right_images)?;
+    Ok(Joined {
+        rows: merged.rows,
+        images,
+    })
 }

@@ -7,9 +7,14 @@
 mod cutting;
 mod fields;
 mod joining;
+mod merging;
 mod methods;
+mod places;
 mod protos;
 mod rows;
+mod sorted;
+#[cfg(test)]
+mod tests;
 mod texts;
 mod types;
 
@@ -19,4 +24,5 @@ pub use joining::{Joined, join};
 pub use methods::MethodRow;
 pub use protos::ProtoRow;
 pub use rows::Row;
+pub use sorted::is_sorted;
 pub use types::TypeRow;

@@ -1,0 +1,29 @@
+use Rattle.std.proofs.Common.{map, arith, sym, ap, ◌∙◌, subst}
+use Rattle.std.proofs.lemmas.List.{map-append}
+use Rattle.std.proofs.lemmas.Result.{IfOk-weaker}
+use Rattle.dexrows.specs.Join.{IsJoin}
+use Rattle.dexrows.specs.Merge.{IsJoinOfTwo}
+use Rattle.dexrows.proofs.JoinedParts.{list_of_one, list_of_two, join_of_one, join_of_both}
+use Rattle.dexrows.proofs.joining.+join.Goals as goal
+
+pub returns-in_ok-vec-in-len1 : goal.returns-in_ok-vec-in-len1
+returns-in_ok-vec-in-len1 g t c =
+    let m = c.in_ok-merged-in-len1.merged in
+    join_of_one g.R.Row.key_of (λ part. part.now) (λ image. image.items) c.args.parts.now m.rows.items c.part-item.result m.left_places c.in_ok-vec-in-len1.field-0.items m.right_places.items
+    (list_of_one c.args.parts.now c.part-item.result (omega arith) (omega arith) c.part-item.is) c.in_ok-vec-in-len1.ensures.items c.in_ok-merged-in-len1.ensures
+
+pub returns-in_ok-vec-in-len2 : goal.returns-in_ok-vec-in-len2
+returns-in_ok-vec-in-len2 g t c =
+    let m = c.in_ok-merged-in-len2.merged in
+    join_of_both g.R.Row.key_of (λ part. part.now) (λ image. image.items) c.args.parts.now m.rows.items c.left-item.result c.right-item.result m.left_places m.right_places c.in_ok-vec-in-len2.field-0.items
+    (list_of_two c.args.parts.now c.left-item.result c.right-item.result (omega arith) (omega arith) c.left-item.is c.right-item.is) c.in_ok-vec-in-len2.ensures.items c.in_ok-merged-in-len2.ensures
+
+pub returns-in_ok-right-in_default : goal.returns-in_ok-right-in_default
+returns-in_ok-right-in_default g t c =
+    let key = g.R.Row.key_of in
+    let left = c.in_ok-left-in_default.left in
+    let right = c.in_ok-right-in_default.right in
+    let whole = ap (map (λ part. part.now)) c.split_at.ensures.by_index.0 ∙ map-append (λ part. part.now) c.split_at.result.0.now c.split_at.result.1.now in
+    IfOk-weaker c.join_two.result (λ joined. IsJoinOfTwo key left.rows.items (map (λ image. image.items) left.images.items) right.rows.items (map (λ image. image.items) right.images.items) joined.rows.items (map (λ image. image.items) joined.images.items))
+    (λ joined. IsJoin key (map (λ part. part.now) c.args.parts.now) joined.rows.items (map (λ image. image.items) joined.images.items))
+    (λ joined h. subst (λ parts. IsJoin key parts joined.rows.items (map (λ image. image.items) joined.images.items)) (sym whole) (h _ _ c.in_ok-left-in_default.ensures c.in_ok-right-in_default.ensures)) c.join_two.ensures

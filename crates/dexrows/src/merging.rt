@@ -1,0 +1,87 @@
+//! Two sorted tables merged.
+
+ghost use Rattle.std.specs.Prelude.{◌≡◌, ◌≤◌, ◌<◌, ◌+◌, length, IfOk, OnOk, MatchOption};
+ghost use Rattle.dexrows.specs.Join.{AreSorted};
+ghost use Rattle.dexrows.specs.Merge.{IsMerge, IsMerging, IsNext};
+
+use crate::rows::Row;
+use std::alloc::{AllocError, Global};
+use std::cmp::Ordering;
+
+/// Two tables merged.
+#[derive(Drop)]
+pub(crate) struct Merged<R: Drop> {
+    /// The rows of both, each key once, in order.
+    pub rows: Vec<R>,
+    /// The place of each row of the left one.
+    pub left_places: Vec<usize>,
+    /// The place of each row of the right one.
+    pub right_places: Vec<usize>,
+}
+
+/// Merges two sorted tables in one pass over both.
+pub(crate) fn merge<R: Row>(alloc: Global, left: &[R], right: &[R]) -> Result<Merged<R>, AllocError>
+    requires left_sorted { AreSorted R.key_of left.now }
+    requires right_sorted { AreSorted R.key_of right.now }
+    ensures { IfOk result (λ merged. IsMerge R.key_of left.now right.now merged.rows.items merged.left_places.items merged.right_places.items) }
+{
+    let mut merged = Merged {
+        rows: Vec::with_capacity(alloc, left.len().max(right.len()))?,
+        left_places: Vec::with_capacity(alloc, left.len())?,
+        right_places: Vec::with_capacity(alloc, right.len())?,
+    };
+    while let Some(order) = next_order(
+        left,
+        merged.left_places.len(),
+        right,
+        merged.right_places.len(),
+    ) {
+        take_next(&mut merged, left, right, order)?;
+    }
+    Ok(merged)
+}
+
+/// How the next rows of both compare, or which of the two has one: `Less` where it is the left one.
+fn next_order<R: Row>(left: &[R], i: usize, right: &[R], j: usize) -> Option<Ordering>
+    ensures { MatchOption result ((length left.now ≤ i) × (length right.now ≤ j)) (IsNext R.key_of left.now i right.now j) }
+{
+    match (left.get(i), right.get(j)) {
+        (Some(row), Some(other)) => Some(row.compare(other)),
+        (Some(_), None) => Some(Ordering::Less),
+        (None, Some(_)) => Some(Ordering::Greater),
+        (None, None) => None,
+    }
+}
+
+/// Takes the next row, of the one table or of both.
+fn take_next<R: Row>(
+    merged: &mut Merged<R>,
+    left: &[R],
+    right: &[R],
+    order: Ordering,
+) -> Result<(), AllocError>
+    requires left_sorted { AreSorted R.key_of left.now }
+    requires right_sorted { AreSorted R.key_of right.now }
+    requires so_far { IsMerging R.key_of left.now right.now merged.old.rows.items merged.old.left_places.items merged.old.right_places.items }
+    requires next { IsNext R.key_of left.now (length merged.old.left_places.items) right.now (length merged.old.right_places.items) order }
+    ensures taken { OnOk result (IsMerging R.key_of left.now right.now merged.new.rows.items merged.new.left_places.items merged.new.right_places.items) }
+    ensures more { OnOk result (length merged.old.left_places.items + length merged.old.right_places.items < length merged.new.left_places.items + length merged.new.right_places.items) }
+{
+    let place = merged.rows.len();
+    match order {
+        Ordering::Less => {
+            merged.rows.push(left[merged.left_places.len()].copied())?;
+            merged.left_places.push(place)?;
+        }
+        Ordering::Equal => {
+            merged.rows.push(left[merged.left_places.len()].copied())?;
+            merged.left_places.push(place)?;
+            merged.right_places.push(place)?;
+        }
+        Ordering::Greater => {
+            merged.rows.push(right[merged.right_places.len()].copied())?;
+            merged.right_places.push(place)?;
+        }
+    }
+    Ok(())
+}

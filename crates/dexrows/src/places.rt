@@ -1,0 +1,23 @@
+//! Places moved along places.
+
+ghost use Rattle.std.specs.Prelude.{◌≡◌, ◌<◌, length, map, All, slice_index};
+
+/// Replaces each number by what stands at its place.
+fn compose(image: &mut [usize], places: &[usize])
+    requires { All (λ place. place < length places.now) image.old }
+    ensures { image.new ≡ map (slice_index places.now) image.old }
+{
+    for i in 0..image.len() {
+        image[i] = places[image[i]];
+    }
+}
+
+/// Replaces each number of each image by what stands at its place.
+pub(crate) fn compose_all(images: &mut [Vec<usize>], places: &[usize])
+    requires { All (λ image. All (λ place. place < length places.now) image.items) images.old }
+    ensures { map (λ image. image.items) images.new ≡ map (map (slice_index places.now)) (map (λ image. image.items) images.old) }
+{
+    for i in 0..images.len() {
+        compose(&mut images[i], places);
+    }
+}

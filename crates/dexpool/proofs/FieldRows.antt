@@ -11,7 +11,7 @@ use Rattle.dexpool.specs.Tables.{field_of, field_key, field_cmp}
 use Rattle.dexpool.specs.Reading.{ReadTo, is_above_last, FieldStands, HasFieldNumbers}
 use Rattle.dexpool.proofs.Steps.{follows_if, follows_not}
 
-field_key_is : (texts : List Text) (types : List ℕ) (b : List ℕ) (k : ℕ) (f : FieldRow) → FieldStands texts types b k f → field_row_key b k ≡ field_key f
+pub field_key_is : (texts : List Text) (types : List ℕ) (b : List ℕ) (k : ℕ) (f : FieldRow) → FieldStands texts types b k f → field_row_key b k ≡ field_key f
 field_key_is texts types b k f s = λ i. s.numbers.class i ∷ s.numbers.name i ∷ s.numbers.type i ∷ []
 
 pub has_field : (texts : List Text) (types : List ℕ) (b : List ℕ) (xs : List FieldRow) (i : ℕ) (f : FieldRow) → ReadTo (FieldStands texts types) HasField b xs i → FieldStands texts types b i f → is_above_last field_cmp f xs ≡ true → HasField b i

@@ -10,3 +10,8 @@ pub mod MethodRows
 pub mod AllPools
 pub mod Ranking
 pub mod Weighing
+pub mod NumberOrder
+pub mod TablesStand
+pub mod ReadTables
+pub mod RowParts
+pub mod SameTables

@@ -14,7 +14,7 @@ use Rattle.dexpool.specs.Reading.{ReadTo, is_above_last, IsText, IsType, AreProt
 use Rattle.dexpool.proofs.Steps.{follows_if, follows_not}
 
 module _ (texts : List Text) (types ps : List ℕ) (protos : List ProtoEntry) (b : List ℕ) where
-  method_key_is : (k : ℕ) (m : MethodRow) → MethodStands texts types ps protos b k m → method_row_key b k ≡ method_key m
+  pub method_key_is : (k : ℕ) (m : MethodRow) → MethodStands texts types ps protos b k m → method_row_key b k ≡ method_key m
   method_key_is k m s = λ i. s.numbers.class i ∷ s.numbers.name i ∷ s.numbers.proto i ∷ []
 
   pub has_method : (xs : List MethodRow) (i : ℕ) (m : MethodRow) → ReadTo (MethodStands texts types ps protos) HasMethod b xs i → MethodStands texts types ps protos b i m → is_above_last method_cmp m xs ≡ true → HasMethod b i

@@ -110,7 +110,7 @@ grown texts types old new more b xs i e h = record {
   held = h.held;
 }
 
-proto_key_is : (texts : List Text) (types ps : List ℕ) (b : List ℕ) (k : ℕ) (p : ProtoEntry) → ProtoStands texts types ps b k p → proto_row_key b k ≡ proto_key ps p
+pub proto_key_is : (texts : List Text) (types ps : List ℕ) (b : List ℕ) (k : ℕ) (p : ProtoEntry) → ProtoStands texts types ps b k p → proto_row_key b k ≡ proto_key ps p
 proto_key_is texts types ps b k p s = λ i. s.numbers.return_type i ∷ s.numbers.parameters_are i
 
 pub has_proto : (texts : List Text) (types ps : List ℕ) (b : List ℕ) (xs : List ProtoEntry) (i : ℕ) (p : ProtoEntry) → ReadTo (ProtoStands texts types ps) HasProto b xs i → ProtoStands texts types ps b i p → is_above_last (proto_cmp ps) p xs ≡ true → HasProto b i

@@ -119,7 +119,7 @@ no_string b xs i s h is above holds =
 
 -- ---- types
 
-type_key_is : (texts : List Text) (b : List ℕ) (k n : ℕ) → TypeStands texts b k n → type_row_key b k ≡ n ∷ []
+pub type_key_is : (texts : List Text) (b : List ℕ) (k n : ℕ) → TypeStands texts b k n → type_row_key b k ≡ n ∷ []
 type_key_is texts b k n s = ap (λ (m : ℕ). m ∷ []) s.index
 
 pub has_type : (texts : List Text) (b : List ℕ) (xs : List ℕ) (i n : ℕ) → ReadTo (TypeStands texts) HasType b xs i → TypeStands texts b i n → is_above_last type_cmp n xs ≡ true → HasType b i

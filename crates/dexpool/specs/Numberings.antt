@@ -1,9 +1,9 @@
 -- Numberings: five sets of symbols, each symbol numbered by its place in its order; and maps from the numbers of one
 -- to those of another.
-use Rattle.std.specs.Prelude.{◌≡◌, ℕ, ◌<◌, ◌++◌, true, Bool, List, [], ◌∷◌, length, map, All, slice_index_or, Option, Some, None}
+use Rattle.std.specs.Prelude.{◌≡◌, ℕ, ◌<◌, ◌++◌, true, List, length, map, All, slice_index_or, Option, Some, None}
 use Rattle.std.specs.List.{AllZip, Contains, flat_map}
 use Rattle.dexspec.specs.Lists.{rises, in_order}
-use Rattle.dexspec.specs.Texts.{Text, text_cmp}
+use Rattle.dexspec.specs.Texts.{text_cmp}
 use Rattle.dexspec.specs.Names.{IsDescriptor, shorty}
 use Rattle.dexspec.specs.Symbols.{Proto, Field, Method, Symbol, TextSymbol, TypeSymbol, ProtoSymbol, FieldSymbol, MethodSymbol, IsProto, IsField, IsMethod, proto_cmp, field_cmp, method_cmp}
 use Rattle.dexspec.specs.Mentions.{Mentions, proto_types}

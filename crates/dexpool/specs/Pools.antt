@@ -34,10 +34,6 @@ pub record ArePools (b : List ℕ) (m : Mentions) : Type 0 where
   pub fields_are : AreAll rows.FieldRow b (table_size b FieldIds) m.fields
   pub methods_are : AreAll rows.MethodRow b (table_size b MethodIds) m.methods
 
--- each type's text is there
-pub record AreInRange (texts : List Text) (types : List ℕ) : Type 0 where
-  pub types_in : (i : ℕ) (d : ℕ) → i < length types → slice_index_or types i d < length texts
-
 -- the number of symbols of a kind
 abbrev pub count_of : SymbolKind → Mentions → ℕ
 count_of kinds.Text m = length m.texts

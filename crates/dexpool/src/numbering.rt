@@ -6,6 +6,7 @@ ghost use Rattle.dexpool.specs.Pools.{count_of};
 ghost use Rattle.dexpool.specs.Numberings.{IsAt, IsNumbering, StandsForProto, StandsForField, StandsForMethod};
 
 use crate::pools::Pools;
+use crate::protos::part;
 use crate::symbols::SymbolKind;
 use crate::tables::Tables;
 use dexrows::{FieldRow, MethodRow, ProtoRow};
@@ -77,7 +78,24 @@ impl<'a> Numbering<'a> {
     pub fn copy(&self) -> Result<Numbering<'a>, AllocError>
         ensures { IfOk result (λ numbering. numbering ≡ self.now) }
     {
-        Err(AllocError)
+        let tables = &self.tables;
+        let alloc = *tables.strings.allocator();
+        let strings = copied(alloc, &tables.strings)?;
+        let types = Vec::from_slice(alloc, &tables.types)?;
+        let protos = Vec::from_slice(alloc, &tables.protos)?;
+        let parameters = Vec::from_slice(alloc, &tables.parameters)?;
+        let fields = Vec::from_slice(alloc, &tables.fields)?;
+        let methods = Vec::from_slice(alloc, &tables.methods)?;
+        Ok(Numbering {
+            tables: Tables {
+                strings,
+                types,
+                protos,
+                parameters,
+                fields,
+                methods,
+            },
+        })
     }
 
     /// Does nothing: its clause tells what holds of every numbering.
@@ -138,8 +156,7 @@ impl<'a> Numbering<'a> {
         ensures { (d : Proto) → StandsForProto self.now result (slice_index_or self.now.protos i d) }
     {
         let entry = self.tables.protos[i];
-        let (_, rest) = self.tables.parameters.split_at(entry.parameters.start);
-        let (parameters, _) = rest.split_at(entry.parameters.end - entry.parameters.start);
+        let parameters = part(&self.tables.parameters, entry.parameters);
         ProtoRow::new(entry.shorty, entry.return_type, parameters)
     }
 
@@ -162,4 +179,15 @@ impl<'a> Numbering<'a> {
     {
         &self.tables.methods[i]
     }
+}
+
+// The same texts in a table of their own.
+fn copied<'a>(alloc: Global, texts: &[Text<'a>]) -> Result<Vec<Text<'a>>, AllocError>
+    ensures { IfOk result (λ copy. copy.items ≡ texts.now) }
+{
+    let mut copy = Vec::with_capacity(alloc, texts.len())?;
+    for text in texts {
+        copy.push(text.clone())?;
+    }
+    Ok(copy)
 }

@@ -15,12 +15,12 @@ use crate::names::Names;
 use crate::numbering::Numbering;
 use crate::protos::{Protos, read_protos};
 use crate::strings::read_strings;
-use crate::symbols::{Symbol, SymbolKind};
+use crate::symbols::{FieldSymbol, MethodSymbol, ProtoSymbol, Symbol, SymbolKind};
 use crate::tables::Tables;
 use crate::types::read_types;
 use dexhead::Frame;
 use dexrows::{FieldRow, MethodRow, ProtoRow};
-use dexstr::Text;
+use dexstr::{Name, Text};
 use std::alloc::{AllocError, Global};
 use std::marker::Model;
 
@@ -153,8 +153,17 @@ impl<'a> Pools<'a> {
         ensures symbol { IfOk result (λ symbol. IsNumbered self.now i (symbol_of symbol)) }
         ensures kind { IfOk result (λ symbol. IsOfKind kind (symbol_of symbol)) }
     {
-        let _alloc = alloc;
-        Err(AllocError)
+        let tables = self.numbering.tables();
+        let i = i as usize;
+        Ok(match kind {
+            SymbolKind::Text => Symbol::Text(Name::of(alloc, &tables.strings[i])?),
+            SymbolKind::Typ => Symbol::Typ(Name::of(alloc, &tables.strings[tables.types[i]])?),
+            SymbolKind::Proto => Symbol::Proto(ProtoSymbol::of(alloc, tables, &tables.protos[i])?),
+            SymbolKind::Field => Symbol::Field(FieldSymbol::of(alloc, tables, &tables.fields[i])?),
+            SymbolKind::Method => {
+                Symbol::Method(MethodSymbol::of(alloc, tables, &tables.methods[i])?)
+            }
+        })
     }
 }
 

@@ -82,8 +82,8 @@ fn proto_at(
     }))
 }
 
-// The parameters of a row.
-fn part(parameters: &[usize], span: Span) -> &[usize]
+/// The types of the parameters of a row.
+pub(crate) fn part(parameters: &[usize], span: Span) -> &[usize]
     requires { HasSpan parameters.now span }
     ensures { result.now ≡ span_of parameters.now span }
 {

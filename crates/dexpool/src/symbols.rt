@@ -1,8 +1,16 @@
 //! Symbols: what the rows of the five pools name.
 
+ghost use Rattle.std.specs.Prelude.{◌≡◌, ◌<◌, map, length, All, IfOk};
 ghost use Rattle.dexspec.specs.Symbols as symbols;
+ghost use Rattle.dexpool.specs.Tables.{type_of, proto_of, field_of, method_of};
+ghost use Rattle.dexpool.specs.Stored.{IsProtoEntry, IsFieldRow, IsMethodRow, AreTables};
 
+use crate::protos::part;
+use crate::rows::ProtoEntry;
+use crate::tables::Tables;
+use dexrows::{FieldRow, MethodRow};
 use dexstr::Name;
+use std::alloc::{AllocError, Global};
 use std::marker::Model;
 
 /// A pool, by what its rows name.
@@ -67,4 +75,82 @@ impl Model for MethodSymbol {
     ghost Value = { symbols.Method };
 
     ghost view = { λ m. record { class = m.class; name = m.name; proto = m.proto } };
+}
+
+// The name that a type is.
+fn type_name(alloc: Global, tables: &Tables<'_>, typ: usize) -> Result<Name, AllocError>
+    requires tables { AreTables tables.now }
+    requires row { typ < length tables.now.types.items }
+    ensures { IfOk result (λ name. name ≡ type_of tables.now.strings.items tables.now.types.items typ) }
+{
+    Name::of(alloc, &tables.strings[tables.types[typ]])
+}
+
+// The names that types are.
+fn type_names(alloc: Global, tables: &Tables<'_>, types: &[usize]) -> Result<Vec<Name>, AllocError>
+    requires tables { AreTables tables.now }
+    requires rows { All (λ typ. typ < length tables.now.types.items) types.now }
+    ensures { IfOk result (λ names. names.items ≡ map (type_of tables.now.strings.items tables.now.types.items) types.now) }
+{
+    let mut names = Vec::with_capacity(alloc, types.len())?;
+    for i in 0..types.len() {
+        names.push(type_name(alloc, tables, types[i])?)?;
+    }
+    Ok(names)
+}
+
+impl ProtoSymbol {
+    /// The proto of a row.
+    pub(crate) fn of(
+        alloc: Global,
+        tables: &Tables<'_>,
+        row: &ProtoEntry,
+    ) -> Result<ProtoSymbol, AllocError>
+        requires tables { AreTables tables.now }
+        requires row { IsProtoEntry tables.now row.now }
+        ensures { IfOk result (λ symbol. symbol ≡ proto_of tables.now.strings.items tables.now.types.items tables.now.parameters.items row.now) }
+    {
+        Ok(ProtoSymbol {
+            return_type: type_name(alloc, tables, row.return_type)?,
+            parameters: type_names(alloc, tables, part(&tables.parameters, row.parameters))?,
+        })
+    }
+}
+
+impl FieldSymbol {
+    /// The field of a row.
+    pub(crate) fn of(
+        alloc: Global,
+        tables: &Tables<'_>,
+        row: &FieldRow,
+    ) -> Result<FieldSymbol, AllocError>
+        requires tables { AreTables tables.now }
+        requires row { IsFieldRow tables.now row.now }
+        ensures { IfOk result (λ symbol. symbol ≡ field_of tables.now.strings.items tables.now.types.items row.now) }
+    {
+        Ok(FieldSymbol {
+            class: type_name(alloc, tables, row.class)?,
+            name: Name::of(alloc, &tables.strings[row.name])?,
+            typ: type_name(alloc, tables, row.typ)?,
+        })
+    }
+}
+
+impl MethodSymbol {
+    /// The method of a row.
+    pub(crate) fn of(
+        alloc: Global,
+        tables: &Tables<'_>,
+        row: &MethodRow,
+    ) -> Result<MethodSymbol, AllocError>
+        requires tables { AreTables tables.now }
+        requires row { IsMethodRow tables.now row.now }
+        ensures { IfOk result (λ symbol. symbol ≡ method_of tables.now.strings.items tables.now.types.items tables.now.parameters.items tables.now.protos.items row.now) }
+    {
+        Ok(MethodSymbol {
+            class: type_name(alloc, tables, row.class)?,
+            name: Name::of(alloc, &tables.strings[row.name])?,
+            proto: ProtoSymbol::of(alloc, tables, &tables.protos[row.proto])?,
+        })
+    }
 }

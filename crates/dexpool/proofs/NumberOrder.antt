@@ -1,0 +1,154 @@
+-- Numbers of rows are in the order of the symbols that the rows stand for.
+use Rattle.std.proofs.Common.{◌≡◌, ℕ, ◌<◌, ◌&&◌, true, List, [], ◌∷◌, length, get_or, refl, sym, ap, ◌∙◌, inl, inr}
+use Rattle.std.specs.Prelude.{map, All}
+use Rattle.std.specs.Ordering.{is_lt, nat_cmp, ordering_then, ordering_reverse}
+use Rattle.std.specs.Cmp.{IsTotalOrder, nat_cmp_is}
+use Rattle.std.specs.Cmp.Lexicographic.{slice_cmp}
+use Rattle.std.specs.declared.cmp.Ordering.{Ordering}
+use Rattle.std.specs.declared.cmp.Ordering.TheVariants.{Less, Equal, Greater}
+use Rattle.std.proofs.lemmas.Bool.{cases_order}
+use Rattle.std.proofs.lemmas.Cmp.{tied_itself, on_total, nat_list_cmp_total}
+use Rattle.std.proofs.lemmas.List.{get_or_default}
+use Rattle.std.proofs.lemmas.List.Elements.{All-head, All-tail}
+use Rattle.dexspec.specs.Lists.{rises}
+use Rattle.dexspec.specs.Texts.{Text, text_cmp}
+use Rattle.dexspec.specs.Symbols as symbols
+use Rattle.dexspec.proofs.InOrder.{Rises-from_rises, Rises-places}
+use Rattle.dexspec.proofs.SymbolOrders.{text_total}
+use Rattle.dexrows.specs.declared.fields.FieldRow.{FieldRow}
+use Rattle.dexrows.specs.declared.methods.MethodRow.{MethodRow}
+use Rattle.dexpool.specs.declared.rows.ProtoEntry.{ProtoEntry}
+use Rattle.dexpool.specs.Tables.{text_of, type_of, span_of, proto_of, field_of, proto_at, method_of, proto_key, field_key, method_key, type_cmp, proto_cmp, field_cmp, method_cmp}
+
+-- ---- any list
+
+-- places in a rising list are in the order of what stands there
+pub places_agree : {K : Type 0} (R : K → K → Ordering) → IsTotalOrder R → (xs : List K) → rises R xs ≡ true → (i j : ℕ) (d e : K) → i < length xs → j < length xs → nat_cmp i j ≡ R (get_or xs i d) (get_or xs j e)
+places_agree R o xs rise i j d e lt lt' =
+    let r = Rises-from_rises R o xs rise in
+    let same_default : get_or xs j d ≡ get_or xs j e = get_or_default xs j d e lt' in
+    elim (cases_order i j) as (λ _. nat_cmp i j ≡ R (get_or xs i d) (get_or xs j e)) [
+      | inl same ↦ sym (nat_cmp_is i j Equal same) ∙ sym (ap (R (get_or xs i d)) (sym same_default ∙ ap (λ k. get_or xs k d) (sym same)) ∙ tied_itself o (get_or xs i d))
+      | inr apart ↦ elim apart as (λ _. nat_cmp i j ≡ R (get_or xs i d) (get_or xs j e)) [
+        | inl less ↦ sym (nat_cmp_is i j Less less) ∙ sym (Rises-places R o xs i j d r less lt') ∙ ap (R (get_or xs i d)) same_default
+        | inr more ↦ sym (nat_cmp_is i j Greater more) ∙ sym (o.antisymm (get_or xs i d) (get_or xs j d) ∙ ap ordering_reverse (Rises-places R o xs j i d r more lt)) ∙ ap (R (get_or xs i d)) same_default
+      ]
+    ]
+
+module _ {X Y : Type 0} (R : X → X → Ordering) (S : Y → Y → Ordering) (f : X → Y) (P : X → Type 0) (same : (x y : X) → P x → P y → R x y ≡ S (f x) (f y)) where
+  -- where an order is that of what is made, lists rise together
+  pub rises-map : (xs : List X) → All P xs → rises R xs ≡ rises S (map f xs)
+  rises-map [] h = refl
+  rises-map (x ∷ []) h = refl
+  rises-map (x ∷ y ∷ ys) h =
+      let t = All-tail P x (y ∷ ys) h in
+      let e : R x y ≡ S (f x) (f y) = same x y (All-head P x (y ∷ ys) h) (All-head P y ys t) in
+      let r : rises R (y ∷ ys) ≡ rises S (map f (y ∷ ys)) = rises-map (y ∷ ys) t in
+      λ i. is_lt (e i) && r i
+
+  -- and are ordered alike
+  pub slices-map : (xs ys : List X) → All P xs → All P ys → slice_cmp R xs ys ≡ slice_cmp S (map f xs) (map f ys)
+  slices-map [] [] h k = refl
+  slices-map [] (y ∷ ys) h k = refl
+  slices-map (x ∷ xs) [] h k = refl
+  slices-map (x ∷ xs) (y ∷ ys) h k =
+      let e : R x y ≡ S (f x) (f y) = same x y (All-head P x xs h) (All-head P y ys k) in
+      let r : slice_cmp R xs ys ≡ slice_cmp S (map f xs) (map f ys) = slices-map xs ys (All-tail P x xs h) (All-tail P y ys k) in
+      λ i. ordering_then (e i) (r i)
+
+-- ---- the numbers of a row
+
+then_equal : (o : Ordering) → ordering_then o Equal ≡ o
+then_equal Less = refl
+then_equal Equal = refl
+then_equal Greater = refl
+
+-- three numbers decide one after the other
+three_keys : {o o' p p' q q' : Ordering} → o ≡ o' → p ≡ p' → q ≡ q' → ordering_then o (ordering_then p (ordering_then q Equal)) ≡ ordering_then o' (ordering_then p' q')
+three_keys {o} {o'} {p} {p'} {q} {q'} e f g =
+    let h : ordering_then q Equal ≡ q' = then_equal q ∙ g in
+    λ i. ordering_then (e i) (ordering_then (f i) (h i))
+
+-- the entry's numbers of types are in range
+pub record HasTypeNumbers (ps : List ℕ) (n : ℕ) (p : ProtoEntry) : Type 0 where
+  pub return_in : p.return_type < n
+  pub parameters_in : All (λ k. k < n) (span_of ps p.parameters)
+
+-- the row's numbers of types and texts are
+pub record HasFieldNumbers (types texts : ℕ) (f : FieldRow) : Type 0 where
+  pub class_in : f.class < types
+  pub name_in : f.name < texts
+  pub type_in : f.typ < types
+
+-- and those of a method, with its proto's
+pub record HasMethodNumbers (types texts protos : ℕ) (m : MethodRow) : Type 0 where
+  pub class_in : m.class < types
+  pub name_in : m.name < texts
+  pub proto_in : m.proto < protos
+
+-- the orders of rows are total
+pub type_total : IsTotalOrder type_cmp
+type_total = on_total (λ (n : ℕ). n ∷ []) nat_list_cmp_total
+
+pub proto_rows_total : (ps : List ℕ) → IsTotalOrder (proto_cmp ps)
+proto_rows_total ps = on_total (proto_key ps) nat_list_cmp_total
+
+pub field_rows_total : IsTotalOrder field_cmp
+field_rows_total = on_total field_key nat_list_cmp_total
+
+pub method_rows_total : IsTotalOrder method_cmp
+method_rows_total = on_total method_key nat_list_cmp_total
+
+module _ (texts : List Text) (texts_rise : rises text_cmp texts ≡ true) where
+  -- numbers of texts
+  pub texts_agree : (m n : ℕ) → m < length texts → n < length texts → nat_cmp m n ≡ text_cmp (text_of texts m) (text_of texts n)
+  texts_agree m n lt lt' = places_agree text_cmp text_total texts texts_rise m n [] [] lt lt'
+
+  -- rows of types
+  pub type_rows_agree : (m n : ℕ) → m < length texts → n < length texts → type_cmp m n ≡ text_cmp (text_of texts m) (text_of texts n)
+  type_rows_agree m n lt lt' = then_equal (nat_cmp m n) ∙ texts_agree m n lt lt'
+
+  -- a table of types rises by numbers as by texts
+  pub types_rise_alike : (types : List ℕ) → All (λ n. n < length texts) types → rises type_cmp types ≡ rises text_cmp (map (text_of texts) types)
+  types_rise_alike types h = rises-map type_cmp text_cmp (text_of texts) (λ n. n < length texts) type_rows_agree types h
+
+  module _ (types : List ℕ) (types_in : All (λ n. n < length texts) types) (types_rise : rises type_cmp types ≡ true) where
+    -- numbers of types
+    pub types_agree : (m n : ℕ) → m < length types → n < length types → nat_cmp m n ≡ text_cmp (type_of texts types m) (type_of texts types n)
+    types_agree m n lt lt' = places_agree type_cmp type_total types types_rise m n 0 0 lt lt' ∙ type_rows_agree (get_or types m 0) (get_or types n 0) (types_in m 0 lt) (types_in n 0 lt')
+
+    -- rows of protos
+    pub proto_rows_agree : (ps : List ℕ) (p q : ProtoEntry) → HasTypeNumbers ps (length types) p → HasTypeNumbers ps (length types) q
+        → proto_cmp ps p q ≡ symbols.proto_cmp (proto_of texts types ps p) (proto_of texts types ps q)
+    proto_rows_agree ps p q h k =
+        let e : nat_cmp p.return_type q.return_type ≡ text_cmp (type_of texts types p.return_type) (type_of texts types q.return_type) = types_agree p.return_type q.return_type h.return_in k.return_in in
+        let r : slice_cmp nat_cmp (span_of ps p.parameters) (span_of ps q.parameters) ≡ slice_cmp text_cmp (map (type_of texts types) (span_of ps p.parameters)) (map (type_of texts types) (span_of ps q.parameters)) =
+        slices-map nat_cmp text_cmp (type_of texts types) (λ n. n < length types) types_agree (span_of ps p.parameters) (span_of ps q.parameters) h.parameters_in k.parameters_in in
+        λ i. ordering_then (e i) (r i)
+
+    -- a table of protos rises by numbers as by texts
+    pub protos_rise_alike : (ps : List ℕ) (protos : List ProtoEntry) → All (HasTypeNumbers ps (length types)) protos → rises (proto_cmp ps) protos ≡ rises symbols.proto_cmp (map (proto_of texts types ps) protos)
+    protos_rise_alike ps protos h = rises-map (proto_cmp ps) symbols.proto_cmp (proto_of texts types ps) (HasTypeNumbers ps (length types)) (proto_rows_agree ps) protos h
+
+    -- rows of fields
+    pub field_rows_agree : (f g : FieldRow) → HasFieldNumbers (length types) (length texts) f → HasFieldNumbers (length types) (length texts) g → field_cmp f g ≡ symbols.field_cmp (field_of texts types f) (field_of texts types g)
+    field_rows_agree f g h k = three_keys (types_agree f.class g.class h.class_in k.class_in) (texts_agree f.name g.name h.name_in k.name_in) (types_agree f.typ g.typ h.type_in k.type_in)
+
+    -- a table of fields rises by numbers as by texts
+    pub fields_rise_alike : (fields : List FieldRow) → All (HasFieldNumbers (length types) (length texts)) fields → rises field_cmp fields ≡ rises symbols.field_cmp (map (field_of texts types) fields)
+    fields_rise_alike fields h = rises-map field_cmp symbols.field_cmp (field_of texts types) (HasFieldNumbers (length types) (length texts)) field_rows_agree fields h
+
+    module _ (ps : List ℕ) (protos : List ProtoEntry) (protos_in : All (HasTypeNumbers ps (length types)) protos) (protos_rise : rises (proto_cmp ps) protos ≡ true) where
+      -- numbers of protos
+      pub protos_agree : (m n : ℕ) → m < length protos → n < length protos → nat_cmp m n ≡ symbols.proto_cmp (proto_of texts types ps (proto_at protos m)) (proto_of texts types ps (proto_at protos n))
+      protos_agree m n lt lt' =
+          places_agree (proto_cmp ps) (proto_rows_total ps) protos protos_rise m n _ _ lt lt' ∙ proto_rows_agree ps (proto_at protos m) (proto_at protos n) (protos_in m _ lt) (protos_in n _ lt')
+
+      -- rows of methods
+      pub method_rows_agree : (m n : MethodRow) → HasMethodNumbers (length types) (length texts) (length protos) m → HasMethodNumbers (length types) (length texts) (length protos) n
+          → method_cmp m n ≡ symbols.method_cmp (method_of texts types ps protos m) (method_of texts types ps protos n)
+      method_rows_agree m n h k = three_keys (types_agree m.class n.class h.class_in k.class_in) (texts_agree m.name n.name h.name_in k.name_in) (protos_agree m.proto n.proto h.proto_in k.proto_in)
+
+      -- a table of methods rises by numbers as by texts
+      pub methods_rise_alike : (methods : List MethodRow) → All (HasMethodNumbers (length types) (length texts) (length protos)) methods → rises method_cmp methods ≡ rises symbols.method_cmp (map (method_of texts types ps protos) methods)
+      methods_rise_alike methods h = rises-map method_cmp symbols.method_cmp (method_of texts types ps protos) (HasMethodNumbers (length types) (length texts) (length protos)) method_rows_agree methods h

@@ -1,0 +1,113 @@
+-- Tables that are read rise, and their rows are in range.
+use Rattle.std.proofs.Common.{◌≡◌, ℕ, suc, ◌+◌, ◌<◌, true, List, [], ◌∷◌, length, get_or, refl, sym, ap, ◌∙◌, subst, arith}
+use Rattle.std.specs.Prelude.{map, All}
+use Rattle.std.specs.Ordering.{is_lt}
+use Rattle.std.specs.declared.cmp.Ordering.{Ordering}
+use Rattle.std.specs.declared.cmp.Ordering.TheVariants.{Less}
+use Rattle.std.proofs.lemmas.List.{get_or-map, length-map}
+use Rattle.dexspec.specs.Lists.{rises, OrNone}
+use Rattle.dexspec.specs.Texts.{Text, text_cmp}
+use Rattle.dexspec.specs.Names.{IsValueType}
+use Rattle.dexspec.specs.Bytes.{uint_at}
+use Rattle.dexspec.specs.Header.{ProtoIds, TypeIds}
+use Rattle.dexspec.specs.Rows.{key_cmp, row_at, Follows, TypeListAt, type_row_key, proto_row_key, field_row_key, method_row_key, HasType, HasProto, HasField, HasMethod}
+use Rattle.dexspec.proofs.Members.{and_both}
+use Rattle.dexspec.proofs.OneRow.{one_string}
+use Rattle.dexrows.specs.declared.fields.FieldRow.{FieldRow}
+use Rattle.dexrows.specs.declared.methods.MethodRow.{MethodRow}
+use Rattle.dexpool.specs.declared.rows.ProtoEntry.{ProtoEntry}
+use Rattle.dexpool.specs.declared.tables.Tables.{Tables}
+use Rattle.dexpool.specs.Tables.{text_of, type_of, span_of, proto_key, field_key, method_key}
+use Rattle.dexpool.specs.Reading.{ReadTo, AreTexts, AreNames, AreProtos, AreFields, AreMethods, TypeStands, ProtoStands, FieldStands, MethodStands, listed}
+use Rattle.dexpool.specs.Stored.{IsTypeNumber, IsTypeOf, IsProtoEntry, IsFieldRow, IsMethodRow, AreTables}
+use Rattle.dexpool.proofs.AllPools.{AreRead}
+use Rattle.dexpool.proofs.Steps.{text_row, type_key_is}
+use Rattle.dexpool.proofs.ProtoRows.{all_types, proto_key_is}
+use Rattle.dexpool.proofs.FieldRows.{field_key_is}
+use Rattle.dexpool.proofs.MethodRows.{method_key_is}
+
+-- ---- tables rise
+
+-- a list rises where each member is less than the next
+pub rises-next : {X : Type 0} (R : X → X → Ordering) (xs : List X) (d : X) → ((j : ℕ) → suc j < length xs → R (get_or xs j d) (get_or xs (suc j) d) ≡ Less) → rises R xs ≡ true
+rises-next R [] d h = refl
+rises-next R (x ∷ []) d h = refl
+rises-next R (x ∷ y ∷ ys) d h = and_both (is_lt (R x y)) (rises R (y ∷ ys)) (ap is_lt (h 0 (omega arith))) (rises-next R (y ∷ ys) d (λ j lt. h (suc j) (omega arith)))
+
+-- texts of rows that follow one another
+texts_rise : (b : List ℕ) (texts : List Text) → AreTexts b texts → rises text_cmp texts ≡ true
+texts_rise b texts h = rises-next text_cmp texts [] (λ j lt.
+    let holds = h.held (suc j) (omega (arith, lt, h.count)) in
+    let same : holds.text ≡ get_or texts (suc j) [] = one_string b (suc j) _ _ holds.is (h.each (suc j) [] (omega (arith, lt, h.count))) in
+    subst (λ s. text_cmp (get_or texts j []) s ≡ Less) same (holds.follows j (get_or texts j []) (omega arith) (h.each j [] (omega (arith, lt, h.count)))))
+
+-- rows whose keys follow one another
+module _ {X : Type 0} (Row : List ℕ → ℕ → X → Type 0) (Holds : List ℕ → ℕ → Type 0) (b : List ℕ) (key : List ℕ → ℕ → List ℕ) (key_of : X → List ℕ) (same : (k : ℕ) (x : X) → Row b k x → key b k ≡ key_of x)
+    (follows : (k : ℕ) → Holds b k → Follows key b k) where
+  rows_rise : (xs : List X) (n : ℕ) (d : X) → ReadTo Row Holds b xs n → rises (λ x y. key_cmp (key_of x) (key_of y)) xs ≡ true
+  rows_rise xs n d h = rises-next (λ x y. key_cmp (key_of x) (key_of y)) xs d (λ j lt.
+      let less = follows (suc j) (h.held (suc j) (omega (arith, lt, h.count))) j (omega arith) in
+      ap (λ (k : List ℕ). key_cmp k (key_of (get_or xs (suc j) d))) (sym (same j (get_or xs j d) (h.each j d (omega (arith, lt, h.count)))))
+      ∙ ap (key_cmp (key b j)) (sym (same (suc j) (get_or xs (suc j) d) (h.each (suc j) d (omega (arith, lt, h.count))))) ∙ less)
+
+-- ---- rows are in range
+
+module _ (b : List ℕ) (t : Tables) (names : AreNames b t.strings.items t.types.items) where
+  type_number : (k n : ℕ) → TypeStands t.strings.items b k n → IsTypeNumber t n
+  type_number k n s = record { text_in = omega (arith, s.is.text.row, s.index, names.texts_are.count); descriptor = s.is.descriptor }
+
+  field_row : (k : ℕ) (f : FieldRow) → FieldStands t.strings.items t.types.items b k f → IsFieldRow t f
+  field_row k f s = record {
+    class_is = record { type_in = omega (arith, s.is.class.row, s.numbers.class, names.types_are.count); is = s.is.formed.class };
+    name_in = omega (arith, s.is.name.row, s.numbers.name, names.texts_are.count);
+    name_is = s.is.formed.name;
+    type_is = record { type_in = omega (arith, s.is.type.row, s.numbers.type, names.types_are.count); is = s.is.formed.type };
+  }
+
+  proto_entry : (k : ℕ) (p : ProtoEntry) → ProtoStands t.strings.items t.types.items t.parameters.items b k p → IsProtoEntry t p
+  proto_entry k p s =
+      let type = type_of t.strings.items t.types.items in
+      let ns = span_of t.parameters.items p.parameters in
+      let o = uint_at b (row_at b ProtoIds k + 8) in
+      let list : OrNone TypeListAt [] b o (map type ns) = s.is.parameters in
+      let listed_types = all_types b t.strings.items t.types.items o (subst (λ (l : List ℕ). OrNone TypeListAt [] b o (map type l)) (sym s.numbers.parameters_are) list) in
+      let values : All IsValueType (map type (listed b o)) = subst (λ (l : List ℕ). All IsValueType (map type l)) (sym s.numbers.parameters_are) s.is.values in
+      let shorty_in : p.shorty < length t.strings.items = omega (arith, s.is.shorty.row, s.numbers.shorty, names.texts_are.count) in
+      record {
+        span = s.numbers.span;
+        return_in = omega (arith, s.is.return_type.row, s.numbers.return_type, names.types_are.count);
+        parameters_in = subst (All (IsTypeOf IsValueType t)) s.numbers.parameters_are (λ i d lt. record {
+          type_in = omega (arith, (listed_types i d lt).row, names.types_are.count);
+          is = subst IsValueType (get_or-map type (listed b o) i d (type d) lt) (values i (type d) (omega (arith, lt, length-map (listed b o) type)));
+        });
+        shorty_in = shorty_in;
+        shorty_is = one_string b _ _ _ (text_row b t.strings.items p.shorty _ names.texts_are shorty_in s.numbers.shorty) s.is.shorty;
+      }
+
+  method_row : (k : ℕ) (m : MethodRow) → AreProtos b t.strings.items t.types.items t.parameters.items t.protos.items → MethodStands t.strings.items t.types.items t.parameters.items t.protos.items b k m → IsMethodRow t m
+  method_row k m p s = record {
+    class_is = record { type_in = omega (arith, s.is.class.row, s.numbers.class, names.types_are.count); is = s.is.formed.class };
+    name_in = omega (arith, s.is.name.row, s.numbers.name, names.texts_are.count);
+    name_is = s.is.formed.name;
+    proto_in = omega (arith, s.is.proto.row, s.numbers.proto, p.count);
+  }
+
+-- ---- the tables of a file
+
+pub read_tables : (b : List ℕ) (t : Tables) → AreRead b t.strings.items t.types.items t.parameters.items t.protos.items t.fields.items t.methods.items → AreTables t
+read_tables b t h =
+    let texts = t.strings.items in
+    let types = t.types.items in
+    let ps = t.parameters.items in
+    let protos = t.protos.items in
+    record {
+      texts_rise = texts_rise b texts h.names.texts_are;
+      types_rise = rows_rise (TypeStands texts) HasType b type_row_key (λ n. n ∷ []) (type_key_is texts b) (λ k r. r.follows) types _ 0 h.names.types_are;
+      protos_rise = rows_rise (ProtoStands texts types ps) HasProto b proto_row_key (proto_key ps) (proto_key_is texts types ps b) (λ k r. r.follows) protos _ (record { shorty = 0; return_type = 0; parameters = record { start = 0; end = 0 } }) h.protos_are;
+      fields_rise = rows_rise (FieldStands texts types) HasField b field_row_key field_key (field_key_is texts types b) (λ k r. r.follows) t.fields.items _ (record { class = 0; name = 0; typ = 0 }) h.fields_are;
+      methods_rise = rows_rise (MethodStands texts types ps protos) HasMethod b method_row_key method_key (method_key_is texts types ps protos b) (λ k r. r.follows) t.methods.items _ (record { class = 0; name = 0; proto = 0 }) h.methods_are;
+      types_stand = λ k d lt. type_number b t h.names k (get_or types k d) (h.names.types_are.each k d (omega (arith, lt, h.names.types_are.count)));
+      protos_stand = λ k d lt. proto_entry b t h.names k (get_or protos k d) (h.protos_are.each k d (omega (arith, lt, h.protos_are.count)));
+      fields_stand = λ k d lt. field_row b t h.names k (get_or t.fields.items k d) (h.fields_are.each k d (omega (arith, lt, h.fields_are.count)));
+      methods_stand = λ k d lt. method_row b t h.names k (get_or t.methods.items k d) h.protos_are (h.methods_are.each k d (omega (arith, lt, h.methods_are.count)));
+    }

@@ -1,0 +1,7 @@
+use Rattle.std.proofs.Common.{subst}
+use Rattle.dexpool.specs.Numberings.{IsNumbering}
+use Rattle.dexpool.proofs.TablesStand.{are_numbering}
+use Rattle.dexpool.proofs.numbering.Numbering.is_numbering.Goals as goal
+
+pub returns : goal.returns
+returns c = subst IsNumbering c.self.view_is (are_numbering c.self.inside.tables c.self.invariant)

@@ -6,4 +6,6 @@ pub mod Pools
 pub mod Numberings
 pub mod Stored
 pub mod Ranking
+pub mod Renumbering
+pub mod Closing
 pub mod Owned

@@ -5,10 +5,12 @@
 //! "type_id_item", "proto_id_item", "field_id_item", "method_id_item" and "type_list".
 #![tactic(auto)]
 
+mod closing;
 mod faults;
 mod fields;
 mod joining;
 mod keeping;
+mod kept_tables;
 mod kinds;
 mod marks;
 mod methods;
@@ -19,6 +21,7 @@ mod pools;
 mod protos;
 mod ranks;
 mod remap;
+mod renumbering;
 mod rows;
 mod shorties;
 mod strings;

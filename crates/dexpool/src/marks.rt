@@ -4,6 +4,7 @@ ghost use Rattle.std.specs.Prelude.{◌≡◌, IfOk, [], All, false};
 ghost use Rattle.dexpool.specs.Numberings.{AreMarksOf, marked};
 
 use crate::numbering::Numbering;
+use crate::symbols::SymbolKind;
 use std::alloc::{AllocError, Global};
 
 /// A mark for each symbol of a numbering, by its number: whether it is to be kept.
@@ -24,8 +25,12 @@ impl Marks {
         ensures marks { IfOk result (AreMarksOf numbering.now) }
         ensures none { IfOk result (λ marks. marked numbering.now marks ≡ []) }
     {
-        let _numbering = numbering;
-        let _alloc = alloc;
-        Err(AllocError)
+        Ok(Marks {
+            strings: vec![in alloc; false; numbering.count(SymbolKind::Text)]?,
+            types: vec![in alloc; false; numbering.count(SymbolKind::Typ)]?,
+            protos: vec![in alloc; false; numbering.count(SymbolKind::Proto)]?,
+            fields: vec![in alloc; false; numbering.count(SymbolKind::Field)]?,
+            methods: vec![in alloc; false; numbering.count(SymbolKind::Method)]?,
+        })
     }
 }

@@ -1,0 +1,6 @@
+use Rattle.std.proofs.Common.{◌≡◌, map, take}
+use Rattle.dexpool.specs.Renumbering.{moved_type}
+use Rattle.dexpool.proofs.renumbering.renumbered_types.Given as goal
+
+abbrev pub invariant-loop-n : goal.invariant-loop-n
+invariant-loop-n l = l.rows.items ≡ map (moved_type l.strings) (take l.n-index l.types)

@@ -1,36 +1,50 @@
 //! Tables that are joined and cut: the answers are those of the definitions, worked out by hand.
 
-use crate::{FieldRow, MethodRow, ProtoRow, Row, TypeRow, cut, is_sorted, join};
+use crate::{FieldRow, Joined, MethodRow, ProtoRow, Row, TypeRow, cut, is_sorted, join};
 use dexstr::Text;
-use std::alloc::Global;
+use std::alloc::{AllocError, Global};
 use std::cmp::Ordering;
 use std::test::Fail;
 
-/// The items of texts "a", "b", "c" and "ca".
-const ITEMS: [&[u8]; 4] = [
-    &[1, b'a', 0],
-    &[1, b'b', 0],
-    &[1, b'c', 0],
-    &[2, b'c', b'a', 0],
-];
+/// The items of four texts that rise.
+const A: &[u8] = &[1, b'a', 0];
 
-/// A text of the items.
-fn text(i: usize) -> Option<Text<'static>> {
-    match Text::read(ITEMS.get(i)?, 0) {
+const B: &[u8] = &[1, b'b', 0];
+
+const C: &[u8] = &[1, b'c', 0];
+
+const CA: &[u8] = &[2, b'c', b'a', 0];
+
+/// The text of the item.
+fn text_of(item: &[u8]) -> Option<Text<'_>> {
+    match Text::read(item, 0) {
         Ok((text, _)) => Some(text),
         Err(_) => None,
     }
 }
 
 /// A table of the items' texts.
-fn texts(alloc: Global, items: &[usize]) -> Result<Vec<Text<'static>>, Fail> {
+fn texts<'a>(alloc: Global, items: &[&'a [u8]]) -> Result<Vec<Text<'a>>, AllocError> {
     let mut texts = Vec::new(alloc);
-    for i in items {
-        if let Some(text) = text(*i) {
+    for item in items {
+        if let Some(text) = text_of(item) {
             texts.push(text)?;
         }
     }
     Ok(texts)
+}
+
+/// Two tables of texts joined, if they rise.
+fn join_texts<'a>(
+    alloc: Global,
+    left: &[Text<'a>],
+    right: &[Text<'a>],
+) -> Result<Option<Joined<Text<'a>>>, AllocError> {
+    if is_sorted(left) && is_sorted(right) {
+        Ok(Some(join(alloc, &[left, right])?))
+    } else {
+        Ok(None)
+    }
 }
 
 /// A row of types.
@@ -76,7 +90,7 @@ fn tells_orders(rt: HostRuntime) {
     assert!(rt; short.key().0 == 1);
     assert!(rt; told(&typ(3), &typ(3)) == (Ordering::Equal, true));
     assert!(rt; typ(3).key() == 3);
-    match (text(2), text(3)) {
+    match (text_of(C), text_of(CA)) {
         (Some(short), Some(long)) => {
             assert!(rt; told(&long, &short) == (Ordering::Greater, true));
             assert!(rt; short.key() == short);
@@ -87,18 +101,18 @@ fn tells_orders(rt: HostRuntime) {
 
 #[test]
 fn joins_texts(rt: HostRuntime) -> Result<(), Fail> {
-    let left = texts(rt.alloc(), &[0, 2, 3])?;
-    let right = texts(rt.alloc(), &[1, 2])?;
-    if !is_sorted(&left) || !is_sorted(&right) {
-        panic!(rt; "they rise");
+    let left = texts(rt.alloc(), &[A, C, CA])?;
+    let right = texts(rt.alloc(), &[B, C])?;
+    let all = texts(rt.alloc(), &[A, B, C, CA])?;
+    match join_texts(rt.alloc(), &left, &right)? {
+        Some(joined) => {
+            assert!(rt; joined.rows.as_slice() == all.as_slice());
+            assert_eq!(rt; joined.images.len(), 2);
+            assert!(rt; joined.images[0].as_slice() == [0, 2, 3].as_slice());
+            assert!(rt; joined.images[1].as_slice() == [1, 2].as_slice());
+        }
+        None => panic!(rt; "they rise"),
     }
-    let joined = join(rt.alloc(), &[left.as_slice(), right.as_slice()])?;
-    assert_eq!(rt; joined.rows.len(), 4);
-    for i in 0..joined.rows.len() {
-        assert!(rt; text(i).is_some_and(|text| text == joined.rows[i].clone()));
-    }
-    assert!(rt; joined.images[0].as_slice() == [0, 2, 3].as_slice());
-    assert!(rt; joined.images[1].as_slice() == [1, 2].as_slice());
     Ok(())
 }
 

@@ -3,4 +3,3 @@ pub mod KeyOrders
 pub mod Join
 pub mod Merge
 pub mod Cut
-pub mod KeyOrders

@@ -10,6 +10,8 @@ pub mod MethodRows
 pub mod AllPools
 pub mod Ranking
 pub mod Weighing
+pub mod KeptRows
+pub mod Closure
 pub mod NumberOrder
 pub mod TablesStand
 pub mod ReadTables

@@ -28,22 +28,14 @@ pub(crate) fn closed(tables: &Tables<'_>, marks: &Marks) -> Result<Marks, AllocE
     let mut protos = marks.protos.clone()?;
     let fields = marks.fields.clone()?;
     let methods = marks.methods.clone()?;
-    mark_by_methods(
-        &tables.methods,
+    mark_below(
+        tables,
+        &fields,
         &methods,
         &mut strings,
         &mut types,
         &mut protos,
     );
-    mark_by_fields(&tables.fields, &fields, &mut strings, &mut types);
-    mark_by_protos(
-        &tables.protos,
-        &tables.parameters,
-        &protos,
-        &mut strings,
-        &mut types,
-    );
-    mark_by_types(&tables.types, &types, &mut strings);
     Ok(Marks {
         strings,
         types,
@@ -51,6 +43,31 @@ pub(crate) fn closed(tables: &Tables<'_>, marks: &Marks) -> Result<Marks, AllocE
         fields,
         methods,
     })
+}
+
+// Marks what marked methods, fields, protos and types name.
+fn mark_below(
+    tables: &Tables<'_>,
+    fields: &[bool],
+    methods: &[bool],
+    strings: &mut [bool],
+    types: &mut [bool],
+    protos: &mut [bool],
+)
+    requires tables { AreTables tables.now }
+    requires fields { length fields.now ≡ length tables.now.fields.items }
+    requires methods { length methods.now ≡ length tables.now.methods.items }
+    requires strings { length strings.old ≡ length tables.now.strings.items }
+    requires types { length types.old ≡ length tables.now.types.items }
+    requires protos { length protos.old ≡ length tables.now.protos.items }
+    ensures protos { protos.new ≡ mark_all protos.old (map (λ m. m.proto) (kept methods.now tables.now.methods.items)) }
+    ensures types { types.new ≡ mark_all (mark_all (mark_all types.old (map (λ m. m.class) (kept methods.now tables.now.methods.items))) (flat_map field_types (kept fields.now tables.now.fields.items))) (flat_map (entry_types tables.now.parameters.items) (kept protos.new tables.now.protos.items)) }
+    ensures strings { strings.new ≡ mark_all (mark_all (mark_all (mark_all strings.old (map (λ m. m.name) (kept methods.now tables.now.methods.items))) (map (λ f. f.name) (kept fields.now tables.now.fields.items))) (map (λ p. p.shorty) (kept protos.new tables.now.protos.items))) (kept types.new tables.now.types.items) }
+{
+    mark_by_methods(&tables.methods, methods, strings, types, protos);
+    mark_by_fields(&tables.fields, fields, strings, types);
+    mark_by_protos(&tables.protos, &tables.parameters, protos, strings, types);
+    mark_by_types(&tables.types, types, strings);
 }
 
 // Marks the classes, names and protos of marked methods.

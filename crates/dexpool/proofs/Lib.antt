@@ -12,6 +12,7 @@ pub mod Ranking
 pub mod Weighing
 pub mod KeptRows
 pub mod Closure
+pub mod KeptTables
 pub mod NumberOrder
 pub mod TablesStand
 pub mod ReadTables

@@ -10,6 +10,7 @@ use Rattle.dexpool.specs.declared.tables.Tables.{Tables}
 use Rattle.dexpool.specs.declared.marks.Marks.{Marks}
 use Rattle.dexpool.specs.Tables.{span_of}
 use Rattle.dexpool.specs.Numberings.{Maps}
+use Rattle.dexpool.specs.Stored.{symbols_in, AreTables}
 
 -- ---- marks
 
@@ -88,6 +89,12 @@ kept_places marks = record {
   fields = places 0 marks.fields.items;
   methods = places 0 marks.methods.items;
 }
+
+-- the tables of the marked symbols, and where each number leads
+pub record AreKept (t : Tables) (marks : Marks) (cut : Tables) (maps : Maps) : Type 0 where
+  pub tables_are : AreTables cut
+  pub symbols_are : symbols_in cut ≡ kept_symbols marks (symbols_in t)
+  pub maps_are : maps ≡ kept_places marks
 
 -- the number that there is, or 0
 abbrev pub number_or_none : Option ℕ → ℕ

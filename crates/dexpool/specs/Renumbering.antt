@@ -1,11 +1,11 @@
 -- Rows whose numbers are replaced: by the numbers at their places in the images.
 use Rattle.std.specs.Prelude.{ℕ, ◌<◌, List, map, length, slice_index, All}
-use Rattle.std.specs.List.{flat_map}
 use Rattle.dexrows.specs.Numbers.{ProtoNumbers}
 use Rattle.dexrows.specs.declared.types.TypeRow.{TypeRow}
 use Rattle.dexrows.specs.declared.fields.FieldRow.{FieldRow}
 use Rattle.dexrows.specs.declared.methods.MethodRow.{MethodRow}
 use Rattle.dexpool.specs.declared.rows.ProtoEntry.{ProtoEntry}
+use Rattle.dexpool.specs.declared.protos.Protos.{Protos}
 use Rattle.dexpool.specs.Tables.{span_of}
 use Rattle.dexpool.specs.Reading.{HasSpan}
 
@@ -21,31 +21,27 @@ moved_type strings n = record { descriptor = slice_index strings n }
 abbrev pub numbers_of : List ℕ → ProtoEntry → ProtoNumbers
 numbers_of parameters p = record { shorty = p.shorty; return_type = p.return_type; parameters = span_of parameters p.parameters }
 
--- an entry's parameters are in range, for so many types
-pub record AreParametersWithin (types : ℕ) (parameters : List ℕ) (p : ProtoEntry) : Type 0 where
-  pub span : HasSpan parameters p.parameters
-  pub numbers : All (λ n. n < types) (span_of parameters p.parameters)
+-- the rows of a table
+abbrev pub numbers_in : Protos → List ProtoNumbers
+numbers_in t = map (numbers_of t.parameters.items) t.rows.items
+
+-- each entry's parameters stand in the table
+abbrev pub HasSpans : Protos → Type 0
+HasSpans t = All (λ p. HasSpan t.parameters.items p.parameters) t.rows.items
 
 -- an entry's numbers are in range, for so many texts and types
 pub record IsEntryWithin (strings types : ℕ) (parameters : List ℕ) (p : ProtoEntry) : Type 0 where
   pub shorty_in : p.shorty < strings
   pub return_in : p.return_type < types
-  pub parameters_in : AreParametersWithin types parameters p
-
--- the entry's parameters renumbered
-abbrev pub moved_parameters : List ℕ → List ℕ → ProtoEntry → List ℕ
-moved_parameters types parameters p = map (slice_index types) (span_of parameters p.parameters)
-
--- those of all entries, one after the other
-abbrev pub all_moved_parameters : List ℕ → List ℕ → List ProtoEntry → List ℕ
-all_moved_parameters types parameters protos = flat_map (moved_parameters types parameters) protos
+  pub span : HasSpan parameters p.parameters
+  pub parameters_in : All (λ n. n < types) (span_of parameters p.parameters)
 
 -- the row of an entry renumbered
 abbrev pub moved_proto : List ℕ → List ℕ → List ℕ → ProtoEntry → ProtoNumbers
 moved_proto strings types parameters p = record {
   shorty = slice_index strings p.shorty;
   return_type = slice_index types p.return_type;
-  parameters = moved_parameters types parameters p;
+  parameters = map (slice_index types) (span_of parameters p.parameters);
 }
 
 -- ---- rows of fields and methods

@@ -1,22 +1,19 @@
 //! Tables cut down to their marked rows: each table's rows are renumbered by the places of the rows below them,
 //! and then cut.
 
-ghost use Rattle.std.specs.Prelude.{◌≡◌, map, All, IfOk};
+ghost use Rattle.std.specs.Prelude.{◌≡◌, map, IfOk};
 ghost use Rattle.dexpool.specs.Numberings.{AreMarksOf};
-ghost use Rattle.dexpool.specs.Reading.{HasSpan};
-ghost use Rattle.dexpool.specs.Renumbering.{numbers_of};
 ghost use Rattle.dexpool.specs.Stored.{symbols_in, AreTables};
-ghost use Rattle.dexpool.specs.Closing.{AreClosed, kept_symbols, kept_places, number_or_none};
+ghost use Rattle.dexpool.specs.Closing.{AreClosed, AreKept, number_or_none};
 
 use crate::marks::Marks;
 use crate::remap::Remap;
 use crate::renumbering::{
-    descriptors, renumbered_fields, renumbered_methods, renumbered_parameters, renumbered_protos,
-    renumbered_types,
+    descriptors, proto_rows, renumbered_fields, renumbered_methods, renumbered_protos,
+    renumbered_types, stored,
 };
-use crate::rows::{ProtoEntry, Span};
 use crate::tables::Tables;
-use dexrows::{ProtoRow, cut};
+use dexrows::cut;
 use std::alloc::{AllocError, Global};
 
 /// The marked rows, where what a marked row names is marked; and where each number leads.
@@ -30,19 +27,16 @@ pub(crate) fn keep_marked<'a>(
     requires tables { AreTables tables.now }
     requires marks { AreMarksOf (symbols_in tables.now) marks.now }
     requires closed { AreClosed tables.now marks.now }
-    ensures tables { IfOk result (λ cut. AreTables cut.0) }
-    ensures symbols { IfOk result (λ cut. symbols_in cut.0 ≡ kept_symbols marks.now (symbols_in tables.now)) }
-    ensures maps { IfOk result (λ cut. cut.1 ≡ kept_places marks.now) }
+    ensures { IfOk result (λ cut. AreKept tables.now marks.now cut.0 cut.1) }
 {
     let strings = cut(alloc, &tables.strings, &marks.strings)?;
     let string_numbers = numbers(alloc, &strings.images)?;
     let type_rows = renumbered_types(alloc, &tables.types, &string_numbers)?;
     let types = cut(alloc, &type_rows, &marks.types)?;
     let type_numbers = numbers(alloc, &types.images)?;
-    let parameters = renumbered_parameters(alloc, tables, &type_numbers)?;
-    let proto_rows =
-        renumbered_protos(alloc, tables, &string_numbers, &type_numbers, &parameters)?;
-    let protos = cut(alloc, &proto_rows, &marks.protos)?;
+    let moved = renumbered_protos(alloc, tables, &string_numbers, &type_numbers)?;
+    let moved_rows = proto_rows(alloc, &moved)?;
+    let protos = cut(alloc, &moved_rows, &marks.protos)?;
     let proto_numbers = numbers(alloc, &protos.images)?;
     let field_rows = renumbered_fields(alloc, &tables.fields, &string_numbers, &type_numbers)?;
     let fields = cut(alloc, &field_rows, &marks.fields)?;
@@ -55,12 +49,12 @@ pub(crate) fn keep_marked<'a>(
     )?;
     let methods = cut(alloc, &method_rows, &marks.methods)?;
     let types_kept = descriptors(alloc, &types.rows)?;
-    let (protos_kept, parameters_kept) = stored(alloc, &protos.rows)?;
+    let protos_kept = stored(alloc, &protos.rows)?;
     let kept = Tables {
         strings: strings.rows,
         types: types_kept,
-        protos: protos_kept,
-        parameters: parameters_kept,
+        protos: protos_kept.rows,
+        parameters: protos_kept.parameters,
         fields: fields.rows,
         methods: methods.rows,
     };
@@ -83,29 +77,4 @@ fn numbers(alloc: Global, images: &[Option<usize>]) -> Result<Vec<usize>, AllocE
         numbers.push(image.unwrap_or(0))?;
     }
     Ok(numbers)
-}
-
-// Entries of the same numbers as the rows, and the types of all parameters.
-fn stored(
-    alloc: Global,
-    rows: &[ProtoRow<'_>],
-) -> Result<(Vec<ProtoEntry>, Vec<usize>), AllocError>
-    ensures same { IfOk result (λ table. map (numbers_of table.1.items) table.0.items ≡ rows.now) }
-    ensures spans { IfOk result (λ table. All (λ entry. HasSpan table.1.items entry.parameters) table.0.items) }
-{
-    let mut entries = Vec::with_capacity(alloc, rows.len())?;
-    let mut parameters = Vec::new(alloc);
-    for row in rows {
-        let start = parameters.len();
-        parameters.extend_from_slice(row.parameters())?;
-        entries.push(ProtoEntry {
-            shorty: row.shorty(),
-            return_type: row.return_type(),
-            parameters: Span {
-                start,
-                end: parameters.len(),
-            },
-        })?;
-    }
-    Ok((entries, parameters))
 }

@@ -1,9 +1,10 @@
 //! Rows whose numbers are replaced by those of the same symbols in other tables.
 
 ghost use Rattle.std.specs.Prelude.{◌≡◌, ◌<◌, ◌++◌, length, map, All, IfOk, OnOk, slice_index};
-ghost use Rattle.dexpool.specs.Renumbering.{moved_type, AreParametersWithin, IsEntryWithin, all_moved_parameters, moved_proto, IsFieldWithin, moved_field, IsMethodWithin, moved_method};
+ghost use Rattle.dexpool.specs.Renumbering.{moved_type, IsEntryWithin, HasSpans, numbers_in, moved_proto, IsFieldWithin, moved_field, IsMethodWithin, moved_method};
 
-use crate::protos::part;
+use crate::protos::{Protos, part};
+use crate::rows::{ProtoEntry, Span};
 use crate::tables::Tables;
 use dexrows::{FieldRow, MethodRow, ProtoRow, TypeRow};
 use std::alloc::{AllocError, Global};
@@ -48,51 +49,74 @@ fn push_images(numbers: &[usize], images: &[usize], to: &mut Vec<usize>) -> Resu
     Ok(())
 }
 
-/// The parameters of all protos, one after the other, by the images of their types.
-pub(crate) fn renumbered_parameters(
-    alloc: Global,
-    tables: &Tables<'_>,
-    types: &[usize],
-) -> Result<Vec<usize>, AllocError>
-    requires { All (AreParametersWithin (length types.now) tables.now.parameters.items) tables.now.protos.items }
-    ensures { IfOk result (λ moved. moved.items ≡ all_moved_parameters types.now tables.now.parameters.items tables.now.protos.items) }
-{
-    let mut moved = Vec::with_capacity(alloc, tables.parameters.len())?;
-    for entry in &tables.protos {
-        push_images(
-            part(&tables.parameters, entry.parameters),
-            types,
-            &mut moved,
-        )?;
-    }
-    Ok(moved)
-}
-
-/// The rows of protos, by the images of their texts and types. Their parameters, which are renumbered, are
-/// borrowed.
-pub(crate) fn renumbered_protos<'p>(
+/// The protos, by the images of their texts and types.
+pub(crate) fn renumbered_protos(
     alloc: Global,
     tables: &Tables<'_>,
     strings: &[usize],
     types: &[usize],
-    parameters: &'p [usize],
-) -> Result<Vec<ProtoRow<'p>>, AllocError>
-    requires within { All (IsEntryWithin (length strings.now) (length types.now) tables.now.parameters.items) tables.now.protos.items }
-    requires parameters { parameters.now ≡ all_moved_parameters types.now tables.now.parameters.items tables.now.protos.items }
-    ensures { IfOk result (λ rows. rows.items ≡ map (moved_proto strings.now types.now tables.now.parameters.items) tables.now.protos.items) }
+) -> Result<Protos, AllocError>
+    requires { All (IsEntryWithin (length strings.now) (length types.now) tables.now.parameters.items) tables.now.protos.items }
+    ensures spans { IfOk result HasSpans }
+    ensures rows { IfOk result (λ protos. numbers_in protos ≡ map (moved_proto strings.now types.now tables.now.parameters.items) tables.now.protos.items) }
 {
     let mut rows = Vec::with_capacity(alloc, tables.protos.len())?;
-    let mut rest = parameters;
+    let mut parameters = Vec::with_capacity(alloc, tables.parameters.len())?;
     for entry in &tables.protos {
-        let (own, later) = rest.split_at(entry.parameters.end - entry.parameters.start);
+        let start = parameters.len();
+        push_images(
+            part(&tables.parameters, entry.parameters),
+            types,
+            &mut parameters,
+        )?;
+        rows.push(ProtoEntry {
+            shorty: strings[entry.shorty],
+            return_type: types[entry.return_type],
+            parameters: Span {
+                start,
+                end: parameters.len(),
+            },
+        })?;
+    }
+    Ok(Protos { rows, parameters })
+}
+
+/// The rows of a table of protos, whose parameters are borrowed.
+pub(crate) fn proto_rows(alloc: Global, protos: &Protos) -> Result<Vec<ProtoRow<'_>>, AllocError>
+    requires { HasSpans protos.now }
+    ensures { IfOk result (λ rows. rows.items ≡ numbers_in protos.now) }
+{
+    let mut rows = Vec::with_capacity(alloc, protos.rows.len())?;
+    for entry in &protos.rows {
         rows.push(ProtoRow::new(
-            strings[entry.shorty],
-            types[entry.return_type],
-            own,
+            entry.shorty,
+            entry.return_type,
+            part(&protos.parameters, entry.parameters),
         ))?;
-        rest = later;
     }
     Ok(rows)
+}
+
+/// A table of protos with these rows.
+pub(crate) fn stored(alloc: Global, protos: &[ProtoRow<'_>]) -> Result<Protos, AllocError>
+    ensures spans { IfOk result HasSpans }
+    ensures rows { IfOk result (λ table. numbers_in table ≡ protos.now) }
+{
+    let mut rows = Vec::with_capacity(alloc, protos.len())?;
+    let mut parameters = Vec::new(alloc);
+    for proto in protos {
+        let start = parameters.len();
+        parameters.extend_from_slice(proto.parameters())?;
+        rows.push(ProtoEntry {
+            shorty: proto.shorty(),
+            return_type: proto.return_type(),
+            parameters: Span {
+                start,
+                end: parameters.len(),
+            },
+        })?;
+    }
+    Ok(Protos { rows, parameters })
 }
 
 /// The rows of fields, by the images of their texts and types.

@@ -1,9 +1,11 @@
-use Rattle.std.proofs.Common.{◌≡◌, map, take, drop}
-use Rattle.dexpool.specs.Renumbering.{all_moved_parameters, moved_proto}
+use Rattle.std.proofs.Common.{◌≡◌, map, take}
+use Rattle.std.specs.List.{All}
+use Rattle.dexpool.specs.Reading.{HasSpan}
+use Rattle.dexpool.specs.Renumbering.{numbers_of, moved_proto}
 use Rattle.dexpool.proofs.renumbering.renumbered_protos.Given as goal
 
 abbrev pub invariant-loop-entry : goal.invariant-loop-entry
 invariant-loop-entry l = record {
-  rows : l.rows.items ≡ map (moved_proto l.strings l.types l.tables.parameters.items) (take l.entry-index l.tables.protos.items);
-  rest : l.rest ≡ all_moved_parameters l.types l.tables.parameters.items (drop l.entry-index l.tables.protos.items);
+  rows : map (numbers_of l.parameters.items) l.rows.items ≡ map (moved_proto l.strings l.types l.tables.parameters.items) (take l.entry-index l.tables.protos.items);
+  spans : All (λ entry. HasSpan l.parameters.items entry.parameters) l.rows.items;
 }

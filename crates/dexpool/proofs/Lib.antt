@@ -13,6 +13,8 @@ pub mod Weighing
 pub mod KeptRows
 pub mod Closure
 pub mod KeptTables
+pub mod ClosedMarks
+pub mod KeptSymbols
 pub mod NumberOrder
 pub mod TablesStand
 pub mod ReadTables

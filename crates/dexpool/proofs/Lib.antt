@@ -20,3 +20,10 @@ pub mod TablesStand
 pub mod ReadTables
 pub mod RowParts
 pub mod SameTables
+pub mod Pairs
+pub mod Unions
+pub mod Leading
+pub mod Moved
+pub mod JoinedLevels
+pub mod StoredProtos
+pub mod JoinedTables

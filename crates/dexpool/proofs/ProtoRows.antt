@@ -33,7 +33,7 @@ span_grown xs ys s h =
 pub part_is : (part whole new old l : List ℕ) (start : ℕ) → part ≡ drop start whole → whole ≡ new → new ≡ old ++ l → start ≡ length old → part ≡ l
 part_is part whole new old l start e same grown at = e ∙ ap (drop start) (same ∙ grown) ∙ ap (λ (n : ℕ). drop n (old ++ l)) at ∙ drop_at old l (length old) refl
 
-span_is : (new old l : List ℕ) (s : Span) → new ≡ old ++ l → s.start ≡ length old → s.end ≡ length new → span_of new s ≡ l
+pub span_is : (new old l : List ℕ) (s : Span) → new ≡ old ++ l → s.start ≡ length old → s.end ≡ length new → span_of new s ≡ l
 span_is new old l s grown start end =
     let rest : drop s.start new ≡ l = part_is (drop s.start new) new new old l s.start refl refl grown start in
     ap (λ (xs : List ℕ). take (s.end - s.start) xs) rest ∙ take_all (s.end - s.start) l (omega (arith, start, end, ap (λ (xs : List ℕ). length xs) grown, length-append old l))

@@ -9,3 +9,5 @@ pub mod Ranking
 pub mod Renumbering
 pub mod Closing
 pub mod Owned
+pub mod Renumbering
+pub mod Joining

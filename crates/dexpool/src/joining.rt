@@ -4,6 +4,7 @@ ghost use Rattle.std.specs.Prelude.{◌≡◌, map, IfOk};
 ghost use Rattle.std.specs.List.{AllZip};
 ghost use Rattle.dexpool.specs.Numberings.{union_of, AllLead};
 
+use crate::joined_tables::join_tables;
 use crate::numbering::Numbering;
 use crate::remap::Remap;
 use std::alloc::{AllocError, Global};
@@ -21,8 +22,7 @@ impl<'a> Numbering<'a> {
         ensures union { IfOk result (λ joined. joined.0 ≡ union_of (map (λ part. part.now) parts.now)) }
         ensures maps { IfOk result (λ joined. AllZip (λ part remap. AllLead part joined.0 remap) (map (λ part. part.now) parts.now) joined.1.items) }
     {
-        let _parts = parts;
-        let _alloc = alloc;
-        Err(AllocError)
+        let (tables, remaps) = join_tables(alloc, parts)?;
+        Ok((Numbering { tables }, remaps))
     }
 }

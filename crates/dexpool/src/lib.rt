@@ -8,6 +8,9 @@
 mod closing;
 mod faults;
 mod fields;
+#[cfg(test)]
+mod join_tests;
+mod joined_tables;
 mod joining;
 mod keeping;
 mod kept_tables;

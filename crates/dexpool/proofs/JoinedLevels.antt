@@ -1,0 +1,171 @@
+-- The rows of all parts, renumbered and joined, one kind of symbol after the other.
+use Rattle.std.proofs.Common.{◌≡◌, ℕ, ◌<◌, true, List, [], ◌∷◌, length, map, refl, sym, ap, ◌∙◌, subst}
+use Rattle.std.specs.List.{All, AllZip, flat_map}
+use Rattle.std.specs.Ordering.{ordering_then, nat_cmp}
+use Rattle.std.specs.Cmp.{IsTotalOrder}
+use Rattle.std.specs.Cmp.Lexicographic.{slice_cmp}
+use Rattle.std.specs.FinMap.{IsAntisymmetric}
+use Rattle.std.specs.declared.cmp.Ordering.{Ordering}
+use Rattle.std.proofs.lemmas.List.{map-id}
+use Rattle.std.proofs.lemmas.List.Elements.{All-map, All-weaker}
+use Rattle.dexspec.specs.Lists.{rises}
+use Rattle.dexspec.specs.Texts.{Text, text_cmp}
+use Rattle.dexspec.specs.Symbols as symbols
+use Rattle.dexspec.specs.Mentions.{Mentions}
+use Rattle.dexspec.proofs.InOrder.{rises-in_order}
+use Rattle.dexspec.proofs.SymbolOrders.{text_total, text_exact, proto_total, proto_exact, field_total, field_exact, method_total, method_exact}
+use Rattle.dexrows.specs.Join.{row_cmp, AreSorted, IsJoin}
+use Rattle.dexrows.specs.Numbers.{ProtoNumbers}
+use Rattle.dexrows.specs.declared.types.TypeRow.{TypeRow}
+use Rattle.dexrows.specs.declared.fields.FieldRow.{FieldRow}
+use Rattle.dexrows.specs.declared.methods.MethodRow.{MethodRow}
+use Rattle.dexrows.proofs.Composing as composing
+use Rattle.dexpool.specs.declared.rows.ProtoEntry.{ProtoEntry}
+use Rattle.dexpool.specs.declared.protos.Protos.{Protos}
+use Rattle.dexpool.specs.Tables.{text_of, type_of, span_of, proto_of, field_of, method_of, type_cmp, proto_cmp, field_key, method_key}
+use Rattle.dexpool.specs.Numberings.{IsNumbering}
+use Rattle.dexpool.specs.Renumbering.{numbers_of, numbers_in, HasSpans, IsEntryWithin, IsFieldWithin, IsMethodWithin}
+use Rattle.dexpool.specs.Joining.{IsUnion, StandFor, AreJoinedTexts, AreJoinedTypes, AreJoinedProtos, AreJoinedFields, AreJoinedMethods, proto_of_row, IsRowOf, HasShorty}
+use Rattle.dexpool.proofs.NumberOrder as order
+use Rattle.dexpool.proofs.NumberOrder.{HasTypeNumbers, HasFieldNumbers, HasMethodNumbers, slices-map}
+use Rattle.dexpool.proofs.Pairs.{map_both}
+use Rattle.dexpool.proofs.Unions.{parts_sorted, joined_within, union}
+
+-- a union rises
+pub union_rises : {P X : Type 0} (of : P → List X) (R : X → X → Ordering) (o : IsTotalOrder R) (exact : IsAntisymmetric R) (parts : List P) (joined : List X) (images : List (List ℕ)) → IsUnion of R parts joined images → rises R joined ≡ true
+union_rises of R o exact parts joined images u = ap (rises R) u.all ∙ rises-in_order R o exact (flat_map of parts)
+
+-- a table of the same symbols
+same_union : {P X : Type 0} (of : P → List X) (R : X → X → Ordering) (parts : List P) (xs ys : List X) (images : List (List ℕ)) → xs ≡ ys → IsUnion of R parts xs images → IsUnion of R parts ys images
+same_union of R parts xs ys images e u = subst (λ zs. IsUnion of R parts zs images) e u
+
+module _ (parts : List Mentions) (numberings : All IsNumbering parts) where
+  -- ---- texts
+
+  texts_of_parts : (ms : List Mentions) → AllZip (λ (part : Mentions) rows. StandFor (λ (t : Text). t) (λ (t : Text). Unit {0}) part.texts rows) ms (map (λ (m : Mentions). m.texts) ms)
+  texts_of_parts [] = tt
+  texts_of_parts (m ∷ ms) = (record { same = map-id m.texts; within = λ k d lt. tt }, texts_of_parts ms)
+
+  pub texts_sorted : All (AreSorted (λ (t : Text). t)) (map (λ (m : Mentions). m.texts) parts)
+  texts_sorted = All-map (AreSorted (λ (t : Text). t)) (λ (m : Mentions). m.texts) parts (All-weaker IsNumbering (λ m. rises text_cmp m.texts ≡ true) (λ m n. n.rising.texts_rise) parts numberings)
+
+  pub texts_joined : (joined : List Text) (images : List (List ℕ)) → IsJoin (λ (t : Text). t) (map (λ (m : Mentions). m.texts) parts) joined images → AreJoinedTexts parts joined images
+  texts_joined joined images j = same_union (λ (m : Mentions). m.texts) text_cmp parts (map (λ (t : Text). t) joined) joined images (map-id joined)
+      (union (λ (t : Text). t) (λ (t : Text). t) (λ (t : Text). Unit {0}) text_cmp text_total text_exact (λ x y p q. refl) (λ (m : Mentions). m.texts) parts (map (λ (m : Mentions). m.texts) parts) (texts_of_parts parts) joined images j)
+
+  module _ (texts : List Text) (strings : List (List ℕ)) (jt : AreJoinedTexts parts texts strings) where
+    pub texts_rise : rises text_cmp texts ≡ true
+    texts_rise = union_rises (λ (m : Mentions). m.texts) text_cmp text_total text_exact parts texts strings jt
+
+    -- ---- types
+
+    module _ (rows : List (List TypeRow)) (stand : AllZip (λ (part : Mentions) xs. StandFor (λ (row : TypeRow). text_of texts row.descriptor) (λ (row : TypeRow). row.descriptor < length texts) part.types xs) parts rows) where
+      pub types_sorted : All (AreSorted (λ (row : TypeRow). row.descriptor ∷ [])) rows
+      types_sorted = parts_sorted (λ (row : TypeRow). row.descriptor ∷ []) (λ (row : TypeRow). text_of texts row.descriptor) (λ (row : TypeRow). row.descriptor < length texts) text_cmp text_total text_exact
+          (λ x y p q. order.type_rows_agree texts texts_rise x.descriptor y.descriptor p q) (λ (m : Mentions). m.types) parts rows stand
+          (All-weaker IsNumbering (λ m. rises text_cmp m.types ≡ true) (λ m n. n.rising.types_rise) parts numberings)
+
+      pub types_joined : (joined : List TypeRow) (images : List (List ℕ)) (numbers : List ℕ) → IsJoin (λ (row : TypeRow). row.descriptor ∷ []) rows joined images → numbers ≡ map (λ (row : TypeRow). row.descriptor) joined → AreJoinedTypes parts texts numbers images
+      types_joined joined images numbers j is =
+          let u = union (λ (row : TypeRow). row.descriptor ∷ []) (λ (row : TypeRow). text_of texts row.descriptor) (λ (row : TypeRow). row.descriptor < length texts) text_cmp text_total text_exact
+          (λ x y p q. order.type_rows_agree texts texts_rise x.descriptor y.descriptor p q) (λ (m : Mentions). m.types) parts rows stand joined images j in
+          let w = joined_within (λ (row : TypeRow). row.descriptor ∷ []) (λ (row : TypeRow). text_of texts row.descriptor) (λ (row : TypeRow). row.descriptor < length texts) text_cmp text_total text_exact
+          (λ x y p q. order.type_rows_agree texts texts_rise x.descriptor y.descriptor p q) (λ (m : Mentions). m.types) parts rows stand joined images j in
+          record {
+            union = same_union (λ (m : Mentions). m.types) text_cmp parts (map (λ (row : TypeRow). text_of texts row.descriptor) joined) (map (text_of texts) numbers) images
+                (sym (ap (map (text_of texts)) is ∙ map_both (λ (row : TypeRow). row.descriptor) (text_of texts) (λ (row : TypeRow). text_of texts row.descriptor) joined (λ k d lt. refl))) u;
+            within = subst (All (λ n. n < length texts)) (sym is) (All-map (λ n. n < length texts) (λ (row : TypeRow). row.descriptor) joined w);
+          }
+
+    module _ (types : List ℕ) (type_images : List (List ℕ)) (jy : AreJoinedTypes parts texts types type_images) where
+      pub types_rise : rises type_cmp types ≡ true
+      types_rise = order.types_rise_alike texts texts_rise types jy.within ∙ union_rises (λ (m : Mentions). m.types) text_cmp text_total text_exact parts (map (text_of texts) types) type_images jy.union
+
+      types_agree : (m n : ℕ) → m < length types → n < length types → nat_cmp m n ≡ text_cmp (type_of texts types m) (type_of texts types n)
+      types_agree = order.types_agree texts texts_rise types jy.within types_rise
+
+      -- ---- protos
+
+      rows_agree : (x y : ProtoNumbers) → IsRowOf texts types x → IsRowOf texts types y → row_cmp (λ (row : ProtoNumbers). row.return_type ∷ row.parameters) x y ≡ symbols.proto_cmp (proto_of_row texts types x) (proto_of_row texts types y)
+      rows_agree x y p q =
+          let e : nat_cmp x.return_type y.return_type ≡ text_cmp (type_of texts types x.return_type) (type_of texts types y.return_type) = types_agree x.return_type y.return_type p.return_in q.return_in in
+          let r : slice_cmp nat_cmp x.parameters y.parameters ≡ slice_cmp text_cmp (map (type_of texts types) x.parameters) (map (type_of texts types) y.parameters) =
+          slices-map nat_cmp text_cmp (type_of texts types) (λ n. n < length types) types_agree x.parameters y.parameters p.parameters_in q.parameters_in in
+          λ i. ordering_then (e i) (r i)
+
+      module _ (rows : List (List ProtoNumbers)) (stand : AllZip (λ (part : Mentions) xs. StandFor (proto_of_row texts types) (IsRowOf texts types) part.protos xs) parts rows) where
+        pub protos_sorted : All (AreSorted (λ (row : ProtoNumbers). row.return_type ∷ row.parameters)) rows
+        protos_sorted = parts_sorted (λ (row : ProtoNumbers). row.return_type ∷ row.parameters) (proto_of_row texts types) (IsRowOf texts types) symbols.proto_cmp proto_total proto_exact rows_agree (λ (m : Mentions). m.protos) parts rows stand
+            (All-weaker IsNumbering (λ m. rises symbols.proto_cmp m.protos ≡ true) (λ m n. n.rising.protos_rise) parts numberings)
+
+        pub protos_joined : (joined : List ProtoNumbers) (images : List (List ℕ)) (table : Protos) → IsJoin (λ (row : ProtoNumbers). row.return_type ∷ row.parameters) rows joined images → HasSpans table → numbers_in table ≡ joined
+            → AreJoinedProtos parts texts types table.parameters.items table.rows.items images
+        protos_joined joined images table j spans is =
+            let ps = table.parameters.items in
+            let entries = table.rows.items in
+            let u = union (λ (row : ProtoNumbers). row.return_type ∷ row.parameters) (proto_of_row texts types) (IsRowOf texts types) symbols.proto_cmp proto_total proto_exact rows_agree (λ (m : Mentions). m.protos) parts rows stand joined images j in
+            let w = joined_within (λ (row : ProtoNumbers). row.return_type ∷ row.parameters) (proto_of_row texts types) (IsRowOf texts types) symbols.proto_cmp proto_total proto_exact rows_agree (λ (m : Mentions). m.protos) parts rows stand joined images j in
+            let each : All (λ p. IsRowOf texts types (numbers_of ps p)) entries = composing.all_seen (numbers_of ps) (IsRowOf texts types) entries (subst (All (IsRowOf texts types)) (sym is) w) in
+            record {
+              union = same_union (λ (m : Mentions). m.protos) symbols.proto_cmp parts (map (proto_of_row texts types) joined) (map (proto_of texts types ps) entries) images
+                  (ap (map (proto_of_row texts types)) (sym is) ∙ map_both (numbers_of ps) (proto_of_row texts types) (proto_of texts types ps) entries (λ k d lt. refl)) u;
+              within = λ k d lt. let r = each k d lt in record { shorty_in = r.shorty_in; return_in = r.return_in; span = spans k d lt; parameters_in = r.parameters_in };
+              shorties = λ k d lt. (each k d lt).shorty_is;
+            }
+
+      -- ---- fields
+
+      field_numbers : (f : FieldRow) → IsFieldWithin (length texts) (length types) f → HasFieldNumbers (length types) (length texts) f
+      field_numbers f h = record { class_in = h.class_in; name_in = h.name_in; type_in = h.type_in }
+
+      fields_agree : (f g : FieldRow) → IsFieldWithin (length texts) (length types) f → IsFieldWithin (length texts) (length types) g → row_cmp field_key f g ≡ symbols.field_cmp (field_of texts types f) (field_of texts types g)
+      fields_agree f g h k = order.field_rows_agree texts texts_rise types jy.within types_rise f g (field_numbers f h) (field_numbers g k)
+
+      module _ (rows : List (List FieldRow)) (stand : AllZip (λ (part : Mentions) xs. StandFor (field_of texts types) (IsFieldWithin (length texts) (length types)) part.fields xs) parts rows) where
+        pub fields_sorted : All (AreSorted field_key) rows
+        fields_sorted = parts_sorted field_key (field_of texts types) (IsFieldWithin (length texts) (length types)) symbols.field_cmp field_total field_exact fields_agree (λ (m : Mentions). m.fields) parts rows stand
+            (All-weaker IsNumbering (λ m. rises symbols.field_cmp m.fields ≡ true) (λ m n. n.rising.fields_rise) parts numberings)
+
+        pub fields_joined : (joined : List FieldRow) (images : List (List ℕ)) → IsJoin field_key rows joined images → AreJoinedFields parts texts types joined images
+        fields_joined joined images j = record {
+          union = union field_key (field_of texts types) (IsFieldWithin (length texts) (length types)) symbols.field_cmp field_total field_exact fields_agree (λ (m : Mentions). m.fields) parts rows stand joined images j;
+          within = joined_within field_key (field_of texts types) (IsFieldWithin (length texts) (length types)) symbols.field_cmp field_total field_exact fields_agree (λ (m : Mentions). m.fields) parts rows stand joined images j;
+        }
+
+      -- ---- methods
+
+      module _ (ps : List ℕ) (protos : List ProtoEntry) (proto_images : List (List ℕ)) (jp : AreJoinedProtos parts texts types ps protos proto_images) where
+        entries_in : All (HasTypeNumbers ps (length types)) protos
+        entries_in = All-weaker (IsEntryWithin (length texts) (length types) ps) (HasTypeNumbers ps (length types)) (λ p h. record { return_in = h.return_in; parameters_in = h.parameters_in }) protos jp.within
+
+        pub protos_rise : rises (proto_cmp ps) protos ≡ true
+        protos_rise = order.protos_rise_alike texts texts_rise types jy.within types_rise ps protos entries_in
+            ∙ union_rises (λ (m : Mentions). m.protos) symbols.proto_cmp proto_total proto_exact parts (map (proto_of texts types ps) protos) proto_images jp.union
+
+        method_numbers : (m : MethodRow) → IsMethodWithin (length texts) (length types) (length protos) m → HasMethodNumbers (length types) (length texts) (length protos) m
+        method_numbers m h = record { class_in = h.class_in; name_in = h.name_in; proto_in = h.proto_in }
+
+        methods_agree : (m n : MethodRow) → IsMethodWithin (length texts) (length types) (length protos) m → IsMethodWithin (length texts) (length types) (length protos) n
+            → row_cmp method_key m n ≡ symbols.method_cmp (method_of texts types ps protos m) (method_of texts types ps protos n)
+        methods_agree m n h k = order.method_rows_agree texts texts_rise types jy.within types_rise ps protos entries_in protos_rise m n (method_numbers m h) (method_numbers n k)
+
+        module _ (rows : List (List MethodRow)) (stand : AllZip (λ (part : Mentions) xs. StandFor (method_of texts types ps protos) (IsMethodWithin (length texts) (length types) (length protos)) part.methods xs) parts rows) where
+          pub methods_sorted : All (AreSorted method_key) rows
+          methods_sorted = parts_sorted method_key (method_of texts types ps protos) (IsMethodWithin (length texts) (length types) (length protos)) symbols.method_cmp method_total method_exact methods_agree (λ (m : Mentions). m.methods) parts rows stand
+              (All-weaker IsNumbering (λ m. rises symbols.method_cmp m.methods ≡ true) (λ m n. n.rising.methods_rise) parts numberings)
+
+          pub methods_joined : (joined : List MethodRow) (images : List (List ℕ)) → IsJoin method_key rows joined images → AreJoinedMethods parts texts types ps protos joined images
+          methods_joined joined images j = record {
+            union = union method_key (method_of texts types ps protos) (IsMethodWithin (length texts) (length types) (length protos)) symbols.method_cmp method_total method_exact methods_agree (λ (m : Mentions). m.methods) parts rows stand joined images j;
+            within = joined_within method_key (method_of texts types ps protos) (IsMethodWithin (length texts) (length types) (length protos)) symbols.method_cmp method_total method_exact methods_agree (λ (m : Mentions). m.methods) parts rows stand joined images j;
+          }
+
+        pub method_rows_rise : (methods : List MethodRow) (method_images : List (List ℕ)) → AreJoinedMethods parts texts types ps protos methods method_images → rises (row_cmp method_key) methods ≡ true
+        method_rows_rise methods method_images jm = order.methods_rise_alike texts texts_rise types jy.within types_rise ps protos entries_in protos_rise methods
+            (All-weaker (IsMethodWithin (length texts) (length types) (length protos)) (HasMethodNumbers (length types) (length texts) (length protos)) method_numbers methods jm.within)
+            ∙ union_rises (λ (m : Mentions). m.methods) symbols.method_cmp method_total method_exact parts (map (method_of texts types ps protos) methods) method_images jm.union
+
+      pub field_rows_rise : (fields : List FieldRow) (field_images : List (List ℕ)) → AreJoinedFields parts texts types fields field_images → rises (row_cmp field_key) fields ≡ true
+      field_rows_rise fields field_images jf = order.fields_rise_alike texts texts_rise types jy.within types_rise fields
+          (All-weaker (IsFieldWithin (length texts) (length types)) (HasFieldNumbers (length types) (length texts)) field_numbers fields jf.within)
+          ∙ union_rises (λ (m : Mentions). m.fields) symbols.field_cmp field_total field_exact parts (map (field_of texts types) fields) field_images jf.union

@@ -1,0 +1,42 @@
+-- One entry more in a table of protos.
+use Rattle.std.proofs.Common.{◌≡◌, ℕ, List, [], ◌∷◌, ◌++◌, length, map, refl, ap, ◌∙◌, subst, sym, arith}
+use Rattle.std.specs.List.{All}
+use Rattle.std.proofs.lemmas.List.{map-append, length-append}
+use Rattle.std.proofs.lemmas.List.Elements.{All-head, All-tail, All-weaker, All-push}
+use Rattle.dexrows.specs.Numbers.{ProtoNumbers}
+use Rattle.dexpool.specs.declared.rows.Span.{Span}
+use Rattle.dexpool.specs.declared.rows.ProtoEntry.{ProtoEntry}
+use Rattle.dexpool.specs.Tables.{span_of}
+use Rattle.dexpool.specs.Reading.{HasSpan}
+use Rattle.dexpool.specs.Renumbering.{numbers_of}
+use Rattle.dexpool.proofs.ProtoRows.{span_grown, span_is}
+
+module _ (old new more : List ℕ) (grown : new ≡ old ++ more) where
+  kept_row : (p : ProtoEntry) → HasSpan old p.parameters → numbers_of new p ≡ numbers_of old p
+  kept_row p h =
+      let s : span_of new p.parameters ≡ span_of old p.parameters = ap (λ (ps : List ℕ). span_of ps p.parameters) grown ∙ span_grown old more p.parameters h in
+      λ i. record { shorty = p.shorty; return_type = p.return_type; parameters = s i }
+
+  -- earlier rows stay
+  kept_rows : (ps : List ProtoEntry) → All (λ p. HasSpan old p.parameters) ps → map (numbers_of new) ps ≡ map (numbers_of old) ps
+  kept_rows [] h = refl
+  kept_rows (p ∷ ps) h =
+      let first : numbers_of new p ≡ numbers_of old p = kept_row p (All-head (λ q. HasSpan old q.parameters) p ps h) in
+      let rest : map (numbers_of new) ps ≡ map (numbers_of old) ps = kept_rows ps (All-tail (λ q. HasSpan old q.parameters) p ps h) in
+      λ i. first i ∷ rest i
+
+  module _ (ps qs : List ProtoEntry) (p : ProtoEntry) (spans : All (λ q. HasSpan old q.parameters) ps) (pushed : qs ≡ ps ++ p ∷ []) (start : p.parameters.start ≡ length old) (end : p.parameters.end ≡ length new) where
+    pub rows_more : map (numbers_of new) qs ≡ map (numbers_of old) ps ++ record { shorty = p.shorty; return_type = p.return_type; parameters = more } ∷ []
+    rows_more =
+        let own : span_of new p.parameters ≡ more = span_is new old more p.parameters grown start end in
+        let row : numbers_of new p ≡ record { shorty = p.shorty; return_type = p.return_type; parameters = more } = λ i. record { shorty = p.shorty; return_type = p.return_type; parameters = own i } in
+        ap (map (numbers_of new)) pushed ∙ map-append (numbers_of new) ps (p ∷ []) ∙ (λ i. kept_rows ps spans i ++ row i ∷ [])
+
+    pub spans_more : All (λ q. HasSpan new q.parameters) qs
+    spans_more =
+        let size = length-append old more in
+        let same = ap (λ (xs : List ℕ). length xs) grown in
+        subst (All (λ q. HasSpan new q.parameters)) (sym pushed)
+        (All-push (λ q. HasSpan new q.parameters) ps p
+        (All-weaker (λ q. HasSpan old q.parameters) (λ q. HasSpan new q.parameters) (λ q h. record { ordered = h.ordered; within = omega (arith, h.within, size, same) }) ps spans)
+        (record { ordered = omega (arith, start, end, size, same); within = omega (arith, end) }))

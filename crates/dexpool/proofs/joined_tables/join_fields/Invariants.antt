@@ -1,0 +1,9 @@
+use Rattle.std.proofs.Common.{map, take, length}
+use Rattle.std.specs.List.{AllZip}
+use Rattle.dexpool.specs.Tables.{field_of}
+use Rattle.dexpool.specs.Renumbering.{IsFieldWithin}
+use Rattle.dexpool.specs.Joining.{StandFor}
+use Rattle.dexpool.proofs.joined_tables.join_fields.Given as goal
+
+abbrev pub invariant-loop-i : goal.invariant-loop-i
+invariant-loop-i l = AllZip (λ part rows. StandFor (field_of l.strings.rows.items l.types.numbers.items) (IsFieldWithin (length l.strings.rows.items) (length l.types.numbers.items)) part.fields rows) (map (λ part. part.now) (take l.i l.parts)) (map (λ rows. rows.items) l.rows.items)

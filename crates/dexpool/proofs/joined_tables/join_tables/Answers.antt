@@ -1,0 +1,39 @@
+use Rattle.std.proofs.Common.{map}
+use Rattle.dexspec.specs.Texts.{text_cmp}
+use Rattle.dexspec.specs.Symbols.{proto_cmp, field_cmp, method_cmp}
+use Rattle.dexspec.specs.Mentions.{Mentions}
+use Rattle.dexpool.specs.Tables.{text_of, proto_of, field_of, method_of}
+use Rattle.dexpool.proofs.JoinedTables.{images_count, are_tables, are_union, all_lead}
+use Rattle.dexpool.proofs.joined_tables.join_tables.Goals as goal
+
+pub remaps-requires-clause-types : goal.remaps-requires-clause-types
+remaps-requires-clause-types c = rw (c.deref.ensures.value, c.deref-2.ensures.value)
+    (images_count (λ (m : Mentions). m.texts) text_cmp (λ (m : Mentions). m.types) text_cmp (λ image. image.items) (λ image. image.items) (map (λ part. part.now) c.args.parts.now) c.in_ok-strings.strings.rows.items (map (text_of c.in_ok-strings.strings.rows.items) c.in_ok-types.types.numbers.items) c.in_ok-strings.strings.images.items c.in_ok-types.types.images.items c.in_ok-strings.ensures.texts c.in_ok-types.ensures.union)
+
+pub remaps-requires-clause-protos : goal.remaps-requires-clause-protos
+remaps-requires-clause-protos c = rw (c.deref.ensures.value, c.deref-3.ensures.value)
+    (images_count (λ (m : Mentions). m.texts) text_cmp (λ (m : Mentions). m.protos) proto_cmp (λ image. image.items) (λ image. image.items) (map (λ part. part.now) c.args.parts.now) c.in_ok-strings.strings.rows.items (map (proto_of c.in_ok-strings.strings.rows.items c.in_ok-types.types.numbers.items c.in_ok-protos.protos.table.parameters.items) c.in_ok-protos.protos.table.rows.items) c.in_ok-strings.strings.images.items c.in_ok-protos.protos.images.items c.in_ok-strings.ensures.texts c.in_ok-protos.ensures.union)
+
+pub remaps-requires-clause-fields : goal.remaps-requires-clause-fields
+remaps-requires-clause-fields c = rw (c.deref.ensures.value, c.deref-4.ensures.value)
+    (images_count (λ (m : Mentions). m.texts) text_cmp (λ (m : Mentions). m.fields) field_cmp (λ image. image.items) (λ image. image.items) (map (λ part. part.now) c.args.parts.now) c.in_ok-strings.strings.rows.items (map (field_of c.in_ok-strings.strings.rows.items c.in_ok-types.types.numbers.items) c.in_ok-fields.fields.rows.items) c.in_ok-strings.strings.images.items c.in_ok-fields.fields.images.items c.in_ok-strings.ensures.texts c.in_ok-fields.ensures.union)
+
+pub remaps-requires-clause-methods : goal.remaps-requires-clause-methods
+remaps-requires-clause-methods c = rw (c.deref.ensures.value, c.deref-5.ensures.value)
+    (images_count (λ (m : Mentions). m.texts) text_cmp (λ (m : Mentions). m.methods) method_cmp (λ image. image.items) (λ image. image.items) (map (λ part. part.now) c.args.parts.now) c.in_ok-strings.strings.rows.items (map (method_of c.in_ok-strings.strings.rows.items c.in_ok-types.types.numbers.items c.in_ok-protos.protos.table.parameters.items c.in_ok-protos.protos.table.rows.items) c.in_ok-methods.methods.rows.items) c.in_ok-strings.strings.images.items c.in_ok-methods.methods.images.items c.in_ok-strings.ensures.texts c.in_ok-methods.ensures.union)
+
+pub returns-clause-tables : goal.returns-clause-tables
+returns-clause-tables c = are_tables (map (λ part. part.now) c.args.parts.now) c.in_ok-strings.ensures.numberings (record { strings = c.in_ok-strings.strings.rows; types = c.in_ok-types.types.numbers; protos = c.in_ok-protos.protos.table.rows; parameters = c.in_ok-protos.protos.table.parameters; fields = c.in_ok-fields.fields.rows; methods = c.in_ok-methods.methods.rows })
+    (map (λ image. image.items) c.in_ok-strings.strings.images.items) (map (λ image. image.items) c.in_ok-types.types.images.items) (map (λ image. image.items) c.in_ok-protos.protos.images.items) (map (λ image. image.items) c.in_ok-fields.fields.images.items) (map (λ image. image.items) c.in_ok-methods.methods.images.items)
+    c.in_ok-strings.ensures.texts c.in_ok-types.ensures c.in_ok-protos.ensures c.in_ok-fields.ensures c.in_ok-methods.ensures
+
+pub returns-clause-union : goal.returns-clause-union
+returns-clause-union c = are_union (map (λ part. part.now) c.args.parts.now) c.in_ok-strings.ensures.numberings (record { strings = c.in_ok-strings.strings.rows; types = c.in_ok-types.types.numbers; protos = c.in_ok-protos.protos.table.rows; parameters = c.in_ok-protos.protos.table.parameters; fields = c.in_ok-fields.fields.rows; methods = c.in_ok-methods.methods.rows })
+    (map (λ image. image.items) c.in_ok-strings.strings.images.items) (map (λ image. image.items) c.in_ok-types.types.images.items) (map (λ image. image.items) c.in_ok-protos.protos.images.items) (map (λ image. image.items) c.in_ok-fields.fields.images.items) (map (λ image. image.items) c.in_ok-methods.methods.images.items)
+    c.in_ok-strings.ensures.texts c.in_ok-types.ensures c.in_ok-protos.ensures c.in_ok-fields.ensures c.in_ok-methods.ensures
+
+pub returns-clause-maps : goal.returns-clause-maps
+returns-clause-maps c = all_lead (map (λ part. part.now) c.args.parts.now) c.in_ok-strings.ensures.numberings (record { strings = c.in_ok-strings.strings.rows; types = c.in_ok-types.types.numbers; protos = c.in_ok-protos.protos.table.rows; parameters = c.in_ok-protos.protos.table.parameters; fields = c.in_ok-fields.fields.rows; methods = c.in_ok-methods.methods.rows })
+    (map (λ image. image.items) c.in_ok-strings.strings.images.items) (map (λ image. image.items) c.in_ok-types.types.images.items) (map (λ image. image.items) c.in_ok-protos.protos.images.items) (map (λ image. image.items) c.in_ok-fields.fields.images.items) (map (λ image. image.items) c.in_ok-methods.methods.images.items)
+    c.in_ok-strings.ensures.texts c.in_ok-types.ensures c.in_ok-protos.ensures c.in_ok-fields.ensures c.in_ok-methods.ensures
+    c.in_ok-remaps.remaps.items (rw (c.deref.ensures.value, c.deref-2.ensures.value, c.deref-3.ensures.value, c.deref-4.ensures.value, c.deref-5.ensures.value) at c.in_ok-remaps.ensures)

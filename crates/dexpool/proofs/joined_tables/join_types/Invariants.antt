@@ -1,0 +1,8 @@
+use Rattle.std.proofs.Common.{◌<◌, map, take, length}
+use Rattle.std.specs.List.{AllZip}
+use Rattle.dexpool.specs.Tables.{text_of}
+use Rattle.dexpool.specs.Joining.{StandFor}
+use Rattle.dexpool.proofs.joined_tables.join_types.Given as goal
+
+abbrev pub invariant-loop-i : goal.invariant-loop-i
+invariant-loop-i l = AllZip (λ part rows. StandFor (λ row. text_of l.strings.rows.items row.descriptor) (λ row. row.descriptor < length l.strings.rows.items) part.types rows) (map (λ part. part.now) (take l.i l.parts)) (map (λ rows. rows.items) l.rows.items)

@@ -1,0 +1,6 @@
+use Rattle.std.proofs.Common.{◌≡◌, map, take}
+use Rattle.dexpool.specs.Renumbering.{numbers_in}
+use Rattle.dexpool.proofs.joined_tables.rows_of_tables.Given as goal
+
+abbrev pub invariant-loop-table : goal.invariant-loop-table
+invariant-loop-table l = map (λ table. table.items) l.rows.items ≡ map numbers_in (take l.table-index l.tables)

@@ -1,0 +1,79 @@
+-- Tables joined, one kind of symbol after the other.
+use Rattle.std.specs.Prelude.{◌≡◌, ℕ, ◌<◌, List, map, length, slice_index, slice_index_or, All, Some}
+use Rattle.std.specs.List.{AllZip, flat_map}
+use Rattle.std.specs.declared.cmp.Ordering.{Ordering}
+use Rattle.dexspec.specs.Lists.{in_order}
+use Rattle.dexspec.specs.Texts.{Text, text_cmp}
+use Rattle.dexspec.specs.Names.{shorty}
+use Rattle.dexspec.specs.Symbols as symbols
+use Rattle.dexspec.specs.Mentions.{Mentions}
+use Rattle.dexrows.specs.Numbers.{ProtoNumbers}
+use Rattle.dexrows.specs.declared.fields.FieldRow.{FieldRow}
+use Rattle.dexrows.specs.declared.methods.MethodRow.{MethodRow}
+use Rattle.dexpool.specs.declared.rows.ProtoEntry.{ProtoEntry}
+use Rattle.dexpool.specs.Tables.{text_of, type_of, span_of, proto_of, field_of, method_of}
+use Rattle.dexpool.specs.Numberings.{IsAt, Maps}
+use Rattle.dexpool.specs.Renumbering.{IsEntryWithin, IsFieldWithin, IsMethodWithin}
+
+-- each number leads to that of the same member
+pub record Moves {X : Type 0} (from to : List X) (image : List ℕ) : Type 0 where
+  pub count : length image ≡ length from
+  pub same : (i : ℕ) (d : X) → i < length from → IsAt to (slice_index image i) (slice_index_or from i d)
+
+-- the members of all parts, each once and in order, and where those of each part are
+pub record IsUnion {P X : Type 0} (of : P → List X) (R : X → X → Ordering) (parts : List P) (joined : List X) (images : List (List ℕ)) : Type 0 where
+  pub all : joined ≡ in_order R (flat_map of parts)
+  pub moves : AllZip (λ part image. Moves (of part) joined image) parts images
+
+-- the rows stand for these symbols, and their numbers are in range
+pub record StandFor {R X : Type 0} (symbol : R → X) (Within : R → Type 0) (xs : List X) (rows : List R) : Type 0 where
+  pub same : map symbol rows ≡ xs
+  pub within : All Within rows
+
+-- the texts of all parts
+abbrev pub AreJoinedTexts : List Mentions → List Text → List (List ℕ) → Type 0
+AreJoinedTexts parts texts images = IsUnion (λ m. m.texts) text_cmp parts texts images
+
+-- the types of all parts
+pub record AreJoinedTypes (parts : List Mentions) (texts : List Text) (types : List ℕ) (images : List (List ℕ)) : Type 0 where
+  pub union : IsUnion (λ m. m.types) text_cmp parts (map (text_of texts) types) images
+  pub within : All (λ n. n < length texts) types
+
+-- the entry's shorty is the text of its shorty
+abbrev pub HasShorty : List Text → List ℕ → List ℕ → ProtoEntry → Type 0
+HasShorty texts types parameters p = text_of texts p.shorty ≡ shorty (type_of texts types p.return_type) (map (type_of texts types) (span_of parameters p.parameters))
+
+-- the proto of a row
+abbrev pub proto_of_row : List Text → List ℕ → ProtoNumbers → symbols.Proto
+proto_of_row texts types row = record { return_type = type_of texts types row.return_type; parameters = map (type_of texts types) row.parameters }
+
+-- the row's numbers are in range, and its shorty is the text of its shorty
+pub record IsRowOf (texts : List Text) (types : List ℕ) (row : ProtoNumbers) : Type 0 where
+  pub shorty_in : row.shorty < length texts
+  pub return_in : row.return_type < length types
+  pub parameters_in : All (λ n. n < length types) row.parameters
+  pub shorty_is : text_of texts row.shorty ≡ shorty (type_of texts types row.return_type) (map (type_of texts types) row.parameters)
+
+-- the protos of all parts
+pub record AreJoinedProtos (parts : List Mentions) (texts : List Text) (types parameters : List ℕ) (protos : List ProtoEntry) (images : List (List ℕ)) : Type 0 where
+  pub union : IsUnion (λ m. m.protos) symbols.proto_cmp parts (map (proto_of texts types parameters) protos) images
+  pub within : All (IsEntryWithin (length texts) (length types) parameters) protos
+  pub shorties : All (HasShorty texts types parameters) protos
+
+-- the fields of all parts
+pub record AreJoinedFields (parts : List Mentions) (texts : List Text) (types : List ℕ) (fields : List FieldRow) (images : List (List ℕ)) : Type 0 where
+  pub union : IsUnion (λ m. m.fields) symbols.field_cmp parts (map (field_of texts types) fields) images
+  pub within : All (IsFieldWithin (length texts) (length types)) fields
+
+-- the methods of all parts
+pub record AreJoinedMethods (parts : List Mentions) (texts : List Text) (types parameters : List ℕ) (protos : List ProtoEntry) (methods : List MethodRow) (images : List (List ℕ)) : Type 0 where
+  pub union : IsUnion (λ m. m.methods) symbols.method_cmp parts (map (method_of texts types parameters protos) methods) images
+  pub within : All (IsMethodWithin (length texts) (length types) (length protos)) methods
+
+-- the maps have the images of each part
+pub record AreMapsOf (strings types protos fields methods : List (List ℕ)) (maps : List Maps) : Type 0 where
+  pub texts_are : map (λ m. m.texts) maps ≡ map (map Some) strings
+  pub types_are : map (λ m. m.types) maps ≡ map (map Some) types
+  pub protos_are : map (λ m. m.protos) maps ≡ map (map Some) protos
+  pub fields_are : map (λ m. m.fields) maps ≡ map (map Some) fields
+  pub methods_are : map (λ m. m.methods) maps ≡ map (map Some) methods

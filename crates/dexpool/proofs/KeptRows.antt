@@ -1,5 +1,5 @@
 -- Marked members of a list: which they are, where they stand, and what more marks keep.
-use Rattle.std.proofs.Common.{◌≡◌, ◌≢◌, ◌⊎◌, ℕ, zero, suc, ◌+◌, ◌<◌, Bool, true, false, List, [], ◌∷◌, ◌++◌, length, get_or, map, set, drop, refl, sym, ap, ◌∙◌, subst, arith, inl, inr, Ordering, Option, Some, None, slice_index}
+use Rattle.std.proofs.Common.{◌≡◌, ◌≢◌, ◌⊎◌, ℕ, zero, suc, ◌+◌, ◌<◌, Bool, true, false, List, [], ◌∷◌, ◌++◌, length, get_or, map, set, drop, replicate, refl, sym, ap, ◌∙◌, subst, arith, inl, inr, Ordering, Option, Some, None, slice_index}
 use Rattle.std.specs.List.{All, Contains, flat_map}
 use Rattle.std.specs.Cmp.{IsTotalOrder}
 use Rattle.std.proofs.lemmas.Bool.{cases_eq, cases_order}
@@ -210,3 +210,12 @@ module _ {X : Type 0} (marks : List Bool) (xs : List X) (i : ℕ) (e : X) (lt : 
     -- and those of another are not
     pub numbers_left : (f : X → List ℕ) → get_or marks i false ≡ false → new ≡ old → mark_all old (flat_map f (kept (drop i marks) (drop i xs))) ≡ all → mark_all new (flat_map f (kept (drop (i + 1) marks) (drop (i + 1) xs))) ≡ all
     numbers_left f marked same h = ap (λ l. mark_all l (flat_map f (kept (drop (i + 1) marks) (drop (i + 1) xs)))) same ∙ sym (ap (λ ks. mark_all old (flat_map f ks)) (kept_next marked)) ∙ h
+
+-- no mark keeps nothing
+pub kept_none : {X : Type 0} (n : ℕ) (marks : List Bool) (xs : List X) → marks ≡ replicate n false → kept marks xs ≡ []
+kept_none n marks xs e = ap (λ bs. kept bs xs) e ∙ none n xs
+  where
+    none : {X : Type 0} (n : ℕ) (xs : List X) → kept (replicate n false) xs ≡ []
+    none zero xs = refl
+    none (suc n) [] = refl
+    none (suc n) (x ∷ xs) = none n xs

@@ -12,6 +12,8 @@ mod fields;
 mod join_tests;
 mod joined_tables;
 mod joining;
+#[cfg(test)]
+mod keep_tests;
 mod keeping;
 mod kept_tables;
 mod kinds;

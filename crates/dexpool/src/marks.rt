@@ -1,6 +1,6 @@
 //! Marks on the symbols of a numbering.
 
-ghost use Rattle.std.specs.Prelude.{◌≡◌, IfOk, [], All, false};
+ghost use Rattle.std.specs.Prelude.{◌≡◌, IfOk, [], false, replicate};
 ghost use Rattle.dexpool.specs.Numberings.{AreMarksOf, marked};
 
 use crate::numbering::Numbering;
@@ -25,12 +25,24 @@ impl Marks {
         ensures marks { IfOk result (AreMarksOf numbering.now) }
         ensures none { IfOk result (λ marks. marked numbering.now marks ≡ []) }
     {
+        let strings = unmarked(alloc, numbering.count(SymbolKind::Text))?;
+        let types = unmarked(alloc, numbering.count(SymbolKind::Typ))?;
+        let protos = unmarked(alloc, numbering.count(SymbolKind::Proto))?;
+        let fields = unmarked(alloc, numbering.count(SymbolKind::Field))?;
+        let methods = unmarked(alloc, numbering.count(SymbolKind::Method))?;
         Ok(Marks {
-            strings: vec![in alloc; false; numbering.count(SymbolKind::Text)]?,
-            types: vec![in alloc; false; numbering.count(SymbolKind::Typ)]?,
-            protos: vec![in alloc; false; numbering.count(SymbolKind::Proto)]?,
-            fields: vec![in alloc; false; numbering.count(SymbolKind::Field)]?,
-            methods: vec![in alloc; false; numbering.count(SymbolKind::Method)]?,
+            strings,
+            types,
+            protos,
+            fields,
+            methods,
         })
     }
+}
+
+// So many marks, of which none is set.
+fn unmarked(alloc: Global, count: usize) -> Result<Vec<bool>, AllocError>
+    ensures { IfOk result (λ marks. marks.items ≡ replicate count false) }
+{
+    Ok(vec![in alloc; false; count]?)
 }

@@ -8,6 +8,13 @@ pub mod ShortyLetters
 pub mod ProtoRows
 pub mod MethodRows
 pub mod AllPools
+pub mod Ranking
+pub mod Weighing
+pub mod KeptRows
+pub mod Closure
+pub mod KeptTables
+pub mod ClosedMarks
+pub mod KeptSymbols
 pub mod NumberOrder
 pub mod TablesStand
 pub mod ReadTables

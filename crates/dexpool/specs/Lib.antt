@@ -5,6 +5,9 @@ pub mod Tables
 pub mod Pools
 pub mod Numberings
 pub mod Stored
+pub mod Ranking
+pub mod Renumbering
+pub mod Closing
 pub mod Owned
 pub mod Renumbering
 pub mod Joining

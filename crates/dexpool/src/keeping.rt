@@ -4,6 +4,8 @@ ghost use Rattle.std.specs.Prelude.{◌≡◌, IfOk};
 ghost use Rattle.dexspec.specs.Mentions.{closed};
 ghost use Rattle.dexpool.specs.Numberings.{AreMarksOf, marked, AllLead};
 
+use crate::closing::closed;
+use crate::kept_tables::keep_marked;
 use crate::marks::Marks;
 use crate::numbering::Numbering;
 use crate::remap::Remap;
@@ -19,8 +21,9 @@ impl<'a> Numbering<'a> {
         ensures kept { IfOk result (λ cut. cut.0 ≡ closed (marked self.now marks.now)) }
         ensures map { IfOk result (λ cut. AllLead self.now cut.0 cut.1) }
     {
-        let _marks = marks;
-        let _alloc = alloc;
-        Err(AllocError)
+        let tables = self.tables();
+        let marks = closed(tables, marks)?;
+        let (tables, remap) = keep_marked(alloc, tables, &marks)?;
+        Ok((Numbering { tables }, remap))
     }
 }

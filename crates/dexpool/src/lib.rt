@@ -5,13 +5,17 @@
 //! "type_id_item", "proto_id_item", "field_id_item", "method_id_item" and "type_list".
 #![tactic(auto)]
 
+mod closing;
 mod faults;
 mod fields;
 #[cfg(test)]
 mod join_tests;
 mod joined_tables;
 mod joining;
+#[cfg(test)]
+mod keep_tests;
 mod keeping;
+mod kept_tables;
 mod kinds;
 mod marks;
 mod methods;
@@ -20,6 +24,7 @@ mod numbering;
 mod parameters;
 mod pools;
 mod protos;
+mod ranks;
 mod remap;
 mod renumbering;
 mod rows;
@@ -30,6 +35,7 @@ mod tables;
 #[cfg(test)]
 mod tests;
 mod types;
+mod weight;
 
 pub use dexrows::{FieldRow, MethodRow, ProtoRow, Row, TypeRow};
 pub use faults::{ItemFault, ReadFault};

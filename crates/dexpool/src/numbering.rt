@@ -1,16 +1,13 @@
 //! Numberings: symbols, each with the number of its place in the order of its kind.
 
-ghost use Rattle.std.specs.Prelude.{◌≡◌, ◌<◌, ◌^◌, ◌-◌, ℕ, List, length, slice_index_or, IfOk, [], min};
-ghost use Rattle.dexspec.specs.Texts.{text_cmp};
-ghost use Rattle.dexspec.specs.Symbols.{Proto, Field, Method, proto_cmp, field_cmp, method_cmp};
-ghost use Rattle.dexspec.specs.Lists.{rank};
-ghost use Rattle.dexspec.specs.Weight.{mentions_weight};
+ghost use Rattle.std.specs.Prelude.{◌≡◌, ◌<◌, ℕ, List, length, slice_index_or, IfOk, []};
+ghost use Rattle.dexspec.specs.Symbols.{Proto, Field, Method};
 ghost use Rattle.dexpool.specs.Pools.{count_of};
 ghost use Rattle.dexpool.specs.Numberings.{IsAt, IsNumbering, StandsForProto, StandsForField, StandsForMethod};
 
 use crate::pools::Pools;
 use crate::protos::part;
-use crate::symbols::{FieldSymbol, MethodSymbol, ProtoSymbol, SymbolKind};
+use crate::symbols::SymbolKind;
 use crate::tables::Tables;
 use dexrows::{FieldRow, MethodRow, ProtoRow};
 use dexstr::Text;
@@ -181,48 +178,6 @@ impl<'a> Numbering<'a> {
         ensures { (d : Method) → StandsForMethod self.now result.now (slice_index_or self.now.methods i d) }
     {
         &self.tables.methods[i]
-    }
-
-    /// The number of lesser texts. No memory is taken.
-    pub fn rank_string(&self, text: &Text<'_>) -> usize
-        ensures { result ≡ rank text_cmp text.now self.now.texts }
-    {
-        0
-    }
-
-    /// The number of lesser types, for a type by its descriptor. No memory is taken.
-    pub fn rank_type(&self, descriptor: &Text<'_>) -> usize
-        ensures { result ≡ rank text_cmp descriptor.now self.now.types }
-    {
-        0
-    }
-
-    /// The number of lesser protos. No memory is taken.
-    pub fn rank_proto(&self, proto: &ProtoSymbol) -> usize
-        ensures { result ≡ rank proto_cmp proto.now self.now.protos }
-    {
-        0
-    }
-
-    /// The number of lesser fields. No memory is taken.
-    pub fn rank_field(&self, field: &FieldSymbol) -> usize
-        ensures { result ≡ rank field_cmp field.now self.now.fields }
-    {
-        0
-    }
-
-    /// The number of lesser methods. No memory is taken.
-    pub fn rank_method(&self, method: &MethodSymbol) -> usize
-        ensures { result ≡ rank method_cmp method.now self.now.methods }
-    {
-        0
-    }
-
-    /// What the symbols weigh together, or 2^64 - 1 where that is more. No memory is taken.
-    pub fn weight(&self) -> u64
-        ensures { result ≡ min (2 ^ 64 - 1) (mentions_weight self.now) }
-    {
-        0
     }
 }
 

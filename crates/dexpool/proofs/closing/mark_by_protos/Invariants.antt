@@ -1,0 +1,11 @@
+use Rattle.std.proofs.Common.{◌≡◌, length, map, drop}
+use Rattle.std.specs.List.{flat_map}
+use Rattle.dexrows.specs.Cut.{kept}
+use Rattle.dexpool.specs.Closing.{mark_all, entry_types}
+use Rattle.dexpool.proofs.closing.mark_by_protos.Given as goal
+
+abbrev pub invariant-loop-i : goal.invariant-loop-i
+invariant-loop-i l = record {
+  strings : mark_all l.strings (map (λ p. p.shorty) (kept (drop l.i l.marks) (drop l.i l.protos))) ≡ mark_all l.fn.strings (map (λ p. p.shorty) (kept l.marks l.protos));
+  types : mark_all l.types (flat_map (entry_types l.parameters) (kept (drop l.i l.marks) (drop l.i l.protos))) ≡ mark_all l.fn.types (flat_map (entry_types l.parameters) (kept l.marks l.protos));
+}

@@ -1,0 +1,7 @@
+use Rattle.std.proofs.Common.{◌≡◌, ◌≤◌, ℕ, ◌<◌, List, length, map, take, drop, get_or}
+use Rattle.std.specs.Cmp.Lexicographic.{slice_cmp}
+use Rattle.dexspec.specs.Texts.{text_cmp}
+use Rattle.dexpool.proofs.numbering.Numbering.compare_types.Given as goal
+
+abbrev pub invariant-loop-i : goal.invariant-loop-i
+invariant-loop-i l = (d : List ℕ) → slice_cmp text_cmp (map (λ n. get_or l.self.types n d) (drop l.i l.numbers)) (drop l.i l.descriptors) ≡ slice_cmp text_cmp (map (λ n. get_or l.self.types n d) l.numbers) l.descriptors

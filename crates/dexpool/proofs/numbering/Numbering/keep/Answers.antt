@@ -1,0 +1,37 @@
+use Rattle.std.proofs.Common.{◌≡◌, ◌∙◌, sym, ap, subst}
+use Rattle.dexspec.specs.Mentions.{Mentions, closed}
+use Rattle.dexpool.specs.Stored.{symbols_in}
+use Rattle.dexpool.specs.Numberings.{AreMarksOf, AllLead, Maps, marked}
+use Rattle.dexpool.specs.Closing.{kept_symbols, kept_places}
+use Rattle.dexpool.proofs.KeptSymbols.{are_closed, closed_count, kept_mentioned, kept_lead}
+use Rattle.dexpool.proofs.numbering.Numbering.keep.Goals as goal
+
+pub keep_marked-requires-clause-marks : goal.keep_marked-requires-clause-marks
+keep_marked-requires-clause-marks c =
+    let marks = c.args.marks.now in
+    let count = subst (λ (m : Mentions). AreMarksOf m marks) (sym c.tables-tables.ensures.symbols) c.requires in
+    closed_count c.tables-tables.result.now c.tables-tables.ensures.tables marks count c.in_ok-marks.marks c.in_ok-marks.ensures
+
+pub keep_marked-requires-clause-closed : goal.keep_marked-requires-clause-closed
+keep_marked-requires-clause-closed c =
+    let marks = c.args.marks.now in
+    let count = subst (λ (m : Mentions). AreMarksOf m marks) (sym c.tables-tables.ensures.symbols) c.requires in
+    are_closed c.tables-tables.result.now c.tables-tables.ensures.tables marks count c.in_ok-marks.marks c.in_ok-marks.ensures
+
+pub returns-clause-kept : goal.returns-clause-kept
+returns-clause-kept c =
+    let marks = c.args.marks.now in
+    let count = subst (λ (m : Mentions). AreMarksOf m marks) (sym c.tables-tables.ensures.symbols) c.requires in
+    c.in_ok-tables.ensures.symbols_are ∙ kept_mentioned c.tables-tables.result.now c.tables-tables.ensures.tables marks count c.in_ok-marks.marks c.in_ok-marks.ensures
+    ∙ ap (λ (m : Mentions). closed (marked m marks)) c.tables-tables.ensures.symbols
+
+pub returns-clause-map : goal.returns-clause-map
+returns-clause-map c =
+    let marks = c.args.marks.now in
+    let t = c.tables-tables.result.now in
+    let count = subst (λ (m : Mentions). AreMarksOf m marks) (sym c.tables-tables.ensures.symbols) c.requires in
+    let k = c.in_ok-tables.ensures in
+    let lead = kept_lead t c.tables-tables.ensures.tables marks count c.in_ok-marks.marks c.in_ok-marks.ensures in
+    let there = subst (λ (m : Mentions). AllLead (symbols_in t) m (kept_places c.in_ok-marks.marks)) (sym k.symbols_are) lead in
+    let maps = subst (λ (r : Maps). AllLead (symbols_in t) (symbols_in c.in_ok-tables.tables) r) (sym k.maps_are) there in
+    subst (λ (m : Mentions). AllLead m (symbols_in c.in_ok-tables.tables) c.in_ok-tables.remap) c.tables-tables.ensures.symbols maps

@@ -1,0 +1,16 @@
+use Rattle.std.proofs.Common.{rules, get_or, [], of_calls}
+use Rattle.std.specs.Ordering.{is_lt}
+use Rattle.dexspec.specs.Symbols.{Field, field_cmp}
+use Rattle.dexspec.proofs.SymbolOrders.{field_total}
+use Rattle.dexpool.proofs.Ranking.{rank_by_halving}
+use Rattle.dexpool.proofs.numbering.Numbering.rank_field.Goals as goal
+
+none : Field
+none = record { class = []; name = []; type = [] }
+
+pub returns : goal.returns
+returns c =
+    let xs = c.args.self.now.fields in
+    let s = c.args.field.now in
+    rank_by_halving field_cmp field_total s xs none c.count_less.result c.count.result c.count.ensures c.count_less.ensures.within c.is_numbering.ensures.rising.fields_rise
+    (c.count_less.ensures.less (λ i. is_lt (field_cmp (get_or xs i none) s)) (λ i o lt p. search (rules, of_calls)))

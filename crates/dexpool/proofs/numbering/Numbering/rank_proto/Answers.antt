@@ -1,0 +1,16 @@
+use Rattle.std.proofs.Common.{rules, get_or, [], of_calls}
+use Rattle.std.specs.Ordering.{is_lt}
+use Rattle.dexspec.specs.Symbols.{Proto, proto_cmp}
+use Rattle.dexspec.proofs.SymbolOrders.{proto_total}
+use Rattle.dexpool.proofs.Ranking.{rank_by_halving}
+use Rattle.dexpool.proofs.numbering.Numbering.rank_proto.Goals as goal
+
+none : Proto
+none = record { return_type = []; parameters = [] }
+
+pub returns : goal.returns
+returns c =
+    let xs = c.args.self.now.protos in
+    let s = c.args.proto.now in
+    rank_by_halving proto_cmp proto_total s xs none c.count_less.result c.count.result c.count.ensures c.count_less.ensures.within c.is_numbering.ensures.rising.protos_rise
+    (c.count_less.ensures.less (λ i. is_lt (proto_cmp (get_or xs i none) s)) (λ i o lt p. search (rules, of_calls)))

@@ -1,0 +1,13 @@
+use Rattle.std.proofs.Common.{rules, get_or, [], of_calls}
+use Rattle.std.specs.Ordering.{is_lt}
+use Rattle.dexspec.specs.Texts.{text_cmp}
+use Rattle.dexspec.proofs.SymbolOrders.{text_total}
+use Rattle.dexpool.proofs.Ranking.{rank_by_halving}
+use Rattle.dexpool.proofs.numbering.Numbering.rank_type.Goals as goal
+
+pub returns : goal.returns
+returns c =
+    let ts = c.args.self.now.types in
+    let s = c.args.descriptor.now in
+    rank_by_halving text_cmp text_total s ts [] c.count_less.result c.count.result c.count.ensures c.count_less.ensures.within c.is_numbering.ensures.rising.types_rise
+    (c.count_less.ensures.less (λ i. is_lt (text_cmp (get_or ts i []) s)) (λ i o lt p. search (rules, of_calls)))

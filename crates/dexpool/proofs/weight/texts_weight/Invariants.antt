@@ -1,0 +1,6 @@
+use Rattle.std.proofs.Common.{◌-◌, ◌≡◌, ◌^◌, min, sum_by, take}
+use Rattle.dexspec.specs.Weight.{text_weight}
+use Rattle.dexpool.proofs.weight.texts_weight.Given as goal
+
+abbrev pub invariant-loop-text : goal.invariant-loop-text
+invariant-loop-text l = l.weight ≡ min (2 ^ 64 - 1) (sum_by text_weight (take l.text-index l.texts))

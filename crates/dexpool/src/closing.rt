@@ -1,0 +1,155 @@
+//! Marks closed downwards: what a marked symbol names is marked too.
+
+ghost use Rattle.std.specs.Prelude.{◌≡◌, ◌<◌, length, map, All, IfOk};
+ghost use Rattle.std.specs.List.{flat_map};
+ghost use Rattle.dexrows.specs.Cut.{kept};
+ghost use Rattle.dexpool.specs.Numberings.{AreMarksOf};
+ghost use Rattle.dexpool.specs.Stored.{symbols_in, AreTables};
+ghost use Rattle.dexpool.specs.Renumbering.{IsEntryWithin, IsFieldWithin, IsMethodWithin};
+ghost use Rattle.dexpool.specs.Closing.{mark_all, field_types, entry_types, AreClosure};
+
+use crate::marks::Marks;
+use crate::protos::part;
+use crate::rows::ProtoEntry;
+use crate::tables::Tables;
+use dexrows::{FieldRow, MethodRow};
+use std::alloc::AllocError;
+
+/// The marks, and marks on what marked symbols name, in one pass over each table.
+///
+/// Error: the memory for the marks was refused.
+pub(crate) fn closed(tables: &Tables<'_>, marks: &Marks) -> Result<Marks, AllocError>
+    requires tables { AreTables tables.now }
+    requires marks { AreMarksOf (symbols_in tables.now) marks.now }
+    ensures { IfOk result (AreClosure tables.now marks.now) }
+{
+    let mut strings = marks.strings.clone()?;
+    let mut types = marks.types.clone()?;
+    let mut protos = marks.protos.clone()?;
+    let fields = marks.fields.clone()?;
+    let methods = marks.methods.clone()?;
+    mark_below(
+        tables,
+        &fields,
+        &methods,
+        &mut strings,
+        &mut types,
+        &mut protos,
+    );
+    Ok(Marks {
+        strings,
+        types,
+        protos,
+        fields,
+        methods,
+    })
+}
+
+// Marks what marked methods, fields, protos and types name.
+fn mark_below(
+    tables: &Tables<'_>,
+    fields: &[bool],
+    methods: &[bool],
+    strings: &mut [bool],
+    types: &mut [bool],
+    protos: &mut [bool],
+)
+    requires tables { AreTables tables.now }
+    requires fields { length fields.now ≡ length tables.now.fields.items }
+    requires methods { length methods.now ≡ length tables.now.methods.items }
+    requires strings { length strings.old ≡ length tables.now.strings.items }
+    requires types { length types.old ≡ length tables.now.types.items }
+    requires protos { length protos.old ≡ length tables.now.protos.items }
+    ensures protos { protos.new ≡ mark_all protos.old (map (λ m. m.proto) (kept methods.now tables.now.methods.items)) }
+    ensures types { types.new ≡ mark_all (mark_all (mark_all types.old (map (λ m. m.class) (kept methods.now tables.now.methods.items))) (flat_map field_types (kept fields.now tables.now.fields.items))) (flat_map (entry_types tables.now.parameters.items) (kept protos.new tables.now.protos.items)) }
+    ensures strings { strings.new ≡ mark_all (mark_all (mark_all (mark_all strings.old (map (λ m. m.name) (kept methods.now tables.now.methods.items))) (map (λ f. f.name) (kept fields.now tables.now.fields.items))) (map (λ p. p.shorty) (kept protos.new tables.now.protos.items))) (kept types.new tables.now.types.items) }
+{
+    mark_by_methods(&tables.methods, methods, strings, types, protos);
+    mark_by_fields(&tables.fields, fields, strings, types);
+    mark_by_protos(&tables.protos, &tables.parameters, protos, strings, types);
+    mark_by_types(&tables.types, types, strings);
+}
+
+// Marks the classes, names and protos of marked methods.
+fn mark_by_methods(
+    methods: &[MethodRow],
+    marks: &[bool],
+    strings: &mut [bool],
+    types: &mut [bool],
+    protos: &mut [bool],
+)
+    requires marks { length marks.now ≡ length methods.now }
+    requires within { All (IsMethodWithin (length strings.old) (length types.old) (length protos.old)) methods.now }
+    ensures strings { strings.new ≡ mark_all strings.old (map (λ m. m.name) (kept marks.now methods.now)) }
+    ensures types { types.new ≡ mark_all types.old (map (λ m. m.class) (kept marks.now methods.now)) }
+    ensures protos { protos.new ≡ mark_all protos.old (map (λ m. m.proto) (kept marks.now methods.now)) }
+{
+    for (i, method) in methods.iter().enumerate() {
+        if marks[i] {
+            strings[method.name] = true;
+            types[method.class] = true;
+            protos[method.proto] = true;
+        }
+    }
+}
+
+// Marks the classes, names and types of marked fields.
+fn mark_by_fields(fields: &[FieldRow], marks: &[bool], strings: &mut [bool], types: &mut [bool])
+    requires marks { length marks.now ≡ length fields.now }
+    requires within { All (IsFieldWithin (length strings.old) (length types.old)) fields.now }
+    ensures strings { strings.new ≡ mark_all strings.old (map (λ f. f.name) (kept marks.now fields.now)) }
+    ensures types { types.new ≡ mark_all types.old (flat_map field_types (kept marks.now fields.now)) }
+{
+    for (i, field) in fields.iter().enumerate() {
+        if marks[i] {
+            strings[field.name] = true;
+            types[field.class] = true;
+            types[field.typ] = true;
+        }
+    }
+}
+
+// Marks the shorties, return types and parameters of marked protos.
+fn mark_by_protos(
+    protos: &[ProtoEntry],
+    parameters: &[usize],
+    marks: &[bool],
+    strings: &mut [bool],
+    types: &mut [bool],
+)
+    requires marks { length marks.now ≡ length protos.now }
+    requires within { All (IsEntryWithin (length strings.old) (length types.old) parameters.now) protos.now }
+    ensures strings { strings.new ≡ mark_all strings.old (map (λ p. p.shorty) (kept marks.now protos.now)) }
+    ensures types { types.new ≡ mark_all types.old (flat_map (entry_types parameters.now) (kept marks.now protos.now)) }
+{
+    for (i, proto) in protos.iter().enumerate() {
+        if marks[i] {
+            strings[proto.shorty] = true;
+            types[proto.return_type] = true;
+            mark_numbers(part(parameters, proto.parameters), types);
+        }
+    }
+}
+
+// Marks the texts of marked types.
+fn mark_by_types(types: &[usize], marks: &[bool], strings: &mut [bool])
+    requires marks { length marks.now ≡ length types.now }
+    requires within { All (λ n. n < length strings.old) types.now }
+    ensures { strings.new ≡ mark_all strings.old (kept marks.now types.now) }
+{
+    for (i, text) in types.iter().enumerate() {
+        if marks[i] {
+            strings[*text] = true;
+        }
+    }
+}
+
+// Marks each of the numbers.
+fn mark_numbers(numbers: &[usize], marks: &mut [bool])
+    requires { All (λ n. n < length marks.old) numbers.now }
+    ensures { marks.new ≡ mark_all marks.old numbers.now }
+{
+    for number in numbers {
+        marks[*number] = true;
+    }
+}

@@ -1,0 +1,148 @@
+//! Ranks: how many symbols of a numbering are less than one that need not be there.
+
+ghost use Rattle.std.specs.Prelude.{◌≡◌, ◌<◌, ◌≤◌, ℕ, Bool, List, All, length, map, slice_index_or};
+ghost use Rattle.std.specs.Ordering.{is_lt};
+ghost use Rattle.std.specs.Cmp.Lexicographic.{slice_cmp};
+ghost use Rattle.dexspec.specs.Texts.{text_cmp};
+ghost use Rattle.dexspec.specs.Symbols.{Proto, Field, Method, proto_cmp, field_cmp, method_cmp};
+ghost use Rattle.dexspec.specs.Lists.{rank};
+ghost use Rattle.dexpool.specs.Ranking.{ComeFirst, PassBelow};
+
+use crate::numbering::Numbering;
+use crate::symbols::{FieldSymbol, MethodSymbol, ProtoSymbol, SymbolKind};
+use dexstr::{Name, Text};
+use std::cmp::Ordering;
+
+// The number of numbers below `count` that compare as less, where these come first.
+fn count_less<F: Fn(usize) -> Ordering>(count: usize, compare: F) -> usize
+    requires { (i : ℕ) → i < count → F.pre compare i }
+    ensures within { result ≤ count }
+    ensures less { (test : ℕ → Bool) → ((i : ℕ) (o : _) → i < count → F.post compare i o → is_lt o ≡ test i) → ComeFirst test count → PassBelow test result count }
+{
+    let mut low = 0;
+    let mut high = count;
+    while low < high {
+        let middle = low + (high - low) / 2;
+        if compare(middle).is_lt() {
+            low = middle + 1;
+        } else {
+            high = middle;
+        }
+    }
+    low
+}
+
+impl<'a> Numbering<'a> {
+    // How the text of a number compares with another text.
+    fn compare_string(&self, i: usize, text: &Text<'_>) -> Ordering
+        requires { i < length self.now.texts }
+        ensures { (d : List ℕ) → result ≡ text_cmp (slice_index_or self.now.texts i d) text.now }
+    {
+        self.string(i).cmp(text)
+    }
+
+    // How the type of a number compares with another type.
+    fn compare_type(&self, i: usize, descriptor: &Text<'_>) -> Ordering
+        requires { i < length self.now.types }
+        ensures { (d : List ℕ) → result ≡ text_cmp (slice_index_or self.now.types i d) descriptor.now }
+    {
+        self.typ(i).cmp(descriptor)
+    }
+
+    // How the types of numbers compare with other types: the first that differ decide, and else a front
+    // comes first.
+    fn compare_types(&self, numbers: &[usize], descriptors: &[Name]) -> Ordering
+        requires { All (λ n. n < length self.now.types) numbers.now }
+        ensures { (d : List ℕ) → result ≡ slice_cmp text_cmp (map (λ n. slice_index_or self.now.types n d) numbers.now) descriptors.now }
+    {
+        for i in 0..numbers.len().min(descriptors.len()) {
+            match self.compare_type(numbers[i], &descriptors[i].text()) {
+                Ordering::Equal => {}
+                unlike => return unlike,
+            }
+        }
+        numbers.len().cmp(&descriptors.len())
+    }
+
+    // How the proto of a number compares with another proto.
+    fn compare_proto(&self, i: usize, proto: &ProtoSymbol) -> Ordering
+        requires { i < length self.now.protos }
+        ensures { (d : Proto) → result ≡ proto_cmp (slice_index_or self.now.protos i d) proto.now }
+    {
+        let row = self.proto(i);
+        match self.compare_type(row.return_type(), &proto.return_type.text()) {
+            Ordering::Equal => self.compare_types(row.parameters(), &proto.parameters),
+            unlike => unlike,
+        }
+    }
+
+    // How the field of a number compares with another field.
+    fn compare_field(&self, i: usize, field: &FieldSymbol) -> Ordering
+        requires { i < length self.now.fields }
+        ensures { (d : Field) → result ≡ field_cmp (slice_index_or self.now.fields i d) field.now }
+    {
+        let row = self.field(i);
+        match self.compare_type(row.class, &field.class.text()) {
+            Ordering::Equal => match self.compare_string(row.name, &field.name.text()) {
+                Ordering::Equal => self.compare_type(row.typ, &field.typ.text()),
+                unlike => unlike,
+            },
+            unlike => unlike,
+        }
+    }
+
+    // How the method of a number compares with another method.
+    fn compare_method(&self, i: usize, method: &MethodSymbol) -> Ordering
+        requires { i < length self.now.methods }
+        ensures { (d : Method) → result ≡ method_cmp (slice_index_or self.now.methods i d) method.now }
+    {
+        let row = self.method(i);
+        match self.compare_type(row.class, &method.class.text()) {
+            Ordering::Equal => match self.compare_string(row.name, &method.name.text()) {
+                Ordering::Equal => self.compare_proto(row.proto, &method.proto),
+                unlike => unlike,
+            },
+            unlike => unlike,
+        }
+    }
+
+    /// The number of lesser texts. No memory is taken.
+    pub fn rank_string(&self, text: &Text<'_>) -> usize
+        ensures { result ≡ rank text_cmp text.now self.now.texts }
+    {
+        self.is_numbering();
+        count_less(self.count(SymbolKind::Text), |i| self.compare_string(i, text))
+    }
+
+    /// The number of lesser types, for a type by its descriptor. No memory is taken.
+    pub fn rank_type(&self, descriptor: &Text<'_>) -> usize
+        ensures { result ≡ rank text_cmp descriptor.now self.now.types }
+    {
+        self.is_numbering();
+        count_less(self.count(SymbolKind::Typ), |i| self.compare_type(i, descriptor))
+    }
+
+    /// The number of lesser protos. No memory is taken.
+    pub fn rank_proto(&self, proto: &ProtoSymbol) -> usize
+        ensures { result ≡ rank proto_cmp proto.now self.now.protos }
+    {
+        self.is_numbering();
+        count_less(self.count(SymbolKind::Proto), |i| self.compare_proto(i, proto))
+    }
+
+    /// The number of lesser fields. No memory is taken.
+    pub fn rank_field(&self, field: &FieldSymbol) -> usize
+        ensures { result ≡ rank field_cmp field.now self.now.fields }
+    {
+        self.is_numbering();
+        count_less(self.count(SymbolKind::Field), |i| self.compare_field(i, field))
+    }
+
+    /// The number of lesser methods. No memory is taken.
+    pub fn rank_method(&self, method: &MethodSymbol) -> usize
+        ensures { result ≡ rank method_cmp method.now self.now.methods }
+    {
+        self.is_numbering();
+        count_less(self.count(SymbolKind::Method), |i| self.compare_method(i, method))
+    }
+}

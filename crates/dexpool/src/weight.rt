@@ -1,0 +1,50 @@
+//! What the symbols of a numbering weigh.
+
+ghost use Rattle.std.specs.Prelude.{◌≡◌, ◌^◌, ◌-◌, ◌+◌, ◌*◌, min, sum_by, length};
+ghost use Rattle.dexspec.specs.Weight.{mentions_weight, text_weight};
+
+use crate::numbering::Numbering;
+use crate::rows::ProtoEntry;
+use dexstr::Text;
+
+// What texts weigh: each a string_id and a string_data_item.
+fn texts_weight(texts: &[Text<'_>]) -> u64
+    ensures { result ≡ min (2 ^ 64 - 1) (sum_by text_weight texts.now) }
+{
+    let mut weight: u64 = 0;
+    for text in texts {
+        weight = weight.saturating_add(10 + 3 * text.len() as u64);
+    }
+    weight
+}
+
+// What protos weigh: each a proto_id and a type_list.
+fn protos_weight(protos: &[ProtoEntry]) -> u64
+    ensures { result ≡ min (2 ^ 64 - 1) (sum_by (λ p. 20 + 2 * (p.parameters.end - p.parameters.start)) protos.now) }
+{
+    let mut weight: u64 = 0;
+    for proto in protos {
+        let parameters = proto.parameters.end.saturating_sub(proto.parameters.start) as u64;
+        weight = weight
+            .saturating_add(20)
+            .saturating_add(parameters.saturating_mul(2));
+    }
+    weight
+}
+
+impl<'a> Numbering<'a> {
+    /// What the symbols weigh together, or 2^64 - 1 where that is more. No memory is taken.
+    pub fn weight(&self) -> u64
+        ensures { result ≡ min (2 ^ 64 - 1) (mentions_weight self.now) }
+    {
+        let tables = &self.tables;
+        let types = 4u64.saturating_mul(tables.types.len() as u64);
+        let fields = 8u64.saturating_mul(tables.fields.len() as u64);
+        let methods = 8u64.saturating_mul(tables.methods.len() as u64);
+        texts_weight(&tables.strings)
+            .saturating_add(types)
+            .saturating_add(protos_weight(&tables.protos))
+            .saturating_add(fields)
+            .saturating_add(methods)
+    }
+}

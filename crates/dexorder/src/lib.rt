@@ -1,0 +1,10 @@
+//! The depths of classes below their defined superclasses and interfaces, and the order of the classes of a
+//! file: by depth, and then by name. Classes and names are numbers here.
+//!
+//! Source: the Android page "Dalvik Executable format", under the heading "class_defs": a superclass and
+//! interfaces stand before the class. By depth and then by name is this project's rule.
+#![tactic(auto)]
+
+mod hierarchy;
+
+pub use hierarchy::Hierarchy;

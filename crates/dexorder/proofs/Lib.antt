@@ -1,2 +1,3 @@
+pub mod DepthLaws
 pub mod Parts
-pub mod Depths
+pub mod SearchLaws

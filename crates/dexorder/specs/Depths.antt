@@ -1,7 +1,7 @@
 -- The depths of numbered classes.
 -- Source: "Dalvik Executable format", "class_defs": a superclass and interfaces stand before the class. Depths are
 -- a word of this project.
-use Rattle.std.specs.Prelude.{◌≡◌, ℕ, zero, suc, ◌<◌, Bool, true, false, List, [], length, All, Option, None, Some, MatchOption, slice_index_or}
+use Rattle.std.specs.Prelude.{◌≡◌, ℕ, zero, suc, ◌<◌, Bool, true, false, List, [], length, All, Option, None, Some, slice_index_or}
 use Rattle.std.specs.List.{list_all}
 
 -- the parents of class i

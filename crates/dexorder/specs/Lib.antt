@@ -1,2 +1,3 @@
-pub mod Spans
 pub mod Depths
+pub mod Searching
+pub mod Spans

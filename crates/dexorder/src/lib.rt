@@ -5,6 +5,7 @@
 //! interfaces stand before the class. By depth and then by name is this project's rule.
 #![tactic(auto)]
 
+mod depths;
 mod hierarchy;
 
 pub use hierarchy::Hierarchy;

@@ -1,3 +1,4 @@
 pub mod DepthLaws
 pub mod Parts
+pub mod PlaceLaws
 pub mod SearchLaws

@@ -7,5 +7,7 @@
 
 mod depths;
 mod hierarchy;
+mod order;
 
 pub use hierarchy::Hierarchy;
+pub use order::class_order;

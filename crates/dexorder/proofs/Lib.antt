@@ -1,3 +1,5 @@
+pub mod DefinitionDepths
+pub mod DefinitionOrder
 pub mod DepthLaws
 pub mod Parts
 pub mod PlaceLaws

@@ -1,3 +1,4 @@
+pub mod Definitions
 pub mod Depths
 pub mod Places
 pub mod Searching

@@ -7,7 +7,9 @@
 
 mod depths;
 mod hierarchy;
+mod laws;
 mod order;
 
 pub use hierarchy::Hierarchy;
+pub use laws::{depths_of_definitions, order_of_definitions};
 pub use order::class_order;

@@ -6,7 +6,7 @@ use Rattle.std.proofs.lemmas.List.Elements.{All-contains, All-get_or}
 use Rattle.std.proofs.lemmas.List.FromFn.{length-range_with_len}
 use Rattle.std.proofs.lemmas.List.Sums.{sum_by-cons, count_by-le-length}
 use Rattle.dexspec.proofs.Members.{Contains-nil, Contains-first, Contains-later, Contains-cons_cases, list_all-member, list_all-from_members}
-use Rattle.dexorder.specs.Depths.{parents_of, is_under, AreWithin, IsDepth}
+use Rattle.dexorder.specs.Depths.{parents_of, is_under, AreWithin, IsDepth, HasNone}
 
 module _ (classes : List (List ℕ)) where
   -- less than n is less than n + 1
@@ -111,3 +111,34 @@ module _ (classes : List (List ℕ)) (within : AreWithin classes) where
   depth_less i d lt h =
       let all = range_with_len 0 (length classes) in
       omega (arith, counted d i (suc d) lt h (omega arith), count_by-le-length (is_under classes (suc d)) all, length-range_with_len 0 (length classes))
+
+-- ---- parents
+
+module _ (classes : List (List ℕ)) where
+  -- what is under n has a depth below n
+  least : (n i : ℕ) → is_under classes n i ≡ true → (d : ℕ) × IsDepth classes i d × (d < n)
+  least zero i e = absurd cc
+  least (suc n) i e = by (is_under classes n i) refl (least n i)
+    where
+      by : (b : Bool) → is_under classes n i ≡ b → (is_under classes n i ≡ true → (d : ℕ) × IsDepth classes i d × (d < n)) → (d : ℕ) × IsDepth classes i d × (d < suc n)
+      by true f again = let s = again f in (s.0, s.1, omega (arith, s.2))
+      by false f again = (n, record { under = e; not_under = f }, omega arith)
+
+  -- a parent has a lesser depth
+  pub parent_less : (i p d : ℕ) → IsDepth classes i d → Contains (parents_of classes i) p → (e : ℕ) × IsDepth classes p e × (e < d)
+  parent_less i p d h c = least d p (list_all-member (is_under classes d) (parents_of classes i) p h.under c)
+
+  -- and one parent a depth that is one less
+  pub parent_greatest : (i d : ℕ) → IsDepth classes i (suc d) → (p : ℕ) × Contains (parents_of classes i) p × IsDepth classes p d
+  parent_greatest i d h =
+      let s = not_all (is_under classes d) (parents_of classes i) h.not_under in
+      (s.0, s.1, record { under = list_all-member (is_under classes (suc d)) (parents_of classes i) s.0 h.under s.1; not_under = s.2 })
+
+  -- a class with a parent that has no depth has none
+  pub parent_none : (i p : ℕ) → Contains (parents_of classes i) p → HasNone classes p → HasNone classes i
+  parent_none i p c none zero = refl
+  parent_none i p c none (suc n) = by (is_under classes (suc n) i) refl
+    where
+      by : (b : Bool) → is_under classes (suc n) i ≡ b → is_under classes (suc n) i ≡ false
+      by true e = absurd (let t = list_all-member (is_under classes n) (parents_of classes i) p e c in let u = none n in cc)
+      by false e = e

@@ -1,6 +1,6 @@
 //! Classes, each with its parents.
 
-ghost use Rattle.std.specs.Prelude.{◌≡◌, ◌<◌, List, [], ◌∷◌, ◌++◌, length, slice_index_or, IfOk, OnOk, OnErr};
+ghost use Rattle.std.specs.Prelude.{◌≡◌, ◌<◌, ◌↔◌, IsTrue, List, [], ◌∷◌, ◌++◌, length, slice_index_or, IfOk, OnOk, OnErr};
 
 use std::alloc::{AllocError, Global};
 use std::marker::Model;
@@ -52,6 +52,13 @@ impl Hierarchy {
         ensures { result ≡ length self.now }
     {
         self.spans.len()
+    }
+
+    /// Whether there is no class. No memory is taken.
+    pub fn is_empty(&self) -> bool
+        ensures { IsTrue result ↔ (self.now ≡ []) }
+    {
+        self.spans.is_empty()
     }
 
     /// The parents of a class. No memory is taken.

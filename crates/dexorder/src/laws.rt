@@ -1,17 +1,27 @@
 //! What depths and order of numbered classes say of class definitions. Each function does nothing: its contract is
 //! the law, for the callers that cite it.
 
-ghost use Rattle.std.specs.Prelude.{◌≡◌, ◌<◌, ℕ, List, length, map, All, Option, None, IsSome, true, slice_index_or};
-ghost use Rattle.std.specs.List.{range_with_len};
+ghost use Rattle.std.specs.Prelude.{◌≡◌, ◌<◌, ℕ, suc, List, length, map, All, Option, None, IsSome, true, slice_index_or};
+ghost use Rattle.std.specs.List.{Contains, range_with_len};
 ghost use Rattle.std.specs.List.Sorted.{IsPermutation};
 ghost use Rattle.dexspec.specs.Texts.{Text};
 ghost use Rattle.dexspec.specs.Classes.{Definition};
 ghost use Rattle.dexspec.specs.Depth.{HasDepth, IsAcyclic, depth, in_class_order};
 ghost use Rattle.dexspec.specs.Lists.{AreDistinct, rises};
 ghost use Rattle.dexspec.specs.Merging.{IsCycle};
-ghost use Rattle.dexorder.specs.Depths.{AreDepths, IsDepth, HasNone};
+ghost use Rattle.dexorder.specs.Depths.{AreDepths, AreWithin, IsDepth, HasNone, parents_of};
 ghost use Rattle.dexorder.specs.Definitions.{AreClassesOf, AreNamesOf, IsCycleClass, name_at};
 ghost use Rattle.dexorder.specs.Places.{class_cmp, class_place};
+
+/// The depth of a class is greater than the depths of its parents, which all have one, and where it is not 0 it is one
+/// more than that of a parent. A class has one depth at most, and it is less than the number of classes.
+pub fn depths_of_classes()
+    ensures parents { (classes : List (List ℕ)) (i p d : ℕ) → IsDepth classes i d → Contains (parents_of classes i) p → (e : ℕ) × IsDepth classes p e × (e < d) }
+    ensures greatest { (classes : List (List ℕ)) (i d : ℕ) → IsDepth classes i (suc d) → (p : ℕ) × Contains (parents_of classes i) p × IsDepth classes p d }
+    ensures none { (classes : List (List ℕ)) (i p : ℕ) → Contains (parents_of classes i) p → HasNone classes p → HasNone classes i }
+    ensures one { (classes : List (List ℕ)) (i d e : ℕ) → IsDepth classes i d → IsDepth classes i e → d ≡ e }
+    ensures bound { (classes : List (List ℕ)) (i d : ℕ) → AreWithin classes → i < length classes → IsDepth classes i d → d < length classes }
+{}
 
 /// Numbered classes have the depths of the definitions that they number, and a class without one is a definition
 /// whose name is on a cycle, or above one. Each such definition is a class without a depth; so where all classes have

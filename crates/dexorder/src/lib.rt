@@ -9,7 +9,9 @@ mod depths;
 mod hierarchy;
 mod laws;
 mod order;
+#[cfg(test)]
+mod tests;
 
 pub use hierarchy::Hierarchy;
-pub use laws::{depths_of_definitions, order_of_definitions};
+pub use laws::{depths_of_classes, depths_of_definitions, order_of_definitions};
 pub use order::class_order;

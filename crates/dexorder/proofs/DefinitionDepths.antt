@@ -24,7 +24,7 @@ same_tests false true f g = g refl
 same_tests false false f g = refl
 
 -- a text is the same as one that equals it
-same_from_equal : (s t : Text) → s ≡ t → same_text s t ≡ true
+pub same_from_equal : (s t : Text) → s ≡ t → same_text s t ≡ true
 same_from_equal s t e = (slice_eq-Decides Decides-eqb s t (same_text s t) refl).1 e
 
 module _ (D : List Definition) (classes : List (List ℕ)) (h : AreClassesOf D classes) where

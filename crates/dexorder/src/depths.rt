@@ -1,6 +1,6 @@
 //! The depths of classes: a search along the parents of each class, which visits each class once.
 
-ghost use Rattle.std.specs.Prelude.{◌≡◌, ◌<◌, ◌≤◌, ◌+◌, ◌++◌, ℕ, [], ◌∷◌, List, length, slice_index, slice_index_or, true, false, None, Some, All, IfOk, OnOk};
+ghost use Rattle.std.specs.Prelude.{◌≡◌, ◌<◌, ◌+◌, ◌++◌, [], ◌∷◌, length, slice_index_or, true, false, All, IfOk, OnOk};
 ghost use Rattle.dexorder.specs.Depths.{AreWithin, AreDepths};
 ghost use Rattle.dexorder.specs.Searching.{IsSearch, IsWaitingFor, AreStillSeen, work};
 

@@ -7,9 +7,9 @@ use std::marker::Model;
 
 /// The part of a list from `start` to `end`, without the element at `end`.
 #[derive(Clone, Copy)]
-pub struct Span {
-    pub(crate) start: usize,
-    pub(crate) end: usize,
+struct Span {
+    start: usize,
+    end: usize,
 }
 
 /// Classes, numbered from 0 on, each with the numbers of its parents: of its superclass and interfaces, those that

@@ -2,11 +2,11 @@
 //! the law, for the callers that cite it.
 
 ghost use Rattle.std.specs.Prelude.{◌≡◌, ◌<◌, ℕ, suc, List, length, map, All, Option, None, IsSome, true, slice_index_or};
-ghost use Rattle.std.specs.List.{Contains, range_with_len};
+ghost use Rattle.std.specs.List.{Contains, filter, range_with_len};
 ghost use Rattle.std.specs.List.Sorted.{IsPermutation};
 ghost use Rattle.dexspec.specs.Texts.{Text};
 ghost use Rattle.dexspec.specs.Classes.{Definition};
-ghost use Rattle.dexspec.specs.Depth.{HasDepth, IsAcyclic, depth, in_class_order};
+ghost use Rattle.dexspec.specs.Depth.{HasDepth, IsAcyclic, depth, in_class_order, is_defined, parents};
 ghost use Rattle.dexspec.specs.Lists.{AreDistinct, rises};
 ghost use Rattle.dexspec.specs.Merging.{IsCycle};
 ghost use Rattle.dexorder.specs.Depths.{AreDepths, AreWithin, IsDepth, HasNone, parents_of};
@@ -21,6 +21,12 @@ pub fn depths_of_classes()
     ensures none { (classes : List (List ℕ)) (i p : ℕ) → Contains (parents_of classes i) p → HasNone classes p → HasNone classes i }
     ensures one { (classes : List (List ℕ)) (i d e : ℕ) → IsDepth classes i d → IsDepth classes i e → d ≡ e }
     ensures bound { (classes : List (List ℕ)) (i d : ℕ) → AreWithin classes → i < length classes → IsDepth classes i d → d < length classes }
+{}
+
+/// Definitions of different names are numbered by classes where the parents of each class are the numbers of its
+/// superclass and interfaces, those that are defined, in their order.
+pub fn classes_of_definitions()
+    ensures { (definitions : List Definition) (classes : List (List ℕ)) (e : Definition) → AreDistinct (map (λ d. d.0) definitions) → length classes ≡ length definitions → AreWithin classes → ((i : ℕ) → i < length definitions → map (name_at definitions) (parents_of classes i) ≡ filter (is_defined definitions) (parents (slice_index_or definitions i e).1)) → AreClassesOf definitions classes }
 {}
 
 /// Numbered classes have the depths of the definitions that they number, and a class without one is a definition

@@ -13,5 +13,7 @@ mod order;
 mod tests;
 
 pub use hierarchy::Hierarchy;
-pub use laws::{depths_of_classes, depths_of_definitions, order_of_definitions};
+pub use laws::{
+    classes_of_definitions, depths_of_classes, depths_of_definitions, order_of_definitions,
+};
 pub use order::class_order;

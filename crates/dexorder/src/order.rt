@@ -1,6 +1,6 @@
 //! The order of classes: by depth, and then by name.
 
-ghost use Rattle.std.specs.Prelude.{◌≡◌, ◌<◌, ◌≤◌, ℕ, length, map, true, IfOk};
+ghost use Rattle.std.specs.Prelude.{◌≡◌, length, map, true, IfOk};
 ghost use Rattle.std.specs.List.{range_with_len};
 ghost use Rattle.std.specs.List.Sorted.{IsPermutation};
 ghost use Rattle.dexspec.specs.Lists.{AreDistinct, rises};

@@ -83,7 +83,7 @@ module _ (D : List Definition) (classes : List (List ℕ)) (h : AreClassesOf D c
       let s = Contains-map_source (λ (d : Definition). d.0) D (name_at D i) (Contains-get_or names i [] (omega (arith, lt, names_len))) in
       list_any-member (λ (d : Definition). same_text d.0 (name_at D i)) D s.0 s.1 (same_from_equal s.0.0 (name_at D i) s.2)
 
-  -- a class without a depth is a definition on a cycle, or above one
+  -- a class without a depth is a definition on a cycle, or below one
   pub is_cycle : (i : ℕ) → i < length classes → HasNone classes i → IsCycle D (name_at D i)
   is_cycle i lt none = record {
     defined = class_defined i lt;

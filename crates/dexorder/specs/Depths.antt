@@ -23,7 +23,7 @@ pub record IsDepth (classes : List (List ℕ)) (i d : ℕ) : Type 0 where
   pub under : is_under classes (suc d) i ≡ true
   pub not_under : is_under classes d i ≡ false
 
--- class i has no depth: it is above itself, or above such a class
+-- class i has no depth: it is above itself, or below a class that is
 abbrev pub HasNone : List (List ℕ) → ℕ → Type 0
 HasNone classes i = (n : ℕ) → is_under classes n i ≡ false
 

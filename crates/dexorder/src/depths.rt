@@ -50,8 +50,8 @@ impl<'a> Search<'a> {
     }
 
     /// Goes on with the visit that was last on the path. It is over where all its parents have a depth, and then
-    /// its class has one; and where it waits for a class without a depth that was seen, and so is above itself, or
-    /// above such a class.
+    /// its class has one; and where it waits for a class without a depth that was seen: then its class is
+    /// above itself, or below a class that is.
     fn step(&mut self, classes: &'a Hierarchy, visit: Visit<'a>) -> Result<(), AllocError>
         requires within { AreWithin classes.now }
         requires search { IsSearch classes.now self.old (self.old.path.items ++ visit ∷ []) }
@@ -103,7 +103,7 @@ impl<'a> Search<'a> {
 }
 
 impl Hierarchy {
-    /// For each class its depth, or none where it has none: where it is above itself, or above a class that is. The
+    /// For each class its depth, or none where it has none: where it is above itself, or below a class that is. The
     /// depth of a class without parents is 0, and that of another one more than the greatest depth among its
     /// parents.
     ///

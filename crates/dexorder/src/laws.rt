@@ -30,7 +30,7 @@ pub fn classes_of_definitions()
 {}
 
 /// Numbered classes have the depths of the definitions that they number, and a class without one is a definition
-/// whose name is on a cycle, or above one. Each such definition is a class without a depth; so where all classes have
+/// whose name is on a cycle, or below one. Each such definition is a class without a depth; so where all classes have
 /// one there is no cycle, and where there is none all have one.
 pub fn depths_of_definitions()
     ensures depth { (definitions : List Definition) (classes : List (List ℕ)) → AreClassesOf definitions classes → (i d : ℕ) → i < length classes → IsDepth classes i d → HasDepth definitions (name_at definitions i) × (depth definitions (name_at definitions i) ≡ d) }

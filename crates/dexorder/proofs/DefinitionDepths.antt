@@ -1,0 +1,110 @@
+-- The depths of numbered classes are those of the definitions that they number.
+use Rattle.std.proofs.Common.{◌≡◌, ℕ, zero, suc, ◌<◌, Bool, true, false, List, [], length, map, get_or, Option, Some, None, refl, sym, ap, ◌∙◌, subst, arith, All}
+use Rattle.std.specs.Option.{IsSome}
+use Rattle.std.proofs.lemmas.List.{get_or_default}
+use Rattle.std.proofs.lemmas.List.Elements.{All-from_get_or, Contains-get_or}
+use Rattle.std.proofs.lemmas.Slice.Eq.{slice_eq-Decides}
+use Rattle.std.proofs.lemmas.Bool.Decides.{Decides-eqb}
+use Rattle.dexspec.specs.Texts.{Text, same_text}
+use Rattle.dexspec.specs.Classes.{Definition}
+use Rattle.dexspec.specs.Depth.{is_defined, above, is_below, HasDepth, IsAcyclic, depth}
+use Rattle.dexspec.specs.Merging.{IsCycle}
+use Rattle.dexspec.proofs.Members.{list_all-member, list_all-from_members, list_any-member}
+use Rattle.dexspec.proofs.Depths.{Contains-map, is_defined-name, depth-is}
+use Rattle.dexspec.proofs.ClassPlaces.{Contains-map_source}
+use Rattle.dexspec.proofs.SizeSums.{map-length}
+use Rattle.dexorder.specs.Depths.{parents_of, is_under, IsDepth, HasNone, IsAnswer, AreDepths}
+use Rattle.dexorder.specs.Definitions.{name_at, AreClassesOf}
+use Rattle.dexorder.proofs.DepthLaws.{less_than, parent_within}
+
+-- tests that pass together are the same
+same_tests : (a b : Bool) → (a ≡ true → b ≡ true) → (b ≡ true → a ≡ true) → a ≡ b
+same_tests true b f g = sym (f refl)
+same_tests false true f g = g refl
+same_tests false false f g = refl
+
+-- a text is the same as one that equals it
+pub same_from_equal : (s t : Text) → s ≡ t → same_text s t ≡ true
+same_from_equal s t e = (slice_eq-Decides Decides-eqb s t (same_text s t) refl).1 e
+
+module _ (D : List Definition) (classes : List (List ℕ)) (h : AreClassesOf D classes) where
+  -- a bound on the depth of a class is one on that of its definition
+  pub same_under : (n i : ℕ) → i < length classes → is_under classes n i ≡ is_below D n (name_at D i)
+  same_under zero i lt = refl
+  same_under (suc n) i lt =
+      let both = h.parents i lt in
+      same_tests (is_under classes (suc n) i) (is_below D (suc n) (name_at D i))
+      (λ e. list_all-from_members (is_below D n) (above D (name_at D i)) (λ name c.
+      let s = Contains-map_source (name_at D) (parents_of classes i) name ((both name).1 c) in
+      ap (is_below D n) (sym s.2) ∙ sym (same_under n s.0 (parent_within classes h.within i s.0 lt s.1)) ∙ list_all-member (is_under classes n) (parents_of classes i) s.0 e s.1))
+      (λ e. list_all-from_members (is_under classes n) (parents_of classes i) (λ p c.
+      same_under n p (parent_within classes h.within i p lt c)
+      ∙ list_all-member (is_below D n) (above D (name_at D i)) (name_at D p) e ((both (name_at D p)).0 (Contains-map (name_at D) (parents_of classes i) p c))))
+
+  -- a class that has a depth is a definition that has it
+  pub has_depth : (i d : ℕ) → i < length classes → IsDepth classes i d → HasDepth D (name_at D i)
+  has_depth i d lt k = (suc d, sym (same_under (suc d) i lt) ∙ k.under)
+
+  pub same_depth : (i d : ℕ) → i < length classes → IsDepth classes i d → depth D (name_at D i) ≡ d
+  same_depth i d lt k =
+      let own = depth-is D (name_at D i) (has_depth i d lt k) in
+      let e = depth D (name_at D i) in
+      let le = less_than classes d (suc e) i k.not_under (same_under (suc e) i lt ∙ own.below) in
+      let ge = less_than classes e (suc d) i (same_under e i lt ∙ own.not_below) k.under in
+      omega (arith, le, ge)
+
+  -- ---- classes without a depth
+
+  -- there are as many names as classes
+  names_len : length (map (λ (d : Definition). d.0) D) ≡ length classes
+  names_len = map-length (λ (d : Definition). d.0) D ∙ sym h.count
+
+  -- a defined name is that of a class
+  pub class_of : (name : Text) → is_defined D name ≡ true → (i : ℕ) × (i < length classes) × (name_at D i ≡ name)
+  class_of name e =
+      let c = is_defined-name D name e in
+      let lt : c.0 < length (map (λ (d : Definition). d.0) D) = c.1 in
+      (c.0, omega (arith, lt, names_len), get_or_default (map (λ (d : Definition). d.0) D) c.0 [] name lt ∙ c.2)
+
+  -- where each class has a depth, the definitions have no cycle
+  pub no_cycle : (answers : List (Option ℕ)) → AreDepths classes answers → All (λ a. IsSome a) answers → IsAcyclic D
+  no_cycle answers a some name e =
+      let s = class_of name e in
+      subst (HasDepth D) s.2 (by s.0 (get_or answers s.0 None) s.1 (a.answer s.0 s.1) (some s.0 None (omega (arith, a.count, s.1))))
+    where
+      by : (i : ℕ) (o : Option ℕ) → i < length classes → IsAnswer classes i o → IsSome o → HasDepth D (name_at D i)
+      by i None lt k sm = absurd cc
+      by i (Some d) lt k sm = has_depth i d lt k
+
+  -- the name of a class is defined
+  pub class_defined : (i : ℕ) → i < length classes → is_defined D (name_at D i) ≡ true
+  class_defined i lt =
+      let names = map (λ (d : Definition). d.0) D in
+      let s = Contains-map_source (λ (d : Definition). d.0) D (name_at D i) (Contains-get_or names i [] (omega (arith, lt, names_len))) in
+      list_any-member (λ (d : Definition). same_text d.0 (name_at D i)) D s.0 s.1 (same_from_equal s.0.0 (name_at D i) s.2)
+
+  -- a class without a depth is a definition on a cycle, or below one
+  pub is_cycle : (i : ℕ) → i < length classes → HasNone classes i → IsCycle D (name_at D i)
+  is_cycle i lt none = record {
+    defined = class_defined i lt;
+    deep = λ w. let t : is_below D w.0 (name_at D i) ≡ false = sym (same_under w.0 i lt) ∙ none w.0 in let u = w.1 in absurd cc;
+  }
+
+  -- and each such definition is a class without one
+  pub cycle_class : (answers : List (Option ℕ)) (name : Text) → AreDepths classes answers → IsCycle D name → (i : ℕ) × (i < length classes) × (name_at D i ≡ name) × (get_or answers i None ≡ None)
+  cycle_class answers name a x =
+      let s = class_of name x.defined in
+      (s.0, s.1, s.2, by s.0 (get_or answers s.0 None) s.1 s.2 (a.answer s.0 s.1))
+    where
+      by : (i : ℕ) (o : Option ℕ) → i < length classes → name_at D i ≡ name → IsAnswer classes i o → o ≡ None
+      by i None lt e k = refl
+      by i (Some d) lt e k = absurd (x.deep (subst (HasDepth D) e (has_depth i d lt k)))
+
+  -- so where there is no cycle each class has a depth
+  pub all_known : (answers : List (Option ℕ)) → AreDepths classes answers → IsAcyclic D → All (λ a. IsSome a) answers
+  all_known answers a acyclic =
+      All-from_get_or (λ o. IsSome o) answers None (λ i lt. by i (get_or answers i None) (omega (arith, lt, a.count)) (a.answer i (omega (arith, lt, a.count))))
+    where
+      by : (i : ℕ) (o : Option ℕ) → i < length classes → IsAnswer classes i o → IsSome o
+      by i None lt k = absurd ((is_cycle i lt k).deep (acyclic (name_at D i) (class_defined i lt)))
+      by i (Some d) lt k = refl

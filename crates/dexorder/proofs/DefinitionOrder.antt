@@ -1,0 +1,136 @@
+-- The order of numbered classes is that of the definitions that they number.
+use Rattle.std.proofs.Common.{◌≡◌, ◌≢◌, ◌⊎◌, ℕ, ◌+◌, ◌<◌, true, List, [], ◌∷◌, length, map, get_or, Option, Some, None, Ordering, Less, Equal, Greater, refl, sym, ap, ◌∙◌, subst, arith, inl, inr, All}
+use Rattle.std.specs.List.{Contains, range_with_len}
+use Rattle.std.specs.List.Sorted.{IsPermutation}
+use Rattle.std.specs.Option.{IsSome, unwrap_or}
+use Rattle.std.specs.Ordering.{nat_cmp, ordering_then, ordering_reverse, MatchOrdering}
+use Rattle.std.specs.Cmp.{IsTotalOrder}
+use Rattle.std.proofs.lemmas.Cmp.{ranked, nat_cmp_total, on_total, then_total}
+use Rattle.std.proofs.lemmas.List.{get_or_default, get_or-map}
+use Rattle.std.proofs.lemmas.List.Elements.{Contains-get_or}
+use Rattle.std.proofs.lemmas.List.FromFn.{get_or-range_with_len, length-range_with_len}
+use Rattle.std.proofs.lemmas.List.Sorted.{Contains-permutation, IsPermutation-sym}
+use Rattle.dexspec.specs.Lists.{AreDistinct, rises}
+use Rattle.dexspec.specs.Texts.{Text, text_cmp}
+use Rattle.dexspec.specs.Classes.{Definition}
+use Rattle.dexspec.specs.Depth.{depth, place_cmp, in_class_order}
+use Rattle.dexspec.proofs.Members.{AreAmong, Contains-first, Contains-later}
+use Rattle.dexspec.proofs.InOrder.{Rises, Rises-from_rises, Rises-same}
+use Rattle.dexspec.proofs.Depths.{Contains-map}
+use Rattle.dexspec.proofs.SymbolOrders.{text_total, text_exact}
+use Rattle.dexspec.proofs.ClassPlaces.{Contains-map_source, class_place as definition_place, in_class_order-only, in_class_order-has, class_places-rise}
+use Rattle.dexspec.proofs.SizeSums.{map-length}
+use Rattle.dexorder.specs.Depths.{IsAnswer, AreDepths}
+use Rattle.dexorder.specs.Places.{class_place, class_cmp}
+use Rattle.dexorder.specs.Definitions.{name_at, AreClassesOf, AreNamesOf}
+use Rattle.dexorder.proofs.DepthLaws.{Contains-range}
+use Rattle.dexorder.proofs.DefinitionDepths.{same_depth}
+use Rattle.dexorder.proofs.PlaceLaws.{class_total}
+
+-- ---- orders
+
+place_total : IsTotalOrder place_cmp
+place_total = then_total (on_total (λ (x : ℕ × Text). x.0) nat_cmp_total) (on_total (λ (x : ℕ × Text). x.1) text_total)
+
+-- what is less by two orders is less by the first, or ties there and is less by the second
+less_cases : (a b : Ordering) → ordering_then a b ≡ Less → (a ≡ Less) ⊎ ((a ≡ Equal) × (b ≡ Less))
+less_cases Less b e = inl refl
+less_cases Equal b e = inr (refl, e)
+less_cases Greater b e = absurd cc
+
+less_number : (m n : ℕ) → nat_cmp m n ≡ Less → m < n
+less_number m n e = subst (λ o. MatchOrdering o (m < n) (m ≡ n) (n < m)) e (ranked m n (nat_cmp m n) refl)
+
+-- by the same first, and a second that is less where the other is
+less_along : (a b c : Ordering) → (b ≡ Less → c ≡ Less) → ordering_then a b ≡ Less → ordering_then a c ≡ Less
+less_along a b c f e = elim (less_cases a b e) [
+  | inl l ↦ ap (λ o. ordering_then o c) l
+  | inr t ↦ ap (λ o. ordering_then o c) t.0 ∙ f t.1
+]
+
+-- a rising list that is mapped from numbers to another order
+Rises-along : {X Y : Type 0} (R : X → X → Ordering) (S : Y → Y → Ordering) (f : ℕ → X) (g : ℕ → Y) (ks : List ℕ) → ((i j : ℕ) → Contains ks i → Contains ks j → R (f i) (f j) ≡ Less → S (g i) (g j) ≡ Less) → Rises R (map f ks) → Rises S (map g ks)
+Rises-along R S f g [] h r = tt
+Rises-along R S f g (k ∷ ks) h r = (
+  λ y c. let s = Contains-map_source g ks y c in
+      subst (λ z. S (g k) z ≡ Less) s.2 (h k s.0 (Contains-first k ks) (Contains-later k s.0 ks s.1) (r.0 (f s.0) (Contains-map f ks s.0 s.1))),
+  Rises-along R S f g ks (λ i j c d. h i j (Contains-later k i ks c) (Contains-later k j ks d)) r.1,
+)
+
+-- a rising list that was mapped
+Rises-mapped : {X Y : Type 0} (R : Y → Y → Ordering) (f : X → Y) (xs : List X) → Rises R (map f xs) → Rises (λ x y. R (f x) (f y)) xs
+Rises-mapped R f [] r = tt
+Rises-mapped R f (x ∷ xs) r = (λ y c. r.0 (f y) (Contains-map f xs y c), Rises-mapped R f xs r.1)
+
+-- a number of the range is below its end
+range_below : (n i : ℕ) → Contains (range_with_len 0 n) i → i < n
+range_below n i c =
+    let lt : c.0 < length (range_with_len 0 n) = c.1 in
+    let less : c.0 < n = omega (arith, lt, length-range_with_len 0 n) in
+    let e : 0 + c.0 ≡ i = sym (get_or-range_with_len 0 n c.0 i less) ∙ c.2 in
+    omega arith
+
+-- ---- names
+
+module _ (D : List Definition) (names : List ℕ) (h : AreNamesOf D names) where
+  -- numbers of names that differ differ
+  pub names_distinct : AreDistinct (map (λ d. d.0) D) → AreDistinct names
+  names_distinct distinct i j d ij lt e =
+      let few : length (map (λ (x : Definition). x.0) D) ≡ length D = map-length (λ (x : Definition). x.0) D in
+      let one : get_or names i d ≡ get_or names i 0 = get_or_default names i d 0 (omega arith) in
+      let other : get_or names j d ≡ get_or names j 0 = get_or_default names j d 0 lt in
+      let same : get_or names i 0 ≡ get_or names j 0 = sym one ∙ e ∙ other in
+      by (text_cmp (name_at D i) (name_at D j)) refl same (omega (arith, ij, lt, h.count)) (omega (arith, lt, h.count)) (distinct i j [] ij (omega (arith, few, lt, h.count)))
+    where
+      by : (o : Ordering) → text_cmp (name_at D i) (name_at D j) ≡ o → get_or names i 0 ≡ get_or names j 0 → i < length D → j < length D → name_at D i ≢ name_at D j → ⊥
+      by Less f same a b ne = let l = (h.order i j a b).1 f in absurd (omega arith)
+      by Equal f same a b ne = ne (text_exact (name_at D i) (name_at D j) f)
+      by Greater f same a b ne = let l = (h.order j i b a).1 (text_total.antisymm (name_at D j) (name_at D i) ∙ ap ordering_reverse f) in absurd (omega arith)
+
+-- ---- the order of definitions
+
+-- definitions by depth and name
+abbrev definition_cmp : List Definition → Definition → Definition → Ordering
+definition_cmp D x y = place_cmp (definition_place D x) (definition_place D y)
+
+definition_total : (D : List Definition) → IsTotalOrder (definition_cmp D)
+definition_total D = on_total (definition_place D) place_total
+
+module _ (D : List Definition) (classes : List (List ℕ)) (depths : List (Option ℕ)) (names : List ℕ) (h : AreClassesOf D classes) (a : AreDepths classes depths) (some : All (λ o. IsSome o) depths) (n : AreNamesOf D names) (d : Definition) where
+  -- the depth that a class is ordered by is that of its definition
+  own_depth : (i : ℕ) → i < length D → unwrap_or (get_or depths i None) 0 ≡ depth D (name_at D i)
+  own_depth i lt = by (get_or depths i None) (a.answer i (omega (arith, lt, h.count))) (some i None (omega (arith, lt, h.count, a.count)))
+    where
+      by : (o : Option ℕ) → IsAnswer classes i o → IsSome o → unwrap_or o 0 ≡ depth D (name_at D i)
+      by None k s = absurd cc
+      by (Some e) k s = sym (same_depth D classes h i e (omega (arith, lt, h.count)) k)
+
+  own_name : (i : ℕ) → i < length D → name_at D i ≡ (get_or D i d).0
+  own_name i lt = get_or-map (λ (x : Definition). x.0) D i d [] lt
+
+  -- a class of a lesser place is a definition of a lesser place
+  lesser_place : (i j : ℕ) → i < length D → j < length D → class_cmp (class_place depths names i) (class_place depths names j) ≡ Less → definition_cmp D (get_or D i d) (get_or D j d) ≡ Less
+  lesser_place i j lt less e =
+      let m = own_name i lt in
+      let k = own_name j less in
+      let first : nat_cmp (unwrap_or (get_or depths i None) 0) (unwrap_or (get_or depths j None) 0) ≡ nat_cmp (depth D (get_or D i d).0) (depth D (get_or D j d).0) =
+      λ t. nat_cmp ((own_depth i lt ∙ ap (depth D) m) t) ((own_depth j less ∙ ap (depth D) k) t) in
+      let names_less : nat_cmp (get_or names i 0) (get_or names j 0) ≡ Less → text_cmp (get_or D i d).0 (get_or D j d).0 ≡ Less =
+      λ f. (λ t. text_cmp (sym m t) (sym k t)) ∙ (n.order i j lt less).0 (less_number (get_or names i 0) (get_or names j 0) f) in
+      less_along (nat_cmp (depth D (get_or D i d).0) (depth D (get_or D j d).0)) (nat_cmp (get_or names i 0) (get_or names j 0)) (text_cmp (get_or D i d).0 (get_or D j d).0) names_less
+      (ap (λ o. ordering_then o (nat_cmp (get_or names i 0) (get_or names j 0))) (sym first) ∙ e)
+
+  -- so the definitions in the order of the classes are the definitions in their order
+  pub same_order : (order : List ℕ) → AreDistinct (map (λ x. x.0) D) → IsPermutation (range_with_len 0 (length D)) order → rises class_cmp (map (class_place depths names) order) ≡ true → map (λ i. get_or D i d) order ≡ in_class_order D
+  same_order order distinct p r =
+      let below : (i : ℕ) → Contains order i → i < length D = λ i c. range_below (length D) i (Contains-permutation order (range_with_len 0 (length D)) i (IsPermutation-sym (range_with_len 0 (length D)) order p) c) in
+      let numbers : Rises class_cmp (map (class_place depths names) order) = Rises-from_rises class_cmp class_total (map (class_place depths names) order) r in
+      let one : Rises (definition_cmp D) (map (λ i. get_or D i d) order) = Rises-along class_cmp (definition_cmp D) (class_place depths names) (λ i. get_or D i d) order (λ i j c e. lesser_place i j (below i c) (below j e)) numbers in
+      let other : Rises (definition_cmp D) (in_class_order D) = Rises-mapped place_cmp (definition_place D) (in_class_order D) (class_places-rise D) in
+      let there : AreAmong (map (λ i. get_or D i d) order) (in_class_order D) = λ x c. let s = Contains-map_source (λ i. get_or D i d) order x c in
+      in_class_order-has D x distinct (subst (Contains D) s.2 (Contains-get_or D s.0 d (below s.0 s.1))) in
+      let back : AreAmong (in_class_order D) (map (λ i. get_or D i d) order) = λ x c. let s = in_class_order-only D x c in
+      let at : get_or D s.0 d ≡ x = get_or_default D s.0 d x s.1 ∙ s.2 in
+      let member : Contains order s.0 = Contains-permutation (range_with_len 0 (length D)) order s.0 p (let lt : s.0 < length D = s.1 in Contains-range 0 (length D) s.0 (omega arith) (omega arith)) in
+      subst (Contains (map (λ i. get_or D i d) order)) at (Contains-map (λ i. get_or D i d) order s.0 member) in
+      Rises-same (definition_cmp D) (definition_total D) (map (λ i. get_or D i d) order) (in_class_order D) one other there back

@@ -1,0 +1,40 @@
+-- Parts of a list that grows at its end.
+use Rattle.std.proofs.Common.{◌≡◌, ℕ, ◌-◌, ◌≤◌, List, [], ◌∷◌, ◌++◌, length, map, take, drop, refl, ap, ◌∙◌, arith, length-append, All}
+use Rattle.std.proofs.lemmas.List.{take_all, take-append-le, drop-append-le, map-append}
+use Rattle.std.proofs.lemmas.List.Elements.{All-head, All-tail}
+use Rattle.std.proofs.Math.Seq.{drop-append_seam}
+use Rattle.std.proofs.lemmas.List.{length-drop}
+use Rattle.dexorder.specs.declared.hierarchy.Span.{Span}
+use Rattle.dexorder.specs.Spans.{part, IsPart}
+
+-- a part of the list stays what it was
+part-append : (xs ys : List ℕ) (s : Span) → IsPart (length xs) s → part (xs ++ ys) s ≡ part xs s
+part-append xs ys s h =
+    let within : s.start ≤ length xs = omega (arith, h.0, h.1) in
+    let few : s.end - s.start ≤ length (drop s.start xs) = omega (arith, h.0, h.1, length-drop s.start xs) in
+    ap (take (s.end - s.start)) (drop-append-le s.start xs ys within) ∙ take-append-le (s.end - s.start) (drop s.start xs) ys few
+
+-- so do all parts
+parts-append : (xs ys : List ℕ) (ss : List Span) → All (IsPart (length xs)) ss → map (part (xs ++ ys)) ss ≡ map (part xs) ss
+parts-append xs ys [] h = refl
+parts-append xs ys (s ∷ ss) h =
+    let one = part-append xs ys s (All-head (IsPart (length xs)) s ss h) in
+    let rest = parts-append xs ys ss (All-tail (IsPart (length xs)) s ss h) in
+    λ i. one i ∷ rest i
+
+-- what is added is the part from the old end to the new one
+part-added : (xs ys : List ℕ) (s : Span) → s.start ≡ length xs → s.end ≡ length (xs ++ ys) → part (xs ++ ys) s ≡ ys
+part-added xs ys s e f =
+    ap (λ n. take (s.end - s.start) (drop n (xs ++ ys))) e ∙ ap (take (s.end - s.start)) (drop-append_seam xs ys) ∙ take_all (s.end - s.start) ys (omega (arith, e, f, length-append xs ys))
+
+-- one part more: what was added
+pub parts_pushed : (xs ys zs : List ℕ) (ss ts : List Span) (s : Span) → All (IsPart (length xs)) ss → zs ≡ xs ++ ys → ts ≡ ss ++ s ∷ [] → s.start ≡ length xs → s.end ≡ length zs → map (part zs) ts ≡ map (part xs) ss ++ ys ∷ []
+parts_pushed xs ys zs ss ts s h grown more e f =
+    let all : map (part zs) ts ≡ map (part (xs ++ ys)) (ss ++ s ∷ []) = λ i. map (part (grown i)) (more i) in
+    let old = parts-append xs ys ss h in
+    let new = part-added xs ys s e (f ∙ ap length grown) in
+    all ∙ map-append (part (xs ++ ys)) ss (s ∷ []) ∙ (λ i. old i ++ new i ∷ [])
+
+-- no part more
+pub parts_kept : (xs ys zs : List ℕ) (ss ts : List Span) → All (IsPart (length xs)) ss → zs ≡ xs ++ ys → ts ≡ ss → map (part zs) ts ≡ map (part xs) ss
+parts_kept xs ys zs ss ts h grown same = (λ i. map (part (grown i)) (same i)) ∙ parts-append xs ys ss h

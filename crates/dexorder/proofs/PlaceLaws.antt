@@ -1,0 +1,140 @@
+-- Places of classes that are put in order.
+use Rattle.std.proofs.Common.{◌≡◌, ◌≢◌, ℕ, suc, ◌<◌, Bool, true, false, eqb, List, [], ◌∷◌, length, map, get_or, Option, Ordering, Less, Equal, Greater, refl, sym, ap, ◌∙◌, subst, arith, inl, inr, All, add-one}
+use Rattle.std.specs.List.{IsDistinct, range_with_len}
+use Rattle.std.specs.List.Sorted.{IsPermutation, IsSorted}
+use Rattle.std.specs.Ordering.{nat_cmp, ordering_then, ordering_reverse, is_lt, MatchOrdering}
+use Rattle.std.specs.Cmp.{IsTotalOrder}
+use Rattle.std.proofs.lemmas.Cmp.{ranked, nat_cmp_total, on_total, then_total}
+use Rattle.std.proofs.lemmas.Bool.{cases_eq, ne_eqb, eqb-false}
+use Rattle.std.proofs.lemmas.List.{get_or-map}
+use Rattle.std.proofs.lemmas.List.FromFn.{get_or-map-range_with_len, length-map-range_with_len}
+use Rattle.std.proofs.lemmas.List.Elements.{All-head, All-tail, All-map}
+use Rattle.std.proofs.lemmas.List.Sorted.{IsPermutation-map, All-permutation}
+use Rattle.std.proofs.lemmas.Map.Keys.{IsDistinct-from_apart, IsDistinct-IsPermutation, apart_from_distinct}
+use Rattle.dexspec.specs.Lists.{AreDistinct, rises}
+use Rattle.dexspec.proofs.Members.{and_both}
+use Rattle.dexspec.proofs.SizeSums.{map-length}
+use Rattle.dexorder.specs.declared.order.Place.{Place}
+use Rattle.dexorder.specs.Places.{class_place, class_cmp, place_of}
+
+-- ---- orders
+
+-- a list rises where each member is less than the next
+rises_adjacent : {K : Type 0} (R : K → K → Ordering) (xs : List K) → ((k : ℕ) (d : K) → suc k < length xs → R (get_or xs k d) (get_or xs (suc k) d) ≡ Less) → rises R xs ≡ true
+rises_adjacent R [] h = refl
+rises_adjacent R (x ∷ []) h = refl
+rises_adjacent R (x ∷ y ∷ ys) h =
+    and_both (is_lt (R x y)) (rises R (y ∷ ys)) (ap is_lt (h 0 x (omega arith))) (rises_adjacent R (y ∷ ys) (λ k d lt. h (suc k) d (omega arith)))
+
+pub class_total : IsTotalOrder class_cmp
+class_total = then_total (on_total (λ (p : ℕ × ℕ). p.0) nat_cmp_total) (on_total (λ (p : ℕ × ℕ). p.1) nat_cmp_total)
+
+-- unlike numbers do not tie
+unlike : (m n : ℕ) → m ≢ n → nat_cmp m n ≢ Equal
+unlike m n ne e = ne (subst (λ o. MatchOrdering o (m < n) (m ≡ n) (n < m)) e (ranked m n (nat_cmp m n) refl))
+
+-- where the second decides, no third is asked
+third_unasked : (a b c : Ordering) → b ≢ Equal → ordering_then a (ordering_then b c) ≡ ordering_then a b
+third_unasked Less b c h = refl
+third_unasked Greater b c h = refl
+third_unasked Equal Less c h = refl
+third_unasked Equal Greater c h = refl
+third_unasked Equal Equal c h = absurd (h refl)
+
+-- what ties together ties by the second
+tied_second : (a b : Ordering) → ordering_then a b ≡ Equal → b ≡ Equal
+tied_second Less b e = absurd cc
+tied_second Equal b e = e
+tied_second Greater b e = absurd cc
+
+-- what is not less, and does not tie, is greater
+greater : (o : Ordering) → is_lt o ≡ false → o ≢ Equal → o ≡ Greater
+greater Less e h = absurd cc
+greater Equal e h = absurd (h refl)
+greater Greater e h = refl
+
+-- ---- places
+
+-- the depth and the name
+pair : Place → ℕ × ℕ
+pair p = (p.depth, p.name)
+
+-- by depth, by name, and by number
+abbrev place_cmp : Place → Place → Ordering
+place_cmp x y = ordering_then (nat_cmp x.depth y.depth) (ordering_then (nat_cmp x.name y.name) (nat_cmp x.class y.class))
+
+-- of two places of unlike names, the one that is not greater is less
+pair_less : (x y : Place) → x.name ≢ y.name → is_lt (place_cmp y x) ≡ false → class_cmp (pair x) (pair y) ≡ Less
+unfolding pair
+pair_less x y ne e =
+    let apart : nat_cmp y.name x.name ≢ Equal = unlike y.name x.name (λ same. ne (sym same)) in
+    let by_two = third_unasked (nat_cmp y.depth x.depth) (nat_cmp y.name x.name) (nat_cmp y.class x.class) apart in
+    let more : class_cmp (pair y) (pair x) ≡ Greater = greater (class_cmp (pair y) (pair x)) (ap is_lt (sym by_two) ∙ e) (λ tie. apart (tied_second (nat_cmp y.depth x.depth) (nat_cmp y.name x.name) tie)) in
+    class_total.antisymm (pair x) (pair y) ∙ ap ordering_reverse more
+
+-- the test of two names
+same_name : Place → Place → Bool
+same_name x y = eqb x.name y.name
+
+flips : (x y : Place) → same_name x y ≡ same_name y x
+unfolding same_name
+flips x y = elim (cases_eq x.name y.name) [
+  | inl e ↦ ap (λ n. eqb n y.name) e ∙ ap (eqb y.name) (sym e)
+  | inr ne ↦ ne_eqb x.name y.name ne ∙ sym (ne_eqb y.name x.name (λ e. ne (sym e)))
+]
+
+module _ (depths : List (Option ℕ)) (names : List ℕ) where
+  -- the place is that of its class
+  abbrev IsPlace : Place → Type 0
+  IsPlace p = p ≡ place_of depths names p.class
+
+  classes_back : (ks : List ℕ) → map (λ (p : Place). p.class) (map (place_of depths names) ks) ≡ ks
+  classes_back [] = refl
+  classes_back (k ∷ ks) = ap (λ ms. k ∷ ms) (classes_back ks)
+
+  are_places : (ks : List ℕ) → All IsPlace (map (place_of depths names) ks)
+  are_places ks = All-map IsPlace (place_of depths names) ks (λ k d lt. refl)
+
+  -- so the pairs are those of the classes
+  pairs_of : (ys : List Place) → All IsPlace ys → map (class_place depths names) (map (λ (p : Place). p.class) ys) ≡ map pair ys
+  unfolding pair
+  pairs_of [] h = refl
+  pairs_of (y ∷ ys) h =
+      let one : class_place depths names y.class ≡ pair y = ap pair (sym (All-head IsPlace y ys h)) in
+      let rest = pairs_of ys (All-tail IsPlace y ys h) in
+      λ i. one i ∷ rest i
+
+  -- all places, in some order
+  pub classes_permuted : (n : ℕ) (xs ys : List Place) → xs ≡ map (place_of depths names) (range_with_len 0 n) → IsPermutation xs ys → IsPermutation (range_with_len 0 n) (map (λ (p : Place). p.class) ys)
+  classes_permuted n xs ys e h =
+      let all : map (λ (p : Place). p.class) xs ≡ range_with_len 0 n = ap (map (λ (p : Place). p.class)) e ∙ classes_back (range_with_len 0 n) in
+      subst (λ ks. IsPermutation ks (map (λ (p : Place). p.class) ys)) all (IsPermutation-map (λ (p : Place). p.class) xs ys h)
+
+  -- the names of places are distinct
+  names_apart : (n : ℕ) → length names ≡ n → AreDistinct names → IsDistinct same_name (map (place_of depths names) (range_with_len 0 n))
+  unfolding same_name
+  names_apart n len distinct =
+      IsDistinct-from_apart same_name (map (place_of depths names) (range_with_len 0 n)) (λ i j d ij lt.
+      let less : j < n = omega (arith, lt, length-map-range_with_len (place_of depths names) 0 n) in
+      let one = get_or-map-range_with_len (place_of depths names) 0 n i i d (omega arith) (omega arith) in
+      let other = get_or-map-range_with_len (place_of depths names) 0 n j j d less (omega arith) in
+      let apart : eqb (get_or names i 0) (get_or names j 0) ≡ false = ne_eqb (get_or names i 0) (get_or names j 0) (distinct i j 0 ij (omega (arith, less, len))) in
+      (λ k. same_name (one k) (other k)) ∙ apart)
+
+  -- in order they rise
+  pub classes_rise : (n : ℕ) (xs ys : List Place) → length names ≡ n → AreDistinct names → xs ≡ map (place_of depths names) (range_with_len 0 n) → IsPermutation xs ys → IsSorted place_cmp ys → rises class_cmp (map (class_place depths names) (map (λ (p : Place). p.class) ys)) ≡ true
+  unfolding same_name
+  classes_rise n xs ys len distinct e h sorted =
+      let start : IsDistinct same_name xs = subst (IsDistinct same_name) (sym e) (names_apart n len distinct) in
+      let apart : IsDistinct same_name ys = IsDistinct-IsPermutation same_name flips xs ys h start in
+      let places : All IsPlace ys = All-permutation IsPlace xs ys h (subst (All IsPlace) (sym e) (are_places (range_with_len 0 n))) in
+      let none : Place = record { depth = 0; name = 0; class = 0 } in
+      let next_rises : (k : ℕ) (d : ℕ × ℕ) → suc k < length (map pair ys) → class_cmp (get_or (map pair ys) k d) (get_or (map pair ys) (suc k) d) ≡ Less =
+      λ k d lt.
+      let less : suc k < length ys = omega (arith, lt, map-length pair ys) in
+      let one = get_or-map pair ys k none d (omega arith) in
+      let other = get_or-map pair ys (suc k) none d less in
+      let ne : (get_or ys k none).name ≢ (get_or ys (suc k) none).name = eqb-false (get_or ys k none).name (get_or ys (suc k) none).name (apart_from_distinct same_name ys k (suc k) none apart (omega arith) less) in
+      let behind : is_lt (place_cmp (get_or ys (suc k) none) (get_or ys k none)) ≡ false = subst (λ j. is_lt (place_cmp (get_or ys j none) (get_or ys k none)) ≡ false) (add-one k) (sorted k none (omega arith) (omega arith)) in
+      (λ i. class_cmp (one i) (other i)) ∙ pair_less (get_or ys k none) (get_or ys (suc k) none) ne behind in
+      ap (rises class_cmp) (pairs_of ys places) ∙ rises_adjacent class_cmp (map pair ys) next_rises

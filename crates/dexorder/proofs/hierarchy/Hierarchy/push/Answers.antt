@@ -1,0 +1,14 @@
+use Rattle.std.proofs.Common.{◌∙◌, arith}
+use Rattle.std.proofs.lemmas.Result.{err_from_is_err_and}
+use Rattle.dexorder.proofs.Parts.{parts_kept, parts_pushed}
+use Rattle.dexorder.proofs.hierarchy.Hierarchy.push.Goals as goal
+
+pub returns-in_err-push-clause-err : goal.returns-in_err-push-clause-err
+returns-in_err-push-clause-err c =
+    let p = err_from_is_err_and c.from_residual-in_err-push.result c.from_residual-in_err-push.ensures.1 in
+    let kept = parts_kept c.self.inside.parents.items c.args.parents.now c.extend_from_slice.new.self.items c.self.inside.spans.items c.push.new.self.items c.self.invariant c.in_ok-extend_from_slice.ensures.items c.in_err-push.ensures.items in
+    rw p.1 (kept ∙ c.self.view_is)
+
+pub returns-clause-added : goal.returns-clause-added
+returns-clause-added c =
+    rw (← c.self.view_is) (parts_pushed c.self.inside.parents.items c.args.parents.now c.extend_from_slice.new.self.items c.self.inside.spans.items c.push.new.self.items _ c.self.invariant c.in_ok-extend_from_slice.ensures.items c.in_ok-push.ensures.items (omega arith) (omega arith))

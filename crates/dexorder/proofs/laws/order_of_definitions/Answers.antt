@@ -1,0 +1,13 @@
+use Rattle.std.proofs.Common.{subst}
+use Rattle.std.specs.List.{range_with_len}
+use Rattle.std.specs.List.Sorted.{IsPermutation}
+use Rattle.dexorder.proofs.DefinitionOrder.{names_distinct, same_order}
+use Rattle.dexorder.proofs.laws.order_of_definitions.Goals as goal
+
+pub returns-clause-names : goal.returns-clause-names
+returns-clause-names c = λ D names h. names_distinct D names h
+
+pub returns-clause-order : goal.returns-clause-order
+returns-clause-order c =
+    λ D classes depths names order h a some n distinct p r e.
+    same_order D classes depths names h a some n e order distinct (subst (λ k. IsPermutation (range_with_len 0 k) order) n.count p) r

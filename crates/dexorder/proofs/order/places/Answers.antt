@@ -1,0 +1,10 @@
+use Rattle.std.proofs.Common.{arith}
+use Rattle.std.proofs.lemmas.List.FromFn.{map-range_with_len_more}
+use Rattle.std.proofs.lemmas.Grind.{common_steps}
+use Rattle.dexorder.specs.Places.{place_of}
+use Rattle.dexorder.proofs.order.places.Goals as goal
+
+pub loop-class-preserved : goal.loop-class-preserved
+loop-class-preserved c =
+    let more = map-range_with_len_more (place_of c.args.depths.now c.args.names.now) 0 c.loop-class.class c.loop-class.class (omega arith) in
+    grind (arith, common_steps)

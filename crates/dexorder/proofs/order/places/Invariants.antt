@@ -1,0 +1,7 @@
+use Rattle.std.proofs.Common.{◌≡◌, map}
+use Rattle.std.specs.List.{range_with_len}
+use Rattle.dexorder.specs.Places.{place_of}
+use Rattle.dexorder.proofs.order.places.Given as goal
+
+abbrev pub invariant-loop-class : goal.invariant-loop-class
+invariant-loop-class l = l.places.items ≡ map (place_of l.depths l.names) (range_with_len 0 l.class)

@@ -1,0 +1,38 @@
+-- The depths of numbered classes.
+-- Source: "Dalvik Executable format", "class_defs": a superclass and interfaces stand before the class. Depths are
+-- a word of this project.
+use Rattle.std.specs.Prelude.{◌≡◌, ℕ, zero, suc, ◌<◌, Bool, true, false, List, [], length, All, Option, None, Some, slice_index_or}
+use Rattle.std.specs.List.{list_all}
+
+-- the parents of class i
+abbrev pub parents_of : List (List ℕ) → ℕ → List ℕ
+parents_of classes i = slice_index_or classes i []
+
+-- each parent is the number of a class
+abbrev pub AreWithin : List (List ℕ) → Type 0
+AreWithin classes = All (λ parents. All (λ p. p < length classes) parents) classes
+
+-- Its depth is less than n: that of a class without parents is 0, and that of another one more than the greatest
+-- depth among its parents, where each of these has one.
+abbrev pub is_under : List (List ℕ) → ℕ → ℕ → Bool
+is_under classes zero i = false
+is_under classes (suc n) i = list_all (is_under classes n) (parents_of classes i)
+
+-- d is the depth of class i
+pub record IsDepth (classes : List (List ℕ)) (i d : ℕ) : Type 0 where
+  pub under : is_under classes (suc d) i ≡ true
+  pub not_under : is_under classes d i ≡ false
+
+-- class i has no depth: it is above itself, or below a class that is
+abbrev pub HasNone : List (List ℕ) → ℕ → Type 0
+HasNone classes i = (n : ℕ) → is_under classes n i ≡ false
+
+-- the depth of class i where it has one, else none
+abbrev pub IsAnswer : List (List ℕ) → ℕ → Option ℕ → Type 0
+IsAnswer classes i None = HasNone classes i
+IsAnswer classes i (Some d) = IsDepth classes i d
+
+-- one answer for each class
+pub record AreDepths (classes : List (List ℕ)) (answers : List (Option ℕ)) : Type 0 where
+  pub count : length answers ≡ length classes
+  pub answer : (i : ℕ) → i < length classes → IsAnswer classes i (slice_index_or answers i None)

@@ -1,0 +1,5 @@
+pub mod Definitions
+pub mod Depths
+pub mod Places
+pub mod Searching
+pub mod Spans

@@ -1,0 +1,89 @@
+//! Classes, each with its parents.
+
+ghost use Rattle.std.specs.Prelude.{◌≡◌, ◌<◌, ◌↔◌, IsTrue, List, [], ◌∷◌, ◌++◌, length, slice_index_or, IfOk, OnOk, OnErr};
+
+use std::alloc::{AllocError, Global};
+use std::marker::Model;
+
+/// The part of a list from `start` to `end`, without the element at `end`.
+#[derive(Clone, Copy)]
+struct Span {
+    start: usize,
+    end: usize,
+}
+
+/// Classes, numbered from 0 on, each with the numbers of its parents: of its superclass and interfaces, those that
+/// are defined. Contracts see a list of lists: at the place of a class its parents.
+///
+/// A class may have a parent twice, and may be its own parent.
+///
+/// Source: "class_def_item", `superclass_idx` and `interfaces_off`.
+#[derive(Drop)]
+pub struct Hierarchy {
+    spans: Vec<Span>,
+    // The parents of all classes, one class after the other.
+    parents: Vec<usize>,
+}
+
+impl Model for Hierarchy {
+    ghost use Rattle.std.specs.Prelude.{ℕ, List, All, map, length};
+    ghost use Rattle.dexorder.specs.Spans.{part, IsPart};
+
+    ghost Value = { List (List ℕ) };
+
+    ghost view = { λ h. map (part h.parents.items) h.spans.items };
+
+    ghost invariant = { λ h. All (IsPart (length h.parents.items)) h.spans.items };
+}
+
+impl Hierarchy {
+    /// No class. No memory is taken.
+    pub fn new(alloc: Global) -> Hierarchy
+        ensures { result ≡ [] }
+    {
+        Hierarchy {
+            spans: Vec::new(alloc),
+            parents: Vec::new(alloc),
+        }
+    }
+
+    /// The number of classes. No memory is taken.
+    pub fn len(&self) -> usize
+        ensures { result ≡ length self.now }
+    {
+        self.spans.len()
+    }
+
+    /// Whether there is no class. No memory is taken.
+    pub fn is_empty(&self) -> bool
+        ensures { IsTrue result ↔ (self.now ≡ []) }
+    {
+        self.spans.is_empty()
+    }
+
+    /// The parents of a class. No memory is taken.
+    ///
+    /// Condition: `class` is below the number of classes.
+    pub fn parents(&self, class: usize) -> &[usize]
+        requires { class < length self.now }
+        ensures { result.now ≡ slice_index_or self.now class [] }
+    {
+        let Span { start, end } = self.spans[class];
+        &self.parents[start..end]
+    }
+
+    /// Adds a class with these parents, which may be numbers of classes that are still to be added. Its number is
+    /// the number of classes before it.
+    ///
+    /// Error: the memory for it was refused. The classes are then those from before.
+    pub fn push(&mut self, parents: &[usize]) -> Result<(), AllocError>
+        ensures added { OnOk result (self.new ≡ self.old ++ parents.now ∷ []) }
+        ensures err { OnErr result (self.new ≡ self.old) }
+    {
+        let start = self.parents.len();
+        self.parents.extend_from_slice(parents)?;
+        let end = self.parents.len();
+        self.spans.push(Span { start, end })?;
+        Ok(())
+    }
+}

@@ -1,0 +1,19 @@
+//! The depths of classes below their defined superclasses and interfaces, and the order of the classes of a
+//! file: by depth, and then by name. Classes and names are numbers here.
+//!
+//! Source: the Android page "Dalvik Executable format", under the heading "class_defs": a superclass and
+//! interfaces stand before the class. By depth and then by name is this project's rule.
+#![tactic(auto)]
+
+mod depths;
+mod hierarchy;
+mod laws;
+mod order;
+#[cfg(test)]
+mod tests;
+
+pub use hierarchy::Hierarchy;
+pub use laws::{
+    classes_of_definitions, depths_of_classes, depths_of_definitions, order_of_definitions,
+};
+pub use order::class_order;

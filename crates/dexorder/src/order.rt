@@ -1,0 +1,69 @@
+//! The order of classes: by depth, and then by name.
+
+ghost use Rattle.std.specs.Prelude.{◌≡◌, length, map, true, IfOk};
+ghost use Rattle.std.specs.List.{range_with_len};
+ghost use Rattle.std.specs.List.Sorted.{IsPermutation};
+ghost use Rattle.dexspec.specs.Lists.{AreDistinct, rises};
+ghost use Rattle.dexorder.specs.Places.{class_place, class_cmp, place_of};
+
+use std::alloc::{AllocError, Global};
+
+/// A class with what orders it.
+#[derive(Clone, Copy, PartialEq, Eq, PartialOrd, Ord)]
+struct Place {
+    depth: usize,
+    name: usize,
+    class: usize,
+}
+
+/// The place of each class before they are put in order.
+fn places(
+    alloc: Global,
+    depths: &[Option<usize>],
+    names: &[usize],
+) -> Result<Vec<Place>, AllocError>
+    requires { length depths.now ≡ length names.now }
+    ensures { IfOk result (λ places. places.items ≡ map (place_of depths.now names.now) (range_with_len 0 (length names.now))) }
+{
+    let mut places = Vec::with_capacity(alloc, names.len())?;
+    for class in 0..names.len() {
+        places.push(Place {
+            depth: depths[class].unwrap_or(0),
+            name: names[class],
+            class,
+        })?;
+    }
+    Ok(places)
+}
+
+/// The classes of the places.
+fn classes(alloc: Global, places: &[Place]) -> Result<Vec<usize>, AllocError>
+    ensures { IfOk result (λ classes. classes.items ≡ map (λ place. place.class) places.now) }
+{
+    places.iter().map(|place| place.class).collect(alloc)
+}
+
+/// The classes in their order: by depth, and then by name. A class without a depth counts as one of depth 0.
+///
+/// `depths` has the depth of each class and `names` the number of its name, where a number is less if the name is.
+/// The answer has the number of each class once.
+///
+/// Conditions: as many names as depths, no two of them the same.
+///
+/// Error: the memory for it was refused.
+///
+/// Source: "class_defs", a superclass and interfaces stand before the class.
+pub fn class_order(
+    alloc: Global,
+    depths: &[Option<usize>],
+    names: &[usize],
+) -> Result<Vec<usize>, AllocError>
+    requires count { length depths.now ≡ length names.now }
+    requires names { AreDistinct names.now }
+    ensures classes { IfOk result (λ order. IsPermutation (range_with_len 0 (length names.now)) order.items) }
+    ensures rises { IfOk result (λ order. rises class_cmp (map (class_place depths.now names.now) order.items) ≡ true) }
+{
+    let mut places = places(alloc, depths, names)?;
+    places.sort_unstable();
+    classes(alloc, &places)
+}

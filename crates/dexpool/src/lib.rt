@@ -41,6 +41,7 @@ pub use dexrows::{FieldRow, MethodRow, ProtoRow, Row, TypeRow};
 pub use faults::{ItemFault, ReadFault};
 pub use marks::Marks;
 pub use numbering::Numbering;
+pub use parameters::type_list_len;
 pub use pools::Pools;
 pub use remap::Remap;
 pub use symbols::{FieldSymbol, MethodSymbol, ProtoSymbol, Symbol, SymbolKind};

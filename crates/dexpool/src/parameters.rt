@@ -9,8 +9,11 @@ use crate::names::Names;
 use dexhead::{Frame, u16_at, u32_at};
 use std::alloc::AllocError;
 
-// The number of indices of the type_list at an offset, if there is room for it in the data.
-fn count_at(frame: &Frame<'_>, off: u32) -> Option<u32>
+/// The number of indices of the type_list at an offset, or `None` where the offset is no multiple of 4 or the
+/// list is not wholly in the data. No memory is taken.
+///
+/// Source: "type_list".
+pub fn type_list_len(frame: &Frame<'_>, off: u32) -> Option<u32>
     ensures { MatchOption result ((n : ℕ) → HasRoom frame.now off n → ⊥) (HasRoom frame.now off) }
 {
     if off % 4 != 0 || !frame.is_in_data(off, 4) {
@@ -69,7 +72,7 @@ pub(crate) fn push_parameters(
     if off == 0 {
         return Ok(true);
     }
-    match count_at(names.frame, off) {
+    match type_list_len(names.frame, off) {
         Some(count) => push_list(names, off, count, parameters),
         None => Ok(false),
     }

@@ -3,7 +3,7 @@ use Rattle.std.proofs.lemmas.Bool.{false≢true}
 use Rattle.dexspec.specs.Bytes.{uint_at}
 use Rattle.dexspec.specs.Sections.{IsInData}
 use Rattle.dexpool.proofs.Bytes.{uint_at_rest}
-use Rattle.dexpool.proofs.parameters.count_at.Goals as goal
+use Rattle.dexpool.proofs.parameters.type_list_len.Goals as goal
 
 count_is : (b rest : List ℕ) (off n : ℕ) → n ≡ uint_at rest 0 → rest ≡ drop off b → n ≡ uint_at b off
 count_is b rest off n e is = e ∙ uint_at_rest b rest off 0 off is (omega arith)

@@ -1,0 +1,17 @@
+pub mod Indices
+pub mod Interfaces
+pub mod Judged
+pub mod Listed
+pub mod PlainClasses
+pub mod Marked
+pub mod Renumbered
+pub mod KeptMembers
+pub mod Mentioned
+pub mod LedOn
+pub mod Places
+pub mod Classed
+pub mod NamesOf
+pub mod Arranged
+pub mod Ordered
+pub mod Unmarked
+pub mod Trimmed

@@ -1,0 +1,5 @@
+pub mod Rows
+pub mod Numbered
+pub mod Marking
+pub mod Renumbering
+pub mod Parents

@@ -1,0 +1,17 @@
+//! Class definitions of a file, and programs: sets of class definitions.
+//!
+//! Source: the Android page "Dalvik Executable format", under the headings "class_def_item" and "type_list".
+#![tactic(auto)]
+
+mod arranging;
+mod class_rows;
+mod class_types;
+mod classes;
+mod judging;
+mod marking;
+mod ordering;
+mod parents;
+mod renumbering;
+mod trimming;
+
+pub use classes::Class;

@@ -37,20 +37,21 @@ Same xs ys = AreAmong xs ys × AreAmong ys xs
 
 -- more marks keep what was kept, and what stands at their numbers
 pub kept_too : {X : Type 0} (marks : List Bool) (ns : List ℕ) (xs : List X) (d : X) → length marks ≡ length xs → ((n : ℕ) → Contains ns n → n < length xs) → Same (kept (mark_all marks ns) xs) (kept marks xs ++ map (λ n. get_or xs n d) ns)
-kept_too marks ns xs d count within =
-    (λ x c.
-        let k = kept_from (mark_all marks ns) xs x c in
-        elim (mark_from marks ns k.at k.marked) [
-          | inl old ↦ Contains-append_left (kept marks xs) (map (λ n. get_or xs n d) ns) x (subst (Contains (kept marks xs)) (k.is d) (kept_has marks xs k.at d old k.within))
-          | inr new ↦ Contains-append_right (kept marks xs) (map (λ n. get_or xs n d) ns) x (subst (Contains (map (λ n. get_or xs n d) ns)) (k.is d) (Contains-map (λ n. get_or xs n d) ns k.at new))
-        ],
-      λ x c. elim (Contains-append_cases (kept marks xs) (map (λ n. get_or xs n d) ns) x c) [
-        | inl old ↦ let k = kept_from marks xs x old in
-            subst (Contains (kept (mark_all marks ns) xs)) (k.is d) (kept_has (mark_all marks ns) xs k.at d (mark_stays marks ns k.at k.marked) k.within)
-        | inr new ↦ let s = Contains-map_source (λ n. get_or xs n d) ns x new in
-            let lt = within s.0 s.1 in
-            subst (Contains (kept (mark_all marks ns) xs)) s.2 (kept_has (mark_all marks ns) xs s.0 d (mark_comes marks ns s.0 (omega (arith, count, lt)) s.1) lt)
-      ])
+kept_too marks ns xs d count within = (
+  λ x c.
+      let k = kept_from (mark_all marks ns) xs x c in
+      elim (mark_from marks ns k.at k.marked) [
+        | inl old ↦ Contains-append_left (kept marks xs) (map (λ n. get_or xs n d) ns) x (subst (Contains (kept marks xs)) (k.is d) (kept_has marks xs k.at d old k.within))
+        | inr new ↦ Contains-append_right (kept marks xs) (map (λ n. get_or xs n d) ns) x (subst (Contains (map (λ n. get_or xs n d) ns)) (k.is d) (Contains-map (λ n. get_or xs n d) ns k.at new))
+      ],
+  λ x c. elim (Contains-append_cases (kept marks xs) (map (λ n. get_or xs n d) ns) x c) [
+    | inl old ↦ let k = kept_from marks xs x old in
+        subst (Contains (kept (mark_all marks ns) xs)) (k.is d) (kept_has (mark_all marks ns) xs k.at d (mark_stays marks ns k.at k.marked) k.within)
+    | inr new ↦ let s = Contains-map_source (λ n. get_or xs n d) ns x new in
+        let lt = within s.0 s.1 in
+        subst (Contains (kept (mark_all marks ns) xs)) s.2 (kept_has (mark_all marks ns) xs s.0 d (mark_comes marks ns s.0 (omega (arith, count, lt)) s.1) lt)
+  ],
+)
 
 -- the same, of marks that are those
 pub kept_grown : {X : Type 0} (more marks : List Bool) (ns : List ℕ) (xs ys : List X) (d : X) → length marks ≡ length xs → ((n : ℕ) → Contains ns n → n < length xs) → more ≡ mark_all marks ns → map (λ n. get_or xs n d) ns ≡ ys → Same (kept more xs) (kept marks xs ++ ys)
@@ -160,16 +161,18 @@ module _ (texts types : List Text) (protos : List Proto) (fields : List Field) (
   -- ---- what they mention, kind by kind
 
   methods_same : Same methods (flat_map methods_in all_symbols)
-  methods_same =
-      (λ x c. Contains-flat_map methods_in all_symbols (MethodSymbol x) x (has_method x c) (Contains-first x []),
-        λ x c. let z = Contains-flat_map_source methods_in all_symbols x c in
-        each_symbol (λ s. Contains (methods_in s) x → Contains methods x) (λ y _ d. absurd (Contains-nil x d)) (λ y _ d. absurd (Contains-nil x d)) (λ y _ d. absurd (Contains-nil x d)) (λ y _ d. absurd (Contains-nil x d)) (λ y h d. subst (Contains methods) (only y x d) h) z.0 z.1 z.2)
+  methods_same = (
+    λ x c. Contains-flat_map methods_in all_symbols (MethodSymbol x) x (has_method x c) (Contains-first x []),
+    λ x c. let z = Contains-flat_map_source methods_in all_symbols x c in
+        each_symbol (λ s. Contains (methods_in s) x → Contains methods x) (λ y _ d. absurd (Contains-nil x d)) (λ y _ d. absurd (Contains-nil x d)) (λ y _ d. absurd (Contains-nil x d)) (λ y _ d. absurd (Contains-nil x d)) (λ y h d. subst (Contains methods) (only y x d) h) z.0 z.1 z.2,
+  )
 
   fields_same : Same fields (flat_map fields_in all_symbols)
-  fields_same =
-      (λ x c. Contains-flat_map fields_in all_symbols (FieldSymbol x) x (has_field x c) (Contains-first x []),
-        λ x c. let z = Contains-flat_map_source fields_in all_symbols x c in
-        each_symbol (λ s. Contains (fields_in s) x → Contains fields x) (λ y _ d. absurd (Contains-nil x d)) (λ y _ d. absurd (Contains-nil x d)) (λ y _ d. absurd (Contains-nil x d)) (λ y h d. subst (Contains fields) (only y x d) h) (λ y _ d. absurd (Contains-nil x d)) z.0 z.1 z.2)
+  fields_same = (
+    λ x c. Contains-flat_map fields_in all_symbols (FieldSymbol x) x (has_field x c) (Contains-first x []),
+    λ x c. let z = Contains-flat_map_source fields_in all_symbols x c in
+        each_symbol (λ s. Contains (fields_in s) x → Contains fields x) (λ y _ d. absurd (Contains-nil x d)) (λ y _ d. absurd (Contains-nil x d)) (λ y _ d. absurd (Contains-nil x d)) (λ y h d. subst (Contains fields) (only y x d) h) (λ y _ d. absurd (Contains-nil x d)) z.0 z.1 z.2,
+  )
 
   module _ (protos_kept : List Proto) (are_protos : Same protos_kept (protos ++ map (λ (x : Method). x.proto) methods)) where
     proto_kept : (p : Proto) → Contains protos p → Contains protos_kept p
@@ -179,15 +182,16 @@ module _ (texts types : List Text) (protos : List Proto) (fields : List Field) (
     method_proto_kept x c = are_protos.1 x.proto (Contains-append_right protos (map (λ (y : Method). y.proto) methods) x.proto (Contains-map (λ (y : Method). y.proto) methods x c))
 
     protos_same : Same protos_kept (flat_map protos_in all_symbols)
-    protos_same =
-        (λ p c. elim (Contains-append_cases protos (map (λ (x : Method). x.proto) methods) p (are_protos.0 p c)) [
-            | inl here ↦ Contains-flat_map protos_in all_symbols (ProtoSymbol p) p (has_proto p here) (Contains-first p [])
-            | inr there ↦ let z = Contains-map_source (λ (x : Method). x.proto) methods p there in
-                Contains-flat_map protos_in all_symbols (MethodSymbol z.0) p (has_method z.0 z.1) (0, omega arith, z.2)
-          ],
-          λ p c. let z = Contains-flat_map_source protos_in all_symbols p c in
+    protos_same = (
+      λ p c. elim (Contains-append_cases protos (map (λ (x : Method). x.proto) methods) p (are_protos.0 p c)) [
+        | inl here ↦ Contains-flat_map protos_in all_symbols (ProtoSymbol p) p (has_proto p here) (Contains-first p [])
+        | inr there ↦ let z = Contains-map_source (λ (x : Method). x.proto) methods p there in
+            Contains-flat_map protos_in all_symbols (MethodSymbol z.0) p (has_method z.0 z.1) (0, omega arith, z.2)
+      ],
+      λ p c. let z = Contains-flat_map_source protos_in all_symbols p c in
           each_symbol (λ s. Contains (protos_in s) p → Contains protos_kept p) (λ y _ d. absurd (Contains-nil p d)) (λ y _ d. absurd (Contains-nil p d)) (λ y h d. subst (Contains protos_kept) (only y p d) (proto_kept y h)) (λ y _ d. absurd (Contains-nil p d))
-          (λ y h d. subst (Contains protos_kept) (only y.proto p d) (method_proto_kept y h)) z.0 z.1 z.2)
+          (λ y h d. subst (Contains protos_kept) (only y.proto p d) (method_proto_kept y h)) z.0 z.1 z.2,
+    )
 
     abbrev named_types : List Text
     named_types = (map (λ (x : Method). x.class) methods ++ flat_map (λ (f : Field). f.class ∷ f.type ∷ []) fields) ++ flat_map proto_types protos_kept
@@ -202,12 +206,12 @@ module _ (texts types : List Text) (protos : List Proto) (fields : List Field) (
       class_kept : (y : Method) → Contains methods y → Contains types_kept y.class
       class_kept y c =
           type_named y.class (Contains-append_left (map (λ (x : Method). x.class) methods ++ flat_map (λ (f : Field). f.class ∷ f.type ∷ []) fields) (flat_map proto_types protos_kept) y.class
-            (Contains-append_left (map (λ (x : Method). x.class) methods) (flat_map (λ (f : Field). f.class ∷ f.type ∷ []) fields) y.class (Contains-map (λ (x : Method). x.class) methods y c)))
+          (Contains-append_left (map (λ (x : Method). x.class) methods) (flat_map (λ (f : Field). f.class ∷ f.type ∷ []) fields) y.class (Contains-map (λ (x : Method). x.class) methods y c)))
 
       field_type_kept : (f : Field) (x : Text) → Contains fields f → Contains (f.class ∷ f.type ∷ []) x → Contains types_kept x
       field_type_kept f x c d =
           type_named x (Contains-append_left (map (λ (y : Method). y.class) methods ++ flat_map (λ (g : Field). g.class ∷ g.type ∷ []) fields) (flat_map proto_types protos_kept) x
-            (Contains-append_right (map (λ (y : Method). y.class) methods) (flat_map (λ (g : Field). g.class ∷ g.type ∷ []) fields) x (Contains-flat_map (λ (g : Field). g.class ∷ g.type ∷ []) fields f x c d)))
+          (Contains-append_right (map (λ (y : Method). y.class) methods) (flat_map (λ (g : Field). g.class ∷ g.type ∷ []) fields) x (Contains-flat_map (λ (g : Field). g.class ∷ g.type ∷ []) fields f x c d)))
 
       proto_type_kept : (p : Proto) (x : Text) → Contains protos_kept p → Contains (proto_types p) x → Contains types_kept x
       proto_type_kept p x c d =
@@ -225,22 +229,23 @@ module _ (texts types : List Text) (protos : List Proto) (fields : List Field) (
           ]) s c
 
       types_same : Same types_kept (flat_map types_in all_symbols)
-      types_same =
-          (λ x c. elim (Contains-append_cases types named_types x (are_types.0 x c)) [
-              | inl here ↦ Contains-flat_map types_in all_symbols (TypeSymbol x) x (has_type x here) (Contains-first x [])
-              | inr c ↦ elim (Contains-append_cases (map (λ (y : Method). y.class) methods ++ flat_map (λ (g : Field). g.class ∷ g.type ∷ []) fields) (flat_map proto_types protos_kept) x c) [
-                | inl c ↦ elim (Contains-append_cases (map (λ (y : Method). y.class) methods) (flat_map (λ (g : Field). g.class ∷ g.type ∷ []) fields) x c) [
-                  | inl c ↦ let z = Contains-map_source (λ (y : Method). y.class) methods x c in
-                      Contains-flat_map types_in all_symbols (MethodSymbol z.0) x (has_method z.0 z.1) (0, omega arith, z.2)
-                  | inr c ↦ let z = Contains-flat_map_source (λ (g : Field). g.class ∷ g.type ∷ []) fields x c in
-                      Contains-flat_map types_in all_symbols (FieldSymbol z.0) x (has_field z.0 z.1) z.2
-                ]
-                | inr c ↦ let z = Contains-flat_map_source proto_types protos_kept x c in
-                    let s = Contains-flat_map_source protos_in all_symbols z.0 (protos_same.0 z.0 z.1) in
-                    Contains-flat_map types_in all_symbols s.0 x s.1 (proto_types_among s.0 z.0 s.2 x z.2)
-              ]
-            ],
-            λ x c. let z = Contains-flat_map_source types_in all_symbols x c in types_of z.0 z.1 x z.2)
+      types_same = (
+        λ x c. elim (Contains-append_cases types named_types x (are_types.0 x c)) [
+          | inl here ↦ Contains-flat_map types_in all_symbols (TypeSymbol x) x (has_type x here) (Contains-first x [])
+          | inr c ↦ elim (Contains-append_cases (map (λ (y : Method). y.class) methods ++ flat_map (λ (g : Field). g.class ∷ g.type ∷ []) fields) (flat_map proto_types protos_kept) x c) [
+            | inl c ↦ elim (Contains-append_cases (map (λ (y : Method). y.class) methods) (flat_map (λ (g : Field). g.class ∷ g.type ∷ []) fields) x c) [
+              | inl c ↦ let z = Contains-map_source (λ (y : Method). y.class) methods x c in
+                  Contains-flat_map types_in all_symbols (MethodSymbol z.0) x (has_method z.0 z.1) (0, omega arith, z.2)
+              | inr c ↦ let z = Contains-flat_map_source (λ (g : Field). g.class ∷ g.type ∷ []) fields x c in
+                  Contains-flat_map types_in all_symbols (FieldSymbol z.0) x (has_field z.0 z.1) z.2
+            ]
+            | inr c ↦ let z = Contains-flat_map_source proto_types protos_kept x c in
+                let s = Contains-flat_map_source protos_in all_symbols z.0 (protos_same.0 z.0 z.1) in
+                Contains-flat_map types_in all_symbols s.0 x s.1 (proto_types_among s.0 z.0 s.2 x z.2)
+          ]
+        ],
+        λ x c. let z = Contains-flat_map_source types_in all_symbols x c in types_of z.0 z.1 x z.2,
+      )
 
       abbrev named_texts : List Text
       named_texts = ((map (λ (x : Method). x.name) methods ++ map (λ (f : Field). f.name) fields) ++ map (λ (p : Proto). shorty p.return_type p.parameters) protos_kept) ++ types_kept
@@ -258,7 +263,7 @@ module _ (texts types : List Text) (protos : List Proto) (fields : List Field) (
         shorty_text : (p : Proto) → Contains protos_kept p → Contains texts_kept (shorty p.return_type p.parameters)
         shorty_text p c =
             other_text (shorty p.return_type p.parameters) (Contains-append_right (map (λ (y : Method). y.name) methods ++ map (λ (f : Field). f.name) fields) (map (λ (q : Proto). shorty q.return_type q.parameters) protos_kept) (shorty p.return_type p.parameters)
-              (Contains-map (λ (q : Proto). shorty q.return_type q.parameters) protos_kept p c))
+            (Contains-map (λ (q : Proto). shorty q.return_type q.parameters) protos_kept p c))
 
         name_text : (x : Text) → Contains (map (λ (y : Method). y.name) methods ++ map (λ (f : Field). f.name) fields) x → Contains texts_kept x
         name_text x c = other_text x (Contains-append_left (map (λ (y : Method). y.name) methods ++ map (λ (f : Field). f.name) fields) (map (λ (q : Proto). shorty q.return_type q.parameters) protos_kept) x c)
@@ -291,26 +296,27 @@ module _ (texts types : List Text) (protos : List Proto) (fields : List Field) (
             ]) s c
 
         texts_same : Same texts_kept (flat_map texts_in all_symbols)
-        texts_same =
-            (λ x c. elim (Contains-append_cases texts named_texts x (are_texts.0 x c)) [
-                | inl here ↦ Contains-flat_map texts_in all_symbols (TextSymbol x) x (has_text x here) (Contains-first x [])
-                | inr c ↦ elim (Contains-append_cases ((map (λ (y : Method). y.name) methods ++ map (λ (f : Field). f.name) fields) ++ map (λ (p : Proto). shorty p.return_type p.parameters) protos_kept) types_kept x c) [
-                  | inl c ↦ elim (Contains-append_cases (map (λ (y : Method). y.name) methods ++ map (λ (f : Field). f.name) fields) (map (λ (p : Proto). shorty p.return_type p.parameters) protos_kept) x c) [
-                    | inl c ↦ elim (Contains-append_cases (map (λ (y : Method). y.name) methods) (map (λ (f : Field). f.name) fields) x c) [
-                      | inl c ↦ let z = Contains-map_source (λ (y : Method). y.name) methods x c in
-                          Contains-flat_map texts_in all_symbols (MethodSymbol z.0) x (has_method z.0 z.1) (1, omega arith, z.2)
-                      | inr c ↦ let z = Contains-map_source (λ (f : Field). f.name) fields x c in
-                          Contains-flat_map texts_in all_symbols (FieldSymbol z.0) x (has_field z.0 z.1) (1, omega arith, z.2)
-                    ]
-                    | inr c ↦ let z = Contains-map_source (λ (p : Proto). shorty p.return_type p.parameters) protos_kept x c in
-                        let s = Contains-flat_map_source protos_in all_symbols z.0 (protos_same.0 z.0 z.1) in
-                        Contains-flat_map texts_in all_symbols s.0 x s.1 (subst (Contains (texts_in s.0)) z.2 (shorty_among_texts s.0 z.0 s.2))
-                  ]
-                  | inr c ↦ let s = Contains-flat_map_source types_in all_symbols x (types_same.0 x c) in
-                      Contains-flat_map texts_in all_symbols s.0 x s.1 (types_among_texts s.0 x s.2)
+        texts_same = (
+          λ x c. elim (Contains-append_cases texts named_texts x (are_texts.0 x c)) [
+            | inl here ↦ Contains-flat_map texts_in all_symbols (TextSymbol x) x (has_text x here) (Contains-first x [])
+            | inr c ↦ elim (Contains-append_cases ((map (λ (y : Method). y.name) methods ++ map (λ (f : Field). f.name) fields) ++ map (λ (p : Proto). shorty p.return_type p.parameters) protos_kept) types_kept x c) [
+              | inl c ↦ elim (Contains-append_cases (map (λ (y : Method). y.name) methods ++ map (λ (f : Field). f.name) fields) (map (λ (p : Proto). shorty p.return_type p.parameters) protos_kept) x c) [
+                | inl c ↦ elim (Contains-append_cases (map (λ (y : Method). y.name) methods) (map (λ (f : Field). f.name) fields) x c) [
+                  | inl c ↦ let z = Contains-map_source (λ (y : Method). y.name) methods x c in
+                      Contains-flat_map texts_in all_symbols (MethodSymbol z.0) x (has_method z.0 z.1) (1, omega arith, z.2)
+                  | inr c ↦ let z = Contains-map_source (λ (f : Field). f.name) fields x c in
+                      Contains-flat_map texts_in all_symbols (FieldSymbol z.0) x (has_field z.0 z.1) (1, omega arith, z.2)
                 ]
-              ],
-              λ x c. let z = Contains-flat_map_source texts_in all_symbols x c in texts_of z.0 z.1 x z.2)
+                | inr c ↦ let z = Contains-map_source (λ (p : Proto). shorty p.return_type p.parameters) protos_kept x c in
+                    let s = Contains-flat_map_source protos_in all_symbols z.0 (protos_same.0 z.0 z.1) in
+                    Contains-flat_map texts_in all_symbols s.0 x s.1 (subst (Contains (texts_in s.0)) z.2 (shorty_among_texts s.0 z.0 s.2))
+              ]
+              | inr c ↦ let s = Contains-flat_map_source types_in all_symbols x (types_same.0 x c) in
+                  Contains-flat_map texts_in all_symbols s.0 x s.1 (types_among_texts s.0 x s.2)
+            ]
+          ],
+          λ x c. let z = Contains-flat_map_source texts_in all_symbols x c in texts_of z.0 z.1 x z.2,
+        )
 
         -- where the kept lists rise, they are what the symbols mention
         pub mentioned : Rises text_cmp texts_kept → Rises text_cmp types_kept → Rises proto_cmp protos_kept → Rises field_cmp fields → Rises method_cmp methods

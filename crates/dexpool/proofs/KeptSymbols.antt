@@ -88,8 +88,8 @@ module _ (t : Tables) (ok : AreTables t) (marks : Marks) (count : AreMarksOf (sy
       let of_entry = proto_of t.strings.items t.types.items t.parameters.items in
       kept_grown c.protos.items marks.protos.items proto_numbers (symbols_in t).protos (map (λ (x : Method). x.proto) (kept marks.methods.items (symbols_in t).methods)) none count.protos_count proto_within is.protos_are
       (named (λ (m : MethodRow). m.proto) (λ n. get_or (symbols_in t).protos n none) of_row (λ (x : Method). x.proto) methods
-        (All-weaker (IsMethodRow t) (λ (m : MethodRow). get_or (symbols_in t).protos m.proto none ≡ (of_row m).proto) (λ m k. get_or-map of_entry t.protos.items m.proto _ none k.proto_in) methods are_methods)
-        ∙ ap (map (λ (x : Method). x.proto)) (sym (kept-map of_row marks.methods.items t.methods.items)))
+      (All-weaker (IsMethodRow t) (λ (m : MethodRow). get_or (symbols_in t).protos m.proto none ≡ (of_row m).proto) (λ m k. get_or-map of_entry t.protos.items m.proto _ none k.proto_in) methods are_methods)
+      ∙ ap (map (λ (x : Method). x.proto)) (sym (kept-map of_row marks.methods.items t.methods.items)))
 
   -- ---- types
 
@@ -153,9 +153,9 @@ module _ (t : Tables) (ok : AreTables t) (marks : Marks) (count : AreMarksOf (sy
       let entries : map at entry_numbers ≡ flat_map proto_types (kept c.protos.items (symbols_in t).protos) =
       named_flat (entry_types t.parameters.items) at of_entry proto_types protos
       (All-weaker (IsProtoEntry t) (λ (p : ProtoEntry). map at (entry_types t.parameters.items p) ≡ proto_types (of_entry p))
-        (λ p k. let span = span_of t.parameters.items p.parameters in
-          let parameters = map_agree at (type_of t.strings.items t.types.items) span (All-weaker (IsTypeOf IsValueType t) (λ n. at n ≡ type_of t.strings.items t.types.items n) (λ n j. type_is n j.type_in) span k.parameters_in) in
-          λ i. type_is p.return_type k.return_in i ∷ parameters i) protos are_entries)
+      (λ p k. let span = span_of t.parameters.items p.parameters in
+      let parameters = map_agree at (type_of t.strings.items t.types.items) span (All-weaker (IsTypeOf IsValueType t) (λ n. at n ≡ type_of t.strings.items t.types.items n) (λ n j. type_is n j.type_in) span k.parameters_in) in
+      λ i. type_is p.return_type k.return_in i ∷ parameters i) protos are_entries)
       ∙ ap (flat_map proto_types) (sym (kept-map of_entry c.protos.items t.protos.items)) in
       map-append at (class_numbers ++ field_numbers) entry_numbers ∙ ap (λ l. l ++ map at entry_numbers) (map-append at class_numbers field_numbers) ∙ (λ i. (classes i ++ members i) ++ entries i)
 
@@ -178,8 +178,8 @@ module _ (t : Tables) (ok : AreTables t) (marks : Marks) (count : AreMarksOf (sy
   texts_marked =
       is.strings_are
       ∙ sym (mark_all-append marks.strings.items (name_numbers ++ shorty_numbers) types
-        ∙ ap (λ l. mark_all l types) (mark_all-append marks.strings.items name_numbers shorty_numbers
-          ∙ ap (λ l. mark_all l shorty_numbers) (mark_all-append marks.strings.items (map (λ (m : MethodRow). m.name) methods) (map (λ (f : FieldRow). f.name) fields))))
+      ∙ ap (λ l. mark_all l types) (mark_all-append marks.strings.items name_numbers shorty_numbers
+      ∙ ap (λ l. mark_all l shorty_numbers) (mark_all-append marks.strings.items (map (λ (m : MethodRow). m.name) methods) (map (λ (f : FieldRow). f.name) fields))))
 
   text_within : (n : ℕ) → Contains text_numbers n → n < length t.strings.items
   text_within n d = elim (Contains-append_cases (name_numbers ++ shorty_numbers) types n d) [

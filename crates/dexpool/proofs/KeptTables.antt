@@ -126,8 +126,8 @@ module _ (t : Tables) (ok : AreTables t) (marks : Marks) (count : AreMarksOf (sy
       let ns = new_numbers marks.strings.items in
       let rows = kept marks.types.items t.types.items in
       subst (All (IsTypeNumber cut)) (sym is.types_are) (All-map (IsTypeNumber cut) (slice_index ns) rows
-        (all_both (IsMarked marks.strings.items) (IsTypeNumber t) (λ n. IsTypeNumber cut (slice_index ns n)) rows closed.types_closed (kept_all (IsTypeNumber t) marks.types.items t.types.items ok.types_stand)
-          (λ n m k. record { text_in = text_within n m; descriptor = subst IsDescriptor (sym (text_moved n m)) k.descriptor })))
+      (all_both (IsMarked marks.strings.items) (IsTypeNumber t) (λ n. IsTypeNumber cut (slice_index ns n)) rows closed.types_closed (kept_all (IsTypeNumber t) marks.types.items t.types.items ok.types_stand)
+      (λ n m k. record { text_in = text_within n m; descriptor = subst IsDescriptor (sym (text_moved n m)) k.descriptor })))
 
   cut_types_in : All (λ n. n < length cut.strings.items) cut.types.items
   cut_types_in = All-weaker (IsTypeNumber cut) (λ n. n < length cut.strings.items) (λ n k. k.text_in) cut.types.items cut_types_stand
@@ -153,7 +153,7 @@ module _ (t : Tables) (ok : AreTables t) (marks : Marks) (count : AreMarksOf (sy
       ∙ ap (map of_row) is.protos_are
       ∙ mapped_twice (moved_proto ns nt ps) of_row of_t rows
       (All-weaker (HasMarkedEntry t marks) (λ p. of_row (moved_proto ns nt ps p) ≡ of_t p)
-        (λ p m. λ i. record { return_type = type_moved p.return_type m.return_marked i; parameters = all_moved (span_of ps p.parameters) m.parameters_marked i }) rows closed.protos_closed)
+      (λ p m. λ i. record { return_type = type_moved p.return_type m.return_marked i; parameters = all_moved (span_of ps p.parameters) m.parameters_marked i }) rows closed.protos_closed)
       ∙ sym (kept-map of_t marks.protos.items t.protos.items)
 
   protos_counted : length cut.protos.items ≡ length (kept marks.protos.items (symbols_in t).protos)
@@ -180,15 +180,15 @@ module _ (t : Tables) (ok : AreTables t) (marks : Marks) (count : AreMarksOf (sy
       let ps = t.parameters.items in
       let rows = kept marks.protos.items t.protos.items in
       all_seen (numbers_of cut.parameters.items) (IsRow cut) cut.protos.items (subst (All (IsRow cut)) (sym is.protos_are) (All-map (IsRow cut) (moved_proto ns nt ps) rows
-        (all_both (HasMarkedEntry t marks) (IsProtoEntry t) (λ p. IsRow cut (moved_proto ns nt ps p)) rows closed.protos_closed (kept_all (IsProtoEntry t) marks.protos.items t.protos.items ok.protos_stand)
-          (λ p m k. record {
-            return_in = type_within p.return_type m.return_marked;
-            parameters_in = All-map (IsTypeOf IsValueType cut) (slice_index nt) (span_of ps p.parameters)
-              (all_both (IsMarked marks.types.items) (IsTypeOf IsValueType t) (λ n. IsTypeOf IsValueType cut (slice_index nt n)) (span_of ps p.parameters) m.parameters_marked k.parameters_in (is_type_of IsValueType));
-            shorty_in = text_within p.shorty m.shorty_marked;
-            shorty_is = text_moved p.shorty m.shorty_marked ∙ k.shorty_is
-              ∙ sym (λ i. shorty (type_moved p.return_type m.return_marked i) (all_moved (span_of ps p.parameters) m.parameters_marked i));
-          }))))
+      (all_both (HasMarkedEntry t marks) (IsProtoEntry t) (λ p. IsRow cut (moved_proto ns nt ps p)) rows closed.protos_closed (kept_all (IsProtoEntry t) marks.protos.items t.protos.items ok.protos_stand)
+      (λ p m k. record {
+        return_in = type_within p.return_type m.return_marked;
+        parameters_in = All-map (IsTypeOf IsValueType cut) (slice_index nt) (span_of ps p.parameters)
+            (all_both (IsMarked marks.types.items) (IsTypeOf IsValueType t) (λ n. IsTypeOf IsValueType cut (slice_index nt n)) (span_of ps p.parameters) m.parameters_marked k.parameters_in (is_type_of IsValueType));
+        shorty_in = text_within p.shorty m.shorty_marked;
+        shorty_is = text_moved p.shorty m.shorty_marked ∙ k.shorty_is
+            ∙ sym (λ i. shorty (type_moved p.return_type m.return_marked i) (all_moved (span_of ps p.parameters) m.parameters_marked i));
+      }))))
 
   cut_protos_stand : All (IsProtoEntry cut) cut.protos.items
   cut_protos_stand =
@@ -215,7 +215,7 @@ module _ (t : Tables) (ok : AreTables t) (marks : Marks) (count : AreMarksOf (sy
       ap (map of_cut) is.fields_are
       ∙ mapped_twice (moved_field ns nt) of_cut of_t rows
       (All-weaker (HasMarkedField marks) (λ f. of_cut (moved_field ns nt f) ≡ of_t f)
-        (λ f m. λ i. record { class = type_moved f.class m.class_marked i; name = text_moved f.name m.name_marked i; type = type_moved f.typ m.type_marked i }) rows closed.fields_closed)
+      (λ f m. λ i. record { class = type_moved f.class m.class_marked i; name = text_moved f.name m.name_marked i; type = type_moved f.typ m.type_marked i }) rows closed.fields_closed)
       ∙ sym (kept-map of_t marks.fields.items t.fields.items)
 
   cut_fields_stand : All (IsFieldRow cut) cut.fields.items
@@ -224,13 +224,13 @@ module _ (t : Tables) (ok : AreTables t) (marks : Marks) (count : AreMarksOf (sy
       let nt = new_numbers marks.types.items in
       let rows = kept marks.fields.items t.fields.items in
       subst (All (IsFieldRow cut)) (sym is.fields_are) (All-map (IsFieldRow cut) (moved_field ns nt) rows
-        (all_both (HasMarkedField marks) (IsFieldRow t) (λ f. IsFieldRow cut (moved_field ns nt f)) rows closed.fields_closed (kept_all (IsFieldRow t) marks.fields.items t.fields.items ok.fields_stand)
-          (λ f m k. record {
-            class_is = is_type_of names.IsClass f.class m.class_marked k.class_is;
-            name_in = text_within f.name m.name_marked;
-            name_is = subst names.IsMemberName (sym (text_moved f.name m.name_marked)) k.name_is;
-            type_is = is_type_of IsValueType f.typ m.type_marked k.type_is;
-          })))
+      (all_both (HasMarkedField marks) (IsFieldRow t) (λ f. IsFieldRow cut (moved_field ns nt f)) rows closed.fields_closed (kept_all (IsFieldRow t) marks.fields.items t.fields.items ok.fields_stand)
+      (λ f m k. record {
+        class_is = is_type_of names.IsClass f.class m.class_marked k.class_is;
+        name_in = text_within f.name m.name_marked;
+        name_is = subst names.IsMemberName (sym (text_moved f.name m.name_marked)) k.name_is;
+        type_is = is_type_of IsValueType f.typ m.type_marked k.type_is;
+      })))
 
   cut_fields_rise : rises field_cmp cut.fields.items ≡ true
   cut_fields_rise =
@@ -251,7 +251,7 @@ module _ (t : Tables) (ok : AreTables t) (marks : Marks) (count : AreMarksOf (sy
       ap (map of_cut) is.methods_are
       ∙ mapped_twice (moved_method ns nt np) of_cut of_t rows
       (All-weaker (HasMarkedMethod marks) (λ x. of_cut (moved_method ns nt np x) ≡ of_t x)
-        (λ x m. λ i. record { class = type_moved x.class m.class_marked i; name = text_moved x.name m.name_marked i; proto = proto_moved x.proto m.proto_marked i }) rows closed.methods_closed)
+      (λ x m. λ i. record { class = type_moved x.class m.class_marked i; name = text_moved x.name m.name_marked i; proto = proto_moved x.proto m.proto_marked i }) rows closed.methods_closed)
       ∙ sym (kept-map of_t marks.methods.items t.methods.items)
 
   cut_methods_stand : All (IsMethodRow cut) cut.methods.items
@@ -261,13 +261,13 @@ module _ (t : Tables) (ok : AreTables t) (marks : Marks) (count : AreMarksOf (sy
       let np = new_numbers marks.protos.items in
       let rows = kept marks.methods.items t.methods.items in
       subst (All (IsMethodRow cut)) (sym is.methods_are) (All-map (IsMethodRow cut) (moved_method ns nt np) rows
-        (all_both (HasMarkedMethod marks) (IsMethodRow t) (λ x. IsMethodRow cut (moved_method ns nt np x)) rows closed.methods_closed (kept_all (IsMethodRow t) marks.methods.items t.methods.items ok.methods_stand)
-          (λ x m k. record {
-            class_is = is_type_of names.IsReferenceType x.class m.class_marked k.class_is;
-            name_in = text_within x.name m.name_marked;
-            name_is = subst names.IsMemberName (sym (text_moved x.name m.name_marked)) k.name_is;
-            proto_in = proto_within x.proto m.proto_marked;
-          })))
+      (all_both (HasMarkedMethod marks) (IsMethodRow t) (λ x. IsMethodRow cut (moved_method ns nt np x)) rows closed.methods_closed (kept_all (IsMethodRow t) marks.methods.items t.methods.items ok.methods_stand)
+      (λ x m k. record {
+        class_is = is_type_of names.IsReferenceType x.class m.class_marked k.class_is;
+        name_in = text_within x.name m.name_marked;
+        name_is = subst names.IsMemberName (sym (text_moved x.name m.name_marked)) k.name_is;
+        proto_in = proto_within x.proto m.proto_marked;
+      })))
 
   cut_methods_rise : rises method_cmp cut.methods.items ≡ true
   cut_methods_rise =

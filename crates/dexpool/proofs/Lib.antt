@@ -27,3 +27,4 @@ pub mod Moved
 pub mod JoinedLevels
 pub mod StoredProtos
 pub mod JoinedTables
+pub mod UnionLaws

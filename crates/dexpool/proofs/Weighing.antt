@@ -36,5 +36,10 @@ tables_weight t h =
     let stand = proto_of t.strings.items t.types.items t.parameters.items in
     let protos : sum_by proto_weight (map stand t.protos.items) ≡ sum_by weighs t.protos.items =
     sum_by-mapped proto_weight stand weighs t.protos.items (All-weaker (IsProtoEntry t) (λ p. proto_weight (stand p) ≡ weighs p) (λ p e. entry_weight t.strings.items t.types.items t.parameters.items p e.span) t.protos.items h.protos_stand) in
-    omega (arith, protos, length-map t.types.items (text_of t.strings.items), length-map t.fields.items (field_of t.strings.items t.types.items),
-      length-map t.methods.items (method_of t.strings.items t.types.items t.parameters.items t.protos.items))
+    omega (
+      arith,
+      protos,
+      length-map t.types.items (text_of t.strings.items),
+      length-map t.fields.items (field_of t.strings.items t.types.items),
+      length-map t.methods.items (method_of t.strings.items t.types.items t.parameters.items t.protos.items),
+    )

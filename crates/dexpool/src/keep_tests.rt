@@ -98,7 +98,13 @@ fn a_method_keeps_what_it_names(rt: HostRuntime) {
         panic!(rt; "no memory")
     };
     assert!(rt; counts(&kept) == [3, 2, 1, 0, 1]);
-    assert!(rt; leads(&remap, SymbolKind::Text, &[None, Some(0), Some(1), None, Some(2)]));
+    assert!(rt;
+        leads(
+            &remap,
+            SymbolKind::Text,
+            &[None, Some(0), Some(1), None, Some(2)]
+        )
+    );
     assert!(rt; leads(&remap, SymbolKind::Typ, &[None, Some(0), Some(1)]));
     assert!(rt; leads(&remap, SymbolKind::Proto, &[Some(0), None]));
     assert!(rt; leads(&remap, SymbolKind::Field, &[None, None]));

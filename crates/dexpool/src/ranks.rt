@@ -111,7 +111,10 @@ impl<'a> Numbering<'a> {
         ensures { result ≡ rank text_cmp text.now self.now.texts }
     {
         self.is_numbering();
-        count_less(self.count(SymbolKind::Text), |i| self.compare_string(i, text))
+        count_less(
+            self.count(SymbolKind::Text),
+            |i| self.compare_string(i, text),
+        )
     }
 
     /// The number of lesser types, for a type by its descriptor. No memory is taken.
@@ -119,7 +122,10 @@ impl<'a> Numbering<'a> {
         ensures { result ≡ rank text_cmp descriptor.now self.now.types }
     {
         self.is_numbering();
-        count_less(self.count(SymbolKind::Typ), |i| self.compare_type(i, descriptor))
+        count_less(
+            self.count(SymbolKind::Typ),
+            |i| self.compare_type(i, descriptor),
+        )
     }
 
     /// The number of lesser protos. No memory is taken.
@@ -127,7 +133,10 @@ impl<'a> Numbering<'a> {
         ensures { result ≡ rank proto_cmp proto.now self.now.protos }
     {
         self.is_numbering();
-        count_less(self.count(SymbolKind::Proto), |i| self.compare_proto(i, proto))
+        count_less(
+            self.count(SymbolKind::Proto),
+            |i| self.compare_proto(i, proto),
+        )
     }
 
     /// The number of lesser fields. No memory is taken.
@@ -135,7 +144,10 @@ impl<'a> Numbering<'a> {
         ensures { result ≡ rank field_cmp field.now self.now.fields }
     {
         self.is_numbering();
-        count_less(self.count(SymbolKind::Field), |i| self.compare_field(i, field))
+        count_less(
+            self.count(SymbolKind::Field),
+            |i| self.compare_field(i, field),
+        )
     }
 
     /// The number of lesser methods. No memory is taken.
@@ -143,6 +155,9 @@ impl<'a> Numbering<'a> {
         ensures { result ≡ rank method_cmp method.now self.now.methods }
     {
         self.is_numbering();
-        count_less(self.count(SymbolKind::Method), |i| self.compare_method(i, method))
+        count_less(
+            self.count(SymbolKind::Method),
+            |i| self.compare_method(i, method),
+        )
     }
 }

@@ -9,7 +9,7 @@ use Rattle.dexspec.specs.Lists.{rises, OrNone}
 use Rattle.dexspec.specs.Texts.{Text, text_cmp}
 use Rattle.dexspec.specs.Names.{IsValueType}
 use Rattle.dexspec.specs.Bytes.{uint_at}
-use Rattle.dexspec.specs.Header.{ProtoIds, TypeIds}
+use Rattle.dexspec.specs.Header.{ProtoIds}
 use Rattle.dexspec.specs.Rows.{key_cmp, row_at, Follows, TypeListAt, type_row_key, proto_row_key, field_row_key, method_row_key, HasType, HasProto, HasField, HasMethod}
 use Rattle.dexspec.proofs.Members.{and_both}
 use Rattle.dexspec.proofs.OneRow.{one_string}
@@ -17,8 +17,8 @@ use Rattle.dexrows.specs.declared.fields.FieldRow.{FieldRow}
 use Rattle.dexrows.specs.declared.methods.MethodRow.{MethodRow}
 use Rattle.dexpool.specs.declared.rows.ProtoEntry.{ProtoEntry}
 use Rattle.dexpool.specs.declared.tables.Tables.{Tables}
-use Rattle.dexpool.specs.Tables.{text_of, type_of, span_of, proto_key, field_key, method_key}
-use Rattle.dexpool.specs.Reading.{ReadTo, AreTexts, AreNames, AreProtos, AreFields, AreMethods, TypeStands, ProtoStands, FieldStands, MethodStands, listed}
+use Rattle.dexpool.specs.Tables.{type_of, span_of, proto_key, field_key, method_key}
+use Rattle.dexpool.specs.Reading.{ReadTo, AreTexts, AreNames, AreProtos, TypeStands, ProtoStands, FieldStands, MethodStands, listed}
 use Rattle.dexpool.specs.Stored.{IsTypeNumber, IsTypeOf, IsProtoEntry, IsFieldRow, IsMethodRow, AreTables}
 use Rattle.dexpool.proofs.AllPools.{AreRead}
 use Rattle.dexpool.proofs.Steps.{text_row, type_key_is}

@@ -1,5 +1,5 @@
 -- The numbers of a row are those of its symbol's parts.
-use Rattle.std.proofs.Common.{◌≡◌, ℕ, ◌<◌, List, [], ◌∷◌, length, get_or, refl, sym, ap, ◌∙◌, subst, arith}
+use Rattle.std.proofs.Common.{◌≡◌, ℕ, ◌<◌, List, [], ◌∷◌, length, get_or, sym, ap, ◌∙◌, subst, arith}
 use Rattle.std.specs.Prelude.{map, All}
 use Rattle.std.specs.List.{AllZip}
 use Rattle.std.proofs.lemmas.List.{get_or-map, get_or_default, length-map}
@@ -12,7 +12,6 @@ use Rattle.dexpool.specs.declared.tables.Tables.{Tables}
 use Rattle.dexpool.specs.Tables.{text_of, type_of, span_of, proto_of}
 use Rattle.dexpool.specs.Stored.{symbols_in, IsTypeOf, IsProtoEntry, AreTables}
 use Rattle.dexpool.specs.Numberings.{IsAt, StandsForProto}
-use Rattle.dexpool.proofs.TablesStand.{types_in}
 
 module _ (t : Tables) (h : AreTables t) where
   pub text_at : (n : ℕ) → n < length t.strings.items → IsAt t.strings.items n (text_of t.strings.items n)

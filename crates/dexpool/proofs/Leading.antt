@@ -10,11 +10,7 @@ use Rattle.dexspec.specs.Lists.{rises}
 use Rattle.dexspec.proofs.InOrder.{Rises-from_rises, Rises-places, irreflexive, asymmetric}
 use Rattle.dexpool.specs.Numberings.{IsAt, Leads, image}
 use Rattle.dexpool.specs.Joining.{Moves}
-
--- any member of a list that has one
-some : {X : Type 0} (xs : List X) (i : ℕ) → i < length xs → X
-some [] i lt = absurd (omega arith)
-some (x ∷ xs) i lt = x
+use Rattle.dexpool.proofs.Unions.{some}
 
 one_value : (x y : ℕ) → Some x ≡ Some y → x ≡ y
 one_value x y e = cc

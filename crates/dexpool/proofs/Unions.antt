@@ -21,7 +21,7 @@ use Rattle.dexpool.proofs.NumberOrder.{rises-map}
 use Rattle.dexpool.proofs.Pairs.{zip_source, zip_target, zip_along}
 
 -- any member of a list that has one
-some : {X : Type 0} (xs : List X) (i : ℕ) → i < length xs → X
+pub some : {X : Type 0} (xs : List X) (i : ℕ) → i < length xs → X
 some [] i lt = absurd (omega arith)
 some (x ∷ xs) i lt = x
 

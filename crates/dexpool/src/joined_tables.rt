@@ -70,6 +70,7 @@ pub(crate) fn join_tables<'a>(
     Ok((tables, remaps))
 }
 
+// The texts of all parts.
 fn join_strings<'a>(alloc: Global, parts: &[&Numbering<'a>]) -> Result<Joined<Text<'a>>, AllocError>
     ensures numberings { IfOk result (λ _. All IsNumbering (map (λ part. part.now) parts.now)) }
     ensures texts { IfOk result (λ texts. AreJoinedTexts (map (λ part. part.now) parts.now) texts.rows.items (map (λ image. image.items) texts.images.items)) }
@@ -81,6 +82,7 @@ fn join_strings<'a>(alloc: Global, parts: &[&Numbering<'a>]) -> Result<Joined<Te
     join(alloc, &rows)
 }
 
+// The types of all parts, by the joined texts.
 fn join_types<'a>(
     alloc: Global,
     parts: &[&Numbering<'a>],
@@ -101,6 +103,7 @@ fn join_types<'a>(
     })
 }
 
+// The protos of all parts, by the joined texts and types.
 fn join_protos<'a>(
     alloc: Global,
     parts: &[&Numbering<'a>],
@@ -141,6 +144,7 @@ fn rows_of_tables(alloc: Global, tables: &[Protos]) -> Result<Vec<Vec<ProtoRow<'
     Ok(rows)
 }
 
+// The fields of all parts, by the joined texts and types.
 fn join_fields<'a>(
     alloc: Global,
     parts: &[&Numbering<'a>],
@@ -164,6 +168,7 @@ fn join_fields<'a>(
     join_rows(alloc, &rows)
 }
 
+// The methods of all parts, by the joined texts, types and protos.
 fn join_methods<'a>(
     alloc: Global,
     parts: &[&Numbering<'a>],

@@ -9,5 +9,4 @@ pub mod Ranking
 pub mod Renumbering
 pub mod Closing
 pub mod Owned
-pub mod Renumbering
 pub mod Joining

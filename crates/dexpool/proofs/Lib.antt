@@ -20,3 +20,5 @@ pub mod Moved
 pub mod JoinedLevels
 pub mod StoredProtos
 pub mod JoinedTables
+pub mod UnionLaws
+pub mod LeadingAll

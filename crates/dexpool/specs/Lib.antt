@@ -8,3 +8,4 @@ pub mod Stored
 pub mod Owned
 pub mod Renumbering
 pub mod Joining
+pub mod Laws

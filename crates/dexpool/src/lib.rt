@@ -13,6 +13,7 @@ mod joined_tables;
 mod joining;
 mod keeping;
 mod kinds;
+mod laws;
 mod marks;
 mod methods;
 mod names;
@@ -33,6 +34,7 @@ mod types;
 
 pub use dexrows::{FieldRow, MethodRow, ProtoRow, Row, TypeRow};
 pub use faults::{ItemFault, ReadFault};
+pub use laws::{mentions_law, number_law, union_law};
 pub use marks::Marks;
 pub use numbering::Numbering;
 pub use pools::Pools;

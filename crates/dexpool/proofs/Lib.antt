@@ -28,3 +28,4 @@ pub mod JoinedLevels
 pub mod StoredProtos
 pub mod JoinedTables
 pub mod UnionLaws
+pub mod LeadingAll

@@ -1,76 +1,114 @@
--- Laws of numberings that the crates above need: ranks, and what a union has.
-use Rattle.std.proofs.Common.{◌≡◌, ℕ, ◌<◌, ◌≤◌, true, List, [], ◌∷◌, ◌++◌, length, get_or, sym, ap, ◌∙◌, arith, inl, inr, Ordering, sum_by}
+-- Ranks and counts in a union, numbers as ranks, and the union of what several lists of definitions mention.
+use Rattle.std.proofs.Common.{◌≡◌, ◌≤◌, true, List, length, map, sym, subst, arith, sum_by, Ordering}
 use Rattle.std.specs.List.{Contains, flat_map}
 use Rattle.std.specs.Cmp.{IsTotalOrder}
 use Rattle.std.specs.FinMap.{IsAntisymmetric}
-use Rattle.std.proofs.lemmas.List.Elements.{Contains-append_left, Contains-append_right, Contains-append_cases}
-use Rattle.std.proofs.lemmas.List.Concat.{flat_map-append, length-flat_map}
-use Rattle.dexspec.specs.Lists.{rises, in_order, rank}
+use Rattle.std.proofs.lemmas.List.Concat.{length-flat_map}
+use Rattle.dexspec.specs.Lists.{rises, in_order}
 use Rattle.dexspec.specs.Texts.{text_cmp}
 use Rattle.dexspec.specs.Symbols.{Symbol, proto_cmp, field_cmp, method_cmp}
 use Rattle.dexspec.specs.Classes.{Definition}
-use Rattle.dexspec.specs.Mentions.{Mentions, mentions, symbols_of, texts_in, types_in, protos_in, fields_in, methods_in}
-use Rattle.dexspec.proofs.Members.{AreAmong, Contains-nil, Contains-flat_map, length-among}
-use Rattle.dexspec.proofs.InOrder.{Rises-from_rises, Rises-in_order, AreDistinct-from_Rises, rank-get_or, rank-among, in_order-has, in_order-only, in_order-same}
+use Rattle.dexspec.specs.Mentions.{Mentions, mentions, texts_in, types_in, protos_in, fields_in, methods_in}
+use Rattle.dexspec.proofs.Members.{Contains-flat_map, Contains-flat_map_source, length-among}
+use Rattle.dexspec.proofs.Depths.{Contains-map}
+use Rattle.dexspec.proofs.Mapped.{Contains-map_source}
 use Rattle.dexspec.proofs.SymbolOrders.{text_total, text_exact, proto_total, proto_exact, field_total, field_exact, method_total, method_exact}
-use Rattle.dexpool.specs.Numberings.{union_of}
-
--- ---- any order
+use Rattle.dexspec.proofs.InOrder.{Rises, Rises-from_rises, Rises-in_order, Rises-same, AreDistinct-from_Rises, in_order-has, in_order-only, rank-among, rank-get_or}
+use Rattle.dexspec.proofs.Growth.{mentions-rising}
+use Rattle.dexspec.proofs.MentionMembers.{Occurs, texts-listed, texts-source, types-listed, types-source, protos-listed, protos-source, fields-listed, fields-source, methods-listed, methods-source}
+use Rattle.dexpool.specs.declared.symbols.SymbolKind.{SymbolKind}
+use Rattle.dexpool.specs.declared.symbols.SymbolKind.TheVariants as kinds
+use Rattle.dexpool.specs.Pools.{count_of}
+use Rattle.dexpool.specs.Numberings.{AreRising, union_of}
+use Rattle.dexpool.specs.Laws.{RanksGrow, AllRanksGrow, RanksArePlaces, RanksAreNumbers}
 
 module _ {K : Type 0} (R : K → K → Ordering) (o : IsTotalOrder R) where
-  -- a number's rank is its number
-  pub rank_of_number : (xs : List K) (i : ℕ) (d : K) → rises R xs ≡ true → i < length xs → rank R (get_or xs i d) xs ≡ i
-  rank_of_number xs i d h lt = rank-get_or R o xs i d (Rises-from_rises R o xs h) lt
+  -- ---- numbers
 
-  module _ (exact : IsAntisymmetric R) (of : Mentions → List K) (ms : List Mentions) where
-    -- a part's members are in the union
-    pub part_among : (m : Mentions) → Contains ms m → AreAmong (of m) (in_order R (flat_map of ms))
-    part_among m c x d = in_order-has R o exact (flat_map of ms) x (Contains-flat_map of ms m x c d)
+  ranks_are_places : (xs : List K) → rises R xs ≡ true → RanksArePlaces R xs
+  ranks_are_places xs h i d lt = rank-get_or R o xs i d (Rises-from_rises R o xs h) lt
 
-    -- ranks do not shrink in a union
-    pub rank_in_union : (m : Mentions) (s : K) → Contains ms m → rises R (of m) ≡ true → rank R s (of m) ≤ rank R s (in_order R (flat_map of ms))
-    rank_in_union m s c h = rank-among R o s (of m) (in_order R (flat_map of ms)) (Rises-from_rises R o (of m) h) (part_among m c)
+  module _ (exact : IsAntisymmetric R) (of : Mentions → List K) where
+    -- ---- a part of a union
 
-    -- a union has at most as many members as its parts have together
-    pub count_in_union : length (in_order R (flat_map of ms)) ≤ sum_by (λ m. length (of m)) ms
-    count_in_union =
-        let joined = flat_map of ms in
-        let le = length-among (in_order R joined) joined (AreDistinct-from_Rises R o (in_order R joined) (Rises-in_order R o exact joined)) (in_order-only R o exact joined) in
-        omega (arith, le, length-flat_map of ms)
+    ranks_grow : (ms : List Mentions) (m : Mentions) → Contains ms m → rises R (of m) ≡ true → RanksGrow R (of m) (in_order R (flat_map of ms))
+    ranks_grow ms m c h s = rank-among R o s (of m) (in_order R (flat_map of ms)) (Rises-from_rises R o (of m) h) (λ x d. in_order-has R o exact (flat_map of ms) x (Contains-flat_map of ms m x c d))
 
-  -- what two lists of symbols mention together is the union of what each mentions
-  pub mentioned_together : IsAntisymmetric R → (parts : Symbol → List K) (ss us : List Symbol) → in_order R (flat_map parts (ss ++ us)) ≡ in_order R (in_order R (flat_map parts ss) ++ (in_order R (flat_map parts us) ++ []))
-  mentioned_together exact parts ss us =
-      let a = flat_map parts ss in
-      let b = flat_map parts us in
-      let e = flat_map-append parts ss us in
-      ap (in_order R) e
-      ∙ in_order-same R o exact (a ++ b) (in_order R a ++ (in_order R b ++ []))
-      (λ x c. elim (Contains-append_cases a b x c) [
-        | inl l ↦ Contains-append_left (in_order R a) (in_order R b ++ []) x (in_order-has R o exact a x l)
-        | inr r ↦ Contains-append_right (in_order R a) (in_order R b ++ []) x (Contains-append_left (in_order R b) [] x (in_order-has R o exact b x r))
-      ])
-      (λ x c. elim (Contains-append_cases (in_order R a) (in_order R b ++ []) x c) [
-        | inl l ↦ Contains-append_left a b x (in_order-only R o exact a x l)
-        | inr r ↦ elim (Contains-append_cases (in_order R b) [] x r) [
-          | inl r ↦ Contains-append_right a b x (in_order-only R o exact b x r)
-          | inr n ↦ absurd (Contains-nil x n)
-        ]
-      ])
+    fewer : (ms : List Mentions) → length (in_order R (flat_map of ms)) ≤ sum_by (λ m. length (of m)) ms
+    fewer ms =
+        let distinct = AreDistinct-from_Rises R o (in_order R (flat_map of ms)) (Rises-in_order R o exact (flat_map of ms)) in
+        omega (arith, length-among (in_order R (flat_map of ms)) (flat_map of ms) distinct (in_order-only R o exact (flat_map of ms)), length-flat_map of ms)
 
--- ---- mentions
+    -- ---- definitions of several lists
 
--- mentions of a union are the unions of mentions
-pub mentions_of_union : (D E : List Definition) → mentions (D ++ E) ≡ union_of (mentions D ∷ mentions E ∷ [])
-unfolding mentions
-mentions_of_union D E =
-    let ss = flat_map symbols_of D in
-    let us = flat_map symbols_of E in
-    let e = flat_map-append symbols_of D E in
-    λ i. record {
-      texts = (ap (λ l. in_order text_cmp (flat_map texts_in l)) e ∙ mentioned_together text_cmp text_total text_exact texts_in ss us) i;
-      types = (ap (λ l. in_order text_cmp (flat_map types_in l)) e ∙ mentioned_together text_cmp text_total text_exact types_in ss us) i;
-      protos = (ap (λ l. in_order proto_cmp (flat_map protos_in l)) e ∙ mentioned_together proto_cmp proto_total proto_exact protos_in ss us) i;
-      fields = (ap (λ l. in_order field_cmp (flat_map fields_in l)) e ∙ mentioned_together field_cmp field_total field_exact fields_in ss us) i;
-      methods = (ap (λ l. in_order method_cmp (flat_map methods_in l)) e ∙ mentioned_together method_cmp method_total method_exact methods_in ss us) i;
-    }
+    module _ (parts : Symbol → List K) (rising : (D : List Definition) → Rises R (of (mentions D)))
+        (listed : (D : List Definition) (x : K) → Occurs parts D x → Contains (of (mentions D)) x)
+        (source : (D : List Definition) (x : K) → Contains (of (mentions D)) x → Occurs parts D x) (Ds : List (List Definition)) where
+      -- a symbol of the whole occurs in a part
+      down : (x : K) → Contains (of (mentions (flat_map (λ D. D) Ds))) x → Contains (flat_map of (map mentions Ds)) x
+      down x c =
+          let w = source (flat_map (λ D. D) Ds) x c in
+          let s = Contains-flat_map_source (λ (D : List Definition). D) Ds w.definition w.member in
+          let here : Contains (of (mentions s.0)) x = listed s.0 x (record { definition = w.definition; symbol = w.symbol; member = s.2; occurs = w.occurs; part = w.part }) in
+          Contains-flat_map of (map mentions Ds) (mentions s.0) x (Contains-map mentions Ds s.0 s.1) here
+
+      -- a symbol of a part occurs in the whole
+      up : (x : K) → Contains (flat_map of (map mentions Ds)) x → Contains (of (mentions (flat_map (λ D. D) Ds))) x
+      up x c =
+          let s = Contains-flat_map_source of (map mentions Ds) x c in
+          let d = Contains-map_source mentions Ds s.0 s.1 in
+          let w = source d.0 x (subst (λ m. Contains (of m) x) (sym d.2) s.2) in
+          listed (flat_map (λ D. D) Ds) x (record {
+            definition = w.definition;
+            symbol = w.symbol;
+            member = Contains-flat_map (λ (D : List Definition). D) Ds d.0 w.definition d.1 w.member;
+            occurs = w.occurs;
+            part = w.part;
+          })
+
+      joined : of (mentions (flat_map (λ D. D) Ds)) ≡ in_order R (flat_map of (map mentions Ds))
+      joined = Rises-same R o (of (mentions (flat_map (λ D. D) Ds))) (in_order R (flat_map of (map mentions Ds)))
+          (rising (flat_map (λ D. D) Ds)) (Rises-in_order R o exact (flat_map of (map mentions Ds)))
+          (λ x c. in_order-has R o exact (flat_map of (map mentions Ds)) x (down x c))
+          (λ x c. up x (in_order-only R o exact (flat_map of (map mentions Ds)) x c))
+
+-- the rank of each symbol is its number
+pub ranks_are_numbers : (m : Mentions) → AreRising m → RanksAreNumbers m
+ranks_are_numbers m h = record {
+  texts_are = ranks_are_places text_cmp text_total m.texts h.texts_rise;
+  types_are = ranks_are_places text_cmp text_total m.types h.types_rise;
+  protos_are = ranks_are_places proto_cmp proto_total m.protos h.protos_rise;
+  fields_are = ranks_are_places field_cmp field_total m.fields h.fields_rise;
+  methods_are = ranks_are_places method_cmp method_total m.methods h.methods_rise;
+}
+
+-- no rank is less in a union
+pub all_ranks_grow : (ms : List Mentions) (m : Mentions) → Contains ms m → AreRising m → AllRanksGrow m (union_of ms)
+all_ranks_grow ms m c h = record {
+  texts_grow = ranks_grow text_cmp text_total text_exact (λ n. n.texts) ms m c h.texts_rise;
+  types_grow = ranks_grow text_cmp text_total text_exact (λ n. n.types) ms m c h.types_rise;
+  protos_grow = ranks_grow proto_cmp proto_total proto_exact (λ n. n.protos) ms m c h.protos_rise;
+  fields_grow = ranks_grow field_cmp field_total field_exact (λ n. n.fields) ms m c h.fields_rise;
+  methods_grow = ranks_grow method_cmp method_total method_exact (λ n. n.methods) ms m c h.methods_rise;
+}
+
+-- a union has no more symbols than the parts together
+pub counts_add : (ms : List Mentions) (kind : SymbolKind) → count_of kind (union_of ms) ≤ sum_by (λ m. count_of kind m) ms
+counts_add ms kinds.Text = fewer text_cmp text_total text_exact (λ n. n.texts) ms
+counts_add ms kinds.Typ = fewer text_cmp text_total text_exact (λ n. n.types) ms
+counts_add ms kinds.Proto = fewer proto_cmp proto_total proto_exact (λ n. n.protos) ms
+counts_add ms kinds.Field = fewer field_cmp field_total field_exact (λ n. n.fields) ms
+counts_add ms kinds.Method = fewer method_cmp method_total method_exact (λ n. n.methods) ms
+
+-- two are one where their lists are
+same_mentions : (m n : Mentions) → m.texts ≡ n.texts → m.types ≡ n.types → m.protos ≡ n.protos → m.fields ≡ n.fields → m.methods ≡ n.methods → m ≡ n
+same_mentions m n a b c d e = λ i. record { texts = a i; types = b i; protos = c i; fields = d i; methods = e i }
+
+-- what definitions of several lists mention
+pub mentions_join : (Ds : List (List Definition)) → mentions (flat_map (λ D. D) Ds) ≡ union_of (map mentions Ds)
+mentions_join Ds = same_mentions (mentions (flat_map (λ D. D) Ds)) (union_of (map mentions Ds))
+    (joined text_cmp text_total text_exact (λ n. n.texts) texts_in (λ D. (mentions-rising D).texts) texts-listed texts-source Ds)
+    (joined text_cmp text_total text_exact (λ n. n.types) types_in (λ D. (mentions-rising D).types) types-listed types-source Ds)
+    (joined proto_cmp proto_total proto_exact (λ n. n.protos) protos_in (λ D. (mentions-rising D).protos) protos-listed protos-source Ds)
+    (joined field_cmp field_total field_exact (λ n. n.fields) fields_in (λ D. (mentions-rising D).fields) fields-listed fields-source Ds)
+    (joined method_cmp method_total method_exact (λ n. n.methods) methods_in (λ D. (mentions-rising D).methods) methods-listed methods-source Ds)

@@ -10,3 +10,4 @@ pub mod Renumbering
 pub mod Closing
 pub mod Owned
 pub mod Joining
+pub mod Laws

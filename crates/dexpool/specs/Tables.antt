@@ -62,11 +62,14 @@ method_key m = m.class ∷ m.name ∷ m.proto ∷ []
 abbrev pub proto_key : List ℕ → ProtoEntry → List ℕ
 proto_key parameters p = p.return_type ∷ span_of parameters p.parameters
 
+-- fields are ordered by their keys, number by number
 abbrev pub field_cmp : FieldRow → FieldRow → Ordering
 field_cmp f g = key_cmp (field_key f) (field_key g)
 
+-- methods too
 abbrev pub method_cmp : MethodRow → MethodRow → Ordering
 method_cmp m n = key_cmp (method_key m) (method_key n)
 
+-- protos too: a row whose parameters begin those of another comes before it
 abbrev pub proto_cmp : List ℕ → ProtoEntry → ProtoEntry → Ordering
 proto_cmp parameters p q = key_cmp (proto_key parameters p) (proto_key parameters q)

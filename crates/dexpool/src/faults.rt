@@ -2,6 +2,7 @@
 
 ghost use Rattle.std.specs.Prelude.{◌≡◌};
 ghost use Rattle.dexpool.specs.declared.faults.ReadFault.TheVariants.{Refused, Memory};
+ghost use Rattle.dexpool.specs.declared.faults.ItemFault.TheVariants as items;
 
 use dexhead::Refusal;
 use std::alloc::{AllocError, AllocFailed};
@@ -9,7 +10,8 @@ use std::alloc::{AllocError, AllocFailed};
 /// Why the pools of a file were not read.
 #[derive(Clone, Copy, Debug, PartialEq, Eq)]
 pub enum ReadFault {
-    /// The first condition that the file does not meet, and the least row at which it fails.
+    /// A condition that the file does not meet, and where it fails. Of the conditions 1 to 16 it is the first that
+    /// fails, at its least row; of 17 to 23 it is one that fails, with the row of the class at which it does.
     Refused(Refusal),
     /// A growth was refused.
     Memory,
@@ -44,5 +46,29 @@ impl<T: Drop> From<AllocFailed<T>> for ReadFault {
 
     fn from(_e: AllocFailed<T>) -> ReadFault {
         ReadFault::Memory
+    }
+}
+
+impl From<Refusal> for ReadFault {
+    ghost from_gives = { λ r e. e ≡ Refused r };
+
+    fn from(refusal: Refusal) -> ReadFault {
+        ReadFault::Refused(refusal)
+    }
+}
+
+impl From<AllocError> for ItemFault {
+    ghost from_gives = { λ _ e. e ≡ items.Memory };
+
+    fn from(_e: AllocError) -> ItemFault {
+        ItemFault::Memory
+    }
+}
+
+impl<T: Drop> From<AllocFailed<T>> for ItemFault {
+    ghost from_gives = { λ _ e. e ≡ items.Memory };
+
+    fn from(_e: AllocFailed<T>) -> ItemFault {
+        ItemFault::Memory
     }
 }

@@ -17,6 +17,7 @@ mod keep_tests;
 mod keeping;
 mod kept_tables;
 mod kinds;
+mod laws;
 mod marks;
 mod methods;
 mod names;
@@ -39,6 +40,7 @@ mod weight;
 
 pub use dexrows::{FieldRow, MethodRow, ProtoRow, Row, TypeRow};
 pub use faults::{ItemFault, ReadFault};
+pub use laws::{mentions_law, number_law, union_law};
 pub use marks::Marks;
 pub use numbering::Numbering;
 pub use parameters::type_list_len;

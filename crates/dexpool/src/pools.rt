@@ -86,7 +86,7 @@ impl<'a> Pools<'a> {
         &self.numbering
     }
 
-    /// The number of rows of a pool.
+    /// The number of rows of a pool. No memory is taken.
     pub fn len(&self, kind: SymbolKind) -> usize
         ensures { result ≡ count_of kind self.now }
     {

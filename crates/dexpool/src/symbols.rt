@@ -18,44 +18,69 @@ use std::marker::Model;
 /// Source: "string_id_item", "type_id_item", "proto_id_item", "field_id_item" and "method_id_item".
 #[derive(Clone, Copy, Debug, PartialEq, Eq)]
 pub enum SymbolKind {
+    /// The texts, in "string_ids".
     Text,
+    /// The types, in "type_ids".
     Typ,
+    /// The protos, in "proto_ids".
     Proto,
+    /// The fields, in "field_ids".
     Field,
+    /// The methods, in "method_ids".
     Method,
 }
 
-/// What a row of one of the pools names, by texts.
+/// What a row of one of the pools names, by texts of its own.
+///
+/// Source: "string_id_item", "type_id_item", "proto_id_item", "field_id_item" and "method_id_item".
 #[derive(Drop)]
 pub enum Symbol {
+    /// A text.
     Text(Name),
     /// A type, by its descriptor.
     Typ(Name),
+    /// The types of a method.
     Proto(ProtoSymbol),
+    /// A field of a class.
     Field(FieldSymbol),
+    /// A method of a class or an array.
     Method(MethodSymbol),
 }
 
-/// A proto: the types of what a method returns and of its parameters.
+/// A proto: the types of what a method returns and of its parameters. Its shorty follows from them.
+///
+/// Source: "proto_id_item".
 #[derive(Drop)]
 pub struct ProtoSymbol {
+    /// The descriptor of the type that the method returns.
     pub return_type: Name,
+    /// The descriptors of the types of its parameters, in order.
     pub parameters: Vec<Name>,
 }
 
 /// A field, by its class, its name and its type.
+///
+/// Source: "field_id_item".
 #[derive(Drop)]
 pub struct FieldSymbol {
+    /// The descriptor of the class that the field belongs to.
     pub class: Name,
+    /// Its name.
     pub name: Name,
+    /// The descriptor of its own type.
     pub typ: Name,
 }
 
 /// A method, by its class, its name and its proto.
+///
+/// Source: "method_id_item".
 #[derive(Drop)]
 pub struct MethodSymbol {
+    /// The descriptor of the class or array that the method belongs to.
     pub class: Name,
+    /// Its name.
     pub name: Name,
+    /// The types that it returns and takes.
     pub proto: ProtoSymbol,
 }
 
@@ -99,7 +124,53 @@ fn type_names(alloc: Global, tables: &Tables<'_>, types: &[usize]) -> Result<Vec
     Ok(names)
 }
 
+// The same names in a vector of their own.
+fn copied(alloc: Global, names: &[Name]) -> Result<Vec<Name>, AllocError>
+    ensures { IfOk result (λ copy. copy.items ≡ names.now) }
+{
+    let mut copy = Vec::with_capacity(alloc, names.len())?;
+    for name in names {
+        copy.push(name.copy()?)?;
+    }
+    Ok(copy)
+}
+
+impl Symbol {
+    ghost use Rattle.dexpool.specs.Owned.{symbol_of};
+
+    /// The same symbol, with texts of its own.
+    ///
+    /// Error: the memory for the texts was refused.
+    pub fn copy(&self) -> Result<Self, AllocError>
+        ensures { IfOk result (λ copy. symbol_of copy ≡ symbol_of self.now) }
+    {
+        Ok(match self {
+            Symbol::Text(text) => Symbol::Text(text.copy()?),
+            Symbol::Typ(descriptor) => Symbol::Typ(descriptor.copy()?),
+            Symbol::Proto(proto) => Symbol::Proto(proto.copy()?),
+            Symbol::Field(field) => Symbol::Field(field.copy()?),
+            Symbol::Method(method) => Symbol::Method(method.copy()?),
+        })
+    }
+}
+
 impl ProtoSymbol {
+    /// The same proto, with texts of its own.
+    ///
+    /// Error: the memory for the texts was refused.
+    pub fn copy(&self) -> Result<Self, AllocError>
+        ensures { IfOk result (λ copy. copy ≡ self.now) }
+    {
+        let ProtoSymbol {
+            return_type,
+            parameters,
+        } = self;
+        Ok(ProtoSymbol {
+            return_type: return_type.copy()?,
+            parameters: copied(*parameters.allocator(), parameters)?,
+        })
+    }
+
     /// The proto of a row.
     pub(crate) fn of(
         alloc: Global,
@@ -118,6 +189,20 @@ impl ProtoSymbol {
 }
 
 impl FieldSymbol {
+    /// The same field, with texts of its own.
+    ///
+    /// Error: the memory for the texts was refused.
+    pub fn copy(&self) -> Result<Self, AllocError>
+        ensures { IfOk result (λ copy. copy ≡ self.now) }
+    {
+        let FieldSymbol { class, name, typ } = self;
+        Ok(FieldSymbol {
+            class: class.copy()?,
+            name: name.copy()?,
+            typ: typ.copy()?,
+        })
+    }
+
     /// The field of a row.
     pub(crate) fn of(
         alloc: Global,
@@ -137,6 +222,20 @@ impl FieldSymbol {
 }
 
 impl MethodSymbol {
+    /// The same method, with texts of its own.
+    ///
+    /// Error: the memory for the texts was refused.
+    pub fn copy(&self) -> Result<Self, AllocError>
+        ensures { IfOk result (λ copy. copy ≡ self.now) }
+    {
+        let MethodSymbol { class, name, proto } = self;
+        Ok(MethodSymbol {
+            class: class.copy()?,
+            name: name.copy()?,
+            proto: proto.copy()?,
+        })
+    }
+
     /// The method of a row.
     pub(crate) fn of(
         alloc: Global,

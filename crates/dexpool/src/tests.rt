@@ -333,6 +333,42 @@ fn rows_stand_for_symbols(rt: HostRuntime) {
 }
 
 #[test]
+fn symbols_are_copied(rt: HostRuntime) {
+    let alloc = rt.alloc();
+    let Ok(frame) = Frame::open(&GOOD) else {
+        panic!(rt; "no frame")
+    };
+    let Ok(pools) = Pools::read(alloc, &frame) else {
+        panic!(rt; "no pools")
+    };
+    let Some(Symbol::Proto(proto)) = symbol(alloc, &pools, SymbolKind::Proto, 1) else {
+        panic!(rt; "no proto")
+    };
+    let Ok(proto) = proto.copy() else {
+        panic!(rt; "no copy of the proto")
+    };
+    assert!(rt; is_proto(&proto, "V", &["I"]));
+    let Some(Symbol::Field(field)) = symbol(alloc, &pools, SymbolKind::Field, 0) else {
+        panic!(rt; "no field")
+    };
+    let Ok(field) = field.copy() else {
+        panic!(rt; "no copy of the field")
+    };
+    assert!(rt; is_field(&field));
+    let Some(Symbol::Method(method)) = symbol(alloc, &pools, SymbolKind::Method, 0) else {
+        panic!(rt; "no method")
+    };
+    let Ok(method) = method.copy() else {
+        panic!(rt; "no copy of the method")
+    };
+    assert!(rt; is_method(&method));
+    let Ok(Symbol::Method(method)) = Symbol::Method(method).copy() else {
+        panic!(rt; "no copy of the symbol")
+    };
+    assert!(rt; is_method(&method));
+}
+
+#[test]
 fn numberings_are_made_and_copied(rt: HostRuntime) {
     let alloc = rt.alloc();
     let Ok(frame) = Frame::open(&GOOD) else {

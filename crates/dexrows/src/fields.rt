@@ -11,11 +11,11 @@ use std::cmp::Ordering;
 /// Source: the heading "field_id_item" of the Android page "Dalvik Executable format".
 #[derive(Clone, Copy, Debug, PartialEq, Eq)]
 pub struct FieldRow {
-    /// The type that the field belongs to.
+    /// The number of the type that the field belongs to.
     pub class: usize,
-    /// The text of its name.
+    /// The number of the text that is its name.
     pub name: usize,
-    /// Its own type.
+    /// The number of its own type.
     pub typ: usize,
 }
 

@@ -11,11 +11,11 @@ use std::cmp::Ordering;
 /// Source: the heading "method_id_item" of the Android page "Dalvik Executable format".
 #[derive(Clone, Copy, Debug, PartialEq, Eq)]
 pub struct MethodRow {
-    /// The type that the method belongs to.
+    /// The number of the type that the method belongs to.
     pub class: usize,
-    /// The text of its name.
+    /// The number of the text that is its name.
     pub name: usize,
-    /// Its proto.
+    /// The number of its proto.
     pub proto: usize,
 }
 

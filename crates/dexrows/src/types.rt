@@ -11,7 +11,7 @@ use std::cmp::Ordering;
 /// Source: the heading "type_id_item" of the Android page "Dalvik Executable format".
 #[derive(Clone, Copy, Debug, PartialEq, Eq)]
 pub struct TypeRow {
-    /// The text of the type's descriptor.
+    /// The number of the text that is the type's descriptor.
     pub descriptor: usize,
 }
 

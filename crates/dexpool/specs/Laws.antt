@@ -1,0 +1,38 @@
+-- The statements of the laws of numberings: what a union has of its parts, and numbers as ranks.
+use Rattle.std.specs.Prelude.{◌≡◌, ℕ, ◌<◌, ◌≤◌, List, length, slice_index_or, IsSome}
+use Rattle.std.specs.declared.cmp.Ordering.{Ordering}
+use Rattle.dexspec.specs.Lists.{rank}
+use Rattle.dexspec.specs.Texts.{text_cmp}
+use Rattle.dexspec.specs.Symbols.{proto_cmp, field_cmp, method_cmp}
+use Rattle.dexspec.specs.Mentions.{Mentions}
+use Rattle.dexpool.specs.declared.symbols.SymbolKind.{SymbolKind}
+use Rattle.dexpool.specs.Pools.{count_of}
+use Rattle.dexpool.specs.Numberings.{Maps, image_of}
+
+-- each number of the numbering leads somewhere
+abbrev pub LeadsAll : Mentions → Maps → Type 0
+LeadsAll m r = (kind : SymbolKind) (i : ℕ) → i < count_of kind m → IsSome (image_of r kind i)
+
+-- no rank in the first list is greater than in the second
+abbrev pub RanksGrow : {K : Type 0} → (K → K → Ordering) → List K → List K → Type 0
+RanksGrow {K} R xs ys = (s : K) → rank R s xs ≤ rank R s ys
+
+-- of each symbol of each kind the rank in the first is at most that in the second
+pub record AllRanksGrow (m n : Mentions) : Type 0 where
+  pub texts_grow : RanksGrow text_cmp m.texts n.texts
+  pub types_grow : RanksGrow text_cmp m.types n.types
+  pub protos_grow : RanksGrow proto_cmp m.protos n.protos
+  pub fields_grow : RanksGrow field_cmp m.fields n.fields
+  pub methods_grow : RanksGrow method_cmp m.methods n.methods
+
+-- the rank of what stands at a place of the list is the place
+abbrev pub RanksArePlaces : {K : Type 0} → (K → K → Ordering) → List K → Type 0
+RanksArePlaces {K} R xs = (i : ℕ) (d : K) → i < length xs → rank R (slice_index_or xs i d) xs ≡ i
+
+-- the rank of each symbol of each kind is its number
+pub record RanksAreNumbers (m : Mentions) : Type 0 where
+  pub texts_are : RanksArePlaces text_cmp m.texts
+  pub types_are : RanksArePlaces text_cmp m.types
+  pub protos_are : RanksArePlaces proto_cmp m.protos
+  pub fields_are : RanksArePlaces field_cmp m.fields
+  pub methods_are : RanksArePlaces method_cmp m.methods

@@ -1,0 +1,28 @@
+//! Laws of numberings and of what class definitions mention. Each function does nothing: its contract is the law,
+//! for the callers that cite it.
+
+ghost use Rattle.std.specs.Prelude.{◌≡◌, ◌≤◌, List, map, sum_by};
+ghost use Rattle.std.specs.List.{Contains, flat_map};
+ghost use Rattle.dexspec.specs.Classes.{Definition};
+ghost use Rattle.dexspec.specs.Mentions.{Mentions, mentions};
+ghost use Rattle.dexpool.specs.declared.symbols.SymbolKind.{SymbolKind};
+ghost use Rattle.dexpool.specs.Pools.{count_of};
+ghost use Rattle.dexpool.specs.Numberings.{AreRising, union_of};
+ghost use Rattle.dexpool.specs.Laws.{AllRanksGrow, RanksAreNumbers};
+
+/// In a union no symbol has a lesser rank than in a part, and of no kind are there more symbols than in the parts
+/// together.
+pub fn union_law()
+    ensures ranks { (ms : List Mentions) (m : Mentions) → Contains ms m → AreRising m → AllRanksGrow m (union_of ms) }
+    ensures counts { (ms : List Mentions) (kind : SymbolKind) → count_of kind (union_of ms) ≤ sum_by (λ m. count_of kind m) ms }
+{}
+
+/// What definitions of several lists mention together is the union of what those of each list mention.
+pub fn mentions_law()
+    ensures { (parts : List (List Definition)) → mentions (flat_map (λ part. part) parts) ≡ union_of (map mentions parts) }
+{}
+
+/// In lists that rise, as those of every numbering do, the number of a symbol is its rank.
+pub fn number_law()
+    ensures { (m : Mentions) → AreRising m → RanksAreNumbers m }
+{}

@@ -15,3 +15,8 @@ pub mod Arranged
 pub mod Ordered
 pub mod Unmarked
 pub mod Trimmed
+pub mod SingleBits
+pub mod Growing
+pub mod Hexadecimal
+pub mod Composed
+pub mod FlagTables

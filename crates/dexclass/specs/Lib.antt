@@ -3,3 +3,4 @@ pub mod Numbered
 pub mod Marking
 pub mod Renumbering
 pub mod Parents
+pub mod FlagNames

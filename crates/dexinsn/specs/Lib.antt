@@ -2,3 +2,4 @@ pub mod Opcode
 pub mod Payload
 pub mod Split
 pub mod Props
+pub mod Units

@@ -9,6 +9,7 @@ pub use opcodes::{index_kind, mnemonic};
 pub use payload::PayloadKind;
 
 mod code;
+mod code_units;
 mod format;
 mod instruction;
 mod marked;

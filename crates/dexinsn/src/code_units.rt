@@ -65,7 +65,8 @@ impl<'a> Units<'a> {
     /// The unit at a place.
     pub(crate) fn at(&self, i: usize) -> u16
         requires { i < length self.now }
-        ensures { result ≡ slice_index self.now i }
+        ensures is { result ≡ slice_index self.now i }
+        ensures small { length self.now < 2 ^ 62 }
     {
         match self.source {
             Source::Numbers(numbers) => numbers[i],

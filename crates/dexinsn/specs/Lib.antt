@@ -3,3 +3,5 @@ pub mod Payload
 pub mod Split
 pub mod Props
 pub mod Units
+pub mod Numbered
+pub mod Stored

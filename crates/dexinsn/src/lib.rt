@@ -7,6 +7,7 @@ pub use code::{CodeFault, Cut, split};
 pub use format::{Format, IndexKind};
 pub use opcodes::{index_kind, mnemonic};
 pub use payload::PayloadKind;
+pub use pieces::Pieces;
 
 mod code;
 mod code_units;
@@ -16,6 +17,7 @@ mod marked;
 mod opcodes;
 mod payload;
 mod piece;
+mod pieces;
 #[cfg(test)]
 mod tests;
 mod units;

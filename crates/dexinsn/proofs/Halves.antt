@@ -1,7 +1,7 @@
 -- Units that bytes spell, two for each.
 use Rattle.std.proofs.Common.{◌≡◌, ℕ, zero, suc, ◌+◌, ◌-◌, ◌*◌, ◌/◌, ◌<◌, ◌≤◌, List, [], ◌∷◌, length, take, drop, get_or, slice_index, refl, sym, ap, ◌∙◌, subst, arith, length-drop}
-use Rattle.std.proofs.lemmas.List.{drop-drop}
-use Rattle.dexspec.specs.Bytes.{ushort_at, ushorts_at}
+use Rattle.std.proofs.lemmas.List.{drop-drop, drop-take, take-take, length-take-le}
+use Rattle.dexspec.specs.Bytes.{number_of, ushort_at, ushorts_at, uint_at}
 use Rattle.dexspec.proofs.FormedRows.{length-ushorts_at}
 use Rattle.dexinsn.specs.Units.{units_in}
 
@@ -21,7 +21,7 @@ pub length_from : (b : List ℕ) → length (units_in b) ≡ length b / 2
 length_from b = length-ushorts_at b 0 (length b / 2)
 
 -- a number behind some bytes
-ushort_behind : (b : List ℕ) (k o : ℕ) → ushort_at (drop k b) o ≡ ushort_at b (k + o)
+pub ushort_behind : (b : List ℕ) (k o : ℕ) → ushort_at (drop k b) o ≡ ushort_at b (k + o)
 unfolding ushort_at
 ushort_behind b k o = simp drop-drop
 
@@ -49,3 +49,30 @@ rest_from b at le =
     let f : length (drop (2 * at) b) / 2 ≡ length b / 2 - at = omega arith in
     ushorts_behind b (2 * at) 0 (length (drop (2 * at) b) / 2) ∙ ap (λ (o : ℕ). ushorts_at b o (length (drop (2 * at) b) / 2)) e ∙ ap (ushorts_at b (0 + 2 * at)) f
     ∙ sym (ushorts_from b 0 (length b / 2) at (omega arith))
+
+-- the same for four bytes
+pub uint_behind : (b : List ℕ) (k o : ℕ) → uint_at (drop k b) o ≡ uint_at b (k + o)
+unfolding uint_at
+uint_behind b k o = simp drop-drop
+
+-- a number among the first bytes
+ushort_front : (b : List ℕ) (m o : ℕ) → o + 2 ≤ m → ushort_at (take m b) o ≡ ushort_at b o
+unfolding ushort_at
+ushort_front b m o le =
+    let e : m ≡ o + (m - o) = omega arith in
+    let two : 2 ≤ m - o = omega arith in
+    ap number_of (ap (λ (k : ℕ). take 2 (drop o (take k b))) e ∙ ap (take 2) (drop-take o (m - o) b) ∙ take-take 2 (m - o) (drop o b) two)
+
+-- units among the first bytes
+ushorts_front : (b : List ℕ) (m o n : ℕ) → o + 2 * n ≤ m → ushorts_at (take m b) o n ≡ ushorts_at b o n
+ushorts_front b m o zero le = refl
+ushorts_front b m o (suc n) le = ap (λ (u : ℕ). u ∷ ushorts_at (take m b) (o + 2) n) (ushort_front b m o (omega arith)) ∙ ap (λ (us : List ℕ). ushort_at b o ∷ us) (ushorts_front b m (o + 2) n (omega arith))
+
+-- the units of the bytes from a place on
+pub units_of_part : (b : List ℕ) (k n : ℕ) → k + 2 * n ≤ length b → units_in (take (2 * n) (drop k b)) ≡ ushorts_at b k n
+units_of_part b k n le =
+    let l : length (drop k b) ≡ length b - k = length-drop k b in
+    let m : length (take (2 * n) (drop k b)) ≡ 2 * n = length-take-le (2 * n) (drop k b) (omega arith) in
+    let h : length (take (2 * n) (drop k b)) / 2 ≡ n = omega arith in
+    let z : k + 0 ≡ k = omega arith in
+    ap (ushorts_at (take (2 * n) (drop k b)) 0) h ∙ ushorts_front (drop k b) (2 * n) 0 n (omega arith) ∙ ushorts_behind b k 0 n ∙ ap (λ (o : ℕ). ushorts_at b o n) z

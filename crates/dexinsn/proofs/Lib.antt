@@ -1,3 +1,8 @@
+pub mod FaultsRead
+pub mod StoredRead
+pub mod CodeRead
+pub mod IndicesRead
+pub mod IndexRoom
 pub mod Halves
 pub mod Table
 pub mod Signed

@@ -5,3 +5,4 @@ pub mod Props
 pub mod Units
 pub mod Numbered
 pub mod Stored
+pub mod Reading

@@ -8,16 +8,19 @@ pub use format::{Format, IndexKind};
 pub use opcodes::{index_kind, mnemonic};
 pub use payload::PayloadKind;
 pub use pieces::Pieces;
+pub use reading::read_pieces;
 
 mod code;
 mod code_units;
 mod format;
+mod indexed;
 mod instruction;
 mod marked;
 mod opcodes;
 mod payload;
 mod piece;
 mod pieces;
+mod reading;
 #[cfg(test)]
 mod tests;
 mod units;

@@ -20,8 +20,8 @@ use std::alloc::Global;
 /// payload begins there.
 #[derive(Drop)]
 pub(crate) struct Marked<'u, 'a> {
-    units: &'u Units<'a>,
-    cuts: Vec<Cut>,
+    pub(crate) units: &'u Units<'a>,
+    pub(crate) cuts: Vec<Cut>,
     marks: Vec<bool>,
     ghost is_small: { length units.now < 2 ^ 62 },
     ghost are_marked: { AreMarked units.now cuts.items marks.items (length units.now) } by { Prim.hlevel (props, AreCut-prop) },

@@ -1,3 +1,6 @@
+pub mod MarksMade
+pub mod Steps
+pub mod Lined
 pub mod FaultsRead
 pub mod StoredRead
 pub mod CodeRead

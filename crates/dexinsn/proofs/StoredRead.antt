@@ -72,10 +72,10 @@ same_pool xs ys e = ap (λ (u : ℕ). cond (is_payload_ident u) None (option_and
 pub same_wide : (xs ys : List ℕ) → slice_index xs 0 ≡ slice_index ys 0 → is_wide_index xs ≡ is_wide_index ys
 same_wide xs ys e = ap (λ (u : ℕ). low_byte u == 0x1b) e
 
-cut_length : (us : List ℕ) (c : Cut) → IsPieceAt us c → length (cut_units us c) ≡ c.units
+pub cut_length : (us : List ℕ) (c : Cut) → IsPieceAt us c → length (cut_units us c) ≡ c.units
 cut_length us c is = let f : Fits (drop c.unit us) c.units = piece_size-fits c.unit (drop c.unit us) c.units is in length-take-le c.units (drop c.unit us) f.1
 
-cut_first : (us : List ℕ) (c : Cut) → IsPieceAt us c → slice_index (cut_units us c) 0 ≡ slice_index (drop c.unit us) 0
+pub cut_first : (us : List ℕ) (c : Cut) → IsPieceAt us c → slice_index (cut_units us c) 0 ≡ slice_index (drop c.unit us) 0
 cut_first us c is = let f : Fits (drop c.unit us) c.units = piece_size-fits c.unit (drop c.unit us) c.units is in get_or-take c.units (drop c.unit us) 0 0 f.0
 
 pub cut_pool : (us : List ℕ) (c : Cut) → IsPieceAt us c → index_pool (cut_units us c) ≡ index_pool (drop c.unit us)

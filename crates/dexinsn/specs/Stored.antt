@@ -1,11 +1,12 @@
 -- Pieces as they are stored: the units as bytes of the file, and beside them the number of each symbol with the unit
 -- at which its instruction begins.
-use Rattle.std.specs.Prelude.{◌≡◌, ℕ, zero, suc, ◌+◌, ◌*◌, ◌^◌, ◌<◌, if◌then◌else◌, List, [], ◌∷◌, length, drop, map, All, slice_index, Option, Some, None}
+use Rattle.std.specs.Prelude.{◌≡◌, ℕ, zero, suc, ◌+◌, ◌*◌, ◌^◌, ◌<◌, if◌then◌else◌, List, [], ◌∷◌, length, drop, map, All, slice_index, Option, Some, None, true, unwrap_or}
 use Rattle.std.specs.Option.{option_map_or}
 use Rattle.dexspec.specs.Symbols.{Pool}
-use Rattle.dexspec.specs.Pieces.{Cut, AreCut, cut_units, piece_size, index_pool, is_payload_ident, with_index}
+use Rattle.dexspec.specs.Pieces.{Cut, AreCut, cut_units, piece_size, index_pool, is_payload_ident, is_wide_index, with_index}
 use Rattle.dexinsn.specs.declared.pieces.Index.{Index}
-use Rattle.dexinsn.specs.Numbered.{NumberedPiece, Instruction, Payload, index_room}
+use Rattle.dexinsn.specs.Numbered.{NumberedPiece, Instruction, Payload, Use, kind_in, index_room}
+use Rattle.dexpool.specs.Numberings.{Maps, image_of}
 
 -- n pieces at most, cut from units of which the first is at a place
 abbrev pub cuts_from : ℕ → ℕ → List ℕ → List Cut
@@ -65,3 +66,22 @@ pub record AreStored (us : List ℕ) (is : List Index) : Type 0 where
   pub cut : AreCut 0 us (cuts_in us) []
   pub places : map (λ i. i.unit) is ≡ index_places 0 (parts_in us)
   pub fit : All (FitsAt us) is
+
+-- ---- an index on its own
+
+-- the symbol that it names
+abbrev pub use_at : List ℕ → Index → Use
+use_at us i = record { kind = kind_in (drop i.unit us); number = i.number }
+
+-- its number leads to one that fits the place
+abbrev pub HasPlaceAt : Maps → List ℕ → Index → Type 0
+HasPlaceAt r us i = (j : ℕ) × (image_of r (kind_in (drop i.unit us)) i.number ≡ Some j) × (j < index_room (drop i.unit us))
+
+-- the index with the number that its number leads to
+abbrev pub renumbered_index : Maps → List ℕ → Index → Index
+renumbered_index r us i = record { unit = i.unit; number = unwrap_or (image_of r (kind_in (drop i.unit us)) i.number) 0 }
+
+-- an instruction begins at the unit, with room for an index
+pub record IsIndexed (us : List ℕ) (i : Index) : Type 0 where
+  pub within : i.unit + 1 < length us
+  pub wide : is_wide_index (drop i.unit us) ≡ true → i.unit + 2 < length us

@@ -5,7 +5,7 @@ ghost use Rattle.std.specs.Option.{option_map};
 ghost use Rattle.dexspec.specs.Symbols.{Pool};
 ghost use Rattle.dexspec.specs.Pieces.{index_pool, is_wide_index, index_in, two_units};
 ghost use Rattle.dexinsn.specs.Opcode.{pool_of_kind};
-ghost use Rattle.dexinsn.specs.Numbered.{kind_of_pool, index_room};
+ghost use Rattle.dexinsn.specs.Numbered.{kind_of_pool, kind_in, index_room};
 
 use crate::code_units::Units;
 use crate::format::IndexKind;
@@ -65,5 +65,16 @@ pub(crate) fn index_at(units: &Units<'_>, unit: usize) -> u32
         low + 0x1_0000 * u32::from(rest.at(2))
     } else {
         low
+    }
+}
+
+/// The kind of symbol that the index at a unit names; a text where there is no index.
+pub(crate) fn index_kind_at(units: &Units<'_>, unit: usize) -> SymbolKind
+    requires { unit < length units.now }
+    ensures { result ≡ kind_in (drop unit units.now) }
+{
+    match kind_at(units, unit) {
+        Some(kind) => kind,
+        None => SymbolKind::Text,
     }
 }

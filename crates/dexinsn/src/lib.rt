@@ -16,6 +16,7 @@ mod format;
 mod indexed;
 mod instruction;
 mod marked;
+mod numbers;
 mod opcodes;
 mod payload;
 mod piece;

@@ -211,3 +211,16 @@ renumber_all r us vs is js s same all e =
       subst (AreStored us) (sym f) (still_stored r us is s places),
       ap (pieces_with (parts_in us)) f ∙ stored_renumbered r us is s places,
     )
+
+-- the same, with the code's own names for the units and for the indices
+pub indexed_for : (us vs : List ℕ) (is js : List Index) → AreStored us is → vs ≡ us → js ≡ is → All (IsIndexed vs) js
+indexed_for us vs is js s same_us same_is = subst (λ (ws : List ℕ). All (IsIndexed ws) js) (sym same_us) (subst (All (IsIndexed us)) (sym same_is) (stored_indexed us is s))
+
+pub uses_for : (us vs : List ℕ) (is js : List Index) → AreStored us is → vs ≡ us → js ≡ is → uses_of (pieces_with (parts_in us) is) ≡ map (use_at vs) js
+uses_for us vs is js s same_us same_is = stored_uses us is s ∙ ap (λ (ks : List Index). map (use_at us) ks) (sym same_is) ∙ ap (λ (ws : List ℕ). map (use_at ws) js) (sym same_us)
+
+pub places_for : (r : Maps) (us vs : List ℕ) (is js : List Index) → AreStored us is → vs ≡ us → js ≡ is → All (HasPlace r) (pieces_with (parts_in us) is) → All (HasPlaceAt r vs) js
+places_for r us vs is js s same_us same_is all = subst (λ (ws : List ℕ). All (HasPlaceAt r ws) js) (sym same_us) (subst (All (HasPlaceAt r us)) (sym same_is) (stored_places r us is s all))
+
+pub places_back_for : (r : Maps) (us vs : List ℕ) (is js : List Index) → AreStored us is → vs ≡ us → js ≡ is → All (HasPlaceAt r vs) js → All (HasPlace r) (pieces_with (parts_in us) is)
+places_back_for r us vs is js s same_us same_is all = stored_places_back r us is s (subst (All (HasPlaceAt r us)) same_is (subst (λ (ws : List ℕ). All (HasPlaceAt r ws) js) same_us all))

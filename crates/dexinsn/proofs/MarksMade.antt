@@ -2,7 +2,9 @@
 use Rattle.std.proofs.Common.{◌≡◌, ◌≢◌, ℕ, ◌+◌, ◌<◌, ◌≤◌, ◌==◌, Bool, true, false, ◌||◌, ◌&&◌, List, [], ◌∷◌, ◌++◌, length, take, map, get_or, set, refl, ap, sym, ◌∙◌, subst, arith, inl, inr, eq-eqb, ne_eqb, get_or-set_other}
 use Rattle.std.specs.List.{All, list_any}
 use Rattle.std.proofs.lemmas.Bool.{cases_eq}
-use Rattle.std.proofs.lemmas.List.{get_or-set_same, length-set, map_more, take_all}
+use Rattle.std.proofs.lemmas.List.{get_or-set_same, length-set, length-map, map_more, take_all}
+use Rattle.std.proofs.lemmas.List.Elements.{All-get_or}
+use Rattle.std.proofs.Math.ListN.{get_or-map}
 use Rattle.std.proofs.lemmas.List.Folds.{list_any-append}
 use Rattle.dexpool.specs.declared.marks.Marks.{Marks}
 use Rattle.dexpool.specs.declared.symbols.SymbolKind.{SymbolKind}
@@ -84,3 +86,9 @@ mapped_more f xs i d a b c lt before more = subst (λ us. AreMarkedToo us a c) (
 
 pub all_mapped : {X : Type 0} (f : X → Use) (xs : List X) (i : ℕ) (a b : Marks) → length xs ≤ i → AreMarkedToo (map f (take i xs)) a b → AreMarkedToo (map f xs) a b
 all_mapped f xs i a b end h = subst (λ ys. AreMarkedToo (map f ys) a b) (take_all i xs end) h
+
+-- there is a mark for the next one
+pub mark_there : {X : Type 0} (f : X → Use) (xs : List X) (us : List Use) (i : ℕ) (d : X) (a b : Marks) → i < length xs → All (HasMark a) (map f xs) → AreMarkedToo us a b → HasMark b (f (get_or xs i d))
+mark_there f xs us i d a b lt all h =
+    let inside : i < length (map f xs) = subst (λ (n : ℕ). i < n) (sym (length-map xs f)) lt in
+    still_marked us (f (get_or xs i d)) a b h (subst (HasMark a) (get_or-map f xs i d) (All-get_or (HasMark a) (map f xs) i (f d) inside all))

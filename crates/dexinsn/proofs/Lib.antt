@@ -1,3 +1,4 @@
+pub mod PutUnits
 pub mod MarksMade
 pub mod Steps
 pub mod Lined

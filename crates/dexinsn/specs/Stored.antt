@@ -1,6 +1,6 @@
 -- Pieces as they are stored: the units as bytes of the file, and beside them the number of each symbol with the unit
 -- at which its instruction begins.
-use Rattle.std.specs.Prelude.{◌≡◌, ℕ, zero, suc, ◌+◌, ◌*◌, ◌^◌, ◌<◌, if◌then◌else◌, List, [], ◌∷◌, length, drop, map, All, slice_index, Option, Some, None, true, unwrap_or}
+use Rattle.std.specs.Prelude.{◌≡◌, ℕ, zero, suc, ◌+◌, ◌-◌, ◌/◌, ◌%◌, ◌^◌, ◌<◌, ◌≤◌, Bool, false, if◌then◌else◌, List, [], ◌∷◌, ◌++◌, length, take, drop, map, All, slice_index, Option, Some, None, true, unwrap_or}
 use Rattle.std.specs.Option.{option_map_or}
 use Rattle.dexspec.specs.Symbols.{Pool}
 use Rattle.dexspec.specs.Pieces.{Cut, AreCut, cut_units, piece_size, index_pool, is_payload_ident, is_wide_index, with_index}
@@ -85,3 +85,25 @@ renumbered_index r us i = record { unit = i.unit; number = unwrap_or (image_of r
 pub record IsIndexed (us : List ℕ) (i : Index) : Type 0 where
   pub within : i.unit + 1 < length us
   pub wide : is_wide_index (drop i.unit us) ≡ true → i.unit + 2 < length us
+
+-- ---- the units with the numbers put in
+
+-- the units of an index
+abbrev pub index_units : Bool → ℕ → List ℕ
+index_units true n = n % 65536 ∷ n / 65536 ∷ []
+index_units false n = n ∷ []
+
+-- the unit behind the index of the instruction at a unit
+abbrev pub behind_index : Bool → ℕ → ℕ
+behind_index true unit = unit + 3
+behind_index false unit = unit + 2
+
+-- the units from a place on, with these numbers put in
+abbrev pub spelled_from : List ℕ → ℕ → List Index → List ℕ
+spelled_from us from [] = drop from us
+spelled_from us from (i ∷ is) = take (i.unit + 1 - from) (drop from us) ++ (index_units (is_wide_index (drop i.unit us)) i.number ++ spelled_from us (behind_index (is_wide_index (drop i.unit us)) i.unit) is)
+
+-- the indices stand one behind the other, from a place on
+abbrev pub Follow : List ℕ → ℕ → List Index → Type 0
+Follow us from [] = from ≤ length us
+Follow us from (i ∷ is) = (from ≤ i.unit) × Follow us (behind_index (is_wide_index (drop i.unit us)) i.unit) is

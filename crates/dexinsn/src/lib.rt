@@ -8,6 +8,7 @@ pub use format::{Format, IndexKind};
 pub use opcodes::{index_kind, mnemonic};
 pub use payload::PayloadKind;
 pub use pieces::Pieces;
+pub use put::put_pieces;
 pub use reading::read_pieces;
 
 mod code;
@@ -21,6 +22,7 @@ mod opcodes;
 mod payload;
 mod piece;
 mod pieces;
+mod put;
 mod reading;
 #[cfg(test)]
 mod tests;

@@ -1,3 +1,4 @@
+pub mod Meanings
 pub mod PutUnits
 pub mod MarksMade
 pub mod Steps

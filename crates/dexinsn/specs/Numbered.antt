@@ -4,14 +4,14 @@ use Rattle.std.specs.Prelude.{◌≡◌, ℕ, ◌+◌, ◌^◌, ◌<◌, ◌≤�
 use Rattle.std.specs.List.{AllZip, list_any, flat_map}
 use Rattle.std.specs.Option.{IsSome, option_map_or}
 use Rattle.dexspec.specs.Bytes.{ushort}
-use Rattle.dexspec.specs.Symbols.{Pool, Strings, Types, Protos, Fields, Methods, pool_of}
+use Rattle.dexspec.specs.Symbols.{Pool, Strings, Types, Protos, Fields, Methods, Symbol, pool_of}
 use Rattle.dexspec.specs.Mentions.{Mentions}
 use Rattle.dexspec.specs.Pieces.{Piece, index_pool, is_wide_index, with_index}
 use Rattle.dexspec.specs.Pieces as symbolic
 use Rattle.dexpool.specs.declared.symbols.SymbolKind.{SymbolKind}
 use Rattle.dexpool.specs.declared.symbols.SymbolKind.TheVariants as kinds
 use Rattle.dexpool.specs.declared.marks.Marks.{Marks}
-use Rattle.dexpool.specs.Numberings.{IsNumbered, Maps, image_of}
+use Rattle.dexpool.specs.Numberings.{IsNumbered, IsOfKind, Maps, image_of}
 
 -- A piece of code: an instruction's units with those of its index put to zero, beside the number of the symbol that
 -- the index names, if it has one; or the units of a payload.
@@ -66,6 +66,10 @@ piece_uses _ = []
 -- those of all pieces, in order
 abbrev pub uses_of : List NumberedPiece → List Use
 uses_of ps = flat_map piece_uses ps
+
+-- the symbol is the one that occurs
+abbrev pub IsUseOf : Mentions → Use → Symbol → Type 0
+IsUseOf m u s = IsNumbered m u.number s × IsOfKind u.kind s
 
 -- ---- places of numbers
 

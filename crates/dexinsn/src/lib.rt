@@ -5,6 +5,7 @@
 
 pub use code::{CodeFault, Cut, split};
 pub use format::{Format, IndexKind};
+pub use laws::{renumber_law, units_law, uses_law};
 pub use opcodes::{index_kind, mnemonic};
 pub use payload::PayloadKind;
 pub use pieces::Pieces;
@@ -16,6 +17,7 @@ mod code_units;
 mod format;
 mod indexed;
 mod instruction;
+mod laws;
 mod marked;
 mod numbers;
 mod opcodes;

@@ -17,7 +17,7 @@ use Rattle.dexinsn.proofs.Once.{answer_once}
 use Rattle.dexinsn.proofs.StoredRead.{none_read}
 
 -- units are cut in one way
-one_cut : (us : List ℕ) (cs ds : List Cut) → IsCode us cs → IsCode us ds → cs ≡ ds
+pub one_cut : (us : List ℕ) (cs ds : List Cut) → IsCode us cs → IsCode us ds → cs ≡ ds
 one_cut us cs ds x y =
     let a : Result (List Cut) CodeFault = Ok cs in
     let b : Result (List Cut) CodeFault = Ok ds in

@@ -1,3 +1,4 @@
+pub mod StartsRead
 pub mod Meanings
 pub mod PutUnits
 pub mod MarksMade

@@ -1,10 +1,11 @@
 -- Pieces as they are read from a file.
-use Rattle.std.specs.Prelude.{◌≡◌, ℕ, ◌+◌, ◌*◌, ◌%◌, ◌^◌, ◌<◌, List, [], ◌∷◌, drop, All, MatchOption, Option, Some, None, slice_index_or}
+use Rattle.std.specs.Prelude.{◌≡◌, ℕ, ◌+◌, ◌*◌, ◌%◌, ◌^◌, ◌<◌, ◌==◌, pos, Bool, false, List, [], ◌∷◌, length, drop, All, MatchOption, Option, Some, None, slice_index_or}
 use Rattle.dexspec.specs.Bytes.{uint_at}
 use Rattle.dexspec.specs.Sections.{IsInData}
 use Rattle.dexspec.specs.Symbols.{Pool}
 use Rattle.dexspec.specs.Mentions.{Mentions}
-use Rattle.dexspec.specs.Pieces.{Cut, Piece, IsCode, index_pool, index_in}
+use Rattle.dexspec.specs.Pieces.{Cut, Piece, IsCode, index_pool, index_in, is_instruction_start}
+use Rattle.std.specs.List.{list_any}
 use Rattle.dexspec.specs.Code.{code_units, PiecesAt}
 use Rattle.dexpool.specs.declared.faults.ItemFault.{ItemFault}
 use Rattle.dexpool.specs.declared.faults.ItemFault.TheVariants.{Refused, Memory}
@@ -79,3 +80,14 @@ IsCodeFault us m Memory = Unit {0}
 abbrev pub IsOutOfRange : List ℕ → Mentions → List Cut → ItemFault → Type 0
 IsOutOfRange us m cs (Refused number) = (number ≡ 18) × (All (IsInRange us m) cs → ⊥)
 IsOutOfRange us m cs Memory = Unit {0}
+
+-- ---- where pieces begin
+
+-- there is a mark for each unit, which says whether a piece of the code begins there
+pub record AreStartMarks (us : List ℕ) (marks : List Bool) : Type 0 where
+  pub count : length marks ≡ length us
+  pub each : (cuts : List Cut) (k : ℕ) → IsCode us cuts → slice_index_or marks k false ≡ list_any (λ c. c.unit == k) cuts
+
+-- for each unit of the code_item at an offset, whether an instruction begins there
+abbrev pub AreStartsAt : List ℕ → ℕ → List Bool → Type 0
+AreStartsAt b off starts = (cuts : List Cut) (ps : List Piece) (k : ℕ) → PiecesAt b off cuts ps → slice_index_or starts k false ≡ is_instruction_start (code_units b off) cuts (pos k)

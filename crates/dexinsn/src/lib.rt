@@ -10,7 +10,8 @@ pub use opcodes::{index_kind, mnemonic};
 pub use payload::PayloadKind;
 pub use pieces::Pieces;
 pub use put::put_pieces;
-pub use reading::read_pieces;
+pub use reading::{read_pieces, read_pieces_and_starts};
+pub use instruction_starts::InstructionStarts;
 
 mod code;
 mod code_units;
@@ -26,6 +27,7 @@ mod piece;
 mod pieces;
 mod put;
 mod reading;
+mod instruction_starts;
 #[cfg(test)]
 mod tests;
 mod units;

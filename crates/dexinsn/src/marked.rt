@@ -67,6 +67,14 @@ impl<'u, 'a> Marked<'u, 'a> {
         cuts
     }
 
+    /// For each unit whether an instruction or payload begins there.
+    pub(crate) fn into_marks(self) -> Vec<bool>
+        ensures { result ≡ self.entry.marks }
+    {
+        let Marked { marks, .. } = self;
+        marks
+    }
+
     /// The unit of the first piece with a wrong target.
     pub(crate) fn first_astray(&self) -> Option<usize>
         ensures { result ≡ first_astray self.now.units.now (cuts_of self.now.cuts.items) }

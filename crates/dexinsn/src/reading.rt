@@ -6,13 +6,14 @@ ghost use Rattle.dexspec.specs.Code.{RegistersAt};
 ghost use Rattle.dexpool.specs.Pools.{ArePools};
 ghost use Rattle.dexinsn.specs.Units.{units_in};
 ghost use Rattle.dexinsn.specs.Split.{IsPieceAt, cuts_of};
-ghost use Rattle.dexinsn.specs.Reading.{ArePiecesAt, IsPiecesFault, HasCodeRoom, AreUnitsAt, IsNoCode, AreIndicesOf, IsOutOfRange, AreCodeIndices, IsCodeFault};
+ghost use Rattle.dexinsn.specs.Reading.{ArePiecesAt, IsPiecesFault, HasCodeRoom, AreUnitsAt, IsNoCode, AreIndicesOf, IsOutOfRange, AreCodeIndices, IsCodeFault, AreStartMarks, AreStartsAt};
 
 use crate::code::{CodeFault, Cut};
 use crate::code_units::Units;
 use crate::indexed::{index_at, kind_at};
 use crate::marked::Marked;
 use crate::pieces::{Index, Pieces};
+use crate::instruction_starts::InstructionStarts;
 use dexhead::{Frame, u16_at, u32_at};
 use dexpool::{ItemFault, Pools};
 use std::alloc::Global;
@@ -84,21 +85,31 @@ fn read_indices(
     Ok(indices)
 }
 
-// The indices of units that are code.
-fn index_code(alloc: Global, bytes: &[u8], pools: &Pools<'_>) -> Result<Vec<Index>, ItemFault>
+// The indices of units that are code, and for each unit whether a piece begins there.
+fn index_code(
+    alloc: Global,
+    bytes: &[u8],
+    pools: &Pools<'_>,
+) -> Result<(Vec<Index>, Vec<bool>), ItemFault>
     requires { length (units_in bytes.now) < 2 ^ 32 }
-    ensures indices { IfOk result (λ indices. AreCodeIndices (units_in bytes.now) pools.now indices.items) }
+    ensures indices { IfOk result (λ read. AreCodeIndices (units_in bytes.now) pools.now read.0.items) }
+    ensures marks { IfOk result (λ read. AreStartMarks (units_in bytes.now) read.1.items) }
     ensures fault { IfErr result (IsCodeFault (units_in bytes.now) pools.now) }
 {
     let units = Units::of_bytes(bytes);
-    match cut_code(alloc, &units) {
-        Ok(marked) => read_indices(alloc, &units, &marked.cuts, pools),
-        Err(CodeFault::Memory) => Err(ItemFault::Memory),
-        Err(_) => Err(ItemFault::Refused(18)),
-    }
+    let marked = match cut_code(alloc, &units) {
+        Ok(marked) => marked,
+        Err(CodeFault::Memory) => return Err(ItemFault::Memory),
+        Err(_) => return Err(ItemFault::Refused(18)),
+    };
+    let indices = match read_indices(alloc, &units, &marked.cuts, pools) {
+        Ok(indices) => indices,
+        Err(fault) => return Err(fault),
+    };
+    Ok((indices, marked.into_marks()))
 }
 
-/// Reads the registers and the pieces of the code_item at an offset, of which the pools are those of the file. The
+/// Reads the registers and the pieces of the code_item at an offset, where the pools are those of the file. The
 /// units are borrowed, and not copied.
 ///
 /// Error: `Refused(18)` exactly where the code_item's fixed part and units are not wholly in the data at a multiple
@@ -117,20 +128,45 @@ pub fn read_pieces<'a>(
     ensures pieces { IfOk result (λ pieces. ArePiecesAt frame.now off pools.now pieces.pieces) }
     ensures refused { IfErr result (IsPiecesFault frame.now off) }
 {
+    match read_pieces_and_starts(alloc, frame, pools, off) {
+        Ok((pieces, _)) => Ok(pieces),
+        Err(fault) => Err(fault),
+    }
+}
+
+/// Reads what [`read_pieces`] reads, and the units at which instructions begin: those that tries, handlers and
+/// debug programs may name. They take a byte of memory for each unit.
+///
+/// Error: as of [`read_pieces`].
+///
+/// Source: "code_item"; the Android page "Dalvik bytecode".
+pub fn read_pieces_and_starts<'a>(
+    alloc: Global,
+    frame: &Frame<'a>,
+    pools: &Pools<'_>,
+    off: u32,
+) -> Result<(Pieces<'a>, InstructionStarts<'a>), ItemFault>
+    requires { ArePools frame.now pools.now }
+    ensures registers { IfOk result (λ read. RegistersAt frame.now off read.0.registers read.0.ins read.0.outs) }
+    ensures pieces { IfOk result (λ read. ArePiecesAt frame.now off pools.now read.0.pieces) }
+    ensures starts { IfOk result (λ read. AreStartsAt frame.now off read.1) }
+    ensures refused { IfErr result (IsPiecesFault frame.now off) }
+{
     let bytes = match units_at(frame, off) {
         Some(bytes) => bytes,
         None => return Err(ItemFault::Refused(18)),
     };
-    let indices = match index_code(alloc, bytes, pools) {
-        Ok(indices) => indices,
+    let (indices, marks) = match index_code(alloc, bytes, pools) {
+        Ok(read) => read,
         Err(fault) => return Err(fault),
     };
     let code = frame.rest(off);
-    Ok(Pieces {
+    let pieces = Pieces {
         registers: u16_at(code, 0),
         ins: u16_at(code, 2),
         outs: u16_at(code, 4),
         bytes,
         indices,
-    })
+    };
+    Ok((pieces, InstructionStarts::of(bytes, marks)))
 }

@@ -1,6 +1,9 @@
 -- What numbers stand for: ranks, and the same symbols under other numbers.
 use Rattle.std.proofs.Common.{◌≡◌, ℕ, ◌<◌, ◌+◌, Bool, true, false, List, [], ◌∷◌, ◌++◌, length, map, get_or, Option, Some, None, refl, ap, sym, ◌∙◌, subst}
-use Rattle.std.specs.Prelude.{option_to_list}
+use Rattle.std.specs.Prelude.{option_to_list, Result}
+use Rattle.std.specs.Global.{Vec}
+use Rattle.dexspec.specs.Bytes.{ushort}
+use Rattle.dexspec.specs.Writing.{Puts}
 use Rattle.std.specs.List.{All, AllZip, flat_map}
 use Rattle.std.specs.Option.{IsSome, option_map_or}
 use Rattle.std.proofs.lemmas.List.Elements.{All-nil, All-cons, All-head, All-tail}
@@ -16,7 +19,7 @@ use Rattle.dexspec.proofs.SymbolOrders.{text_total, proto_total, field_total, me
 use Rattle.dexpool.specs.declared.symbols.SymbolKind.{SymbolKind}
 use Rattle.dexpool.specs.declared.symbols.SymbolKind.TheVariants as kinds
 use Rattle.dexpool.specs.Numberings.{IsAt, IsNumbered, IsOfKind, AreRising, Maps, image_of, Leads, AllLead}
-use Rattle.dexinsn.specs.Numbered.{NumberedPiece, Instruction, Payload, StandsFor, StandFor, Use, kind_in, kind_of_pool, piece_uses, uses_of, numbered_units, HasImage, HasPlace, renumbered_piece, IsUseOf}
+use Rattle.dexinsn.specs.Numbered.{NumberedPiece, Instruction, Payload, StandsFor, StandFor, Use, kind_in, kind_of_pool, piece_uses, uses_of, numbered_units, numbered_bytes, HasImage, HasPlace, renumbered_piece, IsUseOf}
 
 no_proto : Proto
 no_proto = record { return_type = []; parameters = [] }
@@ -122,3 +125,8 @@ uses_stand m (Instruction us None ∷ ps) (symbolic.Payload xs ∷ qs) h = absur
 uses_stand m (Instruction us (Some i) ∷ ps) (symbolic.Instruction xs None ∷ qs) h = absurd h.0
 uses_stand m (Instruction us (Some i) ∷ ps) (symbolic.Payload xs ∷ qs) h = absurd h.0
 uses_stand m (Payload us ∷ ps) (symbolic.Instruction xs s ∷ qs) h = absurd h.0
+
+-- so are the bytes
+pub bytes_put : {T E : Type 0} (m : Mentions) (ps : List NumberedPiece) (qs : List Piece) (old new : Vec ℕ) (r : Result T E) → flat_map numbered_units ps ≡ flat_map (piece_units m) qs → Puts (numbered_bytes ps) old new r → Puts (flat_map ushort (flat_map (piece_units m) qs)) old new r
+unfolding numbered_bytes
+bytes_put m ps qs old new r e h = subst (λ us. Puts (flat_map ushort us) old new r) e h

@@ -1,7 +1,9 @@
 //! The pieces of a code_item, with numbers in the place of symbols.
 
-ghost use Rattle.std.specs.Prelude.{◌≡◌};
+ghost use Rattle.std.specs.Prelude.{◌≡◌, ◌*◌, length};
+ghost use Rattle.dexinsn.specs.Numbered.{numbered_bytes};
 
+use crate::code_units::Units;
 use std::marker::Model;
 
 /// The number of the symbol that an instruction's index names.
@@ -65,5 +67,14 @@ impl<'a> Pieces<'a> {
         ensures { result ≡ self.now.outs }
     {
         self.outs
+    }
+
+    /// The number of units: half the number of bytes that [`put_pieces`](crate::put_pieces) appends.
+    ///
+    /// Source: "code_item", the field `insns_size`.
+    pub fn units(&self) -> u32
+        ensures { 2 * result ≡ length (numbered_bytes self.now.pieces) }
+    {
+        Units::of_bytes(self.bytes).len() as u32
     }
 }

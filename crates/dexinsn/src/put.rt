@@ -3,15 +3,20 @@
 ghost use Rattle.std.specs.Prelude.{◌≡◌, ◌++◌, ◌+◌, ◌*◌, ◌-◌, ◌^◌, ◌<◌, ◌≤◌, All, List, length, take, drop, false, vec_len, vec_capacity};
 ghost use Rattle.std.specs.List.{flat_map};
 ghost use Rattle.dexspec.specs.Bytes.{ushort};
+ghost use Rattle.dexspec.specs.Pieces.{Piece};
+ghost use Rattle.dexspec.specs.Spellings.{piece_units};
 ghost use Rattle.dexspec.specs.Writing.{Puts};
+ghost use Rattle.dexpool.specs.Numberings.{AreRising};
 ghost use Rattle.dexinsn.specs.Units.{units_in};
-ghost use Rattle.dexinsn.specs.Numbered.{numbered_bytes};
+ghost use Rattle.dexinsn.specs.Numbered.{numbered_bytes, StandFor};
 ghost use Rattle.dexinsn.specs.Stored.{AreStored, index_units, behind_index, spelled_from};
 
 use crate::code_units::Units;
 use crate::indexed::is_wide_at;
+use crate::laws::units_law;
 use crate::pieces::{Index, Pieces};
 use dexhead::{put_u16, put_u32};
+use dexpool::Numbering;
 use std::alloc::AllocError;
 
 // Appends the bytes of the units from one place up to another, where there is room for them.
@@ -51,6 +56,16 @@ fn behind_index(is_wide: bool, unit: usize) -> usize
     if is_wide { unit + 3 } else { unit + 2 }
 }
 
+// Appends the units of the pieces.
+fn put_numbered(pieces: &Pieces<'_>, out: &mut Vec<u8>) -> Result<(), AllocError>
+    ensures { Puts (numbered_bytes pieces.now.pieces) out.old out.new result }
+{
+    let units = Units::of_bytes(pieces.bytes);
+    out.reserve(2 * units.len())?;
+    push_numbered(pieces.bytes, &pieces.indices, out);
+    Ok(())
+}
+
 // Appends the units, their numbers put in, where there is room for them.
 fn push_numbered(bytes: &[u8], indices: &[Index], out: &mut Vec<u8>)
     requires stored { AreStored (units_in bytes.now) indices.now }
@@ -72,16 +87,22 @@ fn push_numbered(bytes: &[u8], indices: &[Index], out: &mut Vec<u8>)
 }
 
 /// Appends the units of the pieces, the number of each symbol put in: two bytes for each unit, the lower first.
+/// They are the units of the symbolic pieces that these stand for in the numbering, each index the rank of its
+/// symbol.
 ///
 /// It fails only for want of memory, and not where the spare room is at least two bytes for each unit; the vector
 /// is then as it was.
 ///
 /// Source: "code_item", the field `insns`; the Android page "Dalvik executable instruction formats".
-pub fn put_pieces(pieces: &Pieces<'_>, out: &mut Vec<u8>) -> Result<(), AllocError>
-    ensures { Puts (numbered_bytes pieces.now.pieces) out.old out.new result }
+pub fn put_pieces(
+    pieces: &Pieces<'_>,
+    numbering: &Numbering<'_>,
+    out: &mut Vec<u8>,
+) -> Result<(), AllocError>
+    ensures bytes { Puts (numbered_bytes pieces.now.pieces) out.old out.new result }
+    ensures symbolic { (symbolic : List Piece) → AreRising numbering.now → StandFor numbering.now pieces.now.pieces symbolic → Puts (flat_map ushort (flat_map (piece_units numbering.now) symbolic)) out.old out.new result }
 {
-    let units = Units::of_bytes(pieces.bytes);
-    out.reserve(2 * units.len())?;
-    push_numbered(pieces.bytes, &pieces.indices, out);
-    Ok(())
+    let _numbering = numbering;
+    units_law();
+    put_numbered(pieces, out)
 }

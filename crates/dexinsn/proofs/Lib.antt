@@ -1,3 +1,15 @@
+pub mod StartsRead
+pub mod Meanings
+pub mod PutUnits
+pub mod MarksMade
+pub mod Steps
+pub mod Lined
+pub mod FaultsRead
+pub mod StoredRead
+pub mod CodeRead
+pub mod IndicesRead
+pub mod IndexRoom
+pub mod Halves
 pub mod Table
 pub mod Signed
 pub mod Keys

@@ -2,6 +2,7 @@ ghost use Rattle.std.specs.Prelude.{◌≡◌, List, Result, IfErr, IfOk};
 ghost use Rattle.dexspec.specs.Pieces.{Cut as Meant, IsCode};
 ghost use Rattle.dexinsn.specs.Split.{IsAnswer, IsAnswered, IsFault, cuts_of, kind_of, unit_of};
 
+use crate::code_units::Units;
 use crate::marked::Marked;
 use std::alloc::Global;
 
@@ -70,7 +71,8 @@ pub fn split(alloc: Global, units: &[u16]) -> Result<Vec<Cut>, CodeFault>
     if units.is_empty() {
         return Err(CodeFault::Empty);
     }
-    let marked = match Marked::cut(alloc, units) {
+    let units = Units::of_numbers(units);
+    let marked = match Marked::cut(alloc, &units) {
         Ok(marked) => marked,
         Err(fault) => return Err(fault),
     };

@@ -1,9 +1,10 @@
-ghost use Rattle.std.specs.Prelude.{◌≡◌, ◌+◌, ◌<◌, ◌≤◌, length, slice_index};
+ghost use Rattle.std.specs.Prelude.{◌≡◌, ◌+◌, ◌<◌, ◌≤◌, ◌^◌, length, slice_index};
 ghost use Rattle.std.specs.Option.{option_map};
 ghost use Rattle.dexspec.specs.Opcodes.{units_in};
 ghost use Rattle.dexspec.specs.Pieces.{branch_offset, instruction_size, is_first_unit};
 ghost use Rattle.dexinsn.specs.Opcode.{format_of};
 
+use crate::code_units::Units;
 use crate::format::Format;
 use crate::units::{high_byte_of, int_at, opcode_in, signed8, signed16};
 
@@ -12,11 +13,11 @@ const MAX_COUNTED: u16 = 5;
 
 /// The number of units of the instruction that stands first; `None` where its opcode is unused, the
 /// units are too few, a byte that the format leaves empty is not zero, or 35c counts too many registers.
-pub(crate) fn instruction_size(units: &[u16]) -> Option<usize>
+pub(crate) fn instruction_size(units: &Units<'_>) -> Option<usize>
     requires { 0 < length units.now }
     ensures { result ≡ instruction_size units.now }
 {
-    let first = units[0];
+    let first = units.at(0);
     let format = Format::of(opcode_in(first))?;
     let needed = format.units();
     if needed <= units.len() && is_first_unit(format, first) {
@@ -39,13 +40,14 @@ fn is_first_unit(format: Format, first: u16) -> bool
 
 /// How far the instruction at unit `at` branches, or how far off its payload is, in units from its own;
 /// `None` where it does neither.
-pub(crate) fn branch_offset(format: Format, units: &[u16], at: usize) -> Option<i32>
-    requires { at + units_in (format_of format) ≤ length units.now }
+pub(crate) fn branch_offset(format: Format, units: &Units<'_>, at: usize) -> Option<i32>
+    requires within { at + units_in (format_of format) ≤ length units.now }
+    requires small { length units.now < 2 ^ 62 }
     ensures { result ≡ branch_offset (format_of format) units.now at }
 {
     match format {
-        Format::Format10t => Some(signed8(high_byte_of(units[at]))),
-        Format::Format20t | Format::Format21t | Format::Format22t => Some(signed16(units[at + 1])),
+        Format::Format10t => Some(signed8(high_byte_of(units.at(at)))),
+        Format::Format20t | Format::Format21t | Format::Format22t => Some(signed16(units.at(at + 1))),
         Format::Format30t | Format::Format31t => Some(int_at(units, at + 1)),
         _ => None,
     }

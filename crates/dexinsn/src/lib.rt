@@ -5,16 +5,29 @@
 
 pub use code::{CodeFault, Cut, split};
 pub use format::{Format, IndexKind};
+pub use laws::{renumber_law, units_law, uses_law};
 pub use opcodes::{index_kind, mnemonic};
 pub use payload::PayloadKind;
+pub use pieces::Pieces;
+pub use put::put_pieces;
+pub use reading::{read_pieces, read_pieces_and_starts};
+pub use instruction_starts::InstructionStarts;
 
 mod code;
+mod code_units;
 mod format;
+mod indexed;
 mod instruction;
+mod laws;
 mod marked;
+mod numbers;
 mod opcodes;
 mod payload;
 mod piece;
+mod pieces;
+mod put;
+mod reading;
+mod instruction_starts;
 #[cfg(test)]
 mod tests;
 mod units;

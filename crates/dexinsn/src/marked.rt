@@ -1,4 +1,4 @@
-ghost use Rattle.std.specs.Prelude.{◌≡◌, ℕ, ◌+◌, ◌*◌, ◌<◌, ◌≤◌, pos, Bool, IfErr, IfOk, IfSome, IsSome, drop, length, slice_index};
+ghost use Rattle.std.specs.Prelude.{◌≡◌, ℕ, ◌+◌, ◌*◌, ◌<◌, ◌≤◌, ◌^◌, pos, Bool, IfErr, IfOk, IfSome, IsSome, drop, length, slice_index};
 ghost use Rattle.std.proofs.Props.{props};
 ghost use Rattle.dexspec.specs.Opcodes.{units_in};
 ghost use Rattle.dexspec.specs.Pieces.{has_right_targets, ints_in, is_instruction_start, payload_targets, piece_size};
@@ -8,6 +8,7 @@ ghost use Rattle.dexinsn.specs.Props.{AreCut-prop};
 ghost use Rattle.dexinsn.specs.Split.{AreMarked, IsCutFault, IsPieceAt, cut_of, cuts_of, first_astray, lead_right, branches_right, leads_to_payload, passes_at, starts_with};
 
 use crate::code::{CodeFault, Cut};
+use crate::code_units::Units;
 use crate::format::Format;
 use crate::instruction::branch_offset;
 use crate::payload::PayloadKind;
@@ -18,16 +19,17 @@ use std::alloc::Global;
 /// Units that are cut to their end, with a mark for each unit, which says whether an instruction or
 /// payload begins there.
 #[derive(Drop)]
-pub(crate) struct Marked<'a> {
-    units: &'a [u16],
-    cuts: Vec<Cut>,
+pub(crate) struct Marked<'u, 'a> {
+    pub(crate) units: &'u Units<'a>,
+    pub(crate) cuts: Vec<Cut>,
     marks: Vec<bool>,
+    ghost is_small: { length units.now < 2 ^ 62 },
     ghost are_marked: { AreMarked units.now cuts.items marks.items (length units.now) } by { Prim.hlevel (props, AreCut-prop) },
 }
 
-impl<'a> Marked<'a> {
+impl<'u, 'a> Marked<'u, 'a> {
     /// Cuts the units to their end.
-    pub(crate) fn cut(alloc: Global, units: &'a [u16]) -> Result<Marked<'a>, CodeFault>
+    pub(crate) fn cut(alloc: Global, units: &'u Units<'a>) -> Result<Marked<'u, 'a>, CodeFault>
         ensures units { IfOk result (λ marked. marked.units.now ≡ units.now) }
         ensures fault { IfErr result (IsCutFault units.now) }
     {
@@ -38,7 +40,7 @@ impl<'a> Marked<'a> {
         };
         let mut at = 0;
         while at < units.len() {
-            let size = match piece_size(at, units.split_at(at).1) {
+            let size = match piece_size(at, &units.rest(at)) {
                 Some(size) => size,
                 None => return Err(CodeFault::Piece(at)),
             };
@@ -65,6 +67,14 @@ impl<'a> Marked<'a> {
         cuts
     }
 
+    /// For each unit whether an instruction or payload begins there.
+    pub(crate) fn into_marks(self) -> Vec<bool>
+        ensures { result ≡ self.entry.marks }
+    {
+        let Marked { marks, .. } = self;
+        marks
+    }
+
     /// The unit of the first piece with a wrong target.
     pub(crate) fn first_astray(&self) -> Option<usize>
         ensures { result ≡ first_astray self.now.units.now (cuts_of self.now.cuts.items) }
@@ -83,7 +93,7 @@ impl<'a> Marked<'a> {
         requires { IsPieceAt self.now.units.now (cut_of cut) }
         ensures { result ≡ has_right_targets self.now.units.now (cuts_of self.now.cuts.items) (cut_of cut) }
     {
-        let first = self.units[cut.unit];
+        let first = self.units.at(cut.unit);
         if PayloadKind::of(first).is_some() {
             return true;
         }
@@ -106,7 +116,7 @@ impl<'a> Marked<'a> {
         let target = at as i64 + i64::from(offset);
         match format {
             Format::Format31t => {
-                let kind = PayloadKind::led_to_by(opcode_in(self.units[at]));
+                let kind = PayloadKind::led_to_by(opcode_in(self.units.at(at)));
                 self.leads_to_payload(at, kind, target)
             }
             _ => self.is_instruction_start(target),
@@ -118,7 +128,7 @@ impl<'a> Marked<'a> {
         ensures { result ≡ is_instruction_start self.now.units.now (cuts_of self.now.cuts.items) place }
     {
         match self.start_at(place) {
-            Some(unit) => PayloadKind::of(self.units[unit]).is_none(),
+            Some(unit) => PayloadKind::of(self.units.at(unit)).is_none(),
             None => false,
         }
     }
@@ -131,7 +141,7 @@ impl<'a> Marked<'a> {
     {
         match self.start_at(place) {
             Some(unit) => {
-                self.units[unit] == kind.ident() && self.payload_leads_right(at, kind, unit)
+                self.units.at(unit) == kind.ident() && self.payload_leads_right(at, kind, unit)
             }
             None => false,
         }
@@ -148,11 +158,11 @@ impl<'a> Marked<'a> {
     {
         match kind {
             PayloadKind::PackedSwitch => {
-                let count = usize::from(self.units[unit + 1]);
+                let count = usize::from(self.units.at(unit + 1));
                 self.ints_lead_right(at, unit + 4, count)
             }
             PayloadKind::SparseSwitch => {
-                let count = usize::from(self.units[unit + 1]);
+                let count = usize::from(self.units.at(unit + 1));
                 self.ints_lead_right(at, unit + 2 + 2 * count, count)
             }
             PayloadKind::ArrayData => true,

@@ -1,10 +1,11 @@
-ghost use Rattle.std.specs.Prelude.{◌≡◌, ◌+◌, ◌*◌, ◌<◌, ◌≤◌, length, slice_index, IfSome, Some, None, if◌then◌else◌};
+ghost use Rattle.std.specs.Prelude.{◌≡◌, ◌+◌, ◌*◌, ◌<◌, ◌≤◌, ◌^◌, length, slice_index, IfSome, Some, None, if◌then◌else◌};
 ghost use Rattle.std.specs.Option.{option_map};
 ghost use Rattle.std.specs.Ordering.{int_cmp};
 ghost use Rattle.dexspec.specs.Lists.{rises};
 ghost use Rattle.dexspec.specs.Pieces.{ints_in, is_payload_ident, payload_ident, payload_size, packed_switch_ident, sparse_switch_ident, array_data_ident};
 ghost use Rattle.dexinsn.specs.Payload.{ident_of};
 
+use crate::code_units::Units;
 use crate::units::int_at;
 
 /// The three kinds of payload: the data of an instruction that stands apart from it.
@@ -59,7 +60,7 @@ impl PayloadKind {
     /// The number of units of the payload that stands first; `None` where the units are too few, where
     /// the keys of a sparse switch do not rise strictly, and where an element is not 1, 2, 4 or 8 bytes
     /// wide.
-    pub(crate) fn size(self, units: &[u16]) -> Option<usize>
+    pub(crate) fn size(self, units: &Units<'_>) -> Option<usize>
         requires { slice_index units.now 0 ≡ ident_of self }
         ensures { result ≡ payload_size units.now }
     {
@@ -71,14 +72,14 @@ impl PayloadKind {
     }
 }
 
-fn packed_switch_size(units: &[u16]) -> Option<usize>
+fn packed_switch_size(units: &Units<'_>) -> Option<usize>
     requires { slice_index units.now 0 ≡ packed_switch_ident }
     ensures { result ≡ payload_size units.now }
 {
     if units.len() < 2 {
         return None;
     }
-    let needed = 4 + 2 * usize::from(units[1]);
+    let needed = 4 + 2 * usize::from(units.at(1));
     if needed <= units.len() {
         Some(needed)
     } else {
@@ -86,14 +87,14 @@ fn packed_switch_size(units: &[u16]) -> Option<usize>
     }
 }
 
-fn sparse_switch_size(units: &[u16]) -> Option<usize>
+fn sparse_switch_size(units: &Units<'_>) -> Option<usize>
     requires { slice_index units.now 0 ≡ sparse_switch_ident }
     ensures { result ≡ payload_size units.now }
 {
     if units.len() < 2 {
         return None;
     }
-    let size = usize::from(units[1]);
+    let size = usize::from(units.at(1));
     let needed = 2 + 4 * size;
     if needed <= units.len() && keys_rise(units, size) {
         Some(needed)
@@ -102,15 +103,15 @@ fn sparse_switch_size(units: &[u16]) -> Option<usize>
     }
 }
 
-fn array_data_size(units: &[u16]) -> Option<usize>
+fn array_data_size(units: &Units<'_>) -> Option<usize>
     requires { slice_index units.now 0 ≡ array_data_ident }
     ensures { result ≡ payload_size units.now }
 {
     if units.len() < 4 {
         return None;
     }
-    let width = u64::from(units[1]);
-    let count = u64::from(units[2]) + 0x1_0000 * u64::from(units[3]);
+    let width = u64::from(units.at(1));
+    let count = u64::from(units.at(2)) + 0x1_0000 * u64::from(units.at(3));
     let needed = 4 + (count * width + 1) / 2;
     if needed <= units.len() as u64 && matches!(width, 1 | 2 | 4 | 8) {
         Some(needed as usize)
@@ -120,8 +121,9 @@ fn array_data_size(units: &[u16]) -> Option<usize>
 }
 
 /// Whether so many keys, from the third unit on, rise strictly.
-fn keys_rise(units: &[u16], size: usize) -> bool
-    requires { 2 + 2 * size ≤ length units.now }
+fn keys_rise(units: &Units<'_>, size: usize) -> bool
+    requires within { 2 + 2 * size ≤ length units.now }
+    requires few { size < 2 ^ 16 }
     ensures { result ≡ rises int_cmp (ints_in units.now 2 size) }
 {
     for i in 1..size {

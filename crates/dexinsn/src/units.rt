@@ -2,6 +2,8 @@ ghost use Rattle.std.specs.Prelude.{◌≡◌, ◌+◌, ◌<◌, length};
 ghost use Rattle.dexspec.specs.Bytes.{signed_in};
 ghost use Rattle.dexspec.specs.Pieces.{high_byte, int_in, low_byte};
 
+use crate::code_units::Units;
+
 /// The opcode of the instruction that begins with this unit.
 pub(crate) fn opcode_in(unit: u16) -> u8
     ensures { result ≡ low_byte unit }
@@ -17,11 +19,11 @@ pub(crate) fn high_byte_of(unit: u16) -> u8
 }
 
 /// The signed number that the unit at `i` and the one behind it hold, the lower first.
-pub(crate) fn int_at(units: &[u16], i: usize) -> i32
+pub(crate) fn int_at(units: &Units<'_>, i: usize) -> i32
     requires { i + 1 < length units.now }
     ensures { result ≡ int_in units.now i }
 {
-    signed32(u32::from(units[i]) + 0x1_0000 * u32::from(units[i + 1]))
+    signed32(u32::from(units.at(i)) + 0x1_0000 * u32::from(units.at(i + 1)))
 }
 
 /// The byte as a signed number.

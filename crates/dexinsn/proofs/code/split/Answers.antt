@@ -1,4 +1,4 @@
-use Rattle.std.proofs.Common.{Ok, Err, sym, ap, arith}
+use Rattle.std.proofs.Common.{Ok, Err, sym, ◌∙◌, ap, arith}
 use Rattle.std.proofs.lemmas.Grind.{common_steps}
 use Rattle.dexinsn.specs.declared.code.CodeFault.TheVariants.{Target}
 use Rattle.dexinsn.specs.Split.{cuts_of}
@@ -8,20 +8,20 @@ use Rattle.dexinsn.proofs.code.split.Goals as goal
 
 pub returns-in-Err-clause-only : goal.returns-in-Err-clause-only
 returns-in-Err-clause-only c = λ answer is.
-    answered_fault c.args.units.now c.in-Err.fault answer (cut_fault c.args.units.now c.in-Err.fault c.in-Err.ensures.fault) is
+    answered_fault c.args.units.now c.in-Err.fault answer (cut_fault c.args.units.now c.in-Err.fault (rw c.of_numbers-units.ensures at c.in-Err.ensures.fault)) is
 
 pub returns-in-Some-clause-only : goal.returns-in-Some-clause-only
 returns-in-Some-clause-only c = λ answer is.
     answer_once c.args.units.now (Err (Target c.in-Some.unit)) answer
-    (AreMarked-astray c.args.units.now c.in-Ok.marked.units.now c.in-Ok.marked.cuts.items c.in-Ok.marked.marks.items c.in-Some.unit c.in-Ok.ensures.units c.in-Ok.marked.are_marked (sym c.in-Some.ensures)) is
+    (AreMarked-astray c.args.units.now c.in-Ok.marked.units.now c.in-Ok.marked.cuts.items c.in-Ok.marked.marks.items c.in-Some.unit (c.in-Ok.ensures.units ∙ c.of_numbers-units.ensures) c.in-Ok.marked.are_marked (sym c.in-Some.ensures)) is
 
 pub returns-in-None-clause-code : goal.returns-in-None-clause-code
 returns-in-None-clause-code c =
     AreMarked-code c.args.units.now c.in-Ok.marked.units.now c.in-Ok.marked.cuts.items c.in-Ok.marked.marks.items c.into_cuts.result.items
-    c.in-Ok.ensures.units (ap (λ v. v.items) c.into_cuts.ensures) (grind (arith, common_steps)) c.in-Ok.marked.are_marked (sym c.in-None.ensures)
+    (c.in-Ok.ensures.units ∙ c.of_numbers-units.ensures) (ap (λ v. v.items) c.into_cuts.ensures) (grind (arith, common_steps)) c.in-Ok.marked.are_marked (sym c.in-None.ensures)
 
 pub returns-in-None-clause-only : goal.returns-in-None-clause-only
 returns-in-None-clause-only c = λ answer is.
     answer_once c.args.units.now (Ok (cuts_of c.into_cuts.result.items)) answer
     (AreMarked-code c.args.units.now c.in-Ok.marked.units.now c.in-Ok.marked.cuts.items c.in-Ok.marked.marks.items c.into_cuts.result.items
-    c.in-Ok.ensures.units (ap (λ v. v.items) c.into_cuts.ensures) (grind (arith, common_steps)) c.in-Ok.marked.are_marked (sym c.in-None.ensures)) is
+    (c.in-Ok.ensures.units ∙ c.of_numbers-units.ensures) (ap (λ v. v.items) c.into_cuts.ensures) (grind (arith, common_steps)) c.in-Ok.marked.are_marked (sym c.in-None.ensures)) is

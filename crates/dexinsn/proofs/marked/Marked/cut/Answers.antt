@@ -9,6 +9,6 @@ use Rattle.dexinsn.proofs.marked.Marked.cut.Goals as goal
 pub loop-at-preserved : goal.loop-at-preserved
 loop-at-preserved c =
     let pushed : c.push.new.self.items ≡ c.loop-at.cuts.items ++ record { unit = c.loop-at.at; units = c.in-Some.size } ∷ [] = grind (arith, common_steps) in
-    let size : piece_size c.loop-at.at (drop c.loop-at.at c.args.units.now) ≡ Some c.in-Some.size = ap (piece_size c.loop-at.at) (sym c.split_at.ensures.back) ∙ sym c.in-Some.ensures.size in
+    let size : piece_size c.loop-at.at (drop c.loop-at.at c.args.units.now) ≡ Some c.in-Some.size = ap (piece_size c.loop-at.at) (sym c.rest.ensures) ∙ sym c.in-Some.ensures.size in
     subst (λ (cuts : List Cut). AreMarked c.args.units.now cuts (set c.loop-at.marks.items c.loop-at.at true) (c.loop-at.at + c.in-Some.size)) (sym pushed)
-    (AreMarked-more c.args.units.now c.loop-at.cuts.items c.loop-at.marks.items c.loop-at.at c.in-Some.size c.loop-at.invariant c.loop-at-test.true size)
+    (AreMarked-more c.args.units.now c.loop-at.cuts.items c.loop-at.marks.items c.loop-at.at c.in-Some.size c.loop-at.invariant (omega arith) size)

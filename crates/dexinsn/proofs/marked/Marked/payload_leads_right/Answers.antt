@@ -4,12 +4,12 @@ use Rattle.dexinsn.specs.Payload.{ident_of}
 use Rattle.dexinsn.proofs.Sizes.{packed_fits, sparse_fits}
 use Rattle.dexinsn.proofs.marked.Marked.payload_leads_right.Goals as goal
 
-pub bounds-self-unit : goal.bounds-self-unit
-bounds-self-unit c =
+pub at-requires : goal.at-requires
+at-requires c =
     let first : slice_index c.args.self.now.units.now c.args.unit ≡ packed_switch_ident = c.requires.kind ∙ ap ident_of c.in-PackedSwitch.is in
     omega (arith, packed_fits c.args.self.now.units.now c.args.unit c.requires.piece first)
 
-pub bounds-self-unit-in-SparseSwitch : goal.bounds-self-unit-in-SparseSwitch
-bounds-self-unit-in-SparseSwitch c =
+pub at-requires-in-SparseSwitch : goal.at-requires-in-SparseSwitch
+at-requires-in-SparseSwitch c =
     let first : slice_index c.args.self.now.units.now c.args.unit ≡ sparse_switch_ident = c.requires.kind ∙ ap ident_of c.in-SparseSwitch.is in
     omega (arith, sparse_fits c.args.self.now.units.now c.args.unit c.requires.piece first)

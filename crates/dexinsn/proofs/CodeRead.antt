@@ -1,0 +1,39 @@
+-- The units of a code_item, and that they are code.
+use Rattle.std.proofs.Common.{◌≡◌, ℕ, ◌+◌, ◌*◌, ◌%◌, ◌^◌, ◌<◌, ◌≤◌, List, [], length, drop, take, Some, None, Ok, Err, refl, ap, sym, ◌∙◌, subst, arith, length-drop}
+use Rattle.std.proofs.lemmas.List.{drop-drop, nil_from_length}
+use Rattle.dexspec.specs.Bytes.{uint_at, ushorts_at}
+use Rattle.dexspec.specs.Sections.{IsInData}
+use Rattle.dexspec.specs.Pieces.{Cut, IsCode}
+use Rattle.dexspec.specs.Code.{code_units}
+use Rattle.dexinsn.specs.declared.code.CodeFault.{CodeFault}
+use Rattle.dexinsn.specs.declared.code.CodeFault.TheVariants.{Empty, Piece, Target, Memory}
+use Rattle.dexinsn.specs.Units.{units_in}
+use Rattle.dexinsn.specs.Split.{IsCutFault, IsAnswer, GoesAstrayAt}
+use Rattle.dexinsn.specs.Reading.{HasCodeRoom, AreUnitsAt, IsNoCode}
+use Rattle.dexinsn.proofs.Halves.{uint_behind, units_of_part}
+use Rattle.dexinsn.proofs.Once.{answer_once}
+
+-- there is no room where there is none for so many units
+pub no_room : (b : List ℕ) (off n : ℕ) → n ≡ uint_at (drop off b) 12 → (IsInData b off (16 + 2 * n) → ⊥) → HasCodeRoom b off → ⊥
+no_room b off n is none r = none (subst (λ (k : ℕ). IsInData b off (16 + 2 * k)) (sym (is ∙ uint_behind b off 12)) r.in_data)
+
+-- the bytes behind the fixed part
+pub units_there : (b : List ℕ) (off n : ℕ) (rest bytes : List ℕ) → n ≡ uint_at (drop off b) 12 → n < 2 ^ 32 → off % 4 ≡ 0 → IsInData b off (16 + 2 * n) → rest ≡ drop 16 (drop off b) → bytes ≡ take (2 * n) rest → AreUnitsAt b off bytes
+units_there b off n rest bytes is small aligned room behind front =
+    let count : n ≡ uint_at b (off + 12) = is ∙ uint_behind b off 12 in
+    let within : off + (16 + 2 * n) ≤ length b = room.within in
+    record {
+      room = record { in_data = subst (λ (k : ℕ). IsInData b off (16 + 2 * k)) count room; aligned = aligned };
+      units = ap units_in (front ∙ ap (take (2 * n)) (behind ∙ drop-drop 16 off b)) ∙ units_of_part b (off + 16) n (omega arith) ∙ ap (ushorts_at b (off + 16)) count;
+      few = subst (λ (k : ℕ). k < 2 ^ 32) count small;
+    }
+
+-- what breaks or goes astray is no code
+pub cut_is_none : (us : List ℕ) (f : CodeFault) → IsCutFault us f → IsNoCode us f
+cut_is_none us Empty h = absurd h
+cut_is_none us (Piece n) h = λ cuts code. let e : Ok cuts ≡ Err (Piece n) = answer_once us (Ok cuts) (Err (Piece n)) code h in cc
+cut_is_none us (Target n) h = absurd h
+cut_is_none us Memory h = tt
+
+pub astray_is_none : (us : List ℕ) (n : ℕ) → GoesAstrayAt us n → (cuts : List Cut) → IsCode us cuts → ⊥
+astray_is_none us n h cuts code = let e : Ok cuts ≡ Err (Target n) = answer_once us (Ok cuts) (Err (Target n)) code h in cc

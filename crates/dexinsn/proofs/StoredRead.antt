@@ -1,0 +1,296 @@
+-- What is read is stored so that it stands for the pieces of the code_item.
+use Rattle.std.proofs.Common.{◌≡◌, ℕ, zero, suc, ◌+◌, ◌-◌, ◌*◌, ◌/◌, ◌%◌, ◌^◌, ◌<◌, ◌≤◌, ◌==◌, Bool, true, false, cond, List, [], ◌∷◌, ◌++◌, length, drop, take, map, get_or, slice_index, slice_set, Option, Some, None, refl, ap, sym, ◌∙◌, subst, arith, length-drop, get_or-set_other}
+use Rattle.std.specs.List.{All, AllZip}
+use Rattle.std.specs.Option.{option_map_or, option_and_then, MatchOption}
+use Rattle.std.proofs.lemmas.List.{drop-drop, get_or-take, get_or-drop, length-take-le}
+use Rattle.std.proofs.lemmas.List.Elements.{All-nil, All-cons, All-head, All-tail}
+use Rattle.dexspec.specs.Bytes.{uint_at, ushort_at, ushorts_at}
+use Rattle.dexspec.specs.Header.{table_size}
+use Rattle.dexspec.specs.Opcodes.{opcode_of}
+use Rattle.dexspec.specs.Symbols.{Pool, Strings, Types, Protos, Fields, Methods, Proto, Symbol, TextSymbol, TypeSymbol, ProtoSymbol, FieldSymbol, MethodSymbol, pool_of}
+use Rattle.dexspec.specs.Rows.{SymbolRow, table_of}
+use Rattle.dexspec.specs.Mentions.{Mentions}
+use Rattle.dexspec.specs.Pieces.{Cut, AreCut, IsCode, Piece, StandsForPiece, piece_size, cut_units, index_pool, index_in, is_wide_index, is_payload_ident, with_index, low_byte, two_units}
+use Rattle.dexspec.specs.Pieces as symbolic
+use Rattle.dexspec.specs.Code.{code_units, PiecesAt}
+use Rattle.dexspec.proofs.FormedRows.{length-ushorts_at}
+use Rattle.dexpool.specs.Pools.{ArePools, count_of}
+use Rattle.dexpool.specs.Numberings.{IsAt, IsNumbered}
+use Rattle.dexinsn.specs.declared.pieces.Index.{Index}
+use Rattle.dexinsn.specs.Units.{units_in}
+use Rattle.dexinsn.specs.Split.{IsPieceAt}
+use Rattle.dexinsn.specs.Numbered.{NumberedPiece, Instruction, Payload, kind_of_pool, StandsFor, StandFor}
+use Rattle.dexinsn.specs.Stored.{cuts_from, cuts_in, parts_in, piece_with, left_by, pieces_with, with_place, index_places, AreStored}
+use Rattle.dexinsn.specs.Reading.{ArePiecesAt, HasCodeRoom, AreUnitsAt, with_index_at, indices_at, IsInRange, AreIndicesOf, AreCodeIndices}
+use Rattle.dexinsn.proofs.Sizes.{Fits, piece_size-fits}
+use Rattle.dexinsn.proofs.IndexRoom.{HasRoom, has_room}
+
+-- ---- the cuts
+
+nothing : (at : ℕ) → piece_size at [] ≡ None
+unfolding piece_size
+nothing at = refl
+
+same_cut : (c d : Cut) → c.unit ≡ d.unit → c.units ≡ d.units → c ≡ d
+same_cut c d unit units = ap (λ (n : ℕ). record { unit = n; units = c.units }) unit ∙ ap (λ (n : ℕ). record { unit = d.unit; units = n }) units
+
+abbrev more_cuts : ℕ → ℕ → List ℕ → ℕ → List Cut
+more_cuts n at us size = record { unit = at; units = size } ∷ cuts_from n (at + size) (drop size us)
+
+cuts_from_is : (n at : ℕ) (us : List ℕ) (cs : List Cut) → AreCut at us cs [] → length us ≤ n → cuts_from n at us ≡ cs
+cuts_from_is zero at us [] cut le = refl
+cuts_from_is zero at us (c ∷ cs) cut le = let f : Fits us c.units = piece_size-fits at us c.units cut.1 in absurd (omega (arith, f.0, f.1))
+cuts_from_is (suc n) at us [] cut le = ap (λ (o : Option ℕ). option_map_or (more_cuts n at us) o []) (ap (piece_size at) cut ∙ nothing at)
+cuts_from_is (suc n) at us (c ∷ cs) cut le =
+    let f : Fits us c.units = piece_size-fits at us c.units cut.1 in
+    let l : length (drop c.units us) ≡ length us - c.units = length-drop c.units us in
+    let here : record { unit = at; units = c.units } ≡ c = same_cut (record { unit = at; units = c.units }) c (sym cut.0) refl in
+    ap (λ (o : Option ℕ). option_map_or (more_cuts n at us) o []) cut.1
+    ∙ ap (λ (ds : List Cut). record { unit = at; units = c.units } ∷ ds) (cuts_from_is n (at + c.units) (drop c.units us) cs cut.2 (omega (arith, f.0)))
+    ∙ ap (λ (d : Cut). d ∷ cs) here
+
+pub cuts_in_is : (us : List ℕ) (cs : List Cut) → AreCut 0 us cs [] → cuts_in us ≡ cs
+unfolding cuts_in
+cuts_in_is us cs cut = cuts_from_is (length us) 0 us cs cut (omega arith)
+
+-- each is a piece
+pieces_cut : (us : List ℕ) (at : ℕ) (cs : List Cut) → AreCut at (drop at us) cs [] → All (IsPieceAt us) cs
+pieces_cut us at [] cut = All-nil (IsPieceAt us)
+pieces_cut us at (c ∷ cs) cut =
+    All-cons (IsPieceAt us) c cs (subst (λ (k : ℕ). piece_size k (drop k us) ≡ Some c.units) (sym cut.0) cut.1)
+    (pieces_cut us (at + c.units) cs (subst (λ (xs : List ℕ). AreCut (at + c.units) xs cs []) (drop-drop c.units at us) cut.2))
+
+pub code_pieces : (us : List ℕ) (cs : List Cut) → IsCode us cs → All (IsPieceAt us) cs
+code_pieces us cs code = pieces_cut us 0 cs code.cut
+
+-- ---- the units of one piece
+
+-- what is told of the first unit alone
+pub same_pool : (xs ys : List ℕ) → slice_index xs 0 ≡ slice_index ys 0 → index_pool xs ≡ index_pool ys
+same_pool xs ys e = ap (λ (u : ℕ). cond (is_payload_ident u) None (option_and_then (λ op. op.index) (opcode_of (low_byte u)))) e
+
+pub same_wide : (xs ys : List ℕ) → slice_index xs 0 ≡ slice_index ys 0 → is_wide_index xs ≡ is_wide_index ys
+same_wide xs ys e = ap (λ (u : ℕ). low_byte u == 0x1b) e
+
+pub cut_length : (us : List ℕ) (c : Cut) → IsPieceAt us c → length (cut_units us c) ≡ c.units
+cut_length us c is = let f : Fits (drop c.unit us) c.units = piece_size-fits c.unit (drop c.unit us) c.units is in length-take-le c.units (drop c.unit us) f.1
+
+pub cut_first : (us : List ℕ) (c : Cut) → IsPieceAt us c → slice_index (cut_units us c) 0 ≡ slice_index (drop c.unit us) 0
+cut_first us c is = let f : Fits (drop c.unit us) c.units = piece_size-fits c.unit (drop c.unit us) c.units is in get_or-take c.units (drop c.unit us) 0 0 f.0
+
+pub cut_pool : (us : List ℕ) (c : Cut) → IsPieceAt us c → index_pool (cut_units us c) ≡ index_pool (drop c.unit us)
+cut_pool us c is = same_pool (cut_units us c) (drop c.unit us) (cut_first us c is)
+
+index_by : (t : Bool) (xs ys : List ℕ) → slice_index xs 1 ≡ slice_index ys 1 → (t ≡ true → slice_index xs 2 ≡ slice_index ys 2) → cond t (two_units xs 1) (slice_index xs 1) ≡ cond t (two_units ys 1) (slice_index ys 1)
+index_by true xs ys one two = ap (λ (u : ℕ). u + 65536 * slice_index xs 2) one ∙ ap (λ (u : ℕ). slice_index ys 1 + 65536 * u) (two refl)
+index_by false xs ys one two = one
+
+cut_index : (us : List ℕ) (c : Cut) (pool : Pool) → IsPieceAt us c → index_pool (drop c.unit us) ≡ Some pool → index_in (cut_units us c) ≡ index_in (drop c.unit us)
+cut_index us c pool is named =
+    let r : HasRoom (drop c.unit us) c.units = has_room c.unit (drop c.unit us) c.units pool is named in
+    ap (λ (t : Bool). cond t (two_units (cut_units us c) 1) (slice_index (cut_units us c) 1)) (same_wide (cut_units us c) (drop c.unit us) (cut_first us c is))
+    ∙ index_by (is_wide_index (drop c.unit us)) (cut_units us c) (drop c.unit us)
+    (get_or-take c.units (drop c.unit us) 1 0 (omega (arith, r.two))) (λ wide. get_or-take c.units (drop c.unit us) 2 0 (omega (arith, r.three wide)))
+
+-- ---- the places
+
+place_by : (o : Option Pool) (us : List ℕ) (c : Cut) (is : List Index) → map (λ (i : Index). i.unit) (with_index_at o us c is) ≡ with_place o c.unit (map (λ (i : Index). i.unit) is)
+place_by None us c is = refl
+place_by (Some pool) us c is = refl
+
+places_read : (us : List ℕ) (at : ℕ) (cs : List Cut) → AreCut at (drop at us) cs [] → map (λ (i : Index). i.unit) (indices_at us cs) ≡ index_places at (map (cut_units us) cs)
+places_read us at [] cut = refl
+places_read us at (c ∷ cs) cut =
+    let is : IsPieceAt us c = subst (λ (k : ℕ). piece_size k (drop k us) ≡ Some c.units) (sym cut.0) cut.1 in
+    let on : map (λ (i : Index). i.unit) (indices_at us cs) ≡ index_places (at + c.units) (map (cut_units us) cs) = places_read us (at + c.units) cs (subst (λ (xs : List ℕ). AreCut (at + c.units) xs cs []) (drop-drop c.units at us) cut.2) in
+    place_by (index_pool (drop c.unit us)) us c (indices_at us cs)
+    ∙ ap (λ (o : Option Pool). with_place o c.unit (map (λ (i : Index). i.unit) (indices_at us cs))) (sym (cut_pool us c is))
+    ∙ ap (λ (k : ℕ). with_place (index_pool (cut_units us c)) k (map (λ (i : Index). i.unit) (indices_at us cs))) cut.0
+    ∙ ap (with_place (index_pool (cut_units us c)) at) (on ∙ ap (λ (n : ℕ). index_places (at + n) (map (cut_units us) cs)) (sym (cut_length us c is)))
+
+-- what is read can be stored
+pub read_stored : (us : List ℕ) (m : Mentions) (is : List Index) → length us < 2 ^ 32 → AreCodeIndices us m is → AreStored us is
+read_stored us m is few r =
+    let same : cuts_in us ≡ r.cuts = cuts_in_is us r.cuts r.code.cut in
+    record {
+      few = few;
+      cut = subst (λ (cs : List Cut). AreCut 0 us cs []) (sym same) r.code.cut;
+      places = ap (map (λ (i : Index). i.unit)) r.read.are ∙ places_read us 0 r.cuts r.code.cut ∙ ap (λ (cs : List Cut). index_places 0 (map (cut_units us) cs)) (sym same);
+      fit = r.read.fit;
+    }
+
+-- ---- symbols
+
+no_proto : Proto
+no_proto = record { return_type = []; parameters = [] }
+
+-- the symbol of a number, and one of nothing where there is none
+symbol_at : Mentions → Pool → ℕ → Symbol
+symbol_at m Strings n = TextSymbol (get_or m.texts n [])
+symbol_at m Types n = TypeSymbol (get_or m.types n [])
+symbol_at m Protos n = ProtoSymbol (get_or m.protos n no_proto)
+symbol_at m Fields n = FieldSymbol (get_or m.fields n (record { class = []; name = []; type = [] }))
+symbol_at m Methods n = MethodSymbol (get_or m.methods n (record { class = []; name = []; proto = no_proto }))
+
+symbol_pool : (m : Mentions) (pool : Pool) (n : ℕ) → pool_of (symbol_at m pool n) ≡ pool
+unfolding symbol_at
+symbol_pool m Strings n = refl
+symbol_pool m Types n = refl
+symbol_pool m Protos n = refl
+symbol_pool m Fields n = refl
+symbol_pool m Methods n = refl
+
+symbol_row : (b : List ℕ) (m : Mentions) (pool : Pool) (n : ℕ) → ArePools b m → n < count_of (kind_of_pool pool) m → SymbolRow b n (symbol_at m pool n)
+unfolding symbol_at
+symbol_row b m Strings n h lt = h.texts_are.each n [] (omega (arith, lt, h.texts_are.count))
+symbol_row b m Types n h lt = h.types_are.each n [] (omega (arith, lt, h.types_are.count))
+symbol_row b m Protos n h lt = h.protos_are.each n no_proto (omega (arith, lt, h.protos_are.count))
+symbol_row b m Fields n h lt = h.fields_are.each n (record { class = []; name = []; type = [] }) (omega (arith, lt, h.fields_are.count))
+symbol_row b m Methods n h lt = h.methods_are.each n (record { class = []; name = []; proto = no_proto }) (omega (arith, lt, h.methods_are.count))
+
+any_default : {X : Type 0} (xs : List X) (n : ℕ) (d e : X) → n < length xs → get_or xs n d ≡ get_or xs n e
+any_default [] n d e lt = absurd (omega arith)
+any_default (x ∷ xs) zero d e lt = refl
+any_default (x ∷ xs) (suc n) d e lt = any_default xs n d e (omega arith)
+
+symbol_numbered : (m : Mentions) (pool : Pool) (n : ℕ) → n < count_of (kind_of_pool pool) m → IsNumbered m n (symbol_at m pool n)
+unfolding symbol_at
+symbol_numbered m Strings n lt = record { within = lt; is = λ d. any_default m.texts n d [] lt }
+symbol_numbered m Types n lt = record { within = lt; is = λ d. any_default m.types n d [] lt }
+symbol_numbered m Protos n lt = record { within = lt; is = λ d. any_default m.protos n d no_proto lt }
+symbol_numbered m Fields n lt = record { within = lt; is = λ d. any_default m.fields n d (record { class = []; name = []; type = [] }) lt }
+symbol_numbered m Methods n lt = record { within = lt; is = λ d. any_default m.methods n d (record { class = []; name = []; proto = no_proto }) lt }
+
+-- a row is one of those that are counted
+row_counted : (b : List ℕ) (m : Mentions) (n : ℕ) (s : Symbol) → ArePools b m → SymbolRow b n s → n < count_of (kind_of_pool (pool_of s)) m
+row_counted b m n (TextSymbol s) h r = omega (arith, r.row, h.texts_are.count)
+row_counted b m n (TypeSymbol s) h r = omega (arith, r.row, h.types_are.count)
+row_counted b m n (ProtoSymbol s) h r = omega (arith, r.row, h.protos_are.count)
+row_counted b m n (FieldSymbol s) h r = omega (arith, r.row, h.fields_are.count)
+row_counted b m n (MethodSymbol s) h r = omega (arith, r.row, h.methods_are.count)
+
+-- ---- the pieces
+
+-- the symbolic piece of these units
+named_by : Option Pool → Mentions → List ℕ → ℕ → Piece
+named_by None m xs n = cond (is_payload_ident (slice_index xs 0)) (symbolic.Payload xs) (symbolic.Instruction xs None)
+named_by (Some pool) m xs n = symbolic.Instruction (with_index 0 xs) (Some (symbol_at m pool n))
+
+abbrev named : Mentions → List ℕ → Cut → Piece
+named m us c = named_by (index_pool (drop c.unit us)) m (cut_units us c) (index_in (drop c.unit us))
+
+plain_stands : (t : Bool) (Names : ℕ → Symbol → Type 0) (xs : List ℕ) → is_payload_ident (slice_index xs 0) ≡ t → index_pool xs ≡ None → StandsForPiece Names xs (cond t (symbolic.Payload xs) (symbolic.Instruction xs None))
+plain_stands true Names xs e none = (e, refl)
+plain_stands false Names xs e none = (e, none, refl)
+
+piece_stands : (b : List ℕ) (m : Mentions) (us : List ℕ) (c : Cut) (o : Option Pool) → ArePools b m → IsPieceAt us c → index_pool (drop c.unit us) ≡ o → IsInRange us m c → StandsForPiece (SymbolRow b) (cut_units us c) (named_by o m (cut_units us c) (index_in (drop c.unit us)))
+unfolding named_by
+piece_stands b m us c None pools is e range = plain_stands (is_payload_ident (slice_index (cut_units us c) 0)) (SymbolRow b) (cut_units us c) refl (cut_pool us c is ∙ e)
+piece_stands b m us c (Some pool) pools is e range =
+    let n : ℕ = index_in (drop c.unit us) in
+    let small : index_in (drop c.unit us) < count_of (kind_of_pool pool) m = subst (λ (o : Option Pool). MatchOption o (Unit {0}) (λ p. index_in (drop c.unit us) < count_of (kind_of_pool p) m)) e range in (
+      cut_pool us c is ∙ e ∙ ap Some (sym (symbol_pool m pool (index_in (drop c.unit us)))),
+      subst (λ (k : ℕ). SymbolRow b k (symbol_at m pool (index_in (drop c.unit us)))) (sym (cut_index us c pool is e)) (symbol_row b m pool (index_in (drop c.unit us)) pools small),
+      refl,
+    )
+
+pieces_stand : (b : List ℕ) (m : Mentions) (us : List ℕ) (cs : List Cut) → ArePools b m → All (IsPieceAt us) cs → All (IsInRange us m) cs → AllZip (λ c p. StandsForPiece (SymbolRow b) (cut_units us c) p) cs (map (named m us) cs)
+pieces_stand b m us [] pools pieces range = tt
+pieces_stand b m us (c ∷ cs) pools pieces range = (
+      piece_stands b m us c (index_pool (drop c.unit us)) pools (All-head (IsPieceAt us) c cs pieces) refl (All-head (IsInRange us m) c cs range),
+      pieces_stand b m us cs pools (All-tail (IsPieceAt us) c cs pieces) (All-tail (IsInRange us m) c cs range),
+    )
+
+-- an index that is put in leaves the first unit
+first_by : (t : Bool) (xs : List ℕ) (i j k : ℕ) → slice_index (cond t (slice_set (slice_set xs 1 i) 2 j) (slice_set xs 1 k)) 0 ≡ slice_index xs 0
+first_by true xs i j k = get_or-set_other (slice_set xs 1 i) 2 0 j 0 (λ e. omega arith) ∙ get_or-set_other xs 1 0 i 0 (λ e. omega arith)
+first_by false xs i j k = get_or-set_other xs 1 0 k 0 (λ e. omega arith)
+
+pub first_kept : (i : ℕ) (xs : List ℕ) → slice_index (with_index i xs) 0 ≡ slice_index xs 0
+first_kept i xs = first_by (is_wide_index xs) xs (i % 65536) (i / 65536) i
+
+plain_for : (t : Bool) (m : Mentions) (xs : List ℕ) → StandsFor m (cond t (Payload xs) (Instruction xs None)) (cond t (symbolic.Payload xs) (symbolic.Instruction xs None))
+plain_for true m xs = refl
+plain_for false m xs = refl
+
+piece_for : (m : Mentions) (us : List ℕ) (c : Cut) (o : Option Pool) (is : List Index) → IsPieceAt us c → index_pool (drop c.unit us) ≡ o → IsInRange us m c → StandsFor m (piece_with o (cut_units us c) (with_index_at o us c is)) (named_by o m (cut_units us c) (index_in (drop c.unit us)))
+unfolding named_by
+piece_for m us c None is piece e range = plain_for (is_payload_ident (slice_index (cut_units us c) 0)) m (cut_units us c)
+piece_for m us c (Some pool) is piece e range =
+    let small : index_in (drop c.unit us) < count_of (kind_of_pool pool) m = subst (λ (o : Option Pool). MatchOption o (Unit {0}) (λ p. index_in (drop c.unit us) < count_of (kind_of_pool p) m)) e range in (
+      refl,
+      same_pool (with_index 0 (cut_units us c)) (cut_units us c) (first_kept 0 (cut_units us c)) ∙ cut_pool us c piece ∙ e ∙ ap Some (sym (symbol_pool m pool (index_in (drop c.unit us)))),
+      symbol_numbered m pool (index_in (drop c.unit us)) small,
+    )
+
+left_is : (o : Option Pool) (us : List ℕ) (c : Cut) (is : List Index) → left_by o (with_index_at o us c is) ≡ is
+left_is None us c is = refl
+left_is (Some pool) us c is = refl
+
+pieces_for : (m : Mentions) (us : List ℕ) (cs : List Cut) → All (IsPieceAt us) cs → All (IsInRange us m) cs → StandFor m (pieces_with (map (cut_units us) cs) (indices_at us cs)) (map (named m us) cs)
+pieces_for m us [] pieces range = tt
+pieces_for m us (c ∷ cs) pieces range =
+    let piece : IsPieceAt us c = All-head (IsPieceAt us) c cs pieces in
+    let o : Option Pool = index_pool (drop c.unit us) in
+    let same : index_pool (cut_units us c) ≡ index_pool (drop c.unit us) = cut_pool us c piece in
+    let is : List Index = with_index_at (index_pool (drop c.unit us)) us c (indices_at us cs) in (
+      subst (λ (p : Option Pool). StandsFor m (piece_with p (cut_units us c) (with_index_at (index_pool (drop c.unit us)) us c (indices_at us cs))) (named m us c)) (sym same)
+      (piece_for m us c (index_pool (drop c.unit us)) (indices_at us cs) piece refl (All-head (IsInRange us m) c cs range)),
+      subst (λ (js : List Index). StandFor m (pieces_with (map (cut_units us) cs) js) (map (named m us) cs))
+      (sym (ap (λ (p : Option Pool). left_by p (with_index_at (index_pool (drop c.unit us)) us c (indices_at us cs))) same ∙ left_is (index_pool (drop c.unit us)) us c (indices_at us cs)))
+      (pieces_for m us cs (All-tail (IsPieceAt us) c cs pieces) (All-tail (IsInRange us m) c cs range)),
+    )
+
+-- what is read are the pieces of the code_item
+pub read_pieces : (b : List ℕ) (off : ℕ) (m : Mentions) (bytes : List ℕ) (is : List Index) → ArePools b m → AreUnitsAt b off bytes → AreCodeIndices (units_in bytes) m is → ArePiecesAt b off m (pieces_with (parts_in (units_in bytes)) is)
+read_pieces b off m bytes is pools at r =
+    let us : List ℕ = units_in bytes in
+    let pieces : All (IsPieceAt (units_in bytes)) r.cuts = code_pieces (units_in bytes) r.cuts r.code in
+    let same : cuts_in (units_in bytes) ≡ r.cuts = cuts_in_is (units_in bytes) r.cuts r.code.cut in
+    record {
+      cuts = r.cuts;
+      symbolic = map (named m (units_in bytes)) r.cuts;
+      at = record {
+        in_data = at.room.in_data;
+        aligned = at.room.aligned;
+        code = subst (λ (us : List ℕ). IsCode us r.cuts) at.units r.code;
+        pieces = subst (λ (vs : List ℕ). AllZip (λ c p. StandsForPiece (SymbolRow b) (cut_units vs c) p) r.cuts (map (named m (units_in bytes)) r.cuts)) at.units (pieces_stand b m (units_in bytes) r.cuts pools pieces r.read.in_range);
+      };
+      stand = subst (λ (cs : List Cut). StandFor m (pieces_with (map (cut_units (units_in bytes)) cs) is) (map (named m (units_in bytes)) r.cuts)) (sym same)
+          (subst (λ (js : List Index). StandFor m (pieces_with (map (cut_units (units_in bytes)) r.cuts) js) (map (named m (units_in bytes)) r.cuts)) (sym r.read.are) (pieces_for m (units_in bytes) r.cuts pieces r.read.in_range));
+    }
+
+-- ---- and where none are read there are none
+
+payload_pool : (us : List ℕ) → is_payload_ident (slice_index us 0) ≡ true → index_pool us ≡ None
+payload_pool us e = ap (λ (t : Bool). cond t None (option_and_then (λ op. op.index) (opcode_of (low_byte (slice_index us 0))))) e
+
+in_range_by : (us : List ℕ) (m : Mentions) (c : Cut) (o : Option Pool) → index_pool (drop c.unit us) ≡ o → MatchOption o (Unit {0}) (λ pool. index_in (drop c.unit us) < count_of (kind_of_pool pool) m) → IsInRange us m c
+in_range_by us m c o e h = subst (λ (p : Option Pool). MatchOption p (Unit {0}) (λ pool. index_in (drop c.unit us) < count_of (kind_of_pool pool) m)) (sym e) h
+
+piece_in_range : (b : List ℕ) (m : Mentions) (us : List ℕ) (c : Cut) (p : Piece) → ArePools b m → IsPieceAt us c → StandsForPiece (SymbolRow b) (cut_units us c) p → IsInRange us m c
+piece_in_range b m us c (symbolic.Instruction xs None) pools piece h = in_range_by us m c None (sym (cut_pool us c piece) ∙ h.1) tt
+piece_in_range b m us c (symbolic.Instruction xs (Some s)) pools piece h =
+    let named : index_pool (drop c.unit us) ≡ Some (pool_of s) = sym (cut_pool us c piece) ∙ h.0 in
+    in_range_by us m c (Some (pool_of s)) named
+    (subst (λ (n : ℕ). n < count_of (kind_of_pool (pool_of s)) m) (cut_index us c (pool_of s) piece named) (row_counted b m (index_in (cut_units us c)) s pools h.1))
+piece_in_range b m us c (symbolic.Payload xs) pools piece h = in_range_by us m c None (sym (cut_pool us c piece) ∙ payload_pool (cut_units us c) h.0) tt
+
+all_in_range : (b : List ℕ) (m : Mentions) (us : List ℕ) (cs : List Cut) (ps : List Piece) → ArePools b m → All (IsPieceAt us) cs → AllZip (λ c p. StandsForPiece (SymbolRow b) (cut_units us c) p) cs ps → All (IsInRange us m) cs
+all_in_range b m us [] ps pools pieces h = All-nil (IsInRange us m)
+all_in_range b m us (c ∷ cs) [] pools pieces h = absurd h
+all_in_range b m us (c ∷ cs) (p ∷ ps) pools pieces h =
+    All-cons (IsInRange us m) c cs (piece_in_range b m us c p pools (All-head (IsPieceAt us) c cs pieces) h.0)
+    (all_in_range b m us cs ps pools (All-tail (IsPieceAt us) c cs pieces) h.1)
+
+pub none_read : (b : List ℕ) (off : ℕ) (m : Mentions) (bytes : List ℕ) → ArePools b m → AreUnitsAt b off bytes → ((cuts : List Cut) → IsCode (units_in bytes) cuts → All (IsInRange (units_in bytes) m) cuts → ⊥) → (cuts : List Cut) (ps : List Piece) → PiecesAt b off cuts ps → ⊥
+none_read b off m bytes pools at none cuts ps h =
+    let code : IsCode (units_in bytes) cuts = subst (λ (us : List ℕ). IsCode us cuts) (sym at.units) h.code in
+    none cuts code
+    (all_in_range b m (units_in bytes) cuts ps pools (code_pieces (units_in bytes) cuts code)
+    (subst (λ (us : List ℕ). AllZip (λ c p. StandsForPiece (SymbolRow b) (cut_units us c) p) cuts ps) (sym at.units) h.pieces))
+
+pub few_units : (b : List ℕ) (off : ℕ) (bytes : List ℕ) → AreUnitsAt b off bytes → length (units_in bytes) < 2 ^ 32
+few_units b off bytes at =
+    let l : length (units_in bytes) ≡ uint_at b (off + 12) = ap length at.units ∙ length-ushorts_at b (off + 16) (uint_at b (off + 12)) in
+    omega (arith, at.few)

@@ -1,0 +1,150 @@
+-- Pieces whose symbols are numbers: what they stand for under a numbering, and what becomes of them when the numbers
+-- change.
+use Rattle.std.specs.Prelude.{◌≡◌, ℕ, ◌+◌, ◌^◌, ◌<◌, ◌≤◌, ◌≢◌, Bool, true, false, ◌||◌, ◌&&◌, ◌==◌, if◌then◌else◌, List, [], ◌∷◌, length, map, All, slice_index, slice_index_or, Option, Some, None}
+use Rattle.std.specs.List.{AllZip, list_any, flat_map}
+use Rattle.std.specs.Option.{IsSome, option_map_or}
+use Rattle.dexspec.specs.Bytes.{ushort}
+use Rattle.dexspec.specs.Symbols.{Pool, Strings, Types, Protos, Fields, Methods, Symbol, pool_of}
+use Rattle.dexspec.specs.Mentions.{Mentions}
+use Rattle.dexspec.specs.Pieces.{Piece, index_pool, is_wide_index, with_index}
+use Rattle.dexspec.specs.Pieces as symbolic
+use Rattle.dexpool.specs.declared.symbols.SymbolKind.{SymbolKind}
+use Rattle.dexpool.specs.declared.symbols.SymbolKind.TheVariants as kinds
+use Rattle.dexpool.specs.declared.marks.Marks.{Marks}
+use Rattle.dexpool.specs.Numberings.{IsNumbered, IsOfKind, Maps, image_of}
+
+-- A piece of code: an instruction's units with those of its index put to zero, beside the number of the symbol that
+-- the index names, if it has one; or the units of a payload.
+pub data NumberedPiece : Type 0 where
+  Instruction : (units : List ℕ) → (number : Option ℕ) → NumberedPiece
+  Payload : (units : List ℕ) → NumberedPiece
+
+-- Code: how many registers it has, takes and passes on, and its pieces.
+pub record NumberedCode : Type 0 where
+  pub registers : ℕ
+  pub ins : ℕ
+  pub outs : ℕ
+  pub pieces : List NumberedPiece
+
+-- ---- what numbers stand for
+
+-- the piece is the symbolic one, where symbols are numbered so
+abbrev pub StandsFor : Mentions → NumberedPiece → Piece → Type 0
+StandsFor m (Instruction us None) (symbolic.Instruction xs None) = us ≡ xs
+StandsFor m (Instruction us (Some n)) (symbolic.Instruction xs (Some s)) = (us ≡ xs) × (index_pool us ≡ Some (pool_of s)) × IsNumbered m n s
+StandsFor m (Payload us) (symbolic.Payload xs) = us ≡ xs
+StandsFor m _ _ = ⊥
+
+-- the pieces are the symbolic ones, where symbols are numbered so
+abbrev pub StandFor : Mentions → List NumberedPiece → List Piece → Type 0
+StandFor m ps qs = AllZip (StandsFor m) ps qs
+
+-- ---- the symbols that occur
+
+-- the kind of symbols that a pool has
+abbrev pub kind_of_pool : Pool → SymbolKind
+kind_of_pool Strings = kinds.Text
+kind_of_pool Types = kinds.Typ
+kind_of_pool Protos = kinds.Proto
+kind_of_pool Fields = kinds.Field
+kind_of_pool Methods = kinds.Method
+
+-- the kind of symbol that the index of an instruction names; a text for one without an index
+abbrev pub kind_in : List ℕ → SymbolKind
+kind_in us = option_map_or kind_of_pool (index_pool us) kinds.Text
+
+-- A symbol that occurs, by its kind and its number.
+pub record Use : Type 0 where
+  pub kind : SymbolKind
+  pub number : ℕ
+
+-- the symbol of an instruction's index
+abbrev pub piece_uses : NumberedPiece → List Use
+piece_uses (Instruction us (Some n)) = record { kind = kind_in us; number = n } ∷ []
+piece_uses _ = []
+
+-- those of all pieces, in order
+abbrev pub uses_of : List NumberedPiece → List Use
+uses_of ps = flat_map piece_uses ps
+
+-- the symbol is the one that occurs
+abbrev pub IsUseOf : Mentions → Use → Symbol → Type 0
+IsUseOf m u s = IsNumbered m u.number s × IsOfKind u.kind s
+
+-- ---- places of numbers
+
+-- an index that is not wide is below this number, and a wide one below that of 32 bits
+abbrev pub index_room : List ℕ → ℕ
+index_room us = if is_wide_index us then 2 ^ 32 else 2 ^ 16
+
+-- the number, if there is one, fits its place
+abbrev pub FitsPlace : NumberedPiece → Type 0
+FitsPlace (Instruction us (Some n)) = n < index_room us
+FitsPlace _ = Unit {0}
+
+-- each number fits its place
+abbrev pub FitPlaces : List NumberedPiece → Type 0
+FitPlaces ps = All FitsPlace ps
+
+-- the units of the piece, its number put in
+abbrev pub numbered_units : NumberedPiece → List ℕ
+numbered_units (Instruction us None) = us
+numbered_units (Instruction us (Some n)) = with_index n us
+numbered_units (Payload us) = us
+
+-- the bytes of the pieces, their numbers put in
+unfoldable pub numbered_bytes : List NumberedPiece → List ℕ
+numbered_bytes ps = flat_map ushort (flat_map numbered_units ps)
+
+-- ---- other numbers
+
+-- the number, if there is one, leads somewhere
+abbrev pub HasImage : Maps → NumberedPiece → Type 0
+HasImage r (Instruction us (Some n)) = IsSome (image_of r (kind_in us) n)
+HasImage r _ = Unit {0}
+
+-- it leads to a number that fits the place
+abbrev pub HasPlace : Maps → NumberedPiece → Type 0
+HasPlace r (Instruction us (Some n)) = (j : ℕ) × (image_of r (kind_in us) n ≡ Some j) × (j < index_room us)
+HasPlace r _ = Unit {0}
+
+-- the piece with the number that its number leads to
+abbrev pub renumbered_piece : Maps → NumberedPiece → NumberedPiece
+renumbered_piece r (Instruction us (Some n)) = Instruction us (image_of r (kind_in us) n)
+renumbered_piece r p = p
+
+-- the code with the numbers that its numbers lead to
+abbrev pub renumbered : Maps → NumberedCode → NumberedCode
+renumbered r c = record { registers = c.registers; ins = c.ins; outs = c.outs; pieces = map (renumbered_piece r) c.pieces }
+
+-- ---- marks
+
+-- the marks of a kind
+abbrev pub marks_of : SymbolKind → Marks → List Bool
+marks_of kinds.Text marks = marks.strings.items
+marks_of kinds.Typ marks = marks.types.items
+marks_of kinds.Proto marks = marks.protos.items
+marks_of kinds.Field marks = marks.fields.items
+marks_of kinds.Method marks = marks.methods.items
+
+-- there is a mark for it
+abbrev pub HasMark : Marks → Use → Type 0
+HasMark marks u = u.number < length (marks_of u.kind marks)
+
+-- whether the two kinds are one
+abbrev pub same_kind : SymbolKind → SymbolKind → Bool
+same_kind kinds.Text kinds.Text = true
+same_kind kinds.Typ kinds.Typ = true
+same_kind kinds.Proto kinds.Proto = true
+same_kind kinds.Field kinds.Field = true
+same_kind kinds.Method kinds.Method = true
+same_kind _ _ = false
+
+-- whether the symbol of a kind and a number is one that occurs
+abbrev pub occurs : List Use → SymbolKind → ℕ → Bool
+occurs us kind i = list_any (λ u. same_kind u.kind kind && u.number == i) us
+
+-- The marks are the old ones and those of what occurs.
+pub record AreMarkedToo (us : List Use) (old new : Marks) : Type 0 where
+  pub count : (kind : SymbolKind) → length (marks_of kind new) ≡ length (marks_of kind old)
+  pub each : (kind : SymbolKind) (i : ℕ) → slice_index_or (marks_of kind new) i false ≡ (slice_index_or (marks_of kind old) i false || occurs us kind i)

@@ -1,0 +1,87 @@
+//! Code units as they are borrowed.
+
+ghost use Rattle.std.specs.Prelude.{◌≡◌, ◌<◌, ◌≤◌, ◌/◌, ◌^◌, length, drop, slice_index};
+ghost use Rattle.dexspec.specs.Bytes.{ushorts_at};
+
+use dexhead::u16_at;
+use std::marker::Model;
+
+/// What units are borrowed from.
+#[derive(Clone, Copy)]
+pub(crate) enum Source<'a> {
+    Numbers(&'a [u16]),
+    /// Two bytes for each unit, the lower first.
+    Bytes(&'a [u8]),
+}
+
+/// 16-bit code units, borrowed. Contracts see a list of numbers.
+#[derive(Drop)]
+pub(crate) struct Units<'a> {
+    source: Source<'a>,
+}
+
+impl<'a> Model for Units<'a> {
+    ghost use Rattle.std.specs.Prelude.{ℕ, List};
+    ghost use Rattle.dexinsn.specs.Units.{units_from, IsInMemory};
+
+    ghost Value = { List ℕ };
+
+    ghost view = { λ units. units_from units.source };
+
+    ghost invariant = { λ units. IsInMemory units.source };
+}
+
+#[tactic(auto, using(crate::proofs::Halves::unit_from, crate::proofs::Halves::length_from, crate::proofs::Halves::rest_from))]
+impl<'a> Units<'a> {
+    /// The units that the numbers are.
+    pub(crate) fn of_numbers(numbers: &'a [u16]) -> Units<'a>
+        ensures { result ≡ numbers.now }
+    {
+        Units {
+            source: Source::Numbers(numbers),
+        }
+    }
+
+    /// The units that the bytes spell, two for each.
+    pub(crate) fn of_bytes(bytes: &'a [u8]) -> Units<'a>
+        ensures { result ≡ ushorts_at bytes.now 0 (length bytes.now / 2) }
+    {
+        Units {
+            source: Source::Bytes(bytes),
+        }
+    }
+
+    /// The number of units.
+    pub(crate) fn len(&self) -> usize
+        ensures len { result ≡ length self.now }
+        ensures small { length self.now < 2 ^ 62 }
+    {
+        match self.source {
+            Source::Numbers(numbers) => numbers.len(),
+            Source::Bytes(bytes) => bytes.len() / 2,
+        }
+    }
+
+    /// The unit at a place.
+    pub(crate) fn at(&self, i: usize) -> u16
+        requires { i < length self.now }
+        ensures is { result ≡ slice_index self.now i }
+        ensures small { length self.now < 2 ^ 62 }
+    {
+        match self.source {
+            Source::Numbers(numbers) => numbers[i],
+            Source::Bytes(bytes) => u16_at(bytes, 2 * i),
+        }
+    }
+
+    /// The units from a place on.
+    pub(crate) fn rest(&self, at: usize) -> Units<'a>
+        requires { at ≤ length self.now }
+        ensures { result ≡ drop at self.now }
+    {
+        match self.source {
+            Source::Numbers(numbers) => Units::of_numbers(numbers.split_at(at).1),
+            Source::Bytes(bytes) => Units::of_bytes(bytes.split_at(2 * at).1),
+        }
+    }
+}

@@ -1,0 +1,80 @@
+//! The index of an instruction.
+
+ghost use Rattle.std.specs.Prelude.{◌≡◌, ◌<◌, ◌≤◌, ◌+◌, ◌^◌, length, drop, slice_index, true, Some, None};
+ghost use Rattle.std.specs.Option.{option_map};
+ghost use Rattle.dexspec.specs.Symbols.{Pool};
+ghost use Rattle.dexspec.specs.Pieces.{index_pool, is_wide_index, index_in, two_units};
+ghost use Rattle.dexinsn.specs.Opcode.{pool_of_kind};
+ghost use Rattle.dexinsn.specs.Numbered.{kind_of_pool, kind_in, index_room};
+
+use crate::code_units::Units;
+use crate::format::IndexKind;
+use crate::opcodes::index_kind;
+use crate::payload::PayloadKind;
+use crate::units::opcode_in;
+use dexpool::SymbolKind;
+
+/// The opcode of the one instruction whose index has 32 bits, const-string/jumbo.
+const JUMBO: u8 = 0x1b;
+
+// The kind of symbol that an index of this kind names.
+fn symbol_kind(kind: IndexKind) -> SymbolKind
+    ensures { result ≡ kind_of_pool (pool_of_kind kind) }
+{
+    match kind {
+        IndexKind::Strings => SymbolKind::Text,
+        IndexKind::Types => SymbolKind::Typ,
+        IndexKind::Fields => SymbolKind::Field,
+        IndexKind::Methods => SymbolKind::Method,
+    }
+}
+
+/// The kind of symbol that the index of the piece at a unit names; `None` where the piece has no index.
+pub(crate) fn kind_at(units: &Units<'_>, unit: usize) -> Option<SymbolKind>
+    requires { unit < length units.now }
+    ensures { result ≡ option_map kind_of_pool (index_pool (drop unit units.now)) }
+{
+    let first = units.at(unit);
+    if PayloadKind::of(first).is_some() {
+        return None;
+    }
+    match index_kind(opcode_in(first)) {
+        Some(kind) => Some(symbol_kind(kind)),
+        None => None,
+    }
+}
+
+/// Whether the index of the instruction at a unit has 32 bits.
+pub(crate) fn is_wide_at(units: &Units<'_>, unit: usize) -> bool
+    requires { unit < length units.now }
+    ensures { result ≡ is_wide_index (drop unit units.now) }
+{
+    opcode_in(units.at(unit)) == JUMBO
+}
+
+/// The index of the instruction at a unit, which has one.
+pub(crate) fn index_at(units: &Units<'_>, unit: usize) -> u32
+    requires some { unit + 1 < length units.now }
+    requires wide { is_wide_index (drop unit units.now) ≡ true → unit + 2 < length units.now }
+    ensures is { result ≡ index_in (drop unit units.now) }
+    ensures fits { result < index_room (drop unit units.now) }
+{
+    let rest = units.rest(unit);
+    let low = u32::from(rest.at(1));
+    if is_wide_at(units, unit) {
+        low + 0x1_0000 * u32::from(rest.at(2))
+    } else {
+        low
+    }
+}
+
+/// The kind of symbol that the index at a unit names; a text where there is no index.
+pub(crate) fn index_kind_at(units: &Units<'_>, unit: usize) -> SymbolKind
+    requires { unit < length units.now }
+    ensures { result ≡ kind_in (drop unit units.now) }
+{
+    match kind_at(units, unit) {
+        Some(kind) => kind,
+        None => SymbolKind::Text,
+    }
+}

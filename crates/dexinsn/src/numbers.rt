@@ -1,0 +1,144 @@
+//! Numbers of symbols, and what becomes of them.
+
+ghost use Rattle.std.specs.Prelude.{◌≡◌, ◌↔◌, ◌<◌, IsTrue, IfOk, All, map, ◌∷◌, []};
+ghost use Rattle.dexinsn.specs.Numbered.{uses_of, HasMark, AreMarkedToo, HasPlace, renumbered};
+ghost use Rattle.dexinsn.specs.Stored.{HasPlaceAt, IsIndexed, renumbered_index, use_at};
+
+use crate::code_units::Units;
+use crate::indexed::{index_kind_at, is_wide_at};
+use crate::pieces::{Index, Pieces};
+use dexpool::{Marks, Remap, SymbolKind};
+use std::alloc::AllocError;
+
+// The index with the number that its number leads to.
+fn renumbered_index(units: &Units<'_>, index: Index, remap: &Remap) -> Index
+    requires indexed { IsIndexed units.now index }
+    requires place { HasPlaceAt remap.now units.now index }
+    ensures { result ≡ renumbered_index remap.now units.now index }
+{
+    let kind = index_kind_at(units, index.unit as usize);
+    let number = match remap.image(kind, index.number as usize) {
+        Some(image) => image as u32,
+        None => 0,
+    };
+    Index {
+        unit: index.unit,
+        number,
+    }
+}
+
+// Puts for each number the one that it leads to.
+fn renumber_indices(units: &Units<'_>, indices: &mut Vec<Index>, remap: &Remap)
+    requires indexed { All (IsIndexed units.now) indices.old.items }
+    requires places { All (HasPlaceAt remap.now units.now) indices.old.items }
+    ensures { indices.new.items ≡ map (renumbered_index remap.now units.now) indices.old.items }
+{
+    for i in 0..indices.len() {
+        indices[i] = renumbered_index(units, indices[i], remap);
+    }
+}
+
+// Whether the index's number leads to one that fits the place.
+fn has_place(units: &Units<'_>, index: Index, remap: &Remap) -> bool
+    requires { IsIndexed units.now index }
+    ensures { IsTrue result ↔ HasPlaceAt remap.now units.now index }
+{
+    let kind = index_kind_at(units, index.unit as usize);
+    let room = if is_wide_at(units, index.unit as usize) {
+        0x1_0000_0000
+    } else {
+        0x1_0000
+    };
+    match remap.image(kind, index.number as usize) {
+        Some(image) => image < room,
+        None => false,
+    }
+}
+
+// Whether each number leads to one that fits its place.
+fn have_places(units: &Units<'_>, indices: &[Index], remap: &Remap) -> bool
+    requires { All (IsIndexed units.now) indices.now }
+    ensures { IsTrue result ↔ All (HasPlaceAt remap.now units.now) indices.now }
+{
+    for index in indices {
+        if !has_place(units, *index, remap) {
+            return false;
+        }
+    }
+    true
+}
+
+// Marks one symbol.
+fn mark_one(kind: SymbolKind, number: usize, marks: &mut Marks)
+    requires { HasMark marks.old (record { kind = kind; number = number }) }
+    ensures { AreMarkedToo (record { kind = kind; number = number } ∷ []) marks.old marks.new }
+{
+    match kind {
+        SymbolKind::Text => marks.strings[number] = true,
+        SymbolKind::Typ => marks.types[number] = true,
+        SymbolKind::Proto => marks.protos[number] = true,
+        SymbolKind::Field => marks.fields[number] = true,
+        SymbolKind::Method => marks.methods[number] = true,
+    }
+}
+
+// Marks the symbols of all indices.
+fn mark_indices(units: &Units<'_>, indices: &[Index], marks: &mut Marks)
+    requires indexed { All (IsIndexed units.now) indices.now }
+    requires marks { All (HasMark marks.old) (map (use_at units.now) indices.now) }
+    ensures { AreMarkedToo (map (use_at units.now) indices.now) marks.old marks.new }
+{
+    for index in indices {
+        let kind = index_kind_at(units, index.unit as usize);
+        mark_one(kind, index.number as usize, marks);
+    }
+}
+
+impl<'a> Pieces<'a> {
+    /// Puts for each number the one that it leads to. No memory is taken.
+    ///
+    /// Condition: each number leads to one that fits its place, which [`fits`](Pieces::fits) tells.
+    pub fn renumber(&mut self, remap: &Remap)
+        requires { All (HasPlace remap.now) self.old.pieces }
+        ensures { self.new ≡ renumbered remap.now self.old }
+    {
+        let units = Units::of_bytes(self.bytes);
+        renumber_indices(&units, &mut self.indices, remap);
+    }
+
+    /// Whether each number leads to one that fits its place: one below 2^16, or below 2^32 for
+    /// const-string/jumbo. No memory is taken.
+    pub fn fits(&self, remap: &Remap) -> bool
+        ensures { IsTrue result ↔ All (HasPlace remap.now) self.now.pieces }
+    {
+        let units = Units::of_bytes(self.bytes);
+        have_places(&units, &self.indices, remap)
+    }
+
+    /// Marks each symbol that occurs. No memory is taken.
+    ///
+    /// Condition: there is a mark for each of them.
+    pub fn mark(&self, marks: &mut Marks)
+        requires { All (HasMark marks.old) (uses_of self.now.pieces) }
+        ensures { AreMarkedToo (uses_of self.now.pieces) marks.old marks.new }
+    {
+        let units = Units::of_bytes(self.bytes);
+        mark_indices(&units, &self.indices, marks);
+    }
+
+    /// The same pieces, with numbers of their own.
+    ///
+    /// Error: the memory for the numbers was refused.
+    pub fn copy(&self) -> Result<Pieces<'a>, AllocError>
+        ensures { IfOk result (λ copy. copy ≡ self.now) }
+    {
+        let indices = self.indices.clone()?;
+        Ok(Pieces {
+            registers: self.registers,
+            ins: self.ins,
+            outs: self.outs,
+            bytes: self.bytes,
+            indices,
+        })
+    }
+}

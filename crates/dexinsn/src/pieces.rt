@@ -1,0 +1,80 @@
+//! The pieces of a code_item, with numbers in the place of symbols.
+
+ghost use Rattle.std.specs.Prelude.{◌≡◌, ◌*◌, length};
+ghost use Rattle.dexinsn.specs.Numbered.{numbered_bytes};
+
+use crate::code_units::Units;
+use std::marker::Model;
+
+/// The number of the symbol that an instruction's index names.
+#[derive(Clone, Copy, Debug, PartialEq, Eq)]
+pub(crate) struct Index {
+    /// The unit at which the instruction begins.
+    pub(crate) unit: u32,
+    pub(crate) number: u32,
+}
+
+/// The registers and the pieces of a code_item. Its units are borrowed from the file; the numbers of its symbols
+/// stand beside them. Contracts see three numbers, and pieces with a number in the place of each symbol.
+///
+/// Source: "code_item"; the Android page "Dalvik bytecode".
+#[derive(Drop)]
+pub struct Pieces<'a> {
+    pub(crate) registers: u16,
+    pub(crate) ins: u16,
+    pub(crate) outs: u16,
+    // Two for each unit.
+    pub(crate) bytes: &'a [u8],
+    // In the order of the instructions, one for each that has an index.
+    pub(crate) indices: Vec<Index>,
+}
+
+impl<'a> Model for Pieces<'a> {
+    ghost use Rattle.dexinsn.specs.Units.{units_in};
+    ghost use Rattle.dexinsn.specs.Numbered.{NumberedCode};
+    ghost use Rattle.dexinsn.specs.Stored.{parts_in, pieces_with, AreStored};
+
+    ghost Value = { NumberedCode };
+
+    ghost view = { λ p. record { registers = p.registers; ins = p.ins; outs = p.outs; pieces = pieces_with (parts_in (units_in p.bytes.now)) p.indices.items } };
+
+    ghost invariant = { λ p. AreStored (units_in p.bytes.now) p.indices.items };
+}
+
+impl<'a> Pieces<'a> {
+    /// How many registers the code has.
+    ///
+    /// Source: "code_item", the field `registers_size`.
+    pub fn registers(&self) -> u16
+        ensures { result ≡ self.now.registers }
+    {
+        self.registers
+    }
+
+    /// How many of them hold its arguments.
+    ///
+    /// Source: "code_item", the field `ins_size`.
+    pub fn ins(&self) -> u16
+        ensures { result ≡ self.now.ins }
+    {
+        self.ins
+    }
+
+    /// How many the calls that it makes take.
+    ///
+    /// Source: "code_item", the field `outs_size`.
+    pub fn outs(&self) -> u16
+        ensures { result ≡ self.now.outs }
+    {
+        self.outs
+    }
+
+    /// The number of units: half the number of bytes that [`put_pieces`](crate::put_pieces) appends.
+    ///
+    /// Source: "code_item", the field `insns_size`.
+    pub fn units(&self) -> u32
+        ensures { 2 * result ≡ length (numbered_bytes self.now.pieces) }
+    {
+        Units::of_bytes(self.bytes).len() as u32
+    }
+}

@@ -1,9 +1,9 @@
 -- Pieces and the indices beside them, one after the other.
-use Rattle.std.proofs.Common.{◌≡◌, ℕ, ◌+◌, ◌-◌, ◌<◌, ◌^◌, Bool, true, false, cond, List, [], ◌∷◌, ◌++◌, length, drop, map, slice_index, Option, Some, None, refl, ap, sym, ◌∙◌, subst, arith, length-drop}
+use Rattle.std.proofs.Common.{get_or, ◌≡◌, ℕ, ◌+◌, ◌-◌, ◌<◌, ◌^◌, Bool, true, false, cond, List, [], ◌∷◌, ◌++◌, length, drop, map, slice_index, Option, Some, None, refl, ap, sym, ◌∙◌, subst, arith, length-drop}
 use Rattle.std.specs.List.{All}
 use Rattle.std.specs.Option.{option_map_or, unwrap_or}
-use Rattle.std.proofs.lemmas.List.{drop-drop}
-use Rattle.std.proofs.lemmas.List.Elements.{All-nil, All-cons, All-head, All-tail}
+use Rattle.std.proofs.lemmas.List.{drop-drop, get_or-map, length-map}
+use Rattle.std.proofs.lemmas.List.Elements.{All-cons, All-get_or, All-head, All-nil, All-tail}
 use Rattle.dexspec.specs.Symbols.{Pool}
 use Rattle.dexspec.specs.Pieces.{Cut, AreCut, piece_size, cut_units, index_pool, is_wide_index, is_payload_ident, with_index}
 use Rattle.dexpool.specs.declared.symbols.SymbolKind.TheVariants as kinds
@@ -223,3 +223,14 @@ places_for r us vs is js s same_us same_is all = subst (λ (ws : List ℕ). All 
 
 pub places_back_for : (r : Maps) (us vs : List ℕ) (is js : List Index) → AreStored us is → vs ≡ us → js ≡ is → All (HasPlaceAt r vs) js → All (HasPlace r) (pieces_with (parts_in us) is)
 places_back_for r us vs is js s same_us same_is all = stored_places_back r us is s (subst (All (HasPlaceAt r us)) same_is (subst (λ (ws : List ℕ). All (HasPlaceAt r ws) js) same_us all))
+
+-- as many symbols occur as there are indices
+pub count_for : (us : List ℕ) (is : List Index) → AreStored us is → length (uses_of (pieces_with (parts_in us) is)) ≡ length is
+count_for us is s = ap length (stored_uses us is s) ∙ length-map is (use_at us)
+
+-- each is that of its index
+pub symbol_for : (us : List ℕ) (is : List Index) (i : ℕ) (x : Index) (d : Use) → AreStored us is → i < length is → x ≡ get_or is i x → get_or (uses_of (pieces_with (parts_in us) is)) i d ≡ use_at us x
+symbol_for us is i x d s lt at = ap (λ (ys : List Use). get_or ys i d) (stored_uses us is s) ∙ get_or-map (use_at us) is i x d lt ∙ ap (use_at us) (sym at)
+
+pub indexed_at : (us : List ℕ) (is : List Index) (i : ℕ) (x : Index) → AreStored us is → i < length is → x ≡ get_or is i x → IsIndexed us x
+indexed_at us is i x s lt at = subst (IsIndexed us) (sym at) (All-get_or (IsIndexed us) is i x lt (stored_indexed us is s))

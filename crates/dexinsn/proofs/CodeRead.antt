@@ -1,14 +1,13 @@
 -- The units of a code_item, and that they are code.
-use Rattle.std.proofs.Common.{◌≡◌, ℕ, ◌+◌, ◌*◌, ◌%◌, ◌^◌, ◌<◌, ◌≤◌, List, [], length, drop, take, Some, None, Ok, Err, refl, ap, sym, ◌∙◌, subst, arith, length-drop}
-use Rattle.std.proofs.lemmas.List.{drop-drop, nil_from_length}
+use Rattle.std.proofs.Common.{◌≡◌, ℕ, ◌+◌, ◌*◌, ◌%◌, ◌^◌, ◌<◌, ◌≤◌, List, length, drop, take, Ok, Err, ap, sym, ◌∙◌, subst, arith}
+use Rattle.std.proofs.lemmas.List.{drop-drop}
 use Rattle.dexspec.specs.Bytes.{uint_at, ushorts_at}
 use Rattle.dexspec.specs.Sections.{IsInData}
 use Rattle.dexspec.specs.Pieces.{Cut, IsCode}
-use Rattle.dexspec.specs.Code.{code_units}
 use Rattle.dexinsn.specs.declared.code.CodeFault.{CodeFault}
 use Rattle.dexinsn.specs.declared.code.CodeFault.TheVariants.{Empty, Piece, Target, Memory}
 use Rattle.dexinsn.specs.Units.{units_in}
-use Rattle.dexinsn.specs.Split.{IsCutFault, IsAnswer, GoesAstrayAt}
+use Rattle.dexinsn.specs.Split.{IsCutFault, GoesAstrayAt}
 use Rattle.dexinsn.specs.Reading.{HasCodeRoom, AreUnitsAt, IsNoCode}
 use Rattle.dexinsn.proofs.Halves.{uint_behind, units_of_part}
 use Rattle.dexinsn.proofs.Once.{answer_once}

@@ -1,14 +1,13 @@
 -- An instruction with an index has room for it.
-use Rattle.std.proofs.Common.{◌≡◌, ℕ, ◌+◌, ◌-◌, ◌<◌, ◌≤◌, ◌==◌, nat_le, Bool, true, false, ◌&&◌, cond, List, [], ◌∷◌, length, drop, slice_index, Option, Some, None, inl, inr, refl, ap, sym, ◌∙◌, subst, arith, length-drop}
+use Rattle.std.proofs.Common.{◌≡◌, ℕ, ◌+◌, ◌-◌, ◌<◌, ◌≤◌, nat_le, Bool, true, false, ◌&&◌, cond, List, [], ◌∷◌, length, drop, slice_index, Option, Some, None, inl, inr, refl, ap, sym, ◌∙◌, subst, arith, length-drop}
 use Rattle.std.specs.List.{find, list_all}
 use Rattle.std.specs.Option.{option_map, option_and_then}
 use Rattle.std.proofs.lemmas.Bool.{leb-true, and_parts, eqb-true}
-
 use Rattle.std.proofs.lemmas.Option.{same_Some}
 use Rattle.dexspec.specs.Symbols.{Pool}
 use Rattle.dexspec.specs.Opcodes.{Opcode, OpcodeRun, Format, units_in, opcode_of, opcode_runs, is_in_run}
 use Rattle.dexspec.specs.Pieces.{piece_size, index_pool, is_wide_index, is_payload_ident, low_byte}
-use Rattle.dexspec.proofs.Blanked.{PayloadPiece, InstructionPiece, piece_is}
+use Rattle.dexspec.proofs.Blanked.{InstructionPiece, piece_is}
 
 -- what has an index has two units at least
 abbrev is_long : Format → Option Pool → Bool
@@ -69,9 +68,9 @@ room_of us n pool p named =
       within = p.within;
       two = omega (arith, two, p.units);
       three = λ wide.
-        let op : low_byte (slice_index us 0) ≡ 0x1b = eqb-true (low_byte (slice_index us 0)) 0x1b wide in
-        let units : units_in p.op.format ≡ 3 = same_Some (units_in p.op.format) 3 (sym (ap (option_map (λ (o : Opcode). units_in o.format)) p.is) ∙ ap (λ (k : ℕ). option_map (λ (o : Opcode). units_in o.format) (opcode_of k)) op ∙ jumbo_units) in
-        omega (arith, units, p.units);
+          let op : low_byte (slice_index us 0) ≡ 0x1b = eqb-true (low_byte (slice_index us 0)) 0x1b wide in
+          let units : units_in p.op.format ≡ 3 = same_Some (units_in p.op.format) 3 (sym (ap (option_map (λ (o : Opcode). units_in o.format)) p.is) ∙ ap (λ (k : ℕ). option_map (λ (o : Opcode). units_in o.format) (opcode_of k)) op ∙ jumbo_units) in
+          omega (arith, units, p.units);
     }
 
 -- a piece with an index has room for it

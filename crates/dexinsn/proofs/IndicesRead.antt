@@ -1,5 +1,5 @@
 -- The indices of pieces, one after the other.
-use Rattle.std.proofs.Common.{◌≡◌, ℕ, ◌+◌, ◌<◌, ◌≤◌, List, [], ◌∷◌, ◌++◌, length, drop, take, map, get_or, Option, Some, None, refl, ap, sym, ◌∙◌, subst, arith, append_assoc, true}
+use Rattle.std.proofs.Common.{◌≡◌, ℕ, ◌+◌, ◌<◌, ◌≤◌, List, [], ◌∷◌, ◌++◌, length, drop, take, get_or, Option, Some, None, refl, ap, sym, ◌∙◌, subst, arith, true}
 use Rattle.std.specs.List.{All}
 use Rattle.std.specs.Option.{option_map, MatchOption}
 use Rattle.std.proofs.lemmas.List.{take_more, take_all, map-append, length-map}
@@ -7,7 +7,7 @@ use Rattle.std.proofs.Math.ListN.{get_or-map}
 use Rattle.std.proofs.lemmas.List.Elements.{All-nil, All-push, All-get_or}
 use Rattle.dexspec.specs.Symbols.{Pool}
 use Rattle.dexspec.specs.Mentions.{Mentions}
-use Rattle.dexspec.specs.Pieces.{Cut, index_pool, index_in, piece_size, is_wide_index}
+use Rattle.dexspec.specs.Pieces.{Cut, index_pool, index_in, is_wide_index}
 use Rattle.dexpool.specs.Pools.{count_of}
 use Rattle.dexpool.specs.declared.symbols.SymbolKind.{SymbolKind}
 use Rattle.dexinsn.specs.declared.code.Cut.{Cut as CutOfCode}

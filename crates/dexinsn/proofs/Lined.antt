@@ -1,9 +1,9 @@
 -- Pieces and the indices beside them, one after the other.
-use Rattle.std.proofs.Common.{◌≡◌, ℕ, ◌+◌, ◌-◌, ◌<◌, ◌≤◌, ◌^◌, Bool, true, false, cond, List, [], ◌∷◌, ◌++◌, length, drop, take, map, slice_index, Option, Some, None, refl, ap, sym, ◌∙◌, subst, arith, length-drop}
-use Rattle.std.specs.List.{All, flat_map}
+use Rattle.std.proofs.Common.{get_or, ◌≡◌, ℕ, ◌+◌, ◌-◌, ◌<◌, ◌^◌, Bool, true, false, cond, List, [], ◌∷◌, ◌++◌, length, drop, map, slice_index, Option, Some, None, refl, ap, sym, ◌∙◌, subst, arith, length-drop}
+use Rattle.std.specs.List.{All}
 use Rattle.std.specs.Option.{option_map_or, unwrap_or}
-use Rattle.std.proofs.lemmas.List.{drop-drop, get_or-take}
-use Rattle.std.proofs.lemmas.List.Elements.{All-nil, All-cons, All-head, All-tail}
+use Rattle.std.proofs.lemmas.List.{drop-drop, get_or-map, length-map}
+use Rattle.std.proofs.lemmas.List.Elements.{All-cons, All-get_or, All-head, All-nil, All-tail}
 use Rattle.dexspec.specs.Symbols.{Pool}
 use Rattle.dexspec.specs.Pieces.{Cut, AreCut, piece_size, cut_units, index_pool, is_wide_index, is_payload_ident, with_index}
 use Rattle.dexpool.specs.declared.symbols.SymbolKind.TheVariants as kinds
@@ -11,8 +11,7 @@ use Rattle.dexpool.specs.Numberings.{Maps, image_of}
 use Rattle.dexinsn.specs.declared.pieces.Index.{Index}
 use Rattle.dexinsn.specs.Split.{IsPieceAt}
 use Rattle.dexinsn.specs.Numbered.{NumberedPiece, Instruction, Payload, Use, kind_in, kind_of_pool, index_room, piece_uses, uses_of, HasPlace, renumbered_piece}
-use Rattle.dexinsn.specs.Stored.{cuts_in, parts_in, first_number, piece_with, left_by, pieces_with, with_place, index_places, AreStored, FitsAt, use_at, HasPlaceAt, renumbered_index, IsIndexed}
-use Rattle.dexinsn.proofs.Sizes.{Fits, piece_size-fits}
+use Rattle.dexinsn.specs.Stored.{cuts_in, parts_in, piece_with, left_by, pieces_with, with_place, index_places, AreStored, FitsAt, use_at, HasPlaceAt, renumbered_index, IsIndexed}
 use Rattle.dexinsn.proofs.IndexRoom.{HasRoom, has_room}
 use Rattle.dexinsn.proofs.StoredRead.{same_pool, same_wide, first_kept, cut_pool, cut_first, cut_length}
 
@@ -58,8 +57,8 @@ lined_from us at [] (i ∷ is) cut same = absurd cc
 lined_from us at (c ∷ cs) is cut same =
     let piece : IsPieceAt us c = subst (λ (k : ℕ). piece_size k (drop k us) ≡ Some c.units) (sym cut.0) cut.1 in
     let on = λ (js : List Index) (e : map (λ (i : Index). i.unit) js ≡ index_places (at + length (cut_units us c)) (map (cut_units us) cs)).
-        lined_from us (at + c.units) cs js (subst (λ (xs : List ℕ). AreCut (at + c.units) xs cs []) (drop-drop c.units at us) cut.2)
-        (e ∙ ap (λ (n : ℕ). index_places (at + n) (map (cut_units us) cs)) (cut_length us c piece)) in
+    lined_from us (at + c.units) cs js (subst (λ (xs : List ℕ). AreCut (at + c.units) xs cs []) (drop-drop c.units at us) cut.2)
+    (e ∙ ap (λ (n : ℕ). index_places (at + n) (map (cut_units us) cs)) (cut_length us c piece)) in
     lined_by (index_pool (cut_units us c)) us c at (map (cut_units us) cs) (index_places (at + length (cut_units us c)) (map (cut_units us) cs)) is cut.0 piece refl same on
 
 -- what is stored is so
@@ -224,3 +223,14 @@ places_for r us vs is js s same_us same_is all = subst (λ (ws : List ℕ). All 
 
 pub places_back_for : (r : Maps) (us vs : List ℕ) (is js : List Index) → AreStored us is → vs ≡ us → js ≡ is → All (HasPlaceAt r vs) js → All (HasPlace r) (pieces_with (parts_in us) is)
 places_back_for r us vs is js s same_us same_is all = stored_places_back r us is s (subst (All (HasPlaceAt r us)) same_is (subst (λ (ws : List ℕ). All (HasPlaceAt r ws) js) same_us all))
+
+-- as many symbols occur as there are indices
+pub count_for : (us : List ℕ) (is : List Index) → AreStored us is → length (uses_of (pieces_with (parts_in us) is)) ≡ length is
+count_for us is s = ap length (stored_uses us is s) ∙ length-map is (use_at us)
+
+-- each is that of its index
+pub symbol_for : (us : List ℕ) (is : List Index) (i : ℕ) (x : Index) (d : Use) → AreStored us is → i < length is → x ≡ get_or is i x → get_or (uses_of (pieces_with (parts_in us) is)) i d ≡ use_at us x
+symbol_for us is i x d s lt at = ap (λ (ys : List Use). get_or ys i d) (stored_uses us is s) ∙ get_or-map (use_at us) is i x d lt ∙ ap (use_at us) (sym at)
+
+pub indexed_at : (us : List ℕ) (is : List Index) (i : ℕ) (x : Index) → AreStored us is → i < length is → x ≡ get_or is i x → IsIndexed us x
+indexed_at us is i x s lt at = subst (IsIndexed us) (sym at) (All-get_or (IsIndexed us) is i x lt (stored_indexed us is s))

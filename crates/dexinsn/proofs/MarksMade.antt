@@ -1,6 +1,6 @@
 -- Marks that are made one by one.
-use Rattle.std.proofs.Common.{◌≡◌, ◌≢◌, ℕ, ◌+◌, ◌<◌, ◌≤◌, ◌==◌, Bool, true, false, ◌||◌, ◌&&◌, List, [], ◌∷◌, ◌++◌, length, take, map, get_or, set, refl, ap, sym, ◌∙◌, subst, arith, inl, inr, eq-eqb, ne_eqb, get_or-set_other}
-use Rattle.std.specs.List.{All, list_any}
+use Rattle.std.proofs.Common.{◌≡◌, ℕ, ◌+◌, ◌<◌, ◌≤◌, ◌==◌, Bool, true, false, ◌||◌, ◌&&◌, List, [], ◌∷◌, ◌++◌, length, take, map, get_or, set, refl, ap, sym, ◌∙◌, subst, inl, inr, eq-eqb, ne_eqb, get_or-set_other}
+use Rattle.std.specs.List.{All}
 use Rattle.std.proofs.lemmas.Bool.{cases_eq}
 use Rattle.std.proofs.lemmas.List.{get_or-set_same, length-set, length-map, map_more, take_all}
 use Rattle.std.proofs.lemmas.List.Elements.{All-get_or}
@@ -73,8 +73,8 @@ pub marked_more : (us : List Use) (u : Use) (a b c : Marks) → AreMarkedToo us 
 marked_more us u a b c before more = record {
   count = λ j. more.count j ∙ before.count j;
   each = λ j i.
-    more.each j i ∙ ap (λ (t : Bool). t || occurs (u ∷ []) j i) (before.each j i) ∙ or_assoc (get_or (marks_of j a) i false) (occurs us j i) (occurs (u ∷ []) j i)
-    ∙ ap (λ (t : Bool). get_or (marks_of j a) i false || t) (sym (list_any-append (λ v. same_kind v.kind j && v.number == i) us (u ∷ [])));
+      more.each j i ∙ ap (λ (t : Bool). t || occurs (u ∷ []) j i) (before.each j i) ∙ or_assoc (get_or (marks_of j a) i false) (occurs us j i) (occurs (u ∷ []) j i)
+      ∙ ap (λ (t : Bool). get_or (marks_of j a) i false || t) (sym (list_any-append (λ v. same_kind v.kind j && v.number == i) us (u ∷ [])));
 }
 
 -- there still is a mark for what had one

@@ -1,6 +1,6 @@
 -- What numbers stand for: ranks, and the same symbols under other numbers.
-use Rattle.std.proofs.Common.{◌≡◌, ℕ, ◌<◌, ◌+◌, Bool, true, false, List, [], ◌∷◌, ◌++◌, length, map, get_or, Option, Some, None, refl, ap, sym, ◌∙◌, subst}
-use Rattle.std.specs.Prelude.{option_to_list, Result}
+use Rattle.std.proofs.Common.{◌≡◌, ℕ, List, [], ◌∷◌, ◌++◌, map, get_or, Option, Some, None, refl, ap, sym, ◌∙◌, subst}
+use Rattle.std.specs.Prelude.{Result}
 use Rattle.std.specs.Global.{Vec}
 use Rattle.dexspec.specs.Bytes.{ushort}
 use Rattle.dexspec.specs.Writing.{Puts}
@@ -19,7 +19,7 @@ use Rattle.dexspec.proofs.SymbolOrders.{text_total, proto_total, field_total, me
 use Rattle.dexpool.specs.declared.symbols.SymbolKind.{SymbolKind}
 use Rattle.dexpool.specs.declared.symbols.SymbolKind.TheVariants as kinds
 use Rattle.dexpool.specs.Numberings.{IsAt, IsNumbered, IsOfKind, AreRising, Maps, image_of, Leads, AllLead}
-use Rattle.dexinsn.specs.Numbered.{NumberedPiece, Instruction, Payload, StandsFor, StandFor, Use, kind_in, kind_of_pool, piece_uses, uses_of, numbered_units, numbered_bytes, HasImage, HasPlace, renumbered_piece, IsUseOf}
+use Rattle.dexinsn.specs.Numbered.{NumberedPiece, Instruction, Payload, StandsFor, StandFor, kind_in, kind_of_pool, uses_of, numbered_units, numbered_bytes, HasImage, HasPlace, renumbered_piece, IsUseOf}
 
 no_proto : Proto
 no_proto = record { return_type = []; parameters = [] }

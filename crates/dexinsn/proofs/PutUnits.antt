@@ -1,18 +1,17 @@
 -- The units of pieces, their numbers put in, as they are appended.
-use Rattle.std.proofs.Common.{◌≡◌, ℕ, zero, suc, ◌+◌, ◌-◌, ◌*◌, ◌/◌, ◌%◌, ◌<◌, ◌≤◌, ◌^◌, Bool, true, false, cond, List, [], ◌∷◌, ◌++◌, length, drop, take, map, get_or, slice_index, slice_set, Option, Some, None, refl, ap, sym, ◌∙◌, subst, arith, length-drop, append_assoc, drop-cons, add-one, length-append}
+use Rattle.std.proofs.Common.{◌≡◌, ℕ, zero, suc, ◌+◌, ◌-◌, ◌*◌, ◌/◌, ◌%◌, ◌<◌, ◌≤◌, Bool, true, false, cond, List, [], ◌∷◌, ◌++◌, length, drop, take, map, get_or, slice_index, slice_set, Option, Some, None, refl, ap, sym, ◌∙◌, subst, arith, length-drop, append_assoc, drop-cons, add-one, length-append}
 use Rattle.dexspec.proofs.ByteNumbers.{length-ushort}
-use Rattle.std.specs.List.{All, flat_map}
+use Rattle.std.specs.List.{flat_map}
 use Rattle.std.proofs.lemmas.List.{drop-drop, length-take-le, take-append-drop, get_or-drop, take_all, drop_all}
 use Rattle.std.proofs.Math.Seq.{take-add}
 use Rattle.std.proofs.lemmas.List.Concat.{flat_map-append}
 use Rattle.dexspec.specs.Bytes.{number_of, bytes_of, ushort, uint, ushort_at, ushorts_at}
 use Rattle.dexspec.specs.Symbols.{Pool}
 use Rattle.dexspec.specs.Pieces.{Cut, AreCut, piece_size, cut_units, index_pool, is_wide_index, is_payload_ident, with_index}
-use Rattle.dexspec.proofs.FormedRows.{length-ushorts_at}
 use Rattle.dexinsn.specs.declared.pieces.Index.{Index}
 use Rattle.dexinsn.specs.Units.{units_in}
 use Rattle.dexinsn.specs.Split.{IsPieceAt}
-use Rattle.dexinsn.specs.Numbered.{NumberedPiece, Instruction, Payload, numbered_units, numbered_bytes}
+use Rattle.dexinsn.specs.Numbered.{Instruction, Payload, numbered_units, numbered_bytes}
 use Rattle.dexinsn.specs.Stored.{cuts_in, parts_in, piece_with, left_by, pieces_with, with_place, index_places, AreStored, index_units, behind_index, spelled_from, Follow}
 use Rattle.dexinsn.proofs.Sizes.{Fits, piece_size-fits}
 use Rattle.dexinsn.proofs.IndexRoom.{HasRoom, has_room}
@@ -96,8 +95,8 @@ follow_from us at (c ∷ cs) is le cut same =
     let f : Fits (drop at us) c.units = piece_size-fits at (drop at us) c.units cut.1 in
     let l : length (drop at us) ≡ length us - at = length-drop at us in
     let on = λ (js : List Index) (e : map (λ (i : Index). i.unit) js ≡ index_places (at + length (cut_units us c)) (map (cut_units us) cs)).
-        follow_from us (at + c.units) cs js (omega (arith, f.1)) (subst (λ (xs : List ℕ). AreCut (at + c.units) xs cs []) (drop-drop c.units at us) cut.2)
-        (e ∙ ap (λ (n : ℕ). index_places (at + n) (map (cut_units us) cs)) (cut_length us c piece)) in
+    follow_from us (at + c.units) cs js (omega (arith, f.1)) (subst (λ (xs : List ℕ). AreCut (at + c.units) xs cs []) (drop-drop c.units at us) cut.2)
+    (e ∙ ap (λ (n : ℕ). index_places (at + n) (map (cut_units us) cs)) (cut_length us c piece)) in
     follow_by (index_pool (drop c.unit us)) us c at (index_places (at + length (cut_units us c)) (map (cut_units us) cs)) is cut.0 piece refl
     (same ∙ ap (λ (o : Option Pool). with_place o at (index_places (at + length (cut_units us c)) (map (cut_units us) cs))) (cut_pool us c piece)) on
 
@@ -138,11 +137,11 @@ spelled_by (Some pool) us c at parts places (i ∷ is) unit piece e same on =
     ∙ ap (λ (xs : List ℕ). xs ++ flat_map numbered_units (pieces_with parts is)) (put_by (is_wide_index (drop i.unit us)) (drop i.unit us) i.number c.units rr refl kept blank)
     ∙ append_assoc (take 1 (drop i.unit us)) (index_units (is_wide_index (drop i.unit us)) i.number ++ take (c.units - behind_index (is_wide_index (drop i.unit us)) 0) (drop (behind_index (is_wide_index (drop i.unit us)) 0) (drop i.unit us))) (flat_map numbered_units (pieces_with parts is))
     ∙ ap (λ (xs : List ℕ). take 1 (drop i.unit us) ++ xs) (
-        append_assoc (index_units (is_wide_index (drop i.unit us)) i.number) (take (c.units - behind_index (is_wide_index (drop i.unit us)) 0) (drop (behind_index (is_wide_index (drop i.unit us)) 0) (drop i.unit us))) (flat_map numbered_units (pieces_with parts is))
-        ∙ ap (λ (xs : List ℕ). index_units (is_wide_index (drop i.unit us)) i.number ++ xs) (
-            ap (λ (xs : List ℕ). take (c.units - behind_index (is_wide_index (drop i.unit us)) 0) xs ++ flat_map numbered_units (pieces_with parts is)) (drop-drop (behind_index (is_wide_index (drop i.unit us)) 0) i.unit us ∙ ap (λ (x : ℕ). drop x us) (sym j))
-            ∙ ap (λ (xs : List ℕ). take (c.units - behind_index (is_wide_index (drop i.unit us)) 0) (drop (behind_index (is_wide_index (drop i.unit us)) i.unit) us) ++ xs) (o.1 ∙ ap (λ (x : ℕ). spelled_from us x is) (sym to))
-            ∙ sym (skip us (behind_index (is_wide_index (drop i.unit us)) i.unit) (c.units - behind_index (is_wide_index (drop i.unit us)) 0) is (subst (λ (x : ℕ). Follow us x is) (sym to) o.0))))
+    append_assoc (index_units (is_wide_index (drop i.unit us)) i.number) (take (c.units - behind_index (is_wide_index (drop i.unit us)) 0) (drop (behind_index (is_wide_index (drop i.unit us)) 0) (drop i.unit us))) (flat_map numbered_units (pieces_with parts is))
+    ∙ ap (λ (xs : List ℕ). index_units (is_wide_index (drop i.unit us)) i.number ++ xs) (
+    ap (λ (xs : List ℕ). take (c.units - behind_index (is_wide_index (drop i.unit us)) 0) xs ++ flat_map numbered_units (pieces_with parts is)) (drop-drop (behind_index (is_wide_index (drop i.unit us)) 0) i.unit us ∙ ap (λ (x : ℕ). drop x us) (sym j))
+    ∙ ap (λ (xs : List ℕ). take (c.units - behind_index (is_wide_index (drop i.unit us)) 0) (drop (behind_index (is_wide_index (drop i.unit us)) i.unit) us) ++ xs) (o.1 ∙ ap (λ (x : ℕ). spelled_from us x is) (sym to))
+    ∙ sym (skip us (behind_index (is_wide_index (drop i.unit us)) i.unit) (c.units - behind_index (is_wide_index (drop i.unit us)) 0) is (subst (λ (x : ℕ). Follow us x is) (sym to) o.0))))
     ∙ ap (λ (x : ℕ). take 1 (drop x us) ++ (index_units (is_wide_index (drop i.unit us)) i.number ++ spelled_from us (behind_index (is_wide_index (drop i.unit us)) i.unit) is)) here
     ∙ ap (λ (x : ℕ). take x (drop at us) ++ (index_units (is_wide_index (drop i.unit us)) i.number ++ spelled_from us (behind_index (is_wide_index (drop i.unit us)) i.unit) is)) (sym one)
 
@@ -155,10 +154,10 @@ spelled_all us at (c ∷ cs) is le cut same =
     let l : length (drop at us) ≡ length us - at = length-drop at us in
     let cut_on : AreCut (at + c.units) (drop (at + c.units) us) cs [] = subst (λ (xs : List ℕ). AreCut (at + c.units) xs cs []) (drop-drop c.units at us) cut.2 in
     let on = λ (js : List Index) (e : map (λ (i : Index). i.unit) js ≡ index_places (at + length (cut_units us c)) (map (cut_units us) cs)).
-        let g : map (λ (i : Index). i.unit) js ≡ index_places (at + c.units) (map (cut_units us) cs) = e ∙ ap (λ (n : ℕ). index_places (at + n) (map (cut_units us) cs)) (cut_length us c piece) in
-        let both : (Follow us (at + c.units) js) × (flat_map numbered_units (pieces_with (map (cut_units us) cs) js) ≡ spelled_from us (at + c.units) js) =
-            (follow_from us (at + c.units) cs js (omega (arith, f.1)) cut_on g, spelled_all us (at + c.units) cs js (omega (arith, f.1)) cut_on g) in
-        both in
+    let g : map (λ (i : Index). i.unit) js ≡ index_places (at + c.units) (map (cut_units us) cs) = e ∙ ap (λ (n : ℕ). index_places (at + n) (map (cut_units us) cs)) (cut_length us c piece) in
+    let both : (Follow us (at + c.units) js) × (flat_map numbered_units (pieces_with (map (cut_units us) cs) js) ≡ spelled_from us (at + c.units) js) =
+    (follow_from us (at + c.units) cs js (omega (arith, f.1)) cut_on g, spelled_all us (at + c.units) cs js (omega (arith, f.1)) cut_on g) in
+    both in
     ap (λ (o : Option Pool). numbered_units (piece_with o (cut_units us c) is) ++ flat_map numbered_units (pieces_with (map (cut_units us) cs) (left_by o is))) (cut_pool us c piece)
     ∙ spelled_by (index_pool (drop c.unit us)) us c at (map (cut_units us) cs) (index_places (at + length (cut_units us c)) (map (cut_units us) cs)) is cut.0 piece refl
     (same ∙ ap (λ (o : Option Pool). with_place o at (index_places (at + length (cut_units us c)) (map (cut_units us) cs))) (cut_pool us c piece)) on
@@ -270,17 +269,17 @@ put_more us from is i d w all out one two lt wide before first second =
     let index : List ℕ = index_units w (get_or is i d).number in
     let rest : List ℕ = spelled_from us (behind_index w (get_or is i d).unit) (drop (i + 1) is) in
     let all_is : spelled_from us from (drop i is) ≡ take ((get_or is i d).unit + 1 - from) (drop from us) ++ (index_units w (get_or is i d).number ++ spelled_from us (behind_index w (get_or is i d).unit) (drop (i + 1) is)) =
-        ap (spelled_from us from) (next_is is i d lt)
-        ∙ ap (λ (v : Bool). take ((get_or is i d).unit + 1 - from) (drop from us) ++ (index_units v (get_or is i d).number ++ spelled_from us (behind_index v (get_or is i d).unit) (drop (i + 1) is))) (sym wide) in
+    ap (spelled_from us from) (next_is is i d lt)
+    ∙ ap (λ (v : Bool). take ((get_or is i d).unit + 1 - from) (drop from us) ++ (index_units v (get_or is i d).number ++ spelled_from us (behind_index v (get_or is i d).unit) (drop (i + 1) is))) (sym wide) in
     ap (λ (xs : List ℕ). xs ++ flat_map ushort (spelled_from us (behind_index w (get_or is i d).unit) (drop (i + 1) is)))
     (second ∙ ap (λ (xs : List ℕ). xs ++ flat_map ushort (index_units w (get_or is i d).number)) first
     ∙ append_assoc out (flat_map ushort (take ((get_or is i d).unit + 1 - from) (drop from us))) (flat_map ushort (index_units w (get_or is i d).number)))
     ∙ append_assoc out (flat_map ushort (take ((get_or is i d).unit + 1 - from) (drop from us)) ++ flat_map ushort (index_units w (get_or is i d).number)) (flat_map ushort (spelled_from us (behind_index w (get_or is i d).unit) (drop (i + 1) is)))
     ∙ ap (λ (xs : List ℕ). out ++ xs) (
-        append_assoc (flat_map ushort (take ((get_or is i d).unit + 1 - from) (drop from us))) (flat_map ushort (index_units w (get_or is i d).number)) (flat_map ushort (spelled_from us (behind_index w (get_or is i d).unit) (drop (i + 1) is)))
-        ∙ ap (λ (xs : List ℕ). flat_map ushort (take ((get_or is i d).unit + 1 - from) (drop from us)) ++ xs) (sym (flat_map-append ushort (index_units w (get_or is i d).number) (spelled_from us (behind_index w (get_or is i d).unit) (drop (i + 1) is))))
-        ∙ sym (flat_map-append ushort (take ((get_or is i d).unit + 1 - from) (drop from us)) (index_units w (get_or is i d).number ++ spelled_from us (behind_index w (get_or is i d).unit) (drop (i + 1) is)))
-        ∙ ap (flat_map ushort) (sym all_is))
+    append_assoc (flat_map ushort (take ((get_or is i d).unit + 1 - from) (drop from us))) (flat_map ushort (index_units w (get_or is i d).number)) (flat_map ushort (spelled_from us (behind_index w (get_or is i d).unit) (drop (i + 1) is)))
+    ∙ ap (λ (xs : List ℕ). flat_map ushort (take ((get_or is i d).unit + 1 - from) (drop from us)) ++ xs) (sym (flat_map-append ushort (index_units w (get_or is i d).number) (spelled_from us (behind_index w (get_or is i d).unit) (drop (i + 1) is))))
+    ∙ sym (flat_map-append ushort (take ((get_or is i d).unit + 1 - from) (drop from us)) (index_units w (get_or is i d).number ++ spelled_from us (behind_index w (get_or is i d).unit) (drop (i + 1) is)))
+    ∙ ap (flat_map ushort) (sym all_is))
     ∙ before
 
 -- the units behind the last index

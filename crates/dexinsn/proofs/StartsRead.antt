@@ -1,9 +1,7 @@
 -- Where instructions begin, by marks.
-use Rattle.std.proofs.Common.{◌≡◌, ℕ, zero, suc, ◌<◌, ◌≤◌, ◌==◌, pos, Bool, true, false, ◌&&◌, not, List, [], ◌∷◌, length, get_or, slice_index, refl, ap, sym, ◌∙◌, subst, arith}
+use Rattle.std.proofs.Common.{◌≡◌, ℕ, zero, suc, ◌==◌, pos, Bool, true, false, ◌&&◌, not, List, [], ◌∷◌, length, get_or, slice_index, refl, ap, sym, ◌∙◌, subst, arith}
 use Rattle.std.specs.List.{list_any}
-use Rattle.std.proofs.lemmas.List.{get_or_past}
-use Rattle.dexspec.specs.Pieces.{Cut, Piece, IsCode, is_payload_ident, is_instruction_start}
-use Rattle.dexspec.specs.Code.{code_units, PiecesAt}
+use Rattle.dexspec.specs.Pieces.{Cut, IsCode, is_payload_ident, is_instruction_start}
 use Rattle.dexinsn.specs.declared.code.Cut.{Cut as CutOfCode}
 use Rattle.dexinsn.specs.Units.{units_in, starts_in}
 use Rattle.dexinsn.specs.Split.{cuts_of, AreMarked}

@@ -1,27 +1,26 @@
 -- What is read is stored so that it stands for the pieces of the code_item.
-use Rattle.std.proofs.Common.{◌≡◌, ℕ, zero, suc, ◌+◌, ◌-◌, ◌*◌, ◌/◌, ◌%◌, ◌^◌, ◌<◌, ◌≤◌, ◌==◌, Bool, true, false, cond, List, [], ◌∷◌, ◌++◌, length, drop, take, map, get_or, slice_index, slice_set, Option, Some, None, refl, ap, sym, ◌∙◌, subst, arith, length-drop, get_or-set_other}
+use Rattle.std.proofs.Common.{◌≡◌, ℕ, zero, suc, ◌+◌, ◌-◌, ◌*◌, ◌/◌, ◌%◌, ◌^◌, ◌<◌, ◌≤◌, ◌==◌, Bool, true, false, cond, List, [], ◌∷◌, length, drop, map, get_or, slice_index, slice_set, Option, Some, None, refl, ap, sym, ◌∙◌, subst, arith, length-drop, get_or-set_other}
 use Rattle.std.specs.List.{All, AllZip}
 use Rattle.std.specs.Option.{option_map_or, option_and_then, MatchOption}
-use Rattle.std.proofs.lemmas.List.{drop-drop, get_or-take, get_or-drop, length-take-le}
+use Rattle.std.proofs.lemmas.List.{drop-drop, get_or-take, length-take-le}
 use Rattle.std.proofs.lemmas.List.Elements.{All-nil, All-cons, All-head, All-tail}
-use Rattle.dexspec.specs.Bytes.{uint_at, ushort_at, ushorts_at}
-use Rattle.dexspec.specs.Header.{table_size}
+use Rattle.dexspec.specs.Bytes.{uint_at}
 use Rattle.dexspec.specs.Opcodes.{opcode_of}
 use Rattle.dexspec.specs.Symbols.{Pool, Strings, Types, Protos, Fields, Methods, Proto, Symbol, TextSymbol, TypeSymbol, ProtoSymbol, FieldSymbol, MethodSymbol, pool_of}
-use Rattle.dexspec.specs.Rows.{SymbolRow, table_of}
+use Rattle.dexspec.specs.Rows.{SymbolRow}
 use Rattle.dexspec.specs.Mentions.{Mentions}
 use Rattle.dexspec.specs.Pieces.{Cut, AreCut, IsCode, Piece, StandsForPiece, piece_size, cut_units, index_pool, index_in, is_wide_index, is_payload_ident, with_index, low_byte, two_units}
 use Rattle.dexspec.specs.Pieces as symbolic
-use Rattle.dexspec.specs.Code.{code_units, PiecesAt}
+use Rattle.dexspec.specs.Code.{PiecesAt}
 use Rattle.dexspec.proofs.FormedRows.{length-ushorts_at}
 use Rattle.dexpool.specs.Pools.{ArePools, count_of}
-use Rattle.dexpool.specs.Numberings.{IsAt, IsNumbered}
+use Rattle.dexpool.specs.Numberings.{IsNumbered}
 use Rattle.dexinsn.specs.declared.pieces.Index.{Index}
 use Rattle.dexinsn.specs.Units.{units_in}
 use Rattle.dexinsn.specs.Split.{IsPieceAt}
-use Rattle.dexinsn.specs.Numbered.{NumberedPiece, Instruction, Payload, kind_of_pool, StandsFor, StandFor}
+use Rattle.dexinsn.specs.Numbered.{Instruction, Payload, kind_of_pool, StandsFor, StandFor}
 use Rattle.dexinsn.specs.Stored.{cuts_from, cuts_in, parts_in, piece_with, left_by, pieces_with, with_place, index_places, AreStored}
-use Rattle.dexinsn.specs.Reading.{ArePiecesAt, HasCodeRoom, AreUnitsAt, with_index_at, indices_at, IsInRange, AreIndicesOf, AreCodeIndices}
+use Rattle.dexinsn.specs.Reading.{ArePiecesAt, AreUnitsAt, with_index_at, indices_at, IsInRange, AreCodeIndices}
 use Rattle.dexinsn.proofs.Sizes.{Fits, piece_size-fits}
 use Rattle.dexinsn.proofs.IndexRoom.{HasRoom, has_room}
 
@@ -197,9 +196,9 @@ piece_stands b m us c (Some pool) pools is e range =
 pieces_stand : (b : List ℕ) (m : Mentions) (us : List ℕ) (cs : List Cut) → ArePools b m → All (IsPieceAt us) cs → All (IsInRange us m) cs → AllZip (λ c p. StandsForPiece (SymbolRow b) (cut_units us c) p) cs (map (named m us) cs)
 pieces_stand b m us [] pools pieces range = tt
 pieces_stand b m us (c ∷ cs) pools pieces range = (
-      piece_stands b m us c (index_pool (drop c.unit us)) pools (All-head (IsPieceAt us) c cs pieces) refl (All-head (IsInRange us m) c cs range),
-      pieces_stand b m us cs pools (All-tail (IsPieceAt us) c cs pieces) (All-tail (IsInRange us m) c cs range),
-    )
+  piece_stands b m us c (index_pool (drop c.unit us)) pools (All-head (IsPieceAt us) c cs pieces) refl (All-head (IsInRange us m) c cs range),
+  pieces_stand b m us cs pools (All-tail (IsPieceAt us) c cs pieces) (All-tail (IsInRange us m) c cs range),
+)
 
 -- an index that is put in leaves the first unit
 first_by : (t : Bool) (xs : List ℕ) (i j k : ℕ) → slice_index (cond t (slice_set (slice_set xs 1 i) 2 j) (slice_set xs 1 k)) 0 ≡ slice_index xs 0
@@ -235,10 +234,10 @@ pieces_for m us (c ∷ cs) pieces range =
     let same : index_pool (cut_units us c) ≡ index_pool (drop c.unit us) = cut_pool us c piece in
     let is : List Index = with_index_at (index_pool (drop c.unit us)) us c (indices_at us cs) in (
       subst (λ (p : Option Pool). StandsFor m (piece_with p (cut_units us c) (with_index_at (index_pool (drop c.unit us)) us c (indices_at us cs))) (named m us c)) (sym same)
-      (piece_for m us c (index_pool (drop c.unit us)) (indices_at us cs) piece refl (All-head (IsInRange us m) c cs range)),
+          (piece_for m us c (index_pool (drop c.unit us)) (indices_at us cs) piece refl (All-head (IsInRange us m) c cs range)),
       subst (λ (js : List Index). StandFor m (pieces_with (map (cut_units us) cs) js) (map (named m us) cs))
-      (sym (ap (λ (p : Option Pool). left_by p (with_index_at (index_pool (drop c.unit us)) us c (indices_at us cs))) same ∙ left_is (index_pool (drop c.unit us)) us c (indices_at us cs)))
-      (pieces_for m us cs (All-tail (IsPieceAt us) c cs pieces) (All-tail (IsInRange us m) c cs range)),
+          (sym (ap (λ (p : Option Pool). left_by p (with_index_at (index_pool (drop c.unit us)) us c (indices_at us cs))) same ∙ left_is (index_pool (drop c.unit us)) us c (indices_at us cs)))
+          (pieces_for m us cs (All-tail (IsPieceAt us) c cs pieces) (All-tail (IsInRange us m) c cs range)),
     )
 
 -- what is read are the pieces of the code_item

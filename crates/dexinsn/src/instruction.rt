@@ -47,7 +47,9 @@ pub(crate) fn branch_offset(format: Format, units: &Units<'_>, at: usize) -> Opt
 {
     match format {
         Format::Format10t => Some(signed8(high_byte_of(units.at(at)))),
-        Format::Format20t | Format::Format21t | Format::Format22t => Some(signed16(units.at(at + 1))),
+        Format::Format20t | Format::Format21t | Format::Format22t => Some(signed16(units.at(
+            at + 1,
+        ))),
         Format::Format30t | Format::Format31t => Some(int_at(units, at + 1)),
         _ => None,
     }

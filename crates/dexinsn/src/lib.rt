@@ -5,19 +5,20 @@
 
 pub use code::{CodeFault, Cut, split};
 pub use format::{Format, IndexKind};
+pub use instruction_starts::InstructionStarts;
 pub use laws::{renumber_law, units_law, uses_law};
 pub use opcodes::{index_kind, mnemonic};
 pub use payload::PayloadKind;
 pub use pieces::Pieces;
 pub use put::put_pieces;
 pub use reading::{read_pieces, read_pieces_and_starts};
-pub use instruction_starts::InstructionStarts;
 
 mod code;
 mod code_units;
 mod format;
 mod indexed;
 mod instruction;
+mod instruction_starts;
 mod laws;
 mod marked;
 mod numbers;
@@ -27,7 +28,6 @@ mod piece;
 mod pieces;
 mod put;
 mod reading;
-mod instruction_starts;
 #[cfg(test)]
 mod tests;
 mod units;

@@ -1,7 +1,7 @@
 //! Numbers of symbols, and what becomes of them.
 
-ghost use Rattle.std.specs.Prelude.{◌≡◌, ◌↔◌, ◌<◌, IsTrue, IfOk, All, map, ◌∷◌, []};
-ghost use Rattle.dexinsn.specs.Numbered.{uses_of, HasMark, AreMarkedToo, HasPlace, renumbered};
+ghost use Rattle.std.specs.Prelude.{◌≡◌, ◌↔◌, ◌<◌, IsTrue, IfOk, All, map, ◌∷◌, [], length, slice_index_or};
+ghost use Rattle.dexinsn.specs.Numbered.{uses_of, HasMark, AreMarkedToo, HasPlace, Use, renumbered};
 ghost use Rattle.dexinsn.specs.Stored.{HasPlaceAt, IsIndexed, renumbered_index, use_at};
 
 use crate::code_units::Units;
@@ -140,5 +140,26 @@ impl<'a> Pieces<'a> {
             bytes: self.bytes,
             indices,
         })
+    }
+
+    /// How many symbols occur, each as often as it does.
+    pub fn symbol_count(&self) -> usize
+        ensures { result ≡ length (uses_of self.now.pieces) }
+    {
+        self.indices.len()
+    }
+
+    /// The kind and the number of a symbol, where those that occur are counted from 0 on, in the order of the
+    /// instructions. No memory is taken.
+    ///
+    /// Condition: `i` is below [`symbol_count`](Pieces::symbol_count).
+    pub fn symbol(&self, i: usize) -> (SymbolKind, usize)
+        requires { i < length (uses_of self.now.pieces) }
+        ensures { (d : Use) → slice_index_or (uses_of self.now.pieces) i d ≡ record { kind = result.0; number = result.1 } }
+    {
+        let units = Units::of_bytes(self.bytes);
+        let index = self.indices[i];
+        let kind = index_kind_at(&units, index.unit as usize);
+        (kind, index.number as usize)
     }
 }

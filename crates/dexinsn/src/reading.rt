@@ -11,9 +11,9 @@ ghost use Rattle.dexinsn.specs.Reading.{ArePiecesAt, IsPiecesFault, HasCodeRoom,
 use crate::code::{CodeFault, Cut};
 use crate::code_units::Units;
 use crate::indexed::{index_at, kind_at};
+use crate::instruction_starts::InstructionStarts;
 use crate::marked::Marked;
 use crate::pieces::{Index, Pieces};
-use crate::instruction_starts::InstructionStarts;
 use dexhead::{Frame, u16_at, u32_at};
 use dexpool::{ItemFault, Pools};
 use std::alloc::Global;

@@ -1,6 +1,6 @@
 use Rattle.std.proofs.Common.{sym, ◌∙◌, ap, subst, arith}
 use Rattle.dexinsn.specs.Stored.{HasPlaceAt, IsIndexed, renumbered_index}
-use Rattle.dexinsn.proofs.Steps.{unchanged, changed_more, all_changed}
+use Rattle.dexinsn.proofs.Steps.{unchanged, changed_more}
 use Rattle.dexinsn.proofs.numbers.renumber_indices.Goals as goal
 
 pub renumbered_index-requires-clause-indexed : goal.renumbered_index-requires-clause-indexed

@@ -1,10 +1,9 @@
-use Rattle.std.proofs.Common.{◌≡◌, ◌+◌, ◌++◌, length, rules, ap, sym, ◌∙◌, arith}
-use Rattle.std.specs.Prelude.{vec_len}
+use Rattle.std.proofs.Common.{◌≡◌, ◌++◌, length, ap, sym, ◌∙◌, arith}
 use Rattle.std.specs.List.{flat_map}
-use Rattle.dexspec.specs.Bytes.{ushort, uint}
+use Rattle.dexspec.specs.Bytes.{ushort}
 use Rattle.dexspec.proofs.ByteNumbers.{length-ushort, length-uint}
 use Rattle.dexinsn.specs.Stored.{index_units}
-use Rattle.dexinsn.proofs.PutUnits.{halves, one_half}
+use Rattle.dexinsn.proofs.PutUnits.{halves}
 use Rattle.dexinsn.proofs.put.push_number.Goals as goal
 
 pub unwrap-requires : goal.unwrap-requires

@@ -1,10 +1,9 @@
-use Rattle.std.proofs.Common.{◌≡◌, ◌+◌, ◌-◌, ◌*◌, ◌<◌, ◌≤◌, ◌++◌, length, drop, get_or, refl, ap, sym, ◌∙◌, subst, arith}
-use Rattle.std.specs.Prelude.{vec_len, vec_capacity}
+use Rattle.std.proofs.Common.{◌≡◌, ◌+◌, ◌<◌, ◌≤◌, length, drop, get_or, refl, ap, sym, ◌∙◌, subst, arith}
 use Rattle.dexspec.specs.Pieces.{is_wide_index}
 use Rattle.dexinsn.specs.Units.{units_in}
-use Rattle.dexinsn.specs.Stored.{index_units, behind_index, Follow}
+use Rattle.dexinsn.specs.Stored.{behind_index}
 use Rattle.dexinsn.proofs.Halves.{length_from}
-use Rattle.dexinsn.proofs.PutUnits.{stored_follow, Next, next_index, index_length, put_more, put_last, follow_within}
+use Rattle.dexinsn.proofs.PutUnits.{stored_follow, Next, next_index, index_length}
 use Rattle.dexinsn.proofs.put.push_numbered.Goals as goal
 
 pub loop-index-init : goal.loop-index-init

@@ -1,5 +1,4 @@
-use Rattle.std.proofs.Common.{◌≡◌, ◌+◌, ◌-◌, ◌*◌, ◌<◌, ◌++◌, take, drop, get_or, ℕ, ap, sym, ◌∙◌, rules}
-use Rattle.std.proofs.lemmas.Grind.{common_steps}
+use Rattle.std.proofs.Common.{◌≡◌, ◌-◌, ◌*◌, ◌++◌, take, ap, sym, ◌∙◌, rules}
 use Rattle.dexinsn.proofs.PutUnits.{part_bytes}
 use Rattle.dexinsn.proofs.put.push_part.Goals as goal
 

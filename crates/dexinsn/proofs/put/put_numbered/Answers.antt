@@ -10,14 +10,14 @@ use Rattle.dexinsn.proofs.put.put_numbered.Goals as goal
 pub returns-in_err-reserve : goal.returns-in_err-reserve
 returns-in_err-reserve c =
     let n : length (numbered_bytes c.args.pieces.now.pieces) ≡ 2 * length (units_in c.pieces.inside.bytes.now) =
-        ap (λ v. length (numbered_bytes v.pieces)) (sym c.pieces.view_is) ∙ stored_length (units_in c.pieces.inside.bytes.now) c.pieces.inside.indices.items c.pieces.invariant in
+    ap (λ v. length (numbered_bytes v.pieces)) (sym c.pieces.view_is) ∙ stored_length (units_in c.pieces.inside.bytes.now) c.pieces.inside.indices.items c.pieces.invariant in
     let m : c.len.result ≡ length (units_in c.pieces.inside.bytes.now) = c.len.ensures.len ∙ ap length c.of_bytes-units.ensures in
     search rules
 
 pub returns : goal.returns
 returns c =
     let n : length (numbered_bytes c.args.pieces.now.pieces) ≡ 2 * length (units_in c.pieces.inside.bytes.now) =
-        ap (λ v. length (numbered_bytes v.pieces)) (sym c.pieces.view_is) ∙ stored_length (units_in c.pieces.inside.bytes.now) c.pieces.inside.indices.items c.pieces.invariant in
+    ap (λ v. length (numbered_bytes v.pieces)) (sym c.pieces.view_is) ∙ stored_length (units_in c.pieces.inside.bytes.now) c.pieces.inside.indices.items c.pieces.invariant in
     record {
       ok = c.push_numbered.ensures.items
           ∙ ap (λ xs. xs ++ flat_map ushort (spelled_from (units_in c.pieces.inside.bytes.now) 0 c.deref.result.now)) c.in_ok-reserve.ensures.items

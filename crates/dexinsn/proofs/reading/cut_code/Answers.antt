@@ -1,4 +1,4 @@
-use Rattle.std.proofs.Common.{sym, ap, refl, arith}
+use Rattle.std.proofs.Common.{sym, refl, arith}
 use Rattle.dexinsn.proofs.Outcome.{AreMarked-code, AreMarked-astray}
 use Rattle.dexinsn.proofs.CodeRead.{cut_is_none, astray_is_none}
 use Rattle.dexinsn.proofs.reading.cut_code.Goals as goal

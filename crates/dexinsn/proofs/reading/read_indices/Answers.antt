@@ -1,4 +1,4 @@
-use Rattle.std.proofs.Common.{◌≡◌, ◌<◌, ◌^◌, ◌∷◌, [], ◌++◌, length, take, get_or, refl, ap, sym, ◌∙◌, subst, arith}
+use Rattle.std.proofs.Common.{◌≡◌, ◌∷◌, [], ◌++◌, take, get_or, refl, ap, sym, ◌∙◌, subst, arith}
 use Rattle.std.proofs.lemmas.Grind.{common_steps}
 use Rattle.dexinsn.specs.Split.{cuts_of}
 use Rattle.dexinsn.specs.Reading.{AreIndicesOf}
@@ -29,12 +29,12 @@ pub loop-cut-preserved : goal.loop-cut-preserved
 loop-cut-preserved c =
     elim c.match-kind_at.branch [
       | in-Some+else-len-number+else-is_err w ↦
-        let pushed : w.push.new.self.items ≡ c.loop-cut.indices.items ++ record { unit = (get_or c.args.cuts.now c.loop-cut.cut-index (record { unit = 0; units = 0 })).unit; number = w.index_at-number.result } ∷ [] = grind (arith, common_steps) in
-        index_more c.args.units.now c.args.pools.now c.args.cuts.now c.loop-cut.cut-index (record { unit = 0; units = 0 }) c.loop-cut.indices.items c.match-kind_at.indices.items w.in-Some.kind w.index_at-number.result c.loop-cut-test.true c.loop-cut.invariant
-        w.in-Some.ensures w.index_at-number.ensures.is (omega arith) w.index_at-number.ensures.fits (ap (λ v. v.items) w.indices-is ∙ pushed)
+          let pushed : w.push.new.self.items ≡ c.loop-cut.indices.items ++ record { unit = (get_or c.args.cuts.now c.loop-cut.cut-index (record { unit = 0; units = 0 })).unit; number = w.index_at-number.result } ∷ [] = grind (arith, common_steps) in
+          index_more c.args.units.now c.args.pools.now c.args.cuts.now c.loop-cut.cut-index (record { unit = 0; units = 0 }) c.loop-cut.indices.items c.match-kind_at.indices.items w.in-Some.kind w.index_at-number.result c.loop-cut-test.true c.loop-cut.invariant
+          w.in-Some.ensures w.index_at-number.ensures.is (omega arith) w.index_at-number.ensures.fits (ap (λ v. v.items) w.indices-is ∙ pushed)
       | in-None w ↦
-        plain_more c.args.units.now c.args.pools.now c.args.cuts.now c.loop-cut.cut-index (record { unit = 0; units = 0 }) c.match-kind_at.indices.items c.loop-cut-test.true
-        (subst (λ v. AreIndicesOf c.args.units.now c.args.pools.now (cuts_of (take c.loop-cut.cut-index c.args.cuts.now)) v.items) (sym w.indices-is) c.loop-cut.invariant) w.in-None.ensures
+          plain_more c.args.units.now c.args.pools.now c.args.cuts.now c.loop-cut.cut-index (record { unit = 0; units = 0 }) c.match-kind_at.indices.items c.loop-cut-test.true
+          (subst (λ v. AreIndicesOf c.args.units.now c.args.pools.now (cuts_of (take c.loop-cut.cut-index c.args.cuts.now)) v.items) (sym w.indices-is) c.loop-cut.invariant) w.in-None.ensures
     ]
 
 pub returns-clause-indices : goal.returns-clause-indices

@@ -10,9 +10,9 @@ have_places-requires c = indexed_for (units_in c.self.inside.bytes.now) c.of_byt
 
 pub returns : goal.returns
 returns c = (
-      λ yes. subst (λ v. All (HasPlace c.args.remap.now) v.pieces) c.self.view_is
-          (places_back_for c.args.remap.now (units_in c.self.inside.bytes.now) c.of_bytes-units.result c.self.inside.indices.items c.deref.result.now c.self.invariant c.of_bytes-units.ensures c.deref.ensures.value (c.have_places.ensures.0 yes)),
-      λ all. c.have_places.ensures.1
-          (places_for c.args.remap.now (units_in c.self.inside.bytes.now) c.of_bytes-units.result c.self.inside.indices.items c.deref.result.now c.self.invariant c.of_bytes-units.ensures c.deref.ensures.value
-          (subst (λ v. All (HasPlace c.args.remap.now) v.pieces) (sym c.self.view_is) all)),
-    )
+  λ yes. subst (λ v. All (HasPlace c.args.remap.now) v.pieces) c.self.view_is
+      (places_back_for c.args.remap.now (units_in c.self.inside.bytes.now) c.of_bytes-units.result c.self.inside.indices.items c.deref.result.now c.self.invariant c.of_bytes-units.ensures c.deref.ensures.value (c.have_places.ensures.0 yes)),
+  λ all. c.have_places.ensures.1
+      (places_for c.args.remap.now (units_in c.self.inside.bytes.now) c.of_bytes-units.result c.self.inside.indices.items c.deref.result.now c.self.invariant c.of_bytes-units.ensures c.deref.ensures.value
+      (subst (λ v. All (HasPlace c.args.remap.now) v.pieces) (sym c.self.view_is) all)),
+)

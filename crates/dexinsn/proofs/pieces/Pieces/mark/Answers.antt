@@ -12,11 +12,11 @@ mark_indices-requires-clause-indexed c = indexed_for (units_in c.self.inside.byt
 pub mark_indices-requires-clause-marks : goal.mark_indices-requires-clause-marks
 mark_indices-requires-clause-marks c =
     let e : uses_of c.args.self.now.pieces ≡ map (use_at c.of_bytes-units.result) c.deref.result.now =
-        ap (λ v. uses_of v.pieces) (sym c.self.view_is) ∙ uses_for (units_in c.self.inside.bytes.now) c.of_bytes-units.result c.self.inside.indices.items c.deref.result.now c.self.invariant c.of_bytes-units.ensures c.deref.ensures.value in
+    ap (λ v. uses_of v.pieces) (sym c.self.view_is) ∙ uses_for (units_in c.self.inside.bytes.now) c.of_bytes-units.result c.self.inside.indices.items c.deref.result.now c.self.invariant c.of_bytes-units.ensures c.deref.ensures.value in
     subst (All (HasMark c.args.marks.now)) e c.requires
 
 pub returns : goal.returns
 returns c =
     let e : uses_of c.args.self.now.pieces ≡ map (use_at c.of_bytes-units.result) c.deref.result.now =
-        ap (λ v. uses_of v.pieces) (sym c.self.view_is) ∙ uses_for (units_in c.self.inside.bytes.now) c.of_bytes-units.result c.self.inside.indices.items c.deref.result.now c.self.invariant c.of_bytes-units.ensures c.deref.ensures.value in
+    ap (λ v. uses_of v.pieces) (sym c.self.view_is) ∙ uses_for (units_in c.self.inside.bytes.now) c.of_bytes-units.result c.self.inside.indices.items c.deref.result.now c.self.invariant c.of_bytes-units.ensures c.deref.ensures.value in
     subst (λ us. AreMarkedToo us c.args.marks.now c.mark_indices.new.marks) (sym e) c.mark_indices.ensures

@@ -1,16 +1,20 @@
 //! Times what every file has to go through, on a file named on the command line: SHA-1, Adler-32, opening
-//! the frame, reading the texts and comparing neighbours among them. It is no test: nothing is too slow.
+//! the frame, reading the texts, comparing neighbours among them, reading the pools and joining numberings. It is no
+//! test: nothing is too slow.
 //!
 //! The status is 0 once the file is timed, 2 where the words are not one file's name, 3 where the file cannot
 //! be read or has more than 2^30 bytes, and 4 where the clock, the output or memory fails.
 #![tactic(auto)]
 
 mod fault;
+mod numberings;
 mod pace;
 mod texts;
 
 use dexhead::{Frame, adler};
+use dexpool::{Numbering, Pools};
 use fault::BenchFault;
+use numberings::{dealt, join, lent, read_pools, symbols};
 use pace::timed;
 use sha1::Sha1;
 use std::alloc::Global;
@@ -77,6 +81,45 @@ fn time_texts<'a>(
     Ok(())
 }
 
+// Joins so many numberings that are dealt from one.
+fn time_join(
+    rt: &(impl CpuClock + Print),
+    alloc: Global,
+    numbering: &Numbering<'_>,
+    parts: usize,
+) -> Result<(), BenchFault> {
+    let parts = dealt(alloc, numbering, parts)?;
+    let lent = lent(alloc, parts.as_slice())?;
+    let mut all = 0usize;
+    for part in parts.iter() {
+        all = all.saturating_add(symbols(part));
+    }
+    let pace = timed(rt, || join(alloc, lent.as_slice()))?;
+    let rate = pace.millions(all);
+    let count = parts.len();
+    let answer = pace.answer();
+    println!(rt; "joining {count} numberings: {rate} million symbols/s; {answer} texts")?;
+    Ok(())
+}
+
+fn time_pools(
+    rt: &(impl CpuClock + Print),
+    alloc: Global,
+    frame: &Frame<'_>,
+) -> Result<(), BenchFault> {
+    let Ok(pools) = Pools::read(alloc, frame) else {
+        println!(rt; "pools: refused")?;
+        return Ok(());
+    };
+    let pace = timed(rt, || read_pools(alloc, frame))?;
+    let rate = pace.millions(symbols(pools.numbering()));
+    let answer = pace.answer();
+    println!(rt; "reading pools: {rate} million symbols/s; {answer} texts")?;
+    time_join(rt, alloc, pools.numbering(), 2)?;
+    time_join(rt, alloc, pools.numbering(), 16)?;
+    time_join(rt, alloc, pools.numbering(), 256)
+}
+
 fn time_file(rt: &(impl CpuClock + Print), alloc: Global, bytes: &[u8]) -> Result<(), BenchFault> {
     time_sums(rt, bytes)?;
     match Frame::open(bytes) {
@@ -85,7 +128,8 @@ fn time_file(rt: &(impl CpuClock + Print), alloc: Global, bytes: &[u8]) -> Resul
             let rate = pace.millions(bytes.len());
             let answer = pace.answer();
             println!(rt; "Frame::open: {rate} MB/s; the data begin at {answer}")?;
-            time_texts(rt, alloc, &frame)
+            time_texts(rt, alloc, &frame)?;
+            time_pools(rt, alloc, &frame)
         }
         Err(refusal) => {
             let number = refusal.number;

@@ -1,0 +1,98 @@
+//! The pools of a file, and joins of numberings that are dealt from them.
+
+ghost use Rattle.std.specs.Prelude.{◌≡◌, length, IfOk};
+ghost use Rattle.dexpool.specs.Numberings.{AreMarksOf};
+
+use dexhead::Frame;
+use dexpool::{Marks, Numbering, Pools, SymbolKind};
+use std::alloc::{AllocError, Global};
+
+/// The kinds of symbol, each with a pool.
+const KINDS: [SymbolKind; 5] = [
+    SymbolKind::Text,
+    SymbolKind::Typ,
+    SymbolKind::Proto,
+    SymbolKind::Field,
+    SymbolKind::Method,
+];
+
+/// The number of symbols of all kinds.
+pub fn symbols(numbering: &Numbering<'_>) -> usize {
+    let mut all = 0usize;
+    for k in 0..KINDS.len() {
+        all = all.saturating_add(numbering.count(KINDS[k]));
+    }
+    all
+}
+
+/// Reads the pools, and answers how many texts they have; 0 where they are refused.
+pub fn read_pools(alloc: Global, frame: &Frame<'_>) -> u64 {
+    match Pools::read(alloc, frame) {
+        Ok(pools) => pools.len(SymbolKind::Text) as u64,
+        Err(_) => 0,
+    }
+}
+
+// Marks every `parts`-th symbol, from number `part` on.
+fn mark_some(marks: &mut Vec<bool>, parts: usize, part: usize)
+    ensures { length marks.new.items ≡ length marks.old.items }
+{
+    for i in 0..marks.len() {
+        if parts > 0 && i % parts == part {
+            marks[i] = true;
+        }
+    }
+}
+
+// Marks for one of so many parts.
+fn marks_of(
+    alloc: Global,
+    numbering: &Numbering<'_>,
+    parts: usize,
+    part: usize,
+) -> Result<Marks, AllocError>
+    ensures { IfOk result (AreMarksOf numbering.now) }
+{
+    let mut marks = Marks::none(alloc, numbering)?;
+    mark_some(&mut marks.strings, parts, part);
+    mark_some(&mut marks.types, parts, part);
+    mark_some(&mut marks.protos, parts, part);
+    mark_some(&mut marks.fields, parts, part);
+    mark_some(&mut marks.methods, parts, part);
+    Ok(marks)
+}
+
+/// So many numberings, dealt from one: each has every so-manieth symbol, and what these name.
+pub fn dealt<'a>(
+    alloc: Global,
+    numbering: &Numbering<'a>,
+    parts: usize,
+) -> Result<Vec<Numbering<'a>>, AllocError> {
+    let mut all = Vec::new(alloc);
+    for part in 0..parts {
+        let marks = marks_of(alloc, numbering, parts, part)?;
+        let (kept, _) = numbering.keep(alloc, &marks)?;
+        all.push(kept)?;
+    }
+    Ok(all)
+}
+
+/// The numberings, lent.
+pub fn lent<'p, 'a>(
+    alloc: Global,
+    parts: &'p [Numbering<'a>],
+) -> Result<Vec<&'p Numbering<'a>>, AllocError> {
+    let mut lent = Vec::with_capacity(alloc, parts.len())?;
+    for part in parts.iter() {
+        lent.push(part)?;
+    }
+    Ok(lent)
+}
+
+/// Joins numberings, and answers how many texts there are; 0 where memory is refused.
+pub fn join(alloc: Global, parts: &[&Numbering<'_>]) -> u64 {
+    match Numbering::join(alloc, parts) {
+        Ok((joined, _)) => joined.count(SymbolKind::Text) as u64,
+        Err(_) => 0,
+    }
+}

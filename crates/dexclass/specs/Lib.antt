@@ -4,3 +4,4 @@ pub mod Marking
 pub mod Renumbering
 pub mod Parents
 pub mod FlagNames
+pub mod Programs

@@ -15,8 +15,12 @@ mod judging;
 mod marking;
 mod ordering;
 mod parents;
+mod programs;
+mod reading;
 mod renumbering;
 mod trimming;
 
 pub use classes::Class;
 pub use flags::{ClassFlags, FieldFlags, MethodFlags};
+pub use programs::Program;
+pub use reading::read;

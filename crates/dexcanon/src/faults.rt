@@ -1,0 +1,31 @@
+//! Why a program was not written.
+
+ghost use Rattle.std.specs.Prelude.{◌≡◌};
+ghost use Rattle.dexcanon.specs.declared.faults.StoreFault.TheVariants.{Memory};
+
+use std::alloc::{AllocError, AllocFailed};
+
+/// Why a program was not written.
+#[derive(Clone, Copy, Debug, PartialEq, Eq)]
+pub enum StoreFault {
+    /// A growth was refused. Nothing was written.
+    Memory,
+    /// The writer failed. A front of the canonical file was written.
+    Io,
+}
+
+impl From<AllocError> for StoreFault {
+    ghost from_gives = { λ _ e. e ≡ Memory };
+
+    fn from(_e: AllocError) -> StoreFault {
+        StoreFault::Memory
+    }
+}
+
+impl<T: Drop> From<AllocFailed<T>> for StoreFault {
+    ghost from_gives = { λ _ e. e ≡ Memory };
+
+    fn from(_e: AllocFailed<T>) -> StoreFault {
+        StoreFault::Memory
+    }
+}

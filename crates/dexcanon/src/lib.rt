@@ -1,0 +1,11 @@
+//! The canonical file of a program.
+//!
+//! Source: the Android page "Dalvik Executable format"; the order of the sections and of what stands in them is this
+//! project's rule.
+#![tactic(auto)]
+
+mod faults;
+mod writing;
+
+pub use faults::StoreFault;
+pub use writing::{to_bytes, write_to};

@@ -1,0 +1,121 @@
+//! Programs: sets of class definitions.
+
+ghost use Rattle.std.specs.Prelude.{◌≡◌, ◌<◌, length, map, IfOk};
+ghost use Rattle.std.specs.FinMap as finite;
+ghost use Rattle.dexspec.specs.Files.{definitions, IsCollectionOf};
+ghost use Rattle.dexspec.specs.WellFormed.{AreWellFormed};
+ghost use Rattle.dexspec.specs.Mentions.{mentions};
+ghost use Rattle.dexspec.specs.Weight.{weight};
+ghost use Rattle.dexspec.specs.Merging.{IsGood, greatest_caps};
+ghost use Rattle.dexspec.specs.Plain.{ArePlain};
+ghost use Rattle.dexclass.specs.Numbered.{definition_of};
+ghost use Rattle.dexclass.specs.Programs.{AreMergeable, AreClassesOf, IsClassAt};
+
+use crate::classes::Class;
+use dexpool::Numbering;
+use std::alloc::{AllocError, Global};
+use std::marker::Model;
+
+/// A set of class definitions that can be merged and written: no two have one name, no class is above itself, and
+/// together they fit what a file can hold. Contracts see a finite map from names to the rest of each definition.
+///
+/// It keeps the numbering of just what the classes mention, and the classes with numbers in the place of symbols, by
+/// depth and then by name.
+#[derive(Drop)]
+pub struct Program<'a> {
+    pub(crate) numbering: Numbering<'a>,
+    pub(crate) classes: Vec<Class>,
+    pub(crate) weight: u64,
+}
+
+impl<'a> Model for Program<'a> {
+    ghost use Rattle.dexspec.specs.Files.{Collection};
+    ghost use Rattle.dexspec.specs.Codes.{collection_code};
+    ghost use Rattle.dexclass.specs.Programs.{collection_of, IsProgram};
+
+    ghost Value = { Collection };
+
+    ghost coded = { collection_code };
+
+    ghost view = { λ p. collection_of p.numbering p.classes.items };
+
+    ghost invariant = { λ p. IsProgram p.numbering p.classes.items p.weight };
+}
+
+impl<'a> Program<'a> {
+    /// A program without classes. No memory is taken.
+    pub fn empty(alloc: Global) -> Program<'a>
+        ensures { result ≡ finite.empty }
+    {
+        Program {
+            numbering: Numbering::empty(alloc),
+            classes: Vec::new(alloc),
+            weight: 1024,
+        }
+    }
+
+    /// The number of classes. No memory is taken.
+    pub fn len(&self) -> usize
+        ensures { result ≡ length (definitions self.now) }
+    {
+        self.classes.len()
+    }
+
+    /// The classes, by depth and then by name. Their numbers are those of the program's numbering. No memory is taken.
+    ///
+    /// Source: "class_defs"; by depth and then by name is this project's rule.
+    pub fn classes(&self) -> &[Class]
+        ensures { AreClassesOf self.now result.now }
+    {
+        &self.classes
+    }
+
+    /// Class `i` in the order of `classes`. No memory is taken.
+    ///
+    /// Condition: `i` is below the number of classes.
+    pub fn class(&self, i: usize) -> &Class
+        requires { i < length (definitions self.now) }
+        ensures { IsClassAt self.now i result.now }
+    {
+        &self.classes[i]
+    }
+
+    /// The numbering of just what the classes mention. No memory is taken.
+    pub fn numbering(&self) -> &Numbering<'a>
+        ensures { result.now ≡ mentions (definitions self.now) }
+    {
+        &self.numbering
+    }
+
+    /// What the classes weigh together. No memory is taken.
+    pub fn weight(&self) -> u64
+        ensures { result ≡ weight (definitions self.now) }
+    {
+        self.weight
+    }
+
+    /// Does nothing: its clauses tell what holds of every program. While files that are not plain are refused, each
+    /// definition is plain.
+    pub fn is_good(&self)
+        ensures good { IsGood greatest_caps (definitions self.now) }
+        ensures formed { AreWellFormed (definitions self.now) }
+        ensures plain { ArePlain (definitions self.now) }
+    {
+        let _classes = &self.classes;
+    }
+
+    /// The program of classes, in any order, over the numbering of just what they mention.
+    ///
+    /// Conditions: no two classes have one name, none is above itself, and together they fit what a file can hold.
+    /// Error: the memory for the order was refused.
+    pub fn of(
+        alloc: Global,
+        numbering: Numbering<'a>,
+        classes: Vec<Class>,
+    ) -> Result<Program<'a>, AllocError>
+        requires { AreMergeable numbering.entry classes.entry.items }
+        ensures { IfOk result (IsCollectionOf (map (definition_of numbering.entry) classes.entry.items)) }
+    {
+        Err(AllocError)
+    }
+}

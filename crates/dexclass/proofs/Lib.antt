@@ -15,6 +15,8 @@ pub mod Arranged
 pub mod Ordered
 pub mod Unmarked
 pub mod Trimmed
+pub mod ProgramClasses
+pub mod EmptyPrograms
 pub mod SingleBits
 pub mod Growing
 pub mod Hexadecimal

@@ -5,6 +5,7 @@ pub mod Listed
 pub mod PlainClasses
 pub mod Marked
 pub mod Renumbered
+pub mod Alike
 pub mod KeptMembers
 pub mod Mentioned
 pub mod LedOn

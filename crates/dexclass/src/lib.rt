@@ -4,6 +4,7 @@
 #![tactic(auto)]
 
 mod arranging;
+mod class_calls;
 mod class_rows;
 mod class_types;
 mod classes;

@@ -9,6 +9,7 @@ pub mod Alike
 pub mod KeptMembers
 pub mod Mentioned
 pub mod LedOn
+pub mod SameClasses
 pub mod Places
 pub mod Classed
 pub mod NamesOf

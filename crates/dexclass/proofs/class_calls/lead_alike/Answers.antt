@@ -8,8 +8,8 @@ pub returns-then-type_number : goal.returns-then-type_number
 returns-then-type_number c = (
   λ e. absurd (false≢true e),
   λ e. absurd (c.if-type_number.true (c.type_number.ensures
-  ∙ alike_at (led c.args.mine.now.types) (led c.args.theirs.now.types) c.args.numbers.now c.args.others.now c.loop-k.k e c.loop-k-test.true
-  ∙ sym c.type_number-in-loop-k.ensures)),
+      ∙ alike_at (led c.args.mine.now.types) (led c.args.theirs.now.types) c.args.numbers.now c.args.others.now c.loop-k.k e c.loop-k-test.true
+      ∙ sym c.type_number-in-loop-k.ensures)),
 )
 
 pub returns : goal.returns

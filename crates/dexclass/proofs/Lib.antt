@@ -5,9 +5,11 @@ pub mod Listed
 pub mod PlainClasses
 pub mod Marked
 pub mod Renumbered
+pub mod Alike
 pub mod KeptMembers
 pub mod Mentioned
 pub mod LedOn
+pub mod SameClasses
 pub mod Places
 pub mod Classed
 pub mod NamesOf

@@ -19,6 +19,8 @@ pub mod Unmarked
 pub mod Trimmed
 pub mod ProgramClasses
 pub mod EmptyPrograms
+pub mod OneOrder
+pub mod ProgramsOf
 pub mod SingleBits
 pub mod Growing
 pub mod Hexadecimal

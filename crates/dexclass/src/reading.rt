@@ -106,11 +106,7 @@ fn read_bodies(alloc: Global, frame: &Frame<'_>) -> Result<Bodies, ReadFault>
 }
 
 // Judges what classes that weigh so much weigh with the symbols that they mention, at the last row.
-fn judge_weight(
-    frame: &Frame<'_>,
-    numbering: &Numbering<'_>,
-    bodies: u64,
-) -> Result<(), Refusal>
+fn judge_weight(frame: &Frame<'_>, numbering: &Numbering<'_>, bodies: u64) -> Result<(), Refusal>
     ensures accepted { OnOk result (1024 + mentions_weight numbering.now + bodies ≤ most_weight) }
     ensures refused { IfErr result (AreHeavyTogether frame.now numbering.now bodies) }
 {

@@ -28,14 +28,14 @@ pub returns-in_err-judge_weight-clause-refused : goal.returns-in_err-judge_weigh
 returns-in_err-judge_weight-clause-refused c =
     let p = err_from_is_err_and c.from_residual-in_err-judge_weight.result c.from_residual-in_err-judge_weight.ensures.1 in
     let t = are_trimmed c.args.frame.now c.args.pools.now c.numbering.result.now c.in_ok-numbering.numbering c.in_ok-classes.field-0.classes.items c.trim.new.classes.items c.numbering.ensures c.in_ok-classes.ensures.accepted.classes_are
-        c.in_ok-numbering.ensures.mentions c.in_ok-numbering.ensures.same c.in_ok-numbering.ensures.numbers in
+    c.in_ok-numbering.ensures.mentions c.in_ok-numbering.ensures.same c.in_ok-numbering.ensures.numbers in
     rw (p.1, p.2) (together_fault c.args.frame.now c.args.pools.now c.requires.pools c.requires.before c.requires.plain c.in_ok-numbering.numbering c.in_ok-classes.field-0.weight c.in_err-judge_weight.field-0.0 t.mentions_are
     (c.in_ok-classes.ensures.accepted.weight_is c.args.pools.now) c.in_err-judge_weight.ensures.refused)
 
 pub of-requires : goal.of-requires
 of-requires c =
     let t = are_trimmed c.args.frame.now c.args.pools.now c.numbering.result.now c.in_ok-numbering.numbering c.in_ok-classes.field-0.classes.items c.trim.new.classes.items c.numbering.ensures c.in_ok-classes.ensures.accepted.classes_are
-        c.in_ok-numbering.ensures.mentions c.in_ok-numbering.ensures.same c.in_ok-numbering.ensures.numbers in
+    c.in_ok-numbering.ensures.mentions c.in_ok-numbering.ensures.same c.in_ok-numbering.ensures.numbers in
     mergeable c.args.frame.now c.args.pools.now c.requires.pools c.requires.before c.requires.plain c.in_ok-numbering.numbering c.trim.new.classes.items c.in_ok-classes.field-0.weight t
     (c.in_ok-classes.ensures.accepted.weight_is c.args.pools.now) c.in_ok-judge_weight.ensures.accepted
     (λ K. c.denoted_is_good.ensures.good c.args.frame.now K c.requires.bytes) (λ K. c.denoted_is_good.ensures.formed c.args.frame.now K c.requires.bytes)
@@ -43,6 +43,6 @@ of-requires c =
 pub returns-clause-accepted : goal.returns-clause-accepted
 returns-clause-accepted c =
     let t = are_trimmed c.args.frame.now c.args.pools.now c.numbering.result.now c.in_ok-numbering.numbering c.in_ok-classes.field-0.classes.items c.trim.new.classes.items c.numbering.ensures c.in_ok-classes.ensures.accepted.classes_are
-        c.in_ok-numbering.ensures.mentions c.in_ok-numbering.ensures.same c.in_ok-numbering.ensures.numbers in
+    c.in_ok-numbering.ensures.mentions c.in_ok-numbering.ensures.same c.in_ok-numbering.ensures.numbers in
     read_as c.args.frame.now c.args.pools.now c.requires.pools c.requires.before c.requires.plain c.in_ok-numbering.numbering c.trim.new.classes.items c.in_ok-classes.field-0.weight t
     (c.in_ok-classes.ensures.accepted.weight_is c.args.pools.now) c.in_ok-judge_weight.ensures.accepted c.in_ok-of.field-0 c.in_ok-of.ensures

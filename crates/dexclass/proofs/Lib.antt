@@ -21,6 +21,10 @@ pub mod RowsInRange
 pub mod RowsBelow
 pub mod Summing
 pub mod ReadPlain
+pub mod ProgramClasses
+pub mod EmptyPrograms
+pub mod OneOrder
+pub mod ProgramsOf
 pub mod SingleBits
 pub mod Growing
 pub mod Hexadecimal

@@ -17,6 +17,10 @@ pub mod Arranged
 pub mod Ordered
 pub mod Unmarked
 pub mod Trimmed
+pub mod RowsInRange
+pub mod RowsBelow
+pub mod Summing
+pub mod ReadPlain
 pub mod ProgramClasses
 pub mod EmptyPrograms
 pub mod OneOrder

@@ -8,12 +8,8 @@
 mod closing;
 mod faults;
 mod fields;
-#[cfg(test)]
-mod join_tests;
 mod joined_tables;
 mod joining;
-#[cfg(test)]
-mod keep_tests;
 mod keeping;
 mod kept_tables;
 mod kinds;
@@ -33,8 +29,6 @@ mod shorties;
 mod strings;
 mod symbols;
 mod tables;
-#[cfg(test)]
-mod tests;
 mod types;
 mod weight;
 

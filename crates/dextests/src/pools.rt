@@ -1,10 +1,13 @@
-//! Files read whole: made by a program of its own, which shares nothing with the crate.
+//! Files read whole: made by a program of its own, which shares nothing with the product.
 
-use crate::{
+ghost use Rattle.std.specs.Prelude.{◌<◌, IsTrue};
+ghost use Rattle.dexpool.specs.Pools.{count_of};
+
+use dexhead::{Frame, Refusal};
+use dexpool::{
     FieldRow, FieldSymbol, MethodRow, MethodSymbol, Numbering, Pools, ProtoRow, ProtoSymbol,
     ReadFault, Symbol, SymbolKind,
 };
-use dexhead::{Frame, Refusal};
 use dexstr::{Name, Text};
 use std::alloc::Global;
 
@@ -31,6 +34,11 @@ const GOOD: [u8; 320] = [
     0xbe, 0x00, 0x00, 0x00, 0x00, 0x10, 0x00, 0x00, 0x01, 0x00, 0x00, 0x00, 0xd0, 0x00, 0x00, 0x00,
 ];
 
+// The file, of whose bytes the proofs need to know nothing.
+fn good() -> &'static [u8] {
+    &GOOD
+}
+
 const EXCHANGED: [u8; 280] = [
     0x64, 0x65, 0x78, 0x0a, 0x30, 0x33, 0x35, 0x00, 0xe6, 0x1c, 0xc2, 0x89, 0x70, 0xa2, 0xde, 0xfb,
     0xd8, 0xf8, 0x9f, 0xf5, 0xd5, 0xe0, 0x78, 0x43, 0x52, 0x6c, 0xd3, 0xc2, 0x29, 0x2d, 0xd2, 0xf1,
@@ -52,6 +60,11 @@ const EXCHANGED: [u8; 280] = [
     0x01, 0x00, 0x00, 0x00, 0xc0, 0x00, 0x00, 0x00,
 ];
 
+// The file, of whose bytes the proofs need to know nothing.
+fn exchanged() -> &'static [u8] {
+    &EXCHANGED
+}
+
 const TEXTS: [u8; 180] = [
     0x64, 0x65, 0x78, 0x0a, 0x30, 0x33, 0x35, 0x00, 0xc3, 0x11, 0xfd, 0x06, 0xf8, 0xcd, 0x6a, 0x59,
     0xd7, 0x8c, 0xf9, 0x0b, 0x0f, 0xc1, 0x36, 0xed, 0x6e, 0x46, 0xba, 0x47, 0x3c, 0xc5, 0x4f, 0xc4,
@@ -66,6 +79,11 @@ const TEXTS: [u8; 180] = [
     0x02, 0x00, 0x00, 0x00, 0x78, 0x00, 0x00, 0x00, 0x00, 0x10, 0x00, 0x00, 0x01, 0x00, 0x00, 0x00,
     0x80, 0x00, 0x00, 0x00,
 ];
+
+// The file, of whose bytes the proofs need to know nothing.
+fn texts() -> &'static [u8] {
+    &TEXTS
+}
 
 const ARRAY_OF_VOID: [u8; 200] = [
     0x64, 0x65, 0x78, 0x0a, 0x30, 0x33, 0x35, 0x00, 0xcf, 0x11, 0xce, 0xa9, 0xad, 0xc0, 0x47, 0x10,
@@ -82,6 +100,11 @@ const ARRAY_OF_VOID: [u8; 200] = [
     0x02, 0x20, 0x00, 0x00, 0x02, 0x00, 0x00, 0x00, 0x80, 0x00, 0x00, 0x00, 0x00, 0x10, 0x00, 0x00,
     0x01, 0x00, 0x00, 0x00, 0x88, 0x00, 0x00, 0x00,
 ];
+
+// The file, of whose bytes the proofs need to know nothing.
+fn array_of_void() -> &'static [u8] {
+    &ARRAY_OF_VOID
+}
 
 const SHORTY: [u8; 252] = [
     0x64, 0x65, 0x78, 0x0a, 0x30, 0x33, 0x35, 0x00, 0x71, 0x1a, 0xcd, 0xd1, 0x1d, 0xb7, 0xc8, 0x9c,
@@ -101,6 +124,11 @@ const SHORTY: [u8; 252] = [
     0x90, 0x00, 0x00, 0x00, 0x02, 0x20, 0x00, 0x00, 0x05, 0x00, 0x00, 0x00, 0x9c, 0x00, 0x00, 0x00,
     0x00, 0x10, 0x00, 0x00, 0x01, 0x00, 0x00, 0x00, 0xb0, 0x00, 0x00, 0x00,
 ];
+
+// The file, of whose bytes the proofs need to know nothing.
+fn shorty() -> &'static [u8] {
+    &SHORTY
+}
 
 const VOID_FIELD: [u8; 272] = [
     0x64, 0x65, 0x78, 0x0a, 0x30, 0x33, 0x35, 0x00, 0x6f, 0x1a, 0x78, 0xdc, 0xbd, 0x7d, 0x62, 0xc8,
@@ -122,6 +150,11 @@ const VOID_FIELD: [u8; 272] = [
     0xa4, 0x00, 0x00, 0x00, 0x00, 0x10, 0x00, 0x00, 0x01, 0x00, 0x00, 0x00, 0xb8, 0x00, 0x00, 0x00,
 ];
 
+// The file, of whose bytes the proofs need to know nothing.
+fn void_field() -> &'static [u8] {
+    &VOID_FIELD
+}
+
 const REPEATED: [u8; 280] = [
     0x64, 0x65, 0x78, 0x0a, 0x30, 0x33, 0x35, 0x00, 0x55, 0x19, 0x08, 0x26, 0xc1, 0x08, 0xb7, 0x2f,
     0x6b, 0x5a, 0x2e, 0x8e, 0xe9, 0x27, 0xb3, 0x0d, 0x96, 0x85, 0x73, 0xc5, 0x5a, 0x75, 0xfb, 0xa8,
@@ -142,6 +175,11 @@ const REPEATED: [u8; 280] = [
     0x02, 0x20, 0x00, 0x00, 0x05, 0x00, 0x00, 0x00, 0xac, 0x00, 0x00, 0x00, 0x00, 0x10, 0x00, 0x00,
     0x01, 0x00, 0x00, 0x00, 0xc0, 0x00, 0x00, 0x00,
 ];
+
+// The file, of whose bytes the proofs need to know nothing.
+fn repeated() -> &'static [u8] {
+    &REPEATED
+}
 
 // What is answered for a file that is refused, and None for one that is not.
 fn fault(alloc: Global, file: &[u8]) -> Option<ReadFault> {
@@ -275,112 +313,98 @@ const GOOD_METHOD: MethodRow = MethodRow {
     proto: 0,
 };
 
-#[test]
-fn good_pools_are_read(rt: HostRuntime) {
-    let Ok(frame) = Frame::open(&GOOD) else {
-        panic!(rt; "no frame")
-    };
-    match Pools::read(rt.alloc(), &frame) {
-        Ok(pools) => {
-            assert!(rt; is_good(pools.numbering()));
-            if pools.len(SymbolKind::Text) <= 3
-                || pools.len(SymbolKind::Typ) <= 1
-                || pools.len(SymbolKind::Proto) <= 1
-                || pools.len(SymbolKind::Field) == 0
-                || pools.len(SymbolKind::Method) == 0
-            {
-                panic!(rt; "too few rows")
-            }
-            assert!(rt; spells(pools.string(3), "VI"));
-            assert!(rt; spells(pools.typ(1), "LA;"));
-            assert!(rt; are_same(&pools.proto(1), &ProtoRow::new(3, 2, &[0])));
-            assert!(rt; *pools.field(0) == GOOD_FIELD);
-            assert!(rt; *pools.method(0) == GOOD_METHOD);
-        }
-        Err(_) => panic!(rt; "no pools"),
-    }
+// The pools of the good file.
+fn good_pools(alloc: Global) -> Option<Pools<'static>> {
+    let frame = Frame::open(good()).ok()?;
+    Pools::read(alloc, &frame).ok()
+}
+
+// Whether there are so many rows of a kind, and more.
+fn has_more(pools: &Pools<'_>, kind: SymbolKind, rows: usize) -> bool
+    ensures { IsTrue result → rows < count_of kind pools.now }
+{
+    rows < pools.len(kind)
+}
+
+// Whether the last rows are those of the good file.
+fn has_good_rows(pools: &Pools<'_>) -> bool {
+    has_more(pools, SymbolKind::Text, 3)
+        && spells(pools.string(3), "VI")
+        && has_more(pools, SymbolKind::Typ, 1)
+        && spells(pools.typ(1), "LA;")
+        && has_more(pools, SymbolKind::Proto, 1)
+        && are_same(&pools.proto(1), &ProtoRow::new(3, 2, &[0]))
+        && has_more(pools, SymbolKind::Field, 0)
+        && *pools.field(0) == GOOD_FIELD
+        && has_more(pools, SymbolKind::Method, 0)
+        && *pools.method(0) == GOOD_METHOD
 }
 
 #[test]
-fn rows_stand_for_symbols(rt: HostRuntime) {
-    let alloc = rt.alloc();
-    let Ok(frame) = Frame::open(&GOOD) else {
-        panic!(rt; "no frame")
-    };
-    let Ok(pools) = Pools::read(alloc, &frame) else {
+fn good_pools_are_read(rt: HostRuntime) {
+    let Some(pools) = good_pools(rt.alloc()) else {
         panic!(rt; "no pools")
     };
-    let Some(Symbol::Text(text)) = symbol(alloc, &pools, SymbolKind::Text, 3) else {
-        panic!(rt; "no text")
-    };
-    assert!(rt; is_named(&text, "VI"));
-    let Some(Symbol::Typ(typ)) = symbol(alloc, &pools, SymbolKind::Typ, 1) else {
-        panic!(rt; "no type")
-    };
-    assert!(rt; is_named(&typ, "LA;"));
-    let Some(Symbol::Proto(proto)) = symbol(alloc, &pools, SymbolKind::Proto, 1) else {
-        panic!(rt; "no proto")
-    };
-    assert!(rt; is_proto(&proto, "V", &["I"]));
-    let Some(Symbol::Field(field)) = symbol(alloc, &pools, SymbolKind::Field, 0) else {
-        panic!(rt; "no field")
-    };
-    assert!(rt; is_field(&field));
-    let Some(Symbol::Method(method)) = symbol(alloc, &pools, SymbolKind::Method, 0) else {
-        panic!(rt; "no method")
-    };
-    assert!(rt; is_method(&method));
+    assert!(rt; is_good(pools.numbering()));
+    assert!(rt; has_good_rows(&pools));
+}
+
+// The symbol of a row of the good file.
+fn good_symbol(alloc: Global, kind: SymbolKind, i: u32) -> Option<Symbol> {
+    symbol(alloc, &good_pools(alloc)?, kind, i)
+}
+
+// Whether the symbol is that of the last row of its kind in the good file, or, of a text and a type, one of them.
+fn is_good_symbol(symbol: &Symbol) -> bool {
+    match symbol {
+        Symbol::Text(text) => is_named(text, "VI"),
+        Symbol::Typ(typ) => is_named(typ, "LA;"),
+        Symbol::Proto(proto) => is_proto(proto, "V", &["I"]),
+        Symbol::Field(field) => is_field(field),
+        Symbol::Method(method) => is_method(method),
+    }
+}
+
+const GOOD_SYMBOLS: [(SymbolKind, u32); 5] = [
+    (SymbolKind::Text, 3),
+    (SymbolKind::Typ, 1),
+    (SymbolKind::Proto, 1),
+    (SymbolKind::Field, 0),
+    (SymbolKind::Method, 0),
+];
+
+#[test]
+fn rows_stand_for_symbols(rt: HostRuntime) {
+    for (kind, i) in GOOD_SYMBOLS {
+        let Some(symbol) = good_symbol(rt.alloc(), kind, i) else {
+            panic!(rt; "no symbol")
+        };
+        assert!(rt; is_good_symbol(&symbol));
+    }
+}
+
+// Whether the copy of the symbol of a row of the good file is that symbol.
+fn is_copied(alloc: Global, kind: SymbolKind, i: u32) -> Option<bool> {
+    let copy = good_symbol(alloc, kind, i)?.copy().ok()?;
+    Some(is_good_symbol(&copy))
 }
 
 #[test]
 fn symbols_are_copied(rt: HostRuntime) {
-    let alloc = rt.alloc();
-    let Ok(frame) = Frame::open(&GOOD) else {
-        panic!(rt; "no frame")
-    };
-    let Ok(pools) = Pools::read(alloc, &frame) else {
-        panic!(rt; "no pools")
-    };
-    let Some(Symbol::Proto(proto)) = symbol(alloc, &pools, SymbolKind::Proto, 1) else {
-        panic!(rt; "no proto")
-    };
-    let Ok(proto) = proto.copy() else {
-        panic!(rt; "no copy of the proto")
-    };
-    assert!(rt; is_proto(&proto, "V", &["I"]));
-    let Some(Symbol::Field(field)) = symbol(alloc, &pools, SymbolKind::Field, 0) else {
-        panic!(rt; "no field")
-    };
-    let Ok(field) = field.copy() else {
-        panic!(rt; "no copy of the field")
-    };
-    assert!(rt; is_field(&field));
-    let Some(Symbol::Method(method)) = symbol(alloc, &pools, SymbolKind::Method, 0) else {
-        panic!(rt; "no method")
-    };
-    let Ok(method) = method.copy() else {
-        panic!(rt; "no copy of the method")
-    };
-    assert!(rt; is_method(&method));
-    let Ok(Symbol::Method(method)) = Symbol::Method(method).copy() else {
-        panic!(rt; "no copy of the symbol")
-    };
-    assert!(rt; is_method(&method));
+    for (kind, i) in GOOD_SYMBOLS {
+        assert!(rt; is_copied(rt.alloc(), kind, i) == Some(true));
+    }
 }
 
 #[test]
 fn numberings_are_made_and_copied(rt: HostRuntime) {
     let alloc = rt.alloc();
-    let Ok(frame) = Frame::open(&GOOD) else {
-        panic!(rt; "no frame")
-    };
-    let Ok(pools) = Pools::read(alloc, &frame) else {
+    let Some(pools) = good_pools(alloc) else {
         panic!(rt; "no pools")
     };
     let Ok(numbering) = Numbering::of(&pools) else {
         panic!(rt; "no numbering")
     };
-    numbering.is_numbering();
     assert!(rt; is_good(&numbering));
     let Ok(copy) = numbering.copy() else {
         panic!(rt; "no copy")
@@ -392,10 +416,10 @@ fn numberings_are_made_and_copied(rt: HostRuntime) {
 #[test]
 fn the_first_row_that_fails_is_told(rt: HostRuntime) {
     let alloc = rt.alloc();
-    assert!(rt; fault(alloc, &TEXTS) == refusal(11, 1));
-    assert!(rt; fault(alloc, &ARRAY_OF_VOID) == refusal(12, 1));
-    assert!(rt; fault(alloc, &EXCHANGED) == refusal(13, 1));
-    assert!(rt; fault(alloc, &SHORTY) == refusal(13, 0));
-    assert!(rt; fault(alloc, &VOID_FIELD) == refusal(14, 0));
-    assert!(rt; fault(alloc, &REPEATED) == refusal(15, 1));
+    assert!(rt; fault(alloc, texts()) == refusal(11, 1));
+    assert!(rt; fault(alloc, array_of_void()) == refusal(12, 1));
+    assert!(rt; fault(alloc, exchanged()) == refusal(13, 1));
+    assert!(rt; fault(alloc, shorty()) == refusal(13, 0));
+    assert!(rt; fault(alloc, void_field()) == refusal(14, 0));
+    assert!(rt; fault(alloc, repeated()) == refusal(15, 1));
 }

@@ -1,8 +1,8 @@
 //! Numberings of small files cut down, ranks in them, and what they weigh. The files were made by a program of its
-//! own, which shares nothing with the crate.
+//! own, which shares nothing with the product.
 
-use crate::{Marks, Numbering, Pools, Remap, Symbol, SymbolKind};
 use dexhead::Frame;
+use dexpool::{Marks, Numbering, Pools, Remap, Symbol, SymbolKind};
 use dexstr::Text;
 
 const GOOD: [u8; 320] = [
@@ -28,6 +28,11 @@ const GOOD: [u8; 320] = [
     0xbe, 0x00, 0x00, 0x00, 0x00, 0x10, 0x00, 0x00, 0x01, 0x00, 0x00, 0x00, 0xd0, 0x00, 0x00, 0x00,
 ];
 
+// The file, of whose bytes the proofs need to know nothing.
+fn good() -> &'static [u8] {
+    &GOOD
+}
+
 const LETTER_A: [u8; 220] = [
     0x64, 0x65, 0x78, 0x0a, 0x30, 0x33, 0x35, 0x00, 0xc5, 0x18, 0x2f, 0x2b, 0x4c, 0x16, 0xc2, 0xd9,
     0x27, 0x9b, 0xb3, 0x7f, 0x25, 0x5f, 0xb9, 0xb0, 0x12, 0x74, 0xb7, 0x72, 0xa1, 0x1c, 0x66, 0xa7,
@@ -44,6 +49,11 @@ const LETTER_A: [u8; 220] = [
     0x78, 0x00, 0x00, 0x00, 0x02, 0x20, 0x00, 0x00, 0x02, 0x00, 0x00, 0x00, 0x80, 0x00, 0x00, 0x00,
     0x00, 0x10, 0x00, 0x00, 0x01, 0x00, 0x00, 0x00, 0x9c, 0x00, 0x00, 0x00,
 ];
+
+// The file, of whose bytes the proofs need to know nothing.
+fn letter_a() -> &'static [u8] {
+    &LETTER_A
+}
 
 // Whether the numbers from 0 on lead to these.
 fn leads(remap: &Remap, kind: SymbolKind, images: &[Option<usize>]) -> bool {
@@ -80,7 +90,7 @@ fn rank(numbering: &Numbering<'_>, symbol: &Symbol) -> usize {
 #[test]
 fn a_method_keeps_what_it_names(rt: HostRuntime) {
     let alloc = rt.alloc();
-    let Ok(frame) = Frame::open(&GOOD) else {
+    let Ok(frame) = Frame::open(good()) else {
         panic!(rt; "no frame")
     };
     let Ok(pools) = Pools::read(alloc, &frame) else {
@@ -114,7 +124,7 @@ fn a_method_keeps_what_it_names(rt: HostRuntime) {
 #[test]
 fn members_have_their_numbers_as_ranks(rt: HostRuntime) {
     let alloc = rt.alloc();
-    let Ok(frame) = Frame::open(&GOOD) else {
+    let Ok(frame) = Frame::open(good()) else {
         panic!(rt; "no frame")
     };
     let Ok(pools) = Pools::read(alloc, &frame) else {
@@ -142,7 +152,7 @@ fn members_have_their_numbers_as_ranks(rt: HostRuntime) {
 #[test]
 fn strangers_have_ranks(rt: HostRuntime) {
     let alloc = rt.alloc();
-    let (Ok(frame), Ok(other)) = (Frame::open(&GOOD), Frame::open(&LETTER_A)) else {
+    let (Ok(frame), Ok(other)) = (Frame::open(good()), Frame::open(letter_a())) else {
         panic!(rt; "no frames")
     };
     let (Ok(pools), Ok(other)) = (Pools::read(alloc, &frame), Pools::read(alloc, &other)) else {
@@ -168,7 +178,7 @@ fn strangers_have_ranks(rt: HostRuntime) {
 #[test]
 fn symbols_weigh_what_their_rows_do(rt: HostRuntime) {
     let alloc = rt.alloc();
-    let (Ok(frame), Ok(other)) = (Frame::open(&GOOD), Frame::open(&LETTER_A)) else {
+    let (Ok(frame), Ok(other)) = (Frame::open(good()), Frame::open(letter_a())) else {
         panic!(rt; "no frames")
     };
     let (Ok(pools), Ok(other)) = (Pools::read(alloc, &frame), Pools::read(alloc, &other)) else {

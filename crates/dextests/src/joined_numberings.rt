@@ -1,8 +1,9 @@
 //! Numberings of small files joined. The files were made by a program of its own, which shares nothing with the
-//! crate.
+//! product.
 
-use crate::{FieldRow, MethodRow, Numbering, Pools, Remap, SymbolKind};
 use dexhead::Frame;
+use dexpool::{FieldRow, MethodRow, Numbering, Pools, Remap, SymbolKind};
+use std::alloc::Global;
 
 const LETTER_A: [u8; 220] = [
     0x64, 0x65, 0x78, 0x0a, 0x30, 0x33, 0x35, 0x00, 0xc5, 0x18, 0x2f, 0x2b, 0x4c, 0x16, 0xc2, 0xd9,
@@ -21,6 +22,11 @@ const LETTER_A: [u8; 220] = [
     0x00, 0x10, 0x00, 0x00, 0x01, 0x00, 0x00, 0x00, 0x9c, 0x00, 0x00, 0x00,
 ];
 
+// The file, of whose bytes the proofs need to know nothing.
+fn letter_a() -> &'static [u8] {
+    &LETTER_A
+}
+
 const LETTER_B: [u8; 220] = [
     0x64, 0x65, 0x78, 0x0a, 0x30, 0x33, 0x35, 0x00, 0xdd, 0x19, 0x55, 0x09, 0xfb, 0x17, 0x70, 0xe2,
     0x93, 0x56, 0x86, 0xd5, 0x3e, 0xa8, 0xcc, 0xd0, 0x1d, 0x33, 0x97, 0x42, 0x6b, 0xa8, 0x39, 0xcf,
@@ -37,6 +43,11 @@ const LETTER_B: [u8; 220] = [
     0x78, 0x00, 0x00, 0x00, 0x02, 0x20, 0x00, 0x00, 0x02, 0x00, 0x00, 0x00, 0x80, 0x00, 0x00, 0x00,
     0x00, 0x10, 0x00, 0x00, 0x01, 0x00, 0x00, 0x00, 0x9c, 0x00, 0x00, 0x00,
 ];
+
+// The file, of whose bytes the proofs need to know nothing.
+fn letter_b() -> &'static [u8] {
+    &LETTER_B
+}
 
 const MEMBERS_OF_A: [u8; 320] = [
     0x64, 0x65, 0x78, 0x0a, 0x30, 0x33, 0x35, 0x00, 0xc3, 0x1e, 0xd9, 0x50, 0x11, 0xcc, 0xda, 0x44,
@@ -61,6 +72,11 @@ const MEMBERS_OF_A: [u8; 320] = [
     0xbe, 0x00, 0x00, 0x00, 0x00, 0x10, 0x00, 0x00, 0x01, 0x00, 0x00, 0x00, 0xd0, 0x00, 0x00, 0x00,
 ];
 
+// The file, of whose bytes the proofs need to know nothing.
+fn members_of_a() -> &'static [u8] {
+    &MEMBERS_OF_A
+}
+
 const MEMBERS_OF_B: [u8; 308] = [
     0x64, 0x65, 0x78, 0x0a, 0x30, 0x33, 0x35, 0x00, 0x9f, 0x1e, 0xb0, 0xa4, 0xcf, 0x2c, 0x8d, 0xde,
     0xeb, 0xab, 0xd8, 0xb2, 0x42, 0xf6, 0x94, 0x70, 0xf4, 0x39, 0x74, 0xfa, 0x0c, 0x8c, 0xae, 0x59,
@@ -83,6 +99,11 @@ const MEMBERS_OF_B: [u8; 308] = [
     0x05, 0x00, 0x00, 0x00, 0xb2, 0x00, 0x00, 0x00, 0x00, 0x10, 0x00, 0x00, 0x01, 0x00, 0x00, 0x00,
     0xc4, 0x00, 0x00, 0x00,
 ];
+
+// The file, of whose bytes the proofs need to know nothing.
+fn members_of_b() -> &'static [u8] {
+    &MEMBERS_OF_B
+}
 
 // The unit at a place of a text.
 fn unit(numbering: &Numbering<'_>, i: usize, place: usize) -> Option<u16> {
@@ -140,17 +161,35 @@ fn is_proto(
         && proto.parameters() == [parameter].as_slice()
 }
 
+// The pools of a file.
+fn pools(alloc: Global, bytes: &[u8]) -> Option<Pools<'_>> {
+    let frame = Frame::open(bytes).ok()?;
+    Pools::read(alloc, &frame).ok()
+}
+
+// The numberings of two files, joined.
+fn joined<'a>(
+    alloc: Global,
+    first: &'a [u8],
+    second: &'a [u8],
+) -> Option<(Numbering<'a>, Vec<Remap>)> {
+    let parts = [pools(alloc, first)?, pools(alloc, second)?];
+    Numbering::join(alloc, &[parts[0].numbering(), parts[1].numbering()]).ok()
+}
+
+// Whether field `i` has this row.
+fn is_field(numbering: &Numbering<'_>, i: usize, row: FieldRow) -> bool {
+    i < numbering.count(SymbolKind::Field) && *numbering.field(i) == row
+}
+
+// Whether method `i` has this row.
+fn is_method(numbering: &Numbering<'_>, i: usize, row: MethodRow) -> bool {
+    i < numbering.count(SymbolKind::Method) && *numbering.method(i) == row
+}
+
 #[test]
 fn two_files_that_share_a_text_are_joined(rt: HostRuntime) {
-    let alloc = rt.alloc();
-    let (Ok(first), Ok(second)) = (Frame::open(&LETTER_A), Frame::open(&LETTER_B)) else {
-        panic!(rt; "no frames")
-    };
-    let (Ok(first), Ok(second)) = (Pools::read(alloc, &first), Pools::read(alloc, &second)) else {
-        panic!(rt; "no pools")
-    };
-    let Ok((joined, remaps)) = Numbering::join(alloc, &[first.numbering(), second.numbering()])
-    else {
+    let Some((joined, remaps)) = joined(rt.alloc(), letter_a(), letter_b()) else {
         panic!(rt; "no join")
     };
     assert!(rt; has_counts(&joined, [3, 3, 0, 0, 0]));
@@ -180,15 +219,7 @@ fn a_join_of_nothing_has_no_symbol(rt: HostRuntime) {
 
 #[test]
 fn members_of_two_files_are_joined(rt: HostRuntime) {
-    let alloc = rt.alloc();
-    let (Ok(first), Ok(second)) = (Frame::open(&MEMBERS_OF_A), Frame::open(&MEMBERS_OF_B)) else {
-        panic!(rt; "no frames")
-    };
-    let (Ok(first), Ok(second)) = (Pools::read(alloc, &first), Pools::read(alloc, &second)) else {
-        panic!(rt; "no pools")
-    };
-    let Ok((joined, remaps)) = Numbering::join(alloc, &[first.numbering(), second.numbering()])
-    else {
+    let Some((joined, remaps)) = joined(rt.alloc(), members_of_a(), members_of_b()) else {
         panic!(rt; "no join")
     };
     // The texts are I, LA;, LB;, V, VI, a and m.
@@ -197,36 +228,48 @@ fn members_of_two_files_are_joined(rt: HostRuntime) {
     assert!(rt; unit(&joined, 5, 0) == Some(u16::from(b'a')));
     assert!(rt; is_proto(&joined, 1, 4, 3, 0));
     assert!(rt;
-        joined.tables().fields.as_slice()
-            == [
-                FieldRow {
-                    class: 1,
-                    name: 6,
-                    typ: 0
-                },
-                FieldRow {
-                    class: 2,
-                    name: 5,
-                    typ: 0
-                }
-            ]
-            .as_slice()
+        is_field(
+            &joined,
+            0,
+            FieldRow {
+                class: 1,
+                name: 6,
+                typ: 0
+            }
+        )
     );
     assert!(rt;
-        joined.tables().methods.as_slice()
-            == [
-                MethodRow {
-                    class: 1,
-                    name: 6,
-                    proto: 1
-                },
-                MethodRow {
-                    class: 2,
-                    name: 5,
-                    proto: 1
-                }
-            ]
-            .as_slice()
+        is_field(
+            &joined,
+            1,
+            FieldRow {
+                class: 2,
+                name: 5,
+                typ: 0
+            }
+        )
+    );
+    assert!(rt;
+        is_method(
+            &joined,
+            0,
+            MethodRow {
+                class: 1,
+                name: 6,
+                proto: 1
+            }
+        )
+    );
+    assert!(rt;
+        is_method(
+            &joined,
+            1,
+            MethodRow {
+                class: 2,
+                name: 5,
+                proto: 1
+            }
+        )
     );
     let [from_first, from_second] = remaps.as_slice() else {
         panic!(rt; "not two maps")

@@ -19,6 +19,8 @@ mod ordering;
 mod parents;
 mod programs;
 mod reading;
+#[cfg(test)]
+mod reading_tests;
 mod renumbering;
 mod trimming;
 

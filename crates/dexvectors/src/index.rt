@@ -1,10 +1,10 @@
 //! Lines of an index: cases over the files that lie beside it.
 
-use crate::check;
 use crate::fault::VectorFault;
 use crate::file::read_file;
 use crate::kind::Kind;
 use crate::outcome::Outcome;
+use crate::{check, weight};
 use std::path::Path;
 use std::rt::Files;
 
@@ -17,18 +17,25 @@ pub fn run_case<R: Files + AllocGlobal>(
     case: &str,
 ) -> Result<(Kind, Outcome), VectorFault> {
     match kind {
-        Kind::Check => run_check(rt, folder, case),
+        Kind::Check => {
+            let (bytes, right) = file_and_answer(rt, folder, case)?;
+            check::run(rt.alloc(), &bytes, right)
+        }
+        Kind::Weight => {
+            let (bytes, right) = file_and_answer(rt, folder, case)?;
+            Ok((kind, weight::run(rt.alloc(), &bytes, right)?))
+        }
         Kind::Unknown => Err(VectorFault::Form),
         _ => Ok((kind, Outcome::Unserved)),
     }
 }
 
-fn run_check<R: Files + AllocGlobal>(
+// The bytes of the file that a line names first, and the rest of the line.
+fn file_and_answer<'a, R: Files + AllocGlobal>(
     rt: &R,
     folder: Path<'_>,
-    case: &str,
-) -> Result<(Kind, Outcome), VectorFault> {
+    case: &'a str,
+) -> Result<(Vec<u8>, &'a str), VectorFault> {
     let (name, right) = case.split_once(' ').ok_or(VectorFault::Form)?;
-    let bytes = read_file(rt, folder, name)?;
-    check::run(rt.alloc(), &bytes, right)
+    Ok((read_file(rt, folder, name)?, right))
 }

@@ -17,10 +17,10 @@ pub enum Kind {
     Split,
     /// The positions of a debug program.
     Debug,
-    /// A file that is refused by a condition up to 15.
+    /// A file that is accepted or refused.
     Check,
-    /// A file that meets conditions 1 to 15.
-    CheckTo15,
+    /// A file that meets conditions 1 to 16 and is not plain.
+    CheckTo16,
     /// The weight of a file's classes.
     Weight,
     /// The canonical file.
@@ -73,7 +73,7 @@ impl fmt::Display for Kind {
             Kind::Split => "split",
             Kind::Debug => "debug",
             Kind::Check => "check",
-            Kind::CheckTo15 => "check to 15 (beyond it not yet served)",
+            Kind::CheckTo16 => "check to 16 (beyond it not yet served)",
             Kind::Weight => "weight",
             Kind::Normalise => "normalise",
             Kind::Dump => "dump",

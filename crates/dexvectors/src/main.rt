@@ -17,6 +17,7 @@ mod index;
 mod kind;
 mod outcome;
 mod tally;
+mod weight;
 mod words;
 
 use fault::VectorFault;

@@ -1,0 +1,44 @@
+-- What is told of a file, and what is right.
+use Rattle.std.specs.Prelude.{◌≡◌, ◌==◌, ℕ, Bool, false, List, length}
+use Rattle.std.specs.List.{Contains}
+use Rattle.dexspec.specs.Files.{Collection, definitions}
+use Rattle.dexspec.specs.Weight.{weight}
+use Rattle.dexhead.specs.declared.refusal.Refusal.{Refusal}
+use Rattle.dexclass.specs.Programs.{IsReadAs, IsReadFault}
+use Rattle.dexvectors.specs.declared.check.RightAnswer.{RightAnswer}
+use Rattle.dexvectors.specs.declared.check.RightAnswer.TheVariants as right
+use Rattle.dexvectors.specs.declared.check.Answer.{Answer}
+use Rattle.dexvectors.specs.declared.check.Answer.TheVariants as told
+
+-- the bytes are read as a program of so many classes
+pub record HasClasses (b : List ℕ) (n : ℕ) : Type 0 where
+  pub collection : Collection
+  pub is : IsReadAs b collection
+  pub count : n ≡ length (definitions collection)
+
+-- the bytes are read as a program of this weight
+pub record Weighs (b : List ℕ) (n : ℕ) : Type 0 where
+  pub collection : Collection
+  pub is : IsReadAs b collection
+  pub weight_is : n ≡ weight (definitions collection)
+
+-- what is told of the bytes is so
+abbrev pub IsTold : List ℕ → Answer → Type 0
+IsTold b (told.Accepted n) = HasClasses b n
+IsTold b (told.Refused r) = IsReadFault b r
+
+-- what is right is so: one of the refusals, or so many classes
+abbrev pub IsRight : List ℕ → RightAnswer → Type 0
+IsRight b (right.Accepted n) = HasClasses b n
+IsRight b (right.Refused rs) = (r : Refusal) × Contains rs.items r × IsReadFault b r
+
+-- what was told is right
+abbrev pub Agree : RightAnswer → Answer → Type 0
+Agree (right.Accepted n) (told.Accepted m) = n ≡ m
+Agree (right.Refused rs) (told.Refused r) = Contains rs.items r
+Agree _ _ = ⊥
+
+-- the file is not plain
+abbrev pub is_later : Answer → Bool
+is_later (told.Accepted n) = false
+is_later (told.Refused r) = r.number == 24

@@ -1,12 +1,14 @@
 //! Files weighed: `weight FILE WEIGHT`. Today only plain files are read.
 
-ghost use Rattle.std.specs.Prelude.{◌≡◌, IfOk};
+ghost use Rattle.std.specs.Prelude.{◌≡◌, IfOk, IsTrue};
+ghost use Rattle.dexspec.specs.Files.{definitions};
+ghost use Rattle.dexspec.specs.Weight.{weight};
 ghost use Rattle.dexvectors.specs.Told.{Weighs};
 
 use crate::check::LATER;
 use crate::fault::VectorFault;
 use crate::outcome::Outcome;
-use dexclass::read;
+use dexclass::{Program, read};
 use dexhead::Refusal;
 use dexpool::ReadFault;
 use std::alloc::Global;
@@ -20,22 +22,25 @@ pub fn run(alloc: Global, bytes: &[u8], right: &str) -> Result<Outcome, VectorFa
 fn weighed(alloc: Global, bytes: &[u8], right: u64) -> Result<Outcome, VectorFault>
     ensures { IfOk result (λ outcome. outcome ≡ Outcome.Passed → Weighs bytes.now right) }
 {
-    match read(alloc, bytes) {
-        Ok(program) => told(alloc, program.weight(), right),
-        Err(ReadFault::Refused(Refusal { number: LATER, .. })) => Ok(Outcome::Unserved),
-        Err(ReadFault::Refused(Refusal { number, place })) => Ok(Outcome::Failed(format!(in alloc;
-            "refused {number} {place}"
-        )?)),
-        Err(ReadFault::Memory) => Err(VectorFault::Memory),
-    }
-}
-
-// Passed where the weight that was told is right.
-fn told(alloc: Global, told: u64, right: u64) -> Result<Outcome, VectorFault>
-    ensures { IfOk result (λ outcome. outcome ≡ Outcome.Passed → right ≡ told) }
-{
-    if told == right {
+    let program = match read(alloc, bytes) {
+        Ok(program) => program,
+        Err(ReadFault::Refused(Refusal { number: LATER, .. })) => return Ok(Outcome::Unserved),
+        Err(ReadFault::Refused(Refusal { number, place })) => {
+            let answered = format!(in alloc; "refused {number} {place}")?;
+            return Ok(Outcome::Failed(answered));
+        }
+        Err(ReadFault::Memory) => return Err(VectorFault::Memory),
+    };
+    if weighs(&program, right) {
         return Ok(Outcome::Passed);
     }
-    Ok(Outcome::Failed(format!(in alloc; "{told}")?))
+    let weight = program.weight();
+    Ok(Outcome::Failed(format!(in alloc; "{weight}")?))
+}
+
+// Whether the classes of a program weigh so much.
+fn weighs(program: &Program<'_>, right: u64) -> bool
+    ensures { IsTrue result → right ≡ weight (definitions program.now) }
+{
+    right == program.weight()
 }

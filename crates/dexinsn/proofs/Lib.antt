@@ -1,4 +1,6 @@
 pub mod StartsRead
+pub mod SamePieces
+pub mod SameSteps
 pub mod Meanings
 pub mod PutUnits
 pub mod MarksMade

@@ -28,6 +28,7 @@ mod piece;
 mod pieces;
 mod put;
 mod reading;
+mod same;
 #[cfg(test)]
 mod tests;
 mod units;

@@ -49,7 +49,7 @@ fn push_number(is_wide: bool, number: u32, out: &mut Vec<u8>)
 }
 
 // The unit behind the index of the instruction at a unit.
-fn behind_index(is_wide: bool, unit: usize) -> usize
+pub(crate) fn behind_index(is_wide: bool, unit: usize) -> usize
     requires { unit < 2 ^ 62 }
     ensures { result ≡ behind_index is_wide unit }
 {

@@ -1,5 +1,6 @@
 pub mod StartsRead
 pub mod SamePieces
+pub mod Listings
 pub mod SameSteps
 pub mod Meanings
 pub mod PutUnits

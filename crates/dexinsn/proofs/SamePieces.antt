@@ -58,13 +58,13 @@ beside_join us vs from m (i ∷ is) a h = (agree_more us vs from m (i.unit + 1) 
 
 -- ---- units whose index is put to zero
 
-abbrev blank_by : Bool → List ℕ → List ℕ
+abbrev pub blank_by : Bool → List ℕ → List ℕ
 blank_by w xs = cond w (slice_set (slice_set xs 1 0) 2 0) (slice_set xs 1 0)
 
-blank_is : (w : Bool) (xs : List ℕ) → is_wide_index xs ≡ w → with_index 0 xs ≡ blank_by w xs
+pub blank_is : (w : Bool) (xs : List ℕ) → is_wide_index xs ≡ w → with_index 0 xs ≡ blank_by w xs
 blank_is w xs e = ap (λ (v : Bool). blank_by v xs) e
 
-length-blank : (w : Bool) (xs : List ℕ) → length (blank_by w xs) ≡ length xs
+pub length-blank : (w : Bool) (xs : List ℕ) → length (blank_by w xs) ≡ length xs
 length-blank true xs = length-set (slice_set xs 1 0) 2 0 ∙ length-set xs 1 0
 length-blank false xs = length-set xs 1 0
 
@@ -160,7 +160,7 @@ step_kept us vs c is s =
     }
 
 -- the places of the indices behind the piece
-left_by_places : (o : Option Pool) (at : ℕ) (places : List ℕ) (is : List Index) → map (λ (i : Index). i.unit) is ≡ with_place o at places → map (λ (i : Index). i.unit) (left_by o is) ≡ places
+pub left_by_places : (o : Option Pool) (at : ℕ) (places : List ℕ) (is : List Index) → map (λ (i : Index). i.unit) is ≡ with_place o at places → map (λ (i : Index). i.unit) (left_by o is) ≡ places
 left_by_places None at places is e = e
 left_by_places (Some pool) at places [] e = absurd cc
 left_by_places (Some pool) at places (i ∷ is) e = cc

@@ -7,3 +7,4 @@ pub mod Numbered
 pub mod Stored
 pub mod Reading
 pub mod Same
+pub mod Listing

@@ -6,7 +6,6 @@ ghost use Rattle.dexspec.specs.Bytes.{ushort};
 ghost use Rattle.dexspec.specs.Pieces.{Piece};
 ghost use Rattle.dexspec.specs.Spellings.{piece_units};
 ghost use Rattle.dexspec.specs.Writing.{Puts};
-ghost use Rattle.dexpool.specs.Numberings.{AreRising};
 ghost use Rattle.dexinsn.specs.Units.{units_in};
 ghost use Rattle.dexinsn.specs.Numbered.{numbered_bytes, StandFor};
 ghost use Rattle.dexinsn.specs.Stored.{AreStored, index_units, behind_index, spelled_from};
@@ -100,9 +99,9 @@ pub fn put_pieces(
     out: &mut Vec<u8>,
 ) -> Result<(), AllocError>
     ensures bytes { Puts (numbered_bytes pieces.now.pieces) out.old out.new result }
-    ensures symbolic { (symbolic : List Piece) → AreRising numbering.now → StandFor numbering.now pieces.now.pieces symbolic → Puts (flat_map ushort (flat_map (piece_units numbering.now) symbolic)) out.old out.new result }
+    ensures symbolic { (symbolic : List Piece) → StandFor numbering.now pieces.now.pieces symbolic → Puts (flat_map ushort (flat_map (piece_units numbering.now) symbolic)) out.old out.new result }
 {
-    let _numbering = numbering;
+    numbering.is_numbering();
     units_law();
     put_numbered(pieces, out)
 }

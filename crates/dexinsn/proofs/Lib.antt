@@ -1,4 +1,7 @@
 pub mod StartsRead
+pub mod SamePieces
+pub mod Listings
+pub mod SameSteps
 pub mod Meanings
 pub mod PutUnits
 pub mod MarksMade

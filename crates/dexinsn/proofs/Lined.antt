@@ -81,7 +81,7 @@ stored_indexed us is s = all_indexed us (parts_in us) is (stored_lined us is s)
 
 -- ---- what the first unit tells
 
-same_kind_in : (xs ys : List ℕ) → slice_index xs 0 ≡ slice_index ys 0 → kind_in xs ≡ kind_in ys
+pub same_kind_in : (xs ys : List ℕ) → slice_index xs 0 ≡ slice_index ys 0 → kind_in xs ≡ kind_in ys
 same_kind_in xs ys e = ap (λ (o : Option Pool). option_map_or kind_of_pool o kinds.Text) (same_pool xs ys e)
 
 same_room : (xs ys : List ℕ) → slice_index xs 0 ≡ slice_index ys 0 → index_room xs ≡ index_room ys

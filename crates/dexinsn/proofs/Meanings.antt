@@ -1,5 +1,5 @@
 -- What numbers stand for: ranks, and the same symbols under other numbers.
-use Rattle.std.proofs.Common.{◌≡◌, ℕ, List, [], ◌∷◌, ◌++◌, map, get_or, Option, Some, None, refl, ap, sym, ◌∙◌, subst}
+use Rattle.std.proofs.Common.{◌≡◌, ℕ, ◌<◌, List, [], ◌∷◌, ◌++◌, length, map, get_or, Option, Some, None, refl, ap, sym, ◌∙◌, subst, arith}
 use Rattle.std.specs.Prelude.{Result}
 use Rattle.std.specs.Global.{Vec}
 use Rattle.dexspec.specs.Bytes.{ushort}
@@ -18,8 +18,9 @@ use Rattle.dexspec.proofs.InOrder.{Rises-from_rises, rank-get_or}
 use Rattle.dexspec.proofs.SymbolOrders.{text_total, proto_total, field_total, method_total}
 use Rattle.dexpool.specs.declared.symbols.SymbolKind.{SymbolKind}
 use Rattle.dexpool.specs.declared.symbols.SymbolKind.TheVariants as kinds
-use Rattle.dexpool.specs.Numberings.{IsAt, IsNumbered, IsOfKind, AreRising, Maps, image_of, Leads, AllLead}
-use Rattle.dexinsn.specs.Numbered.{NumberedPiece, Instruction, Payload, StandsFor, StandFor, kind_in, kind_of_pool, uses_of, numbered_units, numbered_bytes, HasImage, HasPlace, renumbered_piece, IsUseOf}
+use Rattle.dexpool.specs.Numberings.{IsAt, IsNumbered, IsOfKind, AreRising, AreMarksOf, Maps, image_of, Leads, AllLead}
+use Rattle.dexpool.specs.declared.marks.Marks.{Marks}
+use Rattle.dexinsn.specs.Numbered.{NumberedPiece, Instruction, Payload, Use, HasMark, marks_of, StandsFor, StandFor, kind_in, kind_of_pool, uses_of, numbered_units, numbered_bytes, HasImage, HasPlace, renumbered_piece, IsUseOf}
 
 no_proto : Proto
 no_proto = record { return_type = []; parameters = [] }
@@ -130,3 +131,25 @@ uses_stand m (Payload us ∷ ps) (symbolic.Instruction xs s ∷ qs) h = absurd h
 pub bytes_put : {T E : Type 0} (m : Mentions) (ps : List NumberedPiece) (qs : List Piece) (old new : Vec ℕ) (r : Result T E) → flat_map numbered_units ps ≡ flat_map (piece_units m) qs → Puts (numbered_bytes ps) old new r → Puts (flat_map ushort (flat_map (piece_units m) qs)) old new r
 unfolding numbered_bytes
 bytes_put m ps qs old new r e h = subst (λ us. Puts (flat_map ushort us) old new r) e h
+
+-- ---- marks
+
+mark_by : (m : Mentions) (marks : Marks) (k : SymbolKind) (n : ℕ) (s : Symbol) → AreMarksOf m marks → IsNumbered m n s → IsOfKind k s → n < length (marks_of k marks)
+mark_by m marks kinds.Text n (TextSymbol s) are h kind = omega (arith, h.within, are.strings_count)
+mark_by m marks kinds.Typ n (TypeSymbol s) are h kind = omega (arith, h.within, are.types_count)
+mark_by m marks kinds.Proto n (ProtoSymbol s) are h kind = omega (arith, h.within, are.protos_count)
+mark_by m marks kinds.Field n (FieldSymbol s) are h kind = omega (arith, h.within, are.fields_count)
+mark_by m marks kinds.Method n (MethodSymbol s) are h kind = omega (arith, h.within, are.methods_count)
+mark_by m marks k n s are h kind = absurd kind
+
+mark_for : (m : Mentions) (marks : Marks) (u : Use) (s : Symbol) → AreMarksOf m marks → IsUseOf m u s → HasMark marks u
+mark_for m marks u s are h = mark_by m marks u.kind u.number s are h.0 h.1
+
+-- there is a mark for each symbol that occurs
+all_marked : (m : Mentions) (marks : Marks) (us : List Use) (ss : List Symbol) → AreMarksOf m marks → AllZip (IsUseOf m) us ss → All (HasMark marks) us
+all_marked m marks [] ss are h = All-nil (HasMark marks)
+all_marked m marks (u ∷ us) [] are h = absurd h
+all_marked m marks (u ∷ us) (s ∷ ss) are h = All-cons (HasMark marks) u us (mark_for m marks u s are h.0) (all_marked m marks us ss are h.1)
+
+pub marks_there : (m : Mentions) (marks : Marks) (ps : List NumberedPiece) (qs : List Piece) → AreMarksOf m marks → StandFor m ps qs → All (HasMark marks) (uses_of ps)
+marks_there m marks ps qs are h = all_marked m marks (uses_of ps) (flat_map piece_symbols qs) are (uses_stand m ps qs h)

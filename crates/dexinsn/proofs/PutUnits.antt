@@ -56,7 +56,7 @@ follow_less : (us : List ℕ) (from to : ℕ) (is : List Index) → from ≤ to 
 follow_less us from to [] le h = omega (arith, h)
 follow_less us from to (i ∷ is) le h = (omega (arith, h.0), h.1)
 
-behind_by : (w : Bool) (at n : ℕ) → (w ≡ true → 3 ≤ n) → 2 ≤ n → behind_index w at ≤ at + n
+pub behind_by : (w : Bool) (at n : ℕ) → (w ≡ true → 3 ≤ n) → 2 ≤ n → behind_index w at ≤ at + n
 behind_by true at n three two = let t : 3 ≤ n = three refl in omega arith
 behind_by false at n three two = omega arith
 
@@ -87,7 +87,7 @@ follow_by (Some pool) us c at places (i ∷ is) unit piece e same on =
     let same_next : behind_index (is_wide_index (drop i.unit us)) i.unit ≡ behind_index (is_wide_index (drop c.unit us)) c.unit = ap (λ (k : ℕ). behind_index (is_wide_index (drop k us)) k) there in
     (omega (arith, here), follow_less us (behind_index (is_wide_index (drop i.unit us)) i.unit) (at + c.units) is (omega (arith, next, same_next, unit)) (on is rest))
 
-follow_from : (us : List ℕ) (at : ℕ) (cs : List Cut) (is : List Index) → at ≤ length us → AreCut at (drop at us) cs [] → map (λ (i : Index). i.unit) is ≡ index_places at (map (cut_units us) cs) → Follow us at is
+pub follow_from : (us : List ℕ) (at : ℕ) (cs : List Cut) (is : List Index) → at ≤ length us → AreCut at (drop at us) cs [] → map (λ (i : Index). i.unit) is ≡ index_places at (map (cut_units us) cs) → Follow us at is
 follow_from us at [] [] le cut same = le
 follow_from us at [] (i ∷ is) le cut same = absurd cc
 follow_from us at (c ∷ cs) is le cut same =
@@ -194,7 +194,7 @@ bytes_of_units b o (suc n) le small =
     ∙ ap (λ (xs : List ℕ). take 2 (drop o b) ++ xs) (bytes_of_units b (o + 2) n (omega arith) small ∙ ap (take (2 * n)) (sym (drop-drop 2 o b)))
     ∙ sym (take-add 2 (2 * n) (drop o b)) ∙ ap (λ (k : ℕ). take k (drop o b)) (sym e)
 
-ushorts_taken : (b : List ℕ) (o n k : ℕ) → k ≤ n → take k (ushorts_at b o n) ≡ ushorts_at b o k
+pub ushorts_taken : (b : List ℕ) (o n k : ℕ) → k ≤ n → take k (ushorts_at b o n) ≡ ushorts_at b o k
 ushorts_taken b o n zero le = refl
 ushorts_taken b o zero (suc k) le = absurd (omega arith)
 ushorts_taken b o (suc n) (suc k) le = ap (λ (us : List ℕ). ushort_at b o ∷ us) (ushorts_taken b (o + 2) n k (omega arith))
@@ -241,7 +241,7 @@ follow_within us from (i ∷ is) h =
     let on : behind_index (is_wide_index (drop i.unit us)) i.unit ≤ length us = follow_within us (behind_index (is_wide_index (drop i.unit us)) i.unit) is h.1 in
     omega (arith, h.0, behind_more (is_wide_index (drop i.unit us)) i.unit)
 
-next_is : (is : List Index) (i : ℕ) (d : Index) → i < length is → drop i is ≡ get_or is i d ∷ drop (i + 1) is
+pub next_is : (is : List Index) (i : ℕ) (d : Index) → i < length is → drop i is ≡ get_or is i d ∷ drop (i + 1) is
 next_is is i d lt = drop-cons is i d lt ∙ ap (λ (k : ℕ). get_or is i d ∷ drop k is) (sym (add-one i))
 
 -- what is known at the next index

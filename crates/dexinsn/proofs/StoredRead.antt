@@ -36,7 +36,7 @@ same_cut c d unit units = ap (λ (n : ℕ). record { unit = n; units = c.units }
 abbrev more_cuts : ℕ → ℕ → List ℕ → ℕ → List Cut
 more_cuts n at us size = record { unit = at; units = size } ∷ cuts_from n (at + size) (drop size us)
 
-cuts_from_is : (n at : ℕ) (us : List ℕ) (cs : List Cut) → AreCut at us cs [] → length us ≤ n → cuts_from n at us ≡ cs
+pub cuts_from_is : (n at : ℕ) (us : List ℕ) (cs : List Cut) → AreCut at us cs [] → length us ≤ n → cuts_from n at us ≡ cs
 cuts_from_is zero at us [] cut le = refl
 cuts_from_is zero at us (c ∷ cs) cut le = let f : Fits us c.units = piece_size-fits at us c.units cut.1 in absurd (omega (arith, f.0, f.1))
 cuts_from_is (suc n) at us [] cut le = ap (λ (o : Option ℕ). option_map_or (more_cuts n at us) o []) (ap (piece_size at) cut ∙ nothing at)
@@ -261,7 +261,7 @@ read_pieces b off m bytes is pools at r =
 
 -- ---- and where none are read there are none
 
-payload_pool : (us : List ℕ) → is_payload_ident (slice_index us 0) ≡ true → index_pool us ≡ None
+pub payload_pool : (us : List ℕ) → is_payload_ident (slice_index us 0) ≡ true → index_pool us ≡ None
 payload_pool us e = ap (λ (t : Bool). cond t None (option_and_then (λ op. op.index) (opcode_of (low_byte (slice_index us 0))))) e
 
 in_range_by : (us : List ℕ) (m : Mentions) (c : Cut) (o : Option Pool) → index_pool (drop c.unit us) ≡ o → MatchOption o (Unit {0}) (λ pool. index_in (drop c.unit us) < count_of (kind_of_pool pool) m) → IsInRange us m c

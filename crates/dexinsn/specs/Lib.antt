@@ -6,3 +6,5 @@ pub mod Units
 pub mod Numbered
 pub mod Stored
 pub mod Reading
+pub mod Same
+pub mod Listing

@@ -5,8 +5,9 @@ ghost use Rattle.std.specs.List.{AllZip, flat_map};
 ghost use Rattle.dexspec.specs.Mentions.{Mentions, piece_symbols};
 ghost use Rattle.dexspec.specs.Pieces.{Piece};
 ghost use Rattle.dexspec.specs.Spellings.{piece_units};
-ghost use Rattle.dexpool.specs.Numberings.{AreRising, Maps, AllLead};
-ghost use Rattle.dexinsn.specs.Numbered.{NumberedPiece, StandFor, IsUseOf, uses_of, numbered_units, HasImage, HasPlace, renumbered_piece};
+ghost use Rattle.dexpool.specs.Numberings.{AreRising, AreMarksOf, Maps, AllLead};
+ghost use Rattle.dexpool.specs.declared.marks.Marks.{Marks};
+ghost use Rattle.dexinsn.specs.Numbered.{NumberedPiece, StandFor, IsUseOf, uses_of, numbered_units, HasImage, HasMark, HasPlace, renumbered_piece};
 
 /// Where the symbols rise, the units of numbered pieces are those of the pieces that they stand for, each index the
 /// rank of its symbol.
@@ -23,4 +24,9 @@ pub fn renumber_law()
 /// The symbols that occur are those of the pieces that they stand for, one for one and in their order.
 pub fn uses_law()
     ensures { (m : Mentions) (ps : List NumberedPiece) (qs : List Piece) → StandFor m ps qs → AllZip (IsUseOf m) (uses_of ps) (flat_map piece_symbols qs) }
+{}
+
+/// Where there is a mark for each symbol, there is one for each that occurs.
+pub fn marks_law()
+    ensures { (m : Mentions) (marks : Marks) (ps : List NumberedPiece) (qs : List Piece) → AreMarksOf m marks → StandFor m ps qs → All (HasMark marks) (uses_of ps) }
 {}

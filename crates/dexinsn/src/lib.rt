@@ -6,7 +6,8 @@
 pub use code::{CodeFault, Cut, split};
 pub use format::{Format, IndexKind};
 pub use instruction_starts::InstructionStarts;
-pub use laws::{renumber_law, units_law, uses_law};
+pub use laws::{marks_law, renumber_law, units_law, uses_law};
+pub use listing::{Piece, PieceIter, PieceKind};
 pub use opcodes::{index_kind, mnemonic};
 pub use payload::PayloadKind;
 pub use pieces::Pieces;
@@ -20,14 +21,18 @@ mod indexed;
 mod instruction;
 mod instruction_starts;
 mod laws;
+mod listing;
 mod marked;
 mod numbers;
 mod opcodes;
 mod payload;
 mod piece;
+#[cfg(test)]
+mod piece_tests;
 mod pieces;
 mod put;
 mod reading;
+mod same;
 #[cfg(test)]
 mod tests;
 mod units;

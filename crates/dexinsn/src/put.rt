@@ -6,7 +6,6 @@ ghost use Rattle.dexspec.specs.Bytes.{ushort};
 ghost use Rattle.dexspec.specs.Pieces.{Piece};
 ghost use Rattle.dexspec.specs.Spellings.{piece_units};
 ghost use Rattle.dexspec.specs.Writing.{Puts};
-ghost use Rattle.dexpool.specs.Numberings.{AreRising};
 ghost use Rattle.dexinsn.specs.Units.{units_in};
 ghost use Rattle.dexinsn.specs.Numbered.{numbered_bytes, StandFor};
 ghost use Rattle.dexinsn.specs.Stored.{AreStored, index_units, behind_index, spelled_from};
@@ -49,7 +48,7 @@ fn push_number(is_wide: bool, number: u32, out: &mut Vec<u8>)
 }
 
 // The unit behind the index of the instruction at a unit.
-fn behind_index(is_wide: bool, unit: usize) -> usize
+pub(crate) fn behind_index(is_wide: bool, unit: usize) -> usize
     requires { unit < 2 ^ 62 }
     ensures { result ≡ behind_index is_wide unit }
 {
@@ -100,9 +99,9 @@ pub fn put_pieces(
     out: &mut Vec<u8>,
 ) -> Result<(), AllocError>
     ensures bytes { Puts (numbered_bytes pieces.now.pieces) out.old out.new result }
-    ensures symbolic { (symbolic : List Piece) → AreRising numbering.now → StandFor numbering.now pieces.now.pieces symbolic → Puts (flat_map ushort (flat_map (piece_units numbering.now) symbolic)) out.old out.new result }
+    ensures symbolic { (symbolic : List Piece) → StandFor numbering.now pieces.now.pieces symbolic → Puts (flat_map ushort (flat_map (piece_units numbering.now) symbolic)) out.old out.new result }
 {
-    let _numbering = numbering;
+    numbering.is_numbering();
     units_law();
     put_numbered(pieces, out)
 }

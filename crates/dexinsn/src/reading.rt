@@ -109,8 +109,8 @@ fn index_code(
     Ok((indices, marked.into_marks()))
 }
 
-/// Reads the registers and the pieces of the code_item at an offset, where the pools are those of the file. The
-/// units are borrowed, and not copied.
+/// Reads the registers and the pieces of the code_item at an offset, whose indices count in the pools: those of the
+/// file. The units are borrowed, and not copied.
 ///
 /// Error: `Refused(18)` exactly where the code_item's fixed part and units are not wholly in the data at a multiple
 /// of 4, where the units are not cut as [`split`](crate::split) cuts them, or where an index is out of range of its
@@ -123,10 +123,9 @@ pub fn read_pieces<'a>(
     pools: &Pools<'_>,
     off: u32,
 ) -> Result<Pieces<'a>, ItemFault>
-    requires { ArePools frame.now pools.now }
     ensures registers { IfOk result (λ pieces. RegistersAt frame.now off pieces.registers pieces.ins pieces.outs) }
-    ensures pieces { IfOk result (λ pieces. ArePiecesAt frame.now off pools.now pieces.pieces) }
-    ensures refused { IfErr result (IsPiecesFault frame.now off) }
+    ensures pieces { ArePools frame.now pools.now → IfOk result (λ pieces. ArePiecesAt frame.now off pools.now pieces.pieces) }
+    ensures refused { ArePools frame.now pools.now → IfErr result (IsPiecesFault frame.now off) }
 {
     match read_pieces_and_starts(alloc, frame, pools, off) {
         Ok((pieces, _)) => Ok(pieces),
@@ -146,11 +145,10 @@ pub fn read_pieces_and_starts<'a>(
     pools: &Pools<'_>,
     off: u32,
 ) -> Result<(Pieces<'a>, InstructionStarts<'a>), ItemFault>
-    requires { ArePools frame.now pools.now }
     ensures registers { IfOk result (λ read. RegistersAt frame.now off read.0.registers read.0.ins read.0.outs) }
-    ensures pieces { IfOk result (λ read. ArePiecesAt frame.now off pools.now read.0.pieces) }
+    ensures pieces { ArePools frame.now pools.now → IfOk result (λ read. ArePiecesAt frame.now off pools.now read.0.pieces) }
     ensures starts { IfOk result (λ read. AreStartsAt frame.now off read.1) }
-    ensures refused { IfErr result (IsPiecesFault frame.now off) }
+    ensures refused { ArePools frame.now pools.now → IfErr result (IsPiecesFault frame.now off) }
 {
     let bytes = match units_at(frame, off) {
         Some(bytes) => bytes,

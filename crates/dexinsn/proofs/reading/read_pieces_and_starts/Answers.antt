@@ -11,7 +11,7 @@ pub index_code-requires : goal.index_code-requires
 index_code-requires c = few_units c.args.frame.now c.args.off c.in-Some.bytes.now c.in-Some.ensures
 
 pub returns-in-Err-clause-refused : goal.returns-in-Err-clause-refused
-returns-in-Err-clause-refused c = pieces_fault c.args.frame.now c.args.off c.args.pools.now c.in-Some.bytes.now c.in-Err.fault c.requires c.in-Some.ensures c.in-Err.ensures.fault
+returns-in-Err-clause-refused c = λ pools. pieces_fault c.args.frame.now c.args.off c.args.pools.now c.in-Some.bytes.now c.in-Err.fault pools c.in-Some.ensures c.in-Err.ensures.fault
 
 pub invariant_of-pieces : goal.invariant_of-pieces
 invariant_of-pieces c = read_stored _ c.args.pools.now c.in-Ok.read.0.items (few_units c.args.frame.now c.args.off c.in-Some.bytes.now c.in-Some.ensures) c.in-Ok.ensures.indices
@@ -26,7 +26,7 @@ returns-clause-registers c =
     }
 
 pub returns-clause-pieces : goal.returns-clause-pieces
-returns-clause-pieces c = read_pieces c.args.frame.now c.args.off c.args.pools.now c.in-Some.bytes.now c.in-Ok.read.0.items c.requires c.in-Some.ensures c.in-Ok.ensures.indices
+returns-clause-pieces c = λ pools. read_pieces c.args.frame.now c.args.off c.args.pools.now c.in-Some.bytes.now c.in-Ok.read.0.items pools c.in-Some.ensures c.in-Ok.ensures.indices
 
 pub returns-clause-starts : goal.returns-clause-starts
 returns-clause-starts c =

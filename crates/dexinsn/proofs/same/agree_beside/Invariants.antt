@@ -1,0 +1,12 @@
+use Rattle.std.proofs.Common.{drop}
+use Rattle.dexinsn.specs.Units.{units_in}
+use Rattle.dexinsn.specs.Stored.{Follow}
+use Rattle.dexinsn.specs.Same.{AgreeBeside}
+use Rattle.dexinsn.proofs.same.agree_beside.Given as goal
+
+abbrev pub invariant-loop-index : goal.invariant-loop-index
+invariant-loop-index l = record {
+  follow : Follow (units_in l.bytes) l.from (drop l.index-index l.indices);
+  onward : AgreeBeside (units_in l.bytes) (units_in l.others) 0 l.indices → AgreeBeside (units_in l.bytes) (units_in l.others) l.from (drop l.index-index l.indices);
+  back : AgreeBeside (units_in l.bytes) (units_in l.others) l.from (drop l.index-index l.indices) → AgreeBeside (units_in l.bytes) (units_in l.others) 0 l.indices;
+}

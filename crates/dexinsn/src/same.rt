@@ -1,0 +1,143 @@
+//! Whether pieces mean the same.
+
+ghost use Rattle.std.specs.Prelude.{◌≡◌, ◌↔◌, ◌≤◌, ◌*◌, ◌-◌, IsTrue, All, length, take, drop, map};
+ghost use Rattle.std.specs.List.{AllZip};
+ghost use Rattle.dexinsn.specs.Units.{units_in};
+ghost use Rattle.dexinsn.specs.Numbered.{renumbered, renumbered_piece};
+ghost use Rattle.dexinsn.specs.Stored.{AreStored, IsIndexed, Follow, parts_in, pieces_with};
+ghost use Rattle.dexinsn.specs.Same.{Agree, AgreeBeside, LeadAlike};
+
+use crate::code_units::Units;
+use crate::indexed::{index_kind_at, is_wide_at};
+use crate::pieces::{Index, Pieces};
+use crate::put::behind_index;
+use dexpool::Remap;
+
+// The bytes of the units from one place up to another.
+fn part(bytes: &[u8], from: usize, to: usize) -> &[u8]
+    requires order { from ≤ to }
+    requires within { 2 * to ≤ length bytes.now }
+    ensures { result.now ≡ take (2 * (to - from)) (drop (2 * from) bytes.now) }
+{
+    let (_, rest) = bytes.split_at(2 * from);
+    let (part, _) = rest.split_at(2 * (to - from));
+    part
+}
+
+// Whether the units from one place up to another are the same.
+fn agree(bytes: &[u8], others: &[u8], from: usize, to: usize) -> bool
+    requires order { from ≤ to }
+    requires within { 2 * to ≤ length bytes.now }
+    requires others { 2 * to ≤ length others.now }
+    ensures { IsTrue result ↔ Agree (units_in bytes.now) (units_in others.now) from to }
+{
+    part(bytes, from, to) == part(others, from, to)
+}
+
+// Whether the units are the same but for the indices of the first.
+fn agree_beside(bytes: &[u8], others: &[u8], indices: &[Index]) -> bool
+    requires follow { Follow (units_in bytes.now) 0 indices.now }
+    requires count { length (units_in bytes.now) ≡ length (units_in others.now) }
+    ensures { IsTrue result ↔ AgreeBeside (units_in bytes.now) (units_in others.now) 0 indices.now }
+{
+    let units = Units::of_bytes(bytes);
+    let mut from = 0;
+    for index in indices {
+        let unit = index.unit as usize;
+        if !agree(bytes, others, from, unit + 1) {
+            return false;
+        }
+        from = behind_index(is_wide_at(&units, unit), unit);
+    }
+    agree(bytes, others, from, units.len())
+}
+
+// Whether both indices stand at one unit and lead to one number, or to none.
+fn leads_alike(
+    units: &Units<'_>,
+    index: Index,
+    remap: &Remap,
+    other: Index,
+    other_remap: &Remap,
+) -> bool
+    requires { IsIndexed units.now index }
+    ensures { IsTrue result ↔ LeadAlike remap.now other_remap.now units.now index other }
+{
+    if index.unit != other.unit {
+        return false;
+    }
+    let kind = index_kind_at(units, index.unit as usize);
+    let image = remap.image(kind, index.number as usize);
+    image == other_remap.image(kind, other.number as usize)
+}
+
+// Whether the indices stand at the same units and lead to the same numbers.
+fn lead_alike(
+    units: &Units<'_>,
+    indices: &[Index],
+    remap: &Remap,
+    others: &[Index],
+    other_remap: &Remap,
+) -> bool
+    requires { All (IsIndexed units.now) indices.now }
+    ensures { IsTrue result ↔ AllZip (LeadAlike remap.now other_remap.now units.now) indices.now others.now }
+{
+    if indices.len() != others.len() {
+        return false;
+    }
+    for (i, index) in indices.iter().enumerate() {
+        if !leads_alike(units, *index, remap, others[i], other_remap) {
+            return false;
+        }
+    }
+    true
+}
+
+// Whether the pieces, led on, are the same.
+fn same_pieces(
+    bytes: &[u8],
+    indices: &[Index],
+    remap: &Remap,
+    other_bytes: &[u8],
+    other_indices: &[Index],
+    other_remap: &Remap,
+) -> bool
+    requires stored { AreStored (units_in bytes.now) indices.now }
+    requires others { AreStored (units_in other_bytes.now) other_indices.now }
+    ensures { IsTrue result ↔ (map (renumbered_piece remap.now) (pieces_with (parts_in (units_in bytes.now)) indices.now) ≡ map (renumbered_piece other_remap.now) (pieces_with (parts_in (units_in other_bytes.now)) other_indices.now)) }
+{
+    let units = Units::of_bytes(bytes);
+    if units.len() != Units::of_bytes(other_bytes).len() {
+        return false;
+    }
+    if !agree_beside(bytes, other_bytes, indices) {
+        return false;
+    }
+    lead_alike(&units, indices, remap, other_indices, other_remap)
+}
+
+impl<'a> Pieces<'a> {
+    /// Whether these and other pieces are the same, and the three numbers of registers too, once the numbers of each
+    /// are led on by a map of its own. No memory is taken.
+    pub fn same_mapped(&self, mine: &Remap, other: &Pieces<'_>, theirs: &Remap) -> bool
+        ensures { IsTrue result ↔ (renumbered mine.now self.now ≡ renumbered theirs.now other.now) }
+    {
+        if self.registers != other.registers {
+            return false;
+        }
+        if self.ins != other.ins {
+            return false;
+        }
+        if self.outs != other.outs {
+            return false;
+        }
+        same_pieces(
+            self.bytes,
+            &self.indices,
+            mine,
+            other.bytes,
+            &other.indices,
+            theirs,
+        )
+    }
+}

@@ -1,6 +1,6 @@
 //! Code units as they are borrowed.
 
-ghost use Rattle.std.specs.Prelude.{◌≡◌, ◌<◌, ◌≤◌, ◌/◌, ◌^◌, length, drop, slice_index};
+ghost use Rattle.std.specs.Prelude.{◌≡◌, ◌<◌, ◌≤◌, ◌-◌, ◌*◌, ◌/◌, ◌^◌, length, take, drop, slice_index};
 ghost use Rattle.dexspec.specs.Bytes.{ushorts_at};
 
 use dexhead::u16_at;
@@ -84,4 +84,15 @@ impl<'a> Units<'a> {
             Source::Bytes(bytes) => Units::of_bytes(bytes.split_at(2 * at).1),
         }
     }
+}
+
+/// The bytes of the units from one place up to another, two for each.
+pub(crate) fn unit_bytes(bytes: &[u8], from: usize, to: usize) -> &[u8]
+    requires order { from ≤ to }
+    requires within { 2 * to ≤ length bytes.now }
+    ensures { result.now ≡ take (2 * (to - from)) (drop (2 * from) bytes.now) }
+{
+    let (_, rest) = bytes.split_at(2 * from);
+    let (part, _) = rest.split_at(2 * (to - from));
+    part
 }

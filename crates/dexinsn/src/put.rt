@@ -10,7 +10,7 @@ ghost use Rattle.dexinsn.specs.Units.{units_in};
 ghost use Rattle.dexinsn.specs.Numbered.{numbered_bytes, StandFor};
 ghost use Rattle.dexinsn.specs.Stored.{AreStored, index_units, behind_index, spelled_from};
 
-use crate::code_units::Units;
+use crate::code_units::{Units, unit_bytes};
 use crate::indexed::is_wide_at;
 use crate::laws::units_law;
 use crate::pieces::{Index, Pieces};
@@ -27,9 +27,7 @@ fn push_part(bytes: &[u8], from: usize, to: usize, out: &mut Vec<u8>)
     ensures len { vec_len out.new ≡ vec_len out.old + 2 * (to - from) }
     ensures capacity { vec_capacity out.old ≤ vec_capacity out.new }
 {
-    let (_, rest) = bytes.split_at(2 * from);
-    let (part, _) = rest.split_at(2 * (to - from));
-    out.extend_from_slice(part).unwrap();
+    out.extend_from_slice(unit_bytes(bytes, from, to)).unwrap();
 }
 
 // Appends the bytes of an index, where there is room for them.

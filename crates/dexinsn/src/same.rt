@@ -1,28 +1,17 @@
 //! Whether pieces mean the same.
 
-ghost use Rattle.std.specs.Prelude.{◌≡◌, ◌↔◌, ◌≤◌, ◌*◌, ◌-◌, IsTrue, All, length, take, drop, map};
+ghost use Rattle.std.specs.Prelude.{◌≡◌, ◌↔◌, ◌≤◌, ◌*◌, IsTrue, All, length, map};
 ghost use Rattle.std.specs.List.{AllZip};
 ghost use Rattle.dexinsn.specs.Units.{units_in};
 ghost use Rattle.dexinsn.specs.Numbered.{renumbered, renumbered_piece};
 ghost use Rattle.dexinsn.specs.Stored.{AreStored, IsIndexed, Follow, parts_in, pieces_with};
 ghost use Rattle.dexinsn.specs.Same.{Agree, AgreeBeside, LeadAlike};
 
-use crate::code_units::Units;
+use crate::code_units::{Units, unit_bytes};
 use crate::indexed::{index_kind_at, is_wide_at};
 use crate::pieces::{Index, Pieces};
 use crate::put::behind_index;
 use dexpool::Remap;
-
-// The bytes of the units from one place up to another.
-fn part(bytes: &[u8], from: usize, to: usize) -> &[u8]
-    requires order { from ≤ to }
-    requires within { 2 * to ≤ length bytes.now }
-    ensures { result.now ≡ take (2 * (to - from)) (drop (2 * from) bytes.now) }
-{
-    let (_, rest) = bytes.split_at(2 * from);
-    let (part, _) = rest.split_at(2 * (to - from));
-    part
-}
 
 // Whether the units from one place up to another are the same.
 fn agree(bytes: &[u8], others: &[u8], from: usize, to: usize) -> bool
@@ -31,7 +20,7 @@ fn agree(bytes: &[u8], others: &[u8], from: usize, to: usize) -> bool
     requires others { 2 * to ≤ length others.now }
     ensures { IsTrue result ↔ Agree (units_in bytes.now) (units_in others.now) from to }
 {
-    part(bytes, from, to) == part(others, from, to)
+    unit_bytes(bytes, from, to) == unit_bytes(others, from, to)
 }
 
 // Whether the units are the same but for the indices of the first.
@@ -118,7 +107,9 @@ fn same_pieces(
 
 impl<'a> Pieces<'a> {
     /// Whether these and other pieces are the same, and the three numbers of registers too, once the numbers of each
-    /// are led on by a map of its own. No memory is taken.
+    /// are led on by a map of its own. Numbers that lead nowhere count as the same. No memory is taken.
+    ///
+    /// Source: "code_item".
     pub fn same_mapped(&self, mine: &Remap, other: &Pieces<'_>, theirs: &Remap) -> bool
         ensures { IsTrue result ↔ (renumbered mine.now self.now ≡ renumbered theirs.now other.now) }
     {

@@ -6,9 +6,9 @@ use Rattle.dexinsn.proofs.same.agree.Goals as goal
 
 pub returns : goal.returns
 returns c =
-    let d = slice_eq-Decides Decides-eqb c.part.result.now c.part-2.result.now c.eq.result c.eq.ensures in (
-      λ yes. units_agree c.args.bytes.now c.args.others.now c.args.from c.args.to c.requires.order c.requires.within c.requires.others (sym c.part.ensures ∙ d.0 yes ∙ c.part-2.ensures),
-      λ h. d.1 (c.part.ensures
+    let d = slice_eq-Decides Decides-eqb c.unit_bytes.result.now c.unit_bytes-2.result.now c.eq.result c.eq.ensures in (
+      λ yes. units_agree c.args.bytes.now c.args.others.now c.args.from c.args.to c.requires.order c.requires.within c.requires.others (sym c.unit_bytes.ensures ∙ d.0 yes ∙ c.unit_bytes-2.ensures),
+      λ h. d.1 (c.unit_bytes.ensures
           ∙ bytes_agree c.args.bytes.now c.args.others.now c.args.from c.args.to c.requires.order c.requires.within c.requires.others (λ i. (c.type_inv.bytes i).fits) (λ i. (c.type_inv.others i).fits) h
-          ∙ sym c.part-2.ensures),
+          ∙ sym c.unit_bytes-2.ensures),
     )

@@ -1,0 +1,12 @@
+//! Unions of programs: merged files, under caps and by plans.
+//!
+//! What can be merged, caps, plans and the causes for which there is no merged file are this project's rules.
+#![tactic(auto)]
+
+mod caps;
+mod faults;
+mod plan;
+
+pub use caps::Caps;
+pub use faults::{MergeFault, PlanFault};
+pub use plan::Plan;

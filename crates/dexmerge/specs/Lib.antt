@@ -1,3 +1,5 @@
 pub mod Capping
 pub mod Plans
 pub mod Judging
+pub mod Faults
+pub mod Candidates

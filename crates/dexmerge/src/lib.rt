@@ -3,6 +3,7 @@
 //! What can be merged, caps, plans and the causes for which there is no merged file are this project's rules.
 #![tactic(auto)]
 
+mod candidates;
 mod caps;
 mod faults;
 mod plan;

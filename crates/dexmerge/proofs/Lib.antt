@@ -1,3 +1,5 @@
 pub mod Marked
 pub mod PlanForms
 pub mod PartMembers
+pub mod Unlike
+pub mod CandidatePlaces

@@ -1,5 +1,5 @@
 -- Classes of several parts over the numbering of their union.
-use Rattle.std.specs.Prelude.{◌≡◌, ◌≢◌, ℕ, ◌<◌, List, map, length, All, Option, Some, None, slice_index_or}
+use Rattle.std.specs.Prelude.{◌≡◌, ◌≢◌, ℕ, ◌<◌, min, List, map, length, All, Option, Some, None, slice_index_or}
 use Rattle.dexspec.specs.Lists.{present}
 use Rattle.dexspec.specs.Classes.{Definition}
 use Rattle.dexspec.specs.Files.{AreSame}
@@ -50,3 +50,8 @@ pub record IsLeastUnlike (cs : List NumberedClass) (places : List (Option ℕ)) 
 -- the classes that are kept, by name
 abbrev pub kept_classes : List NumberedClass → List (Option ℕ) → List NumberedClass
 kept_classes cs places = map (class_at cs) (present places)
+
+-- the lesser of the names
+abbrev pub lesser_of : Option ℕ → ℕ → Option ℕ
+lesser_of None name = Some name
+lesser_of (Some least) name = Some (min least name)

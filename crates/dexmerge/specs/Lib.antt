@@ -3,3 +3,4 @@ pub mod Plans
 pub mod Judging
 pub mod Faults
 pub mod Candidates
+pub mod Cycles

@@ -5,7 +5,9 @@
 
 mod candidates;
 mod caps;
+mod copies;
 mod faults;
+mod parents;
 mod plan;
 
 pub use caps::Caps;

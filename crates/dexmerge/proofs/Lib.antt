@@ -3,3 +3,4 @@ pub mod PlanForms
 pub mod PartMembers
 pub mod Unlike
 pub mod CandidatePlaces
+pub mod CycleLaws

@@ -4,3 +4,5 @@ pub mod PartMembers
 pub mod Unlike
 pub mod CandidatePlaces
 pub mod CycleLaws
+pub mod Weighing
+pub mod UnionLaws

@@ -4,3 +4,5 @@ pub mod Judging
 pub mod Faults
 pub mod Candidates
 pub mod Cycles
+pub mod Amounts
+pub mod Unions

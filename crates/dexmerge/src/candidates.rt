@@ -1,11 +1,12 @@
 //! Classes of several parts, with where their numbers lead in the numbering of the union.
 
-ghost use Rattle.std.specs.Prelude.{◌≡◌, ◌++◌, ◌↔◌, ◌<◌, List, All, IfOk, OnOk, IsTrue, length, map};
-ghost use Rattle.std.specs.Option.{option_map};
+ghost use Rattle.std.specs.Prelude.{◌≡◌, ◌++◌, ◌↔◌, ◌<◌, ◌-◌, ◌^◌, min, List, All, IfOk, OnOk, IsTrue, length, map};
 ghost use Rattle.std.specs.List.{AllZip, flat_map};
 ghost use Rattle.dexspec.specs.Classes.{Definition};
 ghost use Rattle.dexspec.specs.Files.{definitions};
 ghost use Rattle.dexspec.specs.Mentions.{Mentions, mentions};
+ghost use Rattle.dexspec.specs.Weight.{body_weight};
+ghost use Rattle.dexclass.specs.Numbered.{definition_of};
 ghost use Rattle.dexclass.specs.Renumbering.{LeadInto, led};
 ghost use Rattle.dexmerge.specs.Candidates.{AreMembers, class_of, classes_of};
 
@@ -21,8 +22,6 @@ pub(crate) struct Candidate<'b> {
 }
 
 impl<'b> Candidate<'b> {
-    ghost use Rattle.dexclass.specs.Numbered.{NumberedClass};
-
     /// The number of its type in the union.
     pub(crate) fn name(&self) -> usize
         ensures { result ≡ (class_of self.now).name }
@@ -62,6 +61,13 @@ impl<'b> Candidate<'b> {
         ensures { IsTrue result ↔ (class_of self.now ≡ class_of other.now) }
     {
         self.class.same_mapped(self.remap, other.class, other.remap)
+    }
+
+    /// What the class weighs without the symbols that it names, or 2^64 - 1 where that is more.
+    pub(crate) fn weight(&self) -> u64
+        ensures { (m : Mentions) → result ≡ min (2 ^ 64 - 1) (body_weight (definition_of m (class_of self.now)).1) }
+    {
+        self.class.weight()
     }
 
     /// The class with the numbers of the union, as one of its own.

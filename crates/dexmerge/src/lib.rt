@@ -7,6 +7,7 @@ mod candidates;
 mod caps;
 mod copies;
 mod faults;
+mod fitting;
 mod parents;
 mod plan;
 

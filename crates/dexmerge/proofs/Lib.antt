@@ -6,3 +6,4 @@ pub mod CandidatePlaces
 pub mod CycleLaws
 pub mod Weighing
 pub mod UnionLaws
+pub mod CapLaws

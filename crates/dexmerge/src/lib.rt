@@ -8,9 +8,11 @@ mod caps;
 mod copies;
 mod faults;
 mod fitting;
+mod merging;
 mod parents;
 mod plan;
 
 pub use caps::Caps;
 pub use faults::{MergeFault, PlanFault};
+pub use merging::merge;
 pub use plan::Plan;

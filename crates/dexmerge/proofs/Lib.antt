@@ -7,3 +7,5 @@ pub mod CycleLaws
 pub mod Weighing
 pub mod UnionLaws
 pub mod CapLaws
+pub mod MergeLaws
+pub mod JoinLaws

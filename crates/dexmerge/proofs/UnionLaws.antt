@@ -235,6 +235,16 @@ module _ (m : Mentions) (rising : AreRising m) where
         let ej : get_or (map (λ (c : NumberedClass). c.name) cs) j d ≡ name_number cs j = get_or-map (λ (c : NumberedClass). c.name) cs j no_class d few in
         omega (arith, rise i j less few, ei, ej, e)
 
+    -- no two definitions are the same
+    pub definitions_differ : AreDistinct (map (definition_of m) cs)
+    definitions_differ i j d less lt e =
+        let few : j < length cs = omega (arith, lt, length-map cs (definition_of m)) in
+        let first : i < length cs = omega (arith, few, less) in
+        let ei : get_or (map (definition_of m) cs) i d ≡ definition_of m (class_at cs i) = get_or-map (definition_of m) cs i no_class d first in
+        let ej : get_or (map (definition_of m) cs) j d ≡ definition_of m (class_at cs j) = get_or-map (definition_of m) cs j no_class d few in
+        let name : type_at m (name_number cs i) ≡ type_at m (name_number cs j) = ap (λ (x : Definition). x.0) (sym ei ∙ e ∙ ej) in
+        omega (arith, rise i j less few, one_number (name_number cs i) (name_number cs j) (name_in cs range i first) (name_in cs range j few) name)
+
     pub are_kept : AreKept m cs
     are_kept = record {
       named = record {

@@ -1,15 +1,14 @@
 //! Programs merged.
 
-ghost use Rattle.std.specs.Prelude.{◌≡◌, List, IfOk, IfErr, OnOk, map};
-ghost use Rattle.std.specs.List.{AllZip, flat_map};
+ghost use Rattle.std.specs.Prelude.{◌≡◌, ◌<◌, length, List, IfOk, IfErr, OnOk, map};
+ghost use Rattle.std.specs.List.{flat_map};
 ghost use Rattle.dexspec.specs.Classes.{Definition};
 ghost use Rattle.dexspec.specs.Files.{definitions, AreWithin};
-ghost use Rattle.dexspec.specs.Mentions.{Mentions, mentions};
 ghost use Rattle.dexspec.specs.Merging as merging;
 ghost use Rattle.dexspec.specs.Merging.{IsGood, IsFirstCause};
 ghost use Rattle.dexlaws_growth.specs.Laws.{Absorbs};
-ghost use Rattle.dexpool.specs.Numberings.{Maps};
-ghost use Rattle.dexclass.specs.Renumbering.{LeadInto};
+ghost use Rattle.dexclass.specs.Numbered.{type_at};
+ghost use Rattle.dexclass.specs.Parents.{name_number};
 ghost use Rattle.dexmerge.specs.Faults.{IsMerged, Tells};
 ghost use Rattle.dexmerge.specs.Candidates.{classes_of};
 ghost use Rattle.dexmerge.specs.Unions.{AreCopies, AreOnce, IsJoined};
@@ -53,10 +52,24 @@ fn one_of_each<'b>(
     ensures fault { IfErr result (λ fault. (caps : merging.Caps) (D : List Definition) → AreCopies numbering.now D (classes_of candidates.now) → Tells (IsFirstCause caps D) fault) }
 {
     let places = places(alloc, candidates, numbering.count(SymbolKind::Typ))?;
-    if let Some(name) = least_unlike(candidates, &places) {
-        return Err(MergeFault::Conflict(Name::of(alloc, numbering.typ(name))?));
+    match least_unlike(candidates, &places) {
+        Some(name) => Err(MergeFault::Conflict(Name::of(alloc, numbering.typ(name))?)),
+        None => Ok(kept(alloc, candidates, &places)?),
     }
-    Ok(kept(alloc, candidates, &places)?)
+}
+
+// The name of a class.
+fn name_of(
+    alloc: Global,
+    numbering: &Numbering<'_>,
+    classes: &[Candidate<'_>],
+    i: usize,
+) -> Result<Name, AllocError>
+    requires class { i < length classes.now }
+    requires name { name_number (classes_of classes.now) i < length numbering.now.types }
+    ensures { IfOk result (λ name. name ≡ type_at numbering.now (name_number (classes_of classes.now) i)) }
+{
+    Name::of(alloc, numbering.typ(classes[i].name()))
 }
 
 // Whether the classes can be merged: cycles are judged, and then caps.
@@ -70,13 +83,12 @@ fn judge(
     ensures good { OnOk result ((D : List Definition) → AreOnce numbering.now D (classes_of classes.now) → IsGood caps.now D) }
     ensures fault { IfErr result (λ fault. (D : List Definition) → AreOnce numbering.now D (classes_of classes.now) → Tells (IsFirstCause caps.now D) fault) }
 {
-    if let Some(i) = first_cycle(alloc, classes, numbering.count(SymbolKind::Typ))? {
-        let name = Name::of(alloc, numbering.typ(classes[i].name()))?;
-        return Err(MergeFault::Cycle(name));
-    }
-    match first_exceeded(numbering, classes, caps) {
-        Some(cap) => Err(MergeFault::Cap(cap)),
-        None => Ok(()),
+    match first_cycle(alloc, classes, numbering.count(SymbolKind::Typ))? {
+        Some(i) => Err(MergeFault::Cycle(name_of(alloc, numbering, classes, i)?)),
+        None => match first_exceeded(numbering, classes, caps) {
+            Some(cap) => Err(MergeFault::Cap(cap)),
+            None => Ok(()),
+        },
     }
 }
 

@@ -22,9 +22,18 @@ use Rattle.dexmerge.specs.Faults.{IsOfCap, IsMerged}
 use Rattle.dexmerge.specs.Candidates.{AreMembers, IsAlike, IsLeastUnlike, kept_classes}
 use Rattle.dexmerge.specs.Cycles.{AreKept, AreAcyclic, IsFirstCycle}
 use Rattle.dexmerge.specs.Amounts.{first_over}
-use Rattle.dexmerge.specs.Unions.{AreCopies, AreOnce}
+use Rattle.dexmerge.specs.Unions.{AreCopies, AreOnce, IsJoined}
 use Rattle.dexmerge.proofs.UnionLaws.{name_in, conflict_told, kept_members, kept_rise, are_kept, definitions_differ, consistent, cycle_told}
 use Rattle.dexmerge.proofs.CapLaws.{found_cap, good_greatest}
+
+-- the copies of joined parts
+pub are_copies : (parts : List Collection) (m : Mentions) (remaps : List Maps) (given : List Maps) (cs : List NumberedClass) → IsJoined parts m remaps → given ≡ remaps
+    → (AllZip (λ part remap. LeadInto (mentions (definitions part)) m remap) parts given → AreMembers m (flat_map definitions parts) cs) → AreCopies m (flat_map definitions parts) cs
+are_copies parts m remaps given cs j e members = record {
+  mentions_are = j.mentions_are;
+  rising = j.rising;
+  members = members (subst (λ (l : List Maps). AllZip (λ part remap. LeadInto (mentions (definitions part)) m remap) parts l) (sym e) j.lead);
+}
 
 module _ (m : Mentions) (D : List Definition) (cs : List NumberedClass) (h : AreCopies m D cs) where
   -- names are types

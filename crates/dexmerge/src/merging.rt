@@ -120,7 +120,10 @@ pub fn merge<'a>(
     dexlaws_growth::absorption_law();
     let (numbering, remaps) = joined(alloc, parts)?;
     let copies = candidates(alloc, parts, &remaps)?;
-    let classes = one_of_each(alloc, &numbering, &copies)?;
+    let classes = match one_of_each(alloc, &numbering, &copies) {
+        Ok(classes) => classes,
+        Err(fault) => return Err(fault),
+    };
     judge(alloc, &numbering, &classes, caps)?;
     let classes = copied(alloc, &classes)?;
     caps.are_caps();

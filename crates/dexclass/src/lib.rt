@@ -17,8 +17,12 @@ mod laws;
 mod marking;
 mod ordering;
 mod parents;
+#[cfg(test)]
+mod program_tests;
 mod programs;
 mod reading;
+#[cfg(test)]
+mod reading_tests;
 mod renumbering;
 mod trimming;
 

@@ -20,3 +20,9 @@ pub record IsMarkedBy (plan : Plan) (depth : ℕ) (old new : List Bool) : Type 0
 -- the plan is deeper, or names a file that there is not
 pub record IsNoPlan (plan : Plan) (depth files : ℕ) : Type 0 where
   pub not : plan_depth plan ≤ depth → All (λ i. i < files) (leaves plan) → ⊥
+
+-- some file is not marked
+pub record HasUnnamed (marks : List Bool) : Type 0 where
+  pub file : ℕ
+  pub within : file < length marks
+  pub not : slice_index_or marks file false ≡ false

@@ -6,3 +6,4 @@ pub mod Candidates
 pub mod Cycles
 pub mod Amounts
 pub mod Unions
+pub mod Parts

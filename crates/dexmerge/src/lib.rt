@@ -11,8 +11,10 @@ mod fitting;
 mod merging;
 mod parents;
 mod plan;
+mod planned;
 
 pub use caps::Caps;
 pub use faults::{MergeFault, PlanFault};
 pub use merging::merge;
 pub use plan::Plan;
+pub use planned::merge_plan;

@@ -1,9 +1,9 @@
 //! Plans: the order in which files are merged.
 
-ghost use Rattle.std.specs.Prelude.{◌≡◌, ◌≤◌, ◌<◌, All, true, false, length, map, IfOk, MatchBool};
-ghost use Rattle.dexspec.specs.Merging.{leaves, plan_depth, IsPlanFor};
+ghost use Rattle.std.specs.Prelude.{◌≡◌, ◌<◌, ℕ, length, IfOk, MatchBool};
+ghost use Rattle.dexspec.specs.Merging.{IsPlanFor};
 ghost use Rattle.dexmerge.specs.Plans.{plan_of};
-ghost use Rattle.dexmerge.specs.Judging.{IsMarkedBy, IsNoPlan};
+ghost use Rattle.dexmerge.specs.Judging.{IsMarkedBy, IsNamed, IsNoPlan, HasUnnamed};
 
 use std::alloc::{AllocError, Global};
 
@@ -44,4 +44,29 @@ fn mark_files(plan: &Plan, depth: usize, is_named: &mut Vec<bool>) -> bool
             true
         }
     }
+}
+
+// Whether each mark is set.
+fn are_all_named(is_named: &[bool]) -> bool
+    ensures { MatchBool result ((i : ℕ) → i < length is_named.now → IsNamed is_named.now i) (HasUnnamed is_named.now) }
+{
+    for i in 0..is_named.len() {
+        if !is_named[i] {
+            return false;
+        }
+    }
+    true
+}
+
+/// Whether the plan names each of so many files and no other, and is not too deep.
+///
+/// Error: the memory for marks on the files was refused.
+pub(crate) fn is_plan_for(alloc: Global, plan: &Plan, files: usize) -> Result<bool, AllocError>
+    ensures { IfOk result (λ is_plan. MatchBool is_plan (IsPlanFor files (plan_of plan.now)) (IsPlanFor files (plan_of plan.now) → ⊥)) }
+{
+    let mut is_named = vec![in alloc; false; files]?;
+    if !mark_files(plan, MOST_DEPTH, &mut is_named) {
+        return Ok(false);
+    }
+    Ok(are_all_named(&is_named))
 }

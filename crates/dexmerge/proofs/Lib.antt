@@ -9,3 +9,5 @@ pub mod UnionLaws
 pub mod CapLaws
 pub mod MergeLaws
 pub mod JoinLaws
+pub mod PlanJudged
+pub mod PlannedLaws

@@ -21,3 +21,7 @@ part_member parts i d lt e = Contains-map plan_of parts d (i, lt, sym e)
 -- one part more
 pub parts_more : (parts : List Plan) (i : ℕ) (d : Plan) → i < length parts → d ≡ get_or parts i d → map plan_of (take (i + 1) parts) ≡ map plan_of (take i parts) ++ plan_of d ∷ []
 parts_more parts i d lt e = ap (map plan_of) (take_more parts i d lt ∙ ap (λ (x : Plan). take i parts ++ x ∷ []) (sym e)) ∙ map-append plan_of (take i parts) (d ∷ [])
+
+-- a leaf is the leaf of its file
+pub leaf_is : (plan : Plan) (file : ℕ) → plan ≡ variants.Leaf file → plan_of plan ≡ merging.Leaf file
+leaf_is plan file e = ap plan_of (e ∙ sym (variants.rolls-Leaf file)) ∙ fold-roll-Plan merging.Plan plan_step (layers.Leaf file)

@@ -1,6 +1,6 @@
 //! Programs merged by a plan.
 
-ghost use Rattle.std.specs.Prelude.{◌≡◌, ◌++◌, ◌<◌, All, IfOk, IfErr, OnOk, length, map};
+ghost use Rattle.std.specs.Prelude.{◌≡◌, ◌++◌, ◌<◌, [], All, IfOk, IfErr, OnOk, length, map, slice_index_or};
 ghost use Rattle.std.specs.List.{flat_map};
 ghost use Rattle.dexspec.specs.Files.{definitions, AreSame};
 ghost use Rattle.dexspec.specs.Merging as merging;
@@ -16,6 +16,14 @@ use crate::plan::{Plan, is_plan_for};
 use dexclass::Program;
 use std::alloc::{AllocError, Global};
 
+// A file, by its number.
+fn file<'a, 'b>(files: &'b [Program<'a>], number: usize) -> &'b Program<'a>
+    requires { number < length files.now }
+    ensures { definitions result.now ≡ slice_index_or (map definitions files.now) number [] }
+{
+    &files[number]
+}
+
 // Appends the files of those parts that are leaves.
 fn push_files<'a, 'b>(
     files: &'b [Program<'a>],
@@ -27,7 +35,7 @@ fn push_files<'a, 'b>(
 {
     for part in parts {
         match part {
-            Plan::Leaf(file) => programs.push(&files[*file])?,
+            Plan::Leaf(number) => programs.push(file(files, *number))?,
             Plan::Node(_) => continue,
         }
     }
@@ -35,11 +43,11 @@ fn push_files<'a, 'b>(
 }
 
 // Merges the parts of a node. Those that are nodes have been merged.
-fn merge_node<'a>(
+fn merge_node<'a, 'b>(
     alloc: Global,
-    files: &[Program<'a>],
+    files: &'b [Program<'a>],
     parts: &[Plan],
-    inner: &[Program<'a>],
+    inner: &'b [Program<'a>],
     caps: &Caps,
 ) -> Result<Program<'a>, MergeFault>
     requires known { AreKnown files.now (merging.Node (plans_of (map plan_of parts.now))) }
@@ -67,7 +75,7 @@ fn merge_parts<'a>(
     ensures fault { IfErr result (Tells (IsCauseOf caps.now files.now (plan_of plan.now))) }
 {
     match plan {
-        Plan::Leaf(file) => merge(alloc, &[&files[*file]], caps),
+        Plan::Leaf(number) => merge(alloc, &[file(files, *number)], caps),
         Plan::Node(parts) => {
             let mut inner = Vec::new(alloc);
             for part in parts {

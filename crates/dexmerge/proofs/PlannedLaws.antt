@@ -1,10 +1,10 @@
 -- The definitions of the parts of a plan.
-use Rattle.std.proofs.Common.{◌≡◌, ◌⊎◌, ◌↔◌, ℕ, ◌≤◌, List, [], ◌∷◌, ◌++◌, length, take, map, refl, sym, ap, ◌∙◌, subst, inl, inr, Ok, Err}
+use Rattle.std.proofs.Common.{◌≡◌, ◌⊎◌, ◌↔◌, ℕ, ◌<◌, ◌≤◌, List, [], ◌∷◌, ◌++◌, length, get_or, take, map, refl, sym, ap, ◌∙◌, subst, inl, inr, Ok, Err}
 use Rattle.std.specs.Prelude.{Result, IfErr, slice_index_or}
 use Rattle.std.specs.List.{Contains, flat_map}
 use Rattle.std.proofs.lemmas.List.{append-nil, take_all}
 use Rattle.std.proofs.lemmas.Grind.{flat_map-append}
-use Rattle.std.proofs.lemmas.List.Elements.{Contains-append_left, Contains-append_right, Contains-append_cases}
+use Rattle.std.proofs.lemmas.List.Elements.{Contains-append_left, Contains-append_right, Contains-append_cases, Contains-get_or}
 use Rattle.dexspec.specs.Classes.{Definition}
 use Rattle.dexspec.specs.Files.{Collection, definitions, AreSame, AreWithin, IsCollectionOf}
 use Rattle.dexspec.specs.Merging as merging
@@ -14,9 +14,11 @@ use Rattle.dexspec.proofs.Absorption.{IsGood-within, IsCause-within}
 use Rattle.dexspec.proofs.FirstCauses.{first_cause-same}
 use Rattle.dexmerge.specs.declared.faults.MergeFault.{MergeFault}
 use Rattle.dexmerge.specs.declared.faults.MergeFault.TheVariants as fault
+use Rattle.dexclass.proofs.Mentioned.{All-member}
+use Rattle.dexmerge.proofs.Marked.{part_leaves}
 use Rattle.dexmerge.specs.Plans.{plans_of}
 use Rattle.dexmerge.specs.Faults.{IsOfCap, IsMerged, Tells, planned}
-use Rattle.dexmerge.specs.Parts.{files_in, nodes_in, of_files, of_plans, IsCauseOf}
+use Rattle.dexmerge.specs.Parts.{files_in, nodes_in, of_files, of_plans, AreKnown, IsCauseOf}
 
 -- ---- what faults tell
 
@@ -161,3 +163,7 @@ pub programs_same : (files : List Collection) (ps : List Plan) (inner : List Col
 programs_same files ps inner n D le is same =
     let all : D ≡ of_files files (files_in ps) ++ flat_map definitions inner = is ∙ ap (λ (l : List Collection). of_files files (files_in ps) ++ flat_map definitions l) (take_all n inner le) in
     subst (λ (l : List Definition). AreSame l (planned files (Node (plans_of ps)))) (sym all) (node_same files ps inner same)
+
+-- the files of a part are known
+pub part_known : (files : List Collection) (ps : List Plan) (p : Plan) → Contains ps p → AreKnown files (Node (plans_of ps)) → AreKnown files p
+part_known files ps p has known i d lt = All-member (λ k. k < length files) (all_leaves (plans_of ps)) (get_or (leaves p) i d) known (part_leaves ps p (get_or (leaves p) i d) has (Contains-get_or (leaves p) i d lt))

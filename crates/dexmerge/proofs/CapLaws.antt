@@ -1,24 +1,21 @@
 -- The first cap that a union exceeds, by what its classes come to.
-use Rattle.std.proofs.Common.{◌≡◌, ℕ, ◌+◌, ◌<◌, ◌≤◌, Bool, true, false, cond, ltb, List, [], ◌∷◌, map, refl, sym, ap, ◌∙◌, subst, arith, inl, inr, Option, Some, None, sum_by, length}
-use Rattle.std.specs.Prelude.{All, MatchOption, nat_lt}
+use Rattle.std.proofs.Common.{◌≡◌, ℕ, ◌<◌, ◌≤◌, Bool, true, false, cond, ltb, List, map, refl, sym, ap, subst, arith, inl, inr, Option, Some, None, length}
+use Rattle.std.specs.Prelude.{MatchOption}
 use Rattle.std.specs.List.{Contains}
 use Rattle.std.proofs.lemmas.Bool.{ltb-true, lt-ltb, cases_lt}
 use Rattle.dexspec.proofs.SizeSums.{sum_by-map}
 use Rattle.dexspec.specs.Lists.{AreDistinct}
 use Rattle.dexspec.specs.Texts.{Text}
 use Rattle.dexspec.specs.Classes.{Definition, declared_methods}
-use Rattle.dexspec.specs.Files.{AreSame, AreWithin}
+use Rattle.dexspec.specs.Files.{AreWithin}
 use Rattle.dexspec.specs.Mentions.{Mentions, mentions}
 use Rattle.dexspec.specs.Depth.{IsAcyclic}
 use Rattle.dexspec.specs.Weight.{weight, body_weight, mentions_weight}
-use Rattle.dexspec.specs.Merging.{Caps, AreCaps, greatest_caps, Cap, Types, Protos, Fields, Methods, ShortStrings, Weight, cap_number, HasShortString, Exceeds, Fits, IsConsistent, IsGood, Cause, Conflict, Cycle, Exceeded, IsCause, IsToldBefore, IsFirstCause}
+use Rattle.dexspec.specs.Merging.{Caps, AreCaps, greatest_caps, Cap, Types, Protos, Fields, Methods, ShortStrings, Weight, cap_number, HasShortString, Exceeds, IsConsistent, IsGood, Cause, Conflict, Cycle, Exceeded, IsCause, IsToldBefore, IsFirstCause}
 use Rattle.dexspec.proofs.Members.{Contains-nil}
-use Rattle.dexspec.proofs.Growth.{mentions-same}
 use Rattle.dexspec.proofs.WeightGrowth.{weight-within}
 use Rattle.dexspec.proofs.Conflicts.{consistent-apart}
 use Rattle.dexspec.proofs.Depths.{acyclic-apart}
-use Rattle.dexspec.proofs.Mapped.{AreDistinct-map_source}
-use Rattle.dexspec.proofs.FirstCauses.{first_cause-same}
 use Rattle.dexclass.specs.Numbered.{NumberedClass, definition_of}
 use Rattle.dexclass.proofs.Mentioned.{Contains-map_source}
 use Rattle.dexmerge.specs.Amounts.{weight_over, first_over}

@@ -10,7 +10,7 @@ use Rattle.dexspec.specs.Merging.{IsCycle}
 use Rattle.dexspec.proofs.InOrder.{Rises-from_rises, Rises-places, irreflexive, asymmetric}
 use Rattle.dexspec.proofs.SymbolOrders.{text_total}
 use Rattle.dexorder.specs.Depths.{AreDepths, AreWithin, IsAnswer, HasNone}
-use Rattle.dexorder.specs.Definitions.{AreClassesOf, name_at}
+use Rattle.dexorder.specs.Definitions.{AreClassesOf}
 use Rattle.dexorder.proofs.DefinitionDepths.{no_cycle, is_cycle, cycle_class}
 use Rattle.dexclass.specs.Numbered.{NumberedClass, type_at, definition_of}
 use Rattle.dexclass.specs.Parents.{name_number, IsHierarchy}

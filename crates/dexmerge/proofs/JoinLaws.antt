@@ -1,7 +1,6 @@
 -- A join of what parts mention is what their union mentions.
 use Rattle.std.proofs.Common.{◌≡◌, ◌∙◌, Bor, List, [], ◌∷◌, ◌++◌, length, map, refl, sym, ap, subst, suc}
 use Rattle.std.specs.List.{AllZip, flat_map}
-use Rattle.std.proofs.lemmas.List.{length-map}
 use Rattle.dexspec.specs.Classes.{Definition}
 use Rattle.dexspec.specs.Files.{Collection, definitions}
 use Rattle.dexspec.specs.Mentions.{Mentions, mentions}

@@ -1,5 +1,5 @@
 -- Plans whose files are marked part by part.
-use Rattle.std.proofs.Common.{◌≡◌, ◌⊎◌, ◌↔◌, ℕ, ◌+◌, ◌-◌, ◌<◌, ◌≤◌, max, Bool, List, [], ◌∷◌, ◌++◌, length, get_or, refl, sym, ap, ◌∙◌, subst, arith, inl, inr}
+use Rattle.std.proofs.Common.{◌≡◌, ℕ, ◌-◌, ◌<◌, ◌≤◌, max, Bool, List, [], ◌∷◌, ◌++◌, length, get_or, refl, sym, ap, ◌∙◌, subst, arith, inl, inr}
 use Rattle.std.specs.Prelude.{All, slice_set, true, false}
 use Rattle.std.specs.List.{Contains}
 use Rattle.std.proofs.lemmas.List.{append_assoc, append-nil, get_or-set_same, get_or-set_other}
@@ -8,7 +8,7 @@ use Rattle.std.proofs.lemmas.List.Elements.{All-append, All-cons, All-nil, Conta
 use Rattle.dexspec.proofs.Members.{Contains-nil, Contains-first, Contains-cons_cases}
 use Rattle.dexspec.specs.Merging.{Plan, Leaf, Node, leaves, all_leaves, plan_depth, plans_depth}
 use Rattle.dexmerge.specs.Plans.{plans_of}
-use Rattle.dexmerge.specs.Judging.{IsNamed, AreMarkedBy, IsMarkedBy, IsNoPlan}
+use Rattle.dexmerge.specs.Judging.{AreMarkedBy, IsMarkedBy, IsNoPlan}
 
 -- the parts are less deep, name only files that there are, and just these are marked beside those that were
 pub record ArePartsMarked (parts : List Plan) (depth : ℕ) (old new : List Bool) : Type 0 where

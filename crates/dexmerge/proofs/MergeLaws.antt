@@ -1,10 +1,8 @@
 -- What the steps of a merge know.
-use Rattle.std.proofs.Common.{◌≡◌, ℕ, ◌<◌, List, length, map, refl, sym, ap, ◌∙◌, subst, arith, Option, Some, None}
+use Rattle.std.proofs.Common.{◌≡◌, ℕ, ◌<◌, List, length, map, sym, ◌∙◌, subst, arith, Option, Some, None}
 use Rattle.std.specs.Prelude.{All, MatchOption}
-use Rattle.std.specs.List.{AllZip, flat_map, Contains}
-use Rattle.std.proofs.lemmas.List.{length-map}
+use Rattle.std.specs.List.{AllZip, flat_map}
 use Rattle.dexspec.specs.Lists.{AreDistinct}
-use Rattle.dexspec.specs.Texts.{Text}
 use Rattle.dexspec.specs.Classes.{Definition}
 use Rattle.dexspec.specs.Files.{Collection, definitions, AreSame, IsCollectionOf}
 use Rattle.dexspec.specs.Mentions.{Mentions, mentions}
@@ -12,15 +10,14 @@ use Rattle.dexspec.specs.Merging.{Caps, AreCaps, IsConsistent, IsGood, IsFirstCa
 use Rattle.dexspec.proofs.Growth.{mentions-same}
 use Rattle.dexspec.proofs.FirstCauses.{first_cause-same}
 use Rattle.dexspec.proofs.Absorption.{IsGood-within}
-use Rattle.dexpool.specs.Numberings.{AreRising, Maps, AllLead}
-use Rattle.dexpool.specs.Laws.{LeadsAll}
+use Rattle.dexpool.specs.Numberings.{Maps}
 use Rattle.dexclass.specs.Numbered.{NumberedClass, type_at, definition_of}
-use Rattle.dexclass.specs.Parents.{name_number, no_class, ArePlaces}
+use Rattle.dexclass.specs.Parents.{name_number, ArePlaces}
 use Rattle.dexclass.specs.Programs.{AreMergeable}
 use Rattle.dexclass.specs.Renumbering.{LeadInto}
-use Rattle.dexmerge.specs.Faults.{IsOfCap, IsMerged}
+use Rattle.dexmerge.specs.Faults.{IsOfCap}
 use Rattle.dexmerge.specs.Candidates.{AreMembers, IsAlike, IsLeastUnlike, kept_classes}
-use Rattle.dexmerge.specs.Cycles.{AreKept, AreAcyclic, IsFirstCycle}
+use Rattle.dexmerge.specs.Cycles.{AreAcyclic, IsFirstCycle}
 use Rattle.dexmerge.specs.Amounts.{first_over}
 use Rattle.dexmerge.specs.Unions.{AreCopies, AreOnce, IsJoined}
 use Rattle.dexmerge.proofs.UnionLaws.{name_in, conflict_told, kept_members, kept_rise, are_kept, definitions_differ, consistent, cycle_told}

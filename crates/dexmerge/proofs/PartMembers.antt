@@ -6,11 +6,11 @@ use Rattle.std.proofs.lemmas.List.{take_more, map-append, append-nil, get_or-map
 use Rattle.std.proofs.lemmas.Grind.{flat_map-append}
 use Rattle.std.proofs.lemmas.List.Elements.{All-append, All-map, All-nil, Contains-append_left, Contains-append_right, Contains-append_cases}
 use Rattle.dexspec.specs.Classes.{Definition}
-use Rattle.dexspec.specs.Files.{Collection, definitions, AreSame}
+use Rattle.dexspec.specs.Files.{Collection, definitions}
 use Rattle.dexspec.specs.WellFormed.{AreWellFormed}
 use Rattle.dexspec.specs.Depth.{in_class_order}
 use Rattle.dexspec.specs.Mentions.{Mentions, mentions}
-use Rattle.dexspec.proofs.Members.{Contains-nil, Contains-first, Contains-later}
+use Rattle.dexspec.proofs.Members.{Contains-nil}
 use Rattle.dexspec.proofs.ClassOrder.{definitions-distinct}
 use Rattle.dexspec.proofs.ClassPlaces.{in_class_order-only, in_class_order-has}
 use Rattle.dexpool.specs.Numberings.{Maps}

@@ -1,10 +1,9 @@
 -- Whether the marks on files are those of a plan for them.
-use Rattle.std.proofs.Common.{◌≡◌, ℕ, zero, suc, ◌<◌, Bool, true, false, List, length, get_or, replicate, refl, sym, ◌∙◌, subst, arith, inl, inr}
-use Rattle.std.specs.Prelude.{All, MatchBool}
-use Rattle.std.specs.List.{Contains}
+use Rattle.std.proofs.Common.{◌≡◌, ℕ, zero, suc, ◌<◌, Bool, true, false, List, length, get_or, replicate, refl, sym, ◌∙◌, arith, inl, inr}
+use Rattle.std.specs.Prelude.{MatchBool}
 use Rattle.std.proofs.lemmas.Bool.{false≢true}
 use Rattle.std.proofs.lemmas.List.{length-replicate}
-use Rattle.dexspec.specs.Merging.{Plan, leaves, IsPlanFor}
+use Rattle.dexspec.specs.Merging.{Plan, IsPlanFor}
 use Rattle.dexmerge.specs.Judging.{IsNamed, IsMarkedBy, HasUnnamed}
 
 -- no mark is set at first

@@ -1,12 +1,12 @@
 -- The definitions of the parts of a plan.
-use Rattle.std.proofs.Common.{◌≡◌, ◌⊎◌, ◌↔◌, ℕ, ◌<◌, ◌≤◌, List, [], ◌∷◌, ◌++◌, length, get_or, take, map, refl, sym, ap, ◌∙◌, subst, inl, inr, Ok, Err}
+use Rattle.std.proofs.Common.{◌≡◌, ◌⊎◌, ℕ, ◌<◌, ◌≤◌, List, [], ◌∷◌, ◌++◌, length, get_or, take, map, refl, sym, ap, ◌∙◌, subst, inl, inr, Ok, Err}
 use Rattle.std.specs.Prelude.{Result, IfErr, slice_index_or}
 use Rattle.std.specs.List.{Contains, flat_map}
 use Rattle.std.proofs.lemmas.List.{append-nil, take_all}
 use Rattle.std.proofs.lemmas.Grind.{flat_map-append}
 use Rattle.std.proofs.lemmas.List.Elements.{Contains-append_left, Contains-append_right, Contains-append_cases, Contains-get_or}
 use Rattle.dexspec.specs.Classes.{Definition}
-use Rattle.dexspec.specs.Files.{Collection, definitions, AreSame, AreWithin, IsCollectionOf}
+use Rattle.dexspec.specs.Files.{Collection, definitions, AreSame, AreWithin}
 use Rattle.dexspec.specs.Merging as merging
 use Rattle.dexspec.specs.Merging.{Caps, Cause, IsCause, IsFirstCause, IsFlat, AreLeaves, Plan, Leaf, Node, leaves, all_leaves}
 use Rattle.dexspec.proofs.Members.{Contains-nil, Contains-cons_cases}
@@ -17,7 +17,7 @@ use Rattle.dexmerge.specs.declared.faults.MergeFault.TheVariants as fault
 use Rattle.dexclass.proofs.Mentioned.{All-member}
 use Rattle.dexmerge.proofs.Marked.{part_leaves}
 use Rattle.dexmerge.specs.Plans.{plans_of}
-use Rattle.dexmerge.specs.Faults.{IsOfCap, IsMerged, Tells, planned}
+use Rattle.dexmerge.specs.Faults.{IsMerged, Tells, planned}
 use Rattle.dexmerge.specs.Parts.{files_in, nodes_in, of_files, of_plans, AreKnown, IsCauseOf}
 
 -- ---- what faults tell

@@ -1,6 +1,6 @@
 -- What the numbers of a union's classes say of its definitions.
-use Rattle.std.proofs.Common.{◌≡◌, ℕ, zero, suc, ◌+◌, ◌<◌, ◌≤◌, true, List, [], ◌∷◌, length, get_or, map, refl, sym, ap, ◌∙◌, subst, arith, inl, inr, Option, Some, None, Less}
-use Rattle.std.specs.Prelude.{All, IsSome, option_to_list}
+use Rattle.std.proofs.Common.{◌≡◌, ℕ, zero, suc, ◌+◌, ◌<◌, ◌≤◌, List, [], ◌∷◌, length, get_or, map, refl, sym, ap, ◌∙◌, subst, arith, inl, inr, Option, Some, None, Less}
+use Rattle.std.specs.Prelude.{All, IsSome}
 use Rattle.std.specs.List.{Contains}
 use Rattle.std.proofs.lemmas.Bool.{cases_order}
 use Rattle.std.proofs.lemmas.List.{length-map, get_or-map, get_or_default}
@@ -8,18 +8,16 @@ use Rattle.std.proofs.lemmas.List.Elements.{Contains-get_or}
 use Rattle.dexspec.specs.Lists.{present, AreDistinct}
 use Rattle.dexspec.specs.Texts.{Text, text_cmp}
 use Rattle.dexspec.specs.Classes.{Body, Definition}
-use Rattle.dexspec.specs.Files.{AreSame}
 use Rattle.dexspec.specs.Mentions.{Mentions}
-use Rattle.dexspec.specs.Merging.{Caps, IsConflict, IsConsistent, IsCycle, Cause, Conflict, Cycle, Exceeded, IsCause, IsToldBefore, IsFirstCause}
+use Rattle.dexspec.specs.Merging.{Caps, IsConflict, IsConsistent, Cause, Conflict, Cycle, Exceeded, IsCause, IsToldBefore, IsFirstCause}
 use Rattle.dexspec.proofs.Members.{Contains-nil, Contains-first, Contains-later, Contains-cons_cases}
 use Rattle.dexspec.proofs.InOrder.{Rises-from_rises, Rises-places, irreflexive, asymmetric}
 use Rattle.dexspec.proofs.SymbolOrders.{text_total}
 use Rattle.dexspec.proofs.Conflicts.{consistent-apart}
-use Rattle.dexspec.proofs.FirstCauses.{first_cause-same}
 use Rattle.dexpool.specs.Numberings.{AreRising}
 use Rattle.dexclass.specs.Numbered.{NumberedClass, type_at, definition_of}
-use Rattle.dexclass.specs.Marking.{IsInRange, type_numbers}
-use Rattle.dexclass.specs.Parents.{no_class, name_number, parent_numbers, ArePlaces, AreNamed}
+use Rattle.dexclass.specs.Marking.{IsInRange}
+use Rattle.dexclass.specs.Parents.{no_class, name_number, parent_numbers, ArePlaces}
 use Rattle.dexclass.proofs.Mentioned.{Contains-map, Contains-map_source}
 use Rattle.dexclass.proofs.SameClasses.{one_class}
 use Rattle.dexmerge.specs.Candidates.{AreMembers, class_at, IsAlike, IsLeastUnlike, kept_classes}

@@ -1,9 +1,9 @@
 -- The files that the parts of a plan name, and the parts that are nodes.
-use Rattle.std.specs.Prelude.{◌≡◌, ℕ, ◌<◌, List, [], ◌∷◌, map, length, All, slice_index_or}
+use Rattle.std.specs.Prelude.{ℕ, ◌<◌, List, [], ◌∷◌, map, length, All, slice_index_or}
 use Rattle.std.specs.List.{flat_map}
 use Rattle.dexspec.specs.Classes.{Definition}
 use Rattle.dexspec.specs.Files.{Collection, definitions}
-use Rattle.dexspec.specs.Merging.{Caps, Cause, IsCause, IsFirstCause, IsFlat, Plan, Leaf, Node, leaves, all_leaves}
+use Rattle.dexspec.specs.Merging.{Caps, Cause, IsCause, IsFirstCause, IsFlat, Plan, Leaf, Node, leaves}
 use Rattle.dexmerge.specs.Faults.{planned}
 
 -- the files of the parts that are leaves

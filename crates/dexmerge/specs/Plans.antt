@@ -1,5 +1,5 @@
 -- Plans as the definitions see them.
-use Rattle.std.specs.Prelude.{ℕ, List, [], ◌∷◌}
+use Rattle.std.specs.Prelude.{List, [], ◌∷◌}
 use Rattle.dexspec.specs.Merging as merging
 use Rattle.dexmerge.specs.declared.plan.Plan.{Plan}
 use Rattle.dexmerge.specs.declared.plan.Plan.TheOpen.{Plan-F, Leaf, Node}

@@ -7,10 +7,15 @@ ghost use Rattle.dexmerge.specs.Capping.{caps_of};
 use std::marker::Model;
 
 const MOST_TYPES: u32 = 65_535;
+
 const MOST_PROTOS: u32 = 65_535;
+
 const MOST_FIELDS: u32 = 65_536;
+
 const MOST_METHODS: u32 = 65_536;
+
 const MOST_SHORT_STRINGS: u32 = 65_536;
+
 const MOST_WEIGHT: u32 = 1 << 30;
 
 /// The most types, protos, fields and methods that a merged file may mention, the most texts up to that of a

@@ -4,7 +4,6 @@ use Rattle.std.proofs.lemmas.List.{length-map}
 use Rattle.dexspec.specs.Classes.{Definition}
 use Rattle.dexspec.specs.Files.{Collection, definitions}
 use Rattle.dexspec.specs.Mentions.{mentions}
-use Rattle.dexpool.specs.Numberings.{Maps}
 use Rattle.dexclass.specs.Renumbering.{LeadInto}
 use Rattle.dexmerge.specs.Candidates.{AreMembers, classes_of}
 use Rattle.dexmerge.proofs.PartMembers.{parts_more, part_at, zip_at}

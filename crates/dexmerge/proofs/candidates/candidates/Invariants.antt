@@ -1,4 +1,4 @@
-use Rattle.std.specs.Prelude.{◌≡◌, ◌++◌, map, take}
+use Rattle.std.specs.Prelude.{map, take}
 use Rattle.std.specs.List.{AllZip, flat_map}
 use Rattle.dexspec.specs.Files.{definitions}
 use Rattle.dexspec.specs.Mentions.{Mentions, mentions}

@@ -1,4 +1,4 @@
-use Rattle.std.proofs.Common.{◌≡◌, ℕ, ◌∙◌, sym, ap, get_or, Some, None}
+use Rattle.std.proofs.Common.{◌≡◌, ℕ, ◌∙◌, sym, ap, get_or, None}
 use Rattle.std.specs.Prelude.{IsTrue}
 use Rattle.dexclass.specs.Parents.{name_number}
 use Rattle.dexmerge.specs.Candidates.{classes_of}

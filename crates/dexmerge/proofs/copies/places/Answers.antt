@@ -1,7 +1,6 @@
-use Rattle.std.proofs.Common.{◌≡◌, ℕ, ◌<◌, ◌∙◌, ap, arith, length}
+use Rattle.std.proofs.Common.{◌≡◌, ◌<◌, ◌∙◌, arith, length}
 use Rattle.std.specs.Prelude.{Some}
 use Rattle.std.proofs.lemmas.List.{length-set}
-use Rattle.dexclass.specs.Numbered.{NumberedClass}
 use Rattle.dexclass.specs.Parents.{no_class, name_number}
 use Rattle.dexclass.proofs.Places.{places_next}
 use Rattle.dexmerge.specs.Candidates.{classes_of}

@@ -1,9 +1,7 @@
-use Rattle.std.proofs.Common.{◌≡◌, ◌∙◌, Bor, ℕ, List, length, map, take, sym, ap, subst, arith}
-use Rattle.std.specs.List.{flat_map}
+use Rattle.std.proofs.Common.{◌≡◌, ◌∙◌, Bor, List, map, ap, arith}
 use Rattle.std.proofs.lemmas.List.{take_all}
 use Rattle.dexspec.specs.Files.{Collection, definitions}
 use Rattle.dexspec.specs.Mentions.{Mentions, mentions}
-use Rattle.dexpool.specs.Numberings.{union_of}
 use Rattle.dexmerge.proofs.JoinLaws.{joined_is}
 use Rattle.dexmerge.proofs.merging.joined.Goals as goal
 

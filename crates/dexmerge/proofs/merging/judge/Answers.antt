@@ -1,8 +1,6 @@
-use Rattle.std.proofs.Common.{◌≡◌, ◌∙◌, Option, Some, None, sym, subst}
-use Rattle.std.specs.Prelude.{MatchOption}
+use Rattle.std.proofs.Common.{◌∙◌, Some, None, sym, subst}
 use Rattle.dexspec.specs.Texts.{Text}
-use Rattle.dexspec.specs.Merging.{IsGood, IsFirstCause, Cycle}
-use Rattle.dexmerge.specs.Faults.{IsOfCap}
+use Rattle.dexspec.specs.Merging.{IsFirstCause, Cycle}
 use Rattle.dexmerge.specs.Candidates.{classes_of}
 use Rattle.dexmerge.specs.Cycles.{AreAcyclic, IsFirstCycle}
 use Rattle.dexmerge.proofs.MergeLaws.{once_cycle, once_cap}

@@ -1,4 +1,4 @@
-use Rattle.std.proofs.Common.{◌≡◌, ◌<◌, ◌∙◌, ℕ, List, [], ◌∷◌, ◌++◌, sym, ap, arith, length, map, get_or, None}
+use Rattle.std.proofs.Common.{◌≡◌, ◌<◌, ◌∙◌, ℕ, List, [], ◌∷◌, ◌++◌, sym, ap, arith, length, get_or, None}
 use Rattle.std.specs.Prelude.{slice_index_or, option_to_list}
 use Rattle.std.proofs.lemmas.List.{length-map, get_or-map}
 use Rattle.dexspec.specs.Lists.{present}

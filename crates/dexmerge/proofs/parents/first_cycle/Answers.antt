@@ -1,4 +1,4 @@
-use Rattle.std.proofs.Common.{◌∙◌, sym, subst}
+use Rattle.std.proofs.Common.{sym, subst}
 use Rattle.dexorder.specs.Depths.{AreDepths}
 use Rattle.dexmerge.specs.Candidates.{classes_of}
 use Rattle.dexmerge.proofs.CycleLaws.{parents_within, found_is}

@@ -1,4 +1,4 @@
-use Rattle.std.proofs.Common.{◌≡◌, ◌∙◌, ◌+◌, ◌<◌, ◌++◌, ◌∷◌, List, [], length, map, take, sym, ap, subst, arith, rules}
+use Rattle.std.proofs.Common.{◌≡◌, ◌∙◌, ◌+◌, ◌++◌, ◌∷◌, List, [], map, take, sym, ap, subst, arith, rules}
 use Rattle.std.specs.Prelude.{Result, Err, IfErr}
 use Rattle.std.specs.List.{flat_map, Contains}
 use Rattle.std.proofs.lemmas.List.{take_all}
@@ -58,8 +58,8 @@ returns-in_err-merge_parts-in-Node-part-clause-fault t c =
     let own = node_is c.part-item.result c.in-Node-part.field-0 c.in-Node-part.is in
     let member = part_member parts c.loop-part.part-index c.part-item.result c.loop-part-test.true c.part-item.is in
     let told : (f : MergeFault) → Tells (IsCauseOf caps files (plan_of c.part-item.result)) f → Tells (IsCauseOf caps files (plan_of c.args.plan.now)) f = λ f x.
-        subst (λ (p : merging.Plan). Tells (IsCauseOf caps files p) f) (sym is)
-        (part_tells files caps (map plan_of parts) (plans_of (map plan_of c.in-Node-part.field-0.items)) f (subst (Contains (map plan_of parts)) own member) (subst (λ (p : merging.Plan). Tells (IsCauseOf caps files p) f) own x)) in
+    subst (λ (p : merging.Plan). Tells (IsCauseOf caps files p) f) (sym is)
+    (part_tells files caps (map plan_of parts) (plans_of (map plan_of c.in-Node-part.field-0.items)) f (subst (Contains (map plan_of parts)) own member) (subst (λ (p : merging.Plan). Tells (IsCauseOf caps files p) f) own x)) in
     let out : (x : MergeFault) × (c.from_residual.result ≡ Err x) × (x ≡ c.in_err-merge_parts-in-Node-part.field-0.0) = err_from_is_err_and c.from_residual.result c.from_residual.ensures.1 in
     subst (λ (r : Result Collection MergeFault). IfErr r (Tells (IsCauseOf caps files (plan_of c.args.plan.now)))) (sym out.1)
     (told out.0 (subst (Tells (IsCauseOf caps files (plan_of c.part-item.result))) (sym out.2) c.in_err-merge_parts-in-Node-part.ensures.fault))

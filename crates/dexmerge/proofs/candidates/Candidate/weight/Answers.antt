@@ -1,4 +1,4 @@
-use Rattle.std.proofs.Common.{◌≡◌, ◌-◌, ◌^◌, ◌∙◌, ℕ, min, sym, ap}
+use Rattle.std.proofs.Common.{◌∙◌, ℕ, min, sym, ap}
 use Rattle.dexmerge.proofs.Weighing.{weight_led}
 use Rattle.dexmerge.proofs.candidates.Candidate.weight.Goals as goal
 

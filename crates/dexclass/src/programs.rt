@@ -113,8 +113,8 @@ impl<'a> Program<'a> {
         numbering: Numbering<'a>,
         classes: Vec<Class>,
     ) -> Result<Program<'a>, AllocError>
-        requires { AreMergeable numbering.entry classes.entry.items }
-        ensures { IfOk result (IsCollectionOf (map (definition_of numbering.entry) classes.entry.items)) }
+        requires { AreMergeable numbering classes.items }
+        ensures { IfOk result (IsCollectionOf (map (definition_of numbering.entry) classes.items)) }
     {
         Err(AllocError)
     }

@@ -1,5 +1,5 @@
 -- What the words of the command line ask for.
-use Rattle.std.specs.Prelude.{ℕ, ◌<◌, vec_len}
+use Rattle.std.specs.Prelude.{◌<◌, vec_len}
 use Rattle.dexcmd.specs.declared.words.Job.{Job}
 use Rattle.dexcmd.specs.declared.words.Job.TheVariants.{Check, Normalise}
 

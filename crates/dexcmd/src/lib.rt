@@ -2,12 +2,17 @@
 //! of faults.
 #![tactic(auto)]
 
+mod checking;
 mod explaining;
 mod faults;
 mod inputs;
 mod lines;
+mod normalising;
+mod outputs;
 mod words;
 
+pub use checking::check_run;
 pub use explaining::explain;
 pub use faults::RunFault;
+pub use normalising::normalise_run;
 pub use words::{Job, read_words};

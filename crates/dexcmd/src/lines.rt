@@ -1,10 +1,19 @@
 //! The lines that `check` writes.
 
 ghost use Rattle.std.specs.Prelude.{◌≡◌, slice_index_or, map, IfOk, string_bytes};
-ghost use Rattle.dexcmd.specs.Lines.{condition_name, refusal_text};
+ghost use Rattle.dexcmd.specs.Lines.{condition_name, refusal_text, check_line};
 
 use dexhead::Refusal;
 use std::alloc::{AllocError, Global};
+
+/// What is said of a file that is checked.
+#[derive(Clone, Copy, Debug, PartialEq, Eq)]
+pub enum Verdict {
+    /// It is accepted, and has so many classes.
+    Accepted(usize),
+    /// A condition that it does not meet, and where.
+    Refused(Refusal),
+}
 
 const UNKNOWN: &str = "Unknown";
 
@@ -62,4 +71,17 @@ pub fn refusal_text(alloc: Global, refusal: &Refusal) -> Result<String, AllocErr
     let name = condition_name(number);
     let place = refusal.place;
     format!(in alloc; "refused {number} {name} at {place}")
+}
+
+/// The line of a file that is checked, with its end.
+pub fn check_line(alloc: Global, name: &str, verdict: &Verdict) -> Result<String, AllocError>
+    ensures { IfOk result (λ line. string_bytes line ≡ check_line name.now verdict.now) }
+{
+    match verdict {
+        Verdict::Accepted(classes) => format!(in alloc; "{name}: ok classes={classes}\n"),
+        Verdict::Refused(refusal) => {
+            let text = refusal_text(alloc, refusal)?;
+            format!(in alloc; "{name}: {text}\n")
+        }
+    }
 }

@@ -1,4 +1,4 @@
-use Rattle.std.proofs.Common.{inl, inr, arith, ◌≤◌, vec_len, length, ℕ}
+use Rattle.std.proofs.Common.{inl, inr, arith, ℕ}
 use Rattle.std.proofs.lemmas.List.{length-take}
 use Rattle.dexcmd.proofs.Pieces.{read_all}
 use Rattle.dexcmd.proofs.inputs.read_whole.Goals as goal

@@ -1,4 +1,4 @@
-use Rattle.std.proofs.Common.{◌≡◌, ◌≤◌, ◌++◌, ℕ, false, ◌-◌, vec_len, length}
+use Rattle.std.proofs.Common.{◌≡◌, ◌≤◌, ◌++◌, false, ◌-◌, vec_len, length}
 use Rattle.dexcmd.proofs.inputs.read_whole.Given as goal
 
 -- what was read, and what is to come, is what was to come at first

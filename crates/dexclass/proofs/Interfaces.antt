@@ -71,7 +71,7 @@ classes_of b (i ∷ is) h =
     let rest = classes_of b is (all_later (IsClassIndex b) i is h) in
     record { types = first.0 ∷ rest.types; rows = (first.1.row, rest.rows); classes = all_more IsClass first.0 rest.types first.1.class rest.classes }
 
-of_classes : (b : List ℕ) (indices : List ℕ) (ts : List Text) → AllZip (TypeRow b) indices ts → All IsClass ts → All (IsClassIndex b) indices
+pub of_classes : (b : List ℕ) (indices : List ℕ) (ts : List Text) → AllZip (TypeRow b) indices ts → All IsClass ts → All (IsClassIndex b) indices
 of_classes b [] [] rows classes = λ k d lt. absurd (omega arith)
 of_classes b [] (t ∷ ts) rows classes = absurd rows
 of_classes b (i ∷ is) [] rows classes = absurd rows

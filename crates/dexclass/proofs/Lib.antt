@@ -17,8 +17,14 @@ pub mod Arranged
 pub mod Ordered
 pub mod Unmarked
 pub mod Trimmed
+pub mod RowsInRange
+pub mod RowsBelow
+pub mod Summing
+pub mod ReadPlain
 pub mod ProgramClasses
 pub mod EmptyPrograms
+pub mod OneOrder
+pub mod ProgramsOf
 pub mod SingleBits
 pub mod Growing
 pub mod Hexadecimal

@@ -3,7 +3,7 @@ use Rattle.std.proofs.Common.{◌≡◌, ℕ, suc, ◌<◌, true, List, [], ◌�
 use Rattle.std.specs.Prelude.{◌↔◌, map, All, IsSome, Option, Some, None, option_to_list}
 use Rattle.std.specs.Option.{option_map}
 use Rattle.std.proofs.lemmas.Bool.{cases_order}
-use Rattle.std.proofs.lemmas.List.Elements.{All-map}
+use Rattle.std.specs.List.{Contains}
 use Rattle.dexspec.specs.Lists.{rises}
 use Rattle.dexspec.specs.Texts.{Text, text_cmp}
 use Rattle.dexspec.specs.Classes.{Definition}
@@ -17,7 +17,7 @@ use Rattle.dexclass.specs.Marking.{IsInRange, type_numbers, text_numbers}
 use Rattle.dexclass.specs.Renumbering.{led, renumbered, LeadInto, StaysSame, IsPartClass}
 use Rattle.dexclass.proofs.Judged.{all_left, all_right}
 use Rattle.dexclass.proofs.Mentioned.{All-member}
-use Rattle.dexclass.proofs.LedOn.{stays}
+use Rattle.dexclass.proofs.LedOn.{stays, numbers_stay}
 
 -- ---- where a number leads
 
@@ -35,30 +35,14 @@ module _ (m n : Mentions) (r : Maps) (h : LeadInto m n r) where
   text_led : (i : ℕ) → i < length m.texts → IsAt n.texts (led r.texts i) (text_at m i)
   text_led i lt = led_at m.texts n.texts r.texts i (image r.texts i) h.lead.texts_lead refl (h.all kinds.Text i lt)
 
-  -- the numbers of types of a class that is led on
-  types_numbered : (c : NumberedClass) → map (led r.types) (type_numbers c) ≡ type_numbers (renumbered r c)
-  types_numbered c = ap (λ (l : List ℕ). led r.types c.name ∷ l) (by_superclass c.superclass)
-    where
-      by_superclass : (o : Option ℕ) → map (led r.types) (option_to_list o ++ c.interfaces) ≡ option_to_list (option_map (led r.types) o) ++ map (led r.types) c.interfaces
-      by_superclass None = refl
-      by_superclass (Some p) = refl
-
-  -- and those of texts
-  texts_numbered : (o : Option ℕ) → map (led r.texts) (option_to_list o) ≡ option_to_list (option_map (led r.texts) o)
-  texts_numbered None = refl
-  texts_numbered (Some s) = refl
-
   -- it stands for the same definition
   pub stays_same : (c : NumberedClass) → IsInRange m c → StaysSame m n r c
-  stays_same c range = record {
-    same = stays m n r h.lead c range
-        (λ i has. let at = type_led i (All-member (λ k. k < length m.types) (type_numbers c) i range.types_in has) in (led r.types i, at.within, at.is (type_at m i)))
-        (λ i has. let at = text_led i (All-member (λ k. k < length m.texts) (text_numbers c) i range.texts_in has) in (led r.texts i, at.within, at.is (text_at m i)));
-    numbers_in = record {
-      types_in = subst (All (λ k. k < length n.types)) (types_numbered c) (All-map (λ k. k < length n.types) (led r.types) (type_numbers c) (λ k d lt. (type_led (get_or (type_numbers c) k d) (range.types_in k d lt)).within));
-      texts_in = subst (All (λ k. k < length n.texts)) (texts_numbered c.source) (All-map (λ k. k < length n.texts) (led r.texts) (text_numbers c) (λ k d lt. (text_led (get_or (text_numbers c) k d) (range.texts_in k d lt)).within));
-    };
-  }
+  stays_same c range =
+      let types : (i : ℕ) → Contains (type_numbers c) i → Contains n.types (type_at m i)
+      = λ i has. let at = type_led i (All-member (λ k. k < length m.types) (type_numbers c) i range.types_in has) in (led r.types i, at.within, at.is (type_at m i)) in
+      let texts : (i : ℕ) → Contains (text_numbers c) i → Contains n.texts (text_at m i)
+      = λ i has. let at = text_led i (All-member (λ k. k < length m.texts) (text_numbers c) i range.texts_in has) in (led r.texts i, at.within, at.is (text_at m i)) in
+      record { same = stays m n r h.lead c range types texts; numbers_in = numbers_stay m n r h.lead c range types texts }
 
 -- ---- one number for each symbol
 

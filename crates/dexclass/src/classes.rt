@@ -1,15 +1,13 @@
 //! Class definitions with numbers in the place of symbols.
 
-ghost use Rattle.std.specs.Prelude.{◌≡◌, ◌<◌, IfOk, Option, List, map};
+ghost use Rattle.std.specs.Prelude.{◌≡◌, ◌<◌, IfOk};
 ghost use Rattle.dexspec.specs.Header.{ClassDefs, table_size};
-ghost use Rattle.dexspec.specs.Conditions.{Condition};
-ghost use Rattle.dexspec.specs.Accepted.{HasClass, HoldsThroughout};
-ghost use Rattle.std.specs.List.{range_with_len};
+ghost use Rattle.dexspec.specs.Accepted.{HasClass};
 ghost use Rattle.dexclass.specs.Rows.{interface_indices, HasInterfaceList};
 ghost use Rattle.dexclass.specs.Numbered.{number_of, class_of_row};
 
 use crate::class_rows::{NO_INDEX, row_fields};
-use dexhead::{Frame, Table, u16_at};
+use dexhead::{Frame, u16_at};
 use dexpool::type_list_len;
 use std::alloc::{AllocError, Global};
 use std::marker::Model;
@@ -122,19 +120,4 @@ pub(crate) fn class_at(alloc: Global, frame: &Frame<'_>, r: u32) -> Result<Class
         interfaces: interfaces_at(alloc, frame, row.interfaces_off)?,
         source: number_of(row.source_file),
     })
-}
-
-/// The classes of a file, by row, with the indices of the file as numbers.
-///
-/// Condition: the file meets condition 16. Error: the memory for the classes was refused.
-pub(crate) fn read_classes(alloc: Global, frame: &Frame<'_>) -> Result<Vec<Class>, AllocError>
-    requires { HoldsThroughout Condition.Classes frame.now }
-    ensures { IfOk result (λ classes. classes.items ≡ map (class_of_row frame.now) (range_with_len 0 (table_size frame.now ClassDefs))) }
-{
-    let count = frame.size(Table::ClassDefs);
-    let mut classes = Vec::with_capacity(alloc, count as usize)?;
-    for r in 0..count {
-        classes.push(class_at(alloc, frame, r)?)?;
-    }
-    Ok(classes)
 }

@@ -17,6 +17,8 @@ mod laws;
 mod marking;
 mod ordering;
 mod parents;
+#[cfg(test)]
+mod program_tests;
 mod programs;
 mod reading;
 mod renumbering;

@@ -45,6 +45,7 @@ pub(crate) fn trim<'a>(
 ) -> Result<Numbering<'a>, AllocError>
     requires { All (IsInRange numbering.now) classes.old.items }
     ensures mentions { IfOk result (λ trimmed. trimmed ≡ mentions (map (definition_of numbering.now) classes.old.items)) }
+    ensures numbers { IfOk result (λ trimmed. All (IsInRange trimmed) classes.new.items) }
     ensures same { IfOk result (λ trimmed. map (definition_of trimmed) classes.new.items ≡ map (definition_of numbering.now) classes.old.items) }
 {
     let marks = marked(alloc, numbering, classes)?;

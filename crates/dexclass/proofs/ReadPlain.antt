@@ -1,14 +1,13 @@
 -- A plain file as it is read: its faults, and the program of its classes.
-use Rattle.std.proofs.Common.{◌≡◌, ℕ, ◌+◌, ◌-◌, ◌<◌, ◌≤◌, List, [], length, get_or, map, refl, sym, ap, ◌∙◌, subst, arith, inl, inr}
+use Rattle.std.proofs.Common.{◌≡◌, ℕ, ◌+◌, ◌<◌, ◌≤◌, List, [], length, get_or, map, refl, sym, ap, ◌∙◌, subst, arith, inl, inr}
 use Rattle.std.specs.Prelude.{All}
 use Rattle.std.specs.FinMap as finite
 use Rattle.std.proofs.lemmas.Bool.{cases_lt}
 use Rattle.std.proofs.lemmas.List.{length-map, get_or-map}
 use Rattle.dexspec.specs.Lists.{AreDistinct}
-use Rattle.dexspec.specs.Texts.{Text}
 use Rattle.dexspec.specs.Header.{ClassDefs, table_size}
 use Rattle.dexspec.specs.Classes.{Definition}
-use Rattle.dexspec.specs.Files.{Collection, definitions, Denotes, IsCollectionOf, AreSame}
+use Rattle.dexspec.specs.Files.{Collection, definitions, Denotes, IsCollectionOf}
 use Rattle.dexspec.specs.Mentions.{Mentions, mentions}
 use Rattle.dexspec.specs.Weight.{weight, mentions_weight, most_weight}
 use Rattle.dexspec.specs.WellFormed.{AreWellFormed}
@@ -17,7 +16,7 @@ use Rattle.dexspec.specs.Conditions.{Condition}
 use Rattle.dexspec.specs.Accepted.{HoldBelow, AreRows, IsAccepted}
 use Rattle.dexspec.specs.Plain.{IsPlainFile}
 use Rattle.dexspec.proofs.Absorption.{IsGood-within}
-use Rattle.dexspec.proofs.Denoted.{HasClasses, has_classes, rows_denote, denoted_rows}
+use Rattle.dexspec.proofs.Denoted.{has_classes, rows_denote, denoted_rows}
 use Rattle.dexhead.specs.declared.refusal.Refusal.{Refusal}
 use Rattle.dexpool.specs.Pools.{ArePools}
 use Rattle.dexpool.specs.declared.faults.ReadFault.{ReadFault}

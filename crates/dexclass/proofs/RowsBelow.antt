@@ -1,7 +1,7 @@
 -- The class rows of a plain file, as the definitions of their numbers, and what these weigh.
-use Rattle.std.proofs.Common.{◌≡◌, ℕ, zero, suc, ◌+◌, ◌-◌, ◌<◌, ◌≤◌, List, [], ◌∷◌, ◌++◌, length, get_or, refl, sym, ap, ◌∙◌, subst, arith}
+use Rattle.std.proofs.Common.{◌≡◌, ℕ, zero, suc, ◌+◌, ◌<◌, ◌≤◌, List, [], ◌∷◌, length, get_or, refl, ap, ◌∙◌, subst, arith}
 use Rattle.std.specs.Prelude.{map}
-use Rattle.std.specs.List.{AllZip, Contains, range_with_len}
+use Rattle.std.specs.List.{AllZip, range_with_len}
 use Rattle.std.proofs.lemmas.List.{map-append}
 use Rattle.std.proofs.lemmas.List.Sums.{sum_by_push}
 use Rattle.dexspec.specs.Lists.{AreDistinct}
@@ -12,7 +12,7 @@ use Rattle.dexspec.specs.Mentions.{Mentions, mentions}
 use Rattle.dexspec.specs.Weight.{weight, body_weight, mentions_weight, most_weight}
 use Rattle.dexspec.specs.Conditions.{Condition}
 use Rattle.dexspec.specs.Accepted.{HasClass, HoldBelow, AreRows, FailsAt, IsAccepted}
-use Rattle.dexspec.specs.Plain.{IsPlainRow, IsPlainFile}
+use Rattle.dexspec.specs.Plain.{IsPlainFile}
 use Rattle.dexspec.proofs.Readable.{row_of}
 use Rattle.dexspec.proofs.WeightGrowth.{weight-within}
 use Rattle.dexspec.proofs.PlainReadable.{plain_readable}

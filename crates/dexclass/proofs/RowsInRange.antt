@@ -1,12 +1,11 @@
 -- The numbers of a class row are those of symbols of the pools.
-use Rattle.std.proofs.Common.{◌≡◌, ◌≢◌, ℕ, zero, suc, ◌+◌, ◌<◌, ◌≤◌, List, [], ◌∷◌, ◌++◌, length, sym, subst, arith, inl, inr, refl}
+use Rattle.std.proofs.Common.{◌≡◌, ◌≢◌, ℕ, zero, suc, ◌+◌, ◌<◌, ◌≤◌, List, [], length, sym, subst, arith, inl, inr, refl}
 use Rattle.std.specs.Prelude.{All, Option, Some, None, option_to_list}
 use Rattle.std.specs.List.{range_with_len}
 use Rattle.std.proofs.lemmas.Bool.{cases_eq, ne_eqb}
 use Rattle.std.proofs.lemmas.List.Elements.{All-nil, All-cons, All-append, All-map}
 use Rattle.dexspec.specs.Lists.{OrNone}
 use Rattle.dexspec.specs.Texts.{Text}
-use Rattle.dexspec.specs.Header.{TypeIds, table_size}
 use Rattle.dexspec.specs.Rows.{StringRow, type_indices}
 use Rattle.dexspec.specs.Classes.{ClassTypeRow, ClassListAt, IndexOrNone, class_idx, superclass_idx, interfaces_off, source_file_idx, no_index}
 use Rattle.dexspec.specs.Mentions.{Mentions}

@@ -21,6 +21,8 @@ mod parents;
 mod program_tests;
 mod programs;
 mod reading;
+#[cfg(test)]
+mod reading_tests;
 mod renumbering;
 mod trimming;
 

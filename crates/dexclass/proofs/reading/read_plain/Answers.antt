@@ -1,13 +1,12 @@
-use Rattle.std.proofs.Common.{◌∙◌, sym, subst, ap, arith, List, ℕ}
+use Rattle.std.proofs.Common.{sym, subst, arith}
 use Rattle.std.specs.Prelude.{All}
 use Rattle.std.proofs.lemmas.Result.{err_from_is_err_and}
 use Rattle.dexspec.specs.Conditions.{Condition}
 use Rattle.dexspec.specs.Header.{ClassDefs, table_size}
 use Rattle.dexspec.specs.Mentions.{Mentions}
-use Rattle.dexclass.specs.Numbered.{NumberedClass}
 use Rattle.dexclass.specs.Marking.{IsInRange}
 use Rattle.dexclass.proofs.RowsInRange.{classes_in_range}
-use Rattle.dexclass.proofs.ReadPlain.{heavy_fault, together_fault, AreTrimmed, are_trimmed, read_as, mergeable}
+use Rattle.dexclass.proofs.ReadPlain.{heavy_fault, together_fault, are_trimmed, read_as, mergeable}
 use Rattle.dexclass.proofs.reading.read_plain.Goals as goal
 
 pub read_bodies-requires : goal.read_bodies-requires

@@ -9,6 +9,10 @@ mod inputs;
 mod lines;
 mod normalising;
 mod outputs;
+#[cfg(test)]
+mod run_tests;
+#[cfg(test)]
+mod tests;
 mod words;
 
 pub use checking::check_run;

@@ -1,0 +1,4 @@
+pub mod Inputs
+pub mod Lines
+pub mod Runs
+pub mod Words

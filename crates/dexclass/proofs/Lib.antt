@@ -5,9 +5,11 @@ pub mod Listed
 pub mod PlainClasses
 pub mod Marked
 pub mod Renumbered
+pub mod Alike
 pub mod KeptMembers
 pub mod Mentioned
 pub mod LedOn
+pub mod SameClasses
 pub mod Places
 pub mod Classed
 pub mod NamesOf
@@ -15,6 +17,10 @@ pub mod Arranged
 pub mod Ordered
 pub mod Unmarked
 pub mod Trimmed
+pub mod ProgramClasses
+pub mod EmptyPrograms
+pub mod OneOrder
+pub mod ProgramsOf
 pub mod SingleBits
 pub mod Growing
 pub mod Hexadecimal

@@ -21,6 +21,7 @@ use Rattle.dexorder.proofs.DefinitionDepths.{all_known}
 use Rattle.dexorder.proofs.DefinitionOrder.{same_order}
 use Rattle.dexclass.specs.Numbered.{NumberedClass, type_at, definition_of}
 use Rattle.dexclass.specs.Parents.{no_class, name_number, IsHierarchy, AreNamed}
+use Rattle.dexclass.proofs.Mentioned.{Contains-map_source, All-member}
 use Rattle.dexclass.proofs.Classed.{name_is, one_number, classes_of}
 use Rattle.dexclass.proofs.NamesOf.{names_of}
 
@@ -41,7 +42,7 @@ module _ (m : Mentions) (cs : List NumberedClass) (named : AreNamed m cs) where
   D = map (definition_of m) cs
 
   -- definitions of two classes have two names
-  names_apart : AreDistinct (map (λ (d : Definition). d.0) D)
+  pub names_apart : AreDistinct (map (λ (d : Definition). d.0) D)
   names_apart i j d less lt e =
       let few : j < length cs = omega (arith, lt, length-map D (λ (x : Definition). x.0), length-map cs (definition_of m)) in
       let first : i < length cs = omega (arith, few, less) in
@@ -77,6 +78,13 @@ module _ (m : Mentions) (cs : List NumberedClass) (named : AreNamed m cs) where
       order_within k d lt =
           let c = Contains-permutation order (range_with_len 0 (length names)) (get_or order k d) (IsPermutation-sym (range_with_len 0 (length names)) order p) (Contains-get_or order k d lt) in
           omega (arith, below (length names) (get_or order k d) c, length_names)
+
+      -- each is one of the classes
+      pub arranged_among : (arranged : List NumberedClass) → arranged ≡ map (λ i. get_or cs i no_class) order → (c : NumberedClass) → Contains arranged c → Contains cs c
+      arranged_among arranged is c member =
+          let s = Contains-map_source (λ i. get_or cs i no_class) order c (subst (λ (l : List NumberedClass). Contains l c) is member) in
+          let lt : s.0 < length cs = All-member (λ i. i < length cs) order s.0 order_within s.1 in
+          (s.0, lt, get_or_default cs s.0 c no_class lt ∙ s.2)
 
       pub ordered_are : IsAcyclic D → (arranged : List NumberedClass) → arranged ≡ map (λ i. get_or cs i no_class) order → map (definition_of m) arranged ≡ in_class_order D
       ordered_are acyclic arranged is =

@@ -1,8 +1,11 @@
 -- Classes whose numbers are led to those of another numbering.
-use Rattle.std.specs.Prelude.{ℕ, List, map, Option, unwrap_or}
+use Rattle.std.specs.Prelude.{◌≡◌, ℕ, List, map, Option, unwrap_or}
 use Rattle.std.specs.Option.{option_map}
-use Rattle.dexpool.specs.Numberings.{Maps, image}
-use Rattle.dexclass.specs.Numbered.{NumberedClass}
+use Rattle.dexspec.specs.Mentions.{Mentions}
+use Rattle.dexpool.specs.Numberings.{Maps, AllLead, image}
+use Rattle.dexpool.specs.Laws.{LeadsAll}
+use Rattle.dexclass.specs.Numbered.{NumberedClass, definition_of}
+use Rattle.dexclass.specs.Marking.{IsInRange}
 
 -- where a number leads; one that leads nowhere stays
 abbrev pub led : List (Option ℕ) → ℕ → ℕ
@@ -17,3 +20,18 @@ renumbered r c = record {
   interfaces = map (led r.types) c.interfaces;
   source = option_map (led r.texts) c.source;
 }
+
+-- the maps lead each number of the first numbering to that of the same symbol in the second
+pub record LeadInto (m n : Mentions) (r : Maps) : Type 0 where
+  pub lead : AllLead m n r
+  pub all : LeadsAll m r
+
+-- led on, the class stands for the same definition, by numbers of the second numbering
+pub record StaysSame (m n : Mentions) (r : Maps) (c : NumberedClass) : Type 0 where
+  pub same : definition_of n (renumbered r c) ≡ definition_of m c
+  pub numbers_in : IsInRange n (renumbered r c)
+
+-- the class's numbers are those of symbols, and the maps lead each of them to the same symbol of the whole
+pub record IsPartClass (whole m : Mentions) (r : Maps) (c : NumberedClass) : Type 0 where
+  pub lead : LeadInto m whole r
+  pub numbers_in : IsInRange m c

@@ -4,6 +4,7 @@
 #![tactic(auto)]
 
 mod arranging;
+mod class_calls;
 mod class_rows;
 mod class_types;
 mod classes;
@@ -12,6 +13,7 @@ mod flags;
 mod flags_tests;
 mod flags_text;
 mod judging;
+mod laws;
 mod marking;
 mod ordering;
 mod parents;
@@ -22,5 +24,6 @@ mod trimming;
 
 pub use classes::Class;
 pub use flags::{ClassFlags, FieldFlags, MethodFlags};
+pub use laws::{renumbering_law, same_law};
 pub use programs::Program;
 pub use reading::read;

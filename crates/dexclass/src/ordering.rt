@@ -3,6 +3,7 @@
 ghost use Rattle.std.specs.Prelude.{◌≡◌, ◌≤◌, length, map, IfOk, List, [], ℕ, All};
 ghost use Rattle.dexspec.specs.Mentions.{Mentions};
 ghost use Rattle.dexspec.specs.Depth.{IsAcyclic, in_class_order};
+ghost use Rattle.dexpool.specs.Numberings.{AreIn};
 ghost use Rattle.dexclass.specs.Numbered.{definition_of};
 ghost use Rattle.dexclass.specs.Parents.{AreNamed};
 
@@ -36,7 +37,8 @@ pub(crate) fn in_order(
     types: usize,
 ) -> Result<Vec<Class>, AllocError>
     requires numbering { (m : Mentions) × (length m.types ≡ types) × AreNamed m classes.old.items × IsAcyclic (map (definition_of m) classes.old.items) }
-    ensures { IfOk result (λ ordered. (m : Mentions) → AreNamed m classes.old.items → IsAcyclic (map (definition_of m) classes.old.items) → map (definition_of m) ordered.items ≡ in_class_order (map (definition_of m) classes.old.items)) }
+    ensures order { IfOk result (λ ordered. (m : Mentions) → AreNamed m classes.old.items → IsAcyclic (map (definition_of m) classes.old.items) → map (definition_of m) ordered.items ≡ in_class_order (map (definition_of m) classes.old.items)) }
+    ensures members { IfOk result (λ ordered. AreIn ordered.items classes.old.items) }
 {
     let depths = hierarchy(alloc, classes, types)?.depths(alloc)?;
     let names = names(alloc, classes)?;

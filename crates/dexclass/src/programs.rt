@@ -1,18 +1,19 @@
 //! Programs: sets of class definitions.
 
-ghost use Rattle.std.specs.Prelude.{◌≡◌, ◌<◌, length, map, IfOk};
+ghost use Rattle.std.specs.Prelude.{◌≡◌, ◌<◌, ◌-◌, ◌^◌, min, length, map, sum_by, IfOk};
 ghost use Rattle.std.specs.FinMap as finite;
 ghost use Rattle.dexspec.specs.Files.{definitions, IsCollectionOf};
 ghost use Rattle.dexspec.specs.WellFormed.{AreWellFormed};
-ghost use Rattle.dexspec.specs.Mentions.{mentions};
-ghost use Rattle.dexspec.specs.Weight.{weight};
+ghost use Rattle.dexspec.specs.Mentions.{Mentions, mentions};
+ghost use Rattle.dexspec.specs.Weight.{body_weight, weight};
 ghost use Rattle.dexspec.specs.Merging.{IsGood, greatest_caps};
 ghost use Rattle.dexspec.specs.Plain.{ArePlain};
 ghost use Rattle.dexclass.specs.Numbered.{definition_of};
 ghost use Rattle.dexclass.specs.Programs.{AreMergeable, AreClassesOf, IsClassAt};
 
 use crate::classes::Class;
-use dexpool::Numbering;
+use crate::ordering::in_order;
+use dexpool::{Numbering, SymbolKind};
 use std::alloc::{AllocError, Global};
 use std::marker::Model;
 
@@ -111,11 +112,64 @@ impl<'a> Program<'a> {
     pub fn of(
         alloc: Global,
         numbering: Numbering<'a>,
-        classes: Vec<Class>,
+        mut classes: Vec<Class>,
     ) -> Result<Program<'a>, AllocError>
-        requires { AreMergeable numbering.entry classes.entry.items }
-        ensures { IfOk result (IsCollectionOf (map (definition_of numbering.entry) classes.entry.items)) }
+        requires { AreMergeable numbering classes.items }
+        ensures { IfOk result (IsCollectionOf (map (definition_of numbering.entry) classes.items)) }
     {
-        Err(AllocError)
+        numbering.is_numbering();
+        let weight = weight_of(&numbering, &classes);
+        let types = numbering.count(SymbolKind::Typ);
+        let classes = in_order(alloc, &mut classes, types)?;
+        Ok(Program {
+            numbering,
+            classes,
+            weight,
+        })
     }
+
+    /// The same program, in memory of its own.
+    ///
+    /// Error: the memory for it was refused.
+    pub fn copy(&self) -> Result<Program<'a>, AllocError>
+        ensures { IfOk result (λ copy. copy ≡ self.now) }
+    {
+        Ok(Program {
+            numbering: self.numbering.copy()?,
+            classes: copied(*self.classes.allocator(), &self.classes)?,
+            weight: self.weight,
+        })
+    }
+}
+
+// The same classes, with lists of their own.
+fn copied(alloc: Global, classes: &[Class]) -> Result<Vec<Class>, AllocError>
+    ensures { IfOk result (λ copy. copy.items ≡ classes.now) }
+{
+    let mut copy = Vec::with_capacity(alloc, classes.len())?;
+    for i in 0..classes.len() {
+        copy.push(classes[i].copy()?)?;
+    }
+    Ok(copy)
+}
+
+// What classes weigh without the symbols that they name, or 2^64 - 1 where that is more.
+fn bodies_weight(classes: &[Class]) -> u64
+    ensures { (m : Mentions) → result ≡ min (2 ^ 64 - 1) (sum_by (λ c. body_weight (definition_of m c).1) classes.now) }
+{
+    let mut weight: u64 = 0;
+    for class in classes {
+        weight = weight.saturating_add(class.weight());
+    }
+    weight
+}
+
+// What classes weigh over the numbering of just what they mention, or 2^64 - 1 where that is more.
+fn weight_of(numbering: &Numbering<'_>, classes: &[Class]) -> u64
+    requires { numbering.now ≡ mentions (map (definition_of numbering.now) classes.now) }
+    ensures { result ≡ min (2 ^ 64 - 1) (weight (map (definition_of numbering.now) classes.now)) }
+{
+    bodies_weight(classes)
+        .saturating_add(numbering.weight())
+        .saturating_add(1024)
 }

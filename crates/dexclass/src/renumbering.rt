@@ -7,8 +7,8 @@ ghost use Rattle.dexclass.specs.Renumbering.{led, renumbered};
 use crate::classes::Class;
 use dexpool::{Remap, SymbolKind};
 
-// Where the number of a type leads.
-fn type_number(remap: &Remap, i: usize) -> usize
+/// Where the number of a type leads.
+pub(crate) fn type_number(remap: &Remap, i: usize) -> usize
     ensures { result ≡ led remap.now.types i }
 {
     match remap.image(SymbolKind::Typ, i) {
@@ -27,6 +27,26 @@ fn text_number(remap: &Remap, i: usize) -> usize
     }
 }
 
+/// Where the number of a type leads, if there is one.
+pub(crate) fn optional_type_number(remap: &Remap, i: Option<usize>) -> Option<usize>
+    ensures { result ≡ option_map (led remap.now.types) i }
+{
+    match i {
+        Some(i) => Some(type_number(remap, i)),
+        None => None,
+    }
+}
+
+/// Where the number of a text leads, if there is one.
+pub(crate) fn optional_text_number(remap: &Remap, i: Option<usize>) -> Option<usize>
+    ensures { result ≡ option_map (led remap.now.texts) i }
+{
+    match i {
+        Some(i) => Some(text_number(remap, i)),
+        None => None,
+    }
+}
+
 // Leads numbers of types on.
 fn renumber_types(remap: &Remap, numbers: &mut Vec<usize>)
     ensures { numbers.new.items ≡ map (led remap.now.types) numbers.old.items }
@@ -42,14 +62,8 @@ impl Class {
         ensures { self.new ≡ renumbered remap.now self.old }
     {
         self.name = type_number(remap, self.name);
-        self.superclass = match self.superclass {
-            Some(superclass) => Some(type_number(remap, superclass)),
-            None => None,
-        };
-        self.source = match self.source {
-            Some(source) => Some(text_number(remap, source)),
-            None => None,
-        };
+        self.superclass = optional_type_number(remap, self.superclass);
+        self.source = optional_text_number(remap, self.source);
         renumber_types(remap, &mut self.interfaces);
     }
 }

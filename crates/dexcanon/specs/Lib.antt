@@ -1,3 +1,4 @@
 pub mod Written
 pub mod Uses
 pub mod Bare
+pub mod Laid

@@ -5,7 +5,9 @@
 #![tactic(auto)]
 
 mod faults;
+mod layout;
 mod writing;
 
 pub use faults::StoreFault;
+pub use layout::Layout;
 pub use writing::{to_bytes, write_to};

@@ -31,7 +31,11 @@ pub fn to_bytes(alloc: Global, program: &Program<'_>) -> Result<Vec<u8>, AllocEr
 ///
 /// Condition: the writer has not failed. Error: `Memory` where a growth was refused, and then nothing was written;
 /// `Io` exactly where the writer failed in this call, and then a front of the file was written.
-pub fn write_to<W: Sink>(alloc: Global, program: &Program<'_>, out: &mut W) -> Result<(), StoreFault>
+pub fn write_to<W: Sink>(
+    alloc: Global,
+    program: &Program<'_>,
+    out: &mut W,
+) -> Result<(), StoreFault>
     requires { W.has_failed out.old ≡ false }
     ensures written { OnOk result (W.tells out.old → W.taken out.new ≡ W.taken out.old ++ canonical program.now) }
     ensures left { IfErr result (HasLeft (W.tells out.old) out.old out.new W.taken (canonical program.now)) }

@@ -1,0 +1,52 @@
+-- The parts of a layout put together.
+use Rattle.std.proofs.Common.{◌≡◌, ℕ, ◌+◌, ◌*◌, ◌≤◌, List, [], ◌∷◌, ◌++◌, length, map, refl, sym, ap, ◌∙◌, arith, append_assoc}
+use Rattle.std.specs.List.{flat_map}
+use Rattle.std.proofs.lemmas.List.{length-append, append-nil, length-map}
+use Rattle.dexspec.specs.Bytes.{ushort, uint}
+use Rattle.dexspec.specs.Sections.{Section, HeaderItem, MapList, type_code}
+use Rattle.dexspec.specs.Canonical.{map_bytes, map_entry_bytes}
+use Rattle.dexspec.proofs.ByteNumbers.{length-uint, length-ushort}
+use Rattle.dexspec.proofs.Stands.{length_rows}
+use Rattle.dexcanon.specs.Bare.{unless_none}
+use Rattle.dexcanon.specs.Laid.{entry_of}
+
+-- an entry, of equal numbers
+abbrev pub entry_with : Section → ℕ → ℕ → Section × ℕ × ℕ
+entry_with s size off = (s, size, off)
+
+pub same_entry : (s : Section) (n n' o o' : ℕ) → n ≡ n' → o ≡ o' → entry_with s n o ≡ entry_with s n' o'
+same_entry s n n' o o' en eo = ap (λ k. entry_with s k o) en ∙ ap (entry_with s n') eo
+
+-- the entries of five sections between two others
+pub five_entries : (first last a b c d e a' b' c' d' e' : Section × ℕ × ℕ) → a ≡ a' → b ≡ b' → c ≡ c' → d ≡ d' → e ≡ e'
+    → first ∷ (flat_map entry_of (a ∷ b ∷ c ∷ d ∷ e ∷ []) ++ last ∷ []) ≡ first ∷ (entry_of a' ++ (entry_of b' ++ (entry_of c' ++ (entry_of d' ++ (entry_of e' ++ last ∷ [])))))
+five_entries first last a b c d e a' b' c' d' e' ea eb ec ed ee =
+    ap (λ x. first ∷ (flat_map entry_of (x ∷ b ∷ c ∷ d ∷ e ∷ []) ++ last ∷ [])) ea
+    ∙ ap (λ x. first ∷ (flat_map entry_of (a' ∷ x ∷ c ∷ d ∷ e ∷ []) ++ last ∷ [])) eb
+    ∙ ap (λ x. first ∷ (flat_map entry_of (a' ∷ b' ∷ x ∷ d ∷ e ∷ []) ++ last ∷ [])) ec
+    ∙ ap (λ x. first ∷ (flat_map entry_of (a' ∷ b' ∷ c' ∷ x ∷ e ∷ []) ++ last ∷ [])) ed
+    ∙ ap (λ x. first ∷ (flat_map entry_of (a' ∷ b' ∷ c' ∷ d' ∷ x ∷ []) ++ last ∷ [])) ee
+    ∙ ap (λ xs. first ∷ xs) (joined (entry_of a') (entry_of b') (entry_of c') (entry_of d') (entry_of e') (last ∷ []))
+  where
+    joined : (p q r s t z : List (Section × ℕ × ℕ)) → (p ++ (q ++ (r ++ (s ++ (t ++ []))))) ++ z ≡ p ++ (q ++ (r ++ (s ++ (t ++ z))))
+    joined p q r s t z = simp (append_assoc, append-nil)
+
+-- a table's size and offset
+abbrev pub rows_with : ℕ → ℕ → ℕ × ℕ
+rows_with size off = (size, unless_none size off)
+
+pub same_rows : (n n' o o' : ℕ) → n ≡ n' → o ≡ o' → rows_with n o ≡ rows_with n' o'
+same_rows n n' o o' en eo = ap (λ k. rows_with k o) en ∙ ap (rows_with n') eo
+
+-- those of six tables
+pub six_rows : (a b c d e f a' b' c' d' e' f' : ℕ × ℕ) → a ≡ a' → b ≡ b' → c ≡ c' → d ≡ d' → e ≡ e' → f ≡ f'
+    → a ∷ b ∷ c ∷ d ∷ e ∷ f ∷ [] ≡ a' ∷ b' ∷ c' ∷ d' ∷ e' ∷ f' ∷ []
+six_rows a b c d e f a' b' c' d' e' f' ea eb ec ed ee ef = cc
+
+-- an entry has twelve bytes
+length-map_entry : (e : Section × ℕ × ℕ) → length (map_entry_bytes e) ≡ 12
+length-map_entry e = omega (arith, length-append {A = ℕ}, length-uint, length-ushort)
+
+-- and a map four more than its entries
+pub length-map_bytes : (es : List (Section × ℕ × ℕ)) → length (map_bytes es) ≡ 4 + 12 * length es
+length-map_bytes es = length-append (uint (length es)) (flat_map map_entry_bytes es) ∙ omega (arith, length-uint (length es), length_rows map_entry_bytes 12 length-map_entry es)

@@ -5,3 +5,5 @@ pub mod PlacesTo
 pub mod LaidParts
 pub mod PlainMentions
 pub mod OfProgram
+pub mod ItemLengths
+pub mod Made

@@ -5,7 +5,10 @@
 #![tactic(auto)]
 
 mod faults;
+mod items;
 mod layout;
+mod sections;
+mod taking;
 mod writing;
 
 pub use faults::StoreFault;

@@ -3,11 +3,16 @@ use Rattle.std.proofs.Common.{◌≡◌, ℕ, ◌+◌, ◌*◌, ◌≤◌, List,
 use Rattle.std.specs.List.{flat_map}
 use Rattle.std.proofs.lemmas.List.{length-append, append-nil, length-map}
 use Rattle.dexspec.specs.Bytes.{ushort, uint}
-use Rattle.dexspec.specs.Sections.{Section, HeaderItem, MapList, type_code}
+use Rattle.std.specs.Prelude.{Bool, true, false, if◌then◌else◌, ◌==◌}
+use Rattle.dexspec.specs.Lists.{present}
+use Rattle.dexspec.specs.Texts.{Text}
+use Rattle.dexspec.specs.Header.{StringIds, TypeIds, ClassDefs, header_length}
+use Rattle.dexspec.specs.Sections.{Section, TableOf, TypeLists, StringDataItems}
+use Rattle.dexclass.specs.Numbered.{NumberedClass}
 use Rattle.dexspec.specs.Canonical.{map_bytes, map_entry_bytes}
 use Rattle.dexspec.proofs.ByteNumbers.{length-uint, length-ushort}
 use Rattle.dexspec.proofs.Stands.{length_rows}
-use Rattle.dexcanon.specs.Bare.{unless_none}
+use Rattle.dexcanon.specs.Bare.{unless_none, entries, list_uses, data_from, strings_from, types_from, classes_from}
 use Rattle.dexcanon.specs.Laid.{entry_of}
 
 -- an entry, of equal numbers
@@ -50,3 +55,18 @@ length-map_entry e = omega (arith, length-append {A = ℕ}, length-uint, length-
 -- and a map four more than its entries
 pub length-map_bytes : (es : List (Section × ℕ × ℕ)) → length (map_bytes es) ≡ 4 + 12 * length es
 length-map_bytes es = length-append (uint (length es)) (flat_map map_entry_bytes es) ∙ omega (arith, length-uint (length es), length_rows map_entry_bytes 12 length-map_entry es)
+
+-- one entry or none
+entry_few : (s : Section) (b : Bool) (n off : ℕ) → length (if◌then◌else◌ {A = List (Section × ℕ × ℕ)} b [] (entry_with s n off ∷ [])) ≤ 1
+entry_few s true n off = omega arith
+entry_few s false n off = omega arith
+
+-- seven entries at most
+pub few_entries : (texts types : List Text) (cs : List NumberedClass) → length (entries texts types cs) ≤ 7
+few_entries texts types cs =
+    let a = entry_few (TableOf StringIds) (length texts == 0) (length texts) header_length in
+    let b = entry_few (TableOf TypeIds) (length types == 0) (length types) (types_from texts) in
+    let d = entry_few (TableOf ClassDefs) (length cs == 0) (length cs) (classes_from texts types) in
+    let e = entry_few TypeLists (length (present (list_uses cs)) == 0) (length (present (list_uses cs))) (data_from texts types cs) in
+    let f = entry_few StringDataItems (length texts == 0) (length texts) (strings_from texts types cs) in
+    omega (arith, length-append {A = Section × ℕ × ℕ}, a, b, d, e, f)

@@ -7,3 +7,5 @@ pub mod PlainMentions
 pub mod OfProgram
 pub mod ItemLengths
 pub mod Made
+pub mod Pieces
+pub mod ListsMade

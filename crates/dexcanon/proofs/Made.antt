@@ -1,5 +1,5 @@
 -- One addition after another.
-use Rattle.std.proofs.Common.{◌≡◌, ℕ, ◌+◌, ◌≤◌, min, inl, inr, List, [], ◌∷◌, ◌++◌, Bool, true, false, length, take, Result, Ok, Err, OnOk, refl, sym, ap, subst, ◌∙◌, arith, append_assoc}
+use Rattle.std.proofs.Common.{◌≡◌, ℕ, ◌+◌, ◌≤◌, min, inl, inr, List, [], ◌∷◌, ◌++◌, Bool, true, false, length, take, Result, Ok, Err, OnOk, IsErr, IsErrAnd, refl, sym, ap, subst, ◌∙◌, arith, append_assoc}
 use Rattle.std.specs.Global.{Vec}
 use Rattle.std.proofs.lemmas.Bool.{cases_lt}
 use Rattle.std.proofs.lemmas.List.{append-nil, length-append, take_all, take-append-le, length-take}
@@ -75,3 +75,20 @@ module _ {S : Type 0} {holds : S → List ℕ → Type 0} {has_failed : S → Bo
   -- the outcome of additions
   pub outcome_of : {s t : S} {v w : Vec ℕ} {x : List ℕ} {u : Unit {0}} → Adds holds has_failed empties greatest s v t w x → Outcome holds has_failed empties greatest s v t w x (Ok u)
   outcome_of a = record { ok = a; io = λ e. absurd cc; memory = λ e. absurd cc }
+
+  -- an answer of the same fault has the same outcome
+  same_fault : {s t : S} {v w : Vec ℕ} {x : List ℕ} (e : StoreFault) (r : Result (Unit {0}) StoreFault) → IsErr r → IsErrAnd r (λ f. f ≡ e)
+      → Outcome holds has_failed empties greatest s v t w x (Err e) → Outcome holds has_failed empties greatest s v t w x r
+  same_fault e (Ok _) is and o = absurd and
+  same_fault {s = s} {t = t} {v = v} {w = w} {x = x} e (Err f) is and o = subst (λ k. Outcome holds has_failed empties greatest s v t w x (Err k)) (sym and) o
+
+  -- a fault in the midst of what comes after additions, and of more
+  pub fault_exit : {s t u : S} {v w z : Vec ℕ} {x y : List ℕ} {e : StoreFault} {r : Result (Unit {0}) StoreFault} (rest whole : List ℕ) → Adds holds has_failed empties greatest s v t w x
+      → Outcome holds has_failed empties greatest t w u z y (Err e) → (x ++ y) ++ rest ≡ whole → IsErr r → IsErrAnd r (λ f. f ≡ e) → Outcome holds has_failed empties greatest s v u z whole r
+  fault_exit {s = s} {u = u} {v = v} {z = z} {e = e} {r = r} rest whole a o joined is and =
+      same_fault e r is and (subst (λ k. Outcome holds has_failed empties greatest s v u z k (Err e)) joined (fault_within rest (outcome_after a o)))
+
+  -- a fault in the midst of a front
+  pub same_fault_within : {s t : S} {v w : Vec ℕ} {x : List ℕ} {e : StoreFault} {r : Result (Unit {0}) StoreFault} (y whole : List ℕ) → Outcome holds has_failed empties greatest s v t w x (Err e)
+      → x ++ y ≡ whole → IsErr r → IsErrAnd r (λ f. f ≡ e) → Outcome holds has_failed empties greatest s v t w whole r
+  same_fault_within {s = s} {t = t} {v = v} {w = w} {e = e} {r = r} y whole o joined is and = same_fault e r is and (subst (λ k. Outcome holds has_failed empties greatest s v t w k (Err e)) joined (fault_within y o))

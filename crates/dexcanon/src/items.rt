@@ -28,6 +28,10 @@ pub(crate) trait Item {
         ensures { Puts (bytes self.now) out.old out.new result };
 }
 
+/// A number of four bytes.
+#[derive(Drop)]
+pub(crate) struct Number(pub(crate) u32);
+
 /// A row of numbers, of four bytes each.
 #[derive(Drop)]
 pub(crate) struct Numbers<'a>(pub(crate) &'a [u32]);
@@ -92,6 +96,16 @@ fn push_indices(indices: &[usize], out: &mut Vec<u8>)
 {
     for index in indices {
         push_u16(*index as u16, out);
+    }
+}
+
+impl Item for Number {
+    ghost bytes = { λ n. uint n.0 };
+
+    ghost fits = { λ n. Unit {0} };
+
+    fn put(&self, out: &mut Vec<u8>) -> Result<(), AllocError> {
+        put_u32(self.0, out)
     }
 }
 

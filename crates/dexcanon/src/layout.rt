@@ -35,6 +35,8 @@ pub struct Layout {
     // Where the interfaces of each class are listed, or 0.
     pub(crate) lists: Vec<u32>,
     pub(crate) entries: Vec<MapEntry>,
+    // Where the sections before the map end.
+    pub(crate) data_end: u32,
     // No item has more bytes, with those that align it.
     pub(crate) greatest: usize,
 }
@@ -75,8 +77,8 @@ impl Layout {
     }
 }
 
-// The least multiple of 4 that is not less.
-fn round_up(at: u32) -> u32
+/// The least multiple of 4 that is not less.
+pub(crate) fn round_up(at: u32) -> u32
     requires { at < 2 ^ 31 }
     ensures { result ≡ round_up 4 at }
 {
@@ -179,8 +181,8 @@ fn entry(section: Section, size: u32, off: u32) -> MapEntry
     MapEntry { section, size, off }
 }
 
-// The layout of the file of classes.
-fn lay(alloc: Global, numbering: &Numbering<'_>, classes: &[Class]) -> Result<Layout, AllocError>
+/// The layout of the file of classes.
+pub(crate) fn lay(alloc: Global, numbering: &Numbering<'_>, classes: &[Class]) -> Result<Layout, AllocError>
     requires { FitFile numbering.now.texts numbering.now.types classes.now }
     ensures { IfOk result (IsLaid numbering.now.texts numbering.now.types classes.now) }
 {
@@ -224,6 +226,7 @@ fn lay(alloc: Global, numbering: &Numbering<'_>, classes: &[Class]) -> Result<La
         strings: strings.offsets,
         lists: lists.offsets,
         entries,
+        data_end: strings.end,
         greatest: lists.greatest.max(strings.greatest),
     })
 }

@@ -50,6 +50,7 @@ returns c =
       strings_are = strings.offsets_are ∙ ap (λ n. offsets_from 1 n (map string_data texts)) sf;
       lists_are = lists.offsets_are ∙ ap (λ n. offsets_along 4 n (list_uses cs)) dt;
       entries_are = es;
+      data_end_is = st;
       least = omega (arith, lists.least, c.max.ensures);
       list_bound = λ k d lt. omega (arith, lists.bound k d lt, c.max.ensures);
       string_bound = λ k d lt. omega (arith, strings.bound k d lt, c.max.ensures);

@@ -9,3 +9,4 @@ pub mod ItemLengths
 pub mod Made
 pub mod Pieces
 pub mod ListsMade
+pub mod BodyParts

@@ -6,6 +6,7 @@
 
 mod faults;
 mod items;
+mod kept;
 mod layout;
 mod sections;
 mod taking;

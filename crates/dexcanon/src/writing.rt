@@ -12,7 +12,10 @@ ghost use Rattle.dexcanon.specs.declared.faults.StoreFault.TheVariants.{Io};
 
 use crate::faults::StoreFault;
 use dexclass::Program;
-use dexhead::Sink;
+use crate::kept::{Keeps, Nothing};
+use crate::layout::lay;
+use crate::sections::put_body;
+use dexhead::{Sink, set_sums};
 use std::alloc::{AllocError, Global};
 
 /// The canonical file of a program. It is accepted, and stands for just the program's definitions.
@@ -24,7 +27,22 @@ pub fn to_bytes(alloc: Global, program: &Program<'_>) -> Result<Vec<u8>, AllocEr
     ensures denotes { (K : Collection) → IsGood greatest_caps (definitions K) → AreWellFormed (definitions K) → ArePlain (definitions K) → Denotes (canonical K) K }
 {
     dexlaws_normal::plain_normal_form();
-    Err(AllocError)
+    program.is_good();
+    let numbering = program.numbering();
+    let classes = program.classes();
+    numbering.is_numbering();
+    dexpool::number_law();
+    dexlaws_size::fitting_size_law();
+    dexhead::laws::file_law();
+    let layout = lay(alloc, numbering, classes)?;
+    let mut file = Vec::with_capacity(alloc, layout.len() as usize)?;
+    layout.head.put(&mut file)?;
+    match put_body::<Nothing, Keeps>(numbering, classes, &layout, &mut file, &mut Nothing) {
+        Ok(()) => {}
+        Err(_) => return Err(AllocError),
+    }
+    set_sums(&mut file);
+    Ok(file)
 }
 
 /// Writes the canonical file of a program, one item at a time.

@@ -10,3 +10,4 @@ pub mod Made
 pub mod Pieces
 pub mod ListsMade
 pub mod BodyParts
+pub mod Sealed

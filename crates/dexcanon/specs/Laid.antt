@@ -67,6 +67,7 @@ pub record IsLaid (texts types : List Text) (cs : List NumberedClass) (l : Layou
   pub lists_are : l.lists.items ≡ list_offsets texts types cs
   pub entries_are : map entry_meant l.entries.items ≡ entries texts types cs
   pub data_end_is : l.data_end ≡ strings_to texts types cs
+  pub signature_length : length l.head.signature ≡ 20
   pub least : 112 ≤ l.greatest
   pub list_bound : All (λ c. 7 + 2 * length c.interfaces ≤ l.greatest) cs
   pub string_bound : All (λ s. length (string_data s) ≤ l.greatest) texts

@@ -51,6 +51,7 @@ returns c =
       lists_are = lists.offsets_are ∙ ap (λ n. offsets_along 4 n (list_uses cs)) dt;
       entries_are = es;
       data_end_is = st;
+      signature_length = refl;
       least = omega (arith, lists.least, c.max.ensures);
       list_bound = λ k d lt. omega (arith, lists.bound k d lt, c.max.ensures);
       string_bound = λ k d lt. omega (arith, strings.bound k d lt, c.max.ensures);

@@ -1,27 +1,27 @@
 -- The layout of the file of classes without members, and what stands behind its header, by numbers.
-use Rattle.std.proofs.Common.{◌≡◌, ℕ, zero, suc, ◌+◌, ◌*◌, ◌<◌, ◌≤◌, List, [], ◌∷◌, ◌++◌, length, get_or, map, take, drop, Option, None, Some, refl, sym, ap, ◌∙◌, arith, zip, append_assoc}
+use Rattle.std.proofs.Common.{◌≡◌, ℕ, zero, suc, ◌<◌, List, [], ◌∷◌, ◌++◌, length, map, Option, None, Some, refl, ap, ◌∙◌, arith, append_assoc}
 use Rattle.std.specs.Prelude.{slice_index, if◌then◌else◌, ◌==◌, Bool, true, false, unwrap_or}
 use Rattle.std.specs.List.{flat_map, concat, All}
 use Rattle.std.specs.Option.{option_map, option_map_or, option_to_list}
-use Rattle.std.proofs.lemmas.List.{length-append, append-nil, length-map}
+use Rattle.std.proofs.lemmas.List.{append-nil, length-map}
 use Rattle.std.proofs.lemmas.List.Elements.{All-nil, All-cons, All-head, All-tail}
 use Rattle.dexspec.specs.Lists.{present, zip_with}
 use Rattle.dexspec.specs.Bytes.{ushort, uint, round_up, padding}
 use Rattle.dexspec.specs.Texts.{Text, string_data}
-use Rattle.dexspec.specs.Header.{Table, StringIds, TypeIds, ClassDefs, header_length}
+use Rattle.dexspec.specs.Header.{StringIds, TypeIds, ClassDefs, header_length}
 use Rattle.dexspec.specs.Sections.{Section, TableOf, TypeLists, StringDataItems, HeaderItem, MapList}
 use Rattle.dexspec.specs.Classes.{Definition, no_index}
 use Rattle.dexspec.specs.Mentions.{Mentions}
 use Rattle.dexspec.specs.Spellings.{text_index, type_index}
 use Rattle.dexspec.specs.Placing.{unless_empty, Ordered, Placed, offsets, offsets_from, end_from, section_bytes, bytes_from}
-use Rattle.dexspec.specs.Canonical.{data_start, Layout, layout, ClassOffsets, class_offsets, class_row_bytes, table_bytes, map_of, map_bytes, placed_tables}
+use Rattle.dexspec.specs.Canonical.{data_start, Layout, ClassOffsets, class_offsets, class_row_bytes, table_bytes, map_of, map_bytes}
 use Rattle.dexspec.proofs.Placements.{type_list_bytes, type_list_section, type_list_end, type_list_offsets, string_section, string_end, array_end, directory_end, directory_offsets, class_data_offsets, array_offsets, data_sections, named_layout, layout_is, annotation_section, array_section, debug_section, code_section, class_data_section, set_section, ref_list_section, directory_section}
 use Rattle.dexspec.proofs.Tables.{table_start}
 use Rattle.dexclass.specs.Numbered.{NumberedClass, definition_of, type_at, text_at}
 use Rattle.dexclass.specs.Marking.{IsInRange}
-use Rattle.dexhead.specs.Laid.{behind_header, map_start, map_list}
+use Rattle.dexhead.specs.Laid.{behind_header, map_start}
 use Rattle.dexcanon.specs.Uses.{bytes_along, end_along, offsets_along}
-use Rattle.dexcanon.specs.Bare.{bare_mentions, bare, list_bytes, list_use, list_uses, data_from, strings_from, strings_to, map_from, string_offsets, list_offsets, class_row, entry_unless_empty, types_from, classes_from, entries, bare_rows, bare_data}
+use Rattle.dexcanon.specs.Bare.{bare_mentions, bare, list_use, list_uses, data_from, strings_from, strings_to, map_from, string_offsets, list_offsets, class_row, entry_unless_empty, types_from, classes_from, entries, bare_rows, bare_data}
 use Rattle.dexcanon.proofs.Along.{own_bytes, own_end, own_offsets, bytes_plain, present_map, length-offsets_along}
 use Rattle.dexcanon.proofs.BareSections.{zeros, annotation_none, array_none, debug_none, code_none, class_data_none, set_none, ref_list_none, directory_none, directory_zeros, class_data_zeros, array_zeros, array_end_is, directory_end_is}
 

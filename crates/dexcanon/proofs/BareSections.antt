@@ -1,19 +1,19 @@
 -- Of classes without members, values and annotations: which sections are empty, and where they end.
-use Rattle.std.proofs.Common.{◌≡◌, ℕ, zero, suc, ◌+◌, ◌<◌, ◌≤◌, List, [], ◌∷◌, ◌++◌, length, get_or, map, take, drop, Option, None, Some, refl, sym, ap, ◌∙◌, arith, zip}
-use Rattle.std.specs.Prelude.{slice_index, if◌then◌else◌, ◌==◌}
+use Rattle.std.proofs.Common.{◌≡◌, ℕ, zero, suc, List, [], ◌∷◌, length, map, drop, Option, None, Some, refl, ap, ◌∙◌, arith, zip}
+use Rattle.std.specs.Prelude.{if◌then◌else◌}
 use Rattle.std.specs.List.{flat_map}
-use Rattle.std.specs.Option.{option_map, option_map_or}
-use Rattle.std.proofs.lemmas.List.{length-append, append-nil, length-map}
+use Rattle.std.specs.Option.{option_map_or}
+use Rattle.std.proofs.lemmas.List.{length-map}
 use Rattle.dexspec.specs.Lists.{present, chunks, zip_with}
-use Rattle.dexspec.specs.Texts.{Text, string_data}
+use Rattle.dexspec.specs.Texts.{Text}
 use Rattle.dexspec.specs.Values.{Values}
 use Rattle.dexspec.specs.Code.{Code}
-use Rattle.dexspec.specs.Classes.{MethodDef, Definition, declared_methods, declared_fields}
+use Rattle.dexspec.specs.Classes.{MethodDef, Definition}
 use Rattle.dexspec.specs.Mentions.{Mentions}
 use Rattle.dexspec.specs.Annotations.{AnnotationSet}
 use Rattle.dexspec.specs.Spellings.{annotation_bytes, encoded_array_bytes, debug_bytes, code_bytes, class_data_bytes, offsets_bytes}
-use Rattle.dexspec.specs.Placing.{values_unless_empty, offsets, end_from, unless_empty, own_items, own_numbers, Placed, Ordered, end, uses_offsets, all_methods, set_uses, class_sets, debug_uses, code_uses, static_values_uses, is_empty_class, class_data_uses, by_class, SetOffsets, set_offsets_of, set_offsets_by_class, ref_list_uses, directory_bytes, directory_uses}
-use Rattle.dexspec.proofs.Placements.{length-by_class, set_items, debug_items, annotation_section, annotation_end, type_list_end, array_section, array_end, string_section, string_end, debug_section, debug_end, debug_offsets, code_section, code_end, code_offsets, class_data_section, class_data_end, annotation_offsets, set_section, set_end, set_offsets, ref_list_section, ref_list_end, ref_list_offsets, directory_section, directory_end, directory_offsets, class_data_offsets, array_offsets}
+use Rattle.dexspec.specs.Placing.{values_unless_empty, offsets, end_from, unless_empty, own_numbers, Ordered, uses_offsets, all_methods, set_uses, class_sets, is_empty_class, class_data_uses, by_class, SetOffsets, set_offsets_of, set_offsets_by_class, ref_list_uses, directory_bytes, directory_uses}
+use Rattle.dexspec.proofs.Placements.{length-by_class, set_items, annotation_section, annotation_end, type_list_end, array_section, array_end, string_end, debug_section, debug_end, debug_offsets, code_section, code_end, code_offsets, class_data_section, class_data_end, annotation_offsets, set_section, set_end, set_offsets, ref_list_section, ref_list_end, ref_list_offsets, directory_section, directory_end, directory_offsets, class_data_offsets, array_offsets}
 use Rattle.dexclass.specs.Numbered.{NumberedClass, definition_of}
 use Rattle.dexcanon.specs.Bare.{bare_mentions, bare}
 

@@ -1,5 +1,5 @@
 -- What stands behind the header, part by part.
-use Rattle.std.proofs.Common.{◌≡◌, ℕ, List, ◌++◌, map, ap, ◌∙◌, append_assoc, zip}
+use Rattle.std.proofs.Common.{◌≡◌, ℕ, List, ◌++◌, map, ◌∙◌, append_assoc, zip}
 use Rattle.std.specs.List.{flat_map}
 use Rattle.dexspec.specs.Bytes.{uint, padding}
 use Rattle.dexspec.specs.Texts.{string_data}

@@ -1,5 +1,5 @@
 -- The bytes of items.
-use Rattle.std.proofs.Common.{◌≡◌, ℕ, ◌+◌, ◌*◌, List, ◌++◌, length, arith}
+use Rattle.std.proofs.Common.{◌≡◌, ℕ, ◌+◌, ◌*◌, List, length, arith}
 use Rattle.std.specs.List.{flat_map}
 use Rattle.dexspec.specs.Bytes.{ushort, uint}
 use Rattle.dexspec.proofs.ByteNumbers.{length-uint, length-ushort}

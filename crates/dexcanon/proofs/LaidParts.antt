@@ -1,8 +1,8 @@
 -- The parts of a layout put together.
-use Rattle.std.proofs.Common.{◌≡◌, ℕ, ◌+◌, ◌*◌, ◌≤◌, List, [], ◌∷◌, ◌++◌, length, map, refl, sym, ap, ◌∙◌, arith, append_assoc}
+use Rattle.std.proofs.Common.{◌≡◌, ℕ, ◌+◌, ◌*◌, ◌≤◌, List, [], ◌∷◌, ◌++◌, length, ap, ◌∙◌, arith, append_assoc}
 use Rattle.std.specs.List.{flat_map}
-use Rattle.std.proofs.lemmas.List.{length-append, append-nil, length-map}
-use Rattle.dexspec.specs.Bytes.{ushort, uint}
+use Rattle.std.proofs.lemmas.List.{length-append, append-nil}
+use Rattle.dexspec.specs.Bytes.{uint}
 use Rattle.std.specs.Prelude.{Bool, true, false, if◌then◌else◌, ◌==◌}
 use Rattle.dexspec.specs.Lists.{present}
 use Rattle.dexspec.specs.Texts.{Text}

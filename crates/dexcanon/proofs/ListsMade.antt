@@ -1,14 +1,12 @@
 -- How far the loop that writes type lists has come.
-use Rattle.std.proofs.Common.{◌≡◌, ℕ, ◌+◌, ◌*◌, ◌<◌, ◌≤◌, List, [], ◌∷◌, ◌++◌, Bool, length, get_or, take, drop, refl, sym, ap, subst, ◌∙◌, arith, append_assoc, Option, None, Some}
+use Rattle.std.proofs.Common.{◌≡◌, ℕ, ◌+◌, ◌*◌, ◌<◌, ◌≤◌, List, ◌∷◌, ◌++◌, Bool, length, get_or, drop, sym, ap, ◌∙◌, arith, append_assoc, None, Some}
 use Rattle.std.specs.Global.{Vec}
-use Rattle.std.proofs.lemmas.List.{append-nil}
 use Rattle.dexspec.specs.Bytes.{round_up, padding}
 use Rattle.dexclass.specs.Numbered.{NumberedClass}
 use Rattle.dexcanon.specs.Uses.{bytes_along, end_along}
 use Rattle.dexcanon.specs.Bare.{list_bytes, list_use, list_uses}
 use Rattle.dexcanon.specs.Taking.{Adds}
 use Rattle.dexcanon.proofs.Along.{along_le}
-use Rattle.dexcanon.proofs.Made.{adds_more}
 use Rattle.dexcanon.proofs.PlacesTo.{next_use, empty_use, some_use, length-list_bytes}
 
 -- what was added, and what is left to add

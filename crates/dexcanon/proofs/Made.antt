@@ -1,11 +1,10 @@
 -- One addition after another.
-use Rattle.std.proofs.Common.{◌≡◌, ℕ, ◌+◌, ◌≤◌, min, inl, inr, List, [], ◌∷◌, ◌++◌, Bool, true, false, length, take, Result, Ok, Err, OnOk, IsErr, IsErrAnd, refl, sym, ap, subst, ◌∙◌, arith, append_assoc}
+use Rattle.std.proofs.Common.{◌≡◌, ℕ, ◌≤◌, min, inl, inr, List, [], ◌++◌, Bool, false, length, take, Result, Ok, Err, OnOk, IsErr, IsErrAnd, sym, ap, subst, ◌∙◌, arith, append_assoc}
 use Rattle.std.specs.Global.{Vec}
 use Rattle.std.proofs.lemmas.Bool.{cases_lt}
-use Rattle.std.proofs.lemmas.List.{append-nil, length-append, take_all, take-append-le, length-take}
+use Rattle.std.proofs.lemmas.List.{append-nil, take_all, take-append-le, length-take}
 use Rattle.dexcanon.specs.declared.faults.StoreFault.{StoreFault}
-use Rattle.dexcanon.specs.declared.faults.StoreFault.TheVariants.{Memory, Io}
-use Rattle.dexcanon.specs.Taking.{HasMade, HasFront, HasRoom, Adds, Breaks, Outcome}
+use Rattle.dexcanon.specs.Taking.{HasMade, HasFront, Adds, Breaks, Outcome}
 
 -- as much of a list as of its front
 take_own : (n : ℕ) (m : List ℕ) → take (length (take n m)) m ≡ take n m

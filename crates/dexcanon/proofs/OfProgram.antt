@@ -1,15 +1,14 @@
 -- A program's canonical file is that of its classes by numbers.
-use Rattle.std.proofs.Common.{◌≡◌, ℕ, ◌+◌, ◌*◌, ◌-◌, ◌≤◌, ◌<◌, List, [], ◌∷◌, ◌++◌, length, map, refl, sym, ap, subst, ◌∙◌, arith}
+use Rattle.std.proofs.Common.{◌≡◌, ◌+◌, ◌-◌, ◌≤◌, List, [], length, map, refl, sym, ap, subst, ◌∙◌, arith}
 use Rattle.std.specs.List.{All}
 use Rattle.std.proofs.lemmas.List.{length-map}
 use Rattle.dexspec.specs.Bytes.{round_up}
 use Rattle.dexspec.specs.Texts.{Text, string_data}
-use Rattle.dexspec.specs.Classes.{Definition}
 use Rattle.dexspec.specs.Files.{Collection, definitions}
 use Rattle.dexspec.specs.Mentions.{Mentions, mentions}
 use Rattle.dexspec.specs.Plain.{ArePlain}
 use Rattle.dexspec.specs.Placing.{Ordered}
-use Rattle.dexspec.specs.Canonical.{Layout, layout, map_of, map_bytes, unsigned_file, with_sums, ordered, canonical, placed_tables}
+use Rattle.dexspec.specs.Canonical.{Layout, layout, map_of, map_bytes, unsigned_file, with_sums, ordered, canonical}
 use Rattle.dexspec.proofs.Placements.{layout_is, named_layout}
 use Rattle.dexspec.proofs.Places.{end_from_le}
 use Rattle.dexspec.proofs.Laying.{map_place, map_list_named, map_place_is, parts}
@@ -18,7 +17,6 @@ use Rattle.dexclass.specs.Numbered.{NumberedClass, definition_of}
 use Rattle.dexclass.specs.Marking.{IsInRange}
 use Rattle.dexclass.specs.Programs.{AreClassesOf}
 use Rattle.dexhead.specs.Laid.{map_start, TellsLayout}
-use Rattle.dexhead.specs.Laid as head
 use Rattle.dexcanon.specs.declared.layout.Layout as code
 use Rattle.dexcanon.specs.Bare.{bare_mentions, bare, list_uses, data_from, strings_from, map_from, entries, classes_from}
 use Rattle.dexcanon.specs.Laid.{IsLayoutOf, IsLaid, file_length, FitFile}

@@ -1,12 +1,12 @@
 -- A list of pieces, piece by piece.
-use Rattle.std.proofs.Common.{◌≡◌, ℕ, ◌+◌, ◌<◌, List, [], ◌∷◌, ◌++◌, length, get_or, take, drop, refl, sym, ap, ◌∙◌, append_assoc, arith}
+use Rattle.std.proofs.Common.{◌≡◌, ℕ, ◌+◌, ◌<◌, List, [], ◌∷◌, ◌++◌, length, get_or, take, drop, refl, sym, ap, ◌∙◌, arith}
 use Rattle.std.specs.List.{flat_map, concat}
 use Rattle.std.specs.Prelude.{replicate, zip, ◌-◌, ◌%◌}
 use Rattle.dexspec.specs.Lists.{zip_with}
 use Rattle.dexspec.specs.Bytes.{round_up, padding}
 use Rattle.dexspec.proofs.Placements.{length-zip}
 use Rattle.dexspec.proofs.Laying.{get_or-zip}
-use Rattle.std.proofs.lemmas.List.{take_more, drop_more, take-append-drop, append-nil}
+use Rattle.std.proofs.lemmas.List.{take_more, take-append-drop, append-nil}
 use Rattle.std.proofs.lemmas.Grind.{flat_map-append}
 
 -- one piece more

@@ -1,6 +1,6 @@
 -- Plain definitions mention texts and types alone.
-use Rattle.std.proofs.Common.{◌≡◌, ℕ, List, [], ◌∷◌, ◌++◌, map, Option, None, Some, refl, sym, ap, ◌∙◌, append-nil}
-use Rattle.std.specs.List.{flat_map, All}
+use Rattle.std.proofs.Common.{◌≡◌, List, [], ◌∷◌, ◌++◌, map, refl, ap, ◌∙◌}
+use Rattle.std.specs.List.{flat_map}
 use Rattle.std.specs.Option.{option_to_list}
 use Rattle.std.proofs.lemmas.List.Elements.{All-head, All-tail}
 use Rattle.std.proofs.lemmas.Grind.{flat_map-append}
@@ -9,7 +9,7 @@ use Rattle.dexspec.specs.Texts.{Text}
 use Rattle.dexspec.specs.Values.{NoValues}
 use Rattle.dexspec.specs.Symbols.{Symbol, TextSymbol, TypeSymbol, proto_cmp, field_cmp, method_cmp}
 use Rattle.dexspec.specs.Classes.{Body, Definition}
-use Rattle.dexspec.specs.Mentions.{Mentions, mentions, closed, symbols_of, optional_type, optional_text, protos_in, fields_in, methods_in}
+use Rattle.dexspec.specs.Mentions.{mentions, closed, symbols_of, optional_type, optional_text, protos_in, fields_in, methods_in}
 use Rattle.dexspec.specs.Plain.{IsPlain, ArePlain}
 use Rattle.dexcanon.specs.Bare.{bare_mentions}
 

@@ -1,11 +1,11 @@
 -- A program's canonical file: its header, what stands behind it, and the sums.
-use Rattle.std.proofs.Common.{◌≡◌, ℕ, ◌+◌, ◌*◌, ◌^◌, ◌<◌, ◌≤◌, List, [], ◌∷◌, ◌++◌, length, map, take, drop, refl, sym, ap, subst, ◌∙◌, arith, append_assoc, zip, Option, Some, None}
+use Rattle.std.proofs.Common.{◌≡◌, ℕ, ◌+◌, ◌*◌, ◌^◌, ◌<◌, ◌≤◌, List, [], ◌∷◌, ◌++◌, length, map, take, drop, sym, ap, ◌∙◌, arith, append_assoc, zip, Option, Some, None}
 use Rattle.std.specs.Prelude.{All, IfSome, option_to_list}
 use Rattle.std.specs.List.{flat_map, concat}
 use Rattle.std.proofs.lemmas.List.{take_at}
 use Rattle.std.proofs.lemmas.List.Elements.{All-nil, All-cons, All-head, All-tail}
 use Rattle.dexspec.specs.Bytes.{uint, padding, round_up}
-use Rattle.dexspec.specs.Texts.{Text, string_data}
+use Rattle.dexspec.specs.Texts.{string_data}
 use Rattle.dexspec.specs.Lists.{zip_with}
 use Rattle.dexspec.specs.Mentions.{Mentions}
 use Rattle.dexspec.specs.Spellings.{text_index}
@@ -20,7 +20,7 @@ use Rattle.dexhead.specs.Written.{head_bytes, entry_meant}
 use Rattle.dexhead.specs.Laid.{TellsLayout, behind_header}
 use Rattle.dexcanon.specs.declared.layout.Layout as code
 use Rattle.dexcanon.specs.Uses.{bytes_along, end_along}
-use Rattle.dexcanon.specs.Bare.{bare_mentions, bare, bare_rows, bare_data, class_row, list_use, list_uses, list_bytes, data_from, strings_from, strings_to, string_offsets, list_offsets, entries}
+use Rattle.dexcanon.specs.Bare.{bare, bare_rows, bare_data, class_row, list_use, list_uses, list_bytes, data_from, strings_from, strings_to, string_offsets, list_offsets, entries}
 use Rattle.dexcanon.specs.Laid.{IsLaid, body_bytes, HaveNumbers, HasSmallNumbers, HasFewIndices, FitFile}
 use Rattle.dexcanon.proofs.Along.{along_le}
 use Rattle.dexcanon.proofs.BareFile.{behind_is}

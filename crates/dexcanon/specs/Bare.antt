@@ -1,5 +1,5 @@
 -- The file of classes without members, values and annotations, by the numbers of their types and texts.
-use Rattle.std.specs.Prelude.{ℕ, ◌+◌, ◌*◌, ◌-◌, ◌==◌, if◌then◌else◌, List, [], ◌∷◌, ◌++◌, length, map, Option, None, Some, unwrap_or, slice_index}
+use Rattle.std.specs.Prelude.{ℕ, ◌+◌, ◌*◌, ◌==◌, if◌then◌else◌, List, [], ◌∷◌, ◌++◌, length, map, Option, None, Some, unwrap_or}
 use Rattle.std.specs.List.{flat_map, concat}
 use Rattle.dexspec.specs.Lists.{zip_with, present}
 use Rattle.dexspec.specs.Bytes.{ushort, uint, round_up, padding}

@@ -1,5 +1,5 @@
 -- What a layout tells: of classes without members by numbers, and of classes in order.
-use Rattle.std.specs.Prelude.{◌≡◌, ℕ, ◌+◌, ◌*◌, ◌-◌, ◌^◌, ◌<◌, ◌≤◌, List, [], ◌∷◌, ◌++◌, length, map, slice_index_or, All, IfSome, zip}
+use Rattle.std.specs.Prelude.{◌≡◌, ℕ, ◌+◌, ◌*◌, ◌-◌, ◌^◌, ◌<◌, ◌≤◌, List, [], ◌∷◌, ◌++◌, length, map, All, IfSome, zip}
 use Rattle.std.specs.List.{flat_map}
 use Rattle.dexspec.specs.Lists.{present}
 use Rattle.dexspec.specs.Bytes.{uint, padding}

@@ -1,5 +1,5 @@
 -- Bytes that go item by item through a vector into a state.
-use Rattle.std.specs.Prelude.{◌≡◌, ℕ, ◌≤◌, List, ◌++◌, Bool, true, false, take, Result, Ok, Err, OnOk, vec_len, vec_capacity}
+use Rattle.std.specs.Prelude.{◌≡◌, ℕ, ◌≤◌, List, ◌++◌, Bool, true, false, take, Result, Err, OnOk, vec_len, vec_capacity}
 use Rattle.std.specs.Global.{Vec}
 use Rattle.dexcanon.specs.declared.faults.StoreFault.{StoreFault}
 use Rattle.dexcanon.specs.declared.faults.StoreFault.TheVariants.{Memory, Io}

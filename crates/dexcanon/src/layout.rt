@@ -182,7 +182,11 @@ fn entry(section: Section, size: u32, off: u32) -> MapEntry
 }
 
 /// The layout of the file of classes.
-pub(crate) fn lay(alloc: Global, numbering: &Numbering<'_>, classes: &[Class]) -> Result<Layout, AllocError>
+pub(crate) fn lay(
+    alloc: Global,
+    numbering: &Numbering<'_>,
+    classes: &[Class],
+) -> Result<Layout, AllocError>
     requires { FitFile numbering.now.texts numbering.now.types classes.now }
     ensures { IfOk result (IsLaid numbering.now.texts numbering.now.types classes.now) }
 {

@@ -10,6 +10,8 @@ mod kept;
 mod layout;
 mod sections;
 mod taking;
+#[cfg(test)]
+mod tests;
 mod writing;
 
 pub use faults::StoreFault;

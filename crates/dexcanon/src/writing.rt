@@ -11,10 +11,10 @@ ghost use Rattle.dexcanon.specs.Written.{HasLeft};
 ghost use Rattle.dexcanon.specs.declared.faults.StoreFault.TheVariants.{Io};
 
 use crate::faults::StoreFault;
-use dexclass::Program;
 use crate::kept::{Keeps, Nothing};
 use crate::layout::lay;
 use crate::sections::put_body;
+use dexclass::Program;
 use dexhead::{Sink, set_sums};
 use std::alloc::{AllocError, Global};
 

@@ -1,16 +1,15 @@
-use Rattle.std.proofs.Common.{◌≡◌, ℕ, ◌+◌, ◌*◌, ◌-◌, ◌≤◌, length, map, [], ◌∷◌, ◌++◌, arith, ap, sym, refl, ◌∙◌}
+use Rattle.std.proofs.Common.{◌≡◌, ◌+◌, ◌*◌, ◌-◌, length, map, [], ◌∷◌, ◌++◌, arith, ap, refl, ◌∙◌}
 use Rattle.std.proofs.lemmas.List.{length-map}
 use Rattle.dexspec.specs.Bytes.{round_up}
 use Rattle.dexspec.specs.Texts.{string_data}
 use Rattle.dexspec.specs.Sections.{HeaderItem, MapList, TableOf, TypeLists, StringDataItems}
 use Rattle.dexspec.specs.Header.{StringIds, TypeIds, ClassDefs}
 use Rattle.dexspec.specs.Placing.{offsets_from, end_from}
-use Rattle.dexspec.specs.Canonical.{map_bytes}
 use Rattle.dexhead.specs.Written.{entry_meant}
 use Rattle.dexcanon.specs.Uses.{end_along, offsets_along}
 use Rattle.dexcanon.specs.Bare.{list_uses, data_from, strings_from, strings_to, map_from, entries, types_from, classes_from}
 use Rattle.std.specs.List.{flat_map}
-use Rattle.dexcanon.specs.Laid.{IsLaid, file_length, entry_of}
+use Rattle.dexcanon.specs.Laid.{file_length, entry_of}
 use Rattle.dexcanon.proofs.LaidParts.{entry_with, same_entry, five_entries, same_rows, six_rows, length-map_bytes}
 use Rattle.dexcanon.proofs.layout.lay.Goals as goal
 

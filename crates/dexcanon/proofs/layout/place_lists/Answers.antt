@@ -1,5 +1,4 @@
-use Rattle.std.proofs.Common.{◌≡◌, ◌+◌, ◌*◌, ◌≤◌, length, arith, ap, ◌∙◌, [], ◌∷◌, ◌++◌}
-use Rattle.dexspec.specs.Bytes.{round_up}
+use Rattle.std.proofs.Common.{◌+◌, ◌*◌, ◌≤◌, length, arith, ap, ◌∙◌, [], ◌∷◌, ◌++◌}
 use Rattle.dexcanon.specs.Uses.{end_along}
 use Rattle.dexcanon.specs.Bare.{list_uses}
 use Rattle.dexcanon.proofs.PlacesTo.{lists_within, list_within, lists_pass, lists_take, lists_same}

@@ -1,5 +1,5 @@
 use Rattle.std.proofs.Common.{◌≡◌, ◌+◌, ◌≤◌, length, arith, ap, map, ◌∙◌}
-use Rattle.std.specs.Prelude.{vec_len, max}
+use Rattle.std.specs.Prelude.{max}
 use Rattle.dexspec.specs.Texts.{string_data}
 use Rattle.dexspec.specs.Placing.{end_from}
 use Rattle.dexcanon.proofs.PlacesTo.{string_within, strings_take, strings_same}

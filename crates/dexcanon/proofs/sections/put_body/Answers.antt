@@ -1,13 +1,13 @@
-use Rattle.std.proofs.Common.{◌≡◌, ℕ, List, ◌++◌, ◌<◌, ◌≤◌, length, map, arith, subst, ap, refl, sym, ◌∙◌, append_assoc}
+use Rattle.std.proofs.Common.{ℕ, List, ◌++◌, ◌<◌, length, arith, subst, ap, refl, sym, ◌∙◌}
 use Rattle.std.proofs.lemmas.List.{length-map}
 use Rattle.dexcanon.specs.Laid.{body_bytes}
 use Rattle.dexcanon.specs.Bare.{data_from, list_uses, list_use}
-use Rattle.dexcanon.specs.Taking.{Adds, Outcome}
+use Rattle.dexcanon.specs.Taking.{Outcome}
 use Rattle.dexcanon.specs.Uses.{end_along}
 use Rattle.dexcanon.proofs.Along.{length-offsets_along}
 use Rattle.dexcanon.proofs.Made.{fault_exit, same_fault_within, adds_more, outcome_after}
 use Rattle.dexhead.specs.Written.{entry_meant}
-use Rattle.dexcanon.proofs.BodyParts.{string_rows, type_rows, class_rows, lists, strings, last, two, three, four, five}
+use Rattle.dexcanon.proofs.BodyParts.{type_rows, class_rows, lists, strings, last, two, three, four, five}
 use Rattle.dexcanon.proofs.LaidParts.{few_entries}
 use Rattle.dexcanon.proofs.sections.put_body.Goals as goal
 

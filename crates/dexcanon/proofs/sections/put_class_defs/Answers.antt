@@ -1,11 +1,11 @@
-use Rattle.std.proofs.Common.{◌≡◌, ℕ, List, ◌+◌, ◌++◌, ◌<◌, ◌≤◌, ◌*◌, take, drop, length, arith, subst, ap, refl, ◌∙◌, zip}
+use Rattle.std.proofs.Common.{ℕ, List, ◌+◌, ◌++◌, ◌≤◌, take, drop, length, arith, subst, ap, refl, ◌∙◌, zip}
 use Rattle.std.specs.List.{flat_map}
 use Rattle.std.proofs.lemmas.List.{take_all}
 use Rattle.dexspec.specs.Bytes.{uint}
 use Rattle.dexspec.proofs.Placements.{length-zip}
 use Rattle.dexclass.specs.Numbered.{NumberedClass}
 use Rattle.dexcanon.specs.Bare.{class_row}
-use Rattle.dexcanon.specs.Taking.{Adds, Outcome}
+use Rattle.dexcanon.specs.Taking.{Adds}
 use Rattle.dexcanon.proofs.ItemLengths.{length_class_row}
 use Rattle.dexcanon.proofs.Made.{fault_exit, adds_more, outcome_of}
 use Rattle.dexcanon.proofs.Pieces.{piece_more, piece_split, pair_at, pair_within}

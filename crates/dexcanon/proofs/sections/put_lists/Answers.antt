@@ -1,15 +1,14 @@
-use Rattle.std.proofs.Common.{◌≡◌, ℕ, List, ◌++◌, ◌<◌, ◌≤◌, ◌-◌, ◌+◌, ◌*◌, length, drop, arith, subst, ap, refl, sym, ◌∙◌, append_assoc}
+use Rattle.std.proofs.Common.{ℕ, List, ◌++◌, ◌<◌, ◌≤◌, ◌-◌, ◌+◌, ◌*◌, length, drop, arith, ap, refl, sym, ◌∙◌, append_assoc}
 use Rattle.std.specs.Prelude.{replicate}
 use Rattle.std.proofs.lemmas.List.{length-replicate}
 use Rattle.dexspec.specs.Bytes.{round_up, padding}
 use Rattle.dexclass.specs.Numbered.{NumberedClass}
 use Rattle.dexcanon.specs.Uses.{bytes_along, end_along}
 use Rattle.dexcanon.specs.Bare.{list_bytes, list_uses}
-use Rattle.dexcanon.specs.Taking.{Adds, Outcome}
 use Rattle.dexcanon.proofs.PlacesTo.{length-list_bytes}
 use Rattle.dexcanon.proofs.Made.{fault_exit, adds_more}
 use Rattle.dexcanon.proofs.Pieces.{zeros_are}
-use Rattle.dexcanon.proofs.ListsMade.{ListsMade, next_list}
+use Rattle.dexcanon.proofs.ListsMade.{next_list}
 use Rattle.dexcanon.proofs.sections.put_lists.Goals as goal
 
 pub round_up-off-requires : goal.round_up-off-requires

@@ -1,10 +1,10 @@
-use Rattle.std.proofs.Common.{◌≡◌, ℕ, List, ◌++◌, ◌≤◌, ◌-◌, ◌+◌, ◌*◌, length, map, arith, subst, ap, refl, sym, ◌∙◌}
+use Rattle.std.proofs.Common.{ℕ, ◌++◌, ◌≤◌, ◌-◌, length, map, arith, subst, ap, refl, ◌∙◌}
 use Rattle.std.specs.Prelude.{replicate}
-use Rattle.std.proofs.lemmas.List.{length-replicate, length-map, append-nil}
+use Rattle.std.proofs.lemmas.List.{length-replicate, length-map}
 use Rattle.dexspec.specs.Bytes.{padding}
 use Rattle.dexspec.specs.Canonical.{map_bytes}
 use Rattle.dexhead.specs.Written.{entry_meant}
-use Rattle.dexcanon.specs.Taking.{Adds, Outcome}
+use Rattle.dexcanon.specs.Taking.{Outcome}
 use Rattle.dexcanon.proofs.LaidParts.{length-map_bytes}
 use Rattle.dexcanon.proofs.Made.{same_fault_within, outcome_after}
 use Rattle.dexcanon.proofs.Pieces.{zeros_are}

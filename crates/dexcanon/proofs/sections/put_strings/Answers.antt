@@ -1,7 +1,7 @@
-use Rattle.std.proofs.Common.{◌≡◌, ◌+◌, ◌++◌, ◌≤◌, take, drop, length, arith, ap, sym, subst, ◌∙◌}
+use Rattle.std.proofs.Common.{◌+◌, ◌≤◌, drop, length, subst}
 use Rattle.std.specs.List.{flat_map}
 use Rattle.dexspec.specs.Texts.{string_data}
-use Rattle.dexcanon.specs.Taking.{Adds, Outcome}
+use Rattle.dexcanon.specs.Taking.{Adds}
 use Rattle.dexcanon.proofs.Made.{fault_exit, adds_more}
 use Rattle.dexcanon.proofs.Pieces.{piece_more, piece_split}
 use Rattle.dexcanon.proofs.sections.put_strings.Goals as goal

@@ -1,4 +1,4 @@
-use Rattle.std.proofs.Common.{◌≡◌, ℕ, [], ◌+◌, ◌++◌, ◌<◌, ◌≤◌, List, take, drop, length, arith, subst, ap, sym, ◌∙◌}
+use Rattle.std.proofs.Common.{◌≡◌, ℕ, [], ◌+◌, ◌++◌, ◌<◌, List, take, drop, length, arith, subst, ap, sym, ◌∙◌}
 use Rattle.std.specs.Prelude.{slice_index_or}
 use Rattle.std.specs.List.{flat_map}
 use Rattle.std.proofs.lemmas.List.{get_or_default, take_all}
@@ -6,7 +6,7 @@ use Rattle.dexspec.specs.Bytes.{uint}
 use Rattle.dexspec.specs.Texts.{Text}
 use Rattle.dexspec.specs.Spellings.{text_index}
 use Rattle.dexspec.proofs.ByteNumbers.{length-uint}
-use Rattle.dexcanon.specs.Taking.{Adds, Outcome}
+use Rattle.dexcanon.specs.Taking.{Adds}
 use Rattle.dexcanon.proofs.Made.{fault_exit, adds_more, outcome_of}
 use Rattle.dexcanon.proofs.Pieces.{piece_more, piece_split}
 use Rattle.dexcanon.proofs.sections.put_type_ids.Goals as goal

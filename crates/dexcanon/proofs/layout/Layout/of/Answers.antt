@@ -1,4 +1,4 @@
-use Rattle.std.proofs.Common.{◌≡◌, ◌≤◌, length, arith, sym, ◌∙◌}
+use Rattle.std.proofs.Common.{arith, sym, ◌∙◌}
 use Rattle.dexspec.specs.Merging.{greatest_caps, AreCaps}
 use Rattle.dexcanon.proofs.OfProgram.{bare_file, fit_file, length_canonical, layout_of}
 use Rattle.dexcanon.proofs.layout.Layout.of.Goals as goal

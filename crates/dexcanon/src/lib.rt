@@ -5,7 +5,15 @@
 #![tactic(auto)]
 
 mod faults;
+mod items;
+mod kept;
+mod layout;
+mod sections;
+mod taking;
+#[cfg(test)]
+mod tests;
 mod writing;
 
 pub use faults::StoreFault;
+pub use layout::Layout;
 pub use writing::{to_bytes, write_to};

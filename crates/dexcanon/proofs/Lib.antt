@@ -11,3 +11,4 @@ pub mod Pieces
 pub mod ListsMade
 pub mod BodyParts
 pub mod Sealed
+pub mod WrittenPieces

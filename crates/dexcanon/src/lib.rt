@@ -8,6 +8,7 @@ mod faults;
 mod items;
 mod kept;
 mod layout;
+mod outputs;
 mod sections;
 mod taking;
 #[cfg(test)]

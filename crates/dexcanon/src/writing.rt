@@ -13,6 +13,7 @@ ghost use Rattle.dexcanon.specs.declared.faults.StoreFault.TheVariants.{Io};
 use crate::faults::StoreFault;
 use crate::kept::{Keeps, Nothing};
 use crate::layout::lay;
+use crate::outputs::write_whole;
 use crate::sections::put_body;
 use dexclass::Program;
 use dexhead::{Sink, set_sums};
@@ -59,5 +60,9 @@ pub fn write_to<W: Sink>(
     ensures left { IfErr result (HasLeft (W.tells out.old) out.old out.new W.taken (canonical program.now)) }
     ensures device { IsErrOf result Io ↔ (W.has_failed out.new ≡ true) }
 {
-    Err(StoreFault::Memory)
+    let file = to_bytes(alloc, program)?;
+    match write_whole(out, &file) {
+        Ok(()) => Ok(()),
+        Err(_) => Err(StoreFault::Io),
+    }
 }

@@ -7,6 +7,8 @@ mod explaining;
 mod faults;
 mod inputs;
 mod lines;
+#[cfg(test)]
+mod normalise_tests;
 mod normalising;
 mod outputs;
 #[cfg(test)]

@@ -46,7 +46,7 @@ pub fn to_bytes(alloc: Global, program: &Program<'_>) -> Result<Vec<u8>, AllocEr
     Ok(file)
 }
 
-/// Writes the canonical file of a program, one item at a time.
+/// Writes the canonical file of a program. The whole file is made before the first write.
 ///
 /// Condition: the writer has not failed. Error: `Memory` where a growth was refused, and then nothing was written;
 /// `Io` exactly where the writer failed in this call, and then a front of the file was written.

@@ -7,6 +7,7 @@ mod explaining;
 mod faults;
 mod inputs;
 mod lines;
+mod merging;
 mod normalising;
 mod outputs;
 #[cfg(test)]
@@ -17,6 +18,6 @@ mod words;
 
 pub use checking::check_run;
 pub use explaining::explain;
-pub use faults::RunFault;
+pub use faults::{MergeCause, RunFault};
 pub use normalising::normalise_run;
 pub use words::{Job, read_words};

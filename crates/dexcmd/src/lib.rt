@@ -19,5 +19,6 @@ mod words;
 pub use checking::check_run;
 pub use explaining::explain;
 pub use faults::{MergeCause, RunFault};
+pub use merging::merge_run;
 pub use normalising::normalise_run;
 pub use words::{Job, read_words};

@@ -1,1 +1,5 @@
 pub mod Written
+pub mod Uses
+pub mod Bare
+pub mod Laid
+pub mod Taking

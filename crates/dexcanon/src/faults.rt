@@ -1,8 +1,9 @@
 //! Why a program was not written.
 
 ghost use Rattle.std.specs.Prelude.{◌≡◌};
-ghost use Rattle.dexcanon.specs.declared.faults.StoreFault.TheVariants.{Memory};
+ghost use Rattle.dexcanon.specs.declared.faults.StoreFault.TheVariants.{Memory, Io};
 
+use dexhead::DeviceFault;
 use std::alloc::{AllocError, AllocFailed};
 
 /// Why a program was not written.
@@ -27,5 +28,13 @@ impl<T: Drop> From<AllocFailed<T>> for StoreFault {
 
     fn from(_e: AllocFailed<T>) -> StoreFault {
         StoreFault::Memory
+    }
+}
+
+impl From<DeviceFault> for StoreFault {
+    ghost from_gives = { λ _ e. e ≡ Io };
+
+    fn from(_e: DeviceFault) -> StoreFault {
+        StoreFault::Io
     }
 }

@@ -5,7 +5,16 @@
 #![tactic(auto)]
 
 mod faults;
+mod items;
+mod kept;
+mod layout;
+mod outputs;
+mod sections;
+mod taking;
+#[cfg(test)]
+mod tests;
 mod writing;
 
 pub use faults::StoreFault;
+pub use layout::Layout;
 pub use writing::{to_bytes, write_to};

@@ -11,8 +11,12 @@ ghost use Rattle.dexcanon.specs.Written.{HasLeft};
 ghost use Rattle.dexcanon.specs.declared.faults.StoreFault.TheVariants.{Io};
 
 use crate::faults::StoreFault;
+use crate::kept::{Keeps, Nothing};
+use crate::layout::lay;
+use crate::outputs::write_whole;
+use crate::sections::put_body;
 use dexclass::Program;
-use dexhead::Sink;
+use dexhead::{Sink, set_sums};
 use std::alloc::{AllocError, Global};
 
 /// The canonical file of a program. It is accepted, and stands for just the program's definitions.
@@ -24,18 +28,41 @@ pub fn to_bytes(alloc: Global, program: &Program<'_>) -> Result<Vec<u8>, AllocEr
     ensures denotes { (K : Collection) → IsGood greatest_caps (definitions K) → AreWellFormed (definitions K) → ArePlain (definitions K) → Denotes (canonical K) K }
 {
     dexlaws_normal::plain_normal_form();
-    Err(AllocError)
+    program.is_good();
+    let numbering = program.numbering();
+    let classes = program.classes();
+    numbering.is_numbering();
+    dexpool::number_law();
+    dexlaws_size::fitting_size_law();
+    dexhead::laws::file_law();
+    let layout = lay(alloc, numbering, classes)?;
+    let mut file = Vec::with_capacity(alloc, layout.len() as usize)?;
+    layout.head.put(&mut file)?;
+    match put_body::<Nothing, Keeps>(numbering, classes, &layout, &mut file, &mut Nothing) {
+        Ok(()) => {}
+        Err(_) => return Err(AllocError),
+    }
+    set_sums(&mut file);
+    Ok(file)
 }
 
 /// Writes the canonical file of a program, one item at a time.
 ///
 /// Condition: the writer has not failed. Error: `Memory` where a growth was refused, and then nothing was written;
 /// `Io` exactly where the writer failed in this call, and then a front of the file was written.
-pub fn write_to<W: Sink>(alloc: Global, program: &Program<'_>, out: &mut W) -> Result<(), StoreFault>
+pub fn write_to<W: Sink>(
+    alloc: Global,
+    program: &Program<'_>,
+    out: &mut W,
+) -> Result<(), StoreFault>
     requires { W.has_failed out.old ≡ false }
     ensures written { OnOk result (W.tells out.old → W.taken out.new ≡ W.taken out.old ++ canonical program.now) }
     ensures left { IfErr result (HasLeft (W.tells out.old) out.old out.new W.taken (canonical program.now)) }
     ensures device { IsErrOf result Io ↔ (W.has_failed out.new ≡ true) }
 {
-    Err(StoreFault::Memory)
+    let file = to_bytes(alloc, program)?;
+    match write_whole(out, &file) {
+        Ok(()) => Ok(()),
+        Err(_) => Err(StoreFault::Io),
+    }
 }

@@ -6,6 +6,8 @@ ghost use Rattle.dexcmd.specs.declared.faults.RunFault.TheVariants.{Memory};
 use dexhead::Refusal;
 use dexstr::Name;
 use std::alloc::{AllocError, AllocFailed};
+use std::fmt;
+use thiserror::Error;
 
 /// Why there is no merged file.
 #[derive(Drop)]
@@ -19,20 +21,37 @@ pub enum MergeCause {
     Cap(u8),
 }
 
+// A name is not shown: it may be long, and its units may be no characters.
+impl fmt::Debug for MergeCause {
+    fn fmt<W: fmt::Write>(&self, f: &mut fmt::Formatter<W>) -> fmt::Result {
+        f.write_str(match self {
+            MergeCause::Conflict(_) => "Conflict(..)",
+            MergeCause::Cycle(_) => "Cycle(..)",
+            MergeCause::Cap(_) => "Cap(..)",
+        })
+    }
+}
+
 /// Why a run ended before its work was done. Inputs are counted from 0.
-#[derive(Drop)]
+#[derive(Debug, Drop, Error)]
 pub enum RunFault {
     /// The input with this number is refused: a condition that it does not meet, and where.
+    #[error("input {0} is refused by condition {number} at {place}", number = .1.number, place = .1.place)]
     Input(usize, Refusal),
     /// The plan is none for the inputs.
+    #[error("bad plan")]
     Plan,
     /// The inputs cannot be merged.
+    #[error("the inputs cannot be merged")]
     Merge(MergeCause),
     /// The reader of the input with this number failed.
+    #[error("input {0} cannot be read")]
     Read(usize),
     /// The writer failed.
+    #[error("the output cannot be written")]
     Write,
     /// A growth was refused.
+    #[error("out of memory")]
     Memory,
 }
 

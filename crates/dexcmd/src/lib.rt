@@ -8,6 +8,8 @@ mod faults;
 mod inputs;
 mod lines;
 mod merging;
+#[cfg(test)]
+mod normalise_tests;
 mod normalising;
 mod outputs;
 #[cfg(test)]

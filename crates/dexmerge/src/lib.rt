@@ -12,6 +12,8 @@ mod merging;
 mod parents;
 mod plan;
 mod planned;
+#[cfg(test)]
+mod tests;
 
 pub use caps::Caps;
 pub use faults::{MergeFault, PlanFault};

@@ -3,6 +3,7 @@ use Rattle.std.specs.Prelude.{◌≡◌, ◌==◌, ℕ, Bool, false, List, lengt
 use Rattle.std.specs.List.{Contains}
 use Rattle.dexspec.specs.Files.{Collection, definitions}
 use Rattle.dexspec.specs.Weight.{weight}
+use Rattle.dexspec.specs.Canonical.{canonical}
 use Rattle.dexhead.specs.declared.refusal.Refusal.{Refusal}
 use Rattle.dexclass.specs.Programs.{IsReadAs, IsReadFault}
 use Rattle.dexvectors.specs.declared.check.RightAnswer.{RightAnswer}
@@ -21,6 +22,12 @@ pub record Weighs (b : List ℕ) (n : ℕ) : Type 0 where
   pub collection : Collection
   pub is : IsReadAs b collection
   pub weight_is : n ≡ weight (definitions collection)
+
+-- the bytes are read as a program with this canonical file
+pub record Normalises (b whole : List ℕ) : Type 0 where
+  pub collection : Collection
+  pub is : IsReadAs b collection
+  pub whole_is : whole ≡ canonical collection
 
 -- what is told of the bytes is so
 abbrev pub IsTold : List ℕ → Answer → Type 0

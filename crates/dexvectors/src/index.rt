@@ -4,7 +4,7 @@ use crate::fault::VectorFault;
 use crate::file::read_file;
 use crate::kind::Kind;
 use crate::outcome::Outcome;
-use crate::{check, weight};
+use crate::{check, merge, normalise, weight};
 use std::path::Path;
 use std::rt::Files;
 
@@ -25,6 +25,12 @@ pub fn run_case<R: Files + AllocGlobal>(
             let (bytes, right) = file_and_answer(rt, folder, case)?;
             Ok((kind, weight::run(rt.alloc(), &bytes, right)?))
         }
+        Kind::Normalise => {
+            let (bytes, right) = file_and_answer(rt, folder, case)?;
+            let right = read_file(rt, folder, right)?;
+            Ok((kind, normalise::run(rt.alloc(), &bytes, &right)?))
+        }
+        Kind::Merge => Ok((kind, merge::run(rt, folder, case)?)),
         Kind::Unknown => Err(VectorFault::Form),
         _ => Ok((kind, Outcome::Unserved)),
     }

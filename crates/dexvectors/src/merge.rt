@@ -4,7 +4,7 @@
 use crate::check::LATER;
 use crate::fault::VectorFault;
 use crate::file::read_file;
-use crate::normalise::is_written_as;
+use crate::normalise::{is_written_as, other_bytes};
 use crate::outcome::Outcome;
 use crate::plans::{caps_in, plan_in};
 use dexclass::read;
@@ -55,7 +55,11 @@ pub fn run<R: Files + AllocGlobal>(
     match merge_plan(alloc, &programs, &plan, &caps) {
         Ok(program) => match right {
             RightAnswer::Written(name) => {
-                is_written_as(alloc, &program, &read_file(rt, folder, name)?)
+                let right = read_file(rt, folder, name)?;
+                if is_written_as(alloc, &program, &right)? {
+                    return Ok(Outcome::Passed);
+                }
+                other_bytes(alloc)
             }
             _ => failed(alloc, "ok"),
         },

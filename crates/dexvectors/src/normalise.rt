@@ -1,6 +1,6 @@
 //! Files normalised: `normalise FILE CANON`. Today only plain files are read.
 
-ghost use Rattle.std.specs.Prelude.{◌≡◌, IfOk};
+ghost use Rattle.std.specs.Prelude.{◌≡◌, IfOk, IsTrue};
 ghost use Rattle.dexspec.specs.Canonical.{canonical};
 ghost use Rattle.dexvectors.specs.Told.{Normalises};
 
@@ -11,7 +11,7 @@ use dexcanon::to_bytes;
 use dexclass::{Program, read};
 use dexhead::Refusal;
 use dexpool::ReadFault;
-use std::alloc::Global;
+use std::alloc::{AllocError, Global};
 
 /// Runs a line, given the file and the bytes of its canonical file: how it goes.
 pub fn run(alloc: Global, bytes: &[u8], right: &[u8]) -> Result<Outcome, VectorFault>
@@ -26,21 +26,23 @@ pub fn run(alloc: Global, bytes: &[u8], right: &[u8]) -> Result<Outcome, VectorF
         }
         Err(ReadFault::Memory) => return Err(VectorFault::Memory),
     };
-    is_written_as(alloc, &program, right)
-}
-
-/// Passed where the canonical file of the program has these bytes.
-pub fn is_written_as(
-    alloc: Global,
-    program: &Program<'_>,
-    right: &[u8],
-) -> Result<Outcome, VectorFault>
-    ensures { IfOk result (λ outcome. outcome ≡ Outcome.Passed → right.now ≡ canonical program.now) }
-{
-    let written = to_bytes(alloc, program)?;
-    if right == written.as_slice() {
+    if is_written_as(alloc, &program, right)? {
         return Ok(Outcome::Passed);
     }
-    let answered = format!(in alloc; "other bytes, {} of them", written.len())?;
-    Ok(Outcome::Failed(answered))
+    other_bytes(alloc)
+}
+
+/// Whether the canonical file of the program has these bytes.
+pub fn is_written_as(alloc: Global, program: &Program<'_>, right: &[u8]) -> Result<bool, AllocError>
+    ensures { IfOk result (λ is. IsTrue is → right.now ≡ canonical program.now) }
+{
+    let written = to_bytes(alloc, program)?;
+    Ok(right == written.as_slice())
+}
+
+/// How a line goes whose canonical file has other bytes.
+pub fn other_bytes(alloc: Global) -> Result<Outcome, VectorFault>
+    ensures { IfOk result (λ outcome. outcome ≡ Outcome.Passed → ⊥) }
+{
+    Ok(Outcome::Failed(String::from_str(alloc, "other bytes")?))
 }

@@ -9,7 +9,7 @@ use Rattle.dexinsn.proofs.put.push_number.Goals as goal
 pub unwrap-requires : goal.unwrap-requires
 unwrap-requires c =
     let two : length (index_units c.args.is_wide c.args.number) ≡ 2 = ap (λ w. length (index_units w c.args.number)) c.if-is_wide.true in
-    c.put_u32.ensures.room (omega (arith, length-uint c.args.number, two, c.requires.room))
+    c.put_u32.ensures.room (omega (arith, length-uint, two, c.requires.room))
 
 pub unwrap-requires-else-is_wide : goal.unwrap-requires-else-is_wide
 unwrap-requires-else-is_wide c =
@@ -23,7 +23,7 @@ returns-then-is_wide-clause-items c =
 pub returns-then-is_wide-clause-len : goal.returns-then-is_wide-clause-len
 returns-then-is_wide-clause-len c =
     let two : length (index_units c.args.is_wide c.args.number) ≡ 2 = ap (λ w. length (index_units w c.args.number)) c.if-is_wide.true in
-    omega (arith, length-uint c.args.number, two, rw c.unwrap.ensures at c.put_u32.ensures.len)
+    omega (arith, length-uint, two, rw c.unwrap.ensures at c.put_u32.ensures.len)
 
 pub returns-else-is_wide-clause-len : goal.returns-else-is_wide-clause-len
 returns-else-is_wide-clause-len c =

@@ -1,0 +1,14 @@
+pub mod Along
+pub mod BareSections
+pub mod BareFile
+pub mod PlacesTo
+pub mod LaidParts
+pub mod PlainMentions
+pub mod OfProgram
+pub mod ItemLengths
+pub mod Made
+pub mod Pieces
+pub mod ListsMade
+pub mod BodyParts
+pub mod Sealed
+pub mod WrittenPieces

@@ -1,0 +1,39 @@
+-- Bytes that go item by item through a vector into a state.
+use Rattle.std.specs.Prelude.{◌≡◌, ℕ, ◌≤◌, List, ◌++◌, Bool, true, false, take, Result, Err, OnOk, vec_len, vec_capacity}
+use Rattle.std.specs.Global.{Vec}
+use Rattle.dexcanon.specs.declared.faults.StoreFault.{StoreFault}
+use Rattle.dexcanon.specs.declared.faults.StoreFault.TheVariants.{Memory, Io}
+
+-- behind the base the state has taken what, with that in the vector, makes m
+pub record HasMade {S : Type 0} (holds : S → List ℕ → Type 0) (base : List ℕ) (s : S) (items : List ℕ) (m : List ℕ) : Type 0 where
+  pub gone : List ℕ
+  pub held : holds s (base ++ gone)
+  pub joined : gone ++ items ≡ m
+
+-- behind the base the state has taken a front of m
+pub record HasFront {S : Type 0} (holds : S → List ℕ → Type 0) (base : List ℕ) (s : S) (m : List ℕ) : Type 0 where
+  pub count : ℕ
+  pub held : holds s (base ++ take count m)
+
+-- there is room for an item in a vector that is empty before each
+pub record HasRoom (empties : Bool) (greatest : ℕ) (v : Vec ℕ) : Type 0 where
+  pub emptied : empties ≡ true
+  pub empty : vec_len v ≡ 0
+  pub enough : greatest ≤ vec_capacity v
+
+-- x was added
+pub record Adds {S : Type 0} (holds : S → List ℕ → Type 0) (has_failed : S → Bool) (empties : Bool) (greatest : ℕ) (s : S) (v : Vec ℕ) (t : S) (w : Vec ℕ) (x : List ℕ) : Type 0 where
+  pub made : (base m : List ℕ) → HasMade holds base s v.items m → HasMade holds base t w.items (m ++ x)
+  pub works : has_failed t ≡ false
+  pub room : HasRoom empties greatest v → HasRoom empties greatest w
+
+-- the state failed in the midst of x
+pub record Breaks {S : Type 0} (holds : S → List ℕ → Type 0) (has_failed : S → Bool) (s : S) (v : Vec ℕ) (t : S) (x : List ℕ) : Type 0 where
+  pub front : (base m : List ℕ) → HasMade holds base s v.items m → HasFront holds base t (m ++ x)
+  pub fails : has_failed t ≡ true
+
+-- x was added, or it was not and the state failed, or memory was wanting, as it is not where there is room
+pub record Outcome {S : Type 0} (holds : S → List ℕ → Type 0) (has_failed : S → Bool) (empties : Bool) (greatest : ℕ) (s : S) (v : Vec ℕ) (t : S) (w : Vec ℕ) (x : List ℕ) (r : Result (Unit {0}) StoreFault) : Type 0 where
+  pub ok : OnOk r (Adds holds has_failed empties greatest s v t w x)
+  pub io : r ≡ Err Io → Breaks holds has_failed s v t x
+  pub memory : r ≡ Err Memory → HasRoom empties greatest v → ⊥

@@ -7,6 +7,8 @@ mod explaining;
 mod faults;
 mod inputs;
 mod lines;
+#[cfg(test)]
+mod merge_tests;
 mod merging;
 #[cfg(test)]
 mod normalise_tests;

@@ -2,8 +2,9 @@
 
 ghost use Rattle.std.specs.Prelude.{◌≤◌, IfOk};
 
-use crate::{RunFault, check_run, normalise_run};
+use crate::{RunFault, check_run, merge_run, normalise_run};
 use dexhead::{Device, Refusal, Sink, Source, adler, set_sums};
+use dexmerge::{Caps, Plan};
 use std::alloc::{AllocError, Global};
 use std::io;
 use std::io::{ErrorKind, Read, Write};
@@ -303,5 +304,54 @@ fn stops_at_a_device(rt: HostRuntime) -> Result<(), Fail> {
         assert!(rt; ran.write_failed && !ran.read_failed, "call {call}");
         assert!(rt; ran.written.as_slice() == &line[..call], "call {call}");
     }
+    Ok(())
+}
+
+// What a merge of these files by this plan tells, where it ends before anything is written.
+fn unmerged(
+    alloc: Global,
+    files: &[(&[u8], Script)],
+    plan: &Plan,
+) -> Result<Option<RunFault>, AllocError> {
+    let mut inputs = Vec::new(alloc);
+    for (file, reads) in files {
+        inputs.push(Device::new(Scripted::new(*file, *reads)))?;
+    }
+    let mut out = Device::new(Scripted::new(Vec::new(alloc), WHOLE));
+    let answer = merge_run(
+        alloc,
+        inputs.as_mut_slice(),
+        plan,
+        &Caps::greatest(),
+        &mut out,
+    );
+    let Scripted { calls, .. } = out.into_inner();
+    match answer {
+        Err(fault) if calls == 0 => Ok(Some(fault)),
+        _ => Ok(None),
+    }
+}
+
+#[test]
+fn ends_before_merging(rt: HostRuntime) -> Result<(), Fail> {
+    let alloc = rt.alloc();
+    let one = (ONE_CLASS.as_slice(), WHOLE);
+    let broken = (ONE_CLASS.as_slice(), failing(100, 1));
+    let short = (&NO_CLASS[..111], WHOLE);
+    let bad = unmerged(alloc, &[broken], &Plan::Leaf(1))?;
+    assert!(rt; matches!(bad, Some(RunFault::Plan)));
+    let mut parts = Vec::new(alloc);
+    for i in 0..3 {
+        parts.push(Plan::Leaf(i))?;
+    }
+    let plan = Plan::Node(parts);
+    let unnamed = unmerged(alloc, &[one, one, one, one], &plan)?;
+    assert!(rt; matches!(unnamed, Some(RunFault::Plan)));
+    let unread = unmerged(alloc, &[one, broken, short], &plan)?;
+    assert!(rt; matches!(unread, Some(RunFault::Read(1))));
+    let refused = unmerged(alloc, &[one, short, broken], &plan)?;
+    assert!(rt;
+        matches!(refused, Some(RunFault::Input(1, told)) if told.number == 1 && told.place == 0)
+    );
     Ok(())
 }

@@ -17,7 +17,7 @@ pub accepted_is : (b bytes : List ℕ) (L : Collection) (n : ℕ) → bytes ≡ 
 accepted_is b bytes L n same stands count = (L, subst (λ x. IsReadAs x L) same stands, count)
 
 -- one more verdict, right of one more file
-zip_more : {A B : Type 0} (P : A → B → Type 0) (xs : List A) (ys : List B) (x : A) (y : B) → AllZip P xs ys → P x y → AllZip P (xs ++ x ∷ []) (ys ++ y ∷ [])
+pub zip_more : {A B : Type 0} (P : A → B → Type 0) (xs : List A) (ys : List B) (x : A) (y : B) → AllZip P xs ys → P x y → AllZip P (xs ++ x ∷ []) (ys ++ y ∷ [])
 zip_more P [] [] x y all here = (here, tt)
 zip_more P [] (b ∷ ys) x y all here = absurd all
 zip_more P (a ∷ xs) [] x y all here = absurd all

@@ -2,3 +2,4 @@ pub mod Inputs
 pub mod Lines
 pub mod Runs
 pub mod Words
+pub mod Merges

@@ -7,7 +7,7 @@ use Rattle.dexspec.specs.Plain.{IsPlainFile}
 use Rattle.dexspec.specs.Canonical.{canonical}
 use Rattle.dexclass.specs.Programs.{IsReadAs, IsReadFault}
 use Rattle.dexcmd.specs.declared.faults.RunFault.{RunFault}
-use Rattle.dexcmd.specs.declared.faults.RunFault.TheVariants.{Input, Plan, Read, Write, Memory}
+use Rattle.dexcmd.specs.declared.faults.RunFault.TheVariants.{Input, Plan, Merge, Read, Write, Memory}
 use Rattle.dexcmd.specs.declared.lines.Verdict.{Verdict}
 use Rattle.dexcmd.specs.declared.lines.Verdict.TheVariants.{Accepted, Refused}
 use Rattle.dexcmd.specs.Lines.{check_lines, check_status}
@@ -23,6 +23,7 @@ pub record ArePlainFile (b : List ℕ) : Type 0 where
 abbrev pub IsOfInput : Type 0 → List ℕ → RunFault → Type 0
 IsOfInput tells b (Input i refusal) = (i ≡ 0) × (tells → IsReadFault b refusal)
 IsOfInput tells b Plan = ⊥
+IsOfInput tells b (Merge told) = ⊥
 IsOfInput tells b (Read i) = i ≡ 0
 IsOfInput tells b Write = Unit {0}
 IsOfInput tells b Memory = Unit {0}
@@ -32,6 +33,7 @@ IsOfInput tells b Memory = Unit {0}
 abbrev pub HasLeft : {W : Type 0} → Type 0 → Type 0 → W → W → (W → List ℕ) → List ℕ → RunFault → Type 0
 HasLeft reads writes old new taken b (Input i refusal) = new ≡ old
 HasLeft reads writes old new taken b Plan = new ≡ old
+HasLeft reads writes old new taken b (Merge told) = new ≡ old
 HasLeft reads writes old new taken b (Read i) = new ≡ old
 HasLeft reads writes old new taken b Write = reads → ArePlainFile b × (writes → (K : Collection) → Denotes b K → (n : ℕ) × (taken new ≡ taken old ++ take n (canonical K)))
 HasLeft reads writes old new taken b Memory = new ≡ old
@@ -72,6 +74,7 @@ pub record HasFailed {R : Type 0} (has_failed : R → Bool) (inputs : List R) (i
 abbrev pub IsOfCheck : {R : Type 0} → (R → Bool) → List R → Bool → RunFault → Type 0
 IsOfCheck has_failed inputs writer_failed (Input i refusal) = ⊥
 IsOfCheck has_failed inputs writer_failed Plan = ⊥
+IsOfCheck has_failed inputs writer_failed (Merge told) = ⊥
 IsOfCheck has_failed inputs writer_failed (Read i) = HasFailed has_failed inputs i × (writer_failed ≡ false)
 IsOfCheck has_failed inputs writer_failed Write = AllWork has_failed inputs × (writer_failed ≡ true)
 IsOfCheck has_failed inputs writer_failed Memory = AllWork has_failed inputs × (writer_failed ≡ false)

@@ -8,6 +8,9 @@ mod faults;
 mod inputs;
 mod lines;
 #[cfg(test)]
+mod merge_tests;
+mod merging;
+#[cfg(test)]
 mod normalise_tests;
 mod normalising;
 mod outputs;
@@ -19,6 +22,7 @@ mod words;
 
 pub use checking::check_run;
 pub use explaining::explain;
-pub use faults::RunFault;
+pub use faults::{MergeCause, RunFault};
+pub use merging::merge_run;
 pub use normalising::normalise_run;
 pub use words::{Job, read_words};

@@ -47,7 +47,7 @@ const NAMES: [&str; 25] = [
 ];
 
 // The text with a number, or the default one behind the end.
-fn text_at<'a>(texts: &[&'a str], i: usize, default: &'a str) -> &'a str
+pub(crate) fn text_at<'a>(texts: &[&'a str], i: usize, default: &'a str) -> &'a str
     ensures { result.now ≡ slice_index_or (map (λ text. text.now) texts.now) i default.now }
 {
     match texts.get(i) {

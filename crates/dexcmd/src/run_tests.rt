@@ -2,8 +2,9 @@
 
 ghost use Rattle.std.specs.Prelude.{◌≤◌, IfOk};
 
-use crate::{RunFault, check_run, normalise_run};
+use crate::{RunFault, check_run, merge_run, normalise_run};
 use dexhead::{Device, Refusal, Sink, Source, adler, set_sums};
+use dexmerge::{Caps, Plan};
 use std::alloc::{AllocError, Global};
 use std::io;
 use std::io::{ErrorKind, Read, Write};
@@ -226,7 +227,7 @@ fn with_sums(file: [u8; 264]) -> [u8; 264] {
 fn is_refused(alloc: Global, file: &[u8], number: u8, place: u32) -> bool {
     let ran = normalised(alloc, file, WHOLE, WHOLE);
     let refusal = Refusal { number, place };
-    ran.answer == Err(RunFault::Input(0, refusal)) && ran.writes == 0
+    ran.writes == 0 && matches!(ran.answer, Err(RunFault::Input(0, told)) if told == refusal)
 }
 
 #[test]
@@ -252,7 +253,10 @@ fn tells(
     lines: &str,
 ) -> Result<bool, AllocError> {
     let ran = checked(alloc, files, WHOLE)?;
-    Ok(ran.answer == Ok(status) && ran.written.as_slice() == lines.as_bytes())
+    Ok(
+        matches!(ran.answer, Ok(told) if told == status)
+            && ran.written.as_slice() == lines.as_bytes(),
+    )
 }
 
 #[test]
@@ -290,15 +294,64 @@ fn stops_at_a_device(rt: HostRuntime) -> Result<(), Fail> {
     for call in 0..4 {
         let second = ("b", ONE_CLASS.as_slice(), failing(100, call));
         let ran = checked(alloc, &[first, second, first], WHOLE)?;
-        assert!(rt; ran.answer == Err(RunFault::Read(1)), "call {call}");
+        assert!(rt; matches!(ran.answer, Err(RunFault::Read(1))), "call {call}");
         assert!(rt; ran.read_failed && !ran.write_failed, "call {call}");
         assert!(rt; ran.written.as_slice() == line.as_slice(), "call {call}");
     }
     for call in 0..16 {
         let ran = checked(alloc, &[first], failing(1, call))?;
-        assert!(rt; ran.answer == Err(RunFault::Write), "call {call}");
+        assert!(rt; matches!(ran.answer, Err(RunFault::Write)), "call {call}");
         assert!(rt; ran.write_failed && !ran.read_failed, "call {call}");
         assert!(rt; ran.written.as_slice() == &line[..call], "call {call}");
     }
+    Ok(())
+}
+
+// What a merge of these files by this plan tells, where it ends before anything is written.
+fn unmerged(
+    alloc: Global,
+    files: &[(&[u8], Script)],
+    plan: &Plan,
+) -> Result<Option<RunFault>, AllocError> {
+    let mut inputs = Vec::new(alloc);
+    for (file, reads) in files {
+        inputs.push(Device::new(Scripted::new(*file, *reads)))?;
+    }
+    let mut out = Device::new(Scripted::new(Vec::new(alloc), WHOLE));
+    let answer = merge_run(
+        alloc,
+        inputs.as_mut_slice(),
+        plan,
+        &Caps::greatest(),
+        &mut out,
+    );
+    let Scripted { calls, .. } = out.into_inner();
+    match answer {
+        Err(fault) if calls == 0 => Ok(Some(fault)),
+        _ => Ok(None),
+    }
+}
+
+#[test]
+fn ends_before_merging(rt: HostRuntime) -> Result<(), Fail> {
+    let alloc = rt.alloc();
+    let one = (ONE_CLASS.as_slice(), WHOLE);
+    let broken = (ONE_CLASS.as_slice(), failing(100, 1));
+    let short = (&NO_CLASS[..111], WHOLE);
+    let bad = unmerged(alloc, &[broken], &Plan::Leaf(1))?;
+    assert!(rt; matches!(bad, Some(RunFault::Plan)));
+    let mut parts = Vec::new(alloc);
+    for i in 0..3 {
+        parts.push(Plan::Leaf(i))?;
+    }
+    let plan = Plan::Node(parts);
+    let unnamed = unmerged(alloc, &[one, one, one, one], &plan)?;
+    assert!(rt; matches!(unnamed, Some(RunFault::Plan)));
+    let unread = unmerged(alloc, &[one, broken, short], &plan)?;
+    assert!(rt; matches!(unread, Some(RunFault::Read(1))));
+    let refused = unmerged(alloc, &[one, short, broken], &plan)?;
+    assert!(rt;
+        matches!(refused, Some(RunFault::Input(1, told)) if told.number == 1 && told.place == 0)
+    );
     Ok(())
 }

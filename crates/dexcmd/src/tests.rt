@@ -1,6 +1,6 @@
 //! The words of the command line, and what is said of faults.
 
-use crate::{Job, RunFault, explain, read_words};
+use crate::{Job, MergeCause, RunFault, explain, read_words};
 use dexhead::Refusal;
 use std::test::Fail;
 
@@ -31,6 +31,15 @@ const NAMES: [&str; 24] = [
     "Later",
 ];
 
+const CAPS: [&str; 6] = [
+    "types",
+    "protos",
+    "fields",
+    "methods",
+    "short-strings",
+    "weight",
+];
+
 #[test]
 fn explains(rt: HostRuntime) -> Result<(), Fail> {
     let alloc = rt.alloc();
@@ -57,6 +66,13 @@ fn explains(rt: HostRuntime) -> Result<(), Fail> {
         let fault = RunFault::Input(0, Refusal { number, place: 5 });
         let told = explain(alloc, &fault, &["a"], "b")?;
         let line = format!(in alloc; "dexkit: a: refused {number} {name} at 5")?;
+        assert_eq!(rt; told.1.as_str(), line.as_str());
+    }
+    for (number, name) in (1u8..).zip(CAPS) {
+        let fault = RunFault::Merge(MergeCause::Cap(number));
+        let told = explain(alloc, &fault, &["a"], "b")?;
+        let line = format!(in alloc; "dexkit: cap {name}")?;
+        assert_eq!(rt; told.0, 1u8, "{line}");
         assert_eq!(rt; told.1.as_str(), line.as_str());
     }
     Ok(())

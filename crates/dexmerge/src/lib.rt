@@ -18,5 +18,5 @@ mod tests;
 pub use caps::Caps;
 pub use faults::{MergeFault, PlanFault};
 pub use merging::merge;
-pub use plan::Plan;
+pub use plan::{Plan, is_plan_for};
 pub use planned::merge_plan;

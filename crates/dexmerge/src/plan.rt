@@ -58,10 +58,10 @@ fn are_all_named(is_named: &[bool]) -> bool
     true
 }
 
-/// Whether the plan names each of so many files and no other, and is not too deep.
+/// Whether the plan names each of so many files and no other, and is at most 64 deep.
 ///
 /// Error: the memory for marks on the files was refused.
-pub(crate) fn is_plan_for(alloc: Global, plan: &Plan, files: usize) -> Result<bool, AllocError>
+pub fn is_plan_for(alloc: Global, plan: &Plan, files: usize) -> Result<bool, AllocError>
     ensures { IfOk result (λ is_plan. MatchBool is_plan (IsPlanFor files (plan_of plan.now)) (IsPlanFor files (plan_of plan.now) → ⊥)) }
 {
     let mut is_named = vec![in alloc; false; files]?;

@@ -7,14 +7,20 @@ use thiserror::Error;
 /// Why the program stops.
 #[derive(Debug, Drop, Error)]
 pub enum BenchFault {
-    /// The words are not the name of one file.
-    #[error("usage: dexbench FILE")]
+    /// The words are not the names of files.
+    #[error("usage: dexbench FILE..")]
     Words,
-    /// The file cannot be read.
-    #[error("cannot read the file: {0}")]
+    /// Of several files the one of this number is refused, by a condition at a place.
+    #[error("file {0} is refused by condition {1} at {2}")]
+    Refused(usize, u8, u32),
+    /// Several files cannot be merged.
+    #[error("the files cannot be merged")]
+    Unmerged,
+    /// A file cannot be read.
+    #[error("cannot read a file: {0}")]
     File(io::Error),
-    /// The file does not end within 2^30 bytes.
-    #[error("the file has more than 2^30 bytes")]
+    /// A file does not end within 2^30 bytes.
+    #[error("a file has more than 2^30 bytes")]
     Long,
     /// The clock or the output fails.
     #[error("{0}")]
@@ -27,6 +33,7 @@ impl BenchFault {
     /// The status that the program ends with.
     pub fn status(&self) -> u8 {
         match self {
+            BenchFault::Refused(..) | BenchFault::Unmerged => 1,
             BenchFault::Words => 2,
             BenchFault::File(_) | BenchFault::Long => 3,
             BenchFault::Device(_) | BenchFault::Memory => 4,

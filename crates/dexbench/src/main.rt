@@ -1,23 +1,27 @@
 //! Times what every file has to go through, on a file named on the command line: SHA-1, Adler-32, opening
-//! the frame, reading the texts, comparing neighbours among them, reading the pools and joining numberings. It is no
+//! the frame, reading the texts, comparing neighbours among them, reading the pools and joining numberings. Of several
+//! files it times how they are read, merged in one join and written, beside the sums of what is written. It is no
 //! test: nothing is too slow.
 //!
-//! The status is 0 once the file is timed, 2 where the words are not one file's name, 3 where the file cannot
-//! be read or has more than 2^30 bytes, and 4 where the clock, the output or memory fails.
+//! The status is 0 once the files are timed, 1 where one of several is refused or they cannot be merged, 2 where no file
+//! is named, 3 where a file cannot be read or has more than 2^30 bytes, and 4 where the clock, the output or memory fails.
 #![tactic(auto)]
 
 mod fault;
+mod merges;
 mod numberings;
 mod pace;
 mod texts;
 
+use dexcanon::to_bytes;
 use dexhead::{Frame, adler};
 use dexpool::{Numbering, Pools};
 use fault::BenchFault;
+use merges::{bytes_of, merge_all, merged, programs, read_files, sums, write};
 use numberings::{dealt, join, lent, read_pools, symbols};
 use pace::timed;
 use sha1::Sha1;
-use std::alloc::Global;
+use std::alloc::{AllocError, Global};
 use std::io::Read;
 use std::process::ExitCode;
 use std::rt::{Env, Files};
@@ -140,6 +144,33 @@ fn time_file(rt: &(impl CpuClock + Print), alloc: Global, bytes: &[u8]) -> Resul
     }
 }
 
+// Merges the files in one join, and writes what they make.
+fn time_merge(
+    rt: &(impl CpuClock + Print),
+    alloc: Global,
+    files: &[Vec<u8>],
+) -> Result<(), BenchFault> {
+    let programs = programs(alloc, files)?;
+    let parts = merges::lent(alloc, &programs)?;
+    let program = merged(alloc, &parts)?;
+    let file = to_bytes(alloc, &program)?;
+    let count = files.len();
+    let len = bytes_of(files);
+    let pace = timed(rt, || read_files(alloc, files))?;
+    let (rate, micros, answer) = (pace.millions(len), pace.micros(), pace.answer());
+    println!(rt; "reading {count} files: {rate} MB/s, {micros} us; {answer} classes")?;
+    let pace = timed(rt, || merge_all(alloc, &parts))?;
+    let (rate, micros, answer) = (pace.millions(len), pace.micros(), pace.answer());
+    println!(rt; "merging {count} files: {rate} MB/s, {micros} us; {answer} classes")?;
+    let pace = timed(rt, || write(alloc, &program))?;
+    let (rate, micros, answer) = (pace.millions(file.len()), pace.micros(), pace.answer());
+    println!(rt; "writing the merged file: {rate} MB/s, {micros} us; {answer} bytes")?;
+    let pace = timed(rt, || sums(&file))?;
+    let (rate, micros) = (pace.millions(file.len()), pace.micros());
+    println!(rt; "SHA-1 and Adler-32 of it: {rate} MB/s, {micros} us")?;
+    Ok(())
+}
+
 // The whole file, which has at most as many bytes as a file of the format may have.
 fn read_file<R: Files + Alloc<A = Global>>(rt: &R, name: &str) -> Result<Vec<u8>, BenchFault> {
     let file = fs::open(rt, name).map_err(BenchFault::File)?;
@@ -155,11 +186,17 @@ fn read_file<R: Files + Alloc<A = Global>>(rt: &R, name: &str) -> Result<Vec<u8>
 
 fn run<R: Files + Print + Env + CpuClock + Alloc<A = Global>>(rt: &R) -> Result<(), BenchFault> {
     let words: Vec<String> = env::args(rt)?.collect(rt.alloc())?;
-    let [_, name] = words.as_slice() else {
-        return Err(BenchFault::Words);
-    };
-    let bytes = read_file(rt, name.as_str())?;
-    time_file(rt, rt.alloc(), bytes.as_slice())
+    let mut files = Vec::new(rt.alloc());
+    for name in words.iter().skip(1) {
+        files
+            .push(read_file(rt, name.as_str())?)
+            .map_err(AllocError::from)?;
+    }
+    match files.as_slice() {
+        [] => Err(BenchFault::Words),
+        [file] => time_file(rt, rt.alloc(), file),
+        files => time_merge(rt, rt.alloc(), files),
+    }
 }
 
 fn main(rt: HostRuntime) -> ExitCode {

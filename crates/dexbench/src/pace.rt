@@ -25,6 +25,11 @@ impl Pace {
         }
     }
 
+    /// How many microseconds a round took.
+    pub fn micros(&self) -> u128 {
+        self.time.as_micros() / u128::from(self.rounds).max(1)
+    }
+
     /// What each round answered, where all answer alike and below 2^32.
     pub fn answer(&self) -> u64 {
         self.answers / u64::from(self.rounds).max(1)

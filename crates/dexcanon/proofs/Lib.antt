@@ -12,3 +12,7 @@ pub mod ListsMade
 pub mod BodyParts
 pub mod Sealed
 pub mod WrittenPieces
+pub mod Taken
+pub mod WithRoom
+pub mod Told
+pub mod GoodFile

@@ -5,15 +5,19 @@
 #![tactic(auto)]
 
 mod faults;
+mod files;
 mod items;
 mod kept;
 mod layout;
+mod makings;
 mod outputs;
 mod sections;
 mod taking;
 #[cfg(test)]
 mod tests;
 mod writing;
+#[cfg(test)]
+mod writing_tests;
 
 pub use faults::StoreFault;
 pub use layout::Layout;

@@ -4,19 +4,20 @@ ghost use Rattle.std.specs.Prelude.{◌≡◌, ◌↔◌, ◌++◌, true, false,
 ghost use Rattle.dexspec.specs.Files.{Collection, definitions, Denotes};
 ghost use Rattle.dexspec.specs.WellFormed.{AreWellFormed};
 ghost use Rattle.dexspec.specs.Merging.{IsGood, greatest_caps};
-ghost use Rattle.dexspec.specs.Plain.{ArePlain};
 ghost use Rattle.dexspec.specs.Accepted.{IsAccepted};
 ghost use Rattle.dexspec.specs.Canonical.{canonical};
 ghost use Rattle.dexcanon.specs.Written.{HasLeft};
 ghost use Rattle.dexcanon.specs.declared.faults.StoreFault.TheVariants.{Io};
 
 use crate::faults::StoreFault;
+use crate::files::put_file;
 use crate::kept::{Keeps, Nothing};
 use crate::layout::lay;
-use crate::outputs::write_whole;
+use crate::makings::{Hashes, Sums, Writes};
 use crate::sections::put_body;
 use dexclass::Program;
-use dexhead::{Sink, set_sums};
+use dexhead::{Adler, Sink, set_sums};
+use sha1::Sha1;
 use std::alloc::{AllocError, Global};
 
 /// The canonical file of a program. It is accepted, and stands for just the program's definitions.
@@ -24,10 +25,10 @@ use std::alloc::{AllocError, Global};
 /// Error: the memory for it was refused.
 pub fn to_bytes(alloc: Global, program: &Program<'_>) -> Result<Vec<u8>, AllocError>
     ensures bytes { IfOk result (λ bytes. bytes.items ≡ canonical program.now) }
-    ensures accepted { (K : Collection) → IsGood greatest_caps (definitions K) → AreWellFormed (definitions K) → ArePlain (definitions K) → IsAccepted (canonical K) }
-    ensures denotes { (K : Collection) → IsGood greatest_caps (definitions K) → AreWellFormed (definitions K) → ArePlain (definitions K) → Denotes (canonical K) K }
+    ensures accepted { (K : Collection) → IsGood greatest_caps (definitions K) → AreWellFormed (definitions K) → IsAccepted (canonical K) }
+    ensures denotes { (K : Collection) → IsGood greatest_caps (definitions K) → AreWellFormed (definitions K) → Denotes (canonical K) K }
 {
-    dexlaws_normal::plain_normal_form();
+    dexlaws_normal::normal_form();
     program.is_good();
     let numbering = program.numbering();
     let classes = program.classes();
@@ -46,10 +47,14 @@ pub fn to_bytes(alloc: Global, program: &Program<'_>) -> Result<Vec<u8>, AllocEr
     Ok(file)
 }
 
-/// Writes the canonical file of a program. The whole file is made before the first write.
+/// Writes the canonical file of a program, item by item. The items are made three times: for the signature, for the
+/// checksum, which covers the signature, and for the writer. One vector holds each in turn, and has room for the
+/// greatest before the first is made: the writer is given no slice that is longer.
 ///
 /// Condition: the writer has not failed. Error: `Memory` where a growth was refused, and then nothing was written;
 /// `Io` exactly where the writer failed in this call, and then a front of the file was written.
+///
+/// Source: "Dalvik Executable format", "header_item", the fields `checksum` and `signature`.
 pub fn write_to<W: Sink>(
     alloc: Global,
     program: &Program<'_>,
@@ -60,9 +65,34 @@ pub fn write_to<W: Sink>(
     ensures left { IfErr result (HasLeft (W.tells out.old) out.old out.new W.taken (canonical program.now)) }
     ensures device { IsErrOf result Io ↔ (W.has_failed out.new ≡ true) }
 {
-    let file = to_bytes(alloc, program)?;
-    match write_whole(out, &file) {
-        Ok(()) => Ok(()),
-        Err(_) => Err(StoreFault::Io),
-    }
+    program.is_good();
+    let numbering = program.numbering();
+    let classes = program.classes();
+    numbering.is_numbering();
+    dexpool::number_law();
+    dexlaws_size::fitting_size_law();
+    dexhead::laws::file_law();
+    dexhead::laws::sums_law();
+    let layout = lay(alloc, numbering, classes)?;
+    let mut item = Vec::with_capacity(alloc, layout.greatest)?;
+    let mut head = layout.head;
+
+    let mut message = Sha1::new();
+    put_file::<Sha1, Hashes>(
+        &head,
+        32,
+        numbering,
+        classes,
+        &layout,
+        &mut item,
+        &mut message,
+    )
+    .unwrap();
+    head.signature = message.finalize();
+
+    let mut sums = Adler::new();
+    put_file::<Adler, Sums>(&head, 12, numbering, classes, &layout, &mut item, &mut sums).unwrap();
+    head.checksum = sums.value();
+
+    put_file::<W, Writes>(&head, 0, numbering, classes, &layout, &mut item, out)
 }

@@ -9,20 +9,14 @@ mod class_rows;
 mod class_types;
 mod classes;
 mod flags;
-#[cfg(test)]
-mod flags_tests;
 mod flags_text;
 mod judging;
 mod laws;
 mod marking;
 mod ordering;
 mod parents;
-#[cfg(test)]
-mod program_tests;
 mod programs;
 mod reading;
-#[cfg(test)]
-mod reading_tests;
 mod renumbering;
 mod trimming;
 

@@ -1,7 +1,8 @@
 -- What the run of `merge` leaves, and what its faults say.
 use Rattle.std.specs.Prelude.{◌≡◌, ℕ, ◌<◌, Bool, true, false, List, [], ◌++◌, length, take, slice_index_or}
 use Rattle.std.specs.List.{AllZip}
-use Rattle.dexspec.specs.Files.{Collection}
+use Rattle.dexspec.specs.Files.{Collection, Denotes}
+use Rattle.dexspec.specs.Accepted.{IsAccepted}
 use Rattle.dexspec.specs.Merging.{Caps, Cause, Plan, IsPlanFor}
 use Rattle.dexspec.specs.Merging as merging
 use Rattle.dexspec.specs.Canonical.{canonical}
@@ -50,13 +51,19 @@ IsUnionFault caps collections plan (run.Read i) = ⊥
 IsUnionFault caps collections plan run.Write = ⊥
 IsUnionFault caps collections plan run.Memory = Unit {0}
 
+-- the canonical file of the collection is accepted, and denotes just the collection
+pub record IsFileOf (whole : Collection) : Type 0 where
+  pub accepted : IsAccepted (canonical whole)
+  pub denotes : Denotes (canonical whole) whole
+
 -- The plan is one for the files, each of them was read, the union of what the plan names is good and is the collection
--- whose canonical file was written, or so much of it as is said.
+-- whose canonical file was written, or so much of it as is said. This file is accepted as just the union.
 pub record IsMergedFile (reads : Type 0) (caps : Caps) (files : List (List ℕ)) (plan : Plan) (Written : List ℕ → Type 0) : Type 0 where
   pub collections : List Collection
   pub whole : Collection
   pub inputs : AreReadAs reads files collections
   pub merged : IsPlanned caps collections plan whole
+  pub read_back : IsFileOf whole
   pub written : Written (canonical whole)
 
 -- each of the files was read, and the cause is true of the union of what the plan names

@@ -1,9 +1,18 @@
 -- What the words of the command line ask for.
-use Rattle.std.specs.Prelude.{◌<◌, vec_len}
+use Rattle.std.specs.Prelude.{◌<◌, ◌≤◌, ℕ, Option, IfSome, vec_len}
+use Rattle.dexspec.specs.Merging.{Caps, AreCaps}
 use Rattle.dexcmd.specs.declared.words.Job.{Job}
-use Rattle.dexcmd.specs.declared.words.Job.TheVariants.{Check, Normalise}
+use Rattle.dexcmd.specs.declared.words.Job.TheVariants.{Check, Normalise, Merge}
 
--- a check has one file or more
+-- a merge has one file or more, a fan from 2 to 65535 where it has one, and caps that are not above the greatest
+pub record IsSoundMerge (files : ℕ) (fan : Option ℕ) (caps : Caps) : Type 0 where
+  pub some : 0 < files
+  pub least : IfSome fan (λ n. 2 ≤ n)
+  pub most : IfSome fan (λ n. n ≤ 65535)
+  pub capped : AreCaps caps
+
+-- a check and a merge have one file or more
 abbrev pub IsSound : Job → Type 0
 IsSound (Check files) = 0 < vec_len files
 IsSound (Normalise file out) = Unit {0}
+IsSound (Merge out fan caps files) = IsSoundMerge (vec_len files) fan caps

@@ -4,24 +4,18 @@
 
 mod checking;
 mod explaining;
+mod fanning;
 mod faults;
 mod inputs;
 mod lines;
-#[cfg(test)]
-mod merge_tests;
 mod merging;
-#[cfg(test)]
-mod normalise_tests;
 mod normalising;
 mod outputs;
-#[cfg(test)]
-mod run_tests;
-#[cfg(test)]
-mod tests;
 mod words;
 
 pub use checking::check_run;
 pub use explaining::explain;
+pub use fanning::fan_plan;
 pub use faults::{MergeCause, RunFault};
 pub use merging::merge_run;
 pub use normalising::normalise_run;

@@ -12,6 +12,7 @@ use crate::inputs::{InputFault, read_whole};
 use dexcanon::{StoreFault, write_to};
 use dexclass::Program;
 use dexhead::{Sink, Source};
+use dexlaws_normal::normal_form;
 use dexmerge::{Caps, MergeFault, Plan, PlanFault, is_plan_for, merge_plan};
 use dexpool::ReadFault;
 use std::alloc::{AllocError, Global};
@@ -80,7 +81,8 @@ fn united<'a>(
     }
 }
 
-/// Writes the canonical file of the union of inputs, merged by a plan.
+/// Writes the canonical file of the union of inputs, merged by a plan. The file is accepted, and stands for just the
+/// union.
 ///
 /// Condition: no device has failed. Error: `Plan`, before any reader is called, exactly where the plan names an input
 /// that there is not, or does not name one that there is, or is deeper than 64. Then one input after the other is read
@@ -123,6 +125,8 @@ pub fn merge_run<R: Source, W: Sink>(
         Ok(program) => program,
         Err(fault) => return Err(fault),
     };
+    program.is_good();
+    normal_form();
     match write_to(alloc, &program, out) {
         Ok(()) => Ok(()),
         Err(StoreFault::Io) => Err(RunFault::Write),

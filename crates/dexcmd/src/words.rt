@@ -1,11 +1,15 @@
 //! The words of the command line.
 
-ghost use Rattle.std.specs.Prelude.{IfOk, IfSome};
+ghost use Rattle.std.specs.Prelude.{◌<◌, vec_len, IfOk, IfSome};
+ghost use Rattle.dexspec.specs.Merging.{AreCaps};
 ghost use Rattle.dexcmd.specs.Words.{IsSound};
 
 use clap::error::ErrorKind;
-use clap::{Arg, ArgAction, ArgMatches, Command, Error};
+use clap::{Arg, ArgAction, ArgMatches, Command, Error, value_parser};
+use dexmerge::Caps;
 use std::alloc::{AllocError, Global};
+
+const LEAST_FAN: u16 = 2;
 
 /// What the words ask for. Files are named as they stand in the words.
 #[derive(Debug, Drop)]
@@ -14,6 +18,8 @@ pub enum Job {
     Check(Vec<String>),
     /// Writes the canonical file of the first to the second.
     Normalise(String, String),
+    /// Writes the merged file to the first: so many of the files at a time, or all at once, under the caps.
+    Merge(String, Option<usize>, Caps, Vec<String>),
 }
 
 fn owned(alloc: Global, texts: &[&str]) -> Result<Vec<String>, AllocError> {
@@ -28,37 +34,113 @@ fn one<'a>(alloc: Global, id: &'a str, name: &'a str) -> Arg<'a> {
     Arg::new(alloc, id).value_name(name).required(true)
 }
 
-fn command<'a>(alloc: Global) -> Result<Command<'a>, AllocError> {
-    let files = one(alloc, "files", "FILE")
+fn files<'a>(alloc: Global) -> Arg<'a> {
+    one(alloc, "files", "FILE")
         .num_args(1..)
-        .action(ArgAction::Append);
+        .action(ArgAction::Append)
+}
+
+// An option that names the most of something, at most so many.
+fn most<'a>(alloc: Global, id: &'a str, greatest: u32) -> Arg<'a> {
+    Arg::new(alloc, id)
+        .long(id)
+        .value_name("N")
+        .value_parser(value_parser!(u32).range(0..=i64::from(greatest)))
+}
+
+fn merge<'a>(alloc: Global) -> Result<Command<'a>, AllocError> {
+    let fan = Arg::new(alloc, "fan")
+        .long("fan")
+        .value_name("N")
+        .help("Merges so many files at a time, and then so many of what came out")
+        .value_parser(value_parser!(u16).range(i64::from(LEAST_FAN)..));
+    let greatest = Caps::greatest();
+    Command::new(alloc, "merge")
+        .about("Writes the canonical form of all classes of the files")
+        .arg(one(alloc, "out", "OUT").long("out"))?
+        .arg(fan)?
+        .arg(most(alloc, "max-types", greatest.types()))?
+        .arg(most(alloc, "max-protos", greatest.protos()))?
+        .arg(most(alloc, "max-fields", greatest.fields()))?
+        .arg(most(alloc, "max-methods", greatest.methods()))?
+        .arg(most(alloc, "max-weight", greatest.weight()))?
+        .arg(files(alloc))
+}
+
+fn command<'a>(alloc: Global) -> Result<Command<'a>, AllocError> {
     let check = Command::new(alloc, "check")
         .about("Tells of each file whether it is accepted")
-        .arg(files)?;
+        .arg(files(alloc))?;
     let normalise = Command::new(alloc, "normalise")
         .about("Writes the canonical form of a file")
         .arg(one(alloc, "file", "FILE"))?
         .arg(one(alloc, "out", "OUT"))?;
     Command::new(alloc, "dexkit")
-        .about("Checks and normalises DEX files of version 035")
+        .about("Checks, normalises and merges DEX files of version 035")
         .no_binary_name(true)
         .subcommand_required(true)
         .subcommand(check)?
-        .subcommand(normalise)
+        .subcommand(normalise)?
+        .subcommand(merge(alloc)?)
 }
 
 fn text_of(alloc: Global, matches: &ArgMatches<'_>, id: &str) -> Result<String, AllocError> {
     String::from_str(alloc, matches.get_str(id).unwrap_or(""))
 }
 
-fn check_of(alloc: Global, matches: &ArgMatches<'_>) -> Result<Option<Job>, AllocError>
-    ensures { IfOk result (λ job. IfSome job IsSound) }
+// The files of a command, of which there is one or more.
+fn files_of(alloc: Global, matches: &ArgMatches<'_>) -> Result<Option<Vec<String>>, AllocError>
+    ensures { IfOk result (λ files. IfSome files (λ files. 0 < vec_len files)) }
 {
     let files = owned(alloc, matches.get_strs("files").unwrap_or(&[]))?;
     if files.is_empty() {
         return Ok(None);
     }
-    Ok(Some(Job::Check(files)))
+    Ok(Some(files))
+}
+
+// The caps of a merge: what the options name, and else the greatest.
+fn caps_of(matches: &ArgMatches<'_>) -> Option<Caps>
+    ensures { IfSome result AreCaps }
+{
+    let greatest = Caps::greatest();
+    let caps = Caps::new(
+        matches.get_one("max-types").unwrap_or(greatest.types()),
+        matches.get_one("max-protos").unwrap_or(greatest.protos()),
+        matches.get_one("max-fields").unwrap_or(greatest.fields()),
+        matches.get_one("max-methods").unwrap_or(greatest.methods()),
+        greatest.short_strings(),
+        matches.get_one("max-weight").unwrap_or(greatest.weight()),
+    )?;
+    caps.are_caps();
+    Some(caps)
+}
+
+fn check_of(alloc: Global, matches: &ArgMatches<'_>) -> Result<Option<Job>, AllocError>
+    ensures { IfOk result (λ job. IfSome job IsSound) }
+{
+    match files_of(alloc, matches)? {
+        Some(files) => Ok(Some(Job::Check(files))),
+        None => Ok(None),
+    }
+}
+
+fn merge_of(alloc: Global, matches: &ArgMatches<'_>) -> Result<Option<Job>, AllocError>
+    ensures { IfOk result (λ job. IfSome job IsSound) }
+{
+    let fan = match matches.get_one::<u16>("fan") {
+        Some(fan) if fan < LEAST_FAN => return Ok(None),
+        Some(fan) => Some(usize::from(fan)),
+        None => None,
+    };
+    let Some(caps) = caps_of(matches) else {
+        return Ok(None);
+    };
+    let Some(files) = files_of(alloc, matches)? else {
+        return Ok(None);
+    };
+    let out = text_of(alloc, matches, "out")?;
+    Ok(Some(Job::Merge(out, fan, caps, files)))
 }
 
 fn job_of(alloc: Global, matches: &ArgMatches<'_>) -> Result<Option<Job>, AllocError>
@@ -70,6 +152,7 @@ fn job_of(alloc: Global, matches: &ArgMatches<'_>) -> Result<Option<Job>, AllocE
             text_of(alloc, found, "file")?,
             text_of(alloc, found, "out")?,
         ))),
+        Some(("merge", found)) => merge_of(alloc, found),
         _ => Ok(None),
     }
 }

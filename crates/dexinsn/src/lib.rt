@@ -27,12 +27,8 @@ mod numbers;
 mod opcodes;
 mod payload;
 mod piece;
-#[cfg(test)]
-mod piece_tests;
 mod pieces;
 mod put;
 mod reading;
 mod same;
-#[cfg(test)]
-mod tests;
 mod units;

@@ -1,11 +1,15 @@
 //! What the program does for each command.
 
-ghost use Rattle.std.specs.Prelude.{length, IfErr};
+ghost use Rattle.std.specs.Prelude.{◌≡◌, ◌≤◌, length, IfOk, IfErr, IfSome};
 ghost use Rattle.dexcmd.specs.Lines.{HasName};
+ghost use Rattle.dexcmd.specs.Runs.{AllWork};
+ghost use Rattle.dexcmd.specs.Words.{IsSound};
+ghost use Rattle.dexhead.specs.Device.{is_broken};
 
 use crate::files::{NewFile, OldFile};
-use dexcmd::{Job, RunFault, check_run, explain, normalise_run};
+use dexcmd::{Job, RunFault, check_run, explain, fan_plan, merge_run, normalise_run};
 use dexhead::Device;
+use dexmerge::Caps;
 use std::alloc::{AllocError, Global};
 use std::io;
 use std::rt::Files;
@@ -14,13 +18,26 @@ const DONE: u8 = 0;
 
 const STANDARD_OUTPUT: &str = "standard output";
 
-fn check(rt: &(impl Files + Print), alloc: Global, names: &[&str]) -> Result<u8, RunFault>
-    ensures { IfErr result (HasName (length names.now)) }
+// A reader for each file, which opens it when it is first read.
+fn readers<'a, R: Files>(
+    rt: &'a R,
+    alloc: Global,
+    names: &[&'a str],
+) -> Result<Vec<Device<OldFile<'a, R>>>, AllocError>
+    ensures count { IfOk result (λ inputs. length inputs.items ≡ length names.now) }
+    ensures works { IfOk result (λ inputs. AllWork is_broken inputs.items) }
 {
-    let mut inputs = Vec::new(alloc);
+    let mut inputs = Vec::with_capacity(alloc, names.len())?;
     for name in names {
         inputs.push(Device::new(OldFile::new(rt, name)))?;
     }
+    Ok(inputs)
+}
+
+fn check(rt: &(impl Files + Print), alloc: Global, names: &[&str]) -> Result<u8, RunFault>
+    ensures { IfErr result (HasName (length names.now)) }
+{
+    let mut inputs = readers(rt, alloc, names)?;
     let mut out = Device::new(io::writer(rt));
     check_run(alloc, names, inputs.as_mut_slice(), &mut out)
 }
@@ -31,6 +48,24 @@ fn normalise(rt: &impl Files, alloc: Global, file: &str, out: &str) -> Result<()
     let mut input = Device::new(OldFile::new(rt, file));
     let mut out = Device::new(NewFile::new(rt, out));
     normalise_run(alloc, &mut input, &mut out)
+}
+
+fn merge(
+    rt: &impl Files,
+    alloc: Global,
+    names: &[&str],
+    fan: Option<usize>,
+    caps: &Caps,
+    out: &str,
+) -> Result<(), RunFault>
+    requires names { 1 ≤ length names.now }
+    requires fan { IfSome fan (λ fan. 2 ≤ fan) }
+    ensures { IfErr result (HasName (length names.now)) }
+{
+    let plan = fan_plan(alloc, names.len(), fan)?;
+    let mut inputs = readers(rt, alloc, names)?;
+    let mut out = Device::new(NewFile::new(rt, out));
+    merge_run(alloc, inputs.as_mut_slice(), &plan, caps, &mut out)
 }
 
 // Says on standard error what went wrong, and answers the exit status.
@@ -48,20 +83,30 @@ fn told(
     Ok(status)
 }
 
+// The names as texts.
+fn texts<'a>(alloc: Global, names: &'a [String]) -> Result<Vec<&'a str>, AllocError>
+    ensures { IfOk result (λ texts. length texts.items ≡ length names.now) }
+{
+    let mut texts = Vec::with_capacity(alloc, names.len())?;
+    for name in names {
+        texts.push(name.as_str())?;
+    }
+    Ok(texts)
+}
+
 /// Does a job, says on standard error what went wrong, and answers the exit status.
 ///
-/// Error: the memory for saying it was refused.
+/// Condition: the job is one that words ask for. Error: the memory for saying it was refused.
 pub fn do_job(
     rt: &(impl Files + Print + Eprint),
     alloc: Global,
     job: &Job,
-) -> Result<u8, AllocError> {
+) -> Result<u8, AllocError>
+    requires { IsSound job.now }
+{
     match job {
         Job::Check(files) => {
-            let mut names = Vec::new(alloc);
-            for file in files {
-                names.push(file.as_str())?;
-            }
+            let names = texts(alloc, files)?;
             match check(rt, alloc, names.as_slice()) {
                 Ok(status) => Ok(status),
                 Err(fault) => told(rt, alloc, &fault, names.as_slice(), STANDARD_OUTPUT),
@@ -71,5 +116,12 @@ pub fn do_job(
             Ok(()) => Ok(DONE),
             Err(fault) => told(rt, alloc, &fault, &[file.as_str()], out.as_str()),
         },
+        Job::Merge(out, fan, caps, files) => {
+            let names = texts(alloc, files)?;
+            match merge(rt, alloc, names.as_slice(), *fan, caps, out.as_str()) {
+                Ok(()) => Ok(DONE),
+                Err(fault) => told(rt, alloc, &fault, names.as_slice(), out.as_str()),
+            }
+        }
     }
 }

@@ -1,8 +1,10 @@
-//! The program `dexkit`: checks and normalises DEX files.
+//! The program `dexkit`: checks, normalises and merges DEX files.
 //!
 //! `check FILE...` tells of each file whether it is accepted; `normalise FILE OUT` writes the canonical form of FILE
-//! to OUT. The status is 0 where all was done or help was asked for, 1 where a file was refused, 2 where the words are
-//! no command, 3 where input or output failed, and 4 where memory did.
+//! to OUT; `merge --out OUT FILE...` writes the canonical form of all classes of the files to OUT, under the caps of
+//! `--max-types` and its like, and with `--fan N` by merging N at a time. The status is 0 where all was done or help was
+//! asked for, 1 where a file or a merge was refused, 2 where the words are no command, 3 where input or output failed,
+//! and 4 where memory did.
 #![tactic(auto)]
 
 mod files;

@@ -3,22 +3,23 @@
 //! callers that cite it.
 #![tactic(auto)]
 
-ghost use Rattle.std.specs.Prelude.{ℕ, ◌<◌};
+ghost use Rattle.std.specs.Prelude.{◌≡◌, ◌↔◌, ℕ, ◌<◌, List, All};
+ghost use Rattle.std.specs.List.{Contains, AllZip, flat_map};
 ghost use Rattle.dexspec.specs.Texts.{text_cmp};
 ghost use Rattle.dexspec.specs.Symbols.{proto_cmp, field_cmp, method_cmp};
 ghost use Rattle.dexspec.specs.Header.{ClassDefs, table_size};
 ghost use Rattle.dexspec.specs.Rows.{StringRow, TypeRow, ProtoRow, FieldRow, MethodRow};
 ghost use Rattle.dexspec.specs.Classes.{Definition, ClassRow};
-ghost use Rattle.dexspec.specs.Files.{Collection, definitions, Denotes};
-ghost use Rattle.dexspec.specs.Mentions.{mentions};
+ghost use Rattle.dexspec.specs.Files.{Collection, definitions, Denotes, IsCollectionOf};
+ghost use Rattle.dexspec.specs.Mentions.{mentions, symbols_of};
 ghost use Rattle.dexspec.specs.Depth.{in_class_order};
 ghost use Rattle.dexspec.specs.WellFormed.{AreWellFormed};
-ghost use Rattle.dexspec.specs.Merging.{greatest_caps, Fits, IsGood};
+ghost use Rattle.dexspec.specs.Merging.{Caps, AreCaps, greatest_caps, Fits, IsGood};
 ghost use Rattle.dexspec.specs.Conditions.{Condition};
 ghost use Rattle.dexspec.specs.Accepted.{HoldsThroughout, HoldBelow, IsReadable, IsAccepted};
 ghost use Rattle.dexspec.specs.Plain.{ArePlain, IsPlainFile};
 ghost use Rattle.dexspec.specs.Canonical.{canonical};
-ghost use Rattle.dexlaws_normal.specs.Laws.{AreListed, StandAtRanks};
+ghost use Rattle.dexlaws_normal.specs.Laws.{AreListed, StandAtRanks, StandInRows, IsAcceptedAs};
 
 /// The string rows of the canonical file of definitions that fit are the mentioned texts, in order.
 pub fn strings_stand()
@@ -55,15 +56,20 @@ pub fn methods_stand()
     ensures holds { (K : Collection) → Fits greatest_caps (definitions K) → AreWellFormed (definitions K) → HoldsThroughout Condition.Methods (canonical K) }
 {}
 
-/// In the canonical file of any good collection each class row names the class at its place and parents
-/// that stand before it; where the collection is plain the class rows are its definitions, in order, and
-/// all that is to be read of them is there.
+/// The class rows of the canonical file of a good collection are its definitions, in order, and all that is
+/// to be read of them is there; those of a plain collection are plain.
 pub fn classes_stand()
     ensures holds { (K : Collection) → IsGood greatest_caps (definitions K) → AreWellFormed (definitions K) → HoldsThroughout Condition.Classes (canonical K) }
+    ensures rows { (K : Collection) → IsGood greatest_caps (definitions K) → AreWellFormed (definitions K) → AreListed (λ r (d : Definition). ClassRow (canonical K) r d.0 d.1) (in_class_order (definitions K)) }
+    ensures readable { (K : Collection) → IsGood greatest_caps (definitions K) → AreWellFormed (definitions K) → (r : ℕ) → r < table_size (canonical K) ClassDefs → IsReadable (canonical K) r }
+    ensures weight { (K : Collection) → IsGood greatest_caps (definitions K) → AreWellFormed (definitions K) → HoldsThroughout Condition.Weight (canonical K) }
     ensures plain { (K : Collection) → IsGood greatest_caps (definitions K) → AreWellFormed (definitions K) → ArePlain (definitions K) → IsPlainFile (canonical K) }
-    ensures rows { (K : Collection) → IsGood greatest_caps (definitions K) → AreWellFormed (definitions K) → ArePlain (definitions K) → AreListed (λ r (d : Definition). ClassRow (canonical K) r d.0 d.1) (in_class_order (definitions K)) }
-    ensures readable { (K : Collection) → IsGood greatest_caps (definitions K) → AreWellFormed (definitions K) → ArePlain (definitions K) → (r : ℕ) → r < table_size (canonical K) ClassDefs → IsReadable (canonical K) r }
-    ensures weight { (K : Collection) → IsGood greatest_caps (definitions K) → AreWellFormed (definitions K) → ArePlain (definitions K) → HoldsThroughout Condition.Weight (canonical K) }
+{}
+
+/// Each symbol that occurs in a definition of a collection that fits stands, in the canonical file, in the row
+/// of its index, and the index plus one fits 32 bits.
+pub fn symbols_stand()
+    ensures { (K : Collection) → Fits greatest_caps (definitions K) → AreWellFormed (definitions K) → (d : Definition) → Contains (definitions K) d → StandInRows (canonical K) (mentions (definitions K)) (symbols_of d) }
 {}
 
 /// Conditions 1 to 16 hold of the canonical file of any collection that is good and well formed.
@@ -71,8 +77,26 @@ pub fn rows_hold()
     ensures { (K : Collection) → IsGood greatest_caps (definitions K) → AreWellFormed (definitions K) → HoldBelow 17 (canonical K) }
 {}
 
-/// The canonical file of a plain collection that is good and well formed is accepted, and denotes it.
-pub fn plain_normal_form()
-    ensures accepted { (K : Collection) → IsGood greatest_caps (definitions K) → AreWellFormed (definitions K) → ArePlain (definitions K) → IsAccepted (canonical K) }
-    ensures denotes { (K : Collection) → IsGood greatest_caps (definitions K) → AreWellFormed (definitions K) → ArePlain (definitions K) → Denotes (canonical K) K }
+/// The canonical file of a collection that is good and well formed is accepted, and denotes it; so no two
+/// such collections have one canonical file.
+pub fn normal_form()
+    ensures accepted { (K : Collection) → IsGood greatest_caps (definitions K) → AreWellFormed (definitions K) → IsAccepted (canonical K) }
+    ensures denotes { (K : Collection) → IsGood greatest_caps (definitions K) → AreWellFormed (definitions K) → Denotes (canonical K) K }
+    ensures one { (K L : Collection) → IsGood greatest_caps (definitions K) → AreWellFormed (definitions K) → IsGood greatest_caps (definitions L) → AreWellFormed (definitions L) → canonical K ≡ canonical L → K ≡ L }
+{}
+
+/// The normal form of an accepted file, the canonical file of the collection that it denotes, is accepted and
+/// denotes it too; so accepted files have one normal form exactly where they denote one collection.
+pub fn files_normal_form()
+    ensures accepted { (b : List ℕ) (K : Collection) → All (λ byte. byte < 256) b → IsAccepted b → Denotes b K → IsAccepted (canonical K) }
+    ensures denotes { (b : List ℕ) (K : Collection) → All (λ byte. byte < 256) b → IsAccepted b → Denotes b K → Denotes (canonical K) K }
+    ensures same { (a b : List ℕ) (K L : Collection) → All (λ byte. byte < 256) a → IsAccepted a → Denotes a K → All (λ byte. byte < 256) b → IsAccepted b → Denotes b L → (canonical K ≡ canonical L) ↔ (K ≡ L) }
+{}
+
+/// Where the definitions of some accepted files can be merged under caps of the format, the canonical file of
+/// their collection is accepted and denotes it; and there is such a collection.
+pub fn union_normal_form()
+    ensures accepted { (caps : Caps) (files : List (List ℕ)) (parts : List Collection) (K : Collection) → AreCaps caps → AllZip IsAcceptedAs files parts → IsGood caps (flat_map definitions parts) → IsCollectionOf (flat_map definitions parts) K → IsAccepted (canonical K) }
+    ensures denotes { (caps : Caps) (files : List (List ℕ)) (parts : List Collection) (K : Collection) → AreCaps caps → AllZip IsAcceptedAs files parts → IsGood caps (flat_map definitions parts) → IsCollectionOf (flat_map definitions parts) K → Denotes (canonical K) K }
+    ensures some { (caps : Caps) (D : List Definition) → IsGood caps D → (K : Collection) × IsCollectionOf D K }
 {}

@@ -3,25 +3,30 @@
 //! callers that cite it.
 #![tactic(auto)]
 
-ghost use Rattle.std.specs.Prelude.{◌≡◌, ℕ, ℤ, ◌^◌, ◌%◌, ◌<◌, ◌≤◌, IsTrue, List, [], Option, length, map, All, IfSome, FitsSigned};
-ghost use Rattle.std.specs.List.{AllZip};
+ghost use Rattle.std.specs.Prelude.{◌≡◌, Some, ℕ, ℤ, ◌^◌, ◌%◌, ◌<◌, ◌≤◌, IsTrue, List, [], Option, None, length, map, All, IfSome, FitsSigned};
+ghost use Rattle.std.specs.List.{AllZip, Contains};
 ghost use Rattle.std.specs.Int.{w32};
-ghost use Rattle.dexspec.specs.Lists.{rises, OrNone};
+ghost use Rattle.dexspec.specs.Lists.{rises, OrNone, SomeAt};
 ghost use Rattle.dexspec.specs.Bytes.{Stands};
 ghost use Rattle.dexspec.specs.Numbers.{Uleb128At, Sleb128At, Uleb128p1At, plus_one, uleb128, sleb128, uleb128p1};
 ghost use Rattle.dexspec.specs.Texts.{Text, text_cmp};
 ghost use Rattle.dexspec.specs.Header.{data_off};
 ghost use Rattle.dexspec.specs.Rows.{FieldRow, MethodRow};
 ghost use Rattle.dexspec.specs.Values.{Value, Values, Elements, count_values, ValueAt, ValuesAt, ElementsAt, EncodedArrayAt};
-ghost use Rattle.dexspec.specs.Annotations.{Annotation, AnnotationSet, AnnotationAt, SetAt, RefListAt, Directory, DirectoryAt};
+ghost use Rattle.dexspec.specs.Annotations.{Annotation, AnnotationSet, AnnotationAt, SetAt, RefListAt, Directory, DirectoryAt, no_directory, annotated};
 ghost use Rattle.dexspec.specs.Debug.{Operation, Debug, OperationAt, DebugAt};
 ghost use Rattle.dexspec.specs.Pieces.{Cut};
-ghost use Rattle.dexspec.specs.Code.{Handler, HandlerAt};
+ghost use Rattle.dexspec.specs.Code.{Handler, HandlerAt, Code, CodeAt, handlers_weight, most_handlers};
 ghost use Rattle.dexspec.specs.ClassData.{ClassDataAt};
-ghost use Rattle.dexspec.specs.Classes.{Body, declared_methods};
-ghost use Rattle.dexspec.specs.Mentions.{Mentions, symbols_of, value_symbols, values_symbols, elements_symbols, annotation_symbols, operation_symbols, debug_symbols, handler_symbols};
-ghost use Rattle.dexspec.specs.Spellings.{value_bytes, values_bytes, elements_bytes, encoded_array_bytes, annotation_bytes, offsets_bytes, operation_bytes, debug_bytes, handler_bytes, class_data_bytes};
-ghost use Rattle.dexspec.specs.WellFormed.{IsValue, AreValues, AreElements, IsAnnotation, IsOperation, IsDebug, IsHandlerOf, IsWellFormed};
+ghost use Rattle.dexspec.specs.Symbols.{field_cmp, method_cmp};
+ghost use Rattle.dexspec.specs.Classes.{FieldDef, MethodDef, Body, Definition, declared_fields, declared_methods};
+ghost use Rattle.dexspec.specs.Mentions.{Mentions, mentions, field_of, method_of, symbols_of, value_symbols, values_symbols, elements_symbols, annotation_symbols, operation_symbols, debug_symbols, handler_symbols, code_symbols};
+ghost use Rattle.dexspec.specs.Spellings.{value_bytes, values_bytes, elements_bytes, encoded_array_bytes, annotation_bytes, offsets_bytes, operation_bytes, debug_bytes, handler_bytes, class_data_bytes, handler_off, code_bytes};
+ghost use Rattle.dexspec.specs.IndexPlaces.{IndexFits};
+ghost use Rattle.dexspec.specs.Placing.{SetOffsets, directory_bytes};
+ghost use Rattle.dexspec.specs.OwnDirectories.{HasSetsAt, own_directory};
+ghost use Rattle.dexspec.specs.WellFormed.{IsValue, AreValues, AreElements, IsAnnotation, IsOperation, IsDebug, IsHandlerOf, IsCodeItem, IsWellFormed};
+ghost use Rattle.dexspec.specs.Merging.{Fits, greatest_caps};
 ghost use Rattle.dexlaws_written.specs.Laws.{AreInRows, ArePairs, directory_of, class_data_of, IndicesRise};
 
 /// The shortest LEB128 of a number in range stands for the number.
@@ -71,4 +76,33 @@ pub fn handler_written()
 /// The bytes of class data, in the data, stand for the members of the class, with the offsets of their code.
 pub fn class_data_written()
     ensures { (b : List ℕ) (m : Mentions) (o : ℕ) (name : Text) (c : Body) (code_offs : List ℕ) → IsWellFormed (name, c) → IndicesRise m name c → AreInRows b m (symbols_of (name, c)) → length code_offs ≡ length (declared_methods c) → All (λ p. p < 2 ^ 32) code_offs → data_off b ≤ o → Stands b o (class_data_bytes m (name, c) code_offs) → ClassDataAt b o (class_data_of name c code_offs) }
+{}
+
+/// The bytes of a code item, at a multiple of four in the data, stand for it, where its debug program, if it
+/// has one, stands at the offset that they hold, and each index of 16 bits fits its place.
+pub fn code_written()
+    ensures { (b : List ℕ) (m : Mentions) (o debug_off : ℕ) (c : Code) → length b < 2 ^ 32 → length m.types ≤ 65536 → IsCodeItem c → AreInRows b m (code_symbols c) → All (IndexFits m) c.pieces → data_off b ≤ o → o % 4 ≡ 0 → OrNone (SomeAt DebugAt) None b debug_off c.debug → Stands b o (code_bytes m debug_off c) → CodeAt b o c }
+{}
+
+/// In the pools of definitions the indices of the members of each of a class's four lists rise.
+pub fn indices_rise()
+    ensures { (D : List Definition) (name : Text) (c : Body) → Contains D (name, c) → IsWellFormed (name, c) → IndicesRise (mentions D) name c }
+{}
+
+/// A class's directory, in the data, stands for what the class and its members are annotated with, where its
+/// sets and ref lists stand at the offsets; no directory is made where nothing is annotated. It has for each
+/// member what the member has.
+pub fn own_directory_written()
+    ensures some { (D : List Definition) (b : List ℕ) (o : ℕ) (name : Text) (c : Body) (sets : SetOffsets) (ref_lists bytes : List ℕ) → length b < 2 ^ 32 → Contains D (name, c) → IsWellFormed (name, c) → AreInRows b (mentions D) (symbols_of (name, c)) → HasSetsAt b name c sets ref_lists → directory_bytes (mentions D) (name, c) sets ref_lists ≡ Some bytes → data_off b ≤ o → o % 4 ≡ 0 → Stands b o bytes → DirectoryAt b o (own_directory name c) }
+    ensures none { (D : List Definition) (b : List ℕ) (name : Text) (c : Body) (sets : SetOffsets) (ref_lists : List ℕ) → length b < 2 ^ 32 → Contains D (name, c) → IsWellFormed (name, c) → AreInRows b (mentions D) (symbols_of (name, c)) → HasSetsAt b name c sets ref_lists → directory_bytes (mentions D) (name, c) sets ref_lists ≡ None → own_directory name c ≡ no_directory }
+    ensures fields { (name : Text) (c : Body) (f : FieldDef) → IsWellFormed (name, c) → Contains (declared_fields c) f → annotated field_cmp (own_directory name c).fields (field_of name f) ≡ f.annotations }
+    ensures methods { (name : Text) (c : Body) (x : MethodDef) → IsWellFormed (name, c) → Contains (declared_methods c) x → annotated method_cmp (own_directory name c).methods (method_of name x) ≡ x.annotations }
+    ensures parameters { (name : Text) (c : Body) (x : MethodDef) → IsWellFormed (name, c) → Contains (declared_methods c) x → annotated method_cmp (own_directory name c).parameters (method_of name x) ≡ x.parameter_annotations }
+{}
+
+/// What has a place of 16 bits fits it: the indices of instructions, in definitions that fit the greatest caps,
+/// and the offsets of handlers, where the types are few and the handlers light.
+pub fn places_fit()
+    ensures indices { (D : List Definition) (d : Definition) (x : MethodDef) (k : Code) → Fits greatest_caps D → Contains D d → Contains (declared_methods d.1) x → x.code ≡ Some k → IsCodeItem k → All (IndexFits (mentions D)) k.pieces }
+    ensures handlers { (m : Mentions) (hs : List Handler) (h : Handler) → length m.types ≤ 65536 → handlers_weight hs ≤ most_handlers → handler_off m (length (uleb128 (length hs))) hs h < 2 ^ 16 }
 {}

@@ -20,14 +20,14 @@ use Rattle.dexspec.proofs.Blanked.{IsZero, pool_at, blank, zeroed, if_true, if_f
 -- ---- pieces one after the other
 
 -- the units stand for the pieces, one after the other
-abbrev AreStanding : (ℕ → Symbol → Type 0) → List ℕ → List Cut → List Piece → Type 0
+abbrev pub AreStanding : (ℕ → Symbol → Type 0) → List ℕ → List Cut → List Piece → Type 0
 AreStanding N us [] [] = Unit {0}
 AreStanding N us [] (p ∷ ps) = ⊥
 AreStanding N us (c ∷ cs) [] = ⊥
 AreStanding N us (c ∷ cs) (p ∷ ps) = StandsForPiece N (take c.units us) p × AreStanding N (drop c.units us) cs ps
 
 -- from the whole to what is left, and back
-standing : (N : ℕ → Symbol → Type 0) (all : List ℕ) (at : ℕ) (us : List ℕ) (cs : List Cut) (ps : List Piece) → drop at all ≡ us → AreCut at us cs [] → AllZip (λ c p. StandsForPiece N (cut_units all c) p) cs ps → AreStanding N us cs ps
+pub standing : (N : ℕ → Symbol → Type 0) (all : List ℕ) (at : ℕ) (us : List ℕ) (cs : List Cut) (ps : List Piece) → drop at all ≡ us → AreCut at us cs [] → AllZip (λ c p. StandsForPiece N (cut_units all c) p) cs ps → AreStanding N us cs ps
 standing N all at us [] [] e h g = tt
 standing N all at us [] (p ∷ ps) e h g = absurd g
 standing N all at us (c ∷ cs) [] e h g = absurd g
@@ -37,7 +37,7 @@ standing N all at us (c ∷ cs) (p ∷ ps) e h g = (
 )
 
 -- from what is left to the whole
-standing_back : (N : ℕ → Symbol → Type 0) (all : List ℕ) (at : ℕ) (us : List ℕ) (cs : List Cut) (ps : List Piece) → drop at all ≡ us → AreCut at us cs [] → AreStanding N us cs ps → AllZip (λ c p. StandsForPiece N (cut_units all c) p) cs ps
+pub standing_back : (N : ℕ → Symbol → Type 0) (all : List ℕ) (at : ℕ) (us : List ℕ) (cs : List Cut) (ps : List Piece) → drop at all ≡ us → AreCut at us cs [] → AreStanding N us cs ps → AllZip (λ c p. StandsForPiece N (cut_units all c) p) cs ps
 standing_back N all at us [] [] e h g = tt
 standing_back N all at us [] (p ∷ ps) e h g = absurd g
 standing_back N all at us (c ∷ cs) [] e h g = absurd g
@@ -47,16 +47,16 @@ standing_back N all at us (c ∷ cs) (p ∷ ps) e h g = (
 )
 
 -- what stands in the first part
-append_left : (xs ys : List ℕ) (i d : ℕ) → i < length xs → get_or (xs ++ ys) i d ≡ get_or xs i d
+pub append_left : (xs ys : List ℕ) (i d : ℕ) → i < length xs → get_or (xs ++ ys) i d ≡ get_or xs i d
 append_left [] ys i d lt = absurd (omega arith)
 append_left (x ∷ xs) ys zero d lt = refl
 append_left (x ∷ xs) ys (suc i) d lt = append_left xs ys i d (omega arith)
 
 -- the piece is kept, where the units from `at` on are these
-record KeptCut (at : ℕ) (us vs : List ℕ) (c : Cut) : Type 0 where
-  place : at ≤ c.unit
-  kept : Kept (drop (c.unit - at) us) (drop (c.unit - at) vs) c.units
-  piece : piece_size c.unit (drop (c.unit - at) us) ≡ Some c.units
+pub record KeptCut (at : ℕ) (us vs : List ℕ) (c : Cut) : Type 0 where
+  pub place : at ≤ c.unit
+  pub kept : Kept (drop (c.unit - at) us) (drop (c.unit - at) vs) c.units
+  pub piece : piece_size c.unit (drop (c.unit - at) us) ≡ Some c.units
 
 -- the units without indices
 record Blanked (at : ℕ) (us vs : List ℕ) (cs : List Cut) (ps : List Piece) : Type 0 where
@@ -145,12 +145,12 @@ found_by p q x y ys true all e again = let same : y ≡ x = cc in ap q (sym same
 found_by p q x y ys false all e again = again (and_second (q y) (list_all q ys) all) e
 
 -- what is found passes what all pass
-found_passes : {X : Type 0} (p q : X → Bool) (xs : List X) (x : X) → list_all q xs ≡ true → find p xs ≡ Some x → q x ≡ true
+pub found_passes : {X : Type 0} (p q : X → Bool) (xs : List X) (x : X) → list_all q xs ≡ true → find p xs ≡ Some x → q x ≡ true
 found_passes p q [] x all e = absurd cc
 found_passes p q (y ∷ ys) x all e = found_by p q x y ys (p y) all e (found_passes p q ys x)
 
 -- what a mapped option has
-mapped_some : {X Y : Type 0} (f : X → Y) (o : Option X) (y : Y) → option_map f o ≡ Some y → (x : X) × (o ≡ Some x) × (f x ≡ y)
+pub mapped_some : {X Y : Type 0} (f : X → Y) (o : Option X) (y : Y) → option_map f o ≡ Some y → (x : X) × (o ≡ Some x) × (f x ≡ y)
 mapped_some f None y e = absurd cc
 mapped_some f (Some x) y e = (x, refl, cc)
 
@@ -243,7 +243,7 @@ pub record KeptPiece (us vs : List ℕ) (c : Cut) : Type 0 where
   pub piece : piece_size c.unit (drop c.unit us) ≡ Some c.units
 
 -- from the first unit on
-kept_piece : (us vs : List ℕ) (c : Cut) → KeptCut 0 us vs c → KeptPiece us vs c
+pub kept_piece : (us vs : List ℕ) (c : Cut) → KeptCut 0 us vs c → KeptPiece us vs c
 kept_piece us vs c k =
     let e : c.unit - 0 ≡ c.unit = omega arith in
     record { kept = subst (λ (n : ℕ). Kept (drop n us) (drop n vs) c.units) e k.kept; piece = subst (λ (n : ℕ). piece_size c.unit (drop n us) ≡ Some c.units) e k.piece }

@@ -144,7 +144,7 @@ module _ (b : List ℕ) (m : Mentions) (name : Text) where
 -- ---- the symbols of members
 
 -- what stands behind a class's own symbols is among its symbols
-own_first : (name : Text) (c : Body) (s : Symbol) → Contains (flat_map (field_symbols name) (declared_fields c) ++ (flat_map (method_symbols name) (declared_methods c) ++ values_symbols c.static_values)) s → Contains (symbols_of (name, c)) s
+pub own_first : (name : Text) (c : Body) (s : Symbol) → Contains (flat_map (field_symbols name) (declared_fields c) ++ (flat_map (method_symbols name) (declared_methods c) ++ values_symbols c.static_values)) s → Contains (symbols_of (name, c)) s
 unfolding symbols_of
 own_first name c s is =
     let members = flat_map (field_symbols name) (declared_fields c) ++ (flat_map (method_symbols name) (declared_methods c) ++ values_symbols c.static_values) in

@@ -17,7 +17,7 @@ use Rattle.dexspec.proofs.Members.{Contains-first, Contains-later, Contains-flat
 use Rattle.dexspec.proofs.NumbersWritten.{front_stands, back_stands, head_stands, tail_stands, uleb128_written, sleb128_written, uleb128p1_written, AreInRows, first_in_row, front_in_rows, back_in_rows}
 
 -- the items of a list that stand one after the other, each of which stands where its bytes do
-sequence_of : {X : Type 0} (At : Item X) (f : X → List ℕ) (b : List ℕ) (xs : List X) → ((o : ℕ) (x : X) → Contains xs x → Stands b o (f x) → At b o x (length (f x)))
+pub sequence_of : {X : Type 0} (At : Item X) (f : X → List ℕ) (b : List ℕ) (xs : List X) → ((o : ℕ) (x : X) → Contains xs x → Stands b o (f x) → At b o x (length (f x)))
     → (o : ℕ) → Stands b o (flat_map f xs) → Sequence At b o xs (length (flat_map f xs))
 sequence_of At f b [] each o h = refl
 sequence_of At f b (x ∷ xs) each o h =

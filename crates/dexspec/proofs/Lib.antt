@@ -95,3 +95,12 @@ pub mod SetsWritten
 pub mod ClassDataWritten
 pub mod DirectoriesWritten
 pub mod HandlersWritten
+pub mod FilledCode
+pub mod HandlerPlaces
+pub mod CodeWritten
+pub mod MemberRanks
+pub mod DirectoryEntries
+pub mod ShortIndices
+pub mod ClassDirectory
+pub mod ClassItems
+pub mod RowsReadable

@@ -101,7 +101,7 @@ pub record AreNormal (D : List Definition) (b : List ℕ) : Type 0 where
 
 module _ (D : List Definition) (b : List ℕ) (n : AreNormal D b) where
   -- the r-th class is a definition
-  class_member : (r : ℕ) (d : Definition) → r < length (in_class_order D) → Contains D (get_or (in_class_order D) r d)
+  pub class_member : (r : ℕ) (d : Definition) → r < length (in_class_order D) → Contains D (get_or (in_class_order D) r d)
   class_member r d lt = in_class_order-only D (get_or (in_class_order D) r d) (Contains-get_or (in_class_order D) r d lt)
 
   -- an index of what there is, or of nothing
@@ -109,7 +109,7 @@ module _ (D : List Definition) (b : List ℕ) (n : AreNormal D b) where
   index_of f x = option_map_or f x no_index
 
   -- the numbers in a class's row
-  class_numbers : (r : ℕ) (e : Definition) → r < length (in_class_order D) → ClassRead (ordered D) b r (get_or (in_class_order D) r e)
+  pub class_numbers : (r : ℕ) (e : Definition) → r < length (in_class_order D) → ClassRead (ordered D) b r (get_or (in_class_order D) r e)
   class_numbers = class_read n.file.laid
 
   -- ---- what the numbers name
@@ -119,7 +119,7 @@ module _ (D : List Definition) (b : List ℕ) (n : AreNormal D b) where
   class_ranked t is c = record { row = type_ranked D b n.file t c; class = is }
 
   -- a class row is of its class
-  own_class : (r : ℕ) (e : Definition) → r < length (in_class_order D) → ClassTypeRow b (class_idx b r) (get_or (in_class_order D) r e).0
+  pub own_class : (r : ℕ) (e : Definition) → r < length (in_class_order D) → ClassTypeRow b (class_idx b r) (get_or (in_class_order D) r e).0
   own_class r e lt =
       let d = get_or (in_class_order D) r e in
       let c = class_member r e lt in

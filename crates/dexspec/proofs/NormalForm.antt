@@ -24,8 +24,7 @@ use Rattle.dexspec.proofs.Formed.{All-member, mentions-pools}
 use Rattle.dexspec.proofs.NormalRows.{IsNormal, count_small, has_string, has_type, has_proto, has_field, has_method}
 use Rattle.dexspec.proofs.ClassPlaces.{in_class_order-only, in_class_order-has, class_names-apart}
 use Rattle.dexspec.proofs.NormalClasses.{BelongsAt, AreNormal, class_stands, has_class}
-use Rattle.dexspec.proofs.PlainItems.{plain_class_row, plain_belongs}
-use Rattle.dexspec.proofs.PlainReadable.{plain_readable}
+use Rattle.dexspec.proofs.PlainItems.{plain_class_row}
 
 -- a definition for places past the end
 abbrev pub some_class : Definition
@@ -196,19 +195,3 @@ module _ (K : Collection) (good : IsGood greatest_caps (definitions K)) (formed 
   -- the file is plain
   pub plain_file : IsPlainFile (canonical K)
   plain_file r lt = rows_plain r (omega (arith, lt, (canonical_normal K good.fits formed).laid.count ClassDefs))
-
-  -- its items are right
-  pub plain_items : ItemsAreRight (definitions K) (canonical K)
-  plain_items =
-      let D = definitions K in
-      let b = canonical K in
-      let n = canonical_all_normal K good formed in
-      let inside : (r : ℕ) → r < table_size b ClassDefs → r < length (in_class_order D) = λ r lt. omega (arith, lt, n.file.laid.count ClassDefs) in
-      record {
-        belong = λ r e lt. plain_belongs r (get_or (in_class_order D) r e) (rows_plain r lt) (classes_plain r e lt);
-        readable = λ r lt. plain_readable b r (rows_plain r (inside r lt)) (has_class D b n r some_class lt);
-      }
-
-  -- the canonical file of a plain collection is accepted and denotes it
-  pub plain_normal_form : IsFileOf K (canonical K)
-  plain_normal_form = normal_form K good formed plain_items

@@ -1,11 +1,8 @@
 -- The class row of a plain definition has no offsets of annotations, class data and static values.
-use Rattle.std.proofs.Common.{◌≡◌, ℕ, ◌+◌, ◌<◌, List, [], length, get_or, refl, sym, ap, ◌∙◌, subst, inl}
+use Rattle.std.proofs.Common.{◌≡◌, ℕ, ◌+◌, ◌<◌, List, [], length, get_or, ap, ◌∙◌, subst}
 use Rattle.std.specs.Prelude.{◌==◌, if◌then◌else◌, Option, None}
-use Rattle.std.specs.List.{AllZip}
 use Rattle.dexspec.specs.Values.{NoValues}
-use Rattle.dexspec.specs.Annotations.{no_directory}
-use Rattle.dexspec.specs.ClassData.{no_class_data}
-use Rattle.dexspec.specs.Classes.{Body, Definition, MakesMethod, annotations_off, class_data_off, static_values_off}
+use Rattle.dexspec.specs.Classes.{Body, Definition, annotations_off, class_data_off, static_values_off}
 use Rattle.dexspec.specs.Mentions.{Mentions}
 use Rattle.dexspec.specs.Plain.{IsPlain, IsPlainRow}
 use Rattle.dexspec.specs.Spellings.{class_data_bytes, encoded_array_bytes}
@@ -14,7 +11,6 @@ use Rattle.dexspec.proofs.Placements.{code_offsets, ref_list_offsets}
 use Rattle.dexspec.proofs.Laying.{Laid}
 use Rattle.dexspec.proofs.Uses.{UseStands, class_data_of, class_set_offsets, SetStands, own_set_stands}
 use Rattle.dexspec.proofs.RowsRead.{class_read}
-use Rattle.dexspec.proofs.NormalClasses.{BelongsAt}
 
 -- a body without members, values and annotations
 abbrev bare : Body → Body
@@ -67,18 +63,3 @@ plain_class_row {K} {b} h r e lt p =
       class_data = subst (λ c. UseStands b 1 (λ (q : Definition × List ℕ). class_data_bytes K.pools q.0 q.1) (class_data_of (d.0, c) codes) (class_data_off b r)) (bare_is d p) nums.class_data_is;
       static_values = subst (λ vs. UseStands b 1 (encoded_array_bytes K.pools) (values_unless_empty vs) (static_values_off b r)) p.static_values nums.static_values_are;
     }
-
--- and what belongs to a plain definition stands nowhere
-pub plain_belongs : {b : List ℕ} (r : ℕ) (d : Definition) → IsPlainRow b r → IsPlain d → BelongsAt b r d.1
-plain_belongs {b} r d row p = record {
-  directory = no_directory;
-  directory_is = inl (row.annotations, refl);
-  members = no_class_data;
-  members_are = inl (row.class_data, refl);
-  annotations = p.annotations;
-  static_fields = p.static_fields;
-  instance_fields = p.instance_fields;
-  direct_methods = subst (AllZip (MakesMethod b no_directory) []) (sym p.direct_methods) tt;
-  virtual_methods = subst (AllZip (MakesMethod b no_directory) []) (sym p.virtual_methods) tt;
-  static_values = inl (row.static_values, p.static_values);
-}

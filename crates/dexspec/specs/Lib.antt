@@ -26,6 +26,8 @@ pub mod Accepted
 pub mod Plain
 pub mod Depth
 pub mod Spellings
+pub mod IndexPlaces
+pub mod OwnDirectories
 pub mod Placing
 pub mod Canonical
 pub mod Merging

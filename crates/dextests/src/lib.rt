@@ -4,8 +4,24 @@
 #![tactic(auto)]
 
 #[cfg(test)]
+mod class_files;
+#[cfg(test)]
+mod class_flags;
+#[cfg(test)]
+mod code_pieces;
+#[cfg(test)]
+mod code_units;
+#[cfg(test)]
+mod generated_merges;
+#[cfg(test)]
 mod joined_numberings;
 #[cfg(test)]
 mod kept_numberings;
 #[cfg(test)]
+mod plain_files;
+#[cfg(test)]
 mod pools;
+#[cfg(test)]
+mod programs;
+#[cfg(test)]
+mod random;

@@ -1,37 +1,25 @@
-use Rattle.std.proofs.Common.{◌≡◌, [], ◌++◌, length, arith, ap, sym, subst, refl, ◌∙◌}
+use Rattle.std.proofs.Common.{◌≡◌, [], ◌++◌, length, arith, ap, sym, refl, ◌∙◌}
 use Rattle.std.proofs.lemmas.List.{length-append}
-use Rattle.std.specs.List.{All}
-use Rattle.dexspec.specs.Merging.{greatest_caps, AreCaps}
-use Rattle.dexclass.specs.Marking.{IsInRange}
 use Rattle.dexhead.specs.Sums.{with_sums_set}
 use Rattle.dexhead.specs.Written.{head_bytes}
 use Rattle.dexcanon.specs.Laid.{body_bytes}
-use Rattle.dexcanon.proofs.OfProgram.{bare_file, fit_file, length_canonical}
-use Rattle.dexcanon.proofs.Sealed.{have_numbers, sealed, written_over}
+use Rattle.dexcanon.proofs.GoodFile.{IsGoodFile, good_file}
+use Rattle.dexcanon.proofs.Sealed.{sealed, written_over}
 use Rattle.dexcanon.proofs.writing.to_bytes.Goals as goal
+use Rattle.dexcanon.proofs.writing.to_bytes.Goals.{After-file_law, After-deref_mut}
 
--- the greatest caps are caps
-greatest_are : AreCaps greatest_caps
-greatest_are = record { types = omega arith; protos = omega arith; fields = omega arith; methods = omega arith; short_strings = omega arith; weight = omega arith }
+-- the program's file
+good : (c : goal.After-file_law) → IsGoodFile c.args.program.now c.numbering-numbering.result.now c.classes-classes.result.now
+good c =
+    let m = c.numbering-numbering.result.now in
+    good_file c.args.program.now m c.classes-classes.result.now c.numbering-numbering.ensures c.is_good.ensures.plain (c.number_law.ensures m c.is_numbering.ensures.rising) c.classes-classes.ensures
+    c.is_good.ensures.good.fits c.fitting_size_law.ensures.canonical
 
 pub lay-requires : goal.lay-requires
-lay-requires c =
-    let m = c.numbering-numbering.result.now in
-    let cs = c.classes-classes.result.now in
-    let h = bare_file c.args.program.now m cs c.numbering-numbering.ensures c.is_good.ensures.plain (c.number_law.ensures m c.is_numbering.ensures.rising) c.classes-classes.ensures in
-    let size = c.fitting_size_law.ensures.canonical greatest_caps c.args.program.now greatest_are c.is_good.ensures.good.fits in
-    fit_file m.texts m.types cs (omega (arith, length_canonical h, size.most))
+lay-requires c = (good c).fits_file
 
 pub put_body-requires-clause-numbers : goal.put_body-requires-clause-numbers
-put_body-requires-clause-numbers c =
-    let m = c.numbering-numbering.result.now in
-    let cs = c.classes-classes.result.now in
-    let same = c.numbering-numbering.ensures in
-    let h = bare_file c.args.program.now m cs same c.is_good.ensures.plain (c.number_law.ensures m c.is_numbering.ensures.rising) c.classes-classes.ensures in
-    let fits = c.is_good.ensures.good.fits in
-    let size = c.fitting_size_law.ensures.canonical greatest_caps c.args.program.now greatest_are fits in
-    have_numbers m cs (omega (arith, fits.types, ap (λ n. length n.types) same)) (subst (λ n. All (IsInRange n) cs) (sym same) c.classes-classes.ensures.numbers_in)
-    (fit_file m.texts m.types cs (omega (arith, length_canonical h, size.most)))
+put_body-requires-clause-numbers c = (good (goal.at.put_body-requires-clause-numbers c).After-file_law).has_numbers
 
 -- the file before its sums
 unsealed : (c : goal.After-deref_mut) → c.put_body.new.item.items ≡ head_bytes c.in_ok-layout.layout.head ++ body_bytes c.numbering-numbering.result.now c.classes-classes.result.now c.in_ok-layout.layout
@@ -49,17 +37,11 @@ set_sums-requires c =
 
 pub returns-clause-bytes : goal.returns-clause-bytes
 returns-clause-bytes c =
-    let l = c.in_ok-layout.layout in
     let m = c.numbering-numbering.result.now in
     let cs = c.classes-classes.result.now in
     let items = c.put_body.new.item.items in
-    let old = c.put.new.out.items in
-    let w = c.in-Ok.ensures.ok.made [] old (record { gone = []; held = refl; joined = refl }) in
-    let head : old ≡ head_bytes l.head = c.in_ok-put.ensures.puts.ok ∙ ap (λ z. z ++ head_bytes l.head) c.in_ok-file.ensures.items in
-    let all : items ≡ head_bytes l.head ++ body_bytes m cs l = ap (λ z. z ++ items) (sym w.held) ∙ w.joined ∙ ap (λ z. z ++ body_bytes m cs l) head in
-    let h = bare_file c.args.program.now m cs c.numbering-numbering.ensures c.is_good.ensures.plain (c.number_law.ensures m c.is_numbering.ensures.rising) c.classes-classes.ensures in
     let size : length c.set_sums.new.file ≡ length items = omega (arith, c.set_sums.auto.file, ap (λ z. length z) c.deref_mut.ensures.value) in
     let count : c.put_body.new.item.len ≡ length items = omega (arith, c.put_body.new.item.ok.0) in
     written_over c.put_body.new.item.len c.set_sums.new.file items size count
-    ∙ c.set_sums.ensures ∙ ap with_sums_set (c.deref_mut.ensures.value ∙ all)
-    ∙ sealed m cs l h c.in_ok-layout.ensures c.file_law.ensures.set
+    ∙ c.set_sums.ensures ∙ ap with_sums_set (c.deref_mut.ensures.value ∙ unsealed (goal.at.returns-clause-bytes c).After-deref_mut)
+    ∙ sealed m cs c.in_ok-layout.layout (good (goal.at.returns-clause-bytes c).After-file_law).is_bare c.in_ok-layout.ensures c.file_law.ensures.set

@@ -19,6 +19,10 @@ returns-in-Ok-write_to-clause-merged g c = record {
   whole = c.in-Ok-united.program;
   inputs = c.in-Ok.ensures.read;
   merged = united_as _ _ _ _ _ c.deref.ensures.value c.in-Ok-united.ensures.united;
+  read_back = record {
+    accepted = c.normal_form.ensures.accepted c.in-Ok-united.program c.is_good.ensures.good c.is_good.ensures.formed;
+    denotes = c.normal_form.ensures.denotes c.in-Ok-united.program c.is_good.ensures.good c.is_good.ensures.formed;
+  };
   written = c.in-Ok-write_to.ensures.written;
 }
 
@@ -30,5 +34,9 @@ returns-in-Err-Io-clause-fault g c =
       whole = c.in-Ok-united.program;
       inputs = c.in-Ok.ensures.read;
       merged = united_as _ _ _ _ _ c.deref.ensures.value c.in-Ok-united.ensures.united;
+      read_back = record {
+        accepted = c.normal_form.ensures.accepted c.in-Ok-united.program c.is_good.ensures.good c.is_good.ensures.formed;
+        denotes = c.normal_form.ensures.denotes c.in-Ok-united.program c.is_good.ensures.good c.is_good.ensures.formed;
+      };
       written = left;
     }

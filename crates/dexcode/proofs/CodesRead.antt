@@ -1,0 +1,134 @@
+-- Code items read: what stands there, and which condition fails.
+use Rattle.std.proofs.Common.{◌≡◌, ◌≢◌, ℕ, ◌+◌, ◌*◌, ◌%◌, Bool, false, List, [], length, map, get_or, Option, Some, None, refl, ap, sym, subst, ◌∙◌, inl, inr, arith}
+use Rattle.std.specs.Prelude.{Result, Ok, Err, IfErr, pos}
+use Rattle.std.specs.List.{All}
+use Rattle.std.proofs.lemmas.List.Elements.{All-nil}
+use Rattle.dexspec.specs.Lists.{OrNone, SomeAt, BothOrNone}
+use Rattle.dexspec.specs.Bytes.{uint_at, ushort_at}
+use Rattle.dexspec.specs.Mentions.{Mentions}
+use Rattle.dexspec.specs.Pieces.{Cut, Piece, is_instruction_start}
+use Rattle.dexspec.specs.Debug.{Debug, DebugAt}
+use Rattle.dexspec.specs.Code.{code_units, PiecesAt, RegistersAt, CodeAt}
+use Rattle.dexspec.specs.Code as whole
+use Rattle.dexspec.proofs.FormedRows.{length-ushorts_at}
+use Rattle.dexpool.specs.declared.faults.ItemFault.{ItemFault}
+use Rattle.dexpool.specs.declared.faults.ItemFault.TheVariants.{Refused, Memory}
+use Rattle.dexpool.specs.Pools.{ArePools}
+use Rattle.dexpool.specs.Numberings.{AreRising}
+use Rattle.dexinsn.specs.Numbered.{NumberedCode}
+use Rattle.dexinsn.specs.Reading.{ArePiecesAt, AreStartsAt}
+use Rattle.dexcode.specs.Debug.{NumberedDebug, StandsForDebug}
+use Rattle.dexcode.specs.DebugReading.{IsDebugAt, IsDebugFault}
+use Rattle.dexcode.specs.Numbered.{NumberedTry, try_meant}
+use Rattle.dexcode.specs.Reading.{TryItemsAt, TriesAt, IsTriesFault, IsCodeAt, IsCodeFault}
+use Rattle.dexcode.proofs.HandlersRead.{fault_so}
+use Rattle.dexcode.proofs.TryRows.{IsInRange, items_found, items_back, items_in_range, tries_stand}
+
+-- ---- tries, by the number of units
+
+pub if_err_so : {T P Q : Type 0} → (P → Q) → (r : Result T ItemFault) → IfErr r (IsTriesFault P) → IfErr r (IsTriesFault Q)
+if_err_so so (Ok x) h = tt
+if_err_so so (Err fault) h = fault_so so fault h
+
+module _ (starts : List Bool) (types : ℕ) (b : List ℕ) (o units count : ℕ) (units_is : units ≡ uint_at b (o + 12)) (count_is : count ≡ ushort_at b (o + 6)) (some : count ≢ 0) where
+  pub even_none : units % 2 ≡ 0 → ((ts : List NumberedTry) → TryItemsAt starts types units b (o + 16 + 2 * units) count ts → ⊥) → (ts : List NumberedTry) → TriesAt starts types b o ts → ⊥
+  even_none even none ts (inl h) = some (count_is ∙ h.0)
+  even_none even none ts (inr (d, inl g)) =
+      none ts (subst (λ (n : ℕ). TryItemsAt starts types n b (o + 16 + 2 * n) count ts) (sym units_is) (subst (λ (k : ℕ). TryItemsAt starts types (uint_at b (o + 12)) b (o + 16 + 2 * uint_at b (o + 12)) k ts) (sym count_is) g.1))
+  even_none even none ts (inr (d, inr g)) = omega (arith, even, units_is, g.0)
+
+  pub odd_none : (units % 2 ≡ 0 → ⊥) → ((ts : List NumberedTry) → TryItemsAt starts types units b (o + 16 + 2 * units + 2) count ts → ⊥) → (ts : List NumberedTry) → TriesAt starts types b o ts → ⊥
+  odd_none odd none ts (inl h) = some (count_is ∙ h.0)
+  odd_none odd none ts (inr (d, inl g)) = odd (ap (λ (n : ℕ). n % 2) units_is ∙ g.0)
+  odd_none odd none ts (inr (d, inr g)) =
+      let place : o + 18 + 2 * uint_at b (o + 12) ≡ o + 16 + 2 * units + 2 = omega (arith, units_is) in
+      none ts (subst (λ (p : ℕ). TryItemsAt starts types units b p count ts) place (subst (λ (n : ℕ). TryItemsAt starts types n b (o + 18 + 2 * uint_at b (o + 12)) count ts) (sym units_is)
+      (subst (λ (k : ℕ). TryItemsAt starts types (uint_at b (o + 12)) b (o + 18 + 2 * uint_at b (o + 12)) k ts) (sym count_is) g.2)))
+
+-- ---- the whole
+
+module _ (b : List ℕ) (off : ℕ) (m : Mentions) (pools : ArePools b m) (rising : AreRising m) (starts : List Bool) (starts_are : AreStartsAt b off starts) (cuts : List Cut) (ps : List Piece) (pieces : PiecesAt b off cuts ps) where
+  abbrev us : List ℕ
+  us = code_units b off
+
+  tell : (k : ℕ) → get_or starts k false ≡ is_instruction_start us cuts (pos k)
+  tell k = starts_are cuts ps k pieces
+
+  units : length us ≡ uint_at b (off + 12)
+  units = length-ushorts_at b (off + 16) (uint_at b (off + 12))
+
+  tries_found : (ts : List NumberedTry) → TriesAt starts (length m.types) b off ts → whole.TriesAt b off cuts (map (try_meant m) ts)
+  tries_found ts (inl h) = inl (h.0, ap (map (try_meant m)) h.1)
+  tries_found ts (inr (d, inl g)) = inr (d, inl (g.0, items_found b m pools rising us cuts starts tell (off + 16 + 2 * uint_at b (off + 12)) (ushort_at b (off + 6)) ts (subst (λ (n : ℕ). TryItemsAt starts (length m.types) n b (off + 16 + 2 * uint_at b (off + 12)) (ushort_at b (off + 6)) ts) (sym units) g.1)))
+  tries_found ts (inr (d, inr g)) = inr (d, inr (g.0, g.1, items_found b m pools rising us cuts starts tell (off + 18 + 2 * uint_at b (off + 12)) (ushort_at b (off + 6)) ts (subst (λ (n : ℕ). TryItemsAt starts (length m.types) n b (off + 18 + 2 * uint_at b (off + 12)) (ushort_at b (off + 6)) ts) (sym units) g.2)))
+
+  items_range : (o count : ℕ) (ts : List NumberedTry) → TryItemsAt starts (length m.types) (uint_at b (off + 12)) b o count ts → All (IsInRange m) (map (λ t. t.handler) ts)
+  items_range o count ts g =
+      let h = subst (λ (n : ℕ). TryItemsAt starts (length m.types) n b o count ts) (sym units) g in
+      items_in_range b m pools rising us cuts starts tell (o + 8 * count) h.count_size h.handlers_size o (8 * count) h.handlers ts h.list h.items
+
+  tries_range : (ts : List NumberedTry) → TriesAt starts (length m.types) b off ts → All (IsInRange m) (map (λ t. t.handler) ts)
+  tries_range ts (inl h) = subst (λ vs. All (IsInRange m) (map (λ (t : NumberedTry). t.handler) vs)) (sym h.1) (All-nil (IsInRange m))
+  tries_range ts (inr (d, inl g)) = items_range (off + 16 + 2 * uint_at b (off + 12)) (ushort_at b (off + 6)) ts g.1
+  tries_range ts (inr (d, inr g)) = items_range (off + 18 + 2 * uint_at b (off + 12)) (ushort_at b (off + 6)) ts g.2
+
+  tries_back : (xs : List whole.Try) → whole.TriesAt b off cuts xs → (ts : List NumberedTry) × TriesAt starts (length m.types) b off ts
+  tries_back xs (inl h) = ([], inl (h.0, refl))
+  tries_back xs (inr (d, inl g)) =
+      let ts = items_back b m pools rising us cuts starts tell (off + 16 + 2 * uint_at b (off + 12)) (ushort_at b (off + 6)) xs g.1 in
+      (ts.0, inr (d, inl (g.0, subst (λ (n : ℕ). TryItemsAt starts (length m.types) n b (off + 16 + 2 * uint_at b (off + 12)) (ushort_at b (off + 6)) ts.0) units ts.1)))
+  tries_back xs (inr (d, inr g)) =
+      let ts = items_back b m pools rising us cuts starts tell (off + 18 + 2 * uint_at b (off + 12)) (ushort_at b (off + 6)) xs g.2 in
+      (ts.0, inr (d, inr (g.0, g.1, subst (λ (n : ℕ). TryItemsAt starts (length m.types) n b (off + 18 + 2 * uint_at b (off + 12)) (ushort_at b (off + 6)) ts.0) units ts.1)))
+
+-- the debug program, if there is one, is that of the code_item
+pub record IsDebugOf (b : List ℕ) (off : ℕ) (m : Mentions) (d : Option NumberedDebug) : Type 0 where
+  pub program : Option Debug
+  pub at : OrNone (SomeAt DebugAt) None b (uint_at b (off + 8)) program
+  pub stands : BothOrNone (StandsForDebug m) d program
+
+pub no_debug : (b : List ℕ) (off : ℕ) (m : Mentions) → uint_at b (off + 8) ≡ 0 → IsDebugOf b off m None
+no_debug b off m zero = record { program = None; at = inl (zero, refl); stands = tt }
+
+pub some_debug : (b : List ℕ) (off debug_off : ℕ) (m : Mentions) (d : NumberedDebug) → debug_off ≡ uint_at b (off + 8) → (debug_off ≡ 0 → ⊥) → IsDebugAt b debug_off m d → IsDebugOf b off m (Some d)
+some_debug b off debug_off m d is some h = record {
+  program = Some h.program;
+  at = inr ((λ e. some (is ∙ e)), subst (λ (o : ℕ). DebugAt b o h.program) is h.at);
+  stands = h.stands;
+}
+
+pub code_found : (b : List ℕ) (off : ℕ) (m : Mentions) → ArePools b m → AreRising m → (starts : List Bool) → AreStartsAt b off starts → (body : NumberedCode) → RegistersAt b off body.registers body.ins body.outs → ArePiecesAt b off m body.pieces
+    → (ts : List NumberedTry) → TriesAt starts (length m.types) b off ts → (d : Option NumberedDebug) → IsDebugOf b off m d → IsCodeAt b off m (record { body = body; tries = ts; debug = d })
+code_found b off m pools rising starts starts_are body registers pieces ts tries d debug = record {
+  symbolic = record { registers = body.registers; ins = body.ins; outs = body.outs; pieces = pieces.symbolic; tries = map (try_meant m) ts; debug = debug.program };
+  at = record {
+    registers = registers;
+    cuts = pieces.cuts;
+    pieces = pieces.at;
+    tries = tries_found b off m pools rising starts starts_are pieces.cuts pieces.symbolic pieces.at ts tries;
+    debug = debug.at;
+  };
+  stands = record {
+    registers_are = refl;
+    ins_are = refl;
+    outs_are = refl;
+    pieces_are = pieces.stand;
+    tries_are = tries_stand m ts (tries_range b off m pools rising starts starts_are pieces.cuts pieces.symbolic pieces.at ts tries);
+    debug_is = debug.stands;
+  };
+}
+
+pub tries_fault : (b : List ℕ) (off : ℕ) (m : Mentions) → ArePools b m → AreRising m → (starts : List Bool) → AreStartsAt b off starts → (body : NumberedCode) → ArePiecesAt b off m body.pieces
+    → (fault : ItemFault) → IsTriesFault ((ts : List NumberedTry) → TriesAt starts (length m.types) b off ts → ⊥) fault → IsCodeFault b off fault
+tries_fault b off m pools rising starts starts_are body pieces (Refused number) h =
+    inr (inl (
+      h.0,
+      record { cuts = pieces.cuts; pieces = pieces.symbolic; at = pieces.at },
+      λ cuts ps tries at there. let back = tries_back b off m pools rising starts starts_are cuts ps at tries there in h.1 back.0 back.1,
+    ))
+tries_fault b off m pools rising starts starts_are body pieces Memory h = tt
+
+pub debug_fault : (b : List ℕ) (off debug_off : ℕ) (m : Mentions) → debug_off ≡ uint_at b (off + 8) → (debug_off ≡ 0 → ⊥) → (body : NumberedCode) → ArePiecesAt b off m body.pieces → (fault : ItemFault) → IsDebugFault b debug_off fault → IsCodeFault b off fault
+debug_fault b off debug_off m is some body pieces (Refused number) h =
+    inr (inr (h.0, record { cuts = pieces.cuts; pieces = pieces.symbolic; at = pieces.at }, (λ e. some (is ∙ e)), λ d at. h.1 d (subst (λ (o : ℕ). DebugAt b o d) (sym is) at)))
+debug_fault b off debug_off m is some body pieces Memory h = tt

@@ -1,0 +1,135 @@
+-- The symbols of a debug program, part by part, and what becomes of their numbers.
+use Rattle.std.proofs.Common.{◌≡◌, ℕ, ◌+◌, ◌<◌, ◌^◌, ◌==◌, Bool, false, ◌||◌, ◌&&◌, true, List, [], ◌∷◌, ◌++◌, length, map, get_or, Option, Some, None, refl, ap, sym, ◌∙◌, subst, arith}
+use Rattle.std.proofs.lemmas.List.{length-map}
+use Rattle.std.specs.List.{All, flat_map}
+use Rattle.std.proofs.lemmas.List.Elements.{All-nil, All-cons, All-head, All-tail, All-get_or}
+use Rattle.std.proofs.lemmas.List.Folds.{list_any-append}
+use Rattle.dexpool.specs.declared.symbols.SymbolKind.{SymbolKind}
+use Rattle.dexpool.specs.declared.symbols.SymbolKind.TheVariants as kinds
+use Rattle.dexpool.specs.declared.marks.Marks.{Marks}
+use Rattle.dexpool.specs.Numberings.{Maps, image_of}
+use Rattle.dexinsn.specs.Numbered.{Use, HasMark, AreMarkedToo, marks_of, same_kind, occurs}
+use Rattle.dexinsn.proofs.MarksMade.{still_marked}
+use Rattle.dexcode.specs.declared.debug_operation.Operation.{Operation}
+use Rattle.dexcode.specs.declared.debug_operation.Operation.TheVariants.{AdvancePc, AdvanceLine, StartLocal, StartLocalExtended, EndLocal, RestartLocal, SetPrologueEnd, SetEpilogueBegin, SetFile, Special}
+use Rattle.dexcode.specs.Debug.{NumberedDebug, HasPlace, FitsIndex, IsFormedOperation, IsFormedDebug, IsSpecial, number_uses, operation_uses, debug_uses, image_or_none, name_of, type_of, signature_of, with_numbers, renumbered_operation, renumbered_debug}
+
+-- ---- what holds of all members of joined lists
+
+pub all_front : {X : Type 0} (P : X → Type 0) (xs ys : List X) → All P (xs ++ ys) → All P xs
+all_front P [] ys h = All-nil P
+all_front P (x ∷ xs) ys h = All-cons P x xs (All-head P x (xs ++ ys) h) (all_front P xs ys (All-tail P x (xs ++ ys) h))
+
+pub all_back : {X : Type 0} (P : X → Type 0) (xs ys : List X) → All P (xs ++ ys) → All P ys
+all_back P [] ys h = h
+all_back P (x ∷ xs) ys h = all_back P xs ys (All-tail P x (xs ++ ys) h)
+
+-- what holds of all that members give holds of what each gives
+pub all_parts : {X Y : Type 0} (P : Y → Type 0) (f : X → List Y) (xs : List X) → All P (flat_map f xs) → All (λ x. All P (f x)) xs
+all_parts P f [] h = All-nil (λ x. All P (f x))
+all_parts P f (x ∷ xs) h = All-cons (λ x. All P (f x)) x xs (all_front P (f x) (flat_map f xs) h) (all_parts P f xs (all_back P (f x) (flat_map f xs) h))
+
+pub all_part : {X Y : Type 0} (P : Y → Type 0) (f : X → List Y) (xs : List X) (i : ℕ) (d : X) → i < length xs → All P (flat_map f xs) → All P (f (get_or xs i d))
+all_part P f xs i d lt h = All-get_or (λ x. All P (f x)) xs i d lt (all_parts P f xs h)
+
+-- what holds of each member holds of all
+all_of : {X : Type 0} (P Q : X → Type 0) (xs : List X) → ((x : X) → P x → Q x) → All P xs → All Q xs
+all_of P Q [] step h = All-nil Q
+all_of P Q (x ∷ xs) step h = All-cons Q x xs (step x (All-head P x xs h)) (all_of P Q xs step (All-tail P x xs h))
+
+all_map : {X Y : Type 0} (P : X → Type 0) (Q : Y → Type 0) (f : X → Y) (xs : List X) → ((x : X) → P x → Q (f x)) → All P xs → All Q (map f xs)
+all_map P Q f [] step h = All-nil Q
+all_map P Q f (x ∷ xs) step h = All-cons Q (f x) (map f xs) (step x (All-head P x xs h)) (all_map P Q f xs step (All-tail P x xs h))
+
+-- what holds of the symbol of a number, if there is one
+pub use_of : (P : Use → Type 0) (kind : SymbolKind) (i : Option ℕ) (n : ℕ) → All P (number_uses kind i) → i ≡ Some n → P (record { kind = kind; number = n })
+use_of P kind None n all e = absurd cc
+use_of P kind (Some k) n all e =
+    let same : k ≡ n = cc in
+    subst (λ (j : ℕ). P (record { kind = kind; number = j })) same (All-head P (record { kind = kind; number = k }) [] all)
+
+-- the three parts of an operation's symbols
+module _ (P : Use → Type 0) (op : Operation) (h : All P (operation_uses op)) where
+  pub name_part : All P (number_uses kinds.Text (name_of op))
+  name_part = all_front P (number_uses kinds.Text (name_of op)) (number_uses kinds.Typ (type_of op) ++ number_uses kinds.Text (signature_of op)) h
+
+  others : All P (number_uses kinds.Typ (type_of op) ++ number_uses kinds.Text (signature_of op))
+  others = all_back P (number_uses kinds.Text (name_of op)) (number_uses kinds.Typ (type_of op) ++ number_uses kinds.Text (signature_of op)) h
+
+  pub type_part : All P (number_uses kinds.Typ (type_of op))
+  type_part = all_front P (number_uses kinds.Typ (type_of op)) (number_uses kinds.Text (signature_of op)) others
+
+  pub signature_part : All P (number_uses kinds.Text (signature_of op))
+  signature_part = all_back P (number_uses kinds.Typ (type_of op)) (number_uses kinds.Text (signature_of op)) others
+
+-- ---- other numbers
+
+-- what a number leads to is small
+pub place_fits : (r : Maps) (kind : SymbolKind) (i : Option ℕ) (n j : ℕ) → All (HasPlace r) (number_uses kind i) → i ≡ Some n → image_of r kind n ≡ Some j → j + 1 < 2 ^ 32
+place_fits r kind i n j all e image =
+    let place = use_of (HasPlace r) kind i n all e in
+    let same : place.0 ≡ j = cc (place.1, image) in
+    omega (arith, place.2, same)
+
+image_fits : (r : Maps) (kind : SymbolKind) (i : Option ℕ) → All (HasPlace r) (number_uses kind i) → FitsIndex (image_or_none r kind i)
+image_fits r kind None all = omega arith
+image_fits r kind (Some n) all =
+    let place = use_of (HasPlace r) kind (Some n) n all refl in
+    subst FitsIndex (sym place.1) place.2
+
+formed_with : (op : Operation) (s t u : Option ℕ) → IsSpecial op → FitsIndex s → FitsIndex t → FitsIndex u → IsFormedOperation (with_numbers op s t u)
+formed_with (AdvancePc addresses) s t u special hs ht hu = record { name_fits = omega arith; type_fits = omega arith; signature_fits = omega arith; is_special = special }
+formed_with (AdvanceLine lines) s t u special hs ht hu = record { name_fits = omega arith; type_fits = omega arith; signature_fits = omega arith; is_special = special }
+formed_with (StartLocal register name typ) s t u special hs ht hu = record { name_fits = hs; type_fits = ht; signature_fits = omega arith; is_special = special }
+formed_with (StartLocalExtended register name typ signature) s t u special hs ht hu = record { name_fits = hs; type_fits = ht; signature_fits = hu; is_special = special }
+formed_with (EndLocal register) s t u special hs ht hu = record { name_fits = omega arith; type_fits = omega arith; signature_fits = omega arith; is_special = special }
+formed_with (RestartLocal register) s t u special hs ht hu = record { name_fits = omega arith; type_fits = omega arith; signature_fits = omega arith; is_special = special }
+formed_with SetPrologueEnd s t u special hs ht hu = record { name_fits = omega arith; type_fits = omega arith; signature_fits = omega arith; is_special = special }
+formed_with SetEpilogueBegin s t u special hs ht hu = record { name_fits = omega arith; type_fits = omega arith; signature_fits = omega arith; is_special = special }
+formed_with (SetFile name) s t u special hs ht hu = record { name_fits = hs; type_fits = omega arith; signature_fits = omega arith; is_special = special }
+formed_with (Special opcode) s t u special hs ht hu = record { name_fits = omega arith; type_fits = omega arith; signature_fits = omega arith; is_special = special }
+
+operation_formed : (r : Maps) (op : Operation) → All (HasPlace r) (operation_uses op) → IsFormedOperation op → IsFormedOperation (renumbered_operation r op)
+operation_formed r op all is =
+    formed_with op (image_or_none r kinds.Text (name_of op)) (image_or_none r kinds.Typ (type_of op)) (image_or_none r kinds.Text (signature_of op)) is.is_special
+    (image_fits r kinds.Text (name_of op) (name_part (HasPlace r) op all))
+    (image_fits r kinds.Typ (type_of op) (type_part (HasPlace r) op all))
+    (image_fits r kinds.Text (signature_of op) (signature_part (HasPlace r) op all))
+
+operations_formed : (r : Maps) (ops : List Operation) → All (HasPlace r) (flat_map operation_uses ops) → All IsFormedOperation ops → All IsFormedOperation (map (renumbered_operation r) ops)
+operations_formed r [] all are = All-nil IsFormedOperation
+operations_formed r (op ∷ ops) all are =
+    All-cons IsFormedOperation (renumbered_operation r op) (map (renumbered_operation r) ops)
+    (operation_formed r op (all_front (HasPlace r) (operation_uses op) (flat_map operation_uses ops) all) (All-head IsFormedOperation op ops are))
+    (operations_formed r ops (all_back (HasPlace r) (operation_uses op) (flat_map operation_uses ops) all) (All-tail IsFormedOperation op ops are))
+
+-- a debug program whose numbers lead to small ones keeps its form
+pub debug_formed : (r : Maps) (d : NumberedDebug) → All (HasPlace r) (debug_uses d) → IsFormedDebug d → IsFormedDebug (renumbered_debug r d)
+debug_formed r d all is =
+    let names = all_front (HasPlace r) (flat_map (number_uses kinds.Text) d.parameter_names) (flat_map operation_uses d.operations) all in
+    let operations = all_back (HasPlace r) (flat_map (number_uses kinds.Text) d.parameter_names) (flat_map operation_uses d.operations) all in
+    record {
+      names_count = simp length-map is.names_count;
+      names_fit = all_map (λ i. All (HasPlace r) (number_uses kinds.Text i)) FitsIndex (image_or_none r kinds.Text) d.parameter_names (image_fits r kinds.Text) (all_parts (HasPlace r) (number_uses kinds.Text) d.parameter_names names);
+      operations_count = simp length-map is.operations_count;
+      operations_fit = operations_formed r d.operations operations is.operations_fit;
+    }
+
+-- ---- marks
+
+or_assoc : (a b c : Bool) → ((a || b) || c) ≡ (a || (b || c))
+or_assoc true b c = refl
+or_assoc false b c = refl
+
+-- the marks of two lists, one made after the other
+pub marked_both : (us vs : List Use) (a b c : Marks) → AreMarkedToo us a b → AreMarkedToo vs b c → AreMarkedToo (us ++ vs) a c
+marked_both us vs a b c before more = record {
+  count = λ j. more.count j ∙ before.count j;
+  each = λ j i.
+      more.each j i ∙ ap (λ (t : Bool). t || occurs vs j i) (before.each j i) ∙ or_assoc (get_or (marks_of j a) i false) (occurs us j i) (occurs vs j i)
+      ∙ ap (λ (t : Bool). get_or (marks_of j a) i false || t) (sym (list_any-append (λ v. same_kind v.kind j && v.number == i) us vs));
+}
+
+-- there still is a mark for each that had one
+pub still_all : (us vs : List Use) (a b : Marks) → AreMarkedToo us a b → All (HasMark a) vs → All (HasMark b) vs
+still_all us vs a b h all = all_of (HasMark a) (HasMark b) vs (λ u lt. still_marked us u a b h lt) all

@@ -1,0 +1,72 @@
+-- Items that are images of others: where the others stand, which of them are distinct.
+use Rattle.std.proofs.Common.{◌≡◌, ℕ, zero, suc, ◌+◌, ◌<◌, Bool, true, false, not, List, [], ◌∷◌, ◌++◌, length, map, take, drop, get_or, filter, refl, ap, ◌∙◌, if◌then◌else◌, arith}
+use Rattle.std.specs.List.{All}
+use Rattle.std.proofs.lemmas.List.Elements.{All-nil, All-cons, All-head, All-tail}
+use Rattle.dexspec.specs.Lists.{Item, Sequence, distinct}
+
+-- where items stand, so do their images
+pub seq_map : {X Y : Type 0} (At : Item X) (Bt : Item Y) (f : X → Y) (b : List ℕ) → ((o : ℕ) (x : X) (n : ℕ) → At b o x n → Bt b o (f x) n) → (o : ℕ) (xs : List X) (n : ℕ) → Sequence At b o xs n → Sequence Bt b o (map f xs) n
+seq_map At Bt f b each o [] n h = h
+seq_map At Bt f b each o (x ∷ xs) n h = (h.0, h.1, each o x h.0 h.2, seq_map At Bt f b each (o + h.0) xs h.1 h.3, h.4)
+
+-- and back
+pub seq_back : {X Y : Type 0} (At : Item X) (Bt : Item Y) (f : X → Y) (b : List ℕ) → ((o : ℕ) (y : Y) (n : ℕ) → Bt b o y n → (x : X) × At b o x n × (f x ≡ y)) → (o : ℕ) (ys : List Y) (n : ℕ) → Sequence Bt b o ys n → (xs : List X) × Sequence At b o xs n × (map f xs ≡ ys)
+seq_back At Bt f b each o [] n h = ([], h, refl)
+seq_back At Bt f b each o (y ∷ ys) n h =
+    let first = each o y h.0 h.2 in
+    let rest = seq_back At Bt f b each (o + h.0) ys h.1 h.3 in
+    (first.0 ∷ rest.0, (h.0, h.1, first.1, rest.1, h.4), λ i. first.2 i ∷ rest.2 i)
+
+-- the first items of a sequence are one
+pub seq_take : {X : Type 0} (At : Item X) (b : List ℕ) (o : ℕ) (xs : List X) (n i : ℕ) → Sequence At b o xs n → (k : ℕ) × Sequence At b o (take i xs) k
+seq_take At b o xs n zero h = (0, refl)
+seq_take At b o [] n (suc i) h = (0, refl)
+seq_take At b o (x ∷ xs) n (suc i) h = let rest = seq_take At b (o + h.0) xs h.1 i h.3 in (h.0 + rest.0, (h.0, rest.0, h.2, rest.1, refl))
+
+-- what holds where each item stands
+pub seq_all : {X : Type 0} (At : Item X) (P : X → Type 0) (b : List ℕ) → ((o : ℕ) (x : X) (n : ℕ) → At b o x n → P x) → (o : ℕ) (xs : List X) (n : ℕ) → Sequence At b o xs n → All P xs
+seq_all At P b each o [] n h = All-nil P
+seq_all At P b each o (x ∷ xs) n h = All-cons P x xs (each o x h.0 h.2) (seq_all At P b each (o + h.0) xs h.1 h.3)
+
+-- a list around a member
+pub split_at : {X : Type 0} (xs : List X) (i : ℕ) (d : X) → i < length xs → xs ≡ take i xs ++ get_or xs i d ∷ drop (suc i) xs
+split_at [] i d lt = absurd (omega (arith, lt))
+split_at (x ∷ xs) zero d lt = refl
+split_at (x ∷ xs) (suc i) d lt = ap (λ ys. x ∷ ys) (split_at xs i d (omega (arith, lt)))
+
+-- the default does not matter within
+pub one_default : {X : Type 0} (xs : List X) (i : ℕ) (d e : X) → i < length xs → get_or xs i d ≡ get_or xs i e
+one_default [] i d e lt = absurd (omega (arith, lt))
+one_default (x ∷ xs) zero d e lt = refl
+one_default (x ∷ xs) (suc i) d e lt = one_default xs i d e (omega (arith, lt))
+
+module _ {X Y : Type 0} (same : X → X → Bool) (alike : Y → Y → Bool) (f : X → Y) (P : X → Type 0) (agree : (x y : X) → P x → P y → alike (f x) (f y) ≡ same x y) where
+  kept_by : (p : X → Bool) (b : Bool) (x : X) (xs : List X) → P x → All P (filter p xs) → All P (if b then x ∷ filter p xs else filter p xs)
+  kept_by p true x xs h all = All-cons P x (filter p xs) h all
+  kept_by p false x xs h all = all
+
+  all_kept : (p : X → Bool) (xs : List X) → All P xs → All P (filter p xs)
+  all_kept p [] all = all
+  all_kept p (x ∷ xs) all = kept_by p (p x) x xs (All-head P x xs all) (all_kept p xs (All-tail P x xs all))
+
+  all_distinct : (xs : List X) → All P xs → All P (distinct same xs)
+  all_distinct [] all = all
+  all_distinct (x ∷ xs) all = All-cons P x (filter (λ y. not (same x y)) (distinct same xs)) (All-head P x xs all) (all_kept (λ y. not (same x y)) (distinct same xs) (all_distinct xs (All-tail P x xs all)))
+
+  image_by : (x y : X) (ys : List X) (b c : Bool) → c ≡ b → filter (λ z. not (alike (f x) z)) (map f ys) ≡ map f (filter (λ z. not (same x z)) ys)
+      → (if not c then f y ∷ filter (λ z. not (alike (f x) z)) (map f ys) else filter (λ z. not (alike (f x) z)) (map f ys)) ≡ map f (if not b then y ∷ filter (λ z. not (same x z)) ys else filter (λ z. not (same x z)) ys)
+  image_by x y ys true true e h = h
+  image_by x y ys false false e h = ap (λ zs. f y ∷ zs) h
+  image_by x y ys true false e h = absurd cc
+  image_by x y ys false true e h = absurd cc
+
+  kept_image : (x : X) (ys : List X) → P x → All P ys → filter (λ z. not (alike (f x) z)) (map f ys) ≡ map f (filter (λ z. not (same x z)) ys)
+  kept_image x [] h all = refl
+  kept_image x (y ∷ ys) h all = image_by x y ys (same x y) (alike (f x) (f y)) (agree x y h (All-head P y ys all)) (kept_image x ys h (All-tail P y ys all))
+
+  -- the distinct images are the images of the distinct members
+  pub distinct_map : (xs : List X) → All P xs → distinct alike (map f xs) ≡ map f (distinct same xs)
+  distinct_map [] all = refl
+  distinct_map (x ∷ xs) all =
+      ap (λ ys. f x ∷ filter (λ z. not (alike (f x) z)) ys) (distinct_map xs (All-tail P x xs all))
+      ∙ ap (λ ys. f x ∷ ys) (kept_image x (distinct same xs) (All-head P x xs all) (all_distinct xs (All-tail P x xs all)))

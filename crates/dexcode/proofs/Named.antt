@@ -1,0 +1,85 @@
+-- Tries and the list of the handlers that they name.
+use Rattle.std.proofs.Common.{◌≡◌, ℕ, zero, suc, ◌+◌, ◌<◌, ◌||◌, Bool, true, false, List, [], ◌∷◌, ◌++◌, length, map, get_or, slice_set, All, Option, Some, None, refl, ap, sym, ◌∙◌, subst, inl, inr, take, if◌then◌else◌, arith}
+use Rattle.std.specs.Prelude.{unwrap_or}
+use Rattle.std.specs.Bool.{Decides}
+use Rattle.std.specs.List.{list_any}
+use Rattle.std.proofs.lemmas.Bool.{cases_eq}
+use Rattle.std.proofs.lemmas.List.{length-set, length-append, get_or-set_same, get_or-set_other, get_or_append_left, map-append, map_more}
+use Rattle.std.proofs.lemmas.List.Elements.{All-nil, All-cons, All-head, All-tail, All-push}
+use Rattle.indexmap.specs.IndexSet.{insert_key}
+use Rattle.dexcode.specs.declared.tries.Try.{Try}
+use Rattle.dexspec.specs.Lists.{distinct}
+use Rattle.dexcode.specs.Numbered.{NumberedHandler, NumberedTry, AreKnown, no_handler, named, all_named, handlers_of, same_handler}
+use Rattle.dexcode.specs.Equality.{handler_decides}
+use Rattle.dexcode.proofs.Distinct.{insert_grows, distinct_more}
+
+module _ {X : Type 0} (same : X → X → Bool) (decides : (x y : X) → Decides (same x y) (x ≡ y)) where
+  either : (b c : Bool) → c ≡ true → (b || c) ≡ true
+  either true c h = refl
+  either false c h = h
+
+  present : (ks : List X) (x : X) (k : ℕ) (d : X) → k < length ks → get_or ks k d ≡ x → list_any (same x) ks ≡ true
+  present [] x k d lt e = absurd (omega (arith, lt))
+  present (y ∷ ks) x zero d lt e = ap (λ b. b || list_any (same x) ks) ((decides x y).1 (sym e))
+  present (y ∷ ks) x (suc k) d lt e = either (same x y) (list_any (same x) ks) (present ks x k d (omega (arith, lt)) e)
+
+  -- a member that is there is not added
+  pub insert_there : (ks : List X) (x : X) (k : ℕ) (d : X) → k < length ks → get_or ks k d ≡ x → insert_key same ks x ≡ ks
+  insert_there ks x k d lt e = ap (λ b. if b then ks else ks ++ x ∷ []) (present ks x k d lt e)
+
+-- a handler that is behind those known is known too
+pub known_more : (listed hs hs' more : List NumberedHandler) (numbers : List (Option ℕ)) (place number : ℕ) → AreKnown listed hs numbers → hs' ≡ hs ++ more → place < length listed → number < length hs'
+    → get_or hs' number no_handler ≡ get_or listed place no_handler → AreKnown listed hs' (slice_set numbers place (Some number))
+known_more listed hs hs' more numbers place number known grown within lt is = record {
+  count = length-set numbers place (Some number) ∙ known.count;
+  each = λ p k e. elim (cases_eq p place) [
+    | inl here ↦ let set : get_or (slice_set numbers place (Some number)) place None ≡ Some number = get_or-set_same numbers place (Some number) None (omega (arith, within, known.count)) in
+        let same : number ≡ k = ap (λ o. unwrap_or o 0) (sym set ∙ ap (λ (q : ℕ). get_or (slice_set numbers place (Some number)) q None) (sym here) ∙ e) in
+        (subst (λ (q : ℕ). q < length hs') same lt, subst (λ (q : ℕ). get_or hs' q no_handler ≡ get_or listed place no_handler) same is ∙ ap (λ (q : ℕ). get_or listed q no_handler) (sym here))
+    | inr other ↦ let old = known.each p k (sym (get_or-set_other numbers place p (Some number) None other) ∙ e) in (
+      omega (arith, old.0, ap length grown, length-append hs more),
+      ap (λ gs. get_or gs k no_handler) grown ∙ get_or_append_left hs more no_handler k old.0 ∙ old.1,
+    )
+  ];
+}
+
+-- more handlers change no name
+pub named_grown : (hs more : List NumberedHandler) (ts : List Try) → All (λ t. t.handler < length hs) ts → all_named (hs ++ more) ts ≡ all_named hs ts
+named_grown hs more [] all = refl
+named_grown hs more (t ∷ ts) all =
+    let first : named (hs ++ more) t ≡ named hs t = ap (λ (h : NumberedHandler). record { start = t.start; count = t.count; handler = h }) (get_or_append_left hs more no_handler t.handler (All-head (λ (x : Try). x.handler < length hs) t ts all)) in
+    λ i. first i ∷ named_grown hs more ts (All-tail (λ (x : Try). x.handler < length hs) t ts all) i
+
+-- nor is one of them lost
+pub within_grown : (hs more : List NumberedHandler) (ts : List Try) → All (λ t. t.handler < length hs) ts → All (λ t. t.handler < length (hs ++ more)) ts
+within_grown hs more [] all = All-nil (λ (x : Try). x.handler < length (hs ++ more))
+within_grown hs more (t ∷ ts) all = All-cons (λ (x : Try). x.handler < length (hs ++ more)) t ts (omega (arith, All-head (λ (x : Try). x.handler < length hs) t ts all, length-append hs more)) (within_grown hs more ts (All-tail (λ (x : Try). x.handler < length hs) t ts all))
+
+-- the handler of the next try is one more that is named
+next_used : (listed : List NumberedHandler) (tries : List Try) (i : ℕ) (d : Try) → i < length tries → insert_key same_handler (handlers_of (all_named listed (take i tries))) (get_or listed (get_or tries i d).handler no_handler) ≡ handlers_of (all_named listed (take (i + 1) tries))
+next_used listed tries i d lt =
+    let before = all_named listed (take i tries) in
+    let next = named listed (get_or tries i d) in
+    let handler : NumberedTry → NumberedHandler = λ t. t.handler in
+    sym (distinct_more same_handler handler_decides (map handler before) next.handler)
+    ∙ ap (distinct same_handler) (sym (map-append handler before (next ∷ [])))
+    ∙ ap handlers_of (sym (map_more (named listed) tries i d lt))
+
+-- one more try has the number of its handler
+pub names_more : (listed hs hs' : List NumberedHandler) (tries numbered numbered' : List Try) (i k : ℕ) (d : Try) → i < length tries → hs' ≡ insert_key same_handler hs (get_or listed (get_or tries i d).handler no_handler)
+    → k < length hs' → get_or hs' k no_handler ≡ get_or listed (get_or tries i d).handler no_handler
+    → hs ≡ handlers_of (all_named listed (take i tries)) → all_named hs numbered ≡ all_named listed (take i tries) → All (λ t. t.handler < length hs) numbered
+    → numbered' ≡ numbered ++ record { start = (get_or tries i d).start; count = (get_or tries i d).count; handler = k } ∷ []
+    → (hs' ≡ handlers_of (all_named listed (take (i + 1) tries))) × (all_named hs' numbered' ≡ all_named listed (take (i + 1) tries)) × All (λ t. t.handler < length hs') numbered'
+names_more listed hs hs' tries numbered numbered' i k d lt inserted within is used names all pushed =
+    let t = get_or tries i d in
+    let new : Try = record { start = t.start; count = t.count; handler = k } in
+    let grows = insert_grows same_handler hs (get_or listed t.handler no_handler) in
+    let grown : hs' ≡ hs ++ grows.0 = inserted ∙ grows.1 in
+    let named_new : named hs' new ≡ named listed t = ap (λ (h : NumberedHandler). record { start = t.start; count = t.count; handler = h }) is in
+    let old : all_named hs' numbered ≡ all_named listed (take i tries) = ap (λ gs. all_named gs numbered) grown ∙ named_grown hs grows.0 numbered all ∙ names in
+    let kept : All (λ x. x.handler < length hs') numbered = subst (λ gs. All (λ x. x.handler < length gs) numbered) (sym grown) (within_grown hs grows.0 numbered all) in (
+      inserted ∙ ap (λ gs. insert_key same_handler gs (get_or listed t.handler no_handler)) used ∙ next_used listed tries i d lt,
+      ap (all_named hs') pushed ∙ map-append (named hs') numbered (new ∷ []) ∙ (λ j. old j ++ named_new j ∷ []) ∙ sym (map_more (named listed) tries i d lt),
+      subst (All (λ x. x.handler < length hs')) (sym pushed) (All-push (λ (x : Try). x.handler < length hs') numbered new kept within),
+    )

@@ -1,0 +1,6 @@
+use Rattle.dexinsn.specs.Numbered.{HasMark}
+use Rattle.dexcode.proofs.DebugUses.{use_of}
+use Rattle.dexcode.proofs.debug_numbers.mark_number.Goals as goal
+
+pub mark_one-requires : goal.mark_one-requires
+mark_one-requires c = use_of (HasMark c.args.marks.now) c.args.kind c.args.number c.in-Some.number c.requires c.in-Some.is

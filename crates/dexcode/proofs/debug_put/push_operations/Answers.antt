@@ -1,0 +1,7 @@
+use Rattle.dexcode.specs.declared.debug_operation.Operation.TheVariants.{AdvancePc}
+use Rattle.dexcode.specs.Debug.{numbered_operation_bytes}
+use Rattle.dexcode.proofs.DebugPushed.{room_for_one}
+use Rattle.dexcode.proofs.debug_put.push_operations.Goals as goal
+
+pub push_operation-requires-clause-room : goal.push_operation-requires-clause-room
+push_operation-requires-clause-room c = room_for_one numbered_operation_bytes c.args.operations.now c.loop-operation.operation-index (AdvancePc 0) c.args.out.now c.loop-operation.out c.loop-operation-test.true c.loop-operation.invariant c.requires.room

@@ -1,0 +1,10 @@
+use Rattle.std.proofs.Common.{◌≡◌, ◌<◌, length, take, All}
+use Rattle.dexcode.specs.Numbered.{AreKnown, all_named, handlers_of}
+use Rattle.dexcode.proofs.tries.Tries.of.Given as goal
+
+abbrev pub invariant-loop-item : goal.invariant-loop-item
+invariant-loop-item l =
+    AreKnown l.listed l.handlers.keys l.numbers.items
+    × (l.handlers.keys ≡ handlers_of (all_named l.listed (take l.item-index l.tries)))
+    × (all_named l.handlers.keys l.numbered.items ≡ all_named l.listed (take l.item-index l.tries))
+    × All (λ t. t.handler < length l.handlers.keys) l.numbered.items

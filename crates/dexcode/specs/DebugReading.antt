@@ -1,0 +1,124 @@
+-- Debug programs as they are read from a file.
+use Rattle.std.specs.Prelude.{◌≡◌, ℕ, ◌+◌, ◌-◌, ◌^◌, ◌<◌, ◌≤◌, List, [], ◌∷◌, All, length, Option, IfSome}
+use Rattle.dexspec.specs.Lists.{Item, Sequence}
+use Rattle.dexspec.specs.Bytes.{Stands}
+use Rattle.dexspec.specs.Numbers.{Uleb128At, Sleb128At, Uleb128p1At}
+use Rattle.dexspec.specs.Mentions.{Mentions}
+use Rattle.dexspec.specs.Debug as symbolic
+use Rattle.dexpool.specs.declared.faults.ItemFault.{ItemFault}
+use Rattle.dexpool.specs.declared.faults.ItemFault.TheVariants.{Refused, Memory}
+use Rattle.dexcode.specs.declared.debug_operation.Operation.{Operation}
+use Rattle.dexcode.specs.declared.debug_operation.Operation.TheVariants.{AdvancePc, AdvanceLine, StartLocal, StartLocalExtended, EndLocal, RestartLocal, SetPrologueEnd, SetEpilogueBegin, SetFile, Special}
+use Rattle.dexcode.specs.declared.debug_reading.Counts.{Counts}
+use Rattle.dexcode.specs.Debug.{NumberedDebug, StandsForDebug, FitsIndex, IsFormedOperation}
+
+-- the debug program is that at an offset, where symbols are numbered by their rows
+pub record IsDebugAt (b : List ℕ) (off : ℕ) (m : Mentions) (d : NumberedDebug) : Type 0 where
+  pub program : symbolic.Debug
+  pub at : symbolic.DebugAt b off program
+  pub stands : StandsForDebug m d program
+
+-- no debug program stands there; a refusal of memory tells nothing
+abbrev pub IsDebugFault : List ℕ → ℕ → ItemFault → Type 0
+IsDebugFault b off (Refused number) = (number ≡ 20) × ((x : symbolic.Debug) → symbolic.DebugAt b off x → ⊥)
+IsDebugFault b off Memory = Unit {0}
+
+-- ---- numbers at a place
+
+-- at offset o stands a uleb128p1 of a number below the count, or of none
+abbrev pub IndexAt : ℕ → Item (Option ℕ)
+IndexAt count b o i n = Uleb128p1At b o i n × IfSome i (λ k. k < count)
+
+-- at offset o stand the operands that tell of a local variable
+pub record LocalAt (m : Counts) (b : List ℕ) (o register : ℕ) (name typ : Option ℕ) (n : ℕ) : Type 0 where
+  pub register_size : ℕ
+  pub name_size : ℕ
+  pub type_size : ℕ
+  pub at_register : Uleb128At b o register register_size
+  pub at_name : IndexAt m.texts b (o + register_size) name name_size
+  pub at_type : IndexAt m.types b (o + register_size + name_size) typ type_size
+  pub size : n ≡ register_size + name_size + type_size
+
+-- they and a signature
+pub record ExtendedAt (m : Counts) (b : List ℕ) (o register : ℕ) (name typ signature : Option ℕ) (n : ℕ) : Type 0 where
+  pub local_size : ℕ
+  pub signature_size : ℕ
+  pub at_local : LocalAt m b o register name typ local_size
+  pub at_signature : IndexAt m.texts b (o + local_size) signature signature_size
+  pub size : n ≡ local_size + signature_size
+
+-- at offset o stand the operands of an operation of this opcode, their numbers in range
+abbrev pub OperandsAt : Counts → ℕ → Item Operation
+OperandsAt m c b o (AdvancePc addresses) n = (c ≡ 0x01) × Uleb128At b o addresses n
+OperandsAt m c b o (AdvanceLine lines) n = (c ≡ 0x02) × Sleb128At b o lines n
+OperandsAt m c b o (StartLocal register name typ) n = (c ≡ 0x03) × LocalAt m b o register name typ n
+OperandsAt m c b o (StartLocalExtended register name typ signature) n = (c ≡ 0x04) × ExtendedAt m b o register name typ signature n
+OperandsAt m c b o (EndLocal register) n = (c ≡ 0x05) × Uleb128At b o register n
+OperandsAt m c b o (RestartLocal register) n = (c ≡ 0x06) × Uleb128At b o register n
+OperandsAt m c b o SetPrologueEnd n = (c ≡ 0x07) × (n ≡ 0)
+OperandsAt m c b o SetEpilogueBegin n = (c ≡ 0x08) × (n ≡ 0)
+OperandsAt m c b o (SetFile name) n = (c ≡ 0x09) × IndexAt m.texts b o name n
+OperandsAt m c b o (Special opcode) n = (c ≡ opcode) × (0x0a ≤ opcode) × (n ≡ 0)
+
+-- at offset o stands the operation: an opcode other than that of the end, and its operands
+pub record NumberedAt (m : Counts) (b : List ℕ) (o : ℕ) (op : Operation) (n : ℕ) : Type 0 where
+  pub opcode : ℕ
+  pub operands_size : ℕ
+  pub at_opcode : Stands b o (opcode ∷ [])
+  pub byte : opcode ≤ 0xff
+  pub operands : OperandsAt m opcode b (o + 1) op operands_size
+  pub size : n ≡ 1 + operands_size
+
+-- from offset o on stand the operations, and behind them the end
+pub record ProgramAt (m : Counts) (b : List ℕ) (o : ℕ) (ops : List Operation) : Type 0 where
+  pub size : ℕ
+  pub operations : Sequence (NumberedAt m) b o ops size
+  pub end : Stands b (o + size) (0x00 ∷ [])
+
+-- from offset o on stand so many names, in n bytes
+pub record NamesAt (texts : ℕ) (b : List ℕ) (o count : ℕ) (names : List (Option ℕ)) (n : ℕ) : Type 0 where
+  pub many : length names ≡ count
+  pub each : Sequence (IndexAt texts) b o names n
+
+-- at offset o stands the debug program
+pub record NumberedDebugAt (m : Counts) (b : List ℕ) (o : ℕ) (d : NumberedDebug) : Type 0 where
+  pub start_size : ℕ
+  pub count_size : ℕ
+  pub names_size : ℕ
+  pub at_start : Uleb128At b o d.line_start start_size
+  pub at_count : Uleb128At b (o + start_size) (length d.parameter_names) count_size
+  pub at_names : NamesAt m.texts b (o + start_size + count_size) (length d.parameter_names) d.parameter_names names_size
+  pub program : ProgramAt m b (o + start_size + count_size + names_size) d.operations
+
+-- ---- refusals
+
+-- the operations, and behind them the end, do not stand there; a refusal of memory tells nothing
+abbrev pub IsNoProgram : Counts → List ℕ → ℕ → ItemFault → Type 0
+IsNoProgram m b o (Refused number) = (number ≡ 20) × ((ops : List Operation) → ProgramAt m b o ops → ⊥)
+IsNoProgram m b o Memory = Unit {0}
+
+-- so many names do not stand there
+abbrev pub AreNoNames : ℕ → List ℕ → ℕ → ℕ → ItemFault → Type 0
+AreNoNames texts b o count (Refused number) = (number ≡ 20) × ((names : List (Option ℕ)) (n : ℕ) → NamesAt texts b o count names n → ⊥)
+AreNoNames texts b o count Memory = Unit {0}
+
+-- no debug program does
+abbrev pub IsNoDebug : Counts → List ℕ → ℕ → ItemFault → Type 0
+IsNoDebug m b o (Refused number) = (number ≡ 20) × ((d : NumberedDebug) → NumberedDebugAt m b o d → ⊥)
+IsNoDebug m b o Memory = Unit {0}
+
+-- ---- what was read
+
+-- the names that stand there, and where they end
+pub record AreNames (texts : ℕ) (b : List ℕ) (o count : ℕ) (names : List (Option ℕ)) (end : ℕ) : Type 0 where
+  pub before : o ≤ end
+  pub within : end ≤ length b
+  pub names_at : NamesAt texts b o count names (end - o)
+  pub fit : All FitsIndex names
+  pub ends : (others : List (Option ℕ)) (n : ℕ) → NamesAt texts b o count others n → o + n ≡ end
+
+-- the operations that stand there
+pub record AreOperations (m : Counts) (b : List ℕ) (o : ℕ) (ops : List Operation) : Type 0 where
+  pub program : ProgramAt m b o ops
+  pub formed : All IsFormedOperation ops
+  pub few : length ops < 2 ^ 30

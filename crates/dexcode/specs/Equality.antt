@@ -1,0 +1,62 @@
+-- Handlers that are the same are equal, and are hashed alike.
+use Rattle.std.specs.Prelude.{◌≡◌, ℕ, ◌==◌, ◌&&◌, ◌++◌, Bool, true, false, IsTrue, Option, Some, None}
+use Rattle.std.proofs.Common.{refl, ap, sym}
+use Rattle.std.specs.Bool.{Decides}
+use Rattle.std.specs.Option.{option_eq}
+use Rattle.std.specs.Cmp.{IsEquivalence, IsPartialEquivalence, partial_equiv_from_equiv, decided, unsigned_Decides, first_so, second_so}
+use Rattle.std.specs.Cmp.Lexicographic.{pointwise, pointwise_decides}
+use Rattle.std.specs.Hash as fed
+use Rattle.dexcode.specs.declared.handlers.Catch.{Catch}
+use Rattle.dexcode.specs.Numbered.{NumberedHandler, same_catch, same_handler}
+
+no_answer : false ≡ true → ⊥
+no_answer e = cc
+
+pub both : (a b : Bool) → a ≡ true → b ≡ true → (a && b) ≡ true
+both true b h k = k
+both false b h k = absurd (no_answer h)
+
+pub catch_decides : (c d : Catch) → Decides (same_catch c d) (c ≡ d)
+catch_decides c d = (
+  λ e. let typ : c.typ ≡ d.typ = (unsigned_Decides c.typ d.typ).0 (first_so (c.typ == d.typ) (c.address == d.address) e) in
+      let address : c.address ≡ d.address = (unsigned_Decides c.address d.address).0 (second_so (c.typ == d.typ) (c.address == d.address) e) in
+      λ i. record { typ = typ i; address = address i },
+  λ e. both (c.typ == d.typ) (c.address == d.address) ((unsigned_Decides c.typ d.typ).1 (ap (λ x. x.typ) e)) ((unsigned_Decides c.address d.address).1 (ap (λ x. x.address) e)),
+)
+
+abbrev value_of : ℕ → Option ℕ → ℕ
+value_of d None = d
+value_of d (Some n) = n
+
+abbrev is_there : Option ℕ → Bool
+is_there None = false
+is_there (Some n) = true
+
+pub option_decides : (a b : Option ℕ) → Decides (option_eq ◌==◌ a b) (a ≡ b)
+option_decides None None = (λ e. refl, λ e. refl)
+option_decides None (Some b) = (λ e. absurd (no_answer e), λ e. ap is_there e)
+option_decides (Some a) None = (λ e. absurd (no_answer e), λ e. sym (ap is_there e))
+option_decides (Some a) (Some b) = (λ e. ap Some ((unsigned_Decides a b).0 e), λ e. (unsigned_Decides a b).1 (ap (value_of 0) e))
+
+pub handler_decides : (h k : NumberedHandler) → Decides (same_handler h k) (h ≡ k)
+handler_decides h k =
+    let catches = pointwise same_catch h.catches k.catches in
+    let all = option_eq ◌==◌ h.catch_all k.catch_all in (
+      λ e. let first : h.catches ≡ k.catches = (pointwise_decides catch_decides h.catches k.catches).0 (first_so catches all e) in
+          let second : h.catch_all ≡ k.catch_all = (option_decides h.catch_all k.catch_all).0 (second_so catches all e) in
+          λ i. record { catches = first i; catch_all = second i },
+      λ e. both catches all ((pointwise_decides catch_decides h.catches k.catches).1 (ap (λ x. x.catches) e)) ((option_decides h.catch_all k.catch_all).1 (ap (λ x. x.catch_all) e)),
+    )
+
+pub handler_equiv : IsEquivalence same_handler
+handler_equiv = decided same_handler handler_decides
+
+pub handler_per : IsPartialEquivalence same_handler
+handler_per = partial_equiv_from_equiv handler_equiv
+
+-- what a hasher is fed
+abbrev pub handler_input : NumberedHandler → fed.HashWrites
+handler_input h = fed.slice (λ c. fed.u32 c.typ ++ fed.u32 c.address) h.catches ++ fed.option fed.u32 h.catch_all
+
+pub handlers_alike : (h k : NumberedHandler) → IsTrue (same_handler h k) → handler_input h ≡ handler_input k
+handlers_alike h k same = ap handler_input ((handler_decides h k).0 same)

@@ -1,0 +1,6 @@
+pub mod Debug
+pub mod DebugPut
+pub mod DebugReading
+pub mod Equality
+pub mod Numbered
+pub mod Reading

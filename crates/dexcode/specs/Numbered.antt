@@ -1,0 +1,111 @@
+-- Tries and handlers whose types are numbers.
+use Rattle.std.specs.Prelude.{◌≡◌, ℕ, ◌+◌, ◌*◌, ◌<◌, Bool, ◌&&◌, ◌==◌, List, [], length, map, sum_by, All, slice_index_or, Option, Some, None}
+use Rattle.std.specs.Option.{option_eq}
+use Rattle.std.specs.Cmp.Lexicographic.{pointwise}
+use Rattle.std.specs.List.{AllZip}
+use Rattle.dexspec.specs.Lists.{distinct, BothOrNone}
+use Rattle.dexspec.specs.Mentions.{Mentions}
+use Rattle.dexspec.specs.Code as symbolic
+use Rattle.dexpool.specs.Numberings.{IsAt}
+use Rattle.dexinsn.specs.Numbered.{NumberedCode, StandFor}
+use Rattle.dexcode.specs.Debug.{NumberedDebug, StandsForDebug}
+use Rattle.dexcode.specs.declared.handlers.Catch.{Catch}
+use Rattle.dexcode.specs.declared.tries.Try.{Try}
+
+-- What is caught where, in order, and where all else is.
+pub record NumberedHandler : Type 0 where
+  pub catches : List Catch
+  pub catch_all : Option ℕ
+
+-- The units that are covered, and their handler.
+pub record NumberedTry : Type 0 where
+  pub start : ℕ
+  pub count : ℕ
+  pub handler : NumberedHandler
+
+-- whether two catches are the same
+abbrev pub same_catch : Catch → Catch → Bool
+same_catch c d = c.typ == d.typ && c.address == d.address
+
+-- whether two handlers are
+abbrev pub same_handler : NumberedHandler → NumberedHandler → Bool
+same_handler h k = pointwise same_catch h.catches k.catches && option_eq ◌==◌ h.catch_all k.catch_all
+
+-- the handlers that tries name, each once, in order of first use
+abbrev pub handlers_of : List NumberedTry → List NumberedHandler
+handlers_of tries = distinct same_handler (map (λ t. t.handler) tries)
+
+-- the bound on the bytes of a list of handlers
+abbrev pub handlers_weight : List NumberedHandler → ℕ
+handlers_weight hs = 5 + sum_by (λ h. 10 + 8 * length h.catches) hs
+
+-- ---- as they are stored: tries with the number of a handler
+
+-- what stands in the place of a handler that is not there
+abbrev pub no_handler : NumberedHandler
+no_handler = record { catches = []; catch_all = None }
+
+-- the try with its handler, one of a list
+abbrev pub named : List NumberedHandler → Try → NumberedTry
+named hs t = record { start = t.start; count = t.count; handler = slice_index_or hs t.handler no_handler }
+
+-- tries with their handlers
+abbrev pub all_named : List NumberedHandler → List Try → List NumberedTry
+all_named hs ts = map (named hs) ts
+
+-- each names a handler of the list, and the list has those that are named, each once, in order of first use
+pub record AreStored (hs : List NumberedHandler) (ts : List Try) : Type 0 where
+  pub within : All (λ t. t.handler < length hs) ts
+  pub used : hs ≡ handlers_of (all_named hs ts)
+
+-- the handlers whose numbers are known are where they are
+pub record AreKnown (listed hs : List NumberedHandler) (numbers : List (Option ℕ)) : Type 0 where
+  pub count : length numbers ≡ length listed
+  pub each : (p k : ℕ) → slice_index_or numbers p None ≡ Some k → (k < length hs) × (slice_index_or hs k no_handler ≡ slice_index_or listed p no_handler)
+
+-- ---- what numbers stand for
+
+-- the catch is the symbolic one, where types are numbered so
+pub record StandsForCatch (m : Mentions) (c : Catch) (x : symbolic.Catch) : Type 0 where
+  pub type_is : IsAt m.types c.typ x.type
+  pub address_is : c.address ≡ x.address
+
+-- the handler is
+pub record StandsForHandler (m : Mentions) (h : NumberedHandler) (x : symbolic.Handler) : Type 0 where
+  pub catches_are : AllZip (StandsForCatch m) h.catches x.catches
+  pub catch_all_is : h.catch_all ≡ x.catch_all
+
+-- the try is
+pub record StandsForTry (m : Mentions) (t : NumberedTry) (x : symbolic.Try) : Type 0 where
+  pub start_is : t.start ≡ x.start
+  pub count_is : t.count ≡ x.count
+  pub handler_is : StandsForHandler m t.handler x.handler
+
+-- the catch with the type of its number
+abbrev pub catch_meant : Mentions → Catch → symbolic.Catch
+catch_meant m c = record { type = slice_index_or m.types c.typ []; address = c.address }
+
+-- the handler with its types
+abbrev pub handler_meant : Mentions → NumberedHandler → symbolic.Handler
+handler_meant m h = record { catches = map (catch_meant m) h.catches; catch_all = h.catch_all }
+
+-- the try with those of its handler
+abbrev pub try_meant : Mentions → NumberedTry → symbolic.Try
+try_meant m t = record { start = t.start; count = t.count; handler = handler_meant m t.handler }
+
+-- ---- the whole
+
+-- A code_item: registers and pieces, tries, and a debug program, if there is one.
+pub record NumberedItem : Type 0 where
+  pub body : NumberedCode
+  pub tries : List NumberedTry
+  pub debug : Option NumberedDebug
+
+-- the code is the symbolic one, where symbols are numbered so
+pub record StandsForCode (m : Mentions) (c : NumberedItem) (x : symbolic.Code) : Type 0 where
+  pub registers_are : c.body.registers ≡ x.registers
+  pub ins_are : c.body.ins ≡ x.ins
+  pub outs_are : c.body.outs ≡ x.outs
+  pub pieces_are : StandFor m c.body.pieces x.pieces
+  pub tries_are : AllZip (StandsForTry m) c.tries x.tries
+  pub debug_is : BothOrNone (StandsForDebug m) c.debug x.debug

@@ -1,0 +1,174 @@
+-- Tries and handlers as they are read from a file: types are rows, addresses are judged by where instructions begin.
+use Rattle.std.specs.Prelude.{◌≡◌, ◌≢◌, ◌⊎◌, ◌%◌, ℕ, ℤ, pos, nat_abs, ◌<ℤ◌, ◌≤ℤ◌, ◌+◌, ◌*◌, ◌<◌, ◌≤◌, Bool, true, false, List, [], ◌∷◌, length, take, Option, Some, None, slice_index_or}
+use Rattle.dexspec.specs.Lists.{Sequence}
+use Rattle.dexspec.specs.Bytes.{uint_at, ushort_at}
+use Rattle.dexspec.specs.Numbers.{Uleb128At, Sleb128At}
+use Rattle.dexspec.specs.Mentions.{Mentions}
+use Rattle.dexspec.specs.Pieces.{Cut, Piece}
+use Rattle.dexspec.specs.Debug.{Debug, DebugAt}
+use Rattle.dexspec.specs.Code.{Code, CodeAt, PiecesAt, most_handlers}
+use Rattle.dexspec.specs.Code as whole
+use Rattle.dexpool.specs.declared.faults.ItemFault.{ItemFault}
+use Rattle.dexpool.specs.declared.faults.ItemFault.TheVariants.{Refused, Memory}
+use Rattle.dexcode.specs.declared.handlers.Catch.{Catch}
+use Rattle.dexcode.specs.declared.tries.Try.{Try}
+use Rattle.dexcode.specs.Numbered.{NumberedHandler, NumberedTry, NumberedItem, StandsForCode, handlers_of, handlers_weight}
+
+-- an instruction begins at the address
+abbrev pub IsStart : List Bool → ℕ → Type 0
+IsStart starts address = slice_index_or starts address false ≡ true
+
+-- the condition of tries is not met, for this reason; a refusal of memory tells nothing
+abbrev pub IsTriesFault : Type 0 → ItemFault → Type 0
+IsTriesFault Reason (Refused number) = (number ≡ 19) × Reason
+IsTriesFault Reason Memory = Unit {0}
+
+-- where the size of a handler is 0 or less, the address for all else follows
+abbrev pub CatchAllAt : List Bool → ℤ → List ℕ → ℕ → Option ℕ → ℕ → Type 0
+CatchAllAt starts size b o None n = (pos 0 <ℤ size) × (n ≡ 0)
+CatchAllAt starts size b o (Some address) n = (size ≤ℤ pos 0) × Uleb128At b o address n × IsStart starts address
+
+-- tries are in order of their addresses, and do not overlap
+abbrev pub AreApart : List NumberedTry → Type 0
+AreApart [] = Unit {0}
+AreApart (t ∷ []) = Unit {0}
+AreApart (t ∷ u ∷ ts) = (t.start + t.count ≤ u.start) × AreApart (u ∷ ts)
+
+module _ (starts : List Bool) (types : ℕ) where
+  -- at offset o stands an encoded_type_addr_pair
+  pub record CatchAt (b : List ℕ) (o : ℕ) (c : Catch) (n : ℕ) : Type 0 where
+    pub index_size : ℕ
+    pub address_size : ℕ
+    pub index_is : Uleb128At b o c.typ index_size
+    pub in_range : c.typ < types
+    pub address_is : Uleb128At b (o + index_size) c.address address_size
+    pub start : IsStart starts c.address
+    pub size : n ≡ index_size + address_size
+
+  -- so many of them were read from offset o on, in n bytes
+  pub record CatchesRead (b : List ℕ) (o count : ℕ) (cs : List Catch) (n : ℕ) : Type 0 where
+    pub stand : Sequence CatchAt b o cs n
+    pub many : length cs ≡ count
+    pub within : o + n ≤ length b
+
+  -- at offset o stands an encoded_catch_handler
+  pub record HandlerAt (b : List ℕ) (o : ℕ) (h : NumberedHandler) (n : ℕ) : Type 0 where
+    pub count : ℤ
+    pub count_size : ℕ
+    pub catches_size : ℕ
+    pub all_size : ℕ
+    pub count_is : Sleb128At b o count count_size
+    pub many : nat_abs count ≡ length h.catches
+    pub catches_are : Sequence CatchAt b (o + count_size) h.catches catches_size
+    pub all : CatchAllAt starts count b (o + count_size + catches_size) h.catch_all all_size
+    pub size : n ≡ count_size + catches_size + all_size
+
+  -- handler i of those from an offset on begins so many bytes behind it
+  pub record BeginsAt (b : List ℕ) (o : ℕ) (hs : List NumberedHandler) (i before : ℕ) : Type 0 where
+    pub within : i < length hs
+    pub stands : Sequence HandlerAt b o (take i hs) before
+
+  -- the handler begins so many bytes from the start of the list at offset o, which begins with a count
+  pub record IsHandler (b : List ℕ) (o count_size : ℕ) (hs : List NumberedHandler) (off : ℕ) (h : NumberedHandler) : Type 0 where
+    pub index : ℕ
+    pub before : ℕ
+    pub begins : BeginsAt b (o + count_size) hs index before
+    pub place : off ≡ count_size + before
+    pub is : (d : NumberedHandler) → slice_index_or hs index d ≡ h
+
+  -- at offset o stands a try_item whose handler is one of the list
+  pub record TryAt (units list count_size : ℕ) (hs : List NumberedHandler) (b : List ℕ) (o : ℕ) (t : NumberedTry) (n : ℕ) : Type 0 where
+    pub start_is : uint_at b o ≡ t.start
+    pub count_is : ushort_at b (o + 4) ≡ t.count
+    pub some : 0 < t.count
+    pub within : t.start + t.count ≤ units
+    pub handler_is : IsHandler b list count_size hs (ushort_at b (o + 6)) t.handler
+    pub size : n ≡ 8
+
+  -- so many of them, from an offset on to another, each at its place
+  abbrev pub AreListed : List ℕ → ℕ → List NumberedHandler → List ℕ → ℕ → Type 0
+  AreListed b from [] [] to = from ≡ to
+  AreListed b from [] (p ∷ ps) to = ⊥
+  AreListed b from (h ∷ hs) [] to = ⊥
+  AreListed b from (h ∷ hs) (p ∷ ps) to = (p ≡ from) × (n : ℕ) × HandlerAt b from h n × AreListed b (from + n) hs ps to
+
+  -- so many of them were read
+  pub record HandlersRead (b : List ℕ) (from count : ℕ) (hs : List NumberedHandler) (places : List ℕ) (to : ℕ) : Type 0 where
+    pub listed : AreListed b from hs places to
+    pub many : length hs ≡ count
+    pub within : to ≤ length b
+
+  -- at offset o stands a handler list, whose handlers begin at these places
+  pub record IsListAt (b : List ℕ) (o : ℕ) (hs : List NumberedHandler) (places : List ℕ) : Type 0 where
+    pub count_size : ℕ
+    pub end : ℕ
+    pub count_is : Uleb128At b o (length hs) count_size
+    pub listed : AreListed b (o + count_size) hs places end
+
+  -- at offset o stand so many try_items, one or more, and behind them the handler list
+  pub record TryItemsAt (units : ℕ) (b : List ℕ) (o count : ℕ) (tries : List NumberedTry) : Type 0 where
+    pub many : length tries ≡ count
+    pub handlers : List NumberedHandler
+    pub count_size : ℕ
+    pub handlers_size : ℕ
+    pub list_count : Uleb128At b (o + 8 * count) (length handlers) count_size
+    pub list : Sequence HandlerAt b (o + 8 * count + count_size) handlers handlers_size
+    pub items : Sequence (TryAt units (o + 8 * count) count_size handlers) b o tries (8 * count)
+    pub apart : AreApart tries
+    pub few : handlers_weight (handlers_of tries) ≤ most_handlers
+
+-- the places rise
+abbrev pub AreRising : List ℕ → Type 0
+AreRising places = (i j : ℕ) → i < j → j < length places → slice_index_or places i 0 < slice_index_or places j 0
+
+-- at offset o stands a try_item whose handler is the one at a place
+pub record ListedTryAt (units list : ℕ) (places : List ℕ) (b : List ℕ) (o : ℕ) (t : Try) (n : ℕ) : Type 0 where
+  pub start_is : uint_at b o ≡ t.start
+  pub count_is : ushort_at b (o + 4) ≡ t.count
+  pub some : 0 < t.count
+  pub within : t.start + t.count ≤ units
+  pub named : t.handler < length places
+  pub place : slice_index_or places t.handler 0 ≡ list + ushort_at b (o + 6)
+  pub size : n ≡ 8
+
+-- tries in order of their addresses that do not overlap, from an address on to another
+abbrev pub AreApartFrom : ℕ → List Try → ℕ → Type 0
+AreApartFrom from [] to = from ≡ to
+AreApartFrom from (t ∷ ts) to = (from ≤ t.start) × AreApartFrom (t.start + t.count) ts to
+
+-- so many of them were read
+pub record TriesRead (units list : ℕ) (places : List ℕ) (b : List ℕ) (o count : ℕ) (ts : List Try) (to : ℕ) : Type 0 where
+  pub stand : Sequence (ListedTryAt units list places) b o ts (8 * count)
+  pub many : length ts ≡ count
+  pub apart : AreApartFrom 0 ts to
+
+-- The tries of the code_item at offset o: none, or, behind a zero ushort where the number of units is odd, those of
+-- its list.
+abbrev pub TriesAt : List Bool → ℕ → List ℕ → ℕ → List NumberedTry → Type 0
+TriesAt starts types b o ts =
+    ((ushort_at b (o + 6) ≡ 0) × (ts ≡ []))
+    ⊎ ((ushort_at b (o + 6) ≢ 0) × (((uint_at b (o + 12) % 2 ≡ 0) × TryItemsAt starts types (uint_at b (o + 12)) b (o + 16 + 2 * uint_at b (o + 12)) (ushort_at b (o + 6)) ts)
+    ⊎ ((uint_at b (o + 12) % 2 ≡ 1) × (ushort_at b (o + 16 + 2 * uint_at b (o + 12)) ≡ 0) × TryItemsAt starts types (uint_at b (o + 12)) b (o + 18 + 2 * uint_at b (o + 12)) (ushort_at b (o + 6)) ts)))
+
+-- ---- the whole
+
+-- the code is that of the code_item at an offset, where symbols are numbered by their rows
+pub record IsCodeAt (b : List ℕ) (off : ℕ) (m : Mentions) (c : NumberedItem) : Type 0 where
+  pub symbolic : Code
+  pub at : CodeAt b off symbolic
+  pub stands : StandsForCode m c symbolic
+
+-- pieces stand there
+pub record HasPieces (b : List ℕ) (off : ℕ) : Type 0 where
+  pub cuts : List Cut
+  pub pieces : List Piece
+  pub at : PiecesAt b off cuts pieces
+
+-- A condition that fails there: that of pieces; or, where pieces stand there, that of tries or that of the debug
+-- program. A refusal of memory tells nothing.
+abbrev pub IsCodeFault : List ℕ → ℕ → ItemFault → Type 0
+IsCodeFault b off (Refused number) =
+    ((number ≡ 18) × (HasPieces b off → ⊥))
+    ⊎ (((number ≡ 19) × HasPieces b off × ((cuts : List Cut) (ps : List Piece) (tries : List whole.Try) → PiecesAt b off cuts ps → whole.TriesAt b off cuts tries → ⊥))
+    ⊎ ((number ≡ 20) × HasPieces b off × (uint_at b (off + 8) ≢ 0) × ((d : Debug) → DebugAt b (uint_at b (off + 8)) d → ⊥)))
+IsCodeFault b off Memory = Unit {0}

@@ -1,0 +1,139 @@
+//! Handlers read from a file.
+
+ghost use Rattle.std.specs.Prelude.{◌≡◌, ◌<◌, ◌≤◌, ◌+◌, ℕ, ℤ, List, Option, length, nat_abs, IfOk, IfErr, IfSome, IfNone};
+ghost use Rattle.dexspec.specs.Lists.{Sequence};
+ghost use Rattle.dexcode.specs.Numbered.{NumberedHandler};
+ghost use Rattle.dexspec.specs.Numbers.{Uleb128At};
+ghost use Rattle.dexcode.specs.Reading.{IsStart, CatchAt, CatchesRead, CatchAllAt, HandlerAt, IsTriesFault};
+ghost use Rattle.dexcode.specs.declared.handlers.Catch.{Catch as Caught};
+
+use crate::handlers::{Catch, Handler};
+use dexinsn::InstructionStarts;
+use dexleb::{read_s, read_u};
+use dexpool::ItemFault;
+use std::alloc::Global;
+
+// The address at a place, if an instruction begins there, and how many bytes spell it.
+fn read_address(bytes: &[u8], at: usize, starts: &InstructionStarts<'_>) -> Option<(u32, usize)>
+    requires { at ≤ length bytes.now }
+    ensures none { IfNone result ((a n : ℕ) → Uleb128At bytes.now at a n → IsStart starts.now a → ⊥) }
+    ensures address { IfSome result (λ x. Uleb128At bytes.now at x.0 x.1) }
+    ensures start { IfSome result (λ x. IsStart starts.now x.0) }
+{
+    match read_u(bytes, at) {
+        Ok((address, size)) => {
+            if starts.contains(address) {
+                Some((address, size))
+            } else {
+                None
+            }
+        }
+        Err(_) => None,
+    }
+}
+
+// The type that is caught and its address, at a place, and how many bytes spell them.
+fn read_catch(
+    bytes: &[u8],
+    at: usize,
+    starts: &InstructionStarts<'_>,
+    types: usize,
+) -> Option<(Catch, usize)>
+    requires { at ≤ length bytes.now }
+    ensures none { IfNone result ((c : Caught) (n : ℕ) → CatchAt starts.now types bytes.now at c n → ⊥) }
+    ensures some { IfSome result (λ x. CatchAt starts.now types bytes.now at x.0 x.1) }
+    ensures within { IfSome result (λ x. at + x.1 ≤ length bytes.now) }
+{
+    let (typ, index_size) = match read_u(bytes, at) {
+        Ok(read) => read,
+        Err(_) => return None,
+    };
+    if types <= typ as usize {
+        return None;
+    }
+    let (address, address_size) = match read_address(bytes, at + index_size, starts) {
+        Some(read) => read,
+        None => return None,
+    };
+    Some((Catch { typ, address }, index_size + address_size))
+}
+
+// So many catches from a place on, and how many bytes spell them.
+fn read_catches(
+    alloc: Global,
+    bytes: &[u8],
+    at: usize,
+    count: usize,
+    starts: &InstructionStarts<'_>,
+    types: usize,
+) -> Result<(Vec<Catch>, usize), ItemFault>
+    requires { at ≤ length bytes.now }
+    ensures catches { IfOk result (λ x. CatchesRead starts.now types bytes.now at count x.0.items x.1) }
+    ensures fault { IfErr result (IsTriesFault ((cs : List Caught) (n : ℕ) → length cs ≡ count → Sequence (CatchAt starts.now types) bytes.now at cs n → ⊥)) }
+{
+    let mut catches = Vec::new(alloc);
+    let mut size = 0;
+    for _ in 0..count {
+        let (caught, len) = match read_catch(bytes, at + size, starts, types) {
+            Some(read) => read,
+            None => return Err(ItemFault::Refused(19)),
+        };
+        if catches.push(caught).is_err() {
+            return Err(ItemFault::Memory);
+        }
+        size += len;
+    }
+    Ok((catches, size))
+}
+
+// The address for all else, where the size of the handler has room for one, and how many bytes spell it.
+fn read_catch_all(
+    bytes: &[u8],
+    at: usize,
+    size: i32,
+    starts: &InstructionStarts<'_>,
+) -> Option<(Option<u32>, usize)>
+    requires { at ≤ length bytes.now }
+    ensures none { IfNone result ((a : Option ℕ) (n : ℕ) → CatchAllAt starts.now size bytes.now at a n → ⊥) }
+    ensures some { IfSome result (λ x. CatchAllAt starts.now size bytes.now at x.0 x.1) }
+    ensures within { IfSome result (λ x. at + x.1 ≤ length bytes.now) }
+{
+    if size > 0 {
+        return Some((None, 0));
+    }
+    match read_address(bytes, at, starts) {
+        Some((address, len)) => Some((Some(address), len)),
+        None => None,
+    }
+}
+
+// The handler at a place, and how many bytes spell it.
+pub(crate) fn read_handler(
+    alloc: Global,
+    bytes: &[u8],
+    at: usize,
+    starts: &InstructionStarts<'_>,
+    types: usize,
+) -> Result<(Handler, usize), ItemFault>
+    requires { at ≤ length bytes.now }
+    ensures handler { IfOk result (λ x. HandlerAt starts.now types bytes.now at x.0 x.1) }
+    ensures within { IfOk result (λ x. at + x.1 ≤ length bytes.now) }
+    ensures fault { IfErr result (IsTriesFault ((h : NumberedHandler) (n : ℕ) → HandlerAt starts.now types bytes.now at h n → ⊥)) }
+{
+    let (count, count_size) = match read_s(bytes, at) {
+        Ok(read) => read,
+        Err(_) => return Err(ItemFault::Refused(19)),
+    };
+    let first = at + count_size;
+    let many = count.unsigned_abs() as usize;
+    let (catches, catches_size) = match read_catches(alloc, bytes, first, many, starts, types) {
+        Ok(read) => read,
+        Err(fault) => return Err(fault),
+    };
+    let (catch_all, all_size) = match read_catch_all(bytes, first + catches_size, count, starts) {
+        Some(read) => read,
+        None => return Err(ItemFault::Refused(19)),
+    };
+    let handler = Handler { catches, catch_all };
+    Ok((handler, count_size + catches_size + all_size))
+}

@@ -1,0 +1,85 @@
+//! Code items.
+
+ghost use Rattle.std.specs.Prelude.{◌≡◌, Some, None, MatchOption, IfOk};
+
+use crate::debug::Debug;
+use crate::tries::Tries;
+use dexinsn::Pieces;
+use std::alloc::AllocError;
+use std::marker::Model;
+
+/// A code_item: registers and pieces, whose units are borrowed from the file, tries with their handlers, and a debug
+/// program. Its symbols are numbers, and contracts see them so.
+///
+/// Source: "code_item".
+#[derive(Drop)]
+pub struct Code<'a> {
+    pub(crate) pieces: Pieces<'a>,
+    pub(crate) tries: Tries,
+    pub(crate) debug: Option<Debug>,
+}
+
+impl<'a> Model for Code<'a> {
+    ghost use Rattle.dexcode.specs.Numbered.{NumberedItem};
+
+    ghost Value = { NumberedItem };
+
+    ghost view = { λ c. record { body = c.pieces; tries = c.tries; debug = c.debug } };
+}
+
+impl<'a> Code<'a> {
+    /// The registers and the pieces.
+    ///
+    /// Source: "code_item", the fields `registers_size`, `ins_size`, `outs_size` and `insns`.
+    pub fn pieces(&self) -> &Pieces<'a>
+        ensures { result.now ≡ self.now.body }
+    {
+        &self.pieces
+    }
+
+    /// The tries, with the handlers that they name.
+    ///
+    /// Source: "code_item", the fields `tries` and `handlers`.
+    pub fn tries(&self) -> &Tries
+        ensures { result.now ≡ self.now.tries }
+    {
+        &self.tries
+    }
+
+    /// The debug program, if there is one.
+    ///
+    /// Source: "code_item", the field `debug_info_off`.
+    pub fn debug(&self) -> Option<&Debug>
+        ensures { MatchOption result (self.now.debug ≡ None) (λ debug. self.now.debug ≡ Some debug.now) }
+    {
+        self.debug.as_ref()
+    }
+
+    /// Leaves the debug program out. No memory is taken.
+    ///
+    /// Source: "code_item", the field `debug_info_off`, where 0 stands for none.
+    pub fn drop_debug(&mut self)
+        ensures { self.new ≡ record { body = self.old.body; tries = self.old.tries; debug = None } }
+    {
+        self.debug = None;
+    }
+
+    /// The same code, with lists of its own. Its units are borrowed as before.
+    ///
+    /// Error: the memory for the lists was refused.
+    pub fn copy(&self) -> Result<Code<'a>, AllocError>
+        ensures { IfOk result (λ copy. copy ≡ self.now) }
+    {
+        let pieces = self.pieces.copy()?;
+        let tries = self.tries.copy()?;
+        let debug = match &self.debug {
+            Some(debug) => Some(debug.copy()?),
+            None => None,
+        };
+        Ok(Code {
+            pieces,
+            tries,
+            debug,
+        })
+    }
+}

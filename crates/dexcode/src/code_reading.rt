@@ -1,0 +1,101 @@
+//! Code items read from a file.
+
+ghost use Rattle.std.specs.Prelude.{◌≡◌, ◌≤◌, ◌+◌, ◌*◌, length, List, IfOk, IfErr};
+ghost use Rattle.dexspec.specs.Bytes.{uint_at};
+ghost use Rattle.dexpool.specs.Pools.{ArePools};
+ghost use Rattle.dexcode.specs.Numbered.{NumberedTry};
+ghost use Rattle.dexcode.specs.Reading.{TriesAt, IsTriesFault, IsCodeAt, IsCodeFault};
+
+use crate::code::Code;
+use crate::debug_reading::read_debug;
+use crate::tries::Tries;
+use crate::try_table::read_try_table;
+use dexhead::{Frame, u16_at, u32_at};
+use dexinsn::{InstructionStarts, read_pieces_and_starts};
+use dexpool::{ItemFault, Pools, SymbolKind};
+use std::alloc::Global;
+
+// The tries of the code_item at an offset, where its units are in the data.
+fn read_tries(
+    alloc: Global,
+    bytes: &[u8],
+    off: usize,
+    starts: &InstructionStarts<'_>,
+    types: usize,
+) -> Result<Tries, ItemFault>
+    requires { off + 16 + 2 * uint_at bytes.now (off + 12) ≤ length bytes.now }
+    ensures tries { IfOk result (TriesAt starts.now types bytes.now off) }
+    ensures fault { IfErr result (IsTriesFault ((ts : List NumberedTry) → TriesAt starts.now types bytes.now off ts → ⊥)) }
+{
+    let count = u16_at(bytes, off + 6);
+    if count == 0 {
+        return Ok(Tries::none(alloc));
+    }
+    let units = u32_at(bytes, off + 12);
+    let behind = off + 16 + 2 * units as usize;
+    if units % 2 == 0 {
+        return read_try_table(alloc, bytes, behind, count, units, starts, types);
+    }
+    if bytes.len() < behind + 2 {
+        return Err(ItemFault::Refused(19));
+    }
+    if u16_at(bytes, behind) != 0 {
+        return Err(ItemFault::Refused(19));
+    }
+    read_try_table(alloc, bytes, behind + 2, count, units, starts, types)
+}
+
+/// Reads the code_item at an offset, whose indices count in the pools: those of the file. Its units are borrowed.
+///
+/// Error: `Refused` with the number of a condition that fails there. It is 18 exactly where
+/// [`read_pieces`](dexinsn::read_pieces) is refused. Else it is 19 where tries or handlers are wrong: the zero ushort
+/// before the tries, the handler list, the bounds, order and handlers of the tries, or the limit of 65,535 on the
+/// weight of the distinct handlers; or 20 where [`read_debug`](crate::read_debug) is refused at the debug program's
+/// offset. `Memory` where a growth was refused.
+///
+/// Source: "code_item".
+pub fn read_code<'a>(
+    alloc: Global,
+    frame: &Frame<'a>,
+    pools: &Pools<'_>,
+    off: u32,
+) -> Result<Code<'a>, ItemFault>
+    ensures code { ArePools frame.now pools.now → IfOk result (IsCodeAt frame.now off pools.now) }
+    ensures refused { ArePools frame.now pools.now → IfErr result (IsCodeFault frame.now off) }
+{
+    pools.numbering().is_numbering();
+    if !frame.is_in_data(off, 16) {
+        return Err(ItemFault::Refused(18));
+    }
+    let bytes = frame.bytes();
+    let off_bytes = off as usize;
+    let units = u64::from(u32_at(bytes, off_bytes + 12));
+    if !frame.is_in_data(off, 16 + 2 * units) {
+        return Err(ItemFault::Refused(18));
+    }
+    let (pieces, starts) = match read_pieces_and_starts(alloc, frame, pools, off) {
+        Ok(read) => read,
+        Err(fault) => return Err(fault),
+    };
+    let types = pools.len(SymbolKind::Typ);
+    let tries = match read_tries(alloc, bytes, off_bytes, &starts, types) {
+        Ok(tries) => tries,
+        Err(fault) => return Err(fault),
+    };
+    let debug_off = u32_at(bytes, off_bytes + 8);
+    if debug_off == 0 {
+        return Ok(Code {
+            pieces,
+            tries,
+            debug: None,
+        });
+    }
+    match read_debug(alloc, frame, pools, debug_off) {
+        Ok(debug) => Ok(Code {
+            pieces,
+            tries,
+            debug: Some(debug),
+        }),
+        Err(fault) => Err(fault),
+    }
+}

@@ -1,0 +1,56 @@
+//! A debug program, with numbers in the place of symbols.
+
+ghost use Rattle.std.specs.Prelude.{◌≡◌};
+
+use crate::debug_operation::Operation;
+use std::marker::Model;
+
+/// A debug_info_item: the line that it starts at, the names of parameters, and operations. Its texts and types are
+/// numbers, and contracts see them so.
+///
+/// Source: "debug_info_item".
+#[derive(Drop)]
+pub struct Debug {
+    pub(crate) line_start: u32,
+    pub(crate) parameter_names: Vec<Option<u32>>,
+    pub(crate) operations: Vec<Operation>,
+}
+
+impl Model for Debug {
+    ghost use Rattle.dexcode.specs.Debug.{NumberedDebug, IsFormedDebug};
+
+    ghost Value = { NumberedDebug };
+
+    ghost view = { λ d. record { line_start = d.line_start; parameter_names = d.parameter_names.items; operations = d.operations.items } };
+
+    ghost invariant = { λ d. IsFormedDebug (record { line_start = d.line_start; parameter_names = d.parameter_names.items; operations = d.operations.items }) };
+}
+
+impl Debug {
+    /// The line that the program starts at.
+    ///
+    /// Source: "debug_info_item", the field `line_start`.
+    pub fn line_start(&self) -> u32
+        ensures { result ≡ self.now.line_start }
+    {
+        self.line_start
+    }
+
+    /// The number of the text that is the name of each parameter, or `None` where it has no name.
+    ///
+    /// Source: "debug_info_item", the field `parameter_names`.
+    pub fn parameter_names(&self) -> &[Option<u32>]
+        ensures { result.now ≡ self.now.parameter_names }
+    {
+        &self.parameter_names
+    }
+
+    /// The operations, in order and without the end.
+    ///
+    /// Source: "debug_info_item", "State machine".
+    pub fn operations(&self) -> &[Operation]
+        ensures { result.now ≡ self.now.operations }
+    {
+        &self.operations
+    }
+}

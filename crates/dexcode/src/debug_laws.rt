@@ -1,0 +1,38 @@
+//! Laws of numbered debug programs. Each function does nothing: its contract is the law, for the callers that cite it.
+
+ghost use Rattle.std.specs.Prelude.{◌≡◌, ◌≤◌, All, length};
+ghost use Rattle.std.specs.List.{AllZip};
+ghost use Rattle.dexspec.specs.Debug as symbolic;
+ghost use Rattle.dexspec.specs.Mentions.{Mentions, debug_symbols};
+ghost use Rattle.dexspec.specs.Spellings.{debug_bytes};
+ghost use Rattle.dexspec.specs.Weight.{debug_weight};
+ghost use Rattle.dexpool.specs.Numberings.{AreRising, AreMarksOf, Maps, AllLead};
+ghost use Rattle.dexpool.specs.declared.marks.Marks.{Marks};
+ghost use Rattle.dexinsn.specs.Numbered.{HasMark, IsUseOf};
+ghost use Rattle.dexcode.specs.Debug.{NumberedDebug, StandsForDebug, bare, numbered_debug_bytes, debug_uses, HasImage, HasPlace, renumbered_debug};
+
+/// Where the symbols rise, the bytes of a numbered debug program are those of the one that it stands for, each index
+/// the rank of its symbol. They are no more than it weighs.
+pub fn debug_bytes_law()
+    ensures bytes { (m : Mentions) (d : NumberedDebug) (x : symbolic.Debug) → AreRising m → StandsForDebug m d x → numbered_debug_bytes d ≡ debug_bytes m x }
+    ensures few { (d : NumberedDebug) → length (numbered_debug_bytes d) ≤ debug_weight (bare d) }
+{}
+
+/// A numbered debug program weighs what the one that it stands for weighs, and has the same positions.
+pub fn debug_bare_law()
+    ensures weight { (m : Mentions) (d : NumberedDebug) (x : symbolic.Debug) → StandsForDebug m d x → debug_weight (bare d) ≡ debug_weight x }
+    ensures positions { (m : Mentions) (d : NumberedDebug) (x : symbolic.Debug) → StandsForDebug m d x → symbolic.positions (bare d) ≡ symbolic.positions x }
+{}
+
+/// Under other numbers a debug program stands for what it stood for.
+pub fn debug_renumber_law()
+    ensures keeps { (m n : Mentions) (r : Maps) (d : NumberedDebug) (x : symbolic.Debug) → AllLead m n r → All (HasImage r) (debug_uses d) → StandsForDebug m d x → StandsForDebug n (renumbered_debug r d) x }
+    ensures places { (r : Maps) (d : NumberedDebug) → All (HasPlace r) (debug_uses d) → All (HasImage r) (debug_uses d) }
+{}
+
+/// The symbols that occur are those of the debug program that it stands for, one for one and in their order. Where
+/// there is a mark for each symbol, there is one for each that occurs.
+pub fn debug_uses_law()
+    ensures uses { (m : Mentions) (d : NumberedDebug) (x : symbolic.Debug) → StandsForDebug m d x → AllZip (IsUseOf m) (debug_uses d) (debug_symbols x) }
+    ensures marks { (m : Mentions) (marks : Marks) (d : NumberedDebug) (x : symbolic.Debug) → AreMarksOf m marks → StandsForDebug m d x → All (HasMark marks) (debug_uses d) }
+{}

@@ -1,0 +1,172 @@
+//! Numbers of symbols in debug programs, and what becomes of them.
+
+ghost use Rattle.std.specs.Prelude.{◌≡◌, ◌<◌, ◌≤◌, ◌*◌, ◌^◌, ◌∷◌, [], IfOk, All, map, length, sum_by};
+ghost use Rattle.std.specs.List.{flat_map};
+ghost use Rattle.dexspec.specs.Weight.{debug_weight};
+ghost use Rattle.dexpool.specs.declared.symbols.SymbolKind.TheVariants as kinds;
+ghost use Rattle.dexinsn.specs.Numbered.{HasMark, AreMarkedToo};
+ghost use Rattle.dexcode.specs.Debug.{bare, number_uses, operation_uses, operation_weight, debug_uses, HasPlace, FitsIndex, IsFormedOperation, image_or_none, renumbered_operation, renumbered_debug};
+
+use crate::debug::Debug;
+use crate::debug_operation::Operation;
+use dexpool::{Marks, Remap, SymbolKind};
+use std::alloc::AllocError;
+
+// What operations weigh.
+fn operations_weight(operations: &[Operation]) -> u64
+    requires { length operations.now < 2 ^ 30 }
+    ensures sum { result ≡ sum_by operation_weight operations.now }
+    ensures bound { result ≤ 21 * length operations.now }
+{
+    let mut weight = 0;
+    for operation in operations {
+        weight += 1 + 5 * operation.operands();
+    }
+    weight
+}
+
+// The number that a number leads to, if there is one.
+fn renumbered(remap: &Remap, kind: SymbolKind, number: Option<u32>) -> Option<u32>
+    requires { All (HasPlace remap.now) (number_uses kind number) }
+    ensures image { result ≡ image_or_none remap.now kind number }
+    ensures fits { FitsIndex result }
+{
+    match number {
+        Some(number) => match remap.image(kind, number as usize) {
+            Some(image) => Some(image as u32),
+            None => None,
+        },
+        None => None,
+    }
+}
+
+// The operation with the numbers that its numbers lead to.
+fn renumbered_operation(remap: &Remap, operation: Operation) -> Operation
+    requires { All (HasPlace remap.now) (operation_uses operation) }
+    ensures { result ≡ renumbered_operation remap.now operation }
+{
+    let name = renumbered(remap, SymbolKind::Text, operation.name());
+    let typ = renumbered(remap, SymbolKind::Typ, operation.typ());
+    let signature = renumbered(remap, SymbolKind::Text, operation.signature());
+    operation.with_numbers(name, typ, signature)
+}
+
+// Puts for the number of each name the one that it leads to.
+fn renumber_names(names: &mut Vec<Option<u32>>, remap: &Remap)
+    requires { All (HasPlace remap.now) (flat_map (number_uses kinds.Text) names.old.items) }
+    ensures { names.new.items ≡ map (image_or_none remap.now kinds.Text) names.old.items }
+{
+    for i in 0..names.len() {
+        names[i] = renumbered(remap, SymbolKind::Text, names[i]);
+    }
+}
+
+// Puts for the numbers of each operation those that they lead to.
+fn renumber_operations(operations: &mut Vec<Operation>, remap: &Remap)
+    requires { All (HasPlace remap.now) (flat_map operation_uses operations.old.items) }
+    ensures { operations.new.items ≡ map (renumbered_operation remap.now) operations.old.items }
+{
+    for i in 0..operations.len() {
+        operations[i] = renumbered_operation(remap, operations[i]);
+    }
+}
+
+// Marks the symbol of a number, if there is one.
+fn mark_number(kind: SymbolKind, number: Option<u32>, marks: &mut Marks)
+    requires { All (HasMark marks.old) (number_uses kind number) }
+    ensures { AreMarkedToo (number_uses kind number) marks.old marks.new }
+{
+    if let Some(number) = number {
+        mark_one(kind, number as usize, marks);
+    }
+}
+
+// Marks one symbol.
+fn mark_one(kind: SymbolKind, number: usize, marks: &mut Marks)
+    requires { HasMark marks.old (record { kind = kind; number = number }) }
+    ensures { AreMarkedToo (record { kind = kind; number = number } ∷ []) marks.old marks.new }
+{
+    match kind {
+        SymbolKind::Text => marks.strings[number] = true,
+        SymbolKind::Typ => marks.types[number] = true,
+        SymbolKind::Proto => marks.protos[number] = true,
+        SymbolKind::Field => marks.fields[number] = true,
+        SymbolKind::Method => marks.methods[number] = true,
+    }
+}
+
+// Marks the symbols of an operation.
+fn mark_operation(operation: &Operation, marks: &mut Marks)
+    requires { All (HasMark marks.old) (operation_uses operation.now) }
+    ensures { AreMarkedToo (operation_uses operation.now) marks.old marks.new }
+{
+    mark_number(SymbolKind::Text, operation.name(), marks);
+    mark_number(SymbolKind::Typ, operation.typ(), marks);
+    mark_number(SymbolKind::Text, operation.signature(), marks);
+}
+
+// Marks the texts that are names.
+fn mark_names(names: &[Option<u32>], marks: &mut Marks)
+    requires { All (HasMark marks.old) (flat_map (number_uses kinds.Text) names.now) }
+    ensures { AreMarkedToo (flat_map (number_uses kinds.Text) names.now) marks.old marks.new }
+{
+    for name in names {
+        mark_number(SymbolKind::Text, *name, marks);
+    }
+}
+
+// Marks the symbols of operations.
+fn mark_operations(operations: &[Operation], marks: &mut Marks)
+    requires { All (HasMark marks.old) (flat_map operation_uses operations.now) }
+    ensures { AreMarkedToo (flat_map operation_uses operations.now) marks.old marks.new }
+{
+    for operation in operations {
+        mark_operation(operation, marks);
+    }
+}
+
+impl Debug {
+    /// What it weighs: as many bytes as [`put_debug`](crate::put_debug) appends, or more. No memory is taken.
+    pub fn weight(&self) -> u64
+        ensures { result ≡ debug_weight (bare self.now) }
+    {
+        11 + 5 * self.parameter_names.len() as u64 + operations_weight(&self.operations)
+    }
+
+    /// Puts for each number the one that it leads to. No memory is taken.
+    ///
+    /// Condition: each number leads to one, below 2^32 - 1.
+    pub fn renumber(&mut self, remap: &Remap)
+        requires { All (HasPlace remap.now) (debug_uses self.old) }
+        ensures { self.new ≡ renumbered_debug remap.now self.old }
+    {
+        renumber_names(&mut self.parameter_names, remap);
+        renumber_operations(&mut self.operations, remap);
+    }
+
+    /// Marks each symbol that occurs. No memory is taken.
+    ///
+    /// Condition: there is a mark for each of them.
+    pub fn mark(&self, marks: &mut Marks)
+        requires { All (HasMark marks.old) (debug_uses self.now) }
+        ensures { AreMarkedToo (debug_uses self.now) marks.old marks.new }
+    {
+        mark_names(&self.parameter_names, marks);
+        mark_operations(&self.operations, marks);
+    }
+
+    /// The same debug program, with names and operations of its own.
+    ///
+    /// Error: the memory for them was refused.
+    pub fn copy(&self) -> Result<Debug, AllocError>
+        ensures { IfOk result (λ copy. copy ≡ self.now) }
+    {
+        let parameter_names = self.parameter_names.clone()?;
+        let operations = self.operations.clone()?;
+        Ok(Debug {
+            line_start: self.line_start,
+            parameter_names,
+            operations,
+        })
+    }
+}

@@ -1,0 +1,137 @@
+//! The operations of debug programs, with numbers in the place of symbols.
+
+ghost use Rattle.std.specs.Prelude.{◌≡◌, ◌↔◌, ◌<◌, IsTrue};
+ghost use Rattle.dexspec.specs.Weight as weights;
+
+/// An operation of a debug program. A name or a signature is the number of a text, a type that of a type, and `None`
+/// is NO_INDEX.
+///
+/// Source: "debug_info_item", "Byte code values".
+#[derive(Clone, Copy, Debug, PartialEq, Eq, Hash)]
+pub enum Operation {
+    /// `DBG_ADVANCE_PC`: how many units the address grows by.
+    AdvancePc(u32),
+    /// `DBG_ADVANCE_LINE`: by how much the line changes.
+    AdvanceLine(i32),
+    /// `DBG_START_LOCAL`: a local variable begins in a register.
+    StartLocal {
+        register: u32,
+        name: Option<u32>,
+        typ: Option<u32>,
+    },
+    /// `DBG_START_LOCAL_EXTENDED`: the same, with a type signature.
+    StartLocalExtended {
+        register: u32,
+        name: Option<u32>,
+        typ: Option<u32>,
+        signature: Option<u32>,
+    },
+    /// `DBG_END_LOCAL`: the variable of a register ends.
+    EndLocal(u32),
+    /// `DBG_RESTART_LOCAL`: the last variable of a register begins again.
+    RestartLocal(u32),
+    /// `DBG_SET_PROLOGUE_END`.
+    SetPrologueEnd,
+    /// `DBG_SET_EPILOGUE_BEGIN`.
+    SetEpilogueBegin,
+    /// `DBG_SET_FILE`: the name of the source file from here on.
+    SetFile(Option<u32>),
+    /// A special opcode, from 0x0a on: it moves the line and the address, and records a position.
+    Special(u8),
+}
+
+impl Operation {
+    ghost use Rattle.dexcode.specs.Debug.{name_of, type_of, signature_of, with_numbers, bare_operation};
+
+    /// The number of the name of a local variable or of a source file.
+    pub fn name(&self) -> Option<u32>
+        ensures { result ≡ name_of self.now }
+    {
+        match self {
+            Operation::StartLocal { name, .. } => *name,
+            Operation::StartLocalExtended { name, .. } => *name,
+            Operation::SetFile(name) => *name,
+            _ => None,
+        }
+    }
+
+    /// The number of the type of a local variable.
+    pub fn typ(&self) -> Option<u32>
+        ensures { result ≡ type_of self.now }
+    {
+        match self {
+            Operation::StartLocal { typ, .. } => *typ,
+            Operation::StartLocalExtended { typ, .. } => *typ,
+            _ => None,
+        }
+    }
+
+    /// The number of the text that is the signature of a local variable's type.
+    pub fn signature(&self) -> Option<u32>
+        ensures { result ≡ signature_of self.now }
+    {
+        match self {
+            Operation::StartLocalExtended { signature, .. } => *signature,
+            _ => None,
+        }
+    }
+
+    // The operation with other numbers in the places of its own.
+    pub(crate) fn with_numbers(
+        self,
+        name: Option<u32>,
+        typ: Option<u32>,
+        signature: Option<u32>,
+    ) -> Operation
+        ensures { result ≡ with_numbers self name typ signature }
+    {
+        match self {
+            Operation::StartLocal { register, .. } => Operation::StartLocal {
+                register,
+                name,
+                typ,
+            },
+            Operation::StartLocalExtended { register, .. } => Operation::StartLocalExtended {
+                register,
+                name,
+                typ,
+                signature,
+            },
+            Operation::SetFile(_) => Operation::SetFile(name),
+            operation => operation,
+        }
+    }
+
+    // The operation without the numbers of symbols.
+    pub(crate) fn bare(&self) -> Operation
+        ensures { result ≡ with_numbers self.now None None None }
+    {
+        self.with_numbers(None, None, None)
+    }
+
+    // Whether both are the same.
+    pub(crate) fn is_same(&self, other: &Operation) -> bool
+        ensures { IsTrue result ↔ (self.now ≡ other.now) }
+    {
+        self == other
+    }
+
+    // How many numbers it takes.
+    pub(crate) fn operands(&self) -> u64
+        ensures count { result ≡ weights.operands (bare_operation self.now) }
+        ensures few { result < 5 }
+    {
+        match self {
+            Operation::AdvancePc(_) => 1,
+            Operation::AdvanceLine(_) => 1,
+            Operation::StartLocal { .. } => 3,
+            Operation::StartLocalExtended { .. } => 4,
+            Operation::EndLocal(_) => 1,
+            Operation::RestartLocal(_) => 1,
+            Operation::SetPrologueEnd => 0,
+            Operation::SetEpilogueBegin => 0,
+            Operation::SetFile(_) => 1,
+            Operation::Special(_) => 0,
+        }
+    }
+}

@@ -1,0 +1,106 @@
+//! The positions that a debug program records.
+
+ghost use Rattle.std.specs.Prelude.{◌≡◌, ◌∷◌, [], ◌++◌, ◌^◌, ◌<◌, ◌≤◌, ◌≤ℤ◌, ◌+ℤ◌, if◌then◌else◌, pos, All, IfOk, OnOk, length, map};
+ghost use Rattle.dexspec.specs.Debug as symbolic;
+ghost use Rattle.dexcode.specs.Debug.{bare, bare_operation, IsSpecial, IsFormedOperation};
+
+use crate::debug::Debug;
+use crate::debug_operation::Operation;
+use std::alloc::{AllocError, Global};
+
+// By how much an operation moves the address.
+fn address_step(operation: &Operation) -> u64
+    requires { IsSpecial operation.now }
+    ensures step { result ≡ symbolic.address_step (bare_operation operation.now) }
+    ensures small { result < 2 ^ 32 }
+{
+    match operation {
+        Operation::AdvancePc(addresses) => u64::from(*addresses),
+        Operation::Special(opcode) => u64::from((*opcode - 10) / 15),
+        _ => 0,
+    }
+}
+
+// By how much it moves the line.
+fn line_step(operation: &Operation) -> i64
+    requires { IsSpecial operation.now }
+    ensures step { result ≡ symbolic.line_step (bare_operation operation.now) }
+    ensures low { pos 0 ≤ℤ (result +ℤ pos (2 ^ 31)) }
+    ensures high { result ≤ℤ pos (2 ^ 31) }
+{
+    match operation {
+        Operation::AdvanceLine(lines) => i64::from(*lines),
+        Operation::Special(opcode) => i64::from((*opcode - 10) % 15) - 4,
+        _ => 0,
+    }
+}
+
+// Whether it records a position.
+fn is_special(operation: &Operation) -> bool
+    ensures { result ≡ symbolic.is_special (bare_operation operation.now) }
+{
+    match operation {
+        Operation::Special(_) => true,
+        _ => false,
+    }
+}
+
+// The line behind an operation.
+fn next_line(line: i64, operation: &Operation) -> i64
+    requires special { IsSpecial operation.now }
+    requires low { pos 0 ≤ℤ (line +ℤ pos (2 ^ 61)) }
+    requires high { line ≤ℤ pos (2 ^ 62) }
+    ensures sum { result ≡ line +ℤ symbolic.line_step (bare_operation operation.now) }
+    ensures low { line ≤ℤ (result +ℤ pos (2 ^ 31)) }
+    ensures high { result ≤ℤ (line +ℤ pos (2 ^ 31)) }
+{
+    line + line_step(operation)
+}
+
+// Keeps a position, if it is recorded.
+fn keep(
+    found: &mut Vec<(u64, i64)>,
+    is_recorded: bool,
+    address: u64,
+    line: i64,
+) -> Result<(), AllocError>
+    ensures { OnOk result (found.new.items ≡ (if is_recorded then found.old.items ++ (address, line) ∷ [] else found.old.items)) }
+{
+    if is_recorded {
+        found.push((address, line))?;
+    }
+    Ok(())
+}
+
+// The positions of operations, from a line on.
+fn positions_from(
+    alloc: Global,
+    line_start: u32,
+    operations: &[Operation],
+) -> Result<Vec<(u64, i64)>, AllocError>
+    requires few { length operations.now < 2 ^ 30 }
+    requires formed { All IsFormedOperation operations.now }
+    ensures { IfOk result (λ found. found.items ≡ symbolic.positions_from 0 (pos line_start) (map bare_operation operations.now)) }
+{
+    let mut found = Vec::new(alloc);
+    let mut address = 0;
+    let mut line = i64::from(line_start);
+    for operation in operations {
+        address += address_step(operation);
+        line = next_line(line, operation);
+        keep(&mut found, is_special(operation), address, line)?;
+    }
+    Ok(found)
+}
+
+/// The address and the line of each special operation, in order: the address in units from the start of the code.
+/// An address is a sum of fewer than 2^30 numbers of 32 bits, and so is a line, so that both fit their types.
+///
+/// Error: the memory for the positions was refused.
+///
+/// Source: "debug_info_item", "State machine" and "Special opcodes".
+pub fn positions(alloc: Global, debug: &Debug) -> Result<Vec<(u64, i64)>, AllocError>
+    ensures { IfOk result (λ found. found.items ≡ symbolic.positions (bare debug.now)) }
+{
+    positions_from(alloc, debug.line_start, &debug.operations)
+}

@@ -1,0 +1,254 @@
+//! Debug programs written.
+
+ghost use Rattle.std.specs.Prelude.{◌≡◌, ◌∷◌, [], ◌++◌, ◌+◌, ◌*◌, ◌^◌, ◌<◌, ◌≤◌, All, IsOk, length, vec_len, vec_capacity};
+ghost use Rattle.std.specs.List.{flat_map};
+ghost use Rattle.dexspec.specs.Debug as symbolic;
+ghost use Rattle.dexspec.specs.Numbers.{uleb128, sleb128, uleb128p1};
+ghost use Rattle.dexspec.specs.Spellings.{debug_bytes};
+ghost use Rattle.dexspec.specs.Weight.{debug_weight};
+ghost use Rattle.dexspec.specs.Writing.{Puts};
+ghost use Rattle.dexcode.specs.Debug.{StandsForDebug, FitsIndex, IsFormedOperation, bare, numbered_operation_bytes, numbered_debug_bytes};
+ghost use Rattle.dexcode.specs.DebugPut.{Pushes, HasRoomFor};
+
+use crate::debug::Debug;
+use crate::debug_laws::debug_bytes_law;
+use crate::debug_operation::Operation;
+use dexleb::{len_s, len_u, put_p1, put_s, put_u};
+use dexpool::Numbering;
+use std::alloc::AllocError;
+
+// How many bytes a number has, or none.
+fn index_len(number: Option<u32>) -> usize
+    requires { FitsIndex number }
+    ensures len { result ≡ length (uleb128p1 number) }
+    ensures few { result ≤ 5 }
+{
+    len_u(number.map_or(0, |number| number + 1))
+}
+
+// How many bytes an operation has.
+fn operation_len(operation: &Operation) -> usize
+    requires { IsFormedOperation operation.now }
+    ensures len { result ≡ length (numbered_operation_bytes operation.now) }
+    ensures few { result ≤ 21 }
+{
+    match operation {
+        Operation::AdvancePc(addresses) => 1 + len_u(*addresses),
+        Operation::AdvanceLine(lines) => 1 + len_s(*lines),
+        Operation::StartLocal {
+            register,
+            name,
+            typ,
+        } => 1 + len_u(*register) + index_len(*name) + index_len(*typ),
+        Operation::StartLocalExtended {
+            register,
+            name,
+            typ,
+            signature,
+        } => { 1 + len_u(*register) + index_len(*name) + index_len(*typ) + index_len(*signature) }
+        Operation::EndLocal(register) => 1 + len_u(*register),
+        Operation::RestartLocal(register) => 1 + len_u(*register),
+        Operation::SetPrologueEnd => 1,
+        Operation::SetEpilogueBegin => 1,
+        Operation::SetFile(name) => 1 + index_len(*name),
+        Operation::Special(_) => 1,
+    }
+}
+
+// How many bytes names have.
+fn names_len(names: &[Option<u32>]) -> usize
+    requires count { length names.now < 2 ^ 32 }
+    requires fit { All FitsIndex names.now }
+    ensures len { result ≡ length (flat_map uleb128p1 names.now) }
+    ensures few { result ≤ 5 * length names.now }
+{
+    let mut len = 0;
+    for name in names {
+        len += index_len(*name);
+    }
+    len
+}
+
+// How many bytes operations have.
+fn operations_len(operations: &[Operation]) -> usize
+    requires count { length operations.now < 2 ^ 30 }
+    requires formed { All IsFormedOperation operations.now }
+    ensures len { result ≡ length (flat_map numbered_operation_bytes operations.now) }
+    ensures few { result ≤ 21 * length operations.now }
+{
+    let mut len = 0;
+    for operation in operations {
+        len += operation_len(operation);
+    }
+    len
+}
+
+// How many bytes a debug program has.
+fn debug_len(debug: &Debug) -> usize
+    ensures { result ≡ length (numbered_debug_bytes debug.now) }
+{
+    let names = names_len(&debug.parameter_names);
+    let operations = operations_len(&debug.operations);
+    let count = debug.parameter_names.len() as u32;
+    len_u(debug.line_start) + len_u(count) + names + operations + 1
+}
+
+// Appends a byte, where there is room for it.
+fn push_byte(byte: u8, out: &mut Vec<u8>)
+    requires { HasRoomFor (byte ∷ []) out.old }
+    ensures { Pushes (byte ∷ []) out.old out.new }
+{
+    out.push(byte).unwrap();
+}
+
+// Appends a number, where there is room for it.
+fn push_u(value: u32, out: &mut Vec<u8>)
+    requires { HasRoomFor (uleb128 value) out.old }
+    ensures { Pushes (uleb128 value) out.old out.new }
+{
+    put_u(value, out).unwrap();
+}
+
+// Appends a number with a sign, where there is room for it.
+fn push_s(value: i32, out: &mut Vec<u8>)
+    requires { HasRoomFor (sleb128 value) out.old }
+    ensures { Pushes (sleb128 value) out.old out.new }
+{
+    put_s(value, out).unwrap();
+}
+
+// Appends a number plus one, or 0 for none, where there is room for it.
+fn push_index(number: Option<u32>, out: &mut Vec<u8>)
+    requires fits { FitsIndex number }
+    requires room { HasRoomFor (uleb128p1 number) out.old }
+    ensures { Pushes (uleb128p1 number) out.old out.new }
+{
+    put_p1(number, out).unwrap();
+}
+
+// Appends what tells of a local variable, where there is room for it.
+fn push_local(register: u32, name: Option<u32>, typ: Option<u32>, out: &mut Vec<u8>)
+    requires name { FitsIndex name }
+    requires typ { FitsIndex typ }
+    requires room { HasRoomFor (uleb128 register ++ (uleb128p1 name ++ uleb128p1 typ)) out.old }
+    ensures { Pushes (uleb128 register ++ (uleb128p1 name ++ uleb128p1 typ)) out.old out.new }
+{
+    push_u(register, out);
+    push_index(name, out);
+    push_index(typ, out);
+}
+
+// Appends an operation, where there is room for it.
+fn push_operation(operation: &Operation, out: &mut Vec<u8>)
+    requires formed { IsFormedOperation operation.now }
+    requires room { HasRoomFor (numbered_operation_bytes operation.now) out.old }
+    ensures { Pushes (numbered_operation_bytes operation.now) out.old out.new }
+{
+    match operation {
+        Operation::AdvancePc(addresses) => {
+            push_byte(0x01, out);
+            push_u(*addresses, out);
+        }
+        Operation::AdvanceLine(lines) => {
+            push_byte(0x02, out);
+            push_s(*lines, out);
+        }
+        Operation::StartLocal {
+            register,
+            name,
+            typ,
+        } => {
+            push_byte(0x03, out);
+            push_local(*register, *name, *typ, out);
+        }
+        Operation::StartLocalExtended {
+            register,
+            name,
+            typ,
+            signature,
+        } => {
+            push_byte(0x04, out);
+            push_local(*register, *name, *typ, out);
+            push_index(*signature, out);
+        }
+        Operation::EndLocal(register) => {
+            push_byte(0x05, out);
+            push_u(*register, out);
+        }
+        Operation::RestartLocal(register) => {
+            push_byte(0x06, out);
+            push_u(*register, out);
+        }
+        Operation::SetPrologueEnd => push_byte(0x07, out),
+        Operation::SetEpilogueBegin => push_byte(0x08, out),
+        Operation::SetFile(name) => {
+            push_byte(0x09, out);
+            push_index(*name, out);
+        }
+        Operation::Special(opcode) => push_byte(*opcode, out),
+    }
+}
+
+// Appends names, where there is room for them.
+fn push_names(names: &[Option<u32>], out: &mut Vec<u8>)
+    requires fit { All FitsIndex names.now }
+    requires room { HasRoomFor (flat_map uleb128p1 names.now) out.old }
+    ensures { Pushes (flat_map uleb128p1 names.now) out.old out.new }
+{
+    for name in names {
+        push_index(*name, out);
+    }
+}
+
+// Appends operations, where there is room for them.
+fn push_operations(operations: &[Operation], out: &mut Vec<u8>)
+    requires formed { All IsFormedOperation operations.now }
+    requires room { HasRoomFor (flat_map numbered_operation_bytes operations.now) out.old }
+    ensures { Pushes (flat_map numbered_operation_bytes operations.now) out.old out.new }
+{
+    for operation in operations {
+        push_operation(operation, out);
+    }
+}
+
+// Appends a debug program, where there is room for it.
+fn push_debug(debug: &Debug, out: &mut Vec<u8>)
+    requires { HasRoomFor (numbered_debug_bytes debug.now) out.old }
+    ensures { Pushes (numbered_debug_bytes debug.now) out.old out.new }
+{
+    push_u(debug.line_start, out);
+    push_u(debug.parameter_names.len() as u32, out);
+    push_names(&debug.parameter_names, out);
+    push_operations(&debug.operations, out);
+    push_byte(0x00, out);
+}
+
+// Appends a debug program.
+fn put_numbered(debug: &Debug, out: &mut Vec<u8>) -> Result<(), AllocError>
+    ensures { Puts (numbered_debug_bytes debug.now) out.old out.new result }
+{
+    out.reserve(debug_len(debug))?;
+    push_debug(debug, out);
+    Ok(())
+}
+
+/// Appends the debug_info_item, every number in its shortest spelling. It is that of the symbolic debug program that
+/// this one stands for in the numbering, each index the rank of its symbol.
+///
+/// It fails only for want of memory, and not where the spare room is at least the debug program's weight, which
+/// [`Debug::weight`] tells; the vector is then as it was.
+///
+/// Source: "debug_info_item".
+pub fn put_debug(
+    debug: &Debug,
+    numbering: &Numbering<'_>,
+    out: &mut Vec<u8>,
+) -> Result<(), AllocError>
+    ensures bytes { Puts (numbered_debug_bytes debug.now) out.old out.new result }
+    ensures symbolic { (x : symbolic.Debug) → StandsForDebug numbering.now debug.now x → Puts (debug_bytes numbering.now x) out.old out.new result }
+    ensures room { vec_len out.old + debug_weight (bare debug.now) ≤ vec_capacity out.old → IsOk result }
+{
+    numbering.is_numbering();
+    debug_bytes_law();
+    put_numbered(debug, out)
+}

@@ -1,0 +1,113 @@
+//! Whether debug programs mean the same.
+
+ghost use Rattle.std.specs.Prelude.{◌≡◌, ◌↔◌, IsTrue, map};
+ghost use Rattle.dexpool.specs.declared.symbols.SymbolKind.TheVariants as kinds;
+ghost use Rattle.dexcode.specs.Debug.{image_or_none, renumbered_operation, renumbered_debug};
+
+use crate::debug::Debug;
+use crate::debug_operation::Operation;
+use dexpool::{Remap, SymbolKind};
+
+// The number that a number leads to, if there is one.
+fn image(remap: &Remap, kind: SymbolKind, number: Option<u32>) -> Option<usize>
+    ensures { result ≡ image_or_none remap.now kind number }
+{
+    match number {
+        Some(number) => remap.image(kind, number as usize),
+        None => None,
+    }
+}
+
+// Whether both numbers lead to one, or to none.
+fn leads_alike(
+    kind: SymbolKind,
+    mine: &Remap,
+    number: Option<u32>,
+    theirs: &Remap,
+    other: Option<u32>,
+) -> bool
+    ensures { IsTrue result ↔ (image_or_none mine.now kind number ≡ image_or_none theirs.now kind other) }
+{
+    image(mine, kind, number) == image(theirs, kind, other)
+}
+
+// Whether the operations are the same, their numbers led on.
+fn operations_alike(mine: &Remap, operation: &Operation, theirs: &Remap, other: &Operation) -> bool
+    ensures { IsTrue result ↔ (renumbered_operation mine.now operation.now ≡ renumbered_operation theirs.now other.now) }
+{
+    if !operation.bare().is_same(&other.bare()) {
+        return false;
+    }
+    if !leads_alike(
+        SymbolKind::Text,
+        mine,
+        operation.name(),
+        theirs,
+        other.name(),
+    ) {
+        return false;
+    }
+    if !leads_alike(SymbolKind::Typ, mine, operation.typ(), theirs, other.typ()) {
+        return false;
+    }
+    leads_alike(
+        SymbolKind::Text,
+        mine,
+        operation.signature(),
+        theirs,
+        other.signature(),
+    )
+}
+
+// Whether the names are the same, their numbers led on.
+fn same_names(mine: &Remap, names: &[Option<u32>], theirs: &Remap, others: &[Option<u32>]) -> bool
+    ensures { IsTrue result ↔ (map (image_or_none mine.now kinds.Text) names.now ≡ map (image_or_none theirs.now kinds.Text) others.now) }
+{
+    if names.len() != others.len() {
+        return false;
+    }
+    for (i, name) in names.iter().enumerate() {
+        if !leads_alike(SymbolKind::Text, mine, *name, theirs, others[i]) {
+            return false;
+        }
+    }
+    true
+}
+
+// Whether the operations are the same, one for one, their numbers led on.
+fn same_operations(
+    mine: &Remap,
+    operations: &[Operation],
+    theirs: &Remap,
+    others: &[Operation],
+) -> bool
+    ensures { IsTrue result ↔ (map (renumbered_operation mine.now) operations.now ≡ map (renumbered_operation theirs.now) others.now) }
+{
+    if operations.len() != others.len() {
+        return false;
+    }
+    for (i, operation) in operations.iter().enumerate() {
+        if !operations_alike(mine, operation, theirs, &others[i]) {
+            return false;
+        }
+    }
+    true
+}
+
+impl Debug {
+    /// Whether this and another debug program are the same, once the numbers of each are led on by a map of its own.
+    /// A number that leads nowhere counts as none. No memory is taken.
+    ///
+    /// Source: "debug_info_item".
+    pub fn same_mapped(&self, mine: &Remap, other: &Debug, theirs: &Remap) -> bool
+        ensures { IsTrue result ↔ (renumbered_debug mine.now self.now ≡ renumbered_debug theirs.now other.now) }
+    {
+        if self.line_start != other.line_start {
+            return false;
+        }
+        if !same_names(mine, &self.parameter_names, theirs, &other.parameter_names) {
+            return false;
+        }
+        same_operations(mine, &self.operations, theirs, &other.operations)
+    }
+}

@@ -1,0 +1,126 @@
+//! Handlers: what is caught, and where.
+
+ghost use Rattle.std.specs.Prelude.{◌≡◌, ◌↔◌, IsTrue, IfOk};
+ghost use Rattle.std.specs.Cmp.Rules.{comparing, hashing};
+ghost use Rattle.std.specs.Hash as fed;
+ghost use Rattle.std.proofs.Common.{rules};
+
+use std::alloc::AllocError;
+use std::hash::{Hash, Hasher};
+use std::marker::Model;
+
+/// A type that is caught, by its number, and the address of the code for it, in units.
+///
+/// Source: "encoded_type_addr_pair".
+#[derive(Clone, Copy, Debug)]
+pub struct Catch {
+    pub typ: u32,
+    pub address: u32,
+}
+
+impl PartialEq for Catch {
+    ghost use Rattle.dexcode.specs.Numbered.{same_catch};
+
+    ghost eq = { same_catch };
+
+    ghost laws = { Prim.search (comparing, rules) };
+
+    fn eq(&self, other: &Catch) -> bool {
+        self.typ == other.typ && self.address == other.address
+    }
+}
+
+impl Eq for Catch {
+    ghost laws = { Prim.search (comparing, rules) };
+}
+
+impl Hash for Catch {
+    ghost use Rattle.std.specs.Prelude.{◌++◌};
+
+    ghost hash_input = { λ c. fed.u32 c.typ ++ fed.u32 c.address };
+
+    ghost respects_eq = { Prim.search (hashing, rules) };
+
+    fn hash<H: Hasher>(&self, state: &mut H) {
+        self.typ.hash(state);
+        self.address.hash(state);
+    }
+}
+
+/// The types that are caught, in order, and the address of the code for all else, if there is one. Contracts see both.
+///
+/// Source: "encoded_catch_handler".
+#[derive(Drop)]
+pub struct Handler {
+    pub(crate) catches: Vec<Catch>,
+    pub(crate) catch_all: Option<u32>,
+}
+
+impl Model for Handler {
+    ghost use Rattle.dexcode.specs.Numbered.{NumberedHandler};
+
+    ghost Value = { NumberedHandler };
+
+    ghost view = { λ h. record { catches = h.catches.items; catch_all = h.catch_all } };
+}
+
+impl PartialEq for Handler {
+    ghost use Rattle.dexcode.specs.Numbered.{same_handler};
+    ghost use Rattle.dexcode.specs.Equality.{handler_per};
+
+    ghost eq = { same_handler };
+
+    ghost laws = { handler_per };
+
+    fn eq(&self, other: &Handler) -> bool {
+        self.catches == other.catches && self.catch_all == other.catch_all
+    }
+}
+
+impl Eq for Handler {
+    ghost use Rattle.dexcode.specs.Equality.{handler_equiv};
+
+    ghost laws = { handler_equiv };
+}
+
+impl Hash for Handler {
+    ghost use Rattle.dexcode.specs.Equality.{handler_input, handlers_alike};
+
+    ghost hash_input = { handler_input };
+
+    ghost respects_eq = { handlers_alike };
+
+    fn hash<H: Hasher>(&self, state: &mut H) {
+        self.catches.hash(state);
+        self.catch_all.hash(state);
+    }
+}
+
+impl Handler {
+    /// The types that are caught, in order, each by its number, and the addresses where they are handled.
+    pub fn catches(&self) -> &[Catch]
+        ensures { result.now ≡ self.now.catches }
+    {
+        &self.catches
+    }
+
+    /// The address where all else is handled, if it is.
+    pub fn catch_all(&self) -> Option<u32>
+        ensures { result ≡ self.now.catch_all }
+    {
+        self.catch_all
+    }
+
+    /// The same handler, with a list of its own.
+    ///
+    /// Error: the memory for the list was refused.
+    pub(crate) fn copy(&self) -> Result<Handler, AllocError>
+        ensures { IfOk result (λ copy. copy ≡ self.now) }
+    {
+        let catches = self.catches.clone()?;
+        Ok(Handler {
+            catches,
+            catch_all: self.catch_all,
+        })
+    }
+}

@@ -1,0 +1,33 @@
+//! Code with its tries and handlers, and debug programs.
+//!
+//! Source: the Android page "Dalvik Executable format", under the headings "code_item", "try_item",
+//! "encoded_catch_handler_list", "encoded_catch_handler", "encoded_type_addr_pair" and "debug_info_item".
+#![tactic(auto)]
+
+pub use code::Code;
+pub use code_reading::read_code;
+pub use debug::Debug;
+pub use debug_laws::{debug_bare_law, debug_bytes_law, debug_renumber_law, debug_uses_law};
+pub use debug_operation::Operation;
+pub use debug_positions::positions;
+pub use debug_put::put_debug;
+pub use debug_reading::read_debug;
+pub use handlers::{Catch, Handler};
+pub use tries::{Tries, Try};
+
+mod catches;
+mod code;
+mod code_reading;
+mod debug;
+mod debug_laws;
+mod debug_numbers;
+mod debug_operation;
+mod debug_positions;
+mod debug_put;
+mod debug_reading;
+mod debug_same;
+mod handler_list;
+mod handlers;
+mod tries;
+mod try_items;
+mod try_table;

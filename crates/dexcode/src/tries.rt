@@ -1,0 +1,149 @@
+//! Tries: the units that are covered, and their handlers.
+
+ghost use Rattle.std.specs.Prelude.{◌≡◌, ◌<◌, ◌≤◌, List, [], All, length, slice_index_or, IfOk};
+ghost use Rattle.indexmap.specs.IndexSet.{insert_key};
+ghost use Rattle.dexcode.specs.Numbered.{NumberedHandler, AreKnown, AreStored, all_named, handlers_of, no_handler, same_handler};
+
+use crate::handlers::Handler;
+use indexmap::IndexSet;
+use std::alloc::{AllocError, Global};
+use std::marker::Model;
+
+/// The units that are covered: the first, and how many; and the number of their handler.
+///
+/// Source: "try_item".
+#[derive(Clone, Copy, Debug, PartialEq, Eq)]
+pub struct Try {
+    pub start: u32,
+    pub count: u16,
+    pub handler: usize,
+}
+
+/// Tries, and the handlers that they name, each once and in order of first use. Contracts see tries with their
+/// handlers.
+#[derive(Drop)]
+pub struct Tries {
+    pub(crate) tries: Vec<Try>,
+    pub(crate) handlers: Vec<Handler>,
+}
+
+impl Model for Tries {
+    ghost use Rattle.std.specs.Prelude.{List};
+    ghost use Rattle.dexcode.specs.Numbered.{NumberedTry, AreStored, all_named};
+
+    ghost Value = { List NumberedTry };
+
+    ghost view = { λ t. all_named t.handlers.items t.tries.items };
+
+    ghost invariant = { λ t. AreStored t.handlers.items t.tries.items };
+}
+
+impl Tries {
+    /// The tries, in the order of their addresses. Each names its handler by its number in [`handlers`](Tries::handlers).
+    ///
+    /// Source: "try_item".
+    pub fn tries(&self) -> &[Try]
+        ensures { (hs : List NumberedHandler) → hs ≡ handlers_of self.now → all_named hs result.now ≡ self.now }
+    {
+        &self.tries
+    }
+
+    /// The handlers that tries name, each once and in order of first use.
+    ///
+    /// Source: "encoded_catch_handler".
+    pub fn handlers(&self) -> &[Handler]
+        ensures { result.now ≡ handlers_of self.now }
+    {
+        &self.handlers
+    }
+
+    /// The same tries, with lists of their own.
+    ///
+    /// Error: the memory for the lists was refused.
+    pub fn copy(&self) -> Result<Tries, AllocError>
+        ensures { IfOk result (λ copy. copy ≡ self.now) }
+    {
+        let tries = self.tries.clone()?;
+        let handlers = copied(&self.handlers)?;
+        Ok(Tries { tries, handlers })
+    }
+
+    // No tries.
+    pub(crate) fn none(alloc: Global) -> Tries
+        ensures { result ≡ [] }
+    {
+        Tries {
+            tries: Vec::new(alloc),
+            handlers: Vec::new(alloc),
+        }
+    }
+
+    // Tries that name handlers of a list.
+    pub(crate) fn of(alloc: Global, tries: &[Try], listed: &[Handler]) -> Result<Tries, AllocError>
+        requires { All (λ t. t.handler < length listed.now) tries.now }
+        ensures { IfOk result (λ all. all ≡ all_named listed.now tries.now) }
+    {
+        let mut numbers = vec![in alloc; None; listed.len()]?;
+        let mut handlers = IndexSet::new(alloc);
+        let mut numbered = Vec::with_capacity(alloc, tries.len())?;
+        for item in tries {
+            let handler = number_of(&mut handlers, &mut numbers, listed, item.handler)?;
+            numbered.push(Try {
+                start: item.start,
+                count: item.count,
+                handler,
+            })?;
+        }
+        let handlers = listed_in(alloc, handlers)?;
+        Ok(Tries {
+            tries: numbered,
+            handlers,
+        })
+    }
+}
+
+// The number of a handler of the list among those that are named, of which it is one from now on.
+fn number_of(
+    handlers: &mut IndexSet<Handler>,
+    numbers: &mut Vec<Option<usize>>,
+    listed: &[Handler],
+    place: usize,
+) -> Result<usize, AllocError>
+    requires within { place < length listed.now }
+    requires known { AreKnown listed.now handlers.old.keys numbers.old.items }
+    ensures known { IfOk result (λ k. AreKnown listed.now handlers.new.keys numbers.new.items) }
+    ensures keys { IfOk result (λ k. handlers.new.keys ≡ insert_key same_handler handlers.old.keys (slice_index_or listed.now place no_handler)) }
+    ensures number { IfOk result (λ k. k < length handlers.new.keys) }
+    ensures is { IfOk result (λ k. slice_index_or handlers.new.keys k no_handler ≡ slice_index_or listed.now place no_handler) }
+{
+    match numbers[place] {
+        Some(number) => Ok(number),
+        None => {
+            let (number, _) = handlers.insert_full(listed[place].copy()?)?;
+            numbers[place] = Some(number);
+            Ok(number)
+        }
+    }
+}
+
+// The handlers of a set, in its order.
+fn listed_in(alloc: Global, handlers: IndexSet<Handler>) -> Result<Vec<Handler>, AllocError>
+    ensures { IfOk result (λ list. list.items ≡ handlers.keys) }
+{
+    let mut list = Vec::with_capacity(alloc, handlers.len())?;
+    for handler in handlers {
+        list.push(handler)?;
+    }
+    Ok(list)
+}
+
+// The same handlers in a list of their own.
+fn copied(handlers: &Vec<Handler>) -> Result<Vec<Handler>, AllocError>
+    ensures { IfOk result (λ copy. copy.items ≡ handlers.now.items) }
+{
+    let mut copy = Vec::with_capacity(*handlers.allocator(), handlers.len())?;
+    for handler in handlers {
+        copy.push(handler.copy()?)?;
+    }
+    Ok(copy)
+}

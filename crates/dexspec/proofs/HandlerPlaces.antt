@@ -1,0 +1,122 @@
+-- The distinct handlers of tries: each handler that a try names is one of them, and begins where its offset says.
+use Rattle.std.proofs.Common.{◌≡◌, ℕ, ◌+◌, ◌*◌, ◌≤◌, Bool, true, false, not, List, [], ◌∷◌, ◌++◌, length, Option, Some, None, refl, sym, ap, ◌∙◌, subst, arith, inl, inr, sum_by}
+use Rattle.std.specs.Prelude.{if◌then◌else◌, ◌==◌}
+use Rattle.std.specs.Bool.{Decides}
+use Rattle.std.specs.List.{Contains, filter, flat_map}
+use Rattle.std.specs.Option.{option_eq}
+use Rattle.std.specs.Cmp.Lexicographic.{pointwise}
+use Rattle.std.proofs.lemmas.Bool.{eqb-true}
+use Rattle.std.proofs.lemmas.Bool.Decides.{Decides-eqb}
+use Rattle.std.proofs.lemmas.Slice.Eq.{slice_eq-Decides}
+use Rattle.std.proofs.lemmas.List.{length-append}
+use Rattle.std.proofs.lemmas.List.Sums.{sum_by-cons, get_or-le-sum_by}
+use Rattle.dexspec.specs.Lists.{distinct}
+use Rattle.dexspec.specs.Texts.{Text, same_text}
+use Rattle.dexspec.specs.Code.{Catch, Handler, same_catch, same_handler}
+use Rattle.dexspec.specs.Mentions.{Mentions}
+use Rattle.dexspec.specs.Spellings.{handler_bytes, handler_off}
+use Rattle.dexspec.proofs.Members.{and_first, and_second, and_both, Contains-nil, Contains-later, Contains-cons_cases, Contains-filter}
+
+-- ---- equal handlers
+
+-- whether two texts are the same
+text_decides : (s t : Text) → Decides (same_text s t) (s ≡ t)
+text_decides s t = slice_eq-Decides Decides-eqb s t (same_text s t) refl
+
+-- whether two catches are
+catch_decides : (c d : Catch) → Decides (same_catch c d) (c ≡ d)
+catch_decides c d = (
+  (λ e.
+      let type = (text_decides c.type d.type).0 (and_first (same_text c.type d.type) (c.address == d.address) e) in
+      let address = eqb-true c.address d.address (and_second (same_text c.type d.type) (c.address == d.address) e) in
+      λ i. record { type = type i; address = address i }),
+  (λ e.
+      and_both (same_text c.type d.type) (c.address == d.address) ((text_decides c.type d.type).1 (ap (λ (x : Catch). x.type) e))
+      ((Decides-eqb c.address d.address).1 (ap (λ (x : Catch). x.address) e))),
+)
+
+-- whether two addresses are, or there are none
+address_decides : (a c : Option ℕ) → Decides (option_eq ◌==◌ a c) (a ≡ c)
+address_decides None None = (λ e. refl, λ e. refl)
+address_decides None (Some c) = (λ e. absurd cc, λ e. absurd cc)
+address_decides (Some a) None = (λ e. absurd cc, λ e. absurd cc)
+address_decides (Some a) (Some c) = (λ e. ap Some (eqb-true a c e), λ e. let same : a ≡ c = cc in (Decides-eqb a c).1 same)
+
+-- whether two handlers are
+pub handler_decides : (h k : Handler) → Decides (same_handler h k) (h ≡ k)
+handler_decides h k =
+    let first = slice_eq-Decides catch_decides h.catches k.catches (pointwise same_catch h.catches k.catches) refl in
+    let second = address_decides h.catch_all k.catch_all in (
+      (λ e.
+          let catches = first.0 (and_first (pointwise same_catch h.catches k.catches) (option_eq ◌==◌ h.catch_all k.catch_all) e) in
+          let all = second.0 (and_second (pointwise same_catch h.catches k.catches) (option_eq ◌==◌ h.catch_all k.catch_all) e) in
+          λ i. record { catches = catches i; catch_all = all i }),
+      (λ e.
+          and_both (pointwise same_catch h.catches k.catches) (option_eq ◌==◌ h.catch_all k.catch_all) (first.1 (ap (λ (x : Handler). x.catches) e))
+          (second.1 (ap (λ (x : Handler). x.catch_all) e))),
+    )
+
+-- ---- each once
+
+-- a list without its repeats has each member still
+pub distinct_has : {X : Type 0} (same : X → X → Bool) → ((x y : X) → same x y ≡ true → x ≡ y) → (xs : List X) (x : X) → Contains xs x → Contains (distinct same xs) x
+distinct_has same one [] x c = c
+distinct_has same one (z ∷ xs) x c = elim (Contains-cons_cases z x xs c) [
+  | inl e ↦ (0, omega arith, e)
+  | inr l ↦ by (same z x) refl (distinct_has same one xs x l)
+]
+  where
+    by : (t : Bool) → same z x ≡ t → Contains (distinct same xs) x → Contains (distinct same (z ∷ xs)) x
+    by true e k = (0, omega arith, one z x e)
+    by false e k = Contains-later z x (filter (λ y. not (same z y)) (distinct same xs)) (Contains-filter (λ y. not (same z y)) (distinct same xs) x k (ap not e))
+
+-- ---- places
+
+-- the handler stands behind others
+pub record HandlerPlace (m : Mentions) (from : ℕ) (hs : List Handler) (h : Handler) : Type 0 where
+  pub before : List Handler
+  pub after : List Handler
+  pub parts : hs ≡ before ++ h ∷ after
+  pub place : handler_off m from hs h ≡ from + length (flat_map (handler_bytes m) before)
+
+-- by whether the first is the handler
+place_by : (m : Mentions) (from : ℕ) (k : Handler) (ks : List Handler) (h : Handler) (t : Bool) → same_handler k h ≡ t → (t ≡ false → HandlerPlace m (from + length (handler_bytes m k)) ks h) → HandlerPlace m from (k ∷ ks) h
+place_by m from k ks h true e rest =
+    let same : k ≡ h = (handler_decides k h).0 e in
+    record {
+      before = [];
+      after = ks;
+      parts = ap (λ (x : Handler). x ∷ ks) same;
+      place = ap (λ (t : Bool). if t then from else handler_off m (from + length (handler_bytes m k)) ks h) e ∙ omega arith;
+    }
+place_by m from k ks h false e rest =
+    let r = rest refl in
+    let off : handler_off m from (k ∷ ks) h ≡ handler_off m (from + length (handler_bytes m k)) ks h = ap (λ (t : Bool). if t then from else handler_off m (from + length (handler_bytes m k)) ks h) e in
+    record {
+      before = k ∷ r.before;
+      after = r.after;
+      parts = ap (λ (l : List Handler). k ∷ l) r.parts;
+      place = omega (arith, off, r.place, length-append (handler_bytes m k) (flat_map (handler_bytes m) r.before));
+    }
+
+-- where a handler of the list begins
+pub handler_place : (m : Mentions) (from : ℕ) (hs : List Handler) (h : Handler) → Contains hs h → HandlerPlace m from hs h
+handler_place m from [] h c = absurd (Contains-nil h c)
+handler_place m from (k ∷ ks) h c =
+    place_by m from k ks h (same_handler k h) refl (λ e. elim (Contains-cons_cases k h ks c) [
+      | inl s ↦ absurd (let t : true ≡ false = sym ((handler_decides k h).1 s) ∙ e in cc)
+      | inr l ↦ handler_place m (from + length (handler_bytes m k)) ks h l
+    ])
+
+-- ---- how many
+
+-- handlers weigh 10 each at least
+pub handlers_few : (hs : List Handler) → 10 * length hs ≤ sum_by (λ (h : Handler). 10 + 8 * length h.catches) hs
+handlers_few [] = omega arith
+handlers_few (h ∷ hs) = omega (arith, handlers_few hs, sum_by-cons (λ (k : Handler). 10 + 8 * length k.catches) h hs)
+
+-- and one of them 8 for each catch
+pub catches_few : (hs : List Handler) (h : Handler) → Contains hs h → 10 + 8 * length h.catches ≤ sum_by (λ (k : Handler). 10 + 8 * length k.catches) hs
+catches_few hs h c =
+    subst (λ (x : Handler). 10 + 8 * length x.catches ≤ sum_by (λ (k : Handler). 10 + 8 * length k.catches) hs) c.2
+    (get_or-le-sum_by (λ (k : Handler). 10 + 8 * length k.catches) hs c.0 h c.1)

@@ -1,0 +1,34 @@
+//! Numbers that look random and are the same in every run.
+
+/// A linear congruential generator, with the constants of Knuth's MMIX.
+#[derive(Clone, Copy)]
+pub(crate) struct Random {
+    state: u64,
+}
+
+impl Random {
+    /// The generator of this seed.
+    pub(crate) fn new(seed: u64) -> Random {
+        Random { state: seed }
+    }
+
+    /// The next number, below `count`; 0 where that is 0.
+    pub(crate) fn below(&mut self, count: usize) -> usize {
+        self.state = self
+            .state
+            .wrapping_mul(6_364_136_223_846_793_005)
+            .wrapping_add(1_442_695_040_888_963_407);
+        let number = (self.state >> 33) as usize;
+        if count == 0 { 0 } else { number % count }
+    }
+
+    /// Whether this is one of so many.
+    pub(crate) fn one_in(&mut self, count: usize) -> bool {
+        self.below(count) == 0
+    }
+
+    /// One of the letters, if there is one.
+    pub(crate) fn letter(&mut self, letters: &[u8]) -> Option<u8> {
+        letters.get(self.below(letters.len())).copied()
+    }
+}

@@ -1,0 +1,15 @@
+//! Tests of what code items, debug programs, values and sets of annotations are read as and written as.
+//!
+//! They stand in a crate of their own because a crate that holds tests is proved twice.
+#![tactic(auto)]
+
+#[cfg(test)]
+mod code_items;
+#[cfg(test)]
+mod debug_programs;
+#[cfg(test)]
+mod directories_read;
+#[cfg(test)]
+mod values_put;
+#[cfg(test)]
+mod values_read;

@@ -1,0 +1,119 @@
+//! Values, static values and annotations put and weighed. The bytes were written down by hand from the format.
+
+ghost use Rattle.dexval.specs.Code.{value_of};
+ghost use Rattle.dexval.specs.Spelled.{IsCounted};
+
+use dexpool::Numbering;
+use dexval::{
+    Annotation, Value, Visibility, parameter_sets_weight, put_annotation, put_statics, put_value,
+    statics_weight,
+};
+use std::alloc::Global;
+
+/// What a value is put as.
+fn put(alloc: Global, value: &Value) -> Option<Vec<u8>>
+    requires { IsCounted (value_of value.now) }
+{
+    let mut bytes = Vec::new(alloc);
+    put_value(value, &Numbering::empty(alloc), &mut bytes).ok()?;
+    Some(bytes)
+}
+
+/// What an array of no values is put as.
+fn put_array(alloc: Global) -> Option<Vec<u8>> {
+    put(alloc, &Value::Array(Vec::new(alloc)))
+}
+
+/// What 0 as a byte, null and true are put as.
+fn put_three(alloc: Global) -> Option<Vec<u8>> {
+    let values = [Value::Byte(0), Value::Null, Value::Boolean(true)];
+    let mut bytes = Vec::new(alloc);
+    put_statics(&values, &Numbering::empty(alloc), &mut bytes).ok()?;
+    Some(bytes)
+}
+
+/// What an annotation of type 200 with no element is put as.
+fn put_one(alloc: Global) -> Option<Vec<u8>> {
+    let annotation = Annotation {
+        visibility: Visibility::System,
+        typ: 200,
+        elements: Vec::new(alloc),
+    };
+    let mut bytes = Vec::new(alloc);
+    put_annotation(&annotation, &Numbering::empty(alloc), &mut bytes).ok()?;
+    Some(bytes)
+}
+
+#[test]
+fn puts_minus_one(rt: HostRuntime) {
+    let Some(bytes) = put(rt.alloc(), &Value::Long(-1)) else {
+        panic!(rt; "no bytes")
+    };
+    assert_eq!(rt; bytes.as_slice(), [0x06, 0xff].as_slice());
+}
+
+#[test]
+fn puts_a_double(rt: HostRuntime) {
+    let Some(bytes) = put(rt.alloc(), &Value::Double(0x3ff0_0000_0000_0000)) else {
+        panic!(rt; "no bytes")
+    };
+    assert_eq!(rt; bytes.as_slice(), [0x31, 0xf0, 0x3f].as_slice());
+}
+
+#[test]
+fn puts_a_char(rt: HostRuntime) {
+    let Some(bytes) = put(rt.alloc(), &Value::Char(0x00ff)) else {
+        panic!(rt; "no bytes")
+    };
+    assert_eq!(rt; bytes.as_slice(), [0x03, 0xff].as_slice());
+}
+
+#[test]
+fn puts_an_int(rt: HostRuntime) {
+    let Some(bytes) = put(rt.alloc(), &Value::Int(128)) else {
+        panic!(rt; "no bytes")
+    };
+    assert_eq!(rt; bytes.as_slice(), [0x24, 0x80, 0x00].as_slice());
+}
+
+#[test]
+fn puts_an_array(rt: HostRuntime) {
+    let Some(bytes) = put_array(rt.alloc()) else {
+        panic!(rt; "no bytes")
+    };
+    assert_eq!(rt; bytes.as_slice(), [0x1c, 0x00].as_slice());
+}
+
+#[test]
+fn puts_static_values(rt: HostRuntime) {
+    let Some(bytes) = put_three(rt.alloc()) else {
+        panic!(rt; "no bytes")
+    };
+    assert_eq!(rt; bytes.as_slice(), [0x03, 0x00, 0x00, 0x1e, 0x3f].as_slice());
+}
+
+#[test]
+fn puts_an_annotation(rt: HostRuntime) {
+    let Some(bytes) = put_one(rt.alloc()) else {
+        panic!(rt; "no bytes")
+    };
+    assert_eq!(rt; bytes.as_slice(), [0x02, 0xc8, 0x01, 0x00].as_slice());
+}
+
+#[test]
+fn weighs_values(rt: HostRuntime) {
+    assert_eq!(rt; Value::Long(-1).weight(), 9);
+}
+
+#[test]
+fn weighs_static_values(rt: HostRuntime) {
+    assert_eq!(rt;
+        statics_weight(&[Value::Byte(0), Value::Null, Value::Boolean(true)]),
+        33
+    );
+}
+
+#[test]
+fn no_sets_weigh_nothing(rt: HostRuntime) {
+    assert_eq!(rt; parameter_sets_weight(&[]), 0);
+}

@@ -1,0 +1,62 @@
+-- What each variant of a value of the code is, as contracts see it.
+use Rattle.std.proofs.Common.{◌≡◌, ℕ, Bool, map, sym, ap, ◌∙◌, Vec, Global}
+use Rattle.std.specs.Prelude.{ℤ}
+use Rattle.dexval.specs.declared.value.Value.{Value}
+use Rattle.dexval.specs.declared.value.Element.{Element}
+use Rattle.dexval.specs.declared.value.Value.TheVariants as variants
+use Rattle.dexval.specs.declared.value.Value.TheOpen as layers
+use Rattle.dexval.specs.declared.value.Value.TheFolds.{fold-roll-Value, fold_out-Element}
+use Rattle.dexval.specs.Numbered.{NumberedValue, Plain, Named, Array, Annotated, ByteLiteral, ShortLiteral, CharLiteral, IntLiteral, LongLiteral, FloatLiteral, DoubleLiteral, NullLiteral, BooleanLiteral, StringReference, TypeReference, FieldReference, MethodReference, EnumReference, values_of_list, elements_of_list}
+use Rattle.dexval.specs.Code.{value_step, element_step, value_of, element_of}
+
+pub byte_is : (z : ℤ) → value_of (variants.Byte z) ≡ Plain (ByteLiteral z)
+byte_is z = ap value_of (sym (variants.rolls-Byte z)) ∙ fold-roll-Value NumberedValue (ℕ × NumberedValue) value_step element_step (layers.Byte z)
+
+pub short_is : (z : ℤ) → value_of (variants.Short z) ≡ Plain (ShortLiteral z)
+short_is z = ap value_of (sym (variants.rolls-Short z)) ∙ fold-roll-Value NumberedValue (ℕ × NumberedValue) value_step element_step (layers.Short z)
+
+pub char_is : (u : ℕ) → value_of (variants.Char u) ≡ Plain (CharLiteral u)
+char_is u = ap value_of (sym (variants.rolls-Char u)) ∙ fold-roll-Value NumberedValue (ℕ × NumberedValue) value_step element_step (layers.Char u)
+
+pub int_is : (z : ℤ) → value_of (variants.Int z) ≡ Plain (IntLiteral z)
+int_is z = ap value_of (sym (variants.rolls-Int z)) ∙ fold-roll-Value NumberedValue (ℕ × NumberedValue) value_step element_step (layers.Int z)
+
+pub long_is : (z : ℤ) → value_of (variants.Long z) ≡ Plain (LongLiteral z)
+long_is z = ap value_of (sym (variants.rolls-Long z)) ∙ fold-roll-Value NumberedValue (ℕ × NumberedValue) value_step element_step (layers.Long z)
+
+pub float_is : (bits : ℕ) → value_of (variants.Float bits) ≡ Plain (FloatLiteral bits)
+float_is bits = ap value_of (sym (variants.rolls-Float bits)) ∙ fold-roll-Value NumberedValue (ℕ × NumberedValue) value_step element_step (layers.Float bits)
+
+pub double_is : (bits : ℕ) → value_of (variants.Double bits) ≡ Plain (DoubleLiteral bits)
+double_is bits = ap value_of (sym (variants.rolls-Double bits)) ∙ fold-roll-Value NumberedValue (ℕ × NumberedValue) value_step element_step (layers.Double bits)
+
+pub string_is : (i : ℕ) → value_of (variants.String i) ≡ Named StringReference i
+string_is i = ap value_of (sym (variants.rolls-String i)) ∙ fold-roll-Value NumberedValue (ℕ × NumberedValue) value_step element_step (layers.String i)
+
+pub typ_is : (i : ℕ) → value_of (variants.Typ i) ≡ Named TypeReference i
+typ_is i = ap value_of (sym (variants.rolls-Typ i)) ∙ fold-roll-Value NumberedValue (ℕ × NumberedValue) value_step element_step (layers.Typ i)
+
+pub field_is : (i : ℕ) → value_of (variants.Field i) ≡ Named FieldReference i
+field_is i = ap value_of (sym (variants.rolls-Field i)) ∙ fold-roll-Value NumberedValue (ℕ × NumberedValue) value_step element_step (layers.Field i)
+
+pub method_is : (i : ℕ) → value_of (variants.Method i) ≡ Named MethodReference i
+method_is i = ap value_of (sym (variants.rolls-Method i)) ∙ fold-roll-Value NumberedValue (ℕ × NumberedValue) value_step element_step (layers.Method i)
+
+pub enum_is : (i : ℕ) → value_of (variants.Enum i) ≡ Named EnumReference i
+enum_is i = ap value_of (sym (variants.rolls-Enum i)) ∙ fold-roll-Value NumberedValue (ℕ × NumberedValue) value_step element_step (layers.Enum i)
+
+pub array_is : (values : Vec Value Global) → value_of (variants.Array values) ≡ Array (values_of_list (map value_of values.items))
+array_is values = ap value_of (sym (variants.rolls-Array values)) ∙ fold-roll-Value NumberedValue (ℕ × NumberedValue) value_step element_step (layers.Array values)
+
+pub annotation_is : (t : ℕ) (elements : Vec Element Global) → value_of (variants.Annotation t elements) ≡ Annotated t (elements_of_list (map element_of elements.items))
+annotation_is t elements = ap value_of (sym (variants.rolls-Annotation t elements)) ∙ fold-roll-Value NumberedValue (ℕ × NumberedValue) value_step element_step (layers.Annotation t elements)
+
+pub null_is : value_of variants.Null ≡ Plain NullLiteral
+null_is = ap value_of (sym variants.rolls-Null) ∙ fold-roll-Value NumberedValue (ℕ × NumberedValue) value_step element_step layers.Null
+
+pub boolean_is : (is : Bool) → value_of (variants.Boolean is) ≡ Plain (BooleanLiteral is)
+boolean_is is = ap value_of (sym (variants.rolls-Boolean is)) ∙ fold-roll-Value NumberedValue (ℕ × NumberedValue) value_step element_step (layers.Boolean is)
+
+-- an element is its name and its value
+pub element_is : (e : Element) → element_of e ≡ (e.name, value_of e.value)
+element_is e = fold_out-Element NumberedValue (ℕ × NumberedValue) value_step element_step e

@@ -1,0 +1,270 @@
+-- Elements one after the other, as they are read: their names rise as their numbers do, those that were read stand there,
+-- and the rest of what stands there stands behind them.
+use Rattle.std.proofs.Common.{◌≡◌, ℕ, suc, ◌+◌, ◌-◌, ◌<◌, ◌≤◌, max, true, List, [], ◌∷◌, ◌++◌, length, refl, ap, sym, subst, ◌∙◌, arith}
+use Rattle.std.specs.Ordering.{is_lt, nat_cmp}
+use Rattle.std.proofs.lemmas.List.{length-append}
+use Rattle.dexspec.specs.Lists.{rises}
+use Rattle.dexspec.specs.Numbers.{Uleb128At}
+use Rattle.dexspec.specs.Texts.{Text, text_cmp}
+use Rattle.dexspec.specs.Rows.{StringRow, TypeRow}
+use Rattle.dexspec.specs.Values.{Value, Elements, NoElements, ThenElement, ValueAt, ElementsAt, value_depth, elements_depth, names_of}
+use Rattle.dexspec.specs.Mentions.{Mentions}
+use Rattle.dexspec.proofs.Members.{and_first, and_second, and_both}
+use Rattle.dexspec.proofs.OneNumber.{one_uleb128}
+use Rattle.dexspec.proofs.OneRow.{one_string}
+use Rattle.dexspec.proofs.OneValue.{one_value}
+use Rattle.dexspec.proofs.SymbolOrders.{text_total}
+use Rattle.dexpool.proofs.NumberOrder.{places_agree}
+use Rattle.dexval.specs.Numbered.{NumberedValue, NumberedElements, HaveKnown, IsKnown, elements_in, value_in, elements_of_list, text_at, type_at}
+use Rattle.dexval.specs.Nesting.{AreFilePools, NoElementAt, IsElementReadAt, NoElementsAt, AreElementsReadAt, NoAnnotationAt, IsAnnotationReadAt}
+
+-- the name of the first element, if there is one, has at least this number
+abbrev pub IsAbove : List ℕ → ℕ → Elements → Type 0
+IsAbove b least NoElements = Unit {0}
+IsAbove b least (ThenElement name v es) = (index : ℕ) → StringRow b index name → least ≤ index
+
+-- so many elements stand there, whose names rise from this number on, and whose values nest at most so deep
+pub record RestOf (b : List ℕ) (o depth count least : ℕ) : Type 0 where
+  pub elements : Elements
+  pub size : ℕ
+  pub stand : ElementsAt b o elements size
+  pub number : length (names_of elements) ≡ count
+  pub rise : rises text_cmp (names_of elements) ≡ true
+  pub above : IsAbove b least elements
+  pub shallow : elements_depth elements ≤ depth
+
+-- the first i of so many elements were read, and have names of lesser numbers; whatever so many elements stand there, the
+-- rest of them stands behind these
+pub record HaveReadOf (b : List ℕ) (o : ℕ) (m : Mentions) (depth count i least : ℕ) (es : List (ℕ × NumberedValue)) (k : ℕ) : Type 0 where
+  pub number : length es ≡ i
+  pub known : HaveKnown m (elements_of_list es)
+  pub stand : ElementsAt b o (elements_in m (elements_of_list es)) k
+  pub shallow : elements_depth (elements_in m (elements_of_list es)) ≤ depth
+  pub rise : rises text_cmp (names_of (elements_in m (elements_of_list es))) ≡ true
+  pub below : (index : ℕ) → least ≤ index → index < length m.texts → rises text_cmp (names_of (elements_in m (elements_of_list es)) ++ text_at m index ∷ []) ≡ true
+  pub rest : RestOf b o depth count 0 → RestOf b (o + k) depth (count - i) least
+
+module _ (b : List ℕ) (m : Mentions) (file : AreFilePools b m) where
+  -- texts are in the order of their numbers
+  texts_agree : (i j : ℕ) → i < length m.texts → j < length m.texts → nat_cmp i j ≡ text_cmp (text_at m i) (text_at m j)
+  texts_agree i j lt lt' = places_agree text_cmp text_total m.texts file.rising.texts_rise i j [] [] lt lt'
+
+  is_less : (i j : ℕ) → i < j → j < length m.texts → is_lt (text_cmp (text_at m i) (text_at m j)) ≡ true
+  is_less i j lt room = ap is_lt (sym (texts_agree i j (omega arith) room)) ∙ grind arith
+
+  is_greater : (i j : ℕ) → i < length m.texts → j < length m.texts → is_lt (text_cmp (text_at m i) (text_at m j)) ≡ true → i < j
+  is_greater i j lt lt' e = let n : is_lt (nat_cmp i j) ≡ true = ap is_lt (texts_agree i j lt lt') ∙ e in grind arith
+
+  -- the text of a row, and the rows that are counted
+  row_within : (index : ℕ) (name : Text) → StringRow b index name → index < length m.texts
+  row_within index name r = omega (arith, r.row, file.pools.texts_are.count)
+
+  row_stands : (index : ℕ) → index < length m.texts → StringRow b index (text_at m index)
+  row_stands index lt = file.pools.texts_are.each index [] (omega (arith, lt, file.pools.texts_are.count))
+
+  row_text : (index : ℕ) (name : Text) → StringRow b index name → name ≡ text_at m index
+  row_text index name r = one_string b index name (text_at m index) r (row_stands index (row_within index name r))
+
+  known_more : (es : List (ℕ × NumberedValue)) (e : ℕ × NumberedValue) → HaveKnown m (elements_of_list es) → e.0 < length m.texts → IsKnown m e.1 → HaveKnown m (elements_of_list (es ++ e ∷ []))
+  known_more [] e h lt k = (lt, k, tt)
+  known_more (f ∷ fs) e h lt k = (h.0, h.1, known_more fs e h.2 lt k)
+
+  depth_more : (es : List (ℕ × NumberedValue)) (e : ℕ × NumberedValue) → elements_depth (elements_in m (elements_of_list (es ++ e ∷ []))) ≡ max (elements_depth (elements_in m (elements_of_list es))) (value_depth (value_in m e.1))
+  depth_more [] e = omega arith
+  depth_more (f ∷ fs) e = omega (arith, depth_more fs e)
+
+  names_more : (es : List (ℕ × NumberedValue)) (e : ℕ × NumberedValue) → names_of (elements_in m (elements_of_list (es ++ e ∷ []))) ≡ names_of (elements_in m (elements_of_list es)) ++ text_at m e.0 ∷ []
+  names_more [] e = refl
+  names_more (f ∷ fs) e = ap (λ (l : List Text). text_at m f.0 ∷ l) (names_more fs e)
+
+  number_is : (es : List (ℕ × NumberedValue)) → length (names_of (elements_in m (elements_of_list es))) ≡ length es
+  number_is [] = refl
+  number_is (e ∷ es) = ap suc (number_is es)
+
+  -- one text more behind rising ones
+  rises_more : (ns : List Text) (s t : Text) → rises text_cmp (ns ++ s ∷ []) ≡ true → is_lt (text_cmp s t) ≡ true → rises text_cmp ((ns ++ s ∷ []) ++ t ∷ []) ≡ true
+  rises_more [] s t h lt = and_both (is_lt (text_cmp s t)) true lt refl
+  rises_more (n ∷ []) s t h lt = and_both (is_lt (text_cmp n s)) (rises text_cmp (s ∷ t ∷ [])) (and_first (is_lt (text_cmp n s)) true h) (and_both (is_lt (text_cmp s t)) true lt refl)
+  rises_more (n ∷ o ∷ ns) s t h lt =
+      and_both (is_lt (text_cmp n o)) (rises text_cmp ((o ∷ ns ++ s ∷ []) ++ t ∷ [])) (and_first (is_lt (text_cmp n o)) (rises text_cmp (o ∷ ns ++ s ∷ [])) h) (rises_more (o ∷ ns) s t (and_second (is_lt (text_cmp n o)) (rises text_cmp (o ∷ ns ++ s ∷ [])) h) lt)
+
+  stand_more : (o : ℕ) (es : List (ℕ × NumberedValue)) (e : ℕ × NumberedValue) (k head size : ℕ) → ElementsAt b o (elements_in m (elements_of_list es)) k
+      → Uleb128At b (o + k) e.0 head → e.0 < length m.texts → ValueAt b (o + k + head) (value_in m e.1) size → ElementsAt b o (elements_in m (elements_of_list (es ++ e ∷ []))) (k + (head + size))
+  stand_more o [] e k head size h u lt v =
+      let none : o + k ≡ o = omega (arith, h) in (
+        head,
+        size,
+        0,
+        e.0,
+        subst (λ (p : ℕ). Uleb128At b p e.0 head) none u,
+        row_stands e.0 lt,
+        subst (λ (p : ℕ). ValueAt b (p + head) (value_in m e.1) size) none v,
+        refl,
+        omega (arith, h),
+      )
+  stand_more o (f ∷ fs) e k head size h u lt v =
+      let place : o + k ≡ o + h.0 + h.1 + h.2 = omega (arith, h.8) in (
+        h.0,
+        h.1,
+        h.2 + (head + size),
+        h.3,
+        h.4,
+        h.5,
+        h.6,
+        stand_more (o + h.0 + h.1) fs e h.2 head size h.7 (subst (λ (p : ℕ). Uleb128At b p e.0 head) place u) lt (subst (λ (p : ℕ). ValueAt b (p + head) (value_in m e.1) size) place v),
+        omega (arith, h.8),
+      )
+
+  -- the element that comes next, and those behind it
+  record Next (o depth left least : ℕ) : Type 0 where
+    name : Text
+    value : Value
+    index : ℕ
+    head : ℕ
+    size : ℕ
+    names : Uleb128At b o index head
+    row : StringRow b index name
+    above : least ≤ index
+    stands : ValueAt b (o + head) value size
+    shallow : value_depth value ≤ depth
+    behind : RestOf b (o + head + size) depth (left - 1) (index + 1)
+
+  above_next : (index : ℕ) (name : Text) (es : Elements) → StringRow b index name → rises text_cmp (name ∷ names_of es) ≡ true → IsAbove b (index + 1) es
+  above_next index name NoElements r h = tt
+  above_next index name (ThenElement second v es) r h = λ other row.
+      let less = and_first (is_lt (text_cmp name second)) (rises text_cmp (second ∷ names_of es)) h in
+      let texts : is_lt (text_cmp (text_at m index) (text_at m other)) ≡ true = ap is_lt (ap (λ (s : Text). text_cmp s (text_at m other)) (sym (row_text index name r)) ∙ ap (text_cmp name) (sym (row_text other second row))) ∙ less in
+      omega (arith, is_greater index other (row_within index name r) (row_within other second row) texts)
+
+  rise_next : (name : Text) (es : Elements) → rises text_cmp (name ∷ names_of es) ≡ true → rises text_cmp (names_of es) ≡ true
+  rise_next name NoElements h = refl
+  rise_next name (ThenElement second v es) h = and_second (is_lt (text_cmp name second)) (rises text_cmp (second ∷ names_of es)) h
+
+  next_of : (o depth left least n : ℕ) (es : Elements) → 0 < left → ElementsAt b o es n → length (names_of es) ≡ left → rises text_cmp (names_of es) ≡ true → IsAbove b least es → elements_depth es ≤ depth → Next o depth left least
+  next_of o depth left least n NoElements lt h e r a d = absurd (omega (arith, e, lt))
+  next_of o depth left least n (ThenElement name v es) lt h e r a d = record {
+    name = name;
+    value = v;
+    index = h.3;
+    head = h.0;
+    size = h.1;
+    names = h.4;
+    row = h.5;
+    above = a h.3 h.5;
+    stands = h.6;
+    shallow = omega (arith, d);
+    behind = record { elements = es; size = h.2; stand = h.7; number = omega (arith, e); rise = rise_next name es r; above = above_next h.3 name es h.5 r; shallow = omega (arith, d) };
+  }
+
+  next : (o depth left least : ℕ) → 0 < left → RestOf b o depth left least → Next o depth left least
+  next o depth left least lt r = next_of o depth left least r.size r.elements lt r.stand r.number r.rise r.above r.shallow
+
+  -- nothing was read yet
+  pub no_element_read : (o depth count : ℕ) → HaveReadOf b o m depth count 0 0 [] 0
+  no_element_read o depth count = record {
+    number = refl;
+    known = tt;
+    stand = refl;
+    shallow = omega arith;
+    rise = refl;
+    below = λ index le lt. refl;
+    rest = λ r. let at : o ≡ o + 0 = omega arith in let left : count ≡ count - 0 = omega arith in subst (λ (p : ℕ). RestOf b p depth (count - 0) 0) at (subst (λ (c : ℕ). RestOf b o depth c 0) left r);
+  }
+
+  -- one element more was read
+  pub one_element_more : (o depth count i least : ℕ) (es : List (ℕ × NumberedValue)) (k : ℕ) (e : ℕ × NumberedValue) (j : ℕ) → i < count → HaveReadOf b o m depth count i least es k → IsElementReadAt b (o + k) m depth least e j
+      → HaveReadOf b o m depth count (i + 1) (e.0 + 1) (es ++ e ∷ []) (k + j)
+  one_element_more o depth count i least es k e j lt h r =
+      let ns = names_of (elements_in m (elements_of_list es)) in
+      let risen : rises text_cmp (ns ++ text_at m e.0 ∷ []) ≡ true = h.below e.0 r.above r.name_known in
+      record {
+        number = simp length-append (omega (arith, h.number));
+        known = known_more es e h.known r.name_known r.value.known;
+        stand = subst (λ (n : ℕ). ElementsAt b o (elements_in m (elements_of_list (es ++ e ∷ []))) (k + n)) (sym r.sum) (stand_more o es e k r.head r.size h.stand r.index r.name_known r.value.stands);
+        shallow = omega (arith, depth_more es e, h.shallow, r.value.shallow);
+        rise = ap (rises text_cmp) (names_more es e) ∙ risen;
+        below = λ index le within. ap (λ (l : List Text). rises text_cmp (l ++ text_at m index ∷ [])) (names_more es e) ∙ rises_more ns (text_at m e.0) (text_at m index) risen (is_less e.0 index (omega (arith, le)) within);
+        rest = λ all.
+            let n = next (o + k) depth (count - i) least (omega arith) (h.rest all) in
+            let name = one_uleb128 b (o + k) n.index e.0 n.head r.head n.names r.index in
+            let same = one_value b (o + k + r.head) n.value (value_in m e.1) n.size r.size (subst (λ (x : ℕ). ValueAt b (o + k + x) n.value n.size) name.1 n.stands) r.value.stands in
+            let place : o + k + n.head + n.size ≡ o + (k + j) = omega (arith, name.1, same.1, r.sum) in
+            let left : count - i - 1 ≡ count - (i + 1) = omega arith in
+            subst (λ (x : ℕ). RestOf b (o + (k + j)) depth (count - (i + 1)) (x + 1)) name.0
+            (subst (λ (c : ℕ). RestOf b (o + (k + j)) depth c (n.index + 1)) left (subst (λ (p : ℕ). RestOf b p depth (count - i - 1) (n.index + 1)) place n.behind));
+      }
+
+  -- what comes next is no element
+  pub no_next_element : (o depth count i least : ℕ) (es : List (ℕ × NumberedValue)) (k : ℕ) → i < count → HaveReadOf b o m depth count i least es k → NoElementAt b (o + k) depth least → NoElementsAt b o depth count
+  no_next_element o depth count i least es k lt h none fs n stand number rise shallow =
+      let all : RestOf b o depth count 0 = record { elements = fs; size = n; stand = stand; number = number; rise = rise; above = above_all fs; shallow = shallow } in
+      let x = next (o + k) depth (count - i) least (omega arith) (h.rest all) in
+      none x.index x.name x.value x.head x.size x.names x.row x.above x.stands x.shallow
+    where
+      above_all : (gs : Elements) → IsAbove b 0 gs
+      above_all NoElements = tt
+      above_all (ThenElement name v gs) = λ index row. omega arith
+
+  -- all of them were read
+  pub all_elements_read : (o depth count i least : ℕ) (es : List (ℕ × NumberedValue)) (k : ℕ) → i ≡ count → HaveReadOf b o m depth count i least es k → AreElementsReadAt b o m depth count (elements_of_list es) k
+  all_elements_read o depth count i least es k e h = record {
+    known = h.known;
+    stands = h.stand;
+    number = number_is es ∙ h.number ∙ e;
+    rise = h.rise;
+    shallow = h.shallow;
+  }
+
+  -- ---- one element
+
+  -- a name that is no number, or one of no text, or too small
+  pub no_name : (o depth least : ℕ) → ((index i : ℕ) → Uleb128At b o index i → ⊥) → NoElementAt b o depth least
+  no_name o depth least none index name v i j u row above h shallow = none index i u
+
+  pub no_such_name : (o depth least index head : ℕ) → Uleb128At b o index head → (least ≤ index → index < length m.texts → ⊥) → NoElementAt b o depth least
+  no_such_name o depth least index head u none other name v i j w row above h shallow =
+      let same = one_uleb128 b o other index i head w u in
+      none (omega (arith, above, same.0)) (omega (arith, row_within other name row, same.0))
+
+  -- a value that is none
+  pub no_value : (o depth least index head : ℕ) → Uleb128At b o index head → ((v : Value) (n : ℕ) → ValueAt b (o + head) v n → value_depth v ≤ depth → ⊥) → NoElementAt b o depth least
+  no_value o depth least index head u none other name v i j w row above h shallow =
+      let same = one_uleb128 b o other index i head w u in
+      none v j (subst (λ (x : ℕ). ValueAt b (o + x) v j) same.1 h) shallow
+
+  -- ---- annotations
+
+  type_within : (index : ℕ) (t : Text) → TypeRow b index t → index < length m.types
+  type_within index t r = omega (arith, r.row, file.pools.types_are.count)
+
+  type_stands : (index : ℕ) → index < length m.types → TypeRow b index (type_at m index)
+  type_stands index lt = file.pools.types_are.each index [] (omega (arith, lt, file.pools.types_are.count))
+
+  pub no_type : (o depth : ℕ) → ((index i : ℕ) → Uleb128At b o index i → ⊥) → NoAnnotationAt b o depth
+  no_type o depth none t es n h shallow = none h.3 h.0 h.4
+
+  pub no_such_type : (o depth index head : ℕ) → Uleb128At b o index head → (index < length m.types → ⊥) → NoAnnotationAt b o depth
+  no_such_type o depth index head u none t es n h shallow =
+      let same = one_uleb128 b o h.3 index h.0 head h.4 u in
+      none (omega (arith, type_within h.3 t h.5, same.0))
+
+  pub no_element_count : (o depth index head : ℕ) → Uleb128At b o index head → ((count i : ℕ) → Uleb128At b (o + head) count i → ⊥) → NoAnnotationAt b o depth
+  no_element_count o depth index head u none t es n h shallow =
+      let same = one_uleb128 b o h.3 index h.0 head h.4 u in
+      none (length (names_of es)) h.1 (subst (λ (x : ℕ). Uleb128At b (o + x) (length (names_of es)) h.1) same.1 h.6)
+
+  pub no_elements : (o depth index head count second : ℕ) → Uleb128At b o index head → Uleb128At b (o + head) count second → NoElementsAt b (o + head + second) depth count → NoAnnotationAt b o depth
+  no_elements o depth index head count second u w none t es n h shallow =
+      let same = one_uleb128 b o h.3 index h.0 head h.4 u in
+      let number = one_uleb128 b (o + head) (length (names_of es)) count h.1 second (subst (λ (x : ℕ). Uleb128At b (o + x) (length (names_of es)) h.1) same.1 h.6) w in
+      let place : o + h.0 + h.1 ≡ o + head + second = omega (arith, same.1, number.1) in
+      none es h.2 (subst (λ (p : ℕ). ElementsAt b p es h.2) place h.7) number.0 h.8 shallow
+
+  pub annotation_read : (o depth index head count second : ℕ) (es : NumberedElements) (k : ℕ) → Uleb128At b o index head → index < length m.types → Uleb128At b (o + head) count second → AreElementsReadAt b (o + head + second) m depth count es k
+      → IsAnnotationReadAt b o m depth index es (head + second + k)
+  annotation_read o depth index head count second es k u lt w r = record {
+    type_known = lt;
+    known = r.known;
+    stands = (head, second, k, index, u, type_stands index lt, subst (λ (c : ℕ). Uleb128At b (o + head) c second) (sym r.number) w, r.stands, r.rise, refl);
+    shallow = r.shallow;
+  }

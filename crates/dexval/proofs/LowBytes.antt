@@ -1,0 +1,126 @@
+-- Numbers written in their lowest bytes.
+use Rattle.std.proofs.Common.{◌≡◌, ℕ, zero, suc, ◌+◌, ◌-◌, ◌*◌, ◌/◌, ◌%◌, ◌^◌, ◌<◌, ◌≤◌, List, [], ◌∷◌, ◌++◌, length, take, set, ◌⊎◌, inl, inr, refl, ap, sym, ◌∙◌, subst, arith, add-one, append_assoc}
+use Rattle.std.specs.Prelude.{ℤ, pos, negsuc, ◌≢◌, Result}
+use Rattle.std.specs.Global.{Vec}
+use Rattle.dexspec.specs.Writing.{Puts}
+use Rattle.std.proofs.Math.Nat.{mul_assoc, mul-suc, mul-mod_right, mul-div_cancel_left, div-add-mod}
+use Rattle.std.proofs.Math.Seq.{take-suc-set}
+use Rattle.std.proofs.lemmas.Bool.{cases_lt}
+use Rattle.std.proofs.lemmas.Nat.{pow-add}
+use Rattle.std.proofs.lemmas.List.{append-nil}
+use Rattle.dexspec.specs.Bytes.{bytes_of}
+use Rattle.dexspec.specs.Numbers.{magnitude}
+use Rattle.dexspec.specs.Values.{value_byte}
+use Rattle.dexspec.specs.Spellings.{unsigned_width, signed_width, bits_width, complement, signed_bytes, bits_bytes}
+use Rattle.dexspec.proofs.ByteNumbers.{pow_256_pos}
+use Rattle.dexspec.proofs.Widths.{signed_width_is, bits_width_is}
+
+-- with one byte more written, one byte less is left
+pub one_byte_more : (bytes target : List ℕ) (i n rest : ℕ) → i + 1 < length bytes → i < n → take (i + 1) bytes ++ bytes_of (n - i) rest ≡ target
+    → take (i + 1 + 1) (set bytes (i + 1) (rest % 256)) ++ bytes_of (n - (i + 1)) (rest / 256) ≡ target
+unfolding bytes_of
+one_byte_more bytes target i n rest within more so_far =
+    let now : n - i ≡ suc (n - (i + 1)) = omega arith in
+    let e = rw now at so_far in
+    rw (add-one, take-suc-set, append_assoc) e
+
+-- with all bytes written, none is left
+pub all_written : (bytes target : List ℕ) (i n rest : ℕ) → n ≤ i → i ≤ n → take (i + 1) bytes ++ bytes_of (n - i) rest ≡ target → take (n + 1) bytes ≡ target
+unfolding bytes_of
+all_written bytes target i n rest from to so_far =
+    let none : n - i ≡ zero = omega arith in
+    let all : i ≡ n = omega arith in
+    let e = rw (none, all) at so_far in
+    sym (append-nil (take (n + 1) bytes)) ∙ e
+
+-- a multiple of 256 ^ n more has the same n lowest bytes
+bytes_of-more : (n v k : ℕ) → bytes_of n (v + 256 ^ n * k) ≡ bytes_of n v
+unfolding bytes_of
+bytes_of-more zero v k = refl
+bytes_of-more (suc n) v k =
+    let power : 256 ^ suc n ≡ 256 * 256 ^ n = omega arith in
+    let more : 256 ^ suc n * k ≡ 256 * (256 ^ n * k) = ap (λ (x : ℕ). x * k) power ∙ mul_assoc 256 (256 ^ n) k in
+    let low : (v + 256 ^ suc n * k) % 256 ≡ v % 256 = omega (arith, more) in
+    let high : (v + 256 ^ suc n * k) / 256 ≡ v / 256 + 256 ^ n * k = omega (arith, more) in
+    ap (λ (b : ℕ). b ∷ bytes_of n ((v + 256 ^ suc n * k) / 256)) low ∙ ap (λ (r : ℕ). v % 256 ∷ bytes_of n r) high ∙ ap (λ (l : List ℕ). v % 256 ∷ l) (bytes_of-more n (v / 256) k)
+
+-- a number times one less
+one_less : (a b : ℕ) → 0 < b → a * b ≡ a + a * (b - 1)
+one_less a zero some = absurd (omega arith)
+one_less a (suc b) some =
+    let e : suc b - 1 ≡ b = omega arith in
+    omega (arith, mul-suc a b, ap (λ (x : ℕ). a * x) e)
+
+-- the lowest bytes of a number in two's complement
+low_complement : (n : ℕ) (z : ℤ) → n ≤ 8 → 2 * magnitude z < 256 ^ n → bytes_of n (complement 8 z) ≡ bytes_of n (complement n z)
+low_complement n (pos v) few room = refl
+low_complement n (negsuc v) few room =
+    let parts : n + (8 - n) ≡ 8 = omega arith in
+    let whole : 256 ^ 8 ≡ 256 ^ n * 256 ^ (8 - n) = ap (λ (k : ℕ). 256 ^ k) (sym parts) ∙ pow-add 256 n (8 - n) in
+    let some = pow_256_pos (8 - n) in
+    let less : 256 ^ n * 256 ^ (8 - n) ≡ 256 ^ n + 256 ^ n * (256 ^ (8 - n) - 1) = one_less (256 ^ n) (256 ^ (8 - n)) some in
+    let is : 256 ^ 8 - suc v ≡ (256 ^ n - suc v) + 256 ^ n * (256 ^ (8 - n) - 1) = omega (arith, whole, less, room) in
+    ap (bytes_of n) is ∙ bytes_of-more n (256 ^ n - suc v) (256 ^ (8 - n) - 1)
+
+-- a number with a sign, its lowest bytes in its least width
+pub signed_is : (code : ℕ) (z : ℤ) (width : ℕ) → 2 * magnitude z < 256 ^ 8 → width ≤ 8 → width ≡ unsigned_width (2 * magnitude z) → value_byte (width - 1) code ∷ bytes_of width (complement 8 z) ≡ signed_bytes code z
+signed_is code z width room few is =
+    let same : width ≡ signed_width z = is in
+    let holds : 2 * magnitude z < 256 ^ width = subst (λ (n : ℕ). 2 * magnitude z < 256 ^ n) (sym same) (signed_width_is z room).holds in
+    ap (λ (l : List ℕ). value_byte (width - 1) code ∷ l) (low_complement width z few holds) ∙ ap (λ (n : ℕ). value_byte (n - 1) code ∷ bytes_of n (complement n z)) same
+
+-- ---- bit patterns
+
+-- a zero byte less
+pub zero_less : (width left v rest : ℕ) → 1 < left → left ≤ width → v ≡ 256 ^ (width - left) * rest → rest % 256 ≡ 0 → v ≡ 256 ^ (width - (left - 1)) * (rest / 256)
+zero_less width left v rest more few is none =
+    let next : width - (left - 1) ≡ suc (width - left) = omega arith in
+    let whole : rest ≡ 256 * (rest / 256) = omega (arith, none) in
+    let power : 256 ^ suc (width - left) ≡ 256 ^ (width - left) * 256 = omega arith in
+    is ∙ ap (λ (r : ℕ). 256 ^ (width - left) * r) whole ∙ sym (mul_assoc (256 ^ (width - left)) 256 (rest / 256)) ∙ ap (λ (p : ℕ). p * (rest / 256)) (sym power) ∙ ap (λ (k : ℕ). 256 ^ k * (rest / 256)) (sym next)
+
+-- a number with more zeros ends in one more
+ends_in_zero : (width n w v rest : ℕ) → n ≤ width → w < n → v ≡ 256 ^ (width - n) * rest → v % 256 ^ (width - w) ≡ 0 → rest % 256 ≡ 0
+ends_in_zero width n w v rest few less is none =
+    let k = width - n in
+    let j = n - suc w in
+    let parts : width - w ≡ k + suc j = omega arith in
+    let power : 256 ^ (width - w) ≡ 256 ^ k * 256 ^ suc j = ap (λ (x : ℕ). 256 ^ x) parts ∙ pow-add 256 k (suc j) in
+    let q = v / 256 ^ (width - w) in
+    let v_is : v ≡ 256 ^ (width - w) * q = omega (arith, div-add-mod v (256 ^ (width - w)), none) in
+    let inner : 256 ^ (width - w) * q ≡ 256 ^ k * (256 ^ suc j * q) = ap (λ (x : ℕ). x * q) power ∙ mul_assoc (256 ^ k) (256 ^ suc j) q in
+    let some = pow_256_pos k in
+    let rest_is : rest ≡ 256 ^ suc j * q = sym (mul-div_cancel_left rest some) ∙ ap (λ (x : ℕ). x / 256 ^ k) (sym is ∙ v_is ∙ inner) ∙ mul-div_cancel_left (256 ^ suc j * q) some in
+    let one_more : 256 ^ suc j ≡ 256 * 256 ^ j = omega arith in
+    let last : 256 ^ suc j * q ≡ 256 * (256 ^ j * q) = ap (λ (x : ℕ). x * q) one_more ∙ mul_assoc 256 (256 ^ j) q in
+    omega (arith, rest_is, last)
+
+-- the number of bytes that are left when the zeros at the low end are gone is the least
+pub left_is : (width n v rest : ℕ) → 1 ≤ n → n ≤ width → width ≤ 8 → v ≡ 256 ^ (width - n) * rest → (n ≤ 1) ⊎ (rest % 256 ≢ 0) → n ≡ bits_width width v
+left_is width n v rest some few most is end =
+    let width_is = bits_width_is width v (omega arith) most in
+    let w = bits_width width v in
+    let least : w ≤ n = width_is.least n some (ap (λ (x : ℕ). x % 256 ^ (width - n)) is ∙ mul-mod_right (256 ^ (width - n)) rest) in
+    elim (cases_lt w n) [
+      | inl less ↦ elim end [
+        | inl one ↦ absurd (omega (arith, width_is.some))
+        | inr other ↦ absurd (other (ends_in_zero width n w v rest few less is width_is.holds))
+      ]
+      | inr other ↦ omega arith
+    ]
+
+-- a bit pattern without the zeros at its low end, in its least width
+pub bits_are : (code width n v rest : ℕ) → 1 ≤ n → n ≤ width → width ≤ 8 → v ≡ 256 ^ (width - n) * rest → (n ≤ 1) ⊎ (rest % 256 ≢ 0) → value_byte (n - 1) code ∷ bytes_of n rest ≡ bits_bytes code width v
+bits_are code width n v rest some few most is end =
+    let same = left_is width n v rest some few most is end in
+    let high : rest ≡ v / 256 ^ (width - n) = sym (mul-div_cancel_left rest (pow_256_pos (width - n))) ∙ ap (λ (x : ℕ). x / 256 ^ (width - n)) (sym is) in
+    ap (λ (r : ℕ). value_byte (n - 1) code ∷ bytes_of n r) high ∙ ap (λ (k : ℕ). value_byte (k - 1) code ∷ bytes_of k (v / 256 ^ (width - k))) same
+
+-- what was put is the number with a sign
+pub signed_put : {T E : Type 0} {old new : Vec ℕ} {r : Result T E} (code : ℕ) (z : ℤ) (size width bits : ℕ) → size ≡ magnitude z → 2 * size < 256 ^ 8 → width ≡ unsigned_width (2 * size) → width ≤ 8 → bits ≡ complement 8 z
+    → Puts (value_byte (width - 1) code ∷ bytes_of width bits) old new r → Puts (signed_bytes code z) old new r
+signed_put {T} {E} {old} {new} {r} code z size width bits size_is room width_is few bits_is puts =
+    let wide : 2 * magnitude z < 256 ^ 8 = subst (λ (s : ℕ). 2 * s < 256 ^ 8) size_is room in
+    let width_of : width ≡ unsigned_width (2 * magnitude z) = width_is ∙ ap (λ (s : ℕ). unsigned_width (2 * s)) size_is in
+    let whole = ap (λ (b : ℕ). value_byte (width - 1) code ∷ bytes_of width b) bits_is ∙ signed_is code z width wide few width_of in
+    subst (λ (item : List ℕ). Puts item old new r) whole puts

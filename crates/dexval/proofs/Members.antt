@@ -1,0 +1,154 @@
+-- Values and elements appended one after the other.
+use Rattle.std.proofs.Common.{◌≡◌, ℕ, zero, suc, ◌+◌, ◌<◌, ◌≤◌, ◌^◌, List, [], ◌∷◌, ◌++◌, get_or, length, take, drop, map, refl, sym, ap, ◌∙◌, subst, arith, append_assoc}
+use Rattle.std.specs.Global.{Vec}
+use Rattle.std.proofs.lemmas.List.{take_all, take-append-drop, map-append, append-nil, length-map, get_or-map}
+use Rattle.dexspec.specs.Numbers.{uleb128}
+use Rattle.dexval.specs.declared.value.Value.{Value}
+use Rattle.dexval.specs.declared.value.Element.{Element}
+use Rattle.dexval.specs.Appending.{Appended, Stopped}
+use Rattle.dexval.specs.Code.{value_of, element_of}
+use Rattle.dexval.specs.Numbered.{NumberedValue, values_of_list, elements_of_list}
+use Rattle.dexval.specs.Spelled.{values_count, elements_count, IsCounted, AreCounted, HaveCounted, numbered_weight, numbered_values_weight, numbered_elements_weight, numbered_bytes, numbered_values_bytes, numbered_elements_bytes}
+use Rattle.dexval.proofs.Growing.{element_is, values_more, elements_more}
+use Rattle.dexval.proofs.Joining.{appended_both, stopped_after, stopped_before}
+
+-- ---- values
+
+-- the bytes of some, and then of others
+values_bytes_both : (xs ys : List NumberedValue) → numbered_values_bytes (values_of_list (xs ++ ys)) ≡ numbered_values_bytes (values_of_list xs) ++ numbered_values_bytes (values_of_list ys)
+values_bytes_both [] ys = refl
+values_bytes_both (x ∷ xs) ys =
+    let r = numbered_values_bytes (values_of_list ys) in
+    ap (λ (l : List ℕ). numbered_bytes x ++ l) (values_bytes_both xs ys) ∙ sym (append_assoc (numbered_bytes x) (numbered_values_bytes (values_of_list xs)) r)
+
+-- the bytes of values of the code
+abbrev pub values_spelled : List Value → List ℕ
+values_spelled xs = numbered_values_bytes (values_of_list (map value_of xs))
+
+one_value : (xs : List Value) (i : ℕ) (d : Value) → i < length xs → d ≡ get_or xs i d → values_spelled (take (i + 1) xs) ≡ values_spelled (take i xs) ++ numbered_bytes (value_of d)
+one_value xs i d lt e =
+    ap (λ (l : List NumberedValue). numbered_values_bytes (values_of_list l)) (values_more xs i d lt e) ∙ values_bytes_both (map value_of (take i xs)) (value_of d ∷ [])
+    ∙ ap (λ (l : List ℕ). values_spelled (take i xs) ++ l) (append-nil (numbered_bytes (value_of d)))
+
+values_cut : (xs : List Value) (n : ℕ) → values_spelled xs ≡ values_spelled (take n xs) ++ values_spelled (drop n xs)
+values_cut xs n =
+    ap (λ (l : List Value). values_spelled l) (sym (take-append-drop n xs)) ∙ ap (λ (l : List NumberedValue). numbered_values_bytes (values_of_list l)) (map-append value_of (take n xs) (drop n xs))
+    ∙ values_bytes_both (map value_of (take n xs)) (map value_of (drop n xs))
+
+-- one value more
+pub value_step_on : (xs : List Value) (i : ℕ) (d : Value) {u v w : Vec ℕ} → i < length xs → d ≡ get_or xs i d → Appended (values_spelled (take i xs)) u v → Appended (numbered_bytes (value_of d)) v w → Appended (values_spelled (take (i + 1) xs)) u w
+value_step_on xs i d {u} {v} {w} lt e a b = subst (λ (l : List ℕ). Appended l u w) (sym (one_value xs i d lt e)) (appended_both a b)
+
+-- one value for which there was no room
+pub value_stop : (xs : List Value) (i : ℕ) (d : Value) {u v w : Vec ℕ} → i < length xs → d ≡ get_or xs i d → Appended (values_spelled (take i xs)) u v → Stopped (numbered_bytes (value_of d)) v w → Stopped (values_spelled xs) u w
+value_stop xs i d {u} {v} {w} lt e a b =
+    subst (λ (l : List ℕ). Stopped l u w) (ap (λ (l : List ℕ). l ++ values_spelled (drop (i + 1) xs)) (sym (one_value xs i d lt e)) ∙ sym (values_cut xs (i + 1)))
+    (stopped_before (stopped_after a b) (values_spelled (drop (i + 1) xs)))
+
+-- all values
+pub values_end : (xs : List Value) (i : ℕ) {u v : Vec ℕ} → length xs ≤ i → Appended (values_spelled (take i xs)) u v → Appended (values_spelled xs) u v
+values_end xs i {u} {v} end a = subst (λ (l : List Value). Appended (values_spelled l) u v) (take_all i xs end) a
+
+counted_at : (ys : List NumberedValue) (i : ℕ) (y : NumberedValue) → AreCounted (values_of_list ys) → i < length ys → IsCounted (get_or ys i y)
+counted_at [] i y h lt = absurd (omega arith)
+counted_at (x ∷ xs) zero y h lt = h.0
+counted_at (x ∷ xs) (suc i) y h lt = counted_at xs i y h.1 (omega arith)
+
+-- each value is counted
+pub value_counted : (xs : List Value) (i : ℕ) (d : Value) → i < length xs → d ≡ get_or xs i d → AreCounted (values_of_list (map value_of xs)) → IsCounted (value_of d)
+value_counted xs i d lt e h =
+    let at = counted_at (map value_of xs) i (value_of d) h (omega (arith, length-map xs value_of)) in
+    subst IsCounted (get_or-map value_of xs i d (value_of d) lt ∙ ap value_of (sym e)) at
+
+count_of_list : (ys : List NumberedValue) → values_count (values_of_list ys) ≡ length ys
+count_of_list [] = refl
+count_of_list (y ∷ ys) = omega (arith, count_of_list ys)
+
+-- how many values there are
+pub count_values_is : (xs : List Value) → values_count (values_of_list (map value_of xs)) ≡ length xs
+count_values_is xs = count_of_list (map value_of xs) ∙ length-map xs value_of
+
+-- ---- elements
+
+elements_bytes_both : (xs ys : List (ℕ × NumberedValue)) → numbered_elements_bytes (elements_of_list (xs ++ ys)) ≡ numbered_elements_bytes (elements_of_list xs) ++ numbered_elements_bytes (elements_of_list ys)
+elements_bytes_both [] ys = refl
+elements_bytes_both ((n, x) ∷ xs) ys =
+    let r = numbered_elements_bytes (elements_of_list ys) in
+    let m = numbered_elements_bytes (elements_of_list xs) in
+    ap (λ (l : List ℕ). uleb128 n ++ (numbered_bytes x ++ l)) (elements_bytes_both xs ys) ∙ ap (λ (l : List ℕ). uleb128 n ++ l) (sym (append_assoc (numbered_bytes x) m r)) ∙ sym (append_assoc (uleb128 n) (numbered_bytes x ++ m) r)
+
+-- the bytes of elements of the code
+abbrev pub elements_spelled : List Element → List ℕ
+elements_spelled xs = numbered_elements_bytes (elements_of_list (map element_of xs))
+
+-- the bytes of one element
+abbrev pub element_spelled : Element → List ℕ
+element_spelled e = uleb128 e.name ++ numbered_bytes (value_of e.value)
+
+one_element : (xs : List Element) (i : ℕ) (d : Element) → i < length xs → d ≡ get_or xs i d → elements_spelled (take (i + 1) xs) ≡ elements_spelled (take i xs) ++ element_spelled d
+one_element xs i d lt e =
+    ap (λ (l : List (ℕ × NumberedValue)). numbered_elements_bytes (elements_of_list l)) (elements_more xs i d lt e) ∙ elements_bytes_both (map element_of (take i xs)) (element_of d ∷ [])
+    ∙ ap (λ (x : ℕ × NumberedValue). elements_spelled (take i xs) ++ numbered_elements_bytes (elements_of_list (x ∷ []))) (element_is d)
+    ∙ ap (λ (l : List ℕ). elements_spelled (take i xs) ++ (uleb128 d.name ++ l)) (append-nil (numbered_bytes (value_of d.value)))
+
+elements_cut : (xs : List Element) (n : ℕ) → elements_spelled xs ≡ elements_spelled (take n xs) ++ elements_spelled (drop n xs)
+elements_cut xs n =
+    ap (λ (l : List Element). elements_spelled l) (sym (take-append-drop n xs)) ∙ ap (λ (l : List (ℕ × NumberedValue)). numbered_elements_bytes (elements_of_list l)) (map-append element_of (take n xs) (drop n xs))
+    ∙ elements_bytes_both (map element_of (take n xs)) (map element_of (drop n xs))
+
+-- one element more
+pub element_step_on : (xs : List Element) (i : ℕ) (d : Element) {u v w : Vec ℕ} → i < length xs → d ≡ get_or xs i d → Appended (elements_spelled (take i xs)) u v → Appended (element_spelled d) v w → Appended (elements_spelled (take (i + 1) xs)) u w
+element_step_on xs i d {u} {v} {w} lt e a b = subst (λ (l : List ℕ). Appended l u w) (sym (one_element xs i d lt e)) (appended_both a b)
+
+-- one element for which there was no room
+pub element_stop : (xs : List Element) (i : ℕ) (d : Element) {u v w : Vec ℕ} → i < length xs → d ≡ get_or xs i d → Appended (elements_spelled (take i xs)) u v → Stopped (element_spelled d) v w → Stopped (elements_spelled xs) u w
+element_stop xs i d {u} {v} {w} lt e a b =
+    subst (λ (l : List ℕ). Stopped l u w) (ap (λ (l : List ℕ). l ++ elements_spelled (drop (i + 1) xs)) (sym (one_element xs i d lt e)) ∙ sym (elements_cut xs (i + 1)))
+    (stopped_before (stopped_after a b) (elements_spelled (drop (i + 1) xs)))
+
+-- all elements
+pub elements_end : (xs : List Element) (i : ℕ) {u v : Vec ℕ} → length xs ≤ i → Appended (elements_spelled (take i xs)) u v → Appended (elements_spelled xs) u v
+elements_end xs i {u} {v} end a = subst (λ (l : List Element). Appended (elements_spelled l) u v) (take_all i xs end) a
+
+have_counted_at : (ys : List (ℕ × NumberedValue)) (i : ℕ) (y : ℕ × NumberedValue) → HaveCounted (elements_of_list ys) → i < length ys → IsCounted (get_or ys i y).1
+have_counted_at [] i y h lt = absurd (omega arith)
+have_counted_at ((n, x) ∷ xs) zero y h lt = h.0
+have_counted_at ((n, x) ∷ xs) (suc i) y h lt = have_counted_at xs i y h.1 (omega arith)
+
+-- each element's value is counted
+pub element_counted : (xs : List Element) (i : ℕ) (d : Element) → i < length xs → d ≡ get_or xs i d → HaveCounted (elements_of_list (map element_of xs)) → IsCounted (value_of d.value)
+element_counted xs i d lt e h =
+    let at = have_counted_at (map element_of xs) i (element_of d) h (omega (arith, length-map xs element_of)) in
+    subst (λ (x : ℕ × NumberedValue). IsCounted x.1) (get_or-map element_of xs i d (element_of d) lt ∙ ap element_of (sym e) ∙ element_is d) at
+
+elements_count_of_list : (ys : List (ℕ × NumberedValue)) → elements_count (elements_of_list ys) ≡ length ys
+elements_count_of_list [] = refl
+elements_count_of_list ((n, y) ∷ ys) = omega (arith, elements_count_of_list ys)
+
+-- how many elements there are
+pub count_elements_is : (xs : List Element) → elements_count (elements_of_list (map element_of xs)) ≡ length xs
+count_elements_is xs = elements_count_of_list (map element_of xs) ∙ length-map xs element_of
+
+-- ---- what is lighter
+
+light_at : (ys : List NumberedValue) (i : ℕ) (y : NumberedValue) → i < length ys → numbered_weight (get_or ys i y) ≤ numbered_values_weight (values_of_list ys)
+light_at [] i y lt = absurd (omega arith)
+light_at (x ∷ xs) zero y lt = omega arith
+light_at (x ∷ xs) (suc i) y lt = omega (arith, light_at xs i y (omega arith))
+
+-- a value weighs no more than all of them
+pub value_lighter : (xs : List Value) (i : ℕ) (d : Value) → i < length xs → d ≡ get_or xs i d → numbered_weight (value_of d) ≤ numbered_values_weight (values_of_list (map value_of xs))
+value_lighter xs i d lt e =
+    subst (λ (x : NumberedValue). numbered_weight x ≤ numbered_values_weight (values_of_list (map value_of xs))) (get_or-map value_of xs i d (value_of d) lt ∙ ap value_of (sym e))
+    (light_at (map value_of xs) i (value_of d) (omega (arith, length-map xs value_of)))
+
+light_element_at : (ys : List (ℕ × NumberedValue)) (i : ℕ) (y : ℕ × NumberedValue) → i < length ys → numbered_weight (get_or ys i y).1 ≤ numbered_elements_weight (elements_of_list ys)
+light_element_at [] i y lt = absurd (omega arith)
+light_element_at ((n, x) ∷ xs) zero y lt = omega arith
+light_element_at ((n, x) ∷ xs) (suc i) y lt = omega (arith, light_element_at xs i y (omega arith))
+
+-- an element's value weighs no more than all elements
+pub element_lighter : (xs : List Element) (i : ℕ) (d : Element) → i < length xs → d ≡ get_or xs i d → numbered_weight (value_of d.value) ≤ numbered_elements_weight (elements_of_list (map element_of xs))
+element_lighter xs i d lt e =
+    subst (λ (x : ℕ × NumberedValue). numbered_weight x.1 ≤ numbered_elements_weight (elements_of_list (map element_of xs))) (get_or-map element_of xs i d (element_of d) lt ∙ ap element_of (sym e) ∙ element_is d)
+    (light_element_at (map element_of xs) i (element_of d) (omega (arith, length-map xs element_of)))

@@ -1,0 +1,152 @@
+-- What is spelled with numbers is what is spelled for the symbols that they stand for, and is no longer than it weighs.
+use Rattle.std.proofs.Common.{◌≡◌, ℕ, ◌+◌, ◌<◌, ◌≤◌, List, [], ◌∷◌, ◌++◌, length, map, refl, sym, ap, ◌∙◌, subst, arith}
+use Rattle.std.specs.Prelude.{Result, IsOk, vec_len, vec_capacity}
+use Rattle.std.specs.Global.{Vec}
+use Rattle.std.proofs.lemmas.List.{length-append}
+use Rattle.dexspec.specs.Lists.{rank}
+use Rattle.dexspec.specs.Texts.{text_cmp}
+use Rattle.dexspec.specs.Numbers.{uleb128}
+use Rattle.dexspec.specs.Symbols.{field_cmp, method_cmp}
+use Rattle.dexspec.specs.Values.{Value, Values, ByteValue, ShortValue, CharValue, IntValue, LongValue, FloatValue, DoubleValue, NullValue, BooleanValue, count_values, names_of, string_value_type, type_value_type, field_value_type, method_value_type, enum_value_type}
+use Rattle.dexspec.specs.Annotations.{Annotation}
+use Rattle.dexspec.specs.Mentions.{Mentions}
+use Rattle.dexspec.specs.Spellings.{text_index, type_index, field_index, method_index, unsigned_bytes, value_bytes, values_bytes, elements_bytes, encoded_array_bytes, annotation_bytes}
+use Rattle.dexspec.specs.Writing.{Puts}
+use Rattle.dexspec.proofs.InOrder.{Rises-from_rises, rank-get_or}
+use Rattle.dexspec.proofs.SymbolOrders.{text_total, field_total, method_total}
+use Rattle.dexspec.proofs.SizeItems.{uleb128-size, value_bytes-size}
+use Rattle.dexpool.specs.Pools.{count_of}
+use Rattle.dexpool.specs.Numberings.{AreRising}
+use Rattle.dexval.specs.Numbered.{Literal, ByteLiteral, ShortLiteral, CharLiteral, IntLiteral, LongLiteral, FloatLiteral, DoubleLiteral, NullLiteral, BooleanLiteral, Reference, StringReference, TypeReference, FieldReference, MethodReference, EnumReference, NumberedValue, NumberedValues, NumberedElements, NumberedAnnotation, Plain, Named, Array, Annotated, NoValue, ThenNext, NoElement, ThenNamed, text_at, type_at, field_at, method_at, plain_value, named_value, value_in, values_in, elements_in, annotation_in, kind_of_reference, IsKnown, AreKnown, HaveKnown, IsKnownAnnotation, StandsFor, StandFor, StandsForAnnotation}
+use Rattle.dexval.specs.Spelled.{values_count, elements_count, literal_bytes, reference_code, numbered_bytes, numbered_values_bytes, numbered_elements_bytes, numbered_array_bytes, encoded_annotation_bytes, numbered_annotation_bytes, numbered_weight, numbered_values_weight, numbered_elements_weight, numbered_annotation_weight}
+
+-- ---- the number of a symbol is its rank
+
+text_rank : (m : Mentions) (i : ℕ) → AreRising m → i < length m.texts → text_index m (text_at m i) ≡ i
+text_rank m i r lt = rank-get_or text_cmp text_total m.texts i [] (Rises-from_rises text_cmp text_total m.texts r.texts_rise) lt
+
+type_rank : (m : Mentions) (i : ℕ) → AreRising m → i < length m.types → type_index m (type_at m i) ≡ i
+type_rank m i r lt = rank-get_or text_cmp text_total m.types i [] (Rises-from_rises text_cmp text_total m.types r.types_rise) lt
+
+field_rank : (m : Mentions) (i : ℕ) → AreRising m → i < length m.fields → field_index m (field_at m i) ≡ i
+field_rank m i r lt = rank-get_or field_cmp field_total m.fields i (record { class = []; name = []; type = [] }) (Rises-from_rises field_cmp field_total m.fields r.fields_rise) lt
+
+method_rank : (m : Mentions) (i : ℕ) → AreRising m → i < length m.methods → method_index m (method_at m i) ≡ i
+method_rank m i r lt =
+    rank-get_or method_cmp method_total m.methods i (record { class = []; name = []; proto = record { return_type = []; parameters = [] } }) (Rises-from_rises method_cmp method_total m.methods r.methods_rise) lt
+
+-- ---- bytes
+
+literal_is : (m : Mentions) (l : Literal) → literal_bytes l ≡ value_bytes m (plain_value l)
+literal_is m (ByteLiteral z) = refl
+literal_is m (ShortLiteral z) = refl
+literal_is m (CharLiteral u) = refl
+literal_is m (IntLiteral z) = refl
+literal_is m (LongLiteral z) = refl
+literal_is m (FloatLiteral bits) = refl
+literal_is m (DoubleLiteral bits) = refl
+literal_is m NullLiteral = refl
+literal_is m (BooleanLiteral is) = refl
+
+named_is : (m : Mentions) (k : Reference) (i : ℕ) → AreRising m → i < count_of (kind_of_reference k) m → unsigned_bytes (reference_code k) i ≡ value_bytes m (named_value m k i)
+named_is m StringReference i r lt = ap (unsigned_bytes string_value_type) (sym (text_rank m i r lt))
+named_is m TypeReference i r lt = ap (unsigned_bytes type_value_type) (sym (type_rank m i r lt))
+named_is m FieldReference i r lt = ap (unsigned_bytes field_value_type) (sym (field_rank m i r lt))
+named_is m MethodReference i r lt = ap (unsigned_bytes method_value_type) (sym (method_rank m i r lt))
+named_is m EnumReference i r lt = ap (unsigned_bytes enum_value_type) (sym (field_rank m i r lt))
+
+values_count_is : (m : Mentions) (xs : NumberedValues) → values_count xs ≡ count_values (values_in m xs)
+values_count_is m NoValue = refl
+values_count_is m (ThenNext x xs) = ap (λ (n : ℕ). n + 1) (values_count_is m xs)
+
+elements_count_is : (m : Mentions) (es : NumberedElements) → elements_count es ≡ length (names_of (elements_in m es))
+elements_count_is m NoElement = refl
+elements_count_is m (ThenNamed name x es) = omega (arith, elements_count_is m es)
+
+-- of values with their count, where those of the values are
+array_by : (m : Mentions) (xs : NumberedValues) → numbered_values_bytes xs ≡ values_bytes m (values_in m xs) → numbered_array_bytes xs ≡ encoded_array_bytes m (values_in m xs)
+array_by m xs e = ap (λ (n : ℕ). uleb128 n ++ numbered_values_bytes xs) (values_count_is m xs) ∙ ap (λ (l : List ℕ). uleb128 (count_values (values_in m xs)) ++ l) e
+
+-- of a type and elements with their count, where those of the elements are
+annotation_by : (m : Mentions) (t : ℕ) (es : NumberedElements) → AreRising m → t < length m.types → numbered_elements_bytes es ≡ elements_bytes m (elements_in m es)
+    → encoded_annotation_bytes t es ≡ uleb128 (type_index m (type_at m t)) ++ (uleb128 (length (names_of (elements_in m es))) ++ elements_bytes m (elements_in m es))
+annotation_by m t es r lt e =
+    ap (λ (n : ℕ). uleb128 n ++ (uleb128 (elements_count es) ++ numbered_elements_bytes es)) (sym (type_rank m t r lt))
+    ∙ ap (λ (n : ℕ). uleb128 (type_index m (type_at m t)) ++ (uleb128 n ++ numbered_elements_bytes es)) (elements_count_is m es)
+    ∙ ap (λ (l : List ℕ). uleb128 (type_index m (type_at m t)) ++ (uleb128 (length (names_of (elements_in m es))) ++ l)) e
+
+mutual
+  -- of a value
+  pub bytes_are : (m : Mentions) (x : NumberedValue) → AreRising m → IsKnown m x → numbered_bytes x ≡ value_bytes m (value_in m x)
+  bytes_are m (Plain l) r h = literal_is m l
+  bytes_are m (Named k i) r h = named_is m k i r h
+  bytes_are m (Array xs) r h = ap (λ (l : List ℕ). 28 ∷ l) (array_by m xs (values_bytes_are m xs r h))
+  bytes_are m (Annotated t es) r h = ap (λ (l : List ℕ). 29 ∷ l) (annotation_by m t es r h.0 (elements_bytes_are m es r h.1))
+
+  -- of values
+  values_bytes_are : (m : Mentions) (xs : NumberedValues) → AreRising m → AreKnown m xs → numbered_values_bytes xs ≡ values_bytes m (values_in m xs)
+  values_bytes_are m NoValue r h = refl
+  values_bytes_are m (ThenNext x xs) r h =
+      ap (λ (l : List ℕ). l ++ numbered_values_bytes xs) (bytes_are m x r h.0) ∙ ap (λ (l : List ℕ). value_bytes m (value_in m x) ++ l) (values_bytes_are m xs r h.1)
+
+  -- of elements
+  elements_bytes_are : (m : Mentions) (es : NumberedElements) → AreRising m → HaveKnown m es → numbered_elements_bytes es ≡ elements_bytes m (elements_in m es)
+  elements_bytes_are m NoElement r h = refl
+  elements_bytes_are m (ThenNamed name x es) r h =
+      ap (λ (n : ℕ). uleb128 n ++ (numbered_bytes x ++ numbered_elements_bytes es)) (sym (text_rank m name r h.0))
+      ∙ ap (λ (l : List ℕ). uleb128 (text_index m (text_at m name)) ++ (l ++ numbered_elements_bytes es)) (bytes_are m x r h.1)
+      ∙ ap (λ (l : List ℕ). uleb128 (text_index m (text_at m name)) ++ (value_bytes m (value_in m x) ++ l)) (elements_bytes_are m es r h.2)
+
+-- ---- what was put
+
+pub value_put_is : {T E : Type 0} {u w : Vec ℕ} {r : Result T E} (m : Mentions) (x : NumberedValue) → AreRising m → Puts (numbered_bytes x) u w r → (v : Value) → StandsFor m x v → Puts (value_bytes m v) u w r
+value_put_is {u = u} {w = w} {r = r} m x rising h v stands = subst (λ (l : List ℕ). Puts l u w r) (bytes_are m x rising stands.known ∙ ap (value_bytes m) stands.means) h
+
+pub array_put_is : {T E : Type 0} {u w : Vec ℕ} {r : Result T E} (m : Mentions) (xs : NumberedValues) → AreRising m → Puts (numbered_array_bytes xs) u w r → (vs : Values) → StandFor m xs vs → Puts (encoded_array_bytes m vs) u w r
+array_put_is {u = u} {w = w} {r = r} m xs rising h vs stand = subst (λ (l : List ℕ). Puts l u w r) (array_by m xs (values_bytes_are m xs rising stand.known) ∙ ap (encoded_array_bytes m) stand.mean) h
+
+pub annotation_put_is : {T E : Type 0} {u w : Vec ℕ} {r : Result T E} (m : Mentions) (x : NumberedAnnotation) → AreRising m → Puts (numbered_annotation_bytes x) u w r → (a : Annotation) → StandsForAnnotation m x a → Puts (annotation_bytes m a) u w r
+annotation_put_is {u = u} {w = w} {r = r} m x rising h a stands =
+    let same = ap (λ (l : List ℕ). x.visibility ∷ l) (annotation_by m x.type x.elements rising stands.known.type_in (elements_bytes_are m x.elements rising stands.known.elements_known)) in
+    subst (λ (l : List ℕ). Puts l u w r) (same ∙ ap (annotation_bytes m) stands.means) h
+
+-- ---- sizes
+
+literal_size : (m : Mentions) (l : Literal) → length (literal_bytes l) ≤ 9
+literal_size m (ByteLiteral z) = value_bytes-size m (ByteValue z)
+literal_size m (ShortLiteral z) = value_bytes-size m (ShortValue z)
+literal_size m (CharLiteral u) = value_bytes-size m (CharValue u)
+literal_size m (IntLiteral z) = value_bytes-size m (IntValue z)
+literal_size m (LongLiteral z) = value_bytes-size m (LongValue z)
+literal_size m (FloatLiteral bits) = value_bytes-size m (FloatValue bits)
+literal_size m (DoubleLiteral bits) = value_bytes-size m (DoubleValue bits)
+literal_size m NullLiteral = value_bytes-size m NullValue
+literal_size m (BooleanLiteral is) = value_bytes-size m (BooleanValue is)
+
+mutual
+  -- a value
+  pub size_is : (m : Mentions) (x : NumberedValue) → length (numbered_bytes x) ≤ numbered_weight x
+  size_is m (Plain l) = literal_size m l
+  size_is m (Named k i) = value_bytes-size m (CharValue i)
+  size_is m (Array xs) = omega (arith, length-append (uleb128 (values_count xs)) (numbered_values_bytes xs), uleb128-size (values_count xs), values_size_is m xs)
+  size_is m (Annotated t es) =
+      omega (arith, length-append (uleb128 t) (uleb128 (elements_count es) ++ numbered_elements_bytes es), length-append (uleb128 (elements_count es)) (numbered_elements_bytes es), uleb128-size t, uleb128-size (elements_count es), elements_size_is m es)
+
+  -- values
+  pub values_size_is : (m : Mentions) (xs : NumberedValues) → length (numbered_values_bytes xs) ≤ numbered_values_weight xs
+  values_size_is m NoValue = omega arith
+  values_size_is m (ThenNext x xs) = omega (arith, length-append (numbered_bytes x) (numbered_values_bytes xs), size_is m x, values_size_is m xs)
+
+  -- elements
+  pub elements_size_is : (m : Mentions) (es : NumberedElements) → length (numbered_elements_bytes es) ≤ numbered_elements_weight es
+  elements_size_is m NoElement = omega arith
+  elements_size_is m (ThenNamed name x es) =
+      omega (arith, length-append (uleb128 name) (numbered_bytes x ++ numbered_elements_bytes es), length-append (numbered_bytes x) (numbered_elements_bytes es), uleb128-size name, size_is m x, elements_size_is m es)
+
+-- values with their count
+pub array_size_is : (m : Mentions) (xs : NumberedValues) → length (numbered_array_bytes xs) ≤ 6 + numbered_values_weight xs
+array_size_is m xs = omega (arith, length-append (uleb128 (values_count xs)) (numbered_values_bytes xs), uleb128-size (values_count xs), values_size_is m xs)
+
+-- an annotation
+pub annotation_size_is : (m : Mentions) (a : NumberedAnnotation) → length (numbered_annotation_bytes a) ≤ numbered_annotation_weight a
+annotation_size_is m a = omega (arith, size_is m (Annotated a.type a.elements))

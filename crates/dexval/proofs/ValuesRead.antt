@@ -1,0 +1,117 @@
+-- Values one after the other, as they are read: those that were read stand there, and the rest of what stands there
+-- stands behind them.
+use Rattle.std.proofs.Common.{◌≡◌, ℕ, ◌+◌, ◌-◌, ◌<◌, ◌≤◌, max, List, [], ◌∷◌, ◌++◌, length, refl, subst, arith}
+use Rattle.std.proofs.lemmas.List.{length-append}
+use Rattle.dexspec.specs.Numbers.{Uleb128At}
+use Rattle.dexspec.specs.Values.{Value, Values, NoValues, ThenValue, ValueAt, ValuesAt, value_depth, values_depth, count_values}
+use Rattle.dexspec.specs.Mentions.{Mentions}
+use Rattle.dexspec.proofs.OneNumber.{one_uleb128}
+use Rattle.dexspec.proofs.OneValue.{one_value}
+use Rattle.dexval.specs.Numbered.{NumberedValue, AreKnown, IsKnown, values_in, value_in, values_of_list}
+use Rattle.dexval.specs.Scalars.{NoValueAt, IsReadAt}
+use Rattle.dexval.specs.Nesting.{NoArrayAt, AreReadAt}
+
+-- so many values stand there, which nest at most so deep
+pub record Rest (b : List ℕ) (o depth count : ℕ) : Type 0 where
+  pub values : Values
+  pub size : ℕ
+  pub stand : ValuesAt b o values size
+  pub number : count_values values ≡ count
+  pub shallow : values_depth values ≤ depth
+
+-- the first i of so many values were read; whatever so many values stand there, the rest of them stands behind these
+pub record HaveRead (b : List ℕ) (o : ℕ) (m : Mentions) (depth count i : ℕ) (xs : List NumberedValue) (k : ℕ) : Type 0 where
+  pub number : length xs ≡ i
+  pub known : AreKnown m (values_of_list xs)
+  pub stand : ValuesAt b o (values_in m (values_of_list xs)) k
+  pub shallow : values_depth (values_in m (values_of_list xs)) ≤ depth
+  pub rest : Rest b o depth count → Rest b (o + k) depth (count - i)
+
+module _ (b : List ℕ) (m : Mentions) where
+  known_more : (xs : List NumberedValue) (x : NumberedValue) → AreKnown m (values_of_list xs) → IsKnown m x → AreKnown m (values_of_list (xs ++ x ∷ []))
+  known_more [] x h k = (k, tt)
+  known_more (y ∷ ys) x h k = (h.0, known_more ys x h.1 k)
+
+  depth_more : (xs : List NumberedValue) (x : NumberedValue) → values_depth (values_in m (values_of_list (xs ++ x ∷ []))) ≡ max (values_depth (values_in m (values_of_list xs))) (value_depth (value_in m x))
+  depth_more [] x = omega arith
+  depth_more (y ∷ ys) x = omega (arith, depth_more ys x)
+
+  stand_more : (o : ℕ) (xs : List NumberedValue) (x : NumberedValue) (k j : ℕ) → ValuesAt b o (values_in m (values_of_list xs)) k → ValueAt b (o + k) (value_in m x) j → ValuesAt b o (values_in m (values_of_list (xs ++ x ∷ []))) (k + j)
+  stand_more o [] x k j h v = (j, 0, subst (λ (p : ℕ). ValueAt b p (value_in m x) j) (omega (arith, h)) v, refl, omega (arith, h))
+  stand_more o (y ∷ ys) x k j h v = (h.0, h.1 + j, h.2, stand_more (o + h.0) ys x h.1 j h.3 (subst (λ (p : ℕ). ValueAt b p (value_in m x) j) (omega (arith, h.4)) v), omega (arith, h.4))
+
+  count_is : (xs : List NumberedValue) → count_values (values_in m (values_of_list xs)) ≡ length xs
+  count_is [] = refl
+  count_is (x ∷ xs) = omega (arith, count_is xs)
+
+  -- the value that comes next, and those behind it
+  record Next (o depth left : ℕ) : Type 0 where
+    value : Value
+    size : ℕ
+    stands : ValueAt b o value size
+    shallow : value_depth value ≤ depth
+    behind : Rest b (o + size) depth (left - 1)
+
+  next_of : (o depth left n : ℕ) (vs : Values) → 0 < left → ValuesAt b o vs n → count_values vs ≡ left → values_depth vs ≤ depth → Next o depth left
+  next_of o depth left n NoValues lt h e d = absurd (omega (arith, e, lt))
+  next_of o depth left n (ThenValue v vs) lt h e d = record {
+    value = v;
+    size = h.0;
+    stands = h.2;
+    shallow = omega (arith, d);
+    behind = record { values = vs; size = h.1; stand = h.3; number = omega (arith, e); shallow = omega (arith, d) };
+  }
+
+  next : (o depth left : ℕ) → 0 < left → Rest b o depth left → Next o depth left
+  next o depth left lt r = next_of o depth left r.size r.values lt r.stand r.number r.shallow
+
+  -- nothing was read yet
+  pub none_read : (o depth count : ℕ) → HaveRead b o m depth count 0 [] 0
+  none_read o depth count = record {
+    number = refl;
+    known = tt;
+    stand = refl;
+    shallow = omega arith;
+    rest = λ r. let at : o ≡ o + 0 = omega arith in let left : count ≡ count - 0 = omega arith in subst (λ (p : ℕ). Rest b p depth (count - 0)) at (subst (λ (c : ℕ). Rest b o depth c) left r);
+  }
+
+  -- one value more was read
+  pub one_more : (o depth count i : ℕ) (xs : List NumberedValue) (k : ℕ) (x : NumberedValue) (j : ℕ) → i < count → HaveRead b o m depth count i xs k → IsReadAt b (o + k) m depth x j → HaveRead b o m depth count (i + 1) (xs ++ x ∷ []) (k + j)
+  one_more o depth count i xs k x j lt h r = record {
+    number = simp length-append (omega (arith, h.number));
+    known = known_more xs x h.known r.known;
+    stand = stand_more o xs x k j h.stand r.stands;
+    shallow = omega (arith, depth_more xs x, h.shallow, r.shallow);
+    rest = λ all.
+        let n = next (o + k) depth (count - i) (omega arith) (h.rest all) in
+        let same = one_value b (o + k) n.value (value_in m x) n.size j n.stands r.stands in
+        let place : o + k + n.size ≡ o + (k + j) = omega (arith, same.1) in
+        let left : count - i - 1 ≡ count - (i + 1) = omega arith in
+        subst (λ (c : ℕ). Rest b (o + (k + j)) depth c) left (subst (λ (p : ℕ). Rest b p depth (count - i - 1)) place n.behind);
+  }
+
+  -- what comes next is no value
+  pub no_next : (o depth count i : ℕ) (xs : List NumberedValue) (k : ℕ) → i < count → HaveRead b o m depth count i xs k → NoValueAt b (o + k) depth → Rest b o depth count → ⊥
+  no_next o depth count i xs k lt h none all =
+      let n = next (o + k) depth (count - i) (omega arith) (h.rest all) in
+      none n.value n.size n.stands n.shallow
+
+  -- where no count stands, no array does
+  pub no_count : (o depth : ℕ) → ((count i : ℕ) → Uleb128At b o count i → ⊥) → NoArrayAt b o depth
+  no_count o depth none vs n h shallow = none (count_values vs) h.0 h.2
+
+  -- where not so many values stand behind the count, no array does
+  pub no_values : (o depth count head : ℕ) → Uleb128At b o count head → (Rest b (o + head) depth count → ⊥) → NoArrayAt b o depth
+  no_values o depth count head u none vs n h shallow =
+      let same = one_uleb128 b o (count_values vs) count h.0 head h.2 u in
+      none (record { values = vs; size = h.1; stand = subst (λ (i : ℕ). ValuesAt b (o + i) vs h.1) same.1 h.3; number = same.0; shallow = shallow })
+
+  -- all of them were read
+  pub all_read : (o depth count i head : ℕ) (xs : List NumberedValue) (k : ℕ) → Uleb128At b o count head → i ≡ count → HaveRead b (o + head) m depth count i xs k → AreReadAt b o m depth (values_of_list xs) (head + k)
+  all_read o depth count i head xs k u e h =
+      let all : count ≡ count_values (values_in m (values_of_list xs)) = omega (arith, count_is xs, h.number, e) in
+      record {
+        known = h.known;
+        stands = (head, k, subst (λ (c : ℕ). Uleb128At b o c head) all u, h.stand, refl);
+        shallow = h.shallow;
+      }

@@ -1,0 +1,82 @@
+-- What numbers weigh is what they stand for weighs.
+use Rattle.std.proofs.Common.{◌≡◌, ◌<◌, ℕ, ◌+◌, ◌*◌, List, [], ◌∷◌, length, map, refl, sym, ap, ◌∙◌, arith, sum_by}
+use Rattle.std.proofs.lemmas.List.Sums.{sum_by-cons}
+use Rattle.dexspec.specs.Mentions.{Mentions}
+use Rattle.dexspec.specs.Weight.{value_weight, values_weight, elements_weight, annotation_weight, set_weight, ref_list_weight, static_values_weight}
+use Rattle.dexval.specs.declared.annotation.Annotation.{Annotation as CodeAnnotation}
+use Rattle.dexval.specs.declared.set.AnnotationSet.{AnnotationSet}
+use Rattle.dexval.specs.declared.value.Value.{Value}
+use Rattle.dexval.specs.Code.{value_of, annotation_of, set_of}
+use Rattle.dexval.specs.Numbered.{Literal, ByteLiteral, ShortLiteral, CharLiteral, IntLiteral, LongLiteral, FloatLiteral, DoubleLiteral, NullLiteral, BooleanLiteral, Reference, StringReference, TypeReference, FieldReference, MethodReference, EnumReference, NumberedValue, NumberedValues, NumberedElements, NumberedAnnotation, NumberedSet, Plain, Named, Array, Annotated, NoValue, ThenNext, NoElement, ThenNamed, plain_value, named_value, value_in, values_in, elements_in, annotation_in, set_in, values_of_list}
+use Rattle.dexval.specs.Spelled.{numbered_weight, numbered_values_weight, numbered_elements_weight, numbered_annotation_weight, numbered_set_weight, numbered_sets_weight, numbered_statics_weight}
+
+plain_weight : (l : Literal) → value_weight (plain_value l) ≡ 9
+plain_weight (ByteLiteral z) = refl
+plain_weight (ShortLiteral z) = refl
+plain_weight (CharLiteral u) = refl
+plain_weight (IntLiteral z) = refl
+plain_weight (LongLiteral z) = refl
+plain_weight (FloatLiteral bits) = refl
+plain_weight (DoubleLiteral bits) = refl
+plain_weight NullLiteral = refl
+plain_weight (BooleanLiteral is) = refl
+
+named_weight : (m : Mentions) (r : Reference) (i : ℕ) → value_weight (named_value m r i) ≡ 9
+named_weight m StringReference i = refl
+named_weight m TypeReference i = refl
+named_weight m FieldReference i = refl
+named_weight m MethodReference i = refl
+named_weight m EnumReference i = refl
+
+mutual
+  -- a value
+  pub weight_is : (m : Mentions) (x : NumberedValue) → numbered_weight x ≡ value_weight (value_in m x)
+  weight_is m (Plain l) = sym (plain_weight l)
+  weight_is m (Named r i) = sym (named_weight m r i)
+  weight_is m (Array xs) = ap (λ (n : ℕ). 6 + n) (values_weight_is m xs)
+  weight_is m (Annotated t es) = ap (λ (n : ℕ). 12 + n) (elements_weight_is m es)
+
+  -- values
+  pub values_weight_is : (m : Mentions) (xs : NumberedValues) → numbered_values_weight xs ≡ values_weight (values_in m xs)
+  values_weight_is m NoValue = refl
+  values_weight_is m (ThenNext x xs) = omega (arith, weight_is m x, values_weight_is m xs)
+
+  -- elements
+  pub elements_weight_is : (m : Mentions) (es : NumberedElements) → numbered_elements_weight es ≡ elements_weight (elements_in m es)
+  elements_weight_is m NoElement = refl
+  elements_weight_is m (ThenNamed name x es) = omega (arith, weight_is m x, elements_weight_is m es)
+
+sum_is : (m : Mentions) (xs : NumberedSet) → sum_by (λ (a : NumberedAnnotation). 4 + numbered_annotation_weight a) xs ≡ sum_by (λ a. 4 + annotation_weight a) (set_in m xs)
+sum_is m [] = refl
+sum_is m (x ∷ xs) =
+    omega (arith, sum_by-cons (λ (a : NumberedAnnotation). 4 + numbered_annotation_weight a) x xs, sum_by-cons (λ a. 4 + annotation_weight a) (annotation_in m x) (set_in m xs), elements_weight_is m x.elements, sum_is m xs)
+
+-- a set
+pub set_weight_is : (m : Mentions) (xs : NumberedSet) → numbered_set_weight xs ≡ set_weight (set_in m xs)
+set_weight_is m [] = refl
+set_weight_is m (x ∷ xs) = ap (λ (n : ℕ). 8 + n) (sum_is m (x ∷ xs))
+
+sets_sum_is : (m : Mentions) (xs : List AnnotationSet) → sum_by (λ s. 4 + numbered_set_weight (set_of s)) xs ≡ 4 * length (map (set_in m) (map set_of xs)) + sum_by set_weight (map (set_in m) (map set_of xs))
+sets_sum_is m [] = refl
+sets_sum_is m (x ∷ xs) =
+    omega (arith, sum_by-cons (λ s. 4 + numbered_set_weight (set_of s)) x xs, sum_by-cons set_weight (set_in m (set_of x)) (map (set_in m) (map set_of xs)), set_weight_is m (set_of x), sets_sum_is m xs)
+
+-- sets, of which there is one
+pub sets_weight_is : (m : Mentions) (xs : List AnnotationSet) → 0 < length xs → 8 + sum_by (λ s. 4 + numbered_set_weight (set_of s)) xs ≡ ref_list_weight (map (set_in m) (map set_of xs))
+sets_weight_is m [] some = absurd (omega arith)
+sets_weight_is m (x ∷ xs) some = omega (arith, sets_sum_is m (x ∷ xs))
+
+-- static values, of which there is one
+pub statics_weight_is : (m : Mentions) (xs : List Value) → 0 < length xs → 6 + numbered_values_weight (values_of_list (map value_of xs)) ≡ static_values_weight (values_in m (values_of_list (map value_of xs)))
+statics_weight_is m [] some = absurd (omega arith)
+statics_weight_is m (x ∷ xs) some = ap (λ (n : ℕ). 6 + n) (values_weight_is m (values_of_list (map value_of (x ∷ xs))))
+
+-- the annotations of the code, of which there is one
+annotations_sum : (xs : List CodeAnnotation) → sum_by (λ a. 4 + numbered_annotation_weight (annotation_of a)) xs ≡ sum_by (λ (a : NumberedAnnotation). 4 + numbered_annotation_weight a) (map annotation_of xs)
+annotations_sum [] = refl
+annotations_sum (x ∷ xs) =
+    omega (arith, sum_by-cons (λ a. 4 + numbered_annotation_weight (annotation_of a)) x xs, sum_by-cons (λ (a : NumberedAnnotation). 4 + numbered_annotation_weight a) (annotation_of x) (map annotation_of xs), annotations_sum xs)
+
+pub annotations_weight_is : (xs : List CodeAnnotation) → 0 < length xs → 8 + sum_by (λ a. 4 + numbered_annotation_weight (annotation_of a)) xs ≡ numbered_set_weight (map annotation_of xs)
+annotations_weight_is [] some = absurd (omega arith)
+annotations_weight_is (x ∷ xs) some = ap (λ (n : ℕ). 8 + n) (annotations_sum (x ∷ xs))

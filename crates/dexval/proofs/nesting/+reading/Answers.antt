@@ -1,0 +1,108 @@
+use Rattle.std.proofs.Common.{◌≡◌, ◌∙◌, ◌+◌, ◌∷◌, ◌++◌, ℕ, List, [], map, sym, ap, subst, arith}
+use Rattle.std.proofs.lemmas.List.{map-append}
+use Rattle.dexval.specs.Code.{value_of, element_of}
+use Rattle.dexval.specs.Numbered.{NumberedValue, values_of_list, elements_of_list}
+use Rattle.dexval.specs.Scalars.{IsReadAt}
+use Rattle.dexval.proofs.CodeForms.{array_is, annotation_is, element_is}
+use Rattle.dexval.proofs.NestedRead.{nothing_behind, no_deep_array, no_deep_annotation, array_stands, no_array, annotation_stands, no_annotation, deeper}
+use Rattle.dexval.proofs.ValuesRead.{HaveRead, one_more, no_next, no_values, all_read}
+use Rattle.dexval.proofs.ElementsRead.{HaveReadOf, one_element_more, no_next_element, all_elements_read, annotation_read}
+use Rattle.dexval.proofs.nesting.+reading.Goals as goal
+
+pub annotation_at-returns-in-Some-clause-read : goal.annotation_at-returns-in-Some-clause-read
+annotation_at-returns-in-Some-clause-read t c = λ p.
+    let h = c.in_ok-elements.ensures.read p in
+    let r = rw c.in-Some.is at h in
+    annotation_read c.args.bytes.now c.args.pools.now p c.args.at c.args.depth c.in-Ok.read.0 c.in-Ok.read.1 c.in-Ok-read_u.read.0 c.in-Ok-read_u.read.1 (elements_of_list (map element_of c.in-Some.elements.items)) c.in-Some.size c.in-Ok.ensures.found (omega arith) c.in-Ok-read_u.ensures.found r
+
+pub array_at-returns-in-None-clause-read : goal.array_at-returns-in-None-clause-read
+array_at-returns-in-None-clause-read t c = λ p.
+    let h = c.in_ok-value.ensures.read p in
+    let none = rw c.in-None.is at h in
+    no_values c.args.bytes.now c.args.pools.now c.args.at c.args.depth c.in-Ok.read.0 c.in-Ok.read.1 c.in-Ok.ensures.found
+    (no_next c.args.bytes.now c.args.pools.now (c.args.at + c.in-Ok.read.1) c.args.depth c.in-Ok.read.0 c.loop-i._i (map value_of c.loop-i.values.items) c.loop-i.size c.loop-i-test.true (c.loop-i.invariant.read p) none)
+
+pub array_at-loop-i-preserved : goal.array_at-loop-i-preserved
+array_at-loop-i-preserved t c =
+    let w = c.in_ok-value.ensures.within in
+    let within = rw c.in-Some.is at w in
+    let items : map value_of c.push.new.self.items ≡ map value_of c.loop-i.values.items ++ value_of c.in-Some.value ∷ [] = ap (map value_of) c.in_ok-push-in-Some.ensures.items ∙ map-append value_of c.loop-i.values.items (c.in-Some.value ∷ []) in
+    record {
+      within = omega (arith, within);
+      read = λ p.
+          let h = c.in_ok-value.ensures.read p in
+          let r = rw c.in-Some.is at h in
+          subst (λ (l : List NumberedValue). HaveRead c.args.bytes.now (c.args.at + c.in-Ok.read.1) c.args.pools.now c.args.depth c.in-Ok.read.0 (c.loop-i._i + 1) l (c.loop-i.size + c.in-Some.used)) (sym items)
+          (one_more c.args.bytes.now c.args.pools.now (c.args.at + c.in-Ok.read.1) c.args.depth c.in-Ok.read.0 c.loop-i._i (map value_of c.loop-i.values.items) c.loop-i.size (value_of c.in-Some.value) c.in-Some.used c.loop-i-test.true (c.loop-i.invariant.read p) r);
+    }
+
+pub array_at-returns-clause-read : goal.array_at-returns-clause-read
+array_at-returns-clause-read t c = λ p.
+    all_read c.args.bytes.now c.args.pools.now c.args.at c.args.depth c.in-Ok.read.0 c.loop-i._i c.in-Ok.read.1 (map value_of c.loop-i.values.items) c.loop-i.size c.in-Ok.ensures.found (omega arith) (c.loop-i.invariant.read p)
+
+pub elements_at-returns-in-None-clause-read : goal.elements_at-returns-in-None-clause-read
+elements_at-returns-in-None-clause-read t c = λ p.
+    let h = c.in_ok-element.ensures.read p in
+    let none = rw c.in-None.is at h in
+    no_next_element c.args.bytes.now c.args.pools.now p c.args.at c.args.depth c.args.count c.loop-i._i c.loop-i.least (map element_of c.loop-i.elements.items) c.loop-i.size c.loop-i-test.true (c.loop-i.invariant.read p) none
+
+pub elements_at-loop-i-preserved : goal.elements_at-loop-i-preserved
+elements_at-loop-i-preserved t c =
+    let w = c.in_ok-element.ensures.within in
+    let within = rw c.in-Some.is at w in
+    let n = c.in_ok-element.ensures.name in
+    let small = rw c.in-Some.is at n in
+    let named : (element_of c.in-Some.element).0 ≡ c.from-least.result = ap (λ (e : ℕ × NumberedValue). e.0) (element_is c.in-Some.element) ∙ omega (arith, c.from-least.ensures) in
+    let items : map element_of c.push.new.self.items ≡ map element_of c.loop-i.elements.items ++ element_of c.in-Some.element ∷ [] = ap (map element_of) c.in_ok-push-in-Some.ensures.items ∙ map-append element_of c.loop-i.elements.items (c.in-Some.element ∷ []) in
+    record {
+      within = omega (arith, within);
+      least_fits = omega (arith, small, named);
+      read = λ p.
+          let h = c.in_ok-element.ensures.read p in
+          let r = rw c.in-Some.is at h in
+          subst (λ (x : ℕ). HaveReadOf c.args.bytes.now c.args.at c.args.pools.now c.args.depth c.args.count (c.loop-i._i + 1) (x + 1) (map element_of c.push.new.self.items) (c.loop-i.size + c.in-Some.used)) named
+          (subst (λ (l : List (ℕ × NumberedValue)). HaveReadOf c.args.bytes.now c.args.at c.args.pools.now c.args.depth c.args.count (c.loop-i._i + 1) ((element_of c.in-Some.element).0 + 1) l (c.loop-i.size + c.in-Some.used)) (sym items)
+          (one_element_more c.args.bytes.now c.args.pools.now p c.args.at c.args.depth c.args.count c.loop-i._i c.loop-i.least (map element_of c.loop-i.elements.items) c.loop-i.size (element_of c.in-Some.element) c.in-Some.used c.loop-i-test.true (c.loop-i.invariant.read p) r));
+    }
+
+pub elements_at-returns-clause-read : goal.elements_at-returns-clause-read
+elements_at-returns-clause-read t c = λ p.
+    all_elements_read c.args.bytes.now c.args.pools.now p c.args.at c.args.depth c.args.count c.loop-i._i c.loop-i.least (map element_of c.loop-i.elements.items) c.loop-i.size (omega arith) (c.loop-i.invariant.read p)
+
+pub value_at-returns-then-at-bytes-clause-read : goal.value_at-returns-then-at-bytes-clause-read
+value_at-returns-then-at-bytes-clause-read t c = λ p. nothing_behind c.args.bytes.now c.args.at c.args.depth c.args.pools.now p.pools (omega arith)
+
+pub value_at-returns-then-depth-eq0-clause-read : goal.value_at-returns-then-depth-eq0-clause-read
+value_at-returns-then-depth-eq0-clause-read t c = λ p. no_deep_array c.args.bytes.now c.args.at c.args.depth c.args.pools.now p.pools c.in-28.is c.if-depth-eq0.true
+
+pub value_at-returns-then-depth-eq0-2-clause-read : goal.value_at-returns-then-depth-eq0-2-clause-read
+value_at-returns-then-depth-eq0-2-clause-read t c = λ p. no_deep_annotation c.args.bytes.now c.args.at c.args.depth c.args.pools.now p.pools c.in-29.is c.if-depth-eq0-2.true
+
+pub value_at-returns-in-Some-clause-read : goal.value_at-returns-in-Some-clause-read
+value_at-returns-in-Some-clause-read t c = λ p.
+    let h = c.in_ok-values-in-28.ensures.read p in
+    let r = rw c.in-Some.is at h in
+    subst (λ (x : NumberedValue). IsReadAt c.args.bytes.now c.args.at c.args.pools.now c.args.depth x (1 + c.in-Some.size)) (sym (array_is c.in-Some.values))
+    (array_stands c.args.bytes.now c.args.at c.args.depth c.args.pools.now p.pools (values_of_list (map value_of c.in-Some.values.items)) c.in-Some.size (omega arith) c.in-28.is c.if-depth-eq0.false r)
+
+pub value_at-returns-in-None-clause-read : goal.value_at-returns-in-None-clause-read
+value_at-returns-in-None-clause-read t c = λ p.
+    let h = c.in_ok-values-in-28.ensures.read p in
+    let none = rw c.in-None.is at h in
+    no_array c.args.bytes.now c.args.at c.args.depth c.args.pools.now p.pools c.in-28.is none
+
+pub value_at-returns-in-Some-2-clause-read : goal.value_at-returns-in-Some-2-clause-read
+value_at-returns-in-Some-2-clause-read t c = λ p.
+    let h = c.in_ok-typ-in-29.ensures.read p in
+    let r = rw c.in-Some-2.is at h in
+    subst (λ (x : NumberedValue). IsReadAt c.args.bytes.now c.args.at c.args.pools.now c.args.depth x (1 + c.in-Some-2.size)) (sym (annotation_is c.in-Some-2.typ c.in-Some-2.elements))
+    (annotation_stands c.args.bytes.now c.args.at c.args.depth c.args.pools.now p.pools c.in-Some-2.typ (elements_of_list (map element_of c.in-Some-2.elements.items)) c.in-Some-2.size (omega arith) c.in-29.is c.if-depth-eq0-2.false r)
+
+pub value_at-returns-in-None-2-clause-read : goal.value_at-returns-in-None-2-clause-read
+value_at-returns-in-None-2-clause-read t c = λ p.
+    let h = c.in_ok-typ-in-29.ensures.read p in
+    let none = rw c.in-None-2.is at h in
+    no_annotation c.args.bytes.now c.args.at c.args.depth c.args.pools.now p.pools c.in-29.is none
+
+pub value_at-returns-in_default-clause-read : goal.value_at-returns-in_default-clause-read
+value_at-returns-in_default-clause-read t c = λ p. deeper c.args.bytes.now c.args.at c.args.depth c.args.pools.now p.pools _ _ c.scalar_at.result (c.scalar_at.ensures.read p.pools)

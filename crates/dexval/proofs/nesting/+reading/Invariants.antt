@@ -1,0 +1,34 @@
+use Rattle.std.specs.Prelude.{◌+◌, ◌*◌, ◌^◌, ◌≤◌, length, map}
+use Rattle.dexval.specs.Code.{value_of, element_of}
+use Rattle.dexval.specs.Nesting.{AreFilePools}
+use Rattle.dexval.proofs.ValuesRead.{HaveRead}
+use Rattle.dexval.proofs.ElementsRead.{HaveReadOf}
+use Rattle.dexval.proofs.nesting.+reading.Given as goal
+
+abbrev pub decreases-value_at : goal.decreases-value_at
+decreases-value_at l = 5 * l.depth
+
+abbrev pub decreases-array_at : goal.decreases-array_at
+decreases-array_at l = 5 * l.depth + 4
+
+abbrev pub decreases-element_at : goal.decreases-element_at
+decreases-element_at l = 5 * l.depth + 1
+
+abbrev pub decreases-elements_at : goal.decreases-elements_at
+decreases-elements_at l = 5 * l.depth + 2
+
+abbrev pub decreases-annotation_at : goal.decreases-annotation_at
+decreases-annotation_at l = 5 * l.depth + 3
+
+abbrev pub invariant-array_at-loop-i : goal.invariant-array_at-loop-i
+invariant-array_at-loop-i l = record {
+  within : l.at + l.head + l.size ≤ length l.bytes;
+  read : AreFilePools l.bytes l.pools → HaveRead l.bytes (l.at + l.head) l.pools l.depth l.count l._i (map value_of l.values.items) l.size;
+}
+
+abbrev pub invariant-elements_at-loop-i : goal.invariant-elements_at-loop-i
+invariant-elements_at-loop-i l = record {
+  within : l.at + l.size ≤ length l.bytes;
+  least_fits : l.least ≤ 2 ^ 32;
+  read : AreFilePools l.bytes l.pools → HaveReadOf l.bytes l.at l.pools l.depth l.count l._i l.least (map element_of l.elements.items) l.size;
+}

@@ -1,0 +1,67 @@
+-- The values, annotations, sets and directories of the code, as contracts see them.
+use Rattle.std.specs.Prelude.{ℕ, map}
+use Rattle.dexval.specs.declared.value.Value.{Value}
+use Rattle.dexval.specs.declared.value.Value.TheOpen.{Value-F, Element-F, Byte, Short, Char, Int, Long, Float, Double, String, Typ, Field, Method, Enum, Array, Annotation, Null, Boolean}
+use Rattle.dexval.specs.declared.value.Value.TheFolds.{fold-Value, fold-Element}
+use Rattle.dexval.specs.declared.value.Element.{Element}
+use Rattle.dexval.specs.declared.annotation.Visibility.{Visibility}
+use Rattle.dexval.specs.declared.annotation.Visibility.TheVariants.{Build, Runtime, System}
+use Rattle.dexval.specs.declared.annotation.Annotation.{Annotation as CodeAnnotation}
+use Rattle.dexval.specs.declared.set.AnnotationSet.{AnnotationSet}
+use Rattle.dexval.specs.declared.directory.Directory.{Directory}
+use Rattle.dexval.specs.Numbered.{NumberedValue, NumberedAnnotation, NumberedSet, NumberedDirectory, Plain, Named, Annotated, ByteLiteral, ShortLiteral, CharLiteral, IntLiteral, LongLiteral, FloatLiteral, DoubleLiteral, NullLiteral, BooleanLiteral, StringReference, TypeReference, FieldReference, MethodReference, EnumReference, values_of_list, elements_of_list}
+use Rattle.dexval.specs.Numbered as numbered
+
+-- one value, with that of each value in it in its place
+abbrev pub value_step : Value-F NumberedValue (ℕ × NumberedValue) → NumberedValue
+value_step (Byte z) = Plain (ByteLiteral z)
+value_step (Short z) = Plain (ShortLiteral z)
+value_step (Char u) = Plain (CharLiteral u)
+value_step (Int z) = Plain (IntLiteral z)
+value_step (Long z) = Plain (LongLiteral z)
+value_step (Float bits) = Plain (FloatLiteral bits)
+value_step (Double bits) = Plain (DoubleLiteral bits)
+value_step (String i) = Named StringReference i
+value_step (Typ i) = Named TypeReference i
+value_step (Field i) = Named FieldReference i
+value_step (Method i) = Named MethodReference i
+value_step (Enum i) = Named EnumReference i
+value_step (Array values) = numbered.Array (values_of_list values.items)
+value_step (Annotation t elements) = Annotated t (elements_of_list elements.items)
+value_step Null = Plain NullLiteral
+value_step (Boolean is) = Plain (BooleanLiteral is)
+
+-- one element
+abbrev pub element_step : Element-F NumberedValue (ℕ × NumberedValue) → ℕ × NumberedValue
+element_step e = (e.name, e.value)
+
+-- the value
+abbrev pub value_of : Value → NumberedValue
+value_of = fold-Value NumberedValue (ℕ × NumberedValue) value_step element_step
+
+-- the element: its name and its value
+abbrev pub element_of : Element → ℕ × NumberedValue
+element_of = fold-Element NumberedValue (ℕ × NumberedValue) value_step element_step
+
+-- the number of a visibility
+abbrev pub visibility_of : Visibility → ℕ
+visibility_of Build = 0
+visibility_of Runtime = 1
+visibility_of System = 2
+
+-- the annotation
+abbrev pub annotation_of : CodeAnnotation → NumberedAnnotation
+annotation_of a = record { visibility = visibility_of a.visibility; type = a.typ; elements = elements_of_list (map element_of a.elements.items) }
+
+-- the set
+abbrev pub set_of : AnnotationSet → NumberedSet
+set_of s = map annotation_of s.annotations.items
+
+-- the directory
+abbrev pub directory_of : Directory → NumberedDirectory
+directory_of d = record {
+  own = set_of d.own;
+  fields = map (λ e. (e.0, set_of e.1)) d.fields.items;
+  methods = map (λ e. (e.0, set_of e.1)) d.methods.items;
+  parameters = map (λ e. (e.0, map set_of e.1.items)) d.parameters.items;
+}

@@ -1,0 +1,72 @@
+-- Lists of sets and directories as they are read.
+use Rattle.std.specs.Prelude.{◌≡◌, ◌≢◌, ℕ, ◌+◌, ◌*◌, ◌%◌, ◌<◌, ◌≤◌, List, [], map, All}
+use Rattle.std.specs.Global.{Vec}
+use Rattle.dexspec.specs.Lists.{OrNone}
+use Rattle.dexspec.specs.Bytes.{uint_at}
+use Rattle.dexspec.specs.Sections.{IsInData}
+use Rattle.dexspec.specs.Annotations.{AnnotationSet, Directory, SetAt, RefListAt, PairsAt, DirectoryAt, fields_count, methods_count, parameters_count}
+use Rattle.dexspec.specs.Mentions.{Mentions}
+use Rattle.dexval.specs.declared.set.AnnotationSet.{AnnotationSet as CodeSet}
+use Rattle.dexval.specs.Code.{set_of}
+use Rattle.dexval.specs.Numbered.{NumberedSet, IsKnownSet, set_in}
+
+-- ---- sets and lists of sets
+
+-- at the offset stands the set that the numbers stand for; at 0 it is empty
+pub record IsSetOrEmptyAt (b : List ℕ) (off : ℕ) (m : Mentions) (s : NumberedSet) : Type 0 where
+  pub known : IsKnownSet m s
+  pub at : OrNone SetAt [] b off (set_in m s)
+
+-- the offset is not 0, and no set stands there
+abbrev pub NoSetOrEmptyAt : List ℕ → ℕ → Type 0
+NoSetOrEmptyAt b off = (s : AnnotationSet) → OrNone SetAt [] b off s → ⊥
+
+-- at the offset stands an annotation_set_ref_list of the sets that the numbers stand for
+pub record IsRefListAt (b : List ℕ) (off : ℕ) (m : Mentions) (ss : List NumberedSet) : Type 0 where
+  pub known : All (IsKnownSet m) ss
+  pub at : RefListAt b off (map (set_in m) ss)
+
+-- none stands there
+abbrev pub NoRefListAt : List ℕ → ℕ → Type 0
+NoRefListAt b off = (ss : List AnnotationSet) → RefListAt b off ss → ⊥
+
+-- ---- members with what belongs to them
+
+-- a member of the code, by its number, with its set
+abbrev pub member_set_of : ℕ × CodeSet → ℕ × NumberedSet
+member_set_of e = (e.0, set_of e.1)
+
+-- with the sets of its parameters
+abbrev pub member_list_of : ℕ × Vec CodeSet → ℕ × List NumberedSet
+member_list_of e = (e.0, map set_of e.1.items)
+
+-- the number is the index, and below the limit
+pub record IsIndexBelow (limit : ℕ) (b : List ℕ) (index number : ℕ) : Type 0 where
+  pub is : number ≡ index
+  pub below : index < limit
+
+-- a pair of an index from `least` on, below the limit, and an offset that is not 0
+pub record HasPair (b : List ℕ) (at least limit : ℕ) : Type 0 where
+  pub above : least ≤ uint_at b at
+  pub below : uint_at b at < limit
+  pub offset : uint_at b (at + 4) ≢ 0
+
+-- so many pairs from a place on, of members by their numbers, which are below the limit, and of what belongs to them
+pub record ArePairsAt {X Y : Type 0} (Known : X → Type 0) (inside : X → Y) (At : List ℕ → ℕ → Y → Type 0) (b : List ℕ) (p n limit : ℕ) (xs : List (ℕ × X)) : Type 0 where
+  pub members_known : All (λ e. (e.0 < limit) × Known e.1) xs
+  pub pairs_stand : PairsAt (IsIndexBelow limit) At b p n (map (λ e. (e.0, inside e.1)) xs)
+
+-- so many do not stand there
+abbrev pub NoPairsAt : {Y : Type 0} → (List ℕ → ℕ → Y → Type 0) → List ℕ → ℕ → ℕ → ℕ → Type 0
+NoPairsAt {Y} At b p n limit = (entries : List (ℕ × Y)) → PairsAt (IsIndexBelow limit) At b p n entries → ⊥
+
+-- ---- directories
+
+-- the counts of a directory and so many pairs are wholly in the data, at a multiple of 4
+pub record HasMembers (b : List ℕ) (off : ℕ) : Type 0 where
+  pub in_data : IsInData b off (16 + 8 * (fields_count b off + methods_count b off + parameters_count b off))
+  pub aligned : off % 4 ≡ 0
+
+-- no annotations_directory_item stands there
+abbrev pub NoDirectoryAt : List ℕ → ℕ → Type 0
+NoDirectoryAt b off = (d : Directory) → DirectoryAt b off d → ⊥

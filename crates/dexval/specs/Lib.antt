@@ -1,0 +1,11 @@
+pub mod Appending
+pub mod Code
+pub mod Directories
+pub mod Items
+pub mod Nesting
+pub mod Numbered
+pub mod Reading
+pub mod Renumbering
+pub mod Scalars
+pub mod Spelled
+pub mod Uses

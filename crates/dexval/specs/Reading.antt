@@ -1,0 +1,48 @@
+-- Values, sets and directories as they are read from a file.
+use Rattle.std.specs.Prelude.{◌≡◌, ℕ, List}
+use Rattle.dexspec.specs.Values.{Value, Values, EncodedValueAt, EncodedArrayItemAt}
+use Rattle.dexspec.specs.Annotations.{AnnotationSet, Directory, SetAt, DirectoryAt}
+use Rattle.dexspec.specs.Mentions.{Mentions}
+use Rattle.dexpool.specs.declared.faults.ItemFault.{ItemFault}
+use Rattle.dexpool.specs.declared.faults.ItemFault.TheVariants.{Refused, Memory}
+use Rattle.dexval.specs.Numbered.{NumberedValue, NumberedValues, NumberedSet, NumberedDirectory, IsKnown, AreKnown, IsKnownSet, IsKnownDirectory, value_in, values_in, set_in, directory_in}
+
+-- the numbers are those of symbols, and at the offset stands, in so many bytes, the value that they stand for
+pub record IsValueAt (b : List ℕ) (off : ℕ) (m : Mentions) (x : NumberedValue) (n : ℕ) : Type 0 where
+  pub known : IsKnown m x
+  pub at : EncodedValueAt b off (value_in m x) n
+
+-- no value stands there; a refusal of memory tells nothing
+abbrev pub IsValueFault : List ℕ → ℕ → ItemFault → Type 0
+IsValueFault b off (Refused number) = (number ≡ 21) × ((v : Value) (n : ℕ) → EncodedValueAt b off v n → ⊥)
+IsValueFault b off Memory = Unit {0}
+
+-- at the offset stands an encoded_array_item of the values
+pub record AreStaticsAt (b : List ℕ) (off : ℕ) (m : Mentions) (xs : NumberedValues) : Type 0 where
+  pub known : AreKnown m xs
+  pub at : (n : ℕ) × EncodedArrayItemAt b off (values_in m xs) n
+
+-- no encoded_array_item stands there
+abbrev pub IsStaticsFault : List ℕ → ℕ → ItemFault → Type 0
+IsStaticsFault b off (Refused number) = (number ≡ 21) × ((vs : Values) (n : ℕ) → EncodedArrayItemAt b off vs n → ⊥)
+IsStaticsFault b off Memory = Unit {0}
+
+-- at the offset stands an annotation_set_item of the set
+pub record IsSetAt (b : List ℕ) (off : ℕ) (m : Mentions) (s : NumberedSet) : Type 0 where
+  pub known : IsKnownSet m s
+  pub at : SetAt b off (set_in m s)
+
+-- no annotation_set_item stands there
+abbrev pub IsSetFault : List ℕ → ℕ → ItemFault → Type 0
+IsSetFault b off (Refused number) = (number ≡ 22) × ((s : AnnotationSet) → SetAt b off s → ⊥)
+IsSetFault b off Memory = Unit {0}
+
+-- at the offset stands an annotations_directory_item of the directory
+pub record IsDirectoryAt (b : List ℕ) (off : ℕ) (m : Mentions) (d : NumberedDirectory) : Type 0 where
+  pub known : IsKnownDirectory m d
+  pub at : DirectoryAt b off (directory_in m d)
+
+-- no annotations_directory_item stands there
+abbrev pub IsDirectoryFault : List ℕ → ℕ → ItemFault → Type 0
+IsDirectoryFault b off (Refused number) = (number ≡ 22) × ((d : Directory) → DirectoryAt b off d → ⊥)
+IsDirectoryFault b off Memory = Unit {0}

@@ -1,0 +1,131 @@
+-- Values, annotations and sets spelled in the fewest bytes, their numbers put in, and what they weigh.
+use Rattle.std.specs.Prelude.{◌≡◌, ℕ, ◌+◌, ◌*◌, ◌^◌, ◌<◌, List, [], ◌∷◌, ◌++◌, length, sum_by, if◌then◌else◌}
+use Rattle.dexspec.specs.Numbers.{uleb128}
+use Rattle.dexspec.specs.Values.{value_byte, byte_value_type, short_value_type, char_value_type, int_value_type, long_value_type, float_value_type, double_value_type, string_value_type, type_value_type, field_value_type, method_value_type, enum_value_type, array_value_type, annotation_value_type, null_value_type, boolean_value_type}
+use Rattle.dexspec.specs.Spellings.{unsigned_bytes, signed_bytes, bits_bytes}
+use Rattle.dexval.specs.Numbered.{Literal, ByteLiteral, ShortLiteral, CharLiteral, IntLiteral, LongLiteral, FloatLiteral, DoubleLiteral, NullLiteral, BooleanLiteral, Reference, StringReference, TypeReference, FieldReference, MethodReference, EnumReference, NumberedValue, NumberedValues, NumberedElements, NumberedAnnotation, NumberedSet, Plain, Named, Array, Annotated, NoValue, ThenNext, NoElement, ThenNamed}
+
+-- ---- how many there are
+
+-- how many values
+abbrev pub values_count : NumberedValues → ℕ
+values_count NoValue = 0
+values_count (ThenNext x xs) = values_count xs + 1
+
+-- how many elements
+abbrev pub elements_count : NumberedElements → ℕ
+elements_count NoElement = 0
+elements_count (ThenNamed name x es) = elements_count es + 1
+
+abbrev mutual
+  -- each array and annotation in the value has fewer than 2 ^ 32 members
+  pub IsCounted : NumberedValue → Type 0
+  IsCounted (Plain literal) = Unit {0}
+  IsCounted (Named reference i) = Unit {0}
+  IsCounted (Array xs) = (values_count xs < 2 ^ 32) × AreCounted xs
+  IsCounted (Annotated t es) = (elements_count es < 2 ^ 32) × HaveCounted es
+
+  -- in each of these values
+  pub AreCounted : NumberedValues → Type 0
+  AreCounted NoValue = Unit {0}
+  AreCounted (ThenNext x xs) = IsCounted x × AreCounted xs
+
+  -- in those of these elements
+  pub HaveCounted : NumberedElements → Type 0
+  HaveCounted NoElement = Unit {0}
+  HaveCounted (ThenNamed name x es) = IsCounted x × HaveCounted es
+
+-- in the annotation
+abbrev pub IsCountedAnnotation : NumberedAnnotation → Type 0
+IsCountedAnnotation a = (elements_count a.elements < 2 ^ 32) × HaveCounted a.elements
+
+-- ---- bytes
+
+-- a value that names no symbol
+abbrev pub literal_bytes : Literal → List ℕ
+literal_bytes (ByteLiteral z) = signed_bytes byte_value_type z
+literal_bytes (ShortLiteral z) = signed_bytes short_value_type z
+literal_bytes (CharLiteral u) = unsigned_bytes char_value_type u
+literal_bytes (IntLiteral z) = signed_bytes int_value_type z
+literal_bytes (LongLiteral z) = signed_bytes long_value_type z
+literal_bytes (FloatLiteral bits) = bits_bytes float_value_type 4 bits
+literal_bytes (DoubleLiteral bits) = bits_bytes double_value_type 8 bits
+literal_bytes NullLiteral = value_byte 0 null_value_type ∷ []
+literal_bytes (BooleanLiteral is) = value_byte (if is then 1 else 0) boolean_value_type ∷ []
+
+-- the type code of a value that names a symbol
+abbrev pub reference_code : Reference → ℕ
+reference_code StringReference = string_value_type
+reference_code TypeReference = type_value_type
+reference_code FieldReference = field_value_type
+reference_code MethodReference = method_value_type
+reference_code EnumReference = enum_value_type
+
+abbrev mutual
+  -- an encoded_value
+  pub numbered_bytes : NumberedValue → List ℕ
+  numbered_bytes (Plain literal) = literal_bytes literal
+  numbered_bytes (Named reference i) = unsigned_bytes (reference_code reference) i
+  numbered_bytes (Array xs) = value_byte 0 array_value_type ∷ (uleb128 (values_count xs) ++ numbered_values_bytes xs)
+  numbered_bytes (Annotated t es) = value_byte 0 annotation_value_type ∷ (uleb128 t ++ (uleb128 (elements_count es) ++ numbered_elements_bytes es))
+
+  -- values one after the other
+  pub numbered_values_bytes : NumberedValues → List ℕ
+  numbered_values_bytes NoValue = []
+  numbered_values_bytes (ThenNext x xs) = numbered_bytes x ++ numbered_values_bytes xs
+
+  -- annotation_elements one after the other
+  pub numbered_elements_bytes : NumberedElements → List ℕ
+  numbered_elements_bytes NoElement = []
+  numbered_elements_bytes (ThenNamed name x es) = uleb128 name ++ (numbered_bytes x ++ numbered_elements_bytes es)
+
+-- an encoded_array
+abbrev pub numbered_array_bytes : NumberedValues → List ℕ
+numbered_array_bytes xs = uleb128 (values_count xs) ++ numbered_values_bytes xs
+
+-- an encoded_annotation
+abbrev pub encoded_annotation_bytes : ℕ → NumberedElements → List ℕ
+encoded_annotation_bytes t es = uleb128 t ++ (uleb128 (elements_count es) ++ numbered_elements_bytes es)
+
+-- an annotation_item
+abbrev pub numbered_annotation_bytes : NumberedAnnotation → List ℕ
+numbered_annotation_bytes a = a.visibility ∷ encoded_annotation_bytes a.type a.elements
+
+-- ---- weights
+
+abbrev mutual
+  -- an encoded_value
+  pub numbered_weight : NumberedValue → ℕ
+  numbered_weight (Plain literal) = 9
+  numbered_weight (Named reference i) = 9
+  numbered_weight (Array xs) = 6 + numbered_values_weight xs
+  numbered_weight (Annotated t es) = 12 + numbered_elements_weight es
+
+  -- values
+  pub numbered_values_weight : NumberedValues → ℕ
+  numbered_values_weight NoValue = 0
+  numbered_values_weight (ThenNext x xs) = numbered_weight x + numbered_values_weight xs
+
+  -- annotation_elements
+  pub numbered_elements_weight : NumberedElements → ℕ
+  numbered_elements_weight NoElement = 0
+  numbered_elements_weight (ThenNamed name x es) = 5 + numbered_weight x + numbered_elements_weight es
+
+-- an annotation_item
+abbrev pub numbered_annotation_weight : NumberedAnnotation → ℕ
+numbered_annotation_weight a = 12 + numbered_elements_weight a.elements
+
+-- a set; an empty one weighs nothing
+abbrev pub numbered_set_weight : NumberedSet → ℕ
+numbered_set_weight [] = 0
+numbered_set_weight (x ∷ xs) = 8 + sum_by (λ a. 4 + numbered_annotation_weight a) (x ∷ xs)
+
+-- a set for each parameter; none weigh nothing
+abbrev pub numbered_sets_weight : List NumberedSet → ℕ
+numbered_sets_weight [] = 0
+numbered_sets_weight (s ∷ ss) = 8 + 4 * length (s ∷ ss) + sum_by numbered_set_weight (s ∷ ss)
+
+-- static values; none weigh nothing
+abbrev pub numbered_statics_weight : NumberedValues → ℕ
+numbered_statics_weight NoValue = 0
+numbered_statics_weight (ThenNext x xs) = 6 + numbered_values_weight (ThenNext x xs)

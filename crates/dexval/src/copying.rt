@@ -1,0 +1,100 @@
+//! Copies of values and of sets of annotations.
+
+ghost use Rattle.std.specs.Prelude.{◌≡◌, IfOk, map};
+ghost use Rattle.dexval.specs.Code.{value_of, element_of, annotation_of, set_of};
+
+use crate::annotation::Annotation;
+use crate::set::AnnotationSet;
+use crate::value::{Element, Value};
+use std::alloc::AllocError;
+
+// The same value.
+#[cycle(copying)]
+fn copied_value(value: &Value) -> Result<Value, AllocError>
+    ensures { IfOk result (λ copy. value_of copy ≡ value_of value.now) }
+{
+    Ok(match value {
+        Value::Byte(number) => Value::Byte(*number),
+        Value::Short(number) => Value::Short(*number),
+        Value::Char(unit) => Value::Char(*unit),
+        Value::Int(number) => Value::Int(*number),
+        Value::Long(number) => Value::Long(*number),
+        Value::Float(bits) => Value::Float(*bits),
+        Value::Double(bits) => Value::Double(*bits),
+        Value::String(number) => Value::String(*number),
+        Value::Typ(number) => Value::Typ(*number),
+        Value::Field(number) => Value::Field(*number),
+        Value::Method(number) => Value::Method(*number),
+        Value::Enum(number) => Value::Enum(*number),
+        Value::Array(values) => Value::Array(copied_values(values)?),
+        Value::Annotation(typ, elements) => Value::Annotation(*typ, copied_elements(elements)?),
+        Value::Null => Value::Null,
+        Value::Boolean(is) => Value::Boolean(*is),
+    })
+}
+
+// The same values.
+#[cycle(copying)]
+fn copied_values(values: &Vec<Value>) -> Result<Vec<Value>, AllocError>
+    ensures { IfOk result (λ copy. map value_of copy.items ≡ map value_of values.now.items) }
+{
+    let mut copy = Vec::with_capacity(*values.allocator(), values.len())?;
+    for value in values {
+        copy.push(copied_value(value)?)?;
+    }
+    Ok(copy)
+}
+
+// The same elements.
+#[cycle(copying)]
+fn copied_elements(elements: &Vec<Element>) -> Result<Vec<Element>, AllocError>
+    ensures { IfOk result (λ copy. map element_of copy.items ≡ map element_of elements.now.items) }
+{
+    let mut copy = Vec::with_capacity(*elements.allocator(), elements.len())?;
+    for element in elements {
+        copy.push(Element {
+            name: element.name,
+            value: copied_value(&element.value)?,
+        })?;
+    }
+    Ok(copy)
+}
+
+// The same annotations.
+fn copied_annotations(annotations: &Vec<Annotation>) -> Result<Vec<Annotation>, AllocError>
+    ensures { IfOk result (λ copy. map annotation_of copy.items ≡ map annotation_of annotations.now.items) }
+{
+    let mut copy = Vec::with_capacity(*annotations.allocator(), annotations.len())?;
+    for annotation in annotations {
+        copy.push(Annotation {
+            visibility: annotation.visibility,
+            typ: annotation.typ,
+            elements: copied_elements(&annotation.elements)?,
+        })?;
+    }
+    Ok(copy)
+}
+
+impl Value {
+    /// The same value, with all that it holds.
+    ///
+    /// Error: memory was refused.
+    pub fn copy(&self) -> Result<Self, AllocError>
+        ensures { IfOk result (λ copy. value_of copy ≡ value_of self.now) }
+    {
+        copied_value(self)
+    }
+}
+
+impl AnnotationSet {
+    /// The same set, with annotations of its own.
+    ///
+    /// Error: memory was refused.
+    pub fn copy(&self) -> Result<Self, AllocError>
+        ensures { IfOk result (λ copy. set_of copy ≡ set_of self.now) }
+    {
+        Ok(AnnotationSet {
+            annotations: copied_annotations(&self.annotations)?,
+        })
+    }
+}

@@ -1,0 +1,19 @@
+//! What a class and its members are annotated with.
+
+use crate::set::AnnotationSet;
+
+/// The annotations of a class, and for each annotated member a pair of its number and its annotations, in the order
+/// of the numbers.
+///
+/// Source: "annotations_directory_item".
+#[derive(Debug, Drop)]
+pub struct Directory {
+    /// The annotations of the class itself.
+    pub own: AnnotationSet,
+    /// Those of fields.
+    pub fields: Vec<(u32, AnnotationSet)>,
+    /// Those of methods.
+    pub methods: Vec<(u32, AnnotationSet)>,
+    /// Those of the parameters of methods, a set for each parameter.
+    pub parameters: Vec<(u32, Vec<AnnotationSet>)>,
+}

@@ -1,0 +1,45 @@
+//! Laws of values and sets with numbers. Each function does nothing: its contract is the law, for the callers that cite
+//! it.
+
+ghost use Rattle.std.specs.Prelude.{◌^◌, ◌≤◌, All};
+ghost use Rattle.std.specs.List.{AllZip};
+ghost use Rattle.dexspec.specs.Annotations.{AnnotationSet as SetMeant};
+ghost use Rattle.dexspec.specs.Mentions.{Mentions, value_symbols, values_symbols, set_symbols};
+ghost use Rattle.dexspec.specs.Values.{Value as ValueMeant, Values as ValuesMeant};
+ghost use Rattle.dexpool.specs.Numberings.{AreMarksOf, Maps, AllLead};
+ghost use Rattle.dexpool.specs.Laws.{LeadsAll};
+ghost use Rattle.dexpool.specs.Pools.{count_of};
+ghost use Rattle.dexpool.specs.declared.marks.Marks.{Marks};
+ghost use Rattle.dexpool.specs.declared.symbols.SymbolKind.{SymbolKind};
+ghost use Rattle.dexval.specs.Numbered.{NumberedValue, NumberedValues, NumberedSet, IsKnown, AreKnown, IsKnownSet, StandsFor, StandFor, StandsForSet};
+ghost use Rattle.dexval.specs.Renumbering.{renumbered, renumbered_values, renumbered_set, HasPlaces, HavePlaces, SetHasPlaces};
+ghost use Rattle.dexval.specs.Uses.{value_uses, values_uses, set_uses, IsUseOf, HasMark};
+
+/// Under other numbers a value, values and a set stand for what they stood for.
+pub fn renumber_law()
+    ensures value { (m n : Mentions) (r : Maps) (x : NumberedValue) (v : ValueMeant) → AllLead m n r → HasPlaces r x → StandsFor m x v → StandsFor n (renumbered r x) v }
+    ensures values { (m n : Mentions) (r : Maps) (xs : NumberedValues) (vs : ValuesMeant) → AllLead m n r → HavePlaces r xs → StandFor m xs vs → StandFor n (renumbered_values r xs) vs }
+    ensures set { (m n : Mentions) (r : Maps) (xs : NumberedSet) (s : SetMeant) → AllLead m n r → SetHasPlaces r xs → StandsForSet m xs s → StandsForSet n (renumbered_set r xs) s }
+{}
+
+/// The symbols that occur are those of what the numbers stand for, one for one and in their order.
+pub fn uses_law()
+    ensures value { (m : Mentions) (x : NumberedValue) (v : ValueMeant) → StandsFor m x v → AllZip (IsUseOf m) (value_uses x) (value_symbols v) }
+    ensures values { (m : Mentions) (xs : NumberedValues) (vs : ValuesMeant) → StandFor m xs vs → AllZip (IsUseOf m) (values_uses xs) (values_symbols vs) }
+    ensures set { (m : Mentions) (xs : NumberedSet) (s : SetMeant) → StandsForSet m xs s → AllZip (IsUseOf m) (set_uses xs) (set_symbols s) }
+{}
+
+/// Where there is a mark for each symbol, there is one for each that occurs.
+pub fn marks_law()
+    ensures value { (m : Mentions) (marks : Marks) (x : NumberedValue) → AreMarksOf m marks → IsKnown m x → All (HasMark marks) (value_uses x) }
+    ensures values { (m : Mentions) (marks : Marks) (xs : NumberedValues) → AreMarksOf m marks → AreKnown m xs → All (HasMark marks) (values_uses xs) }
+    ensures set { (m : Mentions) (marks : Marks) (xs : NumberedSet) → AreMarksOf m marks → IsKnownSet m xs → All (HasMark marks) (set_uses xs) }
+{}
+
+/// Where each number leads somewhere, as those of a part do when numberings are joined, and no kind has more than 2^32
+/// symbols, each number of a value, of values and of a set leads to one of 32 bits.
+pub fn places_law()
+    ensures value { (m n : Mentions) (r : Maps) (x : NumberedValue) → AllLead m n r → LeadsAll m r → ((kind : SymbolKind) → count_of kind n ≤ 2 ^ 32) → IsKnown m x → HasPlaces r x }
+    ensures values { (m n : Mentions) (r : Maps) (xs : NumberedValues) → AllLead m n r → LeadsAll m r → ((kind : SymbolKind) → count_of kind n ≤ 2 ^ 32) → AreKnown m xs → HavePlaces r xs }
+    ensures set { (m n : Mentions) (r : Maps) (xs : NumberedSet) → AllLead m n r → LeadsAll m r → ((kind : SymbolKind) → count_of kind n ≤ 2 ^ 32) → IsKnownSet m xs → SetHasPlaces r xs }
+{}

@@ -1,0 +1,33 @@
+//! Encoded values and annotations: what static fields begin with, and what classes, members and parameters are
+//! annotated with.
+//!
+//! Source: the Android page "Dalvik Executable format", under the headings "encoded_value encoding",
+//! "encoded_array format", "encoded_annotation format", "annotation_item", "annotation_set_item",
+//! "annotation_set_ref_list" and "annotations_directory_item".
+#![tactic(auto)]
+
+pub use annotation::{Annotation, Visibility};
+pub use directory::Directory;
+pub use directory_reading::read_directory;
+pub use laws::{marks_law, places_law, renumber_law, uses_law};
+pub use put::{put_annotation, put_statics, put_value};
+pub use set::AnnotationSet;
+pub use set_reading::read_set;
+pub use value::{Element, Value};
+pub use value_reading::{read_statics, read_value};
+pub use weight::{parameter_sets_weight, statics_weight};
+
+mod annotation;
+mod copying;
+mod directory;
+mod directory_reading;
+mod laws;
+mod nesting;
+mod numbers;
+mod put;
+mod scalars;
+mod set;
+mod set_reading;
+mod value;
+mod value_reading;
+mod weight;

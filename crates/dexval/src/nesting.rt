@@ -1,0 +1,176 @@
+//! Values, arrays and annotations that stand at a place of a file, one within the other.
+
+ghost use Rattle.std.specs.Prelude.{◌≡◌, ◌+◌, ◌^◌, ◌<◌, ◌≤◌, MatchOption, IfOk, IfSome, length, map};
+ghost use Rattle.dexval.specs.Code.{value_of, element_of};
+ghost use Rattle.dexval.specs.Numbered.{values_of_list, elements_of_list};
+ghost use Rattle.dexval.specs.Scalars.{NoValueAt, IsReadAt};
+ghost use Rattle.dexval.specs.Nesting.{AreFilePools, NoArrayAt, AreReadAt, NoElementAt, IsElementReadAt, NoElementsAt, AreElementsReadAt, NoAnnotationAt, IsAnnotationReadAt};
+
+use crate::scalars::scalar_at;
+use crate::value::{Element, Value};
+use dexleb::read_u;
+use dexpool::{Pools, SymbolKind};
+use std::alloc::{AllocError, Global};
+
+/// The value at a place, and its size, or `None` where none stands there that nests at most so deep.
+#[cycle(reading)]
+pub(crate) fn value_at(
+    alloc: Global,
+    bytes: &[u8],
+    pools: &Pools<'_>,
+    at: usize,
+    depth: u32,
+) -> Result<Option<(Value, usize)>, AllocError>
+    ensures read { AreFilePools bytes.now pools.now → IfOk result (λ found. MatchOption found (NoValueAt bytes.now at depth) (λ read. IsReadAt bytes.now at pools.now depth (value_of read.0) read.1)) }
+    ensures within { IfOk result (λ found. IfSome found (λ read. at + read.1 ≤ length bytes.now)) }
+{
+    if at >= bytes.len() {
+        return Ok(None);
+    }
+    match bytes[at] {
+        0x1c => {
+            if depth == 0 {
+                return Ok(None);
+            }
+            match array_at(alloc, bytes, pools, at + 1, depth - 1)? {
+                Some((values, size)) => Ok(Some((Value::Array(values), 1 + size))),
+                None => Ok(None),
+            }
+        }
+        0x1d => {
+            if depth == 0 {
+                return Ok(None);
+            }
+            match annotation_at(alloc, bytes, pools, at + 1, depth - 1)? {
+                Some((typ, elements, size)) => {
+                    Ok(Some((Value::Annotation(typ, elements), 1 + size)))
+                }
+                None => Ok(None),
+            }
+        }
+        _ => Ok(scalar_at(bytes, pools, at)),
+    }
+}
+
+/// The values of the encoded_array at a place, and its size, or `None` where none stands there whose values nest at
+/// most so deep.
+#[cycle(reading)]
+pub(crate) fn array_at(
+    alloc: Global,
+    bytes: &[u8],
+    pools: &Pools<'_>,
+    at: usize,
+    depth: u32,
+) -> Result<Option<(Vec<Value>, usize)>, AllocError>
+    requires { at ≤ length bytes.now }
+    ensures read { AreFilePools bytes.now pools.now → IfOk result (λ found. MatchOption found (NoArrayAt bytes.now at depth) (λ read. AreReadAt bytes.now at pools.now depth (values_of_list (map value_of read.0.items)) read.1)) }
+    ensures within { IfOk result (λ found. IfSome found (λ read. at + read.1 ≤ length bytes.now)) }
+{
+    let (count, head) = match read_u(bytes, at) {
+        Ok(read) => read,
+        Err(_) => return Ok(None),
+    };
+    let mut values = Vec::new(alloc);
+    let mut size = 0;
+    for _i in 0..count {
+        match value_at(alloc, bytes, pools, at + head + size, depth)? {
+            Some((value, used)) => {
+                values.push(value)?;
+                size += used;
+            }
+            None => return Ok(None),
+        }
+    }
+    Ok(Some((values, head + size)))
+}
+
+// The element at a place, and its size, or `None` where none stands there whose name has at least this number and whose
+// value nests at most so deep.
+#[cycle(reading)]
+fn element_at(
+    alloc: Global,
+    bytes: &[u8],
+    pools: &Pools<'_>,
+    at: usize,
+    depth: u32,
+    least: u64,
+) -> Result<Option<(Element, usize)>, AllocError>
+    requires { at ≤ length bytes.now }
+    ensures read { AreFilePools bytes.now pools.now → IfOk result (λ found. MatchOption found (NoElementAt bytes.now at depth least) (λ read. IsElementReadAt bytes.now at pools.now depth least (element_of read.0) read.1)) }
+    ensures name { IfOk result (λ found. IfSome found (λ read. (element_of read.0).0 < 2 ^ 32)) }
+    ensures within { IfOk result (λ found. IfSome found (λ read. at + read.1 ≤ length bytes.now)) }
+{
+    let (name, head) = match read_u(bytes, at) {
+        Ok(read) => read,
+        Err(_) => return Ok(None),
+    };
+    if u64::from(name) < least || name as usize >= pools.len(SymbolKind::Text) {
+        return Ok(None);
+    }
+    match value_at(alloc, bytes, pools, at + head, depth)? {
+        Some((value, size)) => Ok(Some((Element { name, value }, head + size))),
+        None => Ok(None),
+    }
+}
+
+// So many elements from a place on, and their size, or `None` where none stand there whose names rise strictly and whose
+// values nest at most so deep.
+#[cycle(reading)]
+fn elements_at(
+    alloc: Global,
+    bytes: &[u8],
+    pools: &Pools<'_>,
+    at: usize,
+    depth: u32,
+    count: u32,
+) -> Result<Option<(Vec<Element>, usize)>, AllocError>
+    requires { at ≤ length bytes.now }
+    ensures read { AreFilePools bytes.now pools.now → IfOk result (λ found. MatchOption found (NoElementsAt bytes.now at depth count) (λ read. AreElementsReadAt bytes.now at pools.now depth count (elements_of_list (map element_of read.0.items)) read.1)) }
+    ensures within { IfOk result (λ found. IfSome found (λ read. at + read.1 ≤ length bytes.now)) }
+{
+    let mut elements = Vec::new(alloc);
+    let mut size = 0;
+    let mut least = 0;
+    for _i in 0..count {
+        match element_at(alloc, bytes, pools, at + size, depth, least)? {
+            Some((element, used)) => {
+                least = u64::from(element.name) + 1;
+                elements.push(element)?;
+                size += used;
+            }
+            None => return Ok(None),
+        }
+    }
+    Ok(Some((elements, size)))
+}
+
+/// The number of the type and the elements of the encoded_annotation at a place, and its size, or `None` where none
+/// stands there whose values nest at most so deep.
+#[cycle(reading)]
+pub(crate) fn annotation_at(
+    alloc: Global,
+    bytes: &[u8],
+    pools: &Pools<'_>,
+    at: usize,
+    depth: u32,
+) -> Result<Option<(u32, Vec<Element>, usize)>, AllocError>
+    requires { at ≤ length bytes.now }
+    ensures read { AreFilePools bytes.now pools.now → IfOk result (λ found. MatchOption found (NoAnnotationAt bytes.now at depth) (λ read. IsAnnotationReadAt bytes.now at pools.now depth read.0 (elements_of_list (map element_of read.1.items)) read.2)) }
+    ensures within { IfOk result (λ found. IfSome found (λ read. at + read.2 ≤ length bytes.now)) }
+{
+    let (typ, first) = match read_u(bytes, at) {
+        Ok(read) => read,
+        Err(_) => return Ok(None),
+    };
+    if typ as usize >= pools.len(SymbolKind::Typ) {
+        return Ok(None);
+    }
+    let (count, second) = match read_u(bytes, at + first) {
+        Ok(read) => read,
+        Err(_) => return Ok(None),
+    };
+    match elements_at(alloc, bytes, pools, at + first + second, depth, count)? {
+        Some((elements, size)) => Ok(Some((typ, elements, first + second + size))),
+        None => Ok(None),
+    }
+}

@@ -1,0 +1,370 @@
+//! Values and annotations written.
+
+ghost use Rattle.std.specs.Prelude.{◌≡◌, ℕ, ◌+◌, ◌*◌, ◌-◌, ◌^◌, ◌<◌, ◌≤◌, ◌∷◌, [], map, length, IsOk, vec_len, vec_capacity};
+ghost use Rattle.dexspec.specs.Bytes.{bytes_of};
+ghost use Rattle.dexspec.specs.Numbers.{uleb128, magnitude};
+ghost use Rattle.dexspec.specs.Values.{Value as ValueMeant, Values as ValuesMeant, value_byte};
+ghost use Rattle.dexspec.specs.Annotations.{Annotation as AnnotationMeant};
+ghost use Rattle.dexspec.specs.Mentions.{Mentions};
+ghost use Rattle.dexspec.specs.Spellings.{complement, unsigned_width, unsigned_bytes, signed_bytes, bits_bytes, value_bytes, encoded_array_bytes, annotation_bytes};
+ghost use Rattle.dexspec.specs.Weight.{value_weight, static_values_weight, annotation_weight};
+ghost use Rattle.dexspec.specs.Writing.{Puts};
+ghost use Rattle.dexval.specs.Appending.{Appends};
+ghost use Rattle.dexval.specs.Code.{value_of, element_of, annotation_of, visibility_of};
+ghost use Rattle.dexval.specs.Numbered.{value_in, values_in, annotation_in, values_of_list, elements_of_list, StandsFor, StandFor, StandsForAnnotation};
+ghost use Rattle.dexval.specs.Spelled.{IsCounted, AreCounted, HaveCounted, IsCountedAnnotation, numbered_bytes, numbered_array_bytes, numbered_values_bytes, numbered_elements_bytes, encoded_annotation_bytes, numbered_annotation_bytes};
+
+use crate::annotation::{Annotation, Visibility};
+use crate::value::{Element, Value};
+use dexleb::put_u;
+use dexpool::Numbering;
+use std::alloc::AllocError;
+
+const BYTE: u8 = 0x00;
+
+const SHORT: u8 = 0x02;
+
+const CHAR: u8 = 0x03;
+
+const INT: u8 = 0x04;
+
+const LONG: u8 = 0x06;
+
+const FLOAT: u8 = 0x10;
+
+const DOUBLE: u8 = 0x11;
+
+const STRING: u8 = 0x17;
+
+const TYPE: u8 = 0x18;
+
+const FIELD: u8 = 0x19;
+
+const METHOD: u8 = 0x1a;
+
+const ENUM: u8 = 0x1b;
+
+const ARRAY: u8 = 0x1c;
+
+const ANNOTATION: u8 = 0x1d;
+
+const NULL: u8 = 0x1e;
+
+const BOOLEAN: u8 = 0x1f;
+
+// The fewest bytes that hold a number, one at least.
+fn unsigned_width(value: u64) -> usize
+    ensures width { result ≡ unsigned_width value }
+    ensures some { 1 ≤ result }
+    ensures few { result ≤ 8 }
+{
+    match value {
+        0..=0xff => 1,
+        0x100..=0xffff => 2,
+        0x1_0000..=0xff_ffff => 3,
+        0x100_0000..=0xffff_ffff => 4,
+        0x1_0000_0000..=0xff_ffff_ffff => 5,
+        0x100_0000_0000..=0xffff_ffff_ffff => 6,
+        0x1_0000_0000_0000..=0xff_ffff_ffff_ffff => 7,
+        _ => 8,
+    }
+}
+
+// Appends a type code that counts so many bytes, and these lowest bytes of a number.
+fn append_low(code: u8, width: usize, value: u64, out: &mut Vec<u8>) -> Result<(), AllocError>
+    requires code { code < 32 }
+    requires some { 1 ≤ width }
+    requires few { width ≤ 8 }
+    ensures { Puts (value_byte (width - 1) code ∷ bytes_of width value) out.old out.new result }
+{
+    let mut bytes = [0; 9];
+    bytes[0] = 32 * (width - 1) as u8 + code;
+    let mut rest = value;
+    for i in 0..width {
+        bytes[i + 1] = (rest % 0x100) as u8;
+        rest /= 0x100;
+    }
+    out.extend_from_slice(&bytes[..width + 1])
+}
+
+// Appends a value of an unsigned kind.
+fn append_unsigned(code: u8, value: u64, out: &mut Vec<u8>) -> Result<(), AllocError>
+    requires { code < 32 }
+    ensures { Puts (unsigned_bytes code value) out.old out.new result }
+{
+    append_low(code, unsigned_width(value), value, out)
+}
+
+// The number, and where it is negative the one whose bits are all turned.
+fn magnitude(value: i64) -> u64
+    ensures size { result ≡ magnitude value }
+    ensures bound { result < 2 ^ 63 }
+{
+    if value < 0 {
+        value.unsigned_abs() - 1
+    } else {
+        value as u64
+    }
+}
+
+// The number in two's complement.
+fn complement(value: i64) -> u64
+    ensures { result ≡ complement 8 value }
+{
+    if value < 0 {
+        u64::MAX - magnitude(value)
+    } else {
+        value as u64
+    }
+}
+
+// Appends a value of a signed kind.
+fn append_signed(code: u8, value: i64, out: &mut Vec<u8>) -> Result<(), AllocError>
+    requires { code < 32 }
+    ensures { Puts (signed_bytes code value) out.old out.new result }
+{
+    let width = unsigned_width(2 * magnitude(value));
+    append_low(code, width, complement(value), out)
+}
+
+// Appends a bit pattern of so many bytes, the zeros at its low end left out.
+fn append_bits(code: u8, width: usize, bits: u64, out: &mut Vec<u8>) -> Result<(), AllocError>
+    requires code { code < 32 }
+    requires some { 1 ≤ width }
+    requires few { width ≤ 8 }
+    ensures { Puts (bits_bytes code width bits) out.old out.new result }
+{
+    let mut rest = bits;
+    let mut left = width;
+    while left > 1 && rest % 0x100 == 0 {
+        rest /= 0x100;
+        left -= 1;
+    }
+    append_low(code, left, rest, out)
+}
+
+// Appends one byte. Where memory is wanting, as with all that follow here, a part of the item may stand.
+#[tactic(auto, using(crate::proofs::Joining::puts_appends))]
+fn append_byte(byte: u8, out: &mut Vec<u8>) -> Result<(), AllocError>
+    ensures { Appends (byte ∷ []) out.old out.new result }
+{
+    out.extend_from_slice(&[byte])
+}
+
+// Appends a uleb128.
+#[tactic(auto, using(crate::proofs::Joining::puts_appends))]
+fn append_number(value: u32, out: &mut Vec<u8>) -> Result<(), AllocError>
+    ensures { Appends (uleb128 value) out.old out.new result }
+{
+    put_u(value, out)
+}
+
+// Appends an encoded_value.
+#[cycle(appending)]
+#[tactic(auto, using(crate::proofs::Joining::puts_appends))]
+fn append_value(value: &Value, out: &mut Vec<u8>) -> Result<(), AllocError>
+    requires { IsCounted (value_of value.now) }
+    ensures { Appends (numbered_bytes (value_of value.now)) out.old out.new result }
+{
+    match value {
+        Value::Byte(number) => append_signed(BYTE, i64::from(*number), out),
+        Value::Short(number) => append_signed(SHORT, i64::from(*number), out),
+        Value::Char(unit) => append_unsigned(CHAR, u64::from(*unit), out),
+        Value::Int(number) => append_signed(INT, i64::from(*number), out),
+        Value::Long(number) => append_signed(LONG, *number, out),
+        Value::Float(bits) => append_bits(FLOAT, 4, u64::from(*bits), out),
+        Value::Double(bits) => append_bits(DOUBLE, 8, *bits, out),
+        Value::String(number) => append_unsigned(STRING, u64::from(*number), out),
+        Value::Typ(number) => append_unsigned(TYPE, u64::from(*number), out),
+        Value::Field(number) => append_unsigned(FIELD, u64::from(*number), out),
+        Value::Method(number) => append_unsigned(METHOD, u64::from(*number), out),
+        Value::Enum(number) => append_unsigned(ENUM, u64::from(*number), out),
+        Value::Array(values) => {
+            append_byte(ARRAY, out)?;
+            append_array(values, out)
+        }
+        Value::Annotation(typ, elements) => {
+            append_byte(ANNOTATION, out)?;
+            append_annotation(*typ, elements, out)
+        }
+        Value::Null => append_byte(NULL, out),
+        Value::Boolean(is) => append_byte(32 * u8::from(*is) + BOOLEAN, out),
+    }
+}
+
+// Appends an encoded_array.
+#[cycle(appending)]
+fn append_array(values: &[Value], out: &mut Vec<u8>) -> Result<(), AllocError>
+    requires few { length values.now < 2 ^ 32 }
+    requires counted { AreCounted (values_of_list (map value_of values.now)) }
+    ensures { Appends (numbered_array_bytes (values_of_list (map value_of values.now))) out.old out.new result }
+{
+    append_number(values.len() as u32, out)?;
+    append_values(values, out)
+}
+
+// Appends values one after the other.
+#[cycle(appending)]
+fn append_values(values: &[Value], out: &mut Vec<u8>) -> Result<(), AllocError>
+    requires { AreCounted (values_of_list (map value_of values.now)) }
+    ensures { Appends (numbered_values_bytes (values_of_list (map value_of values.now))) out.old out.new result }
+{
+    for value in values {
+        append_value(value, out)?;
+    }
+    Ok(())
+}
+
+// Appends an encoded_annotation.
+#[cycle(appending)]
+fn append_annotation(typ: u32, elements: &[Element], out: &mut Vec<u8>) -> Result<(), AllocError>
+    requires few { length elements.now < 2 ^ 32 }
+    requires counted { HaveCounted (elements_of_list (map element_of elements.now)) }
+    ensures { Appends (encoded_annotation_bytes typ (elements_of_list (map element_of elements.now))) out.old out.new result }
+{
+    append_number(typ, out)?;
+    append_number(elements.len() as u32, out)?;
+    append_elements(elements, out)
+}
+
+// Appends elements one after the other.
+#[cycle(appending)]
+fn append_elements(elements: &[Element], out: &mut Vec<u8>) -> Result<(), AllocError>
+    requires { HaveCounted (elements_of_list (map element_of elements.now)) }
+    ensures { Appends (numbered_elements_bytes (elements_of_list (map element_of elements.now))) out.old out.new result }
+{
+    for element in elements {
+        append_number(element.name, out)?;
+        append_value(&element.value, out)?;
+    }
+    Ok(())
+}
+
+impl Visibility {
+    // The number of the visibility.
+    fn number(self) -> u8
+        ensures { result ≡ visibility_of self }
+    {
+        match self {
+            Visibility::Build => 0,
+            Visibility::Runtime => 1,
+            Visibility::System => 2,
+        }
+    }
+}
+
+// Appends an annotation_item.
+fn append_item(annotation: &Annotation, out: &mut Vec<u8>) -> Result<(), AllocError>
+    requires { IsCountedAnnotation (annotation_of annotation.now) }
+    ensures { Appends (numbered_annotation_bytes (annotation_of annotation.now)) out.old out.new result }
+{
+    append_byte(annotation.visibility.number(), out)?;
+    append_annotation(annotation.typ, &annotation.elements, out)
+}
+
+// Appends the value with its numbers.
+#[tactic(auto, using(crate::proofs::Settling::settled, crate::proofs::Settling::taken_back))]
+fn put_numbered_value(value: &Value, out: &mut Vec<u8>) -> Result<(), AllocError>
+    requires { IsCounted (value_of value.now) }
+    ensures { Puts (numbered_bytes (value_of value.now)) out.old out.new result }
+{
+    let start = out.len();
+    let answer = append_value(value, out);
+    if answer.is_err() {
+        out.truncate(start);
+    }
+    answer
+}
+
+// Appends the values with their numbers.
+#[tactic(auto, using(crate::proofs::Settling::settled, crate::proofs::Settling::taken_back))]
+fn put_numbered_statics(values: &[Value], out: &mut Vec<u8>) -> Result<(), AllocError>
+    requires few { length values.now < 2 ^ 32 }
+    requires counted { AreCounted (values_of_list (map value_of values.now)) }
+    ensures { Puts (numbered_array_bytes (values_of_list (map value_of values.now))) out.old out.new result }
+{
+    let start = out.len();
+    let answer = append_array(values, out);
+    if answer.is_err() {
+        out.truncate(start);
+    }
+    answer
+}
+
+// Appends the annotation with its numbers.
+#[tactic(auto, using(crate::proofs::Settling::settled, crate::proofs::Settling::taken_back))]
+fn put_numbered_annotation(annotation: &Annotation, out: &mut Vec<u8>) -> Result<(), AllocError>
+    requires { IsCountedAnnotation (annotation_of annotation.now) }
+    ensures { Puts (numbered_annotation_bytes (annotation_of annotation.now)) out.old out.new result }
+{
+    let start = out.len();
+    let answer = append_item(annotation, out);
+    if answer.is_err() {
+        out.truncate(start);
+    }
+    answer
+}
+
+/// Appends a value (an encoded_value), each number and each index in the fewest bytes, and what the value holds in the
+/// order in which it holds it.
+///
+/// It fails only for want of memory, and not where the spare room is at least what the value weighs; the vector is
+/// then as it was. Condition: each array and each annotation in it has fewer than 2^32 members.
+///
+/// Source: "encoded_value encoding", "encoded_array format" and "encoded_annotation format".
+pub fn put_value(
+    value: &Value,
+    numbering: &Numbering<'_>,
+    out: &mut Vec<u8>,
+) -> Result<(), AllocError>
+    requires { IsCounted (value_of value.now) }
+    ensures bytes { Puts (numbered_bytes (value_of value.now)) out.old out.new result }
+    ensures symbolic { (symbolic : ValueMeant) → StandsFor numbering.now (value_of value.now) symbolic → Puts (value_bytes numbering.now symbolic) out.old out.new result }
+    ensures room { (m : Mentions) → vec_len out.old + value_weight (value_in m (value_of value.now)) ≤ vec_capacity out.old → IsOk result }
+{
+    numbering.is_numbering();
+    put_numbered_value(value, out)
+}
+
+/// Appends the values with which static fields begin (an encoded_array_item), each as [`put_value`] does.
+///
+/// It fails only for want of memory, and not where the spare room is at least what the values weigh and there is one;
+/// the vector is then as it was. Condition: they, and the members of each array and each annotation in them, are fewer
+/// than 2^32.
+///
+/// Source: "encoded_array_item" and "encoded_array format".
+pub fn put_statics(
+    values: &[Value],
+    numbering: &Numbering<'_>,
+    out: &mut Vec<u8>,
+) -> Result<(), AllocError>
+    requires few { length values.now < 2 ^ 32 }
+    requires counted { AreCounted (values_of_list (map value_of values.now)) }
+    ensures bytes { Puts (numbered_array_bytes (values_of_list (map value_of values.now))) out.old out.new result }
+    ensures symbolic { (symbolic : ValuesMeant) → StandFor numbering.now (values_of_list (map value_of values.now)) symbolic → Puts (encoded_array_bytes numbering.now symbolic) out.old out.new result }
+    ensures room { (m : Mentions) → 0 < length values.now → vec_len out.old + static_values_weight (values_in m (values_of_list (map value_of values.now))) ≤ vec_capacity out.old → IsOk result }
+{
+    numbering.is_numbering();
+    put_numbered_statics(values, out)
+}
+
+/// Appends an annotation (an annotation_item): its visibility, its type, and its elements in their order, each value as
+/// [`put_value`] does.
+///
+/// It fails only for want of memory, and not where the spare room is at least what the annotation weighs; the vector is
+/// then as it was. Condition: it, and each array and each annotation in it, has fewer than 2^32 members.
+///
+/// Source: "annotation_item" and "encoded_annotation format".
+pub fn put_annotation(
+    annotation: &Annotation,
+    numbering: &Numbering<'_>,
+    out: &mut Vec<u8>,
+) -> Result<(), AllocError>
+    requires { IsCountedAnnotation (annotation_of annotation.now) }
+    ensures bytes { Puts (numbered_annotation_bytes (annotation_of annotation.now)) out.old out.new result }
+    ensures symbolic { (symbolic : AnnotationMeant) → StandsForAnnotation numbering.now (annotation_of annotation.now) symbolic → Puts (annotation_bytes numbering.now symbolic) out.old out.new result }
+    ensures room { (m : Mentions) → vec_len out.old + annotation_weight (annotation_in m (annotation_of annotation.now)) ≤ vec_capacity out.old → IsOk result }
+{
+    numbering.is_numbering();
+    put_numbered_annotation(annotation, out)
+}

@@ -1,0 +1,131 @@
+//! Values that hold no other value.
+
+ghost use Rattle.std.specs.Prelude.{◌≡◌, ◌≢◌, ◌%◌, ◌+◌, ◌<◌, ◌≤◌, ℕ, List, Some, MatchOption, IfSome, length, slice_index};
+ghost use Rattle.dexspec.specs.Bytes.{number_of};
+ghost use Rattle.dexspec.specs.Values.{SizedAt};
+ghost use Rattle.dexpool.specs.Pools.{ArePools, count_of};
+ghost use Rattle.dexval.specs.Code.{value_of};
+ghost use Rattle.dexval.specs.Scalars.{width_of, HasNumber, Spells, IsUnknown, NoValueAt, IsReadAt};
+
+use crate::numbers::{bits, signed, unsigned};
+use crate::value::Value;
+use dexpool::{Pools, SymbolKind};
+
+// The most bytes of a value of a type code, if an argument counts them.
+fn width_of(code: u8) -> Option<usize>
+    ensures { result ≡ width_of code }
+{
+    match code {
+        0x00 => Some(1),
+        0x02 => Some(2),
+        0x03 => Some(2),
+        0x04 => Some(4),
+        0x06 => Some(8),
+        0x10 => Some(4),
+        0x11 => Some(8),
+        0x17 => Some(4),
+        0x18 => Some(4),
+        0x19 => Some(4),
+        0x1a => Some(4),
+        0x1b => Some(4),
+        _ => None,
+    }
+}
+
+// The bytes that the argument of a value counts, which stand behind its first byte.
+fn number_at(bytes: &[u8], at: usize, width: usize) -> Option<&[u8]>
+    requires { at < length bytes.now }
+    ensures { MatchOption result ((xs : List ℕ) (n : ℕ) → SizedAt (slice_index bytes.now at % 32) width bytes.now at xs n → ⊥) (λ number. SizedAt (slice_index bytes.now at % 32) width bytes.now at number.now (1 + length number.now)) }
+{
+    let size = usize::from(bytes[at] / 32) + 1;
+    let (_, rest) = bytes.split_at(at + 1);
+    if size > width || size > rest.len() {
+        return None;
+    }
+    let (number, _) = rest.split_at(size);
+    Some(number)
+}
+
+// The index of a symbol of a kind, if there is such a symbol.
+fn index_of(number: &[u8], kind: SymbolKind, pools: &Pools<'_>) -> Option<u32>
+    requires some { 0 < length number.now }
+    requires few { length number.now ≤ 4 }
+    ensures { MatchOption result (count_of kind pools.now ≤ number_of number.now) (λ index. HasNumber pools.now kind number.now index) }
+{
+    let index = unsigned(number) as u32;
+    if (index as usize) < pools.len(kind) {
+        Some(index)
+    } else {
+        None
+    }
+}
+
+// The value of a type code and these bytes, unless they are the index of no symbol.
+fn spelled(code: u8, number: &[u8], pools: &Pools<'_>) -> Option<Value>
+    requires some { 0 < length number.now }
+    requires few { IfSome (width_of code) (λ width. length number.now ≤ width) }
+    ensures { MatchOption result (IsUnknown pools.now code number.now) (λ value. Spells pools.now code number.now (value_of value)) }
+{
+    match code {
+        0x00 => Some(Value::Byte(signed(number) as i8)),
+        0x02 => Some(Value::Short(signed(number) as i16)),
+        0x03 => Some(Value::Char(unsigned(number) as u16)),
+        0x04 => Some(Value::Int(signed(number) as i32)),
+        0x06 => Some(Value::Long(signed(number))),
+        0x10 => Some(Value::Float(bits(number, 4) as u32)),
+        0x11 => Some(Value::Double(bits(number, 8))),
+        0x17 => Some(Value::String(index_of(number, SymbolKind::Text, pools)?)),
+        0x18 => Some(Value::Typ(index_of(number, SymbolKind::Typ, pools)?)),
+        0x19 => Some(Value::Field(index_of(number, SymbolKind::Field, pools)?)),
+        0x1a => Some(Value::Method(index_of(number, SymbolKind::Method, pools)?)),
+        0x1b => Some(Value::Enum(index_of(number, SymbolKind::Field, pools)?)),
+        _ => None,
+    }
+}
+
+// The value behind a first byte whose argument counts the bytes of a number, and its size.
+fn sized_at(bytes: &[u8], pools: &Pools<'_>, at: usize) -> Option<(Value, usize)>
+    requires within { at < length bytes.now }
+    requires array { slice_index bytes.now at ≢ 0x1c }
+    requires annotation { slice_index bytes.now at ≢ 0x1d }
+    requires null { slice_index bytes.now at ≢ 0x1e }
+    requires no { slice_index bytes.now at ≢ 0x1f }
+    requires yes { slice_index bytes.now at ≢ 0x3f }
+    ensures read { ArePools bytes.now pools.now → MatchOption result ((depth : ℕ) → NoValueAt bytes.now at depth) (λ read. IsReadAt bytes.now at pools.now 0 (value_of read.0) read.1) }
+    ensures within { IfSome result (λ read. at + read.1 ≤ length bytes.now) }
+{
+    let code = bytes[at] % 32;
+    let width = match width_of(code) {
+        Some(width) => width,
+        None => return None,
+    };
+    let number = match number_at(bytes, at, width) {
+        Some(number) => number,
+        None => return None,
+    };
+    match spelled(code, number, pools) {
+        Some(value) => Some((value, 1 + number.len())),
+        None => None,
+    }
+}
+
+/// The value at a place that holds no other value, and its size, or `None` where none stands there. Indices count in
+/// the pools.
+///
+/// Condition: the byte at the place is there, and begins no array and no annotation.
+///
+/// Source: "encoded_value encoding", "Value formats".
+pub(crate) fn scalar_at(bytes: &[u8], pools: &Pools<'_>, at: usize) -> Option<(Value, usize)>
+    requires within { at < length bytes.now }
+    requires array { slice_index bytes.now at ≢ 0x1c }
+    requires annotation { slice_index bytes.now at ≢ 0x1d }
+    ensures read { ArePools bytes.now pools.now → MatchOption result ((depth : ℕ) → NoValueAt bytes.now at depth) (λ read. IsReadAt bytes.now at pools.now 0 (value_of read.0) read.1) }
+    ensures within { IfSome result (λ read. at + read.1 ≤ length bytes.now) }
+{
+    match bytes[at] {
+        0x1e => Some((Value::Null, 1)),
+        0x1f => Some((Value::Boolean(false), 1)),
+        0x3f => Some((Value::Boolean(true), 1)),
+        _ => sized_at(bytes, pools, at),
+    }
+}

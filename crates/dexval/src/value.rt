@@ -1,0 +1,52 @@
+//! Values, with numbers in the place of symbols.
+
+/// A value: what a static field begins with, or what an element of an annotation has. A number of a symbol counts
+/// in a numbering, or in the pools of the file that the value was read from.
+///
+/// Source: "encoded_value encoding", "Value formats".
+#[derive(Debug, Drop, PartialEq, Eq, Hash)]
+#[cycle(value)]
+pub enum Value {
+    /// A byte.
+    Byte(i8),
+    /// A short.
+    Short(i16),
+    /// A char: a unit of text.
+    Char(u16),
+    /// An int.
+    Int(i32),
+    /// A long.
+    Long(i64),
+    /// A float, by its bits.
+    Float(u32),
+    /// A double, by its bits.
+    Double(u64),
+    /// A text, by its number.
+    String(u32),
+    /// A type, by its number.
+    Typ(u32),
+    /// A field, by its number.
+    Field(u32),
+    /// A method, by its number.
+    Method(u32),
+    /// A constant of an enum: a field, by its number.
+    Enum(u32),
+    /// Values.
+    Array(Vec<Value>),
+    /// An annotation: the number of its type, and its elements.
+    Annotation(u32, Vec<Element>),
+    /// No object.
+    Null,
+    /// A truth value.
+    Boolean(bool),
+}
+
+/// An element of an annotation: the number of its name, and its value.
+///
+/// Source: "annotation_element".
+#[derive(Debug, Drop, PartialEq, Eq, Hash)]
+#[cycle(value)]
+pub struct Element {
+    pub name: u32,
+    pub value: Value,
+}

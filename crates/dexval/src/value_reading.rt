@@ -1,0 +1,70 @@
+//! Values read from a file.
+
+ghost use Rattle.std.specs.Prelude.{IfOk, IfErr, map};
+ghost use Rattle.dexpool.specs.Pools.{ArePools};
+ghost use Rattle.dexval.specs.Code.{value_of};
+ghost use Rattle.dexval.specs.Numbered.{values_of_list};
+ghost use Rattle.dexval.specs.Reading.{IsValueAt, IsValueFault, AreStaticsAt, IsStaticsFault};
+
+use crate::nesting::{array_at, value_at};
+use crate::value::Value;
+use dexhead::Frame;
+use dexpool::{ItemFault, Pools};
+use std::alloc::Global;
+
+/// The deepest that values nest.
+pub(crate) const MOST_DEPTH: u32 = 32;
+
+/// Reads the encoded_value at an offset, whose indices count in the pools: those of the file. Answers the value, and
+/// the number of bytes that it takes. A number may have any width up to that of its type; arrays and annotations nest
+/// 32 deep at most.
+///
+/// Error: `Refused(21)` exactly where no such value stands there, wholly in the data: a type code that is none, a
+/// number of too many bytes, an index that is out of range of its pool, names of elements that do not rise, or values
+/// that nest deeper; `Memory` where a growth was refused.
+///
+/// Source: "encoded_value encoding", "encoded_array format" and "encoded_annotation format".
+pub fn read_value(
+    alloc: Global,
+    frame: &Frame<'_>,
+    pools: &Pools<'_>,
+    off: u32,
+) -> Result<(Value, u32), ItemFault>
+    ensures value { ArePools frame.now pools.now → IfOk result (λ read. IsValueAt frame.now off pools.now (value_of read.0) read.1) }
+    ensures refused { ArePools frame.now pools.now → IfErr result (IsValueFault frame.now off) }
+{
+    if off < frame.data_off() {
+        return Err(ItemFault::Refused(21));
+    }
+    pools.numbering().is_numbering();
+    match value_at(alloc, frame.bytes(), pools, off as usize, MOST_DEPTH)? {
+        Some((value, size)) => Ok((value, size as u32)),
+        None => Err(ItemFault::Refused(21)),
+    }
+}
+
+/// Reads the encoded_array_item at an offset: the values with which the static fields of a class begin.
+///
+/// Error: as of [`read_value`]; each of the values may nest 32 deep.
+///
+/// Source: "encoded_array_item".
+pub fn read_statics(
+    alloc: Global,
+    frame: &Frame<'_>,
+    pools: &Pools<'_>,
+    off: u32,
+) -> Result<Vec<Value>, ItemFault>
+    ensures values { ArePools frame.now pools.now → IfOk result (λ values. AreStaticsAt frame.now off pools.now (values_of_list (map value_of values.items))) }
+    ensures refused { ArePools frame.now pools.now → IfErr result (IsStaticsFault frame.now off) }
+{
+    let bytes = frame.bytes();
+    let at = off as usize;
+    if off < frame.data_off() || at > bytes.len() {
+        return Err(ItemFault::Refused(21));
+    }
+    pools.numbering().is_numbering();
+    match array_at(alloc, bytes, pools, at, MOST_DEPTH)? {
+        Some((values, _)) => Ok(values),
+        None => Err(ItemFault::Refused(21)),
+    }
+}

@@ -23,7 +23,7 @@ use Rattle.dexcode.proofs.CodeUses.{optional_debug_uses, debug_part}
 use Rattle.dexcode.proofs.DebugMeanings as debugs
 use Rattle.dexcode.proofs.DebugMeanings.{lead_at, zip-append}
 use Rattle.dexcode.proofs.DebugUses.{all_of, all_parts}
-use Rattle.dexcode.proofs.Images.{one_default}
+use Rattle.dexcode.proofs.Images.{one_default, all_distinct}
 use Rattle.dexcode.proofs.Listed.{below_or_not}
 use Rattle.dexcode.proofs.TryRows.{IsInRange, handlers_meant}
 use Rattle.dexcode.proofs.TypesLed.{all_from_distinct}
@@ -99,19 +99,6 @@ types_apart m n r l = λ i j k e f. elim (below_or_not i j) [
 
 -- ---- the symbols that occur
 
--- what holds of all members holds of the distinct ones
-kept_by : {X : Type 0} (P : X → Type 0) (b : Bool) (x : X) (xs : List X) → P x → All P xs → All P (if not b then x ∷ xs else xs)
-kept_by P true x xs p all = all
-kept_by P false x xs p all = All-cons P x xs p all
-
-all_kept : {X : Type 0} (P : X → Type 0) (test : X → Bool) (xs : List X) → All P xs → All P (filter (λ y. not (test y)) xs)
-all_kept P test [] all = all
-all_kept P test (x ∷ xs) all = kept_by P (test x) x (filter (λ y. not (test y)) xs) (All-head P x xs all) (all_kept P test xs (All-tail P x xs all))
-
-all_distinct : {X : Type 0} (same : X → X → Bool) (P : X → Type 0) (xs : List X) → All P xs → All P (distinct same xs)
-all_distinct same P [] all = all
-all_distinct same P (x ∷ xs) all = All-cons P x (filter (λ y. not (same x y)) (distinct same xs)) (All-head P x xs all) (all_kept P (same x) (distinct same xs) (all_distinct same P xs (All-tail P x xs all)))
-
 module _ (m : Mentions) where
   catches_meant : (cs : List Catch) (xs : List symbolic.Catch) → AllZip (StandsForCatch m) cs xs → map (catch_meant m) cs ≡ xs
   catches_meant [] [] h = refl
@@ -139,7 +126,7 @@ module _ (m : Mentions) where
   tries_in (t ∷ ts) (x ∷ xs) h = All-cons (IsInRange m) t.handler (map (λ (u : NumberedTry). u.handler) ts) (catches_in t.handler.catches x.handler.catches h.0.handler_is.catches_are) (tries_in ts xs h.1)
 
   handlers_in : (ts : List NumberedTry) (xs : List symbolic.Try) → AllZip (StandsForTry m) ts xs → All (IsInRange m) (handlers_of ts)
-  handlers_in ts xs h = all_distinct same_handler (IsInRange m) (map (λ (t : NumberedTry). t.handler) ts) (tries_in ts xs h)
+  handlers_in ts xs h = all_distinct (IsInRange m) same_handler (map (λ (t : NumberedTry). t.handler) ts) (tries_in ts xs h)
 
   type_used : (i : ℕ) → i < length m.types → IsUseOf m (record { kind = kinds.Typ; number = i }) (TypeSymbol (get_or m.types i []))
   type_used i lt = (record { within = lt; is = λ d. one_default m.types i d [] lt }, tt)

@@ -1,5 +1,5 @@
 -- What the numbers in code items stand for.
-use Rattle.std.proofs.Common.{◌≡◌, ℕ, ◌<◌, Bool, true, false, not, List, [], ◌∷◌, ◌++◌, length, map, filter, get_or, Option, Some, None, option_to_list, refl, ap, sym, ◌∙◌, subst, if◌then◌else◌, inl, inr, arith}
+use Rattle.std.proofs.Common.{◌≡◌, ℕ, ◌<◌, List, [], ◌∷◌, ◌++◌, length, map, get_or, Option, Some, None, option_to_list, refl, ap, sym, ◌∙◌, subst, inl, inr, arith}
 use Rattle.std.specs.List.{All, AllZip, flat_map}
 use Rattle.std.specs.Option.{IsSome, unwrap_or, option_map}
 use Rattle.std.proofs.lemmas.List.Elements.{All-nil, All-cons, All-head, All-tail, All-append}
@@ -125,7 +125,7 @@ module _ (m : Mentions) where
   tries_in (t ∷ ts) [] h = absurd h
   tries_in (t ∷ ts) (x ∷ xs) h = All-cons (IsInRange m) t.handler (map (λ (u : NumberedTry). u.handler) ts) (catches_in t.handler.catches x.handler.catches h.0.handler_is.catches_are) (tries_in ts xs h.1)
 
-  handlers_in : (ts : List NumberedTry) (xs : List symbolic.Try) → AllZip (StandsForTry m) ts xs → All (IsInRange m) (handlers_of ts)
+  pub handlers_in : (ts : List NumberedTry) (xs : List symbolic.Try) → AllZip (StandsForTry m) ts xs → All (IsInRange m) (handlers_of ts)
   handlers_in ts xs h = all_distinct (IsInRange m) same_handler (map (λ (t : NumberedTry). t.handler) ts) (tries_in ts xs h)
 
   type_used : (i : ℕ) → i < length m.types → IsUseOf m (record { kind = kinds.Typ; number = i }) (TypeSymbol (get_or m.types i []))
@@ -141,7 +141,7 @@ module _ (m : Mentions) where
       zip-append (IsUseOf m) (handler_uses h) (handler_symbols (handler_meant m h)) (flat_map handler_uses hs) (flat_map handler_symbols (map (handler_meant m) hs))
       (catches_used h.catches (All-head (IsInRange m) h hs all)) (handlers_used hs (All-tail (IsInRange m) h hs all))
 
-  debug_used : (o : Option NumberedDebug) (x : Option Debug) → BothOrNone (StandsForDebug m) o x → AllZip (IsUseOf m) (optional_debug_uses o) (flat_map debug_symbols (option_to_list x))
+  pub debug_used : (o : Option NumberedDebug) (x : Option Debug) → BothOrNone (StandsForDebug m) o x → AllZip (IsUseOf m) (optional_debug_uses o) (flat_map debug_symbols (option_to_list x))
   debug_used None None h = tt
   debug_used None (Some x) h = absurd h
   debug_used (Some d) None h = absurd h

@@ -21,3 +21,4 @@ pub mod CodesRead
 pub mod TypesLed
 pub mod CodeUses
 pub mod CodeMeanings
+pub mod CodePlaces

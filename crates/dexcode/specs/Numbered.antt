@@ -1,5 +1,5 @@
 -- Tries and handlers whose types are numbers.
-use Rattle.std.specs.Prelude.{◌≡◌, ℕ, ◌+◌, ◌*◌, ◌<◌, Bool, ◌&&◌, ◌==◌, List, [], length, map, sum_by, All, slice_index_or, Option, Some, None}
+use Rattle.std.specs.Prelude.{◌≡◌, ℕ, ◌+◌, ◌*◌, ◌^◌, ◌<◌, ◌≤◌, Bool, ◌&&◌, ◌==◌, List, [], length, map, sum_by, All, slice_index_or, Option, Some, None}
 use Rattle.std.specs.Option.{option_eq}
 use Rattle.std.specs.Cmp.Lexicographic.{pointwise}
 use Rattle.std.specs.List.{AllZip}
@@ -53,10 +53,13 @@ named hs t = record { start = t.start; count = t.count; handler = slice_index_or
 abbrev pub all_named : List NumberedHandler → List Try → List NumberedTry
 all_named hs ts = map (named hs) ts
 
--- each names a handler of the list, and the list has those that are named, each once, in order of first use
+-- each names a handler of the list, and the list has those that are named, each once, in order of first use; tries can
+-- be counted in 16 bits, and the handlers weigh no more than they may
 pub record AreStored (hs : List NumberedHandler) (ts : List Try) : Type 0 where
   pub within : All (λ t. t.handler < length hs) ts
   pub used : hs ≡ handlers_of (all_named hs ts)
+  pub few : length ts < 2 ^ 16
+  pub light : handlers_weight hs ≤ symbolic.most_handlers
 
 -- the handlers whose numbers are known are where they are
 pub record AreKnown (listed hs : List NumberedHandler) (numbers : List (Option ℕ)) : Type 0 where

@@ -1,8 +1,9 @@
 //! Tries: the units that are covered, and their handlers.
 
-ghost use Rattle.std.specs.Prelude.{◌≡◌, ◌<◌, ◌≤◌, List, [], All, length, slice_index_or, IfOk};
+ghost use Rattle.std.specs.Prelude.{◌≡◌, ◌↔◌, ◌^◌, ◌<◌, ◌≤◌, IsTrue, List, [], All, length, slice_index_or, IfOk, IfSome, IfNone};
 ghost use Rattle.indexmap.specs.IndexSet.{insert_key};
-ghost use Rattle.dexcode.specs.Numbered.{NumberedHandler, AreKnown, AreStored, all_named, handlers_of, no_handler, same_handler};
+ghost use Rattle.dexspec.specs.Code.{most_handlers};
+ghost use Rattle.dexcode.specs.Numbered.{NumberedHandler, AreKnown, AreStored, all_named, handlers_of, handlers_weight, no_handler, same_handler};
 
 use crate::handlers::Handler;
 use indexmap::IndexSet;
@@ -78,10 +79,17 @@ impl Tries {
         }
     }
 
-    // Tries that name handlers of a list.
-    pub(crate) fn of(alloc: Global, tries: &[Try], listed: &[Handler]) -> Result<Tries, AllocError>
-        requires { All (λ t. t.handler < length listed.now) tries.now }
-        ensures { IfOk result (λ all. all ≡ all_named listed.now tries.now) }
+    // Tries that name handlers of a list, or `None` where those that they name weigh more than they may.
+    pub(crate) fn of(
+        alloc: Global,
+        tries: &[Try],
+        listed: &[Handler],
+    ) -> Result<Option<Tries>, AllocError>
+        requires within { All (λ t. t.handler < length listed.now) tries.now }
+        requires few { length tries.now < 2 ^ 16 }
+        ensures some { IfOk result (λ all. IfSome all (λ some. some ≡ all_named listed.now tries.now)) }
+        ensures light { IfOk result (λ all. IfSome all (λ some. handlers_weight (handlers_of some) ≤ most_handlers)) }
+        ensures heavy { IfOk result (λ all. IfNone all (most_handlers < handlers_weight (handlers_of (all_named listed.now tries.now)))) }
     {
         let mut numbers = vec![in alloc; None; listed.len()]?;
         let mut handlers = IndexSet::new(alloc);
@@ -95,11 +103,35 @@ impl Tries {
             })?;
         }
         let handlers = listed_in(alloc, handlers)?;
-        Ok(Tries {
+        if !are_light(&handlers) {
+            return Ok(None);
+        }
+        Ok(Some(Tries {
             tries: numbered,
             handlers,
-        })
+        }))
     }
+}
+
+// The most that the handlers of a code_item may weigh.
+const MOST_HANDLERS: usize = 65_535;
+
+// Whether the handlers weigh no more than they may.
+fn are_light(handlers: &[Handler]) -> bool
+    ensures { IsTrue result ↔ (handlers_weight handlers.now ≤ most_handlers) }
+{
+    let mut weight = 5;
+    for handler in handlers {
+        let catches = handler.catches.len();
+        if catches > MOST_HANDLERS {
+            return false;
+        }
+        weight += 10 + 8 * catches;
+        if weight > MOST_HANDLERS {
+            return false;
+        }
+    }
+    true
 }
 
 // The number of a handler of the list among those that are named, of which it is one from now on.

@@ -1,38 +1,15 @@
 //! The tries of a code_item with the list of their handlers, read from a file.
 
-ghost use Rattle.std.specs.Prelude.{◌≡◌, ◌<◌, ◌≤◌, ◌+◌, ◌*◌, ◌^◌, IsTrue, ◌↔◌, List, length, sum_by, All, IfOk, IfErr};
-ghost use Rattle.dexspec.specs.Code.{most_handlers};
-ghost use Rattle.dexcode.specs.Numbered.{NumberedTry, NumberedHandler, handlers_of, handlers_weight, all_named};
+ghost use Rattle.std.specs.Prelude.{◌≤◌, List, length, IfOk, IfErr};
+ghost use Rattle.dexcode.specs.Numbered.{NumberedTry};
 ghost use Rattle.dexcode.specs.Reading.{TryItemsAt, IsTriesFault};
 
 use crate::handler_list::read_list;
-use crate::handlers::Handler;
 use crate::tries::Tries;
 use crate::try_items::read_try_items;
 use dexinsn::InstructionStarts;
 use dexpool::ItemFault;
 use std::alloc::Global;
-
-// The most that the handlers of a code_item may weigh.
-const MOST_HANDLERS: usize = 65_535;
-
-// Whether the handlers weigh no more than they may.
-fn are_light(handlers: &[Handler]) -> bool
-    ensures { IsTrue result ↔ (handlers_weight handlers.now ≤ most_handlers) }
-{
-    let mut weight = 5;
-    for handler in handlers {
-        let catches = handler.catches.len();
-        if catches > MOST_HANDLERS {
-            return false;
-        }
-        weight += 10 + 8 * catches;
-        if weight > MOST_HANDLERS {
-            return false;
-        }
-    }
-    true
-}
 
 // So many tries from a place on, and the list of their handlers behind them.
 pub(crate) fn read_try_table(
@@ -65,9 +42,8 @@ pub(crate) fn read_try_table(
         Ok(tries) => tries,
         Err(_) => return Err(ItemFault::Memory),
     };
-    if are_light(tries.handlers()) {
-        Ok(tries)
-    } else {
-        Err(ItemFault::Refused(19))
+    match tries {
+        Some(tries) => Ok(tries),
+        None => Err(ItemFault::Refused(19)),
     }
 }

@@ -1,5 +1,5 @@
 -- What the numbers in code items stand for.
-use Rattle.std.proofs.Common.{◌≡◌, ℕ, ◌<◌, List, [], ◌∷◌, ◌++◌, length, map, get_or, Option, Some, None, option_to_list, refl, ap, sym, ◌∙◌, subst, inl, inr, arith}
+use Rattle.std.proofs.Common.{◌≡◌, ℕ, ◌<◌, List, [], ◌∷◌, ◌++◌, length, map, get_or, Option, Some, None, option_to_list, refl, ap, sym, ◌∙◌, subst, arith}
 use Rattle.std.specs.List.{All, AllZip, flat_map}
 use Rattle.std.specs.Option.{IsSome, unwrap_or, option_map}
 use Rattle.std.proofs.lemmas.List.Elements.{All-nil, All-cons, All-head, All-tail, All-append}
@@ -18,13 +18,12 @@ use Rattle.dexcode.specs.declared.handlers.Catch.{Catch}
 use Rattle.dexcode.specs.Debug.{NumberedDebug, StandsForDebug, HasImage, HasPlace, renumbered_debug, debug_uses}
 use Rattle.dexcode.specs.Equality.{handler_decides}
 use Rattle.dexcode.specs.Numbered.{NumberedHandler, NumberedTry, NumberedItem, StandsForCatch, StandsForTry, StandsForCode, same_handler, handlers_of, catch_meant, handler_meant, try_meant}
-use Rattle.dexcode.specs.Renumbering.{catch_use, handler_uses, tries_uses, item_uses, HasTypePlace, HasPlaces, HasImages, AreTypesApart, renumbered_catch, renumbered_try, renumbered_item}
+use Rattle.dexcode.specs.Renumbering.{catch_use, handler_uses, tries_uses, item_uses, HasTypePlace, HasPlaces, HasImages, renumbered_catch, renumbered_try, renumbered_item}
 use Rattle.dexcode.proofs.CodeUses.{optional_debug_uses, debug_part}
 use Rattle.dexcode.proofs.DebugMeanings as debugs
 use Rattle.dexcode.proofs.DebugMeanings.{lead_at, zip-append}
 use Rattle.dexcode.proofs.DebugUses.{all_of, all_parts}
 use Rattle.dexcode.proofs.Images.{one_default, all_distinct}
-use Rattle.dexcode.proofs.Listed.{below_or_not}
 use Rattle.dexcode.proofs.TryRows.{IsInRange, handlers_meant}
 use Rattle.dexcode.proofs.TypesLed.{all_from_distinct}
 
@@ -89,13 +88,6 @@ images_of_places r c h = record {
   catches_have = all_of (HasTypePlace r) (HasImage r) (tries_uses c.tries) (λ u place. subst IsSome (sym place.1) refl) h.catches_have;
   debug_has = all_of (HasPlace r) (HasImage r) (optional_debug_uses c.debug) (λ u place. subst IsSome (sym place.1) refl) h.debug_has;
 }
-
--- no two types of a numbering lead to one of another
-pub types_apart : (m n : Mentions) (r : Maps) → AllLead m n r → AreTypesApart r
-types_apart m n r l = λ i j k e f. elim (below_or_not i j) [
-  | inl lt ↦ absurd (omega (arith, l.types_lead.rising i j k k lt e f))
-  | inr le ↦ elim (below_or_not j i) [ inl gt ↦ absurd (omega (arith, l.types_lead.rising j i k k gt f e)) | inr ge ↦ omega (arith, le, ge) ]
-]
 
 -- ---- the symbols that occur
 

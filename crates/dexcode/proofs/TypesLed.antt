@@ -1,5 +1,5 @@
 -- The types of handlers, led on: which handlers stay distinct, and what tries name then.
-use Rattle.std.proofs.Common.{◌≡◌, ℕ, ◌+◌, ◌*◌, ◌<◌, Bool, true, false, not, List, [], ◌∷◌, length, map, get_or, filter, Some, refl, ap, sym, ◌∙◌, subst, if◌then◌else◌, arith}
+use Rattle.std.proofs.Common.{◌≡◌, ℕ, ◌+◌, ◌*◌, ◌<◌, Bool, true, false, not, List, [], ◌∷◌, length, map, get_or, filter, Some, refl, ap, sym, ◌∙◌, subst, if◌then◌else◌, arith, inl, inr}
 use Rattle.std.specs.Prelude.{sum_by}
 use Rattle.std.specs.Bool.{Decides, one_answer}
 use Rattle.std.specs.Option.{unwrap_or}
@@ -10,6 +10,7 @@ use Rattle.std.proofs.lemmas.List.Sums.{sum_by-cons}
 use Rattle.dexspec.specs.Lists.{distinct}
 use Rattle.dexpool.specs.declared.symbols.SymbolKind.TheVariants as kinds
 use Rattle.dexpool.specs.Numberings.{Maps}
+use Rattle.dexpool.specs.Orderly.{KeepOrder}
 use Rattle.dexcode.specs.declared.handlers.Catch.{Catch}
 use Rattle.dexcode.specs.declared.tries.Try.{Try}
 use Rattle.dexcode.specs.Equality.{handler_decides}
@@ -17,6 +18,7 @@ use Rattle.dexcode.specs.Numbered.{NumberedHandler, NumberedTry, AreStored, same
 use Rattle.dexcode.specs.Renumbering.{catch_use, handler_uses, tries_uses, HasTypePlace, AreTypesApart, led_type, led_try, renumbered_catch, renumbered_handler, renumbered_try}
 use Rattle.dexcode.proofs.DebugUses.{all_parts}
 use Rattle.dexcode.proofs.Images.{distinct_map}
+use Rattle.dexcode.proofs.Listed.{below_or_not}
 
 -- what holds of the images holds of the members
 pub all_back_map : {X Y : Type 0} (P : Y → Type 0) (f : X → Y) (xs : List X) → All P (map f xs) → All (λ x. P (f x)) xs
@@ -53,6 +55,13 @@ module _ {X : Type 0} (same : X → X → Bool) (decides : (x y : X) → Decides
 -- each caught type has a place
 abbrev pub HaveTypePlaces : Maps → NumberedHandler → Type 0
 HaveTypePlaces r h = All (HasTypePlace r) (handler_uses h)
+
+-- no two types lead to one number
+pub types_apart : (r : Maps) → KeepOrder r → AreTypesApart r
+types_apart r keep = λ i j k e f. elim (below_or_not i j) [
+  | inl lt ↦ absurd (omega (arith, keep.types_keep i j k k lt e f))
+  | inr le ↦ elim (below_or_not j i) [ inl gt ↦ absurd (omega (arith, keep.types_keep j i k k gt f e)) | inr ge ↦ omega (arith, le, ge) ]
+]
 
 module _ (r : Maps) (apart : AreTypesApart r) where
   one_type : (i j : ℕ) → HasTypePlace r (record { kind = kinds.Typ; number = i }) → HasTypePlace r (record { kind = kinds.Typ; number = j }) → led_type r i ≡ led_type r j → i ≡ j

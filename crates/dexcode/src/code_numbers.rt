@@ -2,7 +2,7 @@
 
 ghost use Rattle.std.specs.Prelude.{◌≡◌, ◌↔◌, IsTrue, All};
 ghost use Rattle.dexinsn.specs.Numbered.{HasMark, AreMarkedToo};
-ghost use Rattle.dexcode.specs.Renumbering.{item_uses, HasPlaces, AreTypesApart, renumbered_item};
+ghost use Rattle.dexcode.specs.Renumbering.{item_uses, HasPlaces, renumbered_item};
 
 use crate::code::Code;
 use dexpool::{Marks, Remap};
@@ -11,13 +11,11 @@ impl<'a> Code<'a> {
     /// Puts for each number the one that it leads to. No memory is taken.
     ///
     /// Condition: each number leads to one that fits its place, one below 2^16 in an instruction but for
-    /// const-string/jumbo, one below 2^32 for a type that is caught, and one below 2^32 - 1 in the debug program. No
-    /// two types lead to one number.
+    /// const-string/jumbo, one below 2^32 for a type that is caught, and one below 2^32 - 1 in the debug program.
     ///
     /// Source: "code_item".
     pub fn renumber(&mut self, remap: &Remap)
-        requires places { HasPlaces remap.now self.old }
-        requires apart { AreTypesApart remap.now }
+        requires { HasPlaces remap.now self.old }
         ensures { self.new ≡ renumbered_item remap.now self.old }
     {
         self.pieces.renumber(remap);

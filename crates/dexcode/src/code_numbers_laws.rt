@@ -11,14 +11,12 @@ ghost use Rattle.dexpool.specs.declared.symbols.SymbolKind.{SymbolKind};
 ghost use Rattle.dexpool.specs.declared.marks.Marks.{Marks};
 ghost use Rattle.dexinsn.specs.Numbered.{HasMark, HasPlace, IsUseOf};
 ghost use Rattle.dexcode.specs.Numbered.{NumberedItem, StandsForCode};
-ghost use Rattle.dexcode.specs.Renumbering.{item_uses, HasPlaces, HasImages, AreTypesApart, renumbered_item};
+ghost use Rattle.dexcode.specs.Renumbering.{item_uses, HasPlaces, HasImages, renumbered_item};
 
-/// Under other numbers the code stands for what it stood for. Numbers that lead to places lead somewhere, and where
-/// they lead from one numbering to another no two types lead to one.
+/// Under other numbers the code stands for what it stood for. Numbers that lead to places lead somewhere.
 pub fn code_renumber_law()
     ensures keeps { (m n : Mentions) (r : Maps) (c : NumberedItem) (x : symbolic.Code) → AllLead m n r → HasImages r c → StandsForCode m c x → StandsForCode n (renumbered_item r c) x }
     ensures places { (r : Maps) (c : NumberedItem) → HasPlaces r c → HasImages r c }
-    ensures apart { (m n : Mentions) (r : Maps) → AllLead m n r → AreTypesApart r }
 {}
 
 /// Where each number leads somewhere, those in the code do. They lead to places in a numbering of less than 2^32

@@ -3,7 +3,7 @@
 ghost use Rattle.std.specs.Prelude.{◌≡◌, All, map};
 ghost use Rattle.std.specs.List.{flat_map};
 ghost use Rattle.dexinsn.specs.Numbered.{HasMark, AreMarkedToo};
-ghost use Rattle.dexcode.specs.Renumbering.{catch_use, handler_uses, tries_uses, HasTypePlace, AreTypesApart, renumbered_catch, renumbered_handler, renumbered_try};
+ghost use Rattle.dexcode.specs.Renumbering.{catch_use, handler_uses, tries_uses, HasTypePlace, renumbered_catch, renumbered_handler, renumbered_try};
 
 use crate::debug_numbers::mark_one;
 use crate::handlers::{Catch, Handler};
@@ -84,10 +84,10 @@ fn mark_handlers(handlers: &[Handler], marks: &mut Marks)
 impl Tries {
     // Puts for each type that is caught the number that it leads to. No memory is taken.
     pub(crate) fn renumber(&mut self, remap: &Remap)
-        requires places { All (HasTypePlace remap.now) (tries_uses self.old) }
-        requires apart { AreTypesApart remap.now }
+        requires { All (HasTypePlace remap.now) (tries_uses self.old) }
         ensures { self.new ≡ map (renumbered_try remap.now) self.old }
     {
+        remap.keeps_order();
         renumber_handlers(&mut self.handlers, remap);
     }
 

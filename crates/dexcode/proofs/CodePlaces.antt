@@ -17,11 +17,28 @@ use Rattle.dexinsn.proofs.Meanings as pieces_proofs
 use Rattle.dexcode.specs.declared.handlers.Catch.{Catch}
 use Rattle.dexcode.specs.Debug.{HasImage, HasPlace}
 use Rattle.dexcode.specs.Numbered.{NumberedHandler, NumberedItem, StandsForCode, handlers_of}
-use Rattle.dexcode.specs.Renumbering.{catch_use, handler_uses, tries_uses, HasTypePlace, HasPlaces, HasImages}
+use Rattle.dexcode.specs.Renumbering.{catch_use, handler_uses, tries_uses, item_uses, HasTypePlace, HasPlaces, HasImages}
 use Rattle.dexcode.proofs.CodeMeanings.{handlers_in, debug_used}
-use Rattle.dexcode.proofs.CodeUses.{optional_debug_uses}
+use Rattle.dexcode.proofs.CodeUses.{optional_debug_uses, pieces_part, tries_part, debugs_part}
 use Rattle.dexcode.proofs.DebugUses.{all_of}
 use Rattle.dexcode.proofs.TryRows.{IsInRange}
+
+-- pieces whose symbols lead somewhere
+pieces_lead : (r : Maps) (ps : List NumberedPiece) → All (HasImage r) (uses_of ps) → All (pieces.HasImage r) ps
+pieces_lead r [] h = All-nil (pieces.HasImage r)
+pieces_lead r (Instruction us None ∷ ps) h = All-cons (pieces.HasImage r) (Instruction us None) ps tt (pieces_lead r ps h)
+pieces_lead r (Instruction us (Some n) ∷ ps) h =
+    let u : Use = record { kind = kind_in us; number = n } in
+    All-cons (pieces.HasImage r) (Instruction us (Some n)) ps (All-head (HasImage r) u (uses_of ps) h) (pieces_lead r ps (All-tail (HasImage r) u (uses_of ps) h))
+pieces_lead r (Payload us ∷ ps) h = All-cons (pieces.HasImage r) (Payload us) ps tt (pieces_lead r ps h)
+
+-- so do the numbers of the code whose symbols do
+pub images_of_uses : (r : Maps) (c : NumberedItem) → All (HasImage r) (item_uses c) → HasImages r c
+images_of_uses r c all = record {
+  pieces_have = pieces_lead r c.body.pieces (pieces_part (HasImage r) c all);
+  catches_have = tries_part (HasImage r) c all;
+  debug_has = debugs_part (HasImage r) c all;
+}
 
 -- ---- all numbers lead somewhere
 
@@ -39,14 +56,6 @@ module _ (m : Mentions) (r : Maps) (leads : LeadsAll m r) where
   uses_lead (u ∷ us) [] h = absurd h
   uses_lead (u ∷ us) (s ∷ ss) h = All-cons (HasImage r) u us (image_by u.kind u.number s h.0.0 h.0.1) (uses_lead us ss h.1)
 
-  pieces_lead : (ps : List NumberedPiece) → All (HasImage r) (uses_of ps) → All (pieces.HasImage r) ps
-  pieces_lead [] h = All-nil (pieces.HasImage r)
-  pieces_lead (Instruction us None ∷ ps) h = All-cons (pieces.HasImage r) (Instruction us None) ps tt (pieces_lead ps h)
-  pieces_lead (Instruction us (Some n) ∷ ps) h =
-      let u : Use = record { kind = kind_in us; number = n } in
-      All-cons (pieces.HasImage r) (Instruction us (Some n)) ps (All-head (HasImage r) u (uses_of ps) h) (pieces_lead ps (All-tail (HasImage r) u (uses_of ps) h))
-  pieces_lead (Payload us ∷ ps) h = All-cons (pieces.HasImage r) (Payload us) ps tt (pieces_lead ps h)
-
   catches_lead : (cs : List Catch) (us : List Use) → All (λ c. c.typ < length m.types) cs → All (HasImage r) us → All (HasImage r) (map catch_use cs ++ us)
   catches_lead [] us all more = more
   catches_lead (c ∷ cs) us all more =
@@ -58,7 +67,7 @@ module _ (m : Mentions) (r : Maps) (leads : LeadsAll m r) where
 
 pub images_there : (m : Mentions) (r : Maps) (c : NumberedItem) (x : symbolic.Code) → LeadsAll m r → StandsForCode m c x → HasImages r c
 images_there m r c x leads h = record {
-  pieces_have = pieces_lead m r leads c.body.pieces (uses_lead m r leads (uses_of c.body.pieces) (flat_map piece_symbols x.pieces) (pieces_proofs.uses_stand m c.body.pieces x.pieces h.pieces_are));
+  pieces_have = pieces_lead r c.body.pieces (uses_lead m r leads (uses_of c.body.pieces) (flat_map piece_symbols x.pieces) (pieces_proofs.uses_stand m c.body.pieces x.pieces h.pieces_are));
   catches_have = handlers_lead m r leads (handlers_of c.tries) (handlers_in m c.tries x.tries h.tries_are);
   debug_has = uses_lead m r leads (optional_debug_uses c.debug) (flat_map debug_symbols (option_to_list x.debug)) (debug_used m c.debug x.debug h.debug_is);
 }

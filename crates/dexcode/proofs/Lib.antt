@@ -22,3 +22,4 @@ pub mod TypesLed
 pub mod CodeUses
 pub mod CodeMeanings
 pub mod CodePlaces
+pub mod KeptUses

@@ -1,10 +1,11 @@
 -- Code items whose symbols are numbers: the symbols that occur, and what becomes of their numbers.
-use Rattle.std.specs.Prelude.{◌≡◌, ℕ, ◌^◌, ◌<◌, List, ◌++◌, map, All, Some, option_to_list}
+use Rattle.std.specs.Prelude.{◌≡◌, ℕ, ◌^◌, ◌<◌, true, false, List, ◌++◌, map, All, slice_index_or, Some, option_to_list}
 use Rattle.std.specs.List.{flat_map}
 use Rattle.std.specs.Option.{option_map, unwrap_or}
 use Rattle.dexpool.specs.declared.symbols.SymbolKind.TheVariants as kinds
+use Rattle.dexpool.specs.declared.marks.Marks.{Marks}
 use Rattle.dexpool.specs.Numberings.{Maps, image_of}
-use Rattle.dexinsn.specs.Numbered.{Use, uses_of, renumbered}
+use Rattle.dexinsn.specs.Numbered.{Use, uses_of, marks_of, renumbered}
 use Rattle.dexinsn.specs.Numbered as pieces
 use Rattle.dexcode.specs.Debug.{debug_uses, HasImage, HasPlace, renumbered_debug}
 use Rattle.dexcode.specs.declared.handlers.Catch.{Catch}
@@ -50,6 +51,10 @@ pub record HasImages (r : Maps) (c : NumberedItem) : Type 0 where
 -- no two types lead to one number
 abbrev pub AreTypesApart : Maps → Type 0
 AreTypesApart r = (i j k : ℕ) → image_of r kinds.Typ i ≡ Some k → image_of r kinds.Typ j ≡ Some k → i ≡ j
+
+-- the symbol is marked
+abbrev pub IsMarkedUse : Marks → Use → Type 0
+IsMarkedUse marks u = slice_index_or (marks_of u.kind marks) u.number false ≡ true
 
 -- ---- other numbers
 

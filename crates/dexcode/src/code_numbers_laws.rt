@@ -1,17 +1,18 @@
 //! Laws of numbered code items. Each function does nothing: its contract is the law, for the callers that cite it.
 
-ghost use Rattle.std.specs.Prelude.{◌^◌, ◌<◌, All};
+ghost use Rattle.std.specs.Prelude.{◌^◌, ◌<◌, List, All};
 ghost use Rattle.std.specs.List.{AllZip};
 ghost use Rattle.dexspec.specs.Code as symbolic;
-ghost use Rattle.dexspec.specs.Mentions.{Mentions, code_symbols};
-ghost use Rattle.dexpool.specs.Numberings.{AreRising, AreMarksOf, Maps, AllLead};
+ghost use Rattle.dexspec.specs.Mentions.{Mentions, closed, code_symbols};
+ghost use Rattle.dexpool.specs.Numberings.{AreRising, AreMarksOf, Maps, AllLead, marked};
 ghost use Rattle.dexpool.specs.Laws.{LeadsAll};
 ghost use Rattle.dexpool.specs.Pools.{count_of};
 ghost use Rattle.dexpool.specs.declared.symbols.SymbolKind.{SymbolKind};
 ghost use Rattle.dexpool.specs.declared.marks.Marks.{Marks};
-ghost use Rattle.dexinsn.specs.Numbered.{HasMark, HasPlace, IsUseOf};
+ghost use Rattle.dexinsn.specs.Numbered.{Use, HasMark, AreMarkedToo, HasPlace, IsUseOf};
+ghost use Rattle.dexcode.specs.Debug.{HasImage};
 ghost use Rattle.dexcode.specs.Numbered.{NumberedItem, StandsForCode};
-ghost use Rattle.dexcode.specs.Renumbering.{item_uses, HasPlaces, HasImages, renumbered_item};
+ghost use Rattle.dexcode.specs.Renumbering.{item_uses, IsMarkedUse, HasPlaces, HasImages, renumbered_item};
 
 /// Under other numbers the code stands for what it stood for. Numbers that lead to places lead somewhere.
 pub fn code_renumber_law()
@@ -24,6 +25,14 @@ pub fn code_renumber_law()
 pub fn code_places_law()
     ensures images { (m : Mentions) (r : Maps) (c : NumberedItem) (x : symbolic.Code) → LeadsAll m r → StandsForCode m c x → HasImages r c }
     ensures places { (m n : Mentions) (r : Maps) (c : NumberedItem) → AllLead m n r → ((kind : SymbolKind) → count_of kind n < 2 ^ 32) → All (HasPlace r) c.body.pieces → HasImages r c → HasPlaces r c }
+{}
+
+/// Each symbol that a call marks is marked then. Where a numbering keeps just the symbols that are marked, and what these
+/// name, the number of each leads somewhere. So the numbers in code do whose symbols do.
+pub fn code_kept_law()
+    ensures marked { (us : List Use) (old new : Marks) → AreMarkedToo us old new → All (IsMarkedUse new) us }
+    ensures images { (m : Mentions) (marks : Marks) (r : Maps) (us : List Use) → AreMarksOf m marks → AllLead m (closed (marked m marks)) r → All (IsMarkedUse marks) us → All (HasImage r) us }
+    ensures code { (r : Maps) (c : NumberedItem) → All (HasImage r) (item_uses c) → HasImages r c }
 {}
 
 /// Where the symbols rise, those that occur are those of the code that it stands for, one for one and in their order.

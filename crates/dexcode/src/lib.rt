@@ -5,7 +5,7 @@
 #![tactic(auto)]
 
 pub use code::Code;
-pub use code_numbers_laws::{code_places_law, code_renumber_law, code_uses_law};
+pub use code_numbers_laws::{code_kept_law, code_places_law, code_renumber_law, code_uses_law};
 pub use code_reading::read_code;
 pub use debug::Debug;
 pub use debug_laws::{debug_bare_law, debug_bytes_law, debug_renumber_law, debug_uses_law};

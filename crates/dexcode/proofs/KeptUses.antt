@@ -1,0 +1,122 @@
+-- Symbols that are marked are kept, and their numbers lead somewhere.
+use Rattle.std.proofs.Common.{◌≡◌, ℕ, ◌<◌, ◌==◌, Bool, true, false, ◌||◌, ◌&&◌, List, [], ◌∷◌, ◌++◌, length, map, get_or, Option, Some, None, refl, ◌∙◌, arith}
+use Rattle.std.specs.List.{All, Contains, flat_map}
+use Rattle.std.specs.Option.{IsSome}
+use Rattle.std.specs.Cmp.{IsTotalOrder, unsigned_Decides}
+use Rattle.std.specs.FinMap.{IsAntisymmetric}
+use Rattle.std.specs.declared.cmp.Ordering.{Ordering}
+use Rattle.std.proofs.lemmas.List.Elements.{Contains-append_left, Contains-append_right, All-nil, All-cons, All-head, All-tail}
+use Rattle.dexspec.specs.Lists.{in_order}
+use Rattle.dexspec.specs.Texts.{text_cmp}
+use Rattle.dexspec.specs.Symbols.{Symbol, TextSymbol, TypeSymbol, ProtoSymbol, FieldSymbol, MethodSymbol, proto_cmp, field_cmp, method_cmp}
+use Rattle.dexspec.specs.Mentions.{Mentions, closed, texts_in, types_in, protos_in, fields_in, methods_in}
+use Rattle.dexspec.proofs.Members.{Contains-first, Contains-flat_map}
+use Rattle.dexspec.proofs.Depths.{Contains-map}
+use Rattle.dexspec.proofs.SymbolOrders.{text_total, text_exact, proto_total, proto_exact, field_total, field_exact, method_total, method_exact}
+use Rattle.dexspec.proofs.InOrder.{in_order-has}
+use Rattle.dexrows.specs.Cut.{kept}
+use Rattle.dexpool.specs.declared.symbols.SymbolKind.{SymbolKind}
+use Rattle.dexpool.specs.declared.symbols.SymbolKind.TheVariants as kinds
+use Rattle.dexpool.specs.declared.marks.Marks.{Marks}
+use Rattle.dexpool.specs.Closing.{IsMarked}
+use Rattle.dexpool.specs.Numberings.{Maps, image, image_of, Leads, AllLead, AreMarksOf, marked}
+use Rattle.dexpool.proofs.KeptRows.{mark_within, kept_has}
+use Rattle.dexinsn.specs.Numbered.{Use, AreMarkedToo, marks_of, same_kind, occurs}
+use Rattle.dexcode.specs.Debug.{HasImage}
+use Rattle.dexcode.specs.Renumbering.{IsMarkedUse}
+
+-- ---- what occurs is marked
+
+kind_same : (k : SymbolKind) → same_kind k k ≡ true
+kind_same kinds.Text = refl
+kind_same kinds.Typ = refl
+kind_same kinds.Proto = refl
+kind_same kinds.Field = refl
+kind_same kinds.Method = refl
+
+or_second : (a b : Bool) → b ≡ true → (a || b) ≡ true
+or_second true b e = refl
+or_second false b e = e
+
+or_first : (a b : Bool) → a ≡ true → (a || b) ≡ true
+or_first true b e = refl
+or_first false b e = absurd cc
+
+and_one : (a b : Bool) → a ≡ true → b ≡ true → (a && b) ≡ true
+and_one true b e f = f
+and_one false b e f = absurd cc
+
+itself : (u : Use) → (same_kind u.kind u.kind && u.number == u.number) ≡ true
+itself u = and_one (same_kind u.kind u.kind) (u.number == u.number) (kind_same u.kind) ((unsigned_Decides u.number u.number).1 refl)
+
+-- what occurs in a list that is part of another occurs there
+module _ (whole : List Use) (old new : Marks) (h : AreMarkedToo whole old new) where
+  marked_one : (u : Use) → occurs whole u.kind u.number ≡ true → IsMarkedUse new u
+  marked_one u e = h.each u.kind u.number ∙ or_second (get_or (marks_of u.kind old) u.number false) (occurs whole u.kind u.number) e
+
+  marked_all : (us : List Use) → ((k : SymbolKind) (i : ℕ) → occurs us k i ≡ true → occurs whole k i ≡ true) → All (IsMarkedUse new) us
+  marked_all [] among = All-nil (IsMarkedUse new)
+  marked_all (u ∷ us) among =
+      All-cons (IsMarkedUse new) u us (marked_one u (among u.kind u.number (or_first (same_kind u.kind u.kind && u.number == u.number) (occurs us u.kind u.number) (itself u))))
+      (marked_all us (λ k i e. among k i (or_second (same_kind u.kind k && u.number == i) (occurs us k i) e)))
+
+-- what occurs is marked from then on
+pub marked_then : (us : List Use) (old new : Marks) → AreMarkedToo us old new → All (IsMarkedUse new) us
+marked_then us old new h = marked_all us old new h us (λ k i e. e)
+
+-- ---- what is marked leads somewhere
+
+some_or : (o : Option ℕ) → (o ≡ None → ⊥) → IsSome o
+some_or None h = absurd (h refl)
+some_or (Some j) h = refl
+
+-- any member of a list that has one
+some : {X : Type 0} (xs : List X) (i : ℕ) → i < length xs → X
+some [] i lt = absurd (omega arith)
+some (x ∷ xs) i lt = x
+
+module _ {X : Type 0} (R : X → X → Ordering) (o : IsTotalOrder R) (exact : IsAntisymmetric R) (parts : Symbol → List X) (symbol : X → Symbol) (itself_in : (x : X) → Contains (parts (symbol x)) x) where
+  leads_kept : (ms : List Bool) (xs : List X) (ss : List Symbol) (images : List (Option ℕ)) (i : ℕ) → length ms ≡ length xs → IsMarked ms i → ((s : Symbol) → Contains (map symbol (kept ms xs)) s → Contains ss s) → Leads xs (in_order R (flat_map parts ss)) images → IsSome (image images i)
+  leads_kept ms xs ss images i count mark among l =
+      let lt : i < length xs = omega (arith, count, mark_within ms i mark) in
+      let d = some xs i lt in
+      let x = get_or xs i d in
+      let there = among (symbol x) (Contains-map symbol (kept ms xs) x (kept_has ms xs i d mark lt)) in
+      some_or (image images i) (λ e. l.none i d lt e (in_order-has R o exact (flat_map parts ss) x (Contains-flat_map parts ss (symbol x) x there (itself_in x))))
+
+module _ (m : Mentions) (marks : Marks) (r : Maps) (are : AreMarksOf m marks) (l : AllLead m (closed (marked m marks)) r) where
+  abbrev texts : List Symbol
+  texts = map TextSymbol (kept marks.strings.items m.texts)
+
+  abbrev types : List Symbol
+  types = map TypeSymbol (kept marks.types.items m.types)
+
+  abbrev protos : List Symbol
+  protos = map ProtoSymbol (kept marks.protos.items m.protos)
+
+  abbrev fields : List Symbol
+  fields = map FieldSymbol (kept marks.fields.items m.fields)
+
+  abbrev methods : List Symbol
+  methods = map MethodSymbol (kept marks.methods.items m.methods)
+
+  image_kept : (k : SymbolKind) (i : ℕ) → IsMarked (marks_of k marks) i → IsSome (image_of r k i)
+  image_kept kinds.Text i mark =
+      leads_kept text_cmp text_total text_exact texts_in TextSymbol (λ s. Contains-first s []) marks.strings.items m.texts (marked m marks) r.texts i are.strings_count mark
+      (λ s c. Contains-append_left texts (types ++ (protos ++ (fields ++ methods))) s c) l.texts_lead
+  image_kept kinds.Typ i mark =
+      leads_kept text_cmp text_total text_exact types_in TypeSymbol (λ s. Contains-first s []) marks.types.items m.types (marked m marks) r.types i are.types_count mark
+      (λ s c. Contains-append_right texts (types ++ (protos ++ (fields ++ methods))) s (Contains-append_left types (protos ++ (fields ++ methods)) s c)) l.types_lead
+  image_kept kinds.Proto i mark =
+      leads_kept proto_cmp proto_total proto_exact protos_in ProtoSymbol (λ s. Contains-first s []) marks.protos.items m.protos (marked m marks) r.protos i are.protos_count mark
+      (λ s c. Contains-append_right texts (types ++ (protos ++ (fields ++ methods))) s (Contains-append_right types (protos ++ (fields ++ methods)) s (Contains-append_left protos (fields ++ methods) s c))) l.protos_lead
+  image_kept kinds.Field i mark =
+      leads_kept field_cmp field_total field_exact fields_in FieldSymbol (λ s. Contains-first s []) marks.fields.items m.fields (marked m marks) r.fields i are.fields_count mark
+      (λ s c. Contains-append_right texts (types ++ (protos ++ (fields ++ methods))) s (Contains-append_right types (protos ++ (fields ++ methods)) s (Contains-append_right protos (fields ++ methods) s (Contains-append_left fields methods s c)))) l.fields_lead
+  image_kept kinds.Method i mark =
+      leads_kept method_cmp method_total method_exact methods_in MethodSymbol (λ s. Contains-first s []) marks.methods.items m.methods (marked m marks) r.methods i are.methods_count mark
+      (λ s c. Contains-append_right texts (types ++ (protos ++ (fields ++ methods))) s (Contains-append_right types (protos ++ (fields ++ methods)) s (Contains-append_right protos (fields ++ methods) s (Contains-append_right fields methods s c)))) l.methods_lead
+
+  pub uses_kept : (us : List Use) → All (IsMarkedUse marks) us → All (HasImage r) us
+  uses_kept [] all = All-nil (HasImage r)
+  uses_kept (u ∷ us) all = All-cons (HasImage r) u us (image_kept u.kind u.number (All-head (IsMarkedUse marks) u us all)) (uses_kept us (All-tail (IsMarkedUse marks) u us all))

@@ -49,7 +49,7 @@ module _ {X Y : Type 0} (same : X → X → Bool) (alike : Y → Y → Bool) (f 
   all_kept p [] all = all
   all_kept p (x ∷ xs) all = kept_by p (p x) x xs (All-head P x xs all) (all_kept p xs (All-tail P x xs all))
 
-  all_distinct : (xs : List X) → All P xs → All P (distinct same xs)
+  pub all_distinct : (xs : List X) → All P xs → All P (distinct same xs)
   all_distinct [] all = all
   all_distinct (x ∷ xs) all = All-cons P x (filter (λ y. not (same x y)) (distinct same xs)) (All-head P x xs all) (all_kept (λ y. not (same x y)) (distinct same xs) (all_distinct xs (All-tail P x xs all)))
 

@@ -18,3 +18,6 @@ pub mod TryTables
 pub mod Images
 pub mod TryRows
 pub mod CodesRead
+pub mod CodeMeanings
+pub mod CodePlaces
+pub mod CodeSizes

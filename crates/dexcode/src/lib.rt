@@ -5,6 +5,8 @@
 #![tactic(auto)]
 
 pub use code::Code;
+pub use code_laws::{code_bytes_law, code_weight_law};
+pub use code_put::put_code;
 pub use code_reading::read_code;
 pub use debug::Debug;
 pub use debug_laws::{debug_bare_law, debug_bytes_law, debug_renumber_law, debug_uses_law};
@@ -17,7 +19,10 @@ pub use tries::{Tries, Try};
 
 mod catches;
 mod code;
+mod code_laws;
+mod code_put;
 mod code_reading;
+mod code_weight;
 mod debug;
 mod debug_laws;
 mod debug_numbers;

@@ -1,16 +1,19 @@
 -- Handlers of a list: what those before a place weigh, and where each begins.
-use Rattle.std.proofs.Common.{◌≡◌, ℕ, zero, suc, ◌+◌, ◌*◌, ◌<◌, ◌≤◌, Bool, true, false, not, List, [], ◌∷◌, ◌++◌, length, map, take, get_or, filter, refl, ap, sym, subst, ◌∙◌, if◌then◌else◌, arith, add-one, length-append}
+use Rattle.std.proofs.Common.{◌≡◌, ℕ, zero, suc, ◌+◌, ◌*◌, ◌^◌, ◌<◌, ◌≤◌, Bool, true, false, not, List, [], ◌∷◌, ◌++◌, length, map, take, get_or, filter, refl, ap, sym, subst, ◌∙◌, if◌then◌else◌, arith, add-one, length-append}
 use Rattle.std.specs.List.{All, flat_map}
 use Rattle.std.proofs.lemmas.List.Elements.{All-nil, All-cons, All-head, All-tail}
 use Rattle.std.proofs.lemmas.List.Sums.{sum_by-cons}
 use Rattle.dexspec.specs.Lists.{distinct}
 use Rattle.dexspec.specs.Bytes.{ushort, uint}
 use Rattle.dexspec.specs.Numbers.{uleb128}
+use Rattle.dexspec.specs.Mentions.{Mentions}
+use Rattle.dexcode.specs.declared.handlers.Catch.{Catch}
 use Rattle.dexcode.specs.declared.tries.Try.{Try}
 use Rattle.dexcode.specs.Equality.{handler_decides}
-use Rattle.dexcode.specs.Numbered.{NumberedHandler, NumberedTry, no_handler, same_handler, handlers_weight, named, all_named, AreStored}
+use Rattle.dexcode.specs.Numbered.{NumberedHandler, NumberedTry, no_handler, same_handler, handlers_of, handlers_weight, named, all_named, AreStored}
 use Rattle.dexcode.specs.CodePut.{HasShortTypes, ArePlaces, numbered_handler_bytes, numbered_handler_off, numbered_try_bytes, place_of, placed_try_bytes}
 use Rattle.dexcode.proofs.DebugPushed.{len_more}
+use Rattle.dexcode.proofs.TryRows.{IsInRange}
 
 abbrev one_weight : NumberedHandler → ℕ
 one_weight h = 10 + 8 * length h.catches
@@ -137,3 +140,20 @@ tries_placed hs places (t ∷ ts) apart are all =
 -- handlers that are stored are listed once
 pub stored_apart : (hs : List NumberedHandler) (ts : List Try) → AreStored hs ts → AreApart hs
 stored_apart hs ts stored = subst AreApart (sym stored.used) (distinct_apart (map (λ (t : NumberedTry). t.handler) (all_named hs ts)))
+
+-- ---- numbers of types
+
+all_once : (Q : NumberedHandler → Type 0) (hs : List NumberedHandler) → All Q hs → All Q (distinct same_handler hs)
+all_once Q [] all = all
+all_once Q (h ∷ hs) all = All-cons Q h (filter (λ k. not (same_handler h k)) (distinct same_handler hs)) (All-head Q h hs all) (all_kept (λ k. not (same_handler h k)) Q (distinct same_handler hs) (all_once Q hs (All-tail Q h hs all)))
+
+short_catches : (count : ℕ) (cs : List Catch) → count ≤ 2 ^ 16 → All (λ c. c.typ < count) cs → All (λ c. c.typ < 2 ^ 16) cs
+short_catches count [] few all = All-nil (λ (c : Catch). c.typ < 2 ^ 16)
+short_catches count (c ∷ cs) few all = All-cons (λ (c : Catch). c.typ < 2 ^ 16) c cs (omega (arith, few, All-head (λ (c : Catch). c.typ < count) c cs all)) (short_catches count cs few (All-tail (λ (c : Catch). c.typ < count) c cs all))
+
+short_types : (m : Mentions) (hs : List NumberedHandler) → length m.types ≤ 2 ^ 16 → All (IsInRange m) hs → All HasShortTypes hs
+short_types m [] few all = All-nil HasShortTypes
+short_types m (h ∷ hs) few all = All-cons HasShortTypes h hs (short_catches (length m.types) h.catches few (All-head (IsInRange m) h hs all)) (short_types m hs few (All-tail (IsInRange m) h hs all))
+
+pub named_short : (m : Mentions) (ts : List NumberedTry) → length m.types ≤ 2 ^ 16 → All (IsInRange m) (map (λ t. t.handler) ts) → All HasShortTypes (handlers_of ts)
+named_short m ts few all = all_once HasShortTypes (map (λ (t : NumberedTry). t.handler) ts) (short_types m (map (λ (t : NumberedTry). t.handler) ts) few all)

@@ -1,13 +1,13 @@
 //! Laws of numbered code items. Each function does nothing: its contract is the law, for the callers that cite it.
 
-ghost use Rattle.std.specs.Prelude.{◌≡◌, ℕ};
+ghost use Rattle.std.specs.Prelude.{◌≡◌, ◌≤◌, ◌^◌, ℕ, All, length};
 ghost use Rattle.dexspec.specs.Code as symbolic;
 ghost use Rattle.dexspec.specs.Mentions.{Mentions};
 ghost use Rattle.dexspec.specs.Spellings.{code_bytes};
 ghost use Rattle.dexspec.specs.Weight.{code_weight};
 ghost use Rattle.dexpool.specs.Numberings.{AreRising};
-ghost use Rattle.dexcode.specs.Numbered.{NumberedItem, StandsForCode};
-ghost use Rattle.dexcode.specs.CodePut.{numbered_code_bytes, numbered_code_weight};
+ghost use Rattle.dexcode.specs.Numbered.{NumberedItem, StandsForCode, handlers_of};
+ghost use Rattle.dexcode.specs.CodePut.{HasShortTypes, numbered_code_bytes, numbered_code_weight};
 
 use dexinsn::units_law;
 
@@ -25,3 +25,8 @@ pub fn code_weight_law()
 {
     units_law();
 }
+
+/// Where there are 65,536 types or fewer, the number of each that a handler catches is below 2^16.
+pub fn code_types_law()
+    ensures { (m : Mentions) (c : NumberedItem) (x : symbolic.Code) → StandsForCode m c x → length m.types ≤ 2 ^ 16 → All HasShortTypes (handlers_of c.tries) }
+{}

@@ -5,7 +5,7 @@
 #![tactic(auto)]
 
 pub use code::Code;
-pub use code_laws::{code_bytes_law, code_weight_law};
+pub use code_laws::{code_bytes_law, code_types_law, code_weight_law};
 pub use code_put::put_code;
 pub use code_reading::read_code;
 pub use debug::Debug;
@@ -22,6 +22,7 @@ mod code;
 mod code_laws;
 mod code_put;
 mod code_reading;
+mod code_types;
 mod code_weight;
 mod debug;
 mod debug_laws;

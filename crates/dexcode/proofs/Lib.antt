@@ -18,6 +18,6 @@ pub mod TryTables
 pub mod Images
 pub mod TryRows
 pub mod CodesRead
-pub mod CodeMeanings
-pub mod CodePlaces
+pub mod CodeSpellings
+pub mod HandlerPlaces
 pub mod CodeSizes

@@ -1,4 +1,4 @@
-use Rattle.dexcode.proofs.CodeMeanings.{code_bytes_are}
+use Rattle.dexcode.proofs.CodeSpellings.{code_bytes_are}
 use Rattle.dexcode.proofs.code_laws.code_bytes_law.Goals as goal
 
 pub returns : goal.returns

@@ -1,5 +1,5 @@
-use Rattle.dexcode.proofs.CodeMeanings.{tries_in_range}
-use Rattle.dexcode.proofs.CodePlaces.{named_short}
+use Rattle.dexcode.proofs.CodeSpellings.{tries_in_range}
+use Rattle.dexcode.proofs.HandlerPlaces.{named_short}
 use Rattle.dexcode.proofs.code_laws.code_types_law.Goals as goal
 
 pub returns : goal.returns

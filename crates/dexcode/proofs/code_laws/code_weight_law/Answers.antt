@@ -1,4 +1,4 @@
-use Rattle.dexcode.proofs.CodeMeanings.{code_weighs}
+use Rattle.dexcode.proofs.CodeSpellings.{code_weighs}
 use Rattle.dexcode.proofs.code_laws.code_weight_law.Goals as goal
 
 pub returns : goal.returns

@@ -3,7 +3,7 @@ use Rattle.std.proofs.lemmas.List.{length-set, get_or-set_same, get_or-set_other
 use Rattle.std.proofs.lemmas.Bool.{cases_eq}
 use Rattle.dexcode.specs.Numbered.{no_handler}
 use Rattle.dexcode.specs.CodePut.{numbered_handler_bytes, place_of}
-use Rattle.dexcode.proofs.CodePlaces.{weight_count, weight_more, place_more}
+use Rattle.dexcode.proofs.HandlerPlaces.{weight_count, weight_more, place_more}
 use Rattle.dexcode.proofs.Images.{one_default}
 use Rattle.dexcode.proofs.code_put.handler_places.Goals as goal
 

@@ -1,5 +1,5 @@
 use Rattle.std.proofs.Common.{arith}
-use Rattle.dexcode.proofs.CodePlaces.{weight_count}
+use Rattle.dexcode.proofs.HandlerPlaces.{weight_count}
 use Rattle.dexcode.proofs.code_put.list_len.Goals as goal
 
 pub overflow_cast-handlers : goal.overflow_cast-handlers

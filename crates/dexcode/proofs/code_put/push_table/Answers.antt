@@ -4,7 +4,7 @@ use Rattle.dexcode.specs.Numbered.{all_named}
 use Rattle.dexcode.specs.DebugPut.{Pushes, HasRoomFor}
 use Rattle.dexcode.specs.CodePut.{numbered_try_bytes, numbered_list_bytes}
 use Rattle.dexcode.proofs.DebugPushed.{both, room_before, room_behind}
-use Rattle.dexcode.proofs.CodePlaces.{stored_apart, tries_placed}
+use Rattle.dexcode.proofs.HandlerPlaces.{stored_apart, tries_placed}
 use Rattle.dexcode.proofs.code_put.push_table.Goals as goal
 
 pub push_items-requires-clause-room : goal.push_items-requires-clause-room

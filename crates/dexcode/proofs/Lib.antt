@@ -23,3 +23,6 @@ pub mod CodeUses
 pub mod CodeMeanings
 pub mod CodePlaces
 pub mod KeptUses
+pub mod CodeSpellings
+pub mod HandlerPlaces
+pub mod CodeSizes

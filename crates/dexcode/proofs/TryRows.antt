@@ -92,7 +92,7 @@ module _ (m : Mentions) (rising : AreRising m) where
       let all : h.catch_all ≡ k.catch_all = ap (λ x. x.catch_all) e in
       λ i. record { catches = catches i; catch_all = all i }
 
-  same_meant : (h k : NumberedHandler) → IsInRange m h → IsInRange m k → symbolic.same_handler (handler_meant m h) (handler_meant m k) ≡ same_handler h k
+  pub same_meant : (h k : NumberedHandler) → IsInRange m h → IsInRange m k → symbolic.same_handler (handler_meant m h) (handler_meant m k) ≡ same_handler h k
   same_meant h k p q =
       let s = same_handler_decides (handler_meant m h) (handler_meant m k) in
       one_answer (symbolic.same_handler (handler_meant m h) (handler_meant m k)) (same_handler h k) ((λ e. one_meaning h k p q (s.0 e)), (λ e. s.1 (ap (handler_meant m) e))) (handler_decides h k)

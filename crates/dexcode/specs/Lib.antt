@@ -1,3 +1,4 @@
+pub mod CodePut
 pub mod Debug
 pub mod DebugPut
 pub mod DebugReading

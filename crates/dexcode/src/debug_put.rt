@@ -102,7 +102,7 @@ fn push_byte(byte: u8, out: &mut Vec<u8>)
 }
 
 // Appends a number, where there is room for it.
-fn push_u(value: u32, out: &mut Vec<u8>)
+pub(crate) fn push_u(value: u32, out: &mut Vec<u8>)
     requires { HasRoomFor (uleb128 value) out.old }
     ensures { Pushes (uleb128 value) out.old out.new }
 {
@@ -110,7 +110,7 @@ fn push_u(value: u32, out: &mut Vec<u8>)
 }
 
 // Appends a number with a sign, where there is room for it.
-fn push_s(value: i32, out: &mut Vec<u8>)
+pub(crate) fn push_s(value: i32, out: &mut Vec<u8>)
     requires { HasRoomFor (sleb128 value) out.old }
     ensures { Pushes (sleb128 value) out.old out.new }
 {

@@ -6,6 +6,8 @@
 
 pub use code::Code;
 pub use code_numbers_laws::{code_kept_law, code_places_law, code_renumber_law, code_uses_law};
+pub use code_laws::{code_bytes_law, code_types_law, code_weight_law};
+pub use code_put::put_code;
 pub use code_reading::read_code;
 pub use debug::Debug;
 pub use debug_laws::{debug_bare_law, debug_bytes_law, debug_renumber_law, debug_uses_law};
@@ -20,7 +22,11 @@ mod catches;
 mod code;
 mod code_numbers;
 mod code_numbers_laws;
+mod code_laws;
+mod code_put;
 mod code_reading;
+mod code_types;
+mod code_weight;
 mod debug;
 mod debug_laws;
 mod debug_numbers;

@@ -69,6 +69,14 @@ impl Tries {
         Ok(Tries { tries, handlers })
     }
 
+    // The tries and the handlers, as they are stored.
+    pub(crate) fn parts(&self) -> (&[Try], &[Handler])
+        ensures named { all_named result.1.now result.0.now ≡ self.now }
+        ensures stored { AreStored result.1.now result.0.now }
+    {
+        (&self.tries, &self.handlers)
+    }
+
     // No tries.
     pub(crate) fn none(alloc: Global) -> Tries
         ensures { result ≡ [] }

@@ -1,0 +1,123 @@
+-- How many bytes a code item of numbers has, against what it weighs.
+use Rattle.std.proofs.Common.{◌≡◌, ℕ, ◌+◌, ◌*◌, ◌%◌, ◌^◌, ◌<◌, ◌≤◌, ◌==◌, Bool, true, false, if◌then◌else◌, nat_lt, List, [], ◌∷◌, ◌++◌, length, Option, Some, None, option_to_list, refl, ap, sym, arith, length-append}
+use Rattle.std.specs.List.{All, flat_map}
+use Rattle.std.proofs.lemmas.Bool.{lt-ltb}
+use Rattle.std.proofs.lemmas.List.Elements.{All-head, All-tail}
+use Rattle.std.proofs.lemmas.List.Sums.{sum_by-cons}
+use Rattle.dexspec.specs.Bytes.{ushort, uint}
+use Rattle.dexspec.specs.Numbers.{uleb128, sleb128, size_u}
+use Rattle.dexspec.proofs.ByteNumbers.{length-ushort, length-uint}
+use Rattle.dexspec.proofs.Groups.{length-groups}
+use Rattle.dexspec.proofs.SizeItems.{uleb128-size, sleb128-size, if-size}
+use Rattle.dexinsn.specs.Numbered.{NumberedPiece, NumberedCode, numbered_units, numbered_bytes}
+use Rattle.dexcode.specs.declared.handlers.Catch.{Catch}
+use Rattle.dexcode.specs.declared.tries.Try.{Try}
+use Rattle.dexcode.specs.Numbered.{NumberedHandler, NumberedTry, NumberedItem, all_named, handlers_of, handlers_weight, AreStored}
+use Rattle.dexcode.specs.CodePut.{HasShortTypes, handler_count, numbered_catch_bytes, numbered_handler_bytes, numbered_handler_off, numbered_try_bytes, numbered_list_bytes, numbered_table_bytes, gap_bytes, numbered_tries_bytes, numbered_head_bytes, unit_count, numbered_item_bytes, numbered_code_bytes, numbered_tries_weight, numbered_code_weight}
+
+-- ---- units
+
+pub ushorts_length : (us : List ℕ) → length (flat_map ushort us) ≡ 2 * length us
+ushorts_length [] = refl
+ushorts_length (u ∷ us) = omega (arith, length-append (ushort u) (flat_map ushort us), length-ushort u, ushorts_length us)
+
+pub units_length : (ps : List NumberedPiece) → length (numbered_bytes ps) ≡ 2 * length (flat_map numbered_units ps)
+unfolding numbered_bytes
+units_length ps = ushorts_length (flat_map numbered_units ps)
+
+-- ---- tries
+
+try_length : (hs : List NumberedHandler) (t : NumberedTry) → length (numbered_try_bytes hs t) ≡ 8
+try_length hs t =
+    let off = numbered_handler_off (length (uleb128 (length hs))) hs t.handler in
+    omega (arith, length-append (uint t.start) (ushort t.count ++ ushort off), length-append (ushort t.count) (ushort off), length-uint t.start, length-ushort t.count, length-ushort off)
+
+pub tries_length : (hs : List NumberedHandler) (ts : List NumberedTry) → length (flat_map (numbered_try_bytes hs) ts) ≡ 8 * length ts
+tries_length hs [] = refl
+tries_length hs (t ∷ ts) = omega (arith, length-append (numbered_try_bytes hs t) (flat_map (numbered_try_bytes hs) ts), try_length hs t, tries_length hs ts)
+
+-- the bytes behind the units, where there are tries
+pub tries_parts : (count : ℕ) (hs : List NumberedHandler) (ts : List Try) → AreStored hs ts → (ts ≡ [] → ⊥) → numbered_tries_bytes count (all_named hs ts) ≡ gap_bytes count ++ numbered_table_bytes hs (all_named hs ts)
+tries_parts count hs [] stored some = absurd (some refl)
+tries_parts count hs (t ∷ ts) stored some = ap (λ gs. gap_bytes count ++ numbered_table_bytes gs (all_named hs (t ∷ ts))) (sym stored.used)
+
+-- ---- handlers
+
+three : (b c : Bool) → (if b then 1 else (if c then 2 else 3)) ≤ 3
+three true c = omega arith
+three false true = omega arith
+three false false = omega arith
+
+-- a number of 16 bits has three bytes at most
+short_length : (v : ℕ) → v < 0x10000 → length (uleb128 v) ≤ 3
+short_length v lt =
+    let size : size_u v ≤ 3 = rw (lt-ltb v 0x200000 (omega (arith, lt))) (three (nat_lt v 0x80) (nat_lt v 0x4000)) in
+    omega (arith, length-groups (size_u v) v, size)
+
+catches_length : (cs : List Catch) → All (λ c. c.typ < 2 ^ 16) cs → length (flat_map numbered_catch_bytes cs) ≤ 8 * length cs
+catches_length [] all = omega arith
+catches_length (c ∷ cs) all =
+    let small = All-head (λ (c : Catch). c.typ < 2 ^ 16) c cs all in
+    omega (arith, length-append (numbered_catch_bytes c) (flat_map numbered_catch_bytes cs), length-append (uleb128 c.typ) (uleb128 c.address), short_length c.typ small, uleb128-size c.address, catches_length cs (All-tail (λ (c : Catch). c.typ < 2 ^ 16) c cs all))
+
+catch_all_length : (o : Option ℕ) → length (flat_map uleb128 (option_to_list o)) ≤ 5
+catch_all_length None = omega arith
+catch_all_length (Some address) = omega (arith, length-append (uleb128 address) [], uleb128-size address)
+
+handler_length : (h : NumberedHandler) → HasShortTypes h → length (numbered_handler_bytes h) ≤ 10 + 8 * length h.catches
+handler_length h typed =
+    let catches = flat_map numbered_catch_bytes h.catches in
+    let all = flat_map uleb128 (option_to_list h.catch_all) in
+    omega (arith, length-append (sleb128 (handler_count h)) (catches ++ all), length-append catches all, sleb128-size (handler_count h), catches_length h.catches typed, catch_all_length h.catch_all)
+
+handlers_length : (hs : List NumberedHandler) → All HasShortTypes hs → 5 + length (flat_map numbered_handler_bytes hs) ≤ handlers_weight hs
+handlers_length [] typed = omega arith
+handlers_length (h ∷ hs) typed =
+    omega (arith, length-append (numbered_handler_bytes h) (flat_map numbered_handler_bytes hs), sum_by-cons (λ (h : NumberedHandler). 10 + 8 * length h.catches) h hs, handler_length h (All-head HasShortTypes h hs typed), handlers_length hs (All-tail HasShortTypes h hs typed))
+
+pub list_length : (hs : List NumberedHandler) → All HasShortTypes hs → length (numbered_list_bytes hs) ≤ handlers_weight hs
+list_length hs typed = omega (arith, length-append (uleb128 (length hs)) (flat_map numbered_handler_bytes hs), uleb128-size (length hs), handlers_length hs typed)
+
+-- ---- the whole
+
+gap_length : (count : ℕ) → length (gap_bytes count) ≤ 2
+gap_length count = if-size (count % 2 == 1) 2 (ushort 0) [] (omega (arith, length-ushort 0)) (omega arith)
+
+behind_length : (count : ℕ) (ts : List NumberedTry) → All HasShortTypes (handlers_of ts) → length (numbered_tries_bytes count ts) ≤ 2 + numbered_tries_weight ts
+behind_length count [] typed = omega arith
+behind_length count (t ∷ ts) typed =
+    let hs = handlers_of (t ∷ ts) in
+    let tries = flat_map (numbered_try_bytes hs) (t ∷ ts) in
+    omega (arith, length-append (gap_bytes count) (tries ++ numbered_list_bytes hs), length-append tries (numbered_list_bytes hs), gap_length count, tries_length hs (t ∷ ts), list_length hs typed)
+
+pub head_length : (debug_off tries : ℕ) (c : NumberedCode) (units : ℕ) → length (numbered_head_bytes debug_off tries c units) ≡ 16
+head_length debug_off tries c units =
+    let x5 = uint debug_off ++ uint units in
+    let x4 = ushort tries ++ x5 in
+    let x3 = ushort c.outs ++ x4 in
+    let x2 = ushort c.ins ++ x3 in
+    omega (
+      arith,
+      length-append (ushort c.registers) x2,
+      length-append (ushort c.ins) x3,
+      length-append (ushort c.outs) x4,
+      length-append (ushort tries) x5,
+      length-append (uint debug_off) (uint units),
+      length-ushort c.registers,
+      length-ushort c.ins,
+      length-ushort c.outs,
+      length-ushort tries,
+      length-uint debug_off,
+      length-uint units,
+    )
+
+pub item_length : (debug_off : ℕ) (c : NumberedCode) (ts : List NumberedTry) → length (numbered_item_bytes debug_off c ts) ≡ 16 + 2 * unit_count c + length (numbered_tries_bytes (unit_count c) ts)
+unfolding numbered_item_bytes
+item_length debug_off c ts =
+    let head = numbered_head_bytes debug_off (length ts) c (unit_count c) in
+    let tries = numbered_tries_bytes (unit_count c) ts in
+    omega (arith, length-append head (numbered_bytes c.pieces ++ tries), length-append (numbered_bytes c.pieces) tries, head_length debug_off (length ts) c (unit_count c), units_length c.pieces)
+
+-- with the bytes of its alignment it has no more than it weighs
+pub code_length : (debug_off : ℕ) (c : NumberedItem) → All HasShortTypes (handlers_of c.tries) → length (numbered_code_bytes debug_off c) + 3 ≤ numbered_code_weight c
+code_length debug_off c typed = omega (arith, item_length debug_off c.body c.tries, behind_length (unit_count c.body) c.tries typed)

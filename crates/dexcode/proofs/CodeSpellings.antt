@@ -1,0 +1,181 @@
+-- Code items of numbers: their bytes and their weight are those of the code that they stand for.
+use Rattle.std.proofs.Common.{◌≡◌, ℕ, ◌+◌, ◌%◌, ◌<◌, ◌==◌, if◌then◌else◌, List, [], ◌∷◌, ◌++◌, length, map, option_to_list, refl, ap, sym, ◌∙◌, arith, append_assoc}
+use Rattle.std.specs.Prelude.{pos, ◌-ℤ◌}
+use Rattle.std.specs.Option.{option_map_or}
+use Rattle.std.specs.List.{All, AllZip, flat_map}
+use Rattle.std.proofs.lemmas.List.Elements.{All-nil, All-cons, All-head, All-tail}
+use Rattle.std.proofs.lemmas.List.{length-map}
+use Rattle.dexspec.specs.Bytes.{ushort, uint}
+use Rattle.dexspec.specs.Numbers.{uleb128, sleb128}
+use Rattle.dexspec.specs.Texts.{text_cmp}
+use Rattle.dexspec.specs.Mentions.{Mentions}
+use Rattle.dexspec.specs.Code as symbolic
+use Rattle.dexspec.specs.Pieces.{units_of}
+use Rattle.dexspec.specs.Pieces as pieces
+use Rattle.dexspec.specs.Spellings as spelled
+use Rattle.dexspec.specs.Weight.{tries_weight, code_weight}
+use Rattle.dexspec.proofs.InOrder.{Rises-from_rises, rank-get_or}
+use Rattle.dexspec.proofs.SymbolOrders.{text_total}
+use Rattle.dexspec.proofs.SizeCode.{length-units}
+use Rattle.dexpool.specs.Numberings.{AreRising}
+use Rattle.dexinsn.specs.Numbered.{NumberedPiece, StandFor, numbered_units, numbered_bytes}
+use Rattle.dexcode.specs.declared.handlers.Catch.{Catch}
+use Rattle.dexcode.specs.Numbered.{NumberedHandler, NumberedTry, NumberedItem, catch_meant, handler_meant, try_meant, same_handler, handlers_of, StandsForCatch, StandsForTry, StandsForCode}
+use Rattle.dexcode.specs.CodePut.{numbered_catch_bytes, handler_count, numbered_handler_bytes, numbered_handler_off, numbered_try_bytes, numbered_list_bytes, numbered_table_bytes, numbered_tries_bytes, unit_count, numbered_item_bytes, numbered_code_bytes, numbered_tries_weight, numbered_code_weight}
+use Rattle.dexcode.proofs.TryRows.{IsInRange, same_meant, handlers_meant, weight_meant}
+use Rattle.dexcode.proofs.Images.{all_distinct}
+
+-- ---- tries that stand for others are made of them
+
+catch_is : (m : Mentions) (c : Catch) (x : symbolic.Catch) → StandsForCatch m c x → catch_meant m c ≡ x
+catch_is m c x h = let type = h.type_is.is [] in let address = h.address_is in λ i. record { type = type i; address = address i }
+
+catches_are : (m : Mentions) (cs : List Catch) (xs : List symbolic.Catch) → AllZip (StandsForCatch m) cs xs → map (catch_meant m) cs ≡ xs
+catches_are m [] [] h = refl
+catches_are m [] (x ∷ xs) h = absurd h
+catches_are m (c ∷ cs) [] h = absurd h
+catches_are m (c ∷ cs) (x ∷ xs) h = let first = catch_is m c x h.0 in let rest = catches_are m cs xs h.1 in λ i. first i ∷ rest i
+
+in_range : (m : Mentions) (cs : List Catch) (xs : List symbolic.Catch) → AllZip (StandsForCatch m) cs xs → All (λ c. c.typ < length m.types) cs
+in_range m [] [] h = All-nil (λ (c : Catch). c.typ < length m.types)
+in_range m [] (x ∷ xs) h = absurd h
+in_range m (c ∷ cs) [] h = absurd h
+in_range m (c ∷ cs) (x ∷ xs) h = All-cons (λ (c : Catch). c.typ < length m.types) c cs h.0.type_is.within (in_range m cs xs h.1)
+
+try_is : (m : Mentions) (t : NumberedTry) (x : symbolic.Try) → StandsForTry m t x → try_meant m t ≡ x
+try_is m t x h =
+    let start = h.start_is in
+    let count = h.count_is in
+    let catches = catches_are m t.handler.catches x.handler.catches h.handler_is.catches_are in
+    let all = h.handler_is.catch_all_is in
+    λ i. record { start = start i; count = count i; handler = record { catches = catches i; catch_all = all i } }
+
+pub tries_are : (m : Mentions) (ts : List NumberedTry) (xs : List symbolic.Try) → AllZip (StandsForTry m) ts xs → map (try_meant m) ts ≡ xs
+tries_are m [] [] h = refl
+tries_are m [] (x ∷ xs) h = absurd h
+tries_are m (t ∷ ts) [] h = absurd h
+tries_are m (t ∷ ts) (x ∷ xs) h = let first = try_is m t x h.0 in let rest = tries_are m ts xs h.1 in λ i. first i ∷ rest i
+
+pub tries_in_range : (m : Mentions) (ts : List NumberedTry) (xs : List symbolic.Try) → AllZip (StandsForTry m) ts xs → All (IsInRange m) (map (λ t. t.handler) ts)
+tries_in_range m [] [] h = All-nil (IsInRange m)
+tries_in_range m [] (x ∷ xs) h = absurd h
+tries_in_range m (t ∷ ts) [] h = absurd h
+tries_in_range m (t ∷ ts) (x ∷ xs) h = All-cons (IsInRange m) t.handler (map (λ (t : NumberedTry). t.handler) ts) (in_range m t.handler.catches x.handler.catches h.0.handler_is.catches_are) (tries_in_range m ts xs h.1)
+
+-- ---- bytes
+
+module _ (m : Mentions) (rising : AreRising m) where
+  catch_bytes_are : (c : Catch) → c.typ < length m.types → spelled.catch_bytes m (catch_meant m c) ≡ numbered_catch_bytes c
+  catch_bytes_are c lt = ap (λ (n : ℕ). uleb128 n ++ uleb128 c.address) (rank-get_or text_cmp text_total m.types c.typ [] (Rises-from_rises text_cmp text_total m.types rising.types_rise) lt)
+
+  catches_bytes_are : (cs : List Catch) → All (λ c. c.typ < length m.types) cs → flat_map (spelled.catch_bytes m) (map (catch_meant m) cs) ≡ flat_map numbered_catch_bytes cs
+  catches_bytes_are [] all = refl
+  catches_bytes_are (c ∷ cs) all =
+      let first = catch_bytes_are c (All-head (λ (c : Catch). c.typ < length m.types) c cs all) in
+      let rest = catches_bytes_are cs (All-tail (λ (c : Catch). c.typ < length m.types) c cs all) in
+      λ i. first i ++ rest i
+
+  count_is : (h : NumberedHandler) → spelled.handler_count (handler_meant m h) ≡ handler_count h
+  count_is h = ap (λ (n : ℕ). option_map_or (λ address. pos 0 -ℤ pos n) h.catch_all (pos n)) (length-map h.catches (catch_meant m))
+
+  handler_bytes_are : (h : NumberedHandler) → IsInRange m h → spelled.handler_bytes m (handler_meant m h) ≡ numbered_handler_bytes h
+  handler_bytes_are h all =
+      let count = count_is h in
+      let catches = catches_bytes_are h.catches all in
+      λ i. sleb128 (count i) ++ (catches i ++ flat_map uleb128 (option_to_list h.catch_all))
+
+  handlers_bytes_are : (hs : List NumberedHandler) → All (IsInRange m) hs → flat_map (spelled.handler_bytes m) (map (handler_meant m) hs) ≡ flat_map numbered_handler_bytes hs
+  handlers_bytes_are [] all = refl
+  handlers_bytes_are (h ∷ hs) all =
+      let first = handler_bytes_are h (All-head (IsInRange m) h hs all) in
+      let rest = handlers_bytes_are hs (All-tail (IsInRange m) h hs all) in
+      λ i. first i ++ rest i
+
+  off_is : (from : ℕ) (hs : List NumberedHandler) (h : NumberedHandler) → All (IsInRange m) hs → IsInRange m h → spelled.handler_off m from (map (handler_meant m) hs) (handler_meant m h) ≡ numbered_handler_off from hs h
+  off_is from [] h all own = refl
+  off_is from (k ∷ ks) h all own =
+      let range = All-head (IsInRange m) k ks all in
+      let same = same_meant m rising k h range own in
+      let bytes = handler_bytes_are k range in
+      let rest = off_is (from + length (numbered_handler_bytes k)) ks h (All-tail (IsInRange m) k ks all) own in
+      let step : spelled.handler_off m (from + length (spelled.handler_bytes m (handler_meant m k))) (map (handler_meant m) ks) (handler_meant m h) ≡ spelled.handler_off m (from + length (numbered_handler_bytes k)) (map (handler_meant m) ks) (handler_meant m h) =
+      ap (λ (bs : List ℕ). spelled.handler_off m (from + length bs) (map (handler_meant m) ks) (handler_meant m h)) bytes in
+      λ i. if same i then from else (step ∙ rest) i
+
+  list_bytes_are : (hs : List NumberedHandler) → All (IsInRange m) hs → spelled.handler_list_bytes m (map (handler_meant m) hs) ≡ numbered_list_bytes hs
+  list_bytes_are hs all =
+      let count = length-map hs (handler_meant m) in
+      let handlers = handlers_bytes_are hs all in
+      λ i. uleb128 (count i) ++ handlers i
+
+  try_bytes_are : (hs : List NumberedHandler) (t : NumberedTry) → All (IsInRange m) hs → IsInRange m t.handler → spelled.try_bytes m (map (handler_meant m) hs) (try_meant m t) ≡ numbered_try_bytes hs t
+  try_bytes_are hs t all own =
+      let off = ap (λ (n : ℕ). spelled.handler_off m (length (uleb128 n)) (map (handler_meant m) hs) (handler_meant m t.handler)) (length-map hs (handler_meant m)) ∙ off_is (length (uleb128 (length hs))) hs t.handler all own in
+      ap (λ (n : ℕ). uint t.start ++ (ushort t.count ++ ushort n)) off
+
+  all_try_bytes_are : (hs : List NumberedHandler) (ts : List NumberedTry) → All (IsInRange m) hs → All (IsInRange m) (map (λ t. t.handler) ts) → flat_map (spelled.try_bytes m (map (handler_meant m) hs)) (map (try_meant m) ts) ≡ flat_map (numbered_try_bytes hs) ts
+  all_try_bytes_are hs [] all own = refl
+  all_try_bytes_are hs (t ∷ ts) all own =
+      let first = try_bytes_are hs t all (All-head (IsInRange m) t.handler (map (λ (t : NumberedTry). t.handler) ts) own) in
+      let rest = all_try_bytes_are hs ts all (All-tail (IsInRange m) t.handler (map (λ (t : NumberedTry). t.handler) ts) own) in
+      λ i. first i ++ rest i
+
+  handlers_in_range : (ts : List NumberedTry) → All (IsInRange m) (map (λ t. t.handler) ts) → All (IsInRange m) (handlers_of ts)
+  handlers_in_range ts all = all_distinct (IsInRange m) same_handler (map (λ (t : NumberedTry). t.handler) ts) all
+
+  table_bytes_are : (ts : List NumberedTry) → All (IsInRange m) (map (λ t. t.handler) ts)
+      → flat_map (spelled.try_bytes m (symbolic.handlers_of (map (try_meant m) ts))) (map (try_meant m) ts) ++ spelled.handler_list_bytes m (symbolic.handlers_of (map (try_meant m) ts)) ≡ numbered_table_bytes (handlers_of ts) ts
+  table_bytes_are ts all =
+      let hs = handlers_of ts in
+      let named = handlers_meant m rising ts all in
+      let range = handlers_in_range ts all in
+      let tries = all_try_bytes_are hs ts range all in
+      let list = list_bytes_are hs range in
+      ap (λ gs. flat_map (spelled.try_bytes m gs) (map (try_meant m) ts) ++ spelled.handler_list_bytes m gs) named ∙ (λ i. tries i ++ list i)
+
+  pub tries_bytes_are : (count : ℕ) (ts : List NumberedTry) → All (IsInRange m) (map (λ t. t.handler) ts) → spelled.tries_bytes m count (map (try_meant m) ts) ≡ numbered_tries_bytes count ts
+  tries_bytes_are count [] all = refl
+  tries_bytes_are count (t ∷ ts) all = ap (λ (bs : List ℕ). (if count % 2 == 1 then ushort 0 else []) ++ bs) (table_bytes_are (t ∷ ts) all)
+
+  pub tries_weigh : (ts : List NumberedTry) → All (IsInRange m) (map (λ t. t.handler) ts) → tries_weight (map (try_meant m) ts) ≡ numbered_tries_weight ts
+  tries_weigh [] all = refl
+  tries_weigh (t ∷ ts) all =
+      let hs = handlers_of (t ∷ ts) in
+      let named = ap symbolic.handlers_weight (handlers_meant m rising (t ∷ ts) all) ∙ weight_meant m hs in
+      omega (arith, named, length-map ts (try_meant m))
+
+-- ---- the whole
+
+abbrev pub UnitsLaw : Type 0
+UnitsLaw = (m : Mentions) (ps : List NumberedPiece) (qs : List pieces.Piece) → AreRising m → StandFor m ps qs → flat_map numbered_units ps ≡ flat_map (spelled.piece_units m) qs
+
+pub code_bytes_are : UnitsLaw → (m : Mentions) (debug_off : ℕ) (c : NumberedItem) (x : symbolic.Code) → AreRising m → StandsForCode m c x → numbered_code_bytes debug_off c ≡ spelled.code_bytes m debug_off x
+unfolding numbered_item_bytes numbered_bytes spelled.code_bytes
+code_bytes_are law m debug_off c x rising h =
+    let units = law m c.body.pieces x.pieces rising h.pieces_are in
+    let registers = h.registers_are in
+    let ins = h.ins_are in
+    let outs = h.outs_are in
+    let all = tries_in_range m c.tries x.tries h.tries_are in
+    let meant = tries_are m c.tries x.tries h.tries_are in
+    let count : length c.tries ≡ length x.tries = sym (length-map c.tries (try_meant m)) ∙ ap length meant in
+    let tries : numbered_tries_bytes (unit_count c.body) c.tries ≡ spelled.tries_bytes m (length (flat_map (spelled.piece_units m) x.pieces)) x.tries =
+    sym (tries_bytes_are m rising (unit_count c.body) c.tries all) ∙ (λ i. spelled.tries_bytes m (length (units i)) (meant i)) in
+    let behind = flat_map ushort (flat_map numbered_units c.body.pieces) ++ numbered_tries_bytes (unit_count c.body) c.tries in
+    joined (ushort c.body.registers) (ushort c.body.ins) (ushort c.body.outs) (ushort (length c.tries)) (uint debug_off) (uint (unit_count c.body)) behind
+    ∙ (λ i. ushort (registers i) ++ (ushort (ins i) ++ (ushort (outs i) ++ (ushort (count i) ++ (uint debug_off ++ (uint (length (units i)) ++ (flat_map ushort (units i) ++ tries i)))))))
+  where
+    joined : (a b c d e f g : List ℕ) → (a ++ (b ++ (c ++ (d ++ (e ++ f))))) ++ g ≡ a ++ (b ++ (c ++ (d ++ (e ++ (f ++ g)))))
+    joined a b c d e f g =
+        append_assoc a (b ++ (c ++ (d ++ (e ++ f)))) g
+        ∙ ap (λ (xs : List ℕ). a ++ xs) (append_assoc b (c ++ (d ++ (e ++ f))) g)
+        ∙ ap (λ (xs : List ℕ). a ++ (b ++ xs)) (append_assoc c (d ++ (e ++ f)) g)
+        ∙ ap (λ (xs : List ℕ). a ++ (b ++ (c ++ xs))) (append_assoc d (e ++ f) g)
+        ∙ ap (λ (xs : List ℕ). a ++ (b ++ (c ++ (d ++ xs)))) (append_assoc e f g)
+
+pub code_weighs : UnitsLaw → (m : Mentions) (c : NumberedItem) (x : symbolic.Code) → AreRising m → StandsForCode m c x → numbered_code_weight c ≡ code_weight x
+code_weighs law m c x rising h =
+    let units : unit_count c.body ≡ length (flat_map units_of x.pieces) = ap length (law m c.body.pieces x.pieces rising h.pieces_are) ∙ length-units m x.pieces in
+    let all = tries_in_range m c.tries x.tries h.tries_are in
+    let tries : numbered_tries_weight c.tries ≡ tries_weight x.tries = sym (tries_weigh m rising c.tries all) ∙ ap tries_weight (tries_are m c.tries x.tries h.tries_are) in
+    omega (arith, units, tries)

@@ -1,0 +1,8 @@
+use Rattle.std.proofs.Common.{All, ap, subst, ◌∙◌}
+use Rattle.std.specs.Prelude.{◌↔◌, IsTrue}
+use Rattle.dexcode.specs.Numbered.{handlers_of}
+use Rattle.dexcode.specs.CodePut.{HasShortTypes}
+use Rattle.dexcode.proofs.code.Code.types_fit.Goals as goal
+
+pub returns : goal.returns
+returns c = subst (λ hs. IsTrue c.have_short_types.result ↔ All HasShortTypes hs) (c.handlers.ensures ∙ ap handlers_of c.tries.ensures) c.have_short_types.ensures

@@ -1,0 +1,13 @@
+use Rattle.std.proofs.Common.{◌≡◌, get_or, sym, subst, ◌∙◌}
+use Rattle.dexcode.specs.Numbered.{no_handler}
+use Rattle.dexcode.specs.DebugPut.{HasRoomFor}
+use Rattle.dexcode.specs.CodePut.{numbered_handler_bytes}
+use Rattle.dexcode.proofs.DebugPushed.{room_for_one}
+use Rattle.dexcode.proofs.Images.{one_default}
+use Rattle.dexcode.proofs.code_put.push_handlers.Goals as goal
+
+pub push_handler-requires-clause-room : goal.push_handler-requires-clause-room
+push_handler-requires-clause-room c =
+    let hs = c.args.handlers.now in
+    let is : get_or hs c.loop-handler.handler-index no_handler ≡ c.handler-item.result = one_default hs c.loop-handler.handler-index no_handler c.handler-item.result c.loop-handler-test.true ∙ sym c.handler-item.is in
+    subst (λ h. HasRoomFor (numbered_handler_bytes h) c.loop-handler.out) is (room_for_one numbered_handler_bytes hs c.loop-handler.handler-index no_handler c.args.out.now c.loop-handler.out c.loop-handler-test.true c.loop-handler.invariant c.requires.room)

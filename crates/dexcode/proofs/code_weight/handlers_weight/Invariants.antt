@@ -1,0 +1,6 @@
+use Rattle.std.proofs.Common.{◌≡◌, take}
+use Rattle.dexcode.specs.Numbered.{handlers_weight}
+use Rattle.dexcode.proofs.code_weight.handlers_weight.Given as goal
+
+abbrev pub invariant-loop-handler : goal.invariant-loop-handler
+invariant-loop-handler l = l.weight ≡ handlers_weight (take l.handler-index l.handlers)

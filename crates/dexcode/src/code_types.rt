@@ -1,0 +1,41 @@
+//! The numbers of types that handlers catch.
+
+ghost use Rattle.std.specs.Prelude.{◌↔◌, ◌^◌, ◌<◌, IsTrue, All};
+ghost use Rattle.dexcode.specs.CodePut.{HasShortTypes};
+ghost use Rattle.dexcode.specs.Numbered.{handlers_of};
+
+use crate::code::Code;
+use crate::handlers::{Catch, Handler};
+
+// Whether the number of each type has 16 bits.
+fn are_short(catches: &[Catch]) -> bool
+    ensures { IsTrue result ↔ All (λ c. c.typ < 2 ^ 16) catches.now }
+{
+    catches.iter().all(|catch| catch.typ < 0x1_0000)
+}
+
+// Whether the number of each type that a handler catches has.
+fn has_short_types(handler: &Handler) -> bool
+    ensures { IsTrue result ↔ HasShortTypes handler.now }
+{
+    are_short(handler.catches())
+}
+
+// Whether the number of each type that the handlers catch has.
+fn have_short_types(handlers: &[Handler]) -> bool
+    ensures { IsTrue result ↔ All HasShortTypes handlers.now }
+{
+    handlers.iter().all(|handler| has_short_types(handler))
+}
+
+impl<'a> Code<'a> {
+    /// Whether the number of each type that a handler catches is below 2^16, as [`put_code`](crate::put_code) asks. No
+    /// memory is taken.
+    ///
+    /// Source: "encoded_type_addr_pair", the field `type_idx`.
+    pub fn types_fit(&self) -> bool
+        ensures { IsTrue result ↔ All HasShortTypes (handlers_of self.now.tries) }
+    {
+        have_short_types(self.tries().handlers())
+    }
+}

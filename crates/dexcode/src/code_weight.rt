@@ -1,0 +1,52 @@
+//! What code items weigh.
+
+ghost use Rattle.std.specs.Prelude.{◌≡◌, ◌<◌, ◌≤◌};
+ghost use Rattle.dexspec.specs.Code as symbolic;
+ghost use Rattle.dexspec.specs.Mentions.{Mentions};
+ghost use Rattle.dexspec.specs.Weight.{code_weight};
+ghost use Rattle.dexpool.specs.Numberings.{AreRising};
+ghost use Rattle.dexcode.specs.CodePut.{numbered_code_weight, numbered_tries_weight};
+ghost use Rattle.dexcode.specs.Numbered.{StandsForCode, handlers_weight};
+
+use crate::code::Code;
+use crate::code_laws::code_weight_law;
+use crate::code_put::unit_count;
+use crate::handlers::Handler;
+use crate::tries::Tries;
+
+// What the handlers weigh.
+fn handlers_weight(handlers: &[Handler]) -> u64
+    requires { handlers_weight handlers.now ≤ symbolic.most_handlers }
+    ensures { result ≡ handlers_weight handlers.now }
+{
+    let mut weight = 5;
+    for handler in handlers {
+        weight += 10 + 8 * handler.catches().len() as u64;
+    }
+    weight
+}
+
+// What the tries weigh.
+fn tries_weight(tries: &Tries) -> u64
+    ensures weight { result ≡ numbered_tries_weight tries.now }
+    ensures few { result < 0x10_0000 }
+{
+    let (items, handlers) = tries.parts();
+    if items.is_empty() {
+        return 0;
+    }
+    8 * items.len() as u64 + handlers_weight(handlers)
+}
+
+impl<'a> Code<'a> {
+    /// What it weighs without its debug program: at least 3 more than the bytes that [`put_code`](crate::put_code)
+    /// appends. It is 24, 2 for each unit and, where there are tries, 8 for each of them, 5, and 10 for each handler
+    /// that they name and 8 for each of its catches. No memory is taken.
+    pub fn weight(&self) -> u64
+        ensures numbered { result ≡ numbered_code_weight self.now }
+        ensures symbolic { (m : Mentions) (x : symbolic.Code) → AreRising m → StandsForCode m self.now x → result ≡ code_weight x }
+    {
+        code_weight_law();
+        24 + 2 * u64::from(unit_count(&self.pieces)) + tries_weight(&self.tries)
+    }
+}

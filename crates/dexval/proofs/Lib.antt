@@ -4,6 +4,7 @@ pub mod ElementsRead
 pub mod FileRead
 pub mod Growing
 pub mod Joining
+pub mod Lengths
 pub mod LowBytes
 pub mod Meanings
 pub mod Members

@@ -1,19 +1,15 @@
 -- How many bytes values and annotations take.
-use Rattle.std.proofs.Common.{◌≡◌, ℕ, ◌+◌, ◌-◌, ◌*◌, ◌/◌, ◌^◌, ◌<◌, ◌≤◌, List, [], ◌∷◌, ◌++◌, get_or, length, take, map, sym, ap, ◌∙◌, arith, min}
+use Rattle.std.proofs.Common.{◌≡◌, ℕ, ◌+◌, ◌-◌, ◌/◌, ◌^◌, ◌<◌, ◌≤◌, List, ◌++◌, get_or, length, take, map, ap, ◌∙◌, arith, min}
 use Rattle.std.specs.Prelude.{ℤ}
-use Rattle.std.specs.Global.{Vec}
 use Rattle.std.proofs.lemmas.List.{length-append, take_all}
-use Rattle.dexspec.specs.Bytes.{bytes_of}
 use Rattle.dexspec.specs.Numbers.{uleb128}
 use Rattle.dexspec.specs.Spellings.{unsigned_width, signed_width, bits_width, complement, unsigned_bytes, signed_bytes, bits_bytes}
 use Rattle.dexspec.proofs.ByteNumbers.{length-bytes_of}
 use Rattle.dexval.specs.declared.value.Value.{Value}
-use Rattle.dexval.specs.declared.value.Value.TheVariants as variants
 use Rattle.dexval.specs.declared.value.Element.{Element}
 use Rattle.dexval.specs.Code.{value_of, element_of}
 use Rattle.dexval.specs.Numbered.{values_of_list, elements_of_list}
 use Rattle.dexval.specs.Spelled.{values_count, elements_count, numbered_bytes, numbered_values_bytes, numbered_elements_bytes, numbered_array_bytes, encoded_annotation_bytes}
-use Rattle.dexval.proofs.CodeForms.{array_is, annotation_is}
 use Rattle.dexval.proofs.Members.{values_spelled, elements_spelled, element_spelled, one_value, one_element, count_values_is, count_elements_is}
 
 -- ---- scalars

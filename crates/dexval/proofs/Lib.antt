@@ -9,6 +9,7 @@ pub mod LowBytes
 pub mod Meanings
 pub mod Members
 pub mod NestedRead
+pub mod Offsets
 pub mod ScalarsRead
 pub mod SetsRead
 pub mod Settling

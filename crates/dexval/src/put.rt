@@ -1,12 +1,12 @@
 //! Values and annotations written.
 
-ghost use Rattle.std.specs.Prelude.{◌≡◌, ℕ, ◌+◌, ◌*◌, ◌-◌, ◌^◌, ◌<◌, ◌≤◌, ◌∷◌, [], map, length, IsOk, vec_len, vec_capacity};
+ghost use Rattle.std.specs.Prelude.{◌≡◌, ◌+◌, ◌*◌, ◌-◌, ◌^◌, ◌<◌, ◌≤◌, ◌∷◌, [], map, length, IsOk, vec_len, vec_capacity};
 ghost use Rattle.dexspec.specs.Bytes.{bytes_of};
-ghost use Rattle.dexspec.specs.Numbers.{uleb128, magnitude};
+ghost use Rattle.dexspec.specs.Numbers.{uleb128};
 ghost use Rattle.dexspec.specs.Values.{Value as ValueMeant, Values as ValuesMeant, value_byte};
 ghost use Rattle.dexspec.specs.Annotations.{Annotation as AnnotationMeant};
 ghost use Rattle.dexspec.specs.Mentions.{Mentions};
-ghost use Rattle.dexspec.specs.Spellings.{complement, unsigned_width, unsigned_bytes, signed_bytes, bits_bytes, value_bytes, encoded_array_bytes, annotation_bytes};
+ghost use Rattle.dexspec.specs.Spellings.{complement, unsigned_bytes, signed_bytes, bits_bytes, value_bytes, encoded_array_bytes, annotation_bytes};
 ghost use Rattle.dexspec.specs.Weight.{value_weight, static_values_weight, annotation_weight};
 ghost use Rattle.dexspec.specs.Writing.{Puts};
 ghost use Rattle.dexval.specs.Appending.{Appends};

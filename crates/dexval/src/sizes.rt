@@ -5,7 +5,7 @@ ghost use Rattle.dexspec.specs.Numbers.{uleb128};
 ghost use Rattle.dexspec.specs.Spellings.{unsigned_width, signed_width, bits_width};
 ghost use Rattle.dexval.specs.Code.{value_of, element_of, annotation_of};
 ghost use Rattle.dexval.specs.Numbered.{values_of_list, elements_of_list};
-ghost use Rattle.dexval.specs.Spelled.{numbered_bytes, numbered_values_bytes, numbered_elements_bytes, numbered_array_bytes, encoded_annotation_bytes, numbered_annotation_bytes};
+ghost use Rattle.dexval.specs.Spelled.{numbered_bytes, numbered_array_bytes, encoded_annotation_bytes, numbered_annotation_bytes};
 
 use crate::annotation::Annotation;
 use crate::value::{Element, Value};
@@ -111,8 +111,5 @@ fn encoded_annotation_size(typ: u32, elements: &[Element]) -> u64
 pub fn annotation_size(annotation: &Annotation) -> u64
     ensures { result ≡ min (2 ^ 64 - 1) (length (numbered_annotation_bytes (annotation_of annotation.now))) }
 {
-    1u64.saturating_add(encoded_annotation_size(
-        annotation.typ,
-        &annotation.elements,
-    ))
+    1u64.saturating_add(encoded_annotation_size(annotation.typ, &annotation.elements))
 }

@@ -1,4 +1,5 @@
 pub mod CodeForms
+pub mod Counted
 pub mod DirectoryRead
 pub mod ElementsRead
 pub mod FileRead

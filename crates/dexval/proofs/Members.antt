@@ -60,7 +60,7 @@ value_counted xs i d lt e h =
     let at = counted_at (map value_of xs) i (value_of d) h (omega (arith, length-map xs value_of)) in
     subst IsCounted (get_or-map value_of xs i d (value_of d) lt ∙ ap value_of (sym e)) at
 
-count_of_list : (ys : List NumberedValue) → values_count (values_of_list ys) ≡ length ys
+pub count_of_list : (ys : List NumberedValue) → values_count (values_of_list ys) ≡ length ys
 count_of_list [] = refl
 count_of_list (y ∷ ys) = omega (arith, count_of_list ys)
 

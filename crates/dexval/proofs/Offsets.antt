@@ -29,7 +29,7 @@ length_four n = length-uint n
 
 -- ---- items one after the other
 
-here : (at : ℕ) → round_up 1 at ≡ at
+pub here : (at : ℕ) → round_up 1 at ≡ at
 here at = omega arith
 
 -- one item more has an offset more

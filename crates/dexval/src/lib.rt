@@ -9,7 +9,7 @@
 pub use annotation::{Annotation, Visibility};
 pub use directory::Directory;
 pub use directory_reading::read_directory;
-pub use laws::{marks_law, places_law, renumber_law, uses_law};
+pub use laws::{counts_law, marks_law, places_law, renumber_law, uses_law};
 pub use put::{put_annotation, put_statics, put_value};
 pub use set::AnnotationSet;
 pub use set_put::put_set;

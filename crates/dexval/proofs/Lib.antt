@@ -1,13 +1,16 @@
 pub mod CodeForms
+pub mod Counted
 pub mod DirectoryRead
 pub mod ElementsRead
 pub mod FileRead
 pub mod Growing
 pub mod Joining
+pub mod Lengths
 pub mod LowBytes
 pub mod Meanings
 pub mod Members
 pub mod NestedRead
+pub mod Offsets
 pub mod ScalarsRead
 pub mod SetsRead
 pub mod Settling

@@ -1,6 +1,8 @@
 -- Numbers written in their lowest bytes.
-use Rattle.std.proofs.Common.{◌≡◌, ℕ, zero, suc, ◌+◌, ◌-◌, ◌*◌, ◌/◌, ◌%◌, ◌^◌, ◌<◌, ◌≤◌, List, [], ◌∷◌, ◌++◌, length, take, set, ◌⊎◌, inl, inr, refl, ap, sym, ◌∙◌, subst, arith, add-one, append_assoc}
-use Rattle.std.specs.Prelude.{ℤ, pos, negsuc, ◌≢◌, Result}
+use Rattle.std.proofs.Common.{◌≡◌, ℕ, zero, suc, ◌+◌, ◌-◌, ◌*◌, ◌/◌, ◌%◌, ◌^◌, ◌<◌, ◌≤◌, List, ◌∷◌, ◌++◌, length, take, set, ◌⊎◌, inl, inr, refl, ap, sym, ◌∙◌, subst, arith, add-one, append_assoc}
+use Rattle.std.specs.Prelude.{ℤ, pos, negsuc, ◌≢◌, Result, FitsSigned}
+use Rattle.std.specs.Int.{w64}
+use Rattle.std.proofs.lemmas.Int.{ints}
 use Rattle.std.specs.Global.{Vec}
 use Rattle.dexspec.specs.Writing.{Puts}
 use Rattle.std.proofs.Math.Nat.{mul_assoc, mul-suc, mul-mod_right, mul-div_cancel_left, div-add-mod}
@@ -12,7 +14,7 @@ use Rattle.dexspec.specs.Bytes.{bytes_of}
 use Rattle.dexspec.specs.Numbers.{magnitude}
 use Rattle.dexspec.specs.Values.{value_byte}
 use Rattle.dexspec.specs.Spellings.{unsigned_width, signed_width, bits_width, complement, signed_bytes, bits_bytes}
-use Rattle.dexspec.proofs.ByteNumbers.{pow_256_pos}
+use Rattle.dexspec.proofs.ByteNumbers.{pow_256, pow_256_pos}
 use Rattle.dexspec.proofs.Widths.{signed_width_is, bits_width_is}
 
 -- with one byte more written, one byte less is left
@@ -110,17 +112,18 @@ left_is width n v rest some few most is end =
     ]
 
 -- a bit pattern without the zeros at its low end, in its least width
-pub bits_are : (code width n v rest : ℕ) → 1 ≤ n → n ≤ width → width ≤ 8 → v ≡ 256 ^ (width - n) * rest → (n ≤ 1) ⊎ (rest % 256 ≢ 0) → value_byte (n - 1) code ∷ bytes_of n rest ≡ bits_bytes code width v
-bits_are code width n v rest some few most is end =
-    let same = left_is width n v rest some few most is end in
-    let high : rest ≡ v / 256 ^ (width - n) = sym (mul-div_cancel_left rest (pow_256_pos (width - n))) ∙ ap (λ (x : ℕ). x / 256 ^ (width - n)) (sym is) in
-    ap (λ (r : ℕ). value_byte (n - 1) code ∷ bytes_of n r) high ∙ ap (λ (k : ℕ). value_byte (k - 1) code ∷ bytes_of k (v / 256 ^ (width - k))) same
+pub bits_shifted : (code width n v : ℕ) → n ≡ bits_width width v → value_byte (n - 1) code ∷ bytes_of n (v / 2 ^ (8 * (width - n))) ≡ bits_bytes code width v
+bits_shifted code width n v is =
+    ap (λ (p : ℕ). value_byte (n - 1) code ∷ bytes_of n (v / p)) (pow_256 (width - n)) ∙ ap (λ (k : ℕ). value_byte (k - 1) code ∷ bytes_of k (v / 256 ^ (width - k))) is
+
+-- a number of 64 bits has room in eight bytes
+pub long_room : (z : ℤ) → FitsSigned w64 z → 2 * magnitude z < 256 ^ 8
+long_room (pos n) fits = omega (arith, ints)
+long_room (negsuc n) fits = omega (arith, ints)
 
 -- what was put is the number with a sign
-pub signed_put : {T E : Type 0} {old new : Vec ℕ} {r : Result T E} (code : ℕ) (z : ℤ) (size width bits : ℕ) → size ≡ magnitude z → 2 * size < 256 ^ 8 → width ≡ unsigned_width (2 * size) → width ≤ 8 → bits ≡ complement 8 z
+pub signed_put : {T E : Type 0} {old new : Vec ℕ} {r : Result T E} (code : ℕ) (z : ℤ) (width bits : ℕ) → 2 * magnitude z < 256 ^ 8 → width ≡ signed_width z → width ≤ 8 → bits ≡ complement 8 z
     → Puts (value_byte (width - 1) code ∷ bytes_of width bits) old new r → Puts (signed_bytes code z) old new r
-signed_put {T} {E} {old} {new} {r} code z size width bits size_is room width_is few bits_is puts =
-    let wide : 2 * magnitude z < 256 ^ 8 = subst (λ (s : ℕ). 2 * s < 256 ^ 8) size_is room in
-    let width_of : width ≡ unsigned_width (2 * magnitude z) = width_is ∙ ap (λ (s : ℕ). unsigned_width (2 * s)) size_is in
-    let whole = ap (λ (b : ℕ). value_byte (width - 1) code ∷ bytes_of width b) bits_is ∙ signed_is code z width wide few width_of in
+signed_put {T} {E} {old} {new} {r} code z width bits room width_is few bits_is puts =
+    let whole = ap (λ (b : ℕ). value_byte (width - 1) code ∷ bytes_of width b) bits_is ∙ signed_is code z width room few width_is in
     subst (λ (item : List ℕ). Puts item old new r) whole puts

@@ -1,5 +1,5 @@
 -- Values and elements appended one after the other.
-use Rattle.std.proofs.Common.{◌≡◌, ℕ, zero, suc, ◌+◌, ◌<◌, ◌≤◌, ◌^◌, List, [], ◌∷◌, ◌++◌, get_or, length, take, drop, map, refl, sym, ap, ◌∙◌, subst, arith, append_assoc}
+use Rattle.std.proofs.Common.{◌≡◌, ℕ, zero, suc, ◌+◌, ◌<◌, ◌≤◌, List, [], ◌∷◌, ◌++◌, get_or, length, take, drop, map, refl, sym, ap, ◌∙◌, subst, arith, append_assoc}
 use Rattle.std.specs.Global.{Vec}
 use Rattle.std.proofs.lemmas.List.{take_all, take-append-drop, map-append, append-nil, length-map, get_or-map}
 use Rattle.dexspec.specs.Numbers.{uleb128}
@@ -25,7 +25,7 @@ values_bytes_both (x ∷ xs) ys =
 abbrev pub values_spelled : List Value → List ℕ
 values_spelled xs = numbered_values_bytes (values_of_list (map value_of xs))
 
-one_value : (xs : List Value) (i : ℕ) (d : Value) → i < length xs → d ≡ get_or xs i d → values_spelled (take (i + 1) xs) ≡ values_spelled (take i xs) ++ numbered_bytes (value_of d)
+pub one_value : (xs : List Value) (i : ℕ) (d : Value) → i < length xs → d ≡ get_or xs i d → values_spelled (take (i + 1) xs) ≡ values_spelled (take i xs) ++ numbered_bytes (value_of d)
 one_value xs i d lt e =
     ap (λ (l : List NumberedValue). numbered_values_bytes (values_of_list l)) (values_more xs i d lt e) ∙ values_bytes_both (map value_of (take i xs)) (value_of d ∷ [])
     ∙ ap (λ (l : List ℕ). values_spelled (take i xs) ++ l) (append-nil (numbered_bytes (value_of d)))
@@ -60,7 +60,7 @@ value_counted xs i d lt e h =
     let at = counted_at (map value_of xs) i (value_of d) h (omega (arith, length-map xs value_of)) in
     subst IsCounted (get_or-map value_of xs i d (value_of d) lt ∙ ap value_of (sym e)) at
 
-count_of_list : (ys : List NumberedValue) → values_count (values_of_list ys) ≡ length ys
+pub count_of_list : (ys : List NumberedValue) → values_count (values_of_list ys) ≡ length ys
 count_of_list [] = refl
 count_of_list (y ∷ ys) = omega (arith, count_of_list ys)
 
@@ -85,7 +85,7 @@ elements_spelled xs = numbered_elements_bytes (elements_of_list (map element_of 
 abbrev pub element_spelled : Element → List ℕ
 element_spelled e = uleb128 e.name ++ numbered_bytes (value_of e.value)
 
-one_element : (xs : List Element) (i : ℕ) (d : Element) → i < length xs → d ≡ get_or xs i d → elements_spelled (take (i + 1) xs) ≡ elements_spelled (take i xs) ++ element_spelled d
+pub one_element : (xs : List Element) (i : ℕ) (d : Element) → i < length xs → d ≡ get_or xs i d → elements_spelled (take (i + 1) xs) ≡ elements_spelled (take i xs) ++ element_spelled d
 one_element xs i d lt e =
     ap (λ (l : List (ℕ × NumberedValue)). numbered_elements_bytes (elements_of_list l)) (elements_more xs i d lt e) ∙ elements_bytes_both (map element_of (take i xs)) (element_of d ∷ [])
     ∙ ap (λ (x : ℕ × NumberedValue). elements_spelled (take i xs) ++ numbered_elements_bytes (elements_of_list (x ∷ []))) (element_is d)

@@ -1,9 +1,8 @@
 -- What is spelled with numbers is what is spelled for the symbols that they stand for, and is no longer than it weighs.
-use Rattle.std.proofs.Common.{◌≡◌, ℕ, ◌+◌, ◌<◌, ◌≤◌, List, [], ◌∷◌, ◌++◌, length, map, refl, sym, ap, ◌∙◌, subst, arith}
-use Rattle.std.specs.Prelude.{Result, IsOk, vec_len, vec_capacity}
+use Rattle.std.proofs.Common.{◌≡◌, ℕ, ◌+◌, ◌<◌, ◌≤◌, List, [], ◌∷◌, ◌++◌, length, refl, sym, ap, ◌∙◌, subst, arith}
+use Rattle.std.specs.Prelude.{Result}
 use Rattle.std.specs.Global.{Vec}
 use Rattle.std.proofs.lemmas.List.{length-append}
-use Rattle.dexspec.specs.Lists.{rank}
 use Rattle.dexspec.specs.Texts.{text_cmp}
 use Rattle.dexspec.specs.Numbers.{uleb128}
 use Rattle.dexspec.specs.Symbols.{field_cmp, method_cmp}
@@ -105,10 +104,12 @@ value_put_is {u = u} {w = w} {r = r} m x rising h v stands = subst (λ (l : List
 pub array_put_is : {T E : Type 0} {u w : Vec ℕ} {r : Result T E} (m : Mentions) (xs : NumberedValues) → AreRising m → Puts (numbered_array_bytes xs) u w r → (vs : Values) → StandFor m xs vs → Puts (encoded_array_bytes m vs) u w r
 array_put_is {u = u} {w = w} {r = r} m xs rising h vs stand = subst (λ (l : List ℕ). Puts l u w r) (array_by m xs (values_bytes_are m xs rising stand.known) ∙ ap (encoded_array_bytes m) stand.mean) h
 
+-- of an annotation
+pub annotation_bytes_are : (m : Mentions) (x : NumberedAnnotation) → AreRising m → IsKnownAnnotation m x → numbered_annotation_bytes x ≡ annotation_bytes m (annotation_in m x)
+annotation_bytes_are m x rising known = ap (λ (l : List ℕ). x.visibility ∷ l) (annotation_by m x.type x.elements rising known.type_in (elements_bytes_are m x.elements rising known.elements_known))
+
 pub annotation_put_is : {T E : Type 0} {u w : Vec ℕ} {r : Result T E} (m : Mentions) (x : NumberedAnnotation) → AreRising m → Puts (numbered_annotation_bytes x) u w r → (a : Annotation) → StandsForAnnotation m x a → Puts (annotation_bytes m a) u w r
-annotation_put_is {u = u} {w = w} {r = r} m x rising h a stands =
-    let same = ap (λ (l : List ℕ). x.visibility ∷ l) (annotation_by m x.type x.elements rising stands.known.type_in (elements_bytes_are m x.elements rising stands.known.elements_known)) in
-    subst (λ (l : List ℕ). Puts l u w r) (same ∙ ap (annotation_bytes m) stands.means) h
+annotation_put_is {u = u} {w = w} {r = r} m x rising h a stands = subst (λ (l : List ℕ). Puts l u w r) (annotation_bytes_are m x rising stands.known ∙ ap (annotation_bytes m) stands.means) h
 
 -- ---- sizes
 

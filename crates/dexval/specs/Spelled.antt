@@ -1,8 +1,9 @@
 -- Values, annotations and sets spelled in the fewest bytes, their numbers put in, and what they weigh.
-use Rattle.std.specs.Prelude.{◌≡◌, ℕ, ◌+◌, ◌*◌, ◌^◌, ◌<◌, List, [], ◌∷◌, ◌++◌, length, sum_by, if◌then◌else◌}
+use Rattle.std.specs.Prelude.{ℕ, ◌+◌, ◌*◌, ◌^◌, ◌<◌, List, [], ◌∷◌, ◌++◌, length, map, sum_by, if◌then◌else◌}
 use Rattle.dexspec.specs.Numbers.{uleb128}
 use Rattle.dexspec.specs.Values.{value_byte, byte_value_type, short_value_type, char_value_type, int_value_type, long_value_type, float_value_type, double_value_type, string_value_type, type_value_type, field_value_type, method_value_type, enum_value_type, array_value_type, annotation_value_type, null_value_type, boolean_value_type}
-use Rattle.dexspec.specs.Spellings.{unsigned_bytes, signed_bytes, bits_bytes}
+use Rattle.dexspec.specs.Spellings.{unsigned_bytes, signed_bytes, bits_bytes, offsets_bytes}
+use Rattle.dexspec.specs.Placing.{offsets_from}
 use Rattle.dexval.specs.Numbered.{Literal, ByteLiteral, ShortLiteral, CharLiteral, IntLiteral, LongLiteral, FloatLiteral, DoubleLiteral, NullLiteral, BooleanLiteral, Reference, StringReference, TypeReference, FieldReference, MethodReference, EnumReference, NumberedValue, NumberedValues, NumberedElements, NumberedAnnotation, NumberedSet, Plain, Named, Array, Annotated, NoValue, ThenNext, NoElement, ThenNamed}
 
 -- ---- how many there are
@@ -90,6 +91,14 @@ encoded_annotation_bytes t es = uleb128 t ++ (uleb128 (elements_count es) ++ num
 -- an annotation_item
 abbrev pub numbered_annotation_bytes : NumberedAnnotation → List ℕ
 numbered_annotation_bytes a = a.visibility ∷ encoded_annotation_bytes a.type a.elements
+
+-- where the annotations of a set begin that stand one after the other from a place on
+abbrev pub numbered_offsets : ℕ → NumberedSet → List ℕ
+numbered_offsets first s = offsets_from 1 first (map numbered_annotation_bytes s)
+
+-- an annotation_set_item of such annotations
+abbrev pub numbered_set_bytes : ℕ → NumberedSet → List ℕ
+numbered_set_bytes first s = offsets_bytes (numbered_offsets first s)
 
 -- ---- weights
 

@@ -1,18 +1,20 @@
 //! Laws of values and sets with numbers. Each function does nothing: its contract is the law, for the callers that cite
 //! it.
 
-ghost use Rattle.std.specs.Prelude.{◌^◌, ◌≤◌, All};
+ghost use Rattle.std.specs.Prelude.{ℕ, ◌+◌, ◌^◌, ◌<◌, ◌≤◌, All, List, length};
 ghost use Rattle.std.specs.List.{AllZip};
 ghost use Rattle.dexspec.specs.Annotations.{AnnotationSet as SetMeant};
 ghost use Rattle.dexspec.specs.Mentions.{Mentions, value_symbols, values_symbols, set_symbols};
 ghost use Rattle.dexspec.specs.Values.{Value as ValueMeant, Values as ValuesMeant};
+ghost use Rattle.dexspec.specs.Weight.{value_weight, static_values_weight, annotation_weight, set_weight};
 ghost use Rattle.dexpool.specs.Numberings.{AreMarksOf, Maps, AllLead};
 ghost use Rattle.dexpool.specs.Laws.{LeadsAll};
 ghost use Rattle.dexpool.specs.Pools.{count_of};
 ghost use Rattle.dexpool.specs.declared.marks.Marks.{Marks};
 ghost use Rattle.dexpool.specs.declared.symbols.SymbolKind.{SymbolKind};
-ghost use Rattle.dexval.specs.Numbered.{NumberedValue, NumberedValues, NumberedSet, IsKnown, AreKnown, IsKnownSet, StandsFor, StandFor, StandsForSet};
+ghost use Rattle.dexval.specs.Numbered.{NumberedValue, NumberedValues, NumberedAnnotation, NumberedSet, value_in, values_in, annotation_in, set_in, values_of_list, IsKnown, AreKnown, IsKnownSet, StandsFor, StandFor, StandsForSet};
 ghost use Rattle.dexval.specs.Renumbering.{renumbered, renumbered_values, renumbered_set, HasPlaces, HavePlaces, SetHasPlaces};
+ghost use Rattle.dexval.specs.Spelled.{IsCounted, AreCounted, IsCountedAnnotation, numbered_offsets};
 ghost use Rattle.dexval.specs.Uses.{value_uses, values_uses, set_uses, IsUseOf, HasMark};
 
 /// Under other numbers a value, values and a set stand for what they stood for.
@@ -42,4 +44,14 @@ pub fn places_law()
     ensures value { (m n : Mentions) (r : Maps) (x : NumberedValue) → AllLead m n r → LeadsAll m r → ((kind : SymbolKind) → count_of kind n ≤ 2 ^ 32) → IsKnown m x → HasPlaces r x }
     ensures values { (m n : Mentions) (r : Maps) (xs : NumberedValues) → AllLead m n r → LeadsAll m r → ((kind : SymbolKind) → count_of kind n ≤ 2 ^ 32) → AreKnown m xs → HavePlaces r xs }
     ensures set { (m n : Mentions) (r : Maps) (xs : NumberedSet) → AllLead m n r → LeadsAll m r → ((kind : SymbolKind) → count_of kind n ≤ 2 ^ 32) → IsKnownSet m xs → SetHasPlaces r xs }
+{}
+
+/// What weighs less than 2^32 has few enough members to be put: a value, static values, an annotation, and each
+/// annotation of a set. A set may be put from an offset on with which it weighs less than 2^32 together.
+pub fn counts_law()
+    ensures value { (m : Mentions) (x : NumberedValue) → value_weight (value_in m x) < 2 ^ 32 → IsCounted x }
+    ensures statics { (m : Mentions) (xs : List NumberedValue) → static_values_weight (values_in m (values_of_list xs)) < 2 ^ 32 → (length xs < 2 ^ 32) × AreCounted (values_of_list xs) }
+    ensures annotation { (m : Mentions) (a : NumberedAnnotation) → annotation_weight (annotation_in m a) < 2 ^ 32 → IsCountedAnnotation a }
+    ensures set { (m : Mentions) (s : NumberedSet) → set_weight (set_in m s) < 2 ^ 32 → All IsCountedAnnotation s }
+    ensures offsets { (m : Mentions) (first : ℕ) (s : NumberedSet) → first + set_weight (set_in m s) < 2 ^ 32 → All (λ offset. offset < 2 ^ 32) (numbered_offsets first s) }
 {}

@@ -1,12 +1,12 @@
 //! Values and annotations written.
 
-ghost use Rattle.std.specs.Prelude.{◌≡◌, ℕ, ◌+◌, ◌*◌, ◌-◌, ◌^◌, ◌<◌, ◌≤◌, ◌∷◌, [], map, length, IsOk, vec_len, vec_capacity};
+ghost use Rattle.std.specs.Prelude.{◌≡◌, ◌+◌, ◌*◌, ◌-◌, ◌^◌, ◌<◌, ◌≤◌, ◌∷◌, [], map, length, IsOk, vec_len, vec_capacity};
 ghost use Rattle.dexspec.specs.Bytes.{bytes_of};
-ghost use Rattle.dexspec.specs.Numbers.{uleb128, magnitude};
+ghost use Rattle.dexspec.specs.Numbers.{uleb128};
 ghost use Rattle.dexspec.specs.Values.{Value as ValueMeant, Values as ValuesMeant, value_byte};
 ghost use Rattle.dexspec.specs.Annotations.{Annotation as AnnotationMeant};
 ghost use Rattle.dexspec.specs.Mentions.{Mentions};
-ghost use Rattle.dexspec.specs.Spellings.{complement, unsigned_width, unsigned_bytes, signed_bytes, bits_bytes, value_bytes, encoded_array_bytes, annotation_bytes};
+ghost use Rattle.dexspec.specs.Spellings.{complement, unsigned_bytes, signed_bytes, bits_bytes, value_bytes, encoded_array_bytes, annotation_bytes};
 ghost use Rattle.dexspec.specs.Weight.{value_weight, static_values_weight, annotation_weight};
 ghost use Rattle.dexspec.specs.Writing.{Puts};
 ghost use Rattle.dexval.specs.Appending.{Appends};
@@ -16,6 +16,7 @@ ghost use Rattle.dexval.specs.Spelled.{IsCounted, AreCounted, HaveCounted, IsCou
 
 use crate::annotation::{Annotation, Visibility};
 use crate::value::{Element, Value};
+use crate::widths::{bits_width, magnitude, signed_width, unsigned_width};
 use dexleb::put_u;
 use dexpool::Numbering;
 use std::alloc::AllocError;
@@ -52,24 +53,6 @@ const NULL: u8 = 0x1e;
 
 const BOOLEAN: u8 = 0x1f;
 
-// The fewest bytes that hold a number, one at least.
-fn unsigned_width(value: u64) -> usize
-    ensures width { result ≡ unsigned_width value }
-    ensures some { 1 ≤ result }
-    ensures few { result ≤ 8 }
-{
-    match value {
-        0..=0xff => 1,
-        0x100..=0xffff => 2,
-        0x1_0000..=0xff_ffff => 3,
-        0x100_0000..=0xffff_ffff => 4,
-        0x1_0000_0000..=0xff_ffff_ffff => 5,
-        0x100_0000_0000..=0xffff_ffff_ffff => 6,
-        0x1_0000_0000_0000..=0xff_ffff_ffff_ffff => 7,
-        _ => 8,
-    }
-}
-
 // Appends a type code that counts so many bytes, and these lowest bytes of a number.
 fn append_low(code: u8, width: usize, value: u64, out: &mut Vec<u8>) -> Result<(), AllocError>
     requires code { code < 32 }
@@ -95,18 +78,6 @@ fn append_unsigned(code: u8, value: u64, out: &mut Vec<u8>) -> Result<(), AllocE
     append_low(code, unsigned_width(value), value, out)
 }
 
-// The number, and where it is negative the one whose bits are all turned.
-fn magnitude(value: i64) -> u64
-    ensures size { result ≡ magnitude value }
-    ensures bound { result < 2 ^ 63 }
-{
-    if value < 0 {
-        value.unsigned_abs() - 1
-    } else {
-        value as u64
-    }
-}
-
 // The number in two's complement.
 fn complement(value: i64) -> u64
     ensures { result ≡ complement 8 value }
@@ -123,8 +94,7 @@ fn append_signed(code: u8, value: i64, out: &mut Vec<u8>) -> Result<(), AllocErr
     requires { code < 32 }
     ensures { Puts (signed_bytes code value) out.old out.new result }
 {
-    let width = unsigned_width(2 * magnitude(value));
-    append_low(code, width, complement(value), out)
+    append_low(code, signed_width(value), complement(value), out)
 }
 
 // Appends a bit pattern of so many bytes, the zeros at its low end left out.
@@ -134,13 +104,8 @@ fn append_bits(code: u8, width: usize, bits: u64, out: &mut Vec<u8>) -> Result<(
     requires few { width ≤ 8 }
     ensures { Puts (bits_bytes code width bits) out.old out.new result }
 {
-    let mut rest = bits;
-    let mut left = width;
-    while left > 1 && rest % 0x100 == 0 {
-        rest /= 0x100;
-        left -= 1;
-    }
-    append_low(code, left, rest, out)
+    let left = bits_width(width, bits);
+    append_low(code, left, bits >> (8 * (width - left)), out)
 }
 
 // Appends one byte. Where memory is wanting, as with all that follow here, a part of the item may stand.

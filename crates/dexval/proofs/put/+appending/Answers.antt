@@ -1,10 +1,10 @@
-use Rattle.std.proofs.Common.{◌++◌, List, ℕ, ap, sym, ◌∙◌, arith, rules, map, to_z, of_z, w64}
+use Rattle.std.proofs.Common.{◌++◌, ℕ, ap, sym, rules, map, to_z, of_z, w64}
 use Rattle.dexspec.specs.Numbers.{uleb128}
 use Rattle.dexval.specs.Code.{value_of, element_of}
 use Rattle.dexval.specs.Numbered.{values_of_list, elements_of_list}
-use Rattle.dexval.specs.Spelled.{values_count, elements_count, numbered_values_bytes, numbered_elements_bytes, numbered_bytes, encoded_annotation_bytes, numbered_array_bytes}
+use Rattle.dexval.specs.Spelled.{numbered_values_bytes, numbered_elements_bytes, numbered_bytes}
 use Rattle.dexval.proofs.Joining.{appended_both, stopped_after, stopped_before, appends_after, appends_same, stops}
-use Rattle.dexval.proofs.Members.{values_spelled, elements_spelled, value_step_on, value_stop, value_counted, count_values_is, element_step_on, element_stop, element_counted, count_elements_is, value_lighter, element_lighter}
+use Rattle.dexval.proofs.Members.{value_step_on, value_stop, value_counted, count_values_is, element_step_on, element_stop, element_counted, count_elements_is, value_lighter, element_lighter}
 use Rattle.dexval.proofs.ValueForms.{array_counted, annotation_counted, array_put, annotation_put, array_lighter, annotation_lighter, byte_put, short_put, char_put, int_put, long_put, float_put, double_put, string_put, type_put, field_put, method_put, enum_put}
 use Rattle.dexval.proofs.put.+appending.Goals as goal
 

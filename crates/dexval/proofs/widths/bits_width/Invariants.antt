@@ -1,5 +1,5 @@
-use Rattle.std.proofs.Common.{◌≡◌, ◌-◌, ◌*◌, ◌^◌, ◌≤◌, ℕ}
-use Rattle.dexval.proofs.put.append_bits.Given as goal
+use Rattle.std.proofs.Common.{◌≡◌, ◌-◌, ◌*◌, ◌^◌, ◌≤◌}
+use Rattle.dexval.proofs.widths.bits_width.Given as goal
 
 abbrev pub invariant-loop-left : goal.invariant-loop-left
 invariant-loop-left l = record { some : 1 ≤ l.left; few : l.left ≤ l.width; whole : l.bits ≡ 256 ^ (l.width - l.left) * l.rest }

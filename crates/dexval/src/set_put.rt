@@ -1,0 +1,87 @@
+//! Sets of annotations written.
+
+ghost use Rattle.std.specs.Prelude.{◌≡◌, ◌++◌, ◌+◌, ◌*◌, ◌^◌, ◌<◌, ◌≤◌, All, map, length, IsOk, vec_len, vec_capacity};
+ghost use Rattle.std.specs.List.{flat_map};
+ghost use Rattle.dexspec.specs.Bytes.{uint};
+ghost use Rattle.dexspec.specs.Annotations.{AnnotationSet as SetMeant};
+ghost use Rattle.dexspec.specs.Mentions.{Mentions};
+ghost use Rattle.dexspec.specs.Placing.{offsets_from};
+ghost use Rattle.dexspec.specs.Spellings.{annotation_bytes, offsets_bytes};
+ghost use Rattle.dexspec.specs.Weight.{set_weight};
+ghost use Rattle.dexspec.specs.Writing.{Puts};
+ghost use Rattle.dexval.specs.Code.{annotation_of, set_of};
+ghost use Rattle.dexval.specs.Numbered.{set_in, StandsForSet};
+ghost use Rattle.dexval.specs.Spelled.{numbered_offsets, numbered_set_bytes};
+
+use crate::annotation::Annotation;
+use crate::set::AnnotationSet;
+use crate::sizes::annotation_size;
+use dexhead::put_u32;
+use dexpool::Numbering;
+use std::alloc::AllocError;
+
+// Appends a number of four bytes where there is room for it.
+#[tactic(auto, using(crate::proofs::Offsets::length_four))]
+fn push_u32(number: u32, out: &mut Vec<u8>)
+    requires { vec_len out.old + 4 ≤ vec_capacity out.old }
+    ensures items { out.new.items ≡ out.old.items ++ uint number }
+    ensures len { vec_len out.new ≡ vec_len out.old + 4 }
+    ensures capacity { vec_capacity out.old ≤ vec_capacity out.new }
+{
+    put_u32(number, out).unwrap();
+}
+
+// Appends where each annotation begins, the first at a place and each other behind the one before it, where there is
+// room.
+fn push_offsets(annotations: &[Annotation], first: u32, out: &mut Vec<u8>)
+    requires fit { All (λ offset. offset < 2 ^ 32) (numbered_offsets first (map annotation_of annotations.now)) }
+    requires room { vec_len out.old + 4 * length annotations.now ≤ vec_capacity out.old }
+    ensures items { out.new.items ≡ out.old.items ++ flat_map uint (numbered_offsets first (map annotation_of annotations.now)) }
+    ensures len { vec_len out.new ≡ vec_len out.old + 4 * length annotations.now }
+    ensures capacity { vec_capacity out.old ≤ vec_capacity out.new }
+{
+    let mut offset = u64::from(first);
+    for annotation in annotations {
+        push_u32(offset as u32, out);
+        offset = offset.saturating_add(annotation_size(annotation));
+    }
+}
+
+// Appends the count of annotations and where each begins.
+fn put_offsets(annotations: &[Annotation], first: u32, out: &mut Vec<u8>) -> Result<(), AllocError>
+    requires { All (λ offset. offset < 2 ^ 32) (numbered_offsets first (map annotation_of annotations.now)) }
+    ensures { Puts (numbered_set_bytes first (map annotation_of annotations.now)) out.old out.new result }
+{
+    out.reserve(4 + 4 * annotations.len())?;
+    push_u32(annotations.len() as u32, out);
+    push_offsets(annotations, first, out);
+    Ok(())
+}
+
+/// Appends the annotation_set_item of a set whose annotations stand, by type, one after the other from offset `first`
+/// on, each as [`put_annotation`](crate::put_annotation) appends it: their count and the offset of each, in four bytes
+/// each.
+///
+/// An empty set is put as a count of 0. The canonical file has no item for it: a set that has no annotation and none at
+/// all are the same there, and the caller leaves it out.
+///
+/// It fails only for want of memory, and not where the spare room is at least four bytes and four for each annotation,
+/// nor where it is at least what the set weighs and there is one; the vector is then as it was. Condition: these offsets
+/// are below 2^32. No memory is taken beside the vector's.
+///
+/// Source: "annotation_set_item" and "annotation_off_item".
+pub fn put_set(
+    set: &AnnotationSet,
+    first: u32,
+    out: &mut Vec<u8>,
+    numbering: &Numbering<'_>,
+) -> Result<(), AllocError>
+    requires { All (λ offset. offset < 2 ^ 32) (numbered_offsets first (set_of set.now)) }
+    ensures bytes { Puts (numbered_set_bytes first (set_of set.now)) out.old out.new result }
+    ensures symbolic { (symbolic : SetMeant) → StandsForSet numbering.now (set_of set.now) symbolic → Puts (offsets_bytes (offsets_from 1 first (map (annotation_bytes numbering.now) symbolic))) out.old out.new result }
+    ensures bound { vec_len out.old + (4 + 4 * length (set_of set.now)) ≤ vec_capacity out.old → IsOk result }
+    ensures room { (m : Mentions) → 0 < length (set_of set.now) → vec_len out.old + set_weight (set_in m (set_of set.now)) ≤ vec_capacity out.old → IsOk result }
+{
+    numbering.is_numbering();
+    put_offsets(set.annotations(), first, out)
+}

@@ -1,0 +1,61 @@
+//! The fewest bytes that hold a number.
+
+ghost use Rattle.std.specs.Prelude.{◌≡◌, ◌^◌, ◌<◌, ◌≤◌};
+ghost use Rattle.dexspec.specs.Numbers.{magnitude};
+ghost use Rattle.dexspec.specs.Spellings.{unsigned_width, signed_width, bits_width};
+
+/// The fewest bytes that hold a number, one at least.
+pub(crate) fn unsigned_width(value: u64) -> usize
+    ensures width { result ≡ unsigned_width value }
+    ensures some { 1 ≤ result }
+    ensures few { result ≤ 8 }
+{
+    match value {
+        0..=0xff => 1,
+        0x100..=0xffff => 2,
+        0x1_0000..=0xff_ffff => 3,
+        0x100_0000..=0xffff_ffff => 4,
+        0x1_0000_0000..=0xff_ffff_ffff => 5,
+        0x100_0000_0000..=0xffff_ffff_ffff => 6,
+        0x1_0000_0000_0000..=0xff_ffff_ffff_ffff => 7,
+        _ => 8,
+    }
+}
+
+/// The number, and where it is negative the one whose bits are all turned.
+pub(crate) fn magnitude(value: i64) -> u64
+    ensures size { result ≡ magnitude value }
+    ensures bound { result < 2 ^ 63 }
+{
+    if value < 0 {
+        value.unsigned_abs() - 1
+    } else {
+        value as u64
+    }
+}
+
+/// The fewest bytes that hold a number and its sign.
+pub(crate) fn signed_width(value: i64) -> usize
+    ensures width { result ≡ signed_width value }
+    ensures some { 1 ≤ result }
+    ensures few { result ≤ 8 }
+{
+    unsigned_width(2 * magnitude(value))
+}
+
+/// The fewest bytes that hold a bit pattern of so many bytes, the zeros at its low end left out.
+pub(crate) fn bits_width(width: usize, bits: u64) -> usize
+    requires some { 1 ≤ width }
+    requires few { width ≤ 8 }
+    ensures width { result ≡ bits_width width bits }
+    ensures some { 1 ≤ result }
+    ensures few { result ≤ width }
+{
+    let mut rest = bits;
+    let mut left = width;
+    while left > 1 && rest % 0x100 == 0 {
+        rest /= 0x100;
+        left -= 1;
+    }
+    left
+}

@@ -8,6 +8,7 @@ pub mod LowBytes
 pub mod Meanings
 pub mod Members
 pub mod NestedRead
+pub mod Renumbered
 pub mod ScalarsRead
 pub mod SetsRead
 pub mod Settling

@@ -1,10 +1,12 @@
 pub mod CodeForms
+pub mod Compared
 pub mod DirectoryRead
 pub mod ElementsRead
 pub mod FileRead
 pub mod Growing
 pub mod Joining
 pub mod LowBytes
+pub mod Marked
 pub mod Meanings
 pub mod Members
 pub mod NestedRead

@@ -4,7 +4,7 @@ use Rattle.std.specs.List.{All}
 use Rattle.std.proofs.lemmas.List.{drop-drop, get_or-drop, get_or-map, take_more_set, map-append, map_more, take_all, drop-set-lt, length-set, length-map}
 use Rattle.std.proofs.lemmas.List.Elements.{All-nil, All-cons, All-get_or}
 use Rattle.dexpool.specs.Numberings.{Maps}
-use Rattle.dexval.specs.Numbered.{NumberedValue, NumberedValues, NumberedElements, values_of_list, elements_of_list, ThenNext, ThenNamed}
+use Rattle.dexval.specs.Numbered.{NumberedValue, values_of_list, elements_of_list, ThenNext, ThenNamed}
 use Rattle.dexval.specs.Renumbering.{renumbered, renumbered_values, renumbered_elements, renumbered_element, HasPlaces, HavePlaces, ElementsHavePlaces, ElementHasPlaces}
 
 -- ---- a list that is changed member by member

@@ -1,4 +1,4 @@
-use Rattle.std.proofs.Common.{rules, ◌≡◌, ℕ, map, sym, ap, ◌∙◌, subst, arith}
+use Rattle.std.proofs.Common.{rules, ℕ, map, sym, ap, ◌∙◌, subst, arith}
 use Rattle.dexval.specs.Code.{value_of, element_of}
 use Rattle.dexval.specs.Numbered.{values_of_list, elements_of_list}
 use Rattle.dexval.specs.Renumbering.{renumbered, renumbered_element, HasPlaces, ElementHasPlaces}

@@ -3,6 +3,7 @@ pub mod Compared
 pub mod DirectoryRead
 pub mod ElementsRead
 pub mod FileRead
+pub mod Fitted
 pub mod Growing
 pub mod Joining
 pub mod LowBytes

@@ -9,6 +9,7 @@
 pub use annotation::{Annotation, Visibility};
 pub use directory::Directory;
 pub use directory_reading::read_directory;
+pub use fitting::statics_fit;
 pub use laws::{marks_law, places_law, renumber_law, uses_law};
 pub use marking::mark_statics;
 pub use put::{put_annotation, put_statics, put_value};
@@ -24,6 +25,7 @@ mod annotation;
 mod copying;
 mod directory;
 mod directory_reading;
+mod fitting;
 mod laws;
 mod marking;
 mod nesting;

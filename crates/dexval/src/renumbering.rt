@@ -89,7 +89,7 @@ fn renumber_annotations(annotations: &mut Vec<Annotation>, remap: &Remap)
 impl Value {
     /// Puts for each number of a symbol in the value the one that it leads to. No memory is taken.
     ///
-    /// Condition: each number leads to one, below 2^32.
+    /// Condition: each number leads to one, below 2^32, which [`fits`](Value::fits) tells.
     pub fn renumber(&mut self, remap: &Remap)
         requires { HasPlaces remap.now (value_of self.old) }
         ensures { value_of self.new ≡ renumbered remap.now (value_of self.old) }
@@ -101,7 +101,7 @@ impl Value {
 impl AnnotationSet {
     /// Puts for each number of a symbol in the annotations the one that it leads to. No memory is taken.
     ///
-    /// Condition: each number leads to one, below 2^32.
+    /// Condition: each number leads to one, below 2^32, which [`fits`](AnnotationSet::fits) tells.
     pub fn renumber(&mut self, remap: &Remap)
         requires { SetHasPlaces remap.now (set_of self.old) }
         ensures { set_of self.new ≡ renumbered_set remap.now (set_of self.old) }
@@ -112,7 +112,7 @@ impl AnnotationSet {
 
 /// Puts for each number of a symbol in static values the one that it leads to. No memory is taken.
 ///
-/// Condition: each number leads to one, below 2^32.
+/// Condition: each number leads to one, below 2^32, which [`statics_fit`](crate::statics_fit) tells.
 pub fn renumber_statics(values: &mut Vec<Value>, remap: &Remap)
     requires { HavePlaces remap.now (values_of_list (map value_of values.old.items)) }
     ensures { values_of_list (map value_of values.new.items) ≡ renumbered_values remap.now (values_of_list (map value_of values.old.items)) }

@@ -1,0 +1,106 @@
+-- Marks that are made member by member.
+use Rattle.std.proofs.Common.{◌≡◌, ℕ, ◌+◌, ◌<◌, ◌==◌, Bool, true, false, ◌||◌, ◌&&◌, List, [], ◌∷◌, ◌++◌, length, take, map, get_or, refl, ap, sym, ◌∙◌, subst, append_assoc}
+use Rattle.std.specs.List.{All, flat_map}
+use Rattle.std.proofs.lemmas.List.{take_more, append-nil}
+use Rattle.std.proofs.lemmas.List.Elements.{All-nil, All-cons, All-head, All-tail, All-get_or}
+use Rattle.std.proofs.lemmas.List.Folds.{list_any-append}
+use Rattle.dexpool.specs.declared.marks.Marks.{Marks}
+use Rattle.dexpool.specs.declared.symbols.SymbolKind.TheVariants as kinds
+use Rattle.dexval.specs.declared.annotation.Annotation.{Annotation}
+use Rattle.dexval.specs.declared.value.Value.{Value}
+use Rattle.dexval.specs.declared.value.Element.{Element}
+use Rattle.dexval.specs.Code.{value_of, element_of, annotation_of}
+use Rattle.dexval.specs.Numbered.{NumberedValue, Reference, Named, kind_of_reference, values_of_list, elements_of_list}
+use Rattle.dexval.specs.Uses.{Use, value_uses, values_uses, elements_uses, annotation_uses, set_uses, marks_of, HasMark, same_kind, occurs, AreMarkedToo}
+use Rattle.dexval.proofs.CodeForms.{element_is}
+
+-- ---- marks on one list of symbols after the other
+
+all_front : {X : Type 0} (P : X → Type 0) (xs ys : List X) → All P (xs ++ ys) → All P xs
+all_front P [] ys h = All-nil P
+all_front P (x ∷ xs) ys h = All-cons P x xs (All-head P x (xs ++ ys) h) (all_front P xs ys (All-tail P x (xs ++ ys) h))
+
+all_back : {X : Type 0} (P : X → Type 0) (xs ys : List X) → All P (xs ++ ys) → All P ys
+all_back P [] ys h = h
+all_back P (x ∷ xs) ys h = all_back P xs ys (All-tail P x (xs ++ ys) h)
+
+-- what holds of all that members give holds of what each gives
+all_parts : {X Y : Type 0} (P : Y → Type 0) (f : X → List Y) (xs : List X) → All P (flat_map f xs) → All (λ x. All P (f x)) xs
+all_parts P f [] h = All-nil (λ x. All P (f x))
+all_parts P f (x ∷ xs) h = All-cons (λ x. All P (f x)) x xs (all_front P (f x) (flat_map f xs) h) (all_parts P f xs (all_back P (f x) (flat_map f xs) h))
+
+or_assoc : (a b c : Bool) → ((a || b) || c) ≡ (a || (b || c))
+or_assoc true b c = refl
+or_assoc false b c = refl
+
+-- the marks of two lists, one made after the other
+pub marked_both : (us vs : List Use) (a b c : Marks) → AreMarkedToo us a b → AreMarkedToo vs b c → AreMarkedToo (us ++ vs) a c
+marked_both us vs a b c before more = record {
+  count = λ j. more.count j ∙ before.count j;
+  each = λ j i.
+      more.each j i ∙ ap (λ (t : Bool). t || occurs vs j i) (before.each j i) ∙ or_assoc (get_or (marks_of j a) i false) (occurs us j i) (occurs vs j i)
+      ∙ ap (λ (t : Bool). get_or (marks_of j a) i false || t) (sym (list_any-append (λ v. same_kind v.kind j && v.number == i) us vs));
+}
+
+still_marked : (us : List Use) (u : Use) (a b : Marks) → AreMarkedToo us a b → HasMark a u → HasMark b u
+still_marked us u a b h lt = subst (λ (n : ℕ). u.number < n) (sym (h.count u.kind)) lt
+
+-- there still is a mark for each that had one
+pub still_all : (us vs : List Use) (a b : Marks) → AreMarkedToo us a b → All (HasMark a) vs → All (HasMark b) vs
+still_all us [] a b h all = All-nil (HasMark b)
+still_all us (v ∷ vs) a b h all = All-cons (HasMark b) v vs (still_marked us v a b h (All-head (HasMark a) v vs all)) (still_all us vs a b h (All-tail (HasMark a) v vs all))
+
+-- ---- the symbols of members
+
+-- there is a mark for each symbol of the next member
+pub next_has_marks : {X : Type 0} (uses : X → List Use) (xs : List X) (i : ℕ) (d : X) (a b : Marks) → i < length xs → d ≡ get_or xs i d → All (HasMark a) (flat_map uses xs) → AreMarkedToo (flat_map uses (take i xs)) a b → All (HasMark b) (uses d)
+next_has_marks uses xs i d a b lt e all h =
+    still_all (flat_map uses (take i xs)) (uses d) a b h (subst (λ x. All (HasMark a) (uses x)) (sym e) (All-get_or (λ x. All (HasMark a) (uses x)) xs i d lt (all_parts (HasMark a) uses xs all)))
+
+parts_both : {X Y : Type 0} (f : X → List Y) (xs ys : List X) → flat_map f (xs ++ ys) ≡ flat_map f xs ++ flat_map f ys
+parts_both f [] ys = refl
+parts_both f (x ∷ xs) ys = ap (λ l. f x ++ l) (parts_both f xs ys) ∙ sym (append_assoc (f x) (flat_map f xs) (flat_map f ys))
+
+-- the symbols of one member more
+uses_more : {X : Type 0} (uses : X → List Use) (xs : List X) (i : ℕ) (d : X) → i < length xs → d ≡ get_or xs i d → flat_map uses (take i xs) ++ uses d ≡ flat_map uses (take (i + 1) xs)
+uses_more uses xs i d lt e =
+    ap (λ l. flat_map uses (take i xs) ++ l) (sym (append-nil (uses d))) ∙ sym (parts_both uses (take i xs) (d ∷ []))
+    ∙ ap (λ x. flat_map uses (take i xs ++ x ∷ [])) e ∙ ap (flat_map uses) (sym (take_more xs i d lt))
+
+-- marks on one member more
+pub member_marked : {X : Type 0} (uses : X → List Use) (xs : List X) (i : ℕ) (d : X) (a b c : Marks) → i < length xs → d ≡ get_or xs i d → AreMarkedToo (flat_map uses (take i xs)) a b → AreMarkedToo (uses d) b c → AreMarkedToo (flat_map uses (take (i + 1) xs)) a c
+member_marked uses xs i d a b c lt e before more = subst (λ us. AreMarkedToo us a c) (uses_more uses xs i d lt e) (marked_both (flat_map uses (take i xs)) (uses d) a b c before more)
+
+-- the symbols of a value of the code
+abbrev pub code_uses : Value → List Use
+code_uses v = value_uses (value_of v)
+
+-- of an element
+abbrev pub element_uses : Element → List Use
+element_uses e = record { kind = kinds.Text; number = e.name } ∷ code_uses e.value
+
+-- of an annotation
+abbrev pub note_uses : Annotation → List Use
+note_uses a = annotation_uses (annotation_of a)
+
+-- values have the symbols of each
+pub uses_of_values : (xs : List Value) → values_uses (values_of_list (map value_of xs)) ≡ flat_map code_uses xs
+uses_of_values [] = refl
+uses_of_values (x ∷ xs) = ap (λ l. code_uses x ++ l) (uses_of_values xs)
+
+-- so do elements
+pub uses_of_elements : (xs : List Element) → elements_uses (elements_of_list (map element_of xs)) ≡ flat_map element_uses xs
+uses_of_elements [] = refl
+uses_of_elements (x ∷ xs) =
+    ap (λ (p : ℕ × NumberedValue). elements_uses (elements_of_list (p ∷ map element_of xs))) (element_is x) ∙ ap (λ l. element_uses x ++ l) (uses_of_elements xs)
+
+-- and annotations
+pub uses_of_annotations : (xs : List Annotation) → set_uses (map annotation_of xs) ≡ flat_map note_uses xs
+uses_of_annotations [] = refl
+uses_of_annotations (x ∷ xs) = ap (λ l. note_uses x ++ l) (uses_of_annotations xs)
+
+-- ---- what a value names
+
+-- there is a mark for the symbol that a value names
+pub named_has_mark : (marks : Marks) (v : Value) (r : Reference) (i : ℕ) → value_of v ≡ Named r i → All (HasMark marks) (code_uses v) → HasMark marks (record { kind = kind_of_reference r; number = i })
+named_has_mark marks v r i e all = All-head (HasMark marks) (record { kind = kind_of_reference r; number = i }) [] (subst (λ x. All (HasMark marks) (value_uses x)) e all)

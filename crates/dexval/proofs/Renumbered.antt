@@ -1,0 +1,69 @@
+-- Lists whose members are renumbered one by one.
+use Rattle.std.proofs.Common.{◌≡◌, ℕ, ◌+◌, ◌<◌, ◌≤◌, List, [], ◌∷◌, ◌++◌, length, drop, take, map, get_or, set, refl, ap, sym, ◌∙◌, subst, arith}
+use Rattle.std.specs.List.{All}
+use Rattle.std.proofs.lemmas.List.{drop-drop, get_or-drop, get_or-map, take_more_set, map-append, map_more, take_all, drop-set-lt, length-set, length-map}
+use Rattle.std.proofs.lemmas.List.Elements.{All-nil, All-cons, All-get_or}
+use Rattle.dexpool.specs.Numberings.{Maps}
+use Rattle.dexval.specs.Numbered.{NumberedValue, values_of_list, elements_of_list, ThenNext, ThenNamed}
+use Rattle.dexval.specs.Renumbering.{renumbered, renumbered_values, renumbered_elements, renumbered_element, HasPlaces, HavePlaces, ElementsHavePlaces, ElementHasPlaces}
+
+-- ---- a list that is changed member by member
+
+-- what the first i members stand for is changed, and the others are as they were
+pub record AreLed {X Y : Type 0} (of : X → Y) (f : Y → Y) (i : ℕ) (old new : List X) : Type 0 where
+  pub front : map of (take i new) ≡ map f (map of (take i old))
+  pub rest : drop i new ≡ drop i old
+  pub size : length new ≡ length old
+
+pub none_led : {X Y : Type 0} (of : X → Y) (f : Y → Y) (xs : List X) → AreLed of f 0 xs xs
+none_led of f xs = record { front = refl; rest = refl; size = refl }
+
+same_member : {X : Type 0} (xs ys : List X) (i : ℕ) (d : X) → drop i xs ≡ drop i ys → get_or xs i d ≡ get_or ys i d
+same_member xs ys i d e =
+    let z : i + 0 ≡ i = omega arith in
+    ap (λ (k : ℕ). get_or xs k d) (sym z) ∙ sym (get_or-drop i xs 0 d) ∙ ap (λ zs. get_or zs 0 d) e ∙ get_or-drop i ys 0 d ∙ ap (λ (k : ℕ). get_or ys k d) z
+
+-- the next member is the one that was there
+pub next_is : {X Y : Type 0} (of : X → Y) (f : Y → Y) (old new : List X) (i : ℕ) (x : X) → AreLed of f i old new → x ≡ get_or new i x → x ≡ get_or old i x
+next_is of f old new i x h e = e ∙ same_member new old i x h.rest
+
+-- what held of all that members stood for holds of the next one
+pub next_member : {X Y : Type 0} (of : X → Y) (f : Y → Y) (P : Y → Type 0) (old new : List X) (i : ℕ) (x : X) → AreLed of f i old new → i < length old → All P (map of old) → x ≡ get_or new i x → P (of x)
+next_member of f P old new i x h lt all e =
+    let inside : i < length (map of old) = omega (arith, length-map old of) in
+    subst P (get_or-map of old i x (of x) lt ∙ ap of (sym (next_is of f old new i x h e))) (All-get_or P (map of old) i (of x) inside all)
+
+-- one member more
+pub led_more : {X Y : Type 0} (of : X → Y) (f : Y → Y) (old new : List X) (i : ℕ) (x y : X) → AreLed of f i old new → i < length old → x ≡ get_or new i x → of y ≡ f (of x) → AreLed of f (i + 1) old (set new i y)
+led_more of f old new i x y h lt e is =
+    let inside : i < length new = omega (arith, h.size) in
+    let more : i < i + 1 = omega arith in
+    let here : of y ≡ f (of (get_or old i x)) = is ∙ ap (λ z. f (of z)) (next_is of f old new i x h e) in
+    record {
+      front = ap (map of) (take_more_set new i y inside) ∙ map-append of (take i new) (y ∷ []) ∙ ap (λ zs. zs ++ of y ∷ []) h.front ∙ ap (λ z. map f (map of (take i old)) ++ z ∷ []) here
+          ∙ sym (map-append f (map of (take i old)) (of (get_or old i x) ∷ [])) ∙ ap (map f) (sym (map_more of old i x lt));
+      rest = drop-set-lt (i + 1) new i y more ∙ sym (drop-drop 1 i new) ∙ ap (drop 1) h.rest ∙ drop-drop 1 i old;
+      size = length-set new i y ∙ h.size;
+    }
+
+-- all of them
+pub all_led : {X Y : Type 0} (of : X → Y) (f : Y → Y) (old new : List X) (i : ℕ) → AreLed of f i old new → length old ≤ i → map of new ≡ map f (map of old)
+all_led of f old new i h end = ap (map of) (sym (take_all i new (omega (arith, h.size)))) ∙ h.front ∙ ap (λ zs. map f (map of zs)) (take_all i old end)
+
+-- ---- values and elements, as lists
+
+pub values_renumbered : (r : Maps) (ys : List NumberedValue) → values_of_list (map (renumbered r) ys) ≡ renumbered_values r (values_of_list ys)
+values_renumbered r [] = refl
+values_renumbered r (y ∷ ys) = ap (ThenNext (renumbered r y)) (values_renumbered r ys)
+
+pub elements_renumbered : (r : Maps) (ys : List (ℕ × NumberedValue)) → elements_of_list (map (renumbered_element r) ys) ≡ renumbered_elements r (elements_of_list ys)
+elements_renumbered r [] = refl
+elements_renumbered r ((name, y) ∷ ys) = let e = renumbered_element r (name, y) in ap (ThenNamed e.0 e.1) (elements_renumbered r ys)
+
+pub values_placed : (r : Maps) (ys : List NumberedValue) → HavePlaces r (values_of_list ys) → All (HasPlaces r) ys
+values_placed r [] h = All-nil (HasPlaces r)
+values_placed r (y ∷ ys) h = All-cons (HasPlaces r) y ys h.0 (values_placed r ys h.1)
+
+pub elements_placed : (r : Maps) (ys : List (ℕ × NumberedValue)) → ElementsHavePlaces r (elements_of_list ys) → All (ElementHasPlaces r) ys
+elements_placed r [] h = All-nil (ElementHasPlaces r)
+elements_placed r ((name, y) ∷ ys) h = All-cons (ElementHasPlaces r) (name, y) ys (h.0, h.1) (elements_placed r ys h.2)

@@ -1,0 +1,21 @@
+use Rattle.std.proofs.Common.{◌+◌, map, take}
+use Rattle.dexval.specs.Code.{value_of, element_of}
+use Rattle.dexval.specs.Numbered.{values_of_list, elements_of_list}
+use Rattle.dexval.specs.Spelled.{numbered_weight, numbered_values_weight, numbered_elements_weight}
+use Rattle.dexval.specs.Uses.{values_uses, elements_uses, AreMarkedToo}
+use Rattle.dexval.proofs.marking.+marking.Given as goal
+
+abbrev pub invariant-mark_elements-loop-element : goal.invariant-mark_elements-loop-element
+invariant-mark_elements-loop-element l = AreMarkedToo (elements_uses (elements_of_list (map element_of (take l.element-index l.elements)))) l.initial.marks l.marks
+
+abbrev pub invariant-mark_values-loop-value : goal.invariant-mark_values-loop-value
+invariant-mark_values-loop-value l = AreMarkedToo (values_uses (values_of_list (map value_of (take l.value-index l.values)))) l.initial.marks l.marks
+
+abbrev pub decreases-mark_value : goal.decreases-mark_value
+decreases-mark_value l = numbered_weight (value_of l.value.now)
+
+abbrev pub decreases-mark_values : goal.decreases-mark_values
+decreases-mark_values l = numbered_values_weight (values_of_list (map value_of l.values.now)) + 1
+
+abbrev pub decreases-mark_elements : goal.decreases-mark_elements
+decreases-mark_elements l = numbered_elements_weight (elements_of_list (map element_of l.elements.now)) + 1

@@ -1,0 +1,22 @@
+use Rattle.std.proofs.Common.{◌+◌, map}
+use Rattle.dexval.specs.Code.{value_of, element_of}
+use Rattle.dexval.specs.Numbered.{values_of_list, elements_of_list}
+use Rattle.dexval.specs.Renumbering.{renumbered, renumbered_element}
+use Rattle.dexval.specs.Spelled.{numbered_weight, numbered_values_weight, numbered_elements_weight}
+use Rattle.dexval.proofs.Renumbered.{AreLed}
+use Rattle.dexval.proofs.renumbering.+renumbering.Given as goal
+
+abbrev pub invariant-renumber_elements-loop-i : goal.invariant-renumber_elements-loop-i
+invariant-renumber_elements-loop-i l = AreLed element_of (renumbered_element l.remap) l.i l.initial.elements.items l.elements.items
+
+abbrev pub invariant-renumber_values-loop-i : goal.invariant-renumber_values-loop-i
+invariant-renumber_values-loop-i l = AreLed value_of (renumbered l.remap) l.i l.initial.values.items l.values.items
+
+abbrev pub decreases-renumber_value : goal.decreases-renumber_value
+decreases-renumber_value l = numbered_weight (value_of l.value.now)
+
+abbrev pub decreases-renumber_values : goal.decreases-renumber_values
+decreases-renumber_values l = numbered_values_weight (values_of_list (map value_of l.values.now.items)) + 1
+
+abbrev pub decreases-renumber_elements : goal.decreases-renumber_elements
+decreases-renumber_elements l = numbered_elements_weight (elements_of_list (map element_of l.elements.now.items)) + 1

@@ -1,4 +1,5 @@
 pub mod Debug
+pub mod DebugEquality
 pub mod DebugPut
 pub mod DebugReading
 pub mod Equality

@@ -7,7 +7,10 @@
 pub use code::Code;
 pub use code_reading::read_code;
 pub use debug::Debug;
-pub use debug_laws::{debug_bare_law, debug_bytes_law, debug_renumber_law, debug_uses_law};
+pub use debug_laws::{
+    debug_bare_law, debug_bytes_law, debug_equality_law, debug_renumber_law, debug_uses_law,
+    operation_equality_law,
+};
 pub use debug_operation::Operation;
 pub use debug_positions::positions;
 pub use debug_put::put_debug;
@@ -19,6 +22,7 @@ mod catches;
 mod code;
 mod code_reading;
 mod debug;
+mod debug_equality;
 mod debug_laws;
 mod debug_numbers;
 mod debug_operation;

@@ -1,4 +1,5 @@
 pub mod DebugBridge
+pub mod DebugEqual
 pub mod DebugMeanings
 pub mod DebugPositions
 pub mod DebugPushed

@@ -1,5 +1,6 @@
 pub mod CodePut
 pub mod Debug
+pub mod DebugEquality
 pub mod DebugPut
 pub mod DebugReading
 pub mod Equality

@@ -1,6 +1,6 @@
 //! Laws of numbered debug programs. Each function does nothing: its contract is the law, for the callers that cite it.
 
-ghost use Rattle.std.specs.Prelude.{◌≡◌, ◌≤◌, All, length};
+ghost use Rattle.std.specs.Prelude.{◌≡◌, ◌↔◌, ◌≤◌, All, IsTrue, length};
 ghost use Rattle.std.specs.List.{AllZip};
 ghost use Rattle.dexspec.specs.Debug as symbolic;
 ghost use Rattle.dexspec.specs.Mentions.{Mentions, debug_symbols};
@@ -10,6 +10,9 @@ ghost use Rattle.dexpool.specs.Numberings.{AreRising, AreMarksOf, Maps, AllLead}
 ghost use Rattle.dexpool.specs.declared.marks.Marks.{Marks};
 ghost use Rattle.dexinsn.specs.Numbered.{HasMark, IsUseOf};
 ghost use Rattle.dexcode.specs.Debug.{NumberedDebug, StandsForDebug, bare, numbered_debug_bytes, debug_uses, HasImage, HasPlace, renumbered_debug};
+
+use crate::debug::Debug;
+use crate::debug_operation::Operation;
 
 /// Where the symbols rise, the bytes of a numbered debug program are those of the one that it stands for, each index
 /// the rank of its symbol. They are no more than it weighs.
@@ -36,3 +39,15 @@ pub fn debug_uses_law()
     ensures uses { (m : Mentions) (d : NumberedDebug) (x : symbolic.Debug) → StandsForDebug m d x → AllZip (IsUseOf m) (debug_uses d) (debug_symbols x) }
     ensures marks { (m : Mentions) (marks : Marks) (d : NumberedDebug) (x : symbolic.Debug) → AreMarksOf m marks → StandsForDebug m d x → All (HasMark marks) (debug_uses d) }
 {}
+
+/// Operations are equal exactly where they are the same, their numbers too.
+pub fn operation_equality_law()
+    ensures { (x y : Operation) → IsTrue (⟦<Operation as PartialEq>⟧.eq x y) ↔ (x ≡ y) }
+{}
+
+/// Debug programs are equal exactly where the lines that they start at, their names and their operations are.
+pub fn debug_equality_law()
+    ensures { (d e : NumberedDebug) → IsTrue (⟦<Debug as PartialEq>⟧.eq d e) ↔ (d ≡ e) }
+{
+    operation_equality_law();
+}

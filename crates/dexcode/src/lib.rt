@@ -10,7 +10,10 @@ pub use code_laws::{code_bytes_law, code_types_law, code_weight_law};
 pub use code_put::put_code;
 pub use code_reading::read_code;
 pub use debug::Debug;
-pub use debug_laws::{debug_bare_law, debug_bytes_law, debug_renumber_law, debug_uses_law};
+pub use debug_laws::{
+    debug_bare_law, debug_bytes_law, debug_equality_law, debug_renumber_law, debug_uses_law,
+    operation_equality_law,
+};
 pub use debug_operation::Operation;
 pub use debug_positions::positions;
 pub use debug_put::put_debug;
@@ -28,6 +31,7 @@ mod code_reading;
 mod code_types;
 mod code_weight;
 mod debug;
+mod debug_equality;
 mod debug_laws;
 mod debug_numbers;
 mod debug_operation;

@@ -1,5 +1,6 @@
 //! Lines that ask for one call each.
 
+mod debug;
 mod leb;
 mod names;
 mod puts;
@@ -19,6 +20,7 @@ pub fn run_call(alloc: Global, kind: Kind, line: &str) -> Result<(Kind, Outcome)
         Kind::Text => text::run(alloc, line)?,
         Kind::Names => names::run(alloc, line)?,
         Kind::Split => split::run(alloc, line)?,
+        Kind::Debug => debug::run(alloc, line)?,
         _ => Outcome::Unserved,
     };
     Ok((kind, outcome))

@@ -5,8 +5,8 @@
 #![tactic(auto)]
 
 pub use code::Code;
-pub use code_numbers_laws::{code_kept_law, code_places_law, code_renumber_law, code_uses_law};
 pub use code_laws::{code_bytes_law, code_types_law, code_weight_law};
+pub use code_numbers_laws::{code_kept_law, code_places_law, code_renumber_law, code_uses_law};
 pub use code_put::put_code;
 pub use code_reading::read_code;
 pub use debug::Debug;
@@ -23,9 +23,9 @@ pub use tries::{Tries, Try};
 
 mod catches;
 mod code;
+mod code_laws;
 mod code_numbers;
 mod code_numbers_laws;
-mod code_laws;
 mod code_put;
 mod code_reading;
 mod code_types;

@@ -1,5 +1,8 @@
-//! Values from outside: worked examples, and cases of a reference that shares nothing with this crate.
-use super::*;
+//! Texts and names from outside: worked examples, and cases of a reference that shares nothing with the product.
+
+use dexstr::{
+    Kind, Name, Text, TextFault, descriptor_kind, is_member_name, put_text, shorty_letter,
+};
 use std::test::Fail;
 
 /// Bytes, and the length and the units of the string_data_item that stands first, or why none is read.

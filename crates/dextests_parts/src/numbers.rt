@@ -1,5 +1,6 @@
-//! Values from outside: worked examples, and cases of a reference that shares nothing with this crate.
-use super::*;
+//! LEB128 numbers from outside: worked examples, and cases of a reference that shares nothing with the product.
+
+use dexleb::{LebFault, len_s, len_u, put_p1, put_s, put_u, read_p1, read_s, read_u};
 use std::test::Fail;
 
 /// Bytes, how many of them are read, and the number that is read as `read_u`, `read_s` and `read_p1` read it.

@@ -13,11 +13,7 @@ mod makings;
 mod outputs;
 mod sections;
 mod taking;
-#[cfg(test)]
-mod tests;
 mod writing;
-#[cfg(test)]
-mod writing_tests;
 
 pub use faults::StoreFault;
 pub use layout::Layout;

@@ -3,8 +3,6 @@
 #![tactic(auto)]
 
 mod device;
-#[cfg(test)]
-mod device_tests;
 mod frame;
 mod head;
 mod header;
@@ -17,10 +15,6 @@ mod sections;
 mod stream;
 mod sums;
 mod tables;
-#[cfg(test)]
-mod tests;
-#[cfg(test)]
-mod two_class_tests;
 mod whole;
 
 pub use device::{Device, DeviceFault, Sink, Source};

@@ -13,8 +13,6 @@ pub use read::{LebFault, read_p1, read_s, read_u};
 
 mod put;
 mod read;
-#[cfg(test)]
-mod tests;
 
 /// The most bytes of a number.
 const MAX_LEN: usize = 5;

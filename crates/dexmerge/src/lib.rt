@@ -12,8 +12,6 @@ mod merging;
 mod parents;
 mod plan;
 mod planned;
-#[cfg(test)]
-mod tests;
 
 pub use caps::Caps;
 pub use faults::{MergeFault, PlanFault};

@@ -9,8 +9,6 @@ mod depths;
 mod hierarchy;
 mod laws;
 mod order;
-#[cfg(test)]
-mod tests;
 
 pub use hierarchy::Hierarchy;
 pub use laws::{

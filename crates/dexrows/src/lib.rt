@@ -13,8 +13,6 @@ mod places;
 mod protos;
 mod rows;
 mod sorted;
-#[cfg(test)]
-mod tests;
 mod texts;
 mod types;
 

@@ -17,8 +17,6 @@ mod descriptors;
 mod order;
 mod owned;
 mod reading;
-#[cfg(test)]
-mod tests;
 mod texts;
 mod units;
 mod writing;

@@ -90,6 +90,16 @@ const LATER: [u8; 264] = [
     0x01, 0x00, 0x00, 0x00, 0xbc, 0x00, 0x00, 0x00,
 ];
 
+/// The file of `LA;`, of whose bytes the proofs need to know nothing.
+pub(crate) fn letter_a() -> &'static [u8] {
+    &ONE
+}
+
+/// The same of `LA;` with flags 17.
+pub(crate) fn final_a() -> &'static [u8] {
+    &FINAL
+}
+
 // What is answered for a file that is refused, and None for one that is not.
 fn fault(alloc: Global, file: &[u8]) -> Option<ReadFault> {
     match read(alloc, file) {

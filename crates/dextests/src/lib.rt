@@ -20,8 +20,12 @@ mod kept_numberings;
 #[cfg(test)]
 mod plain_files;
 #[cfg(test)]
+mod plain_merges;
+#[cfg(test)]
 mod pools;
 #[cfg(test)]
 mod programs;
 #[cfg(test)]
 mod random;
+#[cfg(test)]
+mod written_files;

@@ -2,7 +2,7 @@
 
 ghost use Rattle.std.specs.Prelude.{◌≤◌, IfOk};
 
-use crate::{Device, DeviceFault, Sink, Source};
+use dexhead::{Device, DeviceFault, Sink, Source};
 use std::io;
 use std::io::{ErrorKind, Read, Write};
 use std::test::Fail;

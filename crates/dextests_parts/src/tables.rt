@@ -1,6 +1,6 @@
 //! Tables that are joined and cut: the answers are those of the definitions, worked out by hand.
 
-use crate::{FieldRow, Joined, MethodRow, ProtoRow, Row, TypeRow, cut, is_sorted, join};
+use dexrows::{FieldRow, Joined, MethodRow, ProtoRow, Row, TypeRow, cut, is_sorted, join};
 use dexstr::Text;
 use std::alloc::{AllocError, Global};
 use std::cmp::Ordering;

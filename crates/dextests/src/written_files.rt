@@ -1,11 +1,21 @@
-//! Files as a writer is given them. The files were made by a program of its own, which shares nothing with the product.
+//! Canonical files, in memory and as a writer is given them. The files were made by a program of its own, which shares
+//! nothing with the product, but for the file of a program without classes, which was laid out by hand.
 
-use crate::{StoreFault, to_bytes, write_to};
+use dexcanon::{Layout, StoreFault, to_bytes, write_to};
 use dexclass::Program;
-use dexhead::Device;
+use dexhead::{Device, Frame};
 use std::alloc::Global;
 use std::io;
 use std::io::Write;
+use std::test::Fail;
+
+// What stands behind the signature of the file of no classes: header fields, no rows, and a map of the header and itself.
+const BEHIND_SIGNATURE: [u8; 108] = [
+    140, 0, 0, 0, 112, 0, 0, 0, 0x78, 0x56, 0x34, 0x12, 0, 0, 0, 0, 0, 0, 0, 0, 112, 0, 0, 0, 0, 0,
+    0, 0, 0, 0, 0, 0, 0, 0, 0, 0, 0, 0, 0, 0, 0, 0, 0, 0, 0, 0, 0, 0, 0, 0, 0, 0, 0, 0, 0, 0, 0, 0,
+    0, 0, 0, 0, 0, 0, 0, 0, 0, 0, 0, 0, 0, 0, 28, 0, 0, 0, 112, 0, 0, 0, 2, 0, 0, 0, 0, 0, 0, 0, 1,
+    0, 0, 0, 0, 0, 0, 0, 0x00, 0x10, 0, 0, 1, 0, 0, 0, 112, 0, 0, 0,
+];
 
 // Three classes, each the superclass of the next, the last with two interfaces and the least name, in a file that is not
 // canonical.
@@ -112,6 +122,10 @@ const LONG_TEXT: [u8; 588] = [
 ];
 
 // The files, of whose bytes the proofs need to know nothing.
+fn behind_signature() -> &'static [u8] {
+    &BEHIND_SIGNATURE
+}
+
 fn three_classes() -> &'static [u8] {
     &THREE_CLASSES
 }
@@ -218,4 +232,21 @@ fn writes_all_or_nothing(alloc: Global) -> Option<bool> {
 #[test]
 fn writes_nothing_where_memory_is_wanting(rt: HostRuntime) {
     assert!(rt; writes_all_or_nothing(rt.alloc()).unwrap_or(true));
+}
+
+// Whether the file is that of no classes. Its sums are right where the reader takes it.
+fn is_empty_file(file: &[u8]) -> bool {
+    file.len() == 140
+        && file.get(..8) == Some(b"dex\n035\0".as_slice())
+        && file.get(32..) == Some(behind_signature())
+        && Frame::open(file).is_ok()
+}
+
+#[test]
+fn writes_a_program_without_classes(rt: HostRuntime) -> Result<(), Fail> {
+    let program = Program::empty(rt.alloc());
+    assert_eq!(rt; Layout::of(rt.alloc(), &program)?.len(), 140);
+    let file = to_bytes(rt.alloc(), &program)?;
+    assert!(rt; is_empty_file(&file));
+    Ok(())
 }

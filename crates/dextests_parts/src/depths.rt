@@ -1,6 +1,6 @@
-//! Depths and orders worked out by hand.
+//! Depths and orders of classes, worked out by hand.
 
-use super::*;
+use dexorder::{Hierarchy, class_order};
 use std::test::Fail;
 
 #[test]

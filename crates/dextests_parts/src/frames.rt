@@ -1,13 +1,12 @@
-//! What no contract says: values from outside, and each public call once.
+//! Sums, numbers and frames: values from outside, and each public call once.
 
-ghost use Rattle.std.specs.Prelude.{◌≤◌};
-
-use crate::{
-    Adler, Frame, Head, MapEntry, MapList, Refusal, Rows, Section, Table, adler, put_u16, put_u32,
-    set_sums, u16_at, u32_at,
+use crate::changes::{is_cut_refused, is_number_refused, is_refused, with_bytes, with_checksum};
+use dexhead::{
+    Adler, Frame, Head, MapEntry, MapList, Rows, Section, Table, adler, put_u16, put_u32, set_sums,
+    u16_at, u32_at,
 };
-use byteorder::{ByteOrder, LittleEndian};
 use sha1::Sha1;
+use std::alloc::Global;
 use std::test::Fail;
 
 // The canonical file of no classes, made by another program.
@@ -46,6 +45,19 @@ const ONE_CLASS: [u8; 264] = [
 
 const NO_ROWS: Rows = Rows { size: 0, off: 0 };
 
+// The files, of whose bytes the proofs need to know nothing.
+fn empty() -> &'static [u8] {
+    &EMPTY
+}
+
+fn one_class() -> &'static [u8] {
+    &ONE_CLASS
+}
+
+fn entry(section: Section, size: u32, off: u32) -> MapEntry {
+    MapEntry { section, size, off }
+}
+
 #[test]
 fn sums_of_known_messages(rt: HostRuntime) {
     assert_eq!(rt; adler(b""), 0x0000_0001);
@@ -73,9 +85,9 @@ fn numbers_are_little_endian(rt: HostRuntime) -> Result<(), Fail> {
     Ok(())
 }
 
-#[test]
-fn writes_the_empty_file(rt: HostRuntime) -> Result<(), Fail> {
-    let mut file = Vec::new(rt.alloc());
+// The file of no rows.
+fn without_rows(alloc: Global) -> Option<Vec<u8>> {
+    let mut file = Vec::new(alloc);
     let head = Head {
         checksum: 0,
         signature: [0; 20],
@@ -85,22 +97,31 @@ fn writes_the_empty_file(rt: HostRuntime) -> Result<(), Fail> {
         data_size: 28,
         data_off: 112,
     };
-    head.put(&mut file)?;
+    head.put(&mut file).ok()?;
     let entries = [
         entry(Section::HeaderItem, 1, 0),
         entry(Section::MapList, 1, 112),
     ];
-    MapList { entries: &entries }.put(&mut file)?;
-    assert_eq!(rt; file.len(), 140);
+    MapList { entries: &entries }.put(&mut file).ok()?;
+    if file.len() != 140 {
+        return None;
+    }
     set_sums(&mut file);
-    assert_eq!(rt; file.as_slice(), EMPTY.as_slice());
-    Ok(())
+    Some(file)
+}
+
+#[test]
+fn writes_the_empty_file(rt: HostRuntime) {
+    match without_rows(rt.alloc()) {
+        Some(file) => assert_eq!(rt; file.as_slice(), empty()),
+        None => panic!(rt; "no file of 140 bytes"),
+    }
 }
 
 #[test]
 fn opens_the_empty_file(rt: HostRuntime) -> Result<(), Fail> {
-    let frame = Frame::open(&EMPTY).map_err(|_| "refused")?;
-    assert_eq!(rt; frame.bytes(), EMPTY.as_slice());
+    let frame = Frame::open(empty()).map_err(|_| "refused")?;
+    assert_eq!(rt; frame.bytes(), empty());
     assert_eq!(rt; frame.size(Table::ClassDefs), 0);
     assert_eq!(rt; frame.data_off(), 112);
     assert_eq!(rt; frame.rest(112).len(), 28);
@@ -110,9 +131,9 @@ fn opens_the_empty_file(rt: HostRuntime) -> Result<(), Fail> {
     Ok(())
 }
 
-#[test]
-fn lends_rows(rt: HostRuntime) -> Result<(), Fail> {
-    let mut file = Vec::new(rt.alloc());
+// A file of two rows of strings.
+fn with_rows(alloc: Global) -> Option<Vec<u8>> {
+    let mut file = Vec::new(alloc);
     let mut tables = [NO_ROWS; 6];
     tables[0] = Rows { size: 2, off: 112 };
     let head = Head {
@@ -124,16 +145,26 @@ fn lends_rows(rt: HostRuntime) -> Result<(), Fail> {
         data_size: 40,
         data_off: 120,
     };
-    head.put(&mut file)?;
-    file.extend_from_slice(&[1, 2, 3, 4, 5, 6, 7, 8])?;
+    head.put(&mut file).ok()?;
+    file.extend_from_slice(&[1, 2, 3, 4, 5, 6, 7, 8]).ok()?;
     let entries = [
         entry(Section::HeaderItem, 1, 0),
         entry(Section::TableOf(Table::StringIds), 2, 112),
         entry(Section::MapList, 1, 120),
     ];
-    MapList { entries: &entries }.put(&mut file)?;
-    assert_eq!(rt; file.len(), 160);
+    MapList { entries: &entries }.put(&mut file).ok()?;
+    if file.len() != 160 {
+        return None;
+    }
     set_sums(&mut file);
+    Some(file)
+}
+
+#[test]
+fn lends_rows(rt: HostRuntime) -> Result<(), Fail> {
+    let Some(file) = with_rows(rt.alloc()) else {
+        panic!(rt; "no file of 160 bytes")
+    };
     let frame = Frame::open(&file).map_err(|_| "refused")?;
     assert_eq!(rt; frame.size(Table::StringIds), 2);
     assert_eq!(rt; frame.row(Table::StringIds, 1), [5, 6, 7, 8].as_slice());
@@ -170,52 +201,30 @@ fn refuses_a_changed_number(rt: HostRuntime) {
         (136, 116, 10, 0),
     ];
     for (at, value, number, place) in cases {
-        assert!(rt; at <= 136usize);
-        let refusal = refusal_at(EMPTY, at, value);
-        assert_eq!(rt; refusal, Some(Refusal { number, place }), "{value} at {at}");
+        let is_right = is_number_refused(rt.alloc(), empty(), (at, value), (number, place));
+        assert!(rt; is_right == Some(true), "{value} at {at}");
     }
 }
 
-fn refusal_at(mut file: [u8; 140], at: usize, value: u32) -> Option<Refusal>
-    requires { at ≤ 136 }
-{
-    LittleEndian::write_u32(&mut file[at..], value);
-    set_sums(&mut file);
-    Frame::open(&file).err()
+// Whether the file is refused by the checksum where a byte of it is 0, and by the signature where one of the signature
+// is another one and the checksum is right.
+fn are_sums_judged(alloc: Global, file: &[u8]) -> Option<bool> {
+    let wrong_checksum = with_bytes(alloc, file, 8, &[0])?;
+    let wrong_signature = with_checksum(alloc, file, 12, &[0xff])?;
+    Some(is_refused(&wrong_checksum, 7, 0) && is_refused(&wrong_signature, 8, 0))
 }
 
 #[test]
 fn refuses_wrong_sums_and_lengths(rt: HostRuntime) {
     for (len, number) in [(0, 1), (111, 1), (112, 4), (139, 4)] {
-        assert!(rt; len <= 140usize);
-        let refusal = Frame::open(&EMPTY[..len]).err();
-        assert_eq!(rt; refusal, Some(Refusal { number, place: 0 }), "{len}");
+        assert!(rt; is_cut_refused(empty(), len, number) == Some(true), "{len}");
     }
-    let mut file = EMPTY;
-    file[8] = 0;
-    assert_eq!(rt;
-        Frame::open(&file).err(),
-        Some(Refusal {
-            number: 7,
-            place: 0
-        })
-    );
-    let mut file = EMPTY;
-    file[12] = 0xff;
-    let checksum = adler(&file[12..]);
-    LittleEndian::write_u32(&mut file[8..], checksum);
-    assert_eq!(rt;
-        Frame::open(&file).err(),
-        Some(Refusal {
-            number: 8,
-            place: 0
-        })
-    );
+    assert!(rt; are_sums_judged(rt.alloc(), empty()) == Some(true));
 }
 
 #[test]
 fn refuses_a_changed_class_file(rt: HostRuntime) -> Result<(), Fail> {
-    let frame = Frame::open(&ONE_CLASS).map_err(|_| "refused")?;
+    let frame = Frame::open(one_class()).map_err(|_| "refused")?;
     assert_eq!(rt; frame.size(Table::ClassDefs), 1);
     let cases = [
         (4, 0x0038_3330, 3, 38),
@@ -231,56 +240,32 @@ fn refuses_a_changed_class_file(rt: HostRuntime) -> Result<(), Fail> {
         (96, 0xffff_ffff, 9, 0),
     ];
     for (at, value, number, place) in cases {
-        assert!(rt; at <= 96usize);
-        let mut file = ONE_CLASS;
-        LittleEndian::write_u32(&mut file[at..], value);
-        set_sums(&mut file);
-        let refusal = Frame::open(&file).err();
-        assert_eq!(rt; refusal, Some(Refusal { number, place }), "{value} at {at}");
+        let is_right = is_number_refused(rt.alloc(), one_class(), (at, value), (number, place));
+        assert!(rt; is_right == Some(true), "{value} at {at}");
     }
     Ok(())
 }
 
-// The sums are those of the whole file, but for the checksum in the last case.
+// Whether the file is refused by the checksum where it is 0 and where a text is another one, and by the signature
+// where the text is another one and the checksum is right.
+fn are_class_sums_judged(alloc: Global, file: &[u8]) -> Option<bool> {
+    let no_checksum = with_bytes(alloc, file, 8, &[0; 4])?;
+    let other_text = with_bytes(alloc, file, 164, &[1])?;
+    let wrong_signature = with_checksum(alloc, file, 164, &[1])?;
+    Some(
+        is_refused(&no_checksum, 7, 0)
+            && is_refused(&other_text, 7, 0)
+            && is_refused(&wrong_signature, 8, 0),
+    )
+}
+
 #[test]
 fn refuses_a_class_file_of_wrong_sums(rt: HostRuntime) {
     for (len, number) in [(0, 1), (111, 1), (263, 4)] {
-        assert!(rt; len <= 264usize);
-        let refusal = Frame::open(&ONE_CLASS[..len]).err();
-        assert_eq!(rt; refusal, Some(Refusal { number, place: 0 }), "{len}");
+        assert!(rt;
+            is_cut_refused(one_class(), len, number) == Some(true),
+            "{len}"
+        );
     }
-    let mut file = ONE_CLASS;
-    LittleEndian::write_u32(&mut file[8..], 0);
-    let refusal = Frame::open(&file).err();
-    assert_eq!(rt;
-        refusal,
-        Some(Refusal {
-            number: 7,
-            place: 0
-        })
-    );
-    let mut file = ONE_CLASS;
-    file[164] = 1;
-    let refusal = Frame::open(&file).err();
-    assert_eq!(rt;
-        refusal,
-        Some(Refusal {
-            number: 7,
-            place: 0
-        })
-    );
-    let checksum = adler(&file[12..]);
-    LittleEndian::write_u32(&mut file[8..], checksum);
-    let refusal = Frame::open(&file).err();
-    assert_eq!(rt;
-        refusal,
-        Some(Refusal {
-            number: 8,
-            place: 0
-        })
-    );
-}
-
-fn entry(section: Section, size: u32, off: u32) -> MapEntry {
-    MapEntry { section, size, off }
+    assert!(rt; are_class_sums_judged(rt.alloc(), one_class()) == Some(true));
 }

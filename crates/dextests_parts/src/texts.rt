@@ -1,74 +1,79 @@
-//! Values from outside: worked examples, and cases of a reference that shares nothing with this crate.
-use super::*;
-use std::test::Fail;
+//! Texts and names from outside: worked examples, and cases of a reference that shares nothing with the product.
 
-/// Bytes, and the length and the units of the string_data_item that stands first, or why none is read.
-const TEXTS: [(&[u8], Result<(usize, &[u16]), TextFault>); 24] = [
-    (&[0x03, 0xed, 0x9f, 0xbf], Err(TextFault::Short)),
+use dexstr::{
+    Kind, Name, Text, TextFault, descriptor_kind, is_member_name, put_text, shorty_letter,
+};
+use std::alloc::Global;
+
+/// Bytes, and the length and the units of the string_data_item that stands first.
+const TEXTS: [(&[u8], usize, &[u16]); 8] = [
     (
         &[0x04, 0xc3, 0xbf, 0x24, 0x24, 0xe0, 0xbf, 0xbf, 0x00],
-        Ok((9, &[0x00ff, 0x0024, 0x0024, 0x0fff])),
+        9,
+        &[0x00ff, 0x0024, 0x0024, 0x0fff],
     ),
-    (
-        &[
-            0x03, 0xe0, 0xbf, 0xbf, 0xee, 0x80, 0x80, 0x56, 0xe0, 0xa0, 0x80, 0x00,
-        ],
-        Err(TextFault::Count),
-    ),
-    (&[0x04, 0xf0, 0x3e, 0x3e, 0x62, 0x00], Err(TextFault::Bad)),
-    (&[0x00, 0x00], Ok((2, &[]))),
-    (
-        &[0x04, 0xc4, 0x5b, 0x2f, 0xe0, 0xa0, 0xc0, 0x00],
-        Err(TextFault::Bad),
-    ),
-    (&[0x03, 0x01, 0xc3], Err(TextFault::Short)),
-    (&[0x05, 0xed, 0x9f, 0xbf, 0xe0], Err(TextFault::Short)),
-    (&[], Err(TextFault::Short)),
-    (&[0x01, 0x80, 0xa2, 0x80, 0x00], Err(TextFault::Bad)),
+    (&[0x00, 0x00], 2, &[]),
     (
         &[0x04, 0xc0, 0x80, 0x3e, 0x78, 0xed, 0xb0, 0x80, 0x00],
-        Ok((9, &[0x0000, 0x003e, 0x0078, 0xdc00])),
-    ),
-    (&[0x01], Err(TextFault::Short)),
-    (
-        &[0x03, 0xcf, 0xc0, 0x80, 0x22, 0x01, 0x00],
-        Err(TextFault::Bad),
+        9,
+        &[0x0000, 0x003e, 0x0078, 0xdc00],
     ),
     (
         &[
             0x04, 0xe1, 0x80, 0x80, 0xc0, 0x80, 0xe0, 0xa0, 0x80, 0xc3, 0xbf, 0x00,
         ],
-        Ok((12, &[0x1000, 0x0000, 0x0800, 0x00ff])),
+        12,
+        &[0x1000, 0x0000, 0x0800, 0x00ff],
     ),
-    (&[0x01, 0xc2, 0x80, 0x00], Ok((4, &[0x0080]))),
+    (&[0x01, 0xc2, 0x80, 0x00], 4, &[0x0080]),
     (
         &[0x03, 0x62, 0x62, 0xed, 0x9f, 0xbf, 0x00],
-        Ok((7, &[0x0062, 0x0062, 0xd7ff])),
+        7,
+        &[0x0062, 0x0062, 0xd7ff],
     ),
-    (&[0x02, 0x5a, 0xc4, 0x80, 0x00], Ok((5, &[0x005a, 0x0100]))),
+    (&[0x02, 0x5a, 0xc4, 0x80, 0x00], 5, &[0x005a, 0x0100]),
+    (&[0x02, 0xee, 0x80, 0x80, 0x5f, 0x00], 6, &[0xe000, 0x005f]),
+];
+
+/// Bytes, and why no string_data_item is read of them.
+const FAULTS: [(&[u8], TextFault); 16] = [
+    (&[0x03, 0xed, 0x9f, 0xbf], TextFault::Short),
+    (
+        &[
+            0x03, 0xe0, 0xbf, 0xbf, 0xee, 0x80, 0x80, 0x56, 0xe0, 0xa0, 0x80, 0x00,
+        ],
+        TextFault::Count,
+    ),
+    (&[0x04, 0xf0, 0x3e, 0x3e, 0x62, 0x00], TextFault::Bad),
+    (
+        &[0x04, 0xc4, 0x5b, 0x2f, 0xe0, 0xa0, 0xc0, 0x00],
+        TextFault::Bad,
+    ),
+    (&[0x03, 0x01, 0xc3], TextFault::Short),
+    (&[0x05, 0xed, 0x9f, 0xbf, 0xe0], TextFault::Short),
+    (&[], TextFault::Short),
+    (&[0x01, 0x80, 0xa2, 0x80, 0x00], TextFault::Bad),
+    (&[0x01], TextFault::Short),
+    (&[0x03, 0xcf, 0xc0, 0x80, 0x22, 0x01, 0x00], TextFault::Bad),
     (
         &[0x04, 0x01, 0x5f, 0x78, 0x00, 0x9f, 0xc2, 0x00],
-        Err(TextFault::Count),
-    ),
-    (
-        &[0x02, 0xee, 0x80, 0x80, 0x5f, 0x00],
-        Ok((6, &[0xe000, 0x005f])),
+        TextFault::Count,
     ),
     (
         &[
             0x06, 0x3c, 0xef, 0xbf, 0x78, 0xed, 0xbf, 0xbf, 0x01, 0x78, 0x00,
         ],
-        Err(TextFault::Bad),
+        TextFault::Bad,
     ),
-    (&[0x03, 0x80, 0x61, 0xc0, 0x00], Err(TextFault::Bad)),
-    (&[0x02, 0x9f, 0xff, 0x80, 0x30, 0x00], Err(TextFault::Bad)),
+    (&[0x03, 0x80, 0x61, 0xc0, 0x00], TextFault::Bad),
+    (&[0x02, 0x9f, 0xff, 0x80, 0x30, 0x00], TextFault::Bad),
     (
         &[0x5f, 0x5c, 0x2e, 0xed, 0xa0, 0x80, 0x41, 0x00],
-        Err(TextFault::Count),
+        TextFault::Count,
     ),
     (
         &[0xa8, 0x03, 0x4c, 0x7b, 0x41, 0x3b, 0x00],
-        Err(TextFault::Count),
+        TextFault::Count,
     ),
 ];
 
@@ -178,19 +183,59 @@ const RISING: [&[u8]; 14] = [
     &[0x01, 0xef, 0xbf, 0xbf, 0x00],
 ];
 
+// The tables, of whose bytes the proofs need to know nothing.
+fn texts() -> &'static [(&'static [u8], usize, &'static [u16])] {
+    &TEXTS
+}
+
+fn faults() -> &'static [(&'static [u8], TextFault)] {
+    &FAULTS
+}
+
+fn names() -> &'static [(&'static [u8], Option<Kind>, bool)] {
+    &NAMES
+}
+
+fn rising() -> &'static [&'static [u8]] {
+    &RISING
+}
+
+/// The text of an item.
+fn text_of(item: &[u8]) -> Option<Text<'_>> {
+    match Text::read(item, 0) {
+        Ok((text, _)) => Some(text),
+        Err(_) => None,
+    }
+}
+
+/// Whether a text of so many bytes and of these units is read.
+fn is_read(bytes: &[u8], len: usize, units: &[u16]) -> bool {
+    match Text::read(bytes, 0) {
+        Ok((text, used)) => {
+            used == len
+                && text.len() == units.len()
+                && text.is_empty() == units.is_empty()
+                && text.units().eq(units.iter().copied())
+        }
+        Err(_) => false,
+    }
+}
+
+/// Whether no text is read of the bytes for this reason.
+fn is_fault(bytes: &[u8], fault: TextFault) -> bool {
+    match Text::read(bytes, 0) {
+        Ok(_) => false,
+        Err(told) => told == fault,
+    }
+}
+
 #[test]
 fn reads_vectors(rt: HostRuntime) {
-    for (bytes, want) in &TEXTS {
-        match (Text::read(bytes, 0), want) {
-            (Ok((text, used)), Ok((len, units))) => {
-                assert_eq!(rt; used, *len);
-                assert_eq!(rt; text.len(), units.len());
-                assert_eq!(rt; text.is_empty(), units.is_empty());
-                assert!(rt; text.units().eq(units.iter().copied()), "at {used}");
-            }
-            (Err(fault), Err(want)) => assert_eq!(rt; fault, *want),
-            _ => panic!(rt; "another answer"),
-        }
+    for (bytes, len, units) in texts() {
+        assert!(rt; is_read(bytes, *len, units), "at {len}");
+    }
+    for (bytes, fault) in faults() {
+        assert!(rt; is_fault(bytes, *fault), "{fault:?}");
     }
 }
 
@@ -210,32 +255,40 @@ fn reads_at_a_place(rt: HostRuntime) {
     );
 }
 
+/// Whether the first text is before, at or behind the second, as the numbers say, and equal to it just where they are
+/// equal.
+fn are_ordered(left: (usize, &[u8]), right: (usize, &[u8])) -> Option<bool> {
+    let (i, left) = (left.0, text_of(left.1)?);
+    let (j, right) = (right.0, text_of(right.1)?);
+    Some(left.cmp(&right) == i.cmp(&j) && (left == right.clone()) == (i == j))
+}
+
 #[test]
 fn orders_by_units(rt: HostRuntime) {
-    for i in 0..RISING.len() {
-        for j in 0..RISING.len() {
-            match (Text::read(RISING[i], 0), Text::read(RISING[j], 0)) {
-                (Ok((left, _)), Ok((right, _))) => {
-                    assert_eq!(rt; left.cmp(&right), i.cmp(&j), "at {i} and {j}");
-                    assert_eq!(rt; left == right.clone(), i == j, "at {i} and {j}");
-                }
-                _ => panic!(rt; "both are texts"),
-            }
+    for (i, left) in rising().iter().enumerate() {
+        for (j, right) in rising().iter().enumerate() {
+            let is_right = are_ordered((i, *left), (j, *right));
+            assert!(rt; is_right == Some(true), "at {i} and {j}");
         }
     }
 }
 
+/// Whether the item's text is a descriptor of this kind or of none, and may name a member or not, as is said.
+fn is_told(item: &[u8], kind: &Option<Kind>, is_member: bool) -> Option<bool> {
+    let text = text_of(item)?;
+    Some(descriptor_kind(&text) == *kind && is_member_name(&text) == is_member)
+}
+
 #[test]
 fn tells_kinds(rt: HostRuntime) {
-    for (bytes, kind, is_member) in &NAMES {
-        match Text::read(bytes, 0) {
-            Ok((text, used)) => {
-                assert!(rt; descriptor_kind(&text) == *kind, "at length {used}");
-                assert!(rt; is_member_name(&text) == *is_member, "at length {used}");
-            }
-            Err(_) => panic!(rt; "it is a text"),
-        }
+    for (item, kind, is_member) in names() {
+        assert!(rt; is_told(item, kind, *is_member) == Some(true), "{item:?}");
     }
+}
+
+/// The kind of the item's text as a descriptor.
+fn kind(item: &[u8]) -> Option<Kind> {
+    descriptor_kind(&text_of(item)?)
 }
 
 #[test]
@@ -245,30 +298,19 @@ fn tells_dimensions(rt: HostRuntime) {
     most[1] = 0x02;
     most[257] = b'I';
     most[258] = 0;
-    match Text::read(&most, 0) {
-        Ok((text, _)) => assert!(rt; descriptor_kind(&text) == Some(Kind::Array)),
-        Err(_) => panic!(rt; "it is a text"),
-    }
+    assert!(rt; kind(&most) == Some(Kind::Array));
     let mut more = [b'['; 260];
     more[0] = 0x81;
     more[1] = 0x02;
     more[258] = b'I';
     more[259] = 0;
-    match Text::read(&more, 0) {
-        Ok((text, _)) => assert!(rt; descriptor_kind(&text).is_none()),
-        Err(_) => panic!(rt; "it is a text"),
-    }
+    assert!(rt; text_of(&more).is_some() && kind(&more).is_none());
 }
 
 /// The letter in a shorty for the type that the item's text describes.
-fn letter(bytes: &[u8]) -> Option<u16> {
-    match Text::read(bytes, 0) {
-        Ok((text, _)) => match descriptor_kind(&text) {
-            Some(kind) => Some(shorty_letter(kind, &text)),
-            None => None,
-        },
-        Err(_) => None,
-    }
+fn letter(item: &[u8]) -> Option<u16> {
+    let text = text_of(item)?;
+    Some(shorty_letter(descriptor_kind(&text)?, &text))
 }
 
 #[test]
@@ -280,19 +322,18 @@ fn tells_letters(rt: HostRuntime) {
     assert_eq!(rt; letter(&[2, b'[', b'V', 0]), None);
 }
 
+/// Whether a copy of a name of the item's text is the text, and what is put for the name is the item.
+fn is_written(alloc: Global, item: &[u8]) -> Option<bool> {
+    let text = text_of(item)?;
+    let name = Name::of(alloc, &text).ok()?;
+    let copy = name.copy().ok()?;
+    let mut out = Vec::new(alloc);
+    put_text(&name.text(), &mut out).ok()?;
+    Some(copy.text() == text && out.as_slice() == item)
+}
+
 #[test]
-fn writes(rt: HostRuntime) -> Result<(), Fail> {
+fn writes(rt: HostRuntime) {
     let surrogates = [0x02, 0xed, 0xa0, 0x80, 0xed, 0xb0, 0x80, 0x00];
-    let mut out = Vec::new(rt.alloc());
-    match Text::read(&surrogates, 0) {
-        Ok((text, _)) => {
-            let name = Name::of(rt.alloc(), &text)?;
-            let copy = name.copy()?;
-            assert!(rt; copy.text() == text);
-            put_text(&name.text(), &mut out)?;
-        }
-        Err(_) => panic!(rt; "it is a text"),
-    }
-    assert_eq!(rt; out.as_slice(), surrogates.as_slice());
-    Ok(())
+    assert!(rt; is_written(rt.alloc(), &surrogates) == Some(true));
 }

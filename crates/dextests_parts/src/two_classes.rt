@@ -1,9 +1,10 @@
 //! The file of two classes with one change after another, and what refuses each.
 
-ghost use Rattle.std.specs.Prelude.{◌≤◌};
-
-use crate::{Frame, Refusal, Table, adler, set_sums};
-use byteorder::{ByteOrder, LittleEndian};
+use crate::changes::{
+    is_cut_refused, is_number_refused, is_refused, with_bytes, with_checksum, with_number,
+};
+use dexhead::{Frame, Table};
+use std::alloc::Global;
 use std::test::Fail;
 
 // The canonical file of the class `LA;` with the method `m()V` and of the class `LB;`, laid out by hand. The
@@ -44,34 +45,14 @@ const LAYOUT: [usize; 14] = [56, 60, 64, 68, 72, 76, 80, 84, 88, 92, 96, 100, 10
 // Those of the fields, of which the file has none.
 const FIELDS: [usize; 2] = [80, 84];
 
-fn refusal(file: &[u8]) -> Option<Refusal> {
-    Frame::open(file).err()
-}
-
-// By a condition on the whole file.
-fn refused(number: u8) -> Option<Refusal> {
-    Some(Refusal { number, place: 0 })
-}
-
-// With one number of the header changed, and the sums right.
-fn changed(at: usize, value: u32) -> [u8; 432]
-    requires { at ≤ 108 }
-{
-    let mut file = TWO_CLASSES;
-    LittleEndian::write_u32(&mut file[at..], value);
-    set_sums(&mut file);
-    file
-}
-
-fn with_magic(magic: &[u8; 8]) -> [u8; 432] {
-    let mut file = TWO_CLASSES;
-    file[..8].copy_from_slice(magic);
-    file
+// The file, of whose bytes the proofs need to know nothing.
+fn two_classes() -> &'static [u8] {
+    &TWO_CLASSES
 }
 
 #[test]
 fn opens_the_unchanged_file(rt: HostRuntime) -> Result<(), Fail> {
-    let frame = Frame::open(&TWO_CLASSES).map_err(|_| "refused")?;
+    let frame = Frame::open(two_classes()).map_err(|_| "refused")?;
     let sizes = [
         (Table::StringIds, 6),
         (Table::TypeIds, 4),
@@ -89,35 +70,59 @@ fn opens_the_unchanged_file(rt: HostRuntime) -> Result<(), Fail> {
 
 #[test]
 fn refuses_every_cut(rt: HostRuntime) {
-    for len in 0..112usize {
-        assert_eq!(rt; refusal(&TWO_CLASSES[..len]), refused(1), "cut to {len}");
+    for len in 0..112 {
+        assert!(rt;
+            is_cut_refused(two_classes(), len, 1) == Some(true),
+            "cut to {len}"
+        );
     }
-    for len in 112..432usize {
-        assert_eq!(rt; refusal(&TWO_CLASSES[..len]), refused(4), "cut to {len}");
+    for len in 112..432 {
+        assert!(rt;
+            is_cut_refused(two_classes(), len, 4) == Some(true),
+            "cut to {len}"
+        );
     }
+}
+
+// The first so many bytes, with `file_size` and the sums that are theirs.
+fn cut(alloc: Global, len: u32) -> Option<Vec<u8>> {
+    with_number(alloc, two_classes().get(..len as usize)?, 32, len)
+}
+
+fn is_right_cut_refused(alloc: Global, len: u32) -> Option<bool> {
+    Some(is_refused(&cut(alloc, len)?, 9, 0))
 }
 
 #[test]
 fn refuses_every_cut_with_right_sums(rt: HostRuntime) {
-    for len in 112..432usize {
-        let mut file = TWO_CLASSES;
-        let cut = &mut file[..len];
-        LittleEndian::write_u32(&mut cut[32..], len as u32);
-        set_sums(cut);
-        assert_eq!(rt; refusal(cut), refused(9), "cut to {len}");
+    for len in 112..432 {
+        assert!(rt;
+            is_right_cut_refused(rt.alloc(), len) == Some(true),
+            "cut to {len}"
+        );
     }
+}
+
+// The same where `data_size` too is right.
+fn is_data_cut_refused(alloc: Global, len: u32) -> Option<bool> {
+    let file = cut(alloc, len)?;
+    is_number_refused(alloc, &file, (104, len.checked_sub(236)?), (10, 0))
 }
 
 #[test]
 fn refuses_every_cut_of_the_data(rt: HostRuntime) {
-    for len in 236..432usize {
-        let mut file = TWO_CLASSES;
-        let cut = &mut file[..len];
-        LittleEndian::write_u32(&mut cut[32..], len as u32);
-        LittleEndian::write_u32(&mut cut[104..], len as u32 - 236);
-        set_sums(cut);
-        assert_eq!(rt; refusal(cut), refused(10), "cut to {len}");
+    for len in 236..432 {
+        assert!(rt;
+            is_data_cut_refused(rt.alloc(), len) == Some(true),
+            "cut to {len}"
+        );
     }
+}
+
+// Whether the file is refused by a condition, at a place, where its first bytes are these.
+fn is_magic_refused(alloc: Global, magic: &[u8], number: u8, place: u32) -> Option<bool> {
+    let file = with_bytes(alloc, two_classes(), 0, magic)?;
+    Some(is_refused(&file, number, place))
 }
 
 #[test]
@@ -130,11 +135,10 @@ fn refuses_another_magic_or_version(rt: HostRuntime) {
         (b"dex\n040\0", 40),
         (b"dex\n041\0", 41),
     ];
-    for (magic, place) in versions {
-        let version = Some(Refusal { number: 3, place });
-        assert_eq!(rt; refusal(&with_magic(magic)), version);
+    for (magic, version) in versions {
+        assert!(rt; is_magic_refused(rt.alloc(), magic, 3, version) == Some(true));
     }
-    assert_eq!(rt; refusal(&with_magic(b"dex\n03a\0")), refused(2));
+    assert!(rt; is_magic_refused(rt.alloc(), b"dex\n03a\0", 2, 0) == Some(true));
 }
 
 #[test]
@@ -152,36 +156,40 @@ fn refuses_another_number_of_the_header(rt: HostRuntime) {
         ("map_off", 52, 0xffff_ffff, 10),
     ];
     for (field, at, value, number) in cases {
-        assert!(rt; at <= 52usize);
-        let file = changed(at, value);
-        assert_eq!(rt; refusal(&file), refused(number), "{field} {value}");
+        let is_right = is_number_refused(rt.alloc(), two_classes(), (at, value), (number, 0));
+        assert!(rt; is_right == Some(true), "{field} {value}");
     }
+}
+
+// Whether the file with this number is accepted.
+fn is_number_accepted(alloc: Global, at: usize, value: u32) -> Option<bool> {
+    let file = with_number(alloc, two_classes(), at, value)?;
+    Some(Frame::open(&file).is_ok())
 }
 
 #[test]
 fn refuses_another_layout(rt: HostRuntime) {
     for at in LAYOUT {
-        assert!(rt; at <= 108usize);
-        let file = changed(at, 0xffff_ffff);
-        assert_eq!(rt; refusal(&file), refused(9), "all ones at {at}");
-        let file = changed(at, 0);
-        let wanted = if FIELDS.contains(&at) {
-            None
+        let is_right = is_number_refused(rt.alloc(), two_classes(), (at, 0xffff_ffff), (9, 0));
+        assert!(rt; is_right == Some(true), "all ones at {at}");
+        let is_right = if FIELDS.contains(&at) {
+            is_number_accepted(rt.alloc(), at, 0)
         } else {
-            refused(9)
+            is_number_refused(rt.alloc(), two_classes(), (at, 0), (9, 0))
         };
-        assert_eq!(rt; refusal(&file), wanted, "0 at {at}");
+        assert!(rt; is_right == Some(true), "0 at {at}");
     }
+}
+
+// Whether the file is refused by the checksum where it is 0, and by the signature where that is all ones and the
+// checksum is right.
+fn are_sums_judged(alloc: Global) -> Option<bool> {
+    let no_checksum = with_bytes(alloc, two_classes(), 8, &[0; 4])?;
+    let wrong_signature = with_checksum(alloc, two_classes(), 12, &[0xff; 20])?;
+    Some(is_refused(&no_checksum, 7, 0) && is_refused(&wrong_signature, 8, 0))
 }
 
 #[test]
 fn refuses_other_sums(rt: HostRuntime) {
-    let mut file = TWO_CLASSES;
-    LittleEndian::write_u32(&mut file[8..], 0);
-    assert_eq!(rt; refusal(&file), refused(7));
-    let mut file = TWO_CLASSES;
-    file[12..32].copy_from_slice(&[0xff; 20]);
-    let checksum = adler(&file[12..]);
-    LittleEndian::write_u32(&mut file[8..], checksum);
-    assert_eq!(rt; refusal(&file), refused(8));
+    assert!(rt; are_sums_judged(rt.alloc()) == Some(true));
 }

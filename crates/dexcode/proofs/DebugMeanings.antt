@@ -194,7 +194,7 @@ positions_are m d x h = positions_from_are m d.operations x.operations 0 0 (pos 
 
 -- ---- other numbers
 
-lead_at : {X : Type 0} (from to : List X) (images : List (Option ℕ)) (i j : ℕ) (d x : X) → Leads from to images → IsAt from i x → get_or images i None ≡ Some j → IsAt to j x
+pub lead_at : {X : Type 0} (from to : List X) (images : List (Option ℕ)) (i j : ℕ) (d x : X) → Leads from to images → IsAt from i x → get_or images i None ≡ Some j → IsAt to j x
 lead_at from to images i j d x l h e = subst (IsAt to j) (h.is d) (l.same i j d e)
 
 text_led : (m n : Mentions) (r : Maps) (i : ℕ) (o : Option ℕ) (s : Text) → AllLead m n r → image_of r kinds.Text i ≡ o → IsSome o → IsAt m.texts i s → StandsForText n o (Some s)
@@ -269,7 +269,7 @@ images_of_places r d h = images_of r (debug_uses d) h
 
 -- ---- the symbols that occur
 
-zip-append : {X Y : Type 0} (R : X → Y → Type 0) (xs : List X) (ys : List Y) (us : List X) (vs : List Y) → AllZip R xs ys → AllZip R us vs → AllZip R (xs ++ us) (ys ++ vs)
+pub zip-append : {X Y : Type 0} (R : X → Y → Type 0) (xs : List X) (ys : List Y) (us : List X) (vs : List Y) → AllZip R xs ys → AllZip R us vs → AllZip R (xs ++ us) (ys ++ vs)
 zip-append R [] [] us vs h g = g
 zip-append R [] (y ∷ ys) us vs h g = absurd h
 zip-append R (x ∷ xs) [] us vs h g = absurd h

@@ -33,7 +33,7 @@ pub all_part : {X Y : Type 0} (P : Y → Type 0) (f : X → List Y) (xs : List X
 all_part P f xs i d lt h = All-get_or (λ x. All P (f x)) xs i d lt (all_parts P f xs h)
 
 -- what holds of each member holds of all
-all_of : {X : Type 0} (P Q : X → Type 0) (xs : List X) → ((x : X) → P x → Q x) → All P xs → All Q xs
+pub all_of : {X : Type 0} (P Q : X → Type 0) (xs : List X) → ((x : X) → P x → Q x) → All P xs → All Q xs
 all_of P Q [] step h = All-nil Q
 all_of P Q (x ∷ xs) step h = All-cons Q x xs (step x (All-head P x xs h)) (all_of P Q xs step (All-tail P x xs h))
 

@@ -40,19 +40,21 @@ one_default [] i d e lt = absurd (omega (arith, lt))
 one_default (x ∷ xs) zero d e lt = refl
 one_default (x ∷ xs) (suc i) d e lt = one_default xs i d e (omega (arith, lt))
 
+-- what holds of all members holds of the distinct ones
+module _ {X : Type 0} (P : X → Type 0) where
+  kept_by : (b : Bool) (x : X) (xs : List X) → P x → All P xs → All P (if not b then x ∷ xs else xs)
+  kept_by true x xs h all = all
+  kept_by false x xs h all = All-cons P x xs h all
+
+  all_kept : (same : X → Bool) (xs : List X) → All P xs → All P (filter (λ y. not (same y)) xs)
+  all_kept same [] all = all
+  all_kept same (x ∷ xs) all = kept_by (same x) x (filter (λ y. not (same y)) xs) (All-head P x xs all) (all_kept same xs (All-tail P x xs all))
+
+  pub all_distinct : (same : X → X → Bool) (xs : List X) → All P xs → All P (distinct same xs)
+  all_distinct same [] all = all
+  all_distinct same (x ∷ xs) all = All-cons P x (filter (λ y. not (same x y)) (distinct same xs)) (All-head P x xs all) (all_kept (same x) (distinct same xs) (all_distinct same xs (All-tail P x xs all)))
+
 module _ {X Y : Type 0} (same : X → X → Bool) (alike : Y → Y → Bool) (f : X → Y) (P : X → Type 0) (agree : (x y : X) → P x → P y → alike (f x) (f y) ≡ same x y) where
-  kept_by : (p : X → Bool) (b : Bool) (x : X) (xs : List X) → P x → All P (filter p xs) → All P (if b then x ∷ filter p xs else filter p xs)
-  kept_by p true x xs h all = All-cons P x (filter p xs) h all
-  kept_by p false x xs h all = all
-
-  all_kept : (p : X → Bool) (xs : List X) → All P xs → All P (filter p xs)
-  all_kept p [] all = all
-  all_kept p (x ∷ xs) all = kept_by p (p x) x xs (All-head P x xs all) (all_kept p xs (All-tail P x xs all))
-
-  all_distinct : (xs : List X) → All P xs → All P (distinct same xs)
-  all_distinct [] all = all
-  all_distinct (x ∷ xs) all = All-cons P x (filter (λ y. not (same x y)) (distinct same xs)) (All-head P x xs all) (all_kept (λ y. not (same x y)) (distinct same xs) (all_distinct xs (All-tail P x xs all)))
-
   image_by : (x y : X) (ys : List X) (b c : Bool) → c ≡ b → filter (λ z. not (alike (f x) z)) (map f ys) ≡ map f (filter (λ z. not (same x z)) ys)
       → (if not c then f y ∷ filter (λ z. not (alike (f x) z)) (map f ys) else filter (λ z. not (alike (f x) z)) (map f ys)) ≡ map f (if not b then y ∷ filter (λ z. not (same x z)) ys else filter (λ z. not (same x z)) ys)
   image_by x y ys true true e h = h
@@ -69,4 +71,4 @@ module _ {X Y : Type 0} (same : X → X → Bool) (alike : Y → Y → Bool) (f 
   distinct_map [] all = refl
   distinct_map (x ∷ xs) all =
       ap (λ ys. f x ∷ filter (λ z. not (alike (f x) z)) ys) (distinct_map xs (All-tail P x xs all))
-      ∙ ap (λ ys. f x ∷ ys) (kept_image x (distinct same xs) (All-head P x xs all) (all_distinct xs (All-tail P x xs all)))
+      ∙ ap (λ ys. f x ∷ ys) (kept_image x (distinct same xs) (All-head P x xs all) (all_distinct P same xs (All-tail P x xs all)))

@@ -18,3 +18,7 @@ pub mod TryTables
 pub mod Images
 pub mod TryRows
 pub mod CodesRead
+pub mod TypesLed
+pub mod CodeUses
+pub mod CodeMeanings
+pub mod CodePlaces

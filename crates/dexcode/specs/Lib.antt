@@ -4,3 +4,4 @@ pub mod DebugReading
 pub mod Equality
 pub mod Numbered
 pub mod Reading
+pub mod Renumbering

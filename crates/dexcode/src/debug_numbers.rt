@@ -82,7 +82,7 @@ fn mark_number(kind: SymbolKind, number: Option<u32>, marks: &mut Marks)
 }
 
 // Marks one symbol.
-fn mark_one(kind: SymbolKind, number: usize, marks: &mut Marks)
+pub(crate) fn mark_one(kind: SymbolKind, number: usize, marks: &mut Marks)
     requires { HasMark marks.old (record { kind = kind; number = number }) }
     ensures { AreMarkedToo (record { kind = kind; number = number } ∷ []) marks.old marks.new }
 {

@@ -5,6 +5,7 @@
 #![tactic(auto)]
 
 pub use code::Code;
+pub use code_numbers_laws::{code_places_law, code_renumber_law, code_uses_law};
 pub use code_reading::read_code;
 pub use debug::Debug;
 pub use debug_laws::{debug_bare_law, debug_bytes_law, debug_renumber_law, debug_uses_law};
@@ -17,6 +18,8 @@ pub use tries::{Tries, Try};
 
 mod catches;
 mod code;
+mod code_numbers;
+mod code_numbers_laws;
 mod code_reading;
 mod debug;
 mod debug_laws;
@@ -29,5 +32,7 @@ mod debug_same;
 mod handler_list;
 mod handlers;
 mod tries;
+mod tries_numbers;
+mod tries_same;
 mod try_items;
 mod try_table;

@@ -17,10 +17,11 @@ use Rattle.dexrows.proofs.Composing.{all_seen}
 use Rattle.dexpool.specs.declared.tables.Tables.{Tables}
 use Rattle.dexpool.specs.Tables.{text_of, type_of, span_of, proto_of, field_of, method_of}
 use Rattle.dexpool.specs.Numberings.{IsNumbering, Maps, Leads, AllLead, union_of}
+use Rattle.dexpool.specs.Orderly.{KeepsOrder}
 use Rattle.dexpool.specs.Joining.{Moves, IsUnion, AreJoinedTexts, AreJoinedTypes, AreJoinedProtos, AreJoinedFields, AreJoinedMethods, AreMapsOf}
 use Rattle.dexpool.specs.Stored.{symbols_in, AreTables}
 use Rattle.dexpool.proofs.Pairs.{zip_length, zip_at, zip_from}
-use Rattle.dexpool.proofs.Unions.{all_union}
+use Rattle.dexpool.proofs.Unions.{some, all_union}
 use Rattle.dexpool.proofs.Leading.{leads}
 use Rattle.dexpool.proofs.JoinedLevels.{union_rises, texts_rise, types_rise, protos_rise, field_rows_rise, method_rows_rise}
 
@@ -41,6 +42,17 @@ one_leads of R o exact parts to images u rise seen maps is i d e lt =
     subst (Leads (of (get_or parts i d)) to) (sym same)
     (leads R o (of (get_or parts i d)) to (All-get_or (λ m. rises R (of m) ≡ true) parts i d lt rise) (union_rises of R o exact parts to images u) (get_or images i [])
     (zip_at (λ m image. Moves (of m) to image) parts images i d [] u.moves lt))
+
+-- the images of each part keep the order of its numbers
+images_keep : {X Z : Type 0} (of : Mentions → List X) (R : X → X → Ordering) (o : IsTotalOrder R) (exact : IsAntisymmetric R) (parts : List Mentions) (to : List X) (items : Z → List ℕ) (images : List Z)
+    → IsUnion of R parts to (map items images) → All (λ m. rises R (of m) ≡ true) parts → All (λ image. KeepsOrder (map Some (items image))) images
+images_keep of R o exact parts to items images u rise i d lt =
+    let n : length images ≡ length parts = sym (zip_length (λ m image. Moves (of m) to image) parts (map items images) u.moves ∙ length-map images items) in
+    let less : i < length parts = omega (arith, lt, n) in
+    let part = some parts i less in
+    let same : get_or (map items images) i [] ≡ items (get_or images i d) = get_or-map items images i d [] lt in
+    let moves : Moves (of (get_or parts i part)) to (items (get_or images i d)) = subst (Moves (of (get_or parts i part)) to) same (zip_at (λ m image. Moves (of m) to image) parts (map items images) i part [] u.moves less) in
+    (leads R o (of (get_or parts i part)) to (All-get_or (λ m. rises R (of m) ≡ true) parts i part less rise) (union_rises of R o exact parts to (map items images) u) (items (get_or images i d)) moves).rising
 
 module _ (parts : List Mentions) (numberings : All IsNumbering parts) (t : Tables) (strings types protos fields methods : List (List ℕ))
     (jt : AreJoinedTexts parts t.strings.items strings) (jy : AreJoinedTypes parts t.strings.items t.types.items types) (jp : AreJoinedProtos parts t.strings.items t.types.items t.parameters.items t.protos.items protos)
@@ -113,3 +125,20 @@ module _ (parts : List Mentions) (numberings : All IsNumbering parts) (t : Table
         methods_lead = one_leads (λ (m : Mentions). m.methods) symbols.method_cmp method_total method_exact parts (map (method_of t.strings.items t.types.items t.parameters.items t.protos.items) t.methods.items) methods jm.union
             (All-weaker IsNumbering (λ m. rises symbols.method_cmp m.methods ≡ true) (λ m n. n.rising.methods_rise) parts numberings) (λ m. m.methods) maps h.methods_are i d e lt;
       })
+
+-- so those of all five kinds
+module _ {Z : Type 0} (items : Z → List ℕ) (parts : List Mentions) (numberings : All IsNumbering parts) (images : List Z) where
+  pub texts_keep : (to : List Text) → IsUnion (λ (m : Mentions). m.texts) text_cmp parts to (map items images) → All (λ image. KeepsOrder (map Some (items image))) images
+  texts_keep to u = images_keep (λ (m : Mentions). m.texts) text_cmp text_total text_exact parts to items images u (All-weaker IsNumbering (λ m. rises text_cmp m.texts ≡ true) (λ m n. n.rising.texts_rise) parts numberings)
+
+  pub types_keep : (to : List Text) → IsUnion (λ (m : Mentions). m.types) text_cmp parts to (map items images) → All (λ image. KeepsOrder (map Some (items image))) images
+  types_keep to u = images_keep (λ (m : Mentions). m.types) text_cmp text_total text_exact parts to items images u (All-weaker IsNumbering (λ m. rises text_cmp m.types ≡ true) (λ m n. n.rising.types_rise) parts numberings)
+
+  pub protos_keep : (to : List symbols.Proto) → IsUnion (λ (m : Mentions). m.protos) symbols.proto_cmp parts to (map items images) → All (λ image. KeepsOrder (map Some (items image))) images
+  protos_keep to u = images_keep (λ (m : Mentions). m.protos) symbols.proto_cmp proto_total proto_exact parts to items images u (All-weaker IsNumbering (λ m. rises symbols.proto_cmp m.protos ≡ true) (λ m n. n.rising.protos_rise) parts numberings)
+
+  pub fields_keep : (to : List symbols.Field) → IsUnion (λ (m : Mentions). m.fields) symbols.field_cmp parts to (map items images) → All (λ image. KeepsOrder (map Some (items image))) images
+  fields_keep to u = images_keep (λ (m : Mentions). m.fields) symbols.field_cmp field_total field_exact parts to items images u (All-weaker IsNumbering (λ m. rises symbols.field_cmp m.fields ≡ true) (λ m n. n.rising.fields_rise) parts numberings)
+
+  pub methods_keep : (to : List symbols.Method) → IsUnion (λ (m : Mentions). m.methods) symbols.method_cmp parts to (map items images) → All (λ image. KeepsOrder (map Some (items image))) images
+  methods_keep to u = images_keep (λ (m : Mentions). m.methods) symbols.method_cmp method_total method_exact parts to items images u (All-weaker IsNumbering (λ m. rises symbols.method_cmp m.methods ≡ true) (λ m n. n.rising.methods_rise) parts numberings)

@@ -11,6 +11,7 @@ use Rattle.dexspec.proofs.InOrder.{Rises, AreDistinct-from_Rises}
 use Rattle.dexrows.specs.Cut.{kept, places}
 use Rattle.dexrows.proofs.KeptPlaces.{kept_among, length_places, marked_has, unmarked_has, stands_at, places_rise}
 use Rattle.dexpool.specs.Numberings.{IsAt, Leads, image}
+use Rattle.dexpool.specs.Orderly.{KeepsOrder}
 use Rattle.dexpool.specs.Closing.{IsMarked, mark_all, number_or_none}
 
 -- a marked number is one of the marks
@@ -109,6 +110,10 @@ some_within (o ∷ os) (suc i) x e = omega (arith, some_within os i x e)
 image_within : (marks : List Bool) (i j : ℕ) → image (places 0 marks) i ≡ Some j → i < length marks
 image_within marks i j e = omega (arith, some_within (places 0 marks) i j e, length_places 0 marks)
 
+-- numbers of marked members lead to their places in order
+pub places_keep : (marks : List Bool) → KeepsOrder (places 0 marks)
+places_keep marks h i j k before e f = places_rise marks h i 0 j k None before (image_within marks i k f) e f
+
 -- two places of a rising list have two members
 two_places : {X : Type 0} (R : X → X → Ordering) → IsTotalOrder R → (xs : List X) → Rises R xs → (i j : ℕ) (d : X) → i < length xs → j < length xs → i ≢ j → get_or xs i d ≡ get_or xs j d → ⊥
 two_places R o xs rising i j d lt less apart e = elim (cases_order i j) [
@@ -137,7 +142,7 @@ kept_leads R o marks xs count rising = record {
             absurd cc
         | inr other ↦ absurd (two_places R o xs rising k.at i d k.within lt other (k.is d))
       ];
-  rising = λ h i j k before e f. places_rise marks h i 0 j k None before (image_within marks i k f) e f;
+  rising = places_keep marks;
 }
 
 -- ---- more marks

@@ -11,3 +11,4 @@ pub mod Closing
 pub mod Owned
 pub mod Joining
 pub mod Laws
+pub mod Orderly

@@ -5,6 +5,7 @@ ghost use Rattle.std.specs.Prelude.{◌≡◌, length, map, All, IfOk, Some};
 ghost use Rattle.std.specs.List.{AllZip};
 ghost use Rattle.dexrows.specs.Join.{AreSorted, IsJoin};
 ghost use Rattle.dexpool.specs.Numberings.{IsNumbering, union_of, AllLead};
+ghost use Rattle.dexpool.specs.Orderly.{KeepsOrder};
 ghost use Rattle.dexpool.specs.Renumbering.{numbers_in, HasSpans};
 ghost use Rattle.dexpool.specs.Joining.{AreJoinedTexts, AreJoinedTypes, AreJoinedProtos, AreJoinedFields, AreJoinedMethods, AreMapsOf};
 ghost use Rattle.dexpool.specs.Stored.{symbols_in, AreTables};
@@ -220,6 +221,11 @@ fn remaps(
     requires protos { length protos.now ≡ length strings.now }
     requires fields { length fields.now ≡ length strings.now }
     requires methods { length methods.now ≡ length strings.now }
+    requires strings_keep { All (λ image. KeepsOrder (map Some image.items)) strings.now }
+    requires types_keep { All (λ image. KeepsOrder (map Some image.items)) types.now }
+    requires protos_keep { All (λ image. KeepsOrder (map Some image.items)) protos.now }
+    requires fields_keep { All (λ image. KeepsOrder (map Some image.items)) fields.now }
+    requires methods_keep { All (λ image. KeepsOrder (map Some image.items)) methods.now }
     ensures { IfOk result (λ remaps. AreMapsOf (map (λ image. image.items) strings.now) (map (λ image. image.items) types.now) (map (λ image. image.items) protos.now) (map (λ image. image.items) fields.now) (map (λ image. image.items) methods.now) remaps.items) }
 {
     let mut remaps = Vec::with_capacity(alloc, strings.len())?;

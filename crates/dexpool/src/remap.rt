@@ -2,12 +2,13 @@
 
 ghost use Rattle.std.specs.Prelude.{◌≡◌};
 ghost use Rattle.dexpool.specs.Numberings.{image_of};
+ghost use Rattle.dexpool.specs.Orderly.{KeepOrder};
 
 use crate::symbols::SymbolKind;
 use std::marker::Model;
 
-/// For each number of a numbering the number of the same symbol in another one, if it is there. Contracts see
-/// five lists.
+/// For each number of a numbering the number of the same symbol in another one, if it is there. Numbers keep their
+/// order. Contracts see five lists.
 #[derive(Drop)]
 pub struct Remap {
     pub(crate) strings: Vec<Option<usize>>,
@@ -19,13 +20,24 @@ pub struct Remap {
 
 impl Model for Remap {
     ghost use Rattle.dexpool.specs.Numberings.{Maps};
+    ghost use Rattle.dexpool.specs.Orderly.{KeepOrder};
 
     ghost Value = { Maps };
 
     ghost view = { λ r. record { texts = r.strings.items; types = r.types.items; protos = r.protos.items; fields = r.fields.items; methods = r.methods.items } };
+
+    ghost invariant = { λ r. KeepOrder (record { texts = r.strings.items; types = r.types.items; protos = r.protos.items; fields = r.fields.items; methods = r.methods.items }) };
 }
 
 impl Remap {
+    /// Numbers keep their order where they lead somewhere, so no two of a kind lead to one. It does nothing: its contract
+    /// tells what every map is, for the proofs of callers.
+    pub fn keeps_order(&self)
+        ensures { KeepOrder self.now }
+    {
+        let _strings = &self.strings;
+    }
+
     /// Where a number leads, or `None` where it leads nowhere or is none of the first numbering. No memory is
     /// taken.
     pub fn image(&self, kind: SymbolKind, i: usize) -> Option<usize>

@@ -3,7 +3,7 @@ use Rattle.dexspec.specs.Texts.{text_cmp}
 use Rattle.dexspec.specs.Symbols.{proto_cmp, field_cmp, method_cmp}
 use Rattle.dexspec.specs.Mentions.{Mentions}
 use Rattle.dexpool.specs.Tables.{text_of, proto_of, field_of, method_of}
-use Rattle.dexpool.proofs.JoinedTables.{images_count, are_tables, are_union, all_lead}
+use Rattle.dexpool.proofs.JoinedTables.{images_count, are_tables, are_union, all_lead, texts_keep, types_keep, protos_keep, fields_keep, methods_keep}
 use Rattle.dexpool.proofs.joined_tables.join_tables.Goals as goal
 
 pub remaps-requires-clause-types : goal.remaps-requires-clause-types
@@ -21,6 +21,26 @@ remaps-requires-clause-fields c = rw (c.deref.ensures.value, c.deref-4.ensures.v
 pub remaps-requires-clause-methods : goal.remaps-requires-clause-methods
 remaps-requires-clause-methods c = rw (c.deref.ensures.value, c.deref-5.ensures.value)
     (images_count (λ (m : Mentions). m.texts) text_cmp (λ (m : Mentions). m.methods) method_cmp (λ image. image.items) (λ image. image.items) (map (λ part. part.now) c.args.parts.now) c.in_ok-strings.strings.rows.items (map (method_of c.in_ok-strings.strings.rows.items c.in_ok-types.types.numbers.items c.in_ok-protos.protos.table.parameters.items c.in_ok-protos.protos.table.rows.items) c.in_ok-methods.methods.rows.items) c.in_ok-strings.strings.images.items c.in_ok-methods.methods.images.items c.in_ok-strings.ensures.texts c.in_ok-methods.ensures.union)
+
+pub remaps-requires-clause-strings_keep : goal.remaps-requires-clause-strings_keep
+remaps-requires-clause-strings_keep c = rw c.deref.ensures.value
+    (texts_keep (λ image. image.items) (map (λ part. part.now) c.args.parts.now) c.in_ok-strings.ensures.numberings c.in_ok-strings.strings.images.items c.in_ok-strings.strings.rows.items c.in_ok-strings.ensures.texts)
+
+pub remaps-requires-clause-types_keep : goal.remaps-requires-clause-types_keep
+remaps-requires-clause-types_keep c = rw c.deref-2.ensures.value
+    (types_keep (λ image. image.items) (map (λ part. part.now) c.args.parts.now) c.in_ok-strings.ensures.numberings c.in_ok-types.types.images.items (map (text_of c.in_ok-strings.strings.rows.items) c.in_ok-types.types.numbers.items) c.in_ok-types.ensures.union)
+
+pub remaps-requires-clause-protos_keep : goal.remaps-requires-clause-protos_keep
+remaps-requires-clause-protos_keep c = rw c.deref-3.ensures.value
+    (protos_keep (λ image. image.items) (map (λ part. part.now) c.args.parts.now) c.in_ok-strings.ensures.numberings c.in_ok-protos.protos.images.items (map (proto_of c.in_ok-strings.strings.rows.items c.in_ok-types.types.numbers.items c.in_ok-protos.protos.table.parameters.items) c.in_ok-protos.protos.table.rows.items) c.in_ok-protos.ensures.union)
+
+pub remaps-requires-clause-fields_keep : goal.remaps-requires-clause-fields_keep
+remaps-requires-clause-fields_keep c = rw c.deref-4.ensures.value
+    (fields_keep (λ image. image.items) (map (λ part. part.now) c.args.parts.now) c.in_ok-strings.ensures.numberings c.in_ok-fields.fields.images.items (map (field_of c.in_ok-strings.strings.rows.items c.in_ok-types.types.numbers.items) c.in_ok-fields.fields.rows.items) c.in_ok-fields.ensures.union)
+
+pub remaps-requires-clause-methods_keep : goal.remaps-requires-clause-methods_keep
+remaps-requires-clause-methods_keep c = rw c.deref-5.ensures.value
+    (methods_keep (λ image. image.items) (map (λ part. part.now) c.args.parts.now) c.in_ok-strings.ensures.numberings c.in_ok-methods.methods.images.items (map (method_of c.in_ok-strings.strings.rows.items c.in_ok-types.types.numbers.items c.in_ok-protos.protos.table.parameters.items c.in_ok-protos.protos.table.rows.items) c.in_ok-methods.methods.rows.items) c.in_ok-methods.ensures.union)
 
 pub returns-clause-tables : goal.returns-clause-tables
 returns-clause-tables c = are_tables (map (λ part. part.now) c.args.parts.now) c.in_ok-strings.ensures.numberings (record { strings = c.in_ok-strings.strings.rows; types = c.in_ok-types.types.numbers; protos = c.in_ok-protos.protos.table.rows; parameters = c.in_ok-protos.protos.table.parameters; fields = c.in_ok-fields.fields.rows; methods = c.in_ok-methods.methods.rows })

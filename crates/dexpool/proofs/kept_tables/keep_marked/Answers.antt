@@ -1,10 +1,11 @@
-use Rattle.std.proofs.Common.{◌≡◌, ◌∙◌, ap, length, map}
+use Rattle.std.proofs.Common.{◌≡◌, ◌∙◌, ap, length, map, sym, subst}
 use Rattle.std.proofs.lemmas.List.{length-map}
 use Rattle.dexrows.specs.Cut.{kept, places}
 use Rattle.dexrows.specs.declared.types.TypeRow.{TypeRow}
 use Rattle.dexpool.specs.Renumbering.{moved_type, moved_proto, moved_field, moved_method}
 use Rattle.dexpool.specs.Closing.{number_or_none}
-use Rattle.dexpool.proofs.KeptRows.{kept-map, new_numbers}
+use Rattle.dexpool.specs.Orderly.{KeepsOrder}
+use Rattle.dexpool.proofs.KeptRows.{kept-map, new_numbers, places_keep}
 use Rattle.dexpool.proofs.KeptTables.{IsCut, cut_types, cut_tables, cut_symbols, types_within, protos_within, fields_within, methods_within, numbers_count}
 use Rattle.dexpool.proofs.kept_tables.keep_marked.Goals as goal
 
@@ -35,6 +36,15 @@ renumbered_methods-requires c =
     let nt = numbers_count _ _ c.args.marks.now.types.items (length t.types.items) (c.deref-21.ensures.value ∙ c.in_ok-type_numbers.ensures) (c.deref-8.ensures.value ∙ c.in_ok-types.ensures.images ∙ ap (places 0) c.deref-7.ensures.value) (c.requires.marks.types_count ∙ length-map t.types.items _) in
     let np = numbers_count _ _ c.args.marks.now.protos.items (length t.protos.items) (c.deref-22.ensures.value ∙ c.in_ok-proto_numbers.ensures) (c.deref-13.ensures.value ∙ c.in_ok-protos.ensures.images ∙ ap (places 0) c.deref-12.ensures.value) (c.requires.marks.protos_count ∙ length-map t.protos.items _) in
     methods_within t c.requires.tables _ ns _ nt _ np _ c.deref-19.ensures.value
+
+pub invariant_of-remap : goal.invariant_of-remap
+invariant_of-remap c = record {
+  texts_keep = subst KeepsOrder (sym (c.in_ok-strings.ensures.images ∙ ap (places 0) c.deref-2.ensures.value)) (places_keep c.args.marks.now.strings.items);
+  types_keep = subst KeepsOrder (sym (c.in_ok-types.ensures.images ∙ ap (places 0) c.deref-7.ensures.value)) (places_keep c.args.marks.now.types.items);
+  protos_keep = subst KeepsOrder (sym (c.in_ok-protos.ensures.images ∙ ap (places 0) c.deref-12.ensures.value)) (places_keep c.args.marks.now.protos.items);
+  fields_keep = subst KeepsOrder (sym (c.in_ok-fields.ensures.images ∙ ap (places 0) c.deref-18.ensures.value)) (places_keep c.args.marks.now.fields.items);
+  methods_keep = subst KeepsOrder (sym (c.in_ok-methods.ensures.images ∙ ap (places 0) c.deref-24.ensures.value)) (places_keep c.args.marks.now.methods.items);
+}
 
 pub returns : goal.returns
 returns c =

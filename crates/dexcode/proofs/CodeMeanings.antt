@@ -1,0 +1,182 @@
+-- What the numbers in code items stand for.
+use Rattle.std.proofs.Common.{◌≡◌, ℕ, ◌<◌, List, [], ◌∷◌, ◌++◌, length, map, get_or, Option, Some, None, option_to_list, refl, ap, sym, ◌∙◌, subst, inl, inr, arith}
+use Rattle.std.specs.List.{All, AllZip, flat_map}
+use Rattle.std.specs.Option.{IsSome, unwrap_or, option_map}
+use Rattle.std.proofs.lemmas.List.Elements.{All-nil, All-cons, All-head, All-tail, All-append}
+use Rattle.dexspec.specs.Lists.{BothOrNone, distinct}
+use Rattle.dexspec.specs.Texts.{Text}
+use Rattle.dexspec.specs.Symbols.{TypeSymbol}
+use Rattle.dexspec.specs.Mentions.{Mentions, piece_symbols, handler_symbols, debug_symbols, code_symbols}
+use Rattle.dexspec.specs.Code as symbolic
+use Rattle.dexspec.specs.Debug.{Debug}
+use Rattle.dexpool.specs.declared.symbols.SymbolKind.TheVariants as kinds
+use Rattle.dexpool.specs.declared.marks.Marks.{Marks}
+use Rattle.dexpool.specs.Numberings.{IsAt, AreRising, AreMarksOf, Maps, image_of, AllLead}
+use Rattle.dexinsn.specs.Numbered.{HasMark, IsUseOf, uses_of}
+use Rattle.dexinsn.proofs.Meanings as pieces
+use Rattle.dexcode.specs.declared.handlers.Catch.{Catch}
+use Rattle.dexcode.specs.Debug.{NumberedDebug, StandsForDebug, HasImage, HasPlace, renumbered_debug, debug_uses}
+use Rattle.dexcode.specs.Equality.{handler_decides}
+use Rattle.dexcode.specs.Numbered.{NumberedHandler, NumberedTry, NumberedItem, StandsForCatch, StandsForTry, StandsForCode, same_handler, handlers_of, catch_meant, handler_meant, try_meant}
+use Rattle.dexcode.specs.Renumbering.{catch_use, handler_uses, tries_uses, item_uses, HasTypePlace, HasPlaces, HasImages, AreTypesApart, renumbered_catch, renumbered_try, renumbered_item}
+use Rattle.dexcode.proofs.CodeUses.{optional_debug_uses, debug_part}
+use Rattle.dexcode.proofs.DebugMeanings as debugs
+use Rattle.dexcode.proofs.DebugMeanings.{lead_at, zip-append}
+use Rattle.dexcode.proofs.DebugUses.{all_of, all_parts}
+use Rattle.dexcode.proofs.Images.{one_default, all_distinct}
+use Rattle.dexcode.proofs.Listed.{below_or_not}
+use Rattle.dexcode.proofs.TryRows.{IsInRange, handlers_meant}
+use Rattle.dexcode.proofs.TypesLed.{all_from_distinct}
+
+-- ---- other numbers
+
+-- each caught type leads somewhere
+abbrev HaveTypeImages : Maps → NumberedHandler → Type 0
+HaveTypeImages r h = All (HasImage r) (handler_uses h)
+
+module _ (m n : Mentions) (r : Maps) (l : AllLead m n r) where
+  type_by : (i : ℕ) (o : Option ℕ) (t : Text) → image_of r kinds.Typ i ≡ o → IsSome o → IsAt m.types i t → IsAt n.types (unwrap_or o i) t
+  type_by i None t e some h = absurd cc
+  type_by i (Some j) t e some h = lead_at m.types n.types r.types i j [] t l.types_lead h e
+
+  catches_led : (cs : List Catch) (xs : List symbolic.Catch) → All (HasImage r) (map catch_use cs) → AllZip (StandsForCatch m) cs xs → AllZip (StandsForCatch n) (map (renumbered_catch r) cs) xs
+  catches_led [] [] all h = tt
+  catches_led [] (x ∷ xs) all h = absurd h
+  catches_led (c ∷ cs) [] all h = absurd h
+  catches_led (c ∷ cs) (x ∷ xs) all h = (
+    record { type_is = type_by c.typ (image_of r kinds.Typ c.typ) x.type refl (All-head (HasImage r) (catch_use c) (map catch_use cs) all) h.0.type_is; address_is = h.0.address_is },
+    catches_led cs xs (All-tail (HasImage r) (catch_use c) (map catch_use cs) all) h.1,
+  )
+
+  tries_led : (ts : List NumberedTry) (xs : List symbolic.Try) → All (HaveTypeImages r) (map (λ t. t.handler) ts) → AllZip (StandsForTry m) ts xs → AllZip (StandsForTry n) (map (renumbered_try r) ts) xs
+  tries_led [] [] all h = tt
+  tries_led [] (x ∷ xs) all h = absurd h
+  tries_led (t ∷ ts) [] all h = absurd h
+  tries_led (t ∷ ts) (x ∷ xs) all h =
+      let handlers = map (λ (u : NumberedTry). u.handler) ts in
+      let is = h.0.handler_is in (
+        record {
+          start_is = h.0.start_is;
+          count_is = h.0.count_is;
+          handler_is = record { catches_are = catches_led t.handler.catches x.handler.catches (All-head (HaveTypeImages r) t.handler handlers all) is.catches_are; catch_all_is = is.catch_all_is };
+        },
+        tries_led ts xs (All-tail (HaveTypeImages r) t.handler handlers all) h.1,
+      )
+
+  debug_led : (o : Option NumberedDebug) (x : Option Debug) → All (HasImage r) (optional_debug_uses o) → BothOrNone (StandsForDebug m) o x → BothOrNone (StandsForDebug n) (option_map (renumbered_debug r) o) x
+  debug_led None None all h = tt
+  debug_led None (Some x) all h = absurd h
+  debug_led (Some d) None all h = absurd h
+  debug_led (Some d) (Some x) all h = debugs.renumbered_stands m n r d x l (debug_part (HasImage r) (Some d) d all refl) h
+
+-- where each number leads from one numbering to another, the code stands for what it stood for
+pub renumbered_stands : (m n : Mentions) (r : Maps) (c : NumberedItem) (x : symbolic.Code) → AllLead m n r → HasImages r c → StandsForCode m c x → StandsForCode n (renumbered_item r c) x
+renumbered_stands m n r c x l all h =
+    let handlers = map (λ (t : NumberedTry). t.handler) c.tries in
+    record {
+      registers_are = h.registers_are;
+      ins_are = h.ins_are;
+      outs_are = h.outs_are;
+      pieces_are = pieces.renumbered_stand m n r c.body.pieces x.pieces l all.pieces_have h.pieces_are;
+      tries_are = tries_led m n r l c.tries x.tries (all_from_distinct same_handler handler_decides (HaveTypeImages r) handlers (all_parts (HasImage r) handler_uses (distinct same_handler handlers) all.catches_have)) h.tries_are;
+      debug_is = debug_led m n r l c.debug x.debug all.debug_has h.debug_is;
+    }
+
+-- what leads to a place leads somewhere
+pub images_of_places : (r : Maps) (c : NumberedItem) → HasPlaces r c → HasImages r c
+images_of_places r c h = record {
+  pieces_have = pieces.images_of_places r c.body.pieces h.pieces_have;
+  catches_have = all_of (HasTypePlace r) (HasImage r) (tries_uses c.tries) (λ u place. subst IsSome (sym place.1) refl) h.catches_have;
+  debug_has = all_of (HasPlace r) (HasImage r) (optional_debug_uses c.debug) (λ u place. subst IsSome (sym place.1) refl) h.debug_has;
+}
+
+-- no two types of a numbering lead to one of another
+pub types_apart : (m n : Mentions) (r : Maps) → AllLead m n r → AreTypesApart r
+types_apart m n r l = λ i j k e f. elim (below_or_not i j) [
+  | inl lt ↦ absurd (omega (arith, l.types_lead.rising i j k k lt e f))
+  | inr le ↦ elim (below_or_not j i) [ inl gt ↦ absurd (omega (arith, l.types_lead.rising j i k k gt f e)) | inr ge ↦ omega (arith, le, ge) ]
+]
+
+-- ---- the symbols that occur
+
+module _ (m : Mentions) where
+  catches_meant : (cs : List Catch) (xs : List symbolic.Catch) → AllZip (StandsForCatch m) cs xs → map (catch_meant m) cs ≡ xs
+  catches_meant [] [] h = refl
+  catches_meant [] (x ∷ xs) h = absurd h
+  catches_meant (c ∷ cs) [] h = absurd h
+  catches_meant (c ∷ cs) (x ∷ xs) h = λ i. record { type = h.0.type_is.is [] i; address = h.0.address_is i } ∷ catches_meant cs xs h.1 i
+
+  catches_in : (cs : List Catch) (xs : List symbolic.Catch) → AllZip (StandsForCatch m) cs xs → All (λ c. c.typ < length m.types) cs
+  catches_in [] xs h = All-nil (λ (c : Catch). c.typ < length m.types)
+  catches_in (c ∷ cs) [] h = absurd h
+  catches_in (c ∷ cs) (x ∷ xs) h = All-cons (λ (c : Catch). c.typ < length m.types) c cs h.0.type_is.within (catches_in cs xs h.1)
+
+  tries_meant : (ts : List NumberedTry) (xs : List symbolic.Try) → AllZip (StandsForTry m) ts xs → map (try_meant m) ts ≡ xs
+  tries_meant [] [] h = refl
+  tries_meant [] (x ∷ xs) h = absurd h
+  tries_meant (t ∷ ts) [] h = absurd h
+  tries_meant (t ∷ ts) (x ∷ xs) h =
+      let is = h.0.handler_is in
+      let catches = catches_meant t.handler.catches x.handler.catches is.catches_are in
+      λ i. record { start = h.0.start_is i; count = h.0.count_is i; handler = record { catches = catches i; catch_all = is.catch_all_is i } } ∷ tries_meant ts xs h.1 i
+
+  tries_in : (ts : List NumberedTry) (xs : List symbolic.Try) → AllZip (StandsForTry m) ts xs → All (IsInRange m) (map (λ t. t.handler) ts)
+  tries_in [] xs h = All-nil (IsInRange m)
+  tries_in (t ∷ ts) [] h = absurd h
+  tries_in (t ∷ ts) (x ∷ xs) h = All-cons (IsInRange m) t.handler (map (λ (u : NumberedTry). u.handler) ts) (catches_in t.handler.catches x.handler.catches h.0.handler_is.catches_are) (tries_in ts xs h.1)
+
+  pub handlers_in : (ts : List NumberedTry) (xs : List symbolic.Try) → AllZip (StandsForTry m) ts xs → All (IsInRange m) (handlers_of ts)
+  handlers_in ts xs h = all_distinct (IsInRange m) same_handler (map (λ (t : NumberedTry). t.handler) ts) (tries_in ts xs h)
+
+  type_used : (i : ℕ) → i < length m.types → IsUseOf m (record { kind = kinds.Typ; number = i }) (TypeSymbol (get_or m.types i []))
+  type_used i lt = (record { within = lt; is = λ d. one_default m.types i d [] lt }, tt)
+
+  catches_used : (cs : List Catch) → All (λ c. c.typ < length m.types) cs → AllZip (IsUseOf m) (map catch_use cs) (map (λ (c : symbolic.Catch). TypeSymbol c.type) (map (catch_meant m) cs))
+  catches_used [] all = tt
+  catches_used (c ∷ cs) all = (type_used c.typ (All-head (λ (c : Catch). c.typ < length m.types) c cs all), catches_used cs (All-tail (λ (c : Catch). c.typ < length m.types) c cs all))
+
+  handlers_used : (hs : List NumberedHandler) → All (IsInRange m) hs → AllZip (IsUseOf m) (flat_map handler_uses hs) (flat_map handler_symbols (map (handler_meant m) hs))
+  handlers_used [] all = tt
+  handlers_used (h ∷ hs) all =
+      zip-append (IsUseOf m) (handler_uses h) (handler_symbols (handler_meant m h)) (flat_map handler_uses hs) (flat_map handler_symbols (map (handler_meant m) hs))
+      (catches_used h.catches (All-head (IsInRange m) h hs all)) (handlers_used hs (All-tail (IsInRange m) h hs all))
+
+  pub debug_used : (o : Option NumberedDebug) (x : Option Debug) → BothOrNone (StandsForDebug m) o x → AllZip (IsUseOf m) (optional_debug_uses o) (flat_map debug_symbols (option_to_list x))
+  debug_used None None h = tt
+  debug_used None (Some x) h = absurd h
+  debug_used (Some d) None h = absurd h
+  debug_used (Some d) (Some x) h = zip-append (IsUseOf m) (debug_uses d) (debug_symbols x) [] [] (debugs.uses_stand m d x h) tt
+
+  tries_used : (ts : List NumberedTry) (xs : List symbolic.Try) → AreRising m → AllZip (StandsForTry m) ts xs → AllZip (IsUseOf m) (tries_uses ts) (flat_map handler_symbols (symbolic.handlers_of xs))
+  tries_used ts xs rising h =
+      let same : map (handler_meant m) (handlers_of ts) ≡ symbolic.handlers_of xs = sym (handlers_meant m rising ts (tries_in ts xs h)) ∙ ap symbolic.handlers_of (tries_meant ts xs h) in
+      subst (λ ys. AllZip (IsUseOf m) (tries_uses ts) (flat_map handler_symbols ys)) same (handlers_used (handlers_of ts) (handlers_in ts xs h))
+
+  pub uses_stand : (c : NumberedItem) (x : symbolic.Code) → AreRising m → StandsForCode m c x → AllZip (IsUseOf m) (item_uses c) (code_symbols x)
+  uses_stand c x rising h =
+      zip-append (IsUseOf m) (uses_of c.body.pieces) (flat_map piece_symbols x.pieces) (tries_uses c.tries ++ optional_debug_uses c.debug) (flat_map handler_symbols (symbolic.handlers_of x.tries) ++ flat_map debug_symbols (option_to_list x.debug))
+      (pieces.uses_stand m c.body.pieces x.pieces h.pieces_are)
+      (zip-append (IsUseOf m) (tries_uses c.tries) (flat_map handler_symbols (symbolic.handlers_of x.tries)) (optional_debug_uses c.debug) (flat_map debug_symbols (option_to_list x.debug)) (tries_used c.tries x.tries rising h.tries_are) (debug_used c.debug x.debug h.debug_is))
+
+-- ---- marks
+
+module _ (m : Mentions) (marks : Marks) where
+  catches_marked : (cs : List Catch) → AreMarksOf m marks → All (λ c. c.typ < length m.types) cs → All (HasMark marks) (map catch_use cs)
+  catches_marked [] are all = All-nil (HasMark marks)
+  catches_marked (c ∷ cs) are all =
+      All-cons (HasMark marks) (catch_use c) (map catch_use cs) (omega (arith, are.types_count, All-head (λ (c : Catch). c.typ < length m.types) c cs all)) (catches_marked cs are (All-tail (λ (c : Catch). c.typ < length m.types) c cs all))
+
+  handlers_marked : (hs : List NumberedHandler) → AreMarksOf m marks → All (IsInRange m) hs → All (HasMark marks) (flat_map handler_uses hs)
+  handlers_marked [] are all = All-nil (HasMark marks)
+  handlers_marked (h ∷ hs) are all =
+      All-append (HasMark marks) (handler_uses h) (flat_map handler_uses hs) (catches_marked h.catches are (All-head (IsInRange m) h hs all)) (handlers_marked hs are (All-tail (IsInRange m) h hs all))
+
+  debug_marked : (o : Option NumberedDebug) (x : Option Debug) → AreMarksOf m marks → BothOrNone (StandsForDebug m) o x → All (HasMark marks) (optional_debug_uses o)
+  debug_marked None x are h = All-nil (HasMark marks)
+  debug_marked (Some d) None are h = absurd h
+  debug_marked (Some d) (Some x) are h = All-append (HasMark marks) (debug_uses d) [] (debugs.marks_there m marks are d x h) (All-nil (HasMark marks))
+
+  pub marks_there : (c : NumberedItem) (x : symbolic.Code) → AreMarksOf m marks → StandsForCode m c x → All (HasMark marks) (item_uses c)
+  marks_there c x are h =
+      All-append (HasMark marks) (uses_of c.body.pieces) (tries_uses c.tries ++ optional_debug_uses c.debug) (pieces.marks_there m marks c.body.pieces x.pieces are h.pieces_are)
+      (All-append (HasMark marks) (tries_uses c.tries) (optional_debug_uses c.debug) (handlers_marked (handlers_of c.tries) are (handlers_in m c.tries x.tries h.tries_are)) (debug_marked c.debug x.debug are h.debug_is))

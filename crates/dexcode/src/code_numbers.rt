@@ -1,0 +1,66 @@
+//! Numbers of symbols in code items, and what becomes of them.
+
+ghost use Rattle.std.specs.Prelude.{◌≡◌, ◌↔◌, IsTrue, All};
+ghost use Rattle.dexinsn.specs.Numbered.{HasMark, AreMarkedToo};
+ghost use Rattle.dexcode.specs.Renumbering.{item_uses, HasPlaces, AreTypesApart, renumbered_item};
+
+use crate::code::Code;
+use dexpool::{Marks, Remap};
+
+impl<'a> Code<'a> {
+    /// Puts for each number the one that it leads to. No memory is taken.
+    ///
+    /// Condition: each number leads to one that fits its place, one below 2^16 in an instruction but for
+    /// const-string/jumbo, one below 2^32 for a type that is caught, and one below 2^32 - 1 in the debug program. No
+    /// two types lead to one number.
+    ///
+    /// Source: "code_item".
+    pub fn renumber(&mut self, remap: &Remap)
+        requires places { HasPlaces remap.now self.old }
+        requires apart { AreTypesApart remap.now }
+        ensures { self.new ≡ renumbered_item remap.now self.old }
+    {
+        self.pieces.renumber(remap);
+        self.tries.renumber(remap);
+        if let Some(debug) = &mut self.debug {
+            debug.renumber(remap);
+        }
+    }
+
+    /// Marks each symbol that occurs: those of instructions, the types that are caught, and those of the debug
+    /// program. No memory is taken.
+    ///
+    /// Condition: there is a mark for each of them.
+    ///
+    /// Source: "code_item".
+    pub fn mark(&self, marks: &mut Marks)
+        requires { All (HasMark marks.old) (item_uses self.now) }
+        ensures { AreMarkedToo (item_uses self.now) marks.old marks.new }
+    {
+        self.pieces.mark(marks);
+        self.tries.mark(marks);
+        if let Some(debug) = &self.debug {
+            debug.mark(marks);
+        }
+    }
+
+    /// Whether this and other code are the same, once the numbers of each are led on by a map of its own. Of numbers
+    /// that lead nowhere those of types that are caught stay, and the others count as the same. No memory is taken.
+    ///
+    /// Source: "code_item".
+    pub fn same_mapped(&self, mine: &Remap, other: &Code<'_>, theirs: &Remap) -> bool
+        ensures { IsTrue result ↔ (renumbered_item mine.now self.now ≡ renumbered_item theirs.now other.now) }
+    {
+        if !self.pieces.same_mapped(mine, &other.pieces, theirs) {
+            return false;
+        }
+        if !self.tries.same_mapped(mine, &other.tries, theirs) {
+            return false;
+        }
+        match (&self.debug, &other.debug) {
+            (Some(debug), Some(other)) => debug.same_mapped(mine, other, theirs),
+            (None, None) => true,
+            _ => false,
+        }
+    }
+}

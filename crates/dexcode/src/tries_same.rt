@@ -1,0 +1,140 @@
+//! Whether tries mean the same.
+
+ghost use Rattle.std.specs.Prelude.{◌≡◌, ◌↔◌, ℕ, ◌<◌, IsTrue, All, length, map, slice_index_or};
+ghost use Rattle.dexcode.specs.Numbered.{no_handler};
+ghost use Rattle.dexcode.specs.Renumbering.{led_type, led_try, renumbered_catch, renumbered_handler, renumbered_try};
+
+use crate::handlers::{Catch, Handler};
+use crate::tries::{Tries, Try};
+use dexpool::{Remap, SymbolKind};
+
+// Where a type leads; one that leads nowhere stays.
+fn led_type(remap: &Remap, typ: u32) -> usize
+    ensures { result ≡ led_type remap.now typ }
+{
+    let typ = typ as usize;
+    remap.image(SymbolKind::Typ, typ).unwrap_or(typ)
+}
+
+// Whether the catches are the same, their types led on.
+fn same_catch(mine: &Remap, catch: Catch, theirs: &Remap, other: Catch) -> bool
+    ensures { IsTrue result ↔ (renumbered_catch mine.now catch ≡ renumbered_catch theirs.now other) }
+{
+    if catch.address != other.address {
+        return false;
+    }
+    led_type(mine, catch.typ) == led_type(theirs, other.typ)
+}
+
+// Whether the catches are the same, one for one, their types led on.
+fn same_catches(mine: &Remap, catches: &[Catch], theirs: &Remap, others: &[Catch]) -> bool
+    ensures { IsTrue result ↔ (map (renumbered_catch mine.now) catches.now ≡ map (renumbered_catch theirs.now) others.now) }
+{
+    if catches.len() != others.len() {
+        return false;
+    }
+    for (i, catch) in catches.iter().enumerate() {
+        if !same_catch(mine, *catch, theirs, others[i]) {
+            return false;
+        }
+    }
+    true
+}
+
+// Whether the handlers are the same, their types led on.
+fn same_handler(mine: &Remap, handler: &Handler, theirs: &Remap, other: &Handler) -> bool
+    ensures { IsTrue result ↔ (renumbered_handler mine.now handler.now ≡ renumbered_handler theirs.now other.now) }
+{
+    if handler.catch_all != other.catch_all {
+        return false;
+    }
+    same_catches(mine, &handler.catches, theirs, &other.catches)
+}
+
+// Whether the tries are the same, the types of their handlers led on. The first `compared` handlers of both lists are
+// known to be.
+fn same_try(
+    mine: &Remap,
+    handlers: &[Handler],
+    item: Try,
+    theirs: &Remap,
+    others: &[Handler],
+    other: Try,
+    compared: usize,
+) -> bool
+    requires within { item.handler < length handlers.now }
+    requires others { other.handler < length others.now }
+    requires known { (k : ℕ) → k < compared → renumbered_handler mine.now (slice_index_or handlers.now k no_handler) ≡ renumbered_handler theirs.now (slice_index_or others.now k no_handler) }
+    ensures { IsTrue result ↔ (led_try mine.now handlers.now item ≡ led_try theirs.now others.now other) }
+{
+    if item.start != other.start {
+        return false;
+    }
+    if item.count != other.count {
+        return false;
+    }
+    if item.handler < compared && item.handler == other.handler {
+        return true;
+    }
+    same_handler(
+        mine,
+        &handlers[item.handler],
+        theirs,
+        &others[other.handler],
+    )
+}
+
+// Whether the tries are the same, one for one, the types of their handlers led on. Handlers stand in order of first
+// use: so two that have one number are compared once, and others only where the tries differ or types lead to one.
+fn same_tries(
+    mine: &Remap,
+    handlers: &[Handler],
+    tries: &[Try],
+    theirs: &Remap,
+    other_handlers: &[Handler],
+    others: &[Try],
+) -> bool
+    requires within { All (λ t. t.handler < length handlers.now) tries.now }
+    requires others { All (λ t. t.handler < length other_handlers.now) others.now }
+    ensures { IsTrue result ↔ (map (led_try mine.now handlers.now) tries.now ≡ map (led_try theirs.now other_handlers.now) others.now) }
+{
+    if tries.len() != others.len() {
+        return false;
+    }
+    let mut compared = 0;
+    for (i, item) in tries.iter().enumerate() {
+        let other = others[i];
+        if !same_try(
+            mine,
+            handlers,
+            *item,
+            theirs,
+            other_handlers,
+            other,
+            compared,
+        ) {
+            return false;
+        }
+        if item.handler == compared && other.handler == compared {
+            compared += 1;
+        }
+    }
+    true
+}
+
+impl Tries {
+    // Whether these and other tries are the same, once the types of each are led on by a map of its own. No memory is
+    // taken.
+    pub(crate) fn same_mapped(&self, mine: &Remap, other: &Tries, theirs: &Remap) -> bool
+        ensures { IsTrue result ↔ (map (renumbered_try mine.now) self.now ≡ map (renumbered_try theirs.now) other.now) }
+    {
+        same_tries(
+            mine,
+            &self.handlers,
+            &self.tries,
+            theirs,
+            &other.handlers,
+            &other.tries,
+        )
+    }
+}

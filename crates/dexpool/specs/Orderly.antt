@@ -1,0 +1,15 @@
+-- Maps of numbers that keep their order.
+use Rattle.std.specs.Prelude.{◌≡◌, ℕ, ◌<◌, List, Option, Some}
+use Rattle.dexpool.specs.Numberings.{Maps, image}
+
+-- of two numbers that lead somewhere, the lesser leads to the lesser
+abbrev pub KeepsOrder : List (Option ℕ) → Type 0
+KeepsOrder images = (h i j k : ℕ) → h < i → image images h ≡ Some j → image images i ≡ Some k → j < k
+
+-- so it is for the numbers of each kind
+pub record KeepOrder (r : Maps) : Type 0 where
+  pub texts_keep : KeepsOrder r.texts
+  pub types_keep : KeepsOrder r.types
+  pub protos_keep : KeepsOrder r.protos
+  pub fields_keep : KeepsOrder r.fields
+  pub methods_keep : KeepsOrder r.methods

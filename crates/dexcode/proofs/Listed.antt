@@ -61,31 +61,31 @@ module _ (starts : List Bool) (types : ℕ) where
   pub numbered_more : (b : List ℕ) (o first n place : ℕ) (hs : List NumberedHandler) (h : NumberedHandler) (numbers numbers' : List (Option ℕ)) → Sequence (HandlerAt starts types) b first hs n → o + place ≡ first + n → length numbers ≤ place
       → AreNumbered starts types b o first hs numbers → IsNumberPut place (length hs) numbers numbers' → AreNumbered starts types b o first (hs ++ h ∷ []) numbers'
   numbered_more b o first n place hs h numbers numbers' stand at short numbered put = record {
-      begins = λ k i e. elim (cases_eq k place) [
-        | inl here ↦ elim (below_or_not place (2 ^ 16)) [
-          | inl near ↦
+    begins = λ k i e. elim (cases_eq k place) [
+      | inl here ↦ elim (below_or_not place (2 ^ 16)) [
+        | inl near ↦
             let is : Some (length hs) ≡ Some i = sym (put.here near) ∙ ap (λ (p : ℕ). get_or numbers' p None) (sym here) ∙ e in
             let last : length hs ≡ i = ap (λ (x : Option ℕ). unwrap_or x 0) is in
             (n, subst (λ (j : ℕ). BeginsAt starts types b first (hs ++ h ∷ []) j n) last next, omega (arith, here, at))
-          | inr far ↦ absurd (no_number i (sym (get_or_past numbers k None (omega (arith, here, short))) ∙ ap (λ (l : List (Option ℕ)). get_or l k None) (sym (put.far far)) ∙ e))
-        ]
-        | inr other ↦
+        | inr far ↦ absurd (no_number i (sym (get_or_past numbers k None (omega (arith, here, short))) ∙ ap (λ (l : List (Option ℕ)). get_or l k None) (sym (put.far far)) ∙ e))
+      ]
+      | inr other ↦
           let old = numbered.begins k i (sym (put.others k other) ∙ e) in
           (old.0, begins_more b first hs (h ∷ []) i old.0 old.1, old.2)
-      ];
-      known = λ k i before lt begins e. elim (below_or_not i (length hs)) [
-        | inl less ↦
+    ];
+    known = λ k i before lt begins e. elim (below_or_not i (length hs)) [
+      | inl less ↦
           let old : get_or numbers k None ≡ Some i = numbered.known k i before lt (begins_less b first hs (h ∷ []) i before less begins) e in
           let other : k ≢ place = λ here. no_number i (sym (get_or_past numbers k None (omega (arith, here, short))) ∙ old) in
           put.others k other ∙ old
-        | inr ge ↦
+      | inr ge ↦
           let last : i ≡ length hs = omega (arith, ge, begins.within, length-append hs (h ∷ [])) in
           let all : Sequence (HandlerAt starts types) b first hs before = subst (λ (gs : List NumberedHandler). Sequence (HandlerAt starts types) b first gs before) (ap (λ (j : ℕ). take j (hs ++ h ∷ [])) last ∙ before_next hs h) begins.stands in
           let same = one_sequence (HandlerAt starts types) (one_handler starts types) b first hs hs before n refl all stand in
           let here : k ≡ place = omega (arith, at, e, same.1) in
           ap (λ (p : ℕ). get_or numbers' p None) here ∙ put.here (omega (arith, here, lt)) ∙ ap (λ (j : ℕ). Some j) (sym last)
-      ];
-    }
+    ];
+  }
     where
       next : BeginsAt starts types b first (hs ++ h ∷ []) (length hs) n
       next = record {

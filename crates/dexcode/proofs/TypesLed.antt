@@ -17,6 +17,7 @@ use Rattle.dexcode.specs.Numbered.{NumberedHandler, NumberedTry, AreStored, same
 use Rattle.dexcode.specs.Renumbering.{catch_use, handler_uses, tries_uses, HasTypePlace, AreTypesApart, led_type, led_try, renumbered_catch, renumbered_handler, renumbered_try}
 use Rattle.dexcode.proofs.DebugUses.{all_parts}
 use Rattle.dexcode.proofs.Images.{distinct_map}
+use Rattle.dexcode.proofs.Whole.{whole_mapped}
 
 -- what holds of the images holds of the members
 pub all_back_map : {X Y : Type 0} (P : Y → Type 0) (f : X → Y) (xs : List X) → All P (map f xs) → All (λ x. P (f x)) xs
@@ -125,6 +126,7 @@ stored_led r hs ts apart all are = record {
   used = ap (map (renumbered_handler r)) are.used ∙ sym (handlers_led r apart (all_named hs ts) all) ∙ ap handlers_of (sym (named_led r hs ts are.within));
   few = are.few;
   light = omega (arith, weight_led r hs, are.light);
+  whole = whole_mapped (renumbered_handler r) (λ h. refl) (λ h. length-map h.catches (renumbered_catch r)) hs are.whole;
 }
 
 -- tries with their handlers, led on

@@ -24,11 +24,7 @@ pub(crate) struct HandlerList {
 }
 
 // Puts the number of a handler where it begins, so many bytes behind the start of its list.
-fn put_number(
-    numbers: &mut Vec<Option<u32>>,
-    place: usize,
-    number: u32,
-) -> Result<(), AllocError>
+fn put_number(numbers: &mut Vec<Option<u32>>, place: usize, number: u32) -> Result<(), AllocError>
     requires { length numbers.old.items ≤ place }
     ensures { IfOk result (λ _. IsNumberPut place number numbers.old.items numbers.new.items) }
 {

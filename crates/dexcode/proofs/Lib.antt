@@ -16,6 +16,7 @@ pub mod Named
 pub mod OneHandler
 pub mod TriesListed
 pub mod TryTables
+pub mod Whole
 pub mod Images
 pub mod TryRows
 pub mod CodesRead

@@ -1,18 +1,18 @@
--- Tries that name handlers by their places: at an offset stands one at most; they do not overlap.
-use Rattle.std.proofs.Common.{◌≡◌, ℕ, ◌+◌, ◌<◌, ◌≤◌, List, [], ◌∷◌, ◌++◌, length, refl, ap, sym, subst, ◌∙◌, arith}
+-- Tries that name handlers by their numbers: at an offset stands one at most; they do not overlap.
+use Rattle.std.proofs.Common.{◌≡◌, ℕ, ◌+◌, ◌<◌, ◌≤◌, List, [], ◌∷◌, ◌++◌, length, Option, refl, ap, sym, subst, ◌∙◌, arith}
+use Rattle.std.specs.Prelude.{unwrap_or}
 use Rattle.std.proofs.lemmas.List.{length-append}
 use Rattle.dexspec.specs.Lists.{Sequence}
 use Rattle.dexcode.specs.declared.tries.Try.{Try}
-use Rattle.dexcode.specs.Reading.{AreRising, ListedTryAt, AreApartFrom}
+use Rattle.dexcode.specs.Reading.{ListedTryAt, AreApartFrom}
 use Rattle.dexcode.proofs.Fronts.{same_front}
-use Rattle.dexcode.proofs.Listed.{same_place}
 
 -- one try
-pub one_listed_try : (units list : ℕ) (places : List ℕ) → AreRising places → (b : List ℕ) (o : ℕ) (t u : Try) (n k : ℕ) → ListedTryAt units list places b o t n → ListedTryAt units list places b o u k → (t ≡ u) × (n ≡ k)
-one_listed_try units list places rise b o t u n k h g =
+pub one_listed_try : (units : ℕ) (numbers : List (Option ℕ)) → (b : List ℕ) (o : ℕ) (t u : Try) (n k : ℕ) → ListedTryAt units numbers b o t n → ListedTryAt units numbers b o u k → (t ≡ u) × (n ≡ k)
+one_listed_try units numbers b o t u n k h g =
     let start : t.start ≡ u.start = sym h.start_is ∙ g.start_is in
     let count : t.count ≡ u.count = sym h.count_is ∙ g.count_is in
-    let handler : t.handler ≡ u.handler = same_place places t.handler u.handler rise h.named g.named (h.place ∙ sym g.place) in
+    let handler : t.handler ≡ u.handler = ap (λ (x : Option ℕ). unwrap_or x 0) (sym h.named ∙ g.named) in
     ((λ i. record { start = start i; count = count i; handler = handler i }), h.size ∙ sym g.size)
 
 -- one more behind them
@@ -26,17 +26,17 @@ next_apart from to end [] t us h g = omega (arith, h, g.0)
 next_apart from to end (u ∷ ts) t us h g = next_apart (u.start + u.count) to end ts t us h.1 g.1
 
 -- where the next begins before the end of those read, no such tries stand there
-next_overlaps : (units list : ℕ) (places : List ℕ) → AreRising places → (b : List ℕ) (o : ℕ) (ts : List Try) (t : Try) (us : List Try) (n k to end : ℕ) → 0 < length us → ListedTryAt units list places b (o + n) t 8 → Sequence (ListedTryAt units list places) b (o + n) us k
+next_overlaps : (units : ℕ) (numbers : List (Option ℕ)) → (b : List ℕ) (o : ℕ) (ts : List Try) (t : Try) (us : List Try) (n k to end : ℕ) → 0 < length us → ListedTryAt units numbers b (o + n) t 8 → Sequence (ListedTryAt units numbers) b (o + n) us k
     → AreApartFrom 0 ts to → AreApartFrom 0 (ts ++ us) end → t.start < to → ⊥
-next_overlaps units list places rise b o ts t [] n k to end some at h apart all lt = omega (arith, some)
-next_overlaps units list places rise b o ts t (u ∷ us) n k to end some at h apart all lt =
-    let e = one_listed_try units list places rise b (o + n) t u 8 h.0 at h.2 in
+next_overlaps units numbers b o ts t [] n k to end some at h apart all lt = omega (arith, some)
+next_overlaps units numbers b o ts t (u ∷ us) n k to end some at h apart all lt =
+    let e = one_listed_try units numbers b (o + n) t u 8 h.0 at h.2 in
     let start : t.start ≡ u.start = ap (λ x. x.start) e.0 in
     omega (arith, lt, start, next_apart 0 to end ts u us apart all)
 
-pub overlap : (units list : ℕ) (places : List ℕ) → AreRising places → (b : List ℕ) (o : ℕ) (ts : List Try) (t : Try) (us : List Try) (n m to end : ℕ) → length ts < length us → Sequence (ListedTryAt units list places) b o ts n → ListedTryAt units list places b (o + n) t 8
-    → AreApartFrom 0 ts to → t.start < to → Sequence (ListedTryAt units list places) b o us m → AreApartFrom 0 us end → ⊥
-overlap units list places rise b o ts t us n m to end lt h at apart less g all =
-    let front = same_front (ListedTryAt units list places) (one_listed_try units list places rise) b o ts us n m (omega (arith, lt)) h g in
+pub overlap : (units : ℕ) (numbers : List (Option ℕ)) → (b : List ℕ) (o : ℕ) (ts : List Try) (t : Try) (us : List Try) (n m to end : ℕ) → length ts < length us → Sequence (ListedTryAt units numbers) b o ts n → ListedTryAt units numbers b (o + n) t 8
+    → AreApartFrom 0 ts to → t.start < to → Sequence (ListedTryAt units numbers) b o us m → AreApartFrom 0 us end → ⊥
+overlap units numbers b o ts t us n m to end lt h at apart less g all =
+    let front = same_front (ListedTryAt units numbers) (one_listed_try units numbers) b o ts us n m (omega (arith, lt)) h g in
     let joined : length us ≡ length ts + length front.0 = ap length front.2 ∙ length-append ts front.0 in
-    next_overlaps units list places rise b o ts t front.0 n front.1 to end (omega (arith, lt, joined)) at front.3 apart (subst (λ (vs : List Try). AreApartFrom 0 vs end) front.2 all) less
+    next_overlaps units numbers b o ts t front.0 n front.1 to end (omega (arith, lt, joined)) at front.3 apart (subst (λ (vs : List Try). AreApartFrom 0 vs end) front.2 all) less

@@ -1,19 +1,20 @@
--- Tries that name handlers by their places are the try_items that stand there.
-use Rattle.std.proofs.Common.{◌≡◌, ℕ, zero, suc, ◌+◌, ◌*◌, ◌<◌, ◌≤◌, Bool, List, [], ◌∷◌, length, take, get_or, refl, ap, sym, subst, ◌∙◌, arith}
-use Rattle.std.proofs.lemmas.List.{length-drop, length-map}
+-- Tries that name handlers by their numbers are the try_items that stand there.
+use Rattle.std.proofs.Common.{◌≡◌, ℕ, zero, suc, ◌+◌, ◌*◌, ◌^◌, ◌<◌, ◌≤◌, Bool, List, [], ◌∷◌, length, take, drop, get_or, Option, refl, ap, sym, subst, ◌∙◌, arith}
+use Rattle.std.proofs.lemmas.List.{length-drop, length-map, get_or-drop, get_or_default}
 use Rattle.std.specs.List.{All}
 use Rattle.std.proofs.lemmas.List.Elements.{All-nil, All-cons}
 use Rattle.dexspec.specs.Lists.{Sequence}
+use Rattle.dexspec.specs.Bytes.{number_of, ushort_at}
 use Rattle.dexspec.specs.Numbers.{Uleb128At}
 use Rattle.dexspec.specs.Code.{most_handlers}
 use Rattle.dexspec.proofs.OneNumber.{one_uleb128}
 use Rattle.dexspec.proofs.Sequences.{one_sequence}
 use Rattle.dexcode.specs.declared.tries.Try.{Try}
-use Rattle.dexcode.specs.Numbered.{NumberedHandler, NumberedTry, no_handler, named, all_named, handlers_of, handlers_weight}
-use Rattle.dexcode.specs.Reading.{HandlerAt, IsListAt, AreRising, TryAt, ListedTryAt, AreApart, AreApartFrom, TriesRead, TryItemsAt}
+use Rattle.dexcode.specs.Numbered.{NumberedHandler, NumberedTry, IsWhole, no_handler, named, all_named, handlers_of, handlers_weight}
+use Rattle.dexcode.specs.Reading.{HandlerAt, IsListAt, TryAt, ListedTryAt, AreApart, AreApartFrom, TriesRead, TryItemsAt}
 use Rattle.dexcode.proofs.OneHandler.{one_handler}
-use Rattle.dexcode.proofs.Listed.{listed_stand, listed_length, listed_before, listed_rise}
 use Rattle.dexcode.proofs.TriesListed.{one_listed_try}
+use Rattle.dexcode.proofs.Whole.{all_whole}
 
 -- ---- addresses
 
@@ -32,23 +33,34 @@ apart_from hs [] h = (0, refl)
 apart_from hs (t ∷ ts) h = apart_back hs 0 t ts (omega arith) h
 
 -- so many tries that are apart do not stand there
-abbrev pub NoTries : ℕ → ℕ → List ℕ → List ℕ → ℕ → ℕ → Type 0
-NoTries units list places b o count = (ts : List Try) (n to : ℕ) → length ts ≡ count → Sequence (ListedTryAt units list places) b o ts n → AreApartFrom 0 ts to → ⊥
+abbrev pub NoTries : ℕ → List (Option ℕ) → List ℕ → ℕ → ℕ → Type 0
+NoTries units numbers b o count = (ts : List Try) (n to : ℕ) → length ts ≡ count → Sequence (ListedTryAt units numbers) b o ts n → AreApartFrom 0 ts to → ⊥
 
--- each names a place
-pub places_named : (units list : ℕ) (places : List ℕ) (b : List ℕ) (o : ℕ) (ts : List Try) (n : ℕ) → Sequence (ListedTryAt units list places) b o ts n → All (λ t. t.handler < length places) ts
-places_named units list places b o [] n h = All-nil (λ (t : Try). t.handler < length places)
-places_named units list places b o (t ∷ ts) n h = All-cons (λ (t : Try). t.handler < length places) t ts h.2.named (places_named units list places b (o + h.0) ts h.1 h.3)
+-- ---- offsets
+
+-- two bytes spell a number of 16 bits
+two_small : (ys : List ℕ) → ((i : ℕ) → get_or ys i 0 < 256) → number_of (take 2 ys) < 2 ^ 16
+unfolding number_of
+two_small [] small = omega arith
+two_small (x ∷ []) small = omega (arith, small 0)
+two_small (x ∷ y ∷ ys) small = omega (arith, small 0, small 1)
+
+ushort_small : (b : List ℕ) (o : ℕ) → ((i : ℕ) → get_or b i 0 < 256) → ushort_at b o < 2 ^ 16
+unfolding ushort_at
+ushort_small b o small = two_small (drop o b) (λ i. subst (λ (x : ℕ). x < 256) (sym (get_or-drop o b i 0)) (small (o + i)))
 
 -- ---- handlers
 
-module _ (starts : List Bool) (types units : ℕ) (b : List ℕ) (list : ℕ) (hs : List NumberedHandler) (places : List ℕ) (at : IsListAt starts types b list hs places) where
-  -- the try that names the place of a handler
-  try_named : (o : ℕ) (t : Try) (n : ℕ) → ListedTryAt units list places b o t n → TryAt starts types units list at.count_size hs b o (named hs t) n
+module _ (starts : List Bool) (types units : ℕ) (b : List ℕ) (list : ℕ) (hs : List NumberedHandler) (numbers : List (Option ℕ)) (at : IsListAt starts types b list hs numbers) where
+  -- each names a handler
+  handlers_named : (o : ℕ) (ts : List Try) (n : ℕ) → Sequence (ListedTryAt units numbers) b o ts n → All (λ t. t.handler < length hs) ts
+  handlers_named o [] n h = All-nil (λ (t : Try). t.handler < length hs)
+  handlers_named o (t ∷ ts) n h = All-cons (λ (t : Try). t.handler < length hs) t ts (at.numbered.begins (ushort_at b (o + 6)) t.handler h.2.named).1.within (handlers_named (o + h.0) ts h.1 h.3)
+
+  -- the try that names the number of a handler
+  try_named : (o : ℕ) (t : Try) (n : ℕ) → ListedTryAt units numbers b o t n → TryAt starts types units list at.count_size hs b o (named hs t) n
   try_named o t n h =
-      let len = listed_length starts types b (list + at.count_size) hs places at.end at.listed in
-      let lt : t.handler < length hs = omega (arith, len, h.named) in
-      let before = listed_before starts types b (list + at.count_size) hs places at.end t.handler at.listed lt in
+      let begins = at.numbered.begins (ushort_at b (o + 6)) t.handler h.named in
       record {
         start_is = h.start_is;
         count_is = h.count_is;
@@ -56,80 +68,78 @@ module _ (starts : List Bool) (types units : ℕ) (b : List ℕ) (list : ℕ) (h
         within = h.within;
         handler_is = record {
           index = t.handler;
-          before = before.0;
-          begins = record { within = lt; stands = before.1 };
-          place = omega (arith, h.place, before.2);
-          is = λ d. one_default hs t.handler d no_handler lt;
+          before = begins.0;
+          begins = begins.1;
+          place = omega (arith, begins.2);
+          is = λ d. get_or_default hs t.handler d no_handler begins.1.within;
         };
         size = h.size;
       }
-    where
-      one_default : (gs : List NumberedHandler) (i : ℕ) (d e : NumberedHandler) → i < length gs → get_or gs i d ≡ get_or gs i e
-      one_default [] i d e lt = absurd (omega (arith, lt))
-      one_default (g ∷ gs) zero d e lt = refl
-      one_default (g ∷ gs) (suc i) d e lt = one_default gs i d e (omega (arith, lt))
 
-  tries_named : (o : ℕ) (ts : List Try) (n : ℕ) → Sequence (ListedTryAt units list places) b o ts n → Sequence (TryAt starts types units list at.count_size hs) b o (all_named hs ts) n
+  tries_named : (o : ℕ) (ts : List Try) (n : ℕ) → Sequence (ListedTryAt units numbers) b o ts n → Sequence (TryAt starts types units list at.count_size hs) b o (all_named hs ts) n
   tries_named o [] n h = h
   tries_named o (t ∷ ts) n h = (h.0, h.1, try_named o t h.0 h.2, tries_named (o + h.0) ts h.1 h.3, h.4)
 
   -- and back
-  try_listed : (o : ℕ) (s : NumberedTry) (n : ℕ) → TryAt starts types units list at.count_size hs b o s n → (t : Try) × ListedTryAt units list places b o t n × (named hs t ≡ s)
-  try_listed o s n h =
-      let len = listed_length starts types b (list + at.count_size) hs places at.end at.listed in
-      let i = h.handler_is.index in
-      let before = listed_before starts types b (list + at.count_size) hs places at.end i at.listed h.handler_is.begins.within in
-      let same = one_sequence (HandlerAt starts types) (one_handler starts types) b (list + at.count_size) (take i hs) (take i hs) before.0 h.handler_is.before refl before.1 h.handler_is.begins.stands in
-      let is = h.handler_is.is no_handler in (
-        record { start = s.start; count = s.count; handler = i },
-        record { start_is = h.start_is; count_is = h.count_is; some = h.some; within = h.within; named = omega (arith, len, h.handler_is.begins.within); place = omega (arith, before.2, same.1, h.handler_is.place); size = h.size },
-        λ j. record { start = s.start; count = s.count; handler = is j },
-      )
+  module _ (small : (i : ℕ) → get_or b i 0 < 256) where
+    try_listed : (o : ℕ) (s : NumberedTry) (n : ℕ) → TryAt starts types units list at.count_size hs b o s n → (t : Try) × ListedTryAt units numbers b o t n × (named hs t ≡ s)
+    try_listed o s n h =
+        let there = h.handler_is in
+        let is = there.is no_handler in (
+          record { start = s.start; count = s.count; handler = there.index },
+          record {
+            start_is = h.start_is;
+            count_is = h.count_is;
+            some = h.some;
+            within = h.within;
+            named = at.numbered.known (ushort_at b (o + 6)) there.index there.before (ushort_small b (o + 6) small) there.begins (omega (arith, there.place));
+            size = h.size;
+          },
+          λ j. record { start = s.start; count = s.count; handler = is j },
+        )
 
-  tries_listed : (o : ℕ) (ss : List NumberedTry) (n : ℕ) → Sequence (TryAt starts types units list at.count_size hs) b o ss n → (ts : List Try) × Sequence (ListedTryAt units list places) b o ts n × (all_named hs ts ≡ ss)
-  tries_listed o [] n h = ([], h, refl)
-  tries_listed o (s ∷ ss) n h =
-      let first = try_listed o s h.0 h.2 in
-      let rest = tries_listed (o + h.0) ss h.1 h.3 in
-      (first.0 ∷ rest.0, (h.0, h.1, first.1, rest.1, h.4), λ j. first.2 j ∷ rest.2 j)
+    tries_listed : (o : ℕ) (ss : List NumberedTry) (n : ℕ) → Sequence (TryAt starts types units list at.count_size hs) b o ss n → (ts : List Try) × Sequence (ListedTryAt units numbers) b o ts n × (all_named hs ts ≡ ss)
+    tries_listed o [] n h = ([], h, refl)
+    tries_listed o (s ∷ ss) n h =
+        let first = try_listed o s h.0 h.2 in
+        let rest = tries_listed (o + h.0) ss h.1 h.3 in
+        (first.0 ∷ rest.0, (h.0, h.1, first.1, rest.1, h.4), λ j. first.2 j ∷ rest.2 j)
 
 module _ (starts : List Bool) (types units : ℕ) (b : List ℕ) (o count : ℕ) where
   -- what was read stands there
-  pub found_tries : (hs : List NumberedHandler) (places : List ℕ) (ts : List Try) (to : ℕ) → IsListAt starts types b (o + 8 * count) hs places → TriesRead units (o + 8 * count) places b o count ts to → handlers_weight (handlers_of (all_named hs ts)) ≤ most_handlers
+  pub found_tries : (hs : List NumberedHandler) (numbers : List (Option ℕ)) (ts : List Try) (to : ℕ) → IsListAt starts types b (o + 8 * count) hs numbers → TriesRead units numbers b o count ts to → handlers_weight (handlers_of (all_named hs ts)) ≤ most_handlers
       → TryItemsAt starts types units b o count (all_named hs ts)
-  found_tries hs places ts to at read few =
-      let stand = listed_stand starts types b (o + 8 * count + at.count_size) hs places at.end at.listed in
-      record {
-        many = length-map ts (named hs) ∙ read.many;
-        handlers = hs;
-        count_size = at.count_size;
-        handlers_size = stand.0;
-        list_count = at.count_is;
-        list = stand.1;
-        items = tries_named starts types units b (o + 8 * count) hs places at o ts (8 * count) read.stand;
-        apart = apart_named hs 0 to ts read.apart;
-        few = few;
-      }
+  found_tries hs numbers ts to at read few = record {
+    many = length-map ts (named hs) ∙ read.many;
+    handlers = hs;
+    count_size = at.count_size;
+    handlers_size = at.size;
+    list_count = at.count_is;
+    list = at.stand;
+    items = tries_named starts types units b (o + 8 * count) hs numbers at o ts (8 * count) read.stand;
+    apart = apart_named hs 0 to ts read.apart;
+    few = few;
+  }
 
   -- each names a handler
-  pub found_within : (hs : List NumberedHandler) (places : List ℕ) → IsListAt starts types b (o + 8 * count) hs places → length hs ≡ length places
-  found_within hs places at = listed_length starts types b (o + 8 * count + at.count_size) hs places at.end at.listed
+  pub found_within : (hs : List NumberedHandler) (numbers : List (Option ℕ)) (ts : List Try) (to : ℕ) → IsListAt starts types b (o + 8 * count) hs numbers → TriesRead units numbers b o count ts to → All (λ t. t.handler < length hs) ts
+  found_within hs numbers ts to at read = handlers_named starts types units b (o + 8 * count) hs numbers at o ts (8 * count) read.stand
 
-  pub found_rising : (hs : List NumberedHandler) (places : List ℕ) → IsListAt starts types b (o + 8 * count) hs places → AreRising places
-  found_rising hs places at = listed_rise starts types b (o + 8 * count + at.count_size) hs places at.end at.listed
+  -- and each catches something
+  pub found_whole : (hs : List NumberedHandler) (numbers : List (Option ℕ)) → IsListAt starts types b (o + 8 * count) hs numbers → All IsWhole hs
+  found_whole hs numbers at = all_whole starts types b (o + 8 * count + at.count_size) hs at.size at.stand
 
-  -- what stands there names places of the list that was read
-  back : (hs : List NumberedHandler) (places : List ℕ) → IsListAt starts types b (o + 8 * count) hs places → (ss : List NumberedTry) → TryItemsAt starts types units b o count ss
-      → (ts : List Try) × Sequence (ListedTryAt units (o + 8 * count) places) b o ts (8 * count) × (all_named hs ts ≡ ss)
-  back hs places at ss h =
+  -- what stands there names handlers of the list that was read
+  back : ((i : ℕ) → get_or b i 0 < 256) → (hs : List NumberedHandler) (numbers : List (Option ℕ)) → IsListAt starts types b (o + 8 * count) hs numbers → (ss : List NumberedTry) → TryItemsAt starts types units b o count ss
+      → (ts : List Try) × Sequence (ListedTryAt units numbers) b o ts (8 * count) × (all_named hs ts ≡ ss)
+  back small hs numbers at ss h =
       let list = o + 8 * count in
-      let stand = listed_stand starts types b (list + at.count_size) hs places at.end at.listed in
       let many = one_uleb128 b list (length h.handlers) (length hs) h.count_size at.count_size h.list_count at.count_is in
-      let same = one_sequence (HandlerAt starts types) (one_handler starts types) b (list + at.count_size) h.handlers hs h.handlers_size stand.0 many.0
-      (subst (λ (i : ℕ). Sequence (HandlerAt starts types) b (list + i) h.handlers h.handlers_size) many.1 h.list) stand.1 in
+      let same = one_sequence (HandlerAt starts types) (one_handler starts types) b (list + at.count_size) h.handlers hs h.handlers_size at.size many.0
+      (subst (λ (i : ℕ). Sequence (HandlerAt starts types) b (list + i) h.handlers h.handlers_size) many.1 h.list) at.stand in
       let moved = subst (λ (i : ℕ). Sequence (TryAt starts types units list i h.handlers) b o ss (8 * count)) many.1 h.items in
       let items = subst (λ (gs : List NumberedHandler). Sequence (TryAt starts types units list at.count_size gs) b o ss (8 * count)) same.0 moved in
-      tries_listed starts types units b list hs places at o ss (8 * count) items
+      tries_listed starts types units b list hs numbers at small o ss (8 * count) items
 
   -- without a list, without tries of it, and with handlers that weigh too much none stand there
   pub no_list : ((hs : List NumberedHandler) (size n : ℕ) → Uleb128At b (o + 8 * count) (length hs) size → Sequence (HandlerAt starts types) b (o + 8 * count + size) hs n → ⊥) → (ss : List NumberedTry) → TryItemsAt starts types units b o count ss → ⊥
@@ -145,18 +155,17 @@ module _ (starts : List Bool) (types units : ℕ) (b : List ℕ) (o count : ℕ)
   length-same : (hs : List NumberedHandler) (ts : List Try) (ss : List NumberedTry) → all_named hs ts ≡ ss → length ts ≡ length ss
   length-same hs ts ss e = sym (length-map ts (named hs)) ∙ ap length e
 
-  pub no_tries : (hs : List NumberedHandler) (places : List ℕ) → IsListAt starts types b (o + 8 * count) hs places
-      → NoTries units (o + 8 * count) places b o count → (ss : List NumberedTry) → TryItemsAt starts types units b o count ss → ⊥
-  no_tries hs places at none ss h =
-      let there = back hs places at ss h in
+  pub no_tries : ((i : ℕ) → get_or b i 0 < 256) → (hs : List NumberedHandler) (numbers : List (Option ℕ)) → IsListAt starts types b (o + 8 * count) hs numbers
+      → NoTries units numbers b o count → (ss : List NumberedTry) → TryItemsAt starts types units b o count ss → ⊥
+  no_tries small hs numbers at none ss h =
+      let there = back small hs numbers at ss h in
       let apart = apart_from hs there.0 (subst AreApart (sym there.2) h.apart) in
       none there.0 (8 * count) apart.0 (length-same hs there.0 ss there.2 ∙ h.many) there.1 apart.1
 
-  pub too_heavy : (hs : List NumberedHandler) (places : List ℕ) (ts : List Try) (to : ℕ) → IsListAt starts types b (o + 8 * count) hs places → TriesRead units (o + 8 * count) places b o count ts to → most_handlers < handlers_weight (handlers_of (all_named hs ts))
-      → (ss : List NumberedTry) → TryItemsAt starts types units b o count ss → ⊥
-  too_heavy hs places ts to at read heavy ss h =
-      let there = back hs places at ss h in
-      let same = one_sequence (ListedTryAt units (o + 8 * count) places) (one_listed_try units (o + 8 * count) places (found_rising hs places at)) b o there.0 ts (8 * count) (8 * count)
-      (length-same hs there.0 ss there.2 ∙ h.many ∙ sym read.many) there.1 read.stand in
+  pub too_heavy : ((i : ℕ) → get_or b i 0 < 256) → (hs : List NumberedHandler) (numbers : List (Option ℕ)) (ts : List Try) (to : ℕ) → IsListAt starts types b (o + 8 * count) hs numbers → TriesRead units numbers b o count ts to
+      → most_handlers < handlers_weight (handlers_of (all_named hs ts)) → (ss : List NumberedTry) → TryItemsAt starts types units b o count ss → ⊥
+  too_heavy small hs numbers ts to at read heavy ss h =
+      let there = back small hs numbers at ss h in
+      let same = one_sequence (ListedTryAt units numbers) (one_listed_try units numbers) b o there.0 ts (8 * count) (8 * count) (length-same hs there.0 ss there.2 ∙ h.many ∙ sym read.many) there.1 read.stand in
       let named_same : ss ≡ all_named hs ts = sym there.2 ∙ ap (all_named hs) same.0 in
       omega (arith, heavy, h.few, ap (λ us. handlers_weight (handlers_of us)) named_same)

@@ -19,6 +19,7 @@ use Rattle.dexcode.specs.Renumbering.{catch_use, handler_uses, tries_uses, HasTy
 use Rattle.dexcode.proofs.DebugUses.{all_parts}
 use Rattle.dexcode.proofs.Images.{distinct_map}
 use Rattle.dexcode.proofs.Listed.{below_or_not}
+use Rattle.dexcode.proofs.Whole.{whole_mapped}
 
 -- what holds of the images holds of the members
 pub all_back_map : {X Y : Type 0} (P : Y → Type 0) (f : X → Y) (xs : List X) → All P (map f xs) → All (λ x. P (f x)) xs
@@ -134,6 +135,7 @@ stored_led r hs ts apart all are = record {
   used = ap (map (renumbered_handler r)) are.used ∙ sym (handlers_led r apart (all_named hs ts) all) ∙ ap handlers_of (sym (named_led r hs ts are.within));
   few = are.few;
   light = omega (arith, weight_led r hs, are.light);
+  whole = whole_mapped (renumbered_handler r) (λ h. refl) (λ h. length-map h.catches (renumbered_catch r)) hs are.whole;
 }
 
 -- tries with their handlers, led on

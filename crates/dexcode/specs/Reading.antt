@@ -1,5 +1,5 @@
 -- Tries and handlers as they are read from a file: types are rows, addresses are judged by where instructions begin.
-use Rattle.std.specs.Prelude.{◌≡◌, ◌≢◌, ◌⊎◌, ◌%◌, ℕ, ℤ, pos, nat_abs, ◌<ℤ◌, ◌≤ℤ◌, ◌+◌, ◌*◌, ◌<◌, ◌≤◌, Bool, true, false, List, [], ◌∷◌, length, take, Option, Some, None, slice_index_or}
+use Rattle.std.specs.Prelude.{◌≡◌, ◌≢◌, ◌⊎◌, ◌%◌, ℕ, ℤ, pos, nat_abs, ◌<ℤ◌, ◌≤ℤ◌, ◌+◌, ◌*◌, ◌^◌, ◌<◌, ◌≤◌, Bool, true, false, List, [], ◌∷◌, length, take, Option, Some, None, slice_index_or}
 use Rattle.dexspec.specs.Lists.{Sequence}
 use Rattle.dexspec.specs.Bytes.{uint_at, ushort_at}
 use Rattle.dexspec.specs.Numbers.{Uleb128At, Sleb128At}
@@ -85,25 +85,27 @@ module _ (starts : List Bool) (types : ℕ) where
     pub handler_is : IsHandler b list count_size hs (ushort_at b (o + 6)) t.handler
     pub size : n ≡ 8
 
-  -- so many of them, from an offset on to another, each at its place
-  abbrev pub AreListed : List ℕ → ℕ → List NumberedHandler → List ℕ → ℕ → Type 0
-  AreListed b from [] [] to = from ≡ to
-  AreListed b from [] (p ∷ ps) to = ⊥
-  AreListed b from (h ∷ hs) [] to = ⊥
-  AreListed b from (h ∷ hs) (p ∷ ps) to = (p ≡ from) × (n : ℕ) × HandlerAt b from h n × AreListed b (from + n) hs ps to
+  -- numbers are by the bytes of the list at offset o, as far as 16 bits count them: the number of each of its handlers,
+  -- which stand from another offset on, is where it begins
+  pub record AreNumbered (b : List ℕ) (o first : ℕ) (hs : List NumberedHandler) (numbers : List (Option ℕ)) : Type 0 where
+    pub begins : (k i : ℕ) → slice_index_or numbers k None ≡ Some i → (before : ℕ) × BeginsAt b first hs i before × (o + k ≡ first + before)
+    pub known : (k i before : ℕ) → k < 2 ^ 16 → BeginsAt b first hs i before → o + k ≡ first + before → slice_index_or numbers k None ≡ Some i
 
-  -- so many of them were read
-  pub record HandlersRead (b : List ℕ) (from count : ℕ) (hs : List NumberedHandler) (places : List ℕ) (to : ℕ) : Type 0 where
-    pub listed : AreListed b from hs places to
+  -- so many of them were read, in n bytes
+  pub record HandlersRead (b : List ℕ) (o first count : ℕ) (hs : List NumberedHandler) (numbers : List (Option ℕ)) (n : ℕ) : Type 0 where
+    pub stand : Sequence HandlerAt b first hs n
     pub many : length hs ≡ count
-    pub within : to ≤ length b
+    pub within : first + n ≤ length b
+    pub short : o + length numbers ≤ first + n
+    pub numbered : AreNumbered b o first hs numbers
 
-  -- at offset o stands a handler list, whose handlers begin at these places
-  pub record IsListAt (b : List ℕ) (o : ℕ) (hs : List NumberedHandler) (places : List ℕ) : Type 0 where
+  -- at offset o stands a handler list, whose handlers are numbered by its bytes
+  pub record IsListAt (b : List ℕ) (o : ℕ) (hs : List NumberedHandler) (numbers : List (Option ℕ)) : Type 0 where
     pub count_size : ℕ
-    pub end : ℕ
+    pub size : ℕ
     pub count_is : Uleb128At b o (length hs) count_size
-    pub listed : AreListed b (o + count_size) hs places end
+    pub stand : Sequence HandlerAt b (o + count_size) hs size
+    pub numbered : AreNumbered b o (o + count_size) hs numbers
 
   -- at offset o stand so many try_items, one or more, and behind them the handler list
   pub record TryItemsAt (units : ℕ) (b : List ℕ) (o count : ℕ) (tries : List NumberedTry) : Type 0 where
@@ -117,18 +119,20 @@ module _ (starts : List Bool) (types : ℕ) where
     pub apart : AreApart tries
     pub few : handlers_weight (handlers_of tries) ≤ most_handlers
 
--- the places rise
-abbrev pub AreRising : List ℕ → Type 0
-AreRising places = (i j : ℕ) → i < j → j < length places → slice_index_or places i 0 < slice_index_or places j 0
+-- the number of a handler was put where it begins, if 16 bits count the bytes before it
+pub record IsNumberPut (place number : ℕ) (old new : List (Option ℕ)) : Type 0 where
+  pub short : length new ≤ place + 1
+  pub here : place < 2 ^ 16 → slice_index_or new place None ≡ Some number
+  pub far : 2 ^ 16 ≤ place → new ≡ old
+  pub others : (k : ℕ) → k ≢ place → slice_index_or new k None ≡ slice_index_or old k None
 
--- at offset o stands a try_item whose handler is the one at a place
-pub record ListedTryAt (units list : ℕ) (places : List ℕ) (b : List ℕ) (o : ℕ) (t : Try) (n : ℕ) : Type 0 where
+-- at offset o stands a try_item whose handler is the one that begins at its offset in the list
+pub record ListedTryAt (units : ℕ) (numbers : List (Option ℕ)) (b : List ℕ) (o : ℕ) (t : Try) (n : ℕ) : Type 0 where
   pub start_is : uint_at b o ≡ t.start
   pub count_is : ushort_at b (o + 4) ≡ t.count
   pub some : 0 < t.count
   pub within : t.start + t.count ≤ units
-  pub named : t.handler < length places
-  pub place : slice_index_or places t.handler 0 ≡ list + ushort_at b (o + 6)
+  pub named : slice_index_or numbers (ushort_at b (o + 6)) None ≡ Some t.handler
   pub size : n ≡ 8
 
 -- tries in order of their addresses that do not overlap, from an address on to another
@@ -137,8 +141,8 @@ AreApartFrom from [] to = from ≡ to
 AreApartFrom from (t ∷ ts) to = (from ≤ t.start) × AreApartFrom (t.start + t.count) ts to
 
 -- so many of them were read
-pub record TriesRead (units list : ℕ) (places : List ℕ) (b : List ℕ) (o count : ℕ) (ts : List Try) (to : ℕ) : Type 0 where
-  pub stand : Sequence (ListedTryAt units list places) b o ts (8 * count)
+pub record TriesRead (units : ℕ) (numbers : List (Option ℕ)) (b : List ℕ) (o count : ℕ) (ts : List Try) (to : ℕ) : Type 0 where
+  pub stand : Sequence (ListedTryAt units numbers) b o ts (8 * count)
   pub many : length ts ≡ count
   pub apart : AreApartFrom 0 ts to
 

@@ -67,6 +67,8 @@ impl<'a> Code<'a> {
     /// The same code, with lists of its own. Its units are borrowed as before.
     ///
     /// Error: the memory for the lists was refused.
+    ///
+    /// Source: "code_item".
     pub fn copy(&self) -> Result<Code<'a>, AllocError>
         ensures { IfOk result (λ copy. copy ≡ self.now) }
     {

@@ -1,42 +1,61 @@
 //! Lists of handlers read from a file.
 
-ghost use Rattle.std.specs.Prelude.{◌≡◌, ◌≢◌, ◌<◌, ◌≤◌, ◌+◌, ℕ, List, length, slice_index_or, IfOk, IfErr, IfSome, IfNone};
+ghost use Rattle.std.specs.Prelude.{◌≡◌, ◌≤◌, ◌+◌, ℕ, List, length, slice_index_or, Option, Some, None, IfOk, IfErr};
 ghost use Rattle.dexspec.specs.Lists.{Sequence};
 ghost use Rattle.dexspec.specs.Numbers.{Uleb128At};
 ghost use Rattle.dexcode.specs.Numbered.{NumberedHandler};
-ghost use Rattle.dexcode.specs.Reading.{HandlerAt, HandlersRead, IsListAt, AreRising, IsTriesFault};
+ghost use Rattle.dexcode.specs.Reading.{HandlerAt, HandlersRead, IsListAt, IsNumberPut, IsTriesFault};
 
 use crate::catches::read_handler;
 use crate::handlers::Handler;
 use dexinsn::InstructionStarts;
 use dexleb::read_u;
 use dexpool::ItemFault;
-use std::alloc::Global;
+use std::alloc::{AllocError, Global};
 
-// The handlers of a list, and the offset in the file at which each begins.
+// The last byte of a list that the offset of a try can name.
+const LAST_OFFSET: usize = 65_535;
+
+// The handlers of a list, and, by the bytes of the list, the number of the handler that begins there.
 #[derive(Drop)]
 pub(crate) struct HandlerList {
     pub(crate) handlers: Vec<Handler>,
-    pub(crate) places: Vec<usize>,
+    pub(crate) numbers: Vec<Option<u32>>,
 }
 
-// So many handlers from a place on.
+// Puts the number of a handler where it begins, so many bytes behind the start of its list.
+fn put_number(numbers: &mut Vec<Option<u32>>, place: usize, number: u32) -> Result<(), AllocError>
+    requires { length numbers.old.items ≤ place }
+    ensures { IfOk result (λ _. IsNumberPut place number numbers.old.items numbers.new.items) }
+{
+    if place > LAST_OFFSET {
+        return Ok(());
+    }
+    numbers.resize(place, None)?;
+    numbers.push(Some(number))?;
+    Ok(())
+}
+
+// So many handlers from a place on, of the list at another.
 fn read_handlers(
     alloc: Global,
     bytes: &[u8],
-    at: usize,
+    list: usize,
+    first: usize,
     count: u32,
     starts: &InstructionStarts<'_>,
     types: usize,
 ) -> Result<HandlerList, ItemFault>
-    requires { at ≤ length bytes.now }
-    ensures handlers { IfOk result (λ list. (to : ℕ) × HandlersRead starts.now types bytes.now at count list.handlers.items list.places.items to) }
-    ensures fault { IfErr result (IsTriesFault ((hs : List NumberedHandler) (n : ℕ) → length hs ≡ count → Sequence (HandlerAt starts.now types) bytes.now at hs n → ⊥)) }
+    requires order { list ≤ first }
+    requires within { first ≤ length bytes.now }
+    ensures handlers { IfOk result (λ read. (size : ℕ) × HandlersRead starts.now types bytes.now list first count read.handlers.items read.numbers.items size) }
+    ensures fault { IfErr result (IsTriesFault ((hs : List NumberedHandler) (n : ℕ) → length hs ≡ count → Sequence (HandlerAt starts.now types) bytes.now first hs n → ⊥)) }
 {
     let mut handlers = Vec::new(alloc);
-    let mut places = Vec::new(alloc);
-    let mut place = at;
-    for _ in 0..count {
+    let mut numbers = Vec::new(alloc);
+    let mut size = 0;
+    for number in 0..count {
+        let place = first + size;
         let (handler, len) = match read_handler(alloc, bytes, place, starts, types) {
             Ok(read) => read,
             Err(fault) => return Err(fault),
@@ -44,12 +63,12 @@ fn read_handlers(
         if handlers.push(handler).is_err() {
             return Err(ItemFault::Memory);
         }
-        if places.push(place).is_err() {
+        if put_number(&mut numbers, place - list, number).is_err() {
             return Err(ItemFault::Memory);
         }
-        place += len;
+        size += len;
     }
-    Ok(HandlerList { handlers, places })
+    Ok(HandlerList { handlers, numbers })
 }
 
 // The list of handlers at a place.
@@ -61,25 +80,22 @@ pub(crate) fn read_list(
     types: usize,
 ) -> Result<HandlerList, ItemFault>
     requires { at ≤ length bytes.now }
-    ensures list { IfOk result (λ list. IsListAt starts.now types bytes.now at list.handlers.items list.places.items) }
+    ensures list { IfOk result (λ list. IsListAt starts.now types bytes.now at list.handlers.items list.numbers.items) }
     ensures fault { IfErr result (IsTriesFault ((hs : List NumberedHandler) (size n : ℕ) → Uleb128At bytes.now at (length hs) size → Sequence (HandlerAt starts.now types) bytes.now (at + size) hs n → ⊥)) }
 {
     let (count, count_size) = match read_u(bytes, at) {
         Ok(read) => read,
         Err(_) => return Err(ItemFault::Refused(19)),
     };
-    read_handlers(alloc, bytes, at + count_size, count, starts, types)
+    read_handlers(alloc, bytes, at, at + count_size, count, starts, types)
 }
 
-// The number of the handler that begins at a place.
-pub(crate) fn handler_at(places: &[usize], place: usize) -> Option<usize>
-    requires { AreRising places.now }
-    ensures some { IfSome result (λ i. i < length places.now) }
-    ensures place { IfSome result (λ i. slice_index_or places.now i 0 ≡ place) }
-    ensures none { IfNone result ((i : ℕ) → i < length places.now → slice_index_or places.now i 0 ≢ place) }
+// The number of the handler that begins so many bytes behind the start of its list.
+pub(crate) fn handler_at(numbers: &[Option<u32>], off: u16) -> Option<usize>
+    ensures { result ≡ slice_index_or numbers.now off None }
 {
-    match places.binary_search(&place) {
-        Ok(i) => Some(i),
-        Err(_) => None,
+    match numbers.get(usize::from(off)) {
+        Some(Some(number)) => Some(*number as usize),
+        _ => None,
     }
 }

@@ -9,7 +9,8 @@ use std::alloc::AllocError;
 use std::hash::{Hash, Hasher};
 use std::marker::Model;
 
-/// A type that is caught, by its number, and the address of the code for it, in units.
+/// A type that is caught, by its number, and the address of the code for it, in 16-bit units from the start of the code's
+/// instructions.
 ///
 /// Source: "encoded_type_addr_pair".
 #[derive(Clone, Copy, Debug)]
@@ -47,7 +48,8 @@ impl Hash for Catch {
     }
 }
 
-/// The types that are caught, in order, and the address of the code for all else, if there is one. Contracts see both.
+/// The types that are caught, in order, and the address of the code for all else, if there is one. Addresses are in
+/// 16-bit units from the start of the code's instructions. Contracts see both.
 ///
 /// Source: "encoded_catch_handler".
 #[derive(Drop)]
@@ -97,14 +99,19 @@ impl Hash for Handler {
 }
 
 impl Handler {
-    /// The types that are caught, in order, each by its number, and the addresses where they are handled.
+    /// The types that are caught, in order, each by its number, and the addresses where they are handled, in 16-bit units
+    /// from the start of the code's instructions.
+    ///
+    /// Source: "encoded_catch_handler", the field `handlers`, and "encoded_type_addr_pair".
     pub fn catches(&self) -> &[Catch]
         ensures { result.now ≡ self.now.catches }
     {
         &self.catches
     }
 
-    /// The address where all else is handled, if it is.
+    /// The address where all else is handled, if it is, in 16-bit units from the start of the code's instructions.
+    ///
+    /// Source: "encoded_catch_handler", the field `catch_all_addr`.
     pub fn catch_all(&self) -> Option<u32>
         ensures { result ≡ self.now.catch_all }
     {

@@ -3,14 +3,15 @@
 ghost use Rattle.std.specs.Prelude.{◌≡◌, ◌↔◌, ◌^◌, ◌<◌, ◌≤◌, IsTrue, List, [], All, length, slice_index_or, IfOk, IfSome, IfNone};
 ghost use Rattle.indexmap.specs.IndexSet.{insert_key};
 ghost use Rattle.dexspec.specs.Code.{most_handlers};
-ghost use Rattle.dexcode.specs.Numbered.{NumberedHandler, AreKnown, AreStored, all_named, handlers_of, handlers_weight, no_handler, same_handler};
+ghost use Rattle.dexcode.specs.Numbered.{NumberedHandler, AreKnown, AreStored, IsWhole, all_named, handlers_of, handlers_weight, no_handler, same_handler};
 
 use crate::handlers::Handler;
 use indexmap::IndexSet;
 use std::alloc::{AllocError, Global};
 use std::marker::Model;
 
-/// The units that are covered: the first, and how many; and the number of their handler.
+/// The units that are covered: the address of the first, in 16-bit units from the start of the code's instructions, and
+/// how many they are; and the number of their handler.
 ///
 /// Source: "try_item".
 #[derive(Clone, Copy, Debug, PartialEq, Eq)]
@@ -22,6 +23,8 @@ pub struct Try {
 
 /// Tries, and the handlers that they name, each once and in order of first use. Contracts see tries with their
 /// handlers.
+///
+/// Source: "try_item" and "encoded_catch_handler_list".
 #[derive(Drop)]
 pub struct Tries {
     pub(crate) tries: Vec<Try>,
@@ -40,20 +43,22 @@ impl Model for Tries {
 }
 
 impl Tries {
-    /// The tries, in the order of their addresses. Each names its handler by its number in [`handlers`](Tries::handlers).
+    /// The tries, as read. Each names its handler by its number in [`handlers`](Tries::handlers).
     ///
     /// Source: "try_item".
     pub fn tries(&self) -> &[Try]
-        ensures { (hs : List NumberedHandler) → hs ≡ handlers_of self.now → all_named hs result.now ≡ self.now }
+        ensures tries { (hs : List NumberedHandler) → hs ≡ handlers_of self.now → all_named hs result.now ≡ self.now }
+        ensures within { All (λ t. t.handler < length (handlers_of self.now)) result.now }
     {
         &self.tries
     }
 
-    /// The handlers that tries name, each once and in order of first use.
+    /// The handlers that tries name, each once and in order of first use. One that catches no type catches all else.
     ///
     /// Source: "encoded_catch_handler".
     pub fn handlers(&self) -> &[Handler]
-        ensures { result.now ≡ handlers_of self.now }
+        ensures handlers { result.now ≡ handlers_of self.now }
+        ensures whole { All IsWhole result.now }
     {
         &self.handlers
     }
@@ -61,6 +66,8 @@ impl Tries {
     /// The same tries, with lists of their own.
     ///
     /// Error: the memory for the lists was refused.
+    ///
+    /// Source: "try_item" and "encoded_catch_handler".
     pub fn copy(&self) -> Result<Tries, AllocError>
         ensures { IfOk result (λ copy. copy ≡ self.now) }
     {
@@ -94,6 +101,7 @@ impl Tries {
         listed: &[Handler],
     ) -> Result<Option<Tries>, AllocError>
         requires within { All (λ t. t.handler < length listed.now) tries.now }
+        requires whole { All IsWhole listed.now }
         requires few { length tries.now < 2 ^ 16 }
         ensures some { IfOk result (λ all. IfSome all (λ some. some ≡ all_named listed.now tries.now)) }
         ensures light { IfOk result (λ all. IfSome all (λ some. handlers_weight (handlers_of some) ≤ most_handlers)) }

@@ -1,8 +1,8 @@
 //! Tries read from a file.
 
-ghost use Rattle.std.specs.Prelude.{◌≡◌, ◌<◌, ◌≤◌, ◌+◌, ◌*◌, ℕ, List, length, IfOk, IfErr, IfSome, IfNone};
+ghost use Rattle.std.specs.Prelude.{◌≡◌, ◌≤◌, ◌+◌, ◌*◌, ℕ, List, length, IfOk, IfErr, IfSome, IfNone};
 ghost use Rattle.dexspec.specs.Lists.{Sequence};
-ghost use Rattle.dexcode.specs.Reading.{ListedTryAt, AreRising, AreApartFrom, TriesRead, IsTriesFault};
+ghost use Rattle.dexcode.specs.Reading.{ListedTryAt, AreApartFrom, TriesRead, IsTriesFault};
 ghost use Rattle.dexcode.specs.declared.tries.Try.{Try as Meant};
 
 use crate::handler_list::handler_at;
@@ -11,13 +11,11 @@ use dexhead::{u16_at, u32_at};
 use dexpool::ItemFault;
 use std::alloc::Global;
 
-// The try at a place, where the list of handlers is at another and its handlers begin at `places`.
-fn read_try(bytes: &[u8], at: usize, units: u32, list: usize, places: &[usize]) -> Option<Try>
-    requires within { at + 8 ≤ length bytes.now }
-    requires list { list ≤ length bytes.now }
-    requires rising { AreRising places.now }
-    ensures some { IfSome result (λ t. ListedTryAt units list places.now bytes.now at t 8) }
-    ensures none { IfNone result ((t : Meant) (n : ℕ) → ListedTryAt units list places.now bytes.now at t n → ⊥) }
+// The try at a place, where the handlers of the list are numbered by its bytes.
+fn read_try(bytes: &[u8], at: usize, units: u32, numbers: &[Option<u32>]) -> Option<Try>
+    requires { at + 8 ≤ length bytes.now }
+    ensures some { IfSome result (λ t. ListedTryAt units numbers.now bytes.now at t 8) }
+    ensures none { IfNone result ((t : Meant) (n : ℕ) → ListedTryAt units numbers.now bytes.now at t n → ⊥) }
 {
     let start = u32_at(bytes, at);
     let count = u16_at(bytes, at + 4);
@@ -27,7 +25,7 @@ fn read_try(bytes: &[u8], at: usize, units: u32, list: usize, places: &[usize]) 
     if u64::from(units) < u64::from(start) + u64::from(count) {
         return None;
     }
-    match handler_at(places, list + usize::from(u16_at(bytes, at + 6))) {
+    match handler_at(numbers, u16_at(bytes, at + 6)) {
         Some(handler) => Some(Try {
             start,
             count,
@@ -44,20 +42,17 @@ pub(crate) fn read_try_items(
     at: usize,
     count: u16,
     units: u32,
-    list: usize,
-    places: &[usize],
+    numbers: &[Option<u32>],
 ) -> Result<Vec<Try>, ItemFault>
-    requires within { at + 8 * count ≤ length bytes.now }
-    requires list { list ≤ length bytes.now }
-    requires rising { AreRising places.now }
-    ensures tries { IfOk result (λ tries. (to : ℕ) × TriesRead units list places.now bytes.now at count tries.items to) }
-    ensures fault { IfErr result (IsTriesFault ((ts : List Meant) (n to : ℕ) → length ts ≡ count → Sequence (ListedTryAt units list places.now) bytes.now at ts n → AreApartFrom 0 ts to → ⊥)) }
+    requires { at + 8 * count ≤ length bytes.now }
+    ensures tries { IfOk result (λ tries. (to : ℕ) × TriesRead units numbers.now bytes.now at count tries.items to) }
+    ensures fault { IfErr result (IsTriesFault ((ts : List Meant) (n to : ℕ) → length ts ≡ count → Sequence (ListedTryAt units numbers.now) bytes.now at ts n → AreApartFrom 0 ts to → ⊥)) }
 {
     let mut tries = Vec::new(alloc);
     let mut place = at;
     let mut end = 0;
     for _ in 0..count {
-        let item = match read_try(bytes, place, units, list, places) {
+        let item = match read_try(bytes, place, units, numbers) {
             Some(item) => item,
             None => return Err(ItemFault::Refused(19)),
         };

@@ -34,7 +34,7 @@ pub(crate) fn read_try_table(
         Ok(list) => list,
         Err(fault) => return Err(fault),
     };
-    let items = match read_try_items(alloc, bytes, at, count, units, list_at, &list.places) {
+    let items = match read_try_items(alloc, bytes, at, count, units, &list.numbers) {
         Ok(items) => items,
         Err(fault) => return Err(fault),
     };

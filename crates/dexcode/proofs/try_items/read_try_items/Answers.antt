@@ -10,8 +10,8 @@ use Rattle.dexcode.proofs.try_items.read_try_items.Goals as goal
 pub returns-in-None-clause-fault : goal.returns-in-None-clause-fault
 returns-in-None-clause-fault c = (
   refl,
-  λ ts n to many h apart. let at = ListedTryAt c.args.units c.args.list c.args.places.now in
-      stuck at (one_listed_try c.args.units c.args.list c.args.places.now c.requires.rising) c.args.bytes.now c.args.at c.loop.tries.items ts (8 * c.loop.counter) n
+  λ ts n to many h apart. let at = ListedTryAt c.args.units c.args.numbers.now in
+      stuck at (one_listed_try c.args.units c.args.numbers.now) c.args.bytes.now c.args.at c.loop.tries.items ts (8 * c.loop.counter) n
       (omega (arith, many, c.loop.invariant.2.many, c.loop-test.true)) c.loop.invariant.2.stand
       (λ t k there. c.in-None.ensures.none t k (subst (λ i. at c.args.bytes.now i t k) (sym c.loop.invariant.0) there)) h,
 )
@@ -19,15 +19,15 @@ returns-in-None-clause-fault c = (
 pub returns-then-item-end-clause-fault : goal.returns-then-item-end-clause-fault
 returns-then-item-end-clause-fault c = (
   refl,
-  λ ts n to many h apart. let at = ListedTryAt c.args.units c.args.list c.args.places.now in
-      overlap c.args.units c.args.list c.args.places.now c.requires.rising c.args.bytes.now c.args.at c.loop.tries.items c.in-Some.item ts (8 * c.loop.counter) n c.loop.end to
+  λ ts n to many h apart. let at = ListedTryAt c.args.units c.args.numbers.now in
+      overlap c.args.units c.args.numbers.now c.args.bytes.now c.args.at c.loop.tries.items c.in-Some.item ts (8 * c.loop.counter) n c.loop.end to
       (omega (arith, many, c.loop.invariant.2.many, c.loop-test.true)) c.loop.invariant.2.stand
       (subst (λ i. at c.args.bytes.now i c.in-Some.item 8) c.loop.invariant.0 c.in-Some.ensures.some) c.loop.invariant.2.apart (omega arith) h apart,
 )
 
 pub loop-preserved : goal.loop-preserved
 loop-preserved c =
-    let at = ListedTryAt c.args.units c.args.list c.args.places.now in
+    let at = ListedTryAt c.args.units c.args.numbers.now in
     let pushed : c.push.new.self.items ≡ c.loop.tries.items ++ c.in-Some.item ∷ [] = grind (arith, common_steps) in
     let next : c.in-Some.item.start + c.from.result ≡ c.in-Some.item.start + c.in-Some.item.count = omega arith in
     let size : 8 * c.loop.counter + 8 ≡ 8 * (c.loop.counter + 1) = omega arith in

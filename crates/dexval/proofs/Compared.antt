@@ -1,13 +1,9 @@
 -- Lists that are the same member by member, once the numbers in them are led on.
-use Rattle.std.proofs.Common.{◌≡◌, ℕ, ◌+◌, ◌<◌, ◌≤◌, List, [], ◌∷◌, ◌++◌, length, take, map, get_or, refl, ap, sym, ◌∙◌, arith}
-use Rattle.std.proofs.lemmas.List.{map-append, take_more, take_all, get_or-map, length-map}
-use Rattle.dexpool.specs.declared.symbols.SymbolKind.TheVariants as kinds
+use Rattle.std.proofs.Common.{◌≡◌, ℕ, ◌<◌, ◌≤◌, List, [], ◌∷◌, length, take, map, get_or, refl, ap, sym, ◌∙◌, arith}
+use Rattle.std.proofs.lemmas.List.{take_all, get_or-map, length-map}
 use Rattle.dexpool.specs.Numberings.{Maps}
-use Rattle.dexval.specs.declared.value.Element.{Element}
-use Rattle.dexval.specs.Code.{value_of, element_of}
 use Rattle.dexval.specs.Numbered.{NumberedValue, NumberedValues, NumberedElements, NoValue, ThenNext, NoElement, ThenNamed, values_of_list, elements_of_list}
-use Rattle.dexval.specs.Renumbering.{led, renumbered, renumbered_values, renumbered_elements, renumbered_element}
-use Rattle.dexval.proofs.CodeForms.{element_is}
+use Rattle.dexval.specs.Renumbering.{renumbered, renumbered_values, renumbered_elements, renumbered_element}
 use Rattle.dexval.proofs.Renumbered.{values_renumbered, elements_renumbered}
 
 -- ---- lists that are the same, mapped
@@ -27,15 +23,6 @@ module _ {X Y Z : Type 0} (of : X → Y) (f g : Y → Z) (xs ys : List X) where
 
   pub same_all : (i : ℕ) → length xs ≤ i → length ys ≤ i → map f (map of (take i xs)) ≡ map g (map of (take i ys)) → map f (map of xs) ≡ map g (map of ys)
   same_all i end end' e = ap (λ zs. map f (map of zs)) (sym (take_all i xs end)) ∙ e ∙ ap (λ zs. map g (map of zs)) (take_all i ys end')
-
--- one member more
-mapped_more : {X Y Z : Type 0} (of : X → Y) (f : Y → Z) (xs : List X) (i : ℕ) (x : X) → i < length xs → x ≡ get_or xs i x → map f (map of (take (i + 1) xs)) ≡ map f (map of (take i xs)) ++ f (of x) ∷ []
-mapped_more of f xs i x lt is =
-    ap (λ zs. map f (map of zs)) (take_more xs i x lt) ∙ ap (λ z. map f (map of (take i xs ++ z ∷ []))) (sym is) ∙ ap (map f) (map-append of (take i xs) (x ∷ [])) ∙ map-append f (map of (take i xs)) (of x ∷ [])
-
-pub same_more : {X Y Z : Type 0} (of : X → Y) (f g : Y → Z) (xs ys : List X) (i : ℕ) (x y : X) → i < length xs → i < length ys → x ≡ get_or xs i x → y ≡ get_or ys i y
-    → map f (map of (take i xs)) ≡ map g (map of (take i ys)) → f (of x) ≡ g (of y) → map f (map of (take (i + 1) xs)) ≡ map g (map of (take (i + 1) ys))
-same_more of f g xs ys i x y lt lt' is is' before here = mapped_more of f xs i x lt is ∙ (λ j. before j ++ here j ∷ []) ∙ sym (mapped_more of g ys i y lt' is')
 
 -- ---- values
 
@@ -71,17 +58,3 @@ elements_same r q xs ys e =
 
 pub same_elements : (r q : Maps) (xs ys : List (ℕ × NumberedValue)) → map (renumbered_element r) xs ≡ map (renumbered_element q) ys → renumbered_elements r (elements_of_list xs) ≡ renumbered_elements q (elements_of_list ys)
 same_elements r q xs ys e = sym (elements_renumbered r xs) ∙ ap elements_of_list e ∙ elements_renumbered q ys
-
--- an element, its number led on, by its parts
-element_led : (r : Maps) (e : Element) → renumbered_element r (element_of e) ≡ (led r kinds.Text e.name, renumbered r (value_of e.value))
-element_led r e = ap (renumbered_element r) (element_is e)
-
-module _ (r q : Maps) (x y : Element) where
-  pub same_name : renumbered_element r (element_of x) ≡ renumbered_element q (element_of y) → led r kinds.Text x.name ≡ led q kinds.Text y.name
-  same_name e = ap (λ (p : ℕ × NumberedValue). p.0) (sym (element_led r x) ∙ e ∙ element_led q y)
-
-  pub same_value : renumbered_element r (element_of x) ≡ renumbered_element q (element_of y) → renumbered r (value_of x.value) ≡ renumbered q (value_of y.value)
-  same_value e = ap (λ (p : ℕ × NumberedValue). p.1) (sym (element_led r x) ∙ e ∙ element_led q y)
-
-  pub same_element : led r kinds.Text x.name ≡ led q kinds.Text y.name → renumbered r (value_of x.value) ≡ renumbered q (value_of y.value) → renumbered_element r (element_of x) ≡ renumbered_element q (element_of y)
-  same_element name value = element_led r x ∙ ap (λ (n : ℕ). (n, renumbered r (value_of x.value))) name ∙ ap (λ (v : NumberedValue). (led q kinds.Text y.name, v)) value ∙ sym (element_led q y)

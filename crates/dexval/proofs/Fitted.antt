@@ -31,7 +31,7 @@ ValueFits r v = HasPlaces r (value_of v)
 
 -- of an element
 abbrev pub ElementFits : Maps → Element → Type 0
-ElementFits r e = ElementHasPlaces r (e.name, value_of e.value)
+ElementFits r e = ElementHasPlaces r (element_of e)
 
 -- of an annotation
 abbrev pub AnnotationFits : Maps → Annotation → Type 0
@@ -49,14 +49,15 @@ module _ (r : Maps) where
   pub elements_from : (xs : List Element) → All (ElementFits r) xs → ElementsHavePlaces r (elements_of_list (map element_of xs))
   elements_from [] h = tt
   elements_from (x ∷ xs) h =
-      let here = All-head (ElementFits r) x xs h in
+      let here = subst (ElementHasPlaces r) (element_is x) (All-head (ElementFits r) x xs h) in
       subst (λ (p : ℕ × NumberedValue). ElementsHavePlaces r (elements_of_list (p ∷ map element_of xs))) (sym (element_is x)) (here.0, here.1, elements_from xs (All-tail (ElementFits r) x xs h))
 
   pub elements_to : (xs : List Element) → ElementsHavePlaces r (elements_of_list (map element_of xs)) → All (ElementFits r) xs
   elements_to [] h = All-nil (ElementFits r)
   elements_to (x ∷ xs) h =
       let parts = subst (λ (p : ℕ × NumberedValue). ElementsHavePlaces r (elements_of_list (p ∷ map element_of xs))) (element_is x) h in
-      All-cons (ElementFits r) x xs (parts.0, parts.1) (elements_to xs parts.2)
+      let here : ElementHasPlaces r (x.name, value_of x.value) = (parts.0, parts.1) in
+      All-cons (ElementFits r) x xs (subst (ElementHasPlaces r) (sym (element_is x)) here) (elements_to xs parts.2)
 
   pub annotations_to : (xs : List Annotation) → All (AnnotationHasPlaces r) (map annotation_of xs) → All (AnnotationFits r) xs
   annotations_to [] h = All-nil (AnnotationFits r)

@@ -11,7 +11,7 @@ use Rattle.dexval.specs.declared.value.Value.{Value}
 use Rattle.dexval.specs.declared.value.Element.{Element}
 use Rattle.dexval.specs.Code.{value_of, element_of, annotation_of}
 use Rattle.dexval.specs.Numbered.{NumberedValue, Reference, Named, kind_of_reference, values_of_list, elements_of_list}
-use Rattle.dexval.specs.Uses.{Use, value_uses, values_uses, elements_uses, annotation_uses, set_uses, marks_of, HasMark, same_kind, occurs, AreMarkedToo}
+use Rattle.dexval.specs.Uses.{Use, value_uses, values_uses, element_uses, elements_uses, annotation_uses, set_uses, marks_of, HasMark, same_kind, occurs, AreMarkedToo}
 use Rattle.dexval.proofs.CodeForms.{element_is}
 
 -- ---- marks on one list of symbols after the other
@@ -76,8 +76,8 @@ abbrev pub code_uses : Value → List Use
 code_uses v = value_uses (value_of v)
 
 -- of an element
-abbrev pub element_uses : Element → List Use
-element_uses e = record { kind = kinds.Text; number = e.name } ∷ code_uses e.value
+abbrev pub part_uses : Element → List Use
+part_uses e = element_uses (element_of e)
 
 -- of an annotation
 abbrev pub note_uses : Annotation → List Use
@@ -89,10 +89,11 @@ uses_of_values [] = refl
 uses_of_values (x ∷ xs) = ap (λ l. code_uses x ++ l) (uses_of_values xs)
 
 -- so do elements
-pub uses_of_elements : (xs : List Element) → elements_uses (elements_of_list (map element_of xs)) ≡ flat_map element_uses xs
+pub uses_of_elements : (xs : List Element) → elements_uses (elements_of_list (map element_of xs)) ≡ flat_map part_uses xs
 uses_of_elements [] = refl
 uses_of_elements (x ∷ xs) =
-    ap (λ (p : ℕ × NumberedValue). elements_uses (elements_of_list (p ∷ map element_of xs))) (element_is x) ∙ ap (λ l. element_uses x ++ l) (uses_of_elements xs)
+    ap (λ (p : ℕ × NumberedValue). elements_uses (elements_of_list (p ∷ map element_of xs))) (element_is x) ∙ ap (λ l. element_uses (x.name, value_of x.value) ++ l) (uses_of_elements xs)
+    ∙ ap (λ (p : ℕ × NumberedValue). element_uses p ++ flat_map part_uses xs) (sym (element_is x))
 
 -- and annotations
 pub uses_of_annotations : (xs : List Annotation) → set_uses (map annotation_of xs) ≡ flat_map note_uses xs

@@ -15,9 +15,6 @@ pub record AreLed {X Y : Type 0} (of : X → Y) (f : Y → Y) (i : ℕ) (old new
   pub rest : drop i new ≡ drop i old
   pub size : length new ≡ length old
 
-pub none_led : {X Y : Type 0} (of : X → Y) (f : Y → Y) (xs : List X) → AreLed of f 0 xs xs
-none_led of f xs = record { front = refl; rest = refl; size = refl }
-
 same_member : {X : Type 0} (xs ys : List X) (i : ℕ) (d : X) → drop i xs ≡ drop i ys → get_or xs i d ≡ get_or ys i d
 same_member xs ys i d e =
     let z : i + 0 ≡ i = omega arith in

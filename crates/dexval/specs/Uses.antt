@@ -32,6 +32,10 @@ abbrev mutual
   elements_uses NoElement = []
   elements_uses (ThenNamed name x es) = record { kind = kinds.Text; number = name } ∷ (value_uses x ++ elements_uses es)
 
+-- one element's name, and what its value names
+abbrev pub element_uses : ℕ × NumberedValue → List Use
+element_uses e = record { kind = kinds.Text; number = e.0 } ∷ value_uses e.1
+
 -- an annotation's type, and what its elements name
 abbrev pub annotation_uses : NumberedAnnotation → List Use
 annotation_uses a = record { kind = kinds.Typ; number = a.type } ∷ elements_uses a.elements

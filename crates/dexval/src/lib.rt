@@ -9,12 +9,12 @@
 pub use annotation::{Annotation, Visibility};
 pub use directory::Directory;
 pub use directory_reading::read_directory;
-pub use fitting::statics_fit;
+pub use fitting::values_fit;
 pub use laws::{counts_law, marks_law, places_law, renumber_law, uses_law};
-pub use marking::mark_statics;
+pub use marking::mark_values;
 pub use put::{put_annotation, put_statics, put_value};
-pub use renumbering::renumber_statics;
-pub use same::same_statics_mapped;
+pub use renumbering::renumber_values;
+pub use same::same_values_mapped;
 pub use set::AnnotationSet;
 pub use set_put::put_set;
 pub use set_reading::read_set;

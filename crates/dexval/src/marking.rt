@@ -4,7 +4,7 @@ ghost use Rattle.std.specs.Prelude.{◌≡◌, ◌∷◌, [], All, map};
 ghost use Rattle.std.specs.List.{flat_map};
 ghost use Rattle.dexval.specs.Code.{value_of, element_of, annotation_of, set_of};
 ghost use Rattle.dexval.specs.Numbered.{values_of_list, elements_of_list};
-ghost use Rattle.dexval.specs.Uses.{value_uses, values_uses, elements_uses, annotation_uses, set_uses, HasMark, AreMarkedToo};
+ghost use Rattle.dexval.specs.Uses.{value_uses, values_uses, element_uses, elements_uses, annotation_uses, set_uses, HasMark, AreMarkedToo};
 
 use crate::annotation::Annotation;
 use crate::set::AnnotationSet;
@@ -25,38 +25,6 @@ fn mark_one(kind: SymbolKind, number: usize, marks: &mut Marks)
     }
 }
 
-// Marks the symbols that occur in a value.
-#[cycle(marking)]
-fn mark_value(value: &Value, marks: &mut Marks)
-    requires { All (HasMark marks.old) (value_uses (value_of value.now)) }
-    ensures { AreMarkedToo (value_uses (value_of value.now)) marks.old marks.new }
-{
-    match value {
-        Value::String(number) => mark_one(SymbolKind::Text, *number as usize, marks),
-        Value::Typ(number) => mark_one(SymbolKind::Typ, *number as usize, marks),
-        Value::Field(number) => mark_one(SymbolKind::Field, *number as usize, marks),
-        Value::Method(number) => mark_one(SymbolKind::Method, *number as usize, marks),
-        Value::Enum(number) => mark_one(SymbolKind::Field, *number as usize, marks),
-        Value::Array(values) => mark_values(values, marks),
-        Value::Annotation(typ, elements) => {
-            mark_one(SymbolKind::Typ, *typ as usize, marks);
-            mark_elements(elements, marks);
-        }
-        _ => {}
-    }
-}
-
-// Marks the symbols that occur in values.
-#[cycle(marking)]
-fn mark_values(values: &[Value], marks: &mut Marks)
-    requires { All (HasMark marks.old) (values_uses (values_of_list (map value_of values.now))) }
-    ensures { AreMarkedToo (values_uses (values_of_list (map value_of values.now))) marks.old marks.new }
-{
-    for value in values {
-        mark_value(value, marks);
-    }
-}
-
 // Marks the names of elements, and the symbols that occur in their values.
 #[cycle(marking)]
 fn mark_elements(elements: &[Element], marks: &mut Marks)
@@ -64,18 +32,73 @@ fn mark_elements(elements: &[Element], marks: &mut Marks)
     ensures { AreMarkedToo (elements_uses (elements_of_list (map element_of elements.now))) marks.old marks.new }
 {
     for element in elements {
-        mark_one(SymbolKind::Text, element.name as usize, marks);
-        mark_value(&element.value, marks);
+        element.mark(marks);
     }
 }
 
-// Marks an annotation's type, and the symbols that occur in its elements.
-fn mark_annotation(annotation: &Annotation, marks: &mut Marks)
-    requires { All (HasMark marks.old) (annotation_uses (annotation_of annotation.now)) }
-    ensures { AreMarkedToo (annotation_uses (annotation_of annotation.now)) marks.old marks.new }
+/// Marks each symbol that occurs in values, as those of static fields. No memory is taken.
+///
+/// Condition: there is a mark for each of them.
+#[cycle(marking)]
+pub fn mark_values(values: &[Value], marks: &mut Marks)
+    requires { All (HasMark marks.old) (values_uses (values_of_list (map value_of values.now))) }
+    ensures { AreMarkedToo (values_uses (values_of_list (map value_of values.now))) marks.old marks.new }
 {
-    mark_one(SymbolKind::Typ, annotation.typ as usize, marks);
-    mark_elements(&annotation.elements, marks);
+    for value in values {
+        value.mark(marks);
+    }
+}
+
+impl Value {
+    /// Marks each symbol that occurs in the value. No memory is taken.
+    ///
+    /// Condition: there is a mark for each of them.
+    #[cycle(marking)]
+    pub fn mark(&self, marks: &mut Marks)
+        requires { All (HasMark marks.old) (value_uses (value_of self.now)) }
+        ensures { AreMarkedToo (value_uses (value_of self.now)) marks.old marks.new }
+    {
+        match self {
+            Value::String(number) => mark_one(SymbolKind::Text, *number as usize, marks),
+            Value::Typ(number) => mark_one(SymbolKind::Typ, *number as usize, marks),
+            Value::Field(number) => mark_one(SymbolKind::Field, *number as usize, marks),
+            Value::Method(number) => mark_one(SymbolKind::Method, *number as usize, marks),
+            Value::Enum(number) => mark_one(SymbolKind::Field, *number as usize, marks),
+            Value::Array(values) => mark_values(values, marks),
+            Value::Annotation(typ, elements) => {
+                mark_one(SymbolKind::Typ, *typ as usize, marks);
+                mark_elements(elements, marks);
+            }
+            _ => {}
+        }
+    }
+}
+
+impl Element {
+    /// Marks the name, and each symbol that occurs in the value. No memory is taken.
+    ///
+    /// Condition: there is a mark for each of them.
+    #[cycle(marking)]
+    pub fn mark(&self, marks: &mut Marks)
+        requires { All (HasMark marks.old) (element_uses (element_of self.now)) }
+        ensures { AreMarkedToo (element_uses (element_of self.now)) marks.old marks.new }
+    {
+        mark_one(SymbolKind::Text, self.name as usize, marks);
+        self.value.mark(marks);
+    }
+}
+
+impl Annotation {
+    /// Marks the type, and each symbol that occurs in the elements. No memory is taken.
+    ///
+    /// Condition: there is a mark for each of them.
+    pub fn mark(&self, marks: &mut Marks)
+        requires { All (HasMark marks.old) (annotation_uses (annotation_of self.now)) }
+        ensures { AreMarkedToo (annotation_uses (annotation_of self.now)) marks.old marks.new }
+    {
+        mark_one(SymbolKind::Typ, self.typ as usize, marks);
+        mark_elements(&self.elements, marks);
+    }
 }
 
 // Marks the symbols that occur in annotations.
@@ -84,19 +107,7 @@ fn mark_annotations(annotations: &[Annotation], marks: &mut Marks)
     ensures { AreMarkedToo (set_uses (map annotation_of annotations.now)) marks.old marks.new }
 {
     for annotation in annotations {
-        mark_annotation(annotation, marks);
-    }
-}
-
-impl Value {
-    /// Marks each symbol that occurs in the value. No memory is taken.
-    ///
-    /// Condition: there is a mark for each of them.
-    pub fn mark(&self, marks: &mut Marks)
-        requires { All (HasMark marks.old) (value_uses (value_of self.now)) }
-        ensures { AreMarkedToo (value_uses (value_of self.now)) marks.old marks.new }
-    {
-        mark_value(self, marks);
+        annotation.mark(marks);
     }
 }
 
@@ -110,14 +121,4 @@ impl AnnotationSet {
     {
         mark_annotations(&self.annotations, marks);
     }
-}
-
-/// Marks each symbol that occurs in static values. No memory is taken.
-///
-/// Condition: there is a mark for each of them.
-pub fn mark_statics(values: &[Value], marks: &mut Marks)
-    requires { All (HasMark marks.old) (values_uses (values_of_list (map value_of values.now))) }
-    ensures { AreMarkedToo (values_uses (values_of_list (map value_of values.now))) marks.old marks.new }
-{
-    mark_values(values, marks);
 }

@@ -4,7 +4,7 @@ ghost use Rattle.std.specs.Prelude.{◌≡◌, ◌<◌, ◌^◌, All, map};
 ghost use Rattle.dexpool.specs.declared.symbols.SymbolKind.TheVariants as kinds;
 ghost use Rattle.dexval.specs.Code.{value_of, element_of, annotation_of, set_of};
 ghost use Rattle.dexval.specs.Numbered.{values_of_list, elements_of_list};
-ghost use Rattle.dexval.specs.Renumbering.{led, renumbered, renumbered_values, renumbered_elements, renumbered_annotation, renumbered_set, LeadsOn, HasPlaces, HavePlaces, ElementsHavePlaces, AnnotationHasPlaces, SetHasPlaces};
+ghost use Rattle.dexval.specs.Renumbering.{led, renumbered, renumbered_values, renumbered_elements, renumbered_element, renumbered_annotation, renumbered_set, LeadsOn, HasPlaces, HavePlaces, ElementHasPlaces, ElementsHavePlaces, AnnotationHasPlaces, SetHasPlaces};
 
 use crate::annotation::Annotation;
 use crate::set::AnnotationSet;
@@ -22,38 +22,6 @@ fn led(remap: &Remap, kind: SymbolKind, number: u32) -> u32
     }
 }
 
-// Puts for each number of a value the one that it leads to.
-#[cycle(renumbering)]
-fn renumber_value(value: &mut Value, remap: &Remap)
-    requires { HasPlaces remap.now (value_of value.old) }
-    ensures { value_of value.new ≡ renumbered remap.now (value_of value.old) }
-{
-    match value {
-        Value::String(number) => *number = led(remap, SymbolKind::Text, *number),
-        Value::Typ(number) => *number = led(remap, SymbolKind::Typ, *number),
-        Value::Field(number) => *number = led(remap, SymbolKind::Field, *number),
-        Value::Method(number) => *number = led(remap, SymbolKind::Method, *number),
-        Value::Enum(number) => *number = led(remap, SymbolKind::Field, *number),
-        Value::Array(values) => renumber_values(values, remap),
-        Value::Annotation(typ, elements) => {
-            *typ = led(remap, SymbolKind::Typ, *typ);
-            renumber_elements(elements, remap);
-        }
-        _ => {}
-    }
-}
-
-// Puts for each number of values the one that it leads to.
-#[cycle(renumbering)]
-fn renumber_values(values: &mut Vec<Value>, remap: &Remap)
-    requires { HavePlaces remap.now (values_of_list (map value_of values.old.items)) }
-    ensures { values_of_list (map value_of values.new.items) ≡ renumbered_values remap.now (values_of_list (map value_of values.old.items)) }
-{
-    for i in 0..values.len() {
-        renumber_value(&mut values[i], remap);
-    }
-}
-
 // Puts for each number of elements the one that it leads to.
 #[cycle(renumbering)]
 fn renumber_elements(elements: &mut Vec<Element>, remap: &Remap)
@@ -61,19 +29,73 @@ fn renumber_elements(elements: &mut Vec<Element>, remap: &Remap)
     ensures { elements_of_list (map element_of elements.new.items) ≡ renumbered_elements remap.now (elements_of_list (map element_of elements.old.items)) }
 {
     for i in 0..elements.len() {
-        let element = &mut elements[i];
-        element.name = led(remap, SymbolKind::Text, element.name);
-        renumber_value(&mut element.value, remap);
+        elements[i].renumber(remap);
     }
 }
 
-// Puts for each number of an annotation the one that it leads to.
-fn renumber_annotation(annotation: &mut Annotation, remap: &Remap)
-    requires { AnnotationHasPlaces remap.now (annotation_of annotation.old) }
-    ensures { annotation_of annotation.new ≡ renumbered_annotation remap.now (annotation_of annotation.old) }
+/// Puts for each number of a symbol in values, as those of static fields, the one that it leads to. No memory is taken.
+///
+/// Condition: each number leads to one, below 2^32, which [`values_fit`](crate::values_fit) tells.
+#[cycle(renumbering)]
+pub fn renumber_values(values: &mut Vec<Value>, remap: &Remap)
+    requires { HavePlaces remap.now (values_of_list (map value_of values.old.items)) }
+    ensures { values_of_list (map value_of values.new.items) ≡ renumbered_values remap.now (values_of_list (map value_of values.old.items)) }
 {
-    annotation.typ = led(remap, SymbolKind::Typ, annotation.typ);
-    renumber_elements(&mut annotation.elements, remap);
+    for i in 0..values.len() {
+        values[i].renumber(remap);
+    }
+}
+
+impl Value {
+    /// Puts for each number of a symbol in the value the one that it leads to. No memory is taken.
+    ///
+    /// Condition: each number leads to one, below 2^32, which [`fits`](Value::fits) tells.
+    #[cycle(renumbering)]
+    pub fn renumber(&mut self, remap: &Remap)
+        requires { HasPlaces remap.now (value_of self.old) }
+        ensures { value_of self.new ≡ renumbered remap.now (value_of self.old) }
+    {
+        match self {
+            Value::String(number) => *number = led(remap, SymbolKind::Text, *number),
+            Value::Typ(number) => *number = led(remap, SymbolKind::Typ, *number),
+            Value::Field(number) => *number = led(remap, SymbolKind::Field, *number),
+            Value::Method(number) => *number = led(remap, SymbolKind::Method, *number),
+            Value::Enum(number) => *number = led(remap, SymbolKind::Field, *number),
+            Value::Array(values) => renumber_values(values, remap),
+            Value::Annotation(typ, elements) => {
+                *typ = led(remap, SymbolKind::Typ, *typ);
+                renumber_elements(elements, remap);
+            }
+            _ => {}
+        }
+    }
+}
+
+impl Element {
+    /// Puts for the number of the name, and for each in the value, the one that it leads to. No memory is taken.
+    ///
+    /// Condition: each number leads to one, below 2^32, which [`fits`](Element::fits) tells.
+    #[cycle(renumbering)]
+    pub fn renumber(&mut self, remap: &Remap)
+        requires { ElementHasPlaces remap.now (element_of self.old) }
+        ensures { element_of self.new ≡ renumbered_element remap.now (element_of self.old) }
+    {
+        self.name = led(remap, SymbolKind::Text, self.name);
+        self.value.renumber(remap);
+    }
+}
+
+impl Annotation {
+    /// Puts for the number of the type, and for each in the elements, the one that it leads to. No memory is taken.
+    ///
+    /// Condition: each number leads to one, below 2^32, which [`fits`](Annotation::fits) tells.
+    pub fn renumber(&mut self, remap: &Remap)
+        requires { AnnotationHasPlaces remap.now (annotation_of self.old) }
+        ensures { annotation_of self.new ≡ renumbered_annotation remap.now (annotation_of self.old) }
+    {
+        self.typ = led(remap, SymbolKind::Typ, self.typ);
+        renumber_elements(&mut self.elements, remap);
+    }
 }
 
 // Puts for each number of annotations the one that it leads to.
@@ -82,19 +104,7 @@ fn renumber_annotations(annotations: &mut Vec<Annotation>, remap: &Remap)
     ensures { map annotation_of annotations.new.items ≡ renumbered_set remap.now (map annotation_of annotations.old.items) }
 {
     for i in 0..annotations.len() {
-        renumber_annotation(&mut annotations[i], remap);
-    }
-}
-
-impl Value {
-    /// Puts for each number of a symbol in the value the one that it leads to. No memory is taken.
-    ///
-    /// Condition: each number leads to one, below 2^32, which [`fits`](Value::fits) tells.
-    pub fn renumber(&mut self, remap: &Remap)
-        requires { HasPlaces remap.now (value_of self.old) }
-        ensures { value_of self.new ≡ renumbered remap.now (value_of self.old) }
-    {
-        renumber_value(self, remap);
+        annotations[i].renumber(remap);
     }
 }
 
@@ -108,14 +118,4 @@ impl AnnotationSet {
     {
         renumber_annotations(&mut self.annotations, remap);
     }
-}
-
-/// Puts for each number of a symbol in static values the one that it leads to. No memory is taken.
-///
-/// Condition: each number leads to one, below 2^32, which [`statics_fit`](crate::statics_fit) tells.
-pub fn renumber_statics(values: &mut Vec<Value>, remap: &Remap)
-    requires { HavePlaces remap.now (values_of_list (map value_of values.old.items)) }
-    ensures { values_of_list (map value_of values.new.items) ≡ renumbered_values remap.now (values_of_list (map value_of values.old.items)) }
-{
-    renumber_values(values, remap);
 }

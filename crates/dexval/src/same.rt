@@ -4,7 +4,7 @@ ghost use Rattle.std.specs.Prelude.{◌≡◌, ◌↔◌, IsTrue, map};
 ghost use Rattle.dexpool.specs.declared.symbols.SymbolKind.TheVariants as kinds;
 ghost use Rattle.dexval.specs.Code.{value_of, element_of, annotation_of, set_of};
 ghost use Rattle.dexval.specs.Numbered.{values_of_list, elements_of_list};
-ghost use Rattle.dexval.specs.Renumbering.{led, renumbered, renumbered_values, renumbered_elements, renumbered_annotation, renumbered_set};
+ghost use Rattle.dexval.specs.Renumbering.{led, renumbered, renumbered_values, renumbered_elements, renumbered_element, renumbered_annotation, renumbered_set};
 
 use crate::annotation::Annotation;
 use crate::set::AnnotationSet;
@@ -28,61 +28,6 @@ fn ends_alike(kind: SymbolKind, mine: &Remap, number: u32, theirs: &Remap, other
     end(mine, kind, number) == end(theirs, kind, other)
 }
 
-// Whether the values are the same, their numbers led on.
-#[cycle(comparing)]
-fn values_alike(mine: &Remap, value: &Value, theirs: &Remap, other: &Value) -> bool
-    ensures { IsTrue result ↔ (renumbered mine.now (value_of value.now) ≡ renumbered theirs.now (value_of other.now)) }
-{
-    match (value, other) {
-        (Value::Byte(number), Value::Byte(other)) => number == other,
-        (Value::Short(number), Value::Short(other)) => number == other,
-        (Value::Char(unit), Value::Char(other)) => unit == other,
-        (Value::Int(number), Value::Int(other)) => number == other,
-        (Value::Long(number), Value::Long(other)) => number == other,
-        (Value::Float(bits), Value::Float(other)) => bits == other,
-        (Value::Double(bits), Value::Double(other)) => bits == other,
-        (Value::String(number), Value::String(other)) => {
-            ends_alike(SymbolKind::Text, mine, *number, theirs, *other)
-        }
-        (Value::Typ(number), Value::Typ(other)) => {
-            ends_alike(SymbolKind::Typ, mine, *number, theirs, *other)
-        }
-        (Value::Field(number), Value::Field(other)) => {
-            ends_alike(SymbolKind::Field, mine, *number, theirs, *other)
-        }
-        (Value::Method(number), Value::Method(other)) => {
-            ends_alike(SymbolKind::Method, mine, *number, theirs, *other)
-        }
-        (Value::Enum(number), Value::Enum(other)) => {
-            ends_alike(SymbolKind::Field, mine, *number, theirs, *other)
-        }
-        (Value::Array(values), Value::Array(others)) => same_values(mine, values, theirs, others),
-        (Value::Annotation(typ, elements), Value::Annotation(other, others)) => {
-            ends_alike(SymbolKind::Typ, mine, *typ, theirs, *other)
-                && same_elements(mine, elements, theirs, others)
-        }
-        (Value::Null, Value::Null) => true,
-        (Value::Boolean(is), Value::Boolean(other)) => is == other,
-        _ => false,
-    }
-}
-
-// Whether the values are the same, one for one, their numbers led on.
-#[cycle(comparing)]
-fn same_values(mine: &Remap, values: &[Value], theirs: &Remap, others: &[Value]) -> bool
-    ensures { IsTrue result ↔ (renumbered_values mine.now (values_of_list (map value_of values.now)) ≡ renumbered_values theirs.now (values_of_list (map value_of others.now))) }
-{
-    if values.len() != others.len() {
-        return false;
-    }
-    for (i, value) in values.iter().enumerate() {
-        if !values_alike(mine, value, theirs, &others[i]) {
-            return false;
-        }
-    }
-    true
-}
-
 // Whether the elements are the same, one for one, their numbers led on.
 #[cycle(comparing)]
 fn same_elements(mine: &Remap, elements: &[Element], theirs: &Remap, others: &[Element]) -> bool
@@ -92,33 +37,110 @@ fn same_elements(mine: &Remap, elements: &[Element], theirs: &Remap, others: &[E
         return false;
     }
     for (i, element) in elements.iter().enumerate() {
-        let other = &others[i];
-        if !ends_alike(SymbolKind::Text, mine, element.name, theirs, other.name) {
-            return false;
-        }
-        if !values_alike(mine, &element.value, theirs, &other.value) {
+        if !element.same_mapped(mine, &others[i], theirs) {
             return false;
         }
     }
     true
 }
 
-// Whether the annotations are the same, their numbers led on.
-fn annotations_alike(
-    mine: &Remap,
-    annotation: &Annotation,
-    theirs: &Remap,
-    other: &Annotation,
-) -> bool
-    ensures { IsTrue result ↔ (renumbered_annotation mine.now (annotation_of annotation.now) ≡ renumbered_annotation theirs.now (annotation_of other.now)) }
+/// Whether values, as those of static fields, are the same as others, one for one, once the numbers of each are led on by
+/// a map of its own. A number that leads nowhere stays. No memory is taken.
+///
+/// Source: "encoded_array format".
+#[cycle(comparing)]
+pub fn same_values_mapped(values: &[Value], mine: &Remap, others: &[Value], theirs: &Remap) -> bool
+    ensures { IsTrue result ↔ (renumbered_values mine.now (values_of_list (map value_of values.now)) ≡ renumbered_values theirs.now (values_of_list (map value_of others.now))) }
 {
-    if annotation.visibility != other.visibility {
+    if values.len() != others.len() {
         return false;
     }
-    if !ends_alike(SymbolKind::Typ, mine, annotation.typ, theirs, other.typ) {
-        return false;
+    for (i, value) in values.iter().enumerate() {
+        if !value.same_mapped(mine, &others[i], theirs) {
+            return false;
+        }
     }
-    same_elements(mine, &annotation.elements, theirs, &other.elements)
+    true
+}
+
+impl Value {
+    /// Whether this and another value are the same, once the numbers of each are led on by a map of its own. A number
+    /// that leads nowhere stays. No memory is taken.
+    ///
+    /// Source: "encoded_value encoding".
+    #[cycle(comparing)]
+    pub fn same_mapped(&self, mine: &Remap, other: &Value, theirs: &Remap) -> bool
+        ensures { IsTrue result ↔ (renumbered mine.now (value_of self.now) ≡ renumbered theirs.now (value_of other.now)) }
+    {
+        match (self, other) {
+            (Value::Byte(number), Value::Byte(other)) => number == other,
+            (Value::Short(number), Value::Short(other)) => number == other,
+            (Value::Char(unit), Value::Char(other)) => unit == other,
+            (Value::Int(number), Value::Int(other)) => number == other,
+            (Value::Long(number), Value::Long(other)) => number == other,
+            (Value::Float(bits), Value::Float(other)) => bits == other,
+            (Value::Double(bits), Value::Double(other)) => bits == other,
+            (Value::String(number), Value::String(other)) => {
+                ends_alike(SymbolKind::Text, mine, *number, theirs, *other)
+            }
+            (Value::Typ(number), Value::Typ(other)) => {
+                ends_alike(SymbolKind::Typ, mine, *number, theirs, *other)
+            }
+            (Value::Field(number), Value::Field(other)) => {
+                ends_alike(SymbolKind::Field, mine, *number, theirs, *other)
+            }
+            (Value::Method(number), Value::Method(other)) => {
+                ends_alike(SymbolKind::Method, mine, *number, theirs, *other)
+            }
+            (Value::Enum(number), Value::Enum(other)) => {
+                ends_alike(SymbolKind::Field, mine, *number, theirs, *other)
+            }
+            (Value::Array(values), Value::Array(others)) => {
+                same_values_mapped(values, mine, others, theirs)
+            }
+            (Value::Annotation(typ, elements), Value::Annotation(other, others)) => {
+                ends_alike(SymbolKind::Typ, mine, *typ, theirs, *other)
+                    && same_elements(mine, elements, theirs, others)
+            }
+            (Value::Null, Value::Null) => true,
+            (Value::Boolean(is), Value::Boolean(other)) => is == other,
+            _ => false,
+        }
+    }
+}
+
+impl Element {
+    /// Whether this and another element have the same name and value, once the numbers of each are led on by a map of
+    /// its own. A number that leads nowhere stays. No memory is taken.
+    ///
+    /// Source: "annotation_element".
+    #[cycle(comparing)]
+    pub fn same_mapped(&self, mine: &Remap, other: &Element, theirs: &Remap) -> bool
+        ensures { IsTrue result ↔ (renumbered_element mine.now (element_of self.now) ≡ renumbered_element theirs.now (element_of other.now)) }
+    {
+        if !ends_alike(SymbolKind::Text, mine, self.name, theirs, other.name) {
+            return false;
+        }
+        self.value.same_mapped(mine, &other.value, theirs)
+    }
+}
+
+impl Annotation {
+    /// Whether this and another annotation have the same visibility, type and elements, once the numbers of each are led
+    /// on by a map of its own. A number that leads nowhere stays. No memory is taken.
+    ///
+    /// Source: "annotation_item".
+    pub fn same_mapped(&self, mine: &Remap, other: &Annotation, theirs: &Remap) -> bool
+        ensures { IsTrue result ↔ (renumbered_annotation mine.now (annotation_of self.now) ≡ renumbered_annotation theirs.now (annotation_of other.now)) }
+    {
+        if self.visibility != other.visibility {
+            return false;
+        }
+        if !ends_alike(SymbolKind::Typ, mine, self.typ, theirs, other.typ) {
+            return false;
+        }
+        same_elements(mine, &self.elements, theirs, &other.elements)
+    }
 }
 
 // Whether the annotations are the same, one for one, their numbers led on.
@@ -134,23 +156,11 @@ fn same_annotations(
         return false;
     }
     for (i, annotation) in annotations.iter().enumerate() {
-        if !annotations_alike(mine, annotation, theirs, &others[i]) {
+        if !annotation.same_mapped(mine, &others[i], theirs) {
             return false;
         }
     }
     true
-}
-
-impl Value {
-    /// Whether this and another value are the same, once the numbers of each are led on by a map of its own. A number
-    /// that leads nowhere stays. No memory is taken.
-    ///
-    /// Source: "encoded_value encoding".
-    pub fn same_mapped(&self, mine: &Remap, other: &Value, theirs: &Remap) -> bool
-        ensures { IsTrue result ↔ (renumbered mine.now (value_of self.now) ≡ renumbered theirs.now (value_of other.now)) }
-    {
-        values_alike(mine, self, theirs, other)
-    }
 }
 
 impl AnnotationSet {
@@ -163,12 +173,4 @@ impl AnnotationSet {
     {
         same_annotations(mine, &self.annotations, theirs, &other.annotations)
     }
-}
-
-/// Whether static values and others are the same, once the numbers of each are led on by a map of its own. A number
-/// that leads nowhere stays. No memory is taken.
-pub fn same_statics_mapped(mine: &Remap, values: &[Value], theirs: &Remap, others: &[Value]) -> bool
-    ensures { IsTrue result ↔ (renumbered_values mine.now (values_of_list (map value_of values.now)) ≡ renumbered_values theirs.now (values_of_list (map value_of others.now))) }
-{
-    same_values(mine, values, theirs, others)
 }

@@ -4,8 +4,8 @@ use Rattle.dexval.specs.Uses.{HasMark, AreMarkedToo}
 use Rattle.dexval.proofs.Marked.{next_has_marks, member_marked, note_uses, uses_of_annotations}
 use Rattle.dexval.proofs.marking.mark_annotations.Goals as goal
 
-pub mark_annotation-requires : goal.mark_annotation-requires
-mark_annotation-requires c =
+pub mark-requires : goal.mark-requires
+mark-requires c =
     let xs = c.args.annotations.now in
     let i = c.loop-annotation.annotation-index in
     let before = subst (λ us. AreMarkedToo us c.args.marks.now c.loop-annotation.marks) (uses_of_annotations (take i xs)) c.loop-annotation.invariant in
@@ -17,5 +17,5 @@ loop-annotation-preserved c =
     let i = c.loop-annotation.annotation-index in
     let old = c.args.marks.now in
     let before = subst (λ us. AreMarkedToo us old c.loop-annotation.marks) (uses_of_annotations (take i xs)) c.loop-annotation.invariant in
-    subst (λ us. AreMarkedToo us old c.mark_annotation.new.marks) (sym (uses_of_annotations (take (i + 1) xs)))
-    (member_marked note_uses xs i c.annotation-item.result old c.loop-annotation.marks c.mark_annotation.new.marks c.loop-annotation-test.true c.annotation-item.is before c.mark_annotation.ensures)
+    subst (λ us. AreMarkedToo us old c.mark.new.marks) (sym (uses_of_annotations (take (i + 1) xs)))
+    (member_marked note_uses xs i c.annotation-item.result old c.loop-annotation.marks c.mark.new.marks c.loop-annotation-test.true c.annotation-item.is before c.mark.ensures)

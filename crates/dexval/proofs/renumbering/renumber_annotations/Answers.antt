@@ -4,11 +4,11 @@ use Rattle.dexval.specs.Renumbering.{renumbered_annotation, AnnotationHasPlaces}
 use Rattle.dexval.proofs.Renumbered.{next_member, led_more}
 use Rattle.dexval.proofs.renumbering.renumber_annotations.Goals as goal
 
-pub renumber_annotation-requires : goal.renumber_annotation-requires
-renumber_annotation-requires c =
+pub renumber-requires : goal.renumber-requires
+renumber-requires c =
     let r = c.args.remap.now in
     next_member annotation_of (renumbered_annotation r) (AnnotationHasPlaces r) c.args.annotations.now.items c.loop-i.annotations.items c.loop-i.i c.index_mut.result.now c.loop-i.invariant (omega arith) c.requires c.index_mut.ensures.value
 
 pub loop-i-preserved : goal.loop-i-preserved
 loop-i-preserved c =
-    led_more annotation_of (renumbered_annotation c.args.remap.now) c.args.annotations.now.items c.loop-i.annotations.items c.loop-i.i c.index_mut.result.now c.renumber_annotation.new.annotation c.loop-i.invariant (omega arith) c.index_mut.ensures.value c.renumber_annotation.ensures
+    led_more annotation_of (renumbered_annotation c.args.remap.now) c.args.annotations.now.items c.loop-i.annotations.items c.loop-i.i c.index_mut.result.now c.renumber.new.self c.loop-i.invariant (omega arith) c.index_mut.ensures.value c.renumber.ensures

@@ -7,15 +7,15 @@ use Rattle.dexval.specs.Code.{element_of}
 use Rattle.dexval.specs.Numbered.{elements_of_list}
 use Rattle.dexval.specs.Uses.{Use, elements_uses, HasMark}
 use Rattle.dexval.proofs.Marked.{still_all}
-use Rattle.dexval.proofs.marking.mark_annotation.Goals as goal
+use Rattle.dexval.proofs.annotation.Annotation.mark.Goals as goal
 
 pub mark_one-requires : goal.mark_one-requires
-mark_one-requires c = All-head (HasMark c.args.marks.now) (record { kind = kinds.Typ; number = c.args.annotation.now.typ }) (elements_uses (elements_of_list (map element_of c.args.annotation.now.elements.items))) c.requires
+mark_one-requires c = All-head (HasMark c.args.marks.now) (record { kind = kinds.Typ; number = c.args.self.now.typ }) (elements_uses (elements_of_list (map element_of c.args.self.now.elements.items))) c.requires
 
 pub mark_elements-requires : goal.mark_elements-requires
 mark_elements-requires c =
     let old = c.args.marks.now in
     let new = c.mark_one.new.marks in
-    let u : Use = record { kind = kinds.Typ; number = c.args.annotation.now.typ } in
-    let us = elements_uses (elements_of_list (map element_of c.args.annotation.now.elements.items)) in
+    let u : Use = record { kind = kinds.Typ; number = c.args.self.now.typ } in
+    let us = elements_uses (elements_of_list (map element_of c.args.self.now.elements.items)) in
     subst (λ (l : List Element). All (HasMark new) (elements_uses (elements_of_list (map element_of l)))) (sym c.deref.ensures.value) (still_all (u ∷ []) us old new c.mark_one.ensures (All-tail (HasMark old) u us c.requires))

@@ -1,0 +1,80 @@
+use Rattle.std.proofs.Common.{rules, ◌<◌, length, map, arith}
+use Rattle.dexval.specs.Code.{value_of, element_of}
+use Rattle.dexval.specs.Renumbering.{renumbered, renumbered_element}
+use Rattle.dexval.proofs.Compared.{same_count, same_at, same_all, values_same, same_values, elements_same, same_elements}
+use Rattle.dexval.proofs.Members.{value_lighter, element_lighter}
+use Rattle.dexval.proofs.+comparing.Goals as goal
+
+pub same::same_elements-returns-then-elements-others : goal.same::same_elements-returns-then-elements-others
+same::same_elements-returns-then-elements-others t c =
+    let r = c.args.mine.now in
+    let q = c.args.theirs.now in
+    let xs = c.args.elements.now in
+    let ys = c.args.others.now in
+    ((λ t. absurd cc), (λ e. absurd (omega (arith, same_count element_of (renumbered_element r) (renumbered_element q) xs ys (elements_same r q (map element_of xs) (map element_of ys) e), c.if-elements-others.true))))
+
+pub same::same_elements-same_mapped-requires : goal.same::same_elements-same_mapped-requires
+same::same_elements-same_mapped-requires t c =
+    let lighter = element_lighter c.args.elements.now c.loop-i.i c.index-elements-i.result (omega arith) c.index-elements-i.is in
+    search rules
+
+pub same::same_elements-returns-then-not-same_mapped : goal.same::same_elements-returns-then-not-same_mapped
+same::same_elements-returns-then-not-same_mapped t c =
+    let r = c.args.mine.now in
+    let q = c.args.theirs.now in
+    let xs = c.args.elements.now in
+    let ys = c.args.others.now in
+    let i = c.loop-i.i in
+    let others : i < length ys = omega (arith, c.loop-i.invariant.count) in (
+      (λ t. absurd cc),
+      (λ e.
+          let same = c.same_mapped.ensures.1 (same_at element_of (renumbered_element r) (renumbered_element q) xs ys i c.index-elements-i.result c.index-others-i.result (omega arith) others c.index-elements-i.is c.index-others-i.is (elements_same r q (map element_of xs) (map element_of ys) e)) in
+          cc),
+    )
+
+pub same::same_elements-returns : goal.same::same_elements-returns
+same::same_elements-returns t c =
+    let r = c.args.mine.now in
+    let q = c.args.theirs.now in
+    let xs = c.args.elements.now in
+    let ys = c.args.others.now in (
+      (λ t. same_elements r q (map element_of xs) (map element_of ys) (same_all element_of (renumbered_element r) (renumbered_element q) xs ys c.loop-i.i (omega arith) (omega (arith, c.loop-i.invariant.count)) c.loop-i.invariant.same)),
+      (λ e. search rules),
+    )
+
+pub same::same_values_mapped-returns-then-values-others : goal.same::same_values_mapped-returns-then-values-others
+same::same_values_mapped-returns-then-values-others t c =
+    let r = c.args.mine.now in
+    let q = c.args.theirs.now in
+    let xs = c.args.values.now in
+    let ys = c.args.others.now in
+    ((λ t. absurd cc), (λ e. absurd (omega (arith, same_count value_of (renumbered r) (renumbered q) xs ys (values_same r q (map value_of xs) (map value_of ys) e), c.if-values-others.true))))
+
+pub same::same_values_mapped-same_mapped-requires : goal.same::same_values_mapped-same_mapped-requires
+same::same_values_mapped-same_mapped-requires t c =
+    let lighter = value_lighter c.args.values.now c.loop-i.i c.index-values-i.result (omega arith) c.index-values-i.is in
+    search rules
+
+pub same::same_values_mapped-returns-then-not-same_mapped : goal.same::same_values_mapped-returns-then-not-same_mapped
+same::same_values_mapped-returns-then-not-same_mapped t c =
+    let r = c.args.mine.now in
+    let q = c.args.theirs.now in
+    let xs = c.args.values.now in
+    let ys = c.args.others.now in
+    let i = c.loop-i.i in
+    let others : i < length ys = omega (arith, c.loop-i.invariant.count) in (
+      (λ t. absurd cc),
+      (λ e.
+          let same = c.same_mapped.ensures.1 (same_at value_of (renumbered r) (renumbered q) xs ys i c.index-values-i.result c.index-others-i.result (omega arith) others c.index-values-i.is c.index-others-i.is (values_same r q (map value_of xs) (map value_of ys) e)) in
+          cc),
+    )
+
+pub same::same_values_mapped-returns : goal.same::same_values_mapped-returns
+same::same_values_mapped-returns t c =
+    let r = c.args.mine.now in
+    let q = c.args.theirs.now in
+    let xs = c.args.values.now in
+    let ys = c.args.others.now in (
+      (λ t. same_values r q (map value_of xs) (map value_of ys) (same_all value_of (renumbered r) (renumbered q) xs ys c.loop-i.i (omega arith) (omega (arith, c.loop-i.invariant.count)) c.loop-i.invariant.same)),
+      (λ e. search rules),
+    )

@@ -1,0 +1,47 @@
+use Rattle.std.proofs.Common.{rules, map, ap, ◌∙◌, arith}
+use Rattle.dexval.specs.Code.{value_of, element_of}
+use Rattle.dexval.specs.Numbered.{values_of_list, elements_of_list}
+use Rattle.dexval.specs.Renumbering.{renumbered, renumbered_element, HasPlaces, ElementHasPlaces}
+use Rattle.dexval.proofs.Members.{value_lighter, element_lighter}
+use Rattle.dexval.proofs.Renumbered.{next_is, next_member, all_led, led_more, values_placed, elements_placed, values_renumbered, elements_renumbered}
+use Rattle.dexval.proofs.+renumbering.Goals as goal
+
+pub renumbering::renumber_elements-renumber-requires : goal.renumbering::renumber_elements-renumber-requires
+renumbering::renumber_elements-renumber-requires t c =
+    let r = c.args.remap.now in
+    let old = c.args.elements.now.items in
+    let new = c.loop-i.elements.items in
+    let i = c.loop-i.i in
+    let d = c.index_mut.result.now in
+    let lighter = element_lighter old i d (omega arith) (next_is element_of (renumbered_element r) old new i d c.loop-i.invariant c.index_mut.ensures.value) in
+    (search rules, next_member element_of (renumbered_element r) (ElementHasPlaces r) old new i d c.loop-i.invariant (omega arith) (elements_placed r (map element_of old) c.requires) c.index_mut.ensures.value)
+
+pub renumbering::renumber_elements-loop-i-preserved : goal.renumbering::renumber_elements-loop-i-preserved
+renumbering::renumber_elements-loop-i-preserved t c =
+    led_more element_of (renumbered_element c.args.remap.now) c.args.elements.now.items c.loop-i.elements.items c.loop-i.i c.index_mut.result.now c.renumber.new.self c.loop-i.invariant (omega arith) c.index_mut.ensures.value c.renumber.ensures
+
+pub renumbering::renumber_elements-returns : goal.renumbering::renumber_elements-returns
+renumbering::renumber_elements-returns t c =
+    let r = c.args.remap.now in
+    let old = c.args.elements.now.items in
+    ap elements_of_list (all_led element_of (renumbered_element r) old c.loop-i.elements.items c.loop-i.i c.loop-i.invariant (omega arith)) ∙ elements_renumbered r (map element_of old)
+
+pub renumbering::renumber_values-renumber-requires : goal.renumbering::renumber_values-renumber-requires
+renumbering::renumber_values-renumber-requires t c =
+    let r = c.args.remap.now in
+    let old = c.args.values.now.items in
+    let new = c.loop-i.values.items in
+    let i = c.loop-i.i in
+    let d = c.index_mut.result.now in
+    let lighter = value_lighter old i d (omega arith) (next_is value_of (renumbered r) old new i d c.loop-i.invariant c.index_mut.ensures.value) in
+    (search rules, next_member value_of (renumbered r) (HasPlaces r) old new i d c.loop-i.invariant (omega arith) (values_placed r (map value_of old) c.requires) c.index_mut.ensures.value)
+
+pub renumbering::renumber_values-loop-i-preserved : goal.renumbering::renumber_values-loop-i-preserved
+renumbering::renumber_values-loop-i-preserved t c =
+    led_more value_of (renumbered c.args.remap.now) c.args.values.now.items c.loop-i.values.items c.loop-i.i c.index_mut.result.now c.renumber.new.self c.loop-i.invariant (omega arith) c.index_mut.ensures.value c.renumber.ensures
+
+pub renumbering::renumber_values-returns : goal.renumbering::renumber_values-returns
+renumbering::renumber_values-returns t c =
+    let r = c.args.remap.now in
+    let old = c.args.values.now.items in
+    ap values_of_list (all_led value_of (renumbered r) old c.loop-i.values.items c.loop-i.i c.loop-i.invariant (omega arith)) ∙ values_renumbered r (map value_of old)

@@ -12,6 +12,8 @@ mod debug_programs;
 #[cfg(test)]
 mod directories_read;
 #[cfg(test)]
+mod nesting;
+#[cfg(test)]
 mod values_more;
 #[cfg(test)]
 mod values_put;

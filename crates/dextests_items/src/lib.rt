@@ -14,6 +14,8 @@ mod directories_read;
 #[cfg(test)]
 mod nesting;
 #[cfg(test)]
+mod sets_refused;
+#[cfg(test)]
 mod values_more;
 #[cfg(test)]
 mod values_put;

@@ -21,3 +21,5 @@ mod values_more;
 mod values_put;
 #[cfg(test)]
 mod values_read;
+#[cfg(test)]
+mod weights;

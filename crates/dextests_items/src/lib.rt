@@ -6,12 +6,21 @@
 #[cfg(test)]
 mod code_items;
 #[cfg(test)]
+mod code_refused;
+#[cfg(test)]
 mod debug_programs;
 #[cfg(test)]
 mod directories_read;
 #[cfg(test)]
 mod values_copied;
+mod nesting;
+#[cfg(test)]
+mod sets_refused;
+#[cfg(test)]
+mod values_more;
 #[cfg(test)]
 mod values_put;
 #[cfg(test)]
 mod values_read;
+#[cfg(test)]
+mod weights;

@@ -6,9 +6,19 @@
 #[cfg(test)]
 mod code_items;
 #[cfg(test)]
+mod crowded_handlers;
+#[cfg(test)]
+mod debug_bounds;
+#[cfg(test)]
+mod debug_equality;
+#[cfg(test)]
 mod debug_programs;
 #[cfg(test)]
 mod directories_read;
+#[cfg(test)]
+mod made_files;
+#[cfg(test)]
+mod tries_read;
 #[cfg(test)]
 mod values_put;
 #[cfg(test)]

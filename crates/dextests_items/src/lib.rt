@@ -7,6 +7,11 @@
 mod code_items;
 #[cfg(test)]
 mod code_refused;
+mod crowded_handlers;
+#[cfg(test)]
+mod debug_bounds;
+#[cfg(test)]
+mod debug_equality;
 #[cfg(test)]
 mod debug_programs;
 #[cfg(test)]
@@ -18,6 +23,9 @@ mod nesting;
 mod sets_refused;
 #[cfg(test)]
 mod values_more;
+mod made_files;
+#[cfg(test)]
+mod tries_read;
 #[cfg(test)]
 mod values_put;
 #[cfg(test)]

@@ -10,6 +10,8 @@ mod debug_programs;
 #[cfg(test)]
 mod directories_read;
 #[cfg(test)]
+mod sets_put;
+#[cfg(test)]
 mod values_put;
 #[cfg(test)]
 mod values_read;

@@ -26,6 +26,7 @@ mod values_more;
 mod made_files;
 #[cfg(test)]
 mod tries_read;
+mod sets_put;
 #[cfg(test)]
 mod values_put;
 #[cfg(test)]

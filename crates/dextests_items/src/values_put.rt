@@ -5,8 +5,8 @@ ghost use Rattle.dexval.specs.Spelled.{IsCounted};
 
 use dexpool::Numbering;
 use dexval::{
-    Annotation, Value, Visibility, parameter_sets_weight, put_annotation, put_statics, put_value,
-    statics_weight,
+    Annotation, Element, Value, Visibility, counts_law, parameter_sets_weight, put_annotation,
+    put_statics, put_value, statics_weight,
 };
 use std::alloc::Global;
 
@@ -17,6 +17,47 @@ fn put(alloc: Global, value: &Value) -> Option<Vec<u8>>
     let mut bytes = Vec::new(alloc);
     put_value(value, &Numbering::empty(alloc), &mut bytes).ok()?;
     Some(bytes)
+}
+
+/// What a value with others in it is put as.
+fn put_light(alloc: Global, value: &Value) -> Option<Vec<u8>> {
+    counts_law();
+    if value.weight() > 1000 {
+        return None;
+    }
+    put(alloc, value)
+}
+
+/// An array of a short, null and an array of one value.
+fn array_in_an_array(alloc: Global) -> Option<Value> {
+    let inner = Vec::from_array(alloc, [Value::Boolean(false)]).ok()?;
+    let values = [Value::Short(-129), Value::Null, Value::Array(inner)];
+    Some(Value::Array(Vec::from_array(alloc, values).ok()?))
+}
+
+/// What it is put as.
+fn put_array_in_an_array(alloc: Global) -> Option<Vec<u8>> {
+    let value = array_in_an_array(alloc)?;
+    put_light(alloc, &value)
+}
+
+/// An int and a text, each with its name.
+fn two_elements(alloc: Global) -> Option<Vec<Element>> {
+    let first = Element {
+        name: 5,
+        value: Value::Int(-1),
+    };
+    let second = Element {
+        name: 130,
+        value: Value::String(256),
+    };
+    Vec::from_array(alloc, [first, second]).ok()
+}
+
+/// What an annotation as a value is put as.
+fn put_annotation_value(alloc: Global) -> Option<Vec<u8>> {
+    let value = Value::Annotation(3, two_elements(alloc)?);
+    put_light(alloc, &value)
 }
 
 /// What an array of no values is put as.
@@ -98,6 +139,87 @@ fn puts_an_annotation(rt: HostRuntime) {
         panic!(rt; "no bytes")
     };
     assert_eq!(rt; bytes.as_slice(), [0x02, 0xc8, 0x01, 0x00].as_slice());
+}
+
+#[test]
+fn puts_a_type(rt: HostRuntime) {
+    let Some(bytes) = put(rt.alloc(), &Value::Typ(300)) else {
+        panic!(rt; "no bytes")
+    };
+    assert_eq!(rt; bytes.as_slice(), [0x38, 0x2c, 0x01].as_slice());
+}
+
+#[test]
+fn puts_a_constant_of_an_enum(rt: HostRuntime) {
+    let Some(bytes) = put(rt.alloc(), &Value::Enum(70_000)) else {
+        panic!(rt; "no bytes")
+    };
+    assert_eq!(rt; bytes.as_slice(), [0x5b, 0x70, 0x11, 0x01].as_slice());
+}
+
+#[test]
+fn puts_the_first_field(rt: HostRuntime) {
+    let Some(bytes) = put(rt.alloc(), &Value::Field(0)) else {
+        panic!(rt; "no bytes")
+    };
+    assert_eq!(rt; bytes.as_slice(), [0x19, 0x00].as_slice());
+}
+
+#[test]
+fn puts_a_method(rt: HostRuntime) {
+    let Some(bytes) = put(rt.alloc(), &Value::Method(0xffff)) else {
+        panic!(rt; "no bytes")
+    };
+    assert_eq!(rt; bytes.as_slice(), [0x3a, 0xff, 0xff].as_slice());
+}
+
+#[test]
+fn puts_a_text(rt: HostRuntime) {
+    let Some(bytes) = put(rt.alloc(), &Value::String(0xffff_ffff)) else {
+        panic!(rt; "no bytes")
+    };
+    assert_eq!(rt; bytes.as_slice(), [0x77, 0xff, 0xff, 0xff, 0xff].as_slice());
+}
+
+#[test]
+fn puts_a_float(rt: HostRuntime) {
+    let Some(bytes) = put(rt.alloc(), &Value::Float(0x3f80_0000)) else {
+        panic!(rt; "no bytes")
+    };
+    assert_eq!(rt; bytes.as_slice(), [0x30, 0x80, 0x3f].as_slice());
+}
+
+#[test]
+fn puts_zero_as_a_float(rt: HostRuntime) {
+    let Some(bytes) = put(rt.alloc(), &Value::Float(0)) else {
+        panic!(rt; "no bytes")
+    };
+    assert_eq!(rt; bytes.as_slice(), [0x10, 0x00].as_slice());
+}
+
+#[test]
+fn puts_an_array_in_an_array(rt: HostRuntime) {
+    let Some(bytes) = put_array_in_an_array(rt.alloc()) else {
+        panic!(rt; "no bytes")
+    };
+    assert_eq!(rt;
+        bytes.as_slice(),
+        [0x1c, 0x03, 0x22, 0x7f, 0xff, 0x1e, 0x1c, 0x01, 0x1f].as_slice()
+    );
+}
+
+#[test]
+fn puts_an_annotation_as_a_value(rt: HostRuntime) {
+    let Some(bytes) = put_annotation_value(rt.alloc()) else {
+        panic!(rt; "no bytes")
+    };
+    assert_eq!(rt;
+        bytes.as_slice(),
+        [
+            0x1d, 0x03, 0x02, 0x05, 0x04, 0xff, 0x82, 0x01, 0x37, 0x00, 0x01
+        ]
+        .as_slice()
+    );
 }
 
 #[test]

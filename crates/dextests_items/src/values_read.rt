@@ -53,7 +53,7 @@ const FILE: [u8; 684] = [
 ];
 
 /// The file.
-fn file() -> &'static [u8] {
+pub(crate) fn file() -> &'static [u8] {
     &FILE
 }
 

@@ -6,6 +6,8 @@
 #[cfg(test)]
 mod code_items;
 #[cfg(test)]
+mod code_limits;
+#[cfg(test)]
 mod code_put;
 #[cfg(test)]
 mod debug_programs;

@@ -1,6 +1,6 @@
 //! Laws of numbered code items. Each function does nothing: its contract is the law, for the callers that cite it.
 
-ghost use Rattle.std.specs.Prelude.{◌≡◌, ◌≤◌, ◌^◌, ℕ, All, length};
+ghost use Rattle.std.specs.Prelude.{◌≡◌, ◌+◌, ◌≤◌, ◌^◌, ℕ, All, length};
 ghost use Rattle.dexspec.specs.Code as symbolic;
 ghost use Rattle.dexspec.specs.Mentions.{Mentions};
 ghost use Rattle.dexspec.specs.Spellings.{code_bytes};
@@ -12,9 +12,10 @@ ghost use Rattle.dexcode.specs.CodePut.{HasShortTypes, numbered_code_bytes, numb
 use dexinsn::units_law;
 
 /// Where the symbols rise, the bytes of a numbered code item are those of the one that it stands for, each index the
-/// rank of its symbol.
+/// rank of its symbol. Where caught types have numbers below 2^16, they are at least 3 fewer than it weighs.
 pub fn code_bytes_law()
-    ensures { (m : Mentions) (debug_off : ℕ) (c : NumberedItem) (x : symbolic.Code) → AreRising m → StandsForCode m c x → numbered_code_bytes debug_off c ≡ code_bytes m debug_off x }
+    ensures bytes { (m : Mentions) (debug_off : ℕ) (c : NumberedItem) (x : symbolic.Code) → AreRising m → StandsForCode m c x → numbered_code_bytes debug_off c ≡ code_bytes m debug_off x }
+    ensures few { (debug_off : ℕ) (c : NumberedItem) → All HasShortTypes (handlers_of c.tries) → length (numbered_code_bytes debug_off c) + 3 ≤ numbered_code_weight c }
 {
     units_law();
 }

@@ -6,11 +6,11 @@ use dexhead::Frame;
 use dexpool::{ItemFault, Pools};
 use std::alloc::Global;
 
-const PLAIN: u32 = 156;
+pub(crate) const PLAIN: u32 = 156;
 
-const CATCH_ALL: u32 = 176;
+pub(crate) const CATCH_ALL: u32 = 176;
 
-const LONG_SIZE: u32 = 208;
+pub(crate) const LONG_SIZE: u32 = 208;
 
 const OFF_0: u32 = 240;
 
@@ -24,23 +24,23 @@ const NO_START: u32 = 368;
 
 const OVERLAP: u32 = 400;
 
-const TWICE: u32 = 440;
+pub(crate) const TWICE: u32 = 440;
 
 const PADDING: u32 = 484;
 
 const UNUSED_WRONG: u32 = 516;
 
-const UNUSED: u32 = 552;
+pub(crate) const UNUSED: u32 = 552;
 
-const TYPED: u32 = 588;
+pub(crate) const TYPED: u32 = 588;
 
 const TYPE_2: u32 = 624;
 
 const INSIDE: u32 = 656;
 
-const LATER_FIRST: u32 = 692;
+pub(crate) const LATER_FIRST: u32 = 692;
 
-const WITH_DEBUG: u32 = 752;
+pub(crate) const WITH_DEBUG: u32 = 752;
 
 const BAD_DEBUG: u32 = 784;
 
@@ -106,7 +106,7 @@ const FILE: [u8; 911] = [
     0x0e, 0x00, 0x00, 0x00, 0x00, 0x00, 0x00, 0x00, 0x01, 0x00, 0x01, 0x00, 0x02, 0x00, 0x00,
 ];
 
-fn file() -> &'static [u8] {
+pub(crate) fn file() -> &'static [u8] {
     &FILE
 }
 
@@ -122,7 +122,7 @@ fn a_catch(typ: u32, address: u32) -> Catch {
     Catch { typ, address }
 }
 
-fn read_at(alloc: Global, off: u32) -> Option<Result<Code<'static>, ItemFault>> {
+pub(crate) fn read_at(alloc: Global, off: u32) -> Option<Result<Code<'static>, ItemFault>> {
     let frame = Frame::open(file()).ok()?;
     let pools = Pools::read(alloc, &frame).ok()?;
     Some(read_code(alloc, &frame, &pools, off))

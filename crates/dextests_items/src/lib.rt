@@ -12,6 +12,9 @@ mod crowded_handlers;
 mod debug_bounds;
 #[cfg(test)]
 mod debug_equality;
+mod code_limits;
+#[cfg(test)]
+mod code_put;
 #[cfg(test)]
 mod debug_programs;
 #[cfg(test)]

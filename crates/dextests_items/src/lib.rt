@@ -6,30 +6,35 @@
 #[cfg(test)]
 mod code_items;
 #[cfg(test)]
+mod code_limits;
+#[cfg(test)]
+mod code_put;
+#[cfg(test)]
 mod code_refused;
+#[cfg(test)]
 mod crowded_handlers;
 #[cfg(test)]
 mod debug_bounds;
 #[cfg(test)]
 mod debug_equality;
-mod code_limits;
-#[cfg(test)]
-mod code_put;
 #[cfg(test)]
 mod debug_programs;
 #[cfg(test)]
 mod directories_read;
 #[cfg(test)]
-mod values_copied;
+mod made_files;
+#[cfg(test)]
 mod nesting;
+#[cfg(test)]
+mod sets_put;
 #[cfg(test)]
 mod sets_refused;
 #[cfg(test)]
-mod values_more;
-mod made_files;
-#[cfg(test)]
 mod tries_read;
-mod sets_put;
+#[cfg(test)]
+mod values_copied;
+#[cfg(test)]
+mod values_more;
 #[cfg(test)]
 mod values_put;
 #[cfg(test)]

@@ -331,3 +331,22 @@ fn refuses_more_tries_than_bytes(rt: HostRuntime) {
     };
     assert_eq!(rt; fault_of(rt.alloc(), &item), Some(ItemFault::Refused(19)));
 }
+
+/// Whether a copy of the code of these bytes has the same tries and handlers.
+fn copies_alike(alloc: Global, item: &[u8]) -> Option<bool> {
+    let file = file_with(alloc, item)?;
+    let frame = Frame::open(&file).ok()?;
+    let pools = Pools::read(alloc, &frame).ok()?;
+    let code = read_code(alloc, &frame, &pools, ITEMS).ok()?;
+    let copy = code.copy().ok()?;
+    let has_tries = copy.tries().tries() == code.tries().tries();
+    Some(has_tries && copy.tries().handlers() == code.tries().handlers())
+}
+
+#[test]
+fn copies_code(rt: HostRuntime) {
+    let Some(item) = code_of(rt.alloc(), &TWO, &[(0, 1, 1), (1, 1, 1)], &LIST) else {
+        panic!(rt; "no item")
+    };
+    assert_eq!(rt; copies_alike(rt.alloc(), &item), Some(true));
+}

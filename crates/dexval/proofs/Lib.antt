@@ -11,6 +11,7 @@ pub mod Marked
 pub mod Meanings
 pub mod Members
 pub mod NestedRead
+pub mod Ranked
 pub mod Renumbered
 pub mod ScalarsRead
 pub mod SetsRead

@@ -14,6 +14,7 @@ pub mod Meanings
 pub mod Members
 pub mod NestedRead
 pub mod Offsets
+pub mod Ranked
 pub mod Renumbered
 pub mod ScalarsRead
 pub mod SetsRead

@@ -1,13 +1,13 @@
 //! Laws of values and sets with numbers. Each function does nothing: its contract is the law, for the callers that cite
 //! it.
 
-ghost use Rattle.std.specs.Prelude.{ℕ, ◌+◌, ◌^◌, ◌<◌, ◌≤◌, All, List, length};
+ghost use Rattle.std.specs.Prelude.{◌≡◌, ◌↔◌, ℕ, ◌+◌, ◌^◌, ◌<◌, ◌≤◌, All, List, length};
 ghost use Rattle.std.specs.List.{AllZip};
 ghost use Rattle.dexspec.specs.Annotations.{AnnotationSet as SetMeant};
 ghost use Rattle.dexspec.specs.Mentions.{Mentions, value_symbols, values_symbols, set_symbols};
 ghost use Rattle.dexspec.specs.Values.{Value as ValueMeant, Values as ValuesMeant};
 ghost use Rattle.dexspec.specs.Weight.{value_weight, static_values_weight, annotation_weight, set_weight};
-ghost use Rattle.dexpool.specs.Numberings.{AreMarksOf, Maps, AllLead};
+ghost use Rattle.dexpool.specs.Numberings.{AreMarksOf, AreRising, Maps, AllLead};
 ghost use Rattle.dexpool.specs.Laws.{LeadsAll};
 ghost use Rattle.dexpool.specs.Pools.{count_of};
 ghost use Rattle.dexpool.specs.declared.marks.Marks.{Marks};
@@ -16,6 +16,8 @@ ghost use Rattle.dexval.specs.Numbered.{NumberedValue, NumberedValues, NumberedA
 ghost use Rattle.dexval.specs.Renumbering.{renumbered, renumbered_values, renumbered_set, HasPlaces, HavePlaces, SetHasPlaces};
 ghost use Rattle.dexval.specs.Spelled.{IsCounted, AreCounted, IsCountedAnnotation, numbered_offsets};
 ghost use Rattle.dexval.specs.Uses.{value_uses, values_uses, set_uses, IsUseOf, HasMark};
+
+use dexpool::number_law;
 
 /// Under other numbers a value, values and a set stand for what they stood for.
 pub fn renumber_law()
@@ -55,3 +57,13 @@ pub fn counts_law()
     ensures set { (m : Mentions) (s : NumberedSet) → set_weight (set_in m s) < 2 ^ 32 → All IsCountedAnnotation s }
     ensures offsets { (m : Mentions) (first : ℕ) (s : NumberedSet) → first + set_weight (set_in m s) < 2 ^ 32 → All (λ offset. offset < 2 ^ 32) (numbered_offsets first s) }
 {}
+
+/// Values, lists of values and sets of two numberings, led to a third, are the same there just where they stand for the
+/// same.
+pub fn same_law()
+    ensures value { (m n whole : Mentions) (r s : Maps) (x y : NumberedValue) (v w : ValueMeant) → AreRising whole → AllLead m whole r → AllLead n whole s → HasPlaces r x → HasPlaces s y → StandsFor m x v → StandsFor n y w → (renumbered r x ≡ renumbered s y) ↔ (v ≡ w) }
+    ensures values { (m n whole : Mentions) (r s : Maps) (xs ys : NumberedValues) (vs ws : ValuesMeant) → AreRising whole → AllLead m whole r → AllLead n whole s → HavePlaces r xs → HavePlaces s ys → StandFor m xs vs → StandFor n ys ws → (renumbered_values r xs ≡ renumbered_values s ys) ↔ (vs ≡ ws) }
+    ensures set { (m n whole : Mentions) (r s : Maps) (xs ys : NumberedSet) (a b : SetMeant) → AreRising whole → AllLead m whole r → AllLead n whole s → SetHasPlaces r xs → SetHasPlaces s ys → StandsForSet m xs a → StandsForSet n ys b → (renumbered_set r xs ≡ renumbered_set s ys) ↔ (a ≡ b) }
+{
+    number_law();
+}

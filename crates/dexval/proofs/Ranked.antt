@@ -1,0 +1,136 @@
+-- Numbers are determined by what they stand for: each is the rank of its symbol.
+use Rattle.std.proofs.Common.{◌≡◌, ℕ, [], ◌∷◌, map, refl, ap, sym, ◌∙◌, subst}
+use Rattle.std.specs.Prelude.{◌↔◌}
+use Rattle.std.proofs.lemmas.List.Elements.{All-head, All-tail}
+use Rattle.dexspec.specs.Lists.{rank}
+use Rattle.dexspec.specs.Texts.{text_cmp}
+use Rattle.dexspec.specs.Symbols.{field_cmp, method_cmp}
+use Rattle.dexspec.specs.Values.{Value, ByteValue, ShortValue, CharValue, IntValue, LongValue, FloatValue, DoubleValue, StringValue, TypeValue, FieldValue, MethodValue, EnumValue, ArrayValue, AnnotationValue, NullValue, BooleanValue, Values, NoValues, ThenValue, Elements, NoElements, ThenElement}
+use Rattle.dexspec.specs.Annotations.{Annotation, AnnotationSet}
+use Rattle.dexspec.specs.Mentions.{Mentions}
+use Rattle.dexpool.specs.Laws.{RanksAreNumbers}
+use Rattle.dexpool.specs.Numberings.{Maps, AllLead}
+use Rattle.dexval.specs.Numbered.{Literal, ByteLiteral, ShortLiteral, CharLiteral, IntLiteral, LongLiteral, FloatLiteral, DoubleLiteral, NullLiteral, BooleanLiteral, Reference, StringReference, TypeReference, FieldReference, MethodReference, EnumReference, NumberedValue, NumberedValues, NumberedElements, NumberedAnnotation, NumberedSet, Plain, Named, Array, Annotated, NoValue, ThenNext, NoElement, ThenNamed, plain_value, named_value, value_in, values_in, elements_in, annotation_in, set_in, IsKnown, AreKnown, HaveKnown, IsKnownAnnotation, IsKnownSet, StandsFor, StandFor, StandsForSet}
+use Rattle.dexval.specs.Renumbering.{renumbered, renumbered_values, renumbered_set, HasPlaces, HavePlaces, SetHasPlaces}
+use Rattle.dexval.proofs.Meanings.{value_keeps, values_keep, set_keeps}
+
+-- ---- values with the rank of each symbol in its place
+
+abbrev mutual
+  ranked : Mentions → Value → NumberedValue
+  ranked m (ByteValue z) = Plain (ByteLiteral z)
+  ranked m (ShortValue z) = Plain (ShortLiteral z)
+  ranked m (CharValue u) = Plain (CharLiteral u)
+  ranked m (IntValue z) = Plain (IntLiteral z)
+  ranked m (LongValue z) = Plain (LongLiteral z)
+  ranked m (FloatValue bits) = Plain (FloatLiteral bits)
+  ranked m (DoubleValue bits) = Plain (DoubleLiteral bits)
+  ranked m (StringValue s) = Named StringReference (rank text_cmp s m.texts)
+  ranked m (TypeValue t) = Named TypeReference (rank text_cmp t m.types)
+  ranked m (FieldValue f) = Named FieldReference (rank field_cmp f m.fields)
+  ranked m (MethodValue x) = Named MethodReference (rank method_cmp x m.methods)
+  ranked m (EnumValue f) = Named EnumReference (rank field_cmp f m.fields)
+  ranked m (ArrayValue vs) = Array (ranked_values m vs)
+  ranked m (AnnotationValue t es) = Annotated (rank text_cmp t m.types) (ranked_elements m es)
+  ranked m NullValue = Plain NullLiteral
+  ranked m (BooleanValue is) = Plain (BooleanLiteral is)
+
+  ranked_values : Mentions → Values → NumberedValues
+  ranked_values m NoValues = NoValue
+  ranked_values m (ThenValue v vs) = ThenNext (ranked m v) (ranked_values m vs)
+
+  ranked_elements : Mentions → Elements → NumberedElements
+  ranked_elements m NoElements = NoElement
+  ranked_elements m (ThenElement name v es) = ThenNamed (rank text_cmp name m.texts) (ranked m v) (ranked_elements m es)
+
+-- an annotation by its parts
+abbrev numbered_with : ℕ → ℕ → NumberedElements → NumberedAnnotation
+numbered_with v t es = record { visibility = v; type = t; elements = es }
+
+abbrev ranked_annotation : Mentions → Annotation → NumberedAnnotation
+ranked_annotation m a = numbered_with a.visibility (rank text_cmp a.type m.types) (ranked_elements m a.elements)
+
+-- ---- the ranks are the numbers
+
+plain_ranked : (m : Mentions) (l : Literal) → ranked m (plain_value l) ≡ Plain l
+plain_ranked m (ByteLiteral z) = refl
+plain_ranked m (ShortLiteral z) = refl
+plain_ranked m (CharLiteral u) = refl
+plain_ranked m (IntLiteral z) = refl
+plain_ranked m (LongLiteral z) = refl
+plain_ranked m (FloatLiteral bits) = refl
+plain_ranked m (DoubleLiteral bits) = refl
+plain_ranked m NullLiteral = refl
+plain_ranked m (BooleanLiteral is) = refl
+
+module _ (m : Mentions) (ranks : RanksAreNumbers m) where
+  named_ranked : (x : Reference) (i : ℕ) → IsKnown m (Named x i) → ranked m (named_value m x i) ≡ Named x i
+  named_ranked StringReference i h = ap (Named StringReference) (ranks.texts_are i [] h)
+  named_ranked TypeReference i h = ap (Named TypeReference) (ranks.types_are i [] h)
+  named_ranked FieldReference i h = ap (Named FieldReference) (ranks.fields_are i (record { class = []; name = []; type = [] }) h)
+  named_ranked MethodReference i h = ap (Named MethodReference) (ranks.methods_are i (record { class = []; name = []; proto = record { return_type = []; parameters = [] } }) h)
+  named_ranked EnumReference i h = ap (Named EnumReference) (ranks.fields_are i (record { class = []; name = []; type = [] }) h)
+
+  mutual
+    value_ranked : (x : NumberedValue) → IsKnown m x → ranked m (value_in m x) ≡ x
+    value_ranked (Plain l) h = plain_ranked m l
+    value_ranked (Named x i) h = named_ranked x i h
+    value_ranked (Array xs) h = ap Array (values_ranked xs h)
+    value_ranked (Annotated t es) h = ap (λ (i : ℕ). Annotated i (ranked_elements m (elements_in m es))) (ranks.types_are t [] h.0) ∙ ap (Annotated t) (elements_ranked es h.1)
+
+    values_ranked : (xs : NumberedValues) → AreKnown m xs → ranked_values m (values_in m xs) ≡ xs
+    values_ranked NoValue h = refl
+    values_ranked (ThenNext x xs) h = ap (λ (y : NumberedValue). ThenNext y (ranked_values m (values_in m xs))) (value_ranked x h.0) ∙ ap (ThenNext x) (values_ranked xs h.1)
+
+    elements_ranked : (es : NumberedElements) → HaveKnown m es → ranked_elements m (elements_in m es) ≡ es
+    elements_ranked NoElement h = refl
+    elements_ranked (ThenNamed name x es) h =
+        ap (λ (i : ℕ). ThenNamed i (ranked m (value_in m x)) (ranked_elements m (elements_in m es))) (ranks.texts_are name [] h.0)
+        ∙ ap (λ (y : NumberedValue). ThenNamed name y (ranked_elements m (elements_in m es))) (value_ranked x h.1)
+        ∙ ap (ThenNamed name x) (elements_ranked es h.2)
+
+  annotation_ranked : (a : NumberedAnnotation) → IsKnownAnnotation m a → ranked_annotation m (annotation_in m a) ≡ a
+  annotation_ranked a h =
+      ap (λ (i : ℕ). numbered_with a.visibility i (ranked_elements m (elements_in m a.elements))) (ranks.types_are a.type [] h.type_in) ∙ ap (numbered_with a.visibility a.type) (elements_ranked a.elements h.elements_known)
+
+  set_ranked : (xs : NumberedSet) → IsKnownSet m xs → map (ranked_annotation m) (set_in m xs) ≡ xs
+  set_ranked [] h = refl
+  set_ranked (x ∷ xs) h =
+      ap (λ (a : NumberedAnnotation). a ∷ map (ranked_annotation m) (set_in m xs)) (annotation_ranked x (All-head (IsKnownAnnotation m) x xs h)) ∙ ap (λ (l : NumberedSet). x ∷ l) (set_ranked xs (All-tail (IsKnownAnnotation m) x xs h))
+
+  -- what stands for the same value is the same
+  one_value : (x y : NumberedValue) (v : Value) → StandsFor m x v → StandsFor m y v → x ≡ y
+  one_value x y v h k = sym (value_ranked x h.known) ∙ ap (ranked m) (h.means ∙ sym k.means) ∙ value_ranked y k.known
+
+  one_list : (xs ys : NumberedValues) (vs : Values) → StandFor m xs vs → StandFor m ys vs → xs ≡ ys
+  one_list xs ys vs h k = sym (values_ranked xs h.known) ∙ ap (ranked_values m) (h.mean ∙ sym k.mean) ∙ values_ranked ys k.known
+
+  one_set : (xs ys : NumberedSet) (s : AnnotationSet) → StandsForSet m xs s → StandsForSet m ys s → xs ≡ ys
+  one_set xs ys s h k = sym (set_ranked xs h.known) ∙ ap (map (ranked_annotation m)) (h.means ∙ sym k.means) ∙ set_ranked ys k.known
+
+-- ---- values of two numberings, led to a third
+
+module _ (m n whole : Mentions) (r s : Maps) (ranks : RanksAreNumbers whole) (from_first : AllLead m whole r) (from_second : AllLead n whole s) where
+  pub same_value : (x y : NumberedValue) (v w : Value) → HasPlaces r x → HasPlaces s y → StandsFor m x v → StandsFor n y w → (renumbered r x ≡ renumbered s y) ↔ (v ≡ w)
+  same_value x y v w places places' h k =
+      let mine = value_keeps m whole r x v from_first places h in
+      let theirs = value_keeps n whole s y w from_second places' k in (
+        (λ e. sym mine.means ∙ ap (value_in whole) e ∙ theirs.means),
+        (λ e. one_value whole ranks (renumbered r x) (renumbered s y) w (subst (StandsFor whole (renumbered r x)) e mine) theirs),
+      )
+
+  pub same_values : (xs ys : NumberedValues) (vs ws : Values) → HavePlaces r xs → HavePlaces s ys → StandFor m xs vs → StandFor n ys ws → (renumbered_values r xs ≡ renumbered_values s ys) ↔ (vs ≡ ws)
+  same_values xs ys vs ws places places' h k =
+      let mine = values_keep m whole r xs vs from_first places h in
+      let theirs = values_keep n whole s ys ws from_second places' k in (
+        (λ e. sym mine.mean ∙ ap (values_in whole) e ∙ theirs.mean),
+        (λ e. one_list whole ranks (renumbered_values r xs) (renumbered_values s ys) ws (subst (StandFor whole (renumbered_values r xs)) e mine) theirs),
+      )
+
+  pub same_set : (xs ys : NumberedSet) (a b : AnnotationSet) → SetHasPlaces r xs → SetHasPlaces s ys → StandsForSet m xs a → StandsForSet n ys b → (renumbered_set r xs ≡ renumbered_set s ys) ↔ (a ≡ b)
+  same_set xs ys a b places places' h k =
+      let mine = set_keeps m whole r xs a from_first places h in
+      let theirs = set_keeps n whole s ys b from_second places' k in (
+        (λ e. sym mine.means ∙ ap (set_in whole) e ∙ theirs.means),
+        (λ e. one_set whole ranks (renumbered_set r xs) (renumbered_set s ys) b (subst (StandsForSet whole (renumbered_set r xs)) e mine) theirs),
+      )

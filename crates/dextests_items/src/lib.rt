@@ -4,6 +4,8 @@
 #![tactic(auto)]
 
 #[cfg(test)]
+mod code_copied;
+#[cfg(test)]
 mod code_items;
 #[cfg(test)]
 mod code_limits;

@@ -9,7 +9,7 @@ use Rattle.dexspec.specs.Lists.{rises, OrNone}
 use Rattle.dexspec.specs.Bytes.{uint_at, uints_at}
 use Rattle.dexspec.specs.Symbols.{Field, Method}
 use Rattle.dexspec.specs.Rows.{FieldRow, MethodRow}
-use Rattle.dexspec.specs.Annotations.{AnnotationSet, Directory, SetAt, RefListAt, PairAt, PairsAt, DirectoryAt, pairs_at, fields_count, methods_count, parameters_count}
+use Rattle.dexspec.specs.Annotations.{AnnotationSet, SetAt, RefListAt, PairAt, PairsAt, pairs_at, fields_count, methods_count, parameters_count}
 use Rattle.dexspec.specs.Mentions.{Mentions}
 use Rattle.dexspec.proofs.Members.{and_first, and_second, and_both}
 use Rattle.dexval.specs.Numbered.{NumberedSet, IsKnownSet, set_in, field_at, method_at}

@@ -1,5 +1,5 @@
 -- What numbers weigh is what they stand for weighs.
-use Rattle.std.proofs.Common.{◌≡◌, ◌<◌, ℕ, ◌+◌, ◌*◌, List, [], ◌∷◌, length, map, refl, sym, ap, ◌∙◌, arith, sum_by}
+use Rattle.std.proofs.Common.{◌≡◌, ◌<◌, ℕ, ◌+◌, ◌*◌, List, [], ◌∷◌, length, map, refl, sym, ap, arith, sum_by}
 use Rattle.std.proofs.lemmas.List.Sums.{sum_by-cons}
 use Rattle.dexspec.specs.Mentions.{Mentions}
 use Rattle.dexspec.specs.Weight.{value_weight, values_weight, elements_weight, annotation_weight, set_weight, ref_list_weight, static_values_weight}
@@ -8,7 +8,7 @@ use Rattle.dexval.specs.declared.set.AnnotationSet.{AnnotationSet}
 use Rattle.dexval.specs.declared.value.Value.{Value}
 use Rattle.dexval.specs.Code.{value_of, annotation_of, set_of}
 use Rattle.dexval.specs.Numbered.{Literal, ByteLiteral, ShortLiteral, CharLiteral, IntLiteral, LongLiteral, FloatLiteral, DoubleLiteral, NullLiteral, BooleanLiteral, Reference, StringReference, TypeReference, FieldReference, MethodReference, EnumReference, NumberedValue, NumberedValues, NumberedElements, NumberedAnnotation, NumberedSet, Plain, Named, Array, Annotated, NoValue, ThenNext, NoElement, ThenNamed, plain_value, named_value, value_in, values_in, elements_in, annotation_in, set_in, values_of_list}
-use Rattle.dexval.specs.Spelled.{numbered_weight, numbered_values_weight, numbered_elements_weight, numbered_annotation_weight, numbered_set_weight, numbered_sets_weight, numbered_statics_weight}
+use Rattle.dexval.specs.Spelled.{numbered_weight, numbered_values_weight, numbered_elements_weight, numbered_annotation_weight, numbered_set_weight}
 
 plain_weight : (l : Literal) → value_weight (plain_value l) ≡ 9
 plain_weight (ByteLiteral z) = refl

@@ -1,7 +1,7 @@
-use Rattle.std.proofs.Common.{◌≡◌, ◌+◌, ◌*◌, ◌∙◌, ℕ, List, map, sym, ap, subst, arith, refl, length}
+use Rattle.std.proofs.Common.{◌≡◌, ◌∙◌, ℕ, List, map, ap, subst, arith}
 use Rattle.std.specs.Prelude.{All}
 use Rattle.dexspec.specs.Bytes.{uint_at}
-use Rattle.dexspec.specs.Annotations.{SetAt, RefListAt, fields_count, methods_count, parameters_count}
+use Rattle.dexspec.specs.Annotations.{SetAt, RefListAt}
 use Rattle.dexval.specs.Code.{set_of}
 use Rattle.dexval.specs.Numbered.{IsKnownSet, set_in}
 use Rattle.dexval.specs.Directories.{IsSetOrEmptyAt, NoSetOrEmptyAt, member_set_of, member_list_of}

@@ -1,4 +1,4 @@
-use Rattle.std.proofs.Common.{◌∷◌, ℕ, List, ap, sym, ◌∙◌, arith, map, length}
+use Rattle.std.proofs.Common.{◌∷◌, ℕ, List, ap, ◌∙◌, arith, map, length}
 use Rattle.dexval.specs.declared.value.Element.{Element}
 use Rattle.dexval.specs.Code.{element_of, visibility_of}
 use Rattle.dexval.specs.Numbered.{elements_of_list}

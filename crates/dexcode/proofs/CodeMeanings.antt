@@ -12,7 +12,8 @@ use Rattle.dexspec.specs.Debug.{Debug}
 use Rattle.dexpool.specs.declared.symbols.SymbolKind.TheVariants as kinds
 use Rattle.dexpool.specs.declared.marks.Marks.{Marks}
 use Rattle.dexpool.specs.Numberings.{IsAt, AreRising, AreMarksOf, Maps, image_of, AllLead}
-use Rattle.dexinsn.specs.Numbered.{HasMark, IsUseOf, uses_of}
+use Rattle.dexpool.specs.Uses.{HasMark, IsUseOf}
+use Rattle.dexinsn.specs.Numbered.{uses_of}
 use Rattle.dexinsn.proofs.Meanings as pieces
 use Rattle.dexcode.specs.declared.handlers.Catch.{Catch}
 use Rattle.dexcode.specs.Debug.{NumberedDebug, StandsForDebug, HasImage, HasPlace, renumbered_debug, debug_uses}

@@ -11,7 +11,8 @@ use Rattle.dexpool.specs.declared.symbols.SymbolKind.TheVariants as kinds
 use Rattle.dexpool.specs.Pools.{count_of}
 use Rattle.dexpool.specs.Laws.{LeadsAll}
 use Rattle.dexpool.specs.Numberings.{IsNumbered, IsOfKind, Maps, image_of, AllLead}
-use Rattle.dexinsn.specs.Numbered.{Use, NumberedPiece, Instruction, Payload, IsUseOf, uses_of, piece_uses, kind_in}
+use Rattle.dexpool.specs.Uses.{Use, IsUseOf}
+use Rattle.dexinsn.specs.Numbered.{NumberedPiece, Instruction, Payload, uses_of, piece_uses, kind_in}
 use Rattle.dexinsn.specs.Numbered as pieces
 use Rattle.dexinsn.proofs.Meanings as pieces_proofs
 use Rattle.dexcode.specs.declared.handlers.Catch.{Catch}

@@ -1,7 +1,8 @@
 -- The symbols of a code item, part by part.
 use Rattle.std.proofs.Common.{◌≡◌, List, [], ◌++◌, Option, Some, option_to_list, subst}
 use Rattle.std.specs.List.{All, flat_map}
-use Rattle.dexinsn.specs.Numbered.{Use, uses_of}
+use Rattle.dexpool.specs.Uses.{Use}
+use Rattle.dexinsn.specs.Numbered.{uses_of}
 use Rattle.dexcode.specs.Debug.{NumberedDebug, debug_uses}
 use Rattle.dexcode.specs.Numbered.{NumberedItem}
 use Rattle.dexcode.specs.Renumbering.{tries_uses, item_uses}

@@ -22,7 +22,7 @@ use Rattle.dexspec.proofs.SizeSums.{sum_by-at_most}
 use Rattle.dexpool.specs.declared.symbols.SymbolKind.TheVariants as kinds
 use Rattle.dexpool.specs.declared.marks.Marks.{Marks}
 use Rattle.dexpool.specs.Numberings.{IsAt, AreRising, AreMarksOf, Maps, image_of, Leads, AllLead}
-use Rattle.dexinsn.specs.Numbered.{Use, HasMark, IsUseOf}
+use Rattle.dexpool.specs.Uses.{Use, HasMark, IsUseOf}
 use Rattle.dexcode.specs.declared.debug_operation.Operation.{Operation}
 use Rattle.dexcode.specs.declared.debug_operation.Operation.TheVariants.{AdvancePc, AdvanceLine, StartLocal, StartLocalExtended, EndLocal, RestartLocal, SetPrologueEnd, SetEpilogueBegin, SetFile, Special}
 use Rattle.dexcode.specs.Debug.{NumberedDebug, StandsForText, StandsForType, StandsForOperation, StandsForDebug, bare_operation, bare, operation_weight, numbered_operation_bytes, numbered_debug_bytes, number_uses, operation_uses, debug_uses, HasImage, HasPlace, image_or_none, renumbered_operation, renumbered_debug, name_of, type_of, signature_of}

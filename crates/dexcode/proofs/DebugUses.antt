@@ -8,8 +8,8 @@ use Rattle.dexpool.specs.declared.symbols.SymbolKind.{SymbolKind}
 use Rattle.dexpool.specs.declared.symbols.SymbolKind.TheVariants as kinds
 use Rattle.dexpool.specs.declared.marks.Marks.{Marks}
 use Rattle.dexpool.specs.Numberings.{Maps, image_of}
-use Rattle.dexinsn.specs.Numbered.{Use, HasMark, AreMarkedToo, marks_of, same_kind, occurs}
-use Rattle.dexinsn.proofs.MarksMade.{still_marked}
+use Rattle.dexpool.specs.Uses.{Use, HasMark, AreMarkedToo, marks_of, same_kind, occurs}
+use Rattle.dexpool.proofs.MarksMade.{still_marked}
 use Rattle.dexcode.specs.declared.debug_operation.Operation.{Operation}
 use Rattle.dexcode.specs.declared.debug_operation.Operation.TheVariants.{AdvancePc, AdvanceLine, StartLocal, StartLocalExtended, EndLocal, RestartLocal, SetPrologueEnd, SetEpilogueBegin, SetFile, Special}
 use Rattle.dexcode.specs.Debug.{NumberedDebug, HasPlace, FitsIndex, IsFormedOperation, IsFormedDebug, IsSpecial, number_uses, operation_uses, debug_uses, image_or_none, name_of, type_of, signature_of, with_numbers, renumbered_operation, renumbered_debug}

@@ -21,7 +21,7 @@ use Rattle.dexpool.specs.declared.marks.Marks.{Marks}
 use Rattle.dexpool.specs.Closing.{IsMarked}
 use Rattle.dexpool.specs.Numberings.{Maps, image, image_of, Leads, AllLead, AreMarksOf, marked}
 use Rattle.dexpool.proofs.KeptRows.{mark_within, kept_has}
-use Rattle.dexinsn.specs.Numbered.{Use, AreMarkedToo, marks_of, same_kind, occurs}
+use Rattle.dexpool.specs.Uses.{Use, AreMarkedToo, marks_of, same_kind, occurs}
 use Rattle.dexcode.specs.Debug.{HasImage}
 use Rattle.dexcode.specs.Renumbering.{IsMarkedUse}
 

@@ -12,7 +12,7 @@ use Rattle.dexspec.specs.Weight.{operands}
 use Rattle.dexpool.specs.declared.symbols.SymbolKind.{SymbolKind}
 use Rattle.dexpool.specs.declared.symbols.SymbolKind.TheVariants as kinds
 use Rattle.dexpool.specs.Numberings.{IsAt, Maps, image_of}
-use Rattle.dexinsn.specs.Numbered.{Use}
+use Rattle.dexpool.specs.Uses.{Use}
 use Rattle.dexcode.specs.declared.debug_operation.Operation.{Operation}
 use Rattle.dexcode.specs.declared.debug_operation.Operation.TheVariants.{AdvancePc, AdvanceLine, StartLocal, StartLocalExtended, EndLocal, RestartLocal, SetPrologueEnd, SetEpilogueBegin, SetFile, Special}
 

@@ -5,7 +5,8 @@ use Rattle.std.specs.Option.{option_map, unwrap_or}
 use Rattle.dexpool.specs.declared.symbols.SymbolKind.TheVariants as kinds
 use Rattle.dexpool.specs.declared.marks.Marks.{Marks}
 use Rattle.dexpool.specs.Numberings.{Maps, image_of}
-use Rattle.dexinsn.specs.Numbered.{Use, uses_of, marks_of, renumbered}
+use Rattle.dexpool.specs.Uses.{Use, marks_of}
+use Rattle.dexinsn.specs.Numbered.{uses_of, renumbered}
 use Rattle.dexinsn.specs.Numbered as pieces
 use Rattle.dexcode.specs.Debug.{debug_uses, HasImage, HasPlace, renumbered_debug}
 use Rattle.dexcode.specs.declared.handlers.Catch.{Catch}

@@ -1,7 +1,7 @@
 //! Numbers of symbols in code items, and what becomes of them.
 
 ghost use Rattle.std.specs.Prelude.{◌≡◌, ◌↔◌, IsTrue, All};
-ghost use Rattle.dexinsn.specs.Numbered.{HasMark, AreMarkedToo};
+ghost use Rattle.dexpool.specs.Uses.{HasMark, AreMarkedToo};
 ghost use Rattle.dexcode.specs.Renumbering.{item_uses, HasPlaces, renumbered_item};
 
 use crate::code::Code;

@@ -8,7 +8,7 @@ ghost use Rattle.dexspec.specs.Spellings.{debug_bytes};
 ghost use Rattle.dexspec.specs.Weight.{debug_weight};
 ghost use Rattle.dexpool.specs.Numberings.{AreRising, AreMarksOf, Maps, AllLead};
 ghost use Rattle.dexpool.specs.declared.marks.Marks.{Marks};
-ghost use Rattle.dexinsn.specs.Numbered.{HasMark, IsUseOf};
+ghost use Rattle.dexpool.specs.Uses.{HasMark, IsUseOf};
 ghost use Rattle.dexcode.specs.Debug.{NumberedDebug, StandsForDebug, bare, numbered_debug_bytes, debug_uses, HasImage, HasPlace, renumbered_debug};
 
 use crate::debug::Debug;

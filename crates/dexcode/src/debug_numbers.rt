@@ -4,7 +4,7 @@ ghost use Rattle.std.specs.Prelude.{◌≡◌, ◌<◌, ◌≤◌, ◌*◌, ◌^
 ghost use Rattle.std.specs.List.{flat_map};
 ghost use Rattle.dexspec.specs.Weight.{debug_weight};
 ghost use Rattle.dexpool.specs.declared.symbols.SymbolKind.TheVariants as kinds;
-ghost use Rattle.dexinsn.specs.Numbered.{HasMark, AreMarkedToo};
+ghost use Rattle.dexpool.specs.Uses.{HasMark, AreMarkedToo};
 ghost use Rattle.dexcode.specs.Debug.{bare, number_uses, operation_uses, operation_weight, debug_uses, HasPlace, FitsIndex, IsFormedOperation, image_or_none, renumbered_operation, renumbered_debug};
 
 use crate::debug::Debug;
@@ -86,13 +86,7 @@ pub(crate) fn mark_one(kind: SymbolKind, number: usize, marks: &mut Marks)
     requires { HasMark marks.old (record { kind = kind; number = number }) }
     ensures { AreMarkedToo (record { kind = kind; number = number } ∷ []) marks.old marks.new }
 {
-    match kind {
-        SymbolKind::Text => marks.strings[number] = true,
-        SymbolKind::Typ => marks.types[number] = true,
-        SymbolKind::Proto => marks.protos[number] = true,
-        SymbolKind::Field => marks.fields[number] = true,
-        SymbolKind::Method => marks.methods[number] = true,
-    }
+    marks.mark(kind, number);
 }
 
 // Marks the symbols of an operation.

@@ -2,7 +2,7 @@
 
 ghost use Rattle.std.specs.Prelude.{◌≡◌, All, map};
 ghost use Rattle.std.specs.List.{flat_map};
-ghost use Rattle.dexinsn.specs.Numbered.{HasMark, AreMarkedToo};
+ghost use Rattle.dexpool.specs.Uses.{HasMark, AreMarkedToo};
 ghost use Rattle.dexcode.specs.Renumbering.{catch_use, handler_uses, tries_uses, HasTypePlace, renumbered_catch, renumbered_handler, renumbered_try};
 
 use crate::debug_numbers::mark_one;

@@ -4,7 +4,6 @@ pub mod Listings
 pub mod SameSteps
 pub mod Meanings
 pub mod PutUnits
-pub mod MarksMade
 pub mod Steps
 pub mod Lined
 pub mod FaultsRead

@@ -10,7 +10,8 @@ use Rattle.dexpool.specs.declared.symbols.SymbolKind.TheVariants as kinds
 use Rattle.dexpool.specs.Numberings.{Maps, image_of}
 use Rattle.dexinsn.specs.declared.pieces.Index.{Index}
 use Rattle.dexinsn.specs.Split.{IsPieceAt}
-use Rattle.dexinsn.specs.Numbered.{NumberedPiece, Instruction, Payload, Use, kind_in, kind_of_pool, index_room, piece_uses, uses_of, HasPlace, renumbered_piece}
+use Rattle.dexpool.specs.Uses.{Use}
+use Rattle.dexinsn.specs.Numbered.{NumberedPiece, Instruction, Payload, kind_in, kind_of_pool, index_room, piece_uses, uses_of, HasPlace, renumbered_piece}
 use Rattle.dexinsn.specs.Stored.{cuts_in, parts_in, piece_with, left_by, pieces_with, with_place, index_places, AreStored, FitsAt, use_at, HasPlaceAt, renumbered_index, IsIndexed}
 use Rattle.dexinsn.proofs.IndexRoom.{HasRoom, has_room}
 use Rattle.dexinsn.proofs.StoredRead.{same_pool, same_wide, first_kept, cut_pool, cut_first, cut_length}

@@ -20,7 +20,8 @@ use Rattle.dexpool.specs.declared.symbols.SymbolKind.{SymbolKind}
 use Rattle.dexpool.specs.declared.symbols.SymbolKind.TheVariants as kinds
 use Rattle.dexpool.specs.Numberings.{IsAt, IsNumbered, IsOfKind, AreRising, AreMarksOf, Maps, image_of, Leads, AllLead}
 use Rattle.dexpool.specs.declared.marks.Marks.{Marks}
-use Rattle.dexinsn.specs.Numbered.{NumberedPiece, Instruction, Payload, Use, HasMark, marks_of, StandsFor, StandFor, kind_in, kind_of_pool, uses_of, numbered_units, numbered_bytes, HasImage, HasPlace, renumbered_piece, IsUseOf}
+use Rattle.dexpool.specs.Uses.{Use, HasMark, marks_of, IsUseOf}
+use Rattle.dexinsn.specs.Numbered.{NumberedPiece, Instruction, Payload, StandsFor, StandFor, kind_in, kind_of_pool, uses_of, numbered_units, numbered_bytes, HasImage, HasPlace, renumbered_piece}
 
 no_proto : Proto
 no_proto = record { return_type = []; parameters = [] }

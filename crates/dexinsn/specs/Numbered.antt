@@ -1,17 +1,17 @@
 -- Pieces whose symbols are numbers: what they stand for under a numbering, and what becomes of them when the numbers
 -- change.
-use Rattle.std.specs.Prelude.{◌≡◌, ℕ, ◌^◌, ◌<◌, Bool, true, false, ◌||◌, ◌&&◌, ◌==◌, if◌then◌else◌, List, [], ◌∷◌, length, map, All, slice_index_or, Option, Some, None}
-use Rattle.std.specs.List.{AllZip, list_any, flat_map}
+use Rattle.std.specs.Prelude.{◌≡◌, ℕ, ◌^◌, ◌<◌, if◌then◌else◌, List, [], ◌∷◌, map, All, Option, Some, None}
+use Rattle.std.specs.List.{AllZip, flat_map}
 use Rattle.std.specs.Option.{IsSome, option_map_or}
 use Rattle.dexspec.specs.Bytes.{ushort}
-use Rattle.dexspec.specs.Symbols.{Pool, Strings, Types, Protos, Fields, Methods, Symbol, pool_of}
+use Rattle.dexspec.specs.Symbols.{Pool, Strings, Types, Protos, Fields, Methods, pool_of}
 use Rattle.dexspec.specs.Mentions.{Mentions}
 use Rattle.dexspec.specs.Pieces.{Piece, index_pool, is_wide_index, with_index}
 use Rattle.dexspec.specs.Pieces as symbolic
 use Rattle.dexpool.specs.declared.symbols.SymbolKind.{SymbolKind}
 use Rattle.dexpool.specs.declared.symbols.SymbolKind.TheVariants as kinds
-use Rattle.dexpool.specs.declared.marks.Marks.{Marks}
-use Rattle.dexpool.specs.Numberings.{IsNumbered, IsOfKind, Maps, image_of}
+use Rattle.dexpool.specs.Numberings.{IsNumbered, Maps, image_of}
+use Rattle.dexpool.specs.Uses.{Use}
 
 -- A piece of code: an instruction's units with those of its index put to zero, beside the number of the symbol that
 -- the index names, if it has one; or the units of a payload.
@@ -53,11 +53,6 @@ kind_of_pool Methods = kinds.Method
 abbrev pub kind_in : List ℕ → SymbolKind
 kind_in us = option_map_or kind_of_pool (index_pool us) kinds.Text
 
--- A symbol that occurs, by its kind and its number.
-pub record Use : Type 0 where
-  pub kind : SymbolKind
-  pub number : ℕ
-
 -- the symbol of an instruction's index
 abbrev pub piece_uses : NumberedPiece → List Use
 piece_uses (Instruction us (Some n)) = record { kind = kind_in us; number = n } ∷ []
@@ -66,10 +61,6 @@ piece_uses _ = []
 -- those of all pieces, in order
 abbrev pub uses_of : List NumberedPiece → List Use
 uses_of ps = flat_map piece_uses ps
-
--- the symbol is the one that occurs
-abbrev pub IsUseOf : Mentions → Use → Symbol → Type 0
-IsUseOf m u s = IsNumbered m u.number s × IsOfKind u.kind s
 
 -- ---- places of numbers
 
@@ -116,35 +107,3 @@ renumbered_piece r p = p
 -- the code with the numbers that its numbers lead to
 abbrev pub renumbered : Maps → NumberedCode → NumberedCode
 renumbered r c = record { registers = c.registers; ins = c.ins; outs = c.outs; pieces = map (renumbered_piece r) c.pieces }
-
--- ---- marks
-
--- the marks of a kind
-abbrev pub marks_of : SymbolKind → Marks → List Bool
-marks_of kinds.Text marks = marks.strings.items
-marks_of kinds.Typ marks = marks.types.items
-marks_of kinds.Proto marks = marks.protos.items
-marks_of kinds.Field marks = marks.fields.items
-marks_of kinds.Method marks = marks.methods.items
-
--- there is a mark for it
-abbrev pub HasMark : Marks → Use → Type 0
-HasMark marks u = u.number < length (marks_of u.kind marks)
-
--- whether the two kinds are one
-abbrev pub same_kind : SymbolKind → SymbolKind → Bool
-same_kind kinds.Text kinds.Text = true
-same_kind kinds.Typ kinds.Typ = true
-same_kind kinds.Proto kinds.Proto = true
-same_kind kinds.Field kinds.Field = true
-same_kind kinds.Method kinds.Method = true
-same_kind _ _ = false
-
--- whether the symbol of a kind and a number is one that occurs
-abbrev pub occurs : List Use → SymbolKind → ℕ → Bool
-occurs us kind i = list_any (λ u. same_kind u.kind kind && u.number == i) us
-
--- The marks are the old ones and those of what occurs.
-pub record AreMarkedToo (us : List Use) (old new : Marks) : Type 0 where
-  pub count : (kind : SymbolKind) → length (marks_of kind new) ≡ length (marks_of kind old)
-  pub each : (kind : SymbolKind) (i : ℕ) → slice_index_or (marks_of kind new) i false ≡ (slice_index_or (marks_of kind old) i false || occurs us kind i)

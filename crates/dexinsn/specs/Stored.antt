@@ -5,7 +5,8 @@ use Rattle.std.specs.Option.{option_map_or}
 use Rattle.dexspec.specs.Symbols.{Pool}
 use Rattle.dexspec.specs.Pieces.{Cut, AreCut, cut_units, piece_size, index_pool, is_payload_ident, is_wide_index, with_index}
 use Rattle.dexinsn.specs.declared.pieces.Index.{Index}
-use Rattle.dexinsn.specs.Numbered.{NumberedPiece, Instruction, Payload, Use, kind_in, index_room}
+use Rattle.dexpool.specs.Uses.{Use}
+use Rattle.dexinsn.specs.Numbered.{NumberedPiece, Instruction, Payload, kind_in, index_room}
 use Rattle.dexpool.specs.Numberings.{Maps, image_of}
 
 -- n pieces at most, cut from units of which the first is at a place

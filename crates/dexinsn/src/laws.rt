@@ -7,7 +7,8 @@ ghost use Rattle.dexspec.specs.Pieces.{Piece};
 ghost use Rattle.dexspec.specs.Spellings.{piece_units};
 ghost use Rattle.dexpool.specs.Numberings.{AreRising, AreMarksOf, Maps, AllLead};
 ghost use Rattle.dexpool.specs.declared.marks.Marks.{Marks};
-ghost use Rattle.dexinsn.specs.Numbered.{NumberedPiece, StandFor, IsUseOf, uses_of, numbered_units, HasImage, HasMark, HasPlace, renumbered_piece};
+ghost use Rattle.dexpool.specs.Uses.{IsUseOf, HasMark};
+ghost use Rattle.dexinsn.specs.Numbered.{NumberedPiece, StandFor, uses_of, numbered_units, HasImage, HasPlace, renumbered_piece};
 
 /// Where the symbols rise, the units of numbered pieces are those of the pieces that they stand for, each index the
 /// rank of its symbol.

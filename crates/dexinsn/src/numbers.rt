@@ -1,7 +1,8 @@
 //! Numbers of symbols, and what becomes of them.
 
 ghost use Rattle.std.specs.Prelude.{◌≡◌, ◌↔◌, ◌<◌, IsTrue, IfOk, All, map, ◌∷◌, [], length, slice_index_or};
-ghost use Rattle.dexinsn.specs.Numbered.{uses_of, HasMark, AreMarkedToo, HasPlace, Use, renumbered};
+ghost use Rattle.dexpool.specs.Uses.{HasMark, AreMarkedToo, Use};
+ghost use Rattle.dexinsn.specs.Numbered.{uses_of, HasPlace, renumbered};
 ghost use Rattle.dexinsn.specs.Stored.{HasPlaceAt, IsIndexed, renumbered_index, use_at};
 
 use crate::code_units::Units;
@@ -73,13 +74,7 @@ fn mark_one(kind: SymbolKind, number: usize, marks: &mut Marks)
     requires { HasMark marks.old (record { kind = kind; number = number }) }
     ensures { AreMarkedToo (record { kind = kind; number = number } ∷ []) marks.old marks.new }
 {
-    match kind {
-        SymbolKind::Text => marks.strings[number] = true,
-        SymbolKind::Typ => marks.types[number] = true,
-        SymbolKind::Proto => marks.protos[number] = true,
-        SymbolKind::Field => marks.fields[number] = true,
-        SymbolKind::Method => marks.methods[number] = true,
-    }
+    marks.mark(kind, number);
 }
 
 // Marks the symbols of all indices.

@@ -29,3 +29,4 @@ pub mod StoredProtos
 pub mod JoinedTables
 pub mod UnionLaws
 pub mod LeadingAll
+pub mod MarksMade

@@ -12,3 +12,4 @@ pub mod Owned
 pub mod Joining
 pub mod Laws
 pub mod Orderly
+pub mod Uses

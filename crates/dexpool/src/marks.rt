@@ -1,7 +1,8 @@
 //! Marks on the symbols of a numbering.
 
-ghost use Rattle.std.specs.Prelude.{◌≡◌, IfOk, [], false, replicate};
+ghost use Rattle.std.specs.Prelude.{◌≡◌, ◌∷◌, IfOk, [], false, replicate};
 ghost use Rattle.dexpool.specs.Numberings.{AreMarksOf, marked};
+ghost use Rattle.dexpool.specs.Uses.{HasMark, AreMarkedToo};
 
 use crate::numbering::Numbering;
 use crate::symbols::SymbolKind;
@@ -37,6 +38,22 @@ impl Marks {
             fields,
             methods,
         })
+    }
+
+    /// Marks the symbol of a kind and a number. No memory is taken.
+    ///
+    /// Condition: there is a mark for it.
+    pub fn mark(&mut self, kind: SymbolKind, number: usize)
+        requires { HasMark self.old (record { kind = kind; number = number }) }
+        ensures { AreMarkedToo (record { kind = kind; number = number } ∷ []) self.old self.new }
+    {
+        match kind {
+            SymbolKind::Text => self.strings[number] = true,
+            SymbolKind::Typ => self.types[number] = true,
+            SymbolKind::Proto => self.protos[number] = true,
+            SymbolKind::Field => self.fields[number] = true,
+            SymbolKind::Method => self.methods[number] = true,
+        }
     }
 }
 

@@ -10,7 +10,8 @@ use Rattle.dexval.specs.declared.value.Value.{Value}
 use Rattle.dexval.specs.declared.value.Element.{Element}
 use Rattle.dexval.specs.Code.{value_of, element_of, annotation_of}
 use Rattle.dexval.specs.Numbered.{NumberedValue, Reference, Named, kind_of_reference, values_of_list, elements_of_list}
-use Rattle.dexval.specs.Uses.{Use, value_uses, values_uses, element_uses, elements_uses, annotation_uses, set_uses, marks_of, HasMark, same_kind, occurs, AreMarkedToo}
+use Rattle.dexpool.specs.Uses.{Use, marks_of, HasMark, same_kind, occurs, AreMarkedToo}
+use Rattle.dexval.specs.Uses.{value_uses, values_uses, element_uses, elements_uses, annotation_uses, set_uses}
 use Rattle.dexval.proofs.CodeForms.{element_is}
 
 -- ---- marks on one list of symbols after the other

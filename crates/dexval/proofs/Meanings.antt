@@ -18,7 +18,8 @@ use Rattle.dexpool.specs.Laws.{LeadsAll}
 use Rattle.dexpool.specs.Numberings.{IsAt, IsNumbered, IsOfKind, AreMarksOf, Maps, image, image_of, Leads, AllLead}
 use Rattle.dexval.specs.Numbered.{Literal, ByteLiteral, ShortLiteral, CharLiteral, IntLiteral, LongLiteral, FloatLiteral, DoubleLiteral, NullLiteral, BooleanLiteral, Reference, StringReference, TypeReference, FieldReference, MethodReference, EnumReference, NumberedValue, NumberedValues, NumberedElements, NumberedAnnotation, NumberedSet, Plain, Named, Array, Annotated, NoValue, ThenNext, NoElement, ThenNamed, text_at, type_at, field_at, method_at, plain_value, named_value, kind_of_reference, value_in, values_in, elements_in, annotation_in, set_in, IsKnown, AreKnown, HaveKnown, IsKnownAnnotation, IsKnownSet, StandsFor, StandFor, StandsForSet}
 use Rattle.dexval.specs.Renumbering.{led, renumbered, renumbered_values, renumbered_elements, renumbered_annotation, renumbered_set, LeadsOn, HasPlaces, HavePlaces, ElementsHavePlaces, AnnotationHasPlaces, SetHasPlaces}
-use Rattle.dexval.specs.Uses.{Use, value_uses, values_uses, elements_uses, annotation_uses, set_uses, IsUseOf, HasMark, marks_of}
+use Rattle.dexpool.specs.Uses.{Use, IsUseOf, HasMark, marks_of}
+use Rattle.dexval.specs.Uses.{value_uses, values_uses, elements_uses, annotation_uses, set_uses}
 
 abbrev no_field : Field
 no_field = record { class = []; name = []; type = [] }

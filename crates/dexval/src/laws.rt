@@ -15,7 +15,8 @@ ghost use Rattle.dexpool.specs.declared.symbols.SymbolKind.{SymbolKind};
 ghost use Rattle.dexval.specs.Numbered.{NumberedValue, NumberedValues, NumberedAnnotation, NumberedSet, value_in, values_in, annotation_in, set_in, values_of_list, IsKnown, AreKnown, IsKnownSet, StandsFor, StandFor, StandsForSet};
 ghost use Rattle.dexval.specs.Renumbering.{renumbered, renumbered_values, renumbered_set, HasPlaces, HavePlaces, SetHasPlaces};
 ghost use Rattle.dexval.specs.Spelled.{IsCounted, AreCounted, IsCountedAnnotation, numbered_offsets};
-ghost use Rattle.dexval.specs.Uses.{value_uses, values_uses, set_uses, IsUseOf, HasMark};
+ghost use Rattle.dexpool.specs.Uses.{IsUseOf, HasMark};
+ghost use Rattle.dexval.specs.Uses.{value_uses, values_uses, set_uses};
 
 use dexpool::number_law;
 

@@ -4,7 +4,8 @@ ghost use Rattle.std.specs.Prelude.{◌≡◌, ◌∷◌, [], All, map};
 ghost use Rattle.std.specs.List.{flat_map};
 ghost use Rattle.dexval.specs.Code.{value_of, element_of, annotation_of, set_of};
 ghost use Rattle.dexval.specs.Numbered.{values_of_list, elements_of_list};
-ghost use Rattle.dexval.specs.Uses.{value_uses, values_uses, element_uses, elements_uses, annotation_uses, set_uses, HasMark, AreMarkedToo};
+ghost use Rattle.dexpool.specs.Uses.{HasMark, AreMarkedToo};
+ghost use Rattle.dexval.specs.Uses.{value_uses, values_uses, element_uses, elements_uses, annotation_uses, set_uses};
 
 use crate::annotation::Annotation;
 use crate::set::AnnotationSet;
@@ -16,13 +17,7 @@ fn mark_one(kind: SymbolKind, number: usize, marks: &mut Marks)
     requires { HasMark marks.old (record { kind = kind; number = number }) }
     ensures { AreMarkedToo (record { kind = kind; number = number } ∷ []) marks.old marks.new }
 {
-    match kind {
-        SymbolKind::Text => marks.strings[number] = true,
-        SymbolKind::Typ => marks.types[number] = true,
-        SymbolKind::Proto => marks.protos[number] = true,
-        SymbolKind::Field => marks.fields[number] = true,
-        SymbolKind::Method => marks.methods[number] = true,
-    }
+    marks.mark(kind, number);
 }
 
 // Marks the names of elements, and the symbols that occur in their values.

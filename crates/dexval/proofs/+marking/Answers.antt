@@ -5,7 +5,8 @@ use Rattle.dexpool.specs.declared.symbols.SymbolKind.TheVariants as kinds
 use Rattle.dexval.specs.declared.value.Element.{Element}
 use Rattle.dexval.specs.Code.{value_of, element_of}
 use Rattle.dexval.specs.Numbered.{StringReference, TypeReference, FieldReference, MethodReference, EnumReference, elements_of_list}
-use Rattle.dexval.specs.Uses.{Use, value_uses, element_uses, elements_uses, HasMark, AreMarkedToo}
+use Rattle.dexpool.specs.Uses.{Use, HasMark, AreMarkedToo}
+use Rattle.dexval.specs.Uses.{value_uses, element_uses, elements_uses}
 use Rattle.dexval.proofs.CodeForms.{string_is, typ_is, field_is, method_is, enum_is, annotation_is, element_is}
 use Rattle.dexval.proofs.Members.{value_lighter, element_lighter}
 use Rattle.dexval.proofs.ValueForms.{annotation_lighter}

@@ -2,7 +2,8 @@ use Rattle.std.proofs.Common.{◌+◌, map, take}
 use Rattle.dexval.specs.Code.{value_of, element_of}
 use Rattle.dexval.specs.Numbered.{values_of_list, elements_of_list}
 use Rattle.dexval.specs.Spelled.{numbered_weight, numbered_values_weight, numbered_elements_weight}
-use Rattle.dexval.specs.Uses.{values_uses, elements_uses, AreMarkedToo}
+use Rattle.dexpool.specs.Uses.{AreMarkedToo}
+use Rattle.dexval.specs.Uses.{values_uses, elements_uses}
 use Rattle.dexval.proofs.+marking.Given as goal
 
 abbrev pub invariant-marking::mark_elements-loop-element : goal.invariant-marking::mark_elements-loop-element

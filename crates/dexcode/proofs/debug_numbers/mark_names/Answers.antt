@@ -1,7 +1,7 @@
 use Rattle.std.proofs.Common.{None, get_or, take}
 use Rattle.std.specs.List.{flat_map}
 use Rattle.dexpool.specs.declared.symbols.SymbolKind.TheVariants as kinds
-use Rattle.dexinsn.specs.Numbered.{HasMark}
+use Rattle.dexpool.specs.Uses.{HasMark}
 use Rattle.dexcode.specs.Debug.{number_uses}
 use Rattle.dexcode.proofs.DebugUses.{still_all, all_part}
 use Rattle.dexcode.proofs.debug_numbers.mark_names.Goals as goal

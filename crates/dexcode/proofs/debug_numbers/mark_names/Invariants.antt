@@ -1,7 +1,7 @@
 use Rattle.std.proofs.Common.{take}
 use Rattle.std.specs.List.{flat_map}
 use Rattle.dexpool.specs.declared.symbols.SymbolKind.TheVariants as kinds
-use Rattle.dexinsn.specs.Numbered.{AreMarkedToo}
+use Rattle.dexpool.specs.Uses.{AreMarkedToo}
 use Rattle.dexcode.specs.Debug.{number_uses}
 use Rattle.dexcode.proofs.debug_numbers.mark_names.Given as goal
 

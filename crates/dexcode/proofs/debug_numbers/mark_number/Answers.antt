@@ -1,4 +1,4 @@
-use Rattle.dexinsn.specs.Numbered.{HasMark}
+use Rattle.dexpool.specs.Uses.{HasMark}
 use Rattle.dexcode.proofs.DebugUses.{use_of}
 use Rattle.dexcode.proofs.debug_numbers.mark_number.Goals as goal
 

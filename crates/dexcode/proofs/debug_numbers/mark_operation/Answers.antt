@@ -1,7 +1,7 @@
 use Rattle.std.proofs.Common.{◌++◌, subst, sym}
 use Rattle.std.specs.List.{All}
 use Rattle.dexpool.specs.declared.symbols.SymbolKind.TheVariants as kinds
-use Rattle.dexinsn.specs.Numbered.{HasMark, AreMarkedToo}
+use Rattle.dexpool.specs.Uses.{HasMark, AreMarkedToo}
 use Rattle.dexcode.specs.Debug.{number_uses, name_of, type_of, signature_of}
 use Rattle.dexcode.proofs.DebugUses.{still_all, marked_both, type_part, signature_part}
 use Rattle.dexcode.proofs.debug_numbers.mark_operation.Goals as goal

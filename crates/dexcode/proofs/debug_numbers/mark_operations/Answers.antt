@@ -1,6 +1,6 @@
 use Rattle.std.proofs.Common.{get_or, take}
 use Rattle.std.specs.List.{flat_map}
-use Rattle.dexinsn.specs.Numbered.{HasMark}
+use Rattle.dexpool.specs.Uses.{HasMark}
 use Rattle.dexcode.specs.declared.debug_operation.Operation.TheVariants.{AdvancePc}
 use Rattle.dexcode.specs.Debug.{operation_uses}
 use Rattle.dexcode.proofs.DebugUses.{still_all, all_part}

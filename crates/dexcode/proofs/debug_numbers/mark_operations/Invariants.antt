@@ -1,6 +1,6 @@
 use Rattle.std.proofs.Common.{take}
 use Rattle.std.specs.List.{flat_map}
-use Rattle.dexinsn.specs.Numbered.{AreMarkedToo}
+use Rattle.dexpool.specs.Uses.{AreMarkedToo}
 use Rattle.dexcode.specs.Debug.{operation_uses}
 use Rattle.dexcode.proofs.debug_numbers.mark_operations.Given as goal
 

@@ -1,5 +1,5 @@
 use Rattle.std.proofs.Common.{map, take}
-use Rattle.dexinsn.proofs.MarksMade.{mark_there, mapped_more}
+use Rattle.dexpool.proofs.MarksMade.{mark_there, mapped_more}
 use Rattle.dexcode.specs.Renumbering.{catch_use}
 use Rattle.dexcode.proofs.tries_numbers.mark_catches.Goals as goal
 

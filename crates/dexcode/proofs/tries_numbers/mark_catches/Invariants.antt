@@ -1,5 +1,5 @@
 use Rattle.std.proofs.Common.{map, take}
-use Rattle.dexinsn.specs.Numbered.{AreMarkedToo}
+use Rattle.dexpool.specs.Uses.{AreMarkedToo}
 use Rattle.dexcode.specs.Renumbering.{catch_use}
 use Rattle.dexcode.proofs.tries_numbers.mark_catches.Given as goal
 

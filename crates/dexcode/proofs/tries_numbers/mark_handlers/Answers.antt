@@ -1,6 +1,6 @@
 use Rattle.std.proofs.Common.{sym, subst, take}
 use Rattle.std.specs.List.{All, flat_map}
-use Rattle.dexinsn.specs.Numbered.{HasMark}
+use Rattle.dexpool.specs.Uses.{HasMark}
 use Rattle.dexcode.specs.Renumbering.{handler_uses}
 use Rattle.dexcode.proofs.DebugUses.{still_all, all_part}
 use Rattle.dexcode.proofs.tries_numbers.mark_handlers.Goals as goal

@@ -1,6 +1,6 @@
 use Rattle.std.proofs.Common.{take}
 use Rattle.std.specs.List.{flat_map}
-use Rattle.dexinsn.specs.Numbered.{AreMarkedToo}
+use Rattle.dexpool.specs.Uses.{AreMarkedToo}
 use Rattle.dexcode.specs.Renumbering.{handler_uses}
 use Rattle.dexcode.proofs.tries_numbers.mark_handlers.Given as goal
 

@@ -1,7 +1,7 @@
 use Rattle.std.proofs.Common.{◌∷◌, [], map, take, get_or, sym, subst}
-use Rattle.dexinsn.specs.Numbered.{HasMark, AreMarkedToo}
+use Rattle.dexpool.specs.Uses.{HasMark, AreMarkedToo}
 use Rattle.dexinsn.specs.Stored.{use_at}
-use Rattle.dexinsn.proofs.MarksMade.{mark_there, mapped_more}
+use Rattle.dexpool.proofs.MarksMade.{mark_there, mapped_more}
 use Rattle.dexinsn.proofs.numbers.mark_indices.Goals as goal
 
 pub mark_one-requires : goal.mark_one-requires

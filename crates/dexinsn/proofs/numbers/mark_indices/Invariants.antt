@@ -1,5 +1,5 @@
 use Rattle.std.proofs.Common.{map, take}
-use Rattle.dexinsn.specs.Numbered.{AreMarkedToo}
+use Rattle.dexpool.specs.Uses.{AreMarkedToo}
 use Rattle.dexinsn.specs.Stored.{use_at}
 use Rattle.dexinsn.proofs.numbers.mark_indices.Given as goal
 

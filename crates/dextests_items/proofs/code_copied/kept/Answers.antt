@@ -4,7 +4,8 @@ use Rattle.dexspec.specs.Mentions.{Mentions}
 use Rattle.dexpool.specs.declared.marks.Marks.{Marks}
 use Rattle.dexpool.specs.declared.symbols.SymbolKind.TheVariants as kinds
 use Rattle.dexpool.specs.Numberings.{AreMarksOf, AllLead}
-use Rattle.dexinsn.specs.Numbered.{Use, HasPlace, AreMarkedToo}
+use Rattle.dexpool.specs.Uses.{Use, AreMarkedToo}
+use Rattle.dexinsn.specs.Numbered.{HasPlace}
 use Rattle.dexcode.specs.Renumbering.{item_uses}
 use Rattle.dextests_items.proofs.code_copied.kept.Goals as goal
 

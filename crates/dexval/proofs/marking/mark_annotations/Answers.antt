@@ -1,6 +1,6 @@
 use Rattle.std.proofs.Common.{◌+◌, take, sym, subst}
 use Rattle.std.specs.List.{All}
-use Rattle.dexval.specs.Uses.{HasMark, AreMarkedToo}
+use Rattle.dexpool.specs.Uses.{HasMark, AreMarkedToo}
 use Rattle.dexval.proofs.Marked.{next_has_marks, member_marked, note_uses, uses_of_annotations}
 use Rattle.dexval.proofs.marking.mark_annotations.Goals as goal
 

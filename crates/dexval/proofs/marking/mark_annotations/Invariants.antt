@@ -1,6 +1,7 @@
 use Rattle.std.proofs.Common.{map, take}
 use Rattle.dexval.specs.Code.{annotation_of}
-use Rattle.dexval.specs.Uses.{set_uses, AreMarkedToo}
+use Rattle.dexpool.specs.Uses.{AreMarkedToo}
+use Rattle.dexval.specs.Uses.{set_uses}
 use Rattle.dexval.proofs.marking.mark_annotations.Given as goal
 
 abbrev pub invariant-loop-annotation : goal.invariant-loop-annotation

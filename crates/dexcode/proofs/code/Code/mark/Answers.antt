@@ -1,6 +1,7 @@
 use Rattle.std.proofs.Common.{◌++◌, sym, subst}
 use Rattle.std.specs.List.{All}
-use Rattle.dexinsn.specs.Numbered.{uses_of, HasMark}
+use Rattle.dexpool.specs.Uses.{HasMark}
+use Rattle.dexinsn.specs.Numbered.{uses_of}
 use Rattle.dexcode.specs.Debug.{debug_uses}
 use Rattle.dexcode.specs.Numbered.{NumberedItem}
 use Rattle.dexcode.specs.Renumbering.{tries_uses, item_uses}

@@ -1,7 +1,7 @@
 use Rattle.std.proofs.Common.{subst, sym}
 use Rattle.std.specs.List.{All, flat_map}
 use Rattle.dexpool.specs.declared.symbols.SymbolKind.TheVariants as kinds
-use Rattle.dexinsn.specs.Numbered.{HasMark, AreMarkedToo}
+use Rattle.dexpool.specs.Uses.{HasMark, AreMarkedToo}
 use Rattle.dexcode.specs.Debug.{number_uses, operation_uses, debug_uses}
 use Rattle.dexcode.proofs.DebugUses.{all_back, still_all, marked_both}
 use Rattle.dexcode.proofs.debug.Debug.mark.Goals as goal

@@ -1,7 +1,8 @@
 use Rattle.std.proofs.Common.{◌≡◌, map, ap, sym, subst, ◌∙◌}
 use Rattle.std.specs.List.{All}
 use Rattle.dexinsn.specs.Units.{units_in}
-use Rattle.dexinsn.specs.Numbered.{uses_of, HasMark, AreMarkedToo}
+use Rattle.dexpool.specs.Uses.{HasMark, AreMarkedToo}
+use Rattle.dexinsn.specs.Numbered.{uses_of}
 use Rattle.dexinsn.specs.Stored.{use_at}
 use Rattle.dexinsn.proofs.Lined.{indexed_for, uses_for}
 use Rattle.dexinsn.proofs.pieces.Pieces.mark.Goals as goal

@@ -5,7 +5,8 @@ use Rattle.dexpool.specs.declared.symbols.SymbolKind.TheVariants as kinds
 use Rattle.dexval.specs.declared.value.Element.{Element}
 use Rattle.dexval.specs.Code.{element_of}
 use Rattle.dexval.specs.Numbered.{elements_of_list}
-use Rattle.dexval.specs.Uses.{Use, elements_uses, HasMark}
+use Rattle.dexpool.specs.Uses.{Use, HasMark}
+use Rattle.dexval.specs.Uses.{elements_uses}
 use Rattle.dexval.proofs.Marked.{still_all}
 use Rattle.dexval.proofs.annotation.Annotation.mark.Goals as goal
 

@@ -7,3 +7,4 @@ pub mod Equality
 pub mod Numbered
 pub mod Reading
 pub mod Renumbering
+pub mod Meaning

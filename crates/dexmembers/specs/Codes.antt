@@ -1,0 +1,39 @@
+-- The code of methods as it is read, one after the other.
+use Rattle.std.specs.Prelude.{◌≡◌, ◌≢◌, ℕ, ◌+◌, ◌<◌, ◌≤◌, List, Option, None, sum_by, option_to_list}
+use Rattle.std.specs.List.{AllZip, Contains}
+use Rattle.dexspec.specs.Lists.{OrNone, SomeAt, BothOrNone}
+use Rattle.dexspec.specs.Code.{Code, CodeAt}
+use Rattle.dexspec.specs.Mentions.{Mentions}
+use Rattle.dexspec.specs.Weight.{code_weight, debug_weight}
+use Rattle.dexpool.specs.declared.faults.ItemFault.{ItemFault}
+use Rattle.dexcode.specs.Numbered.{NumberedItem, StandsForCode}
+use Rattle.dexcode.specs.Reading.{IsCodeFault}
+use Rattle.dexmembers.specs.declared.class_data.EncodedMethod.{EncodedMethod}
+
+-- what code weighs, with its debug program; none weighs nothing
+abbrev pub optional_code_weight : Option Code → ℕ
+optional_code_weight c = sum_by (λ c. code_weight c + sum_by debug_weight (option_to_list c.debug)) (option_to_list c)
+
+-- at the offset of each method stands its code, or the offset is 0 and there is none
+abbrev pub AreCodesAt : List ℕ → List EncodedMethod → List (Option Code) → Type 0
+AreCodesAt b xs codes = AllZip (λ x c. OrNone (SomeAt CodeAt) None b x.code_off c) xs codes
+
+-- the code of the methods, where it weighs no more than it may
+pub record AreCodesOf (b : List ℕ) (m : Mentions) (xs : List EncodedMethod) (most : ℕ) (codes : List (Option NumberedItem)) : Type 0 where
+  pub symbolic : List (Option Code)
+  pub at : AreCodesAt b xs symbolic
+  pub stand : AllZip (BothOrNone (StandsForCode m)) codes symbolic
+  pub light : sum_by optional_code_weight symbolic ≤ most
+
+-- the methods have code that weighs more
+pub record AreHeavyCodes (b : List ℕ) (xs : List EncodedMethod) (most : ℕ) : Type 0 where
+  pub symbolic : List (Option Code)
+  pub at : AreCodesAt b xs symbolic
+  pub heavy : most < sum_by optional_code_weight symbolic
+
+-- the fault is that of the code of one of the methods
+pub record IsFaultOfOne (b : List ℕ) (xs : List EncodedMethod) (fault : ItemFault) : Type 0 where
+  pub method : EncodedMethod
+  pub among : Contains xs method
+  pub coded : method.code_off ≢ 0
+  pub failed : IsCodeFault b method.code_off fault

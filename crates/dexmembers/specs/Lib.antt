@@ -1,0 +1,5 @@
+pub mod Numbered
+pub mod Weight
+pub mod ClassData
+pub mod Codes
+pub mod Reading

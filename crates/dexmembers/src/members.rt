@@ -1,0 +1,186 @@
+//! What a class declares, with numbers in the place of symbols.
+
+ghost use Rattle.std.specs.Prelude.{◌≡◌, Some, None, MatchOption, map};
+ghost use Rattle.dexval.specs.Code.{set_of, value_of};
+ghost use Rattle.dexval.specs.Numbered.{values_of_list};
+ghost use Rattle.dexmembers.specs.Numbered.{no_members};
+
+use dexcode::Code;
+use dexval::{AnnotationSet, Value};
+use std::alloc::Global;
+use std::marker::Model;
+
+/// A declared field: its number among the fields, its access flags, and its annotations.
+///
+/// Source: "encoded_field format", "field_annotation format".
+#[derive(Drop)]
+pub struct Field {
+    pub(crate) number: u32,
+    pub(crate) flags: u32,
+    pub(crate) annotations: AnnotationSet,
+}
+
+impl Model for Field {
+    ghost use Rattle.dexval.specs.Code.{set_of};
+    ghost use Rattle.dexmembers.specs.Numbered.{NumberedField};
+
+    ghost Value = { NumberedField };
+
+    ghost view = { λ f. record { number = f.number; flags = f.flags; annotations = set_of f.annotations } };
+}
+
+/// A declared method: its number among the methods, its access flags, its code, if it has some, its annotations, and a set of
+/// annotations for each parameter, or none.
+///
+/// Source: "encoded_method format", "method_annotation format", "parameter_annotation format".
+#[derive(Drop)]
+pub struct Method<'a> {
+    pub(crate) number: u32,
+    pub(crate) flags: u32,
+    pub(crate) code: Option<Code<'a>>,
+    pub(crate) annotations: AnnotationSet,
+    pub(crate) parameter_annotations: Vec<AnnotationSet>,
+}
+
+impl<'a> Model for Method<'a> {
+    ghost use Rattle.std.specs.Prelude.{map};
+    ghost use Rattle.dexval.specs.Code.{set_of};
+    ghost use Rattle.dexmembers.specs.Numbered.{NumberedMethod};
+
+    ghost Value = { NumberedMethod };
+
+    ghost view = { λ x. record { number = x.number; flags = x.flags; code = x.code; annotations = set_of x.annotations; parameter_annotations = map set_of x.parameter_annotations.items } };
+}
+
+/// What a class declares: its own annotations, its fields and methods by number, and what its static fields begin with, in
+/// their order, which may be fewer.
+///
+/// Source: "class_data_item", "annotations_directory_item", "encoded_array_item".
+#[derive(Drop)]
+pub struct Members<'a> {
+    pub(crate) annotations: AnnotationSet,
+    pub(crate) static_fields: Vec<Field>,
+    pub(crate) instance_fields: Vec<Field>,
+    pub(crate) direct_methods: Vec<Method<'a>>,
+    pub(crate) virtual_methods: Vec<Method<'a>>,
+    pub(crate) static_values: Vec<Value>,
+}
+
+impl<'a> Model for Members<'a> {
+    ghost use Rattle.std.specs.Prelude.{map};
+    ghost use Rattle.dexval.specs.Code.{set_of, value_of};
+    ghost use Rattle.dexval.specs.Numbered.{values_of_list};
+    ghost use Rattle.dexmembers.specs.Numbered.{NumberedMembers};
+
+    ghost Value = { NumberedMembers };
+
+    ghost view = { λ x. record { annotations = set_of x.annotations; static_fields = x.static_fields.items; instance_fields = x.instance_fields.items; direct_methods = x.direct_methods.items; virtual_methods = x.virtual_methods.items; static_values = values_of_list (map value_of x.static_values.items) } };
+}
+
+impl Field {
+    /// The number of the field. No memory is taken.
+    pub fn number(&self) -> u32
+        ensures { result ≡ self.now.number }
+    {
+        self.number
+    }
+
+    /// The access flags. No memory is taken.
+    ///
+    /// Source: "access_flags definitions".
+    pub fn flags(&self) -> u32
+        ensures { result ≡ self.now.flags }
+    {
+        self.flags
+    }
+
+    /// The annotations. No memory is taken.
+    pub fn annotations(&self) -> &AnnotationSet
+        ensures { set_of result.now ≡ self.now.annotations }
+    {
+        &self.annotations
+    }
+}
+
+impl<'a> Method<'a> {
+    /// The number of the method. No memory is taken.
+    pub fn number(&self) -> u32
+        ensures { result ≡ self.now.number }
+    {
+        self.number
+    }
+
+    /// The access flags. No memory is taken.
+    ///
+    /// Source: "access_flags definitions".
+    pub fn flags(&self) -> u32
+        ensures { result ≡ self.now.flags }
+    {
+        self.flags
+    }
+
+    /// The code, if the method has some. No memory is taken.
+    pub fn code(&self) -> Option<&Code<'a>>
+        ensures { MatchOption result (self.now.code ≡ None) (λ code. self.now.code ≡ Some code.now) }
+    {
+        self.code.as_ref()
+    }
+
+    /// The annotations. No memory is taken.
+    pub fn annotations(&self) -> &AnnotationSet
+        ensures { set_of result.now ≡ self.now.annotations }
+    {
+        &self.annotations
+    }
+
+    /// The annotations of the parameters, from left to right; there may be fewer sets than parameters. No memory is taken.
+    pub fn parameter_annotations(&self) -> &[AnnotationSet]
+        ensures { map set_of result.now ≡ self.now.parameter_annotations }
+    {
+        &self.parameter_annotations
+    }
+}
+
+impl<'a> Members<'a> {
+    /// The annotations of the class itself. No memory is taken.
+    pub fn annotations(&self) -> &AnnotationSet
+        ensures { set_of result.now ≡ self.now.annotations }
+    {
+        &self.annotations
+    }
+
+    /// The static fields, by number. No memory is taken.
+    pub fn static_fields(&self) -> &[Field]
+        ensures { result.now ≡ self.now.static_fields }
+    {
+        &self.static_fields
+    }
+
+    /// The instance fields, by number. No memory is taken.
+    pub fn instance_fields(&self) -> &[Field]
+        ensures { result.now ≡ self.now.instance_fields }
+    {
+        &self.instance_fields
+    }
+
+    /// The direct methods, by number. No memory is taken.
+    pub fn direct_methods(&self) -> &[Method<'a>]
+        ensures { result.now ≡ self.now.direct_methods }
+    {
+        &self.direct_methods
+    }
+
+    /// The virtual methods, by number. No memory is taken.
+    pub fn virtual_methods(&self) -> &[Method<'a>]
+        ensures { result.now ≡ self.now.virtual_methods }
+    {
+        &self.virtual_methods
+    }
+
+    /// What the static fields begin with, in their order. No memory is taken.
+    pub fn static_values(&self) -> &[Value]
+        ensures { values_of_list (map value_of result.now) ≡ self.now.static_values }
+    {
+        &self.static_values
+    }
+}

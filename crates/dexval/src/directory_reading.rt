@@ -73,9 +73,7 @@ fn set_or_empty_at(
     ensures { AreFilePools frame.now pools.now → IfOk result (λ found. MatchOption found (NoSetOrEmptyAt frame.now off) (λ set. IsSetOrEmptyAt frame.now off pools.now (set_of set))) }
 {
     if off == 0 {
-        return Ok(Some(AnnotationSet {
-            annotations: Vec::new(alloc),
-        }));
+        return Ok(Some(AnnotationSet::empty(alloc)));
     }
     set_at(alloc, frame, pools, off)
 }

@@ -28,3 +28,5 @@ pub mod KeptUses
 pub mod CodeSpellings
 pub mod HandlerPlaces
 pub mod CodeSizes
+pub mod MeaningDebug
+pub mod Meanings

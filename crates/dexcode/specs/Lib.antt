@@ -4,7 +4,7 @@ pub mod DebugEquality
 pub mod DebugPut
 pub mod DebugReading
 pub mod Equality
+pub mod Meaning
 pub mod Numbered
 pub mod Reading
 pub mod Renumbering
-pub mod Meaning

@@ -19,6 +19,7 @@ pub use debug_positions::positions;
 pub use debug_put::put_debug;
 pub use debug_reading::read_debug;
 pub use handlers::{Catch, Handler};
+pub use meaning_laws::{code_meaning_law, debug_meaning_law};
 pub use tries::{Tries, Try};
 
 mod catches;
@@ -41,6 +42,7 @@ mod debug_reading;
 mod debug_same;
 mod handler_list;
 mod handlers;
+mod meaning_laws;
 mod tries;
 mod tries_numbers;
 mod tries_same;

@@ -1,0 +1,126 @@
+-- What numbered code means, as a function.
+use Rattle.std.proofs.Common.{◌≡◌, ℕ, ◌<◌, List, [], length, Option, Some, None, refl, ap, sym, subst}
+use Rattle.std.specs.Option.{IsSome, option_map_or}
+use Rattle.dexspec.specs.Symbols.{Pool, Strings, Types, Protos, Fields, Methods, Symbol, TextSymbol, TypeSymbol, ProtoSymbol, FieldSymbol, MethodSymbol, pool_of}
+use Rattle.dexspec.specs.Pieces.{Piece, index_pool}
+use Rattle.dexspec.specs.Pieces as pieces
+use Rattle.dexspec.specs.Mentions.{Mentions}
+use Rattle.dexspec.specs.Code as symbolic
+use Rattle.dexpool.specs.declared.symbols.SymbolKind.{SymbolKind}
+use Rattle.dexpool.specs.declared.symbols.SymbolKind.TheVariants as kinds
+use Rattle.dexpool.specs.Numberings.{IsNumbered}
+use Rattle.dexpool.specs.Pools.{count_of}
+use Rattle.dexinsn.specs.Numbered.{NumberedPiece, Instruction, Payload, StandsFor, kind_of_pool}
+use Rattle.dexcode.specs.declared.handlers.Catch.{Catch}
+use Rattle.dexcode.specs.Debug.{StandsForDebug}
+use Rattle.dexcode.specs.Meaning.{symbol_at, piece_in, debug_in, code_in, IsKnownPiece, IsKnownTry, IsKnownDebug, IsKnownCode}
+use Rattle.dexcode.specs.Numbered.{NumberedTry, NumberedItem, StandsForCatch, StandsForTry, StandsForCode, catch_meant, try_meant}
+use Rattle.dexcode.proofs.MeaningDebug.{all_known, all_mean, all_stand, one_known, one_means, one_stands, at_place, debug_known, debug_means, debug_stands}
+
+module _ (m : Mentions) where
+  -- ---- pieces
+
+  -- the kind of a pool, if there is one
+  abbrev kind_named : Option Pool → SymbolKind
+  kind_named o = option_map_or kind_of_pool o kinds.Text
+
+  -- a number of a kind that is named is that of the symbol
+  record IsNamed (o : Option Pool) (n : ℕ) (s : Symbol) : Type 0 where
+    some : IsSome o
+    within : n < count_of (kind_named o) m
+    is : s ≡ symbol_at m (kind_named o) n
+
+  symbol_named : (n : ℕ) (s : Symbol) → IsNumbered m n s → IsNamed (Some (pool_of s)) n s
+  symbol_named n (TextSymbol s) h = record { some = refl; within = h.within; is = ap TextSymbol (sym (h.is [])) }
+  symbol_named n (TypeSymbol t) h = record { some = refl; within = h.within; is = ap TypeSymbol (sym (h.is [])) }
+  symbol_named n (ProtoSymbol p) h = record { some = refl; within = h.within; is = ap ProtoSymbol (sym (h.is (record { return_type = []; parameters = [] }))) }
+  symbol_named n (FieldSymbol f) h = record { some = refl; within = h.within; is = ap FieldSymbol (sym (h.is (record { class = []; name = []; type = [] }))) }
+  symbol_named n (MethodSymbol x) h = record { some = refl; within = h.within; is = ap MethodSymbol (sym (h.is (record { class = []; name = []; proto = record { return_type = []; parameters = [] } }))) }
+
+  index_named : (o : Option Pool) (n : ℕ) (s : Symbol) → o ≡ Some (pool_of s) → IsNumbered m n s → IsNamed o n s
+  index_named o n s e h = subst (λ p. IsNamed p n s) (sym e) (symbol_named n s h)
+
+  symbol_stands : (o : Option Pool) (n : ℕ) → IsSome o → n < count_of (kind_named o) m → (o ≡ Some (pool_of (symbol_at m (kind_named o) n))) × IsNumbered m n (symbol_at m (kind_named o) n)
+  symbol_stands None n some lt = absurd cc
+  symbol_stands (Some Strings) n some lt = (refl, at_place m.texts n [] lt)
+  symbol_stands (Some Types) n some lt = (refl, at_place m.types n [] lt)
+  symbol_stands (Some Protos) n some lt = (refl, at_place m.protos n (record { return_type = []; parameters = [] }) lt)
+  symbol_stands (Some Fields) n some lt = (refl, at_place m.fields n (record { class = []; name = []; type = [] }) lt)
+  symbol_stands (Some Methods) n some lt = (refl, at_place m.methods n (record { class = []; name = []; proto = record { return_type = []; parameters = [] } }) lt)
+
+  piece_known : (p : NumberedPiece) (q : Piece) → StandsFor m p q → IsKnownPiece m p
+  piece_known (Instruction us None) (pieces.Instruction xs None) h = tt
+  piece_known (Instruction us (Some n)) (pieces.Instruction xs (Some s)) h = let named = index_named (index_pool us) n s h.1 h.2 in (named.some, named.within)
+  piece_known (Payload us) (pieces.Payload xs) h = tt
+  piece_known _ _ h = absurd h
+
+  piece_means : (p : NumberedPiece) (q : Piece) → StandsFor m p q → q ≡ piece_in m p
+  piece_means (Instruction us None) (pieces.Instruction xs None) h = ap (λ (vs : List ℕ). pieces.Instruction vs None) (sym h)
+  piece_means (Instruction us (Some n)) (pieces.Instruction xs (Some s)) h =
+      let named = index_named (index_pool us) n s h.1 h.2 in
+      λ i. pieces.Instruction (sym h.0 i) (Some (named.is i))
+  piece_means (Payload us) (pieces.Payload xs) h = ap pieces.Payload (sym h)
+  piece_means _ _ h = absurd h
+
+  piece_stands : (p : NumberedPiece) → IsKnownPiece m p → StandsFor m p (piece_in m p)
+  piece_stands (Instruction us None) h = refl
+  piece_stands (Instruction us (Some n)) h = let stands = symbol_stands (index_pool us) n h.0 h.1 in (refl, stands.0, stands.1)
+  piece_stands (Payload us) h = refl
+
+  -- ---- tries
+
+  catch_means : (c : Catch) (x : symbolic.Catch) → StandsForCatch m c x → x ≡ catch_meant m c
+  catch_means c x h =
+      let typ = sym (h.type_is.is []) in
+      let address = sym h.address_is in
+      λ i. record { type = typ i; address = address i }
+
+  try_known : (t : NumberedTry) (x : symbolic.Try) → StandsForTry m t x → IsKnownTry m t
+  try_known t x h = all_known (StandsForCatch m) (λ (c : Catch). c.typ < length m.types) (catch_meant m) (λ c y e. e.type_is.within) t.handler.catches x.handler.catches h.handler_is.catches_are
+
+  try_means : (t : NumberedTry) (x : symbolic.Try) → StandsForTry m t x → x ≡ try_meant m t
+  try_means t x h =
+      let start = sym h.start_is in
+      let count = sym h.count_is in
+      let catches = all_mean (StandsForCatch m) (λ (c : Catch). c.typ < length m.types) (catch_meant m) catch_means t.handler.catches x.handler.catches h.handler_is.catches_are in
+      let all = sym h.handler_is.catch_all_is in
+      λ i. record { start = start i; count = count i; handler = record { catches = catches i; catch_all = all i } }
+
+  try_stands : (t : NumberedTry) → IsKnownTry m t → StandsForTry m t (try_meant m t)
+  try_stands t h = record {
+    start_is = refl;
+    count_is = refl;
+    handler_is = record {
+      catches_are = all_stand (StandsForCatch m) (λ (c : Catch). c.typ < length m.types) (catch_meant m) (λ c lt. record { type_is = at_place m.types c.typ [] lt; address_is = refl }) t.handler.catches h;
+      catch_all_is = refl;
+    };
+  }
+
+  -- ---- the whole
+
+  pub code_known : (c : NumberedItem) (x : symbolic.Code) → StandsForCode m c x → IsKnownCode m c
+  code_known c x h = record {
+    pieces_known = all_known (StandsFor m) (IsKnownPiece m) (piece_in m) piece_known c.body.pieces x.pieces h.pieces_are;
+    tries_known = all_known (StandsForTry m) (IsKnownTry m) (try_meant m) try_known c.tries x.tries h.tries_are;
+    debug_known = one_known (StandsForDebug m) (IsKnownDebug m) (debug_in m) (debug_known m) c.debug x.debug h.debug_is;
+  }
+
+  pub code_means : (c : NumberedItem) (x : symbolic.Code) → StandsForCode m c x → x ≡ code_in m c
+  code_means c x h =
+      let registers = sym h.registers_are in
+      let ins = sym h.ins_are in
+      let outs = sym h.outs_are in
+      let ps = all_mean (StandsFor m) (IsKnownPiece m) (piece_in m) piece_means c.body.pieces x.pieces h.pieces_are in
+      let tries = all_mean (StandsForTry m) (IsKnownTry m) (try_meant m) try_means c.tries x.tries h.tries_are in
+      let debug = one_means (StandsForDebug m) (IsKnownDebug m) (debug_in m) (debug_means m) c.debug x.debug h.debug_is in
+      λ i. record { registers = registers i; ins = ins i; outs = outs i; pieces = ps i; tries = tries i; debug = debug i }
+
+  pub code_stands : (c : NumberedItem) → IsKnownCode m c → StandsForCode m c (code_in m c)
+  code_stands c h = record {
+    registers_are = refl;
+    ins_are = refl;
+    outs_are = refl;
+    pieces_are = all_stand (StandsFor m) (IsKnownPiece m) (piece_in m) piece_stands c.body.pieces h.pieces_known;
+    tries_are = all_stand (StandsForTry m) (IsKnownTry m) (try_meant m) try_stands c.tries h.tries_known;
+    debug_is = one_stands (StandsForDebug m) (IsKnownDebug m) (debug_in m) (debug_stands m) c.debug h.debug_known;
+  }

@@ -30,3 +30,4 @@ pub mod HandlerPlaces
 pub mod CodeSizes
 pub mod MeaningDebug
 pub mod Meanings
+pub mod MeaningRanked

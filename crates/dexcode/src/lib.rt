@@ -19,7 +19,7 @@ pub use debug_positions::positions;
 pub use debug_put::put_debug;
 pub use debug_reading::read_debug;
 pub use handlers::{Catch, Handler};
-pub use meaning_laws::{code_meaning_law, debug_meaning_law};
+pub use meaning_laws::{code_led_law, code_meaning_law, debug_led_law, debug_meaning_law};
 pub use tries::{Tries, Try};
 
 mod catches;

@@ -1,12 +1,16 @@
 //! Laws of what numbered code means. Each function does nothing: its contract is the law, for the callers that cite it.
 
-ghost use Rattle.std.specs.Prelude.{◌≡◌};
+ghost use Rattle.std.specs.Prelude.{◌≡◌, ◌↔◌, All};
 ghost use Rattle.dexspec.specs.Code as symbolic;
 ghost use Rattle.dexspec.specs.Debug as debugs;
 ghost use Rattle.dexspec.specs.Mentions.{Mentions};
-ghost use Rattle.dexcode.specs.Debug.{NumberedDebug, StandsForDebug};
+ghost use Rattle.dexpool.specs.Numberings.{AreRising, Maps, AllLead};
+ghost use Rattle.dexcode.specs.Debug.{NumberedDebug, StandsForDebug, debug_uses, HasImage, renumbered_debug};
 ghost use Rattle.dexcode.specs.Meaning.{code_in, debug_in, IsKnownCode, IsKnownDebug};
 ghost use Rattle.dexcode.specs.Numbered.{NumberedItem, StandsForCode};
+ghost use Rattle.dexcode.specs.Renumbering.{HasImages, renumbered_item};
+
+use dexpool::number_law;
 
 /// A numbered debug program stands for one just where its numbers are those of texts and types, and then for the one
 /// with these in their places.
@@ -23,3 +27,21 @@ pub fn code_meaning_law()
     ensures meant { (m : Mentions) (c : NumberedItem) (x : symbolic.Code) → StandsForCode m c x → x ≡ code_in m c }
     ensures stands { (m : Mentions) (c : NumberedItem) → IsKnownCode m c → StandsForCode m c (code_in m c) }
 {}
+
+/// Where each number of a debug program leads somewhere, it means under the other numbers what it meant. Debug programs
+/// of two numberings, led to a third whose symbols rise, are the same there just where they mean the same.
+pub fn debug_led_law()
+    ensures keeps { (m n : Mentions) (r : Maps) (d : NumberedDebug) → AllLead m n r → All (HasImage r) (debug_uses d) → IsKnownDebug m d → IsKnownDebug n (renumbered_debug r d) × (debug_in n (renumbered_debug r d) ≡ debug_in m d) }
+    ensures same { (m n whole : Mentions) (r s : Maps) (d e : NumberedDebug) → AreRising whole → AllLead m whole r → AllLead n whole s → All (HasImage r) (debug_uses d) → All (HasImage s) (debug_uses e) → IsKnownDebug m d → IsKnownDebug n e → (renumbered_debug r d ≡ renumbered_debug s e) ↔ (debug_in m d ≡ debug_in n e) }
+{
+    number_law();
+}
+
+/// Where each number of code leads somewhere, it means under the other numbers what it meant. Code of two numberings, led
+/// to a third whose symbols rise, is the same there just where it means the same.
+pub fn code_led_law()
+    ensures keeps { (m n : Mentions) (r : Maps) (c : NumberedItem) → AllLead m n r → HasImages r c → IsKnownCode m c → IsKnownCode n (renumbered_item r c) × (code_in n (renumbered_item r c) ≡ code_in m c) }
+    ensures same { (m n whole : Mentions) (r s : Maps) (c d : NumberedItem) → AreRising whole → AllLead m whole r → AllLead n whole s → HasImages r c → HasImages s d → IsKnownCode m c → IsKnownCode n d → (renumbered_item r c ≡ renumbered_item s d) ↔ (code_in m c ≡ code_in n d) }
+{
+    number_law();
+}

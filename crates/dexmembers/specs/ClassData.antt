@@ -1,5 +1,5 @@
 -- Class data as it is read: the members of the four lists, by their indices in the pools.
-use Rattle.std.specs.Prelude.{◌≡◌, ℕ, ◌<◌, ◌++◌, List, length, map, All}
+use Rattle.std.specs.Prelude.{◌≡◌, ℕ, ◌<◌, List, length, map, All}
 use Rattle.dexspec.specs.ClassData.{ClassData, EncodedField, EncodedMethod, ShareNone}
 use Rattle.dexspec.specs.Accepted.{Declares, HasMembers}
 use Rattle.dexspec.specs.Mentions.{Mentions}

@@ -1,5 +1,6 @@
 pub mod Numbered
+pub mod Stored
 pub mod Weight
 pub mod ClassData
-pub mod Codes
+pub mod MethodCodes
 pub mod Reading

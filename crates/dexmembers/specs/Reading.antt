@@ -19,13 +19,13 @@ use Rattle.dexmembers.specs.Weight.{members_weight}
 pub record MembersRow (b : List ℕ) (r : ℕ) (x : Members) : Type 0 where
   pub directory : Directory
   pub directory_is : OrNone DirectoryAt no_directory b (annotations_off b r) directory
-  pub data : ClassData
-  pub data_is : OrNone ClassDataAt no_class_data b (class_data_off b r) data
+  pub declared : ClassData
+  pub declared_is : OrNone ClassDataAt no_class_data b (class_data_off b r) declared
   pub annotations : x.annotations ≡ directory.own
-  pub static_fields : x.static_fields ≡ map (field_def directory) data.static_fields
-  pub instance_fields : x.instance_fields ≡ map (field_def directory) data.instance_fields
-  pub direct_methods : AllZip (MakesMethod b directory) data.direct_methods x.direct_methods
-  pub virtual_methods : AllZip (MakesMethod b directory) data.virtual_methods x.virtual_methods
+  pub static_fields : x.static_fields ≡ map (field_def directory) declared.static_fields
+  pub instance_fields : x.instance_fields ≡ map (field_def directory) declared.instance_fields
+  pub direct_methods : AllZip (MakesMethod b directory) declared.direct_methods x.direct_methods
+  pub virtual_methods : AllZip (MakesMethod b directory) declared.virtual_methods x.virtual_methods
   pub static_values : OrNone StaticValuesAt NoValues b (static_values_off b r) x.static_values
 
 -- the row is readable and declares what the numbers stand for, which weighs no more than it may

@@ -2,7 +2,7 @@
 
 ghost use Rattle.std.specs.Prelude.{IfOk, IfErr, MatchOption};
 ghost use Rattle.dexpool.specs.Pools.{ArePools};
-ghost use Rattle.dexmembers.specs.Codes.{AreCodesOf, AreHeavyCodes, IsFaultOfOne};
+ghost use Rattle.dexmembers.specs.MethodCodes.{AreCodesOf, AreHeavyCodes, IsCodesFault};
 
 use crate::class_data::EncodedMethod;
 use dexcode::Code;
@@ -25,7 +25,7 @@ pub(crate) fn read_codes<'a>(
     most: u64,
 ) -> Result<Option<Vec<Option<Code<'a>>>>, ItemFault>
     ensures read { ArePools frame.now pools.now → IfOk result (λ codes. MatchOption codes (AreHeavyCodes frame.now methods.now most) (λ codes. AreCodesOf frame.now pools.now methods.now most codes.items)) }
-    ensures refused { ArePools frame.now pools.now → IfErr result (IsFaultOfOne frame.now methods.now) }
+    ensures refused { ArePools frame.now pools.now → IfErr result (IsCodesFault frame.now methods.now) }
 {
     Err(ItemFault::Memory)
 }

@@ -22,9 +22,13 @@ pub struct Field {
 
 impl Model for Field {
     ghost use Rattle.dexval.specs.Code.{set_of};
+    ghost use Rattle.std.specs.Coded.{codes};
+    ghost use Rattle.dexmembers.specs.Stored.{elements_code};
     ghost use Rattle.dexmembers.specs.Numbered.{NumberedField};
 
     ghost Value = { NumberedField };
+
+    ghost coded = { Prim.hlevel (codes, elements_code) };
 
     ghost view = { λ f. record { number = f.number; flags = f.flags; annotations = set_of f.annotations } };
 }
@@ -45,9 +49,13 @@ pub struct Method<'a> {
 impl<'a> Model for Method<'a> {
     ghost use Rattle.std.specs.Prelude.{map};
     ghost use Rattle.dexval.specs.Code.{set_of};
+    ghost use Rattle.std.specs.Coded.{codes};
+    ghost use Rattle.dexmembers.specs.Stored.{elements_code};
     ghost use Rattle.dexmembers.specs.Numbered.{NumberedMethod};
 
     ghost Value = { NumberedMethod };
+
+    ghost coded = { Prim.hlevel (codes, elements_code) };
 
     ghost view = { λ x. record { number = x.number; flags = x.flags; code = x.code; annotations = set_of x.annotations; parameter_annotations = map set_of x.parameter_annotations.items } };
 }
@@ -70,9 +78,13 @@ impl<'a> Model for Members<'a> {
     ghost use Rattle.std.specs.Prelude.{map};
     ghost use Rattle.dexval.specs.Code.{set_of, value_of};
     ghost use Rattle.dexval.specs.Numbered.{values_of_list};
+    ghost use Rattle.std.specs.Coded.{codes};
+    ghost use Rattle.dexmembers.specs.Stored.{elements_code, values_code};
     ghost use Rattle.dexmembers.specs.Numbered.{NumberedMembers};
 
     ghost Value = { NumberedMembers };
+
+    ghost coded = { Prim.hlevel (codes, elements_code, values_code) };
 
     ghost view = { λ x. record { annotations = set_of x.annotations; static_fields = x.static_fields.items; instance_fields = x.instance_fields.items; direct_methods = x.direct_methods.items; virtual_methods = x.virtual_methods.items; static_values = values_of_list (map value_of x.static_values.items) } };
 }
@@ -142,6 +154,20 @@ impl<'a> Method<'a> {
 }
 
 impl<'a> Members<'a> {
+    /// What a class declares that declares nothing. No memory is taken.
+    pub fn empty(alloc: Global) -> Members<'a>
+        ensures { result ≡ no_members }
+    {
+        Members {
+            annotations: AnnotationSet::empty(alloc),
+            static_fields: Vec::new(alloc),
+            instance_fields: Vec::new(alloc),
+            direct_methods: Vec::new(alloc),
+            virtual_methods: Vec::new(alloc),
+            static_values: Vec::new(alloc),
+        }
+    }
+
     /// The annotations of the class itself. No memory is taken.
     pub fn annotations(&self) -> &AnnotationSet
         ensures { set_of result.now ≡ self.now.annotations }

@@ -1,11 +1,12 @@
 -- The code of methods as it is read, one after the other.
-use Rattle.std.specs.Prelude.{◌≡◌, ◌≢◌, ℕ, ◌+◌, ◌<◌, ◌≤◌, List, Option, None, sum_by, option_to_list}
+use Rattle.std.specs.Prelude.{◌≢◌, ℕ, ◌+◌, ◌<◌, ◌≤◌, List, Option, None, sum_by, option_to_list}
 use Rattle.std.specs.List.{AllZip, Contains}
 use Rattle.dexspec.specs.Lists.{OrNone, SomeAt, BothOrNone}
 use Rattle.dexspec.specs.Code.{Code, CodeAt}
 use Rattle.dexspec.specs.Mentions.{Mentions}
 use Rattle.dexspec.specs.Weight.{code_weight, debug_weight}
 use Rattle.dexpool.specs.declared.faults.ItemFault.{ItemFault}
+use Rattle.dexpool.specs.declared.faults.ItemFault.TheVariants.{Refused, Memory}
 use Rattle.dexcode.specs.Numbered.{NumberedItem, StandsForCode}
 use Rattle.dexcode.specs.Reading.{IsCodeFault}
 use Rattle.dexmembers.specs.declared.class_data.EncodedMethod.{EncodedMethod}
@@ -31,9 +32,14 @@ pub record AreHeavyCodes (b : List ℕ) (xs : List EncodedMethod) (most : ℕ) :
   pub at : AreCodesAt b xs symbolic
   pub heavy : most < sum_by optional_code_weight symbolic
 
--- the fault is that of the code of one of the methods
-pub record IsFaultOfOne (b : List ℕ) (xs : List EncodedMethod) (fault : ItemFault) : Type 0 where
+-- the code of one of the methods is refused with this number
+pub record HasRefusedCode (b : List ℕ) (xs : List EncodedMethod) (number : ℕ) : Type 0 where
   pub method : EncodedMethod
   pub among : Contains xs method
   pub coded : method.code_off ≢ 0
-  pub failed : IsCodeFault b method.code_off fault
+  pub failed : IsCodeFault b method.code_off (Refused number)
+
+-- the fault is that of the code of one of the methods; want of memory says nothing of the file
+abbrev pub IsCodesFault : List ℕ → List EncodedMethod → ItemFault → Type 0
+IsCodesFault b xs Memory = Unit {0}
+IsCodesFault b xs (Refused number) = HasRefusedCode b xs number

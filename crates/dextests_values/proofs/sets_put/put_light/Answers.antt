@@ -1,7 +1,7 @@
 use Rattle.std.proofs.Common.{[], arith}
 use Rattle.dexspec.specs.Mentions.{Mentions}
 use Rattle.dexval.specs.Code.{set_of}
-use Rattle.dextests_items.proofs.sets_put.put_light.Goals as goal
+use Rattle.dextests_values.proofs.sets_put.put_light.Goals as goal
 
 none : Mentions
 none = record { texts = []; types = []; protos = []; fields = []; methods = [] }

@@ -1,7 +1,7 @@
 use Rattle.std.proofs.Common.{subst}
 use Rattle.dexpool.specs.Numberings.{AreMarksOf}
 use Rattle.dexval.specs.Code.{value_of}
-use Rattle.dextests_items.proofs.values_copied.marks_of.Goals as goal
+use Rattle.dextests_values.proofs.values_copied.marks_of.Goals as goal
 
 pub mark-requires : goal.mark-requires
 mark-requires c =

@@ -7,7 +7,7 @@ use Rattle.dexpool.specs.Numberings.{AreMarksOf, AllLead}
 use Rattle.dexpool.specs.Uses.{Use, AreMarkedToo}
 use Rattle.dexinsn.specs.Numbered.{HasPlace}
 use Rattle.dexcode.specs.Renumbering.{item_uses}
-use Rattle.dextests_items.proofs.code_copied.kept.Goals as goal
+use Rattle.dextests_code.proofs.code_copied.kept.Goals as goal
 
 -- there are as many marks as before
 as_many : (m : Mentions) (us : List Use) (old new : Marks) → AreMarksOf m old → AreMarkedToo us old new → AreMarksOf m new

@@ -1,6 +1,6 @@
 use Rattle.std.proofs.Common.{subst}
 use Rattle.dexpool.specs.Numberings.{AreMarksOf}
-use Rattle.dextests_items.proofs.code_copied.marked.Goals as goal
+use Rattle.dextests_code.proofs.code_copied.marked.Goals as goal
 
 pub mark-requires : goal.mark-requires
 mark-requires c =

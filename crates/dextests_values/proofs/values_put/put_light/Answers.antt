@@ -1,7 +1,7 @@
 use Rattle.std.proofs.Common.{[], arith}
 use Rattle.dexspec.specs.Mentions.{Mentions}
 use Rattle.dexval.specs.Code.{value_of}
-use Rattle.dextests_items.proofs.values_put.put_light.Goals as goal
+use Rattle.dextests_values.proofs.values_put.put_light.Goals as goal
 
 none : Mentions
 none = record { texts = []; types = []; protos = []; fields = []; methods = [] }

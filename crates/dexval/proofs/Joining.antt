@@ -29,17 +29,21 @@ appended_both {u} {v} {w} {a} {b} x y = record {
 }
 
 -- one item, and no room for the other
-pub stopped_after : {u v w : Vec ℕ} {a b : List ℕ} → Appended a u v → Stopped b v w → Stopped (a ++ b) u w
-stopped_after {u} {v} {w} {a} {b} x y = record {
+pub stopped_after : {C : Type 0} {u v w : Vec ℕ} {a b : List ℕ} → Appended a u v → Stopped C b v w → Stopped C (a ++ b) u w
+stopped_after {C} {u} {v} {w} {a} {b} x y = record {
   front = sym (front_of_front (vec_len u) (vec_len v) w.items (omega (arith, x.len)))
       ∙ ap (take (vec_len u)) (y.front ∙ x.items) ∙ front (vec_len u) u.items a u.ok.0;
-  full = omega (arith, x.len, x.capacity, y.full, length-append a b);
+  full = λ counted. omega (arith, x.len, x.capacity, y.full counted, length-append a b);
   capacity = omega (arith, x.capacity, y.capacity);
 }
 
 -- no room for the first of two items
-pub stopped_before : {u v : Vec ℕ} {a : List ℕ} → Stopped a u v → (b : List ℕ) → Stopped (a ++ b) u v
-stopped_before {u} {v} {a} x b = record { front = x.front; full = omega (arith, x.full, length-append a b); capacity = x.capacity }
+pub stopped_before : {C : Type 0} {u v : Vec ℕ} {a : List ℕ} → Stopped C a u v → (b : List ℕ) → Stopped C (a ++ b) u v
+stopped_before {C} {u} {v} {a} x b = record { front = x.front; full = λ counted. omega (arith, x.full counted, length-append a b); capacity = x.capacity }
+
+-- where what is counted is so for less
+pub stopped_if : {C D : Type 0} {u v : Vec ℕ} {a : List ℕ} → (C → D) → Stopped D a u v → Stopped C a u v
+stopped_if goes x = record { front = x.front; full = λ counted. x.full (goes counted); capacity = x.capacity }
 
 -- ---- by what calls answer
 
@@ -48,33 +52,45 @@ no_room : {n m : ℕ} → (n ≤ m → false ≡ true) → m < n
 no_room {n} {m} h = elim (cases_lt m n) [ inl lt ↦ lt | inr le ↦ let e = h le in absurd cc ]
 
 -- what was put was appended
-puts_by : {T E : Type 0} {item : List ℕ} {u v : Vec ℕ} (r : Result T E) → Puts item u v r → Appends item u v r
+puts_by : {C T E : Type 0} {item : List ℕ} {u v : Vec ℕ} (r : Result T E) → Puts item u v r → Appends C item u v r
 puts_by {item = item} {u = u} {v = v} (Ok x) h = record { ok = record { items = h.ok; len = h.len; capacity = h.capacity }; err = tt }
 puts_by {item = item} {u = u} {v = v} (Err e) h = record {
   ok = tt;
   err = record {
     front = ap (take (vec_len u)) h.err ∙ take_all (vec_len u) u.items (omega (arith, u.ok.0));
-    full = no_room h.room;
+    full = λ counted. no_room h.room;
     capacity = h.capacity;
   };
 }
 
-pub puts_appends : {T E : Type 0} {item : List ℕ} {u v : Vec ℕ} {r : Result T E} → Puts item u v r → Appends item u v r
+pub puts_appends : {C T E : Type 0} {item : List ℕ} {u v : Vec ℕ} {r : Result T E} → Puts item u v r → Appends C item u v r
 puts_appends {r = r} h = puts_by r h
 
+if_by : {C D T E : Type 0} {item : List ℕ} {u v : Vec ℕ} (r : Result T E) → (C → D) → Appends D item u v r → Appends C item u v r
+if_by (Ok x) goes h = record { ok = h.ok; err = tt }
+if_by (Err e) goes h = record { ok = tt; err = stopped_if goes h.err }
+
+-- where what is counted is so for less
+pub appends_if : {C D T E : Type 0} {item : List ℕ} {u v : Vec ℕ} {r : Result T E} → (C → D) → Appends D item u v r → Appends C item u v r
+appends_if {r = r} goes h = if_by r goes h
+
+-- what is not counted was not appended
+pub uncounted : {C : Type 0} {item : List ℕ} (v : Vec ℕ) → (C → ⊥) → Stopped C item v v
+uncounted v none = record { front = take_all (vec_len v) v.items (omega (arith, v.ok.0)); full = λ counted. absurd (none counted); capacity = omega arith }
+
 -- the same item
-pub appends_same : {T E : Type 0} {u v : Vec ℕ} {r : Result T E} {a b : List ℕ} → a ≡ b → Appends a u v r → Appends b u v r
-appends_same {u = u} {v = v} {r = r} e h = subst (λ (item : List ℕ). Appends item u v r) e h
+pub appends_same : {C T E : Type 0} {u v : Vec ℕ} {r : Result T E} {a b : List ℕ} → a ≡ b → Appends C a u v r → Appends C b u v r
+appends_same {C = C} {u = u} {v = v} {r = r} e h = subst (λ (item : List ℕ). Appends C item u v r) e h
 
 -- an item, and then what a call appends
-pub appends_after : {T E : Type 0} {u v w : Vec ℕ} {r : Result T E} {a b : List ℕ} → Appended a u v → Appends b v w r → Appends (a ++ b) u w r
+pub appends_after : {C T E : Type 0} {u v w : Vec ℕ} {r : Result T E} {a b : List ℕ} → Appended a u v → Appends C b v w r → Appends C (a ++ b) u w r
 appends_after {r = Ok x} a h = record { ok = appended_both a h.ok; err = tt }
 appends_after {r = Err e} a h = record { ok = tt; err = stopped_after a h.err }
 
-stops_by : {T E : Type 0} {u v : Vec ℕ} {item : List ℕ} (r : Result T E) → IsErr r → Stopped item u v → Appends item u v r
+stops_by : {C T E : Type 0} {u v : Vec ℕ} {item : List ℕ} (r : Result T E) → IsErr r → Stopped C item u v → Appends C item u v r
 stops_by (Ok x) bad h = absurd cc
 stops_by (Err e) bad h = record { ok = tt; err = h }
 
 -- there was no room, and the call says so
-pub stops : {T E : Type 0} {u v : Vec ℕ} {item : List ℕ} {r : Result T E} → IsErr r → Stopped item u v → Appends item u v r
+pub stops : {C T E : Type 0} {u v : Vec ℕ} {item : List ℕ} {r : Result T E} → IsErr r → Stopped C item u v → Appends C item u v r
 stops {r = r} bad h = stops_by r bad h

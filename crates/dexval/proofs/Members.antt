@@ -40,9 +40,9 @@ pub value_step_on : (xs : List Value) (i : ℕ) (d : Value) {u v w : Vec ℕ} �
 value_step_on xs i d {u} {v} {w} lt e a b = subst (λ (l : List ℕ). Appended l u w) (sym (one_value xs i d lt e)) (appended_both a b)
 
 -- one value for which there was no room
-pub value_stop : (xs : List Value) (i : ℕ) (d : Value) {u v w : Vec ℕ} → i < length xs → d ≡ get_or xs i d → Appended (values_spelled (take i xs)) u v → Stopped (numbered_bytes (value_of d)) v w → Stopped (values_spelled xs) u w
-value_stop xs i d {u} {v} {w} lt e a b =
-    subst (λ (l : List ℕ). Stopped l u w) (ap (λ (l : List ℕ). l ++ values_spelled (drop (i + 1) xs)) (sym (one_value xs i d lt e)) ∙ sym (values_cut xs (i + 1)))
+pub value_stop : (xs : List Value) (i : ℕ) (d : Value) {C : Type 0} {u v w : Vec ℕ} → i < length xs → d ≡ get_or xs i d → Appended (values_spelled (take i xs)) u v → Stopped C (numbered_bytes (value_of d)) v w → Stopped C (values_spelled xs) u w
+value_stop xs i d {C} {u} {v} {w} lt e a b =
+    subst (λ (l : List ℕ). Stopped C l u w) (ap (λ (l : List ℕ). l ++ values_spelled (drop (i + 1) xs)) (sym (one_value xs i d lt e)) ∙ sym (values_cut xs (i + 1)))
     (stopped_before (stopped_after a b) (values_spelled (drop (i + 1) xs)))
 
 -- all values
@@ -101,9 +101,9 @@ pub element_step_on : (xs : List Element) (i : ℕ) (d : Element) {u v w : Vec �
 element_step_on xs i d {u} {v} {w} lt e a b = subst (λ (l : List ℕ). Appended l u w) (sym (one_element xs i d lt e)) (appended_both a b)
 
 -- one element for which there was no room
-pub element_stop : (xs : List Element) (i : ℕ) (d : Element) {u v w : Vec ℕ} → i < length xs → d ≡ get_or xs i d → Appended (elements_spelled (take i xs)) u v → Stopped (element_spelled d) v w → Stopped (elements_spelled xs) u w
-element_stop xs i d {u} {v} {w} lt e a b =
-    subst (λ (l : List ℕ). Stopped l u w) (ap (λ (l : List ℕ). l ++ elements_spelled (drop (i + 1) xs)) (sym (one_element xs i d lt e)) ∙ sym (elements_cut xs (i + 1)))
+pub element_stop : (xs : List Element) (i : ℕ) (d : Element) {C : Type 0} {u v w : Vec ℕ} → i < length xs → d ≡ get_or xs i d → Appended (elements_spelled (take i xs)) u v → Stopped C (element_spelled d) v w → Stopped C (elements_spelled xs) u w
+element_stop xs i d {C} {u} {v} {w} lt e a b =
+    subst (λ (l : List ℕ). Stopped C l u w) (ap (λ (l : List ℕ). l ++ elements_spelled (drop (i + 1) xs)) (sym (one_element xs i d lt e)) ∙ sym (elements_cut xs (i + 1)))
     (stopped_before (stopped_after a b) (elements_spelled (drop (i + 1) xs)))
 
 -- all elements

@@ -1,22 +1,30 @@
 -- What was appended in part is taken back.
 use Rattle.std.proofs.Common.{◌≡◌, ℕ, ◌≤◌, List, take, ◌∙◌, arith}
-use Rattle.std.specs.Prelude.{Result, Ok, Err, IsOk, IsErr, vec_len, vec_capacity}
+use Rattle.std.specs.Prelude.{Result, Ok, Err, IsOk, IsErr, OnErr, vec_len, vec_capacity}
 use Rattle.std.specs.Global.{Vec}
 use Rattle.dexspec.specs.Writing.{Puts}
 use Rattle.dexval.specs.Appending.{Appends}
 
 -- an item that was appended was put
-settled_by : {T E : Type 0} {u v : Vec ℕ} {item : List ℕ} (r : Result T E) → IsOk r → Appends item u v r → Puts item u v r
+settled_by : {C T E : Type 0} {u v : Vec ℕ} {item : List ℕ} (r : Result T E) → IsOk r → Appends C item u v r → Puts item u v r
 settled_by (Ok x) good h = record { ok = h.ok.items; len = h.ok.len; err = tt; room = λ le. good; capacity = h.ok.capacity }
 settled_by (Err e) good h = absurd cc
 
-pub settled : {T E : Type 0} {u v : Vec ℕ} {item : List ℕ} {r : Result T E} → IsOk r → Appends item u v r → Puts item u v r
+pub settled : {C T E : Type 0} {u v : Vec ℕ} {item : List ℕ} {r : Result T E} → IsOk r → Appends C item u v r → Puts item u v r
 settled {r = r} good h = settled_by r good h
 
 -- one that was not leaves what there was
-taken_back_by : {T E : Type 0} {u v w : Vec ℕ} {item : List ℕ} (r : Result T E) → IsErr r → Appends item u v r → w.items ≡ take (vec_len u) v.items → vec_capacity v ≤ vec_capacity w → Puts item u w r
-taken_back_by (Ok x) bad h is capacity = absurd cc
-taken_back_by (Err e) bad h is capacity = record { ok = tt; len = tt; err = is ∙ h.err.front; room = λ le. absurd (omega (arith, le, h.err.full)); capacity = omega (arith, capacity, h.err.capacity) }
+taken_back_by : {C T E : Type 0} {u v w : Vec ℕ} {item : List ℕ} (r : Result T E) → C → IsErr r → Appends C item u v r → w.items ≡ take (vec_len u) v.items → vec_capacity v ≤ vec_capacity w → Puts item u w r
+taken_back_by (Ok x) counted bad h is capacity = absurd cc
+taken_back_by (Err e) counted bad h is capacity = record { ok = tt; len = tt; err = is ∙ h.err.front; room = λ le. absurd (omega (arith, le, h.err.full counted)); capacity = omega (arith, capacity, h.err.capacity) }
 
-pub taken_back : {T E : Type 0} {u v w : Vec ℕ} {item : List ℕ} {r : Result T E} → IsErr r → Appends item u v r → w.items ≡ take (vec_len u) v.items → vec_capacity v ≤ vec_capacity w → Puts item u w r
-taken_back {r = r} bad h is capacity = taken_back_by r bad h is capacity
+pub taken_back : {C T E : Type 0} {u v w : Vec ℕ} {item : List ℕ} {r : Result T E} → C → IsErr r → Appends C item u v r → w.items ≡ take (vec_len u) v.items → vec_capacity v ≤ vec_capacity w → Puts item u w r
+taken_back {r = r} counted bad h is capacity = taken_back_by r counted bad h is capacity
+
+-- whether it is counted or not
+kept_by : {C T E : Type 0} {u v : Vec ℕ} {item items : List ℕ} (r : Result T E) → Appends C item u v r → items ≡ take (vec_len u) v.items → OnErr r (items ≡ u.items)
+kept_by (Ok x) h is = tt
+kept_by (Err e) h is = is ∙ h.err.front
+
+pub kept : {C T E : Type 0} {u v : Vec ℕ} {item items : List ℕ} {r : Result T E} → Appends C item u v r → items ≡ take (vec_len u) v.items → OnErr r (items ≡ u.items)
+kept {r = r} h is = kept_by r h is

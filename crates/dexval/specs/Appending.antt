@@ -8,13 +8,13 @@ pub record Appended (item : List ℕ) (old new : Vec ℕ) : Type 0 where
   pub len : vec_len new ≡ vec_len old + length item
   pub capacity : vec_capacity old ≤ vec_capacity new
 
--- there was no room for the item; what was there stands in front
-pub record Stopped (item : List ℕ) (old new : Vec ℕ) : Type 0 where
+-- the item was not appended, for want of room where it is one that `Counted` holds of; what was there stands in front
+pub record Stopped (Counted : Type 0) (item : List ℕ) (old new : Vec ℕ) : Type 0 where
   pub front : take (vec_len old) new.items ≡ old.items
-  pub full : vec_capacity old < vec_len old + length item
+  pub full : Counted → vec_capacity old < vec_len old + length item
   pub capacity : vec_capacity old ≤ vec_capacity new
 
 -- the one or the other
-pub record Appends {T E : Type 0} (item : List ℕ) (old new : Vec ℕ) (r : Result T E) : Type 0 where
+pub record Appends {T E : Type 0} (Counted : Type 0) (item : List ℕ) (old new : Vec ℕ) (r : Result T E) : Type 0 where
   pub ok : OnOk r (Appended item old new)
-  pub err : OnErr r (Stopped item old new)
+  pub err : OnErr r (Stopped Counted item old new)

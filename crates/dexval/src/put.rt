@@ -1,6 +1,6 @@
 //! Values and annotations written.
 
-ghost use Rattle.std.specs.Prelude.{◌≡◌, ◌+◌, ◌*◌, ◌-◌, ◌^◌, ◌<◌, ◌≤◌, ◌∷◌, [], map, length, IsOk, vec_len, vec_capacity};
+ghost use Rattle.std.specs.Prelude.{◌≡◌, ◌+◌, ◌*◌, ◌-◌, ◌^◌, ◌<◌, ◌≤◌, ◌∷◌, [], map, length, IsOk, OnErr, ⊤, vec_len, vec_capacity};
 ghost use Rattle.dexspec.specs.Bytes.{bytes_of};
 ghost use Rattle.dexspec.specs.Numbers.{uleb128};
 ghost use Rattle.dexspec.specs.Values.{Value as ValueMeant, Values as ValuesMeant, value_byte};
@@ -111,7 +111,7 @@ fn append_bits(code: u8, width: usize, bits: u64, out: &mut Vec<u8>) -> Result<(
 // Appends one byte. Where memory is wanting, as with all that follow here, a part of the item may stand.
 #[tactic(auto, using(crate::proofs::Joining::puts_appends))]
 fn append_byte(byte: u8, out: &mut Vec<u8>) -> Result<(), AllocError>
-    ensures { Appends (byte ∷ []) out.old out.new result }
+    ensures { Appends ⊤ (byte ∷ []) out.old out.new result }
 {
     out.extend_from_slice(&[byte])
 }
@@ -119,17 +119,26 @@ fn append_byte(byte: u8, out: &mut Vec<u8>) -> Result<(), AllocError>
 // Appends a uleb128.
 #[tactic(auto, using(crate::proofs::Joining::puts_appends))]
 fn append_number(value: u32, out: &mut Vec<u8>) -> Result<(), AllocError>
-    ensures { Appends (uleb128 value) out.old out.new result }
+    ensures { Appends ⊤ (uleb128 value) out.old out.new result }
 {
     put_u(value, out)
+}
+
+// Appends a count as a uleb128. Where it has more than 32 bits it is not appended.
+fn append_count(count: usize, out: &mut Vec<u8>) -> Result<(), AllocError>
+    ensures { Appends (count < 2 ^ 32) (uleb128 count) out.old out.new result }
+{
+    match u32::try_from(count) {
+        Ok(count) => append_number(count, out),
+        Err(_) => Err(AllocError),
+    }
 }
 
 // Appends an encoded_value.
 #[cycle(appending)]
 #[tactic(auto, using(crate::proofs::Joining::puts_appends))]
 fn append_value(value: &Value, out: &mut Vec<u8>) -> Result<(), AllocError>
-    requires { IsCounted (value_of value.now) }
-    ensures { Appends (numbered_bytes (value_of value.now)) out.old out.new result }
+    ensures { Appends (IsCounted (value_of value.now)) (numbered_bytes (value_of value.now)) out.old out.new result }
 {
     match value {
         Value::Byte(number) => append_signed(BYTE, i64::from(*number), out),
@@ -160,19 +169,16 @@ fn append_value(value: &Value, out: &mut Vec<u8>) -> Result<(), AllocError>
 // Appends an encoded_array.
 #[cycle(appending)]
 fn append_array(values: &[Value], out: &mut Vec<u8>) -> Result<(), AllocError>
-    requires few { length values.now < 2 ^ 32 }
-    requires counted { AreCounted (values_of_list (map value_of values.now)) }
-    ensures { Appends (numbered_array_bytes (values_of_list (map value_of values.now))) out.old out.new result }
+    ensures { Appends ((length values.now < 2 ^ 32) × AreCounted (values_of_list (map value_of values.now))) (numbered_array_bytes (values_of_list (map value_of values.now))) out.old out.new result }
 {
-    append_number(values.len() as u32, out)?;
+    append_count(values.len(), out)?;
     append_values(values, out)
 }
 
 // Appends values one after the other.
 #[cycle(appending)]
 fn append_values(values: &[Value], out: &mut Vec<u8>) -> Result<(), AllocError>
-    requires { AreCounted (values_of_list (map value_of values.now)) }
-    ensures { Appends (numbered_values_bytes (values_of_list (map value_of values.now))) out.old out.new result }
+    ensures { Appends (AreCounted (values_of_list (map value_of values.now))) (numbered_values_bytes (values_of_list (map value_of values.now))) out.old out.new result }
 {
     for value in values {
         append_value(value, out)?;
@@ -183,20 +189,17 @@ fn append_values(values: &[Value], out: &mut Vec<u8>) -> Result<(), AllocError>
 // Appends an encoded_annotation.
 #[cycle(appending)]
 fn append_annotation(typ: u32, elements: &[Element], out: &mut Vec<u8>) -> Result<(), AllocError>
-    requires few { length elements.now < 2 ^ 32 }
-    requires counted { HaveCounted (elements_of_list (map element_of elements.now)) }
-    ensures { Appends (encoded_annotation_bytes typ (elements_of_list (map element_of elements.now))) out.old out.new result }
+    ensures { Appends ((length elements.now < 2 ^ 32) × HaveCounted (elements_of_list (map element_of elements.now))) (encoded_annotation_bytes typ (elements_of_list (map element_of elements.now))) out.old out.new result }
 {
     append_number(typ, out)?;
-    append_number(elements.len() as u32, out)?;
+    append_count(elements.len(), out)?;
     append_elements(elements, out)
 }
 
 // Appends elements one after the other.
 #[cycle(appending)]
 fn append_elements(elements: &[Element], out: &mut Vec<u8>) -> Result<(), AllocError>
-    requires { HaveCounted (elements_of_list (map element_of elements.now)) }
-    ensures { Appends (numbered_elements_bytes (elements_of_list (map element_of elements.now))) out.old out.new result }
+    ensures { Appends (HaveCounted (elements_of_list (map element_of elements.now))) (numbered_elements_bytes (elements_of_list (map element_of elements.now))) out.old out.new result }
 {
     for element in elements {
         append_number(element.name, out)?;
@@ -220,18 +223,17 @@ impl Visibility {
 
 // Appends an annotation_item.
 fn append_item(annotation: &Annotation, out: &mut Vec<u8>) -> Result<(), AllocError>
-    requires { IsCountedAnnotation (annotation_of annotation.now) }
-    ensures { Appends (numbered_annotation_bytes (annotation_of annotation.now)) out.old out.new result }
+    ensures { Appends (IsCountedAnnotation (annotation_of annotation.now)) (numbered_annotation_bytes (annotation_of annotation.now)) out.old out.new result }
 {
     append_byte(annotation.visibility.number(), out)?;
     append_annotation(annotation.typ, &annotation.elements, out)
 }
 
 // Appends the value with its numbers.
-#[tactic(auto, using(crate::proofs::Settling::settled, crate::proofs::Settling::taken_back))]
+#[tactic(auto, using(crate::proofs::Settling::settled, crate::proofs::Settling::taken_back, crate::proofs::Settling::kept))]
 fn put_numbered_value(value: &Value, out: &mut Vec<u8>) -> Result<(), AllocError>
-    requires { IsCounted (value_of value.now) }
-    ensures { Puts (numbered_bytes (value_of value.now)) out.old out.new result }
+    ensures put { IsCounted (value_of value.now) → Puts (numbered_bytes (value_of value.now)) out.old out.new result }
+    ensures kept { OnErr result (out.new.items ≡ out.old.items) }
 {
     let start = out.len();
     let answer = append_value(value, out);
@@ -242,11 +244,10 @@ fn put_numbered_value(value: &Value, out: &mut Vec<u8>) -> Result<(), AllocError
 }
 
 // Appends the values with their numbers.
-#[tactic(auto, using(crate::proofs::Settling::settled, crate::proofs::Settling::taken_back))]
+#[tactic(auto, using(crate::proofs::Settling::settled, crate::proofs::Settling::taken_back, crate::proofs::Settling::kept))]
 fn put_numbered_statics(values: &[Value], out: &mut Vec<u8>) -> Result<(), AllocError>
-    requires few { length values.now < 2 ^ 32 }
-    requires counted { AreCounted (values_of_list (map value_of values.now)) }
-    ensures { Puts (numbered_array_bytes (values_of_list (map value_of values.now))) out.old out.new result }
+    ensures put { length values.now < 2 ^ 32 → AreCounted (values_of_list (map value_of values.now)) → Puts (numbered_array_bytes (values_of_list (map value_of values.now))) out.old out.new result }
+    ensures kept { OnErr result (out.new.items ≡ out.old.items) }
 {
     let start = out.len();
     let answer = append_array(values, out);
@@ -257,10 +258,10 @@ fn put_numbered_statics(values: &[Value], out: &mut Vec<u8>) -> Result<(), Alloc
 }
 
 // Appends the annotation with its numbers.
-#[tactic(auto, using(crate::proofs::Settling::settled, crate::proofs::Settling::taken_back))]
+#[tactic(auto, using(crate::proofs::Settling::settled, crate::proofs::Settling::taken_back, crate::proofs::Settling::kept))]
 fn put_numbered_annotation(annotation: &Annotation, out: &mut Vec<u8>) -> Result<(), AllocError>
-    requires { IsCountedAnnotation (annotation_of annotation.now) }
-    ensures { Puts (numbered_annotation_bytes (annotation_of annotation.now)) out.old out.new result }
+    ensures put { IsCountedAnnotation (annotation_of annotation.now) → Puts (numbered_annotation_bytes (annotation_of annotation.now)) out.old out.new result }
+    ensures kept { OnErr result (out.new.items ≡ out.old.items) }
 {
     let start = out.len();
     let answer = append_item(annotation, out);
@@ -273,8 +274,8 @@ fn put_numbered_annotation(annotation: &Annotation, out: &mut Vec<u8>) -> Result
 /// Appends a value (an encoded_value), each number and each index in the fewest bytes, and what the value holds in the
 /// order in which it holds it.
 ///
-/// It fails only for want of memory, and not where the spare room is at least what the value weighs; the vector is
-/// then as it was. Condition: each array and each annotation in it has fewer than 2^32 members.
+/// It fails for want of memory, and where an array or an annotation in it has 2^32 members or more; the vector is then
+/// as it was. Of fewer it puts each where the spare room is at least what the value weighs.
 ///
 /// Source: "encoded_value encoding", "encoded_array format" and "encoded_annotation format".
 pub fn put_value(
@@ -282,10 +283,10 @@ pub fn put_value(
     numbering: &Numbering<'_>,
     out: &mut Vec<u8>,
 ) -> Result<(), AllocError>
-    requires { IsCounted (value_of value.now) }
-    ensures bytes { Puts (numbered_bytes (value_of value.now)) out.old out.new result }
-    ensures symbolic { (symbolic : ValueMeant) → StandsFor numbering.now (value_of value.now) symbolic → Puts (value_bytes numbering.now symbolic) out.old out.new result }
-    ensures room { (m : Mentions) → vec_len out.old + value_weight (value_in m (value_of value.now)) ≤ vec_capacity out.old → IsOk result }
+    ensures bytes { IsCounted (value_of value.now) → Puts (numbered_bytes (value_of value.now)) out.old out.new result }
+    ensures symbolic { (symbolic : ValueMeant) → IsCounted (value_of value.now) → StandsFor numbering.now (value_of value.now) symbolic → Puts (value_bytes numbering.now symbolic) out.old out.new result }
+    ensures room { (m : Mentions) → IsCounted (value_of value.now) → vec_len out.old + value_weight (value_in m (value_of value.now)) ≤ vec_capacity out.old → IsOk result }
+    ensures kept { OnErr result (out.new.items ≡ out.old.items) }
 {
     numbering.is_numbering();
     put_numbered_value(value, out)
@@ -293,9 +294,8 @@ pub fn put_value(
 
 /// Appends the values with which static fields begin (an encoded_array_item), each as [`put_value`] does.
 ///
-/// It fails only for want of memory, and not where the spare room is at least what the values weigh and there is one;
-/// the vector is then as it was. Condition: they, and the members of each array and each annotation in them, are fewer
-/// than 2^32.
+/// It fails for want of memory, and where they, or the members of an array or an annotation in them, are 2^32 or more;
+/// the vector is then as it was. Fewer it puts where the spare room is at least what the values weigh and there is one.
 ///
 /// Source: "encoded_array_item" and "encoded_array format".
 pub fn put_statics(
@@ -303,11 +303,10 @@ pub fn put_statics(
     numbering: &Numbering<'_>,
     out: &mut Vec<u8>,
 ) -> Result<(), AllocError>
-    requires few { length values.now < 2 ^ 32 }
-    requires counted { AreCounted (values_of_list (map value_of values.now)) }
-    ensures bytes { Puts (numbered_array_bytes (values_of_list (map value_of values.now))) out.old out.new result }
-    ensures symbolic { (symbolic : ValuesMeant) → StandFor numbering.now (values_of_list (map value_of values.now)) symbolic → Puts (encoded_array_bytes numbering.now symbolic) out.old out.new result }
-    ensures room { (m : Mentions) → 0 < length values.now → vec_len out.old + static_values_weight (values_in m (values_of_list (map value_of values.now))) ≤ vec_capacity out.old → IsOk result }
+    ensures bytes { length values.now < 2 ^ 32 → AreCounted (values_of_list (map value_of values.now)) → Puts (numbered_array_bytes (values_of_list (map value_of values.now))) out.old out.new result }
+    ensures symbolic { (symbolic : ValuesMeant) → length values.now < 2 ^ 32 → AreCounted (values_of_list (map value_of values.now)) → StandFor numbering.now (values_of_list (map value_of values.now)) symbolic → Puts (encoded_array_bytes numbering.now symbolic) out.old out.new result }
+    ensures room { (m : Mentions) → length values.now < 2 ^ 32 → AreCounted (values_of_list (map value_of values.now)) → 0 < length values.now → vec_len out.old + static_values_weight (values_in m (values_of_list (map value_of values.now))) ≤ vec_capacity out.old → IsOk result }
+    ensures kept { OnErr result (out.new.items ≡ out.old.items) }
 {
     numbering.is_numbering();
     put_numbered_statics(values, out)
@@ -316,8 +315,8 @@ pub fn put_statics(
 /// Appends an annotation (an annotation_item): its visibility, its type, and its elements in their order, each value as
 /// [`put_value`] does.
 ///
-/// It fails only for want of memory, and not where the spare room is at least what the annotation weighs; the vector is
-/// then as it was. Condition: it, and each array and each annotation in it, has fewer than 2^32 members.
+/// It fails for want of memory, and where it, or an array or an annotation in it, has 2^32 members or more; the vector
+/// is then as it was. One of fewer it puts where the spare room is at least what the annotation weighs.
 ///
 /// Source: "annotation_item" and "encoded_annotation format".
 pub fn put_annotation(
@@ -325,10 +324,10 @@ pub fn put_annotation(
     numbering: &Numbering<'_>,
     out: &mut Vec<u8>,
 ) -> Result<(), AllocError>
-    requires { IsCountedAnnotation (annotation_of annotation.now) }
-    ensures bytes { Puts (numbered_annotation_bytes (annotation_of annotation.now)) out.old out.new result }
-    ensures symbolic { (symbolic : AnnotationMeant) → StandsForAnnotation numbering.now (annotation_of annotation.now) symbolic → Puts (annotation_bytes numbering.now symbolic) out.old out.new result }
-    ensures room { (m : Mentions) → vec_len out.old + annotation_weight (annotation_in m (annotation_of annotation.now)) ≤ vec_capacity out.old → IsOk result }
+    ensures bytes { IsCountedAnnotation (annotation_of annotation.now) → Puts (numbered_annotation_bytes (annotation_of annotation.now)) out.old out.new result }
+    ensures symbolic { (symbolic : AnnotationMeant) → IsCountedAnnotation (annotation_of annotation.now) → StandsForAnnotation numbering.now (annotation_of annotation.now) symbolic → Puts (annotation_bytes numbering.now symbolic) out.old out.new result }
+    ensures room { (m : Mentions) → IsCountedAnnotation (annotation_of annotation.now) → vec_len out.old + annotation_weight (annotation_in m (annotation_of annotation.now)) ≤ vec_capacity out.old → IsOk result }
+    ensures kept { OnErr result (out.new.items ≡ out.old.items) }
 {
     numbering.is_numbering();
     put_numbered_annotation(annotation, out)

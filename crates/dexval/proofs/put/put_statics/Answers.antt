@@ -6,9 +6,9 @@ use Rattle.dexval.proofs.Weights.{statics_weight_is}
 use Rattle.dexval.proofs.put.put_statics.Goals as goal
 
 pub returns-clause-symbolic : goal.returns-clause-symbolic
-returns-clause-symbolic c = array_put_is c.args.numbering.now (values_of_list (map value_of c.args.values.now)) c.is_numbering.ensures.rising c.put_numbered_statics.ensures
+returns-clause-symbolic c = λ symbolic few counted. array_put_is c.args.numbering.now (values_of_list (map value_of c.args.values.now)) c.is_numbering.ensures.rising (c.put_numbered_statics.ensures.put few counted) symbolic
 
 pub returns-clause-room : goal.returns-clause-room
-returns-clause-room c = λ m some le.
+returns-clause-room c = λ m few counted some le.
     let xs = values_of_list (map value_of c.args.values.now) in
-    c.put_numbered_statics.ensures.room (omega (arith, le, array_size_is m xs, statics_weight_is m c.args.values.now some))
+    (c.put_numbered_statics.ensures.put few counted).room (omega (arith, le, array_size_is m xs, statics_weight_is m c.args.values.now some))

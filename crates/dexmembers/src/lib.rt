@@ -8,6 +8,8 @@ mod class_data;
 mod codes;
 mod members;
 mod reading;
+mod renumbering;
+mod same;
 
 pub use members::{Field, Members, Method};
 pub use reading::read_members;

@@ -1,0 +1,6 @@
+use Rattle.dexmembers.specs.Renumbering.{renumbered_field}
+use Rattle.dexmembers.proofs.MembersLed.{AreChanged}
+use Rattle.dexmembers.proofs.renumbering.renumber_fields.Given as goal
+
+abbrev pub invariant-loop-i : goal.invariant-loop-i
+invariant-loop-i l = AreChanged (renumbered_field l.remap) l.i l.initial.fields.items l.fields.items

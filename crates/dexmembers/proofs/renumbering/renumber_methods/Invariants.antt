@@ -1,0 +1,6 @@
+use Rattle.dexmembers.specs.Renumbering.{renumbered_method}
+use Rattle.dexmembers.proofs.MembersLed.{AreChanged}
+use Rattle.dexmembers.proofs.renumbering.renumber_methods.Given as goal
+
+abbrev pub invariant-loop-i : goal.invariant-loop-i
+invariant-loop-i l = AreChanged (renumbered_method l.remap) l.i l.initial.methods.items l.methods.items

@@ -1,0 +1,15 @@
+use Rattle.std.proofs.Common.{◌<◌, length, arith}
+use Rattle.dexmembers.specs.Renumbering.{renumbered_field}
+use Rattle.dexmembers.proofs.MembersLed.{same_at}
+use Rattle.dexmembers.proofs.same.same_fields.Goals as goal
+
+pub returns-then-not-same_mapped : goal.returns-then-not-same_mapped
+returns-then-not-same_mapped c =
+    let r = c.args.mine.now in
+    let q = c.args.theirs.now in
+    let others : c.loop-i.i < length c.args.others.now = omega (arith, c.loop-i.invariant.count) in (
+      (λ t. absurd cc),
+      (λ e.
+          let same = c.same_mapped.ensures.1 (same_at (renumbered_field r) (renumbered_field q) c.args.fields.now c.args.others.now c.loop-i.i c.index-fields-i.result c.index-others-i.result (omega arith) others c.index-fields-i.is c.index-others-i.is e) in
+          cc),
+    )

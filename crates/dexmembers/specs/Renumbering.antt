@@ -1,0 +1,59 @@
+-- What a class declares, with its numbers led to those of another numbering.
+use Rattle.std.specs.Prelude.{map, All, IfSome}
+use Rattle.std.specs.Option.{option_map}
+use Rattle.dexpool.specs.declared.symbols.SymbolKind.TheVariants as kinds
+use Rattle.dexpool.specs.Numberings.{Maps}
+use Rattle.dexcode.specs.Renumbering.{renumbered_item}
+use Rattle.dexcode.specs.Renumbering as code
+use Rattle.dexval.specs.Renumbering.{led, renumbered_set, renumbered_values, LeadsOn, SetHasPlaces, HavePlaces}
+use Rattle.dexmembers.specs.Numbered.{NumberedField, NumberedMethod, NumberedMembers}
+
+-- ---- other numbers
+
+-- the field with each number led on
+abbrev pub renumbered_field : Maps → NumberedField → NumberedField
+renumbered_field r f = record { number = led r kinds.Field f.number; flags = f.flags; annotations = renumbered_set r f.annotations }
+
+-- the method
+abbrev pub renumbered_method : Maps → NumberedMethod → NumberedMethod
+renumbered_method r x = record {
+  number = led r kinds.Method x.number;
+  flags = x.flags;
+  code = option_map (renumbered_item r) x.code;
+  annotations = renumbered_set r x.annotations;
+  parameter_annotations = map (renumbered_set r) x.parameter_annotations;
+}
+
+-- all of them
+abbrev pub renumbered_members : Maps → NumberedMembers → NumberedMembers
+renumbered_members r x = record {
+  annotations = renumbered_set r x.annotations;
+  static_fields = map (renumbered_field r) x.static_fields;
+  instance_fields = map (renumbered_field r) x.instance_fields;
+  direct_methods = map (renumbered_method r) x.direct_methods;
+  virtual_methods = map (renumbered_method r) x.virtual_methods;
+  static_values = renumbered_values r x.static_values;
+}
+
+-- ---- places of numbers
+
+-- each number of the field leads to one that fits its place
+pub record FieldHasPlaces (r : Maps) (f : NumberedField) : Type 0 where
+  pub number_leads : LeadsOn r kinds.Field f.number
+  pub annotations_lead : SetHasPlaces r f.annotations
+
+-- of the method
+pub record MethodHasPlaces (r : Maps) (x : NumberedMethod) : Type 0 where
+  pub number_leads : LeadsOn r kinds.Method x.number
+  pub code_leads : IfSome x.code (code.HasPlaces r)
+  pub annotations_lead : SetHasPlaces r x.annotations
+  pub parameters_lead : All (SetHasPlaces r) x.parameter_annotations
+
+-- of all of them
+pub record MembersHavePlaces (r : Maps) (x : NumberedMembers) : Type 0 where
+  pub annotations_lead : SetHasPlaces r x.annotations
+  pub static_fields_lead : All (FieldHasPlaces r) x.static_fields
+  pub instance_fields_lead : All (FieldHasPlaces r) x.instance_fields
+  pub direct_methods_lead : All (MethodHasPlaces r) x.direct_methods
+  pub virtual_methods_lead : All (MethodHasPlaces r) x.virtual_methods
+  pub values_lead : HavePlaces r x.static_values

@@ -1,0 +1,168 @@
+//! Whether what classes declare is the same, once its numbers are led on.
+
+ghost use Rattle.std.specs.Prelude.{◌≡◌, ◌↔◌, IsTrue, map};
+ghost use Rattle.dexpool.specs.declared.symbols.SymbolKind.TheVariants as kinds;
+ghost use Rattle.dexval.specs.Code.{set_of};
+ghost use Rattle.dexval.specs.Renumbering.{led, renumbered_set};
+ghost use Rattle.dexcode.specs.Renumbering.{renumbered_item};
+ghost use Rattle.dexmembers.specs.Renumbering.{renumbered_field, renumbered_method, renumbered_members};
+ghost use Rattle.std.specs.Option.{option_map};
+
+use crate::members::{Field, Members, Method};
+use dexcode::Code;
+use dexpool::{Remap, SymbolKind};
+use dexval::{AnnotationSet, same_values_mapped};
+
+// Where a number leads; one that leads nowhere stays.
+fn end(remap: &Remap, kind: SymbolKind, number: u32) -> usize
+    ensures { result ≡ led remap.now kind number }
+{
+    match remap.image(kind, number as usize) {
+        Some(image) => image,
+        None => number as usize,
+    }
+}
+
+// Whether both numbers lead to one.
+fn ends_alike(kind: SymbolKind, mine: &Remap, number: u32, theirs: &Remap, other: u32) -> bool
+    ensures { IsTrue result ↔ (led mine.now kind number ≡ led theirs.now kind other) }
+{
+    end(mine, kind, number) == end(theirs, kind, other)
+}
+
+// Whether the code is the same, if there is some, its numbers led on.
+fn same_code(
+    mine: &Remap,
+    code: &Option<Code<'_>>,
+    theirs: &Remap,
+    other: &Option<Code<'_>>,
+) -> bool
+    ensures { IsTrue result ↔ (option_map (renumbered_item mine.now) code.now ≡ option_map (renumbered_item theirs.now) other.now) }
+{
+    match (code, other) {
+        (Some(code), Some(other)) => code.same_mapped(mine, other, theirs),
+        (None, None) => true,
+        _ => false,
+    }
+}
+
+// Whether the sets are the same, one for one, their numbers led on.
+fn same_sets(mine: &Remap, sets: &[AnnotationSet], theirs: &Remap, others: &[AnnotationSet]) -> bool
+    ensures { IsTrue result ↔ (map (renumbered_set mine.now) (map set_of sets.now) ≡ map (renumbered_set theirs.now) (map set_of others.now)) }
+{
+    if sets.len() != others.len() {
+        return false;
+    }
+    for (i, set) in sets.iter().enumerate() {
+        if !set.same_mapped(mine, &others[i], theirs) {
+            return false;
+        }
+    }
+    true
+}
+
+// Whether the fields are the same, one for one, their numbers led on.
+fn same_fields(mine: &Remap, fields: &[Field], theirs: &Remap, others: &[Field]) -> bool
+    ensures { IsTrue result ↔ (map (renumbered_field mine.now) fields.now ≡ map (renumbered_field theirs.now) others.now) }
+{
+    if fields.len() != others.len() {
+        return false;
+    }
+    for (i, field) in fields.iter().enumerate() {
+        if !field.same_mapped(mine, &others[i], theirs) {
+            return false;
+        }
+    }
+    true
+}
+
+// Whether the methods are the same, one for one, their numbers led on.
+fn same_methods(mine: &Remap, methods: &[Method<'_>], theirs: &Remap, others: &[Method<'_>]) -> bool
+    ensures { IsTrue result ↔ (map (renumbered_method mine.now) methods.now ≡ map (renumbered_method theirs.now) others.now) }
+{
+    if methods.len() != others.len() {
+        return false;
+    }
+    for (i, method) in methods.iter().enumerate() {
+        if !method.same_mapped(mine, &others[i], theirs) {
+            return false;
+        }
+    }
+    true
+}
+
+impl Field {
+    // Whether this and another field are the same, their numbers led on.
+    fn same_mapped(&self, mine: &Remap, other: &Field, theirs: &Remap) -> bool
+        ensures { IsTrue result ↔ (renumbered_field mine.now self.now ≡ renumbered_field theirs.now other.now) }
+    {
+        if !ends_alike(SymbolKind::Field, mine, self.number, theirs, other.number) {
+            return false;
+        }
+        if self.flags != other.flags {
+            return false;
+        }
+        self.annotations
+            .same_mapped(mine, &other.annotations, theirs)
+    }
+}
+
+impl<'a> Method<'a> {
+    // Whether this and another method are the same, their numbers led on.
+    fn same_mapped(&self, mine: &Remap, other: &Method<'_>, theirs: &Remap) -> bool
+        ensures { IsTrue result ↔ (renumbered_method mine.now self.now ≡ renumbered_method theirs.now other.now) }
+    {
+        if !ends_alike(SymbolKind::Method, mine, self.number, theirs, other.number) {
+            return false;
+        }
+        if self.flags != other.flags {
+            return false;
+        }
+        if !same_code(mine, &self.code, theirs, &other.code) {
+            return false;
+        }
+        if !self
+            .annotations
+            .same_mapped(mine, &other.annotations, theirs)
+        {
+            return false;
+        }
+        same_sets(
+            mine,
+            &self.parameter_annotations,
+            theirs,
+            &other.parameter_annotations,
+        )
+    }
+}
+
+impl<'a> Members<'a> {
+    /// Whether this and what another class declares are the same, once the numbers of each are led on by a map of its
+    /// own. Of numbers that lead nowhere those in instructions and debug programs count as the same, and the others
+    /// stay. No memory is taken.
+    ///
+    /// Source: "class_data_item", "annotations_directory_item", "encoded_array_item".
+    pub fn same_mapped(&self, mine: &Remap, other: &Members<'_>, theirs: &Remap) -> bool
+        ensures { IsTrue result ↔ (renumbered_members mine.now self.now ≡ renumbered_members theirs.now other.now) }
+    {
+        if !same_fields(mine, &self.static_fields, theirs, &other.static_fields) {
+            return false;
+        }
+        if !same_fields(mine, &self.instance_fields, theirs, &other.instance_fields) {
+            return false;
+        }
+        if !self
+            .annotations
+            .same_mapped(mine, &other.annotations, theirs)
+        {
+            return false;
+        }
+        if !same_values_mapped(&self.static_values, mine, &other.static_values, theirs) {
+            return false;
+        }
+        if !same_methods(mine, &self.direct_methods, theirs, &other.direct_methods) {
+            return false;
+        }
+        same_methods(mine, &self.virtual_methods, theirs, &other.virtual_methods)
+    }
+}

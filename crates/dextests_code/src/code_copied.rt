@@ -218,13 +218,25 @@ fn kept(alloc: Global, off: u32) -> Option<(Code<'static>, Remap, Numbering<'sta
     Some((code, remap, numbering))
 }
 
+/// Whether code and other code are the same, once the numbers of the first are led on and those of the other, which are
+/// of a numbering, stay as they are.
+fn is_led_to(
+    alloc: Global,
+    code: &Code<'_>,
+    remap: &Remap,
+    other: &Code<'_>,
+    numbering: Numbering<'_>,
+) -> Option<bool> {
+    let (_, remaps) = Numbering::join(alloc, &[&numbering]).ok()?;
+    let as_it_is = remaps.first()?;
+    Some(code.same_mapped(remap, other, as_it_is))
+}
+
 /// Whether the code at an offset is the same as it is with other numbers, once its own are led on.
 fn is_same_led_on(alloc: Global, off: u32) -> Option<bool> {
     let (_, code) = read(alloc, off)?;
     let (other, remap, numbering) = kept(alloc, off)?;
-    let (_, remaps) = Numbering::join(alloc, &[&numbering]).ok()?;
-    let as_it_is = remaps.first()?;
-    Some(code.same_mapped(&remap, &other, as_it_is))
+    is_led_to(alloc, &code, &remap, &other, numbering)
 }
 
 /// The symbol of the code's one instruction with an index, kept.

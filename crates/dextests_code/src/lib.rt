@@ -1,4 +1,4 @@
-//! Tests of what code items, their tries and handlers, and debug programs are read as and written as.
+//! Tests of what code items are read as and written as, with their tries, handlers and debug programs.
 //!
 //! They stand in a crate of their own because a crate that holds tests is proved twice.
 #![tactic(auto)]
@@ -15,12 +15,6 @@ mod code_put;
 mod code_refused;
 #[cfg(test)]
 mod crowded_handlers;
-#[cfg(test)]
-mod debug_bounds;
-#[cfg(test)]
-mod debug_equality;
-#[cfg(test)]
-mod debug_programs;
 #[cfg(test)]
 mod made_files;
 #[cfg(test)]

@@ -1,7 +1,7 @@
 //! Tries and handlers read of code items that the tests make: none has a type, so each handler has a catch-all alone.
 
 use crate::made_files::{ITEMS, file_with};
-use dexcode::{Try, read_code};
+use dexcode::{Code, Try, read_code};
 use dexhead::{Frame, put_u16, put_u32};
 use dexpool::{ItemFault, Pools};
 use std::alloc::Global;
@@ -332,15 +332,20 @@ fn refuses_more_tries_than_bytes(rt: HostRuntime) {
     assert_eq!(rt; fault_of(rt.alloc(), &item), Some(ItemFault::Refused(19)));
 }
 
-/// Whether a copy of the code of these bytes has the same tries and handlers.
+/// Whether a copy of code has the same tries and handlers.
+fn copy_is_alike(code: &Code<'_>) -> Option<bool> {
+    let copy = code.copy().ok()?;
+    let has_tries = copy.tries().tries() == code.tries().tries();
+    Some(has_tries && copy.tries().handlers() == code.tries().handlers())
+}
+
+/// Whether a copy of the code of these bytes is.
 fn copies_alike(alloc: Global, item: &[u8]) -> Option<bool> {
     let file = file_with(alloc, item)?;
     let frame = Frame::open(&file).ok()?;
     let pools = Pools::read(alloc, &frame).ok()?;
     let code = read_code(alloc, &frame, &pools, ITEMS).ok()?;
-    let copy = code.copy().ok()?;
-    let has_tries = copy.tries().tries() == code.tries().tries();
-    Some(has_tries && copy.tries().handlers() == code.tries().handlers())
+    copy_is_alike(&code)
 }
 
 #[test]

@@ -9,7 +9,9 @@ mod codes;
 mod members;
 mod reading;
 mod renumbering;
+mod renumbering_laws;
 mod same;
 
 pub use members::{Field, Members, Method};
 pub use reading::read_members;
+pub use renumbering_laws::{members_led_law, members_same_law};

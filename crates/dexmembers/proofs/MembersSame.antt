@@ -1,0 +1,205 @@
+-- Members of two numberings, led to a third, are the same there just where they stand for the same.
+use Rattle.std.proofs.Common.{◌≡◌, ℕ, List, map, Option, Some, None, sym, ap, ◌∙◌}
+use Rattle.std.specs.Prelude.{◌↔◌, IfSome}
+use Rattle.std.specs.List.{All}
+use Rattle.std.specs.Option.{option_map}
+use Rattle.dexspec.specs.Lists.{rank}
+use Rattle.dexspec.specs.Texts.{Text}
+use Rattle.dexspec.specs.Symbols.{Field, Method, field_cmp, method_cmp}
+use Rattle.dexspec.specs.Mentions.{Mentions}
+use Rattle.dexpool.specs.declared.symbols.SymbolKind.TheVariants as kinds
+use Rattle.dexpool.specs.Laws.{RanksAreNumbers}
+use Rattle.dexpool.specs.Numberings.{Maps, AllLead}
+use Rattle.dexcode.specs.Numbered.{NumberedItem}
+use Rattle.dexcode.specs.Meaning.{code_in, IsKnownCode}
+use Rattle.dexcode.specs.Renumbering.{renumbered_item, HasPlaces}
+use Rattle.dexval.specs.Numbered.{NumberedSet, NumberedValues, field_at, method_at, set_in, values_in, IsKnownSet, AreKnown}
+use Rattle.dexval.specs.Renumbering.{led, renumbered_set, renumbered_values, LeadsOn, SetHasPlaces, HavePlaces}
+use Rattle.dexmembers.specs.Numbered.{NumberedField, NumberedMethod, NumberedMembers, field_in, method_in, members_in, IsKnownField, IsKnownMethod, AreKnownMembers, AreOfClass}
+use Rattle.dexmembers.specs.Renumbering.{renumbered_field, renumbered_method, renumbered_members, FieldHasPlaces, MethodHasPlaces, MembersHavePlaces}
+use Rattle.dexmembers.proofs.Mapped.{all_left, all_right, all_both, maps_same, options_same}
+use Rattle.dexmembers.proofs.MembersKept.{no_field, no_method, field_led, method_led, FieldIsOf, MethodIsOf}
+
+-- what is known of a set: its numbers lead on, and are those of symbols
+record IsPartSet (m : Mentions) (r : Maps) (xs : NumberedSet) : Type 0 where
+  pub leads : SetHasPlaces r xs
+  pub known : IsKnownSet m xs
+
+-- of code
+record IsPartCode (m : Mentions) (r : Maps) (c : NumberedItem) : Type 0 where
+  pub leads : HasPlaces r c
+  pub known : IsKnownCode m c
+
+-- of a field, which is one of a class
+record IsPartField (m : Mentions) (r : Maps) (class : Text) (f : NumberedField) : Type 0 where
+  pub leads : FieldHasPlaces r f
+  pub known : IsKnownField m f
+  pub is_of : FieldIsOf m class f
+
+-- of a method
+record IsPartMethod (m : Mentions) (r : Maps) (class : Text) (x : NumberedMethod) : Type 0 where
+  pub leads : MethodHasPlaces r x
+  pub known : IsKnownMethod m x
+  pub is_of : MethodIsOf m class x
+
+-- sets are the same, led on, just where they stand for the same
+abbrev pub SetsSame : Mentions → Mentions → Maps → Maps → Type 0
+SetsSame m n r s = (xs ys : NumberedSet) → SetHasPlaces r xs → SetHasPlaces s ys → IsKnownSet m xs → IsKnownSet n ys → (renumbered_set r xs ≡ renumbered_set s ys) ↔ (set_in m xs ≡ set_in n ys)
+
+-- values
+abbrev pub ValuesSame : Mentions → Mentions → Maps → Maps → Type 0
+ValuesSame m n r s = (xs ys : NumberedValues) → HavePlaces r xs → HavePlaces s ys → AreKnown m xs → AreKnown n ys → (renumbered_values r xs ≡ renumbered_values s ys) ↔ (values_in m xs ≡ values_in n ys)
+
+-- code
+abbrev pub CodesSame : Mentions → Mentions → Maps → Maps → Type 0
+CodesSame m n r s = (c d : NumberedItem) → HasPlaces r c → HasPlaces s d → IsKnownCode m c → IsKnownCode n d → (renumbered_item r c ≡ renumbered_item s d) ↔ (code_in m c ≡ code_in n d)
+
+-- ---- lists and options
+
+options_both : {X : Type 0} (P K L : X → Type 0) → ((x : X) → P x → K x → L x) → (o : Option X) → IfSome o P → IfSome o K → IfSome o L
+options_both P K L each None h k = tt
+options_both P K L each (Some x) h k = each x h k
+
+module _ (m n : Mentions) (r s : Maps) where
+  code_same : CodesSame m n r s → (o u : Option NumberedItem) → IfSome o (HasPlaces r) → IfSome u (HasPlaces s) → IfSome o (IsKnownCode m) → IfSome u (IsKnownCode n)
+      → (option_map (renumbered_item r) o ≡ option_map (renumbered_item s) u) ↔ (option_map (code_in m) o ≡ option_map (code_in n) u)
+  code_same codes o u leads leads' known known' =
+      options_same (renumbered_item r) (renumbered_item s) (code_in m) (code_in n) (IsPartCode m r) (IsPartCode n s) (λ c d h k. codes c d h.leads k.leads h.known k.known) o u
+      (options_both (HasPlaces r) (IsKnownCode m) (IsPartCode m r) (λ c a b. record { leads = a; known = b }) o leads known)
+      (options_both (HasPlaces s) (IsKnownCode n) (IsPartCode n s) (λ c a b. record { leads = a; known = b }) u leads' known')
+
+  parameters_same : SetsSame m n r s → (xs ys : List NumberedSet) → All (SetHasPlaces r) xs → All (SetHasPlaces s) ys → All (IsKnownSet m) xs → All (IsKnownSet n) ys
+      → (map (renumbered_set r) xs ≡ map (renumbered_set s) ys) ↔ (map (set_in m) xs ≡ map (set_in n) ys)
+  parameters_same sets xs ys leads leads' known known' =
+      maps_same (renumbered_set r) (renumbered_set s) (set_in m) (set_in n) (IsPartSet m r) (IsPartSet n s) (λ x y h k. sets x y h.leads k.leads h.known k.known) xs ys
+      (all_both (SetHasPlaces r) (IsKnownSet m) (IsPartSet m r) (λ x a b. record { leads = a; known = b }) xs leads known)
+      (all_both (SetHasPlaces s) (IsKnownSet n) (IsPartSet n s) (λ x a b. record { leads = a; known = b }) ys leads' known')
+
+-- ---- numbers
+
+module _ (m n whole : Mentions) (r s : Maps) (ranks : RanksAreNumbers whole) (from_first : AllLead m whole r) (from_second : AllLead n whole s) where
+  fields_same : (i j : ℕ) → LeadsOn r kinds.Field i → LeadsOn s kinds.Field j → (led r kinds.Field i ≡ led s kinds.Field j) ↔ (field_at m i ≡ field_at n j)
+  fields_same i j h k =
+      let mine = field_led m whole r from_first i h in
+      let theirs = field_led n whole s from_second j k in (
+        (λ e. sym mine.1 ∙ ap (field_at whole) e ∙ theirs.1),
+        (λ e. sym (ranks.fields_are (led r kinds.Field i) no_field mine.0) ∙ ap (λ (f : Field). rank field_cmp f whole.fields) (mine.1 ∙ e ∙ sym theirs.1) ∙ ranks.fields_are (led s kinds.Field j) no_field theirs.0),
+      )
+
+  methods_same : (i j : ℕ) → LeadsOn r kinds.Method i → LeadsOn s kinds.Method j → (led r kinds.Method i ≡ led s kinds.Method j) ↔ (method_at m i ≡ method_at n j)
+  methods_same i j h k =
+      let mine = method_led m whole r from_first i h in
+      let theirs = method_led n whole s from_second j k in (
+        (λ e. sym mine.1 ∙ ap (method_at whole) e ∙ theirs.1),
+        (λ e. sym (ranks.methods_are (led r kinds.Method i) no_method mine.0) ∙ ap (λ (x : Method). rank method_cmp x whole.methods) (mine.1 ∙ e ∙ sym theirs.1) ∙ ranks.methods_are (led s kinds.Method j) no_method theirs.0),
+      )
+
+  -- ---- members
+
+  same_field : SetsSame m n r s → (class : Text) (f g : NumberedField) → IsPartField m r class f → IsPartField n s class g → (renumbered_field r f ≡ renumbered_field s g) ↔ (field_in m f ≡ field_in n g)
+  same_field sets class f g h k =
+      let numbers = fields_same f.number g.number h.leads.number_leads k.leads.number_leads in
+      let set = sets f.annotations g.annotations h.leads.annotations_lead k.leads.annotations_lead h.known.annotations_known k.known.annotations_known in (
+        (λ e.
+            let at = numbers.0 (ap (λ x. x.number) e) in
+            let flags = ap (λ x. x.flags) e in
+            let annotations = set.0 (ap (λ x. x.annotations) e) in
+            λ i. record { name = (at i).name; type = (at i).type; flags = flags i; annotations = annotations i }),
+        (λ e.
+            let class_is = h.is_of ∙ sym k.is_of in
+            let name_is = ap (λ x. x.name) e in
+            let type_is = ap (λ x. x.type) e in
+            let at : field_at m f.number ≡ field_at n g.number = λ i. record { class = class_is i; name = name_is i; type = type_is i } in
+            let number = numbers.1 at in
+            let flags = ap (λ x. x.flags) e in
+            let annotations = set.1 (ap (λ x. x.annotations) e) in
+            λ i. record { number = number i; flags = flags i; annotations = annotations i }),
+      )
+
+  same_method : SetsSame m n r s → CodesSame m n r s → (class : Text) (x y : NumberedMethod) → IsPartMethod m r class x → IsPartMethod n s class y → (renumbered_method r x ≡ renumbered_method s y) ↔ (method_in m x ≡ method_in n y)
+  same_method sets codes class x y h k =
+      let numbers = methods_same x.number y.number h.leads.number_leads k.leads.number_leads in
+      let set = sets x.annotations y.annotations h.leads.annotations_lead k.leads.annotations_lead h.known.annotations_known k.known.annotations_known in
+      let code = code_same m n r s codes x.code y.code h.leads.code_leads k.leads.code_leads h.known.code_known k.known.code_known in
+      let parameters = parameters_same m n r s sets x.parameter_annotations y.parameter_annotations h.leads.parameters_lead k.leads.parameters_lead h.known.parameters_known k.known.parameters_known in (
+        (λ e.
+            let at = numbers.0 (ap (λ z. z.number) e) in
+            let flags = ap (λ z. z.flags) e in
+            let code_is = code.0 (ap (λ z. z.code) e) in
+            let annotations = set.0 (ap (λ z. z.annotations) e) in
+            let parameters_are = parameters.0 (ap (λ z. z.parameter_annotations) e) in
+            λ i. record { name = (at i).name; proto = (at i).proto; flags = flags i; code = code_is i; annotations = annotations i; parameter_annotations = parameters_are i }),
+        (λ e.
+            let class_is = h.is_of ∙ sym k.is_of in
+            let name_is = ap (λ z. z.name) e in
+            let proto_is = ap (λ z. z.proto) e in
+            let at : method_at m x.number ≡ method_at n y.number = λ i. record { class = class_is i; name = name_is i; proto = proto_is i } in
+            let number = numbers.1 at in
+            let flags = ap (λ z. z.flags) e in
+            let code_is = code.1 (ap (λ z. z.code) e) in
+            let annotations = set.1 (ap (λ z. z.annotations) e) in
+            let parameters_are = parameters.1 (ap (λ z. z.parameter_annotations) e) in
+            λ i. record { number = number i; flags = flags i; code = code_is i; annotations = annotations i; parameter_annotations = parameters_are i }),
+      )
+
+-- ---- parts
+
+fields_part : (m : Mentions) (r : Maps) (class : Text) (fs : List NumberedField) → All (FieldHasPlaces r) fs → All (IsKnownField m) fs → All (FieldIsOf m class) fs → All (IsPartField m r class) fs
+fields_part m r class fs leads known are =
+    all_both (λ (f : NumberedField). FieldHasPlaces r f × IsKnownField m f) (FieldIsOf m class) (IsPartField m r class) (λ f a b. record { leads = a.0; known = a.1; is_of = b }) fs
+    (all_both (FieldHasPlaces r) (IsKnownField m) (λ (f : NumberedField). FieldHasPlaces r f × IsKnownField m f) (λ f a b. (a, b)) fs leads known) are
+
+methods_part : (m : Mentions) (r : Maps) (class : Text) (xs : List NumberedMethod) → All (MethodHasPlaces r) xs → All (IsKnownMethod m) xs → All (MethodIsOf m class) xs → All (IsPartMethod m r class) xs
+methods_part m r class xs leads known are =
+    all_both (λ (x : NumberedMethod). MethodHasPlaces r x × IsKnownMethod m x) (MethodIsOf m class) (IsPartMethod m r class) (λ x a b. record { leads = a.0; known = a.1; is_of = b }) xs
+    (all_both (MethodHasPlaces r) (IsKnownMethod m) (λ (x : NumberedMethod). MethodHasPlaces r x × IsKnownMethod m x) (λ x a b. (a, b)) xs leads known) are
+
+-- all that is known of the members of a class
+record AreParts (m : Mentions) (r : Maps) (class : Text) (x : NumberedMembers) : Type 0 where
+  pub statics : All (IsPartField m r class) x.static_fields
+  pub instances : All (IsPartField m r class) x.instance_fields
+  pub directs : All (IsPartMethod m r class) x.direct_methods
+  pub virtuals : All (IsPartMethod m r class) x.virtual_methods
+
+are_parts : (m : Mentions) (r : Maps) (class : Text) (x : NumberedMembers) → MembersHavePlaces r x → AreKnownMembers m x → AreOfClass m class x → AreParts m r class x
+are_parts m r class x leads known are = record {
+  statics = fields_part m r class x.static_fields leads.static_fields_lead known.static_fields_known (all_left (FieldIsOf m class) x.static_fields x.instance_fields are.fields_of_class);
+  instances = fields_part m r class x.instance_fields leads.instance_fields_lead known.instance_fields_known (all_right (FieldIsOf m class) x.static_fields x.instance_fields are.fields_of_class);
+  directs = methods_part m r class x.direct_methods leads.direct_methods_lead known.direct_methods_known (all_left (MethodIsOf m class) x.direct_methods x.virtual_methods are.methods_of_class);
+  virtuals = methods_part m r class x.virtual_methods leads.virtual_methods_lead known.virtual_methods_known (all_right (MethodIsOf m class) x.direct_methods x.virtual_methods are.methods_of_class);
+}
+
+-- ---- all members
+
+pub members_same : (m n whole : Mentions) (r s : Maps) (class : Text) (x y : NumberedMembers) → RanksAreNumbers whole → AllLead m whole r → AllLead n whole s → SetsSame m n r s → CodesSame m n r s → ValuesSame m n r s
+    → MembersHavePlaces r x → MembersHavePlaces s y → AreKnownMembers m x → AreKnownMembers n y → AreOfClass m class x → AreOfClass n class y → (renumbered_members r x ≡ renumbered_members s y) ↔ (members_in m x ≡ members_in n y)
+members_same m n whole r s class x y ranks from_first from_second sets codes values leads leads' known known' are are' =
+    let mine = are_parts m r class x leads known are in
+    let theirs = are_parts n s class y leads' known' are' in
+    let field = same_field m n whole r s ranks from_first from_second sets class in
+    let method = same_method m n whole r s ranks from_first from_second sets codes class in
+    let fields = maps_same (renumbered_field r) (renumbered_field s) (field_in m) (field_in n) (IsPartField m r class) (IsPartField n s class) field in
+    let methods = maps_same (renumbered_method r) (renumbered_method s) (method_in m) (method_in n) (IsPartMethod m r class) (IsPartMethod n s class) method in
+    let set = sets x.annotations y.annotations leads.annotations_lead leads'.annotations_lead known.annotations_known known'.annotations_known in
+    let statics = fields x.static_fields y.static_fields mine.statics theirs.statics in
+    let instances = fields x.instance_fields y.instance_fields mine.instances theirs.instances in
+    let directs = methods x.direct_methods y.direct_methods mine.directs theirs.directs in
+    let virtuals = methods x.virtual_methods y.virtual_methods mine.virtuals theirs.virtuals in
+    let beginnings = values x.static_values y.static_values leads.values_lead leads'.values_lead known.values_known known'.values_known in (
+      (λ e.
+          let a = set.0 (ap (λ z. z.annotations) e) in
+          let b = statics.0 (ap (λ z. z.static_fields) e) in
+          let c = instances.0 (ap (λ z. z.instance_fields) e) in
+          let d = directs.0 (ap (λ z. z.direct_methods) e) in
+          let f = virtuals.0 (ap (λ z. z.virtual_methods) e) in
+          let g = beginnings.0 (ap (λ z. z.static_values) e) in
+          λ i. record { annotations = a i; static_fields = b i; instance_fields = c i; direct_methods = d i; virtual_methods = f i; static_values = g i }),
+      (λ e.
+          let a = set.1 (ap (λ z. z.annotations) e) in
+          let b = statics.1 (ap (λ z. z.static_fields) e) in
+          let c = instances.1 (ap (λ z. z.instance_fields) e) in
+          let d = directs.1 (ap (λ z. z.direct_methods) e) in
+          let f = virtuals.1 (ap (λ z. z.virtual_methods) e) in
+          let g = beginnings.1 (ap (λ z. z.static_values) e) in
+          λ i. record { annotations = a i; static_fields = b i; instance_fields = c i; direct_methods = d i; virtual_methods = f i; static_values = g i }),
+    )

@@ -1,0 +1,3 @@
+pub mod MembersMarked
+pub mod MembersUsed
+pub mod Weighed

@@ -4,3 +4,5 @@ pub mod Weight
 pub mod ClassData
 pub mod MethodCodes
 pub mod Reading
+pub mod Uses
+pub mod Weighing

@@ -6,8 +6,13 @@
 
 mod class_data;
 mod codes;
+mod copying;
+mod marking;
 mod members;
 mod reading;
+mod uses_laws;
+mod weighing;
 
 pub use members::{Field, Members, Method};
 pub use reading::read_members;
+pub use uses_laws::members_uses_law;

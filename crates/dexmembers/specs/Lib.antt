@@ -5,3 +5,5 @@ pub mod ClassData
 pub mod MethodCodes
 pub mod Reading
 pub mod Renumbering
+pub mod Uses
+pub mod Weighing

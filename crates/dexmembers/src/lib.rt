@@ -6,6 +6,8 @@
 
 mod class_data;
 mod codes;
+mod copying;
+mod marking;
 mod members;
 mod reading;
 mod renumbering;
@@ -15,3 +17,6 @@ mod same;
 pub use members::{Field, Members, Method};
 pub use reading::read_members;
 pub use renumbering_laws::{members_led_law, members_same_law};
+mod uses_laws;
+mod weighing;
+pub use uses_laws::members_uses_law;

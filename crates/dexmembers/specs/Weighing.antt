@@ -1,0 +1,28 @@
+-- What a class declares weighs, by its numbers.
+use Rattle.std.specs.Prelude.{ℕ, ◌+◌, sum_by, option_to_list}
+use Rattle.dexspec.specs.Weight.{debug_weight}
+use Rattle.dexval.specs.Spelled.{numbered_set_weight, numbered_sets_weight, numbered_statics_weight}
+use Rattle.dexcode.specs.Debug.{NumberedDebug, bare}
+use Rattle.dexcode.specs.Numbered.{NumberedItem}
+use Rattle.dexcode.specs.CodePut.{numbered_code_weight}
+use Rattle.dexmembers.specs.Numbered.{NumberedField, NumberedMethod, NumberedMembers, fields_of, methods_of}
+
+-- a declared field with its set
+abbrev pub numbered_field_weight : NumberedField → ℕ
+numbered_field_weight f = 18 + numbered_set_weight f.annotations
+
+-- a debug program
+abbrev pub numbered_debug_weight : NumberedDebug → ℕ
+numbered_debug_weight d = debug_weight (bare d)
+
+-- code with its debug program
+abbrev pub numbered_whole_weight : NumberedItem → ℕ
+numbered_whole_weight c = numbered_code_weight c + sum_by numbered_debug_weight (option_to_list c.debug)
+
+-- a declared method with its code, debug program and sets
+abbrev pub numbered_method_weight : NumberedMethod → ℕ
+numbered_method_weight x = 31 + sum_by numbered_whole_weight (option_to_list x.code) + numbered_set_weight x.annotations + numbered_sets_weight x.parameter_annotations
+
+-- all that a class declares
+abbrev pub numbered_members_weight : NumberedMembers → ℕ
+numbered_members_weight x = numbered_set_weight x.annotations + sum_by numbered_field_weight (fields_of x) + sum_by numbered_method_weight (methods_of x) + numbered_statics_weight x.static_values

@@ -1,0 +1,113 @@
+//! Copies of what classes declare.
+
+ghost use Rattle.std.specs.Prelude.{◌≡◌, IfOk, map};
+ghost use Rattle.dexval.specs.Code.{set_of, value_of};
+
+use crate::members::{Field, Members, Method};
+use dexcode::Code;
+use dexval::{AnnotationSet, Value};
+use std::alloc::AllocError;
+
+// The same sets.
+fn copied_sets(sets: &Vec<AnnotationSet>) -> Result<Vec<AnnotationSet>, AllocError>
+    ensures { IfOk result (λ copy. map set_of copy.items ≡ map set_of sets.now.items) }
+{
+    let mut copy = Vec::with_capacity(*sets.allocator(), sets.len())?;
+    for set in sets {
+        copy.push(set.copy()?)?;
+    }
+    Ok(copy)
+}
+
+// The same values.
+fn copied_values(values: &Vec<Value>) -> Result<Vec<Value>, AllocError>
+    ensures { IfOk result (λ copy. map value_of copy.items ≡ map value_of values.now.items) }
+{
+    let mut copy = Vec::with_capacity(*values.allocator(), values.len())?;
+    for value in values {
+        copy.push(value.copy()?)?;
+    }
+    Ok(copy)
+}
+
+// The same fields.
+fn copied_fields(fields: &Vec<Field>) -> Result<Vec<Field>, AllocError>
+    ensures { IfOk result (λ copy. copy.items ≡ fields.now.items) }
+{
+    let mut copy = Vec::with_capacity(*fields.allocator(), fields.len())?;
+    for field in fields {
+        copy.push(field.copy()?)?;
+    }
+    Ok(copy)
+}
+
+// The same methods.
+fn copied_methods<'a>(methods: &Vec<Method<'a>>) -> Result<Vec<Method<'a>>, AllocError>
+    ensures { IfOk result (λ copy. copy.items ≡ methods.now.items) }
+{
+    let mut copy = Vec::with_capacity(*methods.allocator(), methods.len())?;
+    for method in methods {
+        copy.push(method.copy()?)?;
+    }
+    Ok(copy)
+}
+
+// The same code, if there is some.
+fn copied_code<'a>(code: &Option<Code<'a>>) -> Result<Option<Code<'a>>, AllocError>
+    ensures { IfOk result (λ copy. copy ≡ code.now) }
+{
+    Ok(match code {
+        Some(code) => Some(code.copy()?),
+        None => None,
+    })
+}
+
+impl Field {
+    /// The same field, with annotations of its own.
+    ///
+    /// Error: memory was refused.
+    pub fn copy(&self) -> Result<Field, AllocError>
+        ensures { IfOk result (λ copy. copy ≡ self.now) }
+    {
+        Ok(Field {
+            number: self.number,
+            flags: self.flags,
+            annotations: self.annotations.copy()?,
+        })
+    }
+}
+
+impl<'a> Method<'a> {
+    /// The same method, with lists of its own. The units of its code are borrowed as before.
+    ///
+    /// Error: memory was refused.
+    pub fn copy(&self) -> Result<Method<'a>, AllocError>
+        ensures { IfOk result (λ copy. copy ≡ self.now) }
+    {
+        Ok(Method {
+            number: self.number,
+            flags: self.flags,
+            code: copied_code(&self.code)?,
+            annotations: self.annotations.copy()?,
+            parameter_annotations: copied_sets(&self.parameter_annotations)?,
+        })
+    }
+}
+
+impl<'a> Members<'a> {
+    /// The same members, with lists of their own. The units of code are borrowed as before.
+    ///
+    /// Error: memory was refused.
+    pub fn copy(&self) -> Result<Members<'a>, AllocError>
+        ensures { IfOk result (λ copy. copy ≡ self.now) }
+    {
+        Ok(Members {
+            annotations: self.annotations.copy()?,
+            static_fields: copied_fields(&self.static_fields)?,
+            instance_fields: copied_fields(&self.instance_fields)?,
+            direct_methods: copied_methods(&self.direct_methods)?,
+            virtual_methods: copied_methods(&self.virtual_methods)?,
+            static_values: copied_values(&self.static_values)?,
+        })
+    }
+}

@@ -1,0 +1,104 @@
+//! Marks on the symbols that occur in what classes declare.
+
+ghost use Rattle.std.specs.Prelude.{◌∷◌, [], All, map, option_to_list};
+ghost use Rattle.std.specs.List.{flat_map};
+ghost use Rattle.dexpool.specs.Uses.{HasMark, AreMarkedToo};
+ghost use Rattle.dexval.specs.Code.{set_of};
+ghost use Rattle.dexval.specs.Uses.{set_uses};
+ghost use Rattle.dexcode.specs.Renumbering.{item_uses};
+ghost use Rattle.dexmembers.specs.Uses.{field_uses, method_uses, members_uses};
+
+use crate::members::{Field, Members, Method};
+use dexcode::Code;
+use dexpool::{Marks, SymbolKind};
+use dexval::{AnnotationSet, mark_values};
+
+// Marks one symbol.
+fn mark_one(kind: SymbolKind, number: usize, marks: &mut Marks)
+    requires { HasMark marks.old (record { kind = kind; number = number }) }
+    ensures { AreMarkedToo (record { kind = kind; number = number } ∷ []) marks.old marks.new }
+{
+    marks.mark(kind, number);
+}
+
+// Marks the symbols of sets.
+fn mark_sets(sets: &[AnnotationSet], marks: &mut Marks)
+    requires { All (HasMark marks.old) (flat_map set_uses (map set_of sets.now)) }
+    ensures { AreMarkedToo (flat_map set_uses (map set_of sets.now)) marks.old marks.new }
+{
+    for set in sets {
+        set.mark(marks);
+    }
+}
+
+// Marks the symbols of code, if there is some.
+fn mark_code(code: &Option<Code<'_>>, marks: &mut Marks)
+    requires { All (HasMark marks.old) (flat_map item_uses (option_to_list code.now)) }
+    ensures { AreMarkedToo (flat_map item_uses (option_to_list code.now)) marks.old marks.new }
+{
+    if let Some(code) = code {
+        code.mark(marks);
+    }
+}
+
+// Marks fields, and the symbols of their sets.
+fn mark_fields(fields: &[Field], marks: &mut Marks)
+    requires { All (HasMark marks.old) (flat_map field_uses fields.now) }
+    ensures { AreMarkedToo (flat_map field_uses fields.now) marks.old marks.new }
+{
+    for field in fields {
+        field.mark(marks);
+    }
+}
+
+// Marks methods, and the symbols of their code and their sets.
+fn mark_methods(methods: &[Method<'_>], marks: &mut Marks)
+    requires { All (HasMark marks.old) (flat_map method_uses methods.now) }
+    ensures { AreMarkedToo (flat_map method_uses methods.now) marks.old marks.new }
+{
+    for method in methods {
+        method.mark(marks);
+    }
+}
+
+impl Field {
+    // Marks the field, and the symbols of its set.
+    fn mark(&self, marks: &mut Marks)
+        requires { All (HasMark marks.old) (field_uses self.now) }
+        ensures { AreMarkedToo (field_uses self.now) marks.old marks.new }
+    {
+        mark_one(SymbolKind::Field, self.number as usize, marks);
+        self.annotations.mark(marks);
+    }
+}
+
+impl<'a> Method<'a> {
+    // Marks the method, and the symbols of its code and its sets.
+    fn mark(&self, marks: &mut Marks)
+        requires { All (HasMark marks.old) (method_uses self.now) }
+        ensures { AreMarkedToo (method_uses self.now) marks.old marks.new }
+    {
+        mark_one(SymbolKind::Method, self.number as usize, marks);
+        mark_code(&self.code, marks);
+        self.annotations.mark(marks);
+        mark_sets(&self.parameter_annotations, marks);
+    }
+}
+
+impl<'a> Members<'a> {
+    /// Marks each field and method, and each symbol that occurs in code, in annotations and in what static fields begin
+    /// with. No memory is taken.
+    ///
+    /// Condition: there is a mark for each of them.
+    pub fn mark(&self, marks: &mut Marks)
+        requires { All (HasMark marks.old) (members_uses self.now) }
+        ensures { AreMarkedToo (members_uses self.now) marks.old marks.new }
+    {
+        self.annotations.mark(marks);
+        mark_fields(&self.static_fields, marks);
+        mark_fields(&self.instance_fields, marks);
+        mark_methods(&self.direct_methods, marks);
+        mark_methods(&self.virtual_methods, marks);
+        mark_values(&self.static_values, marks);
+    }
+}

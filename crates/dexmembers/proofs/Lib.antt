@@ -1,0 +1,2 @@
+pub mod Partways
+pub mod ClassDataSpelled

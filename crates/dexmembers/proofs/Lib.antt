@@ -6,3 +6,5 @@ pub mod MembersSame
 pub mod MembersMarked
 pub mod MembersUsed
 pub mod Weighed
+pub mod Partways
+pub mod ClassDataSpelled

@@ -7,3 +7,4 @@ pub mod Reading
 pub mod Renumbering
 pub mod Uses
 pub mod Weighing
+pub mod Spelled

@@ -5,6 +5,7 @@
 #![tactic(auto)]
 
 mod class_data;
+mod class_data_put;
 mod codes;
 mod copying;
 mod marking;

@@ -1,0 +1,39 @@
+-- What a class declares, spelled in the file: class data and annotations directories, with numbers put in.
+use Rattle.std.specs.Prelude.{ℕ, ◌-◌, ◌^◌, ◌<◌, List, [], ◌∷◌, ◌++◌, length, take, drop}
+use Rattle.dexspec.specs.Numbers.{uleb128}
+use Rattle.dexmembers.specs.Numbered.{NumberedField, NumberedMethod, NumberedMembers}
+
+-- ---- class data
+
+-- an encoded_field behind one with the number `last`
+abbrev pub numbered_field_bytes : ℕ → NumberedField → List ℕ
+numbered_field_bytes last f = uleb128 (f.number - last) ++ uleb128 f.flags
+
+-- encoded_fields one after the other
+abbrev pub numbered_fields_bytes : ℕ → List NumberedField → List ℕ
+numbered_fields_bytes last [] = []
+numbered_fields_bytes last (f ∷ fs) = numbered_field_bytes last f ++ numbered_fields_bytes f.number fs
+
+-- an encoded_method behind one with the number `last`, with the offset of its code
+abbrev pub numbered_method_bytes : ℕ → NumberedMethod → ℕ → List ℕ
+numbered_method_bytes last x code_off = uleb128 (x.number - last) ++ (uleb128 x.flags ++ uleb128 code_off)
+
+-- encoded_methods one after the other, each with the offset of its code
+abbrev pub numbered_methods_bytes : ℕ → List NumberedMethod → List ℕ → List ℕ
+numbered_methods_bytes last [] code_offs = []
+numbered_methods_bytes last (x ∷ xs) [] = []
+numbered_methods_bytes last (x ∷ xs) (o ∷ code_offs) = numbered_method_bytes last x o ++ numbered_methods_bytes x.number xs code_offs
+
+-- a class_data_item, from the offsets of the code of its methods, the direct ones first
+abbrev pub numbered_class_data_bytes : NumberedMembers → List ℕ → List ℕ
+numbered_class_data_bytes x code_offs =
+    uleb128 (length x.static_fields) ++ (uleb128 (length x.instance_fields) ++ (uleb128 (length x.direct_methods) ++ (uleb128 (length x.virtual_methods)
+    ++ (numbered_fields_bytes 0 x.static_fields ++ (numbered_fields_bytes 0 x.instance_fields
+    ++ (numbered_methods_bytes 0 x.direct_methods (take (length x.direct_methods) code_offs) ++ numbered_methods_bytes 0 x.virtual_methods (drop (length x.direct_methods) code_offs)))))))
+
+-- each list of members has fewer than 2 ^ 32
+pub record HasFewMembers (x : NumberedMembers) : Type 0 where
+  pub few_static_fields : length x.static_fields < 2 ^ 32
+  pub few_instance_fields : length x.instance_fields < 2 ^ 32
+  pub few_direct_methods : length x.direct_methods < 2 ^ 32
+  pub few_virtual_methods : length x.virtual_methods < 2 ^ 32

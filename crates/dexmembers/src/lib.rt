@@ -14,10 +14,10 @@ mod reading;
 mod renumbering;
 mod renumbering_laws;
 mod same;
+mod uses_laws;
+mod weighing;
 
 pub use members::{Field, Members, Method};
 pub use reading::read_members;
 pub use renumbering_laws::{members_led_law, members_same_law};
-mod uses_laws;
-mod weighing;
 pub use uses_laws::members_uses_law;

@@ -1,6 +1,6 @@
 -- Items that are appended one by one, and where this has come to.
 use Rattle.std.proofs.Common.{◌≡◌, ℕ, ◌≤◌, List, [], ◌++◌, take, sym, ap, ◌∙◌, refl, subst, append_assoc}
-use Rattle.std.specs.Prelude.{Result, IsOk, IsErr, vec_len, vec_capacity}
+use Rattle.std.specs.Prelude.{⊤, Result, IsOk, IsErr, vec_len, vec_capacity}
 use Rattle.std.specs.Global.{Vec}
 use Rattle.std.proofs.lemmas.List.{append-nil}
 use Rattle.dexspec.specs.Writing.{Puts}
@@ -9,16 +9,16 @@ use Rattle.dexval.proofs.Joining.{nothing_yet, appended_both, stopped_after, sto
 use Rattle.dexval.proofs.Settling.{settled, taken_back}
 
 -- what was put was appended
-pub puts_appends_too : {T E : Type 0} {item : List ℕ} {u v : Vec ℕ} {r : Result T E} → Puts item u v r → Appends item u v r
+pub puts_appends_too : {T E : Type 0} {item : List ℕ} {u v : Vec ℕ} {r : Result T E} → Puts item u v r → Appends ⊤ item u v r
 puts_appends_too h = puts_appends h
 
 -- an item that was appended was put
-pub settled_too : {T E : Type 0} {u v : Vec ℕ} {item : List ℕ} {r : Result T E} → IsOk r → Appends item u v r → Puts item u v r
+pub settled_too : {T E : Type 0} {u v : Vec ℕ} {item : List ℕ} {r : Result T E} → IsOk r → Appends ⊤ item u v r → Puts item u v r
 settled_too good h = settled good h
 
 -- one that was not leaves what there was
-pub taken_back_too : {T E : Type 0} {u v w : Vec ℕ} {item : List ℕ} {r : Result T E} → IsErr r → Appends item u v r → w.items ≡ take (vec_len u) v.items → vec_capacity v ≤ vec_capacity w → Puts item u w r
-taken_back_too bad h is capacity = taken_back bad h is capacity
+pub taken_back_too : {T E : Type 0} {u v w : Vec ℕ} {item : List ℕ} {r : Result T E} → IsErr r → Appends ⊤ item u v r → w.items ≡ take (vec_len u) v.items → vec_capacity v ≤ vec_capacity w → Puts item u w r
+taken_back_too bad h is capacity = taken_back tt bad h is capacity
 
 -- of these bytes all but the rest are appended
 pub record Partway (rest all : List ℕ) (old now : Vec ℕ) : Type 0 where
@@ -39,9 +39,9 @@ partway_next {item} {rest} {all} {bytes} e p a = record {
 }
 
 -- no room for one more
-pub partway_stop : (rest : List ℕ) {item all bytes : List ℕ} {u v w : Vec ℕ} → bytes ≡ item ++ rest → Partway bytes all u v → Stopped item v w → Stopped all u w
+pub partway_stop : (rest : List ℕ) {item all bytes : List ℕ} {u v w : Vec ℕ} → bytes ≡ item ++ rest → Partway bytes all u v → Stopped ⊤ item v w → Stopped ⊤ all u w
 partway_stop rest {item} {all} {bytes} {u} {v} {w} e p s =
-    subst (λ l. Stopped l u w) (append_assoc p.done item rest ∙ ap (λ l. p.done ++ l) (sym e) ∙ p.whole) (stopped_before (stopped_after p.appended s) rest)
+    subst (λ l. Stopped ⊤ l u w) (append_assoc p.done item rest ∙ ap (λ l. p.done ++ l) (sym e) ∙ p.whole) (stopped_before (stopped_after p.appended s) rest)
 
 -- all is appended
 pub partway_last : {rest all : List ℕ} {u v : Vec ℕ} → rest ≡ [] → Partway rest all u v → Appended all u v

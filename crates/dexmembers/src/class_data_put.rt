@@ -1,6 +1,6 @@
 //! Class data written.
 
-ghost use Rattle.std.specs.Prelude.{◌≡◌, ◌+◌, ◌*◌, ◌^◌, ◌<◌, ◌≤◌, ◌++◌, take, drop, length, IsOk, vec_len, vec_capacity};
+ghost use Rattle.std.specs.Prelude.{⊤, ◌≡◌, ◌+◌, ◌*◌, ◌^◌, ◌<◌, ◌≤◌, ◌++◌, take, drop, length, IsOk, vec_len, vec_capacity};
 ghost use Rattle.dexspec.specs.Numbers.{uleb128};
 ghost use Rattle.dexspec.specs.Texts.{Text};
 ghost use Rattle.dexspec.specs.Classes.{Body};
@@ -20,14 +20,14 @@ use std::alloc::AllocError;
 // Appends a uleb128. Where memory is wanting, as with all that follow here, a part of the item may stand.
 #[tactic(auto, using(crate::proofs::Partways::puts_appends_too))]
 fn append_number(value: u32, out: &mut Vec<u8>) -> Result<(), AllocError>
-    ensures { Appends (uleb128 value) out.old out.new result }
+    ensures { Appends ⊤ (uleb128 value) out.old out.new result }
 {
     put_u(value, out)
 }
 
 // Appends an encoded_field behind one with the number `last`.
 fn append_field(field: &Field, last: u32, out: &mut Vec<u8>) -> Result<(), AllocError>
-    ensures { Appends (numbered_field_bytes last field.now) out.old out.new result }
+    ensures { Appends ⊤ (numbered_field_bytes last field.now) out.old out.new result }
 {
     append_number(field.number().saturating_sub(last), out)?;
     append_number(field.flags(), out)
@@ -35,7 +35,7 @@ fn append_field(field: &Field, last: u32, out: &mut Vec<u8>) -> Result<(), Alloc
 
 // Appends encoded_fields.
 fn append_fields(fields: &[Field], out: &mut Vec<u8>) -> Result<(), AllocError>
-    ensures { Appends (numbered_fields_bytes 0 fields.now) out.old out.new result }
+    ensures { Appends ⊤ (numbered_fields_bytes 0 fields.now) out.old out.new result }
 {
     let mut last = 0;
     for field in fields {
@@ -52,7 +52,7 @@ fn append_method(
     code_off: u32,
     out: &mut Vec<u8>,
 ) -> Result<(), AllocError>
-    ensures { Appends (numbered_method_bytes last method.now code_off) out.old out.new result }
+    ensures { Appends ⊤ (numbered_method_bytes last method.now code_off) out.old out.new result }
 {
     append_number(method.number().saturating_sub(last), out)?;
     append_number(method.flags(), out)?;
@@ -66,7 +66,7 @@ fn append_methods(
     out: &mut Vec<u8>,
 ) -> Result<(), AllocError>
     requires { length code_offs.now ≡ length methods.now }
-    ensures { Appends (numbered_methods_bytes 0 methods.now code_offs.now) out.old out.new result }
+    ensures { Appends ⊤ (numbered_methods_bytes 0 methods.now code_offs.now) out.old out.new result }
 {
     let mut last = 0;
     for (i, method) in methods.iter().enumerate() {
@@ -90,7 +90,7 @@ fn append_lists(
     requires direct_methods { length direct_methods.now < 2 ^ 32 }
     requires virtual_methods { length virtual_methods.now < 2 ^ 32 }
     requires offsets { length code_offs.now ≡ length direct_methods.now + length virtual_methods.now }
-    ensures { Appends (uleb128 (length static_fields.now) ++ (uleb128 (length instance_fields.now) ++ (uleb128 (length direct_methods.now) ++ (uleb128 (length virtual_methods.now) ++ (numbered_fields_bytes 0 static_fields.now ++ (numbered_fields_bytes 0 instance_fields.now ++ (numbered_methods_bytes 0 direct_methods.now (take (length direct_methods.now) code_offs.now) ++ numbered_methods_bytes 0 virtual_methods.now (drop (length direct_methods.now) code_offs.now)))))))) out.old out.new result }
+    ensures { Appends ⊤ (uleb128 (length static_fields.now) ++ (uleb128 (length instance_fields.now) ++ (uleb128 (length direct_methods.now) ++ (uleb128 (length virtual_methods.now) ++ (numbered_fields_bytes 0 static_fields.now ++ (numbered_fields_bytes 0 instance_fields.now ++ (numbered_methods_bytes 0 direct_methods.now (take (length direct_methods.now) code_offs.now) ++ numbered_methods_bytes 0 virtual_methods.now (drop (length direct_methods.now) code_offs.now)))))))) out.old out.new result }
 {
     append_number(static_fields.len() as u32, out)?;
     append_number(instance_fields.len() as u32, out)?;
@@ -108,7 +108,7 @@ impl Members<'_> {
     fn append_class_data(&self, code_offs: &[u32], out: &mut Vec<u8>) -> Result<(), AllocError>
         requires few { HasFewMembers self.now }
         requires offsets { length code_offs.now ≡ length (methods_of self.now) }
-        ensures { Appends (numbered_class_data_bytes self.now code_offs.now) out.old out.new result }
+        ensures { Appends ⊤ (numbered_class_data_bytes self.now code_offs.now) out.old out.new result }
     {
         append_lists(
             self.static_fields(),

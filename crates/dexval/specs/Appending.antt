@@ -8,7 +8,7 @@ pub record Appended (item : List ℕ) (old new : Vec ℕ) : Type 0 where
   pub len : vec_len new ≡ vec_len old + length item
   pub capacity : vec_capacity old ≤ vec_capacity new
 
--- the item was not appended, for want of room where it is one that `Counted` holds of; what was there stands in front
+-- the item was not appended, and where it is counted there was no room for it; what was there stands in front
 pub record Stopped (Counted : Type 0) (item : List ℕ) (old new : Vec ℕ) : Type 0 where
   pub front : take (vec_len old) new.items ≡ old.items
   pub full : Counted → vec_capacity old < vec_len old + length item

@@ -48,7 +48,8 @@ abbrev pub IsDirectoryFault : List ℕ → ℕ → ItemFault → Type 0
 IsDirectoryFault b off (Refused number) = (number ≡ 22) × ((d : Directory) → DirectoryAt b off d → ⊥)
 IsDirectoryFault b off Memory = Unit {0}
 
--- the same, and its sets and lists of sets weigh at most so much; 2^64 - 1 is no bound
+-- at the offset stands an annotations_directory_item of the directory, whose sets and lists of sets weigh at most so
+-- much; 2^64 - 1 is no bound
 pub record IsDirectoryWithin (b : List ℕ) (off : ℕ) (m : Mentions) (most : ℕ) (d : NumberedDirectory) : Type 0 where
   pub is : IsDirectoryAt b off m d
   pub within : min (2 ^ 64 - 1) (directory_weight (directory_in m d)) ≤ most

@@ -108,7 +108,7 @@ fn append_bits(code: u8, width: usize, bits: u64, out: &mut Vec<u8>) -> Result<(
     append_low(code, left, bits >> (8 * (width - left)), out)
 }
 
-// Appends one byte. Where memory is wanting, as with all that follow here, a part of the item may stand.
+// Appends one byte. Where it fails, as with all that follow here, a part of the item may stand.
 #[tactic(auto, using(crate::proofs::Joining::puts_appends))]
 fn append_byte(byte: u8, out: &mut Vec<u8>) -> Result<(), AllocError>
     ensures { Appends ⊤ (byte ∷ []) out.old out.new result }

@@ -1,5 +1,6 @@
-pub mod MembersLed
-pub mod OrderKept
-pub mod Mapped
-pub mod MembersKept
-pub mod MembersSame
+pub mod RenumberingSteps
+pub mod RenumberingOrder
+pub mod RenumberingLists
+pub mod RenumberingKept
+pub mod SameMembers
+pub mod FittingMembers

@@ -6,6 +6,7 @@
 
 mod class_data;
 mod codes;
+mod fitting;
 mod members;
 mod reading;
 mod renumbering;

@@ -8,3 +8,9 @@ pub mod MembersUsed
 pub mod Weighed
 pub mod Partways
 pub mod ClassDataSpelled
+pub mod RenumberingSteps
+pub mod RenumberingOrder
+pub mod RenumberingLists
+pub mod RenumberingKept
+pub mod SameMembers
+pub mod FittingMembers

@@ -1,8 +1,12 @@
 -- What a class declares, with its numbers led to those of another numbering.
-use Rattle.std.specs.Prelude.{map, All, IfSome}
+use Rattle.std.specs.Prelude.{◌^◌, ◌<◌, map, All, IfSome}
 use Rattle.std.specs.Option.{option_map}
+use Rattle.dexspec.specs.Mentions.{Mentions}
+use Rattle.dexpool.specs.declared.symbols.SymbolKind.{SymbolKind}
 use Rattle.dexpool.specs.declared.symbols.SymbolKind.TheVariants as kinds
-use Rattle.dexpool.specs.Numberings.{Maps}
+use Rattle.dexpool.specs.Laws.{LeadsAll}
+use Rattle.dexpool.specs.Numberings.{Maps, AllLead}
+use Rattle.dexpool.specs.Pools.{count_of}
 use Rattle.dexcode.specs.Renumbering.{renumbered_item}
 use Rattle.dexcode.specs.Renumbering as code
 use Rattle.dexval.specs.Renumbering.{led, renumbered_set, renumbered_values, LeadsOn, SetHasPlaces, HavePlaces}
@@ -57,3 +61,9 @@ pub record MembersHavePlaces (r : Maps) (x : NumberedMembers) : Type 0 where
   pub direct_methods_lead : All (MethodHasPlaces r) x.direct_methods
   pub virtual_methods_lead : All (MethodHasPlaces r) x.virtual_methods
   pub values_lead : HavePlaces r x.static_values
+
+-- each number of the first numbering leads to that of the same symbol in the second, which has less than 2^32 of each kind
+pub record LeadsInto (m n : Mentions) (r : Maps) : Type 0 where
+  pub leads : AllLead m n r
+  pub all : LeadsAll m r
+  pub few : (kind : SymbolKind) → count_of kind n < 2 ^ 32

@@ -9,6 +9,7 @@ mod class_data_put;
 mod codes;
 mod copying;
 mod marking;
+mod fitting;
 mod members;
 mod reading;
 mod renumbering;

@@ -81,7 +81,8 @@ impl<'a> Members<'a> {
     /// Puts for each number of a symbol in what the class declares the one that it leads to. No memory is taken.
     ///
     /// Condition: each number leads to one that fits its place, one below 2^16 in an instruction but for
-    /// const-string/jumbo, one below 2^32 - 1 in a debug program, and one below 2^32 elsewhere.
+    /// const-string/jumbo, one below 2^32 - 1 in a debug program, and one below 2^32 elsewhere. For numberings that
+    /// are joined [`instructions_fit`](Members::instructions_fit) tells it.
     ///
     /// Source: "class_data_item", "annotations_directory_item", "encoded_array_item".
     pub fn renumber(&mut self, remap: &Remap)

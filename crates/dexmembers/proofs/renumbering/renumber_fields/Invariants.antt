@@ -1,5 +1,5 @@
 use Rattle.dexmembers.specs.Renumbering.{renumbered_field}
-use Rattle.dexmembers.proofs.MembersLed.{AreChanged}
+use Rattle.dexmembers.proofs.RenumberingSteps.{AreChanged}
 use Rattle.dexmembers.proofs.renumbering.renumber_fields.Given as goal
 
 abbrev pub invariant-loop-i : goal.invariant-loop-i

@@ -1,6 +1,6 @@
 use Rattle.std.proofs.Common.{arith}
 use Rattle.dexmembers.specs.Renumbering.{renumbered_method, MethodHasPlaces}
-use Rattle.dexmembers.proofs.MembersLed.{next_member, changed_more}
+use Rattle.dexmembers.proofs.RenumberingSteps.{next_member, changed_more}
 use Rattle.dexmembers.proofs.renumbering.renumber_methods.Goals as goal
 
 pub renumber-requires : goal.renumber-requires

@@ -1,6 +1,6 @@
 use Rattle.std.proofs.Common.{refl}
 use Rattle.dexval.specs.Numbered.{set_in, values_in}
-use Rattle.dexmembers.proofs.MembersKept.{SetsKeep, ValuesKeep, CodesKeep, members_keep, order_kept, class_kept}
+use Rattle.dexmembers.proofs.RenumberingKept.{SetsKeep, ValuesKeep, CodesKeep, members_keep, order_kept, class_kept}
 use Rattle.dexmembers.proofs.renumbering_laws.members_led_law.Goals as goal
 
 pub returns : goal.returns

@@ -1,6 +1,6 @@
 use Rattle.std.proofs.Common.{refl}
 use Rattle.dexval.specs.Numbered.{set_in, values_in}
-use Rattle.dexmembers.proofs.MembersSame.{SetsSame, ValuesSame, CodesSame, members_same}
+use Rattle.dexmembers.proofs.SameMembers.{SetsSame, ValuesSame, CodesSame, members_same}
 use Rattle.dexmembers.proofs.renumbering_laws.members_same_law.Goals as goal
 
 pub returns : goal.returns

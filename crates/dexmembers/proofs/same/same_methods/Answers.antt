@@ -1,6 +1,6 @@
 use Rattle.std.proofs.Common.{◌<◌, length, arith}
 use Rattle.dexmembers.specs.Renumbering.{renumbered_method}
-use Rattle.dexmembers.proofs.MembersLed.{same_at}
+use Rattle.dexmembers.proofs.RenumberingSteps.{same_at}
 use Rattle.dexmembers.proofs.same.same_methods.Goals as goal
 
 pub returns-then-not-same_mapped : goal.returns-then-not-same_mapped

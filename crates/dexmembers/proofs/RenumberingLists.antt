@@ -39,6 +39,11 @@ pub all_both : {X : Type 0} (P K L : X → Type 0) → ((x : X) → P x → K x 
 all_both P K L each [] h k = All-nil L
 all_both P K L each (x ∷ xs) h k = All-cons L x xs (each x (All-head P x xs h) (All-head K x xs k)) (all_both P K L each xs (All-tail P x xs h) (All-tail K x xs k))
 
+-- what holds of what may be there, by parts
+pub options_both : {X : Type 0} (P K L : X → Type 0) → ((x : X) → P x → K x → L x) → (o : Option X) → IfSome o P → IfSome o K → IfSome o L
+options_both P K L each None h k = tt
+options_both P K L each (Some x) h k = each x h k
+
 -- what members mean is kept by a step
 pub maps_keep : {X Y : Type 0} (f : X → X) (p q : X → Y) (P K L : X → Type 0) → ((x : X) → P x → K x → L (f x) × (q (f x) ≡ p x)) → (xs : List X) → All P xs → All K xs → All L (map f xs) × (map q (map f xs) ≡ map p xs)
 maps_keep f p q P K L each [] h k = (All-nil L, refl)

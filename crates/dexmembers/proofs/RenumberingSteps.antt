@@ -1,7 +1,7 @@
 -- Lists of members that are led on one by one, and lists that are the same, led on.
-use Rattle.std.proofs.Common.{◌≡◌, ℕ, ◌+◌, ◌<◌, ◌≤◌, List, [], ◌∷◌, ◌++◌, length, drop, take, map, get_or, set, ap, sym, ◌∙◌, subst, arith}
+use Rattle.std.proofs.Common.{◌≡◌, ℕ, ◌+◌, ◌<◌, List, [], ◌∷◌, ◌++◌, length, drop, take, map, get_or, set, ap, sym, ◌∙◌, subst, arith}
 use Rattle.std.specs.List.{All}
-use Rattle.std.proofs.lemmas.List.{drop-drop, get_or-drop, get_or-map, take_more_set, map_more, take_all, drop-set-lt, length-set, length-map}
+use Rattle.std.proofs.lemmas.List.{drop-drop, get_or-drop, get_or-map, take_more_set, map_more, drop-set-lt, length-set}
 use Rattle.std.proofs.lemmas.List.Elements.{All-get_or}
 
 -- the first i members are changed, and the others are as they were
@@ -30,21 +30,11 @@ changed_more f old new i d y h lt e is =
       size = length-set new i y ∙ h.size;
     }
 
--- all of them
-pub all_changed : {X : Type 0} (f : X → X) (old new : List X) (i : ℕ) → AreChanged f i old new → length old ≤ i → new ≡ map f old
-all_changed f old new i h end = sym (take_all i new (omega (arith, h.size))) ∙ h.done ∙ ap (map f) (take_all i old end)
-
 -- ---- lists that are the same, mapped
 
 module _ {X Z : Type 0} (f g : X → Z) (xs ys : List X) where
-  pub same_count : map f xs ≡ map g ys → length xs ≡ length ys
-  same_count e = sym (length-map xs f) ∙ ap length e ∙ length-map ys g
-
   pub same_at : (i : ℕ) (x y : X) → i < length xs → i < length ys → x ≡ get_or xs i x → y ≡ get_or ys i y → map f xs ≡ map g ys → f x ≡ g y
   same_at i x y lt lt' is is' e =
       let mine : get_or (map f xs) i (g y) ≡ f x = get_or-map f xs i x (g y) lt ∙ ap f (sym is) in
       let theirs : get_or (map g ys) i (g y) ≡ g y = get_or-map g ys i y (g y) lt' ∙ ap g (sym is') in
       sym mine ∙ ap (λ zs. get_or zs i (g y)) e ∙ theirs
-
-  pub same_all : (i : ℕ) → length xs ≤ i → length ys ≤ i → map f (take i xs) ≡ map g (take i ys) → map f xs ≡ map g ys
-  same_all i end end' e = ap (map f) (sym (take_all i xs end)) ∙ e ∙ ap (map g) (take_all i ys end')

@@ -17,8 +17,8 @@ use Rattle.dexval.specs.Numbered.{NumberedSet, NumberedValues, field_at, method_
 use Rattle.dexval.specs.Renumbering.{led, renumbered_set, renumbered_values, LeadsOn, SetHasPlaces, HavePlaces}
 use Rattle.dexmembers.specs.Numbered.{NumberedField, NumberedMethod, NumberedMembers, fields_of, methods_of, field_in, method_in, members_in, IsKnownField, IsKnownMethod, AreKnownMembers, AreOrdered, AreOfClass, NumbersRise}
 use Rattle.dexmembers.specs.Renumbering.{renumbered_field, renumbered_method, renumbered_members, FieldHasPlaces, MethodHasPlaces, MembersHavePlaces}
-use Rattle.dexmembers.proofs.Mapped.{all_mapped, maps_keep, options_keep}
-use Rattle.dexmembers.proofs.OrderKept.{Goes, end, rise_kept, apart_kept}
+use Rattle.dexmembers.proofs.RenumberingLists.{all_mapped, maps_keep, options_keep}
+use Rattle.dexmembers.proofs.RenumberingOrder.{Goes, end, rise_kept, apart_kept}
 
 abbrev pub no_field : Field
 no_field = record { class = []; name = []; type = [] }

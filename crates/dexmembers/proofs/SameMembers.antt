@@ -1,5 +1,5 @@
 -- Members of two numberings, led to a third, are the same there just where they stand for the same.
-use Rattle.std.proofs.Common.{◌≡◌, ℕ, List, map, Option, Some, None, sym, ap, ◌∙◌}
+use Rattle.std.proofs.Common.{◌≡◌, ℕ, List, map, Option, sym, ap, ◌∙◌}
 use Rattle.std.specs.Prelude.{◌↔◌, IfSome}
 use Rattle.std.specs.List.{All}
 use Rattle.std.specs.Option.{option_map}
@@ -17,8 +17,8 @@ use Rattle.dexval.specs.Numbered.{NumberedSet, NumberedValues, field_at, method_
 use Rattle.dexval.specs.Renumbering.{led, renumbered_set, renumbered_values, LeadsOn, SetHasPlaces, HavePlaces}
 use Rattle.dexmembers.specs.Numbered.{NumberedField, NumberedMethod, NumberedMembers, field_in, method_in, members_in, IsKnownField, IsKnownMethod, AreKnownMembers, AreOfClass}
 use Rattle.dexmembers.specs.Renumbering.{renumbered_field, renumbered_method, renumbered_members, FieldHasPlaces, MethodHasPlaces, MembersHavePlaces}
-use Rattle.dexmembers.proofs.Mapped.{all_left, all_right, all_both, maps_same, options_same}
-use Rattle.dexmembers.proofs.MembersKept.{no_field, no_method, field_led, method_led, FieldIsOf, MethodIsOf}
+use Rattle.dexmembers.proofs.RenumberingLists.{all_left, all_right, all_both, maps_same, options_same, options_both}
+use Rattle.dexmembers.proofs.RenumberingKept.{no_field, no_method, field_led, method_led, FieldIsOf, MethodIsOf}
 
 -- what is known of a set: its numbers lead on, and are those of symbols
 record IsPartSet (m : Mentions) (r : Maps) (xs : NumberedSet) : Type 0 where
@@ -55,10 +55,6 @@ abbrev pub CodesSame : Mentions → Mentions → Maps → Maps → Type 0
 CodesSame m n r s = (c d : NumberedItem) → HasPlaces r c → HasPlaces s d → IsKnownCode m c → IsKnownCode n d → (renumbered_item r c ≡ renumbered_item s d) ↔ (code_in m c ≡ code_in n d)
 
 -- ---- lists and options
-
-options_both : {X : Type 0} (P K L : X → Type 0) → ((x : X) → P x → K x → L x) → (o : Option X) → IfSome o P → IfSome o K → IfSome o L
-options_both P K L each None h k = tt
-options_both P K L each (Some x) h k = each x h k
 
 module _ (m n : Mentions) (r s : Maps) where
   code_same : CodesSame m n r s → (o u : Option NumberedItem) → IfSome o (HasPlaces r) → IfSome u (HasPlaces s) → IfSome o (IsKnownCode m) → IfSome u (IsKnownCode n)

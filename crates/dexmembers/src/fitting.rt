@@ -1,0 +1,65 @@
+//! Whether the numbers in what classes declare lead to ones that fit their places.
+
+ghost use Rattle.std.specs.Prelude.{◌↔◌, IsTrue, All};
+ghost use Rattle.dexspec.specs.Mentions.{Mentions};
+ghost use Rattle.dexcode.specs.Meaning.{IsKnownCode};
+ghost use Rattle.dexcode.specs.Renumbering.{HasPlaces};
+ghost use Rattle.dexmembers.specs.Numbered.{IsKnownMethod, AreKnownMembers};
+ghost use Rattle.dexmembers.specs.Renumbering.{LeadsInto, MethodHasPlaces, MembersHavePlaces};
+
+use crate::members::{Members, Method};
+use dexcode::{Code, code_meaning_law, code_places_law};
+use dexpool::Remap;
+use dexval::places_law;
+
+// Whether each number in the code does. Those outside of instructions do where all lead on.
+fn code_fits(code: &Code<'_>, remap: &Remap) -> bool
+    ensures { (m n : Mentions) → LeadsInto m n remap.now → IsKnownCode m code.now → IsTrue result ↔ HasPlaces remap.now code.now }
+{
+    code_places_law();
+    code_meaning_law();
+    code.pieces().fits(remap)
+}
+
+// Whether each number of methods does.
+fn methods_fit(methods: &[Method<'_>], remap: &Remap) -> bool
+    ensures { (m n : Mentions) → LeadsInto m n remap.now → All (IsKnownMethod m) methods.now → IsTrue result ↔ All (MethodHasPlaces remap.now) methods.now }
+{
+    for method in methods {
+        if !method.instructions_fit(remap) {
+            return false;
+        }
+    }
+    true
+}
+
+impl<'a> Method<'a> {
+    // Whether each number of the method does.
+    fn instructions_fit(&self, remap: &Remap) -> bool
+        ensures { (m n : Mentions) → LeadsInto m n remap.now → IsKnownMethod m self.now → IsTrue result ↔ MethodHasPlaces remap.now self.now }
+    {
+        places_law();
+        match &self.code {
+            Some(code) => code_fits(code, remap),
+            None => true,
+        }
+    }
+}
+
+impl<'a> Members<'a> {
+    /// Whether each number in the instructions of the methods leads to one that fits its place: one below 2^16, or below
+    /// 2^32 for const-string/jumbo. Where every number of the numbering leads into one of less than 2^32 symbols of each
+    /// kind, as when numberings are joined, each number of what the class declares then has its place, and
+    /// [`renumber`](Members::renumber) may be called. No memory is taken.
+    ///
+    /// Source: "code_item", the field `insns`.
+    pub fn instructions_fit(&self, remap: &Remap) -> bool
+        ensures { (m n : Mentions) → LeadsInto m n remap.now → AreKnownMembers m self.now → IsTrue result ↔ MembersHavePlaces remap.now self.now }
+    {
+        places_law();
+        if !methods_fit(&self.direct_methods, remap) {
+            return false;
+        }
+        methods_fit(&self.virtual_methods, remap)
+    }
+}

@@ -66,6 +66,8 @@ impl Field {
     /// The same field, with annotations of its own.
     ///
     /// Error: memory was refused.
+    ///
+    /// Source: "encoded_field format", "field_annotation format".
     pub fn copy(&self) -> Result<Field, AllocError>
         ensures { IfOk result (λ copy. copy ≡ self.now) }
     {
@@ -81,6 +83,8 @@ impl<'a> Method<'a> {
     /// The same method, with lists of its own. The units of its code are borrowed as before.
     ///
     /// Error: memory was refused.
+    ///
+    /// Source: "encoded_method format", "method_annotation format", "parameter_annotation format".
     pub fn copy(&self) -> Result<Method<'a>, AllocError>
         ensures { IfOk result (λ copy. copy ≡ self.now) }
     {
@@ -98,6 +102,8 @@ impl<'a> Members<'a> {
     /// The same members, with lists of their own. The units of code are borrowed as before.
     ///
     /// Error: memory was refused.
+    ///
+    /// Source: "class_data_item", "annotations_directory_item", "encoded_array_item".
     pub fn copy(&self) -> Result<Members<'a>, AllocError>
         ensures { IfOk result (λ copy. copy ≡ self.now) }
     {

@@ -1,6 +1,6 @@
 //! Marks on the symbols that occur in what classes declare.
 
-ghost use Rattle.std.specs.Prelude.{◌∷◌, [], All, map, option_to_list};
+ghost use Rattle.std.specs.Prelude.{All, map, option_to_list};
 ghost use Rattle.std.specs.List.{flat_map};
 ghost use Rattle.dexpool.specs.Uses.{HasMark, AreMarkedToo};
 ghost use Rattle.dexval.specs.Code.{set_of};
@@ -12,14 +12,6 @@ use crate::members::{Field, Members, Method};
 use dexcode::Code;
 use dexpool::{Marks, SymbolKind};
 use dexval::{AnnotationSet, mark_values};
-
-// Marks one symbol.
-fn mark_one(kind: SymbolKind, number: usize, marks: &mut Marks)
-    requires { HasMark marks.old (record { kind = kind; number = number }) }
-    ensures { AreMarkedToo (record { kind = kind; number = number } ∷ []) marks.old marks.new }
-{
-    marks.mark(kind, number);
-}
 
 // Marks the symbols of sets.
 fn mark_sets(sets: &[AnnotationSet], marks: &mut Marks)
@@ -67,7 +59,7 @@ impl Field {
         requires { All (HasMark marks.old) (field_uses self.now) }
         ensures { AreMarkedToo (field_uses self.now) marks.old marks.new }
     {
-        mark_one(SymbolKind::Field, self.number as usize, marks);
+        marks.mark(SymbolKind::Field, self.number as usize);
         self.annotations.mark(marks);
     }
 }
@@ -78,7 +70,7 @@ impl<'a> Method<'a> {
         requires { All (HasMark marks.old) (method_uses self.now) }
         ensures { AreMarkedToo (method_uses self.now) marks.old marks.new }
     {
-        mark_one(SymbolKind::Method, self.number as usize, marks);
+        marks.mark(SymbolKind::Method, self.number as usize);
         mark_code(&self.code, marks);
         self.annotations.mark(marks);
         mark_sets(&self.parameter_annotations, marks);
@@ -90,6 +82,8 @@ impl<'a> Members<'a> {
     /// with. No memory is taken.
     ///
     /// Condition: there is a mark for each of them.
+    ///
+    /// Source: "class_data_item", "annotations_directory_item", "code_item", "encoded_array_item".
     pub fn mark(&self, marks: &mut Marks)
         requires { All (HasMark marks.old) (members_uses self.now) }
         ensures { AreMarkedToo (members_uses self.now) marks.old marks.new }

@@ -9,13 +9,13 @@ use Rattle.dexmembers.specs.Uses.{field_uses}
 use Rattle.dexmembers.proofs.MembersMarked.{rest_marked}
 use Rattle.dexmembers.proofs.members.Field.mark.Goals as goal
 
-pub mark_one-requires : goal.mark_one-requires
-mark_one-requires c =
-    let all = subst (λ x. All (HasMark c.args.marks.now) (field_uses x)) (sym c.self.view_is) c.requires in
-    All-head (HasMark c.args.marks.now) (record { kind = kinds.Field; number = c.self.inside.number }) (set_uses (set_of c.self.inside.annotations)) all
-
 pub mark-requires : goal.mark-requires
 mark-requires c =
     let all = subst (λ x. All (HasMark c.args.marks.now) (field_uses x)) (sym c.self.view_is) c.requires in
+    All-head (HasMark c.args.marks.now) (record { kind = kinds.Field; number = c.self.inside.number }) (set_uses (set_of c.self.inside.annotations)) all
+
+pub mark-requires-2 : goal.mark-requires-2
+mark-requires-2 c =
+    let all = subst (λ x. All (HasMark c.args.marks.now) (field_uses x)) (sym c.self.view_is) c.requires in
     let u : Use = record { kind = kinds.Field; number = c.self.inside.number } in
-    rest_marked (u ∷ []) (set_uses (set_of c.self.inside.annotations)) c.args.marks.now c.mark_one.new.marks c.mark_one.ensures all
+    rest_marked (u ∷ []) (set_uses (set_of c.self.inside.annotations)) c.args.marks.now c.mark.new.self c.mark.ensures all

@@ -1,1 +1,2 @@
 pub mod CodesOfMethods
+pub mod StaticValuesRead

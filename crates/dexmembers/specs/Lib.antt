@@ -3,4 +3,5 @@ pub mod Stored
 pub mod Weight
 pub mod ClassData
 pub mod MethodCodes
+pub mod StaticValues
 pub mod Reading

@@ -8,6 +8,7 @@ mod class_data;
 mod codes;
 mod members;
 mod reading;
+mod static_values;
 
 pub use members::{Field, Members, Method};
 pub use reading::read_members;

@@ -14,3 +14,5 @@ pub mod RenumberingLists
 pub mod RenumberingKept
 pub mod SameMembers
 pub mod FittingMembers
+pub mod CodesOfMethods
+pub mod StaticValuesRead

@@ -3,6 +3,7 @@ pub mod Stored
 pub mod Weight
 pub mod ClassData
 pub mod MethodCodes
+pub mod StaticValues
 pub mod Reading
 pub mod Renumbering
 pub mod Uses

@@ -11,13 +11,36 @@ use Rattle.dexcode.specs.Numbered.{NumberedItem, StandsForCode}
 use Rattle.dexcode.specs.Reading.{IsCodeFault}
 use Rattle.dexmembers.specs.declared.class_data.EncodedMethod.{EncodedMethod}
 
--- what code weighs, with its debug program; none weighs nothing
+-- what code weighs, with its debug program
+abbrev pub one_code_weight : Code → ℕ
+one_code_weight c = code_weight c + sum_by debug_weight (option_to_list c.debug)
+
+-- the same; none weighs nothing
 abbrev pub optional_code_weight : Option Code → ℕ
-optional_code_weight c = sum_by (λ c. code_weight c + sum_by debug_weight (option_to_list c.debug)) (option_to_list c)
+optional_code_weight c = sum_by one_code_weight (option_to_list c)
 
 -- at the offset of each method stands its code, or the offset is 0 and there is none
 abbrev pub AreCodesAt : List ℕ → List EncodedMethod → List (Option Code) → Type 0
 AreCodesAt b xs codes = AllZip (λ x c. OrNone (SomeAt CodeAt) None b x.code_off c) xs codes
+
+-- the methods have code, or none
+abbrev pub HaveCodes : List ℕ → List EncodedMethod → Type 0
+HaveCodes b xs = (codes : List (Option Code)) × AreCodesAt b xs codes
+
+-- at the offset stands code, or the offset is 0 and there is none
+abbrev pub HasCodeOrNone : List ℕ → ℕ → Type 0
+HasCodeOrNone b off = (code : Option Code) × OrNone (SomeAt CodeAt) None b off code
+
+-- at the offset stands the code, or the offset is 0 and there is none
+pub record IsCodeOrNone (b : List ℕ) (off : ℕ) (m : Mentions) (code : Option NumberedItem) : Type 0 where
+  pub symbolic : Option Code
+  pub at : OrNone (SomeAt CodeAt) None b off symbolic
+  pub stands : BothOrNone (StandsForCode m) code symbolic
+
+-- the offset is that of code which is refused; want of memory says nothing of the file
+abbrev pub IsCodeOrNoneFault : List ℕ → ℕ → ItemFault → Type 0
+IsCodeOrNoneFault b off Memory = Unit {0}
+IsCodeOrNoneFault b off (Refused number) = (off ≢ 0) × IsCodeFault b off (Refused number)
 
 -- the code of the methods, where it weighs no more than it may
 pub record AreCodesOf (b : List ℕ) (m : Mentions) (xs : List EncodedMethod) (most : ℕ) (codes : List (Option NumberedItem)) : Type 0 where

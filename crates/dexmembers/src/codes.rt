@@ -1,14 +1,98 @@
 //! The code of methods.
 
-ghost use Rattle.std.specs.Prelude.{IfOk, IfErr, MatchOption};
+ghost use Rattle.std.specs.Prelude.{◌≡◌, ◌+◌, ◌<◌, Option, IfOk, IfErr, OnOk, MatchOption};
+ghost use Rattle.dexspec.specs.Lists.{BothOrNone};
+ghost use Rattle.dexspec.specs.Code as symbolic;
+ghost use Rattle.dexspec.specs.Mentions.{Mentions};
+ghost use Rattle.dexpool.specs.Numberings.{AreRising};
 ghost use Rattle.dexpool.specs.Pools.{ArePools};
-ghost use Rattle.dexmembers.specs.MethodCodes.{AreCodesOf, AreHeavyCodes, IsCodesFault};
+ghost use Rattle.dexcode.specs.Numbered.{StandsForCode};
+ghost use Rattle.dexmembers.specs.MethodCodes.{HasCodeOrNone, IsCodeOrNone, IsCodeOrNoneFault, HaveCodes, AreCodesOf, AreHeavyCodes, IsCodesFault, one_code_weight, optional_code_weight};
 
 use crate::class_data::EncodedMethod;
-use dexcode::Code;
+use dexcode::{Code, debug_bare_law, read_code};
 use dexhead::Frame;
 use dexpool::{ItemFault, Pools};
 use std::alloc::Global;
+
+// The code at an offset, or none at 0.
+fn code_or_none<'a>(
+    alloc: Global,
+    frame: &Frame<'a>,
+    pools: &Pools<'_>,
+    off: u32,
+) -> Result<Option<Code<'a>>, ItemFault>
+    ensures read { ArePools frame.now pools.now → IfOk result (IsCodeOrNone frame.now off pools.now) }
+    ensures refused { ArePools frame.now pools.now → IfErr result (IsCodeOrNoneFault frame.now off) }
+{
+    if off == 0 {
+        return Ok(None);
+    }
+    match read_code(alloc, frame, pools, off) {
+        Ok(code) => Ok(Some(code)),
+        Err(fault) => Err(fault),
+    }
+}
+
+// What is left of a weight behind the code with its debug program, or `None` where the code weighs more.
+fn left_behind(left: u64, code: &Code<'_>) -> Option<u64>
+    ensures { (m : Mentions) (x : symbolic.Code) → AreRising m → StandsForCode m code.now x → MatchOption result (left < one_code_weight x) (λ rest. rest + one_code_weight x ≡ left) }
+{
+    debug_bare_law();
+    let rest = left.checked_sub(code.weight())?;
+    match code.debug() {
+        Some(debug) => rest.checked_sub(debug.weight()),
+        None => Some(rest),
+    }
+}
+
+// The same behind the code of a method that may have none.
+fn left_behind_any(left: u64, code: &Option<Code<'_>>) -> Option<u64>
+    ensures { (m : Mentions) (x : Option symbolic.Code) → AreRising m → BothOrNone (StandsForCode m) code.now x → MatchOption result (left < optional_code_weight x) (λ rest. rest + optional_code_weight x ≡ left) }
+{
+    match code {
+        Some(code) => left_behind(left, code),
+        None => Some(left),
+    }
+}
+
+// Judges the code at an offset, and keeps none of it.
+fn judge_code(
+    alloc: Global,
+    frame: &Frame<'_>,
+    pools: &Pools<'_>,
+    off: u32,
+) -> Result<(), ItemFault>
+    ensures judged { ArePools frame.now pools.now → OnOk result (HasCodeOrNone frame.now off) }
+    ensures refused { ArePools frame.now pools.now → IfErr result (IsCodeOrNoneFault frame.now off) }
+{
+    match code_or_none(alloc, frame, pools, off) {
+        Ok(_) => Ok(()),
+        Err(fault) => Err(fault),
+    }
+}
+
+// Judges the code of the methods, and keeps none of it. Code at the offset of the method before is not read again.
+fn judge_codes(
+    alloc: Global,
+    frame: &Frame<'_>,
+    pools: &Pools<'_>,
+    methods: &[EncodedMethod],
+) -> Result<(), ItemFault>
+    ensures judged { ArePools frame.now pools.now → OnOk result (HaveCodes frame.now methods.now) }
+    ensures refused { ArePools frame.now pools.now → IfErr result (IsCodesFault frame.now methods.now) }
+{
+    let mut judged = 0;
+    for method in methods {
+        if method.code_off != judged {
+            match judge_code(alloc, frame, pools, method.code_off) {
+                Ok(()) => judged = method.code_off,
+                Err(fault) => return Err(fault),
+            }
+        }
+    }
+    Ok(())
+}
 
 /// Reads the code of the methods, each with its debug program; a method whose offset is 0 has none. From the method on with
 /// which the code weighs more than `most`, it is judged only, and none is answered.
@@ -27,5 +111,22 @@ pub(crate) fn read_codes<'a>(
     ensures read { ArePools frame.now pools.now → IfOk result (λ codes. MatchOption codes (AreHeavyCodes frame.now methods.now most) (λ codes. AreCodesOf frame.now pools.now methods.now most codes.items)) }
     ensures refused { ArePools frame.now pools.now → IfErr result (IsCodesFault frame.now methods.now) }
 {
-    Err(ItemFault::Memory)
+    pools.numbering().is_numbering();
+    let mut codes = Vec::new(alloc);
+    let mut left = most;
+    for i in 0..methods.len() {
+        let code = match code_or_none(alloc, frame, pools, methods[i].code_off) {
+            Ok(code) => code,
+            Err(fault) => return Err(fault),
+        };
+        match left_behind_any(left, &code) {
+            Some(rest) => left = rest,
+            None => match judge_codes(alloc, frame, pools, &methods[i + 1..]) {
+                Ok(()) => return Ok(None),
+                Err(fault) => return Err(fault),
+            },
+        }
+        codes.push(code)?;
+    }
+    Ok(Some(codes))
 }

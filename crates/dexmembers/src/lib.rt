@@ -17,6 +17,7 @@ mod renumbering_laws;
 mod same;
 mod uses_laws;
 mod weighing;
+mod static_values;
 
 pub use members::{Field, Members, Method};
 pub use reading::read_members;

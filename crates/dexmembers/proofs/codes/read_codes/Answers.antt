@@ -1,0 +1,46 @@
+use Rattle.std.proofs.Common.{◌+◌, ◌++◌, ◌∷◌, [], List, Option, take, drop, get_or, sym, subst, arith}
+use Rattle.std.proofs.lemmas.List.Elements.{Contains-get_or}
+use Rattle.std.proofs.lemmas.List.{take_more}
+use Rattle.dexpool.specs.Numberings.{AreRising}
+use Rattle.dexcode.specs.Numbered.{NumberedItem}
+use Rattle.dexmembers.specs.declared.class_data.EncodedMethod.{EncodedMethod}
+use Rattle.dexmembers.specs.MethodCodes.{AreHeavyCodes, HaveCodes}
+use Rattle.dexmembers.proofs.CodesOfMethods.{HaveReadCodes, fault_among, fault_behind, heavy_read, one_more_read, split_here, rest_here}
+use Rattle.dexmembers.proofs.codes.read_codes.Goals as goal
+
+-- what stands in the place of a method that is not there
+abbrev nothing : EncodedMethod
+nothing = record { index = 0; flags = 0; code_off = 0 }
+
+pub returns-in-Err-clause-refused : goal.returns-in-Err-clause-refused
+returns-in-Err-clause-refused c = λ pools. fault_among c.args.frame.now c.args.methods.now (get_or c.args.methods.now c.loop-i.i nothing) c.in-Err.fault (Contains-get_or c.args.methods.now c.loop-i.i nothing c.loop-i-test.true) (c.in-Err.ensures.refused pools)
+
+pub returns-in-Ok-judge_codes-clause-read : goal.returns-in-Ok-judge_codes-clause-read
+returns-in-Ok-judge_codes-clause-read c = λ pools.
+    let b = c.args.frame.now in
+    let m = c.args.pools.now in
+    let xs = c.args.methods.now in
+    let i = c.loop-i.i in
+    let rising = subst AreRising c.numbering.ensures c.is_numbering.ensures.rising in
+    let is = c.in-Ok.ensures.read pools in
+    let rest = subst (HaveCodes b) (rest_here xs (i + 1) (omega (arith, c.loop-i-test.true))) (c.in-Ok-judge_codes.ensures.judged pools) in
+    subst (λ (l : List EncodedMethod). AreHeavyCodes b l c.args.most) (split_here xs i nothing c.loop-i-test.true)
+    (heavy_read b m (take i xs) c.args.most c.loop-i.left c.loop-i.codes.items (get_or xs i nothing) c.in-Ok.code (drop (i + 1) xs) (c.loop-i.invariant.read pools) is
+    (c.in-None.ensures m is.symbolic rising is.stands) rest)
+
+pub returns-in-Err-judge_codes-clause-refused : goal.returns-in-Err-judge_codes-clause-refused
+returns-in-Err-judge_codes-clause-refused c = λ pools. fault_behind c.args.frame.now c.args.methods.now c.loop-i.i nothing c.in-Err-judge_codes.fault c.loop-i-test.true (c.in-Err-judge_codes.ensures.refused pools)
+
+pub loop-i-preserved : goal.loop-i-preserved
+loop-i-preserved c = record {
+  read = λ pools.
+      let b = c.args.frame.now in
+      let m = c.args.pools.now in
+      let xs = c.args.methods.now in
+      let i = c.loop-i.i in
+      let rising = subst AreRising c.numbering.ensures c.is_numbering.ensures.rising in
+      let is = c.in-Ok.ensures.read pools in
+      subst (λ (l : List EncodedMethod). HaveReadCodes b m l c.args.most c.in-Some.rest c.push.new.self.items) (sym (take_more xs i nothing c.loop-i-test.true))
+      (subst (λ (l : List (Option NumberedItem)). HaveReadCodes b m (take i xs ++ get_or xs i nothing ∷ []) c.args.most c.in-Some.rest l) (sym c.in_ok-push.ensures.items)
+      (one_more_read b m (take i xs) c.args.most c.loop-i.left c.in-Some.rest c.loop-i.codes.items (get_or xs i nothing) c.in-Ok.code (c.loop-i.invariant.read pools) is (c.in-Some.ensures m is.symbolic rising is.stands)));
+}

@@ -8,16 +8,16 @@ mod class_data;
 mod class_data_put;
 mod codes;
 mod copying;
-mod marking;
 mod fitting;
+mod marking;
 mod members;
 mod reading;
 mod renumbering;
 mod renumbering_laws;
 mod same;
+mod static_values;
 mod uses_laws;
 mod weighing;
-mod static_values;
 
 pub use members::{Field, Members, Method};
 pub use reading::read_members;

@@ -1,0 +1,5 @@
+pub mod OneMember
+pub mod MemberChains
+pub mod Owned
+pub mod DataCounts
+pub mod DataOfFile

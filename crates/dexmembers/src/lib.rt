@@ -6,6 +6,8 @@
 
 mod class_data;
 mod codes;
+mod encoded;
+mod encoded_lists;
 mod members;
 mod reading;
 

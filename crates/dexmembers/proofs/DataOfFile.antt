@@ -1,10 +1,10 @@
 -- Class data by numbers is that of the file.
-use Rattle.std.proofs.Common.{◌≡◌, ◌≢◌, ℕ, zero, suc, ◌+◌, ◌^◌, ◌<◌, ◌≤◌, List, [], ◌∷◌, ◌++◌, length, map, take, drop, get_or, Option, Some, None, refl, ap, sym, ◌∙◌, subst, arith, inl, inr}
+use Rattle.std.proofs.Common.{◌≡◌, ◌≢◌, ℕ, ◌+◌, ◌^◌, ◌<◌, ◌≤◌, List, [], ◌∷◌, ◌++◌, length, map, get_or, Option, Some, None, refl, ap, sym, ◌∙◌, subst, arith, inl, inr}
 use Rattle.std.specs.Prelude.{All, Result, Ok, Err, IfOk, IfErr}
 use Rattle.std.specs.List.{Contains}
-use Rattle.std.proofs.lemmas.List.{length-map, length-drop}
+use Rattle.std.proofs.lemmas.List.{length-map}
 use Rattle.std.proofs.lemmas.List.Elements.{All-head, All-tail, All-map, All-contains, All-append, Contains-get_or, Contains-append_left, Contains-append_right}
-use Rattle.dexspec.specs.Numbers.{Uleb128At, IsChain}
+use Rattle.dexspec.specs.Numbers.{Uleb128At}
 use Rattle.dexspec.specs.Texts.{Text}
 use Rattle.dexspec.specs.Sections.{IsInData}
 use Rattle.dexspec.specs.Symbols.{Field, Method, field_cmp, method_cmp}
@@ -28,7 +28,7 @@ use Rattle.dexval.proofs.FileRead.{few_bytes}
 use Rattle.dexmembers.specs.declared.class_data.EncodedField.{EncodedField}
 use Rattle.dexmembers.specs.declared.class_data.EncodedMethod.{EncodedMethod}
 use Rattle.dexmembers.specs.declared.class_data.ClassData.{ClassData}
-use Rattle.dexmembers.specs.ClassData.{encoded_field_in, encoded_method_in, class_data_in, AreFieldsOf, AreMethodsOf, IsDataOf, IsDataFault}
+use Rattle.dexmembers.specs.ClassData.{encoded_field_in, encoded_method_in, class_data_in, IsDataOf, IsDataFault}
 use Rattle.dexmembers.specs.EncodedMembers.{IsDataRefusal, Chain, FieldAt, MethodAt, IsOwnField, IsOwnMethod, DataAt, NoData}
 use Rattle.dexmembers.proofs.Owned.{one_place}
 use Rattle.dexmembers.proofs.MemberChains.{chain_all, chain_rises}
@@ -43,21 +43,6 @@ all_left P xs ys h k d lt = All-contains P (xs ++ ys) (get_or xs k d) h (Contain
 -- and of the rest
 all_right : {X : Type 0} (P : X → Type 0) (xs ys : List X) → All P (xs ++ ys) → All P ys
 all_right P xs ys h k d lt = All-contains P (xs ++ ys) (get_or ys k d) h (Contains-append_right xs ys (get_or ys k d) (Contains-get_or ys k d lt))
-
--- nothing is a member of an empty list
-no_member : {X : Type 0} (xs : List X) (x : X) → xs ≡ [] → Contains xs x → ⊥
-no_member [] x e c = omega (arith, c.1)
-no_member (y ∷ ys) x e c = absurd cc
-
--- a number has a byte
-some_bytes : (xs : List ℕ) (n : ℕ) → IsChain (take n xs) → 0 < length xs
-some_bytes [] zero h = absurd h
-some_bytes [] (suc n) h = absurd h
-some_bytes (x ∷ xs) n h = omega arith
-
--- which is one of the file
-number_within : (b : List ℕ) (o v n : ℕ) → Uleb128At b o v n → o + 1 ≤ length b
-number_within b o v n h = omega (arith, some_bytes (drop o b) n h.spelled.chain, length-drop o b)
 
 -- ---- lists that share none, by numbers and by symbols
 
@@ -333,40 +318,6 @@ module _ (b : List ℕ) (m : Mentions) (pools : ArePools b m) (is : IsNumbering 
     | inl e ↦ some e.0
     | inr s ↦ no_item frame none h.1.name h.1.class h.0 h.1.own s.1
   ]
-
--- class data has a byte in the data
-pub no_byte : (b : List ℕ) (r : ℕ) → class_data_off b r ≢ 0 → (IsInData b (class_data_off b r) 1 → ⊥) → HasMembers b r → ⊥
-no_byte b r some none h = elim h.1.is [
-  | inl e ↦ some e.0
-  | inr s ↦ none (record { behind = s.1.in_data; within = number_within b (class_data_off b r) (length h.0.static_fields) s.1.c0 s.1.static_count })
-]
-
--- a row without class data declares nothing
-pub none_declared : (b : List ℕ) (r : ℕ) (m : Mentions) (d : ClassData) → HasClass b r → class_data_off b r ≡ 0 → d.static_fields.items ≡ [] → d.instance_fields.items ≡ [] → d.direct_methods.items ≡ [] → d.virtual_methods.items ≡ [] → IsDataOf b r m d
-none_declared b r m d h none e0 e1 e2 e3 =
-    let is : class_data_in m d ≡ no_class_data = λ i. record {
-      static_fields = map (encoded_field_in m) (e0 i);
-      instance_fields = map (encoded_field_in m) (e1 i);
-      direct_methods = map (encoded_method_in m) (e2 i);
-      virtual_methods = map (encoded_method_in m) (e3 i);
-    } in
-    let no_field : AreFieldsOf m [] = record { fields_in = λ k d lt. absurd (omega (arith, lt)); fields_rise = refl } in
-    let no_method : AreMethodsOf m [] = record { methods_in = λ k d lt. absurd (omega (arith, lt)); methods_rise = refl } in
-    let own : BelongTo h.name no_class_data = record {
-      fields = λ k d lt. absurd (omega (arith, lt));
-      methods = λ k d lt. absurd (omega (arith, lt));
-      fields_apart = λ x in_x in_y. absurd (omega (arith, in_x.1));
-      methods_apart = λ x in_x in_y. absurd (omega (arith, in_x.1));
-    } in
-    record {
-      declared = record { name = h.name; class = h.is; is = inl (none, is); own = subst (BelongTo h.name) (sym is) own };
-      static_fields_are = subst (AreFieldsOf m) (sym e0) no_field;
-      instance_fields_are = subst (AreFieldsOf m) (sym e1) no_field;
-      direct_methods_are = subst (AreMethodsOf m) (sym e2) no_method;
-      virtual_methods_are = subst (AreMethodsOf m) (sym e3) no_method;
-      fields_apart = λ x in_x in_y. no_member (map (λ f. f.index) d.static_fields.items) x (ap (map (λ f. f.index)) e0) in_x;
-      methods_apart = λ x in_x in_y. no_member (map (λ y. y.index) d.direct_methods.items) x (ap (map (λ y. y.index)) e2) in_x;
-    }
 
 -- what is read stands for what the file declares
 pub read_so : {P Q : ClassData → Type 0} → ((d : ClassData) → P d → Q d) → (r : Result ClassData ItemFault) → IfOk r P → IfOk r Q

@@ -11,3 +11,8 @@ pub mod RenumberingSteps
 pub mod SameMembers
 pub mod StaticValuesRead
 pub mod Weighed
+pub mod OneMember
+pub mod MemberChains
+pub mod Owned
+pub mod DataCounts
+pub mod DataOfFile

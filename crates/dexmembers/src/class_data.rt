@@ -1,12 +1,19 @@
 //! Class data: the members that a class row declares, by their indices.
 
-ghost use Rattle.std.specs.Prelude.{◌<◌, IfOk, IfErr};
+ghost use Rattle.std.specs.Prelude.{◌≡◌, ◌<◌, ◌≤◌, ◌+◌, ◌∷◌, [], ℕ, length, IfOk, IfErr, IfSome, IfNone};
+ghost use Rattle.dexspec.specs.Lists.{Sequence};
+ghost use Rattle.dexspec.specs.Numbers.{Uleb128At};
 ghost use Rattle.dexspec.specs.Header.{ClassDefs, table_size};
+ghost use Rattle.dexspec.specs.Classes.{class_idx, class_data_off};
 ghost use Rattle.dexspec.specs.Accepted.{HasClass};
+ghost use Rattle.dexmembers.specs.EncodedMembers.{IsDataRefusal, DataAt, NoData};
 ghost use Rattle.dexpool.specs.Pools.{ArePools};
 ghost use Rattle.dexmembers.specs.ClassData.{IsDataOf, IsDataFault};
 
-use dexhead::Frame;
+use crate::encoded::Owner;
+use crate::encoded_lists::read_lists;
+use dexhead::{Frame, Table, u32_at};
+use dexleb::read_u;
 use dexpool::{ItemFault, Pools};
 use std::alloc::Global;
 
@@ -40,6 +47,95 @@ pub(crate) struct ClassData {
     pub(crate) virtual_methods: Vec<EncodedMethod>,
 }
 
+// How many members each of the four lists has.
+#[derive(Clone, Copy)]
+struct Counts {
+    static_fields: u32,
+    instance_fields: u32,
+    direct_methods: u32,
+    virtual_methods: u32,
+}
+
+// The four counts at a place, and how many bytes spell them.
+fn read_counts(bytes: &[u8], at: usize) -> Option<(Counts, usize)>
+    requires { at ≤ length bytes.now }
+    ensures none { IfNone result ((c d e f n : ℕ) → Sequence Uleb128At bytes.now at (c ∷ d ∷ e ∷ f ∷ []) n → ⊥) }
+    ensures some { IfSome result (λ x. Sequence Uleb128At bytes.now at (x.0.static_fields ∷ x.0.instance_fields ∷ x.0.direct_methods ∷ x.0.virtual_methods ∷ []) x.1) }
+    ensures within { IfSome result (λ x. at + x.1 ≤ length bytes.now) }
+{
+    let (static_fields, first) = match read_u(bytes, at) {
+        Ok(read) => read,
+        Err(_) => return None,
+    };
+    let (instance_fields, second) = match read_u(bytes, at + first) {
+        Ok(read) => read,
+        Err(_) => return None,
+    };
+    let (direct_methods, third) = match read_u(bytes, at + first + second) {
+        Ok(read) => read,
+        Err(_) => return None,
+    };
+    let (virtual_methods, fourth) = match read_u(bytes, at + first + second + third) {
+        Ok(read) => read,
+        Err(_) => return None,
+    };
+    let counts = Counts {
+        static_fields,
+        instance_fields,
+        direct_methods,
+        virtual_methods,
+    };
+    Some((counts, first + second + third + fourth))
+}
+
+// The class data of the class at a place.
+fn read_data(
+    alloc: Global,
+    owner: Owner<'_, '_>,
+    bytes: &[u8],
+    at: usize,
+) -> Result<ClassData, ItemFault>
+    requires { at ≤ length bytes.now }
+    ensures data { IfOk result (λ d. DataAt owner.entry.pools.now owner.entry.class bytes.now at d.static_fields.items d.instance_fields.items d.direct_methods.items d.virtual_methods.items) }
+    ensures fault { IfErr result (IsDataRefusal (NoData owner.entry.pools.now owner.entry.class bytes.now at)) }
+{
+    let (counts, counts_size) = match read_counts(bytes, at) {
+        Some(read) => read,
+        None => return Err(ItemFault::Refused(17)),
+    };
+    let (statics, instances) = (counts.static_fields, counts.instance_fields);
+    let fields_at = at + counts_size;
+    let (static_fields, instance_fields, fields_size) = match read_lists::<EncodedField>(
+        alloc, owner, bytes, fields_at, statics, instances,
+    ) {
+        Ok(read) => read,
+        Err(fault) => return Err(fault),
+    };
+    let (directs, virtuals) = (counts.direct_methods, counts.virtual_methods);
+    let methods_at = fields_at + fields_size;
+    let (direct_methods, virtual_methods, _) = match read_lists::<EncodedMethod>(
+        alloc, owner, bytes, methods_at, directs, virtuals,
+    ) {
+        Ok(read) => read,
+        Err(fault) => return Err(fault),
+    };
+    Ok(ClassData {
+        static_fields,
+        instance_fields,
+        direct_methods,
+        virtual_methods,
+    })
+}
+
+// The number of the type that a class row defines, and where its class data stands, or 0.
+fn class_and_data(frame: &Frame<'_>, row: u32) -> (u32, u32)
+    requires { row < table_size frame.now ClassDefs }
+    ensures { (result.0 ≡ class_idx frame.now row) × (result.1 ≡ class_data_off frame.now row) }
+{
+    let fields = frame.row(Table::ClassDefs, row);
+    (u32_at(fields, 0), u32_at(fields, 24))
+}
+
 /// Reads the members that class row `row` declares: those of its class_data_item, or none where its offset is 0.
 ///
 /// Conditions: the row is one of the file's, and meets condition 16. Error: `Refused(17)` exactly where the row's class data
@@ -58,5 +154,19 @@ pub(crate) fn read_class_data(
     ensures read { ArePools frame.now pools.now → IfOk result (IsDataOf frame.now row pools.now) }
     ensures refused { ArePools frame.now pools.now → IfErr result (IsDataFault frame.now row) }
 {
-    Err(ItemFault::Memory)
+    pools.numbering().is_numbering();
+    let bytes = frame.bytes();
+    let (class, off) = class_and_data(frame, row);
+    if off == 0 {
+        return Ok(ClassData {
+            static_fields: Vec::new(alloc),
+            instance_fields: Vec::new(alloc),
+            direct_methods: Vec::new(alloc),
+            virtual_methods: Vec::new(alloc),
+        });
+    }
+    if !frame.is_in_data(off, 1) {
+        return Err(ItemFault::Refused(17));
+    }
+    read_data(alloc, Owner { pools, class }, bytes, off as usize)
 }

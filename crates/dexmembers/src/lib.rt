@@ -10,6 +10,8 @@ mod codes;
 mod copying;
 mod fitting;
 mod marking;
+mod encoded;
+mod encoded_lists;
 mod members;
 mod reading;
 mod renumbering;

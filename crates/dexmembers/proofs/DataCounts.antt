@@ -1,0 +1,41 @@
+-- Class data that stands in the file: without one of its parts there is none.
+use Rattle.std.proofs.Common.{◌≡◌, ℕ, ◌+◌, ◌<◌, List, [], ◌∷◌, ◌++◌, length, get_or, ap, sym, subst, ◌∙◌, refl, arith}
+use Rattle.dexspec.specs.Lists.{Sequence}
+use Rattle.dexspec.specs.Numbers.{Uleb128At}
+use Rattle.dexspec.specs.Mentions.{Mentions}
+use Rattle.dexspec.proofs.OneNumber.{one_uleb128}
+use Rattle.dexspec.proofs.Sequences.{one_sequence}
+use Rattle.dexcode.proofs.Fronts.{stuck, sequence_more}
+use Rattle.dexmembers.specs.declared.class_data.EncodedField.{EncodedField}
+use Rattle.dexmembers.specs.EncodedMembers.{FieldAt, MethodAt, ListsAt, AreListsRead, NoLists, NoData}
+use Rattle.dexmembers.proofs.OneMember.{one_field}
+use Rattle.dexmembers.proofs.MemberChains.{one_pair}
+
+-- where no number follows, there are no more of them
+pub numbers_stuck : (b : List ℕ) (o p : ℕ) (xs ys : List ℕ) (n m : ℕ) → length xs < length ys → Sequence Uleb128At b o xs n → p ≡ o + n → ((v k : ℕ) → Uleb128At b p v k → ⊥) → Sequence Uleb128At b o ys m → ⊥
+numbers_stuck b o p xs ys n m lt h e absent g = stuck Uleb128At one_uleb128 b o xs ys n m lt h (λ v k there. absent v k (subst (λ (q : ℕ). Uleb128At b q v k) (sym e) there)) g
+
+-- one number more
+pub numbers_more : (b : List ℕ) (o p : ℕ) (xs ys : List ℕ) (x n k m : ℕ) → Sequence Uleb128At b o xs n → p ≡ o + n → Uleb128At b p x k → m ≡ n + k → (e : ys ≡ xs ++ x ∷ []) → Sequence Uleb128At b o ys m
+numbers_more b o p xs ys x n k m h e at size same =
+    let more = sequence_more Uleb128At b o xs x n k h (subst (λ (q : ℕ). Uleb128At b q x k) e at) in
+    subst (λ (zs : List ℕ). Sequence Uleb128At b o zs m) (sym same) (subst (λ (q : ℕ). Sequence Uleb128At b o (xs ++ x ∷ []) q) (sym size) more)
+
+module _ (m : Mentions) (class : ℕ) (b : List ℕ) (o a c d e size : ℕ) (counts : Sequence Uleb128At b o (a ∷ c ∷ d ∷ e ∷ []) size) where
+  -- without its fields
+  pub no_fields : NoLists (FieldAt m class) (λ f. f.index) b (o + size) a c → NoData m class b o
+  no_fields none ss is ds vs g =
+      let same = one_sequence Uleb128At one_uleb128 b o (length ss ∷ length is ∷ length ds ∷ length vs ∷ []) (a ∷ c ∷ d ∷ e ∷ []) g.counts_size size refl g.counts counts in
+      none ss is g.fields_size (ap (λ (l : List ℕ). get_or l 0 0) same.0) (ap (λ (l : List ℕ). get_or l 1 0) same.0)
+      (subst (λ (i : ℕ). ListsAt (FieldAt m class) (λ f. f.index) b (o + i) ss is g.fields_size) same.1 g.fields)
+
+  -- without its methods
+  pub no_methods : (xs ys : List EncodedField) (n : ℕ) → AreListsRead (FieldAt m class) (λ f. f.index) b (o + size) a c xs ys n → NoLists (MethodAt m class) (λ x. x.index) b (o + size + n) d e → NoData m class b o
+  no_methods xs ys n read none ss is ds vs g =
+      let same = one_sequence Uleb128At one_uleb128 b o (length ss ∷ length is ∷ length ds ∷ length vs ∷ []) (a ∷ c ∷ d ∷ e ∷ []) g.counts_size size refl g.counts counts in
+      let moved = subst (λ (i : ℕ). ListsAt (FieldAt m class) (λ f. f.index) b (o + i) ss is g.fields_size) same.1 g.fields in
+      let fields = one_pair (FieldAt m class) (λ f. f.index) (one_field m class) b (o + size) ss is xs ys g.fields_size n
+      (ap (λ (l : List ℕ). get_or l 0 0) same.0 ∙ sym read.many) (ap (λ (l : List ℕ). get_or l 1 0) same.0 ∙ sym read.others) moved read.stand in
+      let place : o + g.counts_size + g.fields_size ≡ o + size + n = omega (arith, same.1, fields.2) in
+      none ds vs g.methods_size (ap (λ (l : List ℕ). get_or l 2 0) same.0) (ap (λ (l : List ℕ). get_or l 3 0) same.0)
+      (subst (λ (i : ℕ). ListsAt (MethodAt m class) (λ x. x.index) b i ds vs g.methods_size) place g.methods)

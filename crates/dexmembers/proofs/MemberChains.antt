@@ -1,0 +1,197 @@
+-- Members one after the other: those that were read are the first of any that stand there, and their indices rise.
+use Rattle.std.proofs.Common.{◌≡◌, ◌⊎◌, ℕ, ◌+◌, ◌<◌, ◌≤◌, true, List, [], ◌∷◌, ◌++◌, length, map, get_or, Option, Some, None, refl, ap, sym, ◌∙◌, subst, arith, inl, inr}
+use Rattle.std.specs.Prelude.{All}
+use Rattle.std.specs.List.{Contains}
+use Rattle.std.specs.Ordering.{nat_cmp, is_lt, MatchOrdering}
+use Rattle.std.specs.Cmp.{nat_cmp_is, nat_cmp_total, ranks}
+use Rattle.std.specs.declared.cmp.Ordering.{Ordering}
+use Rattle.std.specs.declared.cmp.Ordering.TheVariants.{Less, Equal, Greater}
+use Rattle.std.proofs.lemmas.Bool.{cases_lt}
+use Rattle.std.proofs.lemmas.List.{get_or_default, get_or-map, length-map}
+use Rattle.std.proofs.lemmas.List.Elements.{Contains-get_or, All-cons, All-nil}
+use Rattle.dexspec.specs.Lists.{rises}
+use Rattle.dexspec.specs.ClassData.{ShareNone}
+use Rattle.dexspec.proofs.InOrder.{Rises-from_rises, Rises-places}
+use Rattle.dexspec.proofs.Members.{and_both}
+use Rattle.dexspec.proofs.PoolRows.{less_number}
+use Rattle.dexpool.specs.declared.faults.ItemFault.{ItemFault}
+use Rattle.dexpool.specs.declared.faults.ItemFault.TheVariants.{Refused, Memory}
+use Rattle.dexmembers.specs.Numbered.{NumbersRise}
+use Rattle.dexmembers.specs.EncodedMembers.{IsDataRefusal, Member, Chain, last_index, IsListRead, NoList, ListsAt, NoLists, ArePassed}
+
+-- ---- members in a row
+
+-- the index of one more
+pub last_more : {X : Type 0} (index : X → ℕ) (last : Option ℕ) (xs : List X) (x : X) → last_index index last (xs ++ x ∷ []) ≡ Some (index x)
+last_more index last [] x = refl
+last_more index last (y ∷ ys) x = last_more index (Some (index y)) ys x
+
+module _ {X : Type 0} (At : Member X) (index : X → ℕ) where
+  -- one member more
+  pub chain_more : (b : List ℕ) (o : ℕ) (last : Option ℕ) (xs : List X) (x : X) (n k : ℕ) → Chain At index b o last xs n → At b (o + n) (last_index index last xs) x k → Chain At index b o last (xs ++ x ∷ []) (n + k)
+  chain_more b o last [] x n k h at =
+      let place : o + n ≡ o = omega (arith, h) in
+      (k, 0, subst (λ (i : ℕ). At b i last x k) place at, refl, omega (arith, h))
+  chain_more b o last (y ∷ ys) x n k h at =
+      let place : o + n ≡ o + h.0 + h.1 = omega (arith, h.4) in
+      (h.0, h.1 + k, h.2, chain_more b (o + h.0) (Some (index y)) ys x h.1 k h.3 (subst (λ (i : ℕ). At b i (last_index index (Some (index y)) ys) x k) place at), omega (arith, h.4))
+
+  module _ (one : (b : List ℕ) (o : ℕ) (last : Option ℕ) (x y : X) (n k : ℕ) → At b o last x n → At b o last y k → (x ≡ y) × (n ≡ k)) where
+    -- as many members
+    pub one_chain : (b : List ℕ) (o : ℕ) (last : Option ℕ) (xs ys : List X) (n k : ℕ) → length xs ≡ length ys → Chain At index b o last xs n → Chain At index b o last ys k → (xs ≡ ys) × (n ≡ k)
+    one_chain b o last [] [] n k len h g = (refl, h ∙ sym g)
+    one_chain b o last [] (y ∷ ys) n k len h g = absurd (omega arith)
+    one_chain b o last (x ∷ xs) [] n k len h g = absurd (omega arith)
+    one_chain b o last (x ∷ xs) (y ∷ ys) n k len h g =
+        let first = one b o last x y h.0 g.0 h.2 g.2 in
+        let moved = subst (λ (i : ℕ). Chain At index b (o + i) (Some (index x)) xs h.1) first.1 h.3 in
+        let rest = one_chain b (o + g.0) (Some (index y)) xs ys h.1 g.1 (omega (arith, len)) (subst (λ (z : X). Chain At index b (o + g.0) (Some (index z)) xs h.1) first.0 moved) g.3 in
+        ((λ i. first.0 i ∷ rest.0 i), omega (arith, h.4, g.4, first.1, rest.1))
+
+    -- where no member follows, there are no more of them
+    pub stuck : (b : List ℕ) (o : ℕ) (last : Option ℕ) (xs ys : List X) (n k : ℕ) → length xs < length ys → Chain At index b o last xs n → ((x : X) (m : ℕ) → At b (o + n) (last_index index last xs) x m → ⊥) → Chain At index b o last ys k → ⊥
+    stuck b o last [] [] n k lt h absent g = omega (arith, lt)
+    stuck b o last [] (y ∷ ys) n k lt h absent g =
+        let place : o ≡ o + n = omega (arith, h) in
+        absent y g.0 (subst (λ (i : ℕ). At b i last y g.0) place g.2)
+    stuck b o last (x ∷ xs) [] n k lt h absent g = omega (arith, lt)
+    stuck b o last (x ∷ xs) (y ∷ ys) n k lt h absent g =
+        let first = one b o last x y h.0 g.0 h.2 g.2 in
+        let moved = subst (λ (i : ℕ). Chain At index b (o + i) (Some (index y)) ys g.1) (sym first.1) g.3 in
+        let place : o + n ≡ o + h.0 + h.1 = omega (arith, h.4) in
+        stuck b (o + h.0) (Some (index x)) xs ys h.1 g.1 (omega (arith, lt)) h.3 (λ z m at. absent z m (subst (λ (i : ℕ). At b i (last_index index (Some (index x)) xs) z m) (sym place) at))
+        (subst (λ (z : X). Chain At index b (o + h.0) (Some (index z)) ys g.1) (sym first.0) moved)
+
+    -- two lists stand there in one way
+    pub one_pair : (b : List ℕ) (o : ℕ) (xs ys us vs : List X) (n k : ℕ) → length xs ≡ length us → length ys ≡ length vs → ListsAt At index b o xs ys n → ListsAt At index b o us vs k → (xs ≡ us) × (ys ≡ vs) × (n ≡ k)
+    one_pair b o xs ys us vs n k len lens h g =
+        let first = one_chain b o None xs us h.first_size g.first_size len h.first g.first in
+        let second = one_chain b (o + g.first_size) None ys vs h.second_size g.second_size lens (subst (λ (i : ℕ). Chain At index b (o + i) None ys h.second_size) first.1 h.second) g.second in
+        (first.0, second.0, omega (arith, first.1, second.1, h.size, g.size))
+
+    -- without the second list
+    pub no_second : (b : List ℕ) (o count other_count : ℕ) (xs : List X) (n : ℕ) → IsListRead At index b o count xs n → NoList At index b (o + n) other_count → NoLists At index b o count other_count
+    no_second b o count other_count xs n read none us vs k len lens g =
+        let first = one_chain b o None us xs g.first_size n (len ∙ sym read.many) g.first read.stand in
+        none vs g.second_size lens (subst (λ (i : ℕ). Chain At index b (o + i) None vs g.second_size) first.1 g.second)
+
+    -- where an index is in both
+    pub not_apart : (b : List ℕ) (o count other_count : ℕ) (xs ys : List X) (n k : ℕ) → IsListRead At index b o count xs n → IsListRead At index b (o + n) other_count ys k → (ShareNone (map index xs) (map index ys) → ⊥) → NoLists At index b o count other_count
+    not_apart b o count other_count xs ys n k read others shared us vs m len lens g =
+        let first = one_chain b o None us xs g.first_size n (len ∙ sym read.many) g.first read.stand in
+        let second = one_chain b (o + n) None vs ys g.second_size k (lens ∙ sym others.many) (subst (λ (i : ℕ). Chain At index b (o + i) None vs g.second_size) first.1 g.second) others.stand in
+        let apart = subst (λ (zs : List X). ShareNone (map index zs) (map index vs)) first.0 g.apart in
+        shared (subst (λ (zs : List X). ShareNone (map index xs) (map index zs)) second.0 apart)
+
+  -- without the first list
+  pub no_first : (b : List ℕ) (o count other_count : ℕ) → NoList At index b o count → NoLists At index b o count other_count
+  no_first b o count other_count none us vs k len lens g = none us g.first_size len g.first
+
+  -- ---- their indices rise
+
+  less_is_less : (x y : ℕ) → x < y → is_lt (nat_cmp x y) ≡ true
+  less_is_less x y lt = ap is_lt (sym (nat_cmp_is x y Less lt))
+
+  -- where each is above the one before it
+  pub chain_rises : ((b : List ℕ) (o i : ℕ) (x : X) (n : ℕ) → At b o (Some i) x n → i < index x) → (b : List ℕ) (o : ℕ) (last : Option ℕ) (xs : List X) (n : ℕ) → Chain At index b o last xs n → NumbersRise (map index xs)
+  chain_rises follows b o last [] n h = refl
+  chain_rises follows b o last (x ∷ []) n h = refl
+  chain_rises follows b o last (x ∷ y ∷ ys) n h =
+      and_both (is_lt (nat_cmp (index x) (index y))) (rises nat_cmp (map index (y ∷ ys))) (less_is_less (index x) (index y) (follows b (o + h.0) (index x) y h.3.0 h.3.2))
+      (chain_rises follows b (o + h.0) (Some (index x)) (y ∷ ys) h.1 h.3)
+
+  -- what holds of each
+  pub chain_all : (P : X → Type 0) → ((b : List ℕ) (o : ℕ) (last : Option ℕ) (x : X) (n : ℕ) → At b o last x n → P x) → (b : List ℕ) (o : ℕ) (last : Option ℕ) (xs : List X) (n : ℕ) → Chain At index b o last xs n → All P xs
+  chain_all P holds b o last [] n h = All-nil P
+  chain_all P holds b o last (x ∷ xs) n h = All-cons P x xs (holds b o last x h.0 h.2) (chain_all P holds b (o + h.0) (Some (index x)) xs h.1 h.3)
+
+-- ---- one pass over two lists
+
+-- in a rising list a later number is no less
+later_no_less : (xs : List ℕ) (i j : ℕ) → NumbersRise xs → i ≤ j → j < length xs → get_or xs i 0 ≤ get_or xs j 0
+later_no_less xs i j rise le lt =
+    elim (cases_lt i j) as (λ _. get_or xs i 0 ≤ get_or xs j 0) [
+      | inl less ↦ let below = less_number (get_or xs i 0) (get_or xs j 0) (Rises-places nat_cmp nat_cmp_total xs i j 0 (Rises-from_rises nat_cmp nat_cmp_total xs rise) less lt) in omega (arith, below)
+      | inr rest ↦ let same : i ≡ j = omega (arith, le, rest) in let e : get_or xs i 0 ≡ get_or xs j 0 = ap (λ (k : ℕ). get_or xs k 0) same in omega (arith, e)
+    ]
+
+module _ (xs ys : List ℕ) (i j : ℕ) (passed : ArePassed xs ys i j) where
+  -- the lesser of the next two is in the other list no more
+  pub pass_left : NumbersRise ys → i < length xs → j < length ys → get_or xs i 0 < get_or ys j 0 → ArePassed xs ys (i + 1) j
+  pass_left rise lt lt' less k l in_x in_y same =
+      let p = passed k l in_x in_y same in
+      let above = later_no_less ys j l rise p.1 in_y in
+      elim (cases_lt i k) as (λ _. (i + 1 ≤ k) × (j ≤ l)) [
+        | inl later ↦ (omega (arith, later), p.1)
+        | inr rest ↦ let at : k ≡ i = omega (arith, p.0, rest) in let e : get_or xs k 0 ≡ get_or xs i 0 = ap (λ (z : ℕ). get_or xs z 0) at in absurd (omega (arith, e, same, above, less))
+      ]
+
+  -- the same for the other list
+  pub pass_right : NumbersRise xs → i < length xs → j < length ys → get_or ys j 0 < get_or xs i 0 → ArePassed xs ys i (j + 1)
+  pass_right rise lt lt' less k l in_x in_y same =
+      let p = passed k l in_x in_y same in
+      let above = later_no_less xs i k rise p.0 in_x in
+      elim (cases_lt j l) as (λ _. (i ≤ k) × (j + 1 ≤ l)) [
+        | inl later ↦ (p.0, omega (arith, later))
+        | inr rest ↦ let at : l ≡ j = omega (arith, p.1, rest) in let e : get_or ys l 0 ≡ get_or ys j 0 = ap (λ (z : ℕ). get_or ys z 0) at in absurd (omega (arith, e, same, above, less))
+      ]
+
+  -- at the end of one of them no index is in both
+  pub none_shared : (i < length xs → j < length ys → ⊥) → ShareNone xs ys
+  none_shared ended n in_x in_y =
+      let a : get_or xs in_x.0 n ≡ get_or xs in_x.0 0 = get_or_default xs in_x.0 n 0 in_x.1 in
+      let c : get_or ys in_y.0 n ≡ get_or ys in_y.0 0 = get_or_default ys in_y.0 n 0 in_y.1 in
+      let p = passed in_x.0 in_y.0 in_x.1 in_y.1 (sym a ∙ in_x.2 ∙ sym in_y.2 ∙ c) in
+      ended (omega (arith, p.0, in_x.1)) (omega (arith, p.1, in_y.1))
+
+-- where the next two are equal, an index is in both
+pub one_shared : (xs ys : List ℕ) (i j : ℕ) → i < length xs → j < length ys → get_or xs i 0 ≡ get_or ys j 0 → ShareNone xs ys → ⊥
+one_shared xs ys i j lt lt' same none = none (get_or xs i 0) (Contains-get_or xs i 0 lt) (subst (Contains ys) (sym same) (Contains-get_or ys j 0 lt'))
+
+-- ---- the pass, over members
+
+-- the index of the member at a place
+number_here : {X : Type 0} (index : X → ℕ) (xs : List X) (i n : ℕ) (x : X) → i < length xs → x ≡ get_or xs i x → n ≡ index x → get_or (map index xs) i 0 ≡ n
+number_here index xs i n x lt at is = get_or-map index xs i x 0 lt ∙ ap index (sym at) ∙ sym is
+
+module _ {X : Type 0} (index : X → ℕ) (xs ys : List X) (i j : ℕ) where
+  -- at the end of one of the lists
+  pub passed_all : ArePassed (map index xs) (map index ys) i j → (length xs ≤ i) ⊎ (length ys ≤ j) → ShareNone (map index xs) (map index ys)
+  passed_all passed (inl ended) = none_shared (map index xs) (map index ys) i j passed (λ lt lt'. let e = length-map xs index in omega (arith, e, lt, ended))
+  passed_all passed (inr ended) = none_shared (map index xs) (map index ys) i j passed (λ lt lt'. let e = length-map ys index in omega (arith, e, lt', ended))
+
+  module _ (n k : ℕ) (x y : X) (lt : i < length xs) (lt' : j < length ys) (at : x ≡ get_or xs i x) (at' : y ≡ get_or ys j y) (is : n ≡ index x) (is' : k ≡ index y) where
+    -- the next index of the one list is less
+    pub passed_left : NumbersRise (map index ys) → ArePassed (map index xs) (map index ys) i j → Less ≡ nat_cmp n k → ArePassed (map index xs) (map index ys) (i + 1) j
+    passed_left rise passed e =
+        let less : n < k = subst (λ (r : Ordering). MatchOrdering r (n < k) (n ≡ k) (k < n)) (sym e) (ranks n k) in
+        let first = number_here index xs i n x lt at is in
+        let second = number_here index ys j k y lt' at' is' in
+        let l = length-map xs index in
+        let m = length-map ys index in
+        pass_left (map index xs) (map index ys) i j passed rise (omega (arith, l, lt)) (omega (arith, m, lt')) (omega (arith, first, second, less))
+
+    -- that of the other list is
+    pub passed_right : NumbersRise (map index xs) → ArePassed (map index xs) (map index ys) i j → Greater ≡ nat_cmp n k → ArePassed (map index xs) (map index ys) i (j + 1)
+    passed_right rise passed e =
+        let less : k < n = subst (λ (r : Ordering). MatchOrdering r (n < k) (n ≡ k) (k < n)) (sym e) (ranks n k) in
+        let first = number_here index xs i n x lt at is in
+        let second = number_here index ys j k y lt' at' is' in
+        let l = length-map xs index in
+        let m = length-map ys index in
+        pass_right (map index xs) (map index ys) i j passed rise (omega (arith, l, lt)) (omega (arith, m, lt')) (omega (arith, first, second, less))
+
+    -- they are equal
+    pub passed_same : Equal ≡ nat_cmp n k → ShareNone (map index xs) (map index ys) → ⊥
+    passed_same e =
+        let same : n ≡ k = subst (λ (r : Ordering). MatchOrdering r (n < k) (n ≡ k) (k < n)) (sym e) (ranks n k) in
+        let first = number_here index xs i n x lt at is in
+        let second = number_here index ys j k y lt' at' is' in
+        let l = length-map xs index in
+        let m = length-map ys index in
+        one_shared (map index xs) (map index ys) i j (omega (arith, l, lt)) (omega (arith, m, lt')) (first ∙ same ∙ sym second)
+
+-- a refusal has another reason that follows
+pub refused_so : {P Q : Type 0} → (P → Q) → (fault : ItemFault) → IsDataRefusal P fault → IsDataRefusal Q fault
+refused_so so (Refused number) h = (h.0, so h.1)
+refused_so so Memory h = h

@@ -1,0 +1,13 @@
+use Rattle.dexmembers.proofs.OneMember.{no_method_flags, no_method_code}
+use Rattle.dexmembers.proofs.Owned.{ok_no_err}
+use Rattle.dexmembers.proofs.encoded.EncodedMethodEncoded.read.Goals as goal
+
+pub returns-in-Err-read_u-clause-none : goal.returns-in-Err-read_u-clause-none
+returns-in-Err-read_u-clause-none c =
+    no_method_flags c.args.owner.pools.now c.args.owner.class c.args.bytes.now c.args.at c.args.last c.in-Ok.read.0 c.in-Ok.read.1 c.in-Ok.ensures.found
+    (λ v n h. ok_no_err _ (v, n) _ (c.read_u-2.ensures.only v n h) c.in-Err-read_u.is)
+
+pub returns-in-Err-read_u-2-clause-none : goal.returns-in-Err-read_u-2-clause-none
+returns-in-Err-read_u-2-clause-none c =
+    no_method_code c.args.owner.pools.now c.args.owner.class c.args.bytes.now c.args.at c.args.last c.in-Ok.read.0 c.in-Ok.read.1 c.in-Ok-read_u.read.0 c.in-Ok-read_u.read.1 c.in-Ok.ensures.found c.in-Ok-read_u.ensures.found
+    (λ v n h. ok_no_err _ (v, n) _ (c.read_u-3.ensures.only v n h) c.in-Err-read_u-2.is)

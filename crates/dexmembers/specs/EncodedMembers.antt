@@ -1,0 +1,123 @@
+-- Lists of class data as they are read: members of one class, by their indices in the pools.
+use Rattle.std.specs.Prelude.{◌≡◌, ℕ, ◌+◌, ◌^◌, ◌<◌, ◌≤◌, List, [], ◌∷◌, length, map, Option, Some, None, slice_index_or}
+use Rattle.dexspec.specs.Lists.{Sequence}
+use Rattle.dexspec.specs.Numbers.{Uleb128At}
+use Rattle.dexspec.specs.ClassData.{IsNextIndex, ShareNone}
+use Rattle.dexspec.specs.Mentions.{Mentions}
+use Rattle.dexpool.specs.declared.faults.ItemFault.{ItemFault}
+use Rattle.dexpool.specs.declared.faults.ItemFault.TheVariants.{Refused, Memory}
+use Rattle.dexpool.specs.Numberings.{IsAt}
+use Rattle.dexval.specs.Numbered.{field_at, method_at}
+use Rattle.dexmembers.specs.declared.class_data.EncodedField.{EncodedField}
+use Rattle.dexmembers.specs.declared.class_data.EncodedMethod.{EncodedMethod}
+
+-- the members are refused for this reason; want of memory tells nothing
+abbrev pub IsDataRefusal : Type 0 → ItemFault → Type 0
+IsDataRefusal Reason (Refused number) = (number ≡ 17) × Reason
+IsDataRefusal Reason Memory = Unit {0}
+
+-- ---- lists of members
+
+-- A kind of member: at offset o of b, behind a member with the index `last`, if there is one, stands x, in n bytes.
+abbrev pub Member : Type 0 → Type 1
+Member X = List ℕ → ℕ → Option ℕ → X → ℕ → Type 0
+
+-- from o on, behind the index `last`, stand the members one after the other, in n bytes together
+abbrev pub Chain : {X : Type 0} → Member X → (X → ℕ) → List ℕ → ℕ → Option ℕ → List X → ℕ → Type 0
+Chain At index b o last [] n = n ≡ 0
+Chain At index b o last (x ∷ xs) n = (k : ℕ) × (m : ℕ) × At b o last x k × Chain At index b (o + k) (Some (index x)) xs m × (n ≡ k + m)
+
+-- the index of the last member, or that before the first
+abbrev pub last_index : {X : Type 0} → (X → ℕ) → Option ℕ → List X → Option ℕ
+last_index index last [] = last
+last_index index last (x ∷ xs) = last_index index (Some (index x)) xs
+
+-- so many members were read from offset o on, in n bytes
+pub record IsListRead {X : Type 0} (At : Member X) (index : X → ℕ) (b : List ℕ) (o count : ℕ) (xs : List X) (n : ℕ) : Type 0 where
+  pub stand : Chain At index b o None xs n
+  pub many : length xs ≡ count
+  pub within : o + n ≤ length b
+
+-- no so many members stand from offset o on
+abbrev pub NoList : {X : Type 0} → Member X → (X → ℕ) → List ℕ → ℕ → ℕ → Type 0
+NoList {X} At index b o count = (xs : List X) (n : ℕ) → length xs ≡ count → Chain At index b o None xs n → ⊥
+
+-- two lists stand from offset o on, in n bytes, and no index is in both
+pub record ListsAt {X : Type 0} (At : Member X) (index : X → ℕ) (b : List ℕ) (o : ℕ) (xs ys : List X) (n : ℕ) : Type 0 where
+  pub first_size : ℕ
+  pub second_size : ℕ
+  pub first : Chain At index b o None xs first_size
+  pub second : Chain At index b (o + first_size) None ys second_size
+  pub apart : ShareNone (map index xs) (map index ys)
+  pub size : n ≡ first_size + second_size
+
+-- they were read, with so many members
+pub record AreListsRead {X : Type 0} (At : Member X) (index : X → ℕ) (b : List ℕ) (o count other_count : ℕ) (xs ys : List X) (n : ℕ) : Type 0 where
+  pub stand : ListsAt At index b o xs ys n
+  pub many : length xs ≡ count
+  pub others : length ys ≡ other_count
+  pub within : o + n ≤ length b
+
+-- no two lists with so many members stand there
+abbrev pub NoLists : {X : Type 0} → Member X → (X → ℕ) → List ℕ → ℕ → ℕ → ℕ → Type 0
+NoLists {X} At index b o count other_count = (xs ys : List X) (n : ℕ) → length xs ≡ count → length ys ≡ other_count → ListsAt At index b o xs ys n → ⊥
+
+-- ---- fields and methods
+
+-- the index is that of a field of the pool, whose class has this number among the types
+pub record IsOwnField (m : Mentions) (class i : ℕ) : Type 0 where
+  pub short : i < 2 ^ 32
+  pub within : i < length m.fields
+  pub class_is : IsAt m.types class (field_at m i).class
+
+-- the same for a method
+pub record IsOwnMethod (m : Mentions) (class i : ℕ) : Type 0 where
+  pub short : i < 2 ^ 32
+  pub within : i < length m.methods
+  pub class_is : IsAt m.types class (method_at m i).class
+
+module _ (m : Mentions) (class : ℕ) where
+  -- at offset o stands an encoded_field of the class
+  pub record FieldAt (b : List ℕ) (o : ℕ) (last : Option ℕ) (f : EncodedField) (n : ℕ) : Type 0 where
+    pub difference : ℕ
+    pub index_size : ℕ
+    pub flags_size : ℕ
+    pub difference_is : Uleb128At b o difference index_size
+    pub next : IsNextIndex last difference f.index
+    pub own : IsOwnField m class f.index
+    pub flags_is : Uleb128At b (o + index_size) f.flags flags_size
+    pub size : n ≡ index_size + flags_size
+
+  -- at offset o stands an encoded_method of the class
+  pub record MethodAt (b : List ℕ) (o : ℕ) (last : Option ℕ) (x : EncodedMethod) (n : ℕ) : Type 0 where
+    pub difference : ℕ
+    pub index_size : ℕ
+    pub flags_size : ℕ
+    pub code_size : ℕ
+    pub difference_is : Uleb128At b o difference index_size
+    pub next : IsNextIndex last difference x.index
+    pub own : IsOwnMethod m class x.index
+    pub flags_is : Uleb128At b (o + index_size) x.flags flags_size
+    pub code_is : Uleb128At b (o + index_size + flags_size) x.code_off code_size
+    pub size : n ≡ index_size + flags_size + code_size
+
+-- ---- class data
+
+-- at offset o stand four counts, and behind them as many static fields, instance fields, direct and virtual methods of the class
+pub record DataAt (m : Mentions) (class : ℕ) (b : List ℕ) (o : ℕ) (ss is : List EncodedField) (ds vs : List EncodedMethod) : Type 0 where
+  pub counts_size : ℕ
+  pub fields_size : ℕ
+  pub methods_size : ℕ
+  pub counts : Sequence Uleb128At b o (length ss ∷ length is ∷ length ds ∷ length vs ∷ []) counts_size
+  pub fields : ListsAt (FieldAt m class) (λ f. f.index) b (o + counts_size) ss is fields_size
+  pub methods : ListsAt (MethodAt m class) (λ x. x.index) b (o + counts_size + fields_size) ds vs methods_size
+
+-- no class data of the class stands there
+abbrev pub NoData : Mentions → ℕ → List ℕ → ℕ → Type 0
+NoData m class b o = (ss is : List EncodedField) (ds vs : List EncodedMethod) → DataAt m class b o ss is ds vs → ⊥
+
+-- ---- two lists in one pass
+
+-- an index that both lists hold stands in the one from place i on, and in the other from place j on
+abbrev pub ArePassed : List ℕ → List ℕ → ℕ → ℕ → Type 0
+ArePassed xs ys i j = (k l : ℕ) → k < length xs → l < length ys → slice_index_or xs k 0 ≡ slice_index_or ys l 0 → (i ≤ k) × (j ≤ l)

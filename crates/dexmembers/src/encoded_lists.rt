@@ -1,0 +1,87 @@
+//! Lists of encoded members.
+
+ghost use Rattle.std.specs.Prelude.{◌↔◌, ◌≤◌, length, map, IsTrue, IfOk, IfErr};
+ghost use Rattle.dexspec.specs.ClassData.{ShareNone};
+ghost use Rattle.dexmembers.specs.Numbered.{NumbersRise};
+ghost use Rattle.dexmembers.specs.EncodedMembers.{IsDataRefusal, IsListRead, NoList, AreListsRead, NoLists};
+
+use crate::encoded::{Encoded, Owner};
+use dexpool::ItemFault;
+use std::alloc::Global;
+use std::cmp::Ordering;
+
+// So many members from a place on, and how many bytes spell them.
+fn read_list<T: Encoded>(
+    alloc: Global,
+    owner: Owner<'_, '_>,
+    bytes: &[u8],
+    at: usize,
+    count: u32,
+) -> Result<(Vec<T>, usize), ItemFault>
+    requires { at ≤ length bytes.now }
+    ensures list { IfOk result (λ x. IsListRead (T.stands owner.entry.pools.now owner.entry.class) T.index_of bytes.now at count x.0.items x.1) }
+    ensures fault { IfErr result (IsDataRefusal (NoList (T.stands owner.entry.pools.now owner.entry.class) T.index_of bytes.now at count)) }
+{
+    T::law();
+    let mut members = Vec::new(alloc);
+    let mut size = 0;
+    let mut last = None;
+    for _ in 0..count {
+        let (member, len) = match T::read(owner, bytes, at + size, last) {
+            Some(read) => read,
+            None => return Err(ItemFault::Refused(17)),
+        };
+        members.push(member)?;
+        last = Some(member.index());
+        size += len;
+    }
+    Ok((members, size))
+}
+
+// Whether no index is in both lists. One pass over both.
+fn are_apart<T: Encoded>(left: &[T], right: &[T]) -> bool
+    requires left_rise { NumbersRise (map T.index_of left.now) }
+    requires right_rise { NumbersRise (map T.index_of right.now) }
+    ensures { IsTrue result ↔ ShareNone (map T.index_of left.now) (map T.index_of right.now) }
+{
+    let mut i = 0;
+    let mut j = 0;
+    while i < left.len() && j < right.len() {
+        match left[i].index().cmp(&right[j].index()) {
+            Ordering::Less => i += 1,
+            Ordering::Equal => return false,
+            Ordering::Greater => j += 1,
+        }
+    }
+    true
+}
+
+/// Two lists of members from a place on, so many in each, no index in both, and how many bytes spell them.
+///
+/// Error: `Refused(17)` exactly where no such lists stand there; the memory for the members was refused.
+pub(crate) fn read_lists<T: Encoded>(
+    alloc: Global,
+    owner: Owner<'_, '_>,
+    bytes: &[u8],
+    at: usize,
+    count: u32,
+    other_count: u32,
+) -> Result<(Vec<T>, Vec<T>, usize), ItemFault>
+    requires { at ≤ length bytes.now }
+    ensures lists { IfOk result (λ x. AreListsRead (T.stands owner.entry.pools.now owner.entry.class) T.index_of bytes.now at count other_count x.0.items x.1.items x.2) }
+    ensures fault { IfErr result (IsDataRefusal (NoLists (T.stands owner.entry.pools.now owner.entry.class) T.index_of bytes.now at count other_count)) }
+{
+    T::law();
+    let (members, size) = match read_list(alloc, owner, bytes, at, count) {
+        Ok(read) => read,
+        Err(fault) => return Err(fault),
+    };
+    let (others, others_size) = match read_list(alloc, owner, bytes, at + size, other_count) {
+        Ok(read) => read,
+        Err(fault) => return Err(fault),
+    };
+    if !are_apart::<T>(&members, &others) {
+        return Err(ItemFault::Refused(17));
+    }
+    Ok((members, others, size + others_size))
+}

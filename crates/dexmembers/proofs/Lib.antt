@@ -1,2 +1,4 @@
 pub mod Partways
 pub mod ClassDataSpelled
+pub mod PairsMerged
+pub mod DirectorySpelled

@@ -5,3 +5,4 @@ pub mod ClassData
 pub mod MethodCodes
 pub mod Reading
 pub mod Spelled
+pub mod DirectoryPut

@@ -7,6 +7,7 @@
 mod class_data;
 mod class_data_put;
 mod codes;
+mod directory_put;
 mod members;
 mod reading;
 

@@ -9,7 +9,9 @@ mod class_data_put;
 mod codes;
 mod directory_put;
 mod members;
+mod put_laws;
 mod reading;
 
 pub use members::{Field, Members, Method};
+pub use put_laws::few_members_law;
 pub use reading::read_members;

@@ -16,3 +16,6 @@ pub mod MemberChains
 pub mod Owned
 pub mod DataCounts
 pub mod DataOfFile
+pub mod PairsMerged
+pub mod DirectorySpelled
+pub mod FewMembers

@@ -3,6 +3,7 @@ use Rattle.std.proofs.Common.{◌≡◌, ℕ, ◌≤◌, List, [], ◌++◌, tak
 use Rattle.std.specs.Prelude.{⊤, Result, IsOk, IsErr, vec_len, vec_capacity}
 use Rattle.std.specs.Global.{Vec}
 use Rattle.std.proofs.lemmas.List.{append-nil}
+use Rattle.dexspec.specs.Bytes.{uint}
 use Rattle.dexspec.specs.Writing.{Puts}
 use Rattle.dexval.specs.Appending.{Appended, Stopped, Appends}
 use Rattle.dexval.proofs.Joining.{nothing_yet, appended_both, stopped_after, stopped_before, puts_appends}
@@ -46,3 +47,10 @@ partway_stop rest {item} {all} {bytes} {u} {v} {w} e p s =
 -- all is appended
 pub partway_last : {rest all : List ℕ} {u v : Vec ℕ} → rest ≡ [] → Partway rest all u v → Appended all u v
 partway_last {rest} {all} {u} {v} e p = subst (λ l. Appended l u v) (sym (append-nil p.done) ∙ ap (λ l. p.done ++ l) (sym e) ∙ p.whole) p.appended
+
+-- the same number
+pub same_appended : {n k : ℕ} {u v : Vec ℕ} → n ≡ k → Appended (uint n) u v → Appended (uint k) u v
+same_appended {n} {k} {u} {v} e h = subst (λ (i : ℕ). Appended (uint i) u v) e h
+
+pub same_stopped : {n k : ℕ} {u v : Vec ℕ} → n ≡ k → Stopped (uint n) u v → Stopped (uint k) u v
+same_stopped {n} {k} {u} {v} e h = subst (λ (i : ℕ). Stopped (uint i) u v) e h

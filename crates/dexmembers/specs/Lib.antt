@@ -10,3 +10,4 @@ pub mod Renumbering
 pub mod Uses
 pub mod Weighing
 pub mod Spelled
+pub mod DirectoryPut

@@ -12,7 +12,9 @@ mod fitting;
 mod marking;
 mod encoded;
 mod encoded_lists;
+mod directory_put;
 mod members;
+mod put_laws;
 mod reading;
 mod renumbering;
 mod renumbering_laws;
@@ -22,6 +24,7 @@ mod uses_laws;
 mod weighing;
 
 pub use members::{Field, Members, Method};
+pub use put_laws::few_members_law;
 pub use reading::read_members;
 pub use renumbering_laws::{members_led_law, members_same_law};
 pub use uses_laws::members_uses_law;

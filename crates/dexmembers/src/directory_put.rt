@@ -1,0 +1,241 @@
+//! Annotations directories written.
+
+ghost use Rattle.std.specs.Prelude.{◌≡◌, ℕ, ◌*◌, List, Some, IsOk, map, slice_index, vec_len, vec_capacity, ◌+◌, ◌^◌, ◌<◌, ◌≤◌, ◌++◌, ◌==◌, if◌then◌else◌, length, slice_index_or};
+ghost use Rattle.dexspec.specs.Texts.{Text};
+ghost use Rattle.dexspec.specs.Classes.{Body};
+ghost use Rattle.dexspec.specs.Mentions.{Mentions};
+ghost use Rattle.dexspec.specs.Placing.{SetOffsets, directory_bytes};
+ghost use Rattle.dexspec.specs.Writing.{Puts};
+ghost use Rattle.dexpool.specs.Numberings.{AreRising};
+ghost use Rattle.dexmembers.specs.Numbered.{fields_of, methods_of, members_in, members_of, AreKnownMembers, AreOrdered, AreOfClass};
+ghost use Rattle.dexspec.specs.Bytes.{uint};
+ghost use Rattle.dexval.specs.Appending.{Appends};
+ghost use Rattle.dexmembers.specs.DirectoryPut.{pair_bytes, count_placed, both_bytes, field_numbers, method_numbers, numbered_directory_bytes};
+
+use crate::members::{Field, Members, Method};
+use dexhead::put_u32;
+use dexpool::number_law;
+use std::alloc::AllocError;
+
+// Greater than the number of each member.
+const NONE_LEFT: u64 = 0x1_0000_0000;
+
+// Appends a number of four bytes. Where memory is wanting, as with all that follow here, a part of the item may stand.
+#[tactic(auto, using(crate::proofs::Partways::puts_appends_too))]
+fn append_u32(value: u32, out: &mut Vec<u8>) -> Result<(), AllocError>
+    ensures { Appends (uint value) out.old out.new result }
+{
+    put_u32(value, out)
+}
+
+// Appends an index and an offset, unless the offset is 0.
+fn append_pair(index: u32, offset: u32, out: &mut Vec<u8>) -> Result<(), AllocError>
+    ensures { Appends (pair_bytes (index, offset)) out.old out.new result }
+{
+    if offset == 0 {
+        return Ok(());
+    }
+    append_u32(index, out)?;
+    append_u32(offset, out)
+}
+
+// 1 for an offset that is not 0, and else 0.
+fn one_if_placed(offset: u32) -> u32
+    ensures one { result ≡ (if offset == 0 then 0 else 1) }
+    ensures few { result ≤ 1 }
+{
+    if offset == 0 { 0 } else { 1 }
+}
+
+// How many offsets are not 0.
+fn placed(offsets: &[u32]) -> u32
+    requires { length offsets.now < 2 ^ 32 }
+    ensures { result ≡ count_placed offsets.now }
+{
+    let mut count = 0;
+    for offset in offsets {
+        count += one_if_placed(*offset);
+    }
+    count
+}
+
+// The number of the field at a place, or what is greater than each.
+fn next_field(fields: &[Field], place: usize) -> u64
+    ensures number { result ≡ slice_index_or (field_numbers fields.now) place 0x100000000 }
+    ensures there { place < length fields.now → result < 2 ^ 32 }
+    ensures end { length fields.now ≤ place → result ≡ 0x100000000 }
+{
+    match fields.get(place) {
+        Some(field) => u64::from(field.number()),
+        None => NONE_LEFT,
+    }
+}
+
+// Appends the pairs of two lists of fields by index.
+fn append_field_pairs(
+    first: &[Field],
+    second: &[Field],
+    offsets: &[u32],
+    out: &mut Vec<u8>,
+) -> Result<(), AllocError>
+    requires { length offsets.now ≡ length first.now + length second.now }
+    ensures { Appends (both_bytes (field_numbers first.now) (field_numbers second.now) offsets.now) out.old out.new result }
+{
+    let (first_offsets, second_offsets) = offsets.split_at(first.len());
+    let mut i = 0;
+    let mut j = 0;
+    'merging: while i + j < offsets.len() {
+        let one = next_field(first, i);
+        let other = next_field(second, j);
+        if one < other {
+            append_pair(one as u32, first_offsets[i], out)?;
+            i += 1;
+        } else {
+            append_pair(other as u32, second_offsets[j], out)?;
+            j += 1;
+        }
+    }
+    Ok(())
+}
+
+// The number of the method at a place, or what is greater than each.
+fn next_method(methods: &[Method<'_>], place: usize) -> u64
+    ensures number { result ≡ slice_index_or (method_numbers methods.now) place 0x100000000 }
+    ensures there { place < length methods.now → result < 2 ^ 32 }
+    ensures end { length methods.now ≤ place → result ≡ 0x100000000 }
+{
+    match methods.get(place) {
+        Some(method) => u64::from(method.number()),
+        None => NONE_LEFT,
+    }
+}
+
+// Appends the pairs of two lists of methods by index.
+fn append_method_pairs(
+    first: &[Method<'_>],
+    second: &[Method<'_>],
+    offsets: &[u32],
+    out: &mut Vec<u8>,
+) -> Result<(), AllocError>
+    requires { length offsets.now ≡ length first.now + length second.now }
+    ensures { Appends (both_bytes (method_numbers first.now) (method_numbers second.now) offsets.now) out.old out.new result }
+{
+    let (first_offsets, second_offsets) = offsets.split_at(first.len());
+    let mut i = 0;
+    let mut j = 0;
+    'merging: while i + j < offsets.len() {
+        let one = next_method(first, i);
+        let other = next_method(second, j);
+        if one < other {
+            append_pair(one as u32, first_offsets[i], out)?;
+            i += 1;
+        } else {
+            append_pair(other as u32, second_offsets[j], out)?;
+            j += 1;
+        }
+    }
+    Ok(())
+}
+
+impl Members<'_> {
+    // Appends the pairs of the fields.
+    fn append_fields(&self, offsets: &[u32], out: &mut Vec<u8>) -> Result<(), AllocError>
+        requires { length offsets.now ≡ length (fields_of self.now) }
+        ensures { Appends (both_bytes (field_numbers self.now.static_fields) (field_numbers self.now.instance_fields) offsets.now) out.old out.new result }
+    {
+        append_field_pairs(self.static_fields(), self.instance_fields(), offsets, out)
+    }
+
+    // Appends pairs of the methods.
+    fn append_methods(&self, offsets: &[u32], out: &mut Vec<u8>) -> Result<(), AllocError>
+        requires { length offsets.now ≡ length (methods_of self.now) }
+        ensures { Appends (both_bytes (method_numbers self.now.direct_methods) (method_numbers self.now.virtual_methods) offsets.now) out.old out.new result }
+    {
+        append_method_pairs(self.direct_methods(), self.virtual_methods(), offsets, out)
+    }
+
+    // Appends the annotations_directory_item.
+    fn append_directory(
+        &self,
+        own_off: u32,
+        field_offs: &[u32],
+        method_offs: &[u32],
+        parameter_offs: &[u32],
+        out: &mut Vec<u8>,
+    ) -> Result<(), AllocError>
+        requires few_fields { length (fields_of self.now) < 2 ^ 32 }
+        requires few_methods { length (methods_of self.now) < 2 ^ 32 }
+        requires fields { length field_offs.now ≡ length (fields_of self.now) }
+        requires methods { length method_offs.now ≡ length (methods_of self.now) }
+        requires parameters { length parameter_offs.now ≡ length (methods_of self.now) }
+        ensures { Appends (numbered_directory_bytes self.now own_off field_offs.now method_offs.now parameter_offs.now) out.old out.new result }
+    {
+        append_u32(own_off, out)?;
+        append_u32(placed(field_offs), out)?;
+        append_u32(placed(method_offs), out)?;
+        append_u32(placed(parameter_offs), out)?;
+        self.append_fields(field_offs, out)?;
+        self.append_methods(method_offs, out)?;
+        self.append_methods(parameter_offs, out)
+    }
+
+    // Appends the annotations_directory_item whole or not at all.
+    #[tactic(auto, using(crate::proofs::Partways::settled_too, crate::proofs::Partways::taken_back_too))]
+    fn put_numbered_directory(
+        &self,
+        own_off: u32,
+        field_offs: &[u32],
+        method_offs: &[u32],
+        parameter_offs: &[u32],
+        out: &mut Vec<u8>,
+    ) -> Result<(), AllocError>
+        requires few_fields { length (fields_of self.now) < 2 ^ 32 }
+        requires few_methods { length (methods_of self.now) < 2 ^ 32 }
+        requires fields { length field_offs.now ≡ length (fields_of self.now) }
+        requires methods { length method_offs.now ≡ length (methods_of self.now) }
+        requires parameters { length parameter_offs.now ≡ length (methods_of self.now) }
+        ensures { Puts (numbered_directory_bytes self.now own_off field_offs.now method_offs.now parameter_offs.now) out.old out.new result }
+    {
+        let start = out.len();
+        let answer = self.append_directory(own_off, field_offs, method_offs, parameter_offs, out);
+        if answer.is_err() {
+            out.truncate(start);
+        }
+        answer
+    }
+
+    /// Appends the annotations_directory_item: the offset of the class's own set, the counts of annotated fields, of annotated
+    /// methods and of methods with annotated parameters, and then the number and the offset of each of these, by number, each in
+    /// four bytes. `own_off` is the offset of the class's own set, `field_offs` has that of the set of each field, the static ones
+    /// first, `method_offs` that of the set of each method, the direct ones first, and `parameter_offs` that of the list of the
+    /// sets of the parameters of each method; 0 stands for none, and leaves the member out.
+    ///
+    /// A class with no offset but 0 has no item in the canonical file: the caller leaves it out.
+    ///
+    /// It fails only for want of memory, and not where the spare room is at least 16 bytes and eight for each member that is put;
+    /// the vector is then as it was. Conditions: fields and methods are each fewer than 2^32, and
+    /// there is an offset for each. No memory is taken beside the vector's.
+    ///
+    /// Source: "annotations_directory_item", "field_annotation format", "method_annotation format" and
+    /// "parameter_annotation format".
+    pub fn put_directory(
+        &self,
+        own_off: u32,
+        field_offs: &[u32],
+        method_offs: &[u32],
+        parameter_offs: &[u32],
+        out: &mut Vec<u8>,
+    ) -> Result<(), AllocError>
+        requires few_fields { length (fields_of self.now) < 2 ^ 32 }
+        requires few_methods { length (methods_of self.now) < 2 ^ 32 }
+        requires fields { length field_offs.now ≡ length (fields_of self.now) }
+        requires methods { length method_offs.now ≡ length (methods_of self.now) }
+        requires parameters { length parameter_offs.now ≡ length (methods_of self.now) }
+        ensures bytes { Puts (numbered_directory_bytes self.now own_off field_offs.now method_offs.now parameter_offs.now) out.old out.new result }
+        ensures symbolic { (m : Mentions) (name : Text) (c : Body) (sets : SetOffsets) (item : List ℕ) → AreRising m → AreKnownMembers m self.now → AreOrdered self.now → AreOfClass m name self.now → members_of c ≡ members_in m self.now → sets.own ≡ own_off → sets.fields ≡ field_offs.now → map (λ offs. slice_index offs 0) sets.methods ≡ method_offs.now → directory_bytes m (name, c) sets parameter_offs.now ≡ Some item → Puts item out.old out.new result }
+        ensures room { vec_len out.old + (16 + 8 * (count_placed field_offs.now + count_placed method_offs.now + count_placed parameter_offs.now)) ≤ vec_capacity out.old → IsOk result }
+    {
+        number_law();
+        self.put_numbered_directory(own_off, field_offs, method_offs, parameter_offs, out)
+    }
+}

@@ -52,5 +52,5 @@ partway_last {rest} {all} {u} {v} e p = subst (λ l. Appended l u v) (sym (appen
 pub same_appended : {n k : ℕ} {u v : Vec ℕ} → n ≡ k → Appended (uint n) u v → Appended (uint k) u v
 same_appended {n} {k} {u} {v} e h = subst (λ (i : ℕ). Appended (uint i) u v) e h
 
-pub same_stopped : {n k : ℕ} {u v : Vec ℕ} → n ≡ k → Stopped (uint n) u v → Stopped (uint k) u v
-same_stopped {n} {k} {u} {v} e h = subst (λ (i : ℕ). Stopped (uint i) u v) e h
+pub same_stopped : {n k : ℕ} {u v : Vec ℕ} → n ≡ k → Stopped ⊤ (uint n) u v → Stopped ⊤ (uint k) u v
+same_stopped {n} {k} {u} {v} e h = subst (λ (i : ℕ). Stopped ⊤ (uint i) u v) e h

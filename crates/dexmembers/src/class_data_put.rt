@@ -17,7 +17,7 @@ use dexleb::put_u;
 use dexpool::number_law;
 use std::alloc::AllocError;
 
-// Appends ⊤ a uleb128. Where memory is wanting, as with all that follow here, a part of the item may stand.
+// Appends a uleb128. Where memory is wanting, as with all that follow here, a part of the item may stand.
 #[tactic(auto, using(crate::proofs::Partways::puts_appends_too))]
 fn append_number(value: u32, out: &mut Vec<u8>) -> Result<(), AllocError>
     ensures { Appends ⊤ (uleb128 value) out.old out.new result }
@@ -25,7 +25,7 @@ fn append_number(value: u32, out: &mut Vec<u8>) -> Result<(), AllocError>
     put_u(value, out)
 }
 
-// Appends ⊤ an encoded_field behind one with the number `last`.
+// Appends an encoded_field behind one with the number `last`.
 fn append_field(field: &Field, last: u32, out: &mut Vec<u8>) -> Result<(), AllocError>
     ensures { Appends ⊤ (numbered_field_bytes last field.now) out.old out.new result }
 {
@@ -33,7 +33,7 @@ fn append_field(field: &Field, last: u32, out: &mut Vec<u8>) -> Result<(), Alloc
     append_number(field.flags(), out)
 }
 
-// Appends ⊤ encoded_fields.
+// Appends encoded_fields.
 fn append_fields(fields: &[Field], out: &mut Vec<u8>) -> Result<(), AllocError>
     ensures { Appends ⊤ (numbered_fields_bytes 0 fields.now) out.old out.new result }
 {
@@ -45,7 +45,7 @@ fn append_fields(fields: &[Field], out: &mut Vec<u8>) -> Result<(), AllocError>
     Ok(())
 }
 
-// Appends ⊤ an encoded_method behind one with the number `last`, with the offset of its code.
+// Appends an encoded_method behind one with the number `last`, with the offset of its code.
 fn append_method(
     method: &Method<'_>,
     last: u32,
@@ -59,7 +59,7 @@ fn append_method(
     append_number(code_off, out)
 }
 
-// Appends ⊤ encoded_methods, each with the offset of its code.
+// Appends encoded_methods, each with the offset of its code.
 fn append_methods(
     methods: &[Method<'_>],
     code_offs: &[u32],
@@ -76,7 +76,7 @@ fn append_methods(
     Ok(())
 }
 
-// Appends ⊤ the four counts and the four lists of a class_data_item.
+// Appends the four counts and the four lists of a class_data_item.
 fn append_lists(
     static_fields: &[Field],
     instance_fields: &[Field],
@@ -104,7 +104,7 @@ fn append_lists(
 }
 
 impl Members<'_> {
-    // Appends ⊤ the class_data_item.
+    // Appends the class_data_item.
     fn append_class_data(&self, code_offs: &[u32], out: &mut Vec<u8>) -> Result<(), AllocError>
         requires few { HasFewMembers self.now }
         requires offsets { length code_offs.now ≡ length (methods_of self.now) }
@@ -120,7 +120,7 @@ impl Members<'_> {
         )
     }
 
-    /// Appends ⊤ the class_data_item: the counts of the four lists, and then each field as the difference of its number to that
+    /// Appends the class_data_item: the counts of the four lists, and then each field as the difference of its number to that
     /// of the one before it and its access flags, and each method so with the offset of its code, each number a uleb128 in the
     /// fewest bytes. `code_offs` has the offset of the code of each method, the direct ones first, and 0 where there is none.
     ///
@@ -142,7 +142,7 @@ impl Members<'_> {
         self.put_numbered_class_data(code_offs, out)
     }
 
-    // Appends ⊤ the class_data_item whole or not at all.
+    // Appends the class_data_item whole or not at all.
     #[tactic(auto, using(crate::proofs::Partways::settled_too, crate::proofs::Partways::taken_back_too))]
     fn put_numbered_class_data(
         &self,

@@ -20,7 +20,7 @@ use std::alloc::AllocError;
 // Greater than the number of each member.
 const NONE_LEFT: u64 = 0x1_0000_0000;
 
-// Appends ⊤ a number of four bytes. Where memory is wanting, as with all that follow here, a part of the item may stand.
+// Appends a number of four bytes. Where memory is wanting, as with all that follow here, a part of the item may stand.
 #[tactic(auto, using(crate::proofs::Partways::puts_appends_too))]
 fn append_u32(value: u32, out: &mut Vec<u8>) -> Result<(), AllocError>
     ensures { Appends ⊤ (uint value) out.old out.new result }
@@ -28,7 +28,7 @@ fn append_u32(value: u32, out: &mut Vec<u8>) -> Result<(), AllocError>
     put_u32(value, out)
 }
 
-// Appends ⊤ an index and an offset, unless the offset is 0.
+// Appends an index and an offset, unless the offset is 0.
 fn append_pair(index: u32, offset: u32, out: &mut Vec<u8>) -> Result<(), AllocError>
     ensures { Appends ⊤ (pair_bytes (index, offset)) out.old out.new result }
 {
@@ -71,7 +71,7 @@ fn next_field(fields: &[Field], place: usize) -> u64
     }
 }
 
-// Appends ⊤ the pairs of two lists of fields by index.
+// Appends the pairs of two lists of fields by index.
 fn append_field_pairs(
     first: &[Field],
     second: &[Field],
@@ -110,7 +110,7 @@ fn next_method(methods: &[Method<'_>], place: usize) -> u64
     }
 }
 
-// Appends ⊤ the pairs of two lists of methods by index.
+// Appends the pairs of two lists of methods by index.
 fn append_method_pairs(
     first: &[Method<'_>],
     second: &[Method<'_>],
@@ -138,7 +138,7 @@ fn append_method_pairs(
 }
 
 impl Members<'_> {
-    // Appends ⊤ the pairs of the fields.
+    // Appends the pairs of the fields.
     fn append_fields(&self, offsets: &[u32], out: &mut Vec<u8>) -> Result<(), AllocError>
         requires { length offsets.now ≡ length (fields_of self.now) }
         ensures { Appends ⊤ (both_bytes (field_numbers self.now.static_fields) (field_numbers self.now.instance_fields) offsets.now) out.old out.new result }
@@ -146,7 +146,7 @@ impl Members<'_> {
         append_field_pairs(self.static_fields(), self.instance_fields(), offsets, out)
     }
 
-    // Appends ⊤ pairs of the methods.
+    // Appends pairs of the methods.
     fn append_methods(&self, offsets: &[u32], out: &mut Vec<u8>) -> Result<(), AllocError>
         requires { length offsets.now ≡ length (methods_of self.now) }
         ensures { Appends ⊤ (both_bytes (method_numbers self.now.direct_methods) (method_numbers self.now.virtual_methods) offsets.now) out.old out.new result }
@@ -154,7 +154,7 @@ impl Members<'_> {
         append_method_pairs(self.direct_methods(), self.virtual_methods(), offsets, out)
     }
 
-    // Appends ⊤ the annotations_directory_item.
+    // Appends the annotations_directory_item.
     fn append_directory(
         &self,
         own_off: u32,
@@ -179,7 +179,7 @@ impl Members<'_> {
         self.append_methods(parameter_offs, out)
     }
 
-    // Appends ⊤ the annotations_directory_item whole or not at all.
+    // Appends the annotations_directory_item whole or not at all.
     #[tactic(auto, using(crate::proofs::Partways::settled_too, crate::proofs::Partways::taken_back_too))]
     fn put_numbered_directory(
         &self,
@@ -204,7 +204,7 @@ impl Members<'_> {
         answer
     }
 
-    /// Appends ⊤ the annotations_directory_item: the offset of the class's own set, the counts of annotated fields, of annotated
+    /// Appends the annotations_directory_item: the offset of the class's own set, the counts of annotated fields, of annotated
     /// methods and of methods with annotated parameters, and then the number and the offset of each of these, by number, each in
     /// four bytes. `own_off` is the offset of the class's own set, `field_offs` has that of the set of each field, the static ones
     /// first, `method_offs` that of the set of each method, the direct ones first, and `parameter_offs` that of the list of the

@@ -15,7 +15,6 @@ mod fitting;
 mod marking;
 mod members;
 mod put_laws;
-mod reading;
 mod renumbering;
 mod renumbering_laws;
 mod same;
@@ -25,6 +24,5 @@ mod weighing;
 
 pub use members::{Field, Members, Method};
 pub use put_laws::few_members_law;
-pub use reading::read_members;
 pub use renumbering_laws::{members_led_law, members_same_law};
 pub use uses_laws::members_uses_law;

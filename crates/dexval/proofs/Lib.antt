@@ -7,6 +7,7 @@ pub mod FileRead
 pub mod Fitted
 pub mod Growing
 pub mod Joining
+pub mod Keeping
 pub mod Lengths
 pub mod LowBytes
 pub mod Marked

@@ -1,11 +1,12 @@
 -- Lists of sets and directories as they are read.
-use Rattle.std.specs.Prelude.{◌≡◌, ◌≢◌, ℕ, ◌+◌, ◌*◌, ◌%◌, ◌<◌, ◌≤◌, List, [], map, All}
+use Rattle.std.specs.Prelude.{◌≡◌, ◌≢◌, ℕ, ◌+◌, ◌-◌, ◌*◌, ◌^◌, ◌%◌, ◌<◌, ◌≤◌, min, List, [], map, sum_by, All}
 use Rattle.std.specs.Global.{Vec}
 use Rattle.dexspec.specs.Lists.{OrNone}
 use Rattle.dexspec.specs.Bytes.{uint_at}
 use Rattle.dexspec.specs.Sections.{IsInData}
 use Rattle.dexspec.specs.Annotations.{AnnotationSet, Directory, SetAt, RefListAt, PairsAt, DirectoryAt, fields_count, methods_count, parameters_count}
 use Rattle.dexspec.specs.Mentions.{Mentions}
+use Rattle.dexspec.specs.Weight.{set_weight, ref_list_weight}
 use Rattle.dexval.specs.declared.set.AnnotationSet.{AnnotationSet as CodeSet}
 use Rattle.dexval.specs.Code.{set_of}
 use Rattle.dexval.specs.Numbered.{NumberedSet, IsKnownSet, set_in}
@@ -70,3 +71,25 @@ pub record HasMembers (b : List ℕ) (off : ℕ) : Type 0 where
 -- no annotations_directory_item stands there
 abbrev pub NoDirectoryAt : List ℕ → ℕ → Type 0
 NoDirectoryAt b off = (d : Directory) → DirectoryAt b off d → ⊥
+
+-- ---- weights
+
+-- what the sets and the lists of sets of a directory weigh
+abbrev pub directory_weight : Directory → ℕ
+directory_weight d = set_weight d.own + sum_by (λ e. set_weight e.1) d.fields + sum_by (λ e. set_weight e.1) d.methods + sum_by (λ e. ref_list_weight e.1) d.parameters
+
+-- what the set weighs that the numbers stand for
+abbrev pub set_weight_in : Mentions → NumberedSet → ℕ
+set_weight_in m s = set_weight (set_in m s)
+
+-- the list of such sets
+abbrev pub sets_weight_in : Mentions → List NumberedSet → ℕ
+sets_weight_in m ss = ref_list_weight (map (set_in m) ss)
+
+-- Something was read, and the running weight grew from `before` to `after` by what it weighs, up to 2^64 - 1. All of it
+-- is kept where that is at most `most`.
+pub record IsKept {X : Type 0} (Read : X → Type 0) (weighs : X → ℕ) (most before after : ℕ) (kept : X) : Type 0 where
+  pub item : X
+  pub is_read : Read item
+  pub grown : after ≡ min (2 ^ 64 - 1) (before + weighs item)
+  pub whole : after ≤ most → kept ≡ item

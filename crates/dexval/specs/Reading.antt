@@ -1,10 +1,11 @@
 -- Values, sets and directories as they are read from a file.
-use Rattle.std.specs.Prelude.{◌≡◌, ℕ, List}
+use Rattle.std.specs.Prelude.{◌≡◌, ◌<◌, ◌≤◌, ◌-◌, ◌^◌, ℕ, List, min}
 use Rattle.dexspec.specs.Values.{Value, Values, EncodedValueAt, EncodedArrayItemAt}
 use Rattle.dexspec.specs.Annotations.{AnnotationSet, Directory, SetAt, DirectoryAt}
 use Rattle.dexspec.specs.Mentions.{Mentions}
 use Rattle.dexpool.specs.declared.faults.ItemFault.{ItemFault}
 use Rattle.dexpool.specs.declared.faults.ItemFault.TheVariants.{Refused, Memory}
+use Rattle.dexval.specs.Directories.{directory_weight}
 use Rattle.dexval.specs.Numbered.{NumberedValue, NumberedValues, NumberedSet, NumberedDirectory, IsKnown, AreKnown, IsKnownSet, IsKnownDirectory, value_in, values_in, set_in, directory_in}
 
 -- the numbers are those of symbols, and at the offset stands, in so many bytes, the value that they stand for
@@ -46,3 +47,14 @@ pub record IsDirectoryAt (b : List ℕ) (off : ℕ) (m : Mentions) (d : Numbered
 abbrev pub IsDirectoryFault : List ℕ → ℕ → ItemFault → Type 0
 IsDirectoryFault b off (Refused number) = (number ≡ 22) × ((d : Directory) → DirectoryAt b off d → ⊥)
 IsDirectoryFault b off Memory = Unit {0}
+
+-- the same, and its sets and lists of sets weigh at most so much; 2^64 - 1 is no bound
+pub record IsDirectoryWithin (b : List ℕ) (off : ℕ) (m : Mentions) (most : ℕ) (d : NumberedDirectory) : Type 0 where
+  pub is : IsDirectoryAt b off m d
+  pub within : min (2 ^ 64 - 1) (directory_weight (directory_in m d)) ≤ most
+
+-- at the offset stands an annotations_directory_item of a directory whose sets and lists of sets weigh more
+pub record HasHeavyDirectory (b : List ℕ) (off most : ℕ) : Type 0 where
+  pub directory : Directory
+  pub at : DirectoryAt b off directory
+  pub heavy : most < directory_weight directory

@@ -1,15 +1,16 @@
 //! Directories of annotations read from a file.
 
-ghost use Rattle.std.specs.Prelude.{◌^◌, ◌<◌, ◌≡◌, ◌+◌, ◌*◌, ◌≤◌, All, IfOk, IfErr, MatchOption, length, map};
+ghost use Rattle.std.specs.Prelude.{◌^◌, ◌<◌, ◌≡◌, ◌+◌, ◌*◌, ◌≤◌, All, IfOk, IfErr, MatchOption, length, map, sum_by};
 ghost use Rattle.dexspec.specs.Bytes.{uint_at};
 ghost use Rattle.dexspec.specs.Annotations.{SetAt, RefListAt, fields_count, methods_count, parameters_count};
 ghost use Rattle.dexpool.specs.Pools.{ArePools};
 ghost use Rattle.dexval.specs.Code.{set_of, directory_of};
-ghost use Rattle.dexval.specs.Numbered.{IsKnownSet, set_in};
+ghost use Rattle.dexval.specs.Numbered.{IsKnownSet, set_in, directory_in};
 ghost use Rattle.dexval.specs.Nesting.{AreFilePools};
-ghost use Rattle.dexval.specs.Directories.{IsSetOrEmptyAt, NoSetOrEmptyAt, IsRefListAt, NoRefListAt, HasPair, ArePairsAt, NoPairsAt, HasMembers, NoDirectoryAt, member_set_of, member_list_of};
-ghost use Rattle.dexval.specs.Reading.{IsDirectoryAt, IsDirectoryFault};
+ghost use Rattle.dexval.specs.Directories.{IsSetOrEmptyAt, NoSetOrEmptyAt, IsRefListAt, NoRefListAt, HasPair, ArePairsAt, NoPairsAt, HasMembers, NoDirectoryAt, member_set_of, member_list_of, directory_weight, set_weight_in, sets_weight_in, IsKept};
+ghost use Rattle.dexval.specs.Reading.{IsDirectoryAt, IsDirectoryFault, IsDirectoryWithin, HasHeavyDirectory};
 
+use crate::budget::Budget;
 use crate::directory::Directory;
 use crate::set::AnnotationSet;
 use crate::set_reading::{count_at, set_at};
@@ -78,25 +79,46 @@ fn set_or_empty_at(
     set_at(alloc, frame, pools, off)
 }
 
-// The sets of the annotation_set_ref_list at an offset, or `None` where none stands there.
+// What a list of so many sets weighs beside them.
+fn list_weight(count: u32) -> u64
+    ensures none { count ≡ 0 → result ≡ 0 }
+    ensures some { 0 < count → result ≡ 8 + 4 * count }
+{
+    if count == 0 {
+        return 0;
+    }
+    8 + 4 * u64::from(count)
+}
+
+// The sets of the annotation_set_ref_list at an offset, or `None` where none stands there. They are whole while the
+// budget lasts.
 fn ref_list_at(
     alloc: Global,
     frame: &Frame<'_>,
     pools: &Pools<'_>,
     off: u32,
+    budget: &mut Budget,
 ) -> Result<Option<Vec<AnnotationSet>>, AllocError>
-    ensures { AreFilePools frame.now pools.now → IfOk result (λ found. MatchOption found (NoRefListAt frame.now off) (λ sets. IsRefListAt frame.now off pools.now (map set_of sets.items))) }
+    ensures most { budget.new.most ≡ budget.old.most }
+    ensures read { AreFilePools frame.now pools.now → IfOk result (λ found. MatchOption found (NoRefListAt frame.now off) (λ sets. IsKept (IsRefListAt frame.now off pools.now) (sets_weight_in pools.now) budget.old.most budget.old.weight budget.new.weight (map set_of sets.items))) }
 {
     let count = match count_at(frame, off) {
         Some(count) => count,
         None => return Ok(None),
     };
     let bytes = frame.bytes();
+    let list = list_weight(count);
+    budget.add(list);
     let mut sets = Vec::new(alloc);
     for i in 0..count {
         let place = u32_at(bytes, off as usize + 4 + 4 * i as usize);
         match set_or_empty_at(alloc, frame, pools, place)? {
-            Some(set) => sets.push(set)?,
+            Some(set) => {
+                budget.add(set.weight());
+                if budget.is_within() {
+                    sets.push(set)?;
+                }
+            }
             None => return Ok(None),
         }
     }
@@ -104,7 +126,7 @@ fn ref_list_at(
 }
 
 // So many members from a place on, by their numbers, which are below the limit, with their sets, or `None` where they do
-// not stand there.
+// not stand there. They are whole while the budget lasts.
 fn member_sets_at(
     alloc: Global,
     frame: &Frame<'_>,
@@ -112,10 +134,12 @@ fn member_sets_at(
     at: usize,
     count: u32,
     limit: usize,
+    budget: &mut Budget,
 ) -> Result<Option<Vec<(u32, AnnotationSet)>>, AllocError>
     requires within { at + 8 * count ≤ length frame.now }
     requires fits { at < 2 ^ 40 }
-    ensures { AreFilePools frame.now pools.now → IfOk result (λ found. MatchOption found (NoPairsAt SetAt frame.now at count limit) (λ members. ArePairsAt (IsKnownSet pools.now) (set_in pools.now) SetAt frame.now at count limit (map member_set_of members.items))) }
+    ensures most { budget.new.most ≡ budget.old.most }
+    ensures read { AreFilePools frame.now pools.now → IfOk result (λ found. MatchOption found (NoPairsAt SetAt frame.now at count limit) (λ members. IsKept (ArePairsAt (IsKnownSet pools.now) (set_in pools.now) SetAt frame.now at count limit) (sum_by (λ e. set_weight_in pools.now e.1)) budget.old.most budget.old.weight budget.new.weight (map member_set_of members.items))) }
 {
     let mut members = Vec::new(alloc);
     let mut least = 0;
@@ -127,7 +151,10 @@ fn member_sets_at(
         match set_at(alloc, frame, pools, off)? {
             Some(set) => {
                 least = u64::from(number) + 1;
-                members.push((number, set))?;
+                budget.add(set.weight());
+                if budget.is_within() {
+                    members.push((number, set))?;
+                }
             }
             None => return Ok(None),
         }
@@ -136,7 +163,7 @@ fn member_sets_at(
 }
 
 // So many members from a place on, by their numbers, which are below the limit, with the sets of their parameters, or
-// `None` where they do not stand there.
+// `None` where they do not stand there. They are whole while the budget lasts.
 fn member_lists_at(
     alloc: Global,
     frame: &Frame<'_>,
@@ -144,10 +171,12 @@ fn member_lists_at(
     at: usize,
     count: u32,
     limit: usize,
+    budget: &mut Budget,
 ) -> Result<Option<Vec<(u32, Vec<AnnotationSet>)>>, AllocError>
     requires within { at + 8 * count ≤ length frame.now }
     requires fits { at < 2 ^ 40 }
-    ensures { AreFilePools frame.now pools.now → IfOk result (λ found. MatchOption found (NoPairsAt RefListAt frame.now at count limit) (λ members. ArePairsAt (All (IsKnownSet pools.now)) (map (set_in pools.now)) RefListAt frame.now at count limit (map member_list_of members.items))) }
+    ensures most { budget.new.most ≡ budget.old.most }
+    ensures read { AreFilePools frame.now pools.now → IfOk result (λ found. MatchOption found (NoPairsAt RefListAt frame.now at count limit) (λ members. IsKept (ArePairsAt (All (IsKnownSet pools.now)) (map (set_in pools.now)) RefListAt frame.now at count limit) (sum_by (λ e. sets_weight_in pools.now e.1)) budget.old.most budget.old.weight budget.new.weight (map member_list_of members.items))) }
 {
     let mut members = Vec::new(alloc);
     let mut least = 0;
@@ -156,10 +185,12 @@ fn member_lists_at(
             Some(pair) => pair,
             None => return Ok(None),
         };
-        match ref_list_at(alloc, frame, pools, off)? {
+        match ref_list_at(alloc, frame, pools, off, budget)? {
             Some(sets) => {
                 least = u64::from(number) + 1;
-                members.push((number, sets))?;
+                if budget.is_within() {
+                    members.push((number, sets))?;
+                }
             }
             None => return Ok(None),
         }
@@ -167,14 +198,16 @@ fn member_lists_at(
     Ok(Some(members))
 }
 
-// The directory of the annotations_directory_item at an offset, or `None` where none stands there.
+// The directory of the annotations_directory_item at an offset, whole where its sets weigh at most so much, and what
+// they weigh, or `None` where none stands there.
 fn directory_at(
     alloc: Global,
     frame: &Frame<'_>,
     pools: &Pools<'_>,
     off: u32,
-) -> Result<Option<Directory>, AllocError>
-    ensures { AreFilePools frame.now pools.now → IfOk result (λ found. MatchOption found (NoDirectoryAt frame.now off) (λ directory. IsDirectoryAt frame.now off pools.now (directory_of directory))) }
+    most: u64,
+) -> Result<Option<(Directory, u64)>, AllocError>
+    ensures { AreFilePools frame.now pools.now → IfOk result (λ found. MatchOption found (NoDirectoryAt frame.now off) (λ read. IsKept (IsDirectoryAt frame.now off pools.now) (λ d. directory_weight (directory_in pools.now d)) most 0 read.1 (directory_of read.0))) }
 {
     let counts = match counts_at(frame, off) {
         Some(counts) => counts,
@@ -186,32 +219,67 @@ fn directory_at(
         Some(own) => own,
         None => return Ok(None),
     };
+    let mut budget = Budget { weight: 0, most };
+    budget.add(own.weight());
+    let own = if budget.is_within() {
+        own
+    } else {
+        AnnotationSet::empty(alloc)
+    };
     let fields_at = off as usize + 16;
     let limit = pools.len(SymbolKind::Field);
-    let fields = match member_sets_at(alloc, frame, pools, fields_at, counts.fields, limit)? {
+    let fields = match member_sets_at(
+        alloc,
+        frame,
+        pools,
+        fields_at,
+        counts.fields,
+        limit,
+        &mut budget,
+    )? {
         Some(fields) => fields,
         None => return Ok(None),
     };
     let methods_at = fields_at + 8 * counts.fields as usize;
     let limit = pools.len(SymbolKind::Method);
-    let methods = match member_sets_at(alloc, frame, pools, methods_at, counts.methods, limit)? {
+    let methods = match member_sets_at(
+        alloc,
+        frame,
+        pools,
+        methods_at,
+        counts.methods,
+        limit,
+        &mut budget,
+    )? {
         Some(methods) => methods,
         None => return Ok(None),
     };
     let parameters_at = methods_at + 8 * counts.methods as usize;
-    match member_lists_at(alloc, frame, pools, parameters_at, counts.parameters, limit)? {
-        Some(parameters) => Ok(Some(Directory {
-            own,
-            fields,
-            methods,
-            parameters,
-        })),
-        None => Ok(None),
-    }
+    let parameters = match member_lists_at(
+        alloc,
+        frame,
+        pools,
+        parameters_at,
+        counts.parameters,
+        limit,
+        &mut budget,
+    )? {
+        Some(parameters) => parameters,
+        None => return Ok(None),
+    };
+    let directory = Directory {
+        own,
+        fields,
+        methods,
+        parameters,
+    };
+    Ok(Some((directory, budget.weight)))
 }
 
 /// Reads the annotations_directory_item at an offset, and the sets that it leads to. Its indices count in the pools:
 /// those of the file. Whether the members are those of the class is not judged.
+///
+/// Each place that names a set has it anew: see [`read_directory_within`] for a bound on what is kept.
 ///
 /// Error: `Refused(22)` exactly where no such directory stands there: the item is not wholly in the data at a multiple
 /// of 4, a member has an offset of 0, an index that is out of range or not greater than the one before it, or no set
@@ -228,8 +296,36 @@ pub fn read_directory(
     ensures refused { ArePools frame.now pools.now → IfErr result (IsDirectoryFault frame.now off) }
 {
     pools.numbering().is_numbering();
-    match directory_at(alloc, frame, pools, off)? {
-        Some(directory) => Ok(directory),
+    match directory_at(alloc, frame, pools, off, u64::MAX)? {
+        Some((directory, _)) => Ok(directory),
+        None => Err(ItemFault::Refused(22)),
+    }
+}
+
+/// Reads the annotations_directory_item at an offset, as [`read_directory`] does, where its sets and lists of sets
+/// weigh at most `most` together, in the bytes of [`AnnotationSet::weight`] and of
+/// [`parameter_sets_weight`](crate::parameter_sets_weight). `None` says that a directory stands there and that they
+/// weigh more. A bound of 2^64 - 1 is none.
+///
+/// Each place that names a set counts it anew. What is kept at a time weighs at most `most`, beside one set: from the
+/// set on with which it would weigh more, the others are judged and not kept.
+///
+/// Error: as of [`read_directory`].
+///
+/// Source: "annotations_directory_item" and "annotation_set_ref_list".
+pub fn read_directory_within(
+    alloc: Global,
+    frame: &Frame<'_>,
+    pools: &Pools<'_>,
+    off: u32,
+    most: u64,
+) -> Result<Option<Directory>, ItemFault>
+    ensures directory { ArePools frame.now pools.now → IfOk result (λ found. MatchOption found (HasHeavyDirectory frame.now off most) (λ directory. IsDirectoryWithin frame.now off pools.now most (directory_of directory))) }
+    ensures refused { ArePools frame.now pools.now → IfErr result (IsDirectoryFault frame.now off) }
+{
+    pools.numbering().is_numbering();
+    match directory_at(alloc, frame, pools, off, most)? {
+        Some((directory, weight)) => Ok((weight <= most).then_some(directory)),
         None => Err(ItemFault::Refused(22)),
     }
 }

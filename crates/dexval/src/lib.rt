@@ -8,7 +8,7 @@
 
 pub use annotation::{Annotation, Visibility};
 pub use directory::Directory;
-pub use directory_reading::read_directory;
+pub use directory_reading::{read_directory, read_directory_within};
 pub use fitting::values_fit;
 pub use laws::{counts_law, marks_law, places_law, renumber_law, same_law, uses_law};
 pub use marking::mark_values;
@@ -24,6 +24,7 @@ pub use value_reading::{read_statics, read_value};
 pub use weight::{parameter_sets_weight, statics_weight};
 
 mod annotation;
+mod budget;
 mod copying;
 mod directory;
 mod directory_reading;

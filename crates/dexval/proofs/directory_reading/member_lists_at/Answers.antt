@@ -1,21 +1,26 @@
-use Rattle.std.proofs.Common.{◌≡◌, ◌+◌, ◌++◌, ◌∷◌, ◌∙◌, ℕ, List, [], map, sym, ap, subst, arith}
+use Rattle.std.proofs.Common.{◌≡◌, ◌+◌, ◌*◌, ◌++◌, ◌∷◌, ◌∙◌, ◌≤◌, ℕ, List, [], map, sum_by, refl, ap, subst, arith}
 use Rattle.std.specs.Prelude.{All}
 use Rattle.std.proofs.lemmas.List.{map-append}
+use Rattle.dexspec.specs.Bytes.{uint_at}
 use Rattle.dexspec.specs.Annotations.{AnnotationSet, RefListAt}
 use Rattle.dexval.specs.Code.{set_of}
 use Rattle.dexval.specs.Numbered.{NumberedSet, IsKnownSet, set_in}
-use Rattle.dexval.specs.Directories.{member_list_of}
+use Rattle.dexval.specs.Directories.{ArePairsAt, member_list_of, sets_weight_in}
 use Rattle.dexval.proofs.DirectoryRead.{HaveReadPairs, one_pair_more, no_pair_next, no_item_next, pairs_end}
+use Rattle.dexval.proofs.Keeping.{one_kept, kept_as, members_add, not_within}
+use Rattle.dexval.proofs.directory_reading.member_lists_at.Goals.{then-is_within+in_ok-push-in-Some-2, else-is_within}
 use Rattle.dexval.proofs.directory_reading.member_lists_at.Goals as goal
 
-pub returns-in-None : goal.returns-in-None
-returns-in-None c = λ p.
-    no_pair_next (All (IsKnownSet c.args.pools.now)) (map (set_in c.args.pools.now)) RefListAt c.args.frame.now c.args.at c.args.count c.args.limit c.loop-i.i c.loop-i.least (map member_list_of c.loop-i.members.items) (omega arith) (c.loop-i.invariant.read p) c.in-None.ensures
+pub returns-in-None-clause-read : goal.returns-in-None-clause-read
+returns-in-None-clause-read c = λ p.
+    let m = c.args.pools.now in
+    let h = c.loop-i.invariant.read p in
+    no_pair_next (All (IsKnownSet m)) (map (set_in m)) RefListAt c.args.frame.now c.args.at c.args.count c.args.limit c.loop-i.i c.loop-i.least h.item (omega arith) h.is_read c.in-None.ensures
 
-pub returns-in-None-2 : goal.returns-in-None-2
-returns-in-None-2 c = λ p.
+pub returns-in-None-2-clause-read : goal.returns-in-None-2-clause-read
+returns-in-None-2-clause-read c = λ p.
     let b = c.args.frame.now in
-    let h = c.in_ok-sets.ensures p in
+    let h = c.in_ok-sets.ensures.read p in
     let none = rw c.in-None-2.is at h in
     no_item_next RefListAt b c.args.at c.args.count c.args.limit c.loop-i.i (omega arith) (subst (λ (o : ℕ). (y : List AnnotationSet) → RefListAt b o y → ⊥) c.in-Some.ensures.2 none)
 
@@ -23,23 +28,38 @@ pub loop-i-preserved : goal.loop-i-preserved
 loop-i-preserved c =
     let b = c.args.frame.now in
     let m = c.args.pools.now in
+    let most = c.args.budget.now.most in
+    let new = c.ref_list_at.new.budget.weight in
     let number = c.in-Some.pair.0 in
     let item = map set_of c.in-Some-2.sets.items in
     let old = map member_list_of c.loop-i.members.items in
-    let Read = HaveReadPairs (All (IsKnownSet m)) (map (set_in m)) RefListAt b c.args.at c.args.limit (c.loop-i.i + 1) in
-    let next : number ≡ c.from-least.result = omega (arith, c.from-least.ensures) in
-    let items : map member_list_of c.push.new.self.items ≡ old ++ (number, item) ∷ [] = ap (map member_list_of) c.in_ok-push-in-Some-2.ensures.items ∙ map-append member_list_of c.loop-i.members.items ((number, c.in-Some-2.sets) ∷ []) in
+    let next = map member_list_of c.if-is_within.members.items in
+    let Read = HaveReadPairs (All (IsKnownSet m)) (map (set_in m)) RefListAt b c.args.at c.args.limit in
+    let least : number ≡ c.from-least.result = omega (arith, c.from-least.ensures) in
+    let bound : c.ref_list_at.new.budget.most ≡ most = c.in_ok-sets.ensures.most ∙ c.loop-i.invariant.bound in
+    let pushed : new ≤ most → next ≡ old ++ (number, item) ∷ [] = λ le. elim c.if-is_within.branch [
+      | then-is_within+in_ok-push-in-Some-2 w ↦
+          ap (map member_list_of) (ap (λ v. v.items) w.members-is ∙ w.in_ok-push-in-Some-2.ensures.items) ∙ map-append member_list_of c.loop-i.members.items ((number, c.in-Some-2.sets) ∷ [])
+      | else-is_within w ↦ absurd (not_within c.is_within.result c.is_within.ensures w.if-is_within.false (omega (arith, le, bound)))
+    ] in
     record {
       least_fits = omega (arith, c.from-least.ensures);
+      bound = bound;
       read = λ p.
-          let h = c.in_ok-sets.ensures p in
+          let h = c.in_ok-sets.ensures.read p in
           let r = rw c.in-Some-2.is at h in
-          subst (λ (x : ℕ). Read (x + 1) (map member_list_of c.push.new.self.items)) next
-          (subst (λ (l : List (ℕ × List NumberedSet)). Read (number + 1) l) (sym items)
-          (one_pair_more (All (IsKnownSet m)) (map (set_in m)) RefListAt b c.args.at c.args.limit c.loop-i.i c.loop-i.least old number item (c.loop-i.invariant.read p) c.in-Some.ensures.0 c.in-Some.ensures.1 r.known
-          (subst (λ (o : ℕ). RefListAt b o (map (set_in m) item)) c.in-Some.ensures.2 r.at)));
+          let stands : RefListAt b (uint_at b (c.args.at + 8 * c.loop-i.i + 4)) (map (set_in m) r.item) = subst (λ (o : ℕ). RefListAt b o (map (set_in m) r.item)) c.in-Some.ensures.2 r.is_read.at in
+          one_kept (Read c.loop-i.i c.loop-i.least) (Read (c.loop-i.i + 1) (c.from-least.result + 1)) (sum_by (λ (e : ℕ × List NumberedSet). sets_weight_in m e.1)) (λ (e : ℕ × List NumberedSet). sets_weight_in m e.1) most c.args.budget.now.weight c.loop-i.budget.weight new old next
+          (number, r.item) (number, item)
+          (λ xs k. subst (λ (x : ℕ). Read (c.loop-i.i + 1) (x + 1) (xs ++ (number, r.item) ∷ [])) least
+          (one_pair_more (All (IsKnownSet m)) (map (set_in m)) RefListAt b c.args.at c.args.limit c.loop-i.i c.loop-i.least xs number r.item k c.in-Some.ensures.0 c.in-Some.ensures.1 r.is_read.known stands))
+          (members_add (sets_weight_in m) (number, r.item)) (c.loop-i.invariant.read p) r.grown (λ le. ap (λ (x : List NumberedSet). (number, x)) (r.whole (omega (arith, le, c.loop-i.invariant.bound)))) pushed;
     }
 
-pub returns : goal.returns
-returns c = λ p.
-    pairs_end (All (IsKnownSet c.args.pools.now)) (map (set_in c.args.pools.now)) RefListAt c.args.frame.now c.args.at c.args.count c.args.limit c.loop-i.i c.loop-i.least (map member_list_of c.loop-i.members.items) (omega arith) (c.loop-i.invariant.read p)
+pub returns-clause-read : goal.returns-clause-read
+returns-clause-read c = λ p.
+    let b = c.args.frame.now in
+    let m = c.args.pools.now in
+    kept_as (HaveReadPairs (All (IsKnownSet m)) (map (set_in m)) RefListAt b c.args.at c.args.limit c.loop-i.i c.loop-i.least) (ArePairsAt (All (IsKnownSet m)) (map (set_in m)) RefListAt b c.args.at c.args.count c.args.limit)
+    (sum_by (λ (e : ℕ × List NumberedSet). sets_weight_in m e.1)) (sum_by (λ (e : ℕ × List NumberedSet). sets_weight_in m e.1)) c.args.budget.now.most c.args.budget.now.weight c.loop-i.budget.weight (map member_list_of c.loop-i.members.items)
+    (λ xs k. pairs_end (All (IsKnownSet m)) (map (set_in m)) RefListAt b c.args.at c.args.count c.args.limit c.loop-i.i c.loop-i.least xs (omega arith) k) (λ xs k. refl) (c.loop-i.invariant.read p)

@@ -1,18 +1,23 @@
-use Rattle.std.proofs.Common.{◌≡◌, ◌+◌, ◌++◌, ◌∷◌, ◌∙◌, ℕ, List, [], map, sym, ap, subst, arith}
+use Rattle.std.proofs.Common.{◌≡◌, ◌+◌, ◌*◌, ◌++◌, ◌∷◌, ◌∙◌, ◌≤◌, ℕ, [], map, sum_by, refl, ap, subst, arith}
 use Rattle.std.proofs.lemmas.List.{map-append}
+use Rattle.dexspec.specs.Bytes.{uint_at}
 use Rattle.dexspec.specs.Annotations.{AnnotationSet, SetAt}
 use Rattle.dexval.specs.Code.{set_of}
 use Rattle.dexval.specs.Numbered.{NumberedSet, IsKnownSet, set_in}
-use Rattle.dexval.specs.Directories.{member_set_of}
+use Rattle.dexval.specs.Directories.{ArePairsAt, member_set_of, set_weight_in}
 use Rattle.dexval.proofs.DirectoryRead.{HaveReadPairs, one_pair_more, no_pair_next, no_item_next, pairs_end}
+use Rattle.dexval.proofs.Keeping.{one_kept, kept_as, members_add, not_within}
+use Rattle.dexval.proofs.directory_reading.member_sets_at.Goals.{then-is_within+in_ok-push-in-Some-2, else-is_within}
 use Rattle.dexval.proofs.directory_reading.member_sets_at.Goals as goal
 
-pub returns-in-None : goal.returns-in-None
-returns-in-None c = λ p.
-    no_pair_next (IsKnownSet c.args.pools.now) (set_in c.args.pools.now) SetAt c.args.frame.now c.args.at c.args.count c.args.limit c.loop-i.i c.loop-i.least (map member_set_of c.loop-i.members.items) (omega arith) (c.loop-i.invariant.read p) c.in-None.ensures
+pub returns-in-None-clause-read : goal.returns-in-None-clause-read
+returns-in-None-clause-read c = λ p.
+    let m = c.args.pools.now in
+    let h = c.loop-i.invariant.read p in
+    no_pair_next (IsKnownSet m) (set_in m) SetAt c.args.frame.now c.args.at c.args.count c.args.limit c.loop-i.i c.loop-i.least h.item (omega arith) h.is_read c.in-None.ensures
 
-pub returns-in-None-2 : goal.returns-in-None-2
-returns-in-None-2 c = λ p.
+pub returns-in-None-2-clause-read : goal.returns-in-None-2-clause-read
+returns-in-None-2-clause-read c = λ p.
     let b = c.args.frame.now in
     let h = c.in_ok-set.ensures p in
     let none = rw c.in-None-2.is at h in
@@ -22,23 +27,38 @@ pub loop-i-preserved : goal.loop-i-preserved
 loop-i-preserved c =
     let b = c.args.frame.now in
     let m = c.args.pools.now in
+    let most = c.args.budget.now.most in
+    let new = c.add.new.self.weight in
     let number = c.in-Some.pair.0 in
     let item = set_of c.in-Some-2.set in
     let old = map member_set_of c.loop-i.members.items in
-    let Read = HaveReadPairs (IsKnownSet m) (set_in m) SetAt b c.args.at c.args.limit (c.loop-i.i + 1) in
-    let next : number ≡ c.from-least.result = omega (arith, c.from-least.ensures) in
-    let items : map member_set_of c.push.new.self.items ≡ old ++ (number, item) ∷ [] = ap (map member_set_of) c.in_ok-push-in-Some-2.ensures.items ∙ map-append member_set_of c.loop-i.members.items ((number, c.in-Some-2.set) ∷ []) in
+    let next = map member_set_of c.if-is_within.members.items in
+    let Read = HaveReadPairs (IsKnownSet m) (set_in m) SetAt b c.args.at c.args.limit in
+    let least : number ≡ c.from-least.result = omega (arith, c.from-least.ensures) in
+    let bound : c.add.new.self.most ≡ most = c.add.ensures.most ∙ c.loop-i.invariant.bound in
+    let pushed : new ≤ most → next ≡ old ++ (number, item) ∷ [] = λ le. elim c.if-is_within.branch [
+      | then-is_within+in_ok-push-in-Some-2 w ↦
+          ap (map member_set_of) (ap (λ v. v.items) w.members-is ∙ w.in_ok-push-in-Some-2.ensures.items) ∙ map-append member_set_of c.loop-i.members.items ((number, c.in-Some-2.set) ∷ [])
+      | else-is_within w ↦ absurd (not_within c.is_within.result c.is_within.ensures w.if-is_within.false (omega (arith, le, bound)))
+    ] in
     record {
       least_fits = omega (arith, c.from-least.ensures);
+      bound = bound;
       read = λ p.
           let h = c.in_ok-set.ensures p in
           let r = rw c.in-Some-2.is at h in
-          subst (λ (x : ℕ). Read (x + 1) (map member_set_of c.push.new.self.items)) next
-          (subst (λ (l : List (ℕ × NumberedSet)). Read (number + 1) l) (sym items)
-          (one_pair_more (IsKnownSet m) (set_in m) SetAt b c.args.at c.args.limit c.loop-i.i c.loop-i.least old number item (c.loop-i.invariant.read p) c.in-Some.ensures.0 c.in-Some.ensures.1 r.known
-          (subst (λ (o : ℕ). SetAt b o (set_in m item)) c.in-Some.ensures.2 r.at)));
+          let stands : SetAt b (uint_at b (c.args.at + 8 * c.loop-i.i + 4)) (set_in m item) = subst (λ (o : ℕ). SetAt b o (set_in m item)) c.in-Some.ensures.2 r.at in
+          one_kept (Read c.loop-i.i c.loop-i.least) (Read (c.loop-i.i + 1) (c.from-least.result + 1)) (sum_by (λ (e : ℕ × NumberedSet). set_weight_in m e.1)) (λ (e : ℕ × NumberedSet). set_weight_in m e.1) most c.args.budget.now.weight c.loop-i.budget.weight new old next
+          (number, item) (number, item)
+          (λ xs k. subst (λ (x : ℕ). Read (c.loop-i.i + 1) (x + 1) (xs ++ (number, item) ∷ [])) least
+          (one_pair_more (IsKnownSet m) (set_in m) SetAt b c.args.at c.args.limit c.loop-i.i c.loop-i.least xs number item k c.in-Some.ensures.0 c.in-Some.ensures.1 r.known stands))
+          (members_add (set_weight_in m) (number, item)) (c.loop-i.invariant.read p) (omega (arith, c.add.ensures.weight, c.weight.ensures m)) (λ le. refl) pushed;
     }
 
-pub returns : goal.returns
-returns c = λ p.
-    pairs_end (IsKnownSet c.args.pools.now) (set_in c.args.pools.now) SetAt c.args.frame.now c.args.at c.args.count c.args.limit c.loop-i.i c.loop-i.least (map member_set_of c.loop-i.members.items) (omega arith) (c.loop-i.invariant.read p)
+pub returns-clause-read : goal.returns-clause-read
+returns-clause-read c = λ p.
+    let b = c.args.frame.now in
+    let m = c.args.pools.now in
+    kept_as (HaveReadPairs (IsKnownSet m) (set_in m) SetAt b c.args.at c.args.limit c.loop-i.i c.loop-i.least) (ArePairsAt (IsKnownSet m) (set_in m) SetAt b c.args.at c.args.count c.args.limit)
+    (sum_by (λ (e : ℕ × NumberedSet). set_weight_in m e.1)) (sum_by (λ (e : ℕ × NumberedSet). set_weight_in m e.1)) c.args.budget.now.most c.args.budget.now.weight c.loop-i.budget.weight (map member_set_of c.loop-i.members.items)
+    (λ xs k. pairs_end (IsKnownSet m) (set_in m) SetAt b c.args.at c.args.count c.args.limit c.loop-i.i c.loop-i.least xs (omega arith) k) (λ xs k. refl) (c.loop-i.invariant.read p)

@@ -1,0 +1,27 @@
+//! How much of what is read may be kept.
+
+ghost use Rattle.std.specs.Prelude.{◌≡◌, ◌↔◌, ◌+◌, ◌-◌, ◌^◌, ◌≤◌, min, IsTrue};
+
+/// What was read so far weighs `weight`, or 2^64 - 1 where that is more. It is kept while that is at most `most`.
+#[derive(Drop)]
+pub(crate) struct Budget {
+    pub(crate) weight: u64,
+    pub(crate) most: u64,
+}
+
+impl Budget {
+    /// Counts what else was read.
+    pub(crate) fn add(&mut self, weight: u64)
+        ensures weight { self.new.weight ≡ min (2 ^ 64 - 1) (self.old.weight + weight) }
+        ensures most { self.new.most ≡ self.old.most }
+    {
+        self.weight = self.weight.saturating_add(weight);
+    }
+
+    /// Whether all that was read may be kept.
+    pub(crate) fn is_within(&self) -> bool
+        ensures { IsTrue result ↔ (self.now.weight ≤ self.now.most) }
+    {
+        self.weight <= self.most
+    }
+}

@@ -4,3 +4,4 @@ pub mod Weight
 pub mod ClassData
 pub mod MethodCodes
 pub mod Reading
+pub mod Attaching

@@ -4,6 +4,7 @@
 //! "encoded_method format" and "annotations_directory_item".
 #![tactic(auto)]
 
+mod attaching;
 mod class_data;
 mod codes;
 mod members;

@@ -1,3 +1,4 @@
 mod Taken
 mod Meant
 mod Entered
+mod Judged

@@ -1,5 +1,5 @@
 -- The entries of a directory that was read are in the order of their numbers.
-use Rattle.std.proofs.Common.{◌≡◌, ℕ, ◌+◌, ◌*◌, ◌<◌, true, List, [], ◌∷◌, length, get_or, map, refl, sym, ap, ◌∙◌, subst, Ordering, Equal}
+use Rattle.std.proofs.Common.{◌≡◌, ℕ, ◌+◌, ◌*◌, ◌<◌, true, List, [], ◌∷◌, length, get_or, map, refl, sym, ap, ◌∙◌, subst, Ordering}
 use Rattle.std.specs.Prelude.{All}
 use Rattle.std.specs.List.{AllZip}
 use Rattle.std.specs.Ordering.{nat_cmp}
@@ -8,18 +8,17 @@ use Rattle.std.specs.FinMap.{nat_cmp-IsAntisymmetric}
 use Rattle.std.proofs.lemmas.Cmp.{tied_itself}
 use Rattle.std.proofs.lemmas.List.Elements.{All-head, All-tail}
 use Rattle.dexspec.specs.Lists.{rises}
-use Rattle.dexspec.specs.Symbols.{Field, Method, field_cmp, method_cmp}
+use Rattle.dexspec.specs.Symbols.{field_cmp, method_cmp}
 use Rattle.dexspec.specs.Header.{FieldIds, MethodIds, table_size}
 use Rattle.dexspec.specs.Rows.{FieldRow, MethodRow}
-use Rattle.dexspec.specs.Annotations.{PairAt, PairsAt, pairs_at, DirectoryAt, SetAt, RefListAt, fields_count, methods_count, parameters_count}
+use Rattle.dexspec.specs.Annotations.{PairAt, PairsAt, pairs_at, SetAt, RefListAt, fields_count, methods_count, parameters_count}
 use Rattle.dexspec.specs.Mentions.{Mentions}
 use Rattle.dexspec.proofs.OneRow.{one_field, one_method}
 use Rattle.dexspec.proofs.SymbolOrders.{field_total, method_total}
 use Rattle.dexpool.specs.Numberings.{AreRising}
 use Rattle.dexpool.specs.Pools.{AreAll, ArePools}
 use Rattle.dexpool.proofs.NumberOrder.{places_agree}
-use Rattle.dexval.specs.Code.{directory_of}
-use Rattle.dexval.specs.Numbered.{NumberedSet, NumberedDirectory, IsKnownDirectory, IsKnownSet, directory_in, set_in}
+use Rattle.dexval.specs.Numbered.{NumberedDirectory, set_in}
 use Rattle.dexval.specs.Reading.{IsDirectoryAt}
 use Rattle.dexmembers.specs.Attaching.{EntriesRise}
 

@@ -1,5 +1,5 @@
 -- The conditions of class data and code at a row: what was read meets them, and what was refused fails one.
-use Rattle.std.proofs.Common.{◌≡◌, ◌≢◌, ℕ, ◌+◌, ◌≤◌, List, [], ◌∷◌, ◌++◌, map, refl, sym, subst, arith, inl, inr, Option, Some, None}
+use Rattle.std.proofs.Common.{◌≡◌, ◌≢◌, ℕ, ◌+◌, List, [], ◌∷◌, map, subst, arith, inl, inr, Option, Some, None}
 use Rattle.std.specs.Prelude.{All}
 use Rattle.std.specs.List.{Contains}
 use Rattle.std.proofs.lemmas.List.Elements.{All-nil, All-cons, All-append, All-contains, Contains-append_left, Contains-append_right}
@@ -10,7 +10,7 @@ use Rattle.dexspec.specs.Debug.{Debug, DebugAt}
 use Rattle.dexspec.specs.Code.{Code, CodeAt, TriesAt}
 use Rattle.dexspec.specs.ClassData.{ClassData, ClassDataAt, no_class_data, EncodedMethod, methods_of}
 use Rattle.dexspec.specs.Classes.{class_data_off}
-use Rattle.dexspec.specs.Conditions.{Condition, number}
+use Rattle.dexspec.specs.Conditions.{Condition}
 use Rattle.dexspec.specs.Accepted.{Declares, AllCode, HasPiecesAt, HasTriesAt, HasDebugAt, HasCode, HasTries, HasDebug}
 use Rattle.dexspec.specs.Mentions.{Mentions}
 use Rattle.dexspec.proofs.Depths.{Contains-map}
@@ -21,7 +21,7 @@ use Rattle.dexpool.specs.declared.faults.ItemFault.{ItemFault}
 use Rattle.dexpool.specs.declared.faults.ItemFault.TheVariants.{Refused, Memory}
 use Rattle.dexcode.specs.Reading.{IsCodeFault}
 use Rattle.dexmembers.specs.ClassData.{encoded_method_in, class_data_in, IsDataOf, IsDataFault}
-use Rattle.dexmembers.specs.MethodCodes.{AreCodesAt, HasRefusedCode, IsCodesFault}
+use Rattle.dexmembers.specs.MethodCodes.{AreCodesAt, IsCodesFault}
 use Rattle.dexmembers.specs.Reading.{IsMembersFault}
 use Rattle.dexmembers.specs.declared.class_data.EncodedMethod.{EncodedMethod as MethodRead}
 use Rattle.dexmembers.specs.declared.class_data.ClassData.{ClassData as DataRead}

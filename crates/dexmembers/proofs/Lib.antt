@@ -2,3 +2,4 @@ mod Taken
 mod Meant
 mod Entered
 mod Judged
+mod Named

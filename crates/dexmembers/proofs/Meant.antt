@@ -1,5 +1,5 @@
 -- Members put together stand for what the row declares.
-use Rattle.std.proofs.Common.{◌≡◌, ℕ, ◌<◌, Bool, true, false, cond, List, [], ◌∷◌, ◌++◌, length, get_or, map, refl, sym, ap, ◌∙◌, subst, arith, Option, Some, None, Ordering}
+use Rattle.std.proofs.Common.{◌≡◌, ℕ, ◌<◌, Bool, true, false, cond, List, [], ◌∷◌, length, get_or, map, refl, sym, ap, ◌∙◌, subst, Option, Some, None, Ordering}
 use Rattle.std.specs.Prelude.{All, IfSome, unwrap_or}
 use Rattle.std.specs.List.{AllZip}
 use Rattle.std.specs.Option.{option_map}
@@ -18,13 +18,13 @@ use Rattle.dexpool.specs.Numberings.{AreRising}
 use Rattle.dexpool.proofs.NumberOrder.{places_agree}
 use Rattle.dexcode.specs.Numbered.{NumberedItem, StandsForCode}
 use Rattle.dexcode.specs.Meaning.{code_in, IsKnownCode}
-use Rattle.dexval.specs.Code.{set_of, directory_of}
-use Rattle.dexval.specs.Numbered.{NumberedAnnotation, NumberedSet, IsKnownAnnotation, IsKnownSet, IsKnownDirectory, annotation_in, set_in, directory_in, field_at, method_at}
+use Rattle.dexval.specs.Code.{directory_of}
+use Rattle.dexval.specs.Numbered.{NumberedSet, IsKnownAnnotation, IsKnownSet, IsKnownDirectory, annotation_in, set_in, directory_in, field_at, method_at}
 use Rattle.dexval.specs.declared.directory.Directory.{Directory as DirectoryRead}
-use Rattle.dexmembers.specs.Numbered.{NumberedField, NumberedMethod, IsKnownField, IsKnownMethod, field_in, method_in}
+use Rattle.dexmembers.specs.Numbered.{IsKnownField, IsKnownMethod, field_in, method_in}
 use Rattle.dexmembers.specs.ClassData.{encoded_field_in, encoded_method_in}
 use Rattle.dexmembers.specs.MethodCodes.{AreCodesAt}
-use Rattle.dexmembers.specs.Attaching.{sets_of, field_with, method_with}
+use Rattle.dexmembers.specs.Attaching.{field_with, method_with}
 use Rattle.dexmembers.specs.declared.class_data.EncodedField.{EncodedField as FieldRead}
 use Rattle.dexmembers.specs.declared.class_data.EncodedMethod.{EncodedMethod as MethodRead}
 

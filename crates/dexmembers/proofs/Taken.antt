@@ -1,9 +1,9 @@
 -- Entries by number: a search among them, and what is taken out of them.
 use Rattle.std.proofs.Common.{◌≡◌, ◌≢◌, ℕ, zero, suc, ◌+◌, ◌<◌, ◌≤◌, Bool, true, false, cond, List, [], ◌∷◌, ◌++◌, length, get_or, map, length-take, refl, sym, ap, ◌∙◌, subst, arith, inl, inr, Option, Some, None, Ordering, Less, Equal, Greater}
-use Rattle.std.specs.Prelude.{slice_set, unwrap_or, Result, Ok, Err, MatchOption, take, drop, option_to_list}
+use Rattle.std.specs.Prelude.{IsTrue, slice_set, unwrap_or, Result, Ok, Err, MatchOption, take, drop, option_to_list}
 use Rattle.std.specs.List.{Contains, HoldsAt}
 use Rattle.std.specs.List.Sorted.{IsNonDecreasingBy, IsPartitionPoint, IsSearchInRange, IsBinarySearchResult}
-use Rattle.std.specs.Result.{result_ok}
+use Rattle.std.specs.Result.{result_ok, is_ok}
 use Rattle.std.specs.Option.{IsSome, option_flatten}
 use Rattle.std.proofs.lemmas.List.Elements.{Contains-append_left, Contains-append_right}
 use Rattle.std.specs.Ordering.{nat_cmp, is_eq, ordering_index}
@@ -245,3 +245,9 @@ pub rest_size : {B : Type 0} (o : Option B) (all rest : List B) (before after : 
 rest_size o all rest before after e len size =
     let n : length all ≡ length (option_to_list o) + length rest = ap length e ∙ length-append (option_to_list o) rest in
     omega (arith, n, len, size)
+
+-- whether a search by a key finds something
+pub index_searched : {T : Type 0} (key : T → ℕ) (xs : List T) (n : ℕ) (r : Result ℕ ℕ) → IsSearchInRange r (length xs) → IsBinarySearchResult (λ (x : T). nat_cmp (key x) n) xs r
+    → (IsTrue (is_ok r) → Contains (map key xs) n) × (NumbersRise (map key xs) → Contains (map key xs) n → IsTrue (is_ok r))
+index_searched key xs n (Ok at) bound h = ((λ e. key_among key xs n at bound (key_found key xs n at h)), (λ rise c. refl))
+index_searched key xs n (Err i) bound h = ((λ e. absurd (let f : false ≡ true = e in cc)), (λ rise c. absurd (key_not_among key xs n (key_missed key xs n i (h (keys_searched key xs n rise))) c)))

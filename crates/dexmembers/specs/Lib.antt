@@ -5,3 +5,4 @@ pub mod ClassData
 pub mod MethodCodes
 pub mod Reading
 pub mod Attaching
+pub mod Naming

@@ -8,6 +8,7 @@ mod attaching;
 mod class_data;
 mod codes;
 mod members;
+mod naming;
 mod reading;
 
 pub use members::{Field, Members, Method};

@@ -3,3 +3,5 @@ mod Meant
 mod Entered
 mod Judged
 mod Named
+mod Made
+mod OfClass

@@ -19,3 +19,10 @@ pub mod RenumberingSteps
 pub mod SameMembers
 pub mod StaticValuesRead
 pub mod Weighed
+mod Taken
+mod Meant
+mod Entered
+mod Judged
+mod Named
+mod Made
+mod OfClass

@@ -11,3 +11,5 @@ pub mod Stored
 pub mod Uses
 pub mod Weighing
 pub mod Weight
+pub mod Attaching
+pub mod Naming

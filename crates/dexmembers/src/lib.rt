@@ -4,6 +4,7 @@
 //! "encoded_method format" and "annotations_directory_item".
 #![tactic(auto)]
 
+mod attaching;
 mod class_data;
 mod class_data_put;
 mod codes;
@@ -21,6 +22,8 @@ mod same;
 mod static_values;
 mod uses_laws;
 mod weighing;
+mod naming;
+mod reading;
 
 pub use members::{Field, Members, Method};
 pub use put_laws::few_members_law;

@@ -1,0 +1,253 @@
+-- Entries by number: a search among them, and what is taken out of them.
+use Rattle.std.proofs.Common.{◌≡◌, ◌≢◌, ℕ, zero, suc, ◌+◌, ◌<◌, ◌≤◌, Bool, true, false, cond, List, [], ◌∷◌, ◌++◌, length, get_or, map, length-take, refl, sym, ap, ◌∙◌, subst, arith, inl, inr, Option, Some, None, Ordering, Less, Equal, Greater}
+use Rattle.std.specs.Prelude.{IsTrue, slice_set, unwrap_or, Result, Ok, Err, MatchOption, take, drop, option_to_list}
+use Rattle.std.specs.List.{Contains, HoldsAt}
+use Rattle.std.specs.List.Sorted.{IsNonDecreasingBy, IsPartitionPoint, IsSearchInRange, IsBinarySearchResult}
+use Rattle.std.specs.Result.{result_ok, is_ok}
+use Rattle.std.specs.Option.{IsSome, option_flatten}
+use Rattle.std.proofs.lemmas.List.Elements.{Contains-append_left, Contains-append_right}
+use Rattle.std.specs.Ordering.{nat_cmp, is_eq, ordering_index}
+use Rattle.std.specs.Cmp.{nat_cmp_total}
+use Rattle.std.specs.FinMap.{nat_cmp-IsAntisymmetric}
+use Rattle.std.specs.FinMap.Entries.{find}
+use Rattle.std.proofs.lemmas.Bool.{cases_lt}
+use Rattle.std.proofs.lemmas.Cmp.{tied_itself}
+use Rattle.std.proofs.lemmas.List.{get_or-map, length-drop, length-append, take_more, drop_more, get_or-take, get_or_default, map-append}
+use Rattle.dexspec.specs.Lists.{zip_with}
+use Rattle.dexspec.proofs.Members.{Contains-nil, Contains-first, Contains-later, Contains-cons_cases}
+use Rattle.dexspec.proofs.InOrder.{Rises, Rises-from_rises, Rises-places}
+use Rattle.dexmembers.specs.Numbered.{NumbersRise}
+use Rattle.dexmembers.specs.Attaching.{looked_up, EntriesRise, HasNumberAt, AreTaken}
+
+-- ---- numbers in order
+
+pub less_below : (x y : ℕ) → nat_cmp x y ≡ Less → x < y
+less_below x y e = grind arith
+
+pub below_less : (x y : ℕ) → x < y → nat_cmp x y ≡ Less
+below_less x y lt = grind arith
+
+answers_rise : (x y n : ℕ) → x < y → ordering_index (nat_cmp x n) ≤ ordering_index (nat_cmp y n)
+answers_rise x y n lt = grind arith
+
+not_tied : (m n : ℕ) → m ≢ n → is_eq (nat_cmp m n) ≡ false
+not_tied m n ne = by (nat_cmp m n) refl
+  where
+    by : (r : Ordering) → nat_cmp m n ≡ r → is_eq r ≡ false
+    by Less e = refl
+    by Equal e = absurd (ne (nat_cmp-IsAntisymmetric m n e))
+    by Greater e = refl
+
+module _ {T : Type 0} (key : T → ℕ) where
+  many_keys : (xs : List T) → length (map key xs) ≡ length xs
+  many_keys [] = refl
+  many_keys (x ∷ xs) = ap suc (many_keys xs)
+
+  -- keys of a rising list, by their places
+  pub keys_less : (xs : List T) (i j : ℕ) (d : T) → NumbersRise (map key xs) → i < j → j < length xs → key (get_or xs i d) < key (get_or xs j d)
+  keys_less xs i j d h ij lt =
+      let many : j < length (map key xs) = omega (arith, many_keys xs) in
+      let r = Rises-places nat_cmp nat_cmp_total (map key xs) i j (key d) (Rises-from_rises nat_cmp nat_cmp_total (map key xs) h) ij many in
+      less_below (key (get_or xs i d)) (key (get_or xs j d))
+      ((λ k. nat_cmp (sym (get_or-map key xs i d (key d) (omega arith)) k) (sym (get_or-map key xs j d (key d) lt) k)) ∙ r)
+
+  -- so the answers of a search rise
+  pub keys_searched : (xs : List T) (n : ℕ) → NumbersRise (map key xs) → IsNonDecreasingBy (λ x. ordering_index (nat_cmp (key x) n)) xs
+  keys_searched xs n h i j d le lt = elim (cases_lt i j) [
+    | inl less ↦ answers_rise (key (get_or xs i d)) (key (get_or xs j d)) n (keys_less xs i j d h less lt)
+    | inr ge ↦
+        let same : i ≡ j = omega arith in
+        subst (λ (k : ℕ). ordering_index (nat_cmp (key (get_or xs i d)) n) ≤ ordering_index (nat_cmp (key (get_or xs k d)) n)) same (omega arith)
+  ]
+
+  -- what a search finds
+  pub key_found : (xs : List T) (n at : ℕ) → HoldsAt (λ x. nat_cmp (key x) n ≡ Equal) xs at → (d : T) → key (get_or xs at d) ≡ n
+  key_found xs n at h d = nat_cmp-IsAntisymmetric (key (get_or xs at d)) n (h d)
+
+  -- what it does not find
+  pub key_missed : (xs : List T) (n i : ℕ) → IsPartitionPoint (λ x. nat_cmp (key x) n ≡ Less) (λ x. nat_cmp (key x) n ≡ Greater) xs i → (k : ℕ) (d : T) → k < length xs → key (get_or xs k d) ≢ n
+  key_missed xs n i h k d lt e =
+      let x = key (get_or xs k d) in
+      let tied : nat_cmp x n ≡ Equal = ap (λ (y : ℕ). nat_cmp y n) e ∙ tied_itself nat_cmp_total n in
+      elim (cases_lt k i) [
+        | inl less ↦ let other : nat_cmp x n ≡ Less = h.0 k d (omega arith) less in cc
+        | inr ge ↦ let other : nat_cmp x n ≡ Greater = h.1 k d ge lt in cc
+      ]
+
+  -- so it is not among the keys
+  pub key_not_among : (xs : List T) (n : ℕ) → ((k : ℕ) (d : T) → k < length xs → key (get_or xs k d) ≢ n) → Contains (map key xs) n → ⊥
+  key_not_among [] n h c = Contains-nil n c
+  key_not_among (x ∷ xs) n h c = elim (Contains-cons_cases (key x) n (map key xs) c) [
+    | inl e ↦ h 0 x (omega arith) e
+    | inr l ↦ key_not_among xs n (λ k d lt. h (suc k) d (omega arith)) l
+  ]
+
+  -- a key that is there is among the keys
+  pub key_among : (xs : List T) (n k : ℕ) → k < length xs → ((d : T) → key (get_or xs k d) ≡ n) → Contains (map key xs) n
+  key_among [] n k lt h = absurd (omega arith)
+  key_among (x ∷ xs) n zero lt h = subst (Contains (map key (x ∷ xs))) (h x) (Contains-first (key x) (map key xs))
+  key_among (x ∷ xs) n (suc k) lt h = Contains-later (key x) n (map key xs) (key_among xs n k (omega arith) h)
+
+-- ---- entries
+
+module _ {X Y : Type 0} (inside : X → List Y) where
+  abbrev look : List (ℕ × X) → ℕ → List Y
+  look = looked_up inside
+
+  -- the first entry is another's
+  look_past : (e : ℕ × X) (es : List (ℕ × X)) (n : ℕ) → n ≢ e.0 → look (e ∷ es) n ≡ look es n
+  look_past e es n ne = ap (λ (b : Bool). unwrap_or (cond b (Some (inside e.1)) (find nat_cmp n (map (λ (x : ℕ × X). (x.0, inside x.1)) es))) []) (not_tied n e.0 ne)
+
+  -- or its own
+  look_here : (e : ℕ × X) (es : List (ℕ × X)) (n : ℕ) → n ≡ e.0 → look (e ∷ es) n ≡ inside e.1
+  look_here e es n same = ap (λ (r : Ordering). unwrap_or (cond (is_eq r) (Some (inside e.1)) (find nat_cmp n (map (λ (x : ℕ × X). (x.0, inside x.1)) es))) []) (ap (λ (k : ℕ). nat_cmp k e.0) same ∙ tied_itself nat_cmp_total e.0)
+
+  -- nothing is found where the number is not there
+  pub look_missing : (es : List (ℕ × X)) (n : ℕ) → (Contains (map (λ (e : ℕ × X). e.0) es) n → ⊥) → look es n ≡ []
+  look_missing [] n h = refl
+  look_missing (e ∷ es) n h =
+      look_past e es n (λ same. h (subst (Contains (map (λ (x : ℕ × X). x.0) (e ∷ es))) (sym same) (Contains-first e.0 (map (λ (x : ℕ × X). x.0) es))))
+      ∙ look_missing es n (λ c. h (Contains-later e.0 n (map (λ (x : ℕ × X). x.0) es) c))
+
+  look_found_in : (es : List (ℕ × X)) (n at : ℕ) (d : ℕ × X) → Rises nat_cmp (map (λ (e : ℕ × X). e.0) es) → at < length es → (get_or es at d).0 ≡ n → look es n ≡ inside (get_or es at d).1
+  look_found_in [] n at d h lt e = absurd (omega arith)
+  look_found_in (x ∷ es) n zero d h lt e = look_here x es n (sym e)
+  look_found_in (x ∷ es) n (suc at) d h lt e =
+      let less : nat_cmp x.0 n ≡ Less = h.0 n (key_among (λ (y : ℕ × X). y.0) es n at (omega arith) (λ c. subst (λ (y : ℕ × X). y.0 ≡ n) (same_default es at d c (omega arith)) e)) in
+      look_past x es n (λ same. let lt : x.0 < n = less_below x.0 n less in omega (arith, same, lt))
+      ∙ look_found_in es n at d h.1 (omega arith) e
+    where
+      same_default : (l : List (ℕ × X)) (k : ℕ) (c d : ℕ × X) → k < length l → get_or l k c ≡ get_or l k d
+      same_default [] k c d lt = absurd (omega arith)
+      same_default (x ∷ l) zero c d lt = refl
+      same_default (x ∷ l) (suc k) c d lt = same_default l k c d (omega arith)
+
+  -- the entry of a number is found
+  pub look_found : (es : List (ℕ × X)) (n at : ℕ) (d : ℕ × X) → EntriesRise es → at < length es → (get_or es at d).0 ≡ n → look es n ≡ inside (get_or es at d).1
+  look_found es n at d h lt e = look_found_in es n at d (Rises-from_rises nat_cmp nat_cmp_total (map (λ (e : ℕ × X). e.0) es) h) lt e
+
+  look_set : (es : List (ℕ × X)) (at n m : ℕ) (x : X) (d : ℕ × X) → at < length es → (get_or es at d).0 ≡ n → m ≢ n → look (slice_set es at (n, x)) m ≡ look es m
+  look_set [] at n m x d lt e ne = absurd (omega arith)
+  look_set (y ∷ es) zero n m x d lt e ne = look_past (n, x) es m ne ∙ sym (look_past y es m (λ same. ne (same ∙ e)))
+  look_set (y ∷ es) (suc at) n m x d lt e ne =
+      let rest = look_set es at n m x d (omega arith) e ne in
+      ap (λ (l : List Y). l) (step (is_eq (nat_cmp m y.0)) rest)
+    where
+      step : (b : Bool) → look (slice_set es at (n, x)) m ≡ look es m
+          → unwrap_or (cond b (Some (inside y.1)) (find nat_cmp m (map (λ (z : ℕ × X). (z.0, inside z.1)) (slice_set es at (n, x))))) [] ≡ unwrap_or (cond b (Some (inside y.1)) (find nat_cmp m (map (λ (z : ℕ × X). (z.0, inside z.1)) es))) []
+      step true r = refl
+      step false r = r
+
+  numbers_set : (es : List (ℕ × X)) (at n : ℕ) (x : X) (d : ℕ × X) → at < length es → (get_or es at d).0 ≡ n → map (λ (e : ℕ × X). e.0) (slice_set es at (n, x)) ≡ map (λ (e : ℕ × X). e.0) es
+  numbers_set [] at n x d lt e = absurd (omega arith)
+  numbers_set (y ∷ es) zero n x d lt e = ap (λ (k : ℕ). k ∷ map (λ (z : ℕ × X). z.0) es) (sym e)
+  numbers_set (y ∷ es) (suc at) n x d lt e = ap (λ (l : List ℕ). y.0 ∷ l) (numbers_set es at n x d (omega arith) e)
+
+  -- an entry is taken out
+  pub one_taken : (es : List (ℕ × X)) (at n k : ℕ) (x : X) (d : ℕ × X) → at < length es → (get_or es at d).0 ≡ n → k ≡ n → AreTaken inside (n ∷ []) es (slice_set es at (k, x))
+  one_taken es at n k x d lt e same = subst (λ (j : ℕ). AreTaken inside (n ∷ []) es (slice_set es at (j, x))) (sym same) (record {
+    others = λ m none. look_set es at n m x d lt e (λ is. none (subst (Contains (n ∷ [])) (sym is) (Contains-first n [])));
+    numbers = numbers_set es at n x d lt e;
+  })
+
+  -- none is
+  pub none_taken : (ns : List ℕ) (es : List (ℕ × X)) → AreTaken inside ns es es
+  none_taken ns es = record { others = λ m none. refl; numbers = refl }
+
+-- what a search among entries answers
+pub entry_searched : {X : Type 0} (es : List (ℕ × X)) (n : ℕ) (r : Result ℕ ℕ) (o : Option ℕ) → o ≡ result_ok r → IsSearchInRange r (length es) → IsBinarySearchResult (λ (e : ℕ × X). nat_cmp e.0 n) es r
+    → MatchOption o (EntriesRise es → Contains (map (λ (e : ℕ × X). e.0) es) n → ⊥) (HasNumberAt es n)
+entry_searched {X} es n (Ok at) o e bound h =
+    subst (λ (p : Option ℕ). MatchOption p (EntriesRise es → Contains (map (λ (e : ℕ × X). e.0) es) n → ⊥) (HasNumberAt es n)) (sym e)
+    (record { within = bound; is = key_found (λ (e : ℕ × X). e.0) es n at h })
+entry_searched {X} es n (Err i) o e bound h =
+    subst (λ (p : Option ℕ). MatchOption p (EntriesRise es → Contains (map (λ (e : ℕ × X). e.0) es) n → ⊥) (HasNumberAt es n)) (sym e)
+    (λ rise. key_not_among (λ (e : ℕ × X). e.0) es n (key_missed (λ (e : ℕ × X). e.0) es n i (h (keys_searched (λ (e : ℕ × X). e.0) es n rise))))
+
+-- ---- several taken out, one after the other
+
+Contains-append_none : (ns : List ℕ) (k m : ℕ) → (Contains (ns ++ k ∷ []) m → ⊥) → (Contains ns m → ⊥) × (Contains (k ∷ []) m → ⊥)
+Contains-append_none ns k m h = ((λ c. h (Contains-append_left ns (k ∷ []) m c)), (λ c. h (Contains-append_right ns (k ∷ []) m c)))
+
+-- one more
+pub taken_more : {X Y : Type 0} (inside : X → List Y) (ns : List ℕ) (k : ℕ) (a b c : List (ℕ × X)) → AreTaken inside ns a b → AreTaken inside (k ∷ []) b c → AreTaken inside (ns ++ k ∷ []) a c
+taken_more inside ns k a b c h g = record {
+  others = λ m none. let apart = Contains-append_none ns k m none in g.others m apart.1 ∙ h.others m apart.0;
+  numbers = g.numbers ∙ h.numbers;
+}
+
+-- a number of a rising list is not among those before it
+pub not_before : {T : Type 0} (key : T → ℕ) (xs : List T) (i : ℕ) (d : T) → NumbersRise (map key xs) → i < length xs → Contains (map key (take i xs)) (key (get_or xs i d)) → ⊥
+not_before key xs i d h lt = key_not_among key (take i xs) (key (get_or xs i d)) (λ k e less same.
+    let few : length (take i xs) ≤ i = omega (arith, length-take i xs) in
+    let ki : k < i = omega (arith, few, less) in
+    let here : get_or (take i xs) k e ≡ get_or xs k e = get_or-take i xs k e ki in
+    let c = keys_less key xs k i e h ki lt in
+    let there : get_or xs i e ≡ get_or xs i d = get_or_default xs i e d lt in
+    omega (arith, c, ap key (sym here), same, ap key there))
+
+-- what stood in the front, and the next
+pub front_more : {T Z : Type 0} (f : T → Z) (xs : List T) (i : ℕ) (x : T) → i < length xs → ((d : T) → get_or xs i d ≡ x) → map f (take (i + 1) xs) ≡ map f (take i xs) ++ f x ∷ []
+front_more f xs i x lt is = ap (map f) (take_more xs i x lt ∙ ap (λ (y : _). take i xs ++ y ∷ []) (is x)) ∙ map-append f (take i xs) (x ∷ [])
+
+-- the same entries
+pub found : {X : Type 0} {es fs : List (ℕ × X)} {n at : ℕ} → es ≡ fs → HasNumberAt es n at → HasNumberAt fs n at
+found {X} {es} {fs} {n} {at} e h = subst (λ (l : List (ℕ × X)). HasNumberAt l n at) e h
+
+pub missed : {X : Type 0} {es fs : List (ℕ × X)} {n : ℕ} → es ≡ fs → (EntriesRise es → Contains (map (λ (e : ℕ × X). e.0) es) n → ⊥) → EntriesRise fs → Contains (map (λ (e : ℕ × X). e.0) fs) n → ⊥
+missed {X} {es} {fs} {n} e h = subst (λ (l : List (ℕ × X)). EntriesRise l → Contains (map (λ (x : ℕ × X). x.0) l) n → ⊥) e h
+
+-- what is left has what was there for the next number
+pub next_there : {T X Y : Type 0} (key : T → ℕ) (inside : X → List Y) (xs : List T) (i : ℕ) (d : T) (old now : List (ℕ × X)) (found : List Y) → i < length xs → NumbersRise (map key xs) → EntriesRise old → AreTaken inside (map key (take i xs)) old now
+    → (EntriesRise now → found ≡ looked_up inside now (key (get_or xs i d))) → found ≡ looked_up inside old (key (get_or xs i d))
+next_there key inside xs i d old now found lt up rise h is =
+    is (subst NumbersRise (sym h.numbers) rise) ∙ h.others (key (get_or xs i d)) (not_before key xs i d up lt)
+
+-- the next was taken
+pub next_taken : {T X Y : Type 0} (key : T → ℕ) (inside : X → List Y) (xs : List T) (i : ℕ) (d : T) (old now new : List (ℕ × X)) → i < length xs → AreTaken inside (map key (take i xs)) old now → AreTaken inside (key (get_or xs i d) ∷ []) now new
+    → AreTaken inside (map key (take (i + 1) xs)) old new
+next_taken {T} {X} key inside xs i d old now new lt h g =
+    subst (λ (ns : List ℕ). AreTaken inside ns old new) (sym (front_more key xs i (get_or xs i d) lt (λ e. get_or_default xs i e d lt)))
+    (taken_more inside (map key (take i xs)) (key (get_or xs i d)) old now new h g)
+
+zip_next : {A B C : Type 0} (f : A → B → C) (xs : List A) (ys : List B) (i : ℕ) (x : A) (y : B) → i < length xs → i < length ys → ((d : A) → get_or xs i d ≡ x) → ((d : B) → get_or ys i d ≡ y)
+    → zip_with f (take (suc i) xs) (take (suc i) ys) ≡ zip_with f (take i xs) (take i ys) ++ f x y ∷ []
+zip_next f [] ys i x y lt lt' e g = absurd (omega arith)
+zip_next f (a ∷ xs) [] i x y lt lt' e g = absurd (omega arith)
+zip_next f (a ∷ xs) (b ∷ ys) zero x y lt lt' e g = λ k. f (e a k) (g b k) ∷ []
+zip_next f (a ∷ xs) (b ∷ ys) (suc i) x y lt lt' e g = ap (λ (l : List _). f a b ∷ l) (zip_next f xs ys i x y (omega arith) (omega arith) e g)
+
+-- a list put together of two, by one more of each
+pub zip_more : {A B C : Type 0} (f : A → B → C) (xs : List A) (ys : List B) (i : ℕ) (x : A) (y : B) → i < length xs → i < length ys → ((d : A) → get_or xs i d ≡ x) → ((d : B) → get_or ys i d ≡ y)
+    → zip_with f (take (i + 1) xs) (take (i + 1) ys) ≡ zip_with f (take i xs) (take i ys) ++ f x y ∷ []
+zip_more f xs ys i x y lt lt' e g =
+    let more : i + 1 ≡ suc i = omega arith in
+    ap (λ (n : ℕ). zip_with f (take n xs) (take n ys)) more ∙ zip_next f xs ys i x y lt lt' e g
+
+-- the first of the rest is the next
+pub rest_first : {B : Type 0} (ys : List B) (i : ℕ) (y : B) (rest : List B) → i < length ys → drop i ys ≡ y ∷ rest → (drop (i + 1) ys ≡ rest) × ((d : B) → get_or ys i d ≡ y)
+rest_first ys i y rest lt e = (
+  ap (drop 1) (sym (drop_more ys i y lt) ∙ e),
+  λ d. ap (λ (l : List _). get_or l 0 d) (sym (drop_more ys i d lt) ∙ e),
+)
+
+-- what comes next of the rest
+pub rest_next : {B : Type 0} (ys : List (Option B)) (i len : ℕ) (o : Option (Option B)) (x : Option B) (all rest : List (Option B)) → i < length ys → all ≡ drop i ys → all ≡ option_to_list o ++ rest → len ≡ length all → (0 < len → IsSome o) → x ≡ option_flatten o
+    → (rest ≡ drop (i + 1) ys) × ((d : Option B) → get_or ys i d ≡ x)
+rest_next ys i len (Some y) x all rest lt here e size some is = let r = rest_first ys i y rest lt (sym here ∙ e) in (sym r.0, λ d. r.1 d ∙ sym is)
+rest_next {B} ys i len None x all rest lt here e size some is =
+    let n : length (drop i ys) ≡ length all = ap length (sym here) in
+    let m : 0 < len = omega (arith, n, lt, length-drop {A = Option B} i ys, size) in
+    absurd (let e : false ≡ true = some m in cc)
+
+-- as many are left
+pub rest_size : {B : Type 0} (o : Option B) (all rest : List B) (before after : ℕ) → all ≡ option_to_list o ++ rest → after + length (option_to_list o) ≡ before → before ≡ length all → after ≡ length rest
+rest_size o all rest before after e len size =
+    let n : length all ≡ length (option_to_list o) + length rest = ap length e ∙ length-append (option_to_list o) rest in
+    omega (arith, n, len, size)
+
+-- whether a search by a key finds something
+pub index_searched : {T : Type 0} (key : T → ℕ) (xs : List T) (n : ℕ) (r : Result ℕ ℕ) → IsSearchInRange r (length xs) → IsBinarySearchResult (λ (x : T). nat_cmp (key x) n) xs r
+    → (IsTrue (is_ok r) → Contains (map key xs) n) × (NumbersRise (map key xs) → Contains (map key xs) n → IsTrue (is_ok r))
+index_searched key xs n (Ok at) bound h = ((λ e. key_among key xs n at bound (key_found key xs n at h)), (λ rise c. refl))
+index_searched key xs n (Err i) bound h = ((λ e. absurd (let f : false ≡ true = e in cc)), (λ rise c. absurd (key_not_among key xs n (key_missed key xs n i (h (keys_searched key xs n rise))) c)))

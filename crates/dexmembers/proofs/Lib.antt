@@ -3,11 +3,17 @@ pub mod CodesOfMethods
 pub mod DataCounts
 pub mod DataOfFile
 pub mod DirectorySpelled
+pub mod Entered
 pub mod FewMembers
 pub mod FittingMembers
+pub mod Judged
+pub mod Made
+pub mod Meant
 pub mod MemberChains
 pub mod MembersMarked
 pub mod MembersUsed
+pub mod Named
+pub mod OfClass
 pub mod OneMember
 pub mod Owned
 pub mod PairsMerged
@@ -18,11 +24,5 @@ pub mod RenumberingOrder
 pub mod RenumberingSteps
 pub mod SameMembers
 pub mod StaticValuesRead
+pub mod Taken
 pub mod Weighed
-mod Taken
-mod Meant
-mod Entered
-mod Judged
-mod Named
-mod Made
-mod OfClass

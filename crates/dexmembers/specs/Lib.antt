@@ -1,7 +1,9 @@
+pub mod Attaching
 pub mod ClassData
 pub mod DirectoryPut
 pub mod EncodedMembers
 pub mod MethodCodes
+pub mod Naming
 pub mod Numbered
 pub mod Reading
 pub mod Renumbering
@@ -11,5 +13,3 @@ pub mod Stored
 pub mod Uses
 pub mod Weighing
 pub mod Weight
-pub mod Attaching
-pub mod Naming

@@ -15,6 +15,7 @@ mod encoded_lists;
 mod fitting;
 mod marking;
 mod members;
+mod naming;
 mod put_laws;
 mod renumbering;
 mod renumbering_laws;
@@ -22,8 +23,6 @@ mod same;
 mod static_values;
 mod uses_laws;
 mod weighing;
-mod naming;
-mod reading;
 
 pub use members::{Field, Members, Method};
 pub use put_laws::few_members_law;

@@ -33,8 +33,8 @@ impl Model for Field {
     ghost view = { λ f. record { number = f.number; flags = f.flags; annotations = set_of f.annotations } };
 }
 
-/// A declared method: its number among the methods, its access flags, its code, if it has some, its annotations, and a set of
-/// annotations for each parameter, or none.
+/// A declared method: its number among the methods, its access flags, its code, if it has some, its annotations, and sets of
+/// annotations for its parameters, from left to right.
 ///
 /// Source: "encoded_method format", "method_annotation format", "parameter_annotation format".
 #[derive(Drop)]
@@ -145,7 +145,7 @@ impl<'a> Method<'a> {
         &self.annotations
     }
 
-    /// The annotations of the parameters, from left to right; there may be fewer sets than parameters. No memory is taken.
+    /// The annotations of the parameters, from left to right; their number is not compared with that of the parameters. No memory is taken.
     pub fn parameter_annotations(&self) -> &[AnnotationSet]
         ensures { map set_of result.now ≡ self.now.parameter_annotations }
     {

@@ -23,7 +23,7 @@ fn values_off(frame: &Frame<'_>, row: u32) -> u32
 }
 
 /// Reads the values that the static fields of class row `row` begin with, or none where its offset is 0. Where they
-/// weigh more than `most`, they are judged only, and none is answered.
+/// weigh more than `most`, they are read and dropped, and none is answered.
 ///
 /// Condition: the row is one of the file's. Error: `Refused(21)` exactly where no encoded_array_item stands there, or it
 /// has more values than `fields`, the number of static fields; `Memory` where a growth was refused.

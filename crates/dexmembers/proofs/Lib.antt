@@ -1,3 +1,4 @@
+pub mod Attached
 pub mod ClassDataSpelled
 pub mod CodesOfMethods
 pub mod DataCounts
@@ -13,6 +14,7 @@ pub mod MemberChains
 pub mod MembersMarked
 pub mod MembersUsed
 pub mod Named
+pub mod NamesKept
 pub mod OfClass
 pub mod OneMember
 pub mod Owned
@@ -22,6 +24,10 @@ pub mod RenumberingKept
 pub mod RenumberingLists
 pub mod RenumberingOrder
 pub mod RenumberingSteps
+pub mod RowAnnotations
+pub mod RowRead
+pub mod RowStands
+pub mod RowWeighed
 pub mod SameMembers
 pub mod StaticValuesRead
 pub mod Taken

@@ -33,3 +33,7 @@ names_each b p (suc n) zero numbers lt h =
 names_each b p (suc n) (suc k) numbers lt h =
     let place : p + 8 + 8 * k ≡ p + 8 * suc k = omega arith in
     subst (λ (x : ℕ). Contains numbers (uint_at b x)) place (names_each b (p + 8) n k numbers (omega arith) (All-tail (λ (x : ℕ × ℕ). Contains numbers x.0) (uint_at b p, uint_at b (p + 4)) (pairs_at b (p + 8) n) h))
+
+-- what is named from a place on, by another word for the place
+pub names_moved : (b : List ℕ) (at at' n n' : ℕ) (ns ns' : List ℕ) → at ≡ at' → n ≡ n' → ns ≡ ns' → NamesOnly b at n ns → NamesOnly b at' n' ns'
+names_moved b at at' n n' ns ns' p q r h = subst (λ (l : List ℕ). NamesOnly b at' n' l) r (subst (λ (k : ℕ). NamesOnly b at' k ns) q (subst (λ (o : ℕ). NamesOnly b o n ns) p h))

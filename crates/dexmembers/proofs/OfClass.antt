@@ -1,23 +1,29 @@
 -- Members put together are of the class of their row.
-use Rattle.std.proofs.Common.{◌≡◌, ℕ, List, [], ◌∷◌, map, Option}
+use Rattle.std.proofs.Common.{◌≡◌, ℕ, List, [], ◌∷◌, map, subst, Option}
 use Rattle.std.specs.Prelude.{All}
 use Rattle.std.specs.List.{AllZip}
-use Rattle.std.proofs.lemmas.List.Elements.{All-head, All-tail, All-nil, All-cons}
+use Rattle.std.proofs.lemmas.List.Elements.{All-head, All-tail, All-nil, All-cons, All-append}
 use Rattle.dexspec.specs.Lists.{zip_with, BothOrNone}
 use Rattle.dexspec.specs.Texts.{Text}
-use Rattle.dexspec.specs.ClassData.{EncodedField, EncodedMethod}
+use Rattle.dexspec.specs.ClassData.{EncodedField, EncodedMethod, fields_of, methods_of}
+use Rattle.dexspec.specs.Classes.{ClassTypeRow, class_idx}
+use Rattle.dexspec.proofs.OneRow.{one_type}
+use Rattle.dexcode.proofs.DebugUses.{all_front, all_back}
 use Rattle.dexspec.specs.Code.{Code}
 use Rattle.dexspec.specs.Mentions.{Mentions}
 use Rattle.dexcode.specs.Numbered.{NumberedItem, StandsForCode}
-use Rattle.dexval.specs.Numbered.{field_at, method_at}
+use Rattle.dexval.specs.Numbered.{NumberedValues, field_at, method_at}
+use Rattle.dexval.specs.declared.directory.Directory.{Directory as DirectoryRead}
 use Rattle.dexval.specs.declared.set.AnnotationSet.{AnnotationSet as CodeSet}
 use Rattle.std.specs.Global.{Vec}
-use Rattle.dexmembers.specs.Numbered.{NumberedField, NumberedMethod}
-use Rattle.dexmembers.specs.ClassData.{encoded_field_in, encoded_method_in}
+use Rattle.dexmembers.specs.Numbered.{NumberedField, NumberedMethod, AreOfClass}
+use Rattle.dexmembers.specs.ClassData.{encoded_field_in, encoded_method_in, class_data_in, IsDataOf}
+use Rattle.dexmembers.specs.RowParts.{attached}
 use Rattle.dexmembers.specs.MethodCodes.{AreCodesAt}
 use Rattle.dexmembers.specs.Attaching.{field_with, method_with}
 use Rattle.dexmembers.specs.declared.class_data.EncodedField.{EncodedField as FieldRead}
 use Rattle.dexmembers.specs.declared.class_data.EncodedMethod.{EncodedMethod as MethodRead}
+use Rattle.dexmembers.specs.declared.class_data.ClassData.{ClassData as DataRead}
 
 -- the fields of a list
 pub fields_of_class : (m : Mentions) (name : Text) (sets : List (ℕ × CodeSet)) (xs : List FieldRead) → All (λ (x : EncodedField). x.field.class ≡ name) (map (encoded_field_in m) xs)
@@ -36,3 +42,33 @@ methods_of_class b m name sets lists (x ∷ xs) [] (y ∷ symbolic) at s h = abs
 methods_of_class b m name sets lists (x ∷ xs) (c ∷ codes) (y ∷ symbolic) at s h =
     All-cons (λ (z : NumberedMethod). (method_at m z.number).class ≡ name) (method_with sets lists x c) (zip_with (method_with sets lists) xs codes) (All-head (λ (z : EncodedMethod). z.method.class ≡ name) (encoded_method_in m x) (map (encoded_method_in m) xs) h)
     (methods_of_class b m name sets lists xs codes symbolic at.1 s.1 (All-tail (λ (z : EncodedMethod). z.method.class ≡ name) (encoded_method_in m x) (map (encoded_method_in m) xs) h))
+
+module _ (b : List ℕ) (r : ℕ) (m : Mentions) (read : DataRead) (is : IsDataOf b r m read) (name : Text) (at : ClassTypeRow b (class_idx b r) name) where
+  -- the class that the members belong to is that of the row
+  name_is : is.declared.name ≡ name
+  name_is = one_type b (class_idx b r) is.declared.name name is.declared.class.row at.row
+
+  own_fields : All (λ (x : EncodedField). x.field.class ≡ name) (fields_of (class_data_in m read))
+  own_fields = subst (λ (t : Text). All (λ (x : EncodedField). x.field.class ≡ t) (fields_of (class_data_in m read))) name_is is.declared.own.fields
+
+  own_methods : All (λ (x : EncodedMethod). x.method.class ≡ name) (methods_of (class_data_in m read))
+  own_methods = subst (λ (t : Text). All (λ (x : EncodedMethod). x.method.class ≡ t) (methods_of (class_data_in m read))) name_is is.declared.own.methods
+
+  -- so are those that are put together
+  pub attached_of_class : (a : DirectoryRead) (direct virtual : List (Option NumberedItem)) (vs : NumberedValues) (direct_codes virtual_codes : List (Option Code)) → AreCodesAt b read.direct_methods.items direct_codes → AllZip (BothOrNone (StandsForCode m)) direct direct_codes
+      → AreCodesAt b read.virtual_methods.items virtual_codes → AllZip (BothOrNone (StandsForCode m)) virtual virtual_codes → AreOfClass m name (attached read a direct virtual vs)
+  attached_of_class a direct virtual vs direct_codes virtual_codes direct_at direct_stand virtual_at virtual_stand =
+      let F = λ (x : EncodedField). x.field.class ≡ name in
+      let M = λ (x : EncodedMethod). x.method.class ≡ name in
+      let statics = map (encoded_field_in m) read.static_fields.items in
+      let instances = map (encoded_field_in m) read.instance_fields.items in
+      let directs = map (encoded_method_in m) read.direct_methods.items in
+      let virtuals = map (encoded_method_in m) read.virtual_methods.items in
+      let made = attached read a direct virtual vs in
+      record {
+        fields_of_class = All-append (λ (f : NumberedField). (field_at m f.number).class ≡ name) made.static_fields made.instance_fields
+            (fields_of_class m name a.fields.items read.static_fields.items (all_front F statics instances own_fields)) (fields_of_class m name a.fields.items read.instance_fields.items (all_back F statics instances own_fields));
+        methods_of_class = All-append (λ (y : NumberedMethod). (method_at m y.number).class ≡ name) made.direct_methods made.virtual_methods
+            (methods_of_class b m name a.methods.items a.parameters.items read.direct_methods.items direct direct_codes direct_at direct_stand (all_front M directs virtuals own_methods))
+            (methods_of_class b m name a.methods.items a.parameters.items read.virtual_methods.items virtual virtual_codes virtual_at virtual_stand (all_back M directs virtuals own_methods));
+      }

@@ -7,6 +7,7 @@ pub mod Naming
 pub mod Numbered
 pub mod Reading
 pub mod Renumbering
+pub mod RowParts
 pub mod Spelled
 pub mod StaticValues
 pub mod Stored

@@ -1,10 +1,11 @@
 -- The members that a directory names, against those that class data declares.
-use Rattle.std.specs.Prelude.{ℕ, List, map, All}
+use Rattle.std.specs.Prelude.{ℕ, ◌+◌, ◌*◌, List, ◌++◌, map, All}
 use Rattle.std.specs.List.{Contains}
-use Rattle.dexspec.specs.Annotations.{pairs_at}
+use Rattle.dexspec.specs.Annotations.{pairs_at, fields_count, methods_count, parameters_count}
 use Rattle.dexmembers.specs.Numbered.{NumbersRise}
 use Rattle.dexmembers.specs.declared.class_data.EncodedField.{EncodedField as FieldRead}
 use Rattle.dexmembers.specs.declared.class_data.EncodedMethod.{EncodedMethod as MethodRead}
+use Rattle.dexmembers.specs.declared.class_data.ClassData.{ClassData as DataRead}
 
 -- the indices of fields
 abbrev pub field_indices : List FieldRead → List ℕ
@@ -22,3 +23,22 @@ NamesOnly b at count numbers = All (λ p. Contains numbers p.0) (pairs_at b at c
 pub record BothRise (xs ys : List ℕ) : Type 0 where
   pub first_rise : NumbersRise xs
   pub second_rise : NumbersRise ys
+
+-- of the fields of class data, the static ones first
+abbrev pub fields_read : DataRead → List ℕ
+fields_read d = field_indices d.static_fields.items ++ field_indices d.instance_fields.items
+
+-- of its methods, the direct ones first
+abbrev pub methods_read : DataRead → List ℕ
+methods_read d = method_indices d.direct_methods.items ++ method_indices d.virtual_methods.items
+
+-- each pair of the directory at the offset names a member that is declared
+pub record NamesRead (b : List ℕ) (o : ℕ) (d : DataRead) : Type 0 where
+  pub fields_named : NamesOnly b (o + 16) (fields_count b o) (fields_read d)
+  pub methods_named : NamesOnly b (o + 16 + 8 * fields_count b o) (methods_count b o) (methods_read d)
+  pub parameters_named : NamesOnly b (o + 16 + 8 * (fields_count b o + methods_count b o)) (parameters_count b o) (methods_read d)
+
+-- the indices of each list of class data rise
+pub record ListsRise (d : DataRead) : Type 0 where
+  pub rising_fields : BothRise (field_indices d.static_fields.items) (field_indices d.instance_fields.items)
+  pub rising_methods : BothRise (method_indices d.direct_methods.items) (method_indices d.virtual_methods.items)

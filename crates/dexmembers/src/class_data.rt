@@ -138,7 +138,7 @@ fn class_and_data(frame: &Frame<'_>, row: u32) -> (u32, u32)
 
 /// Reads the members that class row `row` declares: those of its class_data_item, or none where its offset is 0.
 ///
-/// Conditions: the row is one of the file's, and meets condition 16. Error: `Refused(17)` exactly where the row's class data
+/// Condition: the row is one of the file's. What is told of the answer is told of rows that meet condition 16. Error: `Refused(17)` exactly where the row's class data
 /// is no such item in the data, an index of it is out of range, a member is not one of the class, or one stands in two lists; the memory
 /// for the lists was refused.
 ///
@@ -150,8 +150,7 @@ pub(crate) fn read_class_data(
     row: u32,
 ) -> Result<ClassData, ItemFault>
     requires row { row < table_size frame.now ClassDefs }
-    requires class { HasClass frame.now row }
-    ensures read { ArePools frame.now pools.now → IfOk result (IsDataOf frame.now row pools.now) }
+    ensures read { ArePools frame.now pools.now → HasClass frame.now row → IfOk result (IsDataOf frame.now row pools.now) }
     ensures refused { ArePools frame.now pools.now → IfErr result (IsDataFault frame.now row) }
 {
     pools.numbering().is_numbering();

@@ -17,8 +17,11 @@ mod marking;
 mod members;
 mod naming;
 mod put_laws;
+mod reading;
 mod renumbering;
 mod renumbering_laws;
+mod row_annotations;
+mod row_parts;
 mod same;
 mod static_values;
 mod uses_laws;
@@ -26,5 +29,6 @@ mod weighing;
 
 pub use members::{Field, Members, Method};
 pub use put_laws::few_members_law;
+pub use reading::read_members;
 pub use renumbering_laws::{members_led_law, members_same_law};
 pub use uses_laws::members_uses_law;

@@ -1,0 +1,78 @@
+-- The annotations of a row: condition 22, and what was read.
+use Rattle.std.proofs.Common.{◌≡◌, ◌≢◌, ℕ, List, [], ◌∷◌, map, refl, sym, ap, ◌∙◌, subst, inl, inr, Option, Some, None}
+use Rattle.std.specs.Prelude.{MatchOption}
+use Rattle.std.specs.Ordering.{nat_cmp}
+use Rattle.dexspec.specs.Lists.{rises, OrNone}
+use Rattle.dexspec.specs.Annotations.{Directory, DirectoryAt, no_directory}
+use Rattle.dexspec.specs.Classes.{annotations_off}
+use Rattle.dexspec.specs.Accepted.{HasAnnotations}
+use Rattle.dexspec.specs.Mentions.{Mentions}
+use Rattle.dexpool.specs.declared.faults.ItemFault.{ItemFault}
+use Rattle.dexpool.specs.declared.faults.ItemFault.TheVariants.{Refused, Memory}
+use Rattle.dexpool.specs.Numberings.{AreRising}
+use Rattle.dexpool.specs.Pools.{ArePools}
+use Rattle.dexval.specs.Code.{set_of, directory_of}
+use Rattle.dexval.specs.Numbered.{directory_in}
+use Rattle.dexval.specs.Directories.{HasMembers}
+use Rattle.dexval.specs.Reading.{IsDirectoryFault, IsDirectoryWithin, HasHeavyDirectory}
+use Rattle.dexval.specs.declared.directory.Directory.{Directory as DirectoryRead}
+use Rattle.dexmembers.specs.ClassData.{class_data_in, IsDataOf}
+use Rattle.dexmembers.specs.Attaching.{EntriesRise}
+use Rattle.dexmembers.specs.Naming.{NamesRead, ListsRise}
+use Rattle.dexmembers.specs.RowParts.{AreAnnotationsOf, AreHeavyAnnotations, IsAnnotationsFault}
+use Rattle.dexmembers.specs.declared.class_data.ClassData.{ClassData as DataRead}
+use Rattle.dexmembers.proofs.Entered.{field_entries_rise, method_entries_rise, list_entries_rise}
+use Rattle.dexmembers.proofs.NamesKept.{named_members, named_indices}
+
+-- entries keep their numbers
+keys_same : {X Y : Type 0} (f : X → Y) (es : List (ℕ × X)) → map (λ (e : ℕ × Y). e.0) (map (λ (e : ℕ × X). (e.0, f e.1)) es) ≡ map (λ (e : ℕ × X). e.0) es
+keys_same f [] = refl
+keys_same f (e ∷ es) = ap (λ (l : List ℕ). e.0 ∷ l) (keys_same f es)
+
+-- so these rise
+keys_rise : {X Y : Type 0} (f : X → Y) (es : List (ℕ × X)) → EntriesRise (map (λ (e : ℕ × X). (e.0, f e.1)) es) → EntriesRise es
+keys_rise f es h = ap (rises nat_cmp) (sym (keys_same f es)) ∙ h
+
+-- the lists of class data that was read rise
+pub lists_rise : (b : List ℕ) (r : ℕ) (m : Mentions) (read : DataRead) → IsDataOf b r m read → ListsRise read
+lists_rise b r m read is = record {
+  rising_fields = record { first_rise = is.static_fields_are.fields_rise; second_rise = is.instance_fields_are.fields_rise };
+  rising_methods = record { first_rise = is.direct_methods_are.methods_rise; second_rise = is.virtual_methods_are.methods_rise };
+}
+
+module _ (b : List ℕ) (r : ℕ) (m : Mentions) (read : DataRead) (is : IsDataOf b r m read) (off : ℕ) (off_is : off ≡ annotations_off b r) (some : off ≢ 0) where
+  -- what stands there, where it may be none
+  directory_there : (a : Directory) → OrNone DirectoryAt no_directory b (annotations_off b r) a → DirectoryAt b off a
+  directory_there a (inl h) = absurd (some (off_is ∙ h.0))
+  directory_there a (inr h) = subst (λ (o : ℕ). DirectoryAt b o a) (sym off_is) h.1
+
+  directory_here : (a : Directory) → DirectoryAt b off a → OrNone DirectoryAt no_directory b (annotations_off b r) a
+  directory_here a h = inr (λ e. some (off_is ∙ e), subst (λ (o : ℕ). DirectoryAt b o a) off_is h)
+
+  -- where no directory stands, condition 22 fails
+  pub directory_refused : (fault : ItemFault) → IsDirectoryFault b off fault → IsAnnotationsFault b r fault
+  directory_refused Memory h = tt
+  directory_refused (Refused n) h = (h.0, λ holds. let a = holds (class_data_in m read) is.declared in h.1 a.0 (directory_there a.0 a.1))
+
+  module _ (pools : ArePools b m) (rising : AreRising m) where
+    -- where it names others too
+    pub unnamed_refused : (HasMembers b off → ListsRise read → NamesRead b off read → ⊥) → HasAnnotations b r → ⊥
+    unnamed_refused none holds =
+        let a = holds (class_data_in m read) is.declared in
+        let at = directory_there a.0 a.1 in
+        none (record { in_data = at.in_data; aligned = at.aligned }) (lists_rise b r m read is) (named_indices b m pools rising off a.0 at r read is a.2)
+
+    -- what was read is that of the row
+    pub directory_answer : (most : ℕ) (found : Option DirectoryRead) → MatchOption found (HasHeavyDirectory b off most) (λ (a : DirectoryRead). IsDirectoryWithin b off m most (directory_of a)) → NamesRead b off read
+        → MatchOption found (AreHeavyAnnotations b r m read most) (AreAnnotationsOf b r m read)
+    directory_answer most None h names = record { directory = h.directory; at = directory_here h.directory h.at; named = named_members b m pools rising off h.directory h.at r read is names; heavy = h.heavy }
+    directory_answer most (Some a) h names = record {
+      known = h.is.known;
+      at = directory_here (directory_in m (directory_of a)) h.is.at;
+      named = named_members b m pools rising off (directory_in m (directory_of a)) h.is.at r read is names;
+      entered = record {
+        fields_entered = keys_rise set_of a.fields.items (field_entries_rise b m pools rising off (directory_of a) h.is);
+        methods_entered = keys_rise set_of a.methods.items (method_entries_rise b m pools rising off (directory_of a) h.is);
+        parameters_entered = keys_rise (λ v. map set_of v.items) a.parameters.items (list_entries_rise b m pools rising off (directory_of a) h.is);
+      };
+    }

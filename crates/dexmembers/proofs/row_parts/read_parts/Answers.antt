@@ -1,0 +1,93 @@
+use Rattle.std.proofs.Common.{◌∙◌, ℕ, List, Option, length, map, subst}
+use Rattle.std.specs.Global.{Vec}
+use Rattle.dexpool.specs.Numberings.{AreRising}
+use Rattle.dexcode.specs.Numbered.{NumberedItem}
+use Rattle.dexval.specs.Code.{value_of}
+use Rattle.dexval.specs.Numbered.{NumberedValues, values_of_list}
+use Rattle.dexval.specs.declared.value.Value.{Value as ValueRead}
+use Rattle.dexmembers.specs.MethodCodes.{AreHeavyCodes, AreCodesOf, IsCodesFault}
+use Rattle.dexmembers.specs.RowParts.{AreAnnotationsOf, AreHeavyAnnotations}
+use Rattle.dexmembers.specs.StaticValues.{AreHeavyValues, AreValuesOf, IsValuesFault}
+use Rattle.dexmembers.specs.declared.class_data.EncodedMethod.{EncodedMethod}
+use Rattle.dexmembers.proofs.Judged.{direct_refused, virtual_refused}
+use Rattle.dexmembers.proofs.RowStands.{annotations_refused, values_refused, any_directory, any_codes, any_values, annotations_heavy, direct_heavy, virtual_heavy, values_heavy, codes_here, values_here, none_kept}
+use Rattle.dexmembers.proofs.row_parts.read_parts.Goals as goal
+
+-- the items of a vector of code
+abbrev code_items : Vec (Option NumberedItem) → List (Option NumberedItem)
+code_items v = v.items
+
+-- the values of a vector
+abbrev value_items : Vec ValueRead → NumberedValues
+value_items v = values_of_list (map value_of v.items)
+
+pub returns-in-Err-clause-refused : goal.returns-in-Err-clause-refused
+returns-in-Err-clause-refused c = λ pools is. annotations_refused c.args.frame.now c.args.row c.in-Err.fault (c.in-Err.ensures.refused pools is)
+
+pub returns-in-Err-read_codes-clause-refused : goal.returns-in-Err-read_codes-clause-refused
+returns-in-Err-read_codes-clause-refused c = λ pools is.
+    direct_refused c.args.frame.now c.args.row c.args.pools.now c.args.declared.now is c.in-Err-read_codes.fault (subst (λ (l : List EncodedMethod). IsCodesFault c.args.frame.now l c.in-Err-read_codes.fault) c.deref.ensures.value (c.in-Err-read_codes.ensures.refused pools))
+
+pub returns-in-Err-read_codes-2-clause-refused : goal.returns-in-Err-read_codes-2-clause-refused
+returns-in-Err-read_codes-2-clause-refused c = λ pools is.
+    virtual_refused c.args.frame.now c.args.row c.args.pools.now c.args.declared.now is c.in-Err-read_codes-2.fault (subst (λ (l : List EncodedMethod). IsCodesFault c.args.frame.now l c.in-Err-read_codes-2.fault) c.deref-2.ensures.value (c.in-Err-read_codes-2.ensures.refused pools))
+
+pub returns-in-Err-read_static_values-clause-refused : goal.returns-in-Err-read_static_values-clause-refused
+returns-in-Err-read_static_values-clause-refused c = λ pools is.
+    values_refused c.args.frame.now c.args.row c.args.pools.now c.args.declared.now is c.in-Err-read_static_values.fault
+    (subst (λ (n : ℕ). IsValuesFault c.args.frame.now c.args.row n c.in-Err-read_static_values.fault) (c.len-fields.ensures ∙ c.args.declared.now.static_fields.ok.0) (c.in-Err-read_static_values.ensures.refused pools))
+
+pub returns-in-None-clause-read : goal.returns-in-None-clause-read
+returns-in-None-clause-read c = λ pools is.
+    let b = c.args.frame.now in
+    let r = c.args.row in
+    let m = c.args.pools.now in
+    let d = c.args.declared.now in
+    let most = c.args.most in
+    let rising = subst AreRising c.numbering.ensures c.is_numbering.ensures.rising in
+    let direct = any_codes code_items b m d.direct_methods.items most c.in-Ok-read_codes.codes (codes_here code_items b m c.deref.result.now d.direct_methods.items most c.in-Ok-read_codes.codes c.deref.ensures.value (c.in-Ok-read_codes.ensures.read pools)) in
+    let virtual = any_codes code_items b m d.virtual_methods.items most c.in-Ok-read_codes-2.codes (codes_here code_items b m c.deref-2.result.now d.virtual_methods.items most c.in-Ok-read_codes-2.codes c.deref-2.ensures.value (c.in-Ok-read_codes-2.ensures.read pools)) in
+    let values = any_values value_items b r m (length d.static_fields.items) most c.in-Ok-read_static_values.values
+    (values_here value_items b r m c.len-fields.result (length d.static_fields.items) most c.in-Ok-read_static_values.values (c.len-fields.ensures ∙ c.args.declared.now.static_fields.ok.0) (c.in-Ok-read_static_values.ensures.read pools)) in
+    annotations_heavy b r m d is most pools rising (none_kept (AreHeavyAnnotations b r m d most) (AreAnnotationsOf b r m d) c.in-Ok.found c.in-None.is (c.in-Ok.ensures.read pools is)) direct virtual values
+
+pub returns-in-None-direct-clause-read : goal.returns-in-None-direct-clause-read
+returns-in-None-direct-clause-read c = λ pools is.
+    let b = c.args.frame.now in
+    let r = c.args.row in
+    let m = c.args.pools.now in
+    let d = c.args.declared.now in
+    let most = c.args.most in
+    let direct = codes_here code_items b m c.deref.result.now d.direct_methods.items most c.in-Ok-read_codes.codes c.deref.ensures.value (c.in-Ok-read_codes.ensures.read pools) in
+    let virtual = any_codes code_items b m d.virtual_methods.items most c.in-Ok-read_codes-2.codes (codes_here code_items b m c.deref-2.result.now d.virtual_methods.items most c.in-Ok-read_codes-2.codes c.deref-2.ensures.value (c.in-Ok-read_codes-2.ensures.read pools)) in
+    let values = any_values value_items b r m (length d.static_fields.items) most c.in-Ok-read_static_values.values
+    (values_here value_items b r m c.len-fields.result (length d.static_fields.items) most c.in-Ok-read_static_values.values (c.len-fields.ensures ∙ c.args.declared.now.static_fields.ok.0) (c.in-Ok-read_static_values.ensures.read pools)) in
+    direct_heavy b r m d is most (any_directory b r m d most c.in-Ok.found (c.in-Ok.ensures.read pools is))
+    (none_kept (AreHeavyCodes b d.direct_methods.items most) (λ (v : Vec (Option NumberedItem)). AreCodesOf b m d.direct_methods.items most v.items) c.in-Ok-read_codes.codes c.in-None-direct.is direct) virtual values
+
+pub returns-in-None-virtuals-clause-read : goal.returns-in-None-virtuals-clause-read
+returns-in-None-virtuals-clause-read c = λ pools is.
+    let b = c.args.frame.now in
+    let r = c.args.row in
+    let m = c.args.pools.now in
+    let d = c.args.declared.now in
+    let most = c.args.most in
+    let direct = any_codes code_items b m d.direct_methods.items most c.in-Ok-read_codes.codes (codes_here code_items b m c.deref.result.now d.direct_methods.items most c.in-Ok-read_codes.codes c.deref.ensures.value (c.in-Ok-read_codes.ensures.read pools)) in
+    let virtual = codes_here code_items b m c.deref-2.result.now d.virtual_methods.items most c.in-Ok-read_codes-2.codes c.deref-2.ensures.value (c.in-Ok-read_codes-2.ensures.read pools) in
+    let values = any_values value_items b r m (length d.static_fields.items) most c.in-Ok-read_static_values.values
+    (values_here value_items b r m c.len-fields.result (length d.static_fields.items) most c.in-Ok-read_static_values.values (c.len-fields.ensures ∙ c.args.declared.now.static_fields.ok.0) (c.in-Ok-read_static_values.ensures.read pools)) in
+    virtual_heavy b r m d is most (any_directory b r m d most c.in-Ok.found (c.in-Ok.ensures.read pools is)) direct
+    (none_kept (AreHeavyCodes b d.virtual_methods.items most) (λ (v : Vec (Option NumberedItem)). AreCodesOf b m d.virtual_methods.items most v.items) c.in-Ok-read_codes-2.codes c.in-None-virtuals.is virtual) values
+
+pub returns-clause-read : goal.returns-clause-read
+returns-clause-read c = λ pools is.
+    let b = c.args.frame.now in
+    let r = c.args.row in
+    let m = c.args.pools.now in
+    let d = c.args.declared.now in
+    let most = c.args.most in
+    let direct = any_codes code_items b m d.direct_methods.items most c.in-Ok-read_codes.codes (codes_here code_items b m c.deref.result.now d.direct_methods.items most c.in-Ok-read_codes.codes c.deref.ensures.value (c.in-Ok-read_codes.ensures.read pools)) in
+    let virtual = any_codes code_items b m d.virtual_methods.items most c.in-Ok-read_codes-2.codes (codes_here code_items b m c.deref-2.result.now d.virtual_methods.items most c.in-Ok-read_codes-2.codes c.deref-2.ensures.value (c.in-Ok-read_codes-2.ensures.read pools)) in
+    let values = values_here value_items b r m c.len-fields.result (length d.static_fields.items) most c.in-Ok-read_static_values.values (c.len-fields.ensures ∙ c.args.declared.now.static_fields.ok.0) (c.in-Ok-read_static_values.ensures.read pools) in
+    values_heavy b r m d is most (any_directory b r m d most c.in-Ok.found (c.in-Ok.ensures.read pools is)) direct virtual
+    (none_kept (AreHeavyValues b r (length d.static_fields.items) most) (λ (v : Vec ValueRead). AreValuesOf b r m (length d.static_fields.items) most (values_of_list (map value_of v.items))) c.in-Ok-read_static_values.values c.in-None-values.is values)

@@ -1,0 +1,95 @@
+//! The annotations of a class and its members.
+
+ghost use Rattle.std.specs.Prelude.{◌≡◌, ◌<◌, IsTrue, IfOk, IfErr, MatchOption};
+ghost use Rattle.dexspec.specs.Header.{ClassDefs, table_size};
+ghost use Rattle.dexspec.specs.Classes.{annotations_off};
+ghost use Rattle.dexpool.specs.Pools.{ArePools};
+ghost use Rattle.dexval.specs.Directories.{HasMembers};
+ghost use Rattle.dexmembers.specs.ClassData.{IsDataOf};
+ghost use Rattle.dexmembers.specs.Naming.{NamesRead, ListsRise};
+ghost use Rattle.dexmembers.specs.RowParts.{AreAnnotationsOf, AreHeavyAnnotations, IsAnnotationsFault};
+
+use crate::class_data::ClassData;
+use crate::naming::{names_fields, names_methods};
+use dexhead::{Frame, Table, u32_at};
+use dexpool::{ItemFault, Pools};
+use dexval::{AnnotationSet, Directory, read_directory_within};
+use std::alloc::Global;
+
+// Where the annotations directory of class row `row` stands, or 0.
+fn directory_off(frame: &Frame<'_>, row: u32) -> u32
+    requires { row < table_size frame.now ClassDefs }
+    ensures { result ≡ annotations_off frame.now row }
+{
+    let fields = frame.row(Table::ClassDefs, row);
+    u32_at(fields, 20)
+}
+
+// Whether the directory at an offset names declared members alone.
+fn names_declared(frame: &Frame<'_>, off: u32, declared: &ClassData) -> bool
+    ensures listed { IsTrue result → NamesRead frame.now off declared.now }
+    ensures missing { HasMembers frame.now off → ListsRise declared.now → NamesRead frame.now off declared.now → IsTrue result }
+{
+    if !frame.is_in_data(off, 16) {
+        return false;
+    }
+    let bytes = frame.bytes();
+    let fields = u32_at(bytes, off as usize + 4);
+    let methods = u32_at(bytes, off as usize + 8);
+    let parameters = u32_at(bytes, off as usize + 12);
+    let pairs = u64::from(fields) + u64::from(methods) + u64::from(parameters);
+    if !frame.is_in_data(off, 16 + 8 * pairs) {
+        return false;
+    }
+    let at = off as usize + 16;
+    let (first, second) = (&declared.static_fields, &declared.instance_fields);
+    if !names_fields(frame, at, fields, first, second) {
+        return false;
+    }
+    let at = at + 8 * fields as usize;
+    let (first, second) = (&declared.direct_methods, &declared.virtual_methods);
+    if !names_methods(frame, at, methods, first, second) {
+        return false;
+    }
+    let at = at + 8 * methods as usize;
+    names_methods(frame, at, parameters, first, second)
+}
+
+/// Reads the annotations of the class of row `row` and of its members, or none where its offset is 0. Where their sets weigh
+/// more than `most`, they are judged only, and none is answered.
+///
+/// Condition: the row is one of the file's, and declares these members. Error: `Refused(22)` exactly where no
+/// annotations_directory_item stands there, or it names a member that is not declared; `Memory` where a growth was refused.
+///
+/// Source: "class_def_item", the field `annotations_off`, and "annotations_directory_item".
+pub(crate) fn read_annotations(
+    alloc: Global,
+    frame: &Frame<'_>,
+    pools: &Pools<'_>,
+    row: u32,
+    declared: &ClassData,
+    most: u64,
+) -> Result<Option<Directory>, ItemFault>
+    requires row { row < table_size frame.now ClassDefs }
+    ensures read { ArePools frame.now pools.now → IsDataOf frame.now row pools.now declared.now → IfOk result (λ found. MatchOption found (AreHeavyAnnotations frame.now row pools.now declared.now most) (AreAnnotationsOf frame.now row pools.now declared.now)) }
+    ensures refused { ArePools frame.now pools.now → IsDataOf frame.now row pools.now declared.now → IfErr result (IsAnnotationsFault frame.now row) }
+{
+    pools.numbering().is_numbering();
+    let off = directory_off(frame, row);
+    if off == 0 {
+        return Ok(Some(Directory {
+            own: AnnotationSet::empty(alloc),
+            fields: Vec::new(alloc),
+            methods: Vec::new(alloc),
+            parameters: Vec::new(alloc),
+        }));
+    }
+    let found = match read_directory_within(alloc, frame, pools, off, most) {
+        Ok(found) => found,
+        Err(fault) => return Err(fault),
+    };
+    if !names_declared(frame, off, declared) {
+        return Err(ItemFault::Refused(22));
+    }
+    Ok(found)
+}

@@ -1,0 +1,143 @@
+//! What stands at a class row beside its class data: annotations, code and static values.
+
+ghost use Rattle.std.specs.Prelude.{◌≡◌, ◌<◌, IfOk, IfErr, MatchOption, map};
+ghost use Rattle.dexspec.specs.Header.{ClassDefs, table_size};
+ghost use Rattle.dexpool.specs.Pools.{ArePools};
+ghost use Rattle.dexval.specs.Code.{value_of};
+ghost use Rattle.dexval.specs.Numbered.{values_of_list};
+ghost use Rattle.dexmembers.specs.ClassData.{IsDataOf};
+ghost use Rattle.dexmembers.specs.Reading.{AreHeavyMembers, IsMembersFault};
+ghost use Rattle.dexmembers.specs.RowParts.{ArePartsOf, AreAttachable, attached};
+
+use crate::attaching::{attach_fields, attach_methods};
+use crate::class_data::ClassData;
+use crate::codes::read_codes;
+use crate::members::Members;
+use crate::row_annotations::read_annotations;
+use crate::static_values::read_static_values;
+use dexcode::Code;
+use dexhead::Frame;
+use dexpool::{ItemFault, Pools};
+use dexval::{Directory, Value};
+use std::alloc::{AllocError, Global};
+
+/// What stands at a class row beside its class data: annotations, the code of direct and of virtual methods, and static
+/// values.
+#[derive(Drop)]
+pub(crate) struct Parts<'a> {
+    pub(crate) directory: Directory,
+    pub(crate) direct_codes: Vec<Option<Code<'a>>>,
+    pub(crate) virtual_codes: Vec<Option<Code<'a>>>,
+    pub(crate) static_values: Vec<Value>,
+}
+
+/// Reads what stands at class row `row` beside its class data. Where a part of it weighs more than `most`, all is judged, and
+/// none is answered.
+///
+/// Condition: the row is one of the file's, and declares these members. Error: `Refused` with a number from 18 to 22, a
+/// condition that fails at the row; the memory for what is kept was refused.
+///
+/// Source: "class_def_item", the fields `annotations_off` and `static_values_off`, and "encoded_method format", the field
+/// `code_off`.
+pub(crate) fn read_parts<'a>(
+    alloc: Global,
+    frame: &Frame<'a>,
+    pools: &Pools<'_>,
+    row: u32,
+    declared: &ClassData,
+    most: u64,
+) -> Result<Option<Parts<'a>>, ItemFault>
+    requires row { row < table_size frame.now ClassDefs }
+    ensures read { ArePools frame.now pools.now → IsDataOf frame.now row pools.now declared.now → IfOk result (λ parts. MatchOption parts (AreHeavyMembers frame.now row most) (λ x. ArePartsOf frame.now row pools.now declared.now most x.directory x.direct_codes.items x.virtual_codes.items (values_of_list (map value_of x.static_values.items)))) }
+    ensures refused { ArePools frame.now pools.now → IsDataOf frame.now row pools.now declared.now → IfErr result (IsMembersFault frame.now row) }
+{
+    pools.numbering().is_numbering();
+    let found = match read_annotations(alloc, frame, pools, row, declared, most) {
+        Ok(found) => found,
+        Err(fault) => return Err(fault),
+    };
+    let direct = match read_codes(alloc, frame, pools, &declared.direct_methods, most) {
+        Ok(codes) => codes,
+        Err(fault) => return Err(fault),
+    };
+    let virtuals = match read_codes(alloc, frame, pools, &declared.virtual_methods, most) {
+        Ok(codes) => codes,
+        Err(fault) => return Err(fault),
+    };
+    let fields = declared.static_fields.len();
+    let values = match read_static_values(alloc, frame, pools, row, fields, most) {
+        Ok(values) => values,
+        Err(fault) => return Err(fault),
+    };
+    let directory = match found {
+        Some(directory) => directory,
+        None => return Ok(None),
+    };
+    let direct_codes = match direct {
+        Some(codes) => codes,
+        None => return Ok(None),
+    };
+    let virtual_codes = match virtuals {
+        Some(codes) => codes,
+        None => return Ok(None),
+    };
+    match values {
+        Some(static_values) => Ok(Some(Parts {
+            directory,
+            direct_codes,
+            virtual_codes,
+            static_values,
+        })),
+        None => Ok(None),
+    }
+}
+
+/// The members of class data with their parts.
+///
+/// Error: the memory for a list was refused.
+///
+/// Source: "class_data_item", "annotations_directory_item".
+pub(crate) fn attach<'a>(
+    alloc: Global,
+    declared: &ClassData,
+    parts: Parts<'a>,
+) -> Result<Members<'a>, AllocError>
+    ensures { AreAttachable declared.now parts.entry.directory parts.entry.direct_codes.items parts.entry.virtual_codes.items → IfOk result (λ x. x ≡ attached declared.now parts.entry.directory parts.entry.direct_codes.items parts.entry.virtual_codes.items (values_of_list (map value_of parts.entry.static_values.items))) }
+{
+    let Parts {
+        directory,
+        direct_codes,
+        virtual_codes,
+        static_values,
+    } = parts;
+    let Directory {
+        own,
+        mut fields,
+        mut methods,
+        mut parameters,
+    } = directory;
+    let static_fields = attach_fields(alloc, &declared.static_fields, &mut fields)?;
+    let instance_fields = attach_fields(alloc, &declared.instance_fields, &mut fields)?;
+    let direct_methods = attach_methods(
+        alloc,
+        &declared.direct_methods,
+        direct_codes,
+        &mut methods,
+        &mut parameters,
+    )?;
+    let virtual_methods = attach_methods(
+        alloc,
+        &declared.virtual_methods,
+        virtual_codes,
+        &mut methods,
+        &mut parameters,
+    )?;
+    Ok(Members {
+        annotations: own,
+        static_fields,
+        instance_fields,
+        direct_methods,
+        virtual_methods,
+        static_values,
+    })
+}

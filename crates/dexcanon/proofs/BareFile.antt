@@ -1,11 +1,11 @@
 -- The layout of the file of classes without members, and what stands behind its header, by numbers.
-use Rattle.std.proofs.Common.{◌≡◌, ℕ, zero, suc, ◌<◌, List, [], ◌∷◌, ◌++◌, length, map, Option, None, Some, refl, ap, ◌∙◌, arith, append_assoc}
+use Rattle.std.proofs.Common.{◌≡◌, ℕ, zero, suc, ◌<◌, List, [], ◌∷◌, ◌++◌, length, map, Option, None, Some, refl, sym, ap, subst, ◌∙◌, arith, append_assoc, inl, inr}
 use Rattle.std.specs.Prelude.{slice_index, if◌then◌else◌, ◌==◌, Bool, true, false, unwrap_or}
-use Rattle.std.specs.List.{flat_map, concat, All}
+use Rattle.std.specs.List.{flat_map, concat, All, Contains, position_or_len}
 use Rattle.std.specs.Option.{option_map, option_map_or, option_to_list}
 use Rattle.std.proofs.lemmas.List.{append-nil, length-map}
 use Rattle.std.proofs.lemmas.List.Elements.{All-nil, All-cons, All-head, All-tail}
-use Rattle.dexspec.specs.Lists.{present, zip_with}
+use Rattle.dexspec.specs.Lists.{present, distinct, zip_with}
 use Rattle.dexspec.specs.Bytes.{ushort, uint, round_up, padding}
 use Rattle.dexspec.specs.Texts.{Text, string_data}
 use Rattle.dexspec.specs.Header.{StringIds, TypeIds, ClassDefs, header_length}
@@ -13,16 +13,22 @@ use Rattle.dexspec.specs.Sections.{Section, TableOf, TypeLists, StringDataItems,
 use Rattle.dexspec.specs.Classes.{Definition, no_index}
 use Rattle.dexspec.specs.Mentions.{Mentions}
 use Rattle.dexspec.specs.Spellings.{text_index, type_index}
-use Rattle.dexspec.specs.Placing.{unless_empty, Ordered, Placed, offsets, offsets_from, end_from, section_bytes, bytes_from}
+use Rattle.dexspec.specs.Placing.{unless_empty, type_list_uses, uses_offsets, Ordered, Placed, offsets, offsets_from, end_from, section_bytes, bytes_from}
 use Rattle.dexspec.specs.Canonical.{data_start, Layout, ClassOffsets, class_offsets, class_row_bytes, table_bytes, map_of, map_bytes}
-use Rattle.dexspec.proofs.Placements.{type_list_bytes, type_list_section, type_list_end, type_list_offsets, string_section, string_end, array_end, directory_end, directory_offsets, class_data_offsets, array_offsets, data_sections, named_layout, layout_is, annotation_section, array_section, debug_section, code_section, class_data_section, set_section, ref_list_section, directory_section}
+use Rattle.dexspec.proofs.Placements.{type_list_bytes, type_list_items, length-shared_offsets, type_list_section, type_list_end, type_list_offsets, string_section, string_end, array_end, directory_end, directory_offsets, class_data_offsets, array_offsets, data_sections, named_layout, layout_is, annotation_section, array_section, debug_section, code_section, class_data_section, set_section, ref_list_section, directory_section}
+use Rattle.dexspec.specs.Sameness.{same_types}
+use Rattle.dexspec.proofs.Sameness.{types_decide}
+use Rattle.dexspec.proofs.Members.{Contains-nil, Contains-first, Contains-later, Contains-cons_cases}
+use Rattle.dexspec.proofs.Sources.{distinct_source}
+use Rattle.std.proofs.lemmas.Bool.Decides.{same_from_decides}
 use Rattle.dexspec.proofs.Tables.{table_start}
 use Rattle.dexclass.specs.Numbered.{NumberedClass, definition_of, type_at, text_at}
 use Rattle.dexclass.specs.Marking.{IsInRange}
 use Rattle.dexhead.specs.Laid.{behind_header, map_start}
-use Rattle.dexcanon.specs.Uses.{bytes_along, end_along, offsets_along}
-use Rattle.dexcanon.specs.Bare.{bare_mentions, bare, list_use, list_uses, data_from, strings_from, strings_to, map_from, string_offsets, list_offsets, class_row, entry_unless_empty, types_from, classes_from, entries, bare_rows, bare_data}
-use Rattle.dexcanon.proofs.Along.{own_bytes, own_end, own_offsets, bytes_plain, present_map, length-offsets_along}
+use Rattle.dexcanon.specs.Bare.{bare_mentions, bare, list_bytes, list_uses, same_numbers, list_items, lists_of, offsets_of, data_from, strings_from, strings_to, map_from, string_offsets, list_offsets, class_row, entry_unless_empty, types_from, classes_from, entries, bare_rows, bare_data}
+use Rattle.dexcanon.proofs.Along.{bytes_plain, present_map}
+use Rattle.dexcanon.proofs.Shared.{distinct_led, numbers_led}
+use Rattle.dexcanon.proofs.PlacesTo.{numbers_decide}
 use Rattle.dexcanon.proofs.BareSections.{zeros, annotation_none, array_none, debug_none, code_none, class_data_none, set_none, ref_list_none, directory_none, directory_zeros, class_data_zeros, array_zeros, array_end_is, directory_end_is}
 
 -- the index of each symbol is its number
@@ -49,23 +55,64 @@ module _ (m : Mentions) (ranked : AreRanked m) where
       ap (λ k. ushort k ++ flat_map (λ t. ushort (type_index m t)) (map (type_at m) ns)) here
       ∙ ap (λ ys. ushort n ++ ys) (types_spelled ns (All-tail (λ i. i < length m.types) n ns h))
 
-  list_spelled : (ns : List ℕ) → All (λ i. i < length m.types) ns → option_map (type_list_bytes m) (unless_empty (map (type_at m) ns)) ≡ list_use ns
-  list_spelled [] h = refl
-  list_spelled (n ∷ ns) h =
-      ap (λ k. Some (uint k ++ flat_map (λ t. ushort (type_index m t)) (map (type_at m) (n ∷ ns)))) (length-map (n ∷ ns) (type_at m))
-      ∙ ap (λ ys. Some (uint (length (n ∷ ns)) ++ ys)) (types_spelled (n ∷ ns) h)
+  -- the numbers of a list are those of types
+  abbrev AreTypes : List ℕ → Type 0
+  AreTypes ns = All (λ i. i < length m.types) ns
+
+  -- the types of a list
+  abbrev types_of : List ℕ → List Text
+  types_of ns = map (type_at m) ns
+
+  list_spelled : (ns : List ℕ) → AreTypes ns → type_list_bytes m (types_of ns) ≡ list_bytes ns
+  list_spelled ns h =
+      ap (λ k. uint k ++ flat_map (λ t. ushort (type_index m t)) (types_of ns)) (length-map ns (type_at m))
+      ∙ ap (λ ys. uint (length ns) ++ ys) (types_spelled ns h)
+
+  spelled : (xs : List (List ℕ)) → ((x : List ℕ) → Contains xs x → AreTypes x) → map (type_list_bytes m) (map types_of xs) ≡ map list_bytes xs
+  spelled [] h = refl
+  spelled (x ∷ xs) h =
+      ap (λ y. y ∷ map (type_list_bytes m) (map types_of xs)) (list_spelled x (h x (Contains-first x xs)))
+      ∙ ap (λ ys. list_bytes x ∷ ys) (spelled xs (λ y c. h y (Contains-later x y xs c)))
+
+  -- the types have their numbers back
+  types_back : (ns : List ℕ) → AreTypes ns → map (type_index m) (types_of ns) ≡ ns
+  types_back [] h = refl
+  types_back (n ∷ ns) h =
+      ap (λ k. k ∷ map (type_index m) (types_of ns)) (ranked.types_ranked n (All-head (λ i. i < length m.types) n ns h))
+      ∙ ap (λ ks. n ∷ ks) (types_back ns (All-tail (λ i. i < length m.types) n ns h))
+
+  -- so lists of types are the same where the numbers are
+  told_alike : (ns ks : List ℕ) → AreTypes ns → AreTypes ks → same_types (types_of ns) (types_of ks) ≡ same_numbers ns ks
+  told_alike ns ks hn hk =
+      let texts = types_decide (types_of ns) (types_of ks) in
+      let numbers = numbers_decide ns ks in
+      same_from_decides (same_types (types_of ns) (types_of ks)) (same_numbers ns ks)
+      ((λ e. sym (types_back ns hn) ∙ ap (map (type_index m)) (texts.0 e) ∙ types_back ks hk), (λ e. texts.1 (ap types_of e))) numbers
 
   -- the numbers of the interfaces are in range
   interfaces_in : (c : NumberedClass) → IsInRange m c → All (λ i. i < length m.types) c.interfaces
   interfaces_in c h = all_right (λ i. i < length m.types) (c.name ∷ option_to_list c.superclass) c.interfaces h.types_in
 
-  lists_spelled : (cs : List NumberedClass) → All (IsInRange m) cs
-      → map (option_map (type_list_bytes m)) (map (λ (d : Definition). unless_empty d.1.interfaces) (map (definition_of m) cs)) ≡ list_uses cs
-  lists_spelled [] h = refl
-  lists_spelled (c ∷ cs) h =
-      let rest = map (option_map (type_list_bytes m)) (map (λ (d : Definition). unless_empty d.1.interfaces) (map (definition_of m) cs)) in
-      ap (λ u. u ∷ rest) (list_spelled c.interfaces (interfaces_in c (All-head (IsInRange m) c cs h)))
-      ∙ ap (λ us. list_use c.interfaces ∷ us) (lists_spelled cs (All-tail (IsInRange m) c cs h))
+  -- the uses of lists are led so
+  use_led : (ns : List ℕ) → unless_empty (types_of ns) ≡ option_map types_of (unless_empty ns)
+  use_led [] = refl
+  use_led (n ∷ ns) = refl
+
+  uses_led : (cs : List NumberedClass) → map (λ (d : Definition). unless_empty d.1.interfaces) (map (definition_of m) cs) ≡ map (option_map types_of) (list_uses cs)
+  uses_led [] = refl
+  uses_led (c ∷ cs) =
+      ap (λ u. u ∷ map (λ (d : Definition). unless_empty d.1.interfaces) (map (definition_of m) cs)) (use_led c.interfaces)
+      ∙ ap (λ us. option_map types_of (unless_empty c.interfaces) ∷ us) (uses_led cs)
+
+  -- and are in range
+  one_in : (ns : List ℕ) (us : List (Option (List ℕ))) → AreTypes ns → ((x : List ℕ) → Contains (present us) x → AreTypes x) → (x : List ℕ) → Contains (present (unless_empty ns ∷ us)) x → AreTypes x
+  one_in [] us h again x c = again x c
+  one_in (n ∷ ns) us h again x c = elim (Contains-cons_cases (n ∷ ns) x (present us) c) [ inl e ↦ subst AreTypes e h | inr l ↦ again x l ]
+
+  uses_in : (cs : List NumberedClass) → All (IsInRange m) cs → (x : List ℕ) → Contains (present (list_uses cs)) x → AreTypes x
+  uses_in [] h x c = absurd (Contains-nil x c)
+  uses_in (k ∷ cs) h x c =
+      one_in k.interfaces (list_uses cs) (interfaces_in k (All-head (IsInRange m) k cs h)) (uses_in cs (All-tail (IsInRange m) k cs h)) x c
 
   -- ---- class rows
 
@@ -164,30 +211,48 @@ module _ (texts types : List Text) (cs : List NumberedClass) (ranked : AreRanked
   data_start_is = omega (arith, length-map cs (definition_of m))
 
   -- the type lists
-  lists_bytes : section_bytes (type_list_section O) ≡ bytes_along 4 (data_from texts types cs) (list_uses cs)
-  lists_bytes =
-      own_bytes (type_list_bytes m) 4 (data_start O) (map (λ (d : Definition). unless_empty d.1.interfaces) O.classes)
-      ∙ ap (bytes_along 4 (data_start O)) (lists_spelled m ranked cs within)
-      ∙ ap (λ n. bytes_along 4 n (list_uses cs)) data_start_is
+  lists_in : (x : List ℕ) → Contains (present (list_uses cs)) x → AreTypes m ranked x
+  lists_in x c = uses_in m ranked cs within x c
+
+  written_in : (x : List ℕ) → Contains (list_items cs).written x → AreTypes m ranked x
+  written_in x c = lists_in x (distinct_source same_numbers (present (list_uses cs)) x c)
+
+  abbrev led : List ℕ → List Text
+  led ns = types_of m ranked ns
+
+  uses_are : type_list_uses O ≡ map (option_map led) (list_uses cs)
+  uses_are = uses_led m ranked cs
+
+  written_are : (type_list_items O).written ≡ map led (list_items cs).written
+  written_are =
+      ap (λ us. distinct same_types (present us)) uses_are ∙ ap (distinct same_types) (sym (present_map led (list_uses cs)))
+      ∙ distinct_led led same_numbers same_types (present (list_uses cs)) (λ x y cx cy. told_alike m ranked x y (lists_in x cx) (lists_in y cy))
+
+  lists_are : (type_list_section O).items ≡ lists_of cs
+  lists_are = ap (map (type_list_bytes m)) written_are ∙ spelled m ranked (list_items cs).written written_in
+
+  numbers_are : (type_list_items O).numbers ≡ (list_items cs).numbers
+  numbers_are =
+      ap (λ us. map (option_map (λ x. position_or_len (λ y. same_types y x) (type_list_items O).written)) us) uses_are
+      ∙ ap (λ ws. map (option_map (λ x. position_or_len (λ y. same_types y x) ws)) (map (option_map led) (list_uses cs))) written_are
+      ∙ numbers_led led same_numbers same_types (list_uses cs) (list_items cs).written (λ x y cy cx. told_alike m ranked y x (written_in y cy) (lists_in x cx))
+
+  lists_bytes : section_bytes (type_list_section O) ≡ bytes_from 4 (data_from texts types cs) (lists_of cs)
+  lists_bytes = ap (bytes_from 4 (data_start O)) lists_are ∙ ap (λ n. bytes_from 4 n (lists_of cs)) data_start_is
 
   lists_end_is : type_list_end O ≡ strings_from texts types cs
   unfolding type_list_end
-  lists_end_is =
-      own_end (type_list_bytes m) 4 (data_start O) (map (λ (d : Definition). unless_empty d.1.interfaces) O.classes)
-      ∙ ap (end_along 4 (data_start O)) (lists_spelled m ranked cs within)
-      ∙ ap (λ n. end_along 4 n (list_uses cs)) data_start_is
+  lists_end_is = ap (end_from 4 (data_start O)) lists_are ∙ ap (λ n. end_from 4 n (lists_of cs)) data_start_is
 
   pub lists_at : type_list_offsets O ≡ list_offsets texts types cs
   unfolding type_list_offsets
   lists_at =
-      own_offsets (type_list_bytes m) 4 (data_start O) (map (λ (d : Definition). unless_empty d.1.interfaces) O.classes)
-      ∙ ap (offsets_along 4 (data_start O)) (lists_spelled m ranked cs within)
-      ∙ ap (λ n. offsets_along 4 n (list_uses cs)) data_start_is
+      ap (λ ns. uses_offsets ns (offsets (type_list_section O))) numbers_are
+      ∙ ap (λ xs. uses_offsets (list_items cs).numbers (offsets_from 4 (data_start O) xs)) lists_are
+      ∙ ap (λ n. offsets_of n cs) data_start_is
 
-  lists_count : length (type_list_section O).items ≡ length (present (list_uses cs))
-  lists_count =
-      let us = map (λ (d : Definition). unless_empty d.1.interfaces) O.classes in
-      ap (λ (xs : List (List ℕ)). length xs) (present_map (type_list_bytes m) us ∙ ap present (lists_spelled m ranked cs within))
+  lists_count : length (type_list_section O).items ≡ length (lists_of cs)
+  lists_count = ap (λ (xs : List (List ℕ)). length xs) lists_are
 
   -- the texts
   array_end_from : array_end O ≡ strings_from texts types cs
@@ -207,7 +272,7 @@ module _ (texts types : List Text) (cs : List NumberedClass) (ranked : AreRanked
   map_start_is = ap (λ (l : Layout). round_up 4 l.data_end) (layout_is O) ∙ ap (round_up 4) data_end_is
 
   -- the sections
-  sections_are : flat_map section_bytes (data_sections O) ≡ bytes_along 4 (data_from texts types cs) (list_uses cs) ++ flat_map string_data texts
+  sections_are : flat_map section_bytes (data_sections O) ≡ bytes_from 4 (data_from texts types cs) (lists_of cs) ++ flat_map string_data texts
   sections_are =
       let b = λ (p : Placed). section_bytes p in
       first_and_fourth (b (type_list_section O)) (b (annotation_section O)) (b (array_section O)) (b (string_section O)) (b (debug_section O)) (b (code_section O)) (b (class_data_section O)) (b (set_section O)) (b (ref_list_section O)) (b (directory_section O))
@@ -220,7 +285,7 @@ module _ (texts types : List Text) (cs : List NumberedClass) (ranked : AreRanked
       (no_bytes (ref_list_section O) (ref_list_none texts types cs))
       (no_bytes (directory_section O) (directory_none texts types cs))
       ∙ ap (λ ys. ys ++ b (string_section O)) lists_bytes
-      ∙ ap (λ ys. bytes_along 4 (data_from texts types cs) (list_uses cs) ++ ys) (bytes_plain string_data (array_end O) texts)
+      ∙ ap (λ ys. bytes_from 4 (data_from texts types cs) (lists_of cs) ++ ys) (bytes_plain string_data (array_end O) texts)
 
   abbrev n : ℕ
   n = length cs
@@ -234,7 +299,7 @@ module _ (texts types : List Text) (cs : List NumberedClass) (ranked : AreRanked
       ∙ ap (class_offsets (list_offsets texts types cs) (zeros n) (zeros n)) (array_zeros texts types cs)
 
   length-list_offsets : length (list_offsets texts types cs) ≡ n
-  length-list_offsets = length-offsets_along 4 (data_from texts types cs) (list_uses cs) ∙ length-map cs (λ c. list_use c.interfaces)
+  length-list_offsets = length-shared_offsets same_numbers (list_uses cs) (offsets_from 4 (data_from texts types cs) (lists_of cs)) ∙ length-map cs (λ c. unless_empty c.interfaces)
 
   -- the rows
   pub rows_are : table_bytes O (named_layout O) ≡ bare_rows texts types cs
@@ -264,10 +329,10 @@ module _ (texts types : List Text) (cs : List NumberedClass) (ranked : AreRanked
       (no_entry (set_section O) (set_none texts types cs))
       (no_entry (ref_list_section O) (ref_list_none texts types cs))
       (no_entry (directory_section O) (directory_none texts types cs)) in
-      let lists : e (type_list_section O) ≡ entry_unless_empty TypeLists (length (present (list_uses cs))) (data_from texts types cs) =
+      let lists : e (type_list_section O) ≡ entry_unless_empty TypeLists (length (lists_of cs)) (data_from texts types cs) =
       items_entry TypeLists 4 (data_start O) (type_list_section O).items (omega arith)
       ∙ ap (λ n. entry_unless_empty TypeLists n (data_start O)) lists_count
-      ∙ ap (entry_unless_empty TypeLists (length (present (list_uses cs)))) data_start_is in
+      ∙ ap (entry_unless_empty TypeLists (length (lists_of cs))) data_start_is in
       let strings : e (string_section O) ≡ entry_unless_empty StringDataItems (length texts) (strings_from texts types cs) =
       items_entry StringDataItems 1 (array_end O) (string_section O).items (omega arith)
       ∙ ap (λ n. entry_unless_empty StringDataItems n (array_end O)) (length-map texts string_data)
@@ -291,7 +356,7 @@ module _ (texts types : List Text) (cs : List NumberedClass) (ranked : AreRanked
   behind_is =
       let l = named_layout O in
       let k = map_from texts types cs in
-      let b = bytes_along 4 (data_from texts types cs) (list_uses cs) in
+      let b = bytes_from 4 (data_from texts types cs) (lists_of cs) in
       let t = flat_map string_data texts in
       let end = padding 4 (strings_to texts types cs) ++ map_bytes (entries texts types cs) in
       ap (λ (l : Layout). table_bytes O l ++ (flat_map section_bytes l.sections ++ (padding 4 l.data_end ++ map_bytes (map_of O l (round_up 4 l.data_end))))) (layout_is O)

@@ -1,14 +1,15 @@
 -- Of classes without members, values and annotations: which sections are empty, and where they end.
 use Rattle.std.proofs.Common.{◌≡◌, ℕ, zero, suc, List, [], ◌∷◌, length, map, drop, Option, None, Some, refl, ap, ◌∙◌, arith, zip}
 use Rattle.std.specs.Prelude.{if◌then◌else◌}
-use Rattle.std.specs.List.{flat_map}
-use Rattle.std.specs.Option.{option_map_or}
+use Rattle.std.specs.List.{flat_map, position_or_len}
+use Rattle.std.specs.Option.{option_map, option_map_or}
 use Rattle.std.proofs.lemmas.List.{length-map}
-use Rattle.dexspec.specs.Lists.{present, chunks, zip_with}
+use Rattle.dexspec.specs.Lists.{present, distinct, chunks, zip_with}
 use Rattle.dexspec.specs.Texts.{Text}
 use Rattle.dexspec.specs.Values.{Values}
 use Rattle.dexspec.specs.Code.{Code}
 use Rattle.dexspec.specs.Classes.{MethodDef, Definition}
+use Rattle.dexspec.specs.Sameness.{same_debug, same_set}
 use Rattle.dexspec.specs.Mentions.{Mentions}
 use Rattle.dexspec.specs.Annotations.{AnnotationSet}
 use Rattle.dexspec.specs.Spellings.{annotation_bytes, encoded_array_bytes, debug_bytes, code_bytes, class_data_bytes, offsets_bytes}
@@ -34,6 +35,11 @@ present_nones X (suc n) = present_nones X n
 pub offsets_nones : (X : Type 0) (k n : ℕ) (offs : List ℕ) → uses_offsets (own_numbers k (nones {X = X} n)) offs ≡ zeros n
 offsets_nones X k zero offs = refl
 offsets_nones X k (suc n) offs = ap (λ ys. 0 ∷ ys) (offsets_nones X k n offs)
+
+-- the same where equal uses share an item
+shared_nones : (X : Type 0) (number : X → ℕ) (n : ℕ) (offs : List ℕ) → uses_offsets (map (option_map number) (nones {X = X} n)) offs ≡ zeros n
+shared_nones X number zero offs = refl
+shared_nones X number (suc n) offs = ap (λ ys. 0 ∷ ys) (shared_nones X number n offs)
 
 -- the offsets of a class that has no sets
 abbrev no_set_offsets : SetOffsets
@@ -95,7 +101,7 @@ module _ (texts types : List Text) (cs : List NumberedClass) where
   sets_are = no_sets m cs
 
   sets_none : (set_items O).written ≡ []
-  sets_none = ap present sets_are ∙ present_nones AnnotationSet (length cs)
+  sets_none = ap (distinct same_set) (ap present sets_are ∙ present_nones AnnotationSet (length cs))
 
   -- the sections that have no items
   pub annotation_none : (annotation_section O).items ≡ []
@@ -105,7 +111,7 @@ module _ (texts types : List Text) (cs : List NumberedClass) where
   array_none = ap (λ us. map (encoded_array_bytes m) (present us)) (no_values m cs) ∙ ap (map (encoded_array_bytes m)) (present_nones Values (length cs))
 
   pub debug_none : (debug_section O).items ≡ []
-  debug_none = ap (λ xs. map (debug_bytes m) (present (map (λ x. option_map_or (λ c. c.debug) x.code None) xs))) (no_methods m cs)
+  debug_none = ap (λ xs. map (debug_bytes m) (distinct same_debug (present (map (λ x. option_map_or (λ c. c.debug) x.code None) xs)))) (no_methods m cs)
 
   pub code_none : (code_section O).items ≡ []
   code_none = ap (λ xs. map (λ (p : Code × ℕ). code_bytes m p.1 p.0) (present (zip_with (λ (x : MethodDef) o. option_map_or (λ c. Some (c, o)) x.code None) xs (debug_offsets O)))) (no_methods m cs)
@@ -128,8 +134,9 @@ module _ (texts types : List Text) (cs : List NumberedClass) where
   set_offsets_are : set_offsets O ≡ map (λ c. no_set_offsets) cs
   unfolding set_offsets
   set_offsets_are =
-      ap (λ us. set_offsets_by_class O (uses_offsets (own_numbers 0 us) (offsets (set_section O)))) sets_are
-      ∙ ap (set_offsets_by_class O) (offsets_nones AnnotationSet 0 (length cs) (offsets (set_section O)))
+      let number : AnnotationSet → ℕ = λ x. position_or_len (λ y. same_set y x) (set_items O).written in
+      ap (λ us. set_offsets_by_class O (uses_offsets (map (option_map number) us) (offsets (set_section O)))) sets_are
+      ∙ ap (set_offsets_by_class O) (shared_nones AnnotationSet number (length cs) (offsets (set_section O)))
       ∙ no_offsets m cs
 
   refs_are : ref_list_uses O (set_offsets O) ≡ []

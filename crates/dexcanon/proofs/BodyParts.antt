@@ -9,8 +9,8 @@ use Rattle.dexspec.specs.Canonical.{map_bytes}
 use Rattle.dexhead.specs.Written.{entry_meant}
 use Rattle.dexclass.specs.Numbered.{NumberedClass}
 use Rattle.dexcanon.specs.declared.layout.Layout.{Layout}
-use Rattle.dexcanon.specs.Uses.{bytes_along}
-use Rattle.dexcanon.specs.Bare.{class_row, list_uses}
+use Rattle.dexspec.specs.Placing.{bytes_from}
+use Rattle.dexcanon.specs.Bare.{class_row, lists_of}
 use Rattle.dexcanon.specs.Laid.{body_bytes}
 
 module _ (m : Mentions) (cs : List NumberedClass) (l : Layout) where
@@ -24,7 +24,7 @@ module _ (m : Mentions) (cs : List NumberedClass) (l : Layout) where
   class_rows = flat_map (λ (p : NumberedClass × ℕ). class_row p.0 p.1) (zip cs l.lists.items)
 
   abbrev pub lists : List ℕ
-  lists = bytes_along 4 l.head.data_off (list_uses cs)
+  lists = bytes_from 4 l.head.data_off (lists_of cs)
 
   abbrev pub strings : List ℕ
   strings = flat_map string_data m.texts

@@ -4,7 +4,6 @@ use Rattle.std.specs.List.{flat_map}
 use Rattle.std.proofs.lemmas.List.{length-append, append-nil}
 use Rattle.dexspec.specs.Bytes.{uint}
 use Rattle.std.specs.Prelude.{Bool, true, false, if◌then◌else◌, ◌==◌}
-use Rattle.dexspec.specs.Lists.{present}
 use Rattle.dexspec.specs.Texts.{Text}
 use Rattle.dexspec.specs.Header.{StringIds, TypeIds, ClassDefs, header_length}
 use Rattle.dexspec.specs.Sections.{Section, TableOf, TypeLists, StringDataItems}
@@ -12,7 +11,7 @@ use Rattle.dexclass.specs.Numbered.{NumberedClass}
 use Rattle.dexspec.specs.Canonical.{map_bytes, map_entry_bytes}
 use Rattle.dexspec.proofs.ByteNumbers.{length-uint, length-ushort}
 use Rattle.dexspec.proofs.Stands.{length_rows}
-use Rattle.dexcanon.specs.Bare.{unless_none, entries, list_uses, data_from, strings_from, types_from, classes_from}
+use Rattle.dexcanon.specs.Bare.{unless_none, entries, lists_of, data_from, strings_from, types_from, classes_from}
 use Rattle.dexcanon.specs.Laid.{entry_of}
 
 -- an entry, of equal numbers
@@ -67,6 +66,6 @@ few_entries texts types cs =
     let a = entry_few (TableOf StringIds) (length texts == 0) (length texts) header_length in
     let b = entry_few (TableOf TypeIds) (length types == 0) (length types) (types_from texts) in
     let d = entry_few (TableOf ClassDefs) (length cs == 0) (length cs) (classes_from texts types) in
-    let e = entry_few TypeLists (length (present (list_uses cs)) == 0) (length (present (list_uses cs))) (data_from texts types cs) in
+    let e = entry_few TypeLists (length (lists_of cs) == 0) (length (lists_of cs)) (data_from texts types cs) in
     let f = entry_few StringDataItems (length texts == 0) (length texts) (strings_from texts types cs) in
     omega (arith, length-append {A = Section × ℕ × ℕ}, a, b, d, e, f)

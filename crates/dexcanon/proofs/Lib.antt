@@ -1,4 +1,6 @@
 pub mod Along
+pub mod Distinct
+pub mod Shared
 pub mod BareSections
 pub mod BareFile
 pub mod PlacesTo

@@ -18,9 +18,8 @@ use Rattle.dexclass.specs.Marking.{IsInRange}
 use Rattle.dexclass.specs.Programs.{AreClassesOf}
 use Rattle.dexhead.specs.Laid.{map_start, TellsLayout}
 use Rattle.dexcanon.specs.declared.layout.Layout as code
-use Rattle.dexcanon.specs.Bare.{bare_mentions, bare, list_uses, data_from, strings_from, map_from, entries, classes_from}
+use Rattle.dexcanon.specs.Bare.{bare_mentions, bare, lists_of, data_from, strings_from, map_from, entries, classes_from}
 use Rattle.dexcanon.specs.Laid.{IsLayoutOf, IsLaid, file_length, FitFile}
-use Rattle.dexcanon.proofs.Along.{along_le}
 use Rattle.dexcanon.proofs.BareFile.{AreRanked, data_start_is, map_start_is, data_end_is, entries_are, strings_at, interfaces_at}
 use Rattle.dexcanon.proofs.LaidParts.{same_rows, six_rows, length-map_bytes}
 use Rattle.dexcanon.proofs.PlainMentions.{plain_mentions}
@@ -90,7 +89,7 @@ module _ (texts types : List Text) (cs : List NumberedClass) (ranked : AreRanked
 -- each part fits where the file does
 pub fit_file : (texts types : List Text) (cs : List NumberedClass) → file_length texts types cs ≤ 1073741824 → FitFile texts types cs
 fit_file texts types cs le = record {
-  data_before = along_le 4 (data_from texts types cs) (list_uses cs);
+  data_before = end_from_le 4 (data_from texts types cs) (lists_of cs);
   strings_before = end_from_le 1 (strings_from texts types cs) (map string_data texts);
   file_fits = omega (arith, le, length-map_bytes (entries texts types cs));
 }

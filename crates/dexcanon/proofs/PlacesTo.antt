@@ -1,123 +1,252 @@
 -- How far the loops over classes and over texts have come.
-use Rattle.std.proofs.Common.{◌≡◌, ℕ, suc, ◌+◌, ◌*◌, ◌<◌, ◌≤◌, List, [], ◌∷◌, ◌++◌, length, get_or, map, drop, None, Some, refl, sym, ap, subst, ◌∙◌, arith, append_assoc, inl, inr, max}
+use Rattle.std.proofs.Common.{◌≡◌, ℕ, ◌+◌, ◌*◌, ◌<◌, ◌≤◌, List, [], ◌∷◌, ◌++◌, length, get_or, map, drop, None, Some, refl, sym, ap, subst, ◌∙◌, arith, append_assoc, inl, inr, max}
 use Rattle.std.specs.List.{flat_map}
 use Rattle.std.proofs.lemmas.List.{length-append, drop_more, get_or_default}
 use Rattle.std.proofs.lemmas.Bool.{cases_lt}
-use Rattle.dexspec.specs.Lists.{present}
+use Rattle.dexspec.specs.Lists.{present, distinct}
 use Rattle.dexspec.specs.Bytes.{ushort, uint, round_up}
 use Rattle.dexspec.specs.Texts.{Text, string_data}
-use Rattle.dexspec.specs.Placing.{offsets_from, end_from}
+use Rattle.dexspec.specs.Placing.{unless_empty, offsets_from, end_from}
 use Rattle.dexspec.proofs.ByteNumbers.{length-uint, length-ushort}
 use Rattle.dexspec.proofs.Stands.{length_rows}
-use Rattle.dexspec.proofs.Places.{end_from_le}
+use Rattle.dexspec.proofs.Places.{end_from_le, length-offsets_from, items_few}
 use Rattle.dexclass.specs.Numbered.{NumberedClass}
-use Rattle.dexcanon.specs.Uses.{end_along, offsets_along}
-use Rattle.dexcanon.specs.Bare.{list_bytes, list_use, list_uses}
-use Rattle.dexcanon.proofs.Along.{along_le}
+use Rattle.dexcanon.specs.Bare.{list_bytes, list_uses, same_numbers, list_items, lists_of, offsets_of, no_class, interfaces_of, AreFirsts}
+use Rattle.dexcanon.proofs.Distinct.{distinct_more}
+use Rattle.dexcanon.proofs.Shared.{present-append, position_stays, position_last, position_none, position_alike, turned, self, distinct_front, end_more, offsets_more, end_append, offset_stays}
+use Rattle.dexspec.proofs.Sameness.{IsEquality, lists_decide}
+use Rattle.dexspec.proofs.Sharing.{position_is}
+use Rattle.dexspec.proofs.HandlerPlaces.{distinct_has}
+use Rattle.dexspec.proofs.Members.{Contains-first, Contains-later}
+use Rattle.indexmap.specs.IndexSet.{insert_key}
+use Rattle.std.specs.Prelude.{slice_index, ◌==◌, Option, Bool, true, false, if◌then◌else◌, All}
+use Rattle.std.specs.List.{Contains, list_any, position_or_len}
+use Rattle.std.specs.Option.{option_map, option_map_or}
+use Rattle.std.proofs.lemmas.Bool.Decides.{Decides-eqb}
+use Rattle.std.proofs.lemmas.Simd.{map-map}
+use Rattle.std.proofs.lemmas.List.{map-append, append-nil, length-map}
+use Rattle.std.proofs.lemmas.List.Elements.{All-nil, All-cons, All-append, All-map}
 
 -- a type_list has four bytes and two for each type
 pub length-list_bytes : (ns : List ℕ) → length (list_bytes ns) ≡ 4 + 2 * length ns
 length-list_bytes ns = length-append (uint (length ns)) (flat_map ushort ns) ∙ omega (arith, length-uint (length ns), length_rows ushort 2 length-ushort ns)
 
+-- ---- type lists that equal uses share
+
+-- whether two lists of numbers are the same
+pub numbers_decide : IsEquality same_numbers
+numbers_decide = lists_decide ◌==◌ Decides-eqb
+
+-- where a use's list begins, or 0
+abbrev use_offset : ℕ → List (List ℕ) → Option (List ℕ) → ℕ
+use_offset from xs u = option_map_or (slice_index (offsets_from 4 from (map list_bytes xs))) (option_map (λ x. position_or_len (λ y. same_numbers y x) xs) u) 0
+
+-- with more lists behind them they begin where they did
+offset_same : (from : ℕ) (xs more : List (List ℕ)) (u : Option (List ℕ)) → ((x : List ℕ) → u ≡ Some x → Contains xs x) → use_offset from (xs ++ more) u ≡ use_offset from xs u
+offset_same from xs more None has = refl
+offset_same from xs more (Some x) has =
+    let lt = (position_is same_numbers numbers_decide xs x (has x refl)).0 in
+    ap (slice_index (offsets_from 4 from (map list_bytes (xs ++ more)))) (position_stays (λ y. same_numbers y x) xs more lt)
+    ∙ ap (λ zs. slice_index (offsets_from 4 from zs) (position_or_len (λ y. same_numbers y x) xs)) (map-append list_bytes xs more)
+    ∙ offset_stays 4 from (map list_bytes xs) (map list_bytes more) (position_or_len (λ y. same_numbers y x) xs) (omega (arith, length-map xs list_bytes, lt))
+
+offsets_same : (from : ℕ) (xs more : List (List ℕ)) (us : List (Option (List ℕ))) → ((x : List ℕ) → Contains (present us) x → Contains xs x) → map (use_offset from (xs ++ more)) us ≡ map (use_offset from xs) us
+offsets_same from xs more [] has = refl
+offsets_same from xs more (None ∷ us) has = ap (λ os. 0 ∷ os) (offsets_same from xs more us has)
+offsets_same from xs more (Some x ∷ us) has =
+    ap (λ o. o ∷ map (use_offset from (xs ++ more)) us) (offset_same from xs more (Some x) (λ y e. let one : x ≡ y = cc in subst (Contains xs) one (has x (Contains-first x (present us)))))
+    ∙ ap (λ os. use_offset from xs (Some x) ∷ os) (offsets_same from xs more us (λ y c. has y (Contains-later x y (present us) c)))
+
+-- the lists of classes
+abbrev written : List NumberedClass → List (List ℕ)
+written cs = (list_items cs).written
+
+offsets_are_of : (from : ℕ) (cs : List NumberedClass) → offsets_of from cs ≡ map (use_offset from (written cs)) (list_uses cs)
+offsets_are_of from cs =
+    map-map (λ n. option_map_or (slice_index (offsets_from 4 from (lists_of cs))) n 0) (option_map (λ x. position_or_len (λ y. same_numbers y x) (written cs))) (list_uses cs)
+
+-- each use has one
+pub uses_have : (cs : List NumberedClass) (x : List ℕ) → Contains (present (list_uses cs)) x → Contains (written cs) x
+uses_have cs x c = distinct_has same_numbers (λ y z. (numbers_decide y z).0) (present (list_uses cs)) x c
+
+-- one class more
+uses_more : (ds : List NumberedClass) (c : NumberedClass) → list_uses (ds ++ c ∷ []) ≡ list_uses ds ++ unless_empty c.interfaces ∷ []
+uses_more ds c = map-append (λ (d : NumberedClass). unless_empty d.interfaces) ds (c ∷ [])
+
+-- the offsets of the classes before it stay
+before_stay : (from : ℕ) (ds : List NumberedClass) (c : NumberedClass) (more : List (List ℕ)) → written (ds ++ c ∷ []) ≡ written ds ++ more
+    → offsets_of from (ds ++ c ∷ []) ≡ offsets_of from ds ++ use_offset from (written (ds ++ c ∷ [])) (unless_empty c.interfaces) ∷ []
+before_stay from ds c more e =
+    let w = written (ds ++ c ∷ []) in
+    offsets_are_of from (ds ++ c ∷ []) ∙ ap (map (use_offset from w)) (uses_more ds c) ∙ map-append (use_offset from w) (list_uses ds) (unless_empty c.interfaces ∷ [])
+    ∙ ap (λ os. os ++ use_offset from w (unless_empty c.interfaces) ∷ [])
+    (ap (λ xs. map (use_offset from xs) (list_uses ds)) e ∙ offsets_same from (written ds) more (list_uses ds) (uses_have ds) ∙ sym (offsets_are_of from ds))
+
 -- no list, or one
-pub empty_use : (ns : List ℕ) → length ns ≡ 0 → list_use ns ≡ None
+empty_use : (ns : List ℕ) → length ns ≡ 0 → unless_empty ns ≡ None
 empty_use [] e = refl
 empty_use (n ∷ ns) e = absurd (omega (arith, e))
 
-pub some_use : (ns : List ℕ) → 0 < length ns → list_use ns ≡ Some (list_bytes ns)
+pub some_use : (ns : List ℕ) → 0 < length ns → unless_empty ns ≡ Some ns
 some_use [] h = absurd (omega (arith, h))
 some_use (n ∷ ns) h = refl
 
--- where the lists of the first i classes stand
-pub record ListsTo (from : ℕ) (cs : List NumberedClass) (i : ℕ) (offs : List ℕ) (at count greatest : ℕ) : Type 0 where
-  pub offsets_left : offs ++ offsets_along 4 at (list_uses (drop i cs)) ≡ offsets_along 4 from (list_uses cs)
-  pub end_left : end_along 4 at (list_uses (drop i cs)) ≡ end_along 4 from (list_uses cs)
-  pub count_left : count + length (present (list_uses (drop i cs))) ≡ length (present (list_uses cs))
-  pub few : count ≤ at
+written_none : (ds : List NumberedClass) (c : NumberedClass) → length c.interfaces ≡ 0 → written (ds ++ c ∷ []) ≡ written ds
+written_none ds c none =
+    ap (λ us. distinct same_numbers (present us)) (uses_more ds c ∙ ap (λ u. list_uses ds ++ u ∷ []) (empty_use c.interfaces none))
+    ∙ ap (distinct same_numbers) (present-append (list_uses ds) (None ∷ []) ∙ append-nil (present (list_uses ds)))
+
+written_some : (ds : List NumberedClass) (c : NumberedClass) → 0 < length c.interfaces → written (ds ++ c ∷ []) ≡ insert_key same_numbers (written ds) c.interfaces
+written_some ds c some =
+    ap (λ us. distinct same_numbers (present us)) (uses_more ds c ∙ ap (λ u. list_uses ds ++ u ∷ []) (some_use c.interfaces some))
+    ∙ ap (distinct same_numbers) (present-append (list_uses ds) (Some c.interfaces ∷ []))
+    ∙ distinct_more same_numbers numbers_decide (present (list_uses ds)) c.interfaces
+
+-- how far the lists of the first classes reach
+pub lists_within : (from : ℕ) (ds es : List NumberedClass) → end_from 4 from (lists_of ds) ≤ end_from 4 from (lists_of (ds ++ es))
+lists_within from ds es =
+    let front = distinct_front same_numbers numbers_decide (present (list_uses ds)) (present (list_uses es)) in
+    let is : written (ds ++ es) ≡ written ds ++ front.0 =
+    ap (λ us. distinct same_numbers (present us)) (map-append (λ (d : NumberedClass). unless_empty d.interfaces) ds es) ∙ ap (distinct same_numbers) (present-append (list_uses ds) (list_uses es)) ∙ front.1 in
+    let end : end_from 4 from (lists_of (ds ++ es)) ≡ end_from 4 (end_from 4 from (lists_of ds)) (map list_bytes front.0) =
+    ap (λ xs. end_from 4 from (map list_bytes xs)) is ∙ ap (end_from 4 from) (map-append list_bytes (written ds) front.0) ∙ end_append 4 from (lists_of ds) (map list_bytes front.0) in
+    omega (arith, end, end_from_le 4 (end_from 4 from (lists_of ds)) (map list_bytes front.0))
+
+-- there are no more lists than bytes
+pub lists_few : (from : ℕ) (cs : List NumberedClass) → from + length (lists_of cs) ≤ end_from 4 from (lists_of cs)
+lists_few from cs = items_few 4 from (lists_of cs) (All-map (λ x. 0 < length x) list_bytes (written cs) (λ k d lt. omega (arith, length-list_bytes (get_or (written cs) k d))))
+
+-- as many as first classes
+pub firsts_count : (cs : List NumberedClass) (rs : List ℕ) → AreFirsts cs rs → length rs ≡ length (lists_of cs)
+firsts_count cs rs h = sym (length-map rs (interfaces_of cs)) ∙ ap (λ (l : List (List ℕ)). length l) h.lists ∙ sym (length-map (written cs) list_bytes)
+
+-- where the lists of the first classes stand
+pub record ListsTo (from : ℕ) (cs ds : List NumberedClass) (keys : List (List ℕ)) (places firsts offs : List ℕ) (at greatest : ℕ) : Type 0 where
+  pub keys_are : keys ≡ (list_items ds).written
+  pub places_are : places ≡ offsets_from 4 from (lists_of ds)
+  pub firsts_in : All (λ r. r < length cs) firsts
+  pub firsts_are : map (interfaces_of cs) firsts ≡ (list_items ds).written
+  pub offsets_are : offs ≡ offsets_of from ds
+  pub end_is : at ≡ end_from 4 from (lists_of ds)
   pub least : 112 ≤ greatest
-  pub bound : (k : ℕ) (d : NumberedClass) → k < i → 7 + 2 * length (get_or cs k d).interfaces ≤ greatest
+  pub bound : All (λ c. 7 + 2 * length c.interfaces ≤ greatest) ds
 
--- the list of class i, and those behind it
-pub next_use : (cs : List NumberedClass) (i : ℕ) (c : NumberedClass) → i < length cs → get_or cs i c ≡ c → list_uses (drop i cs) ≡ list_use c.interfaces ∷ list_uses (drop (i + 1) cs)
-next_use cs i c lt is = ap list_uses (drop_more cs i c lt) ∙ ap (λ (d : NumberedClass). list_use d.interfaces ∷ list_uses (drop (i + 1) cs)) is
+-- of no class
+pub lists_none : (from : ℕ) (cs : List NumberedClass) → ListsTo from cs [] [] [] [] [] from 112
+lists_none from cs = record {
+  keys_are = refl;
+  places_are = refl;
+  firsts_in = All-nil (λ r. r < length cs);
+  firsts_are = refl;
+  offsets_are = refl;
+  end_is = refl;
+  least = omega arith;
+  bound = All-nil (λ c. 7 + 2 * length c.interfaces ≤ 112);
+}
 
--- a class without interfaces
-pub lists_pass : {from : ℕ} {cs : List NumberedClass} {i : ℕ} {offs : List ℕ} {at count greatest : ℕ} → ListsTo from cs i offs at count greatest
-    → (c : NumberedClass) (ns : List ℕ) → i < length cs → c ≡ get_or cs i c → ns ≡ c.interfaces → length ns ≡ 0 → ListsTo from cs (i + 1) (offs ++ 0 ∷ []) at count greatest
-lists_pass {from} {cs} {i} {offs} {at} {count} {greatest} h c ns lt self same_list nothing =
-    let is : get_or cs i c ≡ c = sym self in
-    let none : length c.interfaces ≡ 0 = ap (λ (l : List ℕ). length l) (sym same_list) ∙ nothing in
-    let rest = list_uses (drop (i + 1) cs) in
-    let next : list_uses (drop i cs) ≡ None ∷ rest = next_use cs i c lt is ∙ ap (λ u. u ∷ rest) (empty_use c.interfaces none) in
-    record {
-      offsets_left = append_assoc offs (0 ∷ []) (offsets_along 4 at rest) ∙ ap (λ us. offs ++ offsets_along 4 at us) (sym next) ∙ h.offsets_left;
-      end_left = ap (end_along 4 at) (sym next) ∙ h.end_left;
-      count_left = ap (λ us. count + length (present us)) (sym next) ∙ h.count_left;
-      few = h.few;
-      least = h.least;
-      bound = λ k d less. elim (cases_lt k i) [
-        | inl before ↦ h.bound k d before
-        | inr behind ↦
-            let same : k ≡ i = omega arith in
-            let here : get_or cs k d ≡ c = ap (λ n. get_or cs n d) same ∙ get_or_default cs i d c lt ∙ is in
-            let least = h.least in
-            omega (arith, none, ap (λ (x : NumberedClass). length x.interfaces) here)
-      ];
-    }
+module _ {from : ℕ} {cs ds : List NumberedClass} {keys : List (List ℕ)} {places firsts offs : List ℕ} {at greatest : ℕ} (h : ListsTo from cs ds keys places firsts offs at greatest) where
+  -- a greater bound
+  bound_more : (c : NumberedClass) (g : ℕ) → greatest ≤ g → 7 + 2 * length c.interfaces ≤ g → All (λ c. 7 + 2 * length c.interfaces ≤ g) (ds ++ c ∷ [])
+  bound_more c g le here = All-append (λ c. 7 + 2 * length c.interfaces ≤ g) ds (c ∷ []) (λ k d lt. let b = h.bound k d lt in omega (arith, b, le)) (All-cons (λ c. 7 + 2 * length c.interfaces ≤ g) c [] here (All-nil (λ c. 7 + 2 * length c.interfaces ≤ g)))
 
--- the same of a class with interfaces
-lists_more : {from : ℕ} {cs : List NumberedClass} {i : ℕ} {offs : List ℕ} {at count greatest : ℕ} → ListsTo from cs i offs at count greatest
-    → (c : NumberedClass) → i < length cs → get_or cs i c ≡ c → 0 < length c.interfaces
-    → ListsTo from cs (i + 1) (offs ++ round_up 4 at ∷ []) (round_up 4 at + 4 + 2 * length c.interfaces) (count + 1) (max greatest (7 + 2 * length c.interfaces))
-lists_more {from} {cs} {i} {offs} {at} {count} {greatest} h c lt is some =
-    let rest = list_uses (drop (i + 1) cs) in
-    let off = round_up 4 at in
-    let next : list_uses (drop i cs) ≡ Some (list_bytes c.interfaces) ∷ rest = next_use cs i c lt is ∙ ap (λ u. u ∷ rest) (some_use c.interfaces some) in
-    let end : off + 4 + 2 * length c.interfaces ≡ off + length (list_bytes c.interfaces) = omega (arith, length-list_bytes c.interfaces) in
-    record {
-      offsets_left = append_assoc offs (off ∷ []) (offsets_along 4 (off + 4 + 2 * length c.interfaces) rest) ∙ ap (λ n. offs ++ (off ∷ offsets_along 4 n rest)) end
-          ∙ ap (λ us. offs ++ offsets_along 4 at us) (sym next) ∙ h.offsets_left;
-      end_left = ap (λ n. end_along 4 n rest) end ∙ ap (end_along 4 at) (sym next) ∙ h.end_left;
-      count_left = (let e : count + 1 + length (present rest) ≡ count + suc (length (present rest)) = omega arith in e) ∙ ap (λ us. count + length (present us)) (sym next) ∙ h.count_left;
-      few = let few = h.few in omega arith;
-      least = let least = h.least in omega arith;
-      bound = λ k d less. elim (cases_lt k i) [
-        | inl before ↦ let b = h.bound k d before in omega (arith, b)
-        | inr behind ↦
-            let same : k ≡ i = omega arith in
-            let here : get_or cs k d ≡ c = ap (λ n. get_or cs n d) same ∙ get_or_default cs i d c lt ∙ is in
-            omega (arith, ap (λ (x : NumberedClass). length x.interfaces) here)
-      ];
-    }
+  -- a class without interfaces
+  pub lists_pass : (c : NumberedClass) (ns : List ℕ) → ns ≡ c.interfaces → length ns ≡ 0 → ListsTo from cs (ds ++ c ∷ []) keys places firsts (offs ++ 0 ∷ []) at greatest
+  lists_pass c ns same nothing =
+      let none : length c.interfaces ≡ 0 = ap (λ (l : List ℕ). length l) (sym same) ∙ nothing in
+      let w = written_none ds c none in
+      let ls : lists_of (ds ++ c ∷ []) ≡ lists_of ds = ap (map list_bytes) w in
+      record {
+        keys_are = h.keys_are ∙ sym w;
+        places_are = h.places_are ∙ ap (offsets_from 4 from) (sym ls);
+        firsts_in = h.firsts_in;
+        firsts_are = h.firsts_are ∙ sym w;
+        offsets_are = sym (before_stay from ds c [] (w ∙ sym (append-nil (written ds))) ∙ ap (λ u. offsets_of from ds ++ use_offset from (written (ds ++ c ∷ [])) u ∷ []) (empty_use c.interfaces none)
+            ∙ ap (λ os. os ++ 0 ∷ []) (sym h.offsets_are));
+        end_is = h.end_is ∙ ap (end_from 4 from) (sym ls);
+        least = h.least;
+        bound = bound_more c greatest (omega arith) (let l = h.least in omega (arith, none, l));
+      }
 
--- a class with interfaces
-pub lists_take : {from : ℕ} {cs : List NumberedClass} {i : ℕ} {offs : List ℕ} {at count greatest : ℕ} → ListsTo from cs i offs at count greatest
-    → (c : NumberedClass) (ns : List ℕ) → i < length cs → c ≡ get_or cs i c → ns ≡ c.interfaces → (length ns ≡ 0 → ⊥)
-    → ListsTo from cs (i + 1) (offs ++ round_up 4 at ∷ []) (round_up 4 at + 4 + 2 * length ns) (count + 1) (max greatest (7 + 2 * length ns))
-lists_take {from} {cs} {i} {offs} {at} {count} {greatest} h c ns lt self same has =
-    let e : length ns ≡ length c.interfaces = ap (λ (l : List ℕ). length l) same in
-    subst (λ l. ListsTo from cs (i + 1) (offs ++ round_up 4 at ∷ []) (round_up 4 at + 4 + 2 * length l) (count + 1) (max greatest (7 + 2 * length l))) (sym same)
-    (lists_more h c lt (sym self) (omega (arith, e, has)))
+  -- the offset of a class with interfaces
+  offset_is : (c : NumberedClass) (more : List (List ℕ)) (number : ℕ) → 0 < length c.interfaces → written (ds ++ c ∷ []) ≡ written ds ++ more
+      → position_or_len (λ y. same_numbers y c.interfaces) (written (ds ++ c ∷ [])) ≡ number
+      → offs ++ slice_index (offsets_from 4 from (lists_of (ds ++ c ∷ []))) number ∷ [] ≡ offsets_of from (ds ++ c ∷ [])
+  offset_is c more number some w place =
+      sym (before_stay from ds c more w ∙ ap (λ u. offsets_of from ds ++ use_offset from (written (ds ++ c ∷ [])) u ∷ []) (some_use c.interfaces some)
+      ∙ ap (λ n. offsets_of from ds ++ slice_index (offsets_from 4 from (lists_of (ds ++ c ∷ []))) n ∷ []) place
+      ∙ ap (λ os. os ++ slice_index (offsets_from 4 from (lists_of (ds ++ c ∷ []))) number ∷ []) (sym h.offsets_are))
 
--- a list fits before the end of all
-pub list_within : {from : ℕ} {cs : List NumberedClass} {i : ℕ} {offs : List ℕ} {at count greatest : ℕ} → ListsTo from cs i offs at count greatest
-    → (c : NumberedClass) (ns : List ℕ) → i < length cs → c ≡ get_or cs i c → ns ≡ c.interfaces → (length ns ≡ 0 → ⊥) → round_up 4 at + (4 + 2 * length ns) ≤ end_along 4 from (list_uses cs)
-list_within {from} {cs} {i} {offs} {at} {count} {greatest} h c ns lt self same has =
-    let e : length ns ≡ length c.interfaces = ap (λ (l : List ℕ). length l) same in
-    let is : get_or cs i c ≡ c = sym self in
-    let some : 0 < length c.interfaces = omega (arith, e, has) in
-    let rest = list_uses (drop (i + 1) cs) in
-    let next : list_uses (drop i cs) ≡ Some (list_bytes c.interfaces) ∷ rest = next_use cs i c lt is ∙ ap (λ u. u ∷ rest) (some_use c.interfaces some) in
-    omega (arith, e, length-list_bytes c.interfaces, along_le 4 (round_up 4 at + length (list_bytes c.interfaces)) rest, ap (end_along 4 at) next, h.end_left)
+  -- the number by the test that a set asks
+  number_is : (x : List ℕ) (xs : List (List ℕ)) → position_or_len (λ y. same_numbers y x) xs ≡ position_or_len (same_numbers x) xs
+  number_is x xs = position_alike (λ y. same_numbers y x) (same_numbers x) (λ y. turned same_numbers numbers_decide y x) xs
 
--- the same, of equal numbers
-pub lists_same : {from : ℕ} {cs : List NumberedClass} {i : ℕ} (offs offs' : List ℕ) (at at' count count' greatest greatest' : ℕ) → offs' ≡ offs → at' ≡ at → count' ≡ count → greatest' ≡ greatest
-    → ListsTo from cs i offs at count greatest → ListsTo from cs i offs' at' count' greatest'
-lists_same {from} {cs} {i} offs offs' at at' count count' greatest greatest' eo ea ec eg h = rw (eo, ea, ec, eg) h
+  -- a list that is there
+  pub lists_again : (c : NumberedClass) (ns : List ℕ) (number g : ℕ) → ns ≡ c.interfaces → (length ns ≡ 0 → ⊥) → list_any (same_numbers ns) keys ≡ true → number ≡ position_or_len (same_numbers ns) keys
+      → greatest ≤ g → 7 + 2 * length ns ≤ g → ListsTo from cs (ds ++ c ∷ []) keys places firsts (offs ++ slice_index places number ∷ []) at g
+  lists_again c ns number g same has there place le here =
+      let len : length ns ≡ length c.interfaces = ap (λ (l : List ℕ). length l) same in
+      let some : 0 < length c.interfaces = omega (arith, len, has) in
+      let any : list_any (same_numbers c.interfaces) (written ds) ≡ true = ap (λ x. list_any (same_numbers x) (written ds)) (sym same) ∙ ap (list_any (same_numbers ns)) (sym h.keys_are) ∙ there in
+      let w : written (ds ++ c ∷ []) ≡ written ds = written_some ds c some ∙ ap (λ (b : Bool). if b then written ds else written ds ++ c.interfaces ∷ []) any in
+      let ls : lists_of (ds ++ c ∷ []) ≡ lists_of ds = ap (map list_bytes) w in
+      let at_number : position_or_len (λ y. same_numbers y c.interfaces) (written (ds ++ c ∷ [])) ≡ number =
+      number_is c.interfaces (written (ds ++ c ∷ [])) ∙ ap (λ x. position_or_len (same_numbers x) (written (ds ++ c ∷ []))) (sym same) ∙ ap (position_or_len (same_numbers ns)) (w ∙ sym h.keys_are) ∙ sym place in
+      let ps : places ≡ offsets_from 4 from (lists_of (ds ++ c ∷ [])) = h.places_are ∙ ap (offsets_from 4 from) (sym ls) in
+      record {
+        keys_are = h.keys_are ∙ sym w;
+        places_are = ps;
+        firsts_in = h.firsts_in;
+        firsts_are = h.firsts_are ∙ sym w;
+        offsets_are = ap (λ p. offs ++ slice_index p number ∷ []) ps ∙ offset_is c [] number some (w ∙ sym (append-nil (written ds))) at_number;
+        end_is = h.end_is ∙ ap (end_from 4 from) (sym ls);
+        least = let l = h.least in omega (arith, l, le);
+        bound = bound_more c g le (omega (arith, len, here));
+      }
 
--- what has been placed ends before the end of all
-pub lists_within : {from : ℕ} {cs : List NumberedClass} {i : ℕ} {offs : List ℕ} {at count greatest : ℕ} → ListsTo from cs i offs at count greatest → at ≤ end_along 4 from (list_uses cs)
-lists_within {from} {cs} {i} {offs} {at} h = omega (arith, along_le 4 at (list_uses (drop i cs)), h.end_left)
+  -- a list more, at the next place
+  pub lists_take : (c : NumberedClass) (ns : List ℕ) (r number g : ℕ) → ns ≡ c.interfaces → (length ns ≡ 0 → ⊥) → list_any (same_numbers ns) keys ≡ false → number ≡ position_or_len (same_numbers ns) keys
+      → r < length cs → get_or cs r no_class ≡ c → greatest ≤ g → 7 + 2 * length ns ≤ g
+      → ListsTo from cs (ds ++ c ∷ []) (keys ++ ns ∷ []) (places ++ round_up 4 at ∷ []) (firsts ++ r ∷ []) (offs ++ slice_index (places ++ round_up 4 at ∷ []) number ∷ []) (round_up 4 at + 4 + 2 * length ns) g
+  lists_take c ns r number g same has absent place lt class le here =
+      let len : length ns ≡ length c.interfaces = ap (λ (l : List ℕ). length l) same in
+      let some : 0 < length c.interfaces = omega (arith, len, has) in
+      let any : list_any (same_numbers c.interfaces) (written ds) ≡ false = ap (λ x. list_any (same_numbers x) (written ds)) (sym same) ∙ ap (list_any (same_numbers ns)) (sym h.keys_are) ∙ absent in
+      let w : written (ds ++ c ∷ []) ≡ written ds ++ c.interfaces ∷ [] = written_some ds c some ∙ ap (λ (b : Bool). if b then written ds else written ds ++ c.interfaces ∷ []) any in
+      let ls : lists_of (ds ++ c ∷ []) ≡ lists_of ds ++ list_bytes c.interfaces ∷ [] = ap (map list_bytes) w ∙ map-append list_bytes (written ds) (c.interfaces ∷ []) in
+      let keys_w : keys ++ ns ∷ [] ≡ written (ds ++ c ∷ []) = ap (λ x. keys ++ x ∷ []) same ∙ ap (λ ks. ks ++ c.interfaces ∷ []) h.keys_are ∙ sym w in
+      let ps : places ++ round_up 4 at ∷ [] ≡ offsets_from 4 from (lists_of (ds ++ c ∷ [])) =
+      ap (λ p. p ++ round_up 4 at ∷ []) h.places_are ∙ ap (λ n. offsets_from 4 from (lists_of ds) ++ round_up 4 n ∷ []) h.end_is
+      ∙ sym (ap (offsets_from 4 from) ls ∙ offsets_more 4 from (lists_of ds) (list_bytes c.interfaces)) in
+      let at_number : position_or_len (λ y. same_numbers y c.interfaces) (written (ds ++ c ∷ [])) ≡ number =
+      number_is c.interfaces (written (ds ++ c ∷ [])) ∙ ap (position_or_len (same_numbers c.interfaces)) w
+      ∙ position_last (same_numbers c.interfaces) (written ds) c.interfaces any (self same_numbers numbers_decide c.interfaces)
+      ∙ sym (position_none (same_numbers c.interfaces) (written ds) any)
+      ∙ ap (λ x. position_or_len (same_numbers x) (written ds)) (sym same) ∙ ap (position_or_len (same_numbers ns)) (sym h.keys_are) ∙ sym place in
+      let list : interfaces_of cs r ≡ c.interfaces = ap (λ (d : NumberedClass). d.interfaces) class in
+      let end : round_up 4 at + 4 + 2 * length ns ≡ round_up 4 at + length (list_bytes c.interfaces) = omega (arith, length-list_bytes c.interfaces, len) in
+      record {
+        keys_are = keys_w;
+        places_are = ps;
+        firsts_in = All-append (λ r. r < length cs) firsts (r ∷ []) h.firsts_in (All-cons (λ r. r < length cs) r [] lt (All-nil (λ r. r < length cs)));
+        firsts_are = map-append (interfaces_of cs) firsts (r ∷ []) ∙ ap (λ xs. xs ++ interfaces_of cs r ∷ []) h.firsts_are ∙ ap (λ x. written ds ++ x ∷ []) list ∙ sym w;
+        offsets_are = ap (λ p. offs ++ slice_index p number ∷ []) ps ∙ offset_is c (c.interfaces ∷ []) number some w at_number;
+        end_is = end ∙ ap (λ n. round_up 4 n + length (list_bytes c.interfaces)) h.end_is ∙ sym (ap (end_from 4 from) ls ∙ end_more 4 from (lists_of ds) (list_bytes c.interfaces));
+        least = let l = h.least in omega (arith, l, le);
+        bound = bound_more c g le (omega (arith, len, here));
+      }
+
+  -- what has been placed ends before the end of all
+  pub placed_within : (es : List NumberedClass) → ds ++ es ≡ cs → at ≤ end_from 4 from (lists_of cs)
+  placed_within es e = omega (arith, h.end_is, lists_within from ds es, ap (λ xs. end_from 4 from (lists_of xs)) e)
+
+  -- there is a place for each list
+  pub places_count : length places ≡ length keys
+  places_count = ap (λ (l : List ℕ). length l) h.places_are ∙ length-offsets_from 4 from (lists_of ds) ∙ length-map (written ds) list_bytes ∙ ap (λ (l : List (List ℕ)). length l) (sym h.keys_are)
+
+  -- the same, of equal numbers
+  pub lists_same : (ds' : List NumberedClass) (keys' : List (List ℕ)) (places' firsts' offs' : List ℕ) (at' greatest' : ℕ) → ds' ≡ ds → keys' ≡ keys → places' ≡ places → firsts' ≡ firsts → offs' ≡ offs → at' ≡ at → greatest' ≡ greatest
+      → ListsTo from cs ds' keys' places' firsts' offs' at' greatest'
+  lists_same ds' keys' places' firsts' offs' at' greatest' ed ek ep ef eo ea eg = rw (ed, ek, ep, ef, eo, ea, eg) h
 
 -- where the data of the first i texts stand
 pub record StringsTo (from : ℕ) (texts : List Text) (i : ℕ) (offs : List ℕ) (at greatest : ℕ) : Type 0 where

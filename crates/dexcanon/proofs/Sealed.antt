@@ -1,5 +1,5 @@
 -- A program's canonical file: its header, what stands behind it, and the sums.
-use Rattle.std.proofs.Common.{◌≡◌, ℕ, ◌+◌, ◌*◌, ◌^◌, ◌<◌, ◌≤◌, List, [], ◌∷◌, ◌++◌, length, map, take, drop, sym, ap, ◌∙◌, arith, append_assoc, zip, Option, Some, None}
+use Rattle.std.proofs.Common.{◌≡◌, ℕ, ◌+◌, ◌^◌, ◌<◌, ◌≤◌, List, [], ◌∷◌, ◌++◌, length, map, take, drop, get_or, sym, ap, ◌∙◌, arith, append_assoc, zip, Option, Some, None, inl, inr}
 use Rattle.std.specs.Prelude.{All, IfSome, option_to_list}
 use Rattle.std.specs.List.{flat_map, concat}
 use Rattle.std.proofs.lemmas.List.{take_at}
@@ -19,12 +19,18 @@ use Rattle.dexhead.specs.Sums.{with_sums_set}
 use Rattle.dexhead.specs.Written.{head_bytes, entry_meant}
 use Rattle.dexhead.specs.Laid.{TellsLayout, behind_header}
 use Rattle.dexcanon.specs.declared.layout.Layout as code
-use Rattle.dexcanon.specs.Uses.{bytes_along, end_along}
-use Rattle.dexcanon.specs.Bare.{bare, bare_rows, bare_data, class_row, list_use, list_uses, list_bytes, data_from, strings_from, strings_to, string_offsets, list_offsets, entries}
+use Rattle.dexspec.specs.Placing.{unless_empty, bytes_from, end_from}
+use Rattle.dexcanon.specs.Bare.{bare, bare_rows, bare_data, class_row, list_uses, list_items, lists_of, list_bytes, data_from, strings_from, strings_to, string_offsets, list_offsets, entries}
 use Rattle.dexcanon.specs.Laid.{IsLaid, body_bytes, HaveNumbers, HasSmallNumbers, HasFewIndices, FitFile}
-use Rattle.dexcanon.proofs.Along.{along_le}
+use Rattle.dexspec.proofs.Places.{end_from_le}
+use Rattle.dexspec.proofs.Members.{Contains-nil, Contains-cons_cases}
+use Rattle.dexspec.proofs.Depths.{Contains-map}
+use Rattle.dexspec.proofs.Sharing.{present_has}
+use Rattle.std.proofs.lemmas.Bool.{cases_lt}
+use Rattle.std.proofs.lemmas.List.{get_or-map, length-map}
+use Rattle.std.specs.List.{Contains}
 use Rattle.dexcanon.proofs.BareFile.{behind_is}
-use Rattle.dexcanon.proofs.PlacesTo.{length-list_bytes}
+use Rattle.dexcanon.proofs.PlacesTo.{length-list_bytes, some_use, uses_have}
 use Rattle.dexcanon.proofs.Pieces.{zip_rows}
 use Rattle.dexcanon.proofs.OfProgram.{IsBareFile, tells_layout}
 
@@ -34,14 +40,14 @@ body_is m cs l h =
     let a = flat_map uint (string_offsets m.texts m.types cs) in
     let b = flat_map (λ t. uint (text_index m t)) m.types in
     let c = concat (zip_with class_row cs (list_offsets m.texts m.types cs)) in
-    let d = bytes_along 4 (data_from m.texts m.types cs) (list_uses cs) in
+    let d = bytes_from 4 (data_from m.texts m.types cs) (lists_of cs) in
     let e = flat_map string_data m.texts in
     let f = padding 4 (strings_to m.texts m.types cs) ++ map_bytes (entries m.texts m.types cs) in
     let F : List ℕ → List ℕ → List ℕ → ℕ → List ℕ → List ℕ = λ x y z n w. flat_map uint x ++ (b ++ (y ++ (z ++ (e ++ (padding 4 n ++ w))))) in
-    ap (λ x. F x (flat_map (λ (p : NumberedClass × ℕ). class_row p.0 p.1) (zip cs l.lists.items)) (bytes_along 4 l.head.data_off (list_uses cs)) l.data_end (map_bytes (map entry_meant l.entries.items))) h.strings_are
-    ∙ ap (λ y. F (string_offsets m.texts m.types cs) (flat_map (λ (p : NumberedClass × ℕ). class_row p.0 p.1) (zip cs y)) (bytes_along 4 l.head.data_off (list_uses cs)) l.data_end (map_bytes (map entry_meant l.entries.items))) h.lists_are
-    ∙ ap (λ y. F (string_offsets m.texts m.types cs) y (bytes_along 4 l.head.data_off (list_uses cs)) l.data_end (map_bytes (map entry_meant l.entries.items))) (sym (zip_rows class_row cs (list_offsets m.texts m.types cs)))
-    ∙ ap (λ n. F (string_offsets m.texts m.types cs) c (bytes_along 4 n (list_uses cs)) l.data_end (map_bytes (map entry_meant l.entries.items))) h.data_from_is
+    ap (λ x. F x (flat_map (λ (p : NumberedClass × ℕ). class_row p.0 p.1) (zip cs l.lists.items)) (bytes_from 4 l.head.data_off (lists_of cs)) l.data_end (map_bytes (map entry_meant l.entries.items))) h.strings_are
+    ∙ ap (λ y. F (string_offsets m.texts m.types cs) (flat_map (λ (p : NumberedClass × ℕ). class_row p.0 p.1) (zip cs y)) (bytes_from 4 l.head.data_off (lists_of cs)) l.data_end (map_bytes (map entry_meant l.entries.items))) h.lists_are
+    ∙ ap (λ y. F (string_offsets m.texts m.types cs) y (bytes_from 4 l.head.data_off (lists_of cs)) l.data_end (map_bytes (map entry_meant l.entries.items))) (sym (zip_rows class_row cs (list_offsets m.texts m.types cs)))
+    ∙ ap (λ n. F (string_offsets m.texts m.types cs) c (bytes_from 4 n (lists_of cs)) l.data_end (map_bytes (map entry_meant l.entries.items))) h.data_from_is
     ∙ ap (λ n. F (string_offsets m.texts m.types cs) c d n (map_bytes (map entry_meant l.entries.items))) h.data_end_is
     ∙ ap (λ es. F (string_offsets m.texts m.types cs) c d (strings_to m.texts m.types cs) (map_bytes es)) h.entries_are
     ∙ sym (append_assoc a (b ++ c) (d ++ (e ++ f)) ∙ ap (λ z. a ++ z) (append_assoc b c (d ++ (e ++ f))))
@@ -75,26 +81,32 @@ all_back : (n : ℕ) (xs ys : List ℕ) → All (λ i. i < n) (xs ++ ys) → All
 all_back n [] ys h = h
 all_back n (x ∷ xs) ys h = all_back n xs ys (All-tail (λ i. i < n) x (xs ++ ys) h)
 
--- a list is no longer than the section of lists
-list_short : (from : ℕ) (ns : List ℕ) (us : List (Option (List ℕ))) → 2 * length ns ≤ end_along 4 from (list_use ns ∷ us)
-list_short from [] us = omega arith
-list_short from (n ∷ ns) us = omega (arith, length-list_bytes (n ∷ ns), along_le 4 (round_up 4 from + length (list_bytes (n ∷ ns))) us)
+-- an item is no longer than what the items reach
+item_short : (from : ℕ) (xs : List (List ℕ)) (x : List ℕ) → Contains xs x → length x ≤ end_from 4 from xs
+item_short from [] x c = absurd (Contains-nil x c)
+item_short from (y ∷ xs) x c = elim (Contains-cons_cases y x xs c) [
+  | inl e ↦ omega (arith, ap (λ (z : List ℕ). length z) e, end_from_le 4 (round_up 4 from + length y) xs)
+  | inr l ↦ item_short (round_up 4 from + length y) xs x l
+]
 
--- where the section goes on behind a list
-list_then : (from bound : ℕ) (ns : List ℕ) (us : List (Option (List ℕ))) → end_along 4 from (list_use ns ∷ us) < bound → (k : ℕ) × (end_along 4 k us < bound)
-list_then from bound [] us lt = (from, lt)
-list_then from bound (n ∷ ns) us lt = (round_up 4 from + length (list_bytes (n ∷ ns)), lt)
+-- the list of a class is one of those that are written
+list_written : (cs : List NumberedClass) (k : ℕ) (d : NumberedClass) → k < length cs → 0 < length (get_or cs k d).interfaces → Contains (lists_of cs) (list_bytes (get_or cs k d).interfaces)
+list_written cs k d lt some =
+    let ns = (get_or cs k d).interfaces in
+    let here : get_or (list_uses cs) k None ≡ Some ns = get_or-map (λ (c : NumberedClass). unless_empty c.interfaces) cs k d None lt ∙ some_use ns some in
+    Contains-map list_bytes (list_items cs).written ns (uses_have cs ns (present_has (list_uses cs) k ns (omega (arith, lt, length-map cs (λ (c : NumberedClass). unless_empty c.interfaces))) here))
 
-few_indices : (m : Mentions) (from : ℕ) (cs : List NumberedClass) → length m.types ≤ 65535 → All (IsInRange m) cs → end_along 4 from (list_uses cs) < 2147483648 → All HasFewIndices cs
-few_indices m from [] few h lt = All-nil HasFewIndices
-few_indices m from (c ∷ cs) few h lt =
-    let c_in = All-head (IsInRange m) c cs h in
-    let indices = all_back (length m.types) (c.name ∷ option_to_list c.superclass) c.interfaces c_in.types_in in
-    let next = list_then from 2147483648 c.interfaces (list_uses cs) lt in
-    All-cons HasFewIndices c cs (record {
-      indices_few = omega (arith, list_short from c.interfaces (list_uses cs), lt);
-      indices_small = λ k d within. omega (arith, indices k d within, few);
-    }) (few_indices m next.0 cs few (All-tail (IsInRange m) c cs h) next.1)
+few_indices : (m : Mentions) (from : ℕ) (cs : List NumberedClass) → length m.types ≤ 65535 → All (IsInRange m) cs → end_from 4 from (lists_of cs) < 2147483648 → All HasFewIndices cs
+few_indices m from cs few h lt = λ k d within.
+    let c = get_or cs k d in
+    let indices = all_back (length m.types) (c.name ∷ option_to_list c.superclass) c.interfaces (h k d within).types_in in
+    record {
+      indices_few = elim (cases_lt 0 (length c.interfaces)) [
+        | inl some ↦ omega (arith, item_short from (lists_of cs) (list_bytes c.interfaces) (list_written cs k d within some), length-list_bytes c.interfaces, lt)
+        | inr none ↦ omega (arith, none)
+      ];
+      indices_small = λ j e less. omega (arith, indices j e less, few);
+    }
 
 small_numbers : (m : Mentions) (cs : List NumberedClass) → length m.types ≤ 65535 → length m.texts ≤ 4294967296 → All (IsInRange m) cs → All HasSmallNumbers cs
 small_numbers m [] few texts h = All-nil HasSmallNumbers

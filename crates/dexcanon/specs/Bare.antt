@@ -1,7 +1,8 @@
 -- The file of classes without members, values and annotations, by the numbers of their types and texts.
-use Rattle.std.specs.Prelude.{ℕ, ◌+◌, ◌*◌, ◌==◌, if◌then◌else◌, List, [], ◌∷◌, ◌++◌, length, map, Option, None, Some, unwrap_or}
+use Rattle.std.specs.Prelude.{◌≡◌, ℕ, ◌+◌, ◌*◌, ◌<◌, Bool, All, slice_index_or, ◌==◌, if◌then◌else◌, List, [], ◌∷◌, ◌++◌, length, map, Option, None, unwrap_or}
 use Rattle.std.specs.List.{flat_map, concat}
-use Rattle.dexspec.specs.Lists.{zip_with, present}
+use Rattle.std.specs.Cmp.Lexicographic.{pointwise}
+use Rattle.dexspec.specs.Lists.{zip_with}
 use Rattle.dexspec.specs.Bytes.{ushort, uint, round_up, padding}
 use Rattle.dexspec.specs.Texts.{Text, string_data}
 use Rattle.dexspec.specs.Header.{StringIds, TypeIds, ClassDefs, header_length}
@@ -9,10 +10,9 @@ use Rattle.dexspec.specs.Sections.{Section, HeaderItem, TableOf, TypeLists, Stri
 use Rattle.dexspec.specs.Classes.{no_index}
 use Rattle.dexspec.specs.Mentions.{Mentions}
 use Rattle.dexspec.specs.Spellings.{text_index}
-use Rattle.dexspec.specs.Placing.{Ordered, offsets_from, end_from}
+use Rattle.dexspec.specs.Placing.{unless_empty, Items, shared_items, Ordered, offsets_from, end_from, bytes_from, uses_offsets}
 use Rattle.dexspec.specs.Canonical.{map_bytes}
 use Rattle.dexclass.specs.Numbered.{NumberedClass, definition_of}
-use Rattle.dexcanon.specs.Uses.{bytes_along, end_along, offsets_along}
 
 -- texts and types alone
 abbrev pub bare_mentions : List Text → List Text → Mentions
@@ -26,14 +26,38 @@ bare texts types cs = record { classes = map (definition_of (bare_mentions texts
 abbrev pub list_bytes : List ℕ → List ℕ
 list_bytes ns = uint (length ns) ++ flat_map ushort ns
 
--- the type_list of the interfaces, if there are any
-abbrev pub list_use : List ℕ → Option (List ℕ)
-list_use [] = None
-list_use (n ∷ ns) = Some (list_bytes (n ∷ ns))
-
--- the type lists of classes
+-- the interfaces of each class, if there are any
 abbrev pub list_uses : List NumberedClass → List (Option (List ℕ))
-list_uses cs = map (λ c. list_use c.interfaces) cs
+list_uses cs = map (λ c. unless_empty c.interfaces) cs
+
+-- whether two lists of numbers are the same
+abbrev pub same_numbers : List ℕ → List ℕ → Bool
+same_numbers = pointwise ◌==◌
+
+-- the lists that are written, each once, and for each class the number of its list
+abbrev pub list_items : List NumberedClass → Items (List ℕ)
+list_items cs = shared_items same_numbers (list_uses cs)
+
+-- their type_lists
+abbrev pub lists_of : List NumberedClass → List (List ℕ)
+lists_of cs = map list_bytes (list_items cs).written
+
+-- where the list of each class begins, or 0, if they begin at a place
+abbrev pub offsets_of : ℕ → List NumberedClass → List ℕ
+offsets_of from cs = uses_offsets (list_items cs).numbers (offsets_from 4 from (lists_of cs))
+
+-- a class, for where there is none
+abbrev pub no_class : NumberedClass
+no_class = record { name = 0; flags = 0; superclass = None; interfaces = []; source = None }
+
+-- the interfaces of class r
+abbrev pub interfaces_of : List NumberedClass → ℕ → List ℕ
+interfaces_of cs r = (slice_index_or cs r no_class).interfaces
+
+-- the lists that are written are those of these classes
+pub record AreFirsts (cs : List NumberedClass) (rs : List ℕ) : Type 0 where
+  pub within : All (λ r. r < length cs) rs
+  pub lists : map (interfaces_of cs) rs ≡ (list_items cs).written
 
 -- where the data begins
 abbrev pub data_from : List Text → List Text → List NumberedClass → ℕ
@@ -41,7 +65,7 @@ data_from texts types cs = header_length + 4 * length texts + 4 * length types +
 
 -- where the texts begin
 abbrev pub strings_from : List Text → List Text → List NumberedClass → ℕ
-strings_from texts types cs = end_along 4 (data_from texts types cs) (list_uses cs)
+strings_from texts types cs = end_from 4 (data_from texts types cs) (lists_of cs)
 
 -- where the texts end
 abbrev pub strings_to : List Text → List Text → List NumberedClass → ℕ
@@ -57,7 +81,7 @@ string_offsets texts types cs = offsets_from 1 (strings_from texts types cs) (ma
 
 -- where the type list of each class begins
 abbrev pub list_offsets : List Text → List Text → List NumberedClass → List ℕ
-list_offsets texts types cs = offsets_along 4 (data_from texts types cs) (list_uses cs)
+list_offsets texts types cs = offsets_of (data_from texts types cs) cs
 
 -- a class_def_item of numbers
 abbrev pub class_row : NumberedClass → ℕ → List ℕ
@@ -86,7 +110,7 @@ entries texts types cs =
     (HeaderItem, 1, 0) ∷ (entry_unless_empty (TableOf StringIds) (length texts) header_length
     ++ (entry_unless_empty (TableOf TypeIds) (length types) (types_from texts)
     ++ (entry_unless_empty (TableOf ClassDefs) (length cs) (classes_from texts types)
-    ++ (entry_unless_empty TypeLists (length (present (list_uses cs))) (data_from texts types cs)
+    ++ (entry_unless_empty TypeLists (length (lists_of cs)) (data_from texts types cs)
     ++ (entry_unless_empty StringDataItems (length texts) (strings_from texts types cs)
     ++ (MapList, 1, map_from texts types cs) ∷ [])))))
 
@@ -99,5 +123,5 @@ bare_rows texts types cs =
 -- the data behind them
 abbrev pub bare_data : List Text → List Text → List NumberedClass → List ℕ
 bare_data texts types cs =
-    bytes_along 4 (data_from texts types cs) (list_uses cs) ++ (flat_map string_data texts
+    bytes_from 4 (data_from texts types cs) (lists_of cs) ++ (flat_map string_data texts
     ++ (padding 4 (strings_to texts types cs) ++ map_bytes (entries texts types cs)))

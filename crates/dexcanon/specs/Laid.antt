@@ -1,22 +1,21 @@
 -- What a layout tells: of classes without members by numbers, and of classes in order.
 use Rattle.std.specs.Prelude.{◌≡◌, ℕ, ◌+◌, ◌*◌, ◌-◌, ◌^◌, ◌<◌, ◌≤◌, List, [], ◌∷◌, ◌++◌, length, map, All, IfSome, zip}
 use Rattle.std.specs.List.{flat_map}
-use Rattle.dexspec.specs.Lists.{present}
 use Rattle.dexspec.specs.Bytes.{uint, padding}
 use Rattle.dexspec.specs.Mentions.{Mentions}
 use Rattle.dexspec.specs.Spellings.{text_index}
 use Rattle.dexspec.specs.Texts.{Text, string_data}
 use Rattle.dexspec.specs.Sections.{Section}
 use Rattle.dexspec.specs.Header.{header_length}
-use Rattle.dexspec.specs.Placing.{Ordered, offsets_from, end_from}
+use Rattle.dexspec.specs.Placing.{Ordered, offsets_from, end_from, bytes_from}
 use Rattle.dexspec.specs.Canonical.{layout, map_of, map_bytes}
 use Rattle.dexclass.specs.Numbered.{NumberedClass}
 use Rattle.dexhead.specs.Written.{rows_meant, entry_meant}
 use Rattle.dexhead.specs.Laid.{TellsLayout, map_start}
 use Rattle.dexcanon.specs.declared.layout.Layout.{Layout}
+use Rattle.dexcanon.specs.declared.layout.Lists.{Lists}
 use Rattle.dexcanon.specs.declared.layout.Places.{Places}
-use Rattle.dexcanon.specs.Uses.{end_along, offsets_along, bytes_along}
-use Rattle.dexcanon.specs.Bare.{class_row, list_uses, data_from, strings_from, strings_to, map_from, string_offsets, list_offsets, unless_none, types_from, classes_from, entries, entry_unless_empty}
+use Rattle.dexcanon.specs.Bare.{class_row, lists_of, offsets_of, AreFirsts, data_from, strings_from, strings_to, map_from, string_offsets, list_offsets, unless_none, types_from, classes_from, entries, entry_unless_empty}
 
 -- the layout tells where the parts of the file of these classes stand
 pub record IsLayoutOf (K : Ordered) (l : Layout) : Type 0 where
@@ -25,20 +24,19 @@ pub record IsLayoutOf (K : Ordered) (l : Layout) : Type 0 where
   pub lists_stand : l.lists.items ≡ map (λ c. c.interfaces) (layout K).classes
   pub entries_are : map entry_meant l.entries.items ≡ map_of K (layout K) (map_start K)
 
--- where the type lists of classes begin and end, from a place on, how many there are, and a bound on their bytes with
+-- where the type lists of classes begin and end, from a place on, which are written, and a bound on their bytes with
 -- those of alignment
-pub record AreListPlaces (from : ℕ) (cs : List NumberedClass) (p : Places) : Type 0 where
-  pub offsets_are : p.offsets.items ≡ offsets_along 4 from (list_uses cs)
-  pub end_is : p.end ≡ end_along 4 from (list_uses cs)
-  pub count_is : p.count ≡ length (present (list_uses cs))
+pub record AreListPlaces (from : ℕ) (cs : List NumberedClass) (p : Lists) : Type 0 where
+  pub offsets_are : p.offsets.items ≡ offsets_of from cs
+  pub firsts_are : AreFirsts cs p.firsts.items
+  pub end_is : p.end ≡ end_from 4 from (lists_of cs)
   pub least : 112 ≤ p.greatest
   pub bound : All (λ c. 7 + 2 * length c.interfaces ≤ p.greatest) cs
 
--- the same of texts
+-- where texts begin and end
 pub record AreStringPlaces (from : ℕ) (texts : List Text) (p : Places) : Type 0 where
   pub offsets_are : p.offsets.items ≡ offsets_from 1 from (map string_data texts)
   pub end_is : p.end ≡ end_from 1 from (map string_data texts)
-  pub count_is : p.count ≡ length texts
   pub least : 112 ≤ p.greatest
   pub bound : All (λ s. length (string_data s) ≤ p.greatest) texts
 
@@ -65,6 +63,7 @@ pub record IsLaid (texts types : List Text) (cs : List NumberedClass) (l : Layou
   pub file_size_is : l.head.file_size ≡ file_length texts types cs
   pub strings_are : l.strings.items ≡ string_offsets texts types cs
   pub lists_are : l.lists.items ≡ list_offsets texts types cs
+  pub firsts_are : AreFirsts cs l.firsts.items
   pub entries_are : map entry_meant l.entries.items ≡ entries texts types cs
   pub data_end_is : l.data_end ≡ strings_to texts types cs
   pub signature_length : length l.head.signature ≡ 20
@@ -101,4 +100,4 @@ pub record HaveNumbers (texts types : List Text) (cs : List NumberedClass) : Typ
 abbrev pub body_bytes : Mentions → List NumberedClass → Layout → List ℕ
 body_bytes m cs l =
     flat_map uint l.strings.items ++ (flat_map (λ t. uint (text_index m t)) m.types ++ (flat_map (λ p. class_row p.0 p.1) (zip cs l.lists.items)
-    ++ (bytes_along 4 l.head.data_off (list_uses cs) ++ (flat_map string_data m.texts ++ (padding 4 l.data_end ++ map_bytes (map entry_meant l.entries.items))))))
+    ++ (bytes_from 4 l.head.data_off (lists_of cs) ++ (flat_map string_data m.texts ++ (padding 4 l.data_end ++ map_bytes (map entry_meant l.entries.items))))))

@@ -10,14 +10,14 @@ ghost use Rattle.dexspec.specs.Files.{definitions};
 ghost use Rattle.dexspec.specs.Canonical.{ordered, canonical};
 ghost use Rattle.dexhead.specs.Sections.{section_meant};
 ghost use Rattle.dexhead.specs.Written.{rows_meant, entry_meant};
-ghost use Rattle.dexcanon.specs.Uses.{end_along};
-ghost use Rattle.dexcanon.specs.Bare.{list_uses, unless_none};
+ghost use Rattle.dexcanon.specs.Bare.{lists_of, unless_none};
 ghost use Rattle.dexcanon.specs.Laid.{IsLayoutOf, IsLaid, AreListPlaces, AreStringPlaces, entry_of, FitFile};
 
 use dexclass::{Class, Program};
 use dexhead::{Head, MapEntry, Rows, Section, Table};
 use dexpool::{Numbering, SymbolKind};
 use dexstr::put_text;
+use indexmap::IndexSet;
 use std::alloc::{AllocError, Global};
 
 const HEADER_SIZE: u32 = 112;
@@ -34,6 +34,8 @@ pub struct Layout {
     pub(crate) strings: Vec<u32>,
     // Where the interfaces of each class are listed, or 0.
     pub(crate) lists: Vec<u32>,
+    // The first class of each list.
+    pub(crate) firsts: Vec<usize>,
     pub(crate) entries: Vec<MapEntry>,
     // Where the sections before the map end.
     pub(crate) data_end: u32,
@@ -41,13 +43,23 @@ pub struct Layout {
     pub(crate) greatest: usize,
 }
 
-/// Where items begin, for each use 0 or an offset, and where they end.
+/// Where the type lists of classes begin, of which equal ones are one item, and where they end.
+#[derive(Drop)]
+pub(crate) struct Lists {
+    // For each class 0 or the offset of its list.
+    pub(crate) offsets: Vec<u32>,
+    // The first class of each list.
+    pub(crate) firsts: Vec<usize>,
+    pub(crate) end: u32,
+    // No list has more bytes, with those that align it.
+    pub(crate) greatest: usize,
+}
+
+/// Where items begin, and where they end.
 #[derive(Drop)]
 pub(crate) struct Places {
     pub(crate) offsets: Vec<u32>,
     pub(crate) end: u32,
-    // The number of items.
-    pub(crate) count: u32,
     // No item has more bytes, with those that align it.
     pub(crate) greatest: usize,
 }
@@ -86,30 +98,36 @@ pub(crate) fn round_up(at: u32) -> u32
 }
 
 // Where the type lists of the classes stand, from a place on.
-fn place_lists(alloc: Global, classes: &[Class], from: u32) -> Result<Places, AllocError>
-    requires { end_along 4 from (list_uses classes.now) < 2 ^ 31 }
+fn place_lists(alloc: Global, classes: &[Class], from: u32) -> Result<Lists, AllocError>
+    requires { end_from 4 from (lists_of classes.now) < 2 ^ 31 }
     ensures { IfOk result (AreListPlaces from classes.now) }
 {
+    let mut written = IndexSet::new(alloc);
+    let mut places = Vec::new(alloc);
+    let mut firsts = Vec::new(alloc);
     let mut offsets = Vec::with_capacity(alloc, classes.len())?;
     let mut end = from;
-    let mut count = 0;
     let mut greatest = HEADER_SIZE as usize;
-    for class in classes {
-        let interfaces = class.interfaces().len();
-        if interfaces == 0 {
+    for r in 0..classes.len() {
+        let interfaces = classes[r].interfaces();
+        if interfaces.len() == 0 {
             offsets.push(0)?;
-        } else {
-            let off = round_up(end);
-            offsets.push(off)?;
-            end = off + 4 + 2 * interfaces as u32;
-            count += 1;
-            greatest = greatest.max(7 + 2 * interfaces);
+            continue;
         }
+        greatest = greatest.max(7 + 2 * interfaces.len());
+        let (number, is_new) = written.insert_full(interfaces)?;
+        if is_new {
+            let off = round_up(end);
+            places.push(off)?;
+            firsts.push(r)?;
+            end = off + 4 + 2 * interfaces.len() as u32;
+        }
+        offsets.push(places[number])?;
     }
-    Ok(Places {
+    Ok(Lists {
         offsets,
+        firsts,
         end,
-        count,
         greatest,
     })
 }
@@ -135,7 +153,6 @@ fn place_strings(alloc: Global, numbering: &Numbering<'_>, from: u32) -> Result<
     Ok(Places {
         offsets,
         end,
-        count: count as u32,
         greatest,
     })
 }
@@ -203,7 +220,7 @@ pub(crate) fn lay(
         entry(Section::TableOf(Table::StringIds), texts, HEADER_SIZE),
         entry(Section::TableOf(Table::TypeIds), types, types_off),
         entry(Section::TableOf(Table::ClassDefs), class_defs, classes_off),
-        entry(Section::TypeLists, lists.count, data_off),
+        entry(Section::TypeLists, lists.firsts.len() as u32, data_off),
         entry(Section::StringDataItems, texts, lists.end),
     ];
     let entries = map_entries(alloc, &parts, map_off)?;
@@ -229,6 +246,7 @@ pub(crate) fn lay(
         head,
         strings: strings.offsets,
         lists: lists.offsets,
+        firsts: lists.firsts,
         entries,
         data_end: strings.end,
         greatest: lists.greatest.max(strings.greatest),

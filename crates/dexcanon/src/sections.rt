@@ -11,8 +11,8 @@ ghost use Rattle.dexspec.specs.Canonical.{map_bytes};
 ghost use Rattle.dexhead.specs.Written.{entry_meant};
 ghost use Rattle.dexclass.specs.Marking.{IsInRange};
 ghost use Rattle.dexpool.specs.Numberings.{IsNumbering};
-ghost use Rattle.dexcanon.specs.Uses.{bytes_along, end_along};
-ghost use Rattle.dexcanon.specs.Bare.{list_uses, class_row, data_from, bare_mentions, bare_rows, bare_data};
+ghost use Rattle.dexspec.specs.Placing.{bytes_from, end_from};
+ghost use Rattle.dexcanon.specs.Bare.{lists_of, AreFirsts, class_row, data_from, bare_mentions, bare_rows, bare_data};
 ghost use Rattle.dexcanon.specs.Laid.{IsLaid, HasSmallNumbers, HasFewIndices, HaveNumbers, body_bytes};
 ghost use Rattle.dexcanon.specs.Taking.{Outcome};
 
@@ -139,18 +139,16 @@ fn put_lists<S, M: Takes<S>>(
 ) -> Result<(), StoreFault>
     requires works { M.has_failed state.old ≡ false }
     requires least { 112 ≤ layout.now.greatest }
+    requires firsts { AreFirsts classes.now layout.now.firsts.items }
     requires bound { All (λ c. 7 + 2 * length c.interfaces ≤ layout.now.greatest) classes.now }
     requires few { All HasFewIndices classes.now }
-    requires fits { end_along 4 from (list_uses classes.now) < 2 ^ 31 }
-    ensures { Outcome M.holds M.has_failed M.empties layout.now.greatest state.old item.old state.new item.new (bytes_along 4 from (list_uses classes.now)) result }
+    requires fits { end_from 4 from (lists_of classes.now) < 2 ^ 31 }
+    ensures { Outcome M.holds M.has_failed M.empties layout.now.greatest state.old item.old state.new item.new (bytes_from 4 from (lists_of classes.now)) result }
 {
     let _greatest = layout.greatest;
     let mut at = from;
-    for class in classes {
-        let types = class.interfaces();
-        if types.len() == 0 {
-            continue;
-        }
+    for r in &layout.firsts {
+        let types = classes[*r].interfaces();
         let off = round_up(at);
         pass::<Zeros, S, M>(&Zeros((off - at) as usize), item, state)?;
         pass::<TypeList, S, M>(&TypeList(types), item, state)?;

@@ -78,6 +78,17 @@ class_f = (
   },
 )
 
+-- the same with the field annotated as the class is
+abbrev pub class_f2 : Definition
+class_f2 = (
+  codes "LA;",
+  record (body_under object) {
+    annotations = record { visibility = 1; type = codes "LN;"; elements = NoElements } ∷ [];
+    static_fields = record { name = codes "x"; type = codes "I"; flags = 9; annotations = record { visibility = 1; type = codes "LN;"; elements = NoElements } ∷ [] } ∷ [];
+    static_values = ThenValue (IntValue (pos 5)) NoValues;
+  },
+)
+
 -- return-void with a debug program: one position, at line 10
 abbrev pub empty_code : Code
 empty_code = record {

@@ -1,5 +1,6 @@
 pub mod Examples
 pub mod ExpectedFiles
+pub mod SharedFiles
 pub mod Units
 pub mod OpcodeTable
 pub mod Varied

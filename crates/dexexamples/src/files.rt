@@ -3,7 +3,8 @@
 ghost use Rattle.std.specs.Prelude.{◌≡◌, [], ◌∷◌, ◌++◌, codes};
 ghost use Rattle.sha1.specs.Sha1.{sha1};
 ghost use Rattle.dexspec.specs.Canonical.{ordered, unsigned_file, with_sums};
-ghost use Rattle.dexexamples.specs.Examples.{class_a, class_p};
+ghost use Rattle.dexexamples.specs.Examples.{class_a, class_p, class_s, class_f2};
+ghost use Rattle.dexexamples.specs.SharedFiles.{file_s, file_f2};
 ghost use Rattle.dexspec.specs.Stripping.{strip};
 ghost use Rattle.dexspec.specs.Weight.{weight};
 ghost use Rattle.dexexamples.specs.ExpectedFiles.{empty_file, file_a, file_p, front_a, sha1_of_abc};
@@ -21,6 +22,13 @@ pub fn layouts()
 pub fn sums()
     ensures word { sha1 (codes "abc") ≡ sha1_of_abc }
     ensures file { with_sums file_a ≡ front_a ++ file_a }
+{}
+
+/// Files whose equal items stand once: debug programs, and sets of annotations.
+pub fn shared()
+    ensures debug { unsigned_file (ordered (class_s ∷ [])) ≡ file_s }
+    ensures sets { unsigned_file (ordered (class_f2 ∷ [])) ≡ file_f2 }
+    ensures sets_weight { weight (class_f2 ∷ []) ≡ 1353 }
 {}
 
 /// Two files that were made without this project: one with tries, debug programs, payloads, annotations of

@@ -20,7 +20,7 @@ use Rattle.dexspec.proofs.Members.{and_first, and_second, and_both, Contains-nil
 -- ---- equal handlers
 
 -- whether two texts are the same
-text_decides : (s t : Text) → Decides (same_text s t) (s ≡ t)
+pub text_decides : (s t : Text) → Decides (same_text s t) (s ≡ t)
 text_decides s t = slice_eq-Decides Decides-eqb s t (same_text s t) refl
 
 -- whether two catches are

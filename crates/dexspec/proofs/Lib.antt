@@ -97,6 +97,8 @@ pub mod DirectoriesWritten
 pub mod HandlersWritten
 pub mod FilledCode
 pub mod HandlerPlaces
+pub mod Sameness
+pub mod Sharing
 pub mod CodeWritten
 pub mod MemberRanks
 pub mod DirectoryEntries

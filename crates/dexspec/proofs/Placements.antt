@@ -3,13 +3,12 @@
 use Rattle.std.proofs.Common.{◌≡◌, ℕ, zero, suc, ◌+◌, ◌<◌, List, [], ◌∷◌, ◌++◌, length, get_or, map, take, drop, refl, ap, ◌∙◌, arith, inl, inr}
 use Rattle.std.specs.Prelude.{Option, Some, None, IfSome, Bool, true, false, if◌then◌else◌}
 use Rattle.std.specs.List.{flat_map, All, zip}
-use Rattle.std.specs.Cmp.Lexicographic.{pointwise}
 use Rattle.std.proofs.lemmas.List.{length-append, length-map, length-take, length-drop}
 use Rattle.std.proofs.lemmas.List.Elements.{All-from_recursion, All-nil, All-cons, All-head, All-tail, All-map}
 use Rattle.dexspec.specs.Lists.{chunks, zip_with, present}
 use Rattle.dexspec.specs.Bytes.{ushort, uint}
 use Rattle.dexspec.specs.Numbers.{uleb128}
-use Rattle.dexspec.specs.Texts.{Text, same_text, string_data}
+use Rattle.dexspec.specs.Texts.{Text, string_data}
 use Rattle.dexspec.specs.Sections.{TypeLists, AnnotationSetRefLists, AnnotationSets, ClassDataItems, CodeItems, StringDataItems, DebugInfoItems, AnnotationItems, EncodedArrayItems, AnnotationsDirectories}
 use Rattle.dexspec.specs.Annotations.{AnnotationSet}
 use Rattle.dexspec.specs.Classes.{Definition}
@@ -17,6 +16,7 @@ use Rattle.dexspec.specs.Code.{Code}
 use Rattle.dexspec.specs.Debug.{Debug}
 use Rattle.dexspec.specs.Values.{count_values}
 use Rattle.dexspec.specs.Mentions.{Mentions}
+use Rattle.dexspec.specs.Sameness.{same_types, same_debug, same_set}
 use Rattle.dexspec.specs.Spellings.{type_index, code_bytes, debug_bytes, encoded_array_bytes, annotation_bytes, offsets_bytes, class_data_bytes}
 use Rattle.dexspec.specs.Placing.{Items, unless_empty, own_numbers, own_items, shared_items, Placed, offsets, end, uses_offsets, Ordered, by_class, SetOffsets, type_list_uses, set_uses, debug_uses, code_uses, static_values_uses, class_data_uses, set_offsets_by_class, ref_list_uses, directory_uses, directory_bytes}
 use Rattle.dexspec.specs.Canonical.{data_start, Layout, layout, class_offsets}
@@ -32,15 +32,15 @@ type_list_bytes m ts = uint (length ts) ++ flat_map (λ t. ushort (type_index m 
 
 -- the type lists that are written
 abbrev pub type_list_items : Ordered → Items (List Text)
-type_list_items K = shared_items (pointwise same_text) (type_list_uses K)
+type_list_items K = shared_items same_types (type_list_uses K)
 
 -- the sets that are written
 abbrev pub set_items : Ordered → Items AnnotationSet
-set_items K = shared_items (λ x y. same_text (flat_map (annotation_bytes K.pools) x) (flat_map (annotation_bytes K.pools) y)) (set_uses K)
+set_items K = shared_items same_set (set_uses K)
 
 -- the debug programs that are written
 abbrev pub debug_items : Ordered → Items Debug
-debug_items K = shared_items (λ x y. same_text (debug_bytes K.pools x) (debug_bytes K.pools y)) (debug_uses K)
+debug_items K = shared_items same_debug (debug_uses K)
 
 -- the type lists, from the end of the tables
 abbrev pub type_list_section : Ordered → Placed
@@ -309,7 +309,7 @@ length-uses_offsets uses offs = length-map (own_numbers 0 uses) _ ∙ length-own
 
 -- the same of items that may be shared
 pub length-shared_offsets : {X : Type 0} (same : X → X → Bool) (uses : List (Option X)) (offs : List ℕ) → length (uses_offsets (shared_items same uses).numbers offs) ≡ length uses
-length-shared_offsets same uses offs = length-uses_offsets uses offs
+length-shared_offsets same uses offs = length-map (shared_items same uses).numbers _ ∙ length-map uses _
 
 -- a part for each length
 pub length-chunks : {X : Type 0} (ns : List ℕ) (xs : List X) → length (chunks ns xs) ≡ length ns
@@ -338,7 +338,7 @@ length-by_class K xs = length-chunks (map _ K.classes) xs ∙ length-map K.class
 pub length-type_list_offsets : (K : Ordered) → length (type_list_offsets K) ≡ length K.pools.protos + length K.classes
 unfolding type_list_offsets
 length-type_list_offsets K =
-    length-shared_offsets (pointwise same_text) (type_list_uses K) _ ∙ length-append (map _ K.pools.protos) (map _ K.classes)
+    length-shared_offsets same_types (type_list_uses K) _ ∙ length-append (map _ K.pools.protos) (map _ K.classes)
     ∙ omega (arith, length-map K.pools.protos (λ p. unless_empty p.parameters), length-map K.classes (λ d. unless_empty d.1.interfaces))
 
 -- for each class

@@ -67,16 +67,16 @@ layout-is : (K : Ordered) → length K.pools.types ≤ 65536 → IsLaidOut K (la
 unfolding layout
 layout-is K few = record {
   sizes = (
-    type_lists-size K _,
+    type_lists-size K _ _,
     (
-      annotations-size K _,
+      annotations-size K _ _,
       (
         arrays-size K _,
         (
           strings-size K.pools _,
           (
-            debugs-size K _,
-            (codes-size K few _ _, (class_data-size K _ _, (sets-size K _ _, (refs-size K _ _, (directories-size K _ _ _, tt))))),
+            debugs-size K _ _,
+            (codes-size K few _ _, (class_data-size K _ _, (sets-size K _ _ _, (refs-size K _ _, (directories-size K _ _ _, tt))))),
           ),
         ),
       ),

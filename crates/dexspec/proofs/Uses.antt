@@ -3,24 +3,26 @@
 -- and directories.
 use Rattle.std.proofs.Common.{◌≡◌, ℕ, zero, suc, ◌+◌, ◌<◌, ◌≤◌, List, [], ◌∷◌, ◌++◌, length, get_or, map, take, drop, refl, sym, ap, subst, ◌∙◌, arith}
 use Rattle.std.specs.Prelude.{slice_index, Option, Some, None, Bool, if◌then◌else◌}
-use Rattle.std.specs.Option.{option_map_or}
-use Rattle.std.specs.List.{flat_map, zip}
-use Rattle.std.specs.Cmp.Lexicographic.{pointwise}
+use Rattle.std.specs.Option.{option_map, option_map_or}
+use Rattle.std.specs.List.{flat_map, zip, Contains, position_or_len}
 use Rattle.std.proofs.lemmas.List.{length-take, length-drop, length-append, length-map, get_or-map, get_or-take, get_or-drop, get_or_append_left, get_or-append-add, drop-drop, map-id, take_all}
 use Rattle.std.proofs.lemmas.List.Concat.{get_or-flat_map}
-use Rattle.dexspec.specs.Lists.{chunks, zip_with, present}
-use Rattle.dexspec.specs.Texts.{same_text}
+use Rattle.dexspec.specs.Lists.{chunks, zip_with, present, distinct}
 use Rattle.dexspec.specs.Symbols.{Proto}
 use Rattle.dexspec.specs.Code.{Code}
 use Rattle.dexspec.specs.Debug.{Debug}
 use Rattle.dexspec.specs.Annotations.{Annotation, AnnotationSet}
 use Rattle.dexspec.specs.Classes.{FieldDef, MethodDef, Definition, declared_fields, declared_methods}
 use Rattle.dexspec.specs.Mentions.{Mentions}
+use Rattle.dexspec.specs.Sameness.{same_types, same_debug, same_set}
 use Rattle.dexspec.specs.Spellings.{code_bytes, debug_bytes, encoded_array_bytes, annotation_bytes, offsets_bytes, class_data_bytes}
 use Rattle.dexspec.specs.Placing.{unless_empty, values_unless_empty, own_numbers, own_items, Items, shared_items, Placed, offsets, uses_offsets, Ordered, all_methods, by_class, is_empty_class, method_sets, class_sets, SetOffsets, set_offsets_of, type_list_uses, set_uses, debug_uses, code_uses, static_values_uses, class_data_uses, ref_list_uses, directory_uses, directory_bytes}
 use Rattle.std.proofs.lemmas.List.Folds.{length-flat_map-take}
 use Rattle.dexspec.proofs.Places.{length-offsets_from}
 use Rattle.dexspec.proofs.Placements.{type_list_bytes, type_list_items, type_list_section, annotation_section, annotation_offsets, array_section, debug_items, debug_section, debug_offsets, code_section, code_offsets, class_data_section, set_items, set_section, set_offsets, ref_list_section, ref_list_offsets, directory_section, directory_offsets, type_list_offsets, class_data_offsets, array_offsets, length-own_numbers, length-uses_offsets, length-shared_offsets, length-chunks, length-by_class, length-zip, length-zip_with, length-set_offsets}
+use Rattle.dexspec.proofs.HandlerPlaces.{distinct_has}
+use Rattle.dexspec.proofs.Sharing.{present_has, position_is}
+use Rattle.dexspec.proofs.Sameness.{IsEquality, types_decide, debug_decides, set_decides}
 use Rattle.dexspec.proofs.Laying.{ItemStands, SectionStands, Laid, get_or-zip_with, get_or-zip}
 
 -- ---- items and their numbers
@@ -65,9 +67,24 @@ own_numbered uses = record {
   each = λ k lt. from_zero (get_or uses k None) (get_or (own_numbers 0 uses) k None) (present uses) (own_from 0 uses k lt);
 }
 
--- and so are those that may be shared
-pub shared_numbered : {X : Type 0} (same : X → X → Bool) (uses : List (Option X)) → AreNumbered uses (shared_items same uses)
-shared_numbered same uses = own_numbered uses
+-- the number of a use's item among those that are shared
+shared_from : {X : Type 0} (same : X → X → Bool) → IsEquality same → (xs : List X) (u : Option X) → ((x : X) → u ≡ Some x → Contains xs x)
+    → IsNumber u (option_map (λ x. position_or_len (λ y. same y x) xs) u) xs
+shared_from same exact xs None has = refl
+shared_from same exact xs (Some x) has =
+    let is = position_is same exact xs x (has x refl) in
+    (position_or_len (λ y. same y x) xs, is.0, refl, is.1)
+
+-- items that equal uses share are numbered so, where the test tells equal ones
+pub shared_numbered : {X : Type 0} (same : X → X → Bool) → IsEquality same → (uses : List (Option X)) → AreNumbered uses (shared_items same uses)
+shared_numbered same exact uses =
+    let items = distinct same (present uses) in
+    let number = option_map (λ x. position_or_len (λ y. same y x) items) in
+    record {
+      count = length-map uses number;
+      each = λ k lt. subst (λ n. IsNumber (get_or uses k None) n items) (sym (get_or-map number uses k None None lt))
+          (shared_from same exact items (get_or uses k None) (λ x e. distinct_has same (λ y z. (exact y z).0) (present uses) x (present_has uses k x lt e)));
+    }
 
 -- ---- uses and offsets
 
@@ -145,7 +162,7 @@ by_class_at K xs r d j e lt less = chunk_item (λ (d : Definition). declared_met
 -- a debug program's offset for each method
 pub length-debug_offsets : (K : Ordered) → length (debug_offsets K) ≡ length (all_methods K.classes)
 unfolding debug_offsets
-length-debug_offsets K = length-shared_offsets (λ x y. same_text (debug_bytes K.pools x) (debug_bytes K.pools y)) (debug_uses K) (offsets (debug_section K)) ∙ length-map (all_methods K.classes) _
+length-debug_offsets K = length-shared_offsets same_debug (debug_uses K) (offsets (debug_section K)) ∙ length-map (all_methods K.classes) _
 
 -- and one of its code
 pub length-code_offsets : (K : Ordered) → length (code_offsets K) ≡ length (all_methods K.classes)
@@ -171,7 +188,7 @@ module _ {K : Ordered} {b : List ℕ} (h : Laid K b) where
   -- each type list
   type_list_use : (k : ℕ) → k < length (type_list_uses K) → UseStands b 4 (type_list_bytes K.pools) (get_or (type_list_uses K) k None) (slice_index (type_list_offsets K) k)
   unfolding type_list_offsets
-  type_list_use k lt = use_stands (type_list_section K) (type_list_bytes K.pools) (type_list_items K) (type_list_uses K) (shared_numbered (pointwise same_text) (type_list_uses K)) refl h.type_lists k lt
+  type_list_use k lt = use_stands (type_list_section K) (type_list_bytes K.pools) (type_list_items K) (type_list_uses K) (shared_numbered same_types types_decide (type_list_uses K)) refl h.type_lists k lt
 
   -- the parameters of a proto
   pub parameters_stand : (i : ℕ) (d : Proto) → i < length K.pools.protos → UseStands b 4 (type_list_bytes K.pools) (unless_empty (get_or K.pools.protos i d).parameters) (slice_index (type_list_offsets K) i)
@@ -208,7 +225,7 @@ module _ {K : Ordered} {b : List ℕ} (h : Laid K b) where
   unfolding debug_offsets
   debug_use k x lt =
       subst (λ u. UseStands b 1 (debug_bytes K.pools) u (slice_index (debug_offsets K) k)) (get_or-map debug_of (all_methods K.classes) k x None lt)
-      (use_stands (debug_section K) (debug_bytes K.pools) (debug_items K) (debug_uses K) (shared_numbered (λ x y. same_text (debug_bytes K.pools x) (debug_bytes K.pools y)) (debug_uses K)) refl h.debugs k (omega (arith, lt, length-map (all_methods K.classes) debug_of)))
+      (use_stands (debug_section K) (debug_bytes K.pools) (debug_items K) (debug_uses K) (shared_numbered same_debug debug_decides (debug_uses K)) refl h.debugs k (omega (arith, lt, length-map (all_methods K.classes) debug_of)))
 
   -- the code of a method
   code_use : (k : ℕ) (x : MethodDef) → k < length (all_methods K.classes)
@@ -326,7 +343,7 @@ module _ {K : Ordered} {b : List ℕ} (h : Laid K b) where
   -- each set of all classes
   set_use : (k : ℕ) → k < length (flat_map class_sets K.classes) → SetStands b K.pools (get_or (flat_map class_sets K.classes) k []) (slice_index (set_use_offsets K) k)
   set_use k lt =
-      let are = shared_numbered (λ x y. same_text (flat_map (annotation_bytes K.pools) x) (flat_map (annotation_bytes K.pools) y)) (set_uses K) in
+      let are = shared_numbered same_set set_decides (set_uses K) in
       let sets = flat_map class_sets K.classes in
       let within : k < length (set_uses K) = omega (arith, lt, length-map sets (unless_empty {X = Annotation})) in
       let number : IsNumber (unless_empty (get_or sets k [])) (get_or (set_items K).numbers k None) (set_items K).written =
@@ -484,7 +501,7 @@ length-ref_list_offsets K =
 -- as many offsets of sets as sets
 length-set_use_offsets : (K : Ordered) → length (set_use_offsets K) ≡ length (flat_map class_sets K.classes)
 length-set_use_offsets K =
-    length-shared_offsets (λ x y. same_text (flat_map (annotation_bytes K.pools) x) (flat_map (annotation_bytes K.pools) y)) (set_uses K) (offsets (set_section K))
+    length-shared_offsets same_set (set_uses K) (offsets (set_section K))
     ∙ length-map (flat_map class_sets K.classes) (unless_empty {X = Annotation})
 
 -- an offset for each set of a class

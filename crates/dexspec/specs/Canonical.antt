@@ -7,13 +7,13 @@ use Rattle.std.specs.Option.{option_map_or}
 use Rattle.sha1.specs.Sha1.{sha1}
 use Rattle.dexspec.specs.Lists.{chunks, zip_with}
 use Rattle.dexspec.specs.Bytes.{ushort, uint, round_up, padding}
-use Rattle.std.specs.Cmp.Lexicographic.{pointwise}
-use Rattle.dexspec.specs.Texts.{same_text, string_data}
+use Rattle.dexspec.specs.Texts.{string_data}
 use Rattle.dexspec.specs.Names.{shorty}
 use Rattle.dexspec.specs.Symbols.{Proto, Field, Method}
 use Rattle.dexspec.specs.Header.{Table, StringIds, TypeIds, ProtoIds, FieldIds, MethodIds, ClassDefs, adler_32, header_length, row_size}
 use Rattle.dexspec.specs.Sections.{Section, HeaderItem, TableOf, MapList, TypeLists, AnnotationSetRefLists, AnnotationSets, ClassDataItems, CodeItems, StringDataItems, DebugInfoItems, AnnotationItems, EncodedArrayItems, AnnotationsDirectories, type_code}
 use Rattle.dexspec.specs.Classes.{Definition, no_index}
+use Rattle.dexspec.specs.Sameness.{same_types, same_debug, same_set}
 use Rattle.dexspec.specs.Files.{Collection, definitions}
 use Rattle.dexspec.specs.Mentions.{Mentions, mentions}
 use Rattle.dexspec.specs.Depth.{in_class_order}
@@ -88,9 +88,9 @@ pub record Layout : Type 0 where
 unfoldable pub layout : Ordered → Layout
 layout K =
     let m = K.pools in
-    let list_items = shared_items (pointwise same_text) (type_list_uses K) in
-    let set_items = shared_items (λ x y. same_text (flat_map (annotation_bytes m) x) (flat_map (annotation_bytes m) y)) (set_uses K) in
-    let debug_items = shared_items (λ x y. same_text (debug_bytes m x) (debug_bytes m y)) (debug_uses K) in
+    let list_items = shared_items same_types (type_list_uses K) in
+    let set_items = shared_items same_set (set_uses K) in
+    let debug_items = shared_items same_debug (debug_uses K) in
     let array_items = own_items (static_values_uses K) in
     let type_lists : Placed = record { kind = TypeLists; align = 4; from = data_start K; items = map (λ ts. uint (length ts) ++ flat_map (λ t. ushort (type_index m t)) ts) list_items.written } in
     let annotations : Placed = record { kind = AnnotationItems; align = 1; from = end type_lists; items = map (annotation_bytes m) (flat_map (λ set. set) set_items.written) } in

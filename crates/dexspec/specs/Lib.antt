@@ -14,6 +14,7 @@ pub mod Debug
 pub mod Code
 pub mod Values
 pub mod Annotations
+pub mod Sameness
 pub mod ClassData
 pub mod Classes
 pub mod Flags

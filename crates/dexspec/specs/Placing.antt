@@ -1,11 +1,11 @@
 -- Which items there are, in which order, and where they begin: uses, items, sections and directories.
--- This project's rule: the order of uses, and that each use has an item of its own.
+-- This project's rule: the order of uses, and that equal type lists, debug programs and sets have one item.
 use Rattle.std.specs.Prelude.{ℕ, ◌+◌, Bool, ◌==◌, if◌then◌else◌, List, [], ◌∷◌, ◌++◌, length, map, take, drop, slice_index, Option, Some, None}
-use Rattle.std.specs.List.{flat_map, zip}
+use Rattle.std.specs.List.{flat_map, zip, position_or_len}
 use Rattle.std.specs.Ordering.{nat_cmp}
 use Rattle.std.specs.declared.cmp.Ordering.{Ordering}
-use Rattle.std.specs.Option.{option_map_or}
-use Rattle.dexspec.specs.Lists.{chunks, zip_with, present, in_order}
+use Rattle.std.specs.Option.{option_map, option_map_or}
+use Rattle.dexspec.specs.Lists.{chunks, zip_with, present, distinct, in_order}
 use Rattle.dexspec.specs.Bytes.{uint, round_up, padding}
 use Rattle.dexspec.specs.Texts.{Text}
 use Rattle.dexspec.specs.Sections.{Section}
@@ -34,11 +34,12 @@ own_numbers n (Some x ∷ uses) = Some n ∷ own_numbers (n + 1) uses
 abbrev pub own_items : {X : Type 0} → List (Option X) → Items X
 own_items uses = record { numbers = own_numbers 0 uses; written = present uses }
 
--- Type lists, debug programs and annotation sets, with a test that tells equal ones. In this form of the file
--- they are not shared, and the test is not asked. A form that writes equal ones once, at the place of their first
--- use, is another body of this definition alone.
+-- Type lists, debug programs and annotation sets, with a test that tells equal ones: equal ones have one item, at the
+-- place of their first use.
 abbrev pub shared_items : {X : Type 0} → (X → X → Bool) → List (Option X) → Items X
-shared_items same uses = own_items uses
+shared_items same uses =
+    let items = distinct same (present uses) in
+    record { numbers = map (option_map (λ x. position_or_len (λ y. same y x) items)) uses; written = items }
 
 -- a list is an item unless it is empty
 abbrev pub unless_empty : {X : Type 0} → List X → Option (List X)

@@ -278,13 +278,28 @@ struct Data {
     texts: Vec<u32>,
 }
 
-// The type lists and the string data, where the data begin at an offset.
+// The first class before one that has the same interfaces.
+fn earlier(classes: &[Class], i: usize) -> Option<usize> {
+    let interfaces = classes.get(i)?.interfaces;
+    for (k, class) in classes.iter().enumerate() {
+        if k < i && class.interfaces == interfaces {
+            return Some(k);
+        }
+    }
+    None
+}
+
+// The type lists, each once, and the string data, where the data begin at an offset.
 fn data_of(alloc: Global, start: u32, classes: &[Class], pools: &Pools) -> Option<Data> {
     let mut bytes = Vec::new(alloc);
     let mut lists = Vec::new(alloc);
-    for class in classes {
+    for (i, class) in classes.iter().enumerate() {
         if class.interface_count() == 0 {
             lists.push(0).ok()?;
+            continue;
+        }
+        if let Some(first) = earlier(classes, i) {
+            lists.push(lists.get(first).copied()?).ok()?;
             continue;
         }
         align(&mut bytes).ok()?;
@@ -354,8 +369,9 @@ fn superclass_number(pools: &Pools, letter: Option<u8>) -> u32 {
 // The number of type lists.
 fn list_count(classes: &[Class]) -> u32 {
     let mut number = 0u32;
-    for class in classes {
-        number = number.wrapping_add(u32::from(class.interface_count() > 0));
+    for (i, class) in classes.iter().enumerate() {
+        let is_first = class.interface_count() > 0 && earlier(classes, i).is_none();
+        number = number.wrapping_add(u32::from(is_first));
     }
     number
 }

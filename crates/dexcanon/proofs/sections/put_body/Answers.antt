@@ -1,10 +1,10 @@
 use Rattle.std.proofs.Common.{ℕ, List, ◌++◌, ◌<◌, length, arith, subst, ap, refl, sym, ◌∙◌}
 use Rattle.std.proofs.lemmas.List.{length-map}
 use Rattle.dexcanon.specs.Laid.{body_bytes}
-use Rattle.dexcanon.specs.Bare.{data_from, list_uses, list_use}
+use Rattle.dexcanon.specs.Bare.{data_from, list_uses, lists_of, same_numbers}
 use Rattle.dexcanon.specs.Taking.{Outcome}
-use Rattle.dexcanon.specs.Uses.{end_along}
-use Rattle.dexcanon.proofs.Along.{length-offsets_along}
+use Rattle.dexspec.specs.Placing.{unless_empty, offsets_from, end_from}
+use Rattle.dexspec.proofs.Placements.{length-shared_offsets}
 use Rattle.dexcanon.proofs.Made.{fault_exit, same_fault_within, adds_more, outcome_after}
 use Rattle.dexhead.specs.Written.{entry_meant}
 use Rattle.dexcanon.proofs.BodyParts.{type_rows, class_rows, lists, strings, last, two, three, four, five}
@@ -14,11 +14,11 @@ use Rattle.dexcanon.proofs.sections.put_body.Goals as goal
 pub put_class_defs-requires-clause-lists : goal.put_class_defs-requires-clause-lists
 put_class_defs-requires-clause-lists g c =
     let cs = c.args.classes.now in
-    ap (λ (l : List ℕ). length l) c.requires.laid.lists_are ∙ length-offsets_along 4 (data_from c.args.numbering.now.texts c.args.numbering.now.types cs) (list_uses cs) ∙ length-map cs (λ k. list_use k.interfaces)
+    ap (λ (l : List ℕ). length l) c.requires.laid.lists_are ∙ length-shared_offsets same_numbers (list_uses cs) (offsets_from 4 (data_from c.args.numbering.now.texts c.args.numbering.now.types cs) (lists_of cs)) ∙ length-map cs (λ k. unless_empty k.interfaces)
 
 pub put_lists-requires-clause-fits : goal.put_lists-requires-clause-fits
 put_lists-requires-clause-fits g c =
-    subst (λ n. end_along 4 n (list_uses c.args.classes.now) < 2147483648) (sym c.requires.laid.data_from_is) c.requires.numbers.lists_fit
+    subst (λ n. end_from 4 n (lists_of c.args.classes.now) < 2147483648) (sym c.requires.laid.data_from_is) c.requires.numbers.lists_fit
 
 pub put_map-requires-clause-few : goal.put_map-requires-clause-few
 put_map-requires-clause-few g c =

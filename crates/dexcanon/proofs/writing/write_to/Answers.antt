@@ -12,7 +12,7 @@ use Rattle.dexcanon.proofs.Sealed.{sealed}
 use Rattle.dexcanon.proofs.Told.{behind_checksum, behind_signature, told_is}
 use Rattle.dexcanon.proofs.WithRoom.{all_taken, surely, written_all, written_front}
 use Rattle.dexcanon.proofs.writing.write_to.Goals as goal
-use Rattle.dexcanon.proofs.writing.write_to.Goals.{After-sums_law, After-drop-layout-4}
+use Rattle.dexcanon.proofs.writing.write_to.Goals.{After-sums_law, After-drop-layout-5}
 
 -- the program's file
 good : (g : _) (c : goal.After-sums_law g) → IsGoodFile c.args.program.now c.numbering-numbering.result.now c.classes-classes.result.now
@@ -34,13 +34,13 @@ pub put_file-requires-3-clause-numbers : goal.put_file-requires-3-clause-numbers
 put_file-requires-3-clause-numbers g c = (good g (goal.at.put_file-requires-3-clause-numbers g c).After-sums_law).has_numbers
 
 -- there is room before each making
-room_1 : (g : _) (c : goal.After-drop-layout-4 g) → HasRoom true c.in_ok-layout.layout.greatest c.in_ok-item.item
+room_1 : (g : _) (c : goal.After-drop-layout-5 g) → HasRoom true c.in_ok-layout.layout.greatest c.in_ok-item.item
 room_1 g c = record { emptied = refl; empty = c.in_ok-item.ensures.len; enough = c.in_ok-item.ensures.capacity }
 
-room_2 : (g : _) (c : goal.After-drop-layout-4 g) → HasRoom true c.in_ok-layout.layout.greatest c.put_file.new.item
+room_2 : (g : _) (c : goal.After-drop-layout-5 g) → HasRoom true c.in_ok-layout.layout.greatest c.put_file.new.item
 room_2 g c = (surely c.put_file.result c.put_file.ensures (room_1 g c)).room (room_1 g c)
 
-room_3 : (g : _) (c : goal.After-drop-layout-4 g) → HasRoom true c.in_ok-layout.layout.greatest c.put_file-2.new.item
+room_3 : (g : _) (c : goal.After-drop-layout-5 g) → HasRoom true c.in_ok-layout.layout.greatest c.put_file-2.new.item
 room_3 g c = (surely c.put_file-2.result c.put_file-2.ensures (room_2 g c)).room (room_2 g c)
 
 -- the layout's header with sums
@@ -49,7 +49,7 @@ head_with h checksum signature =
     record { checksum = checksum; signature = signature; file_size = h.file_size; map_off = h.map_off; tables = h.tables; data_size = h.data_size; data_off = h.data_off }
 
 -- the file with the sums that two makings gave is the canonical file
-whole : (g : _) (c : goal.After-drop-layout-4 g) → head_bytes (head_with c.in_ok-layout.layout.head c.value.result c.finalize-head.result)
+whole : (g : _) (c : goal.After-drop-layout-5 g) → head_bytes (head_with c.in_ok-layout.layout.head c.value.result c.finalize-head.result)
     ++ body_bytes c.numbering-numbering.result.now c.classes-classes.result.now c.in_ok-layout.layout ≡ canonical c.args.program.now
 unfolding adler_32 field_bytes
 whole g c =

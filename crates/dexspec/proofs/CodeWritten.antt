@@ -34,7 +34,8 @@ use Rattle.dexspec.proofs.SizeCode.{handler_list_bytes-size, handler_off-size}
 use Rattle.dexspec.proofs.NumbersWritten.{front_stands, back_stands, uleb128_written, AreInRows, front_in_rows, back_in_rows}
 use Rattle.dexspec.proofs.DebugWritten.{sequence_of}
 use Rattle.dexspec.proofs.HandlersWritten.{handler_written}
-use Rattle.dexspec.proofs.HandlerPlaces.{handler_decides, distinct_has, handler_place, handlers_few, catches_few}
+use Rattle.dexspec.proofs.Distinct.{distinct_has}
+use Rattle.dexspec.proofs.HandlerPlaces.{handler_decides, handler_place, handlers_few, catches_few}
 use Rattle.dexspec.proofs.FilledCode.{FilledCode, filled_code, filled_units}
 
 -- units that were written are read

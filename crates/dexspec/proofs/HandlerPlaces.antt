@@ -1,8 +1,8 @@
--- The distinct handlers of tries: each handler that a try names is one of them, and begins where its offset says.
-use Rattle.std.proofs.Common.{◌≡◌, ℕ, ◌+◌, ◌*◌, ◌≤◌, Bool, true, false, not, List, [], ◌∷◌, ◌++◌, length, Option, Some, None, refl, sym, ap, ◌∙◌, subst, arith, inl, inr, sum_by}
+-- The handlers of tries: the tests tell equal ones, and each begins where its offset says.
+use Rattle.std.proofs.Common.{◌≡◌, ℕ, ◌+◌, ◌*◌, ◌≤◌, Bool, true, false, List, [], ◌∷◌, ◌++◌, length, Option, refl, sym, ap, ◌∙◌, subst, arith, inl, inr, sum_by}
 use Rattle.std.specs.Prelude.{if◌then◌else◌, ◌==◌}
 use Rattle.std.specs.Bool.{Decides}
-use Rattle.std.specs.List.{Contains, filter, flat_map}
+use Rattle.std.specs.List.{Contains, flat_map}
 use Rattle.std.specs.Option.{option_eq}
 use Rattle.std.specs.Cmp.Lexicographic.{pointwise}
 use Rattle.std.proofs.lemmas.Bool.{eqb-true}
@@ -10,18 +10,14 @@ use Rattle.std.proofs.lemmas.Bool.Decides.{Decides-eqb}
 use Rattle.std.proofs.lemmas.Slice.Eq.{slice_eq-Decides}
 use Rattle.std.proofs.lemmas.List.{length-append}
 use Rattle.std.proofs.lemmas.List.Sums.{sum_by-cons, get_or-le-sum_by}
-use Rattle.dexspec.specs.Lists.{distinct}
-use Rattle.dexspec.specs.Texts.{Text, same_text}
+use Rattle.dexspec.specs.Texts.{same_text}
 use Rattle.dexspec.specs.Code.{Catch, Handler, same_catch, same_handler}
 use Rattle.dexspec.specs.Mentions.{Mentions}
 use Rattle.dexspec.specs.Spellings.{handler_bytes, handler_off}
-use Rattle.dexspec.proofs.Members.{and_first, and_second, and_both, Contains-nil, Contains-later, Contains-cons_cases, Contains-filter}
+use Rattle.dexspec.proofs.Equality.{options_decide, text_decides}
+use Rattle.dexspec.proofs.Members.{and_first, and_second, and_both, Contains-nil, Contains-cons_cases}
 
 -- ---- equal handlers
-
--- whether two texts are the same
-pub text_decides : (s t : Text) → Decides (same_text s t) (s ≡ t)
-text_decides s t = slice_eq-Decides Decides-eqb s t (same_text s t) refl
 
 -- whether two catches are
 catch_decides : (c d : Catch) → Decides (same_catch c d) (c ≡ d)
@@ -37,10 +33,7 @@ catch_decides c d = (
 
 -- whether two addresses are, or there are none
 address_decides : (a c : Option ℕ) → Decides (option_eq ◌==◌ a c) (a ≡ c)
-address_decides None None = (λ e. refl, λ e. refl)
-address_decides None (Some c) = (λ e. absurd cc, λ e. absurd cc)
-address_decides (Some a) None = (λ e. absurd cc, λ e. absurd cc)
-address_decides (Some a) (Some c) = (λ e. ap Some (eqb-true a c e), λ e. let same : a ≡ c = cc in (Decides-eqb a c).1 same)
+address_decides = options_decide ◌==◌ Decides-eqb
 
 -- whether two handlers are
 pub handler_decides : (h k : Handler) → Decides (same_handler h k) (h ≡ k)
@@ -55,20 +48,6 @@ handler_decides h k =
           and_both (pointwise same_catch h.catches k.catches) (option_eq ◌==◌ h.catch_all k.catch_all) (first.1 (ap (λ (x : Handler). x.catches) e))
           (second.1 (ap (λ (x : Handler). x.catch_all) e))),
     )
-
--- ---- each once
-
--- a list without its repeats has each member still
-pub distinct_has : {X : Type 0} (same : X → X → Bool) → ((x y : X) → same x y ≡ true → x ≡ y) → (xs : List X) (x : X) → Contains xs x → Contains (distinct same xs) x
-distinct_has same one [] x c = c
-distinct_has same one (z ∷ xs) x c = elim (Contains-cons_cases z x xs c) [
-  | inl e ↦ (0, omega arith, e)
-  | inr l ↦ by (same z x) refl (distinct_has same one xs x l)
-]
-  where
-    by : (t : Bool) → same z x ≡ t → Contains (distinct same xs) x → Contains (distinct same (z ∷ xs)) x
-    by true e k = (0, omega arith, one z x e)
-    by false e k = Contains-later z x (filter (λ y. not (same z y)) (distinct same xs)) (Contains-filter (λ y. not (same z y)) (distinct same xs) x k (ap not e))
 
 -- ---- places
 

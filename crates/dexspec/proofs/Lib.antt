@@ -97,6 +97,9 @@ pub mod DirectoriesWritten
 pub mod HandlersWritten
 pub mod FilledCode
 pub mod HandlerPlaces
+pub mod Equality
+pub mod FirstPlaces
+pub mod Distinct
 pub mod Sameness
 pub mod Sharing
 pub mod CodeWritten

@@ -88,6 +88,28 @@ items_few align from (x ∷ xs) some =
     let here : 0 < length x = All-head (λ x. 0 < length x) x xs some in
     omega (arith, length-padding align from, rest, here)
 
+-- ---- items that come behind others
+
+-- an item more stands behind the others
+pub end_more : (align from : ℕ) (xs : List (List ℕ)) (y : List ℕ) → end_from align from (xs ++ y ∷ []) ≡ round_up align (end_from align from xs) + length y
+end_more align from [] y = refl
+end_more align from (x ∷ xs) y = end_more align (round_up align from + length x) xs y
+
+pub offsets_more : (align from : ℕ) (xs : List (List ℕ)) (y : List ℕ) → offsets_from align from (xs ++ y ∷ []) ≡ offsets_from align from xs ++ round_up align (end_from align from xs) ∷ []
+offsets_more align from [] y = refl
+offsets_more align from (x ∷ xs) y = ap (λ os. round_up align from ∷ os) (offsets_more align (round_up align from + length x) xs y)
+
+-- more items reach from where the others end
+pub end_append : (align from : ℕ) (xs ys : List (List ℕ)) → end_from align from (xs ++ ys) ≡ end_from align (end_from align from xs) ys
+end_append align from [] ys = refl
+end_append align from (x ∷ xs) ys = end_append align (round_up align from + length x) xs ys
+
+-- the first stay where they are
+pub offset_stays : (align from : ℕ) (xs ys : List (List ℕ)) (k : ℕ) → k < length xs → slice_index (offsets_from align from (xs ++ ys)) k ≡ slice_index (offsets_from align from xs) k
+offset_stays align from [] ys k lt = absurd (omega (arith, lt))
+offset_stays align from (x ∷ xs) ys zero lt = refl
+offset_stays align from (x ∷ xs) ys (suc k) lt = offset_stays align (round_up align from + length x) xs ys k (omega (arith, lt))
+
 -- ---- sections
 
 -- each section begins where the one before it ends, the first at a place, and the last ends at a place

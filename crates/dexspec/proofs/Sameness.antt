@@ -1,40 +1,18 @@
 -- The tests of sameness tell equal values.
-use Rattle.std.proofs.Common.{◌≡◌, Bool, true, false, not, ◌&&◌, ◌==◌, if◌then◌else◌, Some, None, refl, ap, subst}
-use Rattle.std.specs.Bool.{Decides}
-use Rattle.std.specs.Option.{option_eq}
+use Rattle.std.proofs.Common.{◌≡◌, Bool, true, false, not, ◌&&◌, ◌==◌, if◌then◌else◌, refl, ap}
 use Rattle.std.specs.Cmp.Lexicographic.{pointwise}
 use Rattle.std.proofs.lemmas.Bool.{eqb-true}
 use Rattle.std.proofs.lemmas.Bool.Decides.{Decides-eqb, Decides-int_eq}
-use Rattle.std.proofs.lemmas.Slice.Eq.{slice_eq-Decides}
 use Rattle.dexspec.specs.Texts.{same_text}
 use Rattle.dexspec.specs.Debug.{Operation, AdvancePc, AdvanceLine, StartLocal, StartLocalExtended, EndLocal, RestartLocal, SetPrologueEnd, SetEpilogueBegin, SetFile, Special}
 use Rattle.dexspec.specs.Values.{Value, ByteValue, ShortValue, CharValue, IntValue, LongValue, FloatValue, DoubleValue, StringValue, TypeValue, FieldValue, MethodValue, EnumValue, ArrayValue, AnnotationValue, NullValue, BooleanValue, Values, NoValues, ThenValue, Elements, NoElements, ThenElement}
 use Rattle.dexspec.specs.Sameness.{same_types, same_proto, same_field, same_method, same_optional, same_operation, same_debug, same_value, same_values, same_elements, same_annotation, same_set}
 use Rattle.dexspec.proofs.Members.{and_first, and_second, and_both}
-use Rattle.dexspec.proofs.HandlerPlaces.{text_decides}
-
--- a test that tells equal values
-abbrev pub IsEquality : {X : Type 0} → (X → X → Bool) → Type 0
-IsEquality {X} same = (x y : X) → Decides (same x y) (x ≡ y)
-
--- one that passes for equal values alone, and for each value and itself
-tells : {X : Type 0} (same : X → X → Bool) → ((x y : X) → same x y ≡ true → x ≡ y) → ((x : X) → same x x ≡ true) → IsEquality same
-tells same only again x y = (only x y, λ e. subst (λ z. same x z ≡ true) e (again x))
+use Rattle.dexspec.proofs.Equality.{IsEquality, tells, lists_decide, options_decide, text_decides}
 
 -- a value is the same as itself
-self : {X : Type 0} {same : X → X → Bool} → IsEquality same → (x : X) → same x x ≡ true
-self is x = (is x x).1 refl
-
--- lists, member by member
-pub lists_decide : {X : Type 0} (same : X → X → Bool) → IsEquality same → IsEquality (pointwise same)
-lists_decide same is xs ys = slice_eq-Decides is xs ys (pointwise same xs ys) refl
-
--- what may be absent
-options_decide : {X : Type 0} (same : X → X → Bool) → IsEquality same → IsEquality (option_eq same)
-options_decide same is None None = (λ e. refl, λ e. refl)
-options_decide same is None (Some y) = (λ e. absurd cc, λ e. absurd cc)
-options_decide same is (Some x) None = (λ e. absurd cc, λ e. absurd cc)
-options_decide same is (Some x) (Some y) = (λ e. ap Some ((is x y).0 e), λ e. let one : x ≡ y = cc in (is x y).1 one)
+again : {X : Type 0} {same : X → X → Bool} → IsEquality same → (x : X) → same x x ≡ true
+again is x = (is x x).1 refl
 
 -- ---- symbols
 
@@ -47,7 +25,7 @@ proto_decides = tells same_proto
     let a = (text_decides p.return_type q.return_type).0 (and_first (same_text p.return_type q.return_type) (same_types p.parameters q.parameters) e) in
     let b = (types_decide p.parameters q.parameters).0 (and_second (same_text p.return_type q.return_type) (same_types p.parameters q.parameters) e) in
     λ i. record { return_type = a i; parameters = b i })
-    (λ p. and_both (same_text p.return_type p.return_type) (same_types p.parameters p.parameters) (self text_decides p.return_type) (self types_decide p.parameters))
+    (λ p. and_both (same_text p.return_type p.return_type) (same_types p.parameters p.parameters) (again text_decides p.return_type) (again types_decide p.parameters))
 
 -- three tests
 record Three (P Q R : Type 0) : Type 0 where
@@ -69,7 +47,7 @@ field_decides = tells same_field
     let b = (text_decides f.name g.name).0 h.second in
     let c = (text_decides f.type g.type).0 h.third in
     λ i. record { class = a i; name = b i; type = c i })
-    (λ f. all_three (same_text f.class f.class) (same_text f.name f.name) (same_text f.type f.type) (self text_decides f.class) (self text_decides f.name) (self text_decides f.type))
+    (λ f. all_three (same_text f.class f.class) (same_text f.name f.name) (same_text f.type f.type) (again text_decides f.class) (again text_decides f.name) (again text_decides f.type))
 
 pub method_decides : IsEquality same_method
 method_decides = tells same_method
@@ -79,7 +57,7 @@ method_decides = tells same_method
     let b = (text_decides x.name y.name).0 h.second in
     let c = (proto_decides x.proto y.proto).0 h.third in
     λ i. record { class = a i; name = b i; proto = c i })
-    (λ x. all_three (same_text x.class x.class) (same_text x.name x.name) (same_proto x.proto x.proto) (self text_decides x.class) (self text_decides x.name) (self proto_decides x.proto))
+    (λ x. all_three (same_text x.class x.class) (same_text x.name x.name) (same_proto x.proto x.proto) (again text_decides x.class) (again text_decides x.name) (again proto_decides x.proto))
 
 -- ---- debug programs
 
@@ -111,18 +89,18 @@ operation_only (Special m) (Special n) e = ap Special (eqb-true m n e)
 operation_only _ _ e = absurd cc
 
 operation_again : (x : Operation) → same_operation x x ≡ true
-operation_again (AdvancePc m) = self Decides-eqb m
-operation_again (AdvanceLine z) = self Decides-int_eq z
-operation_again (StartLocal m s t) = all_three (m == m) (same_optional s s) (same_optional t t) (self Decides-eqb m) (self optional_decides s) (self optional_decides t)
+operation_again (AdvancePc m) = again Decides-eqb m
+operation_again (AdvanceLine z) = again Decides-int_eq z
+operation_again (StartLocal m s t) = all_three (m == m) (same_optional s s) (same_optional t t) (again Decides-eqb m) (again optional_decides s) (again optional_decides t)
 operation_again (StartLocalExtended m s t r) =
-    all_three (m == m) (same_optional s s) (same_optional t t && same_optional r r) (self Decides-eqb m) (self optional_decides s)
-    (and_both (same_optional t t) (same_optional r r) (self optional_decides t) (self optional_decides r))
-operation_again (EndLocal m) = self Decides-eqb m
-operation_again (RestartLocal m) = self Decides-eqb m
+    all_three (m == m) (same_optional s s) (same_optional t t && same_optional r r) (again Decides-eqb m) (again optional_decides s)
+    (and_both (same_optional t t) (same_optional r r) (again optional_decides t) (again optional_decides r))
+operation_again (EndLocal m) = again Decides-eqb m
+operation_again (RestartLocal m) = again Decides-eqb m
 operation_again SetPrologueEnd = refl
 operation_again SetEpilogueBegin = refl
-operation_again (SetFile s) = self optional_decides s
-operation_again (Special m) = self Decides-eqb m
+operation_again (SetFile s) = again optional_decides s
+operation_again (Special m) = again Decides-eqb m
 
 operation_decides : IsEquality same_operation
 operation_decides = tells same_operation operation_only operation_again
@@ -142,7 +120,7 @@ debug_decides = tells same_debug
     let c = (operations_decide d.operations e.operations).0 t.third in
     λ i. record { line_start = a i; parameter_names = b i; operations = c i })
     (λ d. all_three (d.line_start == d.line_start) (pointwise same_optional d.parameter_names d.parameter_names) (pointwise same_operation d.operations d.operations)
-    (self Decides-eqb d.line_start) (self names_decide d.parameter_names) (self operations_decide d.operations))
+    (again Decides-eqb d.line_start) (again names_decide d.parameter_names) (again operations_decide d.operations))
 
 -- ---- annotation sets
 
@@ -199,20 +177,20 @@ mutual
 
 mutual
   value_again : (v : Value) → same_value v v ≡ true
-  value_again (ByteValue z) = self Decides-int_eq z
-  value_again (ShortValue z) = self Decides-int_eq z
-  value_again (CharValue n) = self Decides-eqb n
-  value_again (IntValue z) = self Decides-int_eq z
-  value_again (LongValue z) = self Decides-int_eq z
-  value_again (FloatValue n) = self Decides-eqb n
-  value_again (DoubleValue n) = self Decides-eqb n
-  value_again (StringValue s) = self text_decides s
-  value_again (TypeValue s) = self text_decides s
-  value_again (FieldValue f) = self field_decides f
-  value_again (MethodValue x) = self method_decides x
-  value_again (EnumValue f) = self field_decides f
+  value_again (ByteValue z) = again Decides-int_eq z
+  value_again (ShortValue z) = again Decides-int_eq z
+  value_again (CharValue n) = again Decides-eqb n
+  value_again (IntValue z) = again Decides-int_eq z
+  value_again (LongValue z) = again Decides-int_eq z
+  value_again (FloatValue n) = again Decides-eqb n
+  value_again (DoubleValue n) = again Decides-eqb n
+  value_again (StringValue s) = again text_decides s
+  value_again (TypeValue s) = again text_decides s
+  value_again (FieldValue f) = again field_decides f
+  value_again (MethodValue x) = again method_decides x
+  value_again (EnumValue f) = again field_decides f
   value_again (ArrayValue vs) = values_again vs
-  value_again (AnnotationValue s es) = and_both (same_text s s) (same_elements es es) (self text_decides s) (elements_again es)
+  value_again (AnnotationValue s es) = and_both (same_text s s) (same_elements es es) (again text_decides s) (elements_again es)
   value_again NullValue = refl
   value_again (BooleanValue b) = flag_again b
 
@@ -222,7 +200,7 @@ mutual
 
   elements_again : (es : Elements) → same_elements es es ≡ true
   elements_again NoElements = refl
-  elements_again (ThenElement s v es) = all_three (same_text s s) (same_value v v) (same_elements es es) (self text_decides s) (value_again v) (elements_again es)
+  elements_again (ThenElement s v es) = all_three (same_text s s) (same_value v v) (same_elements es es) (again text_decides s) (value_again v) (elements_again es)
 
 elements_decide : IsEquality same_elements
 elements_decide = tells same_elements elements_only elements_again
@@ -235,7 +213,7 @@ annotation_decides = tells same_annotation
     let q = (text_decides a.type b.type).0 h.second in
     let r = (elements_decide a.elements b.elements).0 h.third in
     λ i. record { visibility = p i; type = q i; elements = r i })
-    (λ a. all_three (a.visibility == a.visibility) (same_text a.type a.type) (same_elements a.elements a.elements) (self Decides-eqb a.visibility) (self text_decides a.type) (self elements_decide a.elements))
+    (λ a. all_three (a.visibility == a.visibility) (same_text a.type a.type) (same_elements a.elements a.elements) (again Decides-eqb a.visibility) (again text_decides a.type) (again elements_decide a.elements))
 
 pub set_decides : IsEquality same_set
 set_decides = lists_decide same_annotation annotation_decides

@@ -20,9 +20,10 @@ use Rattle.dexspec.specs.Placing.{unless_empty, values_unless_empty, own_numbers
 use Rattle.std.proofs.lemmas.List.Folds.{length-flat_map-take}
 use Rattle.dexspec.proofs.Places.{length-offsets_from}
 use Rattle.dexspec.proofs.Placements.{type_list_bytes, type_list_items, type_list_section, annotation_section, annotation_offsets, array_section, debug_items, debug_section, debug_offsets, code_section, code_offsets, class_data_section, set_items, set_section, set_offsets, ref_list_section, ref_list_offsets, directory_section, directory_offsets, type_list_offsets, class_data_offsets, array_offsets, length-own_numbers, length-uses_offsets, length-shared_offsets, length-chunks, length-by_class, length-zip, length-zip_with, length-set_offsets}
-use Rattle.dexspec.proofs.HandlerPlaces.{distinct_has}
+use Rattle.dexspec.proofs.Distinct.{distinct_has}
+use Rattle.dexspec.proofs.Equality.{IsEquality}
 use Rattle.dexspec.proofs.Sharing.{present_has, position_is}
-use Rattle.dexspec.proofs.Sameness.{IsEquality, types_decide, debug_decides, set_decides}
+use Rattle.dexspec.proofs.Sameness.{types_decide, debug_decides, set_decides}
 use Rattle.dexspec.proofs.Laying.{ItemStands, SectionStands, Laid, get_or-zip_with, get_or-zip}
 
 -- ---- items and their numbers

@@ -14,9 +14,9 @@ use Rattle.dexclass.specs.Numbered.{NumberedClass}
 use Rattle.dexcanon.specs.Bare.{list_bytes, list_uses, same_numbers, list_items, lists_of, offsets_of, no_class, interfaces_of, AreFirsts}
 use Rattle.dexcanon.proofs.Distinct.{distinct_more}
 use Rattle.dexcanon.proofs.Shared.{present-append, position_stays, position_last, position_none, position_alike, turned, self, distinct_front, end_more, offsets_more, end_append, offset_stays}
-use Rattle.dexspec.proofs.Sameness.{IsEquality, lists_decide}
+use Rattle.dexspec.proofs.Equality.{IsEquality, lists_decide}
 use Rattle.dexspec.proofs.Sharing.{position_is}
-use Rattle.dexspec.proofs.HandlerPlaces.{distinct_has}
+use Rattle.dexspec.proofs.Distinct.{distinct_has}
 use Rattle.dexspec.proofs.Members.{Contains-first, Contains-later}
 use Rattle.indexmap.specs.IndexSet.{insert_key}
 use Rattle.std.specs.Prelude.{slice_index, ◌==◌, Option, Bool, true, false, if◌then◌else◌, All}

@@ -8,7 +8,7 @@ use Rattle.std.proofs.lemmas.List.{append-nil, map-append}
 use Rattle.dexspec.specs.Lists.{present, distinct}
 use Rattle.dexspec.specs.Bytes.{round_up}
 use Rattle.dexspec.specs.Placing.{offsets_from, end_from}
-use Rattle.dexspec.proofs.Sameness.{IsEquality}
+use Rattle.dexspec.proofs.Equality.{IsEquality}
 use Rattle.dexspec.proofs.Members.{Contains-first, Contains-later}
 use Rattle.dexspec.proofs.Sources.{distinct_source}
 use Rattle.dexcanon.proofs.Distinct.{distinct_more, insert_grows}

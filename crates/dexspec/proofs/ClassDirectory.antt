@@ -18,7 +18,7 @@ use Rattle.dexspec.specs.Mentions.{Mentions, mentions, symbols_of, field_of, met
 use Rattle.dexspec.specs.Spellings.{field_index, method_index, offsets_bytes}
 use Rattle.dexspec.specs.WellFormed.{IsSet, IsAnnotation, IsFieldDef, IsMethodDef, IsWellFormed, field_key, field_key_cmp, method_key, method_key_cmp}
 use Rattle.dexspec.specs.Placing.{unless_empty, Ordered, by_class, method_sets, SetOffsets, pairs, directory_bytes}
-use Rattle.dexspec.specs.Canonical.{ordered}
+use Rattle.dexspec.specs.Canonical.{ordered, ref_list_offsets}
 use Rattle.dexspec.specs.Depth.{in_class_order}
 use Rattle.dexspec.specs.OwnDirectories.{StandsIfSome, HasSetsAt, entries_of, field_sets, own_method_sets, parameter_sets, own_directory}
 use Rattle.dexspec.proofs.Members.{Contains-flat_map}
@@ -27,7 +27,6 @@ use Rattle.dexspec.proofs.Sources.{map_source}
 use Rattle.dexspec.proofs.InOrder.{Rises-from_rises, AreDistinct-from_Rises}
 use Rattle.dexspec.proofs.SymbolOrders.{field_total, field_exact, method_total, method_exact}
 use Rattle.dexspec.proofs.Growth.{mentions-rising}
-use Rattle.dexspec.proofs.Placements.{ref_list_offsets}
 use Rattle.dexspec.proofs.Uses.{UseStands, SetStands, class_set_offsets, own_set_stands, field_set_stands, method_set_stands, ref_list_stands, length-field_set_offsets, length-method_set_offsets, length-one_method_set_offsets, length-class_part, length-ref_list_offsets}
 use Rattle.dexspec.proofs.RowsRead.{class_read}
 use Rattle.dexspec.proofs.NumbersWritten.{AreInRows}

@@ -24,12 +24,11 @@ use Rattle.dexspec.specs.Spellings.{code_bytes, debug_bytes, encoded_array_bytes
 use Rattle.dexspec.specs.WellFormed.{IsDebug, IsCodeItem, IsMethodDef, IsWellFormed, AreValues}
 use Rattle.dexspec.specs.IndexPlaces.{IndexFits}
 use Rattle.dexspec.specs.Placing.{values_unless_empty, by_class, Ordered}
-use Rattle.dexspec.specs.Canonical.{ordered}
+use Rattle.dexspec.specs.Canonical.{ordered, debug_offsets, code_offsets}
 use Rattle.dexspec.specs.Depth.{in_class_order}
 use Rattle.dexspec.specs.Merging.{greatest_caps, Fits}
 use Rattle.dexspec.specs.OwnDirectories.{own_directory}
 use Rattle.dexspec.proofs.Members.{Contains-first, Contains-later}
-use Rattle.dexspec.proofs.Placements.{debug_offsets, code_offsets}
 use Rattle.dexspec.proofs.Uses as uses
 use Rattle.dexspec.proofs.Uses.{UseStands, method_place, debug_of, code_of_method, debug_stands, code_stands, length-class_part, length-code_offsets}
 use Rattle.dexspec.proofs.RowsRead.{use_small, class_read}

@@ -14,12 +14,12 @@ use Rattle.dexspec.specs.Sections.{Section, IsInData}
 use Rattle.dexspec.specs.Rows.{row_at}
 use Rattle.dexspec.specs.Spellings.{text_index}
 use Rattle.dexspec.specs.Placing.{Ordered, Placed, offsets, section_bytes}
-use Rattle.dexspec.specs.Canonical.{table_count, data_start, proto_row_bytes, field_row_bytes, method_row_bytes, ClassOffsets, class_row_bytes, Layout, layout, table_bytes, header_bytes, map_of, map_bytes, unsigned_file, with_sums}
+use Rattle.dexspec.specs.Canonical.{table_count, data_start, proto_row_bytes, field_row_bytes, method_row_bytes, ClassOffsets, class_row_bytes, Layout, layout, table_bytes, header_bytes, map_of, map_bytes, unsigned_file, with_sums, type_list_section, annotation_section, array_section, debug_section, code_section, class_data_section, set_section, ref_list_section, directory_section, data_sections, directory_end, type_list_offsets, directory_offsets, class_data_offsets, array_offsets, string_section}
 use Rattle.dexspec.proofs.Stands.{stands_in, stands_at, stands_row, stands_whole}
 use Rattle.dexspec.proofs.ByteNumbers.{length-uint, uint_at-stands}
 use Rattle.dexspec.proofs.Sums.{with_sums_stands, length-with_sums}
 use Rattle.dexspec.proofs.Places.{last_end, length-padding, items_stand, items_within, length-sections, sections_stand, sections_between}
-use Rattle.dexspec.proofs.Placements.{type_list_section, annotation_section, array_section, debug_section, code_section, class_data_section, set_section, ref_list_section, directory_section, length-zip, named_layout, layout_is, named_layout_full, sections_follow, sections_aligned, data_sections, directory_end, type_list_offsets, directory_offsets, class_data_offsets, array_offsets, string_section, length-type_list_offsets, length-directory_offsets, length-class_data_offsets, length-array_offsets}
+use Rattle.dexspec.proofs.Placements.{length-zip, named_layout, layout_is, named_layout_full, sections_follow, sections_aligned, length-type_list_offsets, length-directory_offsets, length-class_data_offsets, length-array_offsets}
 use Rattle.dexspec.proofs.Tables.{stands_next, stands_here, stands_behind, stands_zip_row, length-proto_row, length-field_row, length-method_row, length-class_row, rows_bytes, table_start, table_place, table_stands, length-table_bytes, HeaderStands, header_stands, length-header_bytes}
 
 -- ---- the parts of the file

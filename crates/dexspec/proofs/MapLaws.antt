@@ -13,11 +13,11 @@ use Rattle.dexspec.specs.Bytes.{uint, uint_at, Stands}
 use Rattle.dexspec.specs.Header.{Table, StringIds, TypeIds, ProtoIds, FieldIds, MethodIds, ClassDefs, tables, header_length, row_size, table_off, map_off}
 use Rattle.dexspec.specs.Sections.{Section, HeaderItem, TableOf, MapList, type_code, MapEntry, map_entries, entries_at, IsKnown, HasTable, IsPlaced, HasMap}
 use Rattle.dexspec.specs.Placing.{Ordered, Placed, offsets, end}
-use Rattle.dexspec.specs.Canonical.{table_count, tables_from, placed_tables, data_start, Layout, map_of, map_bytes, map_entry_bytes}
+use Rattle.dexspec.specs.Canonical.{table_count, tables_from, placed_tables, data_start, Layout, map_of, map_bytes, map_entry_bytes, data_sections, directory_end}
 use Rattle.dexspec.proofs.Stands.{stands_at}
 use Rattle.dexspec.proofs.ByteNumbers.{uint_at-stands}
 use Rattle.dexspec.proofs.Places.{IsAlign, items_within, items_few, FollowFrom, last_end, round_up_four, length-padding}
-use Rattle.dexspec.proofs.Placements.{layout_is, data_sections, directory_end, sections_follow, sections_have_bytes, sections_aligned, HasBytes}
+use Rattle.dexspec.proofs.Placements.{layout_is, sections_follow, sections_have_bytes, sections_aligned, HasBytes}
 use Rattle.dexspec.proofs.Tables.{stands_here, stands_next, table_place}
 use Rattle.dexspec.proofs.Laying.{Laid, map_place, map_list, map_place_is, file_length, table_few, data_before_map}
 use Rattle.dexspec.proofs.MapEntries.{entry_of, length-map_bytes, IsSmall, entries_at-stands, Candidate, pick, picked, code_of, picked_there, differ, picked_differ, left_out, RisesTo, rises_append, rises_from_less, rises_between, rises_strictly}

@@ -23,7 +23,7 @@ use Rattle.dexspec.specs.Mentions.{mentions, symbols_of, optional_type, optional
 use Rattle.dexspec.specs.Depth.{parents, is_defined, IsAcyclic, depth, in_class_order}
 use Rattle.dexspec.specs.WellFormed.{AreWellFormed}
 use Rattle.dexspec.specs.Accepted.{parent_indices, IsDefinedBefore, HasClass}
-use Rattle.dexspec.specs.Spellings.{text_index, type_index}
+use Rattle.dexspec.specs.Spellings.{text_index, type_index, type_list_bytes}
 use Rattle.dexspec.specs.Placing.{unless_empty}
 use Rattle.dexspec.specs.Canonical.{ordered}
 use Rattle.dexspec.proofs.Members.{AreAmong, Contains-first, Contains-later, Contains-flat_map, Contains-filter, list_any-member}
@@ -31,7 +31,6 @@ use Rattle.dexspec.proofs.SymbolOrders.{text_total}
 use Rattle.dexspec.proofs.Growth.{mentions-rising}
 use Rattle.dexspec.proofs.MentionMembers.{texts-listed, types-listed}
 use Rattle.dexspec.proofs.Depths.{Contains-map, depth-parent}
-use Rattle.dexspec.proofs.Placements.{type_list_bytes}
 use Rattle.dexspec.proofs.RankOrder.{rank_one}
 use Rattle.dexspec.proofs.Uses.{UseStands}
 use Rattle.dexspec.proofs.RowsRead.{ClassRead, class_read, type_index_small, type_list_indices}

@@ -1,5 +1,5 @@
--- The ten sections of the data by name, the offsets that their items hold, and that the layout of a file is made
--- of these: they follow one another from the end of the tables on, and each item has bytes.
+-- The ten sections of the data: they follow one another from the end of the tables on, each item has bytes, and each
+-- row has its offsets.
 use Rattle.std.proofs.Common.{◌≡◌, ℕ, zero, suc, ◌+◌, ◌<◌, List, [], ◌∷◌, ◌++◌, length, get_or, map, take, drop, refl, ap, ◌∙◌, arith, inl, inr}
 use Rattle.std.specs.Prelude.{Option, Some, None, IfSome, Bool, true, false, if◌then◌else◌}
 use Rattle.std.specs.List.{flat_map, All, zip}
@@ -8,161 +8,21 @@ use Rattle.std.proofs.lemmas.List.Elements.{All-from_recursion, All-nil, All-con
 use Rattle.dexspec.specs.Lists.{chunks, zip_with, present}
 use Rattle.dexspec.specs.Bytes.{ushort, uint}
 use Rattle.dexspec.specs.Numbers.{uleb128}
-use Rattle.dexspec.specs.Texts.{Text, string_data}
-use Rattle.dexspec.specs.Sections.{TypeLists, AnnotationSetRefLists, AnnotationSets, ClassDataItems, CodeItems, StringDataItems, DebugInfoItems, AnnotationItems, EncodedArrayItems, AnnotationsDirectories}
-use Rattle.dexspec.specs.Annotations.{AnnotationSet}
+use Rattle.dexspec.specs.Texts.{string_data}
 use Rattle.dexspec.specs.Classes.{Definition}
 use Rattle.dexspec.specs.Code.{Code}
 use Rattle.dexspec.specs.Debug.{Debug}
 use Rattle.dexspec.specs.Values.{count_values}
 use Rattle.dexspec.specs.Mentions.{Mentions}
-use Rattle.dexspec.specs.Sameness.{same_types, same_debug, same_set}
-use Rattle.dexspec.specs.Spellings.{type_index, code_bytes, debug_bytes, encoded_array_bytes, annotation_bytes, offsets_bytes, class_data_bytes}
-use Rattle.dexspec.specs.Placing.{Items, unless_empty, own_numbers, own_items, shared_items, Placed, offsets, end, uses_offsets, Ordered, by_class, SetOffsets, type_list_uses, set_uses, debug_uses, code_uses, static_values_uses, class_data_uses, set_offsets_by_class, ref_list_uses, directory_uses, directory_bytes}
-use Rattle.dexspec.specs.Canonical.{data_start, Layout, layout, class_offsets}
+use Rattle.dexspec.specs.Sameness.{same_types}
+use Rattle.dexspec.specs.Spellings.{code_bytes, debug_bytes, encoded_array_bytes, annotation_bytes, offsets_bytes, class_data_bytes, type_list_bytes}
+use Rattle.dexspec.specs.Placing.{unless_empty, own_numbers, own_items, shared_items, Sharing, EqualOnce, EachForItself, items_by, Placed, offsets, uses_offsets, Ordered, by_class, SetOffsets, type_list_uses, code_uses, static_values_uses, class_data_uses, ref_list_uses, directory_uses, directory_bytes}
+use Rattle.dexspec.specs.Canonical.{data_start, Layout, layout, class_offsets, type_list_items, type_list_end, type_list_offsets, set_items, annotation_end, annotation_offsets, array_end, array_offsets, string_section, string_end, debug_items, debug_end, debug_offsets, code_end, code_offsets, class_data_end, class_data_offsets, set_end, set_offsets, ref_list_end, ref_list_offsets, directory_section, directory_end, directory_offsets, data_sections}
 use Rattle.dexspec.proofs.ByteNumbers.{length-uint, length-ushort}
 use Rattle.dexspec.proofs.Spellings.{uleb128_bounds}
 use Rattle.dexspec.proofs.Places.{IsAlign, length-offsets_from, FollowFrom}
 
--- ---- the sections, each from the end of the one before it
-
--- a type_list
-abbrev pub type_list_bytes : Mentions → List Text → List ℕ
-type_list_bytes m ts = uint (length ts) ++ flat_map (λ t. ushort (type_index m t)) ts
-
--- the type lists that are written
-abbrev pub type_list_items : Ordered → Items (List Text)
-type_list_items K = shared_items same_types (type_list_uses K)
-
--- the sets that are written
-abbrev pub set_items : Ordered → Items AnnotationSet
-set_items K = shared_items same_set (set_uses K)
-
--- the debug programs that are written
-abbrev pub debug_items : Ordered → Items Debug
-debug_items K = shared_items same_debug (debug_uses K)
-
--- the type lists, from the end of the tables
-abbrev pub type_list_section : Ordered → Placed
-type_list_section K = record { kind = TypeLists; align = 4; from = data_start K; items = map (type_list_bytes K.pools) (type_list_items K).written }
-
--- where they end
-unfoldable pub type_list_end : Ordered → ℕ
-type_list_end K = end (type_list_section K)
-
--- the annotation items
-abbrev pub annotation_section : Ordered → Placed
-annotation_section K = record { kind = AnnotationItems; align = 1; from = type_list_end K; items = map (annotation_bytes K.pools) (flat_map (λ set. set) (set_items K).written) }
-
--- where they end
-unfoldable pub annotation_end : Ordered → ℕ
-annotation_end K = end (annotation_section K)
-
--- the arrays of static values
-abbrev pub array_section : Ordered → Placed
-array_section K = record { kind = EncodedArrayItems; align = 1; from = annotation_end K; items = map (encoded_array_bytes K.pools) (own_items (static_values_uses K)).written }
-
--- where they end
-unfoldable pub array_end : Ordered → ℕ
-array_end K = end (array_section K)
-
--- the string data
-abbrev pub string_section : Ordered → Placed
-string_section K = record { kind = StringDataItems; align = 1; from = array_end K; items = map string_data K.pools.texts }
-
--- where it ends
-unfoldable pub string_end : Ordered → ℕ
-string_end K = end (string_section K)
-
--- the debug programs
-abbrev pub debug_section : Ordered → Placed
-debug_section K = record { kind = DebugInfoItems; align = 1; from = string_end K; items = map (debug_bytes K.pools) (debug_items K).written }
-
--- where they end
-unfoldable pub debug_end : Ordered → ℕ
-debug_end K = end (debug_section K)
-
--- for each method the offset of its debug program
-unfoldable pub debug_offsets : Ordered → List ℕ
-debug_offsets K = uses_offsets (debug_items K).numbers (offsets (debug_section K))
-
--- the code items
-abbrev pub code_section : Ordered → Placed
-code_section K = record { kind = CodeItems; align = 4; from = debug_end K; items = map (λ p. code_bytes K.pools p.1 p.0) (own_items (code_uses K (debug_offsets K))).written }
-
--- where they end
-unfoldable pub code_end : Ordered → ℕ
-code_end K = end (code_section K)
-
--- for each method the offset of its code
-unfoldable pub code_offsets : Ordered → List ℕ
-code_offsets K = uses_offsets (own_items (code_uses K (debug_offsets K))).numbers (offsets (code_section K))
-
--- the class data
-abbrev pub class_data_section : Ordered → Placed
-class_data_section K = record { kind = ClassDataItems; align = 1; from = code_end K; items = map (λ p. class_data_bytes K.pools p.0 p.1) (own_items (class_data_uses K (code_offsets K))).written }
-
--- where it ends
-unfoldable pub class_data_end : Ordered → ℕ
-class_data_end K = end (class_data_section K)
-
--- the offsets of all annotation_items, set by set
-unfoldable pub annotation_offsets : Ordered → List (List ℕ)
-annotation_offsets K = chunks (map (λ set. length set) (set_items K).written) (offsets (annotation_section K))
-
--- the annotation sets
-abbrev pub set_section : Ordered → Placed
-set_section K = record { kind = AnnotationSets; align = 4; from = class_data_end K; items = map offsets_bytes (annotation_offsets K) }
-
--- where they end
-unfoldable pub set_end : Ordered → ℕ
-set_end K = end (set_section K)
-
--- for each class the offsets of its sets
-unfoldable pub set_offsets : Ordered → List SetOffsets
-set_offsets K = set_offsets_by_class K (uses_offsets (set_items K).numbers (offsets (set_section K)))
-
--- the lists of sets of parameters
-abbrev pub ref_list_section : Ordered → Placed
-ref_list_section K = record { kind = AnnotationSetRefLists; align = 4; from = set_end K; items = map offsets_bytes (own_items (ref_list_uses K (set_offsets K))).written }
-
--- where they end
-unfoldable pub ref_list_end : Ordered → ℕ
-ref_list_end K = end (ref_list_section K)
-
--- for each method the offset of its ref list
-unfoldable pub ref_list_offsets : Ordered → List ℕ
-ref_list_offsets K = uses_offsets (own_items (ref_list_uses K (set_offsets K))).numbers (offsets (ref_list_section K))
-
--- the directories
-abbrev pub directory_section : Ordered → Placed
-directory_section K = record { kind = AnnotationsDirectories; align = 4; from = ref_list_end K; items = (own_items (directory_uses K (set_offsets K) (ref_list_offsets K))).written }
-
--- where they end, and with them the sections
-unfoldable pub directory_end : Ordered → ℕ
-directory_end K = end (directory_section K)
-
--- for each proto, and then for each class, the offset of its type list
-unfoldable pub type_list_offsets : Ordered → List ℕ
-type_list_offsets K = uses_offsets (type_list_items K).numbers (offsets (type_list_section K))
-
--- for each class the offset of its directory
-unfoldable pub directory_offsets : Ordered → List ℕ
-directory_offsets K = uses_offsets (own_items (directory_uses K (set_offsets K) (ref_list_offsets K))).numbers (offsets (directory_section K))
-
--- for each class the offset of its class data
-unfoldable pub class_data_offsets : Ordered → List ℕ
-class_data_offsets K = uses_offsets (own_items (class_data_uses K (code_offsets K))).numbers (offsets (class_data_section K))
-
--- for each class the offset of its static values
-unfoldable pub array_offsets : Ordered → List ℕ
-array_offsets K = uses_offsets (own_items (static_values_uses K)).numbers (offsets (array_section K))
-
--- the sections in the order of the file
-abbrev pub data_sections : Ordered → List Placed
-data_sections K =
-    type_list_section K ∷ annotation_section K ∷ array_section K ∷ string_section K ∷ debug_section K ∷ code_section K ∷ class_data_section K ∷ set_section K ∷ ref_list_section K
-    ∷ directory_section K ∷ []
+-- ---- the layout
 
 -- the layout by its parts
 abbrev pub named_layout : Ordered → Layout
@@ -176,7 +36,7 @@ named_layout K = record {
 
 -- what the layout is
 pub layout_is : (K : Ordered) → layout K ≡ named_layout K
-unfolding layout type_list_end annotation_end array_end string_end debug_end debug_offsets code_end code_offsets class_data_end annotation_offsets set_end set_offsets ref_list_end ref_list_offsets directory_end type_list_offsets directory_offsets class_data_offsets array_offsets
+unfolding layout
 layout_is K = refl
 
 -- each section begins where the one before it ends
@@ -311,6 +171,11 @@ length-uses_offsets uses offs = length-map (own_numbers 0 uses) _ ∙ length-own
 pub length-shared_offsets : {X : Type 0} (same : X → X → Bool) (uses : List (Option X)) (offs : List ℕ) → length (uses_offsets (shared_items same uses).numbers offs) ≡ length uses
 length-shared_offsets same uses offs = length-map (shared_items same uses).numbers _ ∙ length-map uses _
 
+-- and either way
+pub length-items_offsets : {X : Type 0} (how : Sharing) (same : X → X → Bool) (uses : List (Option X)) (offs : List ℕ) → length (uses_offsets (items_by how same uses).numbers offs) ≡ length uses
+length-items_offsets EqualOnce same uses offs = length-shared_offsets same uses offs
+length-items_offsets EachForItself same uses offs = length-uses_offsets uses offs
+
 -- a part for each length
 pub length-chunks : {X : Type 0} (ns : List ℕ) (xs : List X) → length (chunks ns xs) ≡ length ns
 length-chunks [] xs = refl
@@ -338,7 +203,7 @@ length-by_class K xs = length-chunks (map _ K.classes) xs ∙ length-map K.class
 pub length-type_list_offsets : (K : Ordered) → length (type_list_offsets K) ≡ length K.pools.protos + length K.classes
 unfolding type_list_offsets
 length-type_list_offsets K =
-    length-shared_offsets same_types (type_list_uses K) _ ∙ length-append (map _ K.pools.protos) (map _ K.classes)
+    length-items_offsets K.sharing same_types (type_list_uses K) _ ∙ length-append (map _ K.pools.protos) (map _ K.classes)
     ∙ omega (arith, length-map K.pools.protos (λ p. unless_empty p.parameters), length-map K.classes (λ d. unless_empty d.1.interfaces))
 
 -- for each class

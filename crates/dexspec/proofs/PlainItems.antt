@@ -1,13 +1,13 @@
 -- The class row of a plain definition has no offsets of annotations, class data and static values.
 use Rattle.std.proofs.Common.{◌≡◌, ℕ, ◌+◌, ◌<◌, List, [], length, get_or, ap, ◌∙◌, subst}
 use Rattle.std.specs.Prelude.{◌==◌, if◌then◌else◌, Option, None}
+use Rattle.dexspec.specs.Canonical.{code_offsets, ref_list_offsets}
 use Rattle.dexspec.specs.Values.{NoValues}
 use Rattle.dexspec.specs.Classes.{Body, Definition, annotations_off, class_data_off, static_values_off}
 use Rattle.dexspec.specs.Mentions.{Mentions}
 use Rattle.dexspec.specs.Plain.{IsPlain, IsPlainRow}
 use Rattle.dexspec.specs.Spellings.{class_data_bytes, encoded_array_bytes}
 use Rattle.dexspec.specs.Placing.{Ordered, values_unless_empty, by_class, SetOffsets, directory_bytes}
-use Rattle.dexspec.proofs.Placements.{code_offsets, ref_list_offsets}
 use Rattle.dexspec.proofs.Laying.{Laid}
 use Rattle.dexspec.proofs.Uses.{UseStands, class_data_of, class_set_offsets, SetStands, own_set_stands}
 use Rattle.dexspec.proofs.RowsRead.{class_read}

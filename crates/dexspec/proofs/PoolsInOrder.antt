@@ -16,13 +16,12 @@ use Rattle.dexspec.specs.Texts.{Text, text_cmp}
 use Rattle.dexspec.specs.Symbols.{Proto, Field, Method, proto_cmp, field_cmp, method_cmp}
 use Rattle.dexspec.specs.Header.{StringIds, ProtoIds, FieldIds, MethodIds}
 use Rattle.dexspec.specs.Rows.{row_at, TypeRow, ProtoRow, FieldRow, MethodRow, type_indices, key_cmp, type_row_key, proto_row_key, HasString, HasType, HasProto, HasField, HasMethod}
-use Rattle.dexspec.specs.Spellings.{text_index, type_index, proto_index}
+use Rattle.dexspec.specs.Spellings.{text_index, type_index, proto_index, type_list_bytes}
 use Rattle.dexspec.specs.Placing.{Ordered, unless_empty}
 use Rattle.dexspec.proofs.Members.{Contains-first, Contains-later}
 use Rattle.dexspec.proofs.InOrder.{Rises, rank-place, rank-get_or}
 use Rattle.dexspec.proofs.SymbolOrders.{text_total, proto_total, field_total, method_total}
 use Rattle.dexspec.proofs.OneText.{one_string_data}
-use Rattle.dexspec.proofs.Placements.{type_list_bytes}
 use Rattle.dexspec.proofs.Laying.{Laid}
 use Rattle.dexspec.proofs.HeaderLaws.{AreFew}
 use Rattle.dexspec.proofs.Uses.{UseStands}

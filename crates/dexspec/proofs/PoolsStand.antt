@@ -14,14 +14,13 @@ use Rattle.dexspec.specs.Symbols.{Proto, Field, Method, proto_cmp, field_cmp, me
 use Rattle.dexspec.specs.Header.{StringIds, TypeIds, ProtoIds, FieldIds, MethodIds}
 use Rattle.dexspec.specs.Rows.{row_at, StringRow, TypeRow, TypeListAt, ProtoRow, FieldRow, MethodRow}
 use Rattle.dexspec.specs.Mentions.{Mentions}
-use Rattle.dexspec.specs.Spellings.{text_index, type_index, proto_index, field_index, method_index}
+use Rattle.dexspec.specs.Spellings.{text_index, type_index, proto_index, field_index, method_index, type_list_bytes}
 use Rattle.dexspec.specs.Placing.{Ordered, unless_empty}
 use Rattle.dexspec.proofs.Stands.{stands_within}
 use Rattle.dexspec.proofs.Members.{Contains-first, Contains-later}
 use Rattle.dexspec.proofs.InOrder.{Rises, rank-place}
 use Rattle.dexspec.proofs.SymbolOrders.{text_total, proto_total, field_total, method_total}
 use Rattle.dexspec.proofs.OneText.{string_data_is}
-use Rattle.dexspec.proofs.Placements.{type_list_bytes}
 use Rattle.dexspec.proofs.Laying.{Laid, ItemStands}
 use Rattle.dexspec.proofs.HeaderLaws.{AreFew}
 use Rattle.dexspec.proofs.Uses.{UseStands}

@@ -14,12 +14,11 @@ use Rattle.dexspec.specs.Header.{Table, StringIds, TypeIds, ProtoIds, FieldIds, 
 use Rattle.dexspec.specs.Sections.{IsInData}
 use Rattle.dexspec.specs.Rows.{row_at, type_indices}
 use Rattle.dexspec.specs.Classes.{Definition, class_idx, access_flags, superclass_idx, interfaces_off, source_file_idx, annotations_off, class_data_off, static_values_off, no_index}
-use Rattle.dexspec.specs.Spellings.{text_index, type_index, proto_index, encoded_array_bytes, class_data_bytes}
+use Rattle.dexspec.specs.Spellings.{text_index, type_index, proto_index, encoded_array_bytes, class_data_bytes, type_list_bytes}
 use Rattle.dexspec.specs.Placing.{unless_empty, values_unless_empty, offsets, Ordered, by_class, directory_bytes}
-use Rattle.dexspec.specs.Canonical.{table_count}
+use Rattle.dexspec.specs.Canonical.{table_count, string_section, type_list_offsets, code_offsets, ref_list_offsets}
 use Rattle.dexspec.proofs.Stands.{stands_at, length_rows}
 use Rattle.dexspec.proofs.ByteNumbers.{length-uint, length-ushort, ushort_at-stands, uint_at-stands}
-use Rattle.dexspec.proofs.Placements.{type_list_bytes, string_section, type_list_offsets, code_offsets, ref_list_offsets}
 use Rattle.dexspec.proofs.Tables.{stands_here, stands_behind, stands_next}
 use Rattle.dexspec.proofs.Laying.{ItemStands, Laid, table_few, data_before_map, class_places}
 use Rattle.dexspec.proofs.HeaderLaws.{AreFew}

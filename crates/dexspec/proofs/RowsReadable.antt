@@ -20,7 +20,7 @@ use Rattle.dexspec.specs.WellFormed.{IsWellFormed, AreWellFormed, field_key, met
 use Rattle.dexspec.specs.Accepted.{Declares, AllCode, HasPiecesAt, HasTriesAt, HasDebugAt, HasValues, NamesDeclared, IsReadable}
 use Rattle.dexspec.specs.Values.{count_values}
 use Rattle.dexspec.specs.Placing.{by_class}
-use Rattle.dexspec.specs.Canonical.{ordered, canonical}
+use Rattle.dexspec.specs.Canonical.{ordered, canonical, code_offsets}
 use Rattle.dexspec.specs.Depth.{in_class_order}
 use Rattle.dexspec.specs.Files.{Collection, definitions}
 use Rattle.dexspec.specs.Merging.{greatest_caps, Fits, IsGood}
@@ -32,7 +32,6 @@ use Rattle.dexspec.proofs.SymbolOrders.{field_total, field_exact, method_total, 
 use Rattle.dexspec.proofs.FormedRows.{all_from}
 use Rattle.dexspec.proofs.OneClass.{HasFewRows, one_row_data}
 use Rattle.dexspec.proofs.OneCode.{one_pieces}
-use Rattle.dexspec.proofs.Placements.{code_offsets}
 use Rattle.dexspec.proofs.ClassDataWritten.{encoded_field, encoded_method}
 use Rattle.dexspec.proofs.DirectoryEntries.{entries_source}
 use Rattle.dexspec.proofs.NormalRows.{count_small}

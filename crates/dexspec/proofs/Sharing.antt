@@ -9,7 +9,7 @@ use Rattle.std.proofs.lemmas.List.Elements.{Contains-get_or}
 use Rattle.std.proofs.lemmas.List.Sums.{sum_by-cons, passes_at_first, position_or_len_is}
 use Rattle.std.proofs.lemmas.List.Filters.{sum_by-filter_both}
 use Rattle.dexspec.specs.Lists.{AreDistinct, present, distinct}
-use Rattle.dexspec.specs.Placing.{shared_items}
+use Rattle.dexspec.specs.Placing.{shared_items, Sharing, EqualOnce, EachForItself, items_by}
 use Rattle.dexspec.proofs.Equality.{IsEquality, self, turned}
 use Rattle.dexspec.proofs.Members.{Contains-nil, Contains-first, Contains-later, Contains-cons_cases, list_any-source}
 use Rattle.dexspec.proofs.Sources.{distinct_source}
@@ -150,3 +150,8 @@ sum_by-distinct f same (x ∷ xs) =
       sum_by-filter f (λ y. not (same x y)) (distinct same xs),
       sum_by-distinct f same xs,
     )
+
+-- the items of uses count no more than the uses
+pub sum_by-items : {X : Type 0} (how : Sharing) (same : X → X → Bool) (f : X → ℕ) (uses : List (Option X)) → sum_by f (items_by how same uses).written ≤ sum_by f (present uses)
+sum_by-items EqualOnce same f uses = sum_by-distinct f same (present uses)
+sum_by-items EachForItself same f uses = omega arith

@@ -24,8 +24,9 @@ use Rattle.dexspec.specs.Mentions.{Mentions, mentions}
 use Rattle.dexspec.specs.Depth.{place_cmp, put_all, depth, in_class_order}
 use Rattle.dexspec.specs.Weight.{mentions_weight, static_values_weight, body_weight, weight}
 use Rattle.dexspec.specs.Spellings.{text_index, type_index, proto_index}
+use Rattle.dexspec.specs.Sameness.{same_types, same_debug, same_set}
 use Rattle.dexspec.specs.Placing.{Placed, offsets, section_bytes, Ordered, class_sets}
-use Rattle.dexspec.specs.Canonical.{data_start, placed_tables, proto_row_bytes, field_row_bytes, method_row_bytes, ClassOffsets, class_row_bytes, Layout, layout, map_entry_bytes, map_of, map_bytes, table_bytes, header_bytes, unsigned_file, magic, with_sums, ordered, canonical}
+use Rattle.dexspec.specs.Canonical.{annotation_offsets, set_offsets, data_start, placed_tables, proto_row_bytes, field_row_bytes, method_row_bytes, ClassOffsets, class_row_bytes, Layout, layout, map_entry_bytes, map_of, map_bytes, table_bytes, header_bytes, unsigned_file, magic, with_sums, ordered, canonical}
 use Rattle.dexspec.proofs.ByteNumbers.{length-ushort, length-uint}
 use Rattle.dexspec.proofs.SizeSums.{map-length, sum_by-map, sum_by-at_most, length-offsets_from, padding-at_most}
 use Rattle.dexspec.proofs.SizeItems.{each-is}
@@ -64,19 +65,19 @@ record IsLaidOut (K : Ordered) (l : Layout) : Type 0 where
   strings : length l.strings ≡ length K.pools.texts
 
 layout-is : (K : Ordered) → length K.pools.types ≤ 65536 → IsLaidOut K (layout K)
-unfolding layout
+unfolding layout annotation_offsets set_offsets
 layout-is K few = record {
   sizes = (
-    type_lists-size K _ _,
+    type_lists-size K K.sharing same_types _,
     (
-      annotations-size K _ _,
+      annotations-size K K.sharing same_set _,
       (
         arrays-size K _,
         (
           strings-size K.pools _,
           (
-            debugs-size K _ _,
-            (codes-size K few _ _, (class_data-size K _ _, (sets-size K _ _ _, (refs-size K _ _, (directories-size K _ _ _, tt))))),
+            debugs-size K K.sharing same_debug _,
+            (codes-size K few _ _, (class_data-size K _ _, (sets-size K K.sharing same_set _ _, (refs-size K _ _, (directories-size K _ _ _, tt))))),
           ),
         ),
       ),

@@ -2,7 +2,7 @@
 use Rattle.std.proofs.Common.{◌≡◌, ℕ, zero, suc, ◌+◌, ◌*◌, ◌≤◌, Bool, true, false, List, [], ◌∷◌, ◌++◌, map, length, drop, Option, Some, None, refl, arith, sum_by, flat_map, option_to_list, if◌then◌else◌, zip}
 use Rattle.std.specs.Option.{option_map_or}
 use Rattle.std.proofs.lemmas.List.Sums.{sum_by-append, sum_by-le-sum_by}
-use Rattle.dexspec.specs.Lists.{chunks, present, distinct}
+use Rattle.dexspec.specs.Lists.{chunks, present}
 use Rattle.dexspec.specs.Bytes.{ushort, uint}
 use Rattle.dexspec.specs.Texts.{Text, string_data}
 use Rattle.dexspec.specs.Symbols.{Proto}
@@ -14,10 +14,10 @@ use Rattle.dexspec.specs.Classes.{MethodDef, Definition, declared_fields, declar
 use Rattle.dexspec.specs.Mentions.{Mentions}
 use Rattle.dexspec.specs.Weight.{debug_weight, code_weight, values_weight, annotation_weight, static_values_weight}
 use Rattle.dexspec.specs.Spellings.{type_index, code_bytes, debug_bytes, values_bytes, encoded_array_bytes, annotation_bytes, offsets_bytes, class_data_bytes}
-use Rattle.dexspec.specs.Placing.{unless_empty, values_unless_empty, bytes_from, Ordered, all_methods, type_list_uses, method_sets, class_sets, set_uses, debug_uses, code_uses, static_values_uses, by_class, is_empty_class, class_data_uses, SetOffsets, set_offsets_of, set_offsets_by_class, ref_list_uses, directory_uses, directory_bytes}
+use Rattle.dexspec.specs.Placing.{unless_empty, values_unless_empty, bytes_from, Sharing, items_by, Ordered, all_methods, type_list_uses, method_sets, class_sets, set_uses, debug_uses, code_uses, static_values_uses, by_class, is_empty_class, class_data_uses, SetOffsets, set_offsets_of, set_offsets_by_class, ref_list_uses, directory_uses, directory_bytes}
 use Rattle.dexspec.specs.Numbers.{uleb128}
 use Rattle.dexspec.proofs.SizeSums.{sum_by-map, sum_by-flat_map, sum_by-zip_with, sum_by-present, sum_by-chunks, or_zero, bytes_from-at_most}
-use Rattle.dexspec.proofs.Sharing.{sum_by-distinct}
+use Rattle.dexspec.proofs.Sharing.{sum_by-items}
 use Rattle.dexspec.proofs.SizeItems.{uleb128-size, string_data-size, debug_bytes-size, values_bytes-size, annotation_bytes-size, offsets_bytes-size, type_list-size}
 use Rattle.dexspec.proofs.SizeCode.{code_bytes-size}
 use Rattle.dexspec.proofs.SizeClass.{class_data_bytes-size, directory_bytes-size}
@@ -62,12 +62,12 @@ module _ {X : Type 0} where
       omega (arith, bytes_from-at_most k from (map g (present os)), sum_by-map (λ (b : List ℕ). length b + k) g (present os), each, sum_by-present h os)
 
   -- and of those of them that are written once
-  shared-size : (same : X → X → Bool) (k from : ℕ) (g : X → List ℕ) (h : X → ℕ) (os : List (Option X)) → ((x : X) → length (g x) + k ≤ h x)
-      → length (bytes_from (suc k) from (map g (distinct same (present os)))) ≤ sum_by (or_zero h) os
-  shared-size same k from g h os le =
-      let xs = distinct same (present os) in
+  shared-size : (how : Sharing) (same : X → X → Bool) (k from : ℕ) (g : X → List ℕ) (h : X → ℕ) (os : List (Option X)) → ((x : X) → length (g x) + k ≤ h x)
+      → length (bytes_from (suc k) from (map g (items_by how same os).written)) ≤ sum_by (or_zero h) os
+  shared-size how same k from g h os le =
+      let xs = (items_by how same os).written in
       let each = sum_by-le-sum_by (λ x. length (g x) + k) h xs le in
-      omega (arith, bytes_from-at_most k from (map g xs), sum_by-map (λ (b : List ℕ). length b + k) g xs, each, sum_by-distinct h same (present os), sum_by-present h os)
+      omega (arith, bytes_from-at_most k from (map g xs), sum_by-map (λ (b : List ℕ). length b + k) g xs, each, sum_by-items how same h os, sum_by-present h os)
 
   or_zero-is : (f : X → ℕ) (o : Option X) → or_zero f o ≡ sum_by f (option_to_list o)
   or_zero-is f None = refl
@@ -83,9 +83,9 @@ list_use : (f : List Text → ℕ) (ts : List Text) → or_zero f (unless_empty 
 list_use f [] = omega arith
 list_use f (t ∷ ts) = omega arith
 
-pub type_lists-size : (K : Ordered) (same : List Text → List Text → Bool) (from : ℕ) → length (bytes_from 4 from (map (λ ts. uint (length ts) ++ flat_map (λ t. ushort (type_index K.pools t)) ts) (distinct same (present (type_list_uses K))))) ≤ sum_by (λ p. list_part p.parameters) K.pools.protos + sum_by (λ d. list_part d.1.interfaces) K.classes
-type_lists-size K same from =
-    let all = shared-size same 3 from (λ ts. uint (length ts) ++ flat_map (λ t. ushort (type_index K.pools t)) ts) list_part (type_list_uses K) (λ ts. omega (arith, type_list-size K.pools ts)) in
+pub type_lists-size : (K : Ordered) (how : Sharing) (same : List Text → List Text → Bool) (from : ℕ) → length (bytes_from 4 from (map (λ ts. uint (length ts) ++ flat_map (λ t. ushort (type_index K.pools t)) ts) ((items_by how same (type_list_uses K)).written))) ≤ sum_by (λ p. list_part p.parameters) K.pools.protos + sum_by (λ d. list_part d.1.interfaces) K.classes
+type_lists-size K how same from =
+    let all = shared-size how same 3 from (λ ts. uint (length ts) ++ flat_map (λ t. ushort (type_index K.pools t)) ts) list_part (type_list_uses K) (λ ts. omega (arith, type_list-size K.pools ts)) in
     let protos = map (λ (p : Proto). unless_empty p.parameters) K.pools.protos in
     let classes = map (λ (d : Definition). unless_empty d.1.interfaces) K.classes in
     omega (
@@ -100,35 +100,35 @@ type_lists-size K same from =
 
 -- ---- annotation items and sets
 
-set_uses-size : (K : Ordered) (same : AnnotationSet → AnnotationSet → Bool) (f h : AnnotationSet → ℕ) → ((s : AnnotationSet) → or_zero f (unless_empty s) ≤ h s) → sum_by f (distinct same (present (set_uses K))) ≤ sum_by (λ d. sum_by h (class_sets d)) K.classes
-set_uses-size K same f h le =
+set_uses-size : (K : Ordered) (how : Sharing) (same : AnnotationSet → AnnotationSet → Bool) (f h : AnnotationSet → ℕ) → ((s : AnnotationSet) → or_zero f (unless_empty s) ≤ h s) → sum_by f ((items_by how same (set_uses K)).written) ≤ sum_by (λ d. sum_by h (class_sets d)) K.classes
+set_uses-size K how same f h le =
     let sets = flat_map class_sets K.classes in
-    omega (arith, sum_by-distinct f same (present (set_uses K)), sum_by-present f (set_uses K), sum_by-map (or_zero f) unless_empty sets, sum_by-le-sum_by (λ s. or_zero f (unless_empty s)) h sets le, sum_by-flat_map h class_sets K.classes)
+    omega (arith, sum_by-items how same f (set_uses K), sum_by-present f (set_uses K), sum_by-map (or_zero f) unless_empty sets, sum_by-le-sum_by (λ s. or_zero f (unless_empty s)) h sets le, sum_by-flat_map h class_sets K.classes)
 
 items_use : (m : Mentions) (s : AnnotationSet) → or_zero (λ (set : AnnotationSet). sum_by (λ a. length (annotation_bytes m a) + 0) set) (unless_empty s) ≤ items_part s
 items_use m [] = omega arith
 items_use m (x ∷ xs) = sum_by-le-sum_by (λ a. length (annotation_bytes m a) + 0) annotation_weight (x ∷ xs) (λ a. omega (arith, annotation_bytes-size m a))
 
-pub annotations-size : (K : Ordered) (same : AnnotationSet → AnnotationSet → Bool) (from : ℕ) → length (bytes_from 1 from (map (annotation_bytes K.pools) (flat_map (λ set. set) (distinct same (present (set_uses K)))))) ≤ sum_by (λ d. sum_by items_part (class_sets d)) K.classes
-annotations-size K same from =
+pub annotations-size : (K : Ordered) (how : Sharing) (same : AnnotationSet → AnnotationSet → Bool) (from : ℕ) → length (bytes_from 1 from (map (annotation_bytes K.pools) (flat_map (λ set. set) ((items_by how same (set_uses K)).written)))) ≤ sum_by (λ d. sum_by items_part (class_sets d)) K.classes
+annotations-size K how same from =
     let m = K.pools in
-    let written = distinct same (present (set_uses K)) in
+    let written = (items_by how same (set_uses K)).written in
     let items = flat_map (λ (set : AnnotationSet). set) written in
     omega (
       arith,
       bytes_from-at_most 0 from (map (annotation_bytes m) items),
       sum_by-map (λ (b : List ℕ). length b + 0) (annotation_bytes m) items,
       sum_by-flat_map (λ (a : Annotation). length (annotation_bytes m a) + 0) (λ (set : AnnotationSet). set) written,
-      set_uses-size K same (λ (set : AnnotationSet). sum_by (λ a. length (annotation_bytes m a) + 0) set) items_part (items_use m),
+      set_uses-size K how same (λ (set : AnnotationSet). sum_by (λ a. length (annotation_bytes m a) + 0) set) items_part (items_use m),
     )
 
 set_use : (s : AnnotationSet) → or_zero (λ (set : AnnotationSet). 7 + 4 * length set) (unless_empty s) ≤ set_part s
 set_use [] = omega arith
 set_use (x ∷ xs) = omega arith
 
-pub sets-size : (K : Ordered) (same : AnnotationSet → AnnotationSet → Bool) (from : ℕ) (offs : List ℕ) → length (bytes_from 4 from (map offsets_bytes (chunks (map (λ set. length set) (distinct same (present (set_uses K)))) offs))) ≤ sum_by (λ d. sum_by set_part (class_sets d)) K.classes
-sets-size K same from offs =
-    let written = distinct same (present (set_uses K)) in
+pub sets-size : (K : Ordered) (how : Sharing) (same : AnnotationSet → AnnotationSet → Bool) (from : ℕ) (offs : List ℕ) → length (bytes_from 4 from (map offsets_bytes (chunks (map (λ set. length set) ((items_by how same (set_uses K)).written)) offs))) ≤ sum_by (λ d. sum_by set_part (class_sets d)) K.classes
+sets-size K how same from offs =
+    let written = (items_by how same (set_uses K)).written in
     let counts = map (λ (set : AnnotationSet). length set) written in
     omega (
       arith,
@@ -136,7 +136,7 @@ sets-size K same from offs =
       sum_by-map (λ (b : List ℕ). length b + 3) offsets_bytes (chunks counts offs),
       sum_by-chunks (λ (ys : List ℕ). length (offsets_bytes ys) + 3) (λ n. 7 + 4 * n) counts offs (λ n ys le. omega (arith, offsets_bytes-size ys, le)),
       sum_by-map (λ n. 7 + 4 * n) (λ (set : AnnotationSet). length set) written,
-      set_uses-size K same (λ set. 7 + 4 * length set) set_part set_use,
+      set_uses-size K how same (λ set. 7 + 4 * length set) set_part set_use,
     )
 
 -- ---- static values and texts
@@ -168,12 +168,12 @@ debug_use : (o : Option Code) → or_zero debug_weight (option_map_or (λ c. c.d
 debug_use None = omega arith
 debug_use (Some c) = omega (arith, or_zero-is debug_weight c.debug)
 
-pub debugs-size : (K : Ordered) (same : Debug → Debug → Bool) (from : ℕ) → length (bytes_from 1 from (map (debug_bytes K.pools) (distinct same (present (debug_uses K))))) ≤ sum_by (λ d. sum_by debug_part (declared_methods d.1)) K.classes
-debugs-size K same from =
+pub debugs-size : (K : Ordered) (how : Sharing) (same : Debug → Debug → Bool) (from : ℕ) → length (bytes_from 1 from (map (debug_bytes K.pools) ((items_by how same (debug_uses K)).written))) ≤ sum_by (λ d. sum_by debug_part (declared_methods d.1)) K.classes
+debugs-size K how same from =
     let m = K.pools in
     let methods = all_methods K.classes in
     let use_of = λ (x : MethodDef). option_map_or (λ (c : Code). c.debug) x.code None in
-    let all = shared-size same 0 from (debug_bytes m) debug_weight (debug_uses K) (λ d. omega (arith, debug_bytes-size m d)) in
+    let all = shared-size how same 0 from (debug_bytes m) debug_weight (debug_uses K) (λ d. omega (arith, debug_bytes-size m d)) in
     omega (
       arith,
       all,

@@ -7,6 +7,7 @@ use Rattle.std.specs.Option.{option_map, option_map_or}
 use Rattle.std.specs.List.{flat_map, zip, Contains, position_or_len}
 use Rattle.std.proofs.lemmas.List.{length-take, length-drop, length-append, length-map, get_or-map, get_or-take, get_or-drop, get_or_append_left, get_or-append-add, drop-drop, map-id, take_all}
 use Rattle.std.proofs.lemmas.List.Concat.{get_or-flat_map}
+use Rattle.dexspec.specs.Canonical.{type_list_items, type_list_section, annotation_section, annotation_offsets, array_section, debug_items, debug_section, debug_offsets, code_section, code_offsets, class_data_section, set_items, set_section, set_offsets, ref_list_section, ref_list_offsets, directory_section, directory_offsets, type_list_offsets, class_data_offsets, array_offsets}
 use Rattle.dexspec.specs.Lists.{chunks, zip_with, present, distinct}
 use Rattle.dexspec.specs.Symbols.{Proto}
 use Rattle.dexspec.specs.Code.{Code}
@@ -15,11 +16,11 @@ use Rattle.dexspec.specs.Annotations.{Annotation, AnnotationSet}
 use Rattle.dexspec.specs.Classes.{FieldDef, MethodDef, Definition, declared_fields, declared_methods}
 use Rattle.dexspec.specs.Mentions.{Mentions}
 use Rattle.dexspec.specs.Sameness.{same_types, same_debug, same_set}
-use Rattle.dexspec.specs.Spellings.{code_bytes, debug_bytes, encoded_array_bytes, annotation_bytes, offsets_bytes, class_data_bytes}
-use Rattle.dexspec.specs.Placing.{unless_empty, values_unless_empty, own_numbers, own_items, Items, shared_items, Placed, offsets, uses_offsets, Ordered, all_methods, by_class, is_empty_class, method_sets, class_sets, SetOffsets, set_offsets_of, type_list_uses, set_uses, debug_uses, code_uses, static_values_uses, class_data_uses, ref_list_uses, directory_uses, directory_bytes}
+use Rattle.dexspec.specs.Spellings.{code_bytes, debug_bytes, encoded_array_bytes, annotation_bytes, offsets_bytes, class_data_bytes, type_list_bytes}
+use Rattle.dexspec.specs.Placing.{unless_empty, values_unless_empty, own_numbers, own_items, Items, shared_items, Sharing, EqualOnce, EachForItself, items_by, Placed, offsets, uses_offsets, Ordered, all_methods, by_class, is_empty_class, method_sets, class_sets, SetOffsets, set_offsets_of, type_list_uses, set_uses, debug_uses, code_uses, static_values_uses, class_data_uses, ref_list_uses, directory_uses, directory_bytes}
 use Rattle.std.proofs.lemmas.List.Folds.{length-flat_map-take}
 use Rattle.dexspec.proofs.Places.{length-offsets_from}
-use Rattle.dexspec.proofs.Placements.{type_list_bytes, type_list_items, type_list_section, annotation_section, annotation_offsets, array_section, debug_items, debug_section, debug_offsets, code_section, code_offsets, class_data_section, set_items, set_section, set_offsets, ref_list_section, ref_list_offsets, directory_section, directory_offsets, type_list_offsets, class_data_offsets, array_offsets, length-own_numbers, length-uses_offsets, length-shared_offsets, length-chunks, length-by_class, length-zip, length-zip_with, length-set_offsets}
+use Rattle.dexspec.proofs.Placements.{length-own_numbers, length-uses_offsets, length-items_offsets, length-chunks, length-by_class, length-zip, length-zip_with, length-set_offsets}
 use Rattle.dexspec.proofs.Distinct.{distinct_has}
 use Rattle.dexspec.proofs.Equality.{IsEquality}
 use Rattle.dexspec.proofs.Sharing.{present_has, position_is}
@@ -86,6 +87,11 @@ shared_numbered same exact uses =
       each = λ k lt. subst (λ n. IsNumber (get_or uses k None) n items) (sym (get_or-map number uses k None None lt))
           (shared_from same exact items (get_or uses k None) (λ x e. distinct_has same (λ y z. (exact y z).0) (present uses) x (present_has uses k x lt e)));
     }
+
+-- and so they are either way
+pub items_numbered : {X : Type 0} (how : Sharing) (same : X → X → Bool) → IsEquality same → (uses : List (Option X)) → AreNumbered uses (items_by how same uses)
+items_numbered EqualOnce same exact uses = shared_numbered same exact uses
+items_numbered EachForItself same exact uses = own_numbered uses
 
 -- ---- uses and offsets
 
@@ -163,7 +169,7 @@ by_class_at K xs r d j e lt less = chunk_item (λ (d : Definition). declared_met
 -- a debug program's offset for each method
 pub length-debug_offsets : (K : Ordered) → length (debug_offsets K) ≡ length (all_methods K.classes)
 unfolding debug_offsets
-length-debug_offsets K = length-shared_offsets same_debug (debug_uses K) (offsets (debug_section K)) ∙ length-map (all_methods K.classes) _
+length-debug_offsets K = length-items_offsets K.sharing same_debug (debug_uses K) (offsets (debug_section K)) ∙ length-map (all_methods K.classes) _
 
 -- and one of its code
 pub length-code_offsets : (K : Ordered) → length (code_offsets K) ≡ length (all_methods K.classes)
@@ -189,7 +195,7 @@ module _ {K : Ordered} {b : List ℕ} (h : Laid K b) where
   -- each type list
   type_list_use : (k : ℕ) → k < length (type_list_uses K) → UseStands b 4 (type_list_bytes K.pools) (get_or (type_list_uses K) k None) (slice_index (type_list_offsets K) k)
   unfolding type_list_offsets
-  type_list_use k lt = use_stands (type_list_section K) (type_list_bytes K.pools) (type_list_items K) (type_list_uses K) (shared_numbered same_types types_decide (type_list_uses K)) refl h.type_lists k lt
+  type_list_use k lt = use_stands (type_list_section K) (type_list_bytes K.pools) (type_list_items K) (type_list_uses K) (items_numbered K.sharing same_types types_decide (type_list_uses K)) refl h.type_lists k lt
 
   -- the parameters of a proto
   pub parameters_stand : (i : ℕ) (d : Proto) → i < length K.pools.protos → UseStands b 4 (type_list_bytes K.pools) (unless_empty (get_or K.pools.protos i d).parameters) (slice_index (type_list_offsets K) i)
@@ -226,7 +232,7 @@ module _ {K : Ordered} {b : List ℕ} (h : Laid K b) where
   unfolding debug_offsets
   debug_use k x lt =
       subst (λ u. UseStands b 1 (debug_bytes K.pools) u (slice_index (debug_offsets K) k)) (get_or-map debug_of (all_methods K.classes) k x None lt)
-      (use_stands (debug_section K) (debug_bytes K.pools) (debug_items K) (debug_uses K) (shared_numbered same_debug debug_decides (debug_uses K)) refl h.debugs k (omega (arith, lt, length-map (all_methods K.classes) debug_of)))
+      (use_stands (debug_section K) (debug_bytes K.pools) (debug_items K) (debug_uses K) (items_numbered K.sharing same_debug debug_decides (debug_uses K)) refl h.debugs k (omega (arith, lt, length-map (all_methods K.classes) debug_of)))
 
   -- the code of a method
   code_use : (k : ℕ) (x : MethodDef) → k < length (all_methods K.classes)
@@ -344,7 +350,7 @@ module _ {K : Ordered} {b : List ℕ} (h : Laid K b) where
   -- each set of all classes
   set_use : (k : ℕ) → k < length (flat_map class_sets K.classes) → SetStands b K.pools (get_or (flat_map class_sets K.classes) k []) (slice_index (set_use_offsets K) k)
   set_use k lt =
-      let are = shared_numbered same_set set_decides (set_uses K) in
+      let are = items_numbered K.sharing same_set set_decides (set_uses K) in
       let sets = flat_map class_sets K.classes in
       let within : k < length (set_uses K) = omega (arith, lt, length-map sets (unless_empty {X = Annotation})) in
       let number : IsNumber (unless_empty (get_or sets k [])) (get_or (set_items K).numbers k None) (set_items K).written =
@@ -502,7 +508,7 @@ length-ref_list_offsets K =
 -- as many offsets of sets as sets
 length-set_use_offsets : (K : Ordered) → length (set_use_offsets K) ≡ length (flat_map class_sets K.classes)
 length-set_use_offsets K =
-    length-shared_offsets same_set (set_uses K) (offsets (set_section K))
+    length-items_offsets K.sharing same_set (set_uses K) (offsets (set_section K))
     ∙ length-map (flat_map class_sets K.classes) (unless_empty {X = Annotation})
 
 -- an offset for each set of a class

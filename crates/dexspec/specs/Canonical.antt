@@ -7,18 +7,20 @@ use Rattle.std.specs.Option.{option_map_or}
 use Rattle.sha1.specs.Sha1.{sha1}
 use Rattle.dexspec.specs.Lists.{chunks, zip_with}
 use Rattle.dexspec.specs.Bytes.{ushort, uint, round_up, padding}
-use Rattle.dexspec.specs.Texts.{string_data}
+use Rattle.dexspec.specs.Texts.{Text, string_data}
 use Rattle.dexspec.specs.Names.{shorty}
 use Rattle.dexspec.specs.Symbols.{Proto, Field, Method}
 use Rattle.dexspec.specs.Header.{Table, StringIds, TypeIds, ProtoIds, FieldIds, MethodIds, ClassDefs, adler_32, header_length, row_size}
 use Rattle.dexspec.specs.Sections.{Section, HeaderItem, TableOf, MapList, TypeLists, AnnotationSetRefLists, AnnotationSets, ClassDataItems, CodeItems, StringDataItems, DebugInfoItems, AnnotationItems, EncodedArrayItems, AnnotationsDirectories, type_code}
+use Rattle.dexspec.specs.Debug.{Debug}
+use Rattle.dexspec.specs.Annotations.{AnnotationSet}
 use Rattle.dexspec.specs.Classes.{Definition, no_index}
 use Rattle.dexspec.specs.Sameness.{same_types, same_debug, same_set}
 use Rattle.dexspec.specs.Files.{Collection, definitions}
 use Rattle.dexspec.specs.Mentions.{Mentions, mentions}
 use Rattle.dexspec.specs.Depth.{in_class_order}
-use Rattle.dexspec.specs.Spellings.{text_index, type_index, proto_index, code_bytes, debug_bytes, encoded_array_bytes, annotation_bytes, offsets_bytes, class_data_bytes}
-use Rattle.dexspec.specs.Placing.{own_items, shared_items, Placed, offsets, end, section_bytes, uses_offsets, Ordered, type_list_uses, set_uses, debug_uses, code_uses, static_values_uses, class_data_uses, set_offsets_by_class, ref_list_uses, directory_uses}
+use Rattle.dexspec.specs.Spellings.{text_index, type_index, proto_index, type_list_bytes, code_bytes, debug_bytes, encoded_array_bytes, annotation_bytes, offsets_bytes, class_data_bytes}
+use Rattle.dexspec.specs.Placing.{Items, own_items, EqualOnce, items_by, Placed, offsets, end, section_bytes, uses_offsets, Ordered, type_list_uses, set_uses, debug_uses, code_uses, static_values_uses, class_data_uses, SetOffsets, set_offsets_by_class, ref_list_uses, directory_uses}
 
 -- ---- the tables
 
@@ -74,6 +76,142 @@ abbrev pub class_offsets : List ℕ → List ℕ → List ℕ → List ℕ → L
 class_offsets interfaces annotations class_data static_values =
     zip_with (λ p q. record { interfaces = p.0; annotations = p.1; class_data = q.0; static_values = q.1 }) (zip interfaces annotations) (zip class_data static_values)
 
+-- ---- the sections of the data, each behind the one before it: what stands in one holds offsets of what stands in those before
+
+-- the type lists that are written
+abbrev pub type_list_items : Ordered → Items (List Text)
+type_list_items K = items_by K.sharing same_types (type_list_uses K)
+
+-- their section, from the end of the tables
+abbrev pub type_list_section : Ordered → Placed
+type_list_section K = record { kind = TypeLists; align = 4; from = data_start K; items = map (type_list_bytes K.pools) (type_list_items K).written }
+
+-- where it ends
+unfoldable pub type_list_end : Ordered → ℕ
+type_list_end K = end (type_list_section K)
+
+-- for each proto, and then for each class, the offset of its type list
+unfoldable pub type_list_offsets : Ordered → List ℕ
+type_list_offsets K = uses_offsets (type_list_items K).numbers (offsets (type_list_section K))
+
+-- the sets that are written
+abbrev pub set_items : Ordered → Items AnnotationSet
+set_items K = items_by K.sharing same_set (set_uses K)
+
+-- their annotations, set by set
+abbrev pub annotation_section : Ordered → Placed
+annotation_section K = record { kind = AnnotationItems; align = 1; from = type_list_end K; items = map (annotation_bytes K.pools) (flat_map (λ set. set) (set_items K).written) }
+
+-- where they end
+unfoldable pub annotation_end : Ordered → ℕ
+annotation_end K = end (annotation_section K)
+
+-- their offsets, set by set
+unfoldable pub annotation_offsets : Ordered → List (List ℕ)
+annotation_offsets K = chunks (map (λ set. length set) (set_items K).written) (offsets (annotation_section K))
+
+-- the arrays of static values
+abbrev pub array_section : Ordered → Placed
+array_section K = record { kind = EncodedArrayItems; align = 1; from = annotation_end K; items = map (encoded_array_bytes K.pools) (own_items (static_values_uses K)).written }
+
+-- where they end
+unfoldable pub array_end : Ordered → ℕ
+array_end K = end (array_section K)
+
+-- for each class the offset of its static values
+unfoldable pub array_offsets : Ordered → List ℕ
+array_offsets K = uses_offsets (own_items (static_values_uses K)).numbers (offsets (array_section K))
+
+-- the string data
+abbrev pub string_section : Ordered → Placed
+string_section K = record { kind = StringDataItems; align = 1; from = array_end K; items = map string_data K.pools.texts }
+
+-- where it ends
+unfoldable pub string_end : Ordered → ℕ
+string_end K = end (string_section K)
+
+-- the debug programs that are written
+abbrev pub debug_items : Ordered → Items Debug
+debug_items K = items_by K.sharing same_debug (debug_uses K)
+
+-- their section
+abbrev pub debug_section : Ordered → Placed
+debug_section K = record { kind = DebugInfoItems; align = 1; from = string_end K; items = map (debug_bytes K.pools) (debug_items K).written }
+
+-- where it ends
+unfoldable pub debug_end : Ordered → ℕ
+debug_end K = end (debug_section K)
+
+-- for each method the offset of its debug program
+unfoldable pub debug_offsets : Ordered → List ℕ
+debug_offsets K = uses_offsets (debug_items K).numbers (offsets (debug_section K))
+
+-- the code items
+abbrev pub code_section : Ordered → Placed
+code_section K = record { kind = CodeItems; align = 4; from = debug_end K; items = map (λ p. code_bytes K.pools p.1 p.0) (own_items (code_uses K (debug_offsets K))).written }
+
+-- where they end
+unfoldable pub code_end : Ordered → ℕ
+code_end K = end (code_section K)
+
+-- for each method the offset of its code
+unfoldable pub code_offsets : Ordered → List ℕ
+code_offsets K = uses_offsets (own_items (code_uses K (debug_offsets K))).numbers (offsets (code_section K))
+
+-- the class data
+abbrev pub class_data_section : Ordered → Placed
+class_data_section K = record { kind = ClassDataItems; align = 1; from = code_end K; items = map (λ p. class_data_bytes K.pools p.0 p.1) (own_items (class_data_uses K (code_offsets K))).written }
+
+-- where it ends
+unfoldable pub class_data_end : Ordered → ℕ
+class_data_end K = end (class_data_section K)
+
+-- for each class the offset of its class data
+unfoldable pub class_data_offsets : Ordered → List ℕ
+class_data_offsets K = uses_offsets (own_items (class_data_uses K (code_offsets K))).numbers (offsets (class_data_section K))
+
+-- the annotation sets, by the offsets of their annotations
+abbrev pub set_section : Ordered → Placed
+set_section K = record { kind = AnnotationSets; align = 4; from = class_data_end K; items = map offsets_bytes (annotation_offsets K) }
+
+-- where they end
+unfoldable pub set_end : Ordered → ℕ
+set_end K = end (set_section K)
+
+-- for each class the offsets of its sets
+unfoldable pub set_offsets : Ordered → List SetOffsets
+set_offsets K = set_offsets_by_class K (uses_offsets (set_items K).numbers (offsets (set_section K)))
+
+-- the lists of sets of parameters, by the offsets of the sets
+abbrev pub ref_list_section : Ordered → Placed
+ref_list_section K = record { kind = AnnotationSetRefLists; align = 4; from = set_end K; items = map offsets_bytes (own_items (ref_list_uses K (set_offsets K))).written }
+
+-- where they end
+unfoldable pub ref_list_end : Ordered → ℕ
+ref_list_end K = end (ref_list_section K)
+
+-- for each method the offset of its list
+unfoldable pub ref_list_offsets : Ordered → List ℕ
+ref_list_offsets K = uses_offsets (own_items (ref_list_uses K (set_offsets K))).numbers (offsets (ref_list_section K))
+
+-- the directories
+abbrev pub directory_section : Ordered → Placed
+directory_section K = record { kind = AnnotationsDirectories; align = 4; from = ref_list_end K; items = (own_items (directory_uses K (set_offsets K) (ref_list_offsets K))).written }
+
+-- where they end, and with them the sections
+unfoldable pub directory_end : Ordered → ℕ
+directory_end K = end (directory_section K)
+
+-- for each class the offset of its directory
+unfoldable pub directory_offsets : Ordered → List ℕ
+directory_offsets K = uses_offsets (own_items (directory_uses K (set_offsets K) (ref_list_offsets K))).numbers (offsets (directory_section K))
+
+-- the sections in the order of the file
+abbrev pub data_sections : Ordered → List Placed
+data_sections K =
+    type_list_section K ∷ annotation_section K ∷ array_section K ∷ string_section K ∷ debug_section K ∷ code_section K ∷ class_data_section K ∷ set_section K ∷ ref_list_section K
+    ∷ directory_section K ∷ []
+
 -- ---- the layout
 
 -- the sections of the data behind the tables, and the offsets that the rows hold
@@ -84,37 +222,15 @@ pub record Layout : Type 0 where
   pub classes : List ClassOffsets
   pub data_end : ℕ
 
--- each section behind the one before it: the offsets of the items of one are in the items of the next
+-- the layout of the file
 unfoldable pub layout : Ordered → Layout
-layout K =
-    let m = K.pools in
-    let list_items = shared_items same_types (type_list_uses K) in
-    let set_items = shared_items same_set (set_uses K) in
-    let debug_items = shared_items same_debug (debug_uses K) in
-    let array_items = own_items (static_values_uses K) in
-    let type_lists : Placed = record { kind = TypeLists; align = 4; from = data_start K; items = map (λ ts. uint (length ts) ++ flat_map (λ t. ushort (type_index m t)) ts) list_items.written } in
-    let annotations : Placed = record { kind = AnnotationItems; align = 1; from = end type_lists; items = map (annotation_bytes m) (flat_map (λ set. set) set_items.written) } in
-    let arrays : Placed = record { kind = EncodedArrayItems; align = 1; from = end annotations; items = map (encoded_array_bytes m) array_items.written } in
-    let strings : Placed = record { kind = StringDataItems; align = 1; from = end arrays; items = map string_data m.texts } in
-    let debugs : Placed = record { kind = DebugInfoItems; align = 1; from = end strings; items = map (debug_bytes m) debug_items.written } in
-    let code_items = own_items (code_uses K (uses_offsets debug_items.numbers (offsets debugs))) in
-    let codes : Placed = record { kind = CodeItems; align = 4; from = end debugs; items = map (λ p. code_bytes m p.1 p.0) code_items.written } in
-    let data_items = own_items (class_data_uses K (uses_offsets code_items.numbers (offsets codes))) in
-    let class_data : Placed = record { kind = ClassDataItems; align = 1; from = end codes; items = map (λ p. class_data_bytes m p.0 p.1) data_items.written } in
-    let sets : Placed = record { kind = AnnotationSets; align = 4; from = end class_data; items = map offsets_bytes (chunks (map (λ set. length set) set_items.written) (offsets annotations)) } in
-    let set_offsets = set_offsets_by_class K (uses_offsets set_items.numbers (offsets sets)) in
-    let ref_items = own_items (ref_list_uses K set_offsets) in
-    let ref_lists : Placed = record { kind = AnnotationSetRefLists; align = 4; from = end sets; items = map offsets_bytes ref_items.written } in
-    let directory_items = own_items (directory_uses K set_offsets (uses_offsets ref_items.numbers (offsets ref_lists))) in
-    let directories : Placed = record { kind = AnnotationsDirectories; align = 4; from = end ref_lists; items = directory_items.written } in
-    let list_offsets = uses_offsets list_items.numbers (offsets type_lists) in
-    record {
-      sections = type_lists ∷ annotations ∷ arrays ∷ strings ∷ debugs ∷ codes ∷ class_data ∷ sets ∷ ref_lists ∷ directories ∷ [];
-      strings = offsets strings;
-      parameters = take (length m.protos) list_offsets;
-      classes = class_offsets (drop (length m.protos) list_offsets) (uses_offsets directory_items.numbers (offsets directories)) (uses_offsets data_items.numbers (offsets class_data)) (uses_offsets array_items.numbers (offsets arrays));
-      data_end = end directories;
-    }
+layout K = record {
+  sections = data_sections K;
+  strings = offsets (string_section K);
+  parameters = take (length K.pools.protos) (type_list_offsets K);
+  classes = class_offsets (drop (length K.pools.protos) (type_list_offsets K)) (directory_offsets K) (class_data_offsets K) (array_offsets K);
+  data_end = directory_end K;
+}
 
 -- ---- the map
 
@@ -165,7 +281,7 @@ with_sums rest = magic ++ (uint (adler_32 (sha1 rest ++ rest)) ++ (sha1 rest ++ 
 
 -- definitions of different names in their order, with what they mention
 abbrev pub ordered : List Definition → Ordered
-ordered D = record { classes = in_class_order D; pools = mentions D }
+ordered D = record { classes = in_class_order D; pools = mentions D; sharing = EqualOnce }
 
 -- the canonical file
 unfoldable pub canonical : Collection → List ℕ

@@ -1,5 +1,5 @@
 -- Which items there are, in which order, and where they begin: uses, items, sections and directories.
--- This project's rule: the order of uses, and that equal type lists, debug programs and sets have one item.
+-- This project's rule: the order of uses, and that equal type lists, debug programs and annotation sets have one item.
 use Rattle.std.specs.Prelude.{ℕ, ◌+◌, Bool, ◌==◌, if◌then◌else◌, List, [], ◌∷◌, ◌++◌, length, map, take, drop, slice_index, Option, Some, None}
 use Rattle.std.specs.List.{flat_map, zip, position_or_len}
 use Rattle.std.specs.Ordering.{nat_cmp}
@@ -30,16 +30,26 @@ own_numbers n [] = []
 own_numbers n (None ∷ uses) = None ∷ own_numbers n uses
 own_numbers n (Some x ∷ uses) = Some n ∷ own_numbers (n + 1) uses
 
--- each use that is not empty has an item of its own
+-- each use that has something has an item of its own
 abbrev pub own_items : {X : Type 0} → List (Option X) → Items X
 own_items uses = record { numbers = own_numbers 0 uses; written = present uses }
 
--- Type lists, debug programs and annotation sets, with a test that tells equal ones: equal ones have one item, at the
--- place of their first use.
+-- uses that are the same by a test have one item, in the place of the first of them
 abbrev pub shared_items : {X : Type 0} → (X → X → Bool) → List (Option X) → Items X
 shared_items same uses =
     let items = distinct same (present uses) in
     record { numbers = map (option_map (λ x. position_or_len (λ y. same y x) items)) uses; written = items }
+
+-- Type lists, debug programs and annotation sets: equal ones are written once, as in the canonical file, or each use
+-- for itself.
+pub data Sharing : Type 0 where
+  EqualOnce : Sharing
+  EachForItself : Sharing
+
+-- the items of such uses
+abbrev pub items_by : {X : Type 0} → Sharing → (X → X → Bool) → List (Option X) → Items X
+items_by EqualOnce same uses = shared_items same uses
+items_by EachForItself same uses = own_items uses
 
 -- a list is an item unless it is empty
 abbrev pub unless_empty : {X : Type 0} → List X → Option (List X)
@@ -93,10 +103,11 @@ uses_offsets numbers offsets = map (λ n. option_map_or (slice_index offsets) n 
 
 -- ---- the uses, in the order of the file
 
--- classes in order, and what they mention
+-- classes in order, what they mention, and how equal items are written
 pub record Ordered : Type 0 where
   pub classes : List Definition
   pub pools : Mentions
+  pub sharing : Sharing
 
 -- the methods of all classes
 abbrev pub all_methods : List Definition → List MethodDef

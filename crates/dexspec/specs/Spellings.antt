@@ -52,6 +52,12 @@ abbrev pub index_or_none : {X : Type 0} → (X → ℕ) → Option X → Option 
 index_or_none index None = None
 index_or_none index (Some x) = Some (index x)
 
+-- ---- type lists
+
+-- a type_list
+abbrev pub type_list_bytes : Mentions → List Text → List ℕ
+type_list_bytes m ts = uint (length ts) ++ flat_map (λ t. ushort (type_index m t)) ts
+
 -- ---- code
 
 -- the units of a piece, its index put in

@@ -12,10 +12,10 @@ use Rattle.dexspec.specs.Header.{StringIds, TypeIds, ClassDefs, header_length}
 use Rattle.dexspec.specs.Sections.{Section, TableOf, TypeLists, StringDataItems, HeaderItem, MapList}
 use Rattle.dexspec.specs.Classes.{Definition, no_index}
 use Rattle.dexspec.specs.Mentions.{Mentions}
-use Rattle.dexspec.specs.Spellings.{text_index, type_index}
+use Rattle.dexspec.specs.Spellings.{text_index, type_index, type_list_bytes}
 use Rattle.dexspec.specs.Placing.{unless_empty, type_list_uses, uses_offsets, Ordered, Placed, offsets, offsets_from, end_from, section_bytes, bytes_from}
-use Rattle.dexspec.specs.Canonical.{data_start, Layout, ClassOffsets, class_offsets, class_row_bytes, table_bytes, map_of, map_bytes}
-use Rattle.dexspec.proofs.Placements.{type_list_bytes, type_list_items, length-shared_offsets, type_list_section, type_list_end, type_list_offsets, string_section, string_end, array_end, directory_end, directory_offsets, class_data_offsets, array_offsets, data_sections, named_layout, layout_is, annotation_section, array_section, debug_section, code_section, class_data_section, set_section, ref_list_section, directory_section}
+use Rattle.dexspec.specs.Canonical.{data_start, Layout, ClassOffsets, class_offsets, class_row_bytes, table_bytes, map_of, map_bytes, type_list_items, type_list_section, type_list_end, type_list_offsets, string_section, string_end, array_end, directory_end, directory_offsets, class_data_offsets, array_offsets, data_sections, annotation_section, array_section, debug_section, code_section, class_data_section, set_section, ref_list_section, directory_section}
+use Rattle.dexspec.proofs.Placements.{length-shared_offsets, named_layout, layout_is}
 use Rattle.dexspec.specs.Sameness.{same_types}
 use Rattle.dexspec.proofs.Sameness.{types_decide}
 use Rattle.dexspec.proofs.Members.{Contains-nil, Contains-first, Contains-later, Contains-cons_cases}

@@ -4,6 +4,7 @@ use Rattle.std.specs.Prelude.{if◌then◌else◌}
 use Rattle.std.specs.List.{flat_map, position_or_len}
 use Rattle.std.specs.Option.{option_map, option_map_or}
 use Rattle.std.proofs.lemmas.List.{length-map}
+use Rattle.dexspec.specs.Canonical.{set_items, annotation_section, annotation_end, type_list_end, array_section, array_end, string_end, debug_section, debug_end, debug_offsets, code_section, code_end, code_offsets, class_data_section, class_data_end, annotation_offsets, set_section, set_end, set_offsets, ref_list_section, ref_list_end, ref_list_offsets, directory_section, directory_end, directory_offsets, class_data_offsets, array_offsets}
 use Rattle.dexspec.specs.Lists.{present, distinct, chunks, zip_with}
 use Rattle.dexspec.specs.Texts.{Text}
 use Rattle.dexspec.specs.Values.{Values}
@@ -14,7 +15,7 @@ use Rattle.dexspec.specs.Mentions.{Mentions}
 use Rattle.dexspec.specs.Annotations.{AnnotationSet}
 use Rattle.dexspec.specs.Spellings.{annotation_bytes, encoded_array_bytes, debug_bytes, code_bytes, class_data_bytes, offsets_bytes}
 use Rattle.dexspec.specs.Placing.{values_unless_empty, offsets, end_from, unless_empty, own_numbers, Ordered, uses_offsets, all_methods, set_uses, class_sets, is_empty_class, class_data_uses, by_class, SetOffsets, set_offsets_of, set_offsets_by_class, ref_list_uses, directory_bytes, directory_uses}
-use Rattle.dexspec.proofs.Placements.{length-by_class, set_items, annotation_section, annotation_end, type_list_end, array_section, array_end, string_end, debug_section, debug_end, debug_offsets, code_section, code_end, code_offsets, class_data_section, class_data_end, annotation_offsets, set_section, set_end, set_offsets, ref_list_section, ref_list_end, ref_list_offsets, directory_section, directory_end, directory_offsets, class_data_offsets, array_offsets}
+use Rattle.dexspec.proofs.Placements.{length-by_class}
 use Rattle.dexclass.specs.Numbered.{NumberedClass, definition_of}
 use Rattle.dexcanon.specs.Bare.{bare_mentions, bare}
 

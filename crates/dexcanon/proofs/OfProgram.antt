@@ -7,7 +7,7 @@ use Rattle.dexspec.specs.Texts.{Text, string_data}
 use Rattle.dexspec.specs.Files.{Collection, definitions}
 use Rattle.dexspec.specs.Mentions.{Mentions, mentions}
 use Rattle.dexspec.specs.Plain.{ArePlain}
-use Rattle.dexspec.specs.Placing.{Ordered}
+use Rattle.dexspec.specs.Placing.{EqualOnce, Ordered}
 use Rattle.dexspec.specs.Canonical.{Layout, layout, map_of, map_bytes, unsigned_file, with_sums, ordered, canonical}
 use Rattle.dexspec.proofs.Placements.{layout_is, named_layout}
 use Rattle.dexspec.proofs.Places.{end_from_le}
@@ -35,9 +35,9 @@ pub bare_file : (K : Collection) (m : Mentions) (cs : List NumberedClass) → m 
 bare_file K m cs same plain ranks of =
     let D = definitions K in
     let e : m ≡ bare_mentions m.texts m.types = same ∙ plain_mentions D plain ∙ ap (λ (n : Mentions). bare_mentions n.texts n.types) (sym same) in
-    let E : Mentions → Ordered = λ n. record { classes = map (definition_of n) cs; pools = n } in
+    let E : Mentions → Ordered = λ n. record { classes = map (definition_of n) cs; pools = n; sharing = EqualOnce } in
     record {
-      ordered_is = ap (λ ds. record { classes = ds; pools = mentions D }) (sym of.are) ∙ ap E (sym same) ∙ ap E e;
+      ordered_is = ap (λ ds. record { classes = ds; pools = mentions D; sharing = EqualOnce }) (sym of.are) ∙ ap E (sym same) ∙ ap E e;
       ranked = record {
         types_ranked = λ i lt. ranks.types_are i [] lt;
         texts_ranked = λ i lt. ranks.texts_are i [] lt;

@@ -10,7 +10,7 @@ use Rattle.dexspec.specs.Sections.{Section, HeaderItem, TableOf, TypeLists, Stri
 use Rattle.dexspec.specs.Classes.{no_index}
 use Rattle.dexspec.specs.Mentions.{Mentions}
 use Rattle.dexspec.specs.Spellings.{text_index}
-use Rattle.dexspec.specs.Placing.{unless_empty, Items, shared_items, Ordered, offsets_from, end_from, bytes_from, uses_offsets}
+use Rattle.dexspec.specs.Placing.{unless_empty, Items, shared_items, EqualOnce, Ordered, offsets_from, end_from, bytes_from, uses_offsets}
 use Rattle.dexspec.specs.Canonical.{map_bytes}
 use Rattle.dexclass.specs.Numbered.{NumberedClass, definition_of}
 
@@ -20,7 +20,7 @@ bare_mentions texts types = record { texts = texts; types = types; protos = []; 
 
 -- classes in order, which mention these alone
 abbrev pub bare : List Text → List Text → List NumberedClass → Ordered
-bare texts types cs = record { classes = map (definition_of (bare_mentions texts types)) cs; pools = bare_mentions texts types }
+bare texts types cs = record { classes = map (definition_of (bare_mentions texts types)) cs; pools = bare_mentions texts types; sharing = EqualOnce }
 
 -- a type_list of numbers
 abbrev pub list_bytes : List ℕ → List ℕ

@@ -70,7 +70,7 @@ HasTriesAt b o = (cuts : List Cut) (ps : List Piece) → PiecesAt b o cuts ps �
 abbrev pub HasDebugAt : List ℕ → ℕ → Type 0
 HasDebugAt b o = (cuts : List Cut) (ps : List Piece) → PiecesAt b o cuts ps → uint_at b (o + 8) ≢ 0 → (d : Debug) × DebugAt b (uint_at b (o + 8)) d
 
--- 18 Code, 19 Tries, 20 Debug
+-- 18 Code
 abbrev pub HasCode : List ℕ → ℕ → Type 0
 HasCode b r = AllCode HasPiecesAt b r
 

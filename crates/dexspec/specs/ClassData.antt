@@ -47,16 +47,18 @@ IsNextIndex (Some last) difference i = (0 < difference) × (i ≡ last + differe
 -- from offset o on, behind a field with the index `last`, if there is one, stand the fields
 abbrev pub EncodedFieldsAt : List ℕ → ℕ → Option ℕ → List EncodedField → ℕ → Type 0
 EncodedFieldsAt b o last [] n = n ≡ 0
-EncodedFieldsAt b o last (x ∷ xs) n = (i : ℕ) × (j : ℕ) × (k : ℕ) × (difference : ℕ) × (index : ℕ)
-    × Uleb128At b o difference i × Uleb128At b (o + i) x.flags j × IsNextIndex last difference index × FieldRow b index x.field
-    × EncodedFieldsAt b (o + i + j) (Some index) xs k × (n ≡ i + j + k)
+EncodedFieldsAt b o last (x ∷ xs) n = (index_size : ℕ) × (flags_size : ℕ) × (rest_size : ℕ) × (difference : ℕ) × (index : ℕ)
+    × Uleb128At b o difference index_size × Uleb128At b (o + index_size) x.flags flags_size
+    × IsNextIndex last difference index × FieldRow b index x.field
+    × EncodedFieldsAt b (o + index_size + flags_size) (Some index) xs rest_size × (n ≡ index_size + flags_size + rest_size)
 
 -- the same for methods
 abbrev pub EncodedMethodsAt : List ℕ → ℕ → Option ℕ → List EncodedMethod → ℕ → Type 0
 EncodedMethodsAt b o last [] n = n ≡ 0
-EncodedMethodsAt b o last (x ∷ xs) n = (i : ℕ) × (j : ℕ) × (k : ℕ) × (l : ℕ) × (difference : ℕ) × (index : ℕ)
-    × Uleb128At b o difference i × Uleb128At b (o + i) x.flags j × Uleb128At b (o + i + j) x.code_off k × IsNextIndex last difference index × MethodRow b index x.method
-    × EncodedMethodsAt b (o + i + j + k) (Some index) xs l × (n ≡ i + j + k + l)
+EncodedMethodsAt b o last (x ∷ xs) n = (index_size : ℕ) × (flags_size : ℕ) × (off_size : ℕ) × (rest_size : ℕ) × (difference : ℕ) × (index : ℕ)
+    × Uleb128At b o difference index_size × Uleb128At b (o + index_size) x.flags flags_size × Uleb128At b (o + index_size + flags_size) x.code_off off_size
+    × IsNextIndex last difference index × MethodRow b index x.method
+    × EncodedMethodsAt b (o + index_size + flags_size + off_size) (Some index) xs rest_size × (n ≡ index_size + flags_size + off_size + rest_size)
 
 -- At offset o of the data stands a class_data_item: four counts, in c0 to c3 bytes, and the four lists, in l0
 -- to l3 bytes.

@@ -58,9 +58,21 @@ handlers_weight hs = 5 + sum_by (λ h. 10 + 8 * length h.catches) hs
 
 -- ---- the fixed part and the units
 
--- the units of the code_item at an offset
+-- the number of try_items of the code_item at an offset
+abbrev pub tries_size : List ℕ → ℕ → ℕ
+tries_size b o = ushort_at b (o + 6)
+
+-- the number of its units
+abbrev pub insns_size : List ℕ → ℕ → ℕ
+insns_size b o = uint_at b (o + 12)
+
+-- its units
 abbrev pub code_units : List ℕ → ℕ → List ℕ
-code_units b o = ushorts_at b (o + 16) (uint_at b (o + 12))
+code_units b o = ushorts_at b (o + 16) (insns_size b o)
+
+-- where they end
+abbrev pub insns_end : List ℕ → ℕ → ℕ
+insns_end b o = o + 16 + 2 * insns_size b o
 
 -- at offset o stand the registers of a code_item: how many it has, takes and passes on
 pub record RegistersAt (b : List ℕ) (o registers ins outs : ℕ) : Type 0 where
@@ -70,7 +82,7 @@ pub record RegistersAt (b : List ℕ) (o registers ins outs : ℕ) : Type 0 wher
 
 -- at offset o of the data stand a code_item's fixed part and units, cut into these pieces
 pub record PiecesAt (b : List ℕ) (o : ℕ) (cuts : List Cut) (ps : List Piece) : Type 0 where
-  pub in_data : IsInData b o (16 + 2 * uint_at b (o + 12))
+  pub in_data : IsInData b o (16 + 2 * insns_size b o)
   pub aligned : o % 4 ≡ 0
   pub code : IsCode (code_units b o) cuts
   pub pieces : AllZip (λ c p. StandsForPiece (SymbolRow b) (cut_units (code_units b o) c) p) cuts ps
@@ -119,7 +131,8 @@ module _ (us : List ℕ) (cuts : List Cut) where
     pub stands : Sequence HandlerAt b (o + count_size) before before_size
     pub place : off ≡ count_size + before_size
 
-  -- at offset o stands a try_item whose handler is one of the list
+  -- at offset o stands a try_item: a start address, a count of units that is not 0, and how far behind the offset
+  -- `list` its handler begins, one of the list there, whose count has `count_size` bytes
   pub record TryAt (list count_size : ℕ) (hs : List Handler) (b : List ℕ) (o : ℕ) (t : Try) (n : ℕ) : Type 0 where
     pub start : uint_at b o ≡ t.start
     pub count : ushort_at b (o + 4) ≡ t.count
@@ -150,13 +163,15 @@ pub record TryItemsAt (us : List ℕ) (cuts : List Cut) (b : List ℕ) (o count 
   pub apart : AreApart tries
   pub few : handlers_weight (handlers_of tries) ≤ most_handlers
 
--- The tries of the code_item at offset o, whose units are cut so: none, or, behind a zero ushort where the
--- number of units is odd, those of its list.
+-- the try_items of the code_item at offset o stand behind its units, where the number of these is odd behind a ushort 0
+abbrev pub ListedTriesAt : List ℕ → ℕ → List Cut → List Try → Type 0
+ListedTriesAt b o cuts tries =
+    ((insns_size b o % 2 ≡ 0) × TryItemsAt (code_units b o) cuts b (insns_end b o) (tries_size b o) tries)
+    ⊎ ((insns_size b o % 2 ≡ 1) × (ushort_at b (insns_end b o) ≡ 0) × TryItemsAt (code_units b o) cuts b (o + 18 + 2 * insns_size b o) (tries_size b o) tries)
+
+-- the tries of the code_item at offset o, whose units are cut so: none, or those that are listed
 abbrev pub TriesAt : List ℕ → ℕ → List Cut → List Try → Type 0
-TriesAt b o cuts tries =
-    ((ushort_at b (o + 6) ≡ 0) × (tries ≡ []))
-    ⊎ ((ushort_at b (o + 6) ≢ 0) × (((uint_at b (o + 12) % 2 ≡ 0) × TryItemsAt (code_units b o) cuts b (o + 16 + 2 * uint_at b (o + 12)) (ushort_at b (o + 6)) tries)
-    ⊎ ((uint_at b (o + 12) % 2 ≡ 1) × (ushort_at b (o + 16 + 2 * uint_at b (o + 12)) ≡ 0) × TryItemsAt (code_units b o) cuts b (o + 18 + 2 * uint_at b (o + 12)) (ushort_at b (o + 6)) tries)))
+TriesAt b o cuts tries = ((tries_size b o ≡ 0) × (tries ≡ [])) ⊎ ((tries_size b o ≢ 0) × ListedTriesAt b o cuts tries)
 
 -- ---- the whole
 

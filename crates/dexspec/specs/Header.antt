@@ -26,31 +26,31 @@ adler_32 bytes = adler_number (adler_sums (1, 0) bytes)
 
 -- ---- fields of the header
 
--- the bytes of the header
+-- the number of bytes of the header
 abbrev pub header_length : ℕ
 header_length = 112
 
--- Adler-32 of what follows it
+-- the number that the header has for the Adler-32 of what follows it
 abbrev pub checksum : List ℕ → ℕ
 checksum b = uint_at b 8
 
--- SHA-1 of what follows it
+-- the 20 bytes that it has for the SHA-1 of what follows them
 abbrev pub signature : List ℕ → List ℕ
 signature b = take 20 (drop 12 b)
 
--- the length that the header tells
+-- the length of the file that it tells
 abbrev pub file_size : List ℕ → ℕ
 file_size b = uint_at b 32
 
--- the header's own length
+-- the length of the header that it tells
 abbrev pub header_size : List ℕ → ℕ
 header_size b = uint_at b 36
 
--- the order of bytes
+-- the number that shows the order of bytes
 abbrev pub endian_tag : List ℕ → ℕ
 endian_tag b = uint_at b 40
 
--- the size of link data, and its offset
+-- the size of link data
 abbrev pub link_size : List ℕ → ℕ
 link_size b = uint_at b 44
 
@@ -92,7 +92,7 @@ table_size b t = uint_at b (size_place t)
 abbrev pub table_off : List ℕ → Table → ℕ
 table_off b t = uint_at b (size_place t + 4)
 
--- the size of the data, and where it begins
+-- the size of the data
 abbrev pub data_size : List ℕ → ℕ
 data_size b = uint_at b 104
 
@@ -100,7 +100,7 @@ data_size b = uint_at b 104
 abbrev pub data_off : List ℕ → ℕ
 data_off b = uint_at b 108
 
--- the bytes of a row
+-- the number of bytes of a row
 abbrev pub row_size : Table → ℕ
 row_size StringIds = 4
 row_size TypeIds = 4
@@ -120,7 +120,7 @@ MayHave ClassDefs n = Unit {0}
 
 -- ---- conditions 1 to 8
 
--- 1 Size: 112 to 2 ^ 30 bytes (this project's rule)
+-- 1 Size: at least the header, and at most 2 ^ 30 bytes (the latter this project's rule)
 pub record HasSize (b : List ℕ) : Type 0 where
   pub least : header_length ≤ length b
   pub most : length b ≤ 2 ^ 30
@@ -152,15 +152,15 @@ pub record HasLengths (b : List ℕ) : Type 0 where
 abbrev pub HasEndian : List ℕ → Type 0
 HasEndian b = endian_tag b ≡ 0x12345678
 
--- 6 Link: there is no link data (this project's rule)
+-- 6 Link: the size and the offset of link data are 0 (this project's rule)
 pub record HasNoLink (b : List ℕ) : Type 0 where
   pub size : link_size b ≡ 0
   pub off : link_off b ≡ 0
 
--- 7 Checksum: Adler-32 of what follows it
+-- 7 Checksum: it is the Adler-32 of what follows it
 abbrev pub HasChecksum : List ℕ → Type 0
 HasChecksum b = checksum b ≡ adler_32 (drop 12 b)
 
--- 8 Signature: SHA-1 of what follows it
+-- 8 Signature: it is the SHA-1 of what follows it
 abbrev pub HasSignature : List ℕ → Type 0
 HasSignature b = signature b ≡ sha1 (drop 32 b)

@@ -100,7 +100,8 @@ pub record IsConflict (D : List Definition) (name : Text) : Type 0 where
 abbrev pub IsConsistent : List Definition → Type 0
 IsConsistent D = (name : Text) (one other : Body) → Contains D (name, one) → Contains D (name, other) → one ≡ other
 
--- the definitions can be written as one file under the caps
+-- Good: no name has two definitions, each defined name has a depth, and the definitions fit the caps. Where they are
+-- well formed too, they can be written as one file.
 pub record IsGood (caps : Caps) (D : List Definition) : Type 0 where
   pub consistent : IsConsistent D
   pub acyclic : IsAcyclic D

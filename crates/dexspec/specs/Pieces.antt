@@ -11,7 +11,7 @@ use Rattle.std.specs.Ordering.{int_cmp, int_eq}
 use Rattle.dexspec.specs.Lists.{rises}
 use Rattle.dexspec.specs.Bytes.{signed_in}
 use Rattle.dexspec.specs.Symbols.{Pool, Symbol, pool_of}
-use Rattle.dexspec.specs.Opcodes.{Format, F10x, F20t, F30t, F32x, F35c, F10t, F21t, F22t, F31t, units_in, opcode_of}
+use Rattle.dexspec.specs.Opcodes.{Format, Opcode, F10x, F20t, F30t, F32x, F35c, F10t, F21t, F22t, F31t, units_in, opcode_of}
 
 -- the low byte of an instruction's first unit is its opcode
 abbrev pub low_byte : ℕ → ℕ
@@ -93,9 +93,13 @@ abbrev pub is_first_unit : Format → ℕ → Bool
 is_first_unit F35c u = nat_le (u / 4096) 5
 is_first_unit format u = not (has_zero_byte format) || high_byte u == 0
 
+-- the units of an instruction of this opcode, if there are so many and the first is as the opcode's format wants it
+abbrev pub size_of_opcode : List ℕ → Opcode → Option ℕ
+size_of_opcode us op = if nat_le (units_in op.format) (length us) && is_first_unit op.format (slice_index us 0) then Some (units_in op.format) else None
+
 -- the number of units of the instruction that stands first
 abbrev pub instruction_size : List ℕ → Option ℕ
-instruction_size us = option_and_then (λ op. if nat_le (units_in op.format) (length us) && is_first_unit op.format (slice_index us 0) then Some (units_in op.format) else None) (opcode_of (low_byte (slice_index us 0)))
+instruction_size us = option_and_then (size_of_opcode us) (opcode_of (low_byte (slice_index us 0)))
 
 -- ---- pieces
 
@@ -167,11 +171,14 @@ abbrev pub all_of_option : {X : Type 0} → (X → Bool) → Option X → Bool
 all_of_option p None = true
 all_of_option p (Some x) = p x
 
--- the piece's targets, if it is an instruction that has some, are right
+-- the instruction of this opcode at a unit leads right, if it leads anywhere
+abbrev pub has_right_branch : List ℕ → List Cut → ℕ → Opcode → Bool
+has_right_branch us cs at op = all_of_option (leads_right us cs at op.format) (branch_offset op.format us at)
+
+-- the piece is a payload, or an instruction that leads right
 unfoldable pub has_right_targets : List ℕ → List Cut → Cut → Bool
 has_right_targets us cs c =
-    is_payload_ident (slice_index us c.unit)
-    || all_of_option (λ op. all_of_option (leads_right us cs c.unit op.format) (branch_offset op.format us c.unit)) (opcode_of (low_byte (slice_index us c.unit)))
+    is_payload_ident (slice_index us c.unit) || all_of_option (has_right_branch us cs c.unit) (opcode_of (low_byte (slice_index us c.unit)))
 
 -- the units are code, and cut into these pieces
 pub record IsCode (us : List ℕ) (cs : List Cut) : Type 0 where

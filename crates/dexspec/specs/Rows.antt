@@ -11,7 +11,7 @@ use Rattle.dexspec.specs.Lists.{OrNone}
 use Rattle.dexspec.specs.Bytes.{uint_at, ushort_at, ushorts_at}
 use Rattle.dexspec.specs.Texts.{Text, text_cmp, StringDataAt}
 use Rattle.dexspec.specs.Names.{IsDescriptor, IsValueType, shorty}
-use Rattle.dexspec.specs.Symbols.{Proto, Field, Method, Pool, Strings, Types, Protos, Fields, Methods, Symbol, TextSymbol, TypeSymbol, ProtoSymbol, FieldSymbol, MethodSymbol, IsField, IsMethod}
+use Rattle.dexspec.specs.Symbols.{Proto, Field, Method, Symbol, TextSymbol, TypeSymbol, ProtoSymbol, FieldSymbol, MethodSymbol, IsField, IsMethod}
 use Rattle.dexspec.specs.Header.{Table, StringIds, TypeIds, ProtoIds, FieldIds, MethodIds, table_size, table_off, row_size, data_off}
 use Rattle.dexspec.specs.Sections.{IsInData}
 
@@ -78,14 +78,6 @@ SymbolRow b i (TypeSymbol t) = TypeRow b i t
 SymbolRow b i (ProtoSymbol p) = ProtoRow b i p
 SymbolRow b i (FieldSymbol f) = FieldRow b i f
 SymbolRow b i (MethodSymbol m) = MethodRow b i m
-
--- the table of a pool
-abbrev pub table_of : Pool → Table
-table_of Strings = StringIds
-table_of Types = TypeIds
-table_of Protos = ProtoIds
-table_of Fields = FieldIds
-table_of Methods = MethodIds
 
 -- ---- the order of the rows, by indices
 

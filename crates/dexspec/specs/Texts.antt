@@ -26,9 +26,13 @@ text_cmp = slice_cmp nat_cmp
 abbrev pub same_text : Text → Text → Bool
 same_text = pointwise ◌==◌
 
--- the bytes that spell a unit: one for 0x01 to 0x7f, two for 0 and up to 0x7ff, three for the others
+-- the bytes that spell a unit: two for 0, one up to 0x7f, two up to 0x7ff, three for the others
 abbrev pub form : ℕ → List ℕ
-form u = if u == 0 then 0xc0 ∷ 0x80 ∷ [] else (if nat_lt u 0x80 then u ∷ [] else (if nat_lt u 0x800 then (0xc0 + u / 64) ∷ (0x80 + u % 64) ∷ [] else (0xe0 + u / 4096) ∷ (0x80 + u / 64 % 64) ∷ (0x80 + u % 64) ∷ []))
+form u =
+    if u == 0 then 0xc0 ∷ 0x80 ∷ []
+    else (if nat_lt u 0x80 then u ∷ []
+    else (if nat_lt u 0x800 then (0xc0 + u / 64) ∷ (0x80 + u % 64) ∷ []
+    else (0xe0 + u / 4096) ∷ (0x80 + u / 64 % 64) ∷ (0x80 + u % 64) ∷ []))
 
 -- the bytes that spell a text
 abbrev pub spelling : Text → List ℕ

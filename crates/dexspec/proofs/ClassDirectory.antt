@@ -20,7 +20,7 @@ use Rattle.dexspec.specs.WellFormed.{IsSet, IsAnnotation, IsFieldDef, IsMethodDe
 use Rattle.dexspec.specs.Placing.{unless_empty, Ordered, by_class, method_sets, SetOffsets, pairs, directory_bytes}
 use Rattle.dexspec.specs.Canonical.{ordered, ref_list_offsets}
 use Rattle.dexspec.specs.Depth.{in_class_order}
-use Rattle.dexspec.specs.OwnDirectories.{StandsIfSome, HasSetsAt, entries_of, field_sets, own_method_sets, parameter_sets, own_directory}
+use Rattle.dexspec.specs.Aside.OwnDirectories.{StandsIfSome, HasSetsAt, entries_of, field_sets, own_method_sets, parameter_sets, own_directory}
 use Rattle.dexspec.proofs.Members.{Contains-flat_map}
 use Rattle.dexspec.proofs.Depths.{Contains-map}
 use Rattle.dexspec.proofs.Sources.{map_source}

@@ -22,12 +22,12 @@ use Rattle.dexspec.specs.Classes.{FieldDef, MethodDef, Body, Definition, MakesMe
 use Rattle.dexspec.specs.Mentions.{Mentions, mentions, symbols_of, field_of, method_of, debug_symbols, code_symbols, handler_symbols, piece_symbols, values_symbols}
 use Rattle.dexspec.specs.Spellings.{code_bytes, debug_bytes, encoded_array_bytes, class_data_bytes}
 use Rattle.dexspec.specs.WellFormed.{IsDebug, IsCodeItem, IsMethodDef, IsWellFormed, AreValues}
-use Rattle.dexspec.specs.IndexPlaces.{IndexFits}
+use Rattle.dexspec.specs.Aside.IndexPlaces.{IndexFits}
 use Rattle.dexspec.specs.Placing.{values_unless_empty, by_class, Ordered}
 use Rattle.dexspec.specs.Canonical.{ordered, debug_offsets, code_offsets}
 use Rattle.dexspec.specs.Depth.{in_class_order}
 use Rattle.dexspec.specs.Merging.{greatest_caps, Fits}
-use Rattle.dexspec.specs.OwnDirectories.{own_directory}
+use Rattle.dexspec.specs.Aside.OwnDirectories.{own_directory}
 use Rattle.dexspec.proofs.Members.{Contains-first, Contains-later}
 use Rattle.dexspec.proofs.Uses as uses
 use Rattle.dexspec.proofs.Uses.{UseStands, method_place, debug_of, code_of_method, debug_stands, code_stands, length-class_part, length-code_offsets}

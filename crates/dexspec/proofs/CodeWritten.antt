@@ -22,7 +22,7 @@ use Rattle.dexspec.specs.Debug.{Debug, DebugAt}
 use Rattle.dexspec.specs.Code.{Catch, Handler, Try, Code, IsStart, AreApart, same_handler, handlers_of, handlers_weight, code_units, RegistersAt, HandlerAt, TryAt, TryItemsAt, TriesAt, CodeAt}
 use Rattle.dexspec.specs.Mentions.{Mentions, piece_symbols, handler_symbols, debug_symbols, code_symbols}
 use Rattle.dexspec.specs.Spellings.{piece_units, handler_bytes, handler_off, try_bytes, handler_list_bytes, tries_bytes, code_bytes}
-use Rattle.dexspec.specs.IndexPlaces.{IndexFits}
+use Rattle.dexspec.specs.Aside.IndexPlaces.{IndexFits}
 use Rattle.dexspec.specs.WellFormed.{IsHandlerOf, IsTryOf, IsCodeItem}
 use Rattle.dexspec.proofs.Members.{and_first, Contains-flat_map, list_any-source}
 use Rattle.dexspec.proofs.Depths.{Contains-map}

@@ -13,7 +13,7 @@ use Rattle.std.proofs.lemmas.List.Elements.{All-nil, All-cons}
 use Rattle.dexspec.specs.Lists.{AreDistinct, rises, in_order, add_in_order}
 use Rattle.dexspec.specs.Annotations.{PairAt, annotated}
 use Rattle.dexspec.specs.Placing.{pair_cmp, pairs}
-use Rattle.dexspec.specs.OwnDirectories.{StandsIfSome, entries_of}
+use Rattle.dexspec.specs.Aside.OwnDirectories.{StandsIfSome, entries_of}
 use Rattle.dexspec.proofs.Members.{Contains-nil, Contains-first, Contains-later, Contains-cons_cases, AreDistinct-first, AreDistinct-rest}
 use Rattle.dexspec.proofs.Depths.{Contains-map}
 use Rattle.dexspec.proofs.InOrder.{rises-in_order}

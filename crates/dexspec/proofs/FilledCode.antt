@@ -14,7 +14,7 @@ use Rattle.dexspec.specs.Rows.{SymbolRow}
 use Rattle.dexspec.specs.Pieces.{Cut, AreCut, piece_size, is_payload_ident, is_instruction_start, has_right_targets, IsCode, Piece, Instruction, Payload, units_of, StandsForPiece, index_pool, index_in, is_wide_index, with_index, two_units, low_byte, cut_units}
 use Rattle.dexspec.specs.Mentions.{Mentions, piece_symbols}
 use Rattle.dexspec.specs.Spellings.{symbol_index, piece_units}
-use Rattle.dexspec.specs.IndexPlaces.{IndexFits}
+use Rattle.dexspec.specs.Aside.IndexPlaces.{IndexFits}
 use Rattle.dexspec.proofs.Members.{Contains-nil, Contains-first, Contains-later, Contains-cons_cases, Contains-flat_map, Contains-flat_map_source}
 use Rattle.dexspec.proofs.FormedRows.{all_from}
 use Rattle.dexspec.proofs.ShortStrings.{first_kept}

@@ -15,7 +15,7 @@ use Rattle.dexspec.specs.Classes.{MethodDef, Definition, declared_methods}
 use Rattle.dexspec.specs.Mentions.{mentions, piece_symbols}
 use Rattle.dexspec.specs.WellFormed.{IsCodeItem}
 use Rattle.dexspec.specs.Merging.{greatest_caps, Fits}
-use Rattle.dexspec.specs.IndexPlaces.{IndexFits}
+use Rattle.dexspec.specs.Aside.IndexPlaces.{IndexFits}
 use Rattle.dexspec.proofs.Members.{and_first, and_second, Contains-first, Contains-flat_map}
 use Rattle.std.proofs.lemmas.List.Elements.{Contains-append_left}
 use Rattle.dexspec.proofs.InOrder.{rank-place}

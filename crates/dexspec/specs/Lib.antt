@@ -1,6 +1,5 @@
 pub mod Lists
 pub mod Bytes
-pub mod Writing
 pub mod Numbers
 pub mod Texts
 pub mod Names
@@ -27,10 +26,8 @@ pub mod Accepted
 pub mod Plain
 pub mod Depth
 pub mod Spellings
-pub mod IndexPlaces
-pub mod OwnDirectories
 pub mod Placing
 pub mod Canonical
 pub mod Merging
 pub mod Stripping
-pub mod Codes
+pub mod Aside

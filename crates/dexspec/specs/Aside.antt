@@ -1,0 +1,6 @@
+-- What says nothing of the format or the product: words of the contracts of calls and of the statements of laws, and
+-- the codes by which the logic stores values.
+pub mod Writing
+pub mod IndexPlaces
+pub mod OwnDirectories
+pub mod Codes

@@ -5,7 +5,7 @@ ghost use Rattle.std.specs.List.{flat_map};
 ghost use Rattle.dexspec.specs.Bytes.{ushort, uint};
 ghost use Rattle.dexspec.specs.Texts.{string_data};
 ghost use Rattle.dexspec.specs.Canonical.{map_bytes};
-ghost use Rattle.dexspec.specs.Writing.{Puts};
+ghost use Rattle.dexspec.specs.Aside.Writing.{Puts};
 ghost use Rattle.dexhead.specs.Written.{entry_meant};
 ghost use Rattle.dexcanon.specs.Bare.{list_bytes};
 

@@ -31,7 +31,7 @@ pub struct Program<'a> {
 
 impl<'a> Model for Program<'a> {
     ghost use Rattle.dexspec.specs.Files.{Collection};
-    ghost use Rattle.dexspec.specs.Codes.{collection_code};
+    ghost use Rattle.dexspec.specs.Aside.Codes.{collection_code};
     ghost use Rattle.dexclass.specs.Programs.{collection_of, IsProgram};
 
     ghost Value = { Collection };

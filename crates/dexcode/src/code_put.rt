@@ -7,7 +7,7 @@ ghost use Rattle.dexspec.specs.Code as symbolic;
 ghost use Rattle.dexspec.specs.Numbers.{uleb128};
 ghost use Rattle.dexspec.specs.Spellings.{code_bytes};
 ghost use Rattle.dexspec.specs.Weight.{code_weight};
-ghost use Rattle.dexspec.specs.Writing.{Puts};
+ghost use Rattle.dexspec.specs.Aside.Writing.{Puts};
 ghost use Rattle.dexinsn.specs.Numbered.{numbered_bytes};
 ghost use Rattle.dexcode.specs.CodePut.{HasShortTypes, AreShort, ArePlaces, gap_bytes, handler_count, numbered_catch_bytes, numbered_handler_bytes, numbered_head_bytes, numbered_item_bytes, numbered_code_bytes, numbered_list_bytes, numbered_table_bytes, numbered_tries_bytes, placed_try_bytes, unit_count};
 ghost use Rattle.dexcode.specs.DebugPut.{Pushes, HasRoomFor};

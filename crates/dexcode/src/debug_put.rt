@@ -6,7 +6,7 @@ ghost use Rattle.dexspec.specs.Debug as symbolic;
 ghost use Rattle.dexspec.specs.Numbers.{uleb128, sleb128, uleb128p1};
 ghost use Rattle.dexspec.specs.Spellings.{debug_bytes};
 ghost use Rattle.dexspec.specs.Weight.{debug_weight};
-ghost use Rattle.dexspec.specs.Writing.{Puts};
+ghost use Rattle.dexspec.specs.Aside.Writing.{Puts};
 ghost use Rattle.dexcode.specs.Debug.{StandsForDebug, FitsIndex, IsFormedOperation, bare, numbered_operation_bytes, numbered_debug_bytes};
 ghost use Rattle.dexcode.specs.DebugPut.{Pushes, HasRoomFor};
 

@@ -2,7 +2,7 @@
 
 ghost use Rattle.std.specs.Prelude.{◌≡◌, ◌++◌, ◌+◌, ◌≤◌, length, vec_len, vec_capacity};
 ghost use Rattle.dexspec.specs.Bytes.{ushort, uint, ushort_at, uint_at};
-ghost use Rattle.dexspec.specs.Writing.{Puts};
+ghost use Rattle.dexspec.specs.Aside.Writing.{Puts};
 
 use byteorder::{ByteOrder, LittleEndian};
 use std::alloc::AllocError;

@@ -3,7 +3,7 @@ use Rattle.std.proofs.Common.{◌≡◌, ℕ, ◌<◌, List, [], ◌∷◌, ◌+
 use Rattle.std.specs.Prelude.{Result}
 use Rattle.std.specs.Global.{Vec}
 use Rattle.dexspec.specs.Bytes.{ushort}
-use Rattle.dexspec.specs.Writing.{Puts}
+use Rattle.dexspec.specs.Aside.Writing.{Puts}
 use Rattle.std.specs.List.{All, AllZip, flat_map}
 use Rattle.std.specs.Option.{IsSome, option_map_or}
 use Rattle.std.proofs.lemmas.List.Elements.{All-nil, All-cons, All-head, All-tail}

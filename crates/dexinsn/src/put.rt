@@ -5,7 +5,7 @@ ghost use Rattle.std.specs.List.{flat_map};
 ghost use Rattle.dexspec.specs.Bytes.{ushort};
 ghost use Rattle.dexspec.specs.Pieces.{Piece};
 ghost use Rattle.dexspec.specs.Spellings.{piece_units};
-ghost use Rattle.dexspec.specs.Writing.{Puts};
+ghost use Rattle.dexspec.specs.Aside.Writing.{Puts};
 ghost use Rattle.dexinsn.specs.Units.{units_in};
 ghost use Rattle.dexinsn.specs.Numbered.{numbered_bytes, StandFor};
 ghost use Rattle.dexinsn.specs.Stored.{AreStored, index_units, behind_index, spelled_from};

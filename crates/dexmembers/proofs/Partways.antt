@@ -4,7 +4,7 @@ use Rattle.std.specs.Prelude.{⊤, Result, IsOk, IsErr, vec_len, vec_capacity}
 use Rattle.std.specs.Global.{Vec}
 use Rattle.std.proofs.lemmas.List.{append-nil}
 use Rattle.dexspec.specs.Bytes.{uint}
-use Rattle.dexspec.specs.Writing.{Puts}
+use Rattle.dexspec.specs.Aside.Writing.{Puts}
 use Rattle.dexval.specs.Appending.{Appended, Stopped, Appends}
 use Rattle.dexval.proofs.Joining.{nothing_yet, appended_both, stopped_after, stopped_before, puts_appends}
 use Rattle.dexval.proofs.Settling.{settled, taken_back}

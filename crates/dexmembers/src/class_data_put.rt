@@ -6,7 +6,7 @@ ghost use Rattle.dexspec.specs.Texts.{Text};
 ghost use Rattle.dexspec.specs.Classes.{Body};
 ghost use Rattle.dexspec.specs.Mentions.{Mentions};
 ghost use Rattle.dexspec.specs.Spellings.{class_data_bytes};
-ghost use Rattle.dexspec.specs.Writing.{Puts};
+ghost use Rattle.dexspec.specs.Aside.Writing.{Puts};
 ghost use Rattle.dexpool.specs.Numberings.{AreRising};
 ghost use Rattle.dexval.specs.Appending.{Appends};
 ghost use Rattle.dexmembers.specs.Numbered.{AreKnownMembers, AreOfClass, fields_of, methods_of, members_in, members_of};

@@ -1,6 +1,6 @@
 ghost use Rattle.std.specs.Prelude.{◌≡◌, ◌+◌, ◌*◌, ◌≤◌, length, IsOk, vec_len, vec_capacity};
 ghost use Rattle.dexspec.specs.Texts.{IsStringData, string_data};
-ghost use Rattle.dexspec.specs.Writing.{Puts};
+ghost use Rattle.dexspec.specs.Aside.Writing.{Puts};
 
 use crate::texts::Text;
 use dexleb::{len_u, put_u};

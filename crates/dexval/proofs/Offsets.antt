@@ -16,7 +16,7 @@ use Rattle.dexspec.proofs.SizeItems.{offsets_bytes-size}
 use Rattle.dexspec.specs.Annotations.{AnnotationSet}
 use Rattle.dexspec.specs.Mentions.{Mentions}
 use Rattle.dexspec.specs.Spellings.{annotation_bytes, offsets_bytes}
-use Rattle.dexspec.specs.Writing.{Puts}
+use Rattle.dexspec.specs.Aside.Writing.{Puts}
 use Rattle.dexpool.specs.Numberings.{AreRising}
 use Rattle.dexval.specs.declared.annotation.Annotation.{Annotation}
 use Rattle.dexval.specs.Code.{annotation_of}

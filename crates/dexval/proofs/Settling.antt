@@ -2,7 +2,7 @@
 use Rattle.std.proofs.Common.{◌≡◌, ℕ, ◌≤◌, List, take, ◌∙◌, arith}
 use Rattle.std.specs.Prelude.{Result, Ok, Err, IsOk, IsErr, OnErr, vec_len, vec_capacity}
 use Rattle.std.specs.Global.{Vec}
-use Rattle.dexspec.specs.Writing.{Puts}
+use Rattle.dexspec.specs.Aside.Writing.{Puts}
 use Rattle.dexval.specs.Appending.{Appends}
 
 -- an item that was appended was put

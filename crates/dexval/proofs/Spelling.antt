@@ -10,7 +10,7 @@ use Rattle.dexspec.specs.Values.{Value, Values, ByteValue, ShortValue, CharValue
 use Rattle.dexspec.specs.Annotations.{Annotation}
 use Rattle.dexspec.specs.Mentions.{Mentions}
 use Rattle.dexspec.specs.Spellings.{text_index, type_index, field_index, method_index, unsigned_bytes, value_bytes, values_bytes, elements_bytes, encoded_array_bytes, annotation_bytes}
-use Rattle.dexspec.specs.Writing.{Puts}
+use Rattle.dexspec.specs.Aside.Writing.{Puts}
 use Rattle.dexspec.proofs.InOrder.{Rises-from_rises, rank-get_or}
 use Rattle.dexspec.proofs.SymbolOrders.{text_total, field_total, method_total}
 use Rattle.dexspec.proofs.SizeItems.{uleb128-size, value_bytes-size}

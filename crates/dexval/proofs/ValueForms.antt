@@ -4,7 +4,7 @@ use Rattle.std.specs.Prelude.{ℤ, Result}
 use Rattle.std.specs.Global.{Vec}
 use Rattle.dexspec.specs.Values.{byte_value_type, short_value_type, char_value_type, int_value_type, long_value_type, float_value_type, double_value_type, string_value_type, type_value_type, field_value_type, method_value_type, enum_value_type}
 use Rattle.dexspec.specs.Spellings.{unsigned_bytes, signed_bytes, bits_bytes}
-use Rattle.dexspec.specs.Writing.{Puts}
+use Rattle.dexspec.specs.Aside.Writing.{Puts}
 use Rattle.dexval.specs.Appending.{Appended, Appends}
 use Rattle.dexval.proofs.Joining.{puts_appends, appends_same, appends_after}
 use Rattle.dexval.specs.declared.value.Value.{Value}

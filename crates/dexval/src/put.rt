@@ -8,7 +8,7 @@ ghost use Rattle.dexspec.specs.Annotations.{Annotation as AnnotationMeant};
 ghost use Rattle.dexspec.specs.Mentions.{Mentions};
 ghost use Rattle.dexspec.specs.Spellings.{complement, unsigned_bytes, signed_bytes, bits_bytes, value_bytes, encoded_array_bytes, annotation_bytes};
 ghost use Rattle.dexspec.specs.Weight.{value_weight, static_values_weight, annotation_weight};
-ghost use Rattle.dexspec.specs.Writing.{Puts};
+ghost use Rattle.dexspec.specs.Aside.Writing.{Puts};
 ghost use Rattle.dexval.specs.Appending.{Appends};
 ghost use Rattle.dexval.specs.Code.{value_of, element_of, annotation_of, visibility_of};
 ghost use Rattle.dexval.specs.Numbered.{value_in, values_in, annotation_in, values_of_list, elements_of_list, StandsFor, StandFor, StandsForAnnotation};

@@ -8,7 +8,7 @@ ghost use Rattle.dexspec.specs.Mentions.{Mentions};
 ghost use Rattle.dexspec.specs.Placing.{offsets_from};
 ghost use Rattle.dexspec.specs.Spellings.{annotation_bytes, offsets_bytes};
 ghost use Rattle.dexspec.specs.Weight.{set_weight};
-ghost use Rattle.dexspec.specs.Writing.{Puts};
+ghost use Rattle.dexspec.specs.Aside.Writing.{Puts};
 ghost use Rattle.dexval.specs.Code.{annotation_of, set_of};
 ghost use Rattle.dexval.specs.Numbered.{set_in, StandsForSet};
 ghost use Rattle.dexval.specs.Spelled.{numbered_offsets, numbered_set_bytes};

@@ -1,5 +1,5 @@
 use Rattle.std.proofs.Common.{ℕ, List, subst}
-use Rattle.dexspec.specs.Writing.{Puts}
+use Rattle.dexspec.specs.Aside.Writing.{Puts}
 use Rattle.dexval.proofs.LowBytes.{bits_shifted}
 use Rattle.dexval.proofs.put.append_bits.Goals as goal
 

@@ -1,7 +1,7 @@
 use Rattle.std.proofs.Common.{◌-◌, ◌∷◌, ℕ, List, subst, arith, rules}
 use Rattle.dexspec.specs.Bytes.{bytes_of}
 use Rattle.dexspec.specs.Values.{value_byte}
-use Rattle.dexspec.specs.Writing.{Puts}
+use Rattle.dexspec.specs.Aside.Writing.{Puts}
 use Rattle.dexval.proofs.LowBytes.{one_byte_more, all_written}
 use Rattle.dexval.proofs.put.append_low.Goals as goal
 

@@ -1,5 +1,5 @@
 -- The statements of the laws that definitions can be merged or have a first cause why not.
-use Rattle.std.specs.Prelude.{◌≡◌, ℕ, suc, ◌<◌, ◌≤◌, List, map, true, false, IsTrue}
+use Rattle.std.specs.Prelude.{◌≡◌, ℕ, suc, ◌<◌, ◌≤◌, max, List, [], ◌∷◌, map, true, false, IsTrue}
 use Rattle.std.specs.declared.cmp.Ordering.TheVariants.{Less}
 use Rattle.dexspec.specs.Lists.{AreDistinct, rises}
 use Rattle.dexspec.specs.Texts.{Text, text_cmp}
@@ -14,6 +14,11 @@ pub record HasLeast (P : Text → Type 0) : Type 0 where
   pub name : Text
   pub holds : P name
   pub least : (other : Text) → P other → text_cmp other name ≡ Less → ⊥
+
+-- the greatest of the numbers, 0 for none
+abbrev pub greatest : List ℕ → ℕ
+greatest [] = 0
+greatest (n ∷ ns) = max n (greatest ns)
 
 -- n is the depth of the name: it is less than n + 1, and not less than n
 pub record IsDepth (D : List Definition) (name : Text) (n : ℕ) : Type 0 where

@@ -3,7 +3,7 @@
 //! cite it.
 #![tactic(auto)]
 
-ghost use Rattle.std.specs.Prelude.{◌≡◌, ◌⊎◌, ◌<◌, List, length, true};
+ghost use Rattle.std.specs.Prelude.{◌≡◌, ◌⊎◌, ◌+◌, ◌<◌, List, length, map, true};
 ghost use Rattle.std.specs.List.{Contains};
 ghost use Rattle.std.specs.FinMap as map;
 ghost use Rattle.dexspec.specs.Texts.{Text};
@@ -11,7 +11,7 @@ ghost use Rattle.dexspec.specs.Classes.{Definition};
 ghost use Rattle.dexspec.specs.Files.{Collection, definitions, AreSame, IsCollectionOf};
 ghost use Rattle.dexspec.specs.Depth.{is_defined, above, is_below, HasDepth, IsAcyclic, depth};
 ghost use Rattle.dexspec.specs.Merging.{Caps, Cap, Exceeds, Fits, IsConflict, IsConsistent, IsCycle, IsGood, Cause, IsCause, IsFirstCause};
-ghost use Rattle.dexlaws_causes.specs.Laws.{HasLeast, IsDepth, IsLessDeep, HasFirstExceeded, HasMembersOnce, HasFirstCause, AreDefinitionsOf};
+ghost use Rattle.dexlaws_causes.specs.Laws.{HasLeast, greatest, IsDepth, IsLessDeep, HasFirstExceeded, HasMembersOnce, HasFirstCause, AreDefinitionsOf};
 
 /// No name has two definitions, or some name has a conflict, and a least one, and never both.
 pub fn consistent_or_conflict()
@@ -25,11 +25,13 @@ pub fn acyclic_or_cycle()
     ensures apart { (D : List Definition) (name : Text) → IsAcyclic D → IsCycle D name → ⊥ }
 {}
 
-/// A depth is found within as many rounds as there are definitions, a defined parent stands less deep,
-/// and depths rest on the members alone.
+/// A depth is found within as many rounds as there are definitions; it is one more than the greatest
+/// among the defined parents, and 0 where there are none. So a defined parent stands less deep. Depths rest
+/// on the members alone.
 pub fn depth_is_found()
     ensures rounds { (D : List Definition) (name : Text) → is_defined D name ≡ true → HasDepth D name → is_below D (length D) name ≡ true }
     ensures depth { (D : List Definition) (name : Text) → HasDepth D name → IsDepth D name (depth D name) }
+    ensures one_more { (D : List Definition) (name : Text) → HasDepth D name → depth D name ≡ greatest (map (λ parent. depth D parent + 1) (above D name)) }
     ensures bound { (D : List Definition) (name : Text) → is_defined D name ≡ true → HasDepth D name → depth D name < length D }
     ensures parents { (D : List Definition) (name parent : Text) → HasDepth D name → Contains (above D name) parent → IsLessDeep D parent name }
     ensures alone { (D E : List Definition) (name : Text) → AreSame D E → HasDepth D name → depth D name ≡ depth E name }

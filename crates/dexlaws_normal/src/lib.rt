@@ -86,11 +86,13 @@ pub fn normal_form()
 {}
 
 /// The normal form of an accepted file, the canonical file of the collection that it denotes, is accepted and
-/// denotes it too; so accepted files have one normal form exactly where they denote one collection.
+/// denotes it too; so accepted files have one normal form exactly where they denote one collection, and the
+/// normal form of a normal form is the same bytes.
 pub fn files_normal_form()
     ensures accepted { (b : List ℕ) (K : Collection) → All (λ byte. byte < 256) b → IsAccepted b → Denotes b K → IsAccepted (canonical K) }
     ensures denotes { (b : List ℕ) (K : Collection) → All (λ byte. byte < 256) b → IsAccepted b → Denotes b K → Denotes (canonical K) K }
     ensures same { (a b : List ℕ) (K L : Collection) → All (λ byte. byte < 256) a → IsAccepted a → Denotes a K → All (λ byte. byte < 256) b → IsAccepted b → Denotes b L → (canonical K ≡ canonical L) ↔ (K ≡ L) }
+    ensures twice { (b : List ℕ) (K L : Collection) → All (λ byte. byte < 256) b → IsAccepted b → Denotes b K → Denotes (canonical K) L → canonical L ≡ canonical K }
 {}
 
 /// Where the definitions of some accepted files can be merged under caps of the format, the canonical file of

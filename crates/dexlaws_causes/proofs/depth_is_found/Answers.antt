@@ -1,4 +1,5 @@
 use Rattle.dexspec.proofs.Depths.{is_below-all, depth-is, depth-less, HasDepth-parent, depth-parent, depth-same}
+use Rattle.dexlaws_causes.proofs.Deepest.{depth_is_one_more}
 use Rattle.dexlaws_causes.proofs.depth_is_found.Goals as goal
 
 pub returns-clause-rounds : goal.returns-clause-rounds
@@ -15,3 +16,6 @@ returns-clause-parents c = λ D name parent w m. record { deep = HasDepth-parent
 
 pub returns-clause-alone : goal.returns-clause-alone
 returns-clause-alone c = λ D E name same. depth-same D E name (λ d. (same d).0) (λ d. (same d).1)
+
+pub returns-clause-one_more : goal.returns-clause-one_more
+returns-clause-one_more c = depth_is_one_more

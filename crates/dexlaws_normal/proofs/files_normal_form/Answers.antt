@@ -20,3 +20,8 @@ returns-clause-same c = λ a b K L a_bytes a_accepted a_denotes b_bytes b_accept
       (λ same. one_collection (canonical K) K L of_a.denotes (subst (λ x. Denotes x L) (sym same) of_b.denotes)),
       (λ same. ap canonical same),
     )
+
+pub returns-clause-twice : goal.returns-clause-twice
+returns-clause-twice c = λ b K L bytes accepted denotes again.
+    let normal = whole_normal_form K (denoted_good b bytes accepted K denotes) (denoted_well_formed b bytes accepted K denotes) in
+    ap canonical (one_collection (canonical K) L K again normal.denotes)

@@ -1,5 +1,6 @@
 -- The numbers of rows of lower tables that a row's key is made of: which they are, and what they are replaced by.
-use Rattle.std.specs.Prelude.{◌≡◌, ℕ, ◌<◌, Bool, true, List}
+use Rattle.std.specs.Prelude.{◌≡◌, ℕ, ◌<◌, Bool, true, List, length, slice_index, nat_lt}
+use Rattle.dexrows.specs.declared.lower.LowerPlaces.{LowerPlaces}
 
 -- What the number of a text, of a type and of a proto is replaced by.
 pub record Lower : Type 0 where
@@ -12,6 +13,14 @@ pub record Among : Type 0 where
   pub strings : ℕ → Bool
   pub types : ℕ → Bool
   pub protos : ℕ → Bool
+
+-- numbers are replaced by those at their places
+abbrev pub lower_of : LowerPlaces → Lower
+lower_of p = record { strings = slice_index p.strings.now; types = slice_index p.types.now; protos = slice_index p.protos.now }
+
+-- the numbers that have a place
+abbrev pub among_of : LowerPlaces → Among
+among_of p = record { strings = λ n. nat_lt n (length p.strings.now); types = λ n. nat_lt n (length p.types.now); protos = λ n. nat_lt n (length p.protos.now) }
 
 -- of two numbers that the test tells, the lesser one is replaced by the lesser one
 abbrev pub RisesOn : (ℕ → Bool) → (ℕ → ℕ) → Type 0

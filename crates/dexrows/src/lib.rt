@@ -7,6 +7,7 @@
 mod cutting;
 mod fields;
 mod joining;
+mod lower;
 mod merging;
 mod methods;
 mod places;
@@ -19,6 +20,7 @@ mod types;
 pub use cutting::{Kept, cut};
 pub use fields::FieldRow;
 pub use joining::{Joined, join};
+pub use lower::LowerPlaces;
 pub use methods::MethodRow;
 pub use protos::ProtoRow;
 pub use rows::Row;

@@ -3,6 +3,7 @@
 ghost use Rattle.std.specs.Prelude.{◌≡◌, ◌∷◌, [], true, refl};
 ghost use Rattle.dexrows.specs.KeyOrders.{both_same, same_number};
 
+use crate::lower::LowerPlaces;
 use crate::rows::Row;
 use std::cmp::Ordering;
 
@@ -23,6 +24,8 @@ pub struct MethodRow {
 impl Row for MethodRow {
     type Key = [usize; 3];
 
+    type List = ();
+
     ghost numbers_of = { λ numbers. numbers };
 
     ghost key_of = { λ row. row.class ∷ row.name ∷ row.proto ∷ [] };
@@ -30,6 +33,8 @@ impl Row for MethodRow {
     ghost numbers_in = { λ among row. (among.types row.class ≡ true) × (among.strings row.name ≡ true) × (among.protos row.proto ≡ true) };
 
     ghost mapped = { λ lower row. record { class = lower.types row.class; name = lower.strings row.name; proto = lower.protos row.proto } };
+
+    ghost can_move = { λ lower row list. Unit {0} };
 
     ghost keeps_order = { λ among lower rise x y in_x in_y. both_same _ _ _ _ (same_number among.types lower.types rise.types x.class y.class in_x.0 in_y.0) (both_same _ _ _ _ (same_number among.strings lower.strings rise.strings x.name y.name in_x.1 in_y.1) (both_same _ _ _ _ (same_number among.protos lower.protos rise.protos x.proto y.proto in_x.2 in_y.2) refl)) };
 
@@ -43,5 +48,13 @@ impl Row for MethodRow {
 
     fn copied(&self) -> Self {
         *self
+    }
+
+    fn renumbered(&self, lower: LowerPlaces<'_>, _list: ()) -> Self {
+        MethodRow {
+            class: lower.types[self.class],
+            name: lower.strings[self.name],
+            proto: lower.protos[self.proto],
+        }
     }
 }

@@ -1,8 +1,9 @@
 //! Rows of protos.
 
-ghost use Rattle.std.specs.Prelude.{◌≡◌, ◌∷◌, [], true, All, map};
+ghost use Rattle.std.specs.Prelude.{◌≡◌, ◌∷◌, [], true, All, map, length, slice_index, nat_lt};
 ghost use Rattle.dexrows.specs.KeyOrders.{both_same, same_number, same_numbers};
 
+use crate::lower::LowerPlaces;
 use crate::rows::Row;
 use std::cmp::Ordering;
 use std::marker::Model;
@@ -64,6 +65,8 @@ impl<'p> ProtoRow<'p> {
 impl<'p> Row for ProtoRow<'p> {
     type Key = (usize, &'p [usize]);
 
+    type List = &'p [usize];
+
     ghost numbers_of = { λ key. key.0 ∷ key.1.now };
 
     ghost key_of = { λ row. row.return_type ∷ row.parameters };
@@ -71,6 +74,8 @@ impl<'p> Row for ProtoRow<'p> {
     ghost numbers_in = { λ among row. (among.types row.return_type ≡ true) × All (λ number. among.types number ≡ true) row.parameters };
 
     ghost mapped = { λ lower row. record { shorty = lower.strings row.shorty; return_type = lower.types row.return_type; parameters = map lower.types row.parameters } };
+
+    ghost can_move = { λ lower row list. (nat_lt row.shorty (length lower.strings.now) ≡ true) × (list.now ≡ map (slice_index lower.types.now) row.parameters) };
 
     ghost keeps_order = { λ among lower rise x y in_x in_y. both_same _ _ _ _ (same_number among.types lower.types rise.types x.return_type y.return_type in_x.0 in_y.0) (same_numbers among.types lower.types rise.types x.parameters y.parameters in_x.1 in_y.1) };
 
@@ -90,6 +95,14 @@ impl<'p> Row for ProtoRow<'p> {
             shorty: self.shorty,
             return_type: self.return_type,
             parameters: self.parameters,
+        }
+    }
+
+    fn renumbered(&self, lower: LowerPlaces<'_>, list: &'p [usize]) -> Self {
+        ProtoRow {
+            shorty: lower.strings[self.shorty],
+            return_type: lower.types[self.return_type],
+            parameters: list,
         }
     }
 }

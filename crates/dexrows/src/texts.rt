@@ -2,6 +2,7 @@
 
 ghost use Rattle.std.specs.Prelude.{refl};
 
+use crate::lower::LowerPlaces;
 use crate::rows::Row;
 use dexstr::Text;
 use std::cmp::Ordering;
@@ -12,6 +13,8 @@ use std::cmp::Ordering;
 impl<'a> Row for Text<'a> {
     type Key = Text<'a>;
 
+    type List = ();
+
     ghost numbers_of = { λ text. text };
 
     ghost key_of = { λ text. text };
@@ -19,6 +22,8 @@ impl<'a> Row for Text<'a> {
     ghost numbers_in = { λ among text. Unit {0} };
 
     ghost mapped = { λ lower text. text };
+
+    ghost can_move = { λ lower text list. Unit {0} };
 
     ghost keeps_order = { λ among lower rise x y in_x in_y. refl };
 
@@ -31,6 +36,10 @@ impl<'a> Row for Text<'a> {
     }
 
     fn copied(&self) -> Self {
+        self.clone()
+    }
+
+    fn renumbered(&self, lower: LowerPlaces<'_>, _list: ()) -> Self {
         self.clone()
     }
 }

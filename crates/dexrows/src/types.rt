@@ -3,6 +3,7 @@
 ghost use Rattle.std.specs.Prelude.{◌≡◌, ◌∷◌, [], true, refl};
 ghost use Rattle.dexrows.specs.KeyOrders.{both_same, same_number};
 
+use crate::lower::LowerPlaces;
 use crate::rows::Row;
 use std::cmp::Ordering;
 
@@ -19,6 +20,8 @@ pub struct TypeRow {
 impl Row for TypeRow {
     type Key = usize;
 
+    type List = ();
+
     ghost numbers_of = { λ descriptor. descriptor ∷ [] };
 
     ghost key_of = { λ row. row.descriptor ∷ [] };
@@ -26,6 +29,8 @@ impl Row for TypeRow {
     ghost numbers_in = { λ among row. among.strings row.descriptor ≡ true };
 
     ghost mapped = { λ lower row. record { descriptor = lower.strings row.descriptor } };
+
+    ghost can_move = { λ lower row list. Unit {0} };
 
     ghost keeps_order = { λ among lower rise x y in_x in_y. both_same _ _ _ _ (same_number among.strings lower.strings rise.strings x.descriptor y.descriptor in_x in_y) refl };
 
@@ -39,5 +44,11 @@ impl Row for TypeRow {
 
     fn copied(&self) -> Self {
         *self
+    }
+
+    fn renumbered(&self, lower: LowerPlaces<'_>, _list: ()) -> Self {
+        TypeRow {
+            descriptor: lower.strings[self.descriptor],
+        }
     }
 }

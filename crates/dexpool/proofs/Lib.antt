@@ -30,3 +30,4 @@ pub mod JoinedTables
 pub mod UnionLaws
 pub mod LeadingAll
 pub mod MarksMade
+pub mod KeptNumbers

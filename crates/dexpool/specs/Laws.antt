@@ -1,5 +1,5 @@
 -- The statements of the laws of numberings: what a union has of its parts, and numbers as ranks.
-use Rattle.std.specs.Prelude.{◌≡◌, ℕ, ◌<◌, ◌≤◌, List, length, slice_index_or, IsSome}
+use Rattle.std.specs.Prelude.{◌≡◌, ℕ, ◌<◌, ◌≤◌, List, length, slice_index_or, Some, IsSome}
 use Rattle.std.specs.declared.cmp.Ordering.{Ordering}
 use Rattle.dexspec.specs.Lists.{rank}
 use Rattle.dexspec.specs.Texts.{text_cmp}
@@ -12,6 +12,10 @@ use Rattle.dexpool.specs.Numberings.{Maps, image_of}
 -- each number of the numbering leads somewhere
 abbrev pub LeadsAll : Mentions → Maps → Type 0
 LeadsAll m r = (kind : SymbolKind) (i : ℕ) → i < count_of kind m → IsSome (image_of r kind i)
+
+-- each number that leads somewhere leads to one of the numbering
+abbrev pub LeadsWithin : Mentions → Maps → Type 0
+LeadsWithin n r = (kind : SymbolKind) (i j : ℕ) → image_of r kind i ≡ Some j → j < count_of kind n
 
 -- no rank in the first list is greater than in the second
 abbrev pub RanksGrow : {K : Type 0} → (K → K → Ordering) → List K → List K → Type 0

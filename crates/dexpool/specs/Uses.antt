@@ -1,12 +1,12 @@
 -- The symbols that occur in parts of code, values and classes, by their numbers, and marks on them.
-use Rattle.std.specs.Prelude.{◌≡◌, ℕ, ◌<◌, Bool, true, false, ◌||◌, ◌&&◌, ◌==◌, List, length, slice_index_or}
+use Rattle.std.specs.Prelude.{◌≡◌, ℕ, ◌<◌, Bool, true, false, ◌||◌, ◌&&◌, ◌==◌, List, length, slice_index_or, IsSome}
 use Rattle.std.specs.List.{list_any}
 use Rattle.dexspec.specs.Symbols.{Symbol}
 use Rattle.dexspec.specs.Mentions.{Mentions}
 use Rattle.dexpool.specs.declared.symbols.SymbolKind.{SymbolKind}
 use Rattle.dexpool.specs.declared.symbols.SymbolKind.TheVariants as kinds
 use Rattle.dexpool.specs.declared.marks.Marks.{Marks}
-use Rattle.dexpool.specs.Numberings.{IsNumbered, IsOfKind}
+use Rattle.dexpool.specs.Numberings.{IsNumbered, IsOfKind, Maps, image_of}
 
 -- A symbol that occurs, by its kind and its number.
 pub record Use : Type 0 where
@@ -46,3 +46,15 @@ occurs us kind i = list_any (λ u. same_kind u.kind kind && u.number == i) us
 pub record AreMarkedToo (us : List Use) (old new : Marks) : Type 0 where
   pub count : (kind : SymbolKind) → length (marks_of kind new) ≡ length (marks_of kind old)
   pub each : (kind : SymbolKind) (i : ℕ) → slice_index_or (marks_of kind new) i false ≡ (slice_index_or (marks_of kind old) i false || occurs us kind i)
+
+-- it is marked
+abbrev pub IsMarkedUse : Marks → Use → Type 0
+IsMarkedUse marks u = slice_index_or (marks_of u.kind marks) u.number false ≡ true
+
+-- its number leads somewhere
+abbrev pub IsLedUse : Maps → Use → Type 0
+IsLedUse r u = IsSome (image_of r u.kind u.number)
+
+-- each number that is marked leads somewhere
+abbrev pub LeadsMarked : Marks → Maps → Type 0
+LeadsMarked marks r = (kind : SymbolKind) (i : ℕ) → slice_index_or (marks_of kind marks) i false ≡ true → IsSome (image_of r kind i)

@@ -3,6 +3,8 @@
 ghost use Rattle.std.specs.Prelude.{◌≡◌, IfOk};
 ghost use Rattle.dexspec.specs.Mentions.{closed};
 ghost use Rattle.dexpool.specs.Numberings.{AreMarksOf, marked, AllLead};
+ghost use Rattle.dexpool.specs.Orderly.{LeadDown};
+ghost use Rattle.dexpool.specs.Uses.{LeadsMarked};
 
 use crate::closing::closed;
 use crate::kept_tables::keep_marked;
@@ -13,13 +15,15 @@ use std::alloc::{AllocError, Global};
 
 impl<'a> Numbering<'a> {
     /// Keeps the symbols that are marked, and what these name; and where numbers lead, which is somewhere for
-    /// just those that are kept.
+    /// just those that are kept, each marked one among them, and to no greater number.
     ///
     /// Condition: there is a mark for each symbol. Error: the memory for the tables and the map was refused.
     pub fn keep(&self, alloc: Global, marks: &Marks) -> Result<(Numbering<'a>, Remap), AllocError>
         requires { AreMarksOf self.now marks.now }
         ensures kept { IfOk result (λ cut. cut.0 ≡ closed (marked self.now marks.now)) }
         ensures map { IfOk result (λ cut. AllLead self.now cut.0 cut.1) }
+        ensures marked { IfOk result (λ cut. LeadsMarked marks.now cut.1) }
+        ensures down { IfOk result (λ cut. LeadDown cut.1) }
     {
         let tables = self.tables();
         let marks = closed(tables, marks)?;

@@ -1,14 +1,16 @@
 //! Laws of numberings and of what class definitions mention. Each function does nothing: its contract is the law,
 //! for the callers that cite it.
 
-ghost use Rattle.std.specs.Prelude.{◌≡◌, ◌≤◌, List, map, sum_by};
+ghost use Rattle.std.specs.Prelude.{◌≡◌, ◌≤◌, List, map, sum_by, All};
 ghost use Rattle.std.specs.List.{Contains, flat_map};
 ghost use Rattle.dexspec.specs.Classes.{Definition};
 ghost use Rattle.dexspec.specs.Mentions.{Mentions, mentions};
 ghost use Rattle.dexpool.specs.declared.symbols.SymbolKind.{SymbolKind};
+ghost use Rattle.dexpool.specs.declared.marks.Marks.{Marks};
 ghost use Rattle.dexpool.specs.Pools.{count_of};
-ghost use Rattle.dexpool.specs.Numberings.{AreRising, union_of};
-ghost use Rattle.dexpool.specs.Laws.{AllRanksGrow, RanksAreNumbers};
+ghost use Rattle.dexpool.specs.Numberings.{AreRising, union_of, Maps, AllLead};
+ghost use Rattle.dexpool.specs.Laws.{AllRanksGrow, RanksAreNumbers, LeadsWithin};
+ghost use Rattle.dexpool.specs.Uses.{Use, AreMarkedToo, IsMarkedUse, IsLedUse, LeadsMarked};
 
 /// In a union no symbol has a lesser rank than in a part, and of no kind are there more symbols than in the parts
 /// together.
@@ -25,4 +27,18 @@ pub fn mentions_law()
 /// In lists that rise, as those of every numbering do, the number of a symbol is its rank.
 pub fn number_law()
     ensures { (m : Mentions) → AreRising m → RanksAreNumbers m }
+{}
+
+/// A map from one numbering to another leads to numbers of the other: each image is below the count of its kind. So
+/// it is for what a join or a keep answers.
+pub fn within_law()
+    ensures { (m n : Mentions) (r : Maps) → AllLead m n r → LeadsWithin n r }
+{}
+
+/// What is marked with others is marked, and what was marked stays so; and where each marked number leads somewhere,
+/// as after a keep, so does each number that occurs in what was marked.
+pub fn marked_law()
+    ensures marked { (us : List Use) (old new : Marks) → AreMarkedToo us old new → All (IsMarkedUse new) us }
+    ensures stays { (us : List Use) (old new : Marks) → AreMarkedToo us old new → (vs : List Use) → All (IsMarkedUse old) vs → All (IsMarkedUse new) vs }
+    ensures images { (marks : Marks) (r : Maps) → LeadsMarked marks r → (us : List Use) → All (IsMarkedUse marks) us → All (IsLedUse r) us }
 {}

@@ -34,7 +34,7 @@ mod weight;
 
 pub use dexrows::{FieldRow, MethodRow, ProtoRow, Row, TypeRow};
 pub use faults::{ItemFault, ReadFault};
-pub use laws::{mentions_law, number_law, union_law};
+pub use laws::{marked_law, mentions_law, number_law, union_law, within_law};
 pub use marks::Marks;
 pub use numbering::Numbering;
 pub use parameters::type_list_len;

@@ -6,8 +6,20 @@ use crate::texts::Text;
 use dexleb::{len_u, put_u};
 use std::alloc::AllocError;
 
+impl Text<'_> {
+    /// How many bytes [`put_text`] appends for the text. No memory is taken.
+    ///
+    /// Source: the heading "string_data_item" of the Android page "Dalvik Executable format".
+    pub fn item_len(&self) -> usize
+        ensures len { result ≡ length (string_data self.now) }
+        ensures bound { result ≤ 6 + 3 * length self.now }
+    {
+        len_u(self.len() as u32) + self.bytes().len() + 1
+    }
+}
+
 /// Appends the text's string_data_item: the number of units in its shortest spelling, the units and a zero
-/// byte, at most six bytes and three for each unit.
+/// byte, [`item_len`](Text::item_len) bytes, at most six bytes and three for each unit.
 ///
 /// It fails only for want of memory, and not where the spare room is at least six bytes and three for each
 /// unit; the items are then as they were.
@@ -21,7 +33,7 @@ pub fn put_text(text: &Text, out: &mut Vec<u8>) -> Result<(), AllocError>
 {
     let count = text.len() as u32;
     let bytes = text.bytes();
-    out.reserve(len_u(count) + bytes.len() + 1)?;
+    out.reserve(text.item_len())?;
     put_u(count, out)?;
     out.extend_from_slice(bytes)?;
     out.push(0)?;

@@ -1,4 +1,4 @@
-use Rattle.std.proofs.Common.{◌≡◌, length, map, drop}
+use Rattle.std.proofs.Common.{◌≡◌, map, drop}
 use Rattle.std.specs.List.{flat_map}
 use Rattle.dexrows.specs.Cut.{kept}
 use Rattle.dexpool.specs.Closing.{mark_all, field_types}

@@ -1,4 +1,4 @@
-use Rattle.std.proofs.Common.{◌≡◌, ◌∙◌, ◌+◌, sym, ap, arith, drop}
+use Rattle.std.proofs.Common.{◌∙◌, ◌+◌, sym, ap, arith, drop}
 use Rattle.dexrows.specs.Cut.{kept}
 use Rattle.dexpool.specs.Closing.{mark_all}
 use Rattle.dexpool.proofs.KeptRows.{kept_first, kept_next}

@@ -3,6 +3,9 @@ use Rattle.dexspec.specs.Mentions.{Mentions, closed}
 use Rattle.dexpool.specs.Stored.{symbols_in}
 use Rattle.dexpool.specs.Numberings.{AreMarksOf, AllLead, Maps, marked}
 use Rattle.dexpool.specs.Closing.{kept_symbols, kept_places}
+use Rattle.dexpool.specs.Orderly.{LeadDown}
+use Rattle.dexpool.specs.Uses.{LeadsMarked}
+use Rattle.dexpool.proofs.KeptNumbers.{kept_down, kept_marked}
 use Rattle.dexpool.proofs.KeptSymbols.{are_closed, closed_count, kept_mentioned, kept_lead}
 use Rattle.dexpool.proofs.numbering.Numbering.keep.Goals as goal
 
@@ -35,3 +38,9 @@ returns-clause-map c =
     let there = subst (λ (m : Mentions). AllLead (symbols_in t) m (kept_places c.in_ok-marks.marks)) (sym k.symbols_are) lead in
     let maps = subst (λ (r : Maps). AllLead (symbols_in t) (symbols_in c.in_ok-tables.tables) r) (sym k.maps_are) there in
     subst (λ (m : Mentions). AllLead m (symbols_in c.in_ok-tables.tables) c.in_ok-tables.remap) c.tables-tables.ensures.symbols maps
+
+pub returns-clause-marked : goal.returns-clause-marked
+returns-clause-marked c = subst (LeadsMarked c.args.marks.now) (sym c.in_ok-tables.ensures.maps_are) (kept_marked c.tables-tables.result.now c.args.marks.now c.in_ok-marks.marks c.in_ok-marks.ensures)
+
+pub returns-clause-down : goal.returns-clause-down
+returns-clause-down c = subst LeadDown (sym c.in_ok-tables.ensures.maps_are) (kept_down c.in_ok-marks.marks)

@@ -1,0 +1,120 @@
+-- Where the numbers of marked symbols lead: somewhere, to a number that is not greater, and to one of the other numbering.
+use Rattle.std.proofs.Common.{◌≡◌, ℕ, zero, suc, ◌+◌, ◌<◌, ◌≤◌, ◌||◌, ◌&&◌, ◌==◌, Bool, true, false, List, [], ◌∷◌, get_or, map, refl, sym, ap, ◌∙◌, subst, arith, eq-eqb, Option, Some, None, IsSome}
+use Rattle.std.specs.List.{All, Contains, flat_map}
+use Rattle.std.proofs.lemmas.List.Elements.{All-weaker, Contains-get_or}
+use Rattle.dexspec.proofs.Members.{list_any-member}
+use Rattle.dexspec.specs.Mentions.{Mentions}
+use Rattle.dexrows.specs.Cut.{kept, places}
+use Rattle.dexrows.specs.declared.fields.FieldRow.{FieldRow}
+use Rattle.dexrows.specs.declared.methods.MethodRow.{MethodRow}
+use Rattle.dexpool.specs.declared.rows.ProtoEntry.{ProtoEntry}
+use Rattle.dexrows.proofs.KeptPlaces.{marked_has}
+use Rattle.dexpool.specs.declared.tables.Tables.{Tables}
+use Rattle.dexpool.specs.declared.marks.Marks.{Marks}
+use Rattle.dexpool.specs.declared.symbols.SymbolKind.{SymbolKind}
+use Rattle.dexpool.specs.declared.symbols.SymbolKind.TheVariants as kinds
+use Rattle.dexpool.specs.Numberings.{Maps, AllLead, Leads, image, image_of}
+use Rattle.dexpool.specs.Orderly.{LeadDown}
+use Rattle.dexpool.specs.Laws.{LeadsWithin}
+use Rattle.dexpool.specs.Uses.{Use, AreMarkedToo, IsMarkedUse, IsLedUse, LeadsMarked, marks_of, same_kind, occurs}
+use Rattle.dexpool.specs.Closing.{IsMarked, AreClosure, kept_places, mark_all, field_types, entry_types}
+use Rattle.dexpool.proofs.KeptRows.{mark_within, mark_stays}
+
+-- ---- to none greater
+
+some_same : (m n : ℕ) → Some m ≡ Some n → m ≡ n
+some_same m n e = cc
+
+places_down : (marks : List Bool) (n i j : ℕ) → image (places n marks) i ≡ Some j → j ≤ n + i
+places_down [] n i j e = absurd cc
+places_down (true ∷ marks) n zero j e = omega (arith, some_same n j e)
+places_down (true ∷ marks) n (suc i) j e = omega (arith, places_down marks (suc n) i j e)
+places_down (false ∷ marks) n zero j e = absurd cc
+places_down (false ∷ marks) n (suc i) j e = omega (arith, places_down marks n i j e)
+
+-- a cut leads to no greater numbers
+pub kept_down : (marks : Marks) → LeadDown (kept_places marks)
+kept_down marks kinds.Text i j e = omega (arith, places_down marks.strings.items 0 i j e)
+kept_down marks kinds.Typ i j e = omega (arith, places_down marks.types.items 0 i j e)
+kept_down marks kinds.Proto i j e = omega (arith, places_down marks.protos.items 0 i j e)
+kept_down marks kinds.Field i j e = omega (arith, places_down marks.fields.items 0 i j e)
+kept_down marks kinds.Method i j e = omega (arith, places_down marks.methods.items 0 i j e)
+
+-- ---- somewhere
+
+is_some : (o : Option ℕ) (j : ℕ) → o ≡ Some j → IsSome o
+is_some o j e = subst IsSome (sym e) refl
+
+has_image : (marks : List Bool) (i : ℕ) → IsMarked marks i → IsSome (image (places 0 marks) i)
+has_image marks i e = let place = marked_has marks i 0 false None (mark_within marks i e) e in is_some (image (places 0 marks) i) place.0 place.1
+
+-- more marks leave what was marked
+stays : (marks closed : List Bool) (ns : List ℕ) → closed ≡ mark_all marks ns → (i : ℕ) → IsMarked marks i → IsMarked closed i
+stays marks closed ns e i marked = subst (λ ms. IsMarked ms i) (sym e) (mark_stays marks ns i marked)
+
+stays_too : (marks closed : List Bool) (ks ms ns : List ℕ) → closed ≡ mark_all (mark_all (mark_all marks ks) ms) ns → (i : ℕ) → IsMarked marks i → IsMarked closed i
+stays_too marks closed ks ms ns e i marked = stays (mark_all (mark_all marks ks) ms) closed ns e i (mark_stays (mark_all marks ks) ms i (mark_stays marks ks i marked))
+
+-- what is marked leads somewhere by the closed marks
+pub kept_marked : (t : Tables) (marks closed : Marks) → AreClosure t marks closed → LeadsMarked marks (kept_places closed)
+kept_marked t marks closed is kinds.Text i e =
+    let methods = map (λ (m : MethodRow). m.name) (kept marks.methods.items t.methods.items) in
+    let fields = map (λ (f : FieldRow). f.name) (kept marks.fields.items t.fields.items) in
+    let protos = map (λ (p : ProtoEntry). p.shorty) (kept closed.protos.items t.protos.items) in
+    let types = kept closed.types.items t.types.items in
+    has_image closed.strings.items i (stays_too (mark_all marks.strings.items methods) closed.strings.items fields protos types is.strings_are i (mark_stays marks.strings.items methods i e))
+kept_marked t marks closed is kinds.Typ i e =
+    let methods = map (λ (m : MethodRow). m.class) (kept marks.methods.items t.methods.items) in
+    let fields = flat_map field_types (kept marks.fields.items t.fields.items) in
+    let protos = flat_map (entry_types t.parameters.items) (kept closed.protos.items t.protos.items) in
+    has_image closed.types.items i (stays_too marks.types.items closed.types.items methods fields protos is.types_are i e)
+kept_marked t marks closed is kinds.Proto i e =
+    has_image closed.protos.items i (stays marks.protos.items closed.protos.items (map (λ (m : MethodRow). m.proto) (kept marks.methods.items t.methods.items)) is.protos_are i e)
+kept_marked t marks closed is kinds.Field i e = has_image closed.fields.items i (subst (λ ms. IsMarked ms i) (sym is.fields_are) e)
+kept_marked t marks closed is kinds.Method i e = has_image closed.methods.items i (subst (λ ms. IsMarked ms i) (sym is.methods_are) e)
+
+-- ---- within the other numbering
+
+pub leads_within : (m n : Mentions) (r : Maps) → AllLead m n r → LeadsWithin n r
+leads_within m n r l kinds.Text i j e = (l.texts_lead.same i j [] e).within
+leads_within m n r l kinds.Typ i j e = (l.types_lead.same i j [] e).within
+leads_within m n r l kinds.Proto i j e = (l.protos_lead.same i j (record { return_type = []; parameters = [] }) e).within
+leads_within m n r l kinds.Field i j e = (l.fields_lead.same i j (record { class = []; name = []; type = [] }) e).within
+leads_within m n r l kinds.Method i j e = (l.methods_lead.same i j (record { class = []; name = []; proto = record { return_type = []; parameters = [] } }) e).within
+
+-- ---- what occurs
+
+same_kind-refl : (kind : SymbolKind) → same_kind kind kind ≡ true
+same_kind-refl kinds.Text = refl
+same_kind-refl kinds.Typ = refl
+same_kind-refl kinds.Proto = refl
+same_kind-refl kinds.Field = refl
+same_kind-refl kinds.Method = refl
+
+or_true : (a b : Bool) → b ≡ true → (a || b) ≡ true
+or_true true b e = refl
+or_true false b e = e
+
+true_or : (a b : Bool) → a ≡ true → (a || b) ≡ true
+true_or true b e = refl
+true_or false b e = absurd cc
+
+same_number : (n : ℕ) → (n == n) ≡ true
+same_number n = eq-eqb n n refl
+
+uses_itself : (u : Use) → (same_kind u.kind u.kind && u.number == u.number) ≡ true
+uses_itself u = rw (same_kind-refl u.kind) (same_number u.number)
+
+member_occurs : (us : List Use) (u : Use) → Contains us u → occurs us u.kind u.number ≡ true
+member_occurs us u c = list_any-member (λ v. same_kind v.kind u.kind && v.number == u.number) us u c (uses_itself u)
+
+pub are_marked : (us : List Use) (old new : Marks) → AreMarkedToo us old new → All (IsMarkedUse new) us
+are_marked us old new is k d lt =
+    let u = get_or us k d in
+    is.each u.kind u.number ∙ or_true (get_or (marks_of u.kind old) u.number false) (occurs us u.kind u.number) (member_occurs us u (Contains-get_or us k d lt))
+
+pub stay_marked : (us : List Use) (old new : Marks) → AreMarkedToo us old new → (vs : List Use) → All (IsMarkedUse old) vs → All (IsMarkedUse new) vs
+stay_marked us old new is vs h = All-weaker (IsMarkedUse old) (IsMarkedUse new) (λ u e. is.each u.kind u.number ∙ true_or (get_or (marks_of u.kind old) u.number false) (occurs us u.kind u.number) e) vs h
+
+pub marked_led : (marks : Marks) (r : Maps) → LeadsMarked marks r → (us : List Use) → All (IsMarkedUse marks) us → All (IsLedUse r) us
+marked_led marks r lead us h = All-weaker (IsMarkedUse marks) (IsLedUse r) (λ u e. lead u.kind u.number e) us h

@@ -15,8 +15,8 @@ use Rattle.dexpool.specs.declared.marks.Marks.{Marks}
 use Rattle.std.specs.Option.{IsSome}
 use Rattle.dexpool.specs.Numberings.{IsAt, IsNumbered, IsOfKind, AreMarksOf, Maps, image, image_of, Leads, AllLead}
 use Rattle.dexval.specs.Numbered.{Literal, ByteLiteral, ShortLiteral, CharLiteral, IntLiteral, LongLiteral, FloatLiteral, DoubleLiteral, NullLiteral, BooleanLiteral, Reference, StringReference, TypeReference, FieldReference, MethodReference, EnumReference, NumberedValue, NumberedValues, NumberedElements, NumberedAnnotation, NumberedSet, Plain, Named, Array, Annotated, NoValue, ThenNext, NoElement, ThenNamed, text_at, type_at, field_at, method_at, plain_value, named_value, kind_of_reference, value_in, values_in, elements_in, annotation_in, set_in, IsKnown, AreKnown, HaveKnown, IsKnownAnnotation, IsKnownSet, StandsFor, StandFor, StandsForSet}
-use Rattle.dexval.specs.Renumbering.{led, renumbered, renumbered_values, renumbered_elements, renumbered_annotation, renumbered_set, HasImage}
-use Rattle.dexpool.specs.Uses.{Use, IsUseOf, HasMark, marks_of}
+use Rattle.dexval.specs.Renumbering.{led, renumbered, renumbered_values, renumbered_elements, renumbered_annotation, renumbered_set}
+use Rattle.dexpool.specs.Uses.{Use, IsUseOf, IsLedUse, HasMark, marks_of}
 use Rattle.dexval.specs.Uses.{value_uses, values_uses, elements_uses, annotation_uses, set_uses}
 use Rattle.dexval.proofs.Marked.{all_front, all_back}
 
@@ -69,60 +69,60 @@ module _ (m n : Mentions) (r : Maps) (leads : AllLead m n r) where
   named_led EnumReference i h = let t = field_led i h in (t.0, ap EnumValue t.1)
 
   mutual
-    value_led : (x : NumberedValue) → All (HasImage r) (value_uses x) → IsKnown n (renumbered r x) × (value_in n (renumbered r x) ≡ value_in m x)
+    value_led : (x : NumberedValue) → All (IsLedUse r) (value_uses x) → IsKnown n (renumbered r x) × (value_in n (renumbered r x) ≡ value_in m x)
     value_led (Plain l) h = (tt, refl)
-    value_led (Named x i) h = named_led x i (All-head (HasImage r) (use_of (kind_of_reference x) i) [] h)
+    value_led (Named x i) h = named_led x i (All-head (IsLedUse r) (use_of (kind_of_reference x) i) [] h)
     value_led (Array xs) h = let t = values_led xs h in (t.0, ap ArrayValue t.1)
     value_led (Annotated t es) h =
-        let typ = type_led t (All-head (HasImage r) (use_of kinds.Typ t) (elements_uses es) h) in
-        let elements = elements_led es (All-tail (HasImage r) (use_of kinds.Typ t) (elements_uses es) h) in
+        let typ = type_led t (All-head (IsLedUse r) (use_of kinds.Typ t) (elements_uses es) h) in
+        let elements = elements_led es (All-tail (IsLedUse r) (use_of kinds.Typ t) (elements_uses es) h) in
         ((typ.0, elements.0), ap (λ (s : Text). AnnotationValue s (elements_in n (renumbered_elements r es))) typ.1 ∙ ap (AnnotationValue (type_at m t)) elements.1)
 
-    values_led : (xs : NumberedValues) → All (HasImage r) (values_uses xs) → AreKnown n (renumbered_values r xs) × (values_in n (renumbered_values r xs) ≡ values_in m xs)
+    values_led : (xs : NumberedValues) → All (IsLedUse r) (values_uses xs) → AreKnown n (renumbered_values r xs) × (values_in n (renumbered_values r xs) ≡ values_in m xs)
     values_led NoValue h = (tt, refl)
     values_led (ThenNext x xs) h =
-        let first = value_led x (all_front (HasImage r) (value_uses x) (values_uses xs) h) in
-        let rest = values_led xs (all_back (HasImage r) (value_uses x) (values_uses xs) h) in
+        let first = value_led x (all_front (IsLedUse r) (value_uses x) (values_uses xs) h) in
+        let rest = values_led xs (all_back (IsLedUse r) (value_uses x) (values_uses xs) h) in
         ((first.0, rest.0), ap (λ (v : Value). ThenValue v (values_in n (renumbered_values r xs))) first.1 ∙ ap (ThenValue (value_in m x)) rest.1)
 
-    elements_led : (es : NumberedElements) → All (HasImage r) (elements_uses es) → HaveKnown n (renumbered_elements r es) × (elements_in n (renumbered_elements r es) ≡ elements_in m es)
+    elements_led : (es : NumberedElements) → All (IsLedUse r) (elements_uses es) → HaveKnown n (renumbered_elements r es) × (elements_in n (renumbered_elements r es) ≡ elements_in m es)
     elements_led NoElement h = (tt, refl)
     elements_led (ThenNamed name x es) h =
-        let named = text_led name (All-head (HasImage r) (use_of kinds.Text name) (value_uses x ++ elements_uses es) h) in
-        let behind = All-tail (HasImage r) (use_of kinds.Text name) (value_uses x ++ elements_uses es) h in
-        let first = value_led x (all_front (HasImage r) (value_uses x) (elements_uses es) behind) in
-        let rest = elements_led es (all_back (HasImage r) (value_uses x) (elements_uses es) behind) in (
+        let named = text_led name (All-head (IsLedUse r) (use_of kinds.Text name) (value_uses x ++ elements_uses es) h) in
+        let behind = All-tail (IsLedUse r) (use_of kinds.Text name) (value_uses x ++ elements_uses es) h in
+        let first = value_led x (all_front (IsLedUse r) (value_uses x) (elements_uses es) behind) in
+        let rest = elements_led es (all_back (IsLedUse r) (value_uses x) (elements_uses es) behind) in (
           (named.0, first.0, rest.0),
           ap (λ (s : Text). ThenElement s (value_in n (renumbered r x)) (elements_in n (renumbered_elements r es))) named.1
               ∙ ap (λ (v : Value). ThenElement (text_at m name) v (elements_in n (renumbered_elements r es))) first.1
               ∙ ap (ThenElement (text_at m name) (value_in m x)) rest.1,
         )
 
-  annotation_led : (a : NumberedAnnotation) → All (HasImage r) (annotation_uses a) → IsKnownAnnotation n (renumbered_annotation r a) × (annotation_in n (renumbered_annotation r a) ≡ annotation_in m a)
+  annotation_led : (a : NumberedAnnotation) → All (IsLedUse r) (annotation_uses a) → IsKnownAnnotation n (renumbered_annotation r a) × (annotation_in n (renumbered_annotation r a) ≡ annotation_in m a)
   annotation_led a h =
-      let typ = type_led a.type (All-head (HasImage r) (use_of kinds.Typ a.type) (elements_uses a.elements) h) in
-      let elements = elements_led a.elements (All-tail (HasImage r) (use_of kinds.Typ a.type) (elements_uses a.elements) h) in (
+      let typ = type_led a.type (All-head (IsLedUse r) (use_of kinds.Typ a.type) (elements_uses a.elements) h) in
+      let elements = elements_led a.elements (All-tail (IsLedUse r) (use_of kinds.Typ a.type) (elements_uses a.elements) h) in (
         record { type_in = typ.0; elements_known = elements.0 },
         ap (λ (t : Text). annotation_with a.visibility t (elements_in n (renumbered_elements r a.elements))) typ.1 ∙ ap (annotation_with a.visibility (type_at m a.type)) elements.1,
       )
 
-  set_led : (xs : NumberedSet) → All (HasImage r) (set_uses xs) → IsKnownSet n (renumbered_set r xs) × (set_in n (renumbered_set r xs) ≡ set_in m xs)
+  set_led : (xs : NumberedSet) → All (IsLedUse r) (set_uses xs) → IsKnownSet n (renumbered_set r xs) × (set_in n (renumbered_set r xs) ≡ set_in m xs)
   set_led [] h = (All-nil (IsKnownAnnotation n), refl)
   set_led (x ∷ xs) h =
-      let first = annotation_led x (all_front (HasImage r) (annotation_uses x) (set_uses xs) h) in
-      let rest = set_led xs (all_back (HasImage r) (annotation_uses x) (set_uses xs) h) in
+      let first = annotation_led x (all_front (IsLedUse r) (annotation_uses x) (set_uses xs) h) in
+      let rest = set_led xs (all_back (IsLedUse r) (annotation_uses x) (set_uses xs) h) in
       (All-cons (IsKnownAnnotation n) (renumbered_annotation r x) (renumbered_set r xs) first.0 rest.0, ap (λ (a : Annotation). a ∷ set_in n (renumbered_set r xs)) first.1 ∙ ap (λ (l : AnnotationSet). annotation_in m x ∷ l) rest.1)
 
 -- a value stands for what it stood for
-pub value_keeps : (m n : Mentions) (r : Maps) (x : NumberedValue) (v : Value) → AllLead m n r → All (HasImage r) (value_uses x) → StandsFor m x v → StandsFor n (renumbered r x) v
+pub value_keeps : (m n : Mentions) (r : Maps) (x : NumberedValue) (v : Value) → AllLead m n r → All (IsLedUse r) (value_uses x) → StandsFor m x v → StandsFor n (renumbered r x) v
 value_keeps m n r x v leads images h = let t = value_led m n r leads x images in record { known = t.0; means = t.1 ∙ h.means }
 
 -- values
-pub values_keep : (m n : Mentions) (r : Maps) (xs : NumberedValues) (vs : Values) → AllLead m n r → All (HasImage r) (values_uses xs) → StandFor m xs vs → StandFor n (renumbered_values r xs) vs
+pub values_keep : (m n : Mentions) (r : Maps) (xs : NumberedValues) (vs : Values) → AllLead m n r → All (IsLedUse r) (values_uses xs) → StandFor m xs vs → StandFor n (renumbered_values r xs) vs
 values_keep m n r xs vs leads images h = let t = values_led m n r leads xs images in record { known = t.0; mean = t.1 ∙ h.mean }
 
 -- a set
-pub set_keeps : (m n : Mentions) (r : Maps) (xs : NumberedSet) (s : AnnotationSet) → AllLead m n r → All (HasImage r) (set_uses xs) → StandsForSet m xs s → StandsForSet n (renumbered_set r xs) s
+pub set_keeps : (m n : Mentions) (r : Maps) (xs : NumberedSet) (s : AnnotationSet) → AllLead m n r → All (IsLedUse r) (set_uses xs) → StandsForSet m xs s → StandsForSet n (renumbered_set r xs) s
 set_keeps m n r xs s leads images h = let t = set_led m n r leads xs images in record { known = t.0; means = t.1 ∙ h.means }
 
 -- ---- the symbols that occur

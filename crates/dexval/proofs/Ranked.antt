@@ -10,8 +10,9 @@ use Rattle.dexspec.specs.Annotations.{Annotation, AnnotationSet}
 use Rattle.dexspec.specs.Mentions.{Mentions}
 use Rattle.dexpool.specs.Laws.{RanksAreNumbers}
 use Rattle.dexpool.specs.Numberings.{Maps, AllLead}
+use Rattle.dexpool.specs.Uses.{IsLedUse}
 use Rattle.dexval.specs.Numbered.{Literal, ByteLiteral, ShortLiteral, CharLiteral, IntLiteral, LongLiteral, FloatLiteral, DoubleLiteral, NullLiteral, BooleanLiteral, Reference, StringReference, TypeReference, FieldReference, MethodReference, EnumReference, NumberedValue, NumberedValues, NumberedElements, NumberedAnnotation, NumberedSet, Plain, Named, Array, Annotated, NoValue, ThenNext, NoElement, ThenNamed, plain_value, named_value, value_in, values_in, elements_in, annotation_in, set_in, IsKnown, AreKnown, HaveKnown, IsKnownAnnotation, IsKnownSet, StandsFor, StandFor, StandsForSet}
-use Rattle.dexval.specs.Renumbering.{renumbered, renumbered_values, renumbered_set, HasImage}
+use Rattle.dexval.specs.Renumbering.{renumbered, renumbered_values, renumbered_set}
 use Rattle.dexval.specs.Uses.{value_uses, values_uses, set_uses}
 use Rattle.dexval.proofs.Meanings.{value_keeps, values_keep, set_keeps}
 
@@ -112,7 +113,7 @@ module _ (m : Mentions) (ranks : RanksAreNumbers m) where
 -- ---- values of two numberings, led to a third
 
 module _ (m n whole : Mentions) (r s : Maps) (ranks : RanksAreNumbers whole) (from_first : AllLead m whole r) (from_second : AllLead n whole s) where
-  pub same_value : (x y : NumberedValue) (v w : Value) → All (HasImage r) (value_uses x) → All (HasImage s) (value_uses y) → StandsFor m x v → StandsFor n y w → (renumbered r x ≡ renumbered s y) ↔ (v ≡ w)
+  pub same_value : (x y : NumberedValue) (v w : Value) → All (IsLedUse r) (value_uses x) → All (IsLedUse s) (value_uses y) → StandsFor m x v → StandsFor n y w → (renumbered r x ≡ renumbered s y) ↔ (v ≡ w)
   same_value x y v w images images' h k =
       let mine = value_keeps m whole r x v from_first images h in
       let theirs = value_keeps n whole s y w from_second images' k in (
@@ -120,7 +121,7 @@ module _ (m n whole : Mentions) (r s : Maps) (ranks : RanksAreNumbers whole) (fr
         (λ e. one_value whole ranks (renumbered r x) (renumbered s y) w (subst (StandsFor whole (renumbered r x)) e mine) theirs),
       )
 
-  pub same_values : (xs ys : NumberedValues) (vs ws : Values) → All (HasImage r) (values_uses xs) → All (HasImage s) (values_uses ys) → StandFor m xs vs → StandFor n ys ws → (renumbered_values r xs ≡ renumbered_values s ys) ↔ (vs ≡ ws)
+  pub same_values : (xs ys : NumberedValues) (vs ws : Values) → All (IsLedUse r) (values_uses xs) → All (IsLedUse s) (values_uses ys) → StandFor m xs vs → StandFor n ys ws → (renumbered_values r xs ≡ renumbered_values s ys) ↔ (vs ≡ ws)
   same_values xs ys vs ws images images' h k =
       let mine = values_keep m whole r xs vs from_first images h in
       let theirs = values_keep n whole s ys ws from_second images' k in (
@@ -128,7 +129,7 @@ module _ (m n whole : Mentions) (r s : Maps) (ranks : RanksAreNumbers whole) (fr
         (λ e. one_list whole ranks (renumbered_values r xs) (renumbered_values s ys) ws (subst (StandFor whole (renumbered_values r xs)) e mine) theirs),
       )
 
-  pub same_set : (xs ys : NumberedSet) (a b : AnnotationSet) → All (HasImage r) (set_uses xs) → All (HasImage s) (set_uses ys) → StandsForSet m xs a → StandsForSet n ys b → (renumbered_set r xs ≡ renumbered_set s ys) ↔ (a ≡ b)
+  pub same_set : (xs ys : NumberedSet) (a b : AnnotationSet) → All (IsLedUse r) (set_uses xs) → All (IsLedUse s) (set_uses ys) → StandsForSet m xs a → StandsForSet n ys b → (renumbered_set r xs ≡ renumbered_set s ys) ↔ (a ≡ b)
   same_set xs ys a b images images' h k =
       let mine = set_keeps m whole r xs a from_first images h in
       let theirs = set_keeps n whole s ys b from_second images' k in (

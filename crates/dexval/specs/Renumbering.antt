@@ -1,9 +1,8 @@
 -- Values, annotations and sets whose numbers are led to those of another numbering.
-use Rattle.std.specs.Prelude.{◌≡◌, ℕ, ◌^◌, ◌<◌, map, All, Some, IsSome, unwrap_or}
+use Rattle.std.specs.Prelude.{◌≡◌, ℕ, ◌^◌, ◌<◌, map, All, Some, unwrap_or}
 use Rattle.dexpool.specs.declared.symbols.SymbolKind.{SymbolKind}
 use Rattle.dexpool.specs.declared.symbols.SymbolKind.TheVariants as kinds
 use Rattle.dexpool.specs.Numberings.{Maps, image_of}
-use Rattle.dexpool.specs.Uses.{Use}
 use Rattle.dexval.specs.Numbered.{NumberedValue, NumberedValues, NumberedElements, NumberedAnnotation, NumberedSet, Plain, Named, Array, Annotated, NoValue, ThenNext, NoElement, ThenNamed, kind_of_reference}
 
 -- where a number of a kind leads; one that leads nowhere stays
@@ -42,13 +41,9 @@ renumbered_set r s = map (renumbered_annotation r) s
 
 -- ---- where numbers lead
 
--- the number of a symbol that occurs leads somewhere
-abbrev pub HasImage : Maps → Use → Type 0
-HasImage r u = IsSome (image_of r u.kind u.number)
-
 -- numbers of 32 bits lead to such
-abbrev pub LeadsWithin : Maps → Type 0
-LeadsWithin r = (kind : SymbolKind) (i j : ℕ) → image_of r kind i ≡ Some j → i < 2 ^ 32 → j < 2 ^ 32
+abbrev pub LeadsNarrow : Maps → Type 0
+LeadsNarrow r = (kind : SymbolKind) (i j : ℕ) → image_of r kind i ≡ Some j → i < 2 ^ 32 → j < 2 ^ 32
 
 -- The number leads to one, of 32 bits where it is of 32 bits itself, as each number of the code is.
 abbrev pub LeadsOn : Maps → SymbolKind → ℕ → Type 0

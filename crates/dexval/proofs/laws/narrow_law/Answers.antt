@@ -1,5 +1,5 @@
 use Rattle.dexval.proofs.Images.{cut_within, join_within, value_placed, values_placed, annotation_placed, set_placed, sets_placed}
-use Rattle.dexval.proofs.laws.within_law.Goals as goal
+use Rattle.dexval.proofs.laws.narrow_law.Goals as goal
 
 pub returns : goal.returns
 returns c = record {

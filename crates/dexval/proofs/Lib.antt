@@ -6,6 +6,7 @@ pub mod ElementsRead
 pub mod FileRead
 pub mod Fitted
 pub mod Growing
+pub mod Images
 pub mod Joining
 pub mod Keeping
 pub mod Lengths

@@ -1,5 +1,5 @@
 -- What values stand for: the same under other numbers, and the symbols that occur in them.
-use Rattle.std.proofs.Common.{◌≡◌, ℕ, ◌^◌, ◌<◌, ◌≤◌, List, [], ◌∷◌, ◌++◌, length, get_or, Option, Some, None, refl, ap, sym, ◌∙◌, subst, arith}
+use Rattle.std.proofs.Common.{◌≡◌, ℕ, ◌<◌, List, [], ◌∷◌, ◌++◌, length, get_or, Option, Some, None, refl, ap, sym, ◌∙◌, subst, arith}
 use Rattle.std.specs.Prelude.{unwrap_or}
 use Rattle.std.specs.List.{All, AllZip}
 use Rattle.std.proofs.lemmas.List.{get_or_default}
@@ -13,19 +13,22 @@ use Rattle.dexpool.specs.declared.symbols.SymbolKind.{SymbolKind}
 use Rattle.dexpool.specs.declared.symbols.SymbolKind.TheVariants as kinds
 use Rattle.dexpool.specs.declared.marks.Marks.{Marks}
 use Rattle.std.specs.Option.{IsSome}
-use Rattle.dexpool.specs.Pools.{count_of}
-use Rattle.dexpool.specs.Laws.{LeadsAll}
 use Rattle.dexpool.specs.Numberings.{IsAt, IsNumbered, IsOfKind, AreMarksOf, Maps, image, image_of, Leads, AllLead}
 use Rattle.dexval.specs.Numbered.{Literal, ByteLiteral, ShortLiteral, CharLiteral, IntLiteral, LongLiteral, FloatLiteral, DoubleLiteral, NullLiteral, BooleanLiteral, Reference, StringReference, TypeReference, FieldReference, MethodReference, EnumReference, NumberedValue, NumberedValues, NumberedElements, NumberedAnnotation, NumberedSet, Plain, Named, Array, Annotated, NoValue, ThenNext, NoElement, ThenNamed, text_at, type_at, field_at, method_at, plain_value, named_value, kind_of_reference, value_in, values_in, elements_in, annotation_in, set_in, IsKnown, AreKnown, HaveKnown, IsKnownAnnotation, IsKnownSet, StandsFor, StandFor, StandsForSet}
-use Rattle.dexval.specs.Renumbering.{led, renumbered, renumbered_values, renumbered_elements, renumbered_annotation, renumbered_set, LeadsOn, HasPlaces, HavePlaces, ElementsHavePlaces, AnnotationHasPlaces, SetHasPlaces}
-use Rattle.dexpool.specs.Uses.{Use, IsUseOf, HasMark, marks_of}
+use Rattle.dexval.specs.Renumbering.{led, renumbered, renumbered_values, renumbered_elements, renumbered_annotation, renumbered_set}
+use Rattle.dexpool.specs.Uses.{Use, IsUseOf, IsLedUse, HasMark, marks_of}
 use Rattle.dexval.specs.Uses.{value_uses, values_uses, elements_uses, annotation_uses, set_uses}
+use Rattle.dexval.proofs.Marked.{all_front, all_back}
 
 abbrev no_field : Field
 no_field = record { class = []; name = []; type = [] }
 
 abbrev no_method : Method
 no_method = record { class = []; name = []; proto = record { return_type = []; parameters = [] } }
+
+-- a symbol that occurs
+abbrev use_of : SymbolKind → ℕ → Use
+use_of kind i = record { kind = kind; number = i }
 
 -- an annotation by its parts
 abbrev annotation_with : ℕ → Text → Elements → Annotation
@@ -41,20 +44,24 @@ led_on from to images i j d l e =
     let is : unwrap_or (image images i) i ≡ j = ap (λ (o : Option ℕ). unwrap_or o i) e in
     (subst (λ (k : ℕ). k < length to) (sym is) at.within, ap (λ (k : ℕ). get_or to k d) is ∙ at.is d)
 
+some_of : (o : Option ℕ) → IsSome o → (j : ℕ) × (o ≡ Some j)
+some_of None h = absurd cc
+some_of (Some j) h = (j, refl)
+
 module _ (m n : Mentions) (r : Maps) (leads : AllLead m n r) where
-  text_led : (i : ℕ) → LeadsOn r kinds.Text i → (led r kinds.Text i < length n.texts) × (text_at n (led r kinds.Text i) ≡ text_at m i)
-  text_led i h = led_on m.texts n.texts r.texts i h.0 [] leads.texts_lead h.1
+  text_led : (i : ℕ) → IsSome (image r.texts i) → (led r kinds.Text i < length n.texts) × (text_at n (led r kinds.Text i) ≡ text_at m i)
+  text_led i h = let at = some_of (image r.texts i) h in led_on m.texts n.texts r.texts i at.0 [] leads.texts_lead at.1
 
-  type_led : (i : ℕ) → LeadsOn r kinds.Typ i → (led r kinds.Typ i < length n.types) × (type_at n (led r kinds.Typ i) ≡ type_at m i)
-  type_led i h = led_on m.types n.types r.types i h.0 [] leads.types_lead h.1
+  type_led : (i : ℕ) → IsSome (image r.types i) → (led r kinds.Typ i < length n.types) × (type_at n (led r kinds.Typ i) ≡ type_at m i)
+  type_led i h = let at = some_of (image r.types i) h in led_on m.types n.types r.types i at.0 [] leads.types_lead at.1
 
-  field_led : (i : ℕ) → LeadsOn r kinds.Field i → (led r kinds.Field i < length n.fields) × (field_at n (led r kinds.Field i) ≡ field_at m i)
-  field_led i h = led_on m.fields n.fields r.fields i h.0 no_field leads.fields_lead h.1
+  field_led : (i : ℕ) → IsSome (image r.fields i) → (led r kinds.Field i < length n.fields) × (field_at n (led r kinds.Field i) ≡ field_at m i)
+  field_led i h = let at = some_of (image r.fields i) h in led_on m.fields n.fields r.fields i at.0 no_field leads.fields_lead at.1
 
-  method_led : (i : ℕ) → LeadsOn r kinds.Method i → (led r kinds.Method i < length n.methods) × (method_at n (led r kinds.Method i) ≡ method_at m i)
-  method_led i h = led_on m.methods n.methods r.methods i h.0 no_method leads.methods_lead h.1
+  method_led : (i : ℕ) → IsSome (image r.methods i) → (led r kinds.Method i < length n.methods) × (method_at n (led r kinds.Method i) ≡ method_at m i)
+  method_led i h = let at = some_of (image r.methods i) h in led_on m.methods n.methods r.methods i at.0 no_method leads.methods_lead at.1
 
-  named_led : (x : Reference) (i : ℕ) → HasPlaces r (Named x i) → IsKnown n (renumbered r (Named x i)) × (value_in n (renumbered r (Named x i)) ≡ value_in m (Named x i))
+  named_led : (x : Reference) (i : ℕ) → IsSome (image_of r (kind_of_reference x) i) → IsKnown n (renumbered r (Named x i)) × (value_in n (renumbered r (Named x i)) ≡ value_in m (Named x i))
   named_led StringReference i h = let t = text_led i h in (t.0, ap StringValue t.1)
   named_led TypeReference i h = let t = type_led i h in (t.0, ap TypeValue t.1)
   named_led FieldReference i h = let t = field_led i h in (t.0, ap FieldValue t.1)
@@ -62,114 +69,61 @@ module _ (m n : Mentions) (r : Maps) (leads : AllLead m n r) where
   named_led EnumReference i h = let t = field_led i h in (t.0, ap EnumValue t.1)
 
   mutual
-    value_led : (x : NumberedValue) → HasPlaces r x → IsKnown n (renumbered r x) × (value_in n (renumbered r x) ≡ value_in m x)
+    value_led : (x : NumberedValue) → All (IsLedUse r) (value_uses x) → IsKnown n (renumbered r x) × (value_in n (renumbered r x) ≡ value_in m x)
     value_led (Plain l) h = (tt, refl)
-    value_led (Named x i) h = named_led x i h
+    value_led (Named x i) h = named_led x i (All-head (IsLedUse r) (use_of (kind_of_reference x) i) [] h)
     value_led (Array xs) h = let t = values_led xs h in (t.0, ap ArrayValue t.1)
     value_led (Annotated t es) h =
-        let typ = type_led t h.0 in
-        let elements = elements_led es h.1 in
+        let typ = type_led t (All-head (IsLedUse r) (use_of kinds.Typ t) (elements_uses es) h) in
+        let elements = elements_led es (All-tail (IsLedUse r) (use_of kinds.Typ t) (elements_uses es) h) in
         ((typ.0, elements.0), ap (λ (s : Text). AnnotationValue s (elements_in n (renumbered_elements r es))) typ.1 ∙ ap (AnnotationValue (type_at m t)) elements.1)
 
-    values_led : (xs : NumberedValues) → HavePlaces r xs → AreKnown n (renumbered_values r xs) × (values_in n (renumbered_values r xs) ≡ values_in m xs)
+    values_led : (xs : NumberedValues) → All (IsLedUse r) (values_uses xs) → AreKnown n (renumbered_values r xs) × (values_in n (renumbered_values r xs) ≡ values_in m xs)
     values_led NoValue h = (tt, refl)
     values_led (ThenNext x xs) h =
-        let first = value_led x h.0 in
-        let rest = values_led xs h.1 in
+        let first = value_led x (all_front (IsLedUse r) (value_uses x) (values_uses xs) h) in
+        let rest = values_led xs (all_back (IsLedUse r) (value_uses x) (values_uses xs) h) in
         ((first.0, rest.0), ap (λ (v : Value). ThenValue v (values_in n (renumbered_values r xs))) first.1 ∙ ap (ThenValue (value_in m x)) rest.1)
 
-    elements_led : (es : NumberedElements) → ElementsHavePlaces r es → HaveKnown n (renumbered_elements r es) × (elements_in n (renumbered_elements r es) ≡ elements_in m es)
+    elements_led : (es : NumberedElements) → All (IsLedUse r) (elements_uses es) → HaveKnown n (renumbered_elements r es) × (elements_in n (renumbered_elements r es) ≡ elements_in m es)
     elements_led NoElement h = (tt, refl)
     elements_led (ThenNamed name x es) h =
-        let named = text_led name h.0 in
-        let first = value_led x h.1 in
-        let rest = elements_led es h.2 in (
+        let named = text_led name (All-head (IsLedUse r) (use_of kinds.Text name) (value_uses x ++ elements_uses es) h) in
+        let behind = All-tail (IsLedUse r) (use_of kinds.Text name) (value_uses x ++ elements_uses es) h in
+        let first = value_led x (all_front (IsLedUse r) (value_uses x) (elements_uses es) behind) in
+        let rest = elements_led es (all_back (IsLedUse r) (value_uses x) (elements_uses es) behind) in (
           (named.0, first.0, rest.0),
           ap (λ (s : Text). ThenElement s (value_in n (renumbered r x)) (elements_in n (renumbered_elements r es))) named.1
               ∙ ap (λ (v : Value). ThenElement (text_at m name) v (elements_in n (renumbered_elements r es))) first.1
               ∙ ap (ThenElement (text_at m name) (value_in m x)) rest.1,
         )
 
-  annotation_led : (a : NumberedAnnotation) → AnnotationHasPlaces r a → IsKnownAnnotation n (renumbered_annotation r a) × (annotation_in n (renumbered_annotation r a) ≡ annotation_in m a)
+  annotation_led : (a : NumberedAnnotation) → All (IsLedUse r) (annotation_uses a) → IsKnownAnnotation n (renumbered_annotation r a) × (annotation_in n (renumbered_annotation r a) ≡ annotation_in m a)
   annotation_led a h =
-      let typ = type_led a.type h.type_leads in
-      let elements = elements_led a.elements h.elements_lead in (
+      let typ = type_led a.type (All-head (IsLedUse r) (use_of kinds.Typ a.type) (elements_uses a.elements) h) in
+      let elements = elements_led a.elements (All-tail (IsLedUse r) (use_of kinds.Typ a.type) (elements_uses a.elements) h) in (
         record { type_in = typ.0; elements_known = elements.0 },
         ap (λ (t : Text). annotation_with a.visibility t (elements_in n (renumbered_elements r a.elements))) typ.1 ∙ ap (annotation_with a.visibility (type_at m a.type)) elements.1,
       )
 
-  set_led : (xs : NumberedSet) → SetHasPlaces r xs → IsKnownSet n (renumbered_set r xs) × (set_in n (renumbered_set r xs) ≡ set_in m xs)
+  set_led : (xs : NumberedSet) → All (IsLedUse r) (set_uses xs) → IsKnownSet n (renumbered_set r xs) × (set_in n (renumbered_set r xs) ≡ set_in m xs)
   set_led [] h = (All-nil (IsKnownAnnotation n), refl)
   set_led (x ∷ xs) h =
-      let first = annotation_led x (All-head (AnnotationHasPlaces r) x xs h) in
-      let rest = set_led xs (All-tail (AnnotationHasPlaces r) x xs h) in
+      let first = annotation_led x (all_front (IsLedUse r) (annotation_uses x) (set_uses xs) h) in
+      let rest = set_led xs (all_back (IsLedUse r) (annotation_uses x) (set_uses xs) h) in
       (All-cons (IsKnownAnnotation n) (renumbered_annotation r x) (renumbered_set r xs) first.0 rest.0, ap (λ (a : Annotation). a ∷ set_in n (renumbered_set r xs)) first.1 ∙ ap (λ (l : AnnotationSet). annotation_in m x ∷ l) rest.1)
 
--- ---- places
-
-some_of : (o : Option ℕ) → IsSome o → (j : ℕ) × (o ≡ Some j)
-some_of None h = absurd cc
-some_of (Some j) h = (j, refl)
-
-module _ (m n : Mentions) (r : Maps) (leads : AllLead m n r) where
-  image_within : (kind : SymbolKind) (i j : ℕ) → image_of r kind i ≡ Some j → j < count_of kind n
-  image_within kinds.Text i j e = (leads.texts_lead.same i j [] e).within
-  image_within kinds.Typ i j e = (leads.types_lead.same i j [] e).within
-  image_within kinds.Proto i j e = (leads.protos_lead.same i j (record { return_type = []; parameters = [] }) e).within
-  image_within kinds.Field i j e = (leads.fields_lead.same i j no_field e).within
-  image_within kinds.Method i j e = (leads.methods_lead.same i j no_method e).within
-
-module _ (m n : Mentions) (r : Maps) (leads : AllLead m n r) (all : LeadsAll m r) (few : (kind : SymbolKind) → count_of kind n ≤ 2 ^ 32) where
-  leads_on : (kind : SymbolKind) (i : ℕ) → i < count_of kind m → LeadsOn r kind i
-  leads_on kind i lt =
-      let some = some_of (image_of r kind i) (all kind i lt) in
-      let room = few kind in
-      let within = image_within m n r leads kind i some.0 some.1 in
-      (some.0, some.1, omega (arith, within, room))
-
-  mutual
-    value_placed : (x : NumberedValue) → IsKnown m x → HasPlaces r x
-    value_placed (Plain l) h = tt
-    value_placed (Named x i) h = leads_on (kind_of_reference x) i h
-    value_placed (Array xs) h = values_placed xs h
-    value_placed (Annotated t es) h = (leads_on kinds.Typ t h.0, elements_placed es h.1)
-
-    values_placed : (xs : NumberedValues) → AreKnown m xs → HavePlaces r xs
-    values_placed NoValue h = tt
-    values_placed (ThenNext x xs) h = (value_placed x h.0, values_placed xs h.1)
-
-    elements_placed : (es : NumberedElements) → HaveKnown m es → ElementsHavePlaces r es
-    elements_placed NoElement h = tt
-    elements_placed (ThenNamed name x es) h = (leads_on kinds.Text name h.0, value_placed x h.1, elements_placed es h.2)
-
-  annotation_placed : (a : NumberedAnnotation) → IsKnownAnnotation m a → AnnotationHasPlaces r a
-  annotation_placed a h = record { type_leads = leads_on kinds.Typ a.type h.type_in; elements_lead = elements_placed a.elements h.elements_known }
-
-  set_placed : (xs : NumberedSet) → IsKnownSet m xs → SetHasPlaces r xs
-  set_placed [] h = All-nil (AnnotationHasPlaces r)
-  set_placed (x ∷ xs) h = All-cons (AnnotationHasPlaces r) x xs (annotation_placed x (All-head (IsKnownAnnotation m) x xs h)) (set_placed xs (All-tail (IsKnownAnnotation m) x xs h))
-
--- each number of a value leads to one of 32 bits
-pub value_has_places : (m n : Mentions) (r : Maps) (x : NumberedValue) → AllLead m n r → LeadsAll m r → ((kind : SymbolKind) → count_of kind n ≤ 2 ^ 32) → IsKnown m x → HasPlaces r x
-value_has_places m n r x leads all few known = value_placed m n r leads all few x known
-
-pub values_have_places : (m n : Mentions) (r : Maps) (xs : NumberedValues) → AllLead m n r → LeadsAll m r → ((kind : SymbolKind) → count_of kind n ≤ 2 ^ 32) → AreKnown m xs → HavePlaces r xs
-values_have_places m n r xs leads all few known = values_placed m n r leads all few xs known
-
-pub set_has_places : (m n : Mentions) (r : Maps) (xs : NumberedSet) → AllLead m n r → LeadsAll m r → ((kind : SymbolKind) → count_of kind n ≤ 2 ^ 32) → IsKnownSet m xs → SetHasPlaces r xs
-set_has_places m n r xs leads all few known = set_placed m n r leads all few xs known
-
 -- a value stands for what it stood for
-pub value_keeps : (m n : Mentions) (r : Maps) (x : NumberedValue) (v : Value) → AllLead m n r → HasPlaces r x → StandsFor m x v → StandsFor n (renumbered r x) v
-value_keeps m n r x v leads places h = let t = value_led m n r leads x places in record { known = t.0; means = t.1 ∙ h.means }
+pub value_keeps : (m n : Mentions) (r : Maps) (x : NumberedValue) (v : Value) → AllLead m n r → All (IsLedUse r) (value_uses x) → StandsFor m x v → StandsFor n (renumbered r x) v
+value_keeps m n r x v leads images h = let t = value_led m n r leads x images in record { known = t.0; means = t.1 ∙ h.means }
 
 -- values
-pub values_keep : (m n : Mentions) (r : Maps) (xs : NumberedValues) (vs : Values) → AllLead m n r → HavePlaces r xs → StandFor m xs vs → StandFor n (renumbered_values r xs) vs
-values_keep m n r xs vs leads places h = let t = values_led m n r leads xs places in record { known = t.0; mean = t.1 ∙ h.mean }
+pub values_keep : (m n : Mentions) (r : Maps) (xs : NumberedValues) (vs : Values) → AllLead m n r → All (IsLedUse r) (values_uses xs) → StandFor m xs vs → StandFor n (renumbered_values r xs) vs
+values_keep m n r xs vs leads images h = let t = values_led m n r leads xs images in record { known = t.0; mean = t.1 ∙ h.mean }
 
 -- a set
-pub set_keeps : (m n : Mentions) (r : Maps) (xs : NumberedSet) (s : AnnotationSet) → AllLead m n r → SetHasPlaces r xs → StandsForSet m xs s → StandsForSet n (renumbered_set r xs) s
-set_keeps m n r xs s leads places h = let t = set_led m n r leads xs places in record { known = t.0; means = t.1 ∙ h.means }
+pub set_keeps : (m n : Mentions) (r : Maps) (xs : NumberedSet) (s : AnnotationSet) → AllLead m n r → All (IsLedUse r) (set_uses xs) → StandsForSet m xs s → StandsForSet n (renumbered_set r xs) s
+set_keeps m n r xs s leads images h = let t = set_led m n r leads xs images in record { known = t.0; means = t.1 ∙ h.means }
 
 -- ---- the symbols that occur
 

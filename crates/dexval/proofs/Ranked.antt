@@ -1,6 +1,6 @@
 -- Numbers are determined by what they stand for: each is the rank of its symbol.
 use Rattle.std.proofs.Common.{◌≡◌, ℕ, [], ◌∷◌, map, refl, ap, sym, ◌∙◌, subst}
-use Rattle.std.specs.Prelude.{◌↔◌}
+use Rattle.std.specs.Prelude.{◌↔◌, All}
 use Rattle.std.proofs.lemmas.List.Elements.{All-head, All-tail}
 use Rattle.dexspec.specs.Lists.{rank}
 use Rattle.dexspec.specs.Texts.{text_cmp}
@@ -10,8 +10,10 @@ use Rattle.dexspec.specs.Annotations.{Annotation, AnnotationSet}
 use Rattle.dexspec.specs.Mentions.{Mentions}
 use Rattle.dexpool.specs.Laws.{RanksAreNumbers}
 use Rattle.dexpool.specs.Numberings.{Maps, AllLead}
+use Rattle.dexpool.specs.Uses.{IsLedUse}
 use Rattle.dexval.specs.Numbered.{Literal, ByteLiteral, ShortLiteral, CharLiteral, IntLiteral, LongLiteral, FloatLiteral, DoubleLiteral, NullLiteral, BooleanLiteral, Reference, StringReference, TypeReference, FieldReference, MethodReference, EnumReference, NumberedValue, NumberedValues, NumberedElements, NumberedAnnotation, NumberedSet, Plain, Named, Array, Annotated, NoValue, ThenNext, NoElement, ThenNamed, plain_value, named_value, value_in, values_in, elements_in, annotation_in, set_in, IsKnown, AreKnown, HaveKnown, IsKnownAnnotation, IsKnownSet, StandsFor, StandFor, StandsForSet}
-use Rattle.dexval.specs.Renumbering.{renumbered, renumbered_values, renumbered_set, HasPlaces, HavePlaces, SetHasPlaces}
+use Rattle.dexval.specs.Renumbering.{renumbered, renumbered_values, renumbered_set}
+use Rattle.dexval.specs.Uses.{value_uses, values_uses, set_uses}
 use Rattle.dexval.proofs.Meanings.{value_keeps, values_keep, set_keeps}
 
 -- ---- values with the rank of each symbol in its place
@@ -111,26 +113,26 @@ module _ (m : Mentions) (ranks : RanksAreNumbers m) where
 -- ---- values of two numberings, led to a third
 
 module _ (m n whole : Mentions) (r s : Maps) (ranks : RanksAreNumbers whole) (from_first : AllLead m whole r) (from_second : AllLead n whole s) where
-  pub same_value : (x y : NumberedValue) (v w : Value) → HasPlaces r x → HasPlaces s y → StandsFor m x v → StandsFor n y w → (renumbered r x ≡ renumbered s y) ↔ (v ≡ w)
-  same_value x y v w places places' h k =
-      let mine = value_keeps m whole r x v from_first places h in
-      let theirs = value_keeps n whole s y w from_second places' k in (
+  pub same_value : (x y : NumberedValue) (v w : Value) → All (IsLedUse r) (value_uses x) → All (IsLedUse s) (value_uses y) → StandsFor m x v → StandsFor n y w → (renumbered r x ≡ renumbered s y) ↔ (v ≡ w)
+  same_value x y v w images images' h k =
+      let mine = value_keeps m whole r x v from_first images h in
+      let theirs = value_keeps n whole s y w from_second images' k in (
         (λ e. sym mine.means ∙ ap (value_in whole) e ∙ theirs.means),
         (λ e. one_value whole ranks (renumbered r x) (renumbered s y) w (subst (StandsFor whole (renumbered r x)) e mine) theirs),
       )
 
-  pub same_values : (xs ys : NumberedValues) (vs ws : Values) → HavePlaces r xs → HavePlaces s ys → StandFor m xs vs → StandFor n ys ws → (renumbered_values r xs ≡ renumbered_values s ys) ↔ (vs ≡ ws)
-  same_values xs ys vs ws places places' h k =
-      let mine = values_keep m whole r xs vs from_first places h in
-      let theirs = values_keep n whole s ys ws from_second places' k in (
+  pub same_values : (xs ys : NumberedValues) (vs ws : Values) → All (IsLedUse r) (values_uses xs) → All (IsLedUse s) (values_uses ys) → StandFor m xs vs → StandFor n ys ws → (renumbered_values r xs ≡ renumbered_values s ys) ↔ (vs ≡ ws)
+  same_values xs ys vs ws images images' h k =
+      let mine = values_keep m whole r xs vs from_first images h in
+      let theirs = values_keep n whole s ys ws from_second images' k in (
         (λ e. sym mine.mean ∙ ap (values_in whole) e ∙ theirs.mean),
         (λ e. one_list whole ranks (renumbered_values r xs) (renumbered_values s ys) ws (subst (StandFor whole (renumbered_values r xs)) e mine) theirs),
       )
 
-  pub same_set : (xs ys : NumberedSet) (a b : AnnotationSet) → SetHasPlaces r xs → SetHasPlaces s ys → StandsForSet m xs a → StandsForSet n ys b → (renumbered_set r xs ≡ renumbered_set s ys) ↔ (a ≡ b)
-  same_set xs ys a b places places' h k =
-      let mine = set_keeps m whole r xs a from_first places h in
-      let theirs = set_keeps n whole s ys b from_second places' k in (
+  pub same_set : (xs ys : NumberedSet) (a b : AnnotationSet) → All (IsLedUse r) (set_uses xs) → All (IsLedUse s) (set_uses ys) → StandsForSet m xs a → StandsForSet n ys b → (renumbered_set r xs ≡ renumbered_set s ys) ↔ (a ≡ b)
+  same_set xs ys a b images images' h k =
+      let mine = set_keeps m whole r xs a from_first images h in
+      let theirs = set_keeps n whole s ys b from_second images' k in (
         (λ e. sym mine.means ∙ ap (set_in whole) e ∙ theirs.means),
         (λ e. one_set whole ranks (renumbered_set r xs) (renumbered_set s ys) b (subst (StandsForSet whole (renumbered_set r xs)) e mine) theirs),
       )

@@ -39,12 +39,18 @@ renumbered_annotation r a = record { visibility = a.visibility; type = led r kin
 abbrev pub renumbered_set : Maps → NumberedSet → NumberedSet
 renumbered_set r s = map (renumbered_annotation r) s
 
--- the number leads to one of 32 bits
+-- ---- where numbers lead
+
+-- numbers of 32 bits lead to such
+abbrev pub LeadsNarrow : Maps → Type 0
+LeadsNarrow r = (kind : SymbolKind) (i j : ℕ) → image_of r kind i ≡ Some j → i < 2 ^ 32 → j < 2 ^ 32
+
+-- The number leads to one, of 32 bits where it is of 32 bits itself, as each number of the code is.
 abbrev pub LeadsOn : Maps → SymbolKind → ℕ → Type 0
-LeadsOn r kind i = (j : ℕ) × (image_of r kind i ≡ Some j) × (j < 2 ^ 32)
+LeadsOn r kind i = (j : ℕ) × (image_of r kind i ≡ Some j) × (i < 2 ^ 32 → j < 2 ^ 32)
 
 abbrev mutual
-  -- each number of the value leads to one of 32 bits
+  -- each number of the value leads on so
   pub HasPlaces : Maps → NumberedValue → Type 0
   HasPlaces r (Plain literal) = Unit {0}
   HasPlaces r (Named reference i) = LeadsOn r (kind_of_reference reference) i

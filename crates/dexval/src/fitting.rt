@@ -10,7 +10,7 @@ use crate::set::AnnotationSet;
 use crate::value::{Element, Value};
 use dexpool::{Remap, SymbolKind};
 
-// Whether a number leads to one of 32 bits.
+// Whether a number leads to one, below 2^32.
 fn leads_on(remap: &Remap, kind: SymbolKind, number: u32) -> bool
     ensures { IsTrue result ↔ LeadsOn remap.now kind number }
 {

@@ -2,29 +2,30 @@
 //! it.
 
 ghost use Rattle.std.specs.Prelude.{◌≡◌, ◌↔◌, ℕ, ◌+◌, ◌^◌, ◌<◌, ◌≤◌, All, List, length};
-ghost use Rattle.std.specs.List.{AllZip};
+ghost use Rattle.std.specs.List.{AllZip, flat_map};
 ghost use Rattle.dexspec.specs.Annotations.{AnnotationSet as SetMeant};
 ghost use Rattle.dexspec.specs.Mentions.{Mentions, value_symbols, values_symbols, set_symbols};
 ghost use Rattle.dexspec.specs.Values.{Value as ValueMeant, Values as ValuesMeant};
 ghost use Rattle.dexspec.specs.Weight.{value_weight, static_values_weight, annotation_weight, set_weight};
 ghost use Rattle.dexpool.specs.Numberings.{AreMarksOf, AreRising, Maps, AllLead};
-ghost use Rattle.dexpool.specs.Laws.{LeadsAll};
+ghost use Rattle.dexpool.specs.Laws.{LeadsAll, LeadsWithin};
+ghost use Rattle.dexpool.specs.Orderly.{LeadDown};
 ghost use Rattle.dexpool.specs.Pools.{count_of};
 ghost use Rattle.dexpool.specs.declared.marks.Marks.{Marks};
 ghost use Rattle.dexpool.specs.declared.symbols.SymbolKind.{SymbolKind};
 ghost use Rattle.dexval.specs.Numbered.{NumberedValue, NumberedValues, NumberedAnnotation, NumberedSet, value_in, values_in, annotation_in, set_in, values_of_list, IsKnown, AreKnown, IsKnownSet, StandsFor, StandFor, StandsForSet};
-ghost use Rattle.dexval.specs.Renumbering.{renumbered, renumbered_values, renumbered_set, HasPlaces, HavePlaces, SetHasPlaces};
+ghost use Rattle.dexval.specs.Renumbering.{renumbered, renumbered_values, renumbered_set, LeadsNarrow, HasPlaces, HavePlaces, AnnotationHasPlaces, SetHasPlaces};
 ghost use Rattle.dexval.specs.Spelled.{IsCounted, AreCounted, IsCountedAnnotation, numbered_offsets};
-ghost use Rattle.dexpool.specs.Uses.{IsUseOf, HasMark};
-ghost use Rattle.dexval.specs.Uses.{value_uses, values_uses, set_uses};
+ghost use Rattle.dexpool.specs.Uses.{IsUseOf, IsLedUse, HasMark};
+ghost use Rattle.dexval.specs.Uses.{value_uses, values_uses, annotation_uses, set_uses};
 
-use dexpool::number_law;
+use dexpool::{number_law, within_law};
 
-/// Under other numbers a value, values and a set stand for what they stood for.
+/// Under other numbers, where each number leads somewhere, a value, values and a set stand for what they stood for.
 pub fn renumber_law()
-    ensures value { (m n : Mentions) (r : Maps) (x : NumberedValue) (v : ValueMeant) → AllLead m n r → HasPlaces r x → StandsFor m x v → StandsFor n (renumbered r x) v }
-    ensures values { (m n : Mentions) (r : Maps) (xs : NumberedValues) (vs : ValuesMeant) → AllLead m n r → HavePlaces r xs → StandFor m xs vs → StandFor n (renumbered_values r xs) vs }
-    ensures set { (m n : Mentions) (r : Maps) (xs : NumberedSet) (s : SetMeant) → AllLead m n r → SetHasPlaces r xs → StandsForSet m xs s → StandsForSet n (renumbered_set r xs) s }
+    ensures value { (m n : Mentions) (r : Maps) (x : NumberedValue) (v : ValueMeant) → AllLead m n r → All (IsLedUse r) (value_uses x) → StandsFor m x v → StandsFor n (renumbered r x) v }
+    ensures values { (m n : Mentions) (r : Maps) (xs : NumberedValues) (vs : ValuesMeant) → AllLead m n r → All (IsLedUse r) (values_uses xs) → StandFor m xs vs → StandFor n (renumbered_values r xs) vs }
+    ensures set { (m n : Mentions) (r : Maps) (xs : NumberedSet) (s : SetMeant) → AllLead m n r → All (IsLedUse r) (set_uses xs) → StandsForSet m xs s → StandsForSet n (renumbered_set r xs) s }
 {}
 
 /// The symbols that occur are those of what the numbers stand for, one for one and in their order.
@@ -41,13 +42,39 @@ pub fn marks_law()
     ensures set { (m : Mentions) (marks : Marks) (xs : NumberedSet) → AreMarksOf m marks → IsKnownSet m xs → All (HasMark marks) (set_uses xs) }
 {}
 
+/// In a map that has an image for each number, the numbers of a value, of values and of a set lead somewhere. Those that
+/// may be led on lead somewhere.
+pub fn images_law()
+    ensures value { (m : Mentions) (r : Maps) (x : NumberedValue) → LeadsAll m r → IsKnown m x → All (IsLedUse r) (value_uses x) }
+    ensures values { (m : Mentions) (r : Maps) (xs : NumberedValues) → LeadsAll m r → AreKnown m xs → All (IsLedUse r) (values_uses xs) }
+    ensures set { (m : Mentions) (r : Maps) (xs : NumberedSet) → LeadsAll m r → IsKnownSet m xs → All (IsLedUse r) (set_uses xs) }
+    ensures placed_value { (r : Maps) (x : NumberedValue) → HasPlaces r x → All (IsLedUse r) (value_uses x) }
+    ensures placed_values { (r : Maps) (xs : NumberedValues) → HavePlaces r xs → All (IsLedUse r) (values_uses xs) }
+    ensures placed_set { (r : Maps) (xs : NumberedSet) → SetHasPlaces r xs → All (IsLedUse r) (set_uses xs) }
+{}
+
+/// Numbers of 32 bits lead to such in a map that leads to none greater, as one into a part does, and in a map into a
+/// numbering of at most 2^32 symbols of each kind, as a join may be. Each number of the code has 32 bits: so in such a
+/// map a value, values, an annotation, a set and sets may be led on where each of their numbers leads somewhere.
+pub fn narrow_law()
+    ensures cut { (r : Maps) → LeadDown r → LeadsNarrow r }
+    ensures join { (n : Mentions) (r : Maps) → LeadsWithin n r → ((kind : SymbolKind) → count_of kind n ≤ 2 ^ 32) → LeadsNarrow r }
+    ensures value { (r : Maps) (x : NumberedValue) → LeadsNarrow r → All (IsLedUse r) (value_uses x) → HasPlaces r x }
+    ensures values { (r : Maps) (xs : NumberedValues) → LeadsNarrow r → All (IsLedUse r) (values_uses xs) → HavePlaces r xs }
+    ensures annotation { (r : Maps) (a : NumberedAnnotation) → LeadsNarrow r → All (IsLedUse r) (annotation_uses a) → AnnotationHasPlaces r a }
+    ensures set { (r : Maps) (xs : NumberedSet) → LeadsNarrow r → All (IsLedUse r) (set_uses xs) → SetHasPlaces r xs }
+    ensures sets { (r : Maps) (ss : List NumberedSet) → LeadsNarrow r → All (IsLedUse r) (flat_map set_uses ss) → All (SetHasPlaces r) ss }
+{}
+
 /// Where each number leads somewhere, as those of a part do when numberings are joined, and no kind has more than 2^32
-/// symbols, each number of a value, of values and of a set leads to one of 32 bits.
+/// symbols, a value, values and a set may be led on.
 pub fn places_law()
     ensures value { (m n : Mentions) (r : Maps) (x : NumberedValue) → AllLead m n r → LeadsAll m r → ((kind : SymbolKind) → count_of kind n ≤ 2 ^ 32) → IsKnown m x → HasPlaces r x }
     ensures values { (m n : Mentions) (r : Maps) (xs : NumberedValues) → AllLead m n r → LeadsAll m r → ((kind : SymbolKind) → count_of kind n ≤ 2 ^ 32) → AreKnown m xs → HavePlaces r xs }
     ensures set { (m n : Mentions) (r : Maps) (xs : NumberedSet) → AllLead m n r → LeadsAll m r → ((kind : SymbolKind) → count_of kind n ≤ 2 ^ 32) → IsKnownSet m xs → SetHasPlaces r xs }
-{}
+{
+    within_law();
+}
 
 /// What weighs less than 2^32 has few enough members to be put: a value, static values, an annotation, and each
 /// annotation of a set. A set may be put from an offset on with which it weighs less than 2^32 together.
@@ -59,12 +86,12 @@ pub fn counts_law()
     ensures offsets { (m : Mentions) (first : ℕ) (s : NumberedSet) → first + set_weight (set_in m s) < 2 ^ 32 → All (λ offset. offset < 2 ^ 32) (numbered_offsets first s) }
 {}
 
-/// Values, lists of values and sets of two numberings, led to a third, are the same there just where they stand for the
-/// same.
+/// Values, lists of values and sets of two numberings, led to a third in which each of their numbers leads somewhere, are
+/// the same there just where they stand for the same.
 pub fn same_law()
-    ensures value { (m n whole : Mentions) (r s : Maps) (x y : NumberedValue) (v w : ValueMeant) → AreRising whole → AllLead m whole r → AllLead n whole s → HasPlaces r x → HasPlaces s y → StandsFor m x v → StandsFor n y w → (renumbered r x ≡ renumbered s y) ↔ (v ≡ w) }
-    ensures values { (m n whole : Mentions) (r s : Maps) (xs ys : NumberedValues) (vs ws : ValuesMeant) → AreRising whole → AllLead m whole r → AllLead n whole s → HavePlaces r xs → HavePlaces s ys → StandFor m xs vs → StandFor n ys ws → (renumbered_values r xs ≡ renumbered_values s ys) ↔ (vs ≡ ws) }
-    ensures set { (m n whole : Mentions) (r s : Maps) (xs ys : NumberedSet) (a b : SetMeant) → AreRising whole → AllLead m whole r → AllLead n whole s → SetHasPlaces r xs → SetHasPlaces s ys → StandsForSet m xs a → StandsForSet n ys b → (renumbered_set r xs ≡ renumbered_set s ys) ↔ (a ≡ b) }
+    ensures value { (m n whole : Mentions) (r s : Maps) (x y : NumberedValue) (v w : ValueMeant) → AreRising whole → AllLead m whole r → AllLead n whole s → All (IsLedUse r) (value_uses x) → All (IsLedUse s) (value_uses y) → StandsFor m x v → StandsFor n y w → (renumbered r x ≡ renumbered s y) ↔ (v ≡ w) }
+    ensures values { (m n whole : Mentions) (r s : Maps) (xs ys : NumberedValues) (vs ws : ValuesMeant) → AreRising whole → AllLead m whole r → AllLead n whole s → All (IsLedUse r) (values_uses xs) → All (IsLedUse s) (values_uses ys) → StandFor m xs vs → StandFor n ys ws → (renumbered_values r xs ≡ renumbered_values s ys) ↔ (vs ≡ ws) }
+    ensures set { (m n whole : Mentions) (r s : Maps) (xs ys : NumberedSet) (a b : SetMeant) → AreRising whole → AllLead m whole r → AllLead n whole s → All (IsLedUse r) (set_uses xs) → All (IsLedUse s) (set_uses ys) → StandsForSet m xs a → StandsForSet n ys b → (renumbered_set r xs ≡ renumbered_set s ys) ↔ (a ≡ b) }
 {
     number_law();
 }

@@ -10,7 +10,9 @@ pub use annotation::{Annotation, Visibility};
 pub use directory::Directory;
 pub use directory_reading::{read_directory, read_directory_within};
 pub use fitting::values_fit;
-pub use laws::{counts_law, marks_law, places_law, renumber_law, same_law, uses_law};
+pub use laws::{
+    counts_law, images_law, marks_law, narrow_law, places_law, renumber_law, same_law, uses_law,
+};
 pub use marking::mark_values;
 pub use put::{put_annotation, put_statics, put_value};
 pub use renumbering::renumber_values;

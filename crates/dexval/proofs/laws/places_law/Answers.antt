@@ -1,5 +1,9 @@
-use Rattle.dexval.proofs.Meanings.{value_has_places, values_have_places, set_has_places}
+use Rattle.dexval.proofs.Images.{value_has_places, values_have_places, set_has_places}
 use Rattle.dexval.proofs.laws.places_law.Goals as goal
 
 pub returns : goal.returns
-returns c = record { value = value_has_places; values = values_have_places; set = set_has_places }
+returns c = record {
+  value = λ m n r x leads. value_has_places m n r x (c.within_law.ensures m n r leads);
+  values = λ m n r xs leads. values_have_places m n r xs (c.within_law.ensures m n r leads);
+  set = λ m n r xs leads. set_has_places m n r xs (c.within_law.ensures m n r leads);
+}

@@ -1,0 +1,146 @@
+-- Where the numbers in values lead: all that occur, in a map that has an image for each, and to ones of 32 bits.
+use Rattle.std.proofs.Common.{◌≡◌, ℕ, ◌^◌, ◌≤◌, List, [], ◌∷◌, ◌++◌, Option, Some, None, refl, sym, subst, arith}
+use Rattle.std.specs.Prelude.{IsSome}
+use Rattle.std.specs.List.{All, flat_map}
+use Rattle.std.proofs.lemmas.List.Elements.{All-nil, All-cons, All-head, All-tail, All-append}
+use Rattle.dexspec.specs.Mentions.{Mentions}
+use Rattle.dexpool.specs.declared.symbols.SymbolKind.{SymbolKind}
+use Rattle.dexpool.specs.declared.symbols.SymbolKind.TheVariants as kinds
+use Rattle.dexpool.specs.Laws.{LeadsAll, LeadsWithin}
+use Rattle.dexpool.specs.Numberings.{Maps, image_of}
+use Rattle.dexpool.specs.Orderly.{LeadDown}
+use Rattle.dexpool.specs.Pools.{count_of}
+use Rattle.dexpool.specs.Uses.{Use, IsLedUse}
+use Rattle.dexval.specs.Numbered.{NumberedValue, NumberedValues, NumberedElements, NumberedAnnotation, NumberedSet, Plain, Named, Array, Annotated, NoValue, ThenNext, NoElement, ThenNamed, kind_of_reference, IsKnown, AreKnown, HaveKnown, IsKnownAnnotation, IsKnownSet}
+use Rattle.dexval.specs.Renumbering.{LeadsNarrow, LeadsOn, HasPlaces, HavePlaces, ElementsHavePlaces, AnnotationHasPlaces, SetHasPlaces}
+use Rattle.dexval.specs.Uses.{value_uses, values_uses, elements_uses, annotation_uses, set_uses}
+use Rattle.dexval.proofs.Marked.{all_front, all_back}
+
+-- a symbol that occurs
+abbrev use_of : SymbolKind → ℕ → Use
+use_of kind i = record { kind = kind; number = i }
+
+-- ---- maps whose numbers of 32 bits lead to such
+
+pub cut_within : (r : Maps) → LeadDown r → LeadsNarrow r
+cut_within r down kind i j e lt = omega (arith, down kind i j e, lt)
+
+pub join_within : (n : Mentions) (r : Maps) → LeadsWithin n r → ((kind : SymbolKind) → count_of kind n ≤ 2 ^ 32) → LeadsNarrow r
+join_within n r within few kind i j e lt = omega (arith, within kind i j e, few kind)
+
+-- ---- from images to places
+
+some_of : (o : Option ℕ) → IsSome o → (j : ℕ) × (o ≡ Some j)
+some_of None h = absurd cc
+some_of (Some j) h = (j, refl)
+
+module _ (r : Maps) (within : LeadsNarrow r) where
+  leads_on : (kind : SymbolKind) (i : ℕ) → IsSome (image_of r kind i) → LeadsOn r kind i
+  leads_on kind i h = let at = some_of (image_of r kind i) h in (at.0, at.1, λ lt. within kind i at.0 at.1 lt)
+
+  first_on : (kind : SymbolKind) (i : ℕ) (us : List Use) → All (IsLedUse r) (use_of kind i ∷ us) → LeadsOn r kind i
+  first_on kind i us h = leads_on kind i (All-head (IsLedUse r) (use_of kind i) us h)
+
+  mutual
+    pub value_placed : (x : NumberedValue) → All (IsLedUse r) (value_uses x) → HasPlaces r x
+    value_placed (Plain l) h = tt
+    value_placed (Named x i) h = first_on (kind_of_reference x) i [] h
+    value_placed (Array xs) h = values_placed xs h
+    value_placed (Annotated t es) h = (first_on kinds.Typ t (elements_uses es) h, elements_placed es (All-tail (IsLedUse r) (use_of kinds.Typ t) (elements_uses es) h))
+
+    pub values_placed : (xs : NumberedValues) → All (IsLedUse r) (values_uses xs) → HavePlaces r xs
+    values_placed NoValue h = tt
+    values_placed (ThenNext x xs) h = (value_placed x (all_front (IsLedUse r) (value_uses x) (values_uses xs) h), values_placed xs (all_back (IsLedUse r) (value_uses x) (values_uses xs) h))
+
+    elements_placed : (es : NumberedElements) → All (IsLedUse r) (elements_uses es) → ElementsHavePlaces r es
+    elements_placed NoElement h = tt
+    elements_placed (ThenNamed name x es) h =
+        let behind = All-tail (IsLedUse r) (use_of kinds.Text name) (value_uses x ++ elements_uses es) h in (
+          first_on kinds.Text name (value_uses x ++ elements_uses es) h,
+          value_placed x (all_front (IsLedUse r) (value_uses x) (elements_uses es) behind),
+          elements_placed es (all_back (IsLedUse r) (value_uses x) (elements_uses es) behind),
+        )
+
+  pub annotation_placed : (a : NumberedAnnotation) → All (IsLedUse r) (annotation_uses a) → AnnotationHasPlaces r a
+  annotation_placed a h = record {
+    type_leads = first_on kinds.Typ a.type (elements_uses a.elements) h;
+    elements_lead = elements_placed a.elements (All-tail (IsLedUse r) (use_of kinds.Typ a.type) (elements_uses a.elements) h);
+  }
+
+  pub set_placed : (xs : NumberedSet) → All (IsLedUse r) (set_uses xs) → SetHasPlaces r xs
+  set_placed [] h = All-nil (AnnotationHasPlaces r)
+  set_placed (x ∷ xs) h =
+      All-cons (AnnotationHasPlaces r) x xs (annotation_placed x (all_front (IsLedUse r) (annotation_uses x) (set_uses xs) h)) (set_placed xs (all_back (IsLedUse r) (annotation_uses x) (set_uses xs) h))
+
+  pub sets_placed : (ss : List NumberedSet) → All (IsLedUse r) (flat_map set_uses ss) → All (SetHasPlaces r) ss
+  sets_placed [] h = All-nil (SetHasPlaces r)
+  sets_placed (s ∷ ss) h = All-cons (SetHasPlaces r) s ss (set_placed s (all_front (IsLedUse r) (set_uses s) (flat_map set_uses ss) h)) (sets_placed ss (all_back (IsLedUse r) (set_uses s) (flat_map set_uses ss) h))
+
+-- ---- from places to images
+
+module _ (r : Maps) where
+  has_image : (kind : SymbolKind) (i : ℕ) → LeadsOn r kind i → IsLedUse r (use_of kind i)
+  has_image kind i h = subst IsSome (sym h.1) refl
+
+  mutual
+    pub value_led_somewhere : (x : NumberedValue) → HasPlaces r x → All (IsLedUse r) (value_uses x)
+    value_led_somewhere (Plain l) h = All-nil (IsLedUse r)
+    value_led_somewhere (Named x i) h = All-cons (IsLedUse r) (use_of (kind_of_reference x) i) [] (has_image (kind_of_reference x) i h) (All-nil (IsLedUse r))
+    value_led_somewhere (Array xs) h = values_led_somewhere xs h
+    value_led_somewhere (Annotated t es) h = All-cons (IsLedUse r) (use_of kinds.Typ t) (elements_uses es) (has_image kinds.Typ t h.0) (elements_led_somewhere es h.1)
+
+    pub values_led_somewhere : (xs : NumberedValues) → HavePlaces r xs → All (IsLedUse r) (values_uses xs)
+    values_led_somewhere NoValue h = All-nil (IsLedUse r)
+    values_led_somewhere (ThenNext x xs) h = All-append (IsLedUse r) (value_uses x) (values_uses xs) (value_led_somewhere x h.0) (values_led_somewhere xs h.1)
+
+    elements_led_somewhere : (es : NumberedElements) → ElementsHavePlaces r es → All (IsLedUse r) (elements_uses es)
+    elements_led_somewhere NoElement h = All-nil (IsLedUse r)
+    elements_led_somewhere (ThenNamed name x es) h =
+        All-cons (IsLedUse r) (use_of kinds.Text name) (value_uses x ++ elements_uses es) (has_image kinds.Text name h.0)
+        (All-append (IsLedUse r) (value_uses x) (elements_uses es) (value_led_somewhere x h.1) (elements_led_somewhere es h.2))
+
+  annotation_led_somewhere : (a : NumberedAnnotation) → AnnotationHasPlaces r a → All (IsLedUse r) (annotation_uses a)
+  annotation_led_somewhere a h = All-cons (IsLedUse r) (use_of kinds.Typ a.type) (elements_uses a.elements) (has_image kinds.Typ a.type h.type_leads) (elements_led_somewhere a.elements h.elements_lead)
+
+  pub set_led_somewhere : (xs : NumberedSet) → SetHasPlaces r xs → All (IsLedUse r) (set_uses xs)
+  set_led_somewhere [] h = All-nil (IsLedUse r)
+  set_led_somewhere (x ∷ xs) h =
+      All-append (IsLedUse r) (annotation_uses x) (set_uses xs) (annotation_led_somewhere x (All-head (AnnotationHasPlaces r) x xs h)) (set_led_somewhere xs (All-tail (AnnotationHasPlaces r) x xs h))
+
+-- ---- numbers of symbols, in a map that has an image for each
+
+module _ (m : Mentions) (r : Maps) (all : LeadsAll m r) where
+  mutual
+    pub known_value_led : (x : NumberedValue) → IsKnown m x → All (IsLedUse r) (value_uses x)
+    known_value_led (Plain l) h = All-nil (IsLedUse r)
+    known_value_led (Named x i) h = All-cons (IsLedUse r) (use_of (kind_of_reference x) i) [] (all (kind_of_reference x) i h) (All-nil (IsLedUse r))
+    known_value_led (Array xs) h = known_values_led xs h
+    known_value_led (Annotated t es) h = All-cons (IsLedUse r) (use_of kinds.Typ t) (elements_uses es) (all kinds.Typ t h.0) (known_elements_led es h.1)
+
+    pub known_values_led : (xs : NumberedValues) → AreKnown m xs → All (IsLedUse r) (values_uses xs)
+    known_values_led NoValue h = All-nil (IsLedUse r)
+    known_values_led (ThenNext x xs) h = All-append (IsLedUse r) (value_uses x) (values_uses xs) (known_value_led x h.0) (known_values_led xs h.1)
+
+    known_elements_led : (es : NumberedElements) → HaveKnown m es → All (IsLedUse r) (elements_uses es)
+    known_elements_led NoElement h = All-nil (IsLedUse r)
+    known_elements_led (ThenNamed name x es) h =
+        All-cons (IsLedUse r) (use_of kinds.Text name) (value_uses x ++ elements_uses es) (all kinds.Text name h.0)
+        (All-append (IsLedUse r) (value_uses x) (elements_uses es) (known_value_led x h.1) (known_elements_led es h.2))
+
+  known_annotation_led : (a : NumberedAnnotation) → IsKnownAnnotation m a → All (IsLedUse r) (annotation_uses a)
+  known_annotation_led a h = All-cons (IsLedUse r) (use_of kinds.Typ a.type) (elements_uses a.elements) (all kinds.Typ a.type h.type_in) (known_elements_led a.elements h.elements_known)
+
+  pub known_set_led : (xs : NumberedSet) → IsKnownSet m xs → All (IsLedUse r) (set_uses xs)
+  known_set_led [] h = All-nil (IsLedUse r)
+  known_set_led (x ∷ xs) h =
+      All-append (IsLedUse r) (annotation_uses x) (set_uses xs) (known_annotation_led x (All-head (IsKnownAnnotation m) x xs h)) (known_set_led xs (All-tail (IsKnownAnnotation m) x xs h))
+
+-- each number of a value leads to one of 32 bits
+pub value_has_places : (m n : Mentions) (r : Maps) (x : NumberedValue) → LeadsWithin n r → LeadsAll m r → ((kind : SymbolKind) → count_of kind n ≤ 2 ^ 32) → IsKnown m x → HasPlaces r x
+value_has_places m n r x within all few known = value_placed r (join_within n r within few) x (known_value_led m r all x known)
+
+pub values_have_places : (m n : Mentions) (r : Maps) (xs : NumberedValues) → LeadsWithin n r → LeadsAll m r → ((kind : SymbolKind) → count_of kind n ≤ 2 ^ 32) → AreKnown m xs → HavePlaces r xs
+values_have_places m n r xs within all few known = values_placed r (join_within n r within few) xs (known_values_led m r all xs known)
+
+pub set_has_places : (m n : Mentions) (r : Maps) (xs : NumberedSet) → LeadsWithin n r → LeadsAll m r → ((kind : SymbolKind) → count_of kind n ≤ 2 ^ 32) → IsKnownSet m xs → SetHasPlaces r xs
+set_has_places m n r xs within all few known = set_placed r (join_within n r within few) xs (known_set_led m r all xs known)

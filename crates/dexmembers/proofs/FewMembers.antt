@@ -5,9 +5,9 @@ use Rattle.std.proofs.lemmas.List.Sums.{sum_by-cons}
 use Rattle.dexspec.specs.Classes.{FieldDef, MethodDef}
 use Rattle.dexspec.specs.Mentions.{Mentions}
 use Rattle.dexspec.specs.Weight.{field_weight, method_weight}
-use Rattle.dexmembers.specs.Numbered.{NumberedMembers, field_in, method_in, members_in, fields_of, methods_of}
-use Rattle.dexmembers.specs.Spelled.{HasFewMembers}
+use Rattle.dexmembers.specs.Numbered.{NumberedField, NumberedMethod, NumberedMembers, AreFew, field_in, method_in, members_in, fields_of, methods_of}
 use Rattle.dexmembers.specs.Weight.{members_weight}
+use Rattle.dexmembers.specs.Weighing.{numbered_field_weight, numbered_method_weight, numbered_members_weight}
 
 fields_weigh : (fs : List FieldDef) → 18 * length fs ≤ sum_by field_weight fs
 fields_weigh [] = omega arith
@@ -38,15 +38,24 @@ members_weigh m x =
       length-map x.virtual_methods (method_in m),
     )
 
--- so they are few
-pub members_few : (m : Mentions) (x : NumberedMembers) → members_weight (members_in m x) < 2 ^ 32 → HasFewMembers x
-members_few m x light =
-    let all = members_weigh m x in
+-- ---- by their numbers
+
+numbered_fields_weigh : (fs : List NumberedField) → 18 * length fs ≤ sum_by numbered_field_weight fs
+numbered_fields_weigh [] = omega arith
+numbered_fields_weigh (f ∷ fs) = omega (arith, sum_by-cons numbered_field_weight f fs, numbered_fields_weigh fs)
+
+numbered_methods_weigh : (xs : List NumberedMethod) → 31 * length xs ≤ sum_by numbered_method_weight xs
+numbered_methods_weigh [] = omega arith
+numbered_methods_weigh (x ∷ xs) = omega (arith, sum_by-cons numbered_method_weight x xs, numbered_methods_weigh xs)
+
+-- what weighs less than 2 ^ 32 has few members
+pub weighed_few : (x : NumberedMembers) → numbered_members_weight x < 2 ^ 32 → AreFew x.static_fields x.instance_fields x.direct_methods x.virtual_methods
+weighed_few x light =
+    let fs = numbered_fields_weigh (fields_of x) in
+    let ms = numbered_methods_weigh (methods_of x) in
     let fields = length-append x.static_fields x.instance_fields in
     let methods = length-append x.direct_methods x.virtual_methods in
     record {
-      few_static_fields = omega (arith, light, all, fields);
-      few_instance_fields = omega (arith, light, all, fields);
-      few_direct_methods = omega (arith, light, all, methods);
-      few_virtual_methods = omega (arith, light, all, methods);
+      few_fields = omega (arith, light, fs, ms, fields, methods);
+      few_methods = omega (arith, light, fs, ms, fields, methods);
     }

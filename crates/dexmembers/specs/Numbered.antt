@@ -1,5 +1,5 @@
 -- What a class declares, with numbers in the place of symbols, and what it stands for.
-use Rattle.std.specs.Prelude.{◌≡◌, ℕ, ◌<◌, true, List, [], ◌++◌, length, map, All, Option, IfSome}
+use Rattle.std.specs.Prelude.{◌≡◌, ℕ, ◌+◌, ◌^◌, ◌<◌, true, List, [], ◌++◌, length, map, All, Option, IfSome}
 use Rattle.std.specs.Option.{option_map}
 use Rattle.std.specs.Ordering.{nat_cmp}
 use Rattle.dexspec.specs.Lists.{rises}
@@ -43,6 +43,11 @@ no_members = record { annotations = []; static_fields = []; instance_fields = []
 -- the static fields, and then the instance fields
 abbrev pub fields_of : NumberedMembers → List NumberedField
 fields_of x = x.static_fields ++ x.instance_fields
+
+-- there are fewer than 2 ^ 32 fields, and fewer than 2 ^ 32 methods
+pub record AreFew (static_fields instance_fields : List NumberedField) (direct_methods virtual_methods : List NumberedMethod) : Type 0 where
+  pub few_fields : length static_fields + length instance_fields < 2 ^ 32
+  pub few_methods : length direct_methods + length virtual_methods < 2 ^ 32
 
 -- the direct methods, and then the virtual methods
 abbrev pub methods_of : NumberedMembers → List NumberedMethod

@@ -9,8 +9,8 @@ use Rattle.dexspec.specs.Mentions.{Mentions}
 use Rattle.dexpool.specs.declared.faults.ItemFault.{ItemFault}
 use Rattle.dexpool.specs.declared.faults.ItemFault.TheVariants.{Refused, Memory}
 use Rattle.dexcode.specs.Numbered.{NumberedItem}
-use Rattle.dexval.specs.Code.{set_of, directory_of}
-use Rattle.dexval.specs.Numbered.{NumberedValues, IsKnownDirectory, directory_in}
+use Rattle.dexval.specs.Code.{set_of, value_of, directory_of}
+use Rattle.dexval.specs.Numbered.{NumberedValues, values_of_list, IsKnownDirectory, directory_in}
 use Rattle.dexval.specs.Directories.{directory_weight}
 use Rattle.dexval.specs.declared.directory.Directory.{Directory as DirectoryRead}
 use Rattle.dexmembers.specs.Numbered.{NumberedMembers}
@@ -20,6 +20,7 @@ use Rattle.dexmembers.specs.MethodCodes.{AreCodesOf}
 use Rattle.dexmembers.specs.Naming.{ListsRise, field_indices, method_indices}
 use Rattle.dexmembers.specs.StaticValues.{AreValuesOf}
 use Rattle.dexmembers.specs.declared.class_data.ClassData.{ClassData as DataRead}
+use Rattle.dexmembers.specs.declared.row_parts.Unweighed.{Unweighed}
 
 -- ---- annotations
 
@@ -75,4 +76,15 @@ attached d a direct virtual vs = record {
   direct_methods = zip_with (method_with a.methods.items a.parameters.items) d.direct_methods.items direct;
   virtual_methods = zip_with (method_with a.methods.items a.parameters.items) d.virtual_methods.items virtual;
   static_values = vs;
+}
+
+-- what was put together, before it is weighed
+abbrev pub unweighed_in : Unweighed → NumberedMembers
+unweighed_in x = record {
+  annotations = set_of x.annotations;
+  static_fields = x.static_fields.items;
+  instance_fields = x.instance_fields.items;
+  direct_methods = x.direct_methods.items;
+  virtual_methods = x.virtual_methods.items;
+  static_values = values_of_list (map value_of x.static_values.items);
 }

@@ -1,5 +1,5 @@
 -- What a class declares, spelled in the file: class data and annotations directories, with numbers put in.
-use Rattle.std.specs.Prelude.{ℕ, ◌-◌, ◌^◌, ◌<◌, List, [], ◌∷◌, ◌++◌, length, take, drop}
+use Rattle.std.specs.Prelude.{ℕ, ◌-◌, List, [], ◌∷◌, ◌++◌, length, take, drop}
 use Rattle.dexspec.specs.Numbers.{uleb128}
 use Rattle.dexmembers.specs.Numbered.{NumberedField, NumberedMethod, NumberedMembers}
 
@@ -30,10 +30,3 @@ numbered_class_data_bytes x code_offs =
     uleb128 (length x.static_fields) ++ (uleb128 (length x.instance_fields) ++ (uleb128 (length x.direct_methods) ++ (uleb128 (length x.virtual_methods)
     ++ (numbered_fields_bytes 0 x.static_fields ++ (numbered_fields_bytes 0 x.instance_fields
     ++ (numbered_methods_bytes 0 x.direct_methods (take (length x.direct_methods) code_offs) ++ numbered_methods_bytes 0 x.virtual_methods (drop (length x.direct_methods) code_offs)))))))
-
--- each list of members has fewer than 2 ^ 32
-pub record HasFewMembers (x : NumberedMembers) : Type 0 where
-  pub few_static_fields : length x.static_fields < 2 ^ 32
-  pub few_instance_fields : length x.instance_fields < 2 ^ 32
-  pub few_direct_methods : length x.direct_methods < 2 ^ 32
-  pub few_virtual_methods : length x.virtual_methods < 2 ^ 32

@@ -10,7 +10,7 @@ ghost use Rattle.dexspec.specs.Aside.Writing.{Puts};
 ghost use Rattle.dexpool.specs.Numberings.{AreRising};
 ghost use Rattle.dexval.specs.Appending.{Appends};
 ghost use Rattle.dexmembers.specs.Numbered.{AreKnownMembers, AreOfClass, fields_of, methods_of, members_in, members_of};
-ghost use Rattle.dexmembers.specs.Spelled.{HasFewMembers, numbered_field_bytes, numbered_fields_bytes, numbered_method_bytes, numbered_methods_bytes, numbered_class_data_bytes};
+ghost use Rattle.dexmembers.specs.Spelled.{numbered_field_bytes, numbered_fields_bytes, numbered_method_bytes, numbered_methods_bytes, numbered_class_data_bytes};
 
 use crate::members::{Field, Members, Method};
 use dexleb::put_u;
@@ -106,10 +106,10 @@ fn append_lists(
 impl Members<'_> {
     // Appends the class_data_item.
     fn append_class_data(&self, code_offs: &[u32], out: &mut Vec<u8>) -> Result<(), AllocError>
-        requires few { HasFewMembers self.now }
         requires offsets { length code_offs.now ≡ length (methods_of self.now) }
         ensures { Appends ⊤ (numbered_class_data_bytes self.now code_offs.now) out.old out.new result }
     {
+        self.are_few();
         append_lists(
             self.static_fields(),
             self.instance_fields(),
@@ -127,12 +127,10 @@ impl Members<'_> {
     /// A class without members has no item in the canonical file: the caller leaves it out.
     ///
     /// It fails only for want of memory, and not where the spare room is at least 20 bytes, ten for each field and 15 for each
-    /// method; the vector is then as it was. Conditions: each of the four lists has fewer than 2^32 members, and there is an
-    /// offset for each method. No memory is taken beside the vector's.
+    /// method; the vector is then as it was. Condition: there is an offset for each method. No memory is taken beside the vector's.
     ///
     /// Source: "class_data_item", "encoded_field format" and "encoded_method format".
     pub fn put_class_data(&self, code_offs: &[u32], out: &mut Vec<u8>) -> Result<(), AllocError>
-        requires few { HasFewMembers self.now }
         requires offsets { length code_offs.now ≡ length (methods_of self.now) }
         ensures bytes { Puts (numbered_class_data_bytes self.now code_offs.now) out.old out.new result }
         ensures symbolic { (m : Mentions) (name : Text) (c : Body) → AreRising m → AreKnownMembers m self.now → AreOfClass m name self.now → members_of c ≡ members_in m self.now → Puts (class_data_bytes m (name, c) code_offs.now) out.old out.new result }
@@ -149,7 +147,6 @@ impl Members<'_> {
         code_offs: &[u32],
         out: &mut Vec<u8>,
     ) -> Result<(), AllocError>
-        requires few { HasFewMembers self.now }
         requires offsets { length code_offs.now ≡ length (methods_of self.now) }
         ensures { Puts (numbered_class_data_bytes self.now code_offs.now) out.old out.new result }
     {

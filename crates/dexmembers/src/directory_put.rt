@@ -47,8 +47,8 @@ fn one_if_placed(offset: u32) -> u32
     if offset == 0 { 0 } else { 1 }
 }
 
-// How many offsets are not 0.
-fn placed(offsets: &[u32]) -> u32
+/// How many offsets are not 0. No memory is taken.
+pub(crate) fn placed(offsets: &[u32]) -> u32
     requires { length offsets.now < 2 ^ 32 }
     ensures { result ≡ count_placed offsets.now }
 {
@@ -163,13 +163,12 @@ impl Members<'_> {
         parameter_offs: &[u32],
         out: &mut Vec<u8>,
     ) -> Result<(), AllocError>
-        requires few_fields { length (fields_of self.now) < 2 ^ 32 }
-        requires few_methods { length (methods_of self.now) < 2 ^ 32 }
         requires fields { length field_offs.now ≡ length (fields_of self.now) }
         requires methods { length method_offs.now ≡ length (methods_of self.now) }
         requires parameters { length parameter_offs.now ≡ length (methods_of self.now) }
         ensures { Appends ⊤ (numbered_directory_bytes self.now own_off field_offs.now method_offs.now parameter_offs.now) out.old out.new result }
     {
+        self.are_few();
         append_u32(own_off, out)?;
         append_u32(placed(field_offs), out)?;
         append_u32(placed(method_offs), out)?;
@@ -189,8 +188,6 @@ impl Members<'_> {
         parameter_offs: &[u32],
         out: &mut Vec<u8>,
     ) -> Result<(), AllocError>
-        requires few_fields { length (fields_of self.now) < 2 ^ 32 }
-        requires few_methods { length (methods_of self.now) < 2 ^ 32 }
         requires fields { length field_offs.now ≡ length (fields_of self.now) }
         requires methods { length method_offs.now ≡ length (methods_of self.now) }
         requires parameters { length parameter_offs.now ≡ length (methods_of self.now) }
@@ -213,8 +210,7 @@ impl Members<'_> {
     /// A class with no offset but 0 has no item in the canonical file: the caller leaves it out.
     ///
     /// It fails only for want of memory, and not where the spare room is at least 16 bytes and eight for each member that is put;
-    /// the vector is then as it was. Conditions: fields and methods are each fewer than 2^32, and
-    /// there is an offset for each. No memory is taken beside the vector's.
+    /// the vector is then as it was. Condition: there is an offset for each field and each method. No memory is taken beside the vector's.
     ///
     /// Source: "annotations_directory_item", "field_annotation format", "method_annotation format" and
     /// "parameter_annotation format".
@@ -226,8 +222,6 @@ impl Members<'_> {
         parameter_offs: &[u32],
         out: &mut Vec<u8>,
     ) -> Result<(), AllocError>
-        requires few_fields { length (fields_of self.now) < 2 ^ 32 }
-        requires few_methods { length (methods_of self.now) < 2 ^ 32 }
         requires fields { length field_offs.now ≡ length (fields_of self.now) }
         requires methods { length method_offs.now ≡ length (methods_of self.now) }
         requires parameters { length parameter_offs.now ≡ length (methods_of self.now) }

@@ -14,6 +14,7 @@ mod encoded;
 mod encoded_lists;
 mod fitting;
 mod marking;
+mod measuring;
 mod members;
 mod naming;
 mod put_laws;

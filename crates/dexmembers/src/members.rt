@@ -3,7 +3,7 @@
 ghost use Rattle.std.specs.Prelude.{◌≡◌, Some, None, MatchOption, map};
 ghost use Rattle.dexval.specs.Code.{set_of, value_of};
 ghost use Rattle.dexval.specs.Numbered.{values_of_list};
-ghost use Rattle.dexmembers.specs.Numbered.{no_members};
+ghost use Rattle.dexmembers.specs.Numbered.{no_members, AreFew};
 
 use dexcode::Code;
 use dexval::{AnnotationSet, Value};
@@ -80,13 +80,15 @@ impl<'a> Model for Members<'a> {
     ghost use Rattle.dexval.specs.Numbered.{values_of_list};
     ghost use Rattle.std.specs.Coded.{codes};
     ghost use Rattle.dexmembers.specs.Stored.{elements_code, values_code};
-    ghost use Rattle.dexmembers.specs.Numbered.{NumberedMembers};
+    ghost use Rattle.dexmembers.specs.Numbered.{NumberedMembers, AreFew};
 
     ghost Value = { NumberedMembers };
 
     ghost coded = { Prim.hlevel (codes, elements_code, values_code) };
 
     ghost view = { λ x. record { annotations = set_of x.annotations; static_fields = x.static_fields.items; instance_fields = x.instance_fields.items; direct_methods = x.direct_methods.items; virtual_methods = x.virtual_methods.items; static_values = values_of_list (map value_of x.static_values.items) } };
+
+    ghost invariant = { λ x. AreFew x.static_fields.items x.instance_fields.items x.direct_methods.items x.virtual_methods.items };
 }
 
 impl Field {
@@ -166,6 +168,14 @@ impl<'a> Members<'a> {
             virtual_methods: Vec::new(alloc),
             static_values: Vec::new(alloc),
         }
+    }
+
+    /// A class declares fewer than 2^32 fields and fewer than 2^32 methods. It does nothing: its contract tells what all that
+    /// is declared is, for the proofs of callers.
+    pub fn are_few(&self)
+        ensures { AreFew self.now.static_fields self.now.instance_fields self.now.direct_methods self.now.virtual_methods }
+    {
+        let _fields = &self.static_fields;
     }
 
     /// The annotations of the class itself. No memory is taken.

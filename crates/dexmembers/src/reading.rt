@@ -1,6 +1,6 @@
 //! What class rows declare, read from a file.
 
-ghost use Rattle.std.specs.Prelude.{◌≡◌, ◌<◌, ◌≤◌, ℕ, List, IfOk, IfErr, MatchOption};
+ghost use Rattle.std.specs.Prelude.{◌≡◌, ◌<◌, ◌≤◌, IfOk, IfErr, MatchOption};
 ghost use Rattle.dexspec.specs.Header.{ClassDefs, table_size};
 ghost use Rattle.dexspec.specs.Mentions.{Mentions};
 ghost use Rattle.dexspec.specs.Accepted.{HasClass};
@@ -9,29 +9,43 @@ ghost use Rattle.dexpool.specs.Pools.{ArePools};
 ghost use Rattle.dexmembers.specs.Numbered.{AreKnownMembers, members_in};
 ghost use Rattle.dexmembers.specs.Weight.{members_weight};
 ghost use Rattle.dexmembers.specs.Reading.{AreReadWithin, IsMembersFault};
+ghost use Rattle.dexmembers.specs.RowParts.{unweighed_in};
 
 use crate::class_data::read_class_data;
 use crate::members::Members;
-use crate::row_parts::{attach, read_parts};
-use dexcode::code_meaning_law;
+use crate::row_parts::{Unweighed, attach, read_parts};
+use dexcode::{code_meaning_law, code_weight_law, debug_bare_law, debug_meaning_law};
 use dexhead::Frame;
 use dexpool::{ItemFault, Pools};
 use std::alloc::Global;
 
-// The members, or none where they weigh more than they may. A weight of 2^64 - 1 may stand for a greater one, and is told as
-// want of memory.
-fn within(members: Members<'_>, most: u64) -> Result<Option<Members<'_>>, ItemFault>
-    ensures light { (m : Mentions) → AreRising m → AreKnownMembers m members.entry → IfOk result (λ found. MatchOption found (most < members_weight (members_in m members.entry)) (λ x. (x ≡ members.entry) × (members_weight (members_in m members.entry) ≤ most))) }
-    ensures fault { (b : List ℕ) (r : ℕ) → IfErr result (IsMembersFault b r) }
+// The members, or none where they weigh more than they may.
+fn within(unweighed: Unweighed<'_>, most: u32) -> Option<Members<'_>>
+    ensures { (m : Mentions) → AreRising m → AreKnownMembers m (unweighed_in unweighed.entry) → MatchOption result (most < members_weight (members_in m (unweighed_in unweighed.entry))) (λ x. (x ≡ unweighed_in unweighed.entry) × (members_weight (members_in m (unweighed_in unweighed.entry)) ≤ most)) }
 {
-    let weight = members.weight();
-    if weight > most {
-        return Ok(None);
+    code_weight_law();
+    code_meaning_law();
+    debug_bare_law();
+    debug_meaning_law();
+    if unweighed.weight() > u64::from(most) {
+        return None;
     }
-    if weight == u64::MAX {
-        return Err(ItemFault::Memory);
-    }
-    Ok(Some(members))
+    let Unweighed {
+        annotations,
+        static_fields,
+        instance_fields,
+        direct_methods,
+        virtual_methods,
+        static_values,
+    } = unweighed;
+    Some(Members {
+        annotations,
+        static_fields,
+        instance_fields,
+        direct_methods,
+        virtual_methods,
+        static_values,
+    })
 }
 
 /// Reads what class row `row` declares: its members with their code and annotations, its own annotations, and its static
@@ -39,8 +53,7 @@ fn within(members: Members<'_>, most: u64) -> Result<Option<Members<'_>>, ItemFa
 /// What is kept at a time weighs at most four times `most`, beside the lists of members and one item.
 ///
 /// Condition: the row is one of the file's. What is told of the answer is told of rows that meet condition 16. Error: `Refused`
-/// with a number from 17 to 22, a condition that fails at the row; the memory for what is kept was refused, or the weight is
-/// 2^64 - 1 or more and so is `most`.
+/// with a number from 17 to 22, a condition that fails at the row; the memory for what is kept was refused.
 ///
 /// Source: "class_def_item", the fields `annotations_off`, `class_data_off` and `static_values_off`.
 pub fn read_members<'a>(
@@ -48,7 +61,7 @@ pub fn read_members<'a>(
     frame: &Frame<'a>,
     pools: &Pools<'_>,
     row: u32,
-    most: u64,
+    most: u32,
 ) -> Result<Option<Members<'a>>, ItemFault>
     requires row { row < table_size frame.now ClassDefs }
     ensures read { ArePools frame.now pools.now → HasClass frame.now row → IfOk result (AreReadWithin frame.now row pools.now most) }
@@ -60,7 +73,7 @@ pub fn read_members<'a>(
         Ok(declared) => declared,
         Err(fault) => return Err(fault),
     };
-    let found = match read_parts(alloc, frame, pools, row, &declared, most) {
+    let found = match read_parts(alloc, frame, pools, row, &declared, u64::from(most)) {
         Ok(found) => found,
         Err(fault) => return Err(fault),
     };
@@ -68,9 +81,6 @@ pub fn read_members<'a>(
         Some(parts) => parts,
         None => return Ok(None),
     };
-    let members = attach(alloc, &declared, parts)?;
-    match within(members, most) {
-        Ok(answer) => Ok(answer),
-        Err(fault) => Err(fault),
-    }
+    let unweighed = attach(alloc, &declared, parts)?;
+    Ok(within(unweighed, most))
 }

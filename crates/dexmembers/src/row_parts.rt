@@ -7,18 +7,18 @@ ghost use Rattle.dexval.specs.Code.{value_of};
 ghost use Rattle.dexval.specs.Numbered.{values_of_list};
 ghost use Rattle.dexmembers.specs.ClassData.{IsDataOf};
 ghost use Rattle.dexmembers.specs.Reading.{AreHeavyMembers, IsMembersFault};
-ghost use Rattle.dexmembers.specs.RowParts.{ArePartsOf, AreAttachable, attached};
+ghost use Rattle.dexmembers.specs.RowParts.{ArePartsOf, AreAttachable, attached, unweighed_in};
 
 use crate::attaching::{attach_fields, attach_methods};
 use crate::class_data::ClassData;
 use crate::codes::read_codes;
-use crate::members::Members;
+use crate::members::{Field, Method};
 use crate::row_annotations::read_annotations;
 use crate::static_values::read_static_values;
 use dexcode::Code;
 use dexhead::Frame;
 use dexpool::{ItemFault, Pools};
-use dexval::{Directory, Value};
+use dexval::{AnnotationSet, Directory, Value};
 use std::alloc::{AllocError, Global};
 
 /// What stands at a class row beside its class data: annotations, the code of direct and of virtual methods, and static
@@ -92,6 +92,17 @@ pub(crate) fn read_parts<'a>(
     }
 }
 
+/// What a class declares, before it is weighed.
+#[derive(Drop)]
+pub(crate) struct Unweighed<'a> {
+    pub(crate) annotations: AnnotationSet,
+    pub(crate) static_fields: Vec<Field>,
+    pub(crate) instance_fields: Vec<Field>,
+    pub(crate) direct_methods: Vec<Method<'a>>,
+    pub(crate) virtual_methods: Vec<Method<'a>>,
+    pub(crate) static_values: Vec<Value>,
+}
+
 /// The members of class data with their parts.
 ///
 /// Error: the memory for a list was refused.
@@ -101,8 +112,8 @@ pub(crate) fn attach<'a>(
     alloc: Global,
     declared: &ClassData,
     parts: Parts<'a>,
-) -> Result<Members<'a>, AllocError>
-    ensures { AreAttachable declared.now parts.entry.directory parts.entry.direct_codes.items parts.entry.virtual_codes.items → IfOk result (λ x. x ≡ attached declared.now parts.entry.directory parts.entry.direct_codes.items parts.entry.virtual_codes.items (values_of_list (map value_of parts.entry.static_values.items))) }
+) -> Result<Unweighed<'a>, AllocError>
+    ensures { AreAttachable declared.now parts.entry.directory parts.entry.direct_codes.items parts.entry.virtual_codes.items → IfOk result (λ x. unweighed_in x ≡ attached declared.now parts.entry.directory parts.entry.direct_codes.items parts.entry.virtual_codes.items (values_of_list (map value_of parts.entry.static_values.items))) }
 {
     let Parts {
         directory,
@@ -132,7 +143,7 @@ pub(crate) fn attach<'a>(
         &mut methods,
         &mut parameters,
     )?;
-    Ok(Members {
+    Ok(Unweighed {
         annotations: own,
         static_fields,
         instance_fields,

@@ -8,9 +8,11 @@ ghost use Rattle.dexval.specs.Numbered.{values_of_list};
 ghost use Rattle.dexval.specs.Spelled.{numbered_set_weight, numbered_sets_weight, numbered_statics_weight};
 ghost use Rattle.dexmembers.specs.Numbered.{AreKnownMembers, members_in};
 ghost use Rattle.dexmembers.specs.Weight.{members_weight};
+ghost use Rattle.dexmembers.specs.RowParts.{unweighed_in};
 ghost use Rattle.dexmembers.specs.Weighing.{numbered_field_weight, numbered_whole_weight, numbered_method_weight, numbered_members_weight};
 
 use crate::members::{Field, Members, Method};
+use crate::row_parts::Unweighed;
 use dexcode::{Code, code_meaning_law, code_weight_law, debug_bare_law, debug_meaning_law};
 use dexval::{AnnotationSet, Value, parameter_sets_weight, statics_weight};
 
@@ -70,6 +72,25 @@ fn methods_weight(methods: &[Method<'_>]) -> u64
     weight
 }
 
+// What all that a class declares weighs.
+fn whole_weight(
+    annotations: &AnnotationSet,
+    static_fields: &[Field],
+    instance_fields: &[Field],
+    direct_methods: &[Method<'_>],
+    virtual_methods: &[Method<'_>],
+    static_values: &[Value],
+) -> u64
+    ensures { result ≡ min (2 ^ 64 - 1) (numbered_members_weight (record { annotations = set_of annotations.now; static_fields = static_fields.now; instance_fields = instance_fields.now; direct_methods = direct_methods.now; virtual_methods = virtual_methods.now; static_values = values_of_list (map value_of static_values.now) })) }
+{
+    set_weight(annotations)
+        .saturating_add(fields_weight(static_fields))
+        .saturating_add(fields_weight(instance_fields))
+        .saturating_add(methods_weight(direct_methods))
+        .saturating_add(methods_weight(virtual_methods))
+        .saturating_add(values_weight(static_values))
+}
+
 impl Field {
     // What the field weighs.
     fn weight(&self) -> u64
@@ -96,12 +117,14 @@ impl<'a> Members<'a> {
     fn numbered_weight(&self) -> u64
         ensures { result ≡ min (2 ^ 64 - 1) (numbered_members_weight self.now) }
     {
-        set_weight(&self.annotations)
-            .saturating_add(fields_weight(&self.static_fields))
-            .saturating_add(fields_weight(&self.instance_fields))
-            .saturating_add(methods_weight(&self.direct_methods))
-            .saturating_add(methods_weight(&self.virtual_methods))
-            .saturating_add(values_weight(&self.static_values))
+        whole_weight(
+            &self.annotations,
+            &self.static_fields,
+            &self.instance_fields,
+            &self.direct_methods,
+            &self.virtual_methods,
+            &self.static_values,
+        )
     }
 
     /// What they weigh together, in bytes, or 2^64 - 1 where that is more: a class without its row and its interfaces. No
@@ -117,5 +140,21 @@ impl<'a> Members<'a> {
         debug_bare_law();
         debug_meaning_law();
         self.numbered_weight()
+    }
+}
+
+impl Unweighed<'_> {
+    /// What is declared weighs together, in bytes, or 2^64 - 1 where that is more. No memory is taken.
+    pub(crate) fn weight(&self) -> u64
+        ensures { result ≡ min (2 ^ 64 - 1) (numbered_members_weight (unweighed_in self.now)) }
+    {
+        whole_weight(
+            &self.annotations,
+            &self.static_fields,
+            &self.instance_fields,
+            &self.direct_methods,
+            &self.virtual_methods,
+            &self.static_values,
+        )
     }
 }

@@ -1,10 +1,12 @@
-use Rattle.std.proofs.Common.{map, sym, subst}
+use Rattle.std.proofs.Common.{◌≡◌, ◌<◌, ◌≤◌, ℕ, map, sym, subst}
+use Rattle.std.specs.Prelude.{MatchOption}
 use Rattle.dexpool.specs.Numberings.{AreRising}
 use Rattle.dexval.specs.Code.{value_of}
 use Rattle.dexval.specs.Numbered.{values_of_list}
-use Rattle.dexmembers.specs.Reading.{AreHeavyMembers}
-use Rattle.dexmembers.specs.RowParts.{ArePartsOf}
-use Rattle.dexmembers.specs.Numbered.{AreKnownMembers}
+use Rattle.dexmembers.specs.Reading.{AreHeavyMembers, AreReadWithin}
+use Rattle.dexmembers.specs.RowParts.{ArePartsOf, unweighed_in}
+use Rattle.dexmembers.specs.Numbered.{AreKnownMembers, members_in}
+use Rattle.dexmembers.specs.Weight.{members_weight}
 use Rattle.dexmembers.proofs.Judged.{data_refused}
 use Rattle.dexmembers.proofs.RowStands.{some_kept}
 use Rattle.dexmembers.proofs.RowRead.{parts_attachable, parts_known, parts_answer}
@@ -13,23 +15,23 @@ use Rattle.dexmembers.proofs.reading.read_members.Goals as goal
 pub returns-in-Err-clause-refused : goal.returns-in-Err-clause-refused
 returns-in-Err-clause-refused c = λ pools class. data_refused c.args.frame.now c.args.row c.in-Err.fault (c.in-Err.ensures.refused pools)
 
-pub returns-in-Ok-within-clause-read : goal.returns-in-Ok-within-clause-read
-returns-in-Ok-within-clause-read c = λ pools class.
+pub returns-clause-read : goal.returns-clause-read
+returns-clause-read c = λ pools class.
     let b = c.args.frame.now in
     let r = c.args.row in
     let m = c.args.pools.now in
-    let most = c.args.most in
+    let most = c.from.result in
     let d = c.in-Ok.declared in
     let p = c.in-Some.parts in
     let vs = values_of_list (map value_of p.static_values.items) in
+    let made = unweighed_in c.in_ok-unweighed.unweighed in
     let rising = subst AreRising c.numbering.ensures c.is_numbering.ensures.rising in
     let is = c.in-Ok.ensures.read pools class in
     let parts = some_kept (AreHeavyMembers b r most) (λ x. ArePartsOf b r m d most x.directory x.direct_codes.items x.virtual_codes.items (values_of_list (map value_of x.static_values.items))) c.in-Ok-read_parts.found p c.in-Some.is (c.in-Ok-read_parts.ensures.read pools is) in
     let known = c.code_meaning_law.ensures.known m in
     let meant = c.code_meaning_law.ensures.meant m in
-    let same = c.in_ok-members.ensures (parts_attachable b r m rising d is most p.directory p.direct_codes.items p.virtual_codes.items vs parts) in
+    let same = c.in_ok-unweighed.ensures (parts_attachable b r m rising d is most p.directory p.direct_codes.items p.virtual_codes.items vs parts) in
     let made_known = parts_known b r m rising d is most p.directory p.direct_codes.items p.virtual_codes.items vs parts known meant in
-    parts_answer b r m rising d is most p.directory p.direct_codes.items p.virtual_codes.items vs parts known meant c.in_ok-members.members same c.in-Ok-within.answer (c.in-Ok-within.ensures.light m rising (subst (AreKnownMembers m) (sym same) made_known))
-
-pub returns-clause-refused : goal.returns-clause-refused
-returns-clause-refused c = λ pools class. c.in-Err-within.ensures.fault c.args.frame.now c.args.row
+    let weighed = c.within.ensures m rising (subst (AreKnownMembers m) (sym same) made_known) in
+    let weighed_so = subst (λ (n : ℕ). MatchOption c.within.result (n < members_weight (members_in m made)) (λ x. (x ≡ made) × (members_weight (members_in m made) ≤ n))) (sym c.from.ensures) weighed in
+    subst (λ (n : ℕ). AreReadWithin b r m n c.within.result) c.from.ensures (parts_answer b r m rising d is most p.directory p.direct_codes.items p.virtual_codes.items vs parts known meant made same c.within.result weighed_so)

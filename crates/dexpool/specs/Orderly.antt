@@ -1,6 +1,7 @@
 -- Maps of numbers that keep their order.
-use Rattle.std.specs.Prelude.{◌≡◌, ℕ, ◌<◌, List, Option, Some}
-use Rattle.dexpool.specs.Numberings.{Maps, image}
+use Rattle.std.specs.Prelude.{◌≡◌, ℕ, ◌<◌, ◌≤◌, List, Option, Some}
+use Rattle.dexpool.specs.declared.symbols.SymbolKind.{SymbolKind}
+use Rattle.dexpool.specs.Numberings.{Maps, image, image_of}
 
 -- of two numbers that lead somewhere, the lesser leads to the lesser
 abbrev pub KeepsOrder : List (Option ℕ) → Type 0
@@ -13,3 +14,7 @@ pub record KeepOrder (r : Maps) : Type 0 where
   pub protos_keep : KeepsOrder r.protos
   pub fields_keep : KeepsOrder r.fields
   pub methods_keep : KeepsOrder r.methods
+
+-- Numbers lead to none greater, as in a map into a part.
+abbrev pub LeadDown : Maps → Type 0
+LeadDown r = (k : SymbolKind) (i j : ℕ) → image_of r k i ≡ Some j → j ≤ i

@@ -5,6 +5,7 @@ pub mod SameSteps
 pub mod Meanings
 pub mod PutUnits
 pub mod Steps
+pub mod Fits
 pub mod Lined
 pub mod FaultsRead
 pub mod StoredRead

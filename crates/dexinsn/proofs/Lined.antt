@@ -88,10 +88,13 @@ same_kind_in xs ys e = ap (λ (o : Option Pool). option_map_or kind_of_pool o ki
 same_room : (xs ys : List ℕ) → slice_index xs 0 ≡ slice_index ys 0 → index_room xs ≡ index_room ys
 same_room xs ys e = ap (λ (t : Bool). cond t (2 ^ 32) (2 ^ 16)) (same_wide xs ys e)
 
-head_kind : (us xs : List ℕ) (i : Index) → Heads us xs i → kind_in (with_index 0 xs) ≡ kind_in (drop i.unit us)
+pub head_kind : (us xs : List ℕ) (i : Index) → Heads us xs i → kind_in (with_index 0 xs) ≡ kind_in (drop i.unit us)
 head_kind us xs i h = same_kind_in (with_index 0 xs) (drop i.unit us) (first_kept 0 xs ∙ sym h.first)
 
-head_room : (us xs : List ℕ) (i : Index) → Heads us xs i → index_room (with_index 0 xs) ≡ index_room (drop i.unit us)
+pub head_wide : (us xs : List ℕ) (i : Index) → Heads us xs i → is_wide_index (with_index 0 xs) ≡ is_wide_index (drop i.unit us)
+head_wide us xs i h = same_wide (with_index 0 xs) (drop i.unit us) (first_kept 0 xs ∙ sym h.first)
+
+pub head_room : (us xs : List ℕ) (i : Index) → Heads us xs i → index_room (with_index 0 xs) ≡ index_room (drop i.unit us)
 head_room us xs i h = same_room (with_index 0 xs) (drop i.unit us) (first_kept 0 xs ∙ sym h.first)
 
 -- ---- the symbols that occur

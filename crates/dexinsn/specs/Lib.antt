@@ -8,3 +8,4 @@ pub mod Stored
 pub mod Reading
 pub mod Same
 pub mod Listing
+pub mod Fitting

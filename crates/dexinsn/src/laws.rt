@@ -1,14 +1,17 @@
 //! Laws of numbered pieces. Each function does nothing: its contract is the law, for the callers that cite it.
 
-ghost use Rattle.std.specs.Prelude.{◌≡◌, List, All, map};
-ghost use Rattle.std.specs.List.{AllZip, flat_map};
+ghost use Rattle.std.specs.Prelude.{◌≡◌, ◌↔◌, ℕ, List, All, Option, map};
+ghost use Rattle.std.specs.List.{AllZip, Contains, flat_map};
 ghost use Rattle.dexspec.specs.Mentions.{Mentions, piece_symbols};
 ghost use Rattle.dexspec.specs.Pieces.{Piece};
 ghost use Rattle.dexspec.specs.Spellings.{piece_units};
-ghost use Rattle.dexpool.specs.Numberings.{AreRising, AreMarksOf, Maps, AllLead};
+ghost use Rattle.dexspec.specs.Texts.{Text};
+ghost use Rattle.dexpool.specs.Numberings.{IsAt, AreRising, AreMarksOf, Maps, AllLead};
+ghost use Rattle.dexpool.specs.Orderly.{KeepOrder, LeadDown};
 ghost use Rattle.dexpool.specs.declared.marks.Marks.{Marks};
 ghost use Rattle.dexpool.specs.Uses.{IsUseOf, HasMark};
-ghost use Rattle.dexinsn.specs.Numbered.{NumberedPiece, StandFor, uses_of, numbered_units, HasImage, HasPlace, renumbered_piece};
+ghost use Rattle.dexinsn.specs.Fitting.{LeadsOn, HasConstString, ImagesFit, IsGreatest, IsNotTooLarge, LeadsShort, short_strings};
+ghost use Rattle.dexinsn.specs.Numbered.{NumberedPiece, StandFor, uses_of, numbered_units, FitPlaces, HasImage, HasPlace, renumbered_piece};
 
 /// Where the symbols rise, the units of numbered pieces are those of the pieces that they stand for, each index the
 /// rank of its symbol.
@@ -30,4 +33,28 @@ pub fn uses_law()
 /// Where there is a mark for each symbol, there is one for each that occurs.
 pub fn marks_law()
     ensures { (m : Mentions) (marks : Marks) (ps : List NumberedPiece) (qs : List Piece) → AreMarksOf m marks → StandFor m ps qs → All (HasMark marks) (uses_of ps) }
+{}
+
+/// Each number leads somewhere just where the symbol that occurs does.
+pub fn images_law()
+    ensures { (r : Maps) (ps : List NumberedPiece) → All (HasImage r) ps ↔ All (LeadsOn r) (uses_of ps) }
+{}
+
+/// After a cut: where numbers fit their places, and each that occurs leads somewhere, to none greater, each leads to one
+/// that fits its place.
+pub fn cut_places_law()
+    ensures { (r : Maps) (ps : List NumberedPiece) → LeadDown r → FitPlaces ps → All (LeadsOn r) (uses_of ps) → All (HasPlace r) ps }
+{}
+
+/// After a join: where the numbering is not too large, its numbers fit but for those of texts at a const-string, and these
+/// where the greatest does. So each number that leads somewhere leads to one that fits its place.
+pub fn joined_places_law()
+    ensures images { (m n : Mentions) (r : Maps) → AllLead m n r → IsNotTooLarge n → ImagesFit r }
+    ensures places { (r : Maps) (ps : List NumberedPiece) (greatest : Option ℕ) → KeepOrder r → ImagesFit r → IsGreatest (short_strings ps) greatest → LeadsShort r greatest → All (LeadsOn r) (uses_of ps) → All (HasPlace r) ps }
+{}
+
+/// The short strings of pieces are the texts that a const-string names in those that they stand for.
+pub fn short_strings_law()
+    ensures named { (m : Mentions) (ps : List NumberedPiece) (qs : List Piece) (s : Text) → StandFor m ps qs → HasConstString qs s → (n : ℕ) × Contains (short_strings ps) n × IsAt m.texts n s }
+    ensures stands { (m : Mentions) (ps : List NumberedPiece) (qs : List Piece) (n : ℕ) → StandFor m ps qs → Contains (short_strings ps) n → (s : Text) × IsAt m.texts n s × HasConstString qs s }
 {}

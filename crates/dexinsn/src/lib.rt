@@ -6,7 +6,10 @@
 pub use code::{CodeFault, Cut, split};
 pub use format::{Format, IndexKind};
 pub use instruction_starts::InstructionStarts;
-pub use laws::{marks_law, renumber_law, units_law, uses_law};
+pub use laws::{
+    cut_places_law, images_law, joined_places_law, marks_law, renumber_law, short_strings_law,
+    units_law, uses_law,
+};
 pub use listing::{Piece, PieceIter, PieceKind};
 pub use opcodes::{index_kind, mnemonic};
 pub use payload::PayloadKind;

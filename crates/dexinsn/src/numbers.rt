@@ -1,8 +1,10 @@
 //! Numbers of symbols, and what becomes of them.
 
-ghost use Rattle.std.specs.Prelude.{◌≡◌, ◌↔◌, ◌<◌, IsTrue, IfOk, All, map, ◌∷◌, [], length, slice_index_or};
+ghost use Rattle.std.specs.Prelude.{◌≡◌, ◌↔◌, ◌<◌, ◌++◌, ℕ, IsTrue, IfOk, All, List, map, drop, ◌∷◌, [], length, slice_index_or};
+ghost use Rattle.std.specs.List.{flat_map};
 ghost use Rattle.dexpool.specs.Uses.{HasMark, AreMarkedToo, Use};
-ghost use Rattle.dexinsn.specs.Numbered.{uses_of, HasPlace, renumbered};
+ghost use Rattle.dexinsn.specs.Fitting.{is_short_string, short_at, short_strings, IsGreatest};
+ghost use Rattle.dexinsn.specs.Numbered.{uses_of, HasPlace, FitPlaces, renumbered};
 ghost use Rattle.dexinsn.specs.Stored.{HasPlaceAt, IsIndexed, renumbered_index, use_at};
 
 use crate::code_units::Units;
@@ -89,7 +91,62 @@ fn mark_indices(units: &Units<'_>, indices: &[Index], marks: &mut Marks)
     }
 }
 
+// Whether the index at a unit names a text and has 16 bits.
+fn is_short_string(units: &Units<'_>, unit: usize) -> bool
+    requires { unit < length units.now }
+    ensures { result ≡ is_short_string (drop unit units.now) }
+{
+    match index_kind_at(units, unit) {
+        SymbolKind::Text => !is_wide_at(units, unit),
+        _ => false,
+    }
+}
+
+// The greatest of some numbers and one more, where it is known of those.
+fn greater(greatest: Option<u32>, number: u32) -> Option<u32>
+    ensures { (ns : List ℕ) → IsGreatest ns greatest → IsGreatest (ns ++ number ∷ []) result }
+{
+    match greatest {
+        Some(most) => Some(most.max(number)),
+        None => Some(number),
+    }
+}
+
+// The greatest number of a text at an index of 16 bits.
+fn greatest_short_string(units: &Units<'_>, indices: &[Index]) -> Option<u32>
+    requires { All (IsIndexed units.now) indices.now }
+    ensures { IsGreatest (flat_map (short_at units.now) indices.now) result }
+{
+    let mut greatest = None;
+    for index in indices {
+        if is_short_string(units, index.unit as usize) {
+            greatest = greater(greatest, index.number);
+        }
+    }
+    greatest
+}
+
 impl<'a> Pieces<'a> {
+    /// Each number fits its place: it is below 2^16, or below 2^32 for const-string/jumbo. It does nothing: its contract
+    /// tells what numbers of all pieces are, for the proofs of callers.
+    pub fn numbers_fit(&self)
+        ensures { FitPlaces self.now.pieces }
+    {
+        let _bytes = self.bytes;
+    }
+
+    /// The greatest number of a text that a const-string names, not counting const-string/jumbo, or `None` where there is
+    /// no const-string. As its index has 16 bits, this text alone decides whether other numbers have room. No memory is
+    /// taken.
+    ///
+    /// Source: "const-string" under the heading "Summary of bytecode set" of the Android page "Dalvik bytecode".
+    pub fn greatest_short_string(&self) -> Option<u32>
+        ensures { IsGreatest (short_strings self.now.pieces) result }
+    {
+        let units = Units::of_bytes(self.bytes);
+        greatest_short_string(&units, &self.indices)
+    }
+
     /// Puts for each number the one that it leads to. No memory is taken.
     ///
     /// Condition: each number leads to one that fits its place, which [`fits`](Pieces::fits) tells.

@@ -1,0 +1,378 @@
+-- Numbers that are led on fit their places.
+use Rattle.std.proofs.Common.{◌≡◌, ℕ, ◌+◌, ◌^◌, ◌<◌, ◌≤◌, max, nat_lt, ◌==◌, Bool, true, false, not, ◌&&◌, ◌||◌, cond, if◌then◌else◌, replicate, List, [], ◌∷◌, ◌++◌, length, take, drop, map, get_or, slice_index, Option, Some, None, inl, inr, refl, ap, sym, ◌∙◌, subst, arith, zero-add}
+use Rattle.std.specs.List.{All, Contains, flat_map, range_with_len}
+use Rattle.std.specs.Option.{IsSome, option_and_then, option_map_or}
+use Rattle.std.proofs.lemmas.Bool.{ltb-true, ltb-false, eqb-true, and_parts}
+use Rattle.std.proofs.lemmas.List.{take_more, append-nil, get_or-replicate}
+use Rattle.std.proofs.lemmas.List.FromFn.{get_or-map-range_with_len}
+use Rattle.std.proofs.lemmas.List.Concat.{flat_map-append}
+use Rattle.std.proofs.lemmas.List.Elements.{All-nil, All-cons, All-head, All-tail, All-push, All-weaker, All-get_or, Contains-append_left, Contains-append_right, Contains-append_cases}
+use Rattle.dexspec.specs.Symbols.{Pool, Strings, Types, Protos, Fields, Methods, Symbol, TextSymbol, TypeSymbol, ProtoSymbol, FieldSymbol, MethodSymbol}
+use Rattle.dexspec.specs.Mentions.{Mentions}
+use Rattle.dexspec.specs.Opcodes.{Opcode, opcode_of, opcode_runs}
+use Rattle.dexspec.specs.Pieces.{Piece, index_pool, is_wide_index, is_payload_ident, low_byte, with_index}
+use Rattle.dexspec.specs.Pieces as symbolic
+use Rattle.dexspec.specs.Texts.{Text}
+use Rattle.dexspec.proofs.Members.{Contains-nil, Contains-cons_cases, Contains-first, Contains-later}
+use Rattle.dexpool.specs.declared.symbols.SymbolKind.{SymbolKind}
+use Rattle.dexpool.specs.declared.symbols.SymbolKind.TheVariants as kinds
+use Rattle.dexpool.specs.Numberings.{IsAt, Maps, image, image_of, AllLead}
+use Rattle.dexpool.specs.Orderly.{KeepOrder, LeadDown}
+use Rattle.dexpool.specs.Uses.{Use}
+use Rattle.dexinsn.specs.declared.pieces.Index.{Index}
+use Rattle.dexinsn.specs.Fitting.{LeadsOn, is_text, is_short_string, short_number, short_string, short_strings, HasConstString, IsGreatest, short_at, ImagesFit, IsNotTooLarge, LeadsShort}
+use Rattle.dexinsn.specs.Numbered.{NumberedPiece, Instruction, Payload, StandsFor, StandFor, kind_in, kind_of_pool, uses_of, index_room, FitsPlace, FitPlaces, HasImage, HasPlace}
+use Rattle.dexinsn.specs.Stored.{parts_in, piece_with, left_by, pieces_with, AreStored, FitsAt}
+use Rattle.dexinsn.proofs.Lined.{Heads, Lined, LinedBy, stored_lined, head_kind, head_room, head_wide}
+
+-- ---- images, piece by piece and use by use
+
+pub images_of_uses : (r : Maps) (ps : List NumberedPiece) → All (LeadsOn r) (uses_of ps) → All (HasImage r) ps
+images_of_uses r [] h = All-nil (HasImage r)
+images_of_uses r (Instruction us None ∷ ps) h = All-cons (HasImage r) (Instruction us None) ps tt (images_of_uses r ps h)
+images_of_uses r (Instruction us (Some n) ∷ ps) h =
+    let u : Use = record { kind = kind_in us; number = n } in
+    All-cons (HasImage r) (Instruction us (Some n)) ps (All-head (LeadsOn r) u (uses_of ps) h) (images_of_uses r ps (All-tail (LeadsOn r) u (uses_of ps) h))
+images_of_uses r (Payload us ∷ ps) h = All-cons (HasImage r) (Payload us) ps tt (images_of_uses r ps h)
+
+pub uses_of_images : (r : Maps) (ps : List NumberedPiece) → All (HasImage r) ps → All (LeadsOn r) (uses_of ps)
+uses_of_images r [] h = All-nil (LeadsOn r)
+uses_of_images r (Instruction us None ∷ ps) h = uses_of_images r ps (All-tail (HasImage r) (Instruction us None) ps h)
+uses_of_images r (Instruction us (Some n) ∷ ps) h =
+    let u : Use = record { kind = kind_in us; number = n } in
+    All-cons (LeadsOn r) u (uses_of ps) (All-head (HasImage r) (Instruction us (Some n)) ps h) (uses_of_images r ps (All-tail (HasImage r) (Instruction us (Some n)) ps h))
+uses_of_images r (Payload us ∷ ps) h = uses_of_images r ps (All-tail (HasImage r) (Payload us) ps h)
+
+-- what leads somewhere and below the room has a place
+place_by : (r : Maps) (us : List ℕ) (n : ℕ) (o : Option ℕ) → image_of r (kind_in us) n ≡ o → IsSome o → ((j : ℕ) → o ≡ Some j → j < index_room us) → HasPlace r (Instruction us (Some n))
+place_by r us n None e some fits = absurd cc
+place_by r us n (Some j) e some fits = (j, e, fits j refl)
+
+-- ---- after a cut
+
+cut_place : (r : Maps) (p : NumberedPiece) → LeadDown r → FitsPlace p → HasImage r p → HasPlace r p
+cut_place r (Instruction us None) down fits image = tt
+cut_place r (Instruction us (Some n)) down fits image =
+    place_by r us n (image_of r (kind_in us) n) refl image (λ j e. let le : j ≤ n = down (kind_in us) n j e in omega (arith, le, fits))
+cut_place r (Payload us) down fits image = tt
+
+cut_places : (r : Maps) (ps : List NumberedPiece) → LeadDown r → FitPlaces ps → All (HasImage r) ps → All (HasPlace r) ps
+cut_places r [] down fit images = All-nil (HasPlace r)
+cut_places r (p ∷ ps) down fit images =
+    All-cons (HasPlace r) p ps (cut_place r p down (All-head FitsPlace p ps fit) (All-head (HasImage r) p ps images)) (cut_places r ps down (All-tail FitsPlace p ps fit) (All-tail (HasImage r) p ps images))
+
+pub places_after_cut : (r : Maps) (ps : List NumberedPiece) → LeadDown r → FitPlaces ps → All (LeadsOn r) (uses_of ps) → All (HasPlace r) ps
+places_after_cut r ps down fit uses = cut_places r ps down fit (images_of_uses r ps uses)
+
+-- ---- after a join
+
+pub images_after_join : (m n : Mentions) (r : Maps) → AllLead m n r → IsNotTooLarge n → ImagesFit r
+images_after_join m n r l few = record {
+  texts_fit = λ i j e. omega (arith, (l.texts_lead.same i j [] e).within, few.texts_few);
+  types_fit = λ i j e. omega (arith, (l.types_lead.same i j [] e).within, few.types_few);
+  protos_fit = λ i j e. omega (arith, (l.protos_lead.same i j (record { return_type = []; parameters = [] }) e).within, few.protos_few);
+  fields_fit = λ i j e. omega (arith, (l.fields_lead.same i j (record { class = []; name = []; type = [] }) e).within, few.fields_few);
+  methods_fit = λ i j e. omega (arith, (l.methods_lead.same i j (record { class = []; name = []; proto = record { return_type = []; parameters = [] } }) e).within, few.methods_few);
+}
+
+-- every image has 32 bits, and those that are not of texts have 16
+wide_image : (r : Maps) (k : SymbolKind) (i j : ℕ) → ImagesFit r → image_of r k i ≡ Some j → j < 2 ^ 32
+wide_image r kinds.Text i j fit e = omega (arith, fit.texts_fit i j e)
+wide_image r kinds.Typ i j fit e = omega (arith, fit.types_fit i j e)
+wide_image r kinds.Proto i j fit e = omega (arith, fit.protos_fit i j e)
+wide_image r kinds.Field i j fit e = omega (arith, fit.fields_fit i j e)
+wide_image r kinds.Method i j fit e = omega (arith, fit.methods_fit i j e)
+
+-- no number of a short string leads beyond 16 bits
+abbrev ShortLead : Maps → List ℕ → Type 0
+ShortLead r ns = (i j : ℕ) → Contains ns i → image r.texts i ≡ Some j → j < 2 ^ 16
+
+image_by : (r : Maps) (w : Bool) (k : SymbolKind) (i j : ℕ) → ImagesFit r → ((is_text k && not w) ≡ true → image_of r k i ≡ Some j → j < 2 ^ 16) → image_of r k i ≡ Some j → j < cond w (2 ^ 32) (2 ^ 16)
+image_by r true k i j fit short e = wide_image r k i j fit e
+image_by r false kinds.Text i j fit short e = short refl e
+image_by r false kinds.Typ i j fit short e = fit.types_fit i j e
+image_by r false kinds.Proto i j fit short e = fit.protos_fit i j e
+image_by r false kinds.Field i j fit short e = fit.fields_fit i j e
+image_by r false kinds.Method i j fit short e = fit.methods_fit i j e
+
+text_image : (r : Maps) (k : SymbolKind) (w : Bool) (i j : ℕ) → (is_text k && not w) ≡ true → image_of r k i ≡ Some j → image r.texts i ≡ Some j
+text_image r kinds.Text w i j is e = e
+text_image r kinds.Typ w i j is e = absurd cc
+text_image r kinds.Proto w i j is e = absurd cc
+text_image r kinds.Field w i j is e = absurd cc
+text_image r kinds.Method w i j is e = absurd cc
+
+first_short : (b : Bool) (n : ℕ) (ns : List ℕ) → b ≡ true → Contains ((if b then n ∷ [] else []) ++ ns) n
+first_short true n ns is = Contains-first n ns
+first_short false n ns is = absurd cc
+
+joined_place : (r : Maps) (p : NumberedPiece) (ns : List ℕ) → ImagesFit r → ShortLead r (short_string p ++ ns) → HasImage r p → HasPlace r p
+joined_place r (Instruction us None) ns fit short has = tt
+joined_place r (Instruction us (Some n)) ns fit short has =
+    place_by r us n (image_of r (kind_in us) n) refl has
+    (λ j e. image_by r (is_wide_index us) (kind_in us) n j fit (λ is f. short n j (first_short (is_short_string us) n ns is) (text_image r (kind_in us) (is_wide_index us) n j is f)) e)
+joined_place r (Payload us) ns fit short has = tt
+
+joined_places : (r : Maps) (ps : List NumberedPiece) → ImagesFit r → ShortLead r (short_strings ps) → All (HasImage r) ps → All (HasPlace r) ps
+joined_places r [] fit short images = All-nil (HasPlace r)
+joined_places r (p ∷ ps) fit short images =
+    All-cons (HasPlace r) p ps (joined_place r p (short_strings ps) fit short (All-head (HasImage r) p ps images))
+    (joined_places r ps fit (λ i j c e. short i j (Contains-append_right (short_string p) (short_strings ps) i c) e) (All-tail (HasImage r) p ps images))
+
+-- the number of a short string leads somewhere where each symbol does
+text_led : (r : Maps) (k : SymbolKind) (w : Bool) (i : ℕ) → (is_text k && not w) ≡ true → IsSome (image_of r k i) → IsSome (image r.texts i)
+text_led r kinds.Text w i is some = some
+text_led r kinds.Typ w i is some = absurd cc
+text_led r kinds.Proto w i is some = absurd cc
+text_led r kinds.Field w i is some = absurd cc
+text_led r kinds.Method w i is some = absurd cc
+
+short_is : (b : Bool) (n k : ℕ) → Contains (if b then n ∷ [] else []) k → (b ≡ true) × (n ≡ k)
+short_is true n k c = elim (Contains-cons_cases n k [] c) [
+  | inl e ↦ (refl, e)
+  | inr l ↦ absurd (Contains-nil k l)
+]
+short_is false n k c = absurd (Contains-nil k c)
+
+short_led : (r : Maps) (p : NumberedPiece) (i : ℕ) → HasImage r p → Contains (short_string p) i → IsSome (image r.texts i)
+short_led r (Instruction us None) i has c = absurd (Contains-nil i c)
+short_led r (Instruction us (Some n)) i has c =
+    let s = short_is (is_short_string us) n i c in
+    subst (λ k. IsSome (image r.texts k)) s.1 (text_led r (kind_in us) (is_wide_index us) n s.0 has)
+short_led r (Payload us) i has c = absurd (Contains-nil i c)
+
+shorts_led : (r : Maps) (ps : List NumberedPiece) (i : ℕ) → All (HasImage r) ps → Contains (short_strings ps) i → IsSome (image r.texts i)
+shorts_led r [] i all c = absurd (Contains-nil i c)
+shorts_led r (p ∷ ps) i all c = elim (Contains-append_cases (short_string p) (short_strings ps) i c) [
+  | inl l ↦ short_led r p i (All-head (HasImage r) p ps all) l
+  | inr l ↦ shorts_led r ps i (All-tail (HasImage r) p ps all) l
+]
+
+-- of two numbers of texts the lesser leads to the lesser
+lesser_by : (r : Maps) (i g j k : ℕ) (b : Bool) → nat_lt i g ≡ b → KeepOrder r → image r.texts g ≡ Some k → k < 2 ^ 16 → i ≤ g → image r.texts i ≡ Some j → j < 2 ^ 16
+lesser_by r i g j k true test order e lt le f = let less : j < k = order.texts_keep i g j k (ltb-true i g test) f e in omega (arith, less, lt)
+lesser_by r i g j k false test order e lt le f =
+    let same : i ≡ g = omega (arith, ltb-false i g test, le) in
+    let one : Some j ≡ Some k = sym f ∙ ap (image r.texts) same ∙ e in
+    let is : j ≡ k = cc in
+    omega (arith, is, lt)
+
+lesser_image : (r : Maps) (i g j : ℕ) (o : Option ℕ) → KeepOrder r → image r.texts g ≡ o → IsSome o → LeadsShort r (Some g) → i ≤ g → image r.texts i ≡ Some j → j < 2 ^ 16
+lesser_image r i g j None order e some short le f = absurd cc
+lesser_image r i g j (Some k) order e some short le f = lesser_by r i g j k (nat_lt i g) refl order e (short k e) le f
+
+below : (ns : List ℕ) (g i : ℕ) → All (λ k. k ≤ g) ns → Contains ns i → i ≤ g
+below ns g i all c = subst (λ k. k ≤ g) c.2 (All-get_or (λ k. k ≤ g) ns c.0 i c.1 all)
+
+short_lead : (r : Maps) (ns : List ℕ) (greatest : Option ℕ) → KeepOrder r → IsGreatest ns greatest → LeadsShort r greatest → ((i : ℕ) → Contains ns i → IsSome (image r.texts i)) → ShortLead r ns
+short_lead r ns None order is short led i j c e = absurd (Contains-nil i (subst (λ ks. Contains ks i) is c))
+short_lead r ns (Some g) order is short led i j c e = lesser_image r i g j (image r.texts g) order refl (led g is.0) short (below ns g i is.1 c) e
+
+pub places_after_join : (r : Maps) (ps : List NumberedPiece) (greatest : Option ℕ) → KeepOrder r → ImagesFit r → IsGreatest (short_strings ps) greatest → LeadsShort r greatest → All (LeadsOn r) (uses_of ps) → All (HasPlace r) ps
+places_after_join r ps greatest order fit is short uses =
+    let images : All (HasImage r) ps = images_of_uses r ps uses in
+    joined_places r ps fit (short_lead r (short_strings ps) greatest order is short (λ i c. shorts_led r ps i images c)) images
+
+-- ---- numbers as they are stored
+
+plain_fits : (t : Bool) (xs : List ℕ) → FitsPlace (cond t (Payload xs) (Instruction xs None))
+plain_fits true xs = tt
+plain_fits false xs = tt
+
+fits_by : (o : Option Pool) (us xs : List ℕ) (parts : List (List ℕ)) (is : List Index) → ((js : List Index) → Lined us parts js → All (FitsAt us) js → FitPlaces (pieces_with parts js)) → LinedBy o us xs (Lined us parts) is
+    → All (FitsAt us) is → FitPlaces (piece_with o xs is ∷ pieces_with parts (left_by o is))
+fits_by None us xs parts is on h all = All-cons FitsPlace (piece_with None xs is) (pieces_with parts is) (plain_fits (is_payload_ident (slice_index xs 0)) xs) (on is h all)
+fits_by (Some pool) us xs parts [] on h all = absurd h
+fits_by (Some pool) us xs parts (i ∷ is) on h all =
+    All-cons FitsPlace (piece_with (Some pool) xs (i ∷ is)) (pieces_with parts is) (subst (λ (n : ℕ). i.number < n) (sym (head_room us xs i h.0)) (All-head (FitsAt us) i is all)) (on is h.1 (All-tail (FitsAt us) i is all))
+
+fits_lined : (us : List ℕ) (parts : List (List ℕ)) (is : List Index) → Lined us parts is → All (FitsAt us) is → FitPlaces (pieces_with parts is)
+fits_lined us [] is h all = All-nil FitsPlace
+fits_lined us (xs ∷ parts) is h all = fits_by (index_pool xs) us xs parts is (fits_lined us parts) h all
+
+pub stored_fit : (us : List ℕ) (is : List Index) → AreStored us is → FitPlaces (pieces_with (parts_in us) is)
+stored_fit us is s = fits_lined us (parts_in us) is (stored_lined us is s) s.fit
+
+head_short : (us xs : List ℕ) (i : Index) → Heads us xs i → short_number (with_index 0 xs) i.number ≡ short_at us i
+head_short us xs i h =
+    ap (λ k. if is_text k && not (is_wide_index (with_index 0 xs)) then i.number ∷ [] else []) (head_kind us xs i h)
+    ∙ ap (λ w. if is_text (kind_in (drop i.unit us)) && not w then i.number ∷ [] else []) (head_wide us xs i h)
+
+plain_short : (t : Bool) (xs : List ℕ) → short_string (cond t (Payload xs) (Instruction xs None)) ≡ []
+plain_short true xs = refl
+plain_short false xs = refl
+
+shorts_by : (o : Option Pool) (us xs : List ℕ) (parts : List (List ℕ)) (is : List Index) → ((js : List Index) → Lined us parts js → short_strings (pieces_with parts js) ≡ flat_map (short_at us) js) → LinedBy o us xs (Lined us parts) is
+    → short_string (piece_with o xs is) ++ short_strings (pieces_with parts (left_by o is)) ≡ flat_map (short_at us) is
+shorts_by None us xs parts is on h = ap (λ (ns : List ℕ). ns ++ short_strings (pieces_with parts is)) (plain_short (is_payload_ident (slice_index xs 0)) xs) ∙ on is h
+shorts_by (Some pool) us xs parts [] on h = absurd h
+shorts_by (Some pool) us xs parts (i ∷ is) on h =
+    ap (λ (ns : List ℕ). ns ++ short_strings (pieces_with parts is)) (head_short us xs i h.0) ∙ ap (λ (ns : List ℕ). short_at us i ++ ns) (on is h.1)
+
+shorts_lined : (us : List ℕ) (parts : List (List ℕ)) (is : List Index) → Lined us parts is → short_strings (pieces_with parts is) ≡ flat_map (short_at us) is
+shorts_lined us [] is h = ap (flat_map (short_at us)) (sym h)
+shorts_lined us (xs ∷ parts) is h = shorts_by (index_pool xs) us xs parts is (shorts_lined us parts) h
+
+pub stored_shorts : (us : List ℕ) (is : List Index) → AreStored us is → short_strings (pieces_with (parts_in us) is) ≡ flat_map (short_at us) is
+stored_shorts us is s = shorts_lined us (parts_in us) is (stored_lined us is s)
+
+-- ---- the greatest, one number after the other
+
+-- one more, which is greater or is not
+greater_by : (ns : List ℕ) (g n m : ℕ) (b : Bool) → nat_lt g n ≡ b → max g n ≡ m → IsGreatest ns (Some g) → IsGreatest (ns ++ n ∷ []) (Some m)
+greater_by ns g n m true test e is =
+    let less : g < n = ltb-true g n test in
+    let same : n ≡ m = omega (arith, e, less) in (
+      Contains-append_right ns (n ∷ []) m (subst (Contains (n ∷ [])) same (Contains-first n [])),
+      All-push (λ k. k ≤ m) ns n (All-weaker (λ k. k ≤ g) (λ k. k ≤ m) (λ k h. omega (arith, h, less, same)) ns is.1) (omega (arith, same)),
+    )
+greater_by ns g n m false test e is =
+    let le : n ≤ g = ltb-false g n test in
+    let same : g ≡ m = omega (arith, e, le) in (
+      Contains-append_left ns (n ∷ []) m (subst (Contains ns) same is.0),
+      All-push (λ k. k ≤ m) ns n (All-weaker (λ k. k ≤ g) (λ k. k ≤ m) (λ k h. omega (arith, h, same)) ns is.1) (omega (arith, le, same)),
+    )
+
+pub greater_most : (ns : List ℕ) (g n : ℕ) → IsGreatest ns (Some g) → IsGreatest (ns ++ n ∷ []) (Some (max g n))
+greater_most ns g n is = greater_by ns g n (max g n) (nat_lt g n) refl refl is
+
+-- the indices up to one more
+pub shorts_more : (us : List ℕ) (is : List Index) (i : ℕ) (d : Index) → i < length is → flat_map (short_at us) (take (i + 1) is) ≡ flat_map (short_at us) (take i is) ++ short_at us (get_or is i d)
+shorts_more us is i d lt =
+    ap (flat_map (short_at us)) (take_more is i d lt) ∙ flat_map-append (short_at us) (take i is) (get_or is i d ∷ [])
+    ∙ ap (λ ns. flat_map (short_at us) (take i is) ++ ns) (append-nil (short_at us (get_or is i d)))
+
+short_by : (b : Bool) (n : ℕ) → b ≡ true → (if b then n ∷ [] else []) ≡ n ∷ []
+short_by true n e = refl
+short_by false n e = absurd cc
+
+none_by : (b : Bool) (n : ℕ) → b ≡ false → (if b then n ∷ [] else []) ≡ []
+none_by true n e = absurd cc
+none_by false n e = refl
+
+module _ (us : List ℕ) (is : List Index) (i : ℕ) (d : Index) (lt : i < length is) where
+  pub greatest_with : (g : Option ℕ) → is_short_string (drop (get_or is i d).unit us) ≡ true → IsGreatest (flat_map (short_at us) (take i is) ++ (get_or is i d).number ∷ []) g → IsGreatest (flat_map (short_at us) (take (i + 1) is)) g
+  greatest_with g short h = subst (λ ns. IsGreatest ns g) (sym (shorts_more us is i d lt ∙ ap (λ ns. flat_map (short_at us) (take i is) ++ ns) (short_by (is_short_string (drop (get_or is i d).unit us)) (get_or is i d).number short))) h
+
+  pub greatest_without : (g : Option ℕ) → is_short_string (drop (get_or is i d).unit us) ≡ false → IsGreatest (flat_map (short_at us) (take i is)) g → IsGreatest (flat_map (short_at us) (take (i + 1) is)) g
+  greatest_without g long h =
+      subst (λ ns. IsGreatest ns g) (sym (shorts_more us is i d lt ∙ ap (λ ns. flat_map (short_at us) (take i is) ++ ns) (none_by (is_short_string (drop (get_or is i d).unit us)) (get_or is i d).number long) ∙ append-nil (flat_map (short_at us) (take i is)))) h
+
+-- the same, with the code's own names for the units and for the indices
+pub greatest_for : (us vs : List ℕ) (is js : List Index) (g : Option ℕ) → AreStored us is → vs ≡ us → js ≡ is → IsGreatest (flat_map (short_at vs) js) g → IsGreatest (short_strings (pieces_with (parts_in us) is)) g
+greatest_for us vs is js g s same_us same_is h =
+    subst (λ ns. IsGreatest ns g) (ap (λ (ws : List ℕ). flat_map (short_at ws) js) same_us ∙ ap (flat_map (short_at us)) same_is ∙ sym (stored_shorts us is s)) h
+
+-- ---- short strings by their opcode
+
+-- of the opcodes with the index of a text there are two
+names_text : Option Pool → ℕ → Bool
+names_text (Some Strings) op = op == 0x1a || op == 0x1b
+names_text _ op = true
+
+abbrev is_string_op : ℕ → Bool
+is_string_op op = names_text (option_and_then (λ (o : Opcode). o.index) (opcode_of op)) op
+
+string_ops : map is_string_op (range_with_len 0 256) ≡ replicate 256 true
+unfolding opcode_of opcode_runs names_text
+string_ops = refl
+
+string_op : (op : ℕ) → op < 256 → is_string_op op ≡ true
+string_op op small =
+    sym (get_or-map-range_with_len is_string_op 0 256 op op false small (zero-add op)) ∙ ap (λ bs. get_or bs op false) string_ops ∙ get_or-replicate 256 op true false small
+
+either_op : (a b : Bool) (op : ℕ) → (op == 0x1a) ≡ a → b ≡ false → (a || b) ≡ true → op ≡ 0x1a
+either_op true b op is narrow h = eqb-true op 0x1a is
+either_op false b op is narrow h = absurd cc
+
+const_of : (op : ℕ) → names_text (Some Strings) op ≡ true → (op == 0x1b) ≡ false → op ≡ 0x1a
+unfolding names_text
+const_of op h wide = either_op (op == 0x1a) (op == 0x1b) op refl wide h
+
+const_by : (o : Option Pool) (op : ℕ) → o ≡ Some Strings → names_text o op ≡ true → (op == 0x1b) ≡ false → op ≡ 0x1a
+const_by None op e h wide = absurd cc
+const_by (Some pool) op e h wide = const_of op (subst (λ o. names_text o op ≡ true) e h) wide
+
+pool_under : (t : Bool) (o : Option Pool) → cond t None o ≡ Some Strings → o ≡ Some Strings
+pool_under true o e = absurd cc
+pool_under false o e = e
+
+-- the index of a text that has 16 bits is that of a const-string
+const_string : (us : List ℕ) → index_pool us ≡ Some Strings → is_wide_index us ≡ false → low_byte (slice_index us 0) ≡ 0x1a
+const_string us pool narrow =
+    let named = pool_under (is_payload_ident (slice_index us 0)) (option_and_then (λ (o : Opcode). o.index) (opcode_of (low_byte (slice_index us 0)))) pool in
+    const_by (option_and_then (λ (o : Opcode). o.index) (opcode_of (low_byte (slice_index us 0)))) (low_byte (slice_index us 0)) named (string_op (low_byte (slice_index us 0)) (omega arith)) narrow
+
+narrow_const : (us : List ℕ) → low_byte (slice_index us 0) ≡ 0x1a → is_wide_index us ≡ false
+narrow_const us e = ap (λ (n : ℕ). n == 0x1b) e
+
+text_const : (us : List ℕ) → index_pool us ≡ Some Strings → kind_in us ≡ kinds.Text
+text_const us e = ap (λ (o : Option Pool). option_map_or kind_of_pool o kinds.Text) e
+
+short_const : (us : List ℕ) → index_pool us ≡ Some Strings → low_byte (slice_index us 0) ≡ 0x1a → is_short_string us ≡ true
+short_const us pool op = ap (λ k. is_text k && not (is_wide_index us)) (text_const us pool) ∙ ap not (narrow_const us op)
+
+-- ---- what short strings stand for
+
+-- a piece that stands for a const-string of the text
+named_piece : (m : Mentions) (p : NumberedPiece) (us : List ℕ) (s : Text) → StandsFor m p (symbolic.Instruction us (Some (TextSymbol s))) → low_byte (slice_index us 0) ≡ 0x1a → (n : ℕ) × Contains (short_string p) n × IsAt m.texts n s
+named_piece m (Instruction xs None) us s h op = absurd h
+named_piece m (Instruction xs (Some n)) us s h op =
+    let at : low_byte (slice_index xs 0) ≡ 0x1a = ap (λ (ys : List ℕ). low_byte (slice_index ys 0)) h.0 ∙ op in
+    (n, subst (λ b. Contains (if b then n ∷ [] else []) n) (sym (short_const xs h.1 at)) (Contains-first n []), h.2)
+named_piece m (Payload xs) us s h op = absurd h
+
+named_in : (m : Mentions) (ps : List NumberedPiece) (qs : List Piece) (s : Text) (us : List ℕ) → StandFor m ps qs → Contains qs (symbolic.Instruction us (Some (TextSymbol s))) → low_byte (slice_index us 0) ≡ 0x1a → (n : ℕ) × Contains (short_strings ps) n × IsAt m.texts n s
+named_in m ps [] s us h c op = absurd (Contains-nil (symbolic.Instruction us (Some (TextSymbol s))) c)
+named_in m [] (q ∷ qs) s us h c op = absurd h
+named_in m (p ∷ ps) (q ∷ qs) s us h c op = elim (Contains-cons_cases q (symbolic.Instruction us (Some (TextSymbol s))) qs c) [
+  | inl e ↦ let f = named_piece m p us s (subst (StandsFor m p) e h.0) op in (f.0, Contains-append_left (short_string p) (short_strings ps) f.0 f.1, f.2)
+  | inr l ↦ let f = named_in m ps qs s us h.1 l op in (f.0, Contains-append_right (short_string p) (short_strings ps) f.0 f.1, f.2)
+]
+
+pub short_named : (m : Mentions) (ps : List NumberedPiece) (qs : List Piece) (s : Text) → StandFor m ps qs → HasConstString qs s → (n : ℕ) × Contains (short_strings ps) n × IsAt m.texts n s
+short_named m ps qs s h has = named_in m ps qs s has.units h has.piece has.short
+
+-- the symbol of a kind that is not of texts
+no_text : (us : List ℕ) (pool : Pool) → index_pool us ≡ Some pool → is_short_string us ≡ true → is_text (kind_of_pool pool) ≡ true
+no_text us pool e short =
+    let kind : kind_in us ≡ kind_of_pool pool = ap (λ (o : Option Pool). option_map_or kind_of_pool o kinds.Text) e in
+    ap is_text (sym kind) ∙ (and_parts (is_text (kind_in us)) (not (is_wide_index us)) short).0
+
+not_back : (b : Bool) → not b ≡ true → b ≡ false
+not_back true e = absurd cc
+not_back false e = refl
+
+abbrev Meant : Mentions → ℕ → Piece → Type 0
+Meant m n q = (s : Text) × IsAt m.texts n s × (us : List ℕ) × (q ≡ symbolic.Instruction us (Some (TextSymbol s))) × (low_byte (slice_index us 0) ≡ 0x1a)
+
+meant_by : (m : Mentions) (us xs : List ℕ) (n : ℕ) (t : Symbol) → StandsFor m (Instruction us (Some n)) (symbolic.Instruction xs (Some t)) → is_short_string us ≡ true → Meant m n (symbolic.Instruction xs (Some t))
+meant_by m us xs n (TextSymbol s) h short =
+    let narrow : is_wide_index us ≡ false = not_back (is_wide_index us) (and_parts (is_text (kind_in us)) (not (is_wide_index us)) short).1 in
+    (s, h.2, xs, refl, ap (λ (ys : List ℕ). low_byte (slice_index ys 0)) (sym h.0) ∙ const_string us h.1 narrow)
+meant_by m us xs n (TypeSymbol s) h short = let bad : false ≡ true = no_text us Types h.1 short in absurd cc
+meant_by m us xs n (ProtoSymbol s) h short = let bad : false ≡ true = no_text us Protos h.1 short in absurd cc
+meant_by m us xs n (FieldSymbol s) h short = let bad : false ≡ true = no_text us Fields h.1 short in absurd cc
+meant_by m us xs n (MethodSymbol s) h short = let bad : false ≡ true = no_text us Methods h.1 short in absurd cc
+
+meant_piece : (m : Mentions) (p : NumberedPiece) (q : Piece) (n : ℕ) → StandsFor m p q → Contains (short_string p) n → Meant m n q
+meant_piece m (Instruction us None) q n h c = absurd (Contains-nil n c)
+meant_piece m (Instruction us (Some k)) (symbolic.Instruction xs (Some t)) n h c =
+    let s = short_is (is_short_string us) k n c in
+    subst (λ i. Meant m i (symbolic.Instruction xs (Some t))) s.1 (meant_by m us xs k t h s.0)
+meant_piece m (Instruction us (Some k)) (symbolic.Instruction xs None) n h c = absurd h
+meant_piece m (Instruction us (Some k)) (symbolic.Payload xs) n h c = absurd h
+meant_piece m (Payload us) q n h c = absurd (Contains-nil n c)
+
+pub short_stands : (m : Mentions) (ps : List NumberedPiece) (qs : List Piece) (n : ℕ) → StandFor m ps qs → Contains (short_strings ps) n → (s : Text) × IsAt m.texts n s × HasConstString qs s
+short_stands m [] qs n h c = absurd (Contains-nil n c)
+short_stands m (p ∷ ps) [] n h c = absurd h
+short_stands m (p ∷ ps) (q ∷ qs) n h c = elim (Contains-append_cases (short_string p) (short_strings ps) n c) [
+  | inl l ↦
+      let f = meant_piece m p q n h.0 l in
+      (f.0, f.1, record { units = f.2; piece = subst (λ x. Contains (q ∷ qs) x) f.3 (Contains-first q qs); short = f.4 })
+  | inr l ↦
+      let f = short_stands m ps qs n h.1 l in
+      let has : HasConstString qs f.0 = f.2 in
+      (f.0, f.1, record { units = has.units; piece = Contains-later q (symbolic.Instruction has.units (Some (TextSymbol f.0))) qs has.piece; short = has.short })
+]

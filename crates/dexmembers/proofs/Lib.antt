@@ -7,6 +7,7 @@ pub mod DirectorySpelled
 pub mod Entered
 pub mod FewMembers
 pub mod FittingMembers
+pub mod Images
 pub mod Judged
 pub mod Made
 pub mod Meant

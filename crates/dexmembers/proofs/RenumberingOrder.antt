@@ -18,9 +18,9 @@ use Rattle.dexpool.proofs.NumberOrder.{rises-map}
 abbrev pub end : List (Option ℕ) → ℕ → ℕ
 end images i = unwrap_or (image images i) i
 
--- the number leads to one of 32 bits
+-- the number leads somewhere
 abbrev pub Goes : List (Option ℕ) → ℕ → Type 0
-Goes images i = (j : ℕ) × (image images i ≡ Some j) × (j < 2 ^ 32)
+Goes images i = (j : ℕ) × (image images i ≡ Some j)
 
 end_is : (images : List (Option ℕ)) (i : ℕ) (h : Goes images i) → end images i ≡ h.0
 end_is images i h = ap (λ (o : Option ℕ). unwrap_or o i) h.1

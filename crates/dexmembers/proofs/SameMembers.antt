@@ -10,71 +10,73 @@ use Rattle.dexspec.specs.Mentions.{Mentions}
 use Rattle.dexpool.specs.declared.symbols.SymbolKind.TheVariants as kinds
 use Rattle.dexpool.specs.Laws.{RanksAreNumbers}
 use Rattle.dexpool.specs.Numberings.{Maps, AllLead}
+use Rattle.dexpool.specs.Uses.{IsLedUse}
 use Rattle.dexcode.specs.Numbered.{NumberedItem}
 use Rattle.dexcode.specs.Meaning.{code_in, IsKnownCode}
-use Rattle.dexcode.specs.Renumbering.{renumbered_item, HasPlaces}
+use Rattle.dexcode.specs.Renumbering.{renumbered_item, HasImages}
 use Rattle.dexval.specs.Numbered.{NumberedSet, NumberedValues, field_at, method_at, set_in, values_in, IsKnownSet, AreKnown}
-use Rattle.dexval.specs.Renumbering.{led, renumbered_set, renumbered_values, LeadsOn, SetHasPlaces, HavePlaces}
+use Rattle.dexval.specs.Renumbering.{led, renumbered_set, renumbered_values}
 use Rattle.dexmembers.specs.Numbered.{NumberedField, NumberedMethod, NumberedMembers, field_in, method_in, members_in, IsKnownField, IsKnownMethod, AreKnownMembers, AreOfClass}
-use Rattle.dexmembers.specs.Renumbering.{renumbered_field, renumbered_method, renumbered_members, FieldHasPlaces, MethodHasPlaces, MembersHavePlaces}
+use Rattle.dexmembers.specs.Renumbering.{renumbered_field, renumbered_method, renumbered_members}
+use Rattle.dexmembers.proofs.Images.{field_use, method_use, SetHasImages, HaveImages, FieldHasImages, MethodHasImages, MembersHaveImages}
 use Rattle.dexmembers.proofs.RenumberingLists.{all_left, all_right, all_both, maps_same, options_same, options_both}
 use Rattle.dexmembers.proofs.RenumberingKept.{no_field, no_method, field_led, method_led, FieldIsOf, MethodIsOf}
 
 -- what is known of a set: its numbers lead on, and are those of symbols
 record IsPartSet (m : Mentions) (r : Maps) (xs : NumberedSet) : Type 0 where
-  pub leads : SetHasPlaces r xs
+  pub leads : SetHasImages r xs
   pub known : IsKnownSet m xs
 
 -- of code
 record IsPartCode (m : Mentions) (r : Maps) (c : NumberedItem) : Type 0 where
-  pub leads : HasPlaces r c
+  pub leads : HasImages r c
   pub known : IsKnownCode m c
 
 -- of a field, which is one of a class
 record IsPartField (m : Mentions) (r : Maps) (class : Text) (f : NumberedField) : Type 0 where
-  pub leads : FieldHasPlaces r f
+  pub leads : FieldHasImages r f
   pub known : IsKnownField m f
   pub is_of : FieldIsOf m class f
 
 -- of a method
 record IsPartMethod (m : Mentions) (r : Maps) (class : Text) (x : NumberedMethod) : Type 0 where
-  pub leads : MethodHasPlaces r x
+  pub leads : MethodHasImages r x
   pub known : IsKnownMethod m x
   pub is_of : MethodIsOf m class x
 
 -- sets are the same, led on, just where they stand for the same
 abbrev pub SetsSame : Mentions → Mentions → Maps → Maps → Type 0
-SetsSame m n r s = (xs ys : NumberedSet) → SetHasPlaces r xs → SetHasPlaces s ys → IsKnownSet m xs → IsKnownSet n ys → (renumbered_set r xs ≡ renumbered_set s ys) ↔ (set_in m xs ≡ set_in n ys)
+SetsSame m n r s = (xs ys : NumberedSet) → SetHasImages r xs → SetHasImages s ys → IsKnownSet m xs → IsKnownSet n ys → (renumbered_set r xs ≡ renumbered_set s ys) ↔ (set_in m xs ≡ set_in n ys)
 
 -- values
 abbrev pub ValuesSame : Mentions → Mentions → Maps → Maps → Type 0
-ValuesSame m n r s = (xs ys : NumberedValues) → HavePlaces r xs → HavePlaces s ys → AreKnown m xs → AreKnown n ys → (renumbered_values r xs ≡ renumbered_values s ys) ↔ (values_in m xs ≡ values_in n ys)
+ValuesSame m n r s = (xs ys : NumberedValues) → HaveImages r xs → HaveImages s ys → AreKnown m xs → AreKnown n ys → (renumbered_values r xs ≡ renumbered_values s ys) ↔ (values_in m xs ≡ values_in n ys)
 
 -- code
 abbrev pub CodesSame : Mentions → Mentions → Maps → Maps → Type 0
-CodesSame m n r s = (c d : NumberedItem) → HasPlaces r c → HasPlaces s d → IsKnownCode m c → IsKnownCode n d → (renumbered_item r c ≡ renumbered_item s d) ↔ (code_in m c ≡ code_in n d)
+CodesSame m n r s = (c d : NumberedItem) → HasImages r c → HasImages s d → IsKnownCode m c → IsKnownCode n d → (renumbered_item r c ≡ renumbered_item s d) ↔ (code_in m c ≡ code_in n d)
 
 -- ---- lists and options
 
 module _ (m n : Mentions) (r s : Maps) where
-  code_same : CodesSame m n r s → (o u : Option NumberedItem) → IfSome o (HasPlaces r) → IfSome u (HasPlaces s) → IfSome o (IsKnownCode m) → IfSome u (IsKnownCode n)
+  code_same : CodesSame m n r s → (o u : Option NumberedItem) → IfSome o (HasImages r) → IfSome u (HasImages s) → IfSome o (IsKnownCode m) → IfSome u (IsKnownCode n)
       → (option_map (renumbered_item r) o ≡ option_map (renumbered_item s) u) ↔ (option_map (code_in m) o ≡ option_map (code_in n) u)
   code_same codes o u leads leads' known known' =
       options_same (renumbered_item r) (renumbered_item s) (code_in m) (code_in n) (IsPartCode m r) (IsPartCode n s) (λ c d h k. codes c d h.leads k.leads h.known k.known) o u
-      (options_both (HasPlaces r) (IsKnownCode m) (IsPartCode m r) (λ c a b. record { leads = a; known = b }) o leads known)
-      (options_both (HasPlaces s) (IsKnownCode n) (IsPartCode n s) (λ c a b. record { leads = a; known = b }) u leads' known')
+      (options_both (HasImages r) (IsKnownCode m) (IsPartCode m r) (λ c a b. record { leads = a; known = b }) o leads known)
+      (options_both (HasImages s) (IsKnownCode n) (IsPartCode n s) (λ c a b. record { leads = a; known = b }) u leads' known')
 
-  parameters_same : SetsSame m n r s → (xs ys : List NumberedSet) → All (SetHasPlaces r) xs → All (SetHasPlaces s) ys → All (IsKnownSet m) xs → All (IsKnownSet n) ys
+  parameters_same : SetsSame m n r s → (xs ys : List NumberedSet) → All (SetHasImages r) xs → All (SetHasImages s) ys → All (IsKnownSet m) xs → All (IsKnownSet n) ys
       → (map (renumbered_set r) xs ≡ map (renumbered_set s) ys) ↔ (map (set_in m) xs ≡ map (set_in n) ys)
   parameters_same sets xs ys leads leads' known known' =
       maps_same (renumbered_set r) (renumbered_set s) (set_in m) (set_in n) (IsPartSet m r) (IsPartSet n s) (λ x y h k. sets x y h.leads k.leads h.known k.known) xs ys
-      (all_both (SetHasPlaces r) (IsKnownSet m) (IsPartSet m r) (λ x a b. record { leads = a; known = b }) xs leads known)
-      (all_both (SetHasPlaces s) (IsKnownSet n) (IsPartSet n s) (λ x a b. record { leads = a; known = b }) ys leads' known')
+      (all_both (SetHasImages r) (IsKnownSet m) (IsPartSet m r) (λ x a b. record { leads = a; known = b }) xs leads known)
+      (all_both (SetHasImages s) (IsKnownSet n) (IsPartSet n s) (λ x a b. record { leads = a; known = b }) ys leads' known')
 
 -- ---- numbers
 
 module _ (m n whole : Mentions) (r s : Maps) (ranks : RanksAreNumbers whole) (from_first : AllLead m whole r) (from_second : AllLead n whole s) where
-  fields_same : (i j : ℕ) → LeadsOn r kinds.Field i → LeadsOn s kinds.Field j → (led r kinds.Field i ≡ led s kinds.Field j) ↔ (field_at m i ≡ field_at n j)
+  fields_same : (i j : ℕ) → IsLedUse r (field_use i) → IsLedUse s (field_use j) → (led r kinds.Field i ≡ led s kinds.Field j) ↔ (field_at m i ≡ field_at n j)
   fields_same i j h k =
       let mine = field_led m whole r from_first i h in
       let theirs = field_led n whole s from_second j k in (
@@ -82,7 +84,7 @@ module _ (m n whole : Mentions) (r s : Maps) (ranks : RanksAreNumbers whole) (fr
         (λ e. sym (ranks.fields_are (led r kinds.Field i) no_field mine.0) ∙ ap (λ (f : Field). rank field_cmp f whole.fields) (mine.1 ∙ e ∙ sym theirs.1) ∙ ranks.fields_are (led s kinds.Field j) no_field theirs.0),
       )
 
-  methods_same : (i j : ℕ) → LeadsOn r kinds.Method i → LeadsOn s kinds.Method j → (led r kinds.Method i ≡ led s kinds.Method j) ↔ (method_at m i ≡ method_at n j)
+  methods_same : (i j : ℕ) → IsLedUse r (method_use i) → IsLedUse s (method_use j) → (led r kinds.Method i ≡ led s kinds.Method j) ↔ (method_at m i ≡ method_at n j)
   methods_same i j h k =
       let mine = method_led m whole r from_first i h in
       let theirs = method_led n whole s from_second j k in (
@@ -140,15 +142,15 @@ module _ (m n whole : Mentions) (r s : Maps) (ranks : RanksAreNumbers whole) (fr
 
 -- ---- parts
 
-fields_part : (m : Mentions) (r : Maps) (class : Text) (fs : List NumberedField) → All (FieldHasPlaces r) fs → All (IsKnownField m) fs → All (FieldIsOf m class) fs → All (IsPartField m r class) fs
+fields_part : (m : Mentions) (r : Maps) (class : Text) (fs : List NumberedField) → All (FieldHasImages r) fs → All (IsKnownField m) fs → All (FieldIsOf m class) fs → All (IsPartField m r class) fs
 fields_part m r class fs leads known are =
-    all_both (λ (f : NumberedField). FieldHasPlaces r f × IsKnownField m f) (FieldIsOf m class) (IsPartField m r class) (λ f a b. record { leads = a.0; known = a.1; is_of = b }) fs
-    (all_both (FieldHasPlaces r) (IsKnownField m) (λ (f : NumberedField). FieldHasPlaces r f × IsKnownField m f) (λ f a b. (a, b)) fs leads known) are
+    all_both (λ (f : NumberedField). FieldHasImages r f × IsKnownField m f) (FieldIsOf m class) (IsPartField m r class) (λ f a b. record { leads = a.0; known = a.1; is_of = b }) fs
+    (all_both (FieldHasImages r) (IsKnownField m) (λ (f : NumberedField). FieldHasImages r f × IsKnownField m f) (λ f a b. (a, b)) fs leads known) are
 
-methods_part : (m : Mentions) (r : Maps) (class : Text) (xs : List NumberedMethod) → All (MethodHasPlaces r) xs → All (IsKnownMethod m) xs → All (MethodIsOf m class) xs → All (IsPartMethod m r class) xs
+methods_part : (m : Mentions) (r : Maps) (class : Text) (xs : List NumberedMethod) → All (MethodHasImages r) xs → All (IsKnownMethod m) xs → All (MethodIsOf m class) xs → All (IsPartMethod m r class) xs
 methods_part m r class xs leads known are =
-    all_both (λ (x : NumberedMethod). MethodHasPlaces r x × IsKnownMethod m x) (MethodIsOf m class) (IsPartMethod m r class) (λ x a b. record { leads = a.0; known = a.1; is_of = b }) xs
-    (all_both (MethodHasPlaces r) (IsKnownMethod m) (λ (x : NumberedMethod). MethodHasPlaces r x × IsKnownMethod m x) (λ x a b. (a, b)) xs leads known) are
+    all_both (λ (x : NumberedMethod). MethodHasImages r x × IsKnownMethod m x) (MethodIsOf m class) (IsPartMethod m r class) (λ x a b. record { leads = a.0; known = a.1; is_of = b }) xs
+    (all_both (MethodHasImages r) (IsKnownMethod m) (λ (x : NumberedMethod). MethodHasImages r x × IsKnownMethod m x) (λ x a b. (a, b)) xs leads known) are
 
 -- all that is known of the members of a class
 record AreParts (m : Mentions) (r : Maps) (class : Text) (x : NumberedMembers) : Type 0 where
@@ -157,7 +159,7 @@ record AreParts (m : Mentions) (r : Maps) (class : Text) (x : NumberedMembers) :
   pub directs : All (IsPartMethod m r class) x.direct_methods
   pub virtuals : All (IsPartMethod m r class) x.virtual_methods
 
-are_parts : (m : Mentions) (r : Maps) (class : Text) (x : NumberedMembers) → MembersHavePlaces r x → AreKnownMembers m x → AreOfClass m class x → AreParts m r class x
+are_parts : (m : Mentions) (r : Maps) (class : Text) (x : NumberedMembers) → MembersHaveImages r x → AreKnownMembers m x → AreOfClass m class x → AreParts m r class x
 are_parts m r class x leads known are = record {
   statics = fields_part m r class x.static_fields leads.static_fields_lead known.static_fields_known (all_left (FieldIsOf m class) x.static_fields x.instance_fields are.fields_of_class);
   instances = fields_part m r class x.instance_fields leads.instance_fields_lead known.instance_fields_known (all_right (FieldIsOf m class) x.static_fields x.instance_fields are.fields_of_class);
@@ -168,7 +170,7 @@ are_parts m r class x leads known are = record {
 -- ---- all members
 
 pub members_same : (m n whole : Mentions) (r s : Maps) (class : Text) (x y : NumberedMembers) → RanksAreNumbers whole → AllLead m whole r → AllLead n whole s → SetsSame m n r s → CodesSame m n r s → ValuesSame m n r s
-    → MembersHavePlaces r x → MembersHavePlaces s y → AreKnownMembers m x → AreKnownMembers n y → AreOfClass m class x → AreOfClass n class y → (renumbered_members r x ≡ renumbered_members s y) ↔ (members_in m x ≡ members_in n y)
+    → MembersHaveImages r x → MembersHaveImages s y → AreKnownMembers m x → AreKnownMembers n y → AreOfClass m class x → AreOfClass n class y → (renumbered_members r x ≡ renumbered_members s y) ↔ (members_in m x ≡ members_in n y)
 members_same m n whole r s class x y ranks from_first from_second sets codes values leads leads' known known' are are' =
     let mine = are_parts m r class x leads known are in
     let theirs = are_parts n s class y leads' known' are' in

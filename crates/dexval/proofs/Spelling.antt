@@ -101,8 +101,11 @@ mutual
 pub value_put_is : {T E : Type 0} {u w : Vec ℕ} {r : Result T E} (m : Mentions) (x : NumberedValue) → AreRising m → Puts (numbered_bytes x) u w r → (v : Value) → StandsFor m x v → Puts (value_bytes m v) u w r
 value_put_is {u = u} {w = w} {r = r} m x rising h v stands = subst (λ (l : List ℕ). Puts l u w r) (bytes_are m x rising stands.known ∙ ap (value_bytes m) stands.means) h
 
+pub array_bytes_are : (m : Mentions) (xs : NumberedValues) → AreRising m → AreKnown m xs → numbered_array_bytes xs ≡ encoded_array_bytes m (values_in m xs)
+array_bytes_are m xs rising known = array_by m xs (values_bytes_are m xs rising known)
+
 pub array_put_is : {T E : Type 0} {u w : Vec ℕ} {r : Result T E} (m : Mentions) (xs : NumberedValues) → AreRising m → Puts (numbered_array_bytes xs) u w r → (vs : Values) → StandFor m xs vs → Puts (encoded_array_bytes m vs) u w r
-array_put_is {u = u} {w = w} {r = r} m xs rising h vs stand = subst (λ (l : List ℕ). Puts l u w r) (array_by m xs (values_bytes_are m xs rising stand.known) ∙ ap (encoded_array_bytes m) stand.mean) h
+array_put_is {u = u} {w = w} {r = r} m xs rising h vs stand = subst (λ (l : List ℕ). Puts l u w r) (array_bytes_are m xs rising stand.known ∙ ap (encoded_array_bytes m) stand.mean) h
 
 -- of an annotation
 pub annotation_bytes_are : (m : Mentions) (x : NumberedAnnotation) → AreRising m → IsKnownAnnotation m x → numbered_annotation_bytes x ≡ annotation_bytes m (annotation_in m x)

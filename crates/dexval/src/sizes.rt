@@ -9,7 +9,7 @@ ghost use Rattle.dexspec.specs.Spellings.{unsigned_width, signed_width, bits_wid
 ghost use Rattle.dexpool.specs.Numberings.{AreRising};
 ghost use Rattle.dexval.specs.Code.{value_of, element_of, annotation_of, set_of};
 ghost use Rattle.dexval.specs.Numbered.{values_of_list, elements_of_list, StandFor, StandsForAnnotation};
-ghost use Rattle.dexval.specs.Spelled.{numbered_bytes, numbered_array_bytes, encoded_annotation_bytes, numbered_annotation_bytes, numbered_set_bytes};
+ghost use Rattle.dexval.specs.Spelled.{count_bytes, numbered_bytes, numbered_array_bytes, encoded_annotation_bytes, numbered_annotation_bytes, numbered_set_bytes};
 
 use crate::annotation::Annotation;
 use crate::set::AnnotationSet;
@@ -18,8 +18,10 @@ use crate::widths::{bits_width, signed_width, unsigned_width};
 use dexleb::len_u;
 
 // How many bytes a count takes as a uleb128.
+#[tactic(auto, using(crate::proofs::Counts::count_length))]
 fn count_size(count: usize) -> u64
-    ensures { result ≡ length (uleb128 count) }
+    ensures size { result ≡ length (count_bytes count) }
+    ensures bound { result ≤ 5 }
 {
     match count {
         0..=0x7f => 1,

@@ -1,8 +1,8 @@
 -- The numbers in a code item have places where all numbers lead somewhere.
-use Rattle.std.proofs.Common.{◌≡◌, ℕ, ◌<◌, ◌^◌, List, [], ◌∷◌, ◌++◌, length, map, Option, Some, None, option_to_list, refl, arith}
+use Rattle.std.proofs.Common.{◌≡◌, ℕ, ◌+◌, ◌<◌, ◌^◌, List, [], ◌∷◌, ◌++◌, length, map, Option, Some, None, option_to_list, refl, subst, arith}
 use Rattle.std.specs.List.{All, AllZip, flat_map}
-use Rattle.std.specs.Option.{IsSome}
-use Rattle.std.proofs.lemmas.List.Elements.{All-nil, All-cons, All-head, All-tail}
+use Rattle.std.specs.Option.{IsSome, IfSome}
+use Rattle.std.proofs.lemmas.List.Elements.{All-nil, All-cons, All-head, All-tail, All-append}
 use Rattle.dexspec.specs.Mentions.{Mentions, piece_symbols, debug_symbols}
 use Rattle.dexspec.specs.Symbols.{Symbol, TextSymbol, TypeSymbol, ProtoSymbol, FieldSymbol, MethodSymbol}
 use Rattle.dexspec.specs.Code as symbolic
@@ -12,31 +12,27 @@ use Rattle.dexpool.specs.Pools.{count_of}
 use Rattle.dexpool.specs.Laws.{LeadsAll}
 use Rattle.dexpool.specs.Numberings.{IsNumbered, IsOfKind, Maps, image_of, AllLead}
 use Rattle.dexpool.specs.Uses.{Use, IsUseOf}
-use Rattle.dexinsn.specs.Numbered.{NumberedPiece, Instruction, Payload, uses_of, piece_uses, kind_in}
+use Rattle.dexinsn.specs.Numbered.{uses_of}
 use Rattle.dexinsn.specs.Numbered as pieces
+use Rattle.dexinsn.proofs.Fits as insn_proofs
 use Rattle.dexinsn.proofs.Meanings as pieces_proofs
+use Rattle.dexinsn.specs.Fitting.{ImagesFit, IsGreatest, LeadsShort, short_strings}
+use Rattle.dexpool.specs.Orderly.{KeepOrder, LeadDown}
 use Rattle.dexcode.specs.declared.handlers.Catch.{Catch}
-use Rattle.dexcode.specs.Debug.{HasImage, HasPlace}
-use Rattle.dexcode.specs.Numbered.{NumberedHandler, NumberedItem, StandsForCode, handlers_of}
-use Rattle.dexcode.specs.Renumbering.{catch_use, handler_uses, tries_uses, item_uses, HasTypePlace, HasPlaces, HasImages}
+use Rattle.dexcode.specs.declared.tries.Try.{Try}
+use Rattle.dexcode.specs.declared.debug_operation.Operation.{Operation}
+use Rattle.dexcode.specs.Debug.{NumberedDebug, FitsIndex, IsFormedOperation, IsFormedDebug, HasImage, HasPlace, number_uses, operation_uses, debug_uses, name_of, type_of, signature_of}
+use Rattle.dexcode.specs.Numbered.{NumberedHandler, NumberedItem, StandsForCode, IsFormedHandler, AreStored, all_named, handlers_of}
+use Rattle.dexcode.specs.Renumbering.{catch_use, handler_uses, tries_uses, item_uses, HasTypePlace, HasPlaces, HasImages, NumbersFit}
 use Rattle.dexcode.proofs.CodeMeanings.{handlers_in, debug_used}
 use Rattle.dexcode.proofs.CodeUses.{optional_debug_uses, pieces_part, tries_part, debugs_part}
-use Rattle.dexcode.proofs.DebugUses.{all_of}
+use Rattle.dexcode.proofs.DebugUses.{all_of, all_front, all_map}
 use Rattle.dexcode.proofs.TryRows.{IsInRange}
-
--- pieces whose symbols lead somewhere
-pieces_lead : (r : Maps) (ps : List NumberedPiece) → All (HasImage r) (uses_of ps) → All (pieces.HasImage r) ps
-pieces_lead r [] h = All-nil (pieces.HasImage r)
-pieces_lead r (Instruction us None ∷ ps) h = All-cons (pieces.HasImage r) (Instruction us None) ps tt (pieces_lead r ps h)
-pieces_lead r (Instruction us (Some n) ∷ ps) h =
-    let u : Use = record { kind = kind_in us; number = n } in
-    All-cons (pieces.HasImage r) (Instruction us (Some n)) ps (All-head (HasImage r) u (uses_of ps) h) (pieces_lead r ps (All-tail (HasImage r) u (uses_of ps) h))
-pieces_lead r (Payload us ∷ ps) h = All-cons (pieces.HasImage r) (Payload us) ps tt (pieces_lead r ps h)
 
 -- so do the numbers of the code whose symbols do
 pub images_of_uses : (r : Maps) (c : NumberedItem) → All (HasImage r) (item_uses c) → HasImages r c
 images_of_uses r c all = record {
-  pieces_have = pieces_lead r c.body.pieces (pieces_part (HasImage r) c all);
+  pieces_have = insn_proofs.images_of_uses r c.body.pieces (pieces_part (HasImage r) c all);
   catches_have = tries_part (HasImage r) c all;
   debug_has = debugs_part (HasImage r) c all;
 }
@@ -68,7 +64,7 @@ module _ (m : Mentions) (r : Maps) (leads : LeadsAll m r) where
 
 pub images_there : (m : Mentions) (r : Maps) (c : NumberedItem) (x : symbolic.Code) → LeadsAll m r → StandsForCode m c x → HasImages r c
 images_there m r c x leads h = record {
-  pieces_have = pieces_lead r c.body.pieces (uses_lead m r leads (uses_of c.body.pieces) (flat_map piece_symbols x.pieces) (pieces_proofs.uses_stand m c.body.pieces x.pieces h.pieces_are));
+  pieces_have = insn_proofs.images_of_uses r c.body.pieces (uses_lead m r leads (uses_of c.body.pieces) (flat_map piece_symbols x.pieces) (pieces_proofs.uses_stand m c.body.pieces x.pieces h.pieces_are));
   catches_have = handlers_lead m r leads (handlers_of c.tries) (handlers_in m c.tries x.tries h.tries_are);
   debug_has = uses_lead m r leads (optional_debug_uses c.debug) (flat_map debug_symbols (option_to_list x.debug)) (debug_used m c.debug x.debug h.debug_is);
 }
@@ -99,3 +95,93 @@ places_there m n r c l few fits images = record {
   catches_have = all_of (HasImage r) (HasTypePlace r) (tries_uses c.tries) (type_place m n r l few) images.catches_have;
   debug_has = all_of (HasImage r) (HasPlace r) (optional_debug_uses c.debug) (debug_place m n r l few) images.debug_has;
 }
+
+pub uses_of_images : (r : Maps) (c : NumberedItem) → HasImages r c → All (HasImage r) (item_uses c)
+uses_of_images r c h =
+    All-append (HasImage r) (uses_of c.body.pieces) (tries_uses c.tries ++ optional_debug_uses c.debug) (insn_proofs.uses_of_images r c.body.pieces h.pieces_have)
+    (All-append (HasImage r) (tries_uses c.tries) (optional_debug_uses c.debug) h.catches_have h.debug_has)
+
+-- ---- numbers that fit, and lead to none greater
+
+-- what leads somewhere leads to a number
+image_there : (r : Maps) (u : Use) (o : Option ℕ) → image_of r u.kind u.number ≡ o → IsSome o → (j : ℕ) × (image_of r u.kind u.number ≡ Some j)
+image_there r u None e some = absurd cc
+image_there r u (Some j) e some = (j, e)
+
+-- the number has a spelling as a uleb128p1
+abbrev IsSmall : Use → Type 0
+IsSmall u = u.number + 1 < 2 ^ 32
+
+small_number : (kind : SymbolKind) (i : Option ℕ) → FitsIndex i → All IsSmall (number_uses kind i)
+small_number kind None fits = All-nil IsSmall
+small_number kind (Some n) fits = All-cons IsSmall (record { kind = kind; number = n }) [] fits (All-nil IsSmall)
+
+small_operation : (op : Operation) → IsFormedOperation op → All IsSmall (operation_uses op)
+small_operation op formed =
+    All-append IsSmall (number_uses kinds.Text (name_of op)) (number_uses kinds.Typ (type_of op) ++ number_uses kinds.Text (signature_of op)) (small_number kinds.Text (name_of op) formed.name_fits)
+    (All-append IsSmall (number_uses kinds.Typ (type_of op)) (number_uses kinds.Text (signature_of op)) (small_number kinds.Typ (type_of op) formed.type_fits) (small_number kinds.Text (signature_of op) formed.signature_fits))
+
+all_flat : {X : Type 0} (P : X → Type 0) (Q : Use → Type 0) (f : X → List Use) (xs : List X) → ((x : X) → P x → All Q (f x)) → All P xs → All Q (flat_map f xs)
+all_flat P Q f [] step all = All-nil Q
+all_flat P Q f (x ∷ xs) step all = All-append Q (f x) (flat_map f xs) (step x (All-head P x xs all)) (all_flat P Q f xs step (All-tail P x xs all))
+
+small_uses : (d : NumberedDebug) → IsFormedDebug d → All IsSmall (debug_uses d)
+small_uses d formed =
+    All-append IsSmall (flat_map (number_uses kinds.Text) d.parameter_names) (flat_map operation_uses d.operations)
+    (all_flat FitsIndex IsSmall (number_uses kinds.Text) d.parameter_names (small_number kinds.Text) formed.names_fit)
+    (all_flat IsFormedOperation IsSmall operation_uses d.operations small_operation formed.operations_fit)
+
+-- what holds of both lists' members one for one
+all_both : (P Q R : Use → Type 0) (us : List Use) → ((u : Use) → P u → Q u → R u) → All P us → All Q us → All R us
+all_both P Q R [] step p q = All-nil R
+all_both P Q R (u ∷ us) step p q = All-cons R u us (step u (All-head P u us p) (All-head Q u us q)) (all_both P Q R us step (All-tail P u us p) (All-tail Q u us q))
+
+pub debug_cut : (r : Maps) (d : NumberedDebug) → LeadDown r → IsFormedDebug d → All (HasImage r) (debug_uses d) → All (HasPlace r) (debug_uses d)
+debug_cut r d down formed images =
+    all_both IsSmall (HasImage r) (HasPlace r) (debug_uses d) (λ u small some. let at = image_there r u (image_of r u.kind u.number) refl some in (at.0, at.1, omega (arith, small, down u.kind u.number at.0 at.1))) (small_uses d formed) images
+
+types_cut : (r : Maps) (us : List Use) → LeadDown r → All (λ u. u.number < 2 ^ 32) us → All (HasImage r) us → All (HasTypePlace r) us
+types_cut r us down fit images =
+    all_both (λ u. u.number < 2 ^ 32) (HasImage r) (HasTypePlace r) us (λ u small some. let at = image_there r u (image_of r u.kind u.number) refl some in (at.0, at.1, omega (arith, small, down u.kind u.number at.0 at.1))) fit images
+
+optional_cut : (r : Maps) (o : Option NumberedDebug) → LeadDown r → IfSome o IsFormedDebug → All (HasImage r) (optional_debug_uses o) → All (HasPlace r) (optional_debug_uses o)
+optional_cut r None down formed images = All-nil (HasPlace r)
+optional_cut r (Some d) down formed images =
+    All-append (HasPlace r) (debug_uses d) [] (debug_cut r d down formed (all_front (HasImage r) (debug_uses d) [] images)) (All-nil (HasPlace r))
+
+pub code_cut : (r : Maps) (c : NumberedItem) → LeadDown r → NumbersFit c → All (HasImage r) (item_uses c) → HasPlaces r c
+code_cut r c down fit all = record {
+  pieces_have = insn_proofs.places_after_cut r c.body.pieces down fit.pieces_fit (pieces_part (HasImage r) c all);
+  catches_have = types_cut r (tries_uses c.tries) down fit.types_fit (tries_part (HasImage r) c all);
+  debug_has = optional_cut r c.debug down fit.debug_fits (debugs_part (HasImage r) c all);
+}
+
+-- ---- numbers that lead to small ones
+
+image_small : (r : Maps) (k : SymbolKind) (i j : ℕ) → ImagesFit r → image_of r k i ≡ Some j → j + 1 < 2 ^ 32
+image_small r kinds.Text i j fit e = fit.texts_fit i j e
+image_small r kinds.Typ i j fit e = omega (arith, fit.types_fit i j e)
+image_small r kinds.Proto i j fit e = omega (arith, fit.protos_fit i j e)
+image_small r kinds.Field i j fit e = omega (arith, fit.fields_fit i j e)
+image_small r kinds.Method i j fit e = omega (arith, fit.methods_fit i j e)
+
+pub uses_joined : (r : Maps) (us : List Use) → ImagesFit r → All (HasImage r) us → All (HasPlace r) us
+uses_joined r us fit images = all_of (HasImage r) (HasPlace r) us (λ u some. let at = image_there r u (image_of r u.kind u.number) refl some in (at.0, at.1, image_small r u.kind u.number at.0 fit at.1)) images
+
+types_joined : (r : Maps) (us : List Use) → ImagesFit r → All (HasImage r) us → All (HasTypePlace r) us
+types_joined r us fit images = all_of (HasPlace r) (HasTypePlace r) us (λ u place. (place.0, place.1, omega (arith, place.2))) (uses_joined r us fit images)
+
+pub code_joined : (r : Maps) (c : NumberedItem) (greatest : Option ℕ) → KeepOrder r → ImagesFit r → IsGreatest (short_strings c.body.pieces) greatest → LeadsShort r greatest → All (HasImage r) (item_uses c) → HasPlaces r c
+code_joined r c greatest order fit is short all = record {
+  pieces_have = insn_proofs.places_after_join r c.body.pieces greatest order fit is short (pieces_part (HasImage r) c all);
+  catches_have = types_joined r (tries_uses c.tries) fit (tries_part (HasImage r) c all);
+  debug_has = uses_joined r (optional_debug_uses c.debug) fit (debugs_part (HasImage r) c all);
+}
+
+-- ---- numbers as they are stored
+
+handler_small : (h : NumberedHandler) → IsFormedHandler h → All (λ u. u.number < 2 ^ 32) (handler_uses h)
+handler_small h formed = all_map (λ c. c.typ < 2 ^ 32) (λ u. u.number < 2 ^ 32) catch_use h.catches (λ c small. small) formed.types_fit
+
+pub stored_small : (hs : List NumberedHandler) (ts : List Try) → AreStored hs ts → All (λ u. u.number < 2 ^ 32) (tries_uses (all_named hs ts))
+stored_small hs ts stored = subst (λ ks. All (λ u. u.number < 2 ^ 32) (flat_map handler_uses ks)) stored.used (all_flat IsFormedHandler (λ u. u.number < 2 ^ 32) handler_uses hs handler_small stored.formed)

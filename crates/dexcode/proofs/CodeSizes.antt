@@ -2,6 +2,7 @@
 use Rattle.std.proofs.Common.{◌≡◌, ℕ, ◌+◌, ◌*◌, ◌%◌, ◌^◌, ◌<◌, ◌≤◌, ◌==◌, Bool, true, false, if◌then◌else◌, nat_lt, List, [], ◌∷◌, ◌++◌, length, Option, Some, None, option_to_list, refl, ap, sym, arith, length-append}
 use Rattle.std.specs.List.{All, flat_map}
 use Rattle.std.proofs.lemmas.Bool.{lt-ltb}
+use Rattle.std.proofs.lemmas.List.{length-map}
 use Rattle.std.proofs.lemmas.List.Elements.{All-head, All-tail}
 use Rattle.std.proofs.lemmas.List.Sums.{sum_by-cons}
 use Rattle.dexspec.specs.Bytes.{ushort, uint}
@@ -12,7 +13,7 @@ use Rattle.dexspec.proofs.SizeItems.{uleb128-size, sleb128-size, if-size}
 use Rattle.dexinsn.specs.Numbered.{NumberedPiece, NumberedCode, numbered_units, numbered_bytes}
 use Rattle.dexcode.specs.declared.handlers.Catch.{Catch}
 use Rattle.dexcode.specs.declared.tries.Try.{Try}
-use Rattle.dexcode.specs.Numbered.{NumberedHandler, NumberedTry, NumberedItem, all_named, handlers_of, handlers_weight, AreStored}
+use Rattle.dexcode.specs.Numbered.{NumberedHandler, NumberedTry, NumberedItem, named, all_named, handlers_of, handlers_weight, AreStored}
 use Rattle.dexcode.specs.CodePut.{HasShortTypes, handler_count, numbered_catch_bytes, numbered_handler_bytes, numbered_handler_off, numbered_try_bytes, numbered_list_bytes, numbered_table_bytes, gap_bytes, numbered_tries_bytes, numbered_head_bytes, unit_count, numbered_item_bytes, numbered_code_bytes, numbered_tries_weight, numbered_code_weight}
 
 -- ---- units
@@ -64,7 +65,7 @@ catch_all_length : (o : Option ℕ) → length (flat_map uleb128 (option_to_list
 catch_all_length None = omega arith
 catch_all_length (Some address) = omega (arith, length-append (uleb128 address) [], uleb128-size address)
 
-handler_length : (h : NumberedHandler) → HasShortTypes h → length (numbered_handler_bytes h) ≤ 10 + 8 * length h.catches
+pub handler_length : (h : NumberedHandler) → HasShortTypes h → length (numbered_handler_bytes h) ≤ 10 + 8 * length h.catches
 handler_length h typed =
     let catches = flat_map numbered_catch_bytes h.catches in
     let all = flat_map uleb128 (option_to_list h.catch_all) in
@@ -117,6 +118,20 @@ item_length debug_off c ts =
     let head = numbered_head_bytes debug_off (length ts) c (unit_count c) in
     let tries = numbered_tries_bytes (unit_count c) ts in
     omega (arith, length-append head (numbered_bytes c.pieces ++ tries), length-append (numbered_bytes c.pieces) tries, head_length debug_off (length ts) c (unit_count c), units_length c.pieces)
+
+-- without tries there is nothing behind the units
+pub item_alone : (debug_off : ℕ) (c : NumberedCode) (hs : List NumberedHandler) (ts : List Try) → ts ≡ [] → length (numbered_item_bytes debug_off c (all_named hs ts)) ≡ 16 + 2 * unit_count c
+item_alone debug_off c hs ts none =
+    let nothing : length (numbered_tries_bytes (unit_count c) (all_named hs ts)) ≡ 0 = ap (λ us. length (numbered_tries_bytes (unit_count c) (all_named hs us))) none in
+    omega (arith, item_length debug_off c (all_named hs ts), nothing)
+
+-- with tries there are these and their list
+pub item_behind : (debug_off : ℕ) (c : NumberedCode) (hs : List NumberedHandler) (ts : List Try) → AreStored hs ts → (ts ≡ [] → ⊥)
+    → length (numbered_item_bytes debug_off c (all_named hs ts)) ≡ 16 + 2 * unit_count c + length (gap_bytes (unit_count c)) + 8 * length ts + length (numbered_list_bytes hs)
+item_behind debug_off c hs ts stored some =
+    let us = all_named hs ts in
+    let parts = ap length (tries_parts (unit_count c) hs ts stored some) in
+    omega (arith, item_length debug_off c us, parts, length-append (gap_bytes (unit_count c)) (numbered_table_bytes hs us), length-append (flat_map (numbered_try_bytes hs) us) (numbered_list_bytes hs), tries_length hs us, length-map ts (named hs))
 
 -- with the bytes of its alignment it has no more than it weighs
 pub code_length : (debug_off : ℕ) (c : NumberedItem) → All HasShortTypes (handlers_of c.tries) → length (numbered_code_bytes debug_off c) + 3 ≤ numbered_code_weight c

@@ -37,7 +37,7 @@ pub all_of : {X : Type 0} (P Q : X → Type 0) (xs : List X) → ((x : X) → P 
 all_of P Q [] step h = All-nil Q
 all_of P Q (x ∷ xs) step h = All-cons Q x xs (step x (All-head P x xs h)) (all_of P Q xs step (All-tail P x xs h))
 
-all_map : {X Y : Type 0} (P : X → Type 0) (Q : Y → Type 0) (f : X → Y) (xs : List X) → ((x : X) → P x → Q (f x)) → All P xs → All Q (map f xs)
+pub all_map : {X Y : Type 0} (P : X → Type 0) (Q : Y → Type 0) (f : X → Y) (xs : List X) → ((x : X) → P x → Q (f x)) → All P xs → All Q (map f xs)
 all_map P Q f [] step h = All-nil Q
 all_map P Q f (x ∷ xs) step h = All-cons Q (f x) (map f xs) (step x (All-head P x xs h)) (all_map P Q f xs step (All-tail P x xs h))
 

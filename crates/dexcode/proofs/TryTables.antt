@@ -10,11 +10,11 @@ use Rattle.dexspec.specs.Code.{most_handlers}
 use Rattle.dexspec.proofs.OneNumber.{one_uleb128}
 use Rattle.dexspec.proofs.Sequences.{one_sequence}
 use Rattle.dexcode.specs.declared.tries.Try.{Try}
-use Rattle.dexcode.specs.Numbered.{NumberedHandler, NumberedTry, IsWhole, no_handler, named, all_named, handlers_of, handlers_weight}
+use Rattle.dexcode.specs.Numbered.{NumberedHandler, NumberedTry, IsFormedHandler, no_handler, named, all_named, handlers_of, handlers_weight}
 use Rattle.dexcode.specs.Reading.{HandlerAt, IsListAt, TryAt, ListedTryAt, AreApart, AreApartFrom, TriesRead, TryItemsAt}
 use Rattle.dexcode.proofs.OneHandler.{one_handler}
 use Rattle.dexcode.proofs.TriesListed.{one_listed_try}
-use Rattle.dexcode.proofs.Whole.{all_whole}
+use Rattle.dexcode.proofs.Whole.{all_formed}
 
 -- ---- addresses
 
@@ -125,9 +125,9 @@ module _ (starts : List Bool) (types units : ℕ) (b : List ℕ) (o count : ℕ)
   pub found_within : (hs : List NumberedHandler) (numbers : List (Option ℕ)) (ts : List Try) (to : ℕ) → IsListAt starts types b (o + 8 * count) hs numbers → TriesRead units numbers b o count ts to → All (λ t. t.handler < length hs) ts
   found_within hs numbers ts to at read = handlers_named starts types units b (o + 8 * count) hs numbers at o ts (8 * count) read.stand
 
-  -- and each catches something
-  pub found_whole : (hs : List NumberedHandler) (numbers : List (Option ℕ)) → IsListAt starts types b (o + 8 * count) hs numbers → All IsWhole hs
-  found_whole hs numbers at = all_whole starts types b (o + 8 * count + at.count_size) hs at.size at.stand
+  -- and each is formed
+  pub found_formed : (hs : List NumberedHandler) (numbers : List (Option ℕ)) → IsListAt starts types b (o + 8 * count) hs numbers → All IsFormedHandler hs
+  found_formed hs numbers at = all_formed starts types b (o + 8 * count + at.count_size) hs at.size at.stand
 
   -- what stands there names handlers of the list that was read
   back : ((i : ℕ) → get_or b i 0 < 256) → (hs : List NumberedHandler) (numbers : List (Option ℕ)) → IsListAt starts types b (o + 8 * count) hs numbers → (ss : List NumberedTry) → TryItemsAt starts types units b o count ss

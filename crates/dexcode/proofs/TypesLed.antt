@@ -3,7 +3,7 @@ use Rattle.std.proofs.Common.{◌≡◌, ℕ, ◌+◌, ◌*◌, ◌<◌, Bool, t
 use Rattle.std.specs.Prelude.{sum_by}
 use Rattle.std.specs.Bool.{Decides, one_answer}
 use Rattle.std.specs.Option.{unwrap_or}
-use Rattle.std.specs.List.{All}
+use Rattle.std.specs.List.{All, flat_map}
 use Rattle.std.proofs.lemmas.List.{length-map, get_or-map}
 use Rattle.std.proofs.lemmas.List.Elements.{All-nil, All-cons, All-head, All-tail}
 use Rattle.std.proofs.lemmas.List.Sums.{sum_by-cons}
@@ -19,7 +19,7 @@ use Rattle.dexcode.specs.Renumbering.{catch_use, handler_uses, tries_uses, HasTy
 use Rattle.dexcode.proofs.DebugUses.{all_parts}
 use Rattle.dexcode.proofs.Images.{distinct_map}
 use Rattle.dexcode.proofs.Listed.{below_or_not}
-use Rattle.dexcode.proofs.Whole.{whole_mapped}
+use Rattle.dexcode.proofs.Whole.{formed_led}
 
 -- what holds of the images holds of the members
 pub all_back_map : {X Y : Type 0} (P : Y → Type 0) (f : X → Y) (xs : List X) → All P (map f xs) → All (λ x. P (f x)) xs
@@ -135,7 +135,7 @@ stored_led r hs ts apart all are = record {
   used = ap (map (renumbered_handler r)) are.used ∙ sym (handlers_led r apart (all_named hs ts) all) ∙ ap handlers_of (sym (named_led r hs ts are.within));
   few = are.few;
   light = omega (arith, weight_led r hs, are.light);
-  whole = whole_mapped (renumbered_handler r) (λ h. refl) (λ h. length-map h.catches (renumbered_catch r)) hs are.whole;
+  formed = formed_led r hs (all_parts (HasTypePlace r) handler_uses hs (subst (λ ks. All (HasTypePlace r) (flat_map handler_uses ks)) (sym are.used) all)) are.formed;
 }
 
 -- tries with their handlers, led on

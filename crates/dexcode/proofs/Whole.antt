@@ -1,37 +1,66 @@
--- Handlers that catch no type have an address for all else.
-use Rattle.std.proofs.Common.{◌≡◌, ℕ, ◌+◌, ◌<◌, Bool, true, false, List, [], ◌∷◌, ◌++◌, length, map, get_or, subst, sym, ◌∙◌, if◌then◌else◌, arith}
+-- Handlers that catch no type have an address for all else, and the numbers of types have 32 bits.
+use Rattle.std.proofs.Common.{◌≡◌, ℕ, ◌+◌, ◌<◌, Bool, true, false, List, [], ◌∷◌, ◌++◌, length, map, get_or, ◌^◌, subst, sym, ap, if◌then◌else◌, arith}
 use Rattle.std.proofs.lemmas.Int.{ints}
 use Rattle.std.specs.List.{All, list_any}
-use Rattle.std.proofs.lemmas.List.Elements.{All-nil, All-cons, All-head, All-tail, All-push, All-get_or}
+use Rattle.std.proofs.lemmas.List.Elements.{All-nil, All-cons, All-head, All-tail, All-push, All-get_or, All-weaker}
+use Rattle.std.proofs.lemmas.List.{length-map}
+use Rattle.std.specs.Option.{unwrap_or}
 use Rattle.indexmap.specs.IndexSet.{insert_key}
 use Rattle.dexspec.specs.Lists.{Sequence}
-use Rattle.dexcode.specs.Numbered.{NumberedHandler, IsWhole, same_handler, no_handler}
-use Rattle.dexcode.specs.Reading.{CatchAllAt, HandlerAt}
+use Rattle.dexpool.specs.Numberings.{Maps}
+use Rattle.dexcode.specs.declared.handlers.Catch.{Catch}
+use Rattle.dexcode.specs.Numbered.{NumberedHandler, IsWhole, IsFormedHandler, same_handler, no_handler}
+use Rattle.dexcode.specs.Reading.{CatchAt, CatchAllAt, HandlerAt}
+use Rattle.dexcode.specs.Renumbering.{catch_use, handler_uses, HasTypePlace, led_type, renumbered_catch, renumbered_handler}
 use Rattle.dexcode.proofs.Images.{seq_all}
 
 -- what stands as a handler is whole
 module _ (starts : List Bool) (types : ℕ) (b : List ℕ) where
+  one_fits : (o : ℕ) (c : Catch) (n : ℕ) → CatchAt starts types b o c n → c.typ < 2 ^ 32
+  one_fits o c n at = at.index_is.spelled.in_range
+
   one_whole : (o : ℕ) (h : NumberedHandler) (n : ℕ) → HandlerAt starts types b o h n → IsWhole h
   one_whole o h n at none =
       let positive = subst (λ a. CatchAllAt starts at.count b (o + at.count_size + at.catches_size) a at.all_size) none at.all in
       omega (arith, ints, positive.0, at.many)
 
-  pub all_whole : (o : ℕ) (hs : List NumberedHandler) (n : ℕ) → Sequence (HandlerAt starts types) b o hs n → All IsWhole hs
-  all_whole = seq_all (HandlerAt starts types) IsWhole b one_whole
+  one_formed : (o : ℕ) (h : NumberedHandler) (n : ℕ) → HandlerAt starts types b o h n → IsFormedHandler h
+  one_formed o h n at = record {
+    whole = one_whole o h n at;
+    types_fit = seq_all (CatchAt starts types) (λ c. c.typ < 2 ^ 32) b one_fits (o + at.count_size) h.catches at.catches_size at.catches_are;
+  }
 
-insert_whole : (there : Bool) (hs : List NumberedHandler) (h : NumberedHandler) → All IsWhole hs → IsWhole h → All IsWhole (if there then hs else hs ++ h ∷ [])
-insert_whole true hs h all whole = all
-insert_whole false hs h all whole = All-push IsWhole hs h all whole
+  pub all_formed : (o : ℕ) (hs : List NumberedHandler) (n : ℕ) → Sequence (HandlerAt starts types) b o hs n → All IsFormedHandler hs
+  all_formed = seq_all (HandlerAt starts types) IsFormedHandler b one_formed
 
--- with the handler of one more try they are whole
-pub whole_more : (listed hs hs' : List NumberedHandler) (place : ℕ) → place < length listed → All IsWhole listed → All IsWhole hs → hs' ≡ insert_key same_handler hs (get_or listed place no_handler) → All IsWhole hs'
-whole_more listed hs hs' place lt whole all inserted =
+insert_formed : (there : Bool) (hs : List NumberedHandler) (h : NumberedHandler) → All IsFormedHandler hs → IsFormedHandler h → All IsFormedHandler (if there then hs else hs ++ h ∷ [])
+insert_formed true hs h all formed = all
+insert_formed false hs h all formed = All-push IsFormedHandler hs h all formed
+
+-- with the handler of one more try they are formed
+pub formed_more : (listed hs hs' : List NumberedHandler) (place : ℕ) → place < length listed → All IsFormedHandler listed → All IsFormedHandler hs → hs' ≡ insert_key same_handler hs (get_or listed place no_handler) → All IsFormedHandler hs'
+formed_more listed hs hs' place lt formed all inserted =
     let h = get_or listed place no_handler in
-    subst (All IsWhole) (sym inserted) (insert_whole (list_any (same_handler h) hs) hs h all (All-get_or IsWhole listed place no_handler lt whole))
+    subst (All IsFormedHandler) (sym inserted) (insert_formed (list_any (same_handler h) hs) hs h all (All-get_or IsFormedHandler listed place no_handler lt formed))
 
--- handlers with other types in place of theirs are
-pub whole_mapped : (f : NumberedHandler → NumberedHandler) → ((h : NumberedHandler) → (f h).catch_all ≡ h.catch_all) → ((h : NumberedHandler) → length (f h).catches ≡ length h.catches) → (hs : List NumberedHandler) → All IsWhole hs → All IsWhole (map f hs)
-whole_mapped f kept as_many [] all = All-nil IsWhole
-whole_mapped f kept as_many (h ∷ hs) all =
-    let first : IsWhole (f h) = λ none. let some = All-head IsWhole h hs all (sym (kept h) ∙ none) in omega (arith, some, as_many h) in
-    All-cons IsWhole (f h) (map f hs) first (whole_mapped f kept as_many hs (All-tail IsWhole h hs all))
+-- the handlers of which each is formed are whole
+pub wholes : (hs : List NumberedHandler) → All IsFormedHandler hs → All IsWhole hs
+wholes hs all = All-weaker IsFormedHandler IsWhole (λ h formed. formed.whole) hs all
+
+-- types led on to places
+types_led : (r : Maps) (cs : List Catch) → All (HasTypePlace r) (map catch_use cs) → All (λ c. c.typ < 2 ^ 32) (map (renumbered_catch r) cs)
+types_led r [] all = All-nil (λ (c : Catch). c.typ < 2 ^ 32)
+types_led r (c ∷ cs) all =
+    let place = All-head (HasTypePlace r) (catch_use c) (map catch_use cs) all in
+    let is : led_type r c.typ ≡ place.0 = ap (λ o. unwrap_or o c.typ) place.1 in
+    All-cons (λ (c : Catch). c.typ < 2 ^ 32) (renumbered_catch r c) (map (renumbered_catch r) cs) (omega (arith, is, place.2)) (types_led r cs (All-tail (HasTypePlace r) (catch_use c) (map catch_use cs) all))
+
+-- handlers led on are formed
+pub formed_led : (r : Maps) (hs : List NumberedHandler) → All (λ h. All (HasTypePlace r) (handler_uses h)) hs → All IsFormedHandler hs → All IsFormedHandler (map (renumbered_handler r) hs)
+formed_led r [] places all = All-nil IsFormedHandler
+formed_led r (h ∷ hs) places all =
+    let formed = All-head IsFormedHandler h hs all in
+    let whole : IsWhole (renumbered_handler r h) = λ none. let some = formed.whole none in omega (arith, some, length-map h.catches (renumbered_catch r)) in
+    All-cons IsFormedHandler (renumbered_handler r h) (map (renumbered_handler r) hs)
+    (record { whole = whole; types_fit = types_led r h.catches (All-head (λ h. All (HasTypePlace r) (handler_uses h)) h hs places) })
+    (formed_led r hs (All-tail (λ h. All (HasTypePlace r) (handler_uses h)) h hs places) (All-tail IsFormedHandler h hs all))

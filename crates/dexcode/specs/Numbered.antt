@@ -43,6 +43,11 @@ handlers_weight hs = 5 + sum_by (λ h. 10 + 8 * length h.catches) hs
 abbrev pub IsWhole : NumberedHandler → Type 0
 IsWhole h = h.catch_all ≡ None → 0 < length h.catches
 
+-- so it does, and the number of each type has 32 bits
+pub record IsFormedHandler (h : NumberedHandler) : Type 0 where
+  pub whole : IsWhole h
+  pub types_fit : All (λ c. c.typ < 2 ^ 32) h.catches
+
 -- ---- as they are stored: tries with the number of a handler
 
 -- what stands in the place of a handler that is not there
@@ -58,13 +63,13 @@ abbrev pub all_named : List NumberedHandler → List Try → List NumberedTry
 all_named hs ts = map (named hs) ts
 
 -- each names a handler of the list, and the list has those that are named, each once, in order of first use; tries can
--- be counted in 16 bits, and the handlers weigh no more than they may, and each catches something
+-- be counted in 16 bits, and the handlers weigh no more than they may, and each is formed
 pub record AreStored (hs : List NumberedHandler) (ts : List Try) : Type 0 where
   pub within : All (λ t. t.handler < length hs) ts
   pub used : hs ≡ handlers_of (all_named hs ts)
   pub few : length ts < 2 ^ 16
   pub light : handlers_weight hs ≤ symbolic.most_handlers
-  pub whole : All IsWhole hs
+  pub formed : All IsFormedHandler hs
 
 -- the handlers whose numbers are known are where they are
 pub record AreKnown (listed hs : List NumberedHandler) (numbers : List (Option ℕ)) : Type 0 where

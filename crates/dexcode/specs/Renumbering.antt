@@ -1,14 +1,14 @@
 -- Code items whose symbols are numbers: the symbols that occur, and what becomes of their numbers.
-use Rattle.std.specs.Prelude.{◌≡◌, ℕ, ◌^◌, ◌<◌, true, false, List, ◌++◌, map, All, slice_index_or, Some, option_to_list}
+use Rattle.std.specs.Prelude.{◌≡◌, ℕ, ◌^◌, ◌<◌, true, false, List, ◌++◌, map, All, slice_index_or, Some, IfSome, option_to_list}
 use Rattle.std.specs.List.{flat_map}
 use Rattle.std.specs.Option.{option_map, unwrap_or}
 use Rattle.dexpool.specs.declared.symbols.SymbolKind.TheVariants as kinds
 use Rattle.dexpool.specs.declared.marks.Marks.{Marks}
 use Rattle.dexpool.specs.Numberings.{Maps, image_of}
 use Rattle.dexpool.specs.Uses.{Use, marks_of}
-use Rattle.dexinsn.specs.Numbered.{uses_of, renumbered}
+use Rattle.dexinsn.specs.Numbered.{FitPlaces, uses_of, renumbered}
 use Rattle.dexinsn.specs.Numbered as pieces
-use Rattle.dexcode.specs.Debug.{debug_uses, HasImage, HasPlace, renumbered_debug}
+use Rattle.dexcode.specs.Debug.{IsFormedDebug, debug_uses, HasImage, HasPlace, renumbered_debug}
 use Rattle.dexcode.specs.declared.handlers.Catch.{Catch}
 use Rattle.dexcode.specs.declared.tries.Try.{Try}
 use Rattle.dexcode.specs.Numbered.{NumberedHandler, NumberedTry, NumberedItem, handlers_of, named}
@@ -56,6 +56,12 @@ AreTypesApart r = (i j k : ℕ) → image_of r kinds.Typ i ≡ Some k → image_
 -- the symbol is marked
 abbrev pub IsMarkedUse : Marks → Use → Type 0
 IsMarkedUse marks u = slice_index_or (marks_of u.kind marks) u.number false ≡ true
+
+-- each number fits its place now
+pub record NumbersFit (c : NumberedItem) : Type 0 where
+  pub pieces_fit : FitPlaces c.body.pieces
+  pub types_fit : All (λ u. u.number < 2 ^ 32) (tries_uses c.tries)
+  pub debug_fits : IfSome c.debug IsFormedDebug
 
 -- ---- other numbers
 

@@ -2,12 +2,36 @@
 
 ghost use Rattle.std.specs.Prelude.{◌≡◌, ◌↔◌, IsTrue, All};
 ghost use Rattle.dexpool.specs.Uses.{HasMark, AreMarkedToo};
-ghost use Rattle.dexcode.specs.Renumbering.{item_uses, HasPlaces, renumbered_item};
+ghost use Rattle.dexinsn.specs.Fitting.{IsGreatest, short_strings};
+ghost use Rattle.dexcode.specs.Renumbering.{item_uses, HasPlaces, NumbersFit, renumbered_item};
 
 use crate::code::Code;
 use dexpool::{Marks, Remap};
 
 impl<'a> Code<'a> {
+    /// Each number fits its place: it is below 2^16 in an instruction but for const-string/jumbo, below 2^32 for a type
+    /// that is caught, and below 2^32 - 1 in the debug program. It does nothing: its contract tells what numbers of all
+    /// code are, for the proofs of callers.
+    pub fn numbers_fit(&self)
+        ensures { NumbersFit self.now }
+    {
+        self.pieces.numbers_fit();
+        self.tries.numbers_fit();
+        if let Some(debug) = &self.debug {
+            debug.numbers_fit();
+        }
+    }
+
+    /// The greatest number of a text that a const-string names, not counting const-string/jumbo, or `None` where there is
+    /// no const-string. No memory is taken.
+    ///
+    /// Source: "code_item", the field `insns`.
+    pub fn greatest_short_string(&self) -> Option<u32>
+        ensures { IsGreatest (short_strings self.now.body.pieces) result }
+    {
+        self.pieces.greatest_short_string()
+    }
+
     /// Puts for each number the one that it leads to. No memory is taken.
     ///
     /// Condition: each number leads to one that fits its place, one below 2^16 in an instruction but for

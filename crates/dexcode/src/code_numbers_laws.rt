@@ -1,19 +1,21 @@
 //! Laws of numbered code items. Each function does nothing: its contract is the law, for the callers that cite it.
 
-ghost use Rattle.std.specs.Prelude.{◌^◌, ◌<◌, List, All};
+ghost use Rattle.std.specs.Prelude.{◌↔◌, ◌^◌, ◌<◌, ℕ, List, All, Option};
 ghost use Rattle.std.specs.List.{AllZip};
 ghost use Rattle.dexspec.specs.Code as symbolic;
 ghost use Rattle.dexspec.specs.Mentions.{Mentions, closed, code_symbols};
 ghost use Rattle.dexpool.specs.Numberings.{AreRising, AreMarksOf, Maps, AllLead, marked};
 ghost use Rattle.dexpool.specs.Laws.{LeadsAll};
+ghost use Rattle.dexpool.specs.Orderly.{KeepOrder, LeadDown};
 ghost use Rattle.dexpool.specs.Pools.{count_of};
 ghost use Rattle.dexpool.specs.declared.symbols.SymbolKind.{SymbolKind};
 ghost use Rattle.dexpool.specs.declared.marks.Marks.{Marks};
 ghost use Rattle.dexpool.specs.Uses.{Use, HasMark, AreMarkedToo, IsUseOf};
+ghost use Rattle.dexinsn.specs.Fitting.{ImagesFit, IsGreatest, LeadsShort, short_strings};
 ghost use Rattle.dexinsn.specs.Numbered.{HasPlace};
 ghost use Rattle.dexcode.specs.Debug.{HasImage};
 ghost use Rattle.dexcode.specs.Numbered.{NumberedItem, StandsForCode};
-ghost use Rattle.dexcode.specs.Renumbering.{item_uses, IsMarkedUse, HasPlaces, HasImages, renumbered_item};
+ghost use Rattle.dexcode.specs.Renumbering.{item_uses, IsMarkedUse, HasPlaces, HasImages, NumbersFit, renumbered_item};
 
 /// Under other numbers the code stands for what it stood for. Numbers that lead to places lead somewhere.
 pub fn code_renumber_law()
@@ -34,6 +36,24 @@ pub fn code_kept_law()
     ensures marked { (us : List Use) (old new : Marks) → AreMarkedToo us old new → All (IsMarkedUse new) us }
     ensures images { (m : Mentions) (marks : Marks) (r : Maps) (us : List Use) → AreMarksOf m marks → AllLead m (closed (marked m marks)) r → All (IsMarkedUse marks) us → All (HasImage r) us }
     ensures code { (r : Maps) (c : NumberedItem) → All (HasImage r) (item_uses c) → HasImages r c }
+{}
+
+/// Each number leads somewhere just where each symbol that occurs does.
+pub fn code_images_law()
+    ensures { (r : Maps) (c : NumberedItem) → HasImages r c ↔ All (HasImage r) (item_uses c) }
+{}
+
+/// After a cut: where numbers fit their places, as those of all code do ([`Code::numbers_fit`]), and each that occurs
+/// leads somewhere, to none greater, each leads to one that fits its place.
+pub fn code_cut_law()
+    ensures { (r : Maps) (c : NumberedItem) → LeadDown r → NumbersFit c → All (HasImage r) (item_uses c) → HasPlaces r c }
+{}
+
+/// After a join: where the numbering is not too large, and the greatest short string
+/// ([`Code::greatest_short_string`]) leads below 2^16, each number that leads somewhere leads to one that fits its place.
+/// [`joined_places_law`](dexinsn::joined_places_law) says of the maps of a join that they fit.
+pub fn code_joined_law()
+    ensures { (r : Maps) (c : NumberedItem) (greatest : Option ℕ) → KeepOrder r → ImagesFit r → IsGreatest (short_strings c.body.pieces) greatest → LeadsShort r greatest → All (HasImage r) (item_uses c) → HasPlaces r c }
 {}
 
 /// Where the symbols rise, those that occur are those of the code that it stands for, one for one and in their order.

@@ -4,6 +4,7 @@ ghost use Rattle.std.specs.Prelude.{◌≡◌, ◌++◌, ◌+◌, ◌*◌, ◌^�
 ghost use Rattle.std.specs.List.{flat_map};
 ghost use Rattle.dexspec.specs.Bytes.{ushort, uint};
 ghost use Rattle.dexspec.specs.Code as symbolic;
+ghost use Rattle.dexspec.specs.Code.{most_handlers};
 ghost use Rattle.dexspec.specs.Numbers.{uleb128};
 ghost use Rattle.dexspec.specs.Spellings.{code_bytes};
 ghost use Rattle.dexspec.specs.Weight.{code_weight};
@@ -11,105 +12,40 @@ ghost use Rattle.dexspec.specs.Aside.Writing.{Puts};
 ghost use Rattle.dexinsn.specs.Numbered.{numbered_bytes};
 ghost use Rattle.dexcode.specs.CodePut.{HasShortTypes, AreShort, ArePlaces, gap_bytes, handler_count, numbered_catch_bytes, numbered_handler_bytes, numbered_head_bytes, numbered_item_bytes, numbered_code_bytes, numbered_list_bytes, numbered_table_bytes, numbered_tries_bytes, placed_try_bytes, unit_count};
 ghost use Rattle.dexcode.specs.DebugPut.{Pushes, HasRoomFor};
-ghost use Rattle.dexcode.specs.Numbered.{AreStored, StandsForCode, all_named, handlers_of};
+ghost use Rattle.dexcode.specs.Numbered.{AreStored, StandsForCode, all_named, handlers_of, handlers_weight};
 
 use crate::code::Code;
 use crate::code_laws::{code_bytes_law, code_weight_law};
+use crate::code_len::{handler_count, handler_len, placed_len, unit_count};
 use crate::debug_put::{push_s, push_u};
 use crate::handlers::{Catch, Handler};
 use crate::tries::{Tries, Try};
 use dexhead::{put_u16, put_u32};
 use dexinsn::{Pieces, put_pieces};
-use dexleb::{len_s, len_u};
+use dexleb::len_u;
 use dexpool::Numbering;
 use std::alloc::AllocError;
+
+// Most code has no more handlers than these.
+const FEW_PLACES: usize = 16;
 
 // More handlers than these weigh more than they may.
 const MOST_PLACES: usize = 6_553;
 
-// How many bytes a catch has.
-fn catch_len(catch: &Catch) -> usize
-    requires { catch.now.typ < 2 ^ 16 }
-    ensures len { result ≡ length (numbered_catch_bytes catch.now) }
-    ensures few { result ≤ 8 }
-{
-    len_u(catch.typ) + len_u(catch.address)
-}
-
-// How many bytes catches have.
-fn catches_len(catches: &[Catch]) -> usize
-    requires count { length catches.now < 2 ^ 16 }
-    requires typed { All (λ c. c.typ < 2 ^ 16) catches.now }
-    ensures len { result ≡ length (flat_map numbered_catch_bytes catches.now) }
-    ensures few { result ≤ 8 * length catches.now }
-{
-    let mut len = 0;
-    for catch in catches {
-        len += catch_len(catch);
-    }
-    len
-}
-
-// How many bytes the address for all else has.
-fn catch_all_len(catch_all: Option<u32>) -> usize
-    ensures len { result ≡ length (flat_map uleb128 (option_to_list catch_all)) }
-    ensures few { result ≤ 5 }
-{
-    match catch_all {
-        Some(address) => len_u(address),
-        None => 0,
-    }
-}
-
-// The number of catches, 0 or less where there is an address for all else.
-fn handler_count(handler: &Handler) -> i32
-    requires { length handler.now.catches < 2 ^ 16 }
-    ensures { result ≡ handler_count handler.now }
-{
-    let count = handler.catches().len() as i32;
-    match handler.catch_all() {
-        Some(_) => -count,
-        None => count,
-    }
-}
-
-// How many bytes a handler has.
-fn handler_len(handler: &Handler) -> usize
-    requires count { length handler.now.catches < 2 ^ 16 }
-    requires typed { HasShortTypes handler.now }
-    ensures len { result ≡ length (numbered_handler_bytes handler.now) }
-    ensures few { result ≤ 10 + 8 * length handler.now.catches }
-{
-    len_s(handler_count(handler))
-        + catches_len(handler.catches())
-        + catch_all_len(handler.catch_all())
-}
-
-// How many bytes the list of handlers has.
-fn list_len(handlers: &[Handler]) -> usize
-    requires { AreShort handlers.now }
+// Puts where each handler begins, in bytes from the start of their list. The length of the list is told.
+fn place_handlers(handlers: &[Handler], places: &mut [u16]) -> usize
+    requires short { AreShort handlers.now }
+    requires enough { length handlers.now ≤ length places.old }
+    ensures places { ArePlaces handlers.now places.new }
     ensures len { result ≡ length (numbered_list_bytes handlers.now) }
     ensures few { result ≤ 65535 }
 {
-    let mut len = len_u(handlers.len() as u32);
-    for handler in handlers {
-        len += handler_len(handler);
-    }
-    len
-}
-
-// Where each handler begins, in bytes from the start of the list.
-fn handler_places(handlers: &[Handler]) -> [u16; MOST_PLACES]
-    requires { AreShort handlers.now }
-    ensures { ArePlaces handlers.now result }
-{
-    let mut places = [0; MOST_PLACES];
     let mut place = len_u(handlers.len() as u32);
     for (i, handler) in handlers.iter().enumerate() {
         places[i] = place as u16;
         place += handler_len(handler);
     }
-    places
+    place
 }
 
 // Appends a number of 16 bits, where there is room for it.
@@ -170,7 +106,7 @@ fn push_handler(handler: &Handler, out: &mut Vec<u8>)
 
 // Appends the list of handlers, where there is room for it.
 fn push_list(handlers: &[Handler], out: &mut Vec<u8>)
-    requires short { AreShort handlers.now }
+    requires light { handlers_weight handlers.now ≤ most_handlers }
     requires room { HasRoomFor (numbered_list_bytes handlers.now) out.old }
     ensures { Pushes (numbered_list_bytes handlers.now) out.old out.new }
 {
@@ -180,7 +116,7 @@ fn push_list(handlers: &[Handler], out: &mut Vec<u8>)
 
 // Appends handlers, where there is room for them.
 fn push_handlers(handlers: &[Handler], out: &mut Vec<u8>)
-    requires short { AreShort handlers.now }
+    requires light { handlers_weight handlers.now ≤ most_handlers }
     requires room { HasRoomFor (flat_map numbered_handler_bytes handlers.now) out.old }
     ensures { Pushes (flat_map numbered_handler_bytes handlers.now) out.old out.new }
 {
@@ -211,15 +147,14 @@ fn push_items(tries: &[Try], places: &[u16], out: &mut Vec<u8>)
     }
 }
 
-// Appends tries and the handlers that they name, where there is room for them.
-fn push_table(tries: &[Try], handlers: &[Handler], out: &mut Vec<u8>)
+// Appends tries and the handlers that they name, which begin at the places, where there is room for them.
+fn push_table(tries: &[Try], handlers: &[Handler], places: &[u16], out: &mut Vec<u8>)
     requires stored { AreStored handlers.now tries.now }
-    requires short { AreShort handlers.now }
+    requires placed { ArePlaces handlers.now places.now }
     requires room { HasRoomFor (numbered_table_bytes handlers.now (all_named handlers.now tries.now)) out.old }
     ensures { Pushes (numbered_table_bytes handlers.now (all_named handlers.now tries.now)) out.old out.new }
 {
-    let places = handler_places(handlers);
-    push_items(tries, &places, out);
+    push_items(tries, places, out);
     push_list(handlers, out);
 }
 
@@ -233,18 +168,10 @@ fn push_gap(units: u32, out: &mut Vec<u8>)
     }
 }
 
-// How many bytes that has.
-fn gap_len(units: u32) -> usize
-    ensures len { result ≡ length (gap_bytes units) }
-    ensures few { result ≤ 2 }
-{
-    if units % 2 == 1 { 2 } else { 0 }
-}
-
 // Appends the tries behind so many units, where there is room for them.
-fn push_tries(units: u32, tries: &[Try], handlers: &[Handler], out: &mut Vec<u8>)
+fn push_tries(units: u32, tries: &[Try], handlers: &[Handler], places: &[u16], out: &mut Vec<u8>)
     requires stored { AreStored handlers.now tries.now }
-    requires short { AreShort handlers.now }
+    requires placed { ArePlaces handlers.now places.now }
     requires room { HasRoomFor (numbered_tries_bytes units (all_named handlers.now tries.now)) out.old }
     ensures { Pushes (numbered_tries_bytes units (all_named handlers.now tries.now)) out.old out.new }
 {
@@ -252,27 +179,7 @@ fn push_tries(units: u32, tries: &[Try], handlers: &[Handler], out: &mut Vec<u8>
         return;
     }
     push_gap(units, out);
-    push_table(tries, handlers, out);
-}
-
-// How many bytes there are behind so many units.
-fn tries_len(units: u32, tries: &[Try], handlers: &[Handler]) -> usize
-    requires stored { AreStored handlers.now tries.now }
-    requires short { AreShort handlers.now }
-    ensures len { result ≡ length (numbered_tries_bytes units (all_named handlers.now tries.now)) }
-    ensures few { result < 2 ^ 20 }
-{
-    if tries.is_empty() {
-        return 0;
-    }
-    gap_len(units) + 8 * tries.len() + list_len(handlers)
-}
-
-// How many units the pieces have.
-pub(crate) fn unit_count(pieces: &Pieces<'_>) -> u32
-    ensures { result ≡ unit_count pieces.now }
-{
-    pieces.units()
+    push_table(tries, handlers, places, out);
 }
 
 // Appends the numbers before the units, where there is room for them.
@@ -288,16 +195,6 @@ fn push_head(pieces: &Pieces<'_>, tries: u16, debug_off: u32, out: &mut Vec<u8>)
     push_u32(unit_count(pieces), out);
 }
 
-// How many bytes a code item has.
-fn item_len(pieces: &Pieces<'_>, tries: &[Try], handlers: &[Handler]) -> usize
-    requires stored { AreStored handlers.now tries.now }
-    requires short { AreShort handlers.now }
-    ensures { (debug_off : ℕ) → result ≡ length (numbered_item_bytes debug_off pieces.now (all_named handlers.now tries.now)) }
-{
-    let units = unit_count(pieces);
-    16 + 2 * units as usize + tries_len(units, tries, handlers)
-}
-
 // Appends the units, where there is room for them.
 fn push_units(pieces: &Pieces<'_>, numbering: &Numbering<'_>, out: &mut Vec<u8>)
     requires { HasRoomFor (numbered_bytes pieces.now.pieces) out.old }
@@ -306,23 +203,43 @@ fn push_units(pieces: &Pieces<'_>, numbering: &Numbering<'_>, out: &mut Vec<u8>)
     put_pieces(pieces, numbering, out).unwrap();
 }
 
-// Appends a code item, where there is room for it.
+// Appends a code item whose handlers begin at the places, where there is room for it.
 fn push_item(
     pieces: &Pieces<'_>,
-    tries: &[Try],
-    handlers: &[Handler],
+    tries: &Tries,
+    places: &[u16],
     debug_off: u32,
     numbering: &Numbering<'_>,
     out: &mut Vec<u8>,
 )
-    requires stored { AreStored handlers.now tries.now }
-    requires short { AreShort handlers.now }
-    requires room { HasRoomFor (numbered_item_bytes debug_off pieces.now (all_named handlers.now tries.now)) out.old }
-    ensures { Pushes (numbered_item_bytes debug_off pieces.now (all_named handlers.now tries.now)) out.old out.new }
+    requires placed { ArePlaces (handlers_of tries.now) places.now }
+    requires room { HasRoomFor (numbered_item_bytes debug_off pieces.now tries.now) out.old }
+    ensures { Pushes (numbered_item_bytes debug_off pieces.now tries.now) out.old out.new }
 {
-    push_head(pieces, tries.len() as u16, debug_off, out);
+    let (items, handlers) = tries.parts();
+    push_head(pieces, items.len() as u16, debug_off, out);
     push_units(pieces, numbering, out);
-    push_tries(unit_count(pieces), tries, handlers, out);
+    push_tries(unit_count(pieces), items, handlers, places, out);
+}
+
+// Appends a code item. There is room for the place of each of its handlers.
+fn put_placed(
+    pieces: &Pieces<'_>,
+    tries: &Tries,
+    places: &mut [u16],
+    debug_off: u32,
+    numbering: &Numbering<'_>,
+    out: &mut Vec<u8>,
+) -> Result<(), AllocError>
+    requires short { All HasShortTypes (handlers_of tries.now) }
+    requires enough { length (handlers_of tries.now) ≤ length places.old }
+    ensures { Puts (numbered_item_bytes debug_off pieces.now tries.now) out.old out.new result }
+{
+    let (items, handlers) = tries.parts();
+    let list = place_handlers(handlers, places);
+    out.reserve(placed_len(unit_count(pieces), items, list))?;
+    push_item(pieces, tries, places, debug_off, numbering, out);
+    Ok(())
 }
 
 // Appends a code item.
@@ -336,10 +253,25 @@ fn put_item(
     requires { All HasShortTypes (handlers_of tries.now) }
     ensures { Puts (numbered_item_bytes debug_off pieces.now tries.now) out.old out.new result }
 {
-    let (items, handlers) = tries.parts();
-    out.reserve(item_len(pieces, items, handlers))?;
-    push_item(pieces, items, handlers, debug_off, numbering, out);
-    Ok(())
+    let (_, handlers) = tries.parts();
+    if handlers.len() <= FEW_PLACES {
+        return put_placed(
+            pieces,
+            tries,
+            &mut [0; FEW_PLACES],
+            debug_off,
+            numbering,
+            out,
+        );
+    }
+    put_placed(
+        pieces,
+        tries,
+        &mut [0; MOST_PLACES],
+        debug_off,
+        numbering,
+        out,
+    )
 }
 
 /// Appends the code_item, whose debug program is at an offset in bytes, or is none at 0: registers, units with the
@@ -351,7 +283,8 @@ fn put_item(
 /// types or fewer is.
 ///
 /// Error: the memory was refused, and the vector is then as it was. It is not refused where the spare room is at least
-/// what the code weighs, less the 3 bytes of an alignment, which [`Code::weight`] tells.
+/// the length of the code_item, which [`Code::item_len`] tells, or what the code weighs, less the 3 bytes of an alignment,
+/// which [`Code::weight`] tells.
 ///
 /// Source: "code_item".
 pub fn put_code(

@@ -10,7 +10,7 @@ ghost use Rattle.dexcode.specs.Numbered.{StandsForCode, handlers_weight};
 
 use crate::code::Code;
 use crate::code_laws::code_weight_law;
-use crate::code_put::unit_count;
+use crate::code_len::unit_count;
 use crate::handlers::Handler;
 use crate::tries::Tries;
 

@@ -9,7 +9,9 @@ ghost use Rattle.dexspec.specs.Weight.{debug_weight};
 ghost use Rattle.dexpool.specs.Numberings.{AreRising, AreMarksOf, Maps, AllLead};
 ghost use Rattle.dexpool.specs.declared.marks.Marks.{Marks};
 ghost use Rattle.dexpool.specs.Uses.{HasMark, IsUseOf};
-ghost use Rattle.dexcode.specs.Debug.{NumberedDebug, StandsForDebug, bare, numbered_debug_bytes, debug_uses, HasImage, HasPlace, renumbered_debug};
+ghost use Rattle.dexpool.specs.Orderly.{LeadDown};
+ghost use Rattle.dexinsn.specs.Fitting.{ImagesFit};
+ghost use Rattle.dexcode.specs.Debug.{NumberedDebug, IsFormedDebug, StandsForDebug, bare, numbered_debug_bytes, debug_uses, HasImage, HasPlace, renumbered_debug};
 
 use crate::debug::Debug;
 use crate::debug_operation::Operation;
@@ -31,6 +33,13 @@ pub fn debug_bare_law()
 pub fn debug_renumber_law()
     ensures keeps { (m n : Mentions) (r : Maps) (d : NumberedDebug) (x : symbolic.Debug) → AllLead m n r → All (HasImage r) (debug_uses d) → StandsForDebug m d x → StandsForDebug n (renumbered_debug r d) x }
     ensures places { (r : Maps) (d : NumberedDebug) → All (HasPlace r) (debug_uses d) → All (HasImage r) (debug_uses d) }
+{}
+
+/// After a cut: where numbers fit their places, and each that occurs leads somewhere, to none greater, each leads to one
+/// that fits its place. After a join the same, where the numbering is not too large.
+pub fn debug_places_law()
+    ensures cut { (r : Maps) (d : NumberedDebug) → LeadDown r → IsFormedDebug d → All (HasImage r) (debug_uses d) → All (HasPlace r) (debug_uses d) }
+    ensures joined { (r : Maps) (d : NumberedDebug) → ImagesFit r → All (HasImage r) (debug_uses d) → All (HasPlace r) (debug_uses d) }
 {}
 
 /// The symbols that occur are those of the debug program that it stands for, one for one and in their order. Where

@@ -5,7 +5,7 @@ ghost use Rattle.std.specs.List.{flat_map};
 ghost use Rattle.dexspec.specs.Weight.{debug_weight};
 ghost use Rattle.dexpool.specs.declared.symbols.SymbolKind.TheVariants as kinds;
 ghost use Rattle.dexpool.specs.Uses.{HasMark, AreMarkedToo};
-ghost use Rattle.dexcode.specs.Debug.{bare, number_uses, operation_uses, operation_weight, debug_uses, HasPlace, FitsIndex, IsFormedOperation, image_or_none, renumbered_operation, renumbered_debug};
+ghost use Rattle.dexcode.specs.Debug.{bare, number_uses, operation_uses, operation_weight, debug_uses, HasPlace, FitsIndex, IsFormedOperation, IsFormedDebug, image_or_none, renumbered_operation, renumbered_debug};
 
 use crate::debug::Debug;
 use crate::debug_operation::Operation;
@@ -125,6 +125,14 @@ impl Debug {
         ensures { result ≡ debug_weight (bare self.now) }
     {
         11 + 5 * self.parameter_names.len() as u64 + operations_weight(&self.operations)
+    }
+
+    /// Each number is below 2^32 - 1, and there are less than 2^32 names and less than 2^30 operations. It does nothing:
+    /// its contract tells what every debug program is, for the proofs of callers.
+    pub fn numbers_fit(&self)
+        ensures { IsFormedDebug self.now }
+    {
+        let _line_start = self.line_start;
     }
 
     /// Puts for each number the one that it leads to. No memory is taken.

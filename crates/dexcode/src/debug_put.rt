@@ -3,10 +3,12 @@
 ghost use Rattle.std.specs.Prelude.{◌≡◌, ◌∷◌, [], ◌++◌, ◌+◌, ◌*◌, ◌^◌, ◌<◌, ◌≤◌, All, IsOk, length, vec_len, vec_capacity};
 ghost use Rattle.std.specs.List.{flat_map};
 ghost use Rattle.dexspec.specs.Debug as symbolic;
+ghost use Rattle.dexspec.specs.Mentions.{Mentions};
 ghost use Rattle.dexspec.specs.Numbers.{uleb128, sleb128, uleb128p1};
 ghost use Rattle.dexspec.specs.Spellings.{debug_bytes};
 ghost use Rattle.dexspec.specs.Weight.{debug_weight};
 ghost use Rattle.dexspec.specs.Aside.Writing.{Puts};
+ghost use Rattle.dexpool.specs.Numberings.{AreRising};
 ghost use Rattle.dexcode.specs.Debug.{StandsForDebug, FitsIndex, IsFormedOperation, bare, numbered_operation_bytes, numbered_debug_bytes};
 ghost use Rattle.dexcode.specs.DebugPut.{Pushes, HasRoomFor};
 
@@ -83,14 +85,20 @@ fn operations_len(operations: &[Operation]) -> usize
     len
 }
 
-// How many bytes a debug program has.
-fn debug_len(debug: &Debug) -> usize
-    ensures { result ≡ length (numbered_debug_bytes debug.now) }
-{
-    let names = names_len(&debug.parameter_names);
-    let operations = operations_len(&debug.operations);
-    let count = debug.parameter_names.len() as u32;
-    len_u(debug.line_start) + len_u(count) + names + operations + 1
+impl Debug {
+    /// The number of bytes that [`put_debug`] appends. No memory is taken.
+    ///
+    /// Source: "debug_info_item".
+    pub fn item_len(&self) -> usize
+        ensures numbered { result ≡ length (numbered_debug_bytes self.now) }
+        ensures symbolic { (m : Mentions) (x : symbolic.Debug) → AreRising m → StandsForDebug m self.now x → result ≡ length (debug_bytes m x) }
+    {
+        debug_bytes_law();
+        let names = names_len(&self.parameter_names);
+        let operations = operations_len(&self.operations);
+        let count = self.parameter_names.len() as u32;
+        len_u(self.line_start) + len_u(count) + names + operations + 1
+    }
 }
 
 // Appends a byte, where there is room for it.
@@ -227,7 +235,7 @@ fn push_debug(debug: &Debug, out: &mut Vec<u8>)
 fn put_numbered(debug: &Debug, out: &mut Vec<u8>) -> Result<(), AllocError>
     ensures { Puts (numbered_debug_bytes debug.now) out.old out.new result }
 {
-    out.reserve(debug_len(debug))?;
+    out.reserve(debug.item_len())?;
     push_debug(debug, out);
     Ok(())
 }
@@ -235,8 +243,8 @@ fn put_numbered(debug: &Debug, out: &mut Vec<u8>) -> Result<(), AllocError>
 /// Appends the debug_info_item, every number in its shortest spelling. It is that of the symbolic debug program that
 /// this one stands for in the numbering, each index the rank of its symbol.
 ///
-/// It fails only for want of memory, and not where the spare room is at least the debug program's weight, which
-/// [`Debug::weight`] tells; the vector is then as it was.
+/// It fails only for want of memory, and not where the spare room is at least the item's length, which
+/// [`Debug::item_len`] tells, or its weight, which [`Debug::weight`] tells; the vector is then as it was.
 ///
 /// Source: "debug_info_item".
 pub fn put_debug(

@@ -6,13 +6,16 @@
 
 pub use code::Code;
 pub use code_laws::{code_bytes_law, code_types_law, code_weight_law};
-pub use code_numbers_laws::{code_kept_law, code_places_law, code_renumber_law, code_uses_law};
+pub use code_numbers_laws::{
+    code_cut_law, code_images_law, code_joined_law, code_kept_law, code_places_law,
+    code_renumber_law, code_uses_law,
+};
 pub use code_put::put_code;
 pub use code_reading::read_code;
 pub use debug::Debug;
 pub use debug_laws::{
-    debug_bare_law, debug_bytes_law, debug_equality_law, debug_renumber_law, debug_uses_law,
-    operation_equality_law,
+    debug_bare_law, debug_bytes_law, debug_equality_law, debug_places_law, debug_renumber_law,
+    debug_uses_law, operation_equality_law,
 };
 pub use debug_operation::Operation;
 pub use debug_positions::positions;
@@ -25,6 +28,7 @@ pub use tries::{Tries, Try};
 mod catches;
 mod code;
 mod code_laws;
+mod code_len;
 mod code_numbers;
 mod code_numbers_laws;
 mod code_put;

@@ -3,7 +3,7 @@
 ghost use Rattle.std.specs.Prelude.{◌≡◌, ◌↔◌, ◌^◌, ◌<◌, ◌≤◌, IsTrue, List, [], All, length, slice_index_or, IfOk, IfSome, IfNone};
 ghost use Rattle.indexmap.specs.IndexSet.{insert_key};
 ghost use Rattle.dexspec.specs.Code.{most_handlers};
-ghost use Rattle.dexcode.specs.Numbered.{NumberedHandler, AreKnown, AreStored, IsWhole, all_named, handlers_of, handlers_weight, no_handler, same_handler};
+ghost use Rattle.dexcode.specs.Numbered.{NumberedHandler, AreKnown, AreStored, IsFormedHandler, all_named, handlers_of, handlers_weight, no_handler, same_handler};
 
 use crate::handlers::Handler;
 use indexmap::IndexSet;
@@ -53,12 +53,13 @@ impl Tries {
         &self.tries
     }
 
-    /// The handlers that tries name, each once and in order of first use. One that catches no type catches all else.
+    /// The handlers that tries name, each once and in order of first use. One that catches no type catches all else, and
+    /// the number of each type that is caught has 32 bits.
     ///
     /// Source: "encoded_catch_handler".
     pub fn handlers(&self) -> &[Handler]
         ensures handlers { result.now ≡ handlers_of self.now }
-        ensures whole { All IsWhole result.now }
+        ensures formed { All IsFormedHandler result.now }
     {
         &self.handlers
     }
@@ -101,7 +102,7 @@ impl Tries {
         listed: &[Handler],
     ) -> Result<Option<Tries>, AllocError>
         requires within { All (λ t. t.handler < length listed.now) tries.now }
-        requires whole { All IsWhole listed.now }
+        requires formed { All IsFormedHandler listed.now }
         requires few { length tries.now < 2 ^ 16 }
         ensures some { IfOk result (λ all. IfSome all (λ some. some ≡ all_named listed.now tries.now)) }
         ensures light { IfOk result (λ all. IfSome all (λ some. handlers_weight (handlers_of some) ≤ most_handlers)) }

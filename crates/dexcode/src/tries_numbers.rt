@@ -1,6 +1,6 @@
 //! Numbers of types in tries, and what becomes of them.
 
-ghost use Rattle.std.specs.Prelude.{◌≡◌, All, map};
+ghost use Rattle.std.specs.Prelude.{◌≡◌, ◌<◌, ◌^◌, All, map};
 ghost use Rattle.std.specs.List.{flat_map};
 ghost use Rattle.dexpool.specs.Uses.{HasMark, AreMarkedToo};
 ghost use Rattle.dexcode.specs.Renumbering.{catch_use, handler_uses, tries_uses, HasTypePlace, renumbered_catch, renumbered_handler, renumbered_try};
@@ -82,6 +82,13 @@ fn mark_handlers(handlers: &[Handler], marks: &mut Marks)
 }
 
 impl Tries {
+    // The number of each type that is caught has 32 bits.
+    pub(crate) fn numbers_fit(&self)
+        ensures { All (λ u. u.number < 2 ^ 32) (tries_uses self.now) }
+    {
+        let _handlers = &self.handlers;
+    }
+
     // Puts for each type that is caught the number that it leads to. No memory is taken.
     pub(crate) fn renumber(&mut self, remap: &Remap)
         requires { All (HasTypePlace remap.now) (tries_uses self.old) }

@@ -16,6 +16,9 @@ use crate::piece::piece_size;
 use crate::units::{int_at, opcode_in};
 use std::alloc::Global;
 
+// Room for the pieces of so many units is reserved at once.
+const MOST_RESERVED: usize = 4_096;
+
 /// Units that are cut to their end, with a mark for each unit, which says whether an instruction or
 /// payload begins there.
 #[derive(Drop)]
@@ -33,7 +36,10 @@ impl<'u, 'a> Marked<'u, 'a> {
         ensures units { IfOk result (λ marked. marked.units.now ≡ units.now) }
         ensures fault { IfErr result (IsCutFault units.now) }
     {
-        let mut cuts = Vec::new(alloc);
+        let mut cuts = match Vec::with_capacity(alloc, units.len().min(MOST_RESERVED)) {
+            Ok(cuts) => cuts,
+            Err(_) => return Err(CodeFault::Memory),
+        };
         let mut marks = match vec![in alloc; false; units.len()] {
             Ok(marks) => marks,
             Err(_) => return Err(CodeFault::Memory),

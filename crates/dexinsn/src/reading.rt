@@ -66,7 +66,10 @@ fn read_indices(
     ensures indices { IfOk result (λ indices. AreIndicesOf units.now pools.now (cuts_of cuts.now) indices.items) }
     ensures fault { IfErr result (IsOutOfRange units.now pools.now (cuts_of cuts.now)) }
 {
-    let mut indices = Vec::new(alloc);
+    let mut indices = match Vec::with_capacity(alloc, cuts.len()) {
+        Ok(indices) => indices,
+        Err(_) => return Err(ItemFault::Memory),
+    };
     for cut in cuts {
         match kind_at(units, cut.unit) {
             Some(kind) => {
@@ -82,6 +85,7 @@ fn read_indices(
             None => {}
         }
     }
+    indices.shrink_to_fit();
     Ok(indices)
 }
 

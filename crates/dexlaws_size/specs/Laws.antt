@@ -8,11 +8,17 @@ use Rattle.dexspec.specs.Code.{Code, Handler, handlers_weight}
 use Rattle.dexspec.specs.Values.{Value, Values, ThenValue, Elements}
 use Rattle.dexspec.specs.Annotations.{Annotation}
 use Rattle.dexspec.specs.Classes.{Definition, declared_fields, declared_methods}
-use Rattle.dexspec.specs.Mentions.{Mentions}
+use Rattle.dexspec.specs.Mentions.{Mentions, mentions}
 use Rattle.dexspec.specs.Weight.{code_weight, value_weight, values_weight, elements_weight, annotation_weight, static_values_weight, mentions_weight, body_weight}
+use Rattle.dexspec.specs.Depth.{in_class_order}
 use Rattle.dexspec.specs.Spellings.{type_index, handler_off, handler_list_bytes, code_bytes, value_bytes, values_bytes, elements_bytes, encoded_array_bytes, annotation_bytes, class_data_bytes}
-use Rattle.dexspec.specs.Placing.{SetOffsets, end_from, section_bytes, directory_bytes, Ordered}
+use Rattle.dexspec.specs.Placing.{EachForItself, SetOffsets, end_from, section_bytes, directory_bytes, Ordered}
 use Rattle.dexspec.specs.Canonical.{layout, table_bytes}
+
+-- Definitions of different names in their order, with what they mention, as in the canonical file; but each use of a
+-- type list, a debug program or a set has an item of its own.
+abbrev pub unshared : List Definition → Ordered
+unshared D = record { classes = in_class_order D; pools = mentions D; sharing = EachForItself }
 
 -- types whose indices have three bytes at most as a uleb128
 abbrev pub HasFewTypes : Mentions → Type 0

@@ -1,6 +1,6 @@
 //! Laws of the definitions: what is written has at most as many bytes as it weighs, item by item,
-//! section by section and as a whole. Each function does nothing: its contract is the law, for the
-//! callers that cite it.
+//! section by section and as a whole, and no more than if equal items were not shared. Each function does
+//! nothing: its contract is the law, for the callers that cite it.
 #![tactic(auto)]
 
 ghost use Rattle.std.specs.Prelude.{◌≡◌, ℕ, ◌+◌, ◌*◌, ◌<◌, ◌≤◌, List, length, map, sum_by};
@@ -17,7 +17,7 @@ ghost use Rattle.dexspec.specs.Depth.{in_class_order};
 ghost use Rattle.dexspec.specs.Canonical.{unsigned_file, with_sums, ordered, canonical};
 ghost use Rattle.dexspec.specs.Merging.{Caps, AreCaps, Fits};
 ghost use Rattle.dexspec.specs.Header.{HasSize};
-ghost use Rattle.dexlaws_size.specs.Laws.{HasFewTypes, ValuesAreWithin, CodeIsWithin, HandlersAreWithin, ClassDataIsWithin, DirectoryIsWithin, TypeListHas, EndsWithin, PartsAreWithin};
+ghost use Rattle.dexlaws_size.specs.Laws.{unshared, HasFewTypes, ValuesAreWithin, CodeIsWithin, HandlersAreWithin, ClassDataIsWithin, DirectoryIsWithin, TypeListHas, EndsWithin, PartsAreWithin};
 
 /// Each item has at most as many bytes as it weighs, or as its number of members says: a text without
 /// its row, code with the bytes of its alignment, the others without.
@@ -56,6 +56,13 @@ pub fn parts_size_law()
 pub fn size_law()
     ensures ordered { (D : List Definition) → HasFewTypes (mentions D) → length (with_sums (unsigned_file (ordered D))) ≤ weight D }
     ensures canonical { (K : Collection) → HasFewTypes (mentions (definitions K)) → length (canonical K) ≤ weight (definitions K) }
+{}
+
+/// The canonical file is at most as long as the file of the same definitions in which each use of a type list,
+/// of a debug program and of an annotation set has an item of its own.
+pub fn sharing_law()
+    ensures ordered { (D : List Definition) → length (with_sums (unsigned_file (ordered D))) ≤ length (with_sums (unsigned_file (unshared D))) }
+    ensures canonical { (K : Collection) → length (canonical K) ≤ length (with_sums (unsigned_file (unshared (definitions K)))) }
 {}
 
 /// Definitions of which no two are the same and that fit caps have a canonical file of no more bytes than

@@ -62,6 +62,8 @@ pub mod PlainItems
 pub mod PlainReadable
 pub mod NormalForm
 pub mod Uses
+pub mod Shorter
+pub mod Unshared
 pub mod RowsRead
 pub mod OneCode
 pub mod OneClass

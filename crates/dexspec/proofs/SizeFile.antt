@@ -256,7 +256,7 @@ unfolding sha1
 sha1-size bytes = digest-size (hash_after (padded_message bytes) (length (padded_message bytes) / 64)) 5
 
 -- magic, checksum and signature
-with_sums-size : (rest : List ℕ) → length (with_sums rest) ≡ 32 + length rest
+pub with_sums-size : (rest : List ℕ) → length (with_sums rest) ≡ 32 + length rest
 unfolding with_sums
 with_sums-size rest =
     let sum = adler_32 (sha1 rest ++ rest) in

@@ -101,7 +101,7 @@ UseStands b align g None o = o ≡ 0
 UseStands b align g (Some x) o = ItemStands b align o (g x)
 
 -- the offset of a number
-number_offset : (its : List (Option ℕ)) (offs : List ℕ) (k : ℕ) → k < length its → slice_index (uses_offsets its offs) k ≡ option_map_or (slice_index offs) (get_or its k None) 0
+pub number_offset : (its : List (Option ℕ)) (offs : List ℕ) (k : ℕ) → k < length its → slice_index (uses_offsets its offs) k ≡ option_map_or (slice_index offs) (get_or its k None) 0
 number_offset its offs k lt = get_or-map (λ n. option_map_or (slice_index offs) n 0) its k None 0 lt
 
 -- by what the use and its number are

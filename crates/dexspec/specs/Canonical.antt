@@ -222,7 +222,7 @@ pub record Layout : Type 0 where
   pub classes : List ClassOffsets
   pub data_end : ℕ
 
--- the layout of the file
+-- all sections, each behind the one before it, and the offsets that the rows hold
 unfoldable pub layout : Ordered → Layout
 layout K = record {
   sections = data_sections K;

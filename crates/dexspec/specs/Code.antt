@@ -62,15 +62,15 @@ handlers_weight hs = 5 + sum_by (λ h. 10 + 8 * length h.catches) hs
 abbrev pub tries_size : List ℕ → ℕ → ℕ
 tries_size b o = ushort_at b (o + 6)
 
--- the number of its units
+-- the number of units of the code_item at an offset
 abbrev pub insns_size : List ℕ → ℕ → ℕ
 insns_size b o = uint_at b (o + 12)
 
--- its units
+-- the units of the code_item at an offset
 abbrev pub code_units : List ℕ → ℕ → List ℕ
 code_units b o = ushorts_at b (o + 16) (insns_size b o)
 
--- where they end
+-- where these units end
 abbrev pub insns_end : List ℕ → ℕ → ℕ
 insns_end b o = o + 16 + 2 * insns_size b o
 

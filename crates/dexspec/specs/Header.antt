@@ -34,15 +34,15 @@ header_length = 112
 abbrev pub checksum : List ℕ → ℕ
 checksum b = uint_at b 8
 
--- the 20 bytes that it has for the SHA-1 of what follows them
+-- the 20 bytes that the header has for the SHA-1 of what follows them
 abbrev pub signature : List ℕ → List ℕ
 signature b = take 20 (drop 12 b)
 
--- the length of the file that it tells
+-- the length of the file that the header tells
 abbrev pub file_size : List ℕ → ℕ
 file_size b = uint_at b 32
 
--- the length of the header that it tells
+-- the length of the header that the header tells
 abbrev pub header_size : List ℕ → ℕ
 header_size b = uint_at b 36
 

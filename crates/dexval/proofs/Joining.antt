@@ -41,10 +41,6 @@ stopped_after {C} {u} {v} {w} {a} {b} x y = record {
 pub stopped_before : {C : Type 0} {u v : Vec ℕ} {a : List ℕ} → Stopped C a u v → (b : List ℕ) → Stopped C (a ++ b) u v
 stopped_before {C} {u} {v} {a} x b = record { front = x.front; full = λ counted. omega (arith, x.full counted, length-append a b); capacity = x.capacity }
 
--- where what is counted is so for less
-pub stopped_if : {C D : Type 0} {u v : Vec ℕ} {a : List ℕ} → (C → D) → Stopped D a u v → Stopped C a u v
-stopped_if goes x = record { front = x.front; full = λ counted. x.full (goes counted); capacity = x.capacity }
-
 -- ---- by what calls answer
 
 -- where it would have been granted there was no room
@@ -65,18 +61,6 @@ puts_by {item = item} {u = u} {v = v} (Err e) h = record {
 
 pub puts_appends : {C T E : Type 0} {item : List ℕ} {u v : Vec ℕ} {r : Result T E} → Puts item u v r → Appends C item u v r
 puts_appends {r = r} h = puts_by r h
-
-if_by : {C D T E : Type 0} {item : List ℕ} {u v : Vec ℕ} (r : Result T E) → (C → D) → Appends D item u v r → Appends C item u v r
-if_by (Ok x) goes h = record { ok = h.ok; err = tt }
-if_by (Err e) goes h = record { ok = tt; err = stopped_if goes h.err }
-
--- where what is counted is so for less
-pub appends_if : {C D T E : Type 0} {item : List ℕ} {u v : Vec ℕ} {r : Result T E} → (C → D) → Appends D item u v r → Appends C item u v r
-appends_if {r = r} goes h = if_by r goes h
-
--- what is not counted was not appended
-pub uncounted : {C : Type 0} {item : List ℕ} (v : Vec ℕ) → (C → ⊥) → Stopped C item v v
-uncounted v none = record { front = take_all (vec_len v) v.items (omega (arith, v.ok.0)); full = λ counted. absurd (none counted); capacity = omega arith }
 
 -- the same item
 pub appends_same : {C T E : Type 0} {u v : Vec ℕ} {r : Result T E} {a b : List ℕ} → a ≡ b → Appends C a u v r → Appends C b u v r

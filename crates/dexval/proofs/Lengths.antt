@@ -9,7 +9,7 @@ use Rattle.dexval.specs.declared.value.Value.{Value}
 use Rattle.dexval.specs.declared.value.Element.{Element}
 use Rattle.dexval.specs.Code.{value_of, element_of}
 use Rattle.dexval.specs.Numbered.{values_of_list, elements_of_list}
-use Rattle.dexval.specs.Spelled.{values_count, elements_count, numbered_bytes, numbered_values_bytes, numbered_elements_bytes, numbered_array_bytes, encoded_annotation_bytes}
+use Rattle.dexval.specs.Spelled.{values_count, elements_count, count_bytes, numbered_bytes, numbered_values_bytes, numbered_elements_bytes, numbered_array_bytes, encoded_annotation_bytes}
 use Rattle.dexval.proofs.Members.{values_spelled, elements_spelled, element_spelled, one_value, one_element, count_values_is, count_elements_is}
 
 -- ---- scalars
@@ -42,10 +42,10 @@ pub one_value_length : (xs : List Value) (i : ℕ) (d : Value) → i < length xs
 one_value_length xs i d lt e = ap (λ (l : List ℕ). length l) (one_value xs i d lt e) ∙ length-append (values_spelled (take i xs)) (numbered_bytes (value_of d))
 
 -- all of them with their count
-pub array_length : (xs : List Value) (i : ℕ) → length xs ≤ i → length (uleb128 (length xs)) + length (values_spelled (take i xs)) ≡ length (numbered_array_bytes (values_of_list (map value_of xs)))
+pub array_length : (xs : List Value) (i : ℕ) → length xs ≤ i → length (count_bytes (length xs)) + length (values_spelled (take i xs)) ≡ length (numbered_array_bytes (values_of_list (map value_of xs)))
 array_length xs i end =
     let vs = values_of_list (map value_of xs) in
-    omega (arith, length-append (uleb128 (values_count vs)) (numbered_values_bytes vs), ap (λ (n : ℕ). length (uleb128 n)) (count_values_is xs), ap (λ (l : List Value). length (values_spelled l)) (take_all i xs end))
+    omega (arith, length-append (count_bytes (values_count vs)) (numbered_values_bytes vs), ap (λ (n : ℕ). length (count_bytes n)) (count_values_is xs), ap (λ (l : List Value). length (values_spelled l)) (take_all i xs end))
 
 -- the elements of an annotation with one more
 pub one_element_length : (xs : List Element) (i : ℕ) (d : Element) → i < length xs → d ≡ get_or xs i d
@@ -55,13 +55,13 @@ one_element_length xs i d lt e =
 
 -- all of them with their type and their count
 pub annotation_length : (t : ℕ) (xs : List Element) (i : ℕ) → length xs ≤ i
-    → length (uleb128 t) + (length (uleb128 (length xs)) + length (elements_spelled (take i xs))) ≡ length (encoded_annotation_bytes t (elements_of_list (map element_of xs)))
+    → length (uleb128 t) + (length (count_bytes (length xs)) + length (elements_spelled (take i xs))) ≡ length (encoded_annotation_bytes t (elements_of_list (map element_of xs)))
 annotation_length t xs i end =
     let es = elements_of_list (map element_of xs) in
     omega (
       arith,
-      length-append (uleb128 t) (uleb128 (elements_count es) ++ numbered_elements_bytes es),
-      length-append (uleb128 (elements_count es)) (numbered_elements_bytes es),
-      ap (λ (n : ℕ). length (uleb128 n)) (count_elements_is xs),
+      length-append (uleb128 t) (count_bytes (elements_count es) ++ numbered_elements_bytes es),
+      length-append (count_bytes (elements_count es)) (numbered_elements_bytes es),
+      ap (λ (n : ℕ). length (count_bytes n)) (count_elements_is xs),
       ap (λ (l : List Element). length (elements_spelled l)) (take_all i xs end),
     )

@@ -1,5 +1,6 @@
 pub mod CodeForms
 pub mod Counted
+pub mod Counts
 pub mod Compared
 pub mod DirectoryRead
 pub mod ElementsRead

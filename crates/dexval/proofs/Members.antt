@@ -8,7 +8,7 @@ use Rattle.dexval.specs.declared.value.Element.{Element}
 use Rattle.dexval.specs.Appending.{Appended, Stopped}
 use Rattle.dexval.specs.Code.{value_of, element_of}
 use Rattle.dexval.specs.Numbered.{NumberedValue, values_of_list, elements_of_list}
-use Rattle.dexval.specs.Spelled.{values_count, elements_count, IsCounted, AreCounted, HaveCounted, numbered_weight, numbered_values_weight, numbered_elements_weight, numbered_bytes, numbered_values_bytes, numbered_elements_bytes}
+use Rattle.dexval.specs.Spelled.{values_count, elements_count, numbered_weight, numbered_values_weight, numbered_elements_weight, numbered_bytes, numbered_values_bytes, numbered_elements_bytes}
 use Rattle.dexval.proofs.Growing.{element_is, values_more, elements_more}
 use Rattle.dexval.proofs.Joining.{appended_both, stopped_after, stopped_before}
 
@@ -48,17 +48,6 @@ value_stop xs i d {C} {u} {v} {w} lt e a b =
 -- all values
 pub values_end : (xs : List Value) (i : ℕ) {u v : Vec ℕ} → length xs ≤ i → Appended (values_spelled (take i xs)) u v → Appended (values_spelled xs) u v
 values_end xs i {u} {v} end a = subst (λ (l : List Value). Appended (values_spelled l) u v) (take_all i xs end) a
-
-counted_at : (ys : List NumberedValue) (i : ℕ) (y : NumberedValue) → AreCounted (values_of_list ys) → i < length ys → IsCounted (get_or ys i y)
-counted_at [] i y h lt = absurd (omega arith)
-counted_at (x ∷ xs) zero y h lt = h.0
-counted_at (x ∷ xs) (suc i) y h lt = counted_at xs i y h.1 (omega arith)
-
--- each value is counted
-pub value_counted : (xs : List Value) (i : ℕ) (d : Value) → i < length xs → d ≡ get_or xs i d → AreCounted (values_of_list (map value_of xs)) → IsCounted (value_of d)
-value_counted xs i d lt e h =
-    let at = counted_at (map value_of xs) i (value_of d) h (omega (arith, length-map xs value_of)) in
-    subst IsCounted (get_or-map value_of xs i d (value_of d) lt ∙ ap value_of (sym e)) at
 
 pub count_of_list : (ys : List NumberedValue) → values_count (values_of_list ys) ≡ length ys
 count_of_list [] = refl
@@ -109,17 +98,6 @@ element_stop xs i d {C} {u} {v} {w} lt e a b =
 -- all elements
 pub elements_end : (xs : List Element) (i : ℕ) {u v : Vec ℕ} → length xs ≤ i → Appended (elements_spelled (take i xs)) u v → Appended (elements_spelled xs) u v
 elements_end xs i {u} {v} end a = subst (λ (l : List Element). Appended (elements_spelled l) u v) (take_all i xs end) a
-
-have_counted_at : (ys : List (ℕ × NumberedValue)) (i : ℕ) (y : ℕ × NumberedValue) → HaveCounted (elements_of_list ys) → i < length ys → IsCounted (get_or ys i y).1
-have_counted_at [] i y h lt = absurd (omega arith)
-have_counted_at ((n, x) ∷ xs) zero y h lt = h.0
-have_counted_at ((n, x) ∷ xs) (suc i) y h lt = have_counted_at xs i y h.1 (omega arith)
-
--- each element's value is counted
-pub element_counted : (xs : List Element) (i : ℕ) (d : Element) → i < length xs → d ≡ get_or xs i d → HaveCounted (elements_of_list (map element_of xs)) → IsCounted (value_of d.value)
-element_counted xs i d lt e h =
-    let at = have_counted_at (map element_of xs) i (element_of d) h (omega (arith, length-map xs element_of)) in
-    subst (λ (x : ℕ × NumberedValue). IsCounted x.1) (get_or-map element_of xs i d (element_of d) lt ∙ ap element_of (sym e) ∙ element_is d) at
 
 elements_count_of_list : (ys : List (ℕ × NumberedValue)) → elements_count (elements_of_list ys) ≡ length ys
 elements_count_of_list [] = refl

@@ -21,8 +21,8 @@ use Rattle.dexpool.specs.Numberings.{AreRising}
 use Rattle.dexval.specs.declared.annotation.Annotation.{Annotation}
 use Rattle.dexval.specs.Code.{annotation_of}
 use Rattle.dexval.specs.Numbered.{NumberedAnnotation, NumberedSet, IsKnownSet, annotation_in, set_in, StandsForSet}
-use Rattle.dexval.specs.Spelled.{elements_count, numbered_elements_bytes, numbered_annotation_bytes, numbered_offsets, numbered_set_bytes, numbered_annotation_weight, numbered_set_weight}
-use Rattle.dexval.proofs.Spelling.{annotation_bytes_are}
+use Rattle.dexval.specs.Spelled.{elements_count, count_bytes, numbered_elements_bytes, numbered_annotation_bytes, numbered_offsets, numbered_set_bytes, numbered_annotation_weight, numbered_set_weight}
+use Rattle.dexval.proofs.Spelling.{annotation_lengths_are}
 
 pub length_four : (n : ℕ) → length (uint n) ≡ 4
 length_four n = length-uint n
@@ -91,7 +91,7 @@ offset_fits first xs i lt all =
 
 -- an annotation_item has two bytes and more
 two_bytes : (a : NumberedAnnotation) → 2 ≤ length (numbered_annotation_bytes a)
-two_bytes a = omega (arith, length-append (uleb128 a.type) (uleb128 (elements_count a.elements) ++ numbered_elements_bytes a.elements), (uleb128_bounds a.type).0)
+two_bytes a = omega (arith, length-append (uleb128 a.type) (count_bytes (elements_count a.elements) ++ numbered_elements_bytes a.elements), (uleb128_bounds a.type).0)
 
 far : (from : ℕ) (s : NumberedSet) → from + 2 * length s ≤ end_from 1 from (map numbered_annotation_bytes s)
 far from [] = omega arith
@@ -130,14 +130,16 @@ pub set_size_is : (first : ℕ) (s : NumberedSet) → 0 < length s → length (n
 set_size_is first [] some = absurd (omega arith)
 set_size_is first (a ∷ s) some = omega (arith, set_size first (a ∷ s), heavy (a ∷ s))
 
-items_are : (m : Mentions) (s : NumberedSet) → AreRising m → IsKnownSet m s → map numbered_annotation_bytes s ≡ map (annotation_bytes m) (set_in m s)
-items_are m [] rising known = refl
-items_are m (a ∷ s) rising known =
-    ap (λ (l : List ℕ). l ∷ map numbered_annotation_bytes s) (annotation_bytes_are m a rising (known 0 a (omega arith)))
-    ∙ ap (λ (l : List (List ℕ)). annotation_bytes m (annotation_in m a) ∷ l) (items_are m s rising (λ i d lt. known (suc i) d (omega (arith, lt))))
+-- and offsets that are those of the set that the numbers stand for
+offsets_are : (m : Mentions) (from : ℕ) (s : NumberedSet) → AreRising m → IsKnownSet m s → numbered_offsets from s ≡ offsets_from 1 from (map (annotation_bytes m) (set_in m s))
+offsets_are m from [] rising known = refl
+offsets_are m from (a ∷ s) rising known =
+    let size = annotation_lengths_are m a (annotation_in m a) rising (record { known = known 0 a (omega arith); means = refl }) in
+    let rest = offsets_are m (round_up 1 from + length (annotation_bytes m (annotation_in m a))) s rising (λ i d lt. known (suc i) d (omega (arith, lt))) in
+    ap (λ (l : List ℕ). round_up 1 from ∷ l) (ap (λ (n : ℕ). numbered_offsets (round_up 1 from + n) s) size ∙ rest)
 
 -- the set that the numbers stand for
 pub set_put_is : {T E : Type 0} {u w : Vec ℕ} {r : Result T E} (m : Mentions) (first : ℕ) (x : NumberedSet) → AreRising m → Puts (numbered_set_bytes first x) u w r → (s : AnnotationSet) → StandsForSet m x s
     → Puts (offsets_bytes (offsets_from 1 first (map (annotation_bytes m) s))) u w r
 set_put_is {u = u} {w = w} {r = r} m first x rising h s stands =
-    subst (λ (l : List ℕ). Puts l u w r) (ap (λ (l : List (List ℕ)). offsets_bytes (offsets_from 1 first l)) (items_are m x rising stands.known ∙ ap (map (annotation_bytes m)) stands.means)) h
+    subst (λ (l : List ℕ). Puts l u w r) (ap (λ (l : List ℕ). offsets_bytes l) (offsets_are m first x rising stands.known ∙ ap (λ (l : AnnotationSet). offsets_from 1 first (map (annotation_bytes m) l)) stands.means)) h

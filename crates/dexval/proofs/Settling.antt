@@ -1,6 +1,6 @@
 -- What was appended in part is taken back.
 use Rattle.std.proofs.Common.{◌≡◌, ℕ, ◌≤◌, List, take, ◌∙◌, arith}
-use Rattle.std.specs.Prelude.{Result, Ok, Err, IsOk, IsErr, OnErr, vec_len, vec_capacity}
+use Rattle.std.specs.Prelude.{Result, Ok, Err, IsOk, IsErr, vec_len, vec_capacity}
 use Rattle.std.specs.Global.{Vec}
 use Rattle.dexspec.specs.Aside.Writing.{Puts}
 use Rattle.dexval.specs.Appending.{Appends}
@@ -20,11 +20,3 @@ taken_back_by (Err e) counted bad h is capacity = record { ok = tt; len = tt; er
 
 pub taken_back : {C T E : Type 0} {u v w : Vec ℕ} {item : List ℕ} {r : Result T E} → C → IsErr r → Appends C item u v r → w.items ≡ take (vec_len u) v.items → vec_capacity v ≤ vec_capacity w → Puts item u w r
 taken_back {r = r} counted bad h is capacity = taken_back_by r counted bad h is capacity
-
--- whether it is counted or not
-kept_by : {C T E : Type 0} {u v : Vec ℕ} {item items : List ℕ} (r : Result T E) → Appends C item u v r → items ≡ take (vec_len u) v.items → OnErr r (items ≡ u.items)
-kept_by (Ok x) h is = tt
-kept_by (Err e) h is = is ∙ h.err.front
-
-pub kept : {C T E : Type 0} {u v : Vec ℕ} {item items : List ℕ} {r : Result T E} → Appends C item u v r → items ≡ take (vec_len u) v.items → OnErr r (items ≡ u.items)
-kept {r = r} h is = kept_by r h is

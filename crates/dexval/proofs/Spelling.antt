@@ -1,5 +1,5 @@
 -- What is spelled with numbers is what is spelled for the symbols that they stand for, and is no longer than it weighs.
-use Rattle.std.proofs.Common.{◌≡◌, ℕ, ◌+◌, ◌<◌, ◌≤◌, List, [], ◌∷◌, ◌++◌, length, refl, sym, ap, ◌∙◌, subst, arith}
+use Rattle.std.proofs.Common.{◌≡◌, ℕ, suc, ◌+◌, ◌^◌, ◌<◌, ◌≤◌, List, [], ◌∷◌, ◌++◌, length, refl, sym, ap, ◌∙◌, subst, arith}
 use Rattle.std.specs.Prelude.{Result}
 use Rattle.std.specs.Global.{Vec}
 use Rattle.std.proofs.lemmas.List.{length-append}
@@ -17,7 +17,8 @@ use Rattle.dexspec.proofs.SizeItems.{uleb128-size, value_bytes-size}
 use Rattle.dexpool.specs.Pools.{count_of}
 use Rattle.dexpool.specs.Numberings.{AreRising}
 use Rattle.dexval.specs.Numbered.{Literal, ByteLiteral, ShortLiteral, CharLiteral, IntLiteral, LongLiteral, FloatLiteral, DoubleLiteral, NullLiteral, BooleanLiteral, Reference, StringReference, TypeReference, FieldReference, MethodReference, EnumReference, NumberedValue, NumberedValues, NumberedElements, NumberedAnnotation, Plain, Named, Array, Annotated, NoValue, ThenNext, NoElement, ThenNamed, text_at, type_at, field_at, method_at, plain_value, named_value, value_in, values_in, elements_in, annotation_in, kind_of_reference, IsKnown, AreKnown, HaveKnown, IsKnownAnnotation, StandsFor, StandFor, StandsForAnnotation}
-use Rattle.dexval.specs.Spelled.{values_count, elements_count, literal_bytes, reference_code, numbered_bytes, numbered_values_bytes, numbered_elements_bytes, numbered_array_bytes, encoded_annotation_bytes, numbered_annotation_bytes, numbered_weight, numbered_values_weight, numbered_elements_weight, numbered_annotation_weight}
+use Rattle.dexval.specs.Spelled.{IsCounted, AreCounted, HaveCounted, IsCountedAnnotation, values_count, elements_count, count_bytes, literal_bytes, reference_code, numbered_bytes, numbered_values_bytes, numbered_elements_bytes, numbered_array_bytes, encoded_annotation_bytes, numbered_annotation_bytes, numbered_weight, numbered_values_weight, numbered_elements_weight, numbered_annotation_weight}
+use Rattle.dexval.proofs.Counts.{count_is, count_length, count-size}
 
 -- ---- the number of a symbol is its rank
 
@@ -63,53 +64,125 @@ elements_count_is m NoElement = refl
 elements_count_is m (ThenNamed name x es) = omega (arith, elements_count_is m es)
 
 -- of values with their count, where those of the values are
-array_by : (m : Mentions) (xs : NumberedValues) → numbered_values_bytes xs ≡ values_bytes m (values_in m xs) → numbered_array_bytes xs ≡ encoded_array_bytes m (values_in m xs)
-array_by m xs e = ap (λ (n : ℕ). uleb128 n ++ numbered_values_bytes xs) (values_count_is m xs) ∙ ap (λ (l : List ℕ). uleb128 (count_values (values_in m xs)) ++ l) e
+array_by : (m : Mentions) (xs : NumberedValues) → values_count xs < 2 ^ 32 → numbered_values_bytes xs ≡ values_bytes m (values_in m xs) → numbered_array_bytes xs ≡ encoded_array_bytes m (values_in m xs)
+array_by m xs few e = ap (λ (l : List ℕ). l ++ numbered_values_bytes xs) (count_is (values_count xs) few) ∙ ap (λ (n : ℕ). uleb128 n ++ numbered_values_bytes xs) (values_count_is m xs) ∙ ap (λ (l : List ℕ). uleb128 (count_values (values_in m xs)) ++ l) e
 
 -- of a type and elements with their count, where those of the elements are
-annotation_by : (m : Mentions) (t : ℕ) (es : NumberedElements) → AreRising m → t < length m.types → numbered_elements_bytes es ≡ elements_bytes m (elements_in m es)
+annotation_by : (m : Mentions) (t : ℕ) (es : NumberedElements) → AreRising m → t < length m.types → elements_count es < 2 ^ 32 → numbered_elements_bytes es ≡ elements_bytes m (elements_in m es)
     → encoded_annotation_bytes t es ≡ uleb128 (type_index m (type_at m t)) ++ (uleb128 (length (names_of (elements_in m es))) ++ elements_bytes m (elements_in m es))
-annotation_by m t es r lt e =
-    ap (λ (n : ℕ). uleb128 n ++ (uleb128 (elements_count es) ++ numbered_elements_bytes es)) (sym (type_rank m t r lt))
+annotation_by m t es r lt few e =
+    ap (λ (n : ℕ). uleb128 n ++ (count_bytes (elements_count es) ++ numbered_elements_bytes es)) (sym (type_rank m t r lt))
+    ∙ ap (λ (l : List ℕ). uleb128 (type_index m (type_at m t)) ++ (l ++ numbered_elements_bytes es)) (count_is (elements_count es) few)
     ∙ ap (λ (n : ℕ). uleb128 (type_index m (type_at m t)) ++ (uleb128 n ++ numbered_elements_bytes es)) (elements_count_is m es)
     ∙ ap (λ (l : List ℕ). uleb128 (type_index m (type_at m t)) ++ (uleb128 (length (names_of (elements_in m es))) ++ l)) e
 
 mutual
   -- of a value
-  pub bytes_are : (m : Mentions) (x : NumberedValue) → AreRising m → IsKnown m x → numbered_bytes x ≡ value_bytes m (value_in m x)
-  bytes_are m (Plain l) r h = literal_is m l
-  bytes_are m (Named k i) r h = named_is m k i r h
-  bytes_are m (Array xs) r h = ap (λ (l : List ℕ). 28 ∷ l) (array_by m xs (values_bytes_are m xs r h))
-  bytes_are m (Annotated t es) r h = ap (λ (l : List ℕ). 29 ∷ l) (annotation_by m t es r h.0 (elements_bytes_are m es r h.1))
+  pub bytes_are : (m : Mentions) (x : NumberedValue) → AreRising m → IsCounted x → IsKnown m x → numbered_bytes x ≡ value_bytes m (value_in m x)
+  bytes_are m (Plain l) r few h = literal_is m l
+  bytes_are m (Named k i) r few h = named_is m k i r h
+  bytes_are m (Array xs) r few h = ap (λ (l : List ℕ). 28 ∷ l) (array_by m xs few.0 (values_bytes_are m xs r few.1 h))
+  bytes_are m (Annotated t es) r few h = ap (λ (l : List ℕ). 29 ∷ l) (annotation_by m t es r h.0 few.0 (elements_bytes_are m es r few.1 h.1))
 
   -- of values
-  values_bytes_are : (m : Mentions) (xs : NumberedValues) → AreRising m → AreKnown m xs → numbered_values_bytes xs ≡ values_bytes m (values_in m xs)
-  values_bytes_are m NoValue r h = refl
-  values_bytes_are m (ThenNext x xs) r h =
-      ap (λ (l : List ℕ). l ++ numbered_values_bytes xs) (bytes_are m x r h.0) ∙ ap (λ (l : List ℕ). value_bytes m (value_in m x) ++ l) (values_bytes_are m xs r h.1)
+  values_bytes_are : (m : Mentions) (xs : NumberedValues) → AreRising m → AreCounted xs → AreKnown m xs → numbered_values_bytes xs ≡ values_bytes m (values_in m xs)
+  values_bytes_are m NoValue r few h = refl
+  values_bytes_are m (ThenNext x xs) r few h =
+      ap (λ (l : List ℕ). l ++ numbered_values_bytes xs) (bytes_are m x r few.0 h.0) ∙ ap (λ (l : List ℕ). value_bytes m (value_in m x) ++ l) (values_bytes_are m xs r few.1 h.1)
 
   -- of elements
-  elements_bytes_are : (m : Mentions) (es : NumberedElements) → AreRising m → HaveKnown m es → numbered_elements_bytes es ≡ elements_bytes m (elements_in m es)
-  elements_bytes_are m NoElement r h = refl
-  elements_bytes_are m (ThenNamed name x es) r h =
+  elements_bytes_are : (m : Mentions) (es : NumberedElements) → AreRising m → HaveCounted es → HaveKnown m es → numbered_elements_bytes es ≡ elements_bytes m (elements_in m es)
+  elements_bytes_are m NoElement r few h = refl
+  elements_bytes_are m (ThenNamed name x es) r few h =
       ap (λ (n : ℕ). uleb128 n ++ (numbered_bytes x ++ numbered_elements_bytes es)) (sym (text_rank m name r h.0))
-      ∙ ap (λ (l : List ℕ). uleb128 (text_index m (text_at m name)) ++ (l ++ numbered_elements_bytes es)) (bytes_are m x r h.1)
-      ∙ ap (λ (l : List ℕ). uleb128 (text_index m (text_at m name)) ++ (value_bytes m (value_in m x) ++ l)) (elements_bytes_are m es r h.2)
+      ∙ ap (λ (l : List ℕ). uleb128 (text_index m (text_at m name)) ++ (l ++ numbered_elements_bytes es)) (bytes_are m x r few.0 h.1)
+      ∙ ap (λ (l : List ℕ). uleb128 (text_index m (text_at m name)) ++ (value_bytes m (value_in m x) ++ l)) (elements_bytes_are m es r few.1 h.2)
+
+-- of values with their count
+array_bytes_are : (m : Mentions) (xs : NumberedValues) → AreRising m → values_count xs < 2 ^ 32 → AreCounted xs → AreKnown m xs → numbered_array_bytes xs ≡ encoded_array_bytes m (values_in m xs)
+array_bytes_are m xs rising few counted known = array_by m xs few (values_bytes_are m xs rising counted known)
+
+-- of an annotation
+annotation_bytes_are : (m : Mentions) (x : NumberedAnnotation) → AreRising m → IsCountedAnnotation x → IsKnownAnnotation m x → numbered_annotation_bytes x ≡ annotation_bytes m (annotation_in m x)
+annotation_bytes_are m x rising counted known = ap (λ (l : List ℕ). x.visibility ∷ l) (annotation_by m x.type x.elements rising known.type_in counted.0 (elements_bytes_are m x.elements rising counted.1 known.elements_known))
 
 -- ---- what was put
 
-pub value_put_is : {T E : Type 0} {u w : Vec ℕ} {r : Result T E} (m : Mentions) (x : NumberedValue) → AreRising m → Puts (numbered_bytes x) u w r → (v : Value) → StandsFor m x v → Puts (value_bytes m v) u w r
-value_put_is {u = u} {w = w} {r = r} m x rising h v stands = subst (λ (l : List ℕ). Puts l u w r) (bytes_are m x rising stands.known ∙ ap (value_bytes m) stands.means) h
+pub value_put_is : {T E : Type 0} {u w : Vec ℕ} {r : Result T E} (m : Mentions) (x : NumberedValue) → AreRising m → Puts (numbered_bytes x) u w r → (v : Value) → IsCounted x → StandsFor m x v → Puts (value_bytes m v) u w r
+value_put_is {u = u} {w = w} {r = r} m x rising h v counted stands = subst (λ (l : List ℕ). Puts l u w r) (bytes_are m x rising counted stands.known ∙ ap (value_bytes m) stands.means) h
 
-pub array_put_is : {T E : Type 0} {u w : Vec ℕ} {r : Result T E} (m : Mentions) (xs : NumberedValues) → AreRising m → Puts (numbered_array_bytes xs) u w r → (vs : Values) → StandFor m xs vs → Puts (encoded_array_bytes m vs) u w r
-array_put_is {u = u} {w = w} {r = r} m xs rising h vs stand = subst (λ (l : List ℕ). Puts l u w r) (array_by m xs (values_bytes_are m xs rising stand.known) ∙ ap (encoded_array_bytes m) stand.mean) h
+pub array_put_is : {T E : Type 0} {u w : Vec ℕ} {r : Result T E} (m : Mentions) (xs : NumberedValues) → AreRising m → Puts (numbered_array_bytes xs) u w r → (vs : Values) → values_count xs < 2 ^ 32 → AreCounted xs → StandFor m xs vs → Puts (encoded_array_bytes m vs) u w r
+array_put_is {u = u} {w = w} {r = r} m xs rising h vs few counted stand = subst (λ (l : List ℕ). Puts l u w r) (array_bytes_are m xs rising few counted stand.known ∙ ap (encoded_array_bytes m) stand.mean) h
 
--- of an annotation
-pub annotation_bytes_are : (m : Mentions) (x : NumberedAnnotation) → AreRising m → IsKnownAnnotation m x → numbered_annotation_bytes x ≡ annotation_bytes m (annotation_in m x)
-annotation_bytes_are m x rising known = ap (λ (l : List ℕ). x.visibility ∷ l) (annotation_by m x.type x.elements rising known.type_in (elements_bytes_are m x.elements rising known.elements_known))
+pub annotation_put_is : {T E : Type 0} {u w : Vec ℕ} {r : Result T E} (m : Mentions) (x : NumberedAnnotation) → AreRising m → Puts (numbered_annotation_bytes x) u w r → (a : Annotation) → IsCountedAnnotation x → StandsForAnnotation m x a → Puts (annotation_bytes m a) u w r
+annotation_put_is {u = u} {w = w} {r = r} m x rising h a counted stands = subst (λ (l : List ℕ). Puts l u w r) (annotation_bytes_are m x rising counted stands.known ∙ ap (annotation_bytes m) stands.means) h
 
-pub annotation_put_is : {T E : Type 0} {u w : Vec ℕ} {r : Result T E} (m : Mentions) (x : NumberedAnnotation) → AreRising m → Puts (numbered_annotation_bytes x) u w r → (a : Annotation) → StandsForAnnotation m x a → Puts (annotation_bytes m a) u w r
-annotation_put_is {u = u} {w = w} {r = r} m x rising h a stands = subst (λ (l : List ℕ). Puts l u w r) (annotation_bytes_are m x rising stands.known ∙ ap (annotation_bytes m) stands.means) h
+-- ---- lengths, whatever the counts
+
+count_lengths : (m : Mentions) (xs : NumberedValues) → length (numbered_values_bytes xs) ≡ length (values_bytes m (values_in m xs)) → length (numbered_array_bytes xs) ≡ length (encoded_array_bytes m (values_in m xs))
+count_lengths m xs e =
+    omega (
+      arith,
+      length-append (count_bytes (values_count xs)) (numbered_values_bytes xs),
+      length-append (uleb128 (count_values (values_in m xs))) (values_bytes m (values_in m xs)),
+      count_length (values_count xs),
+      ap (λ (n : ℕ). length (uleb128 n)) (values_count_is m xs),
+      e,
+    )
+
+annotation_lengths : (m : Mentions) (t : ℕ) (es : NumberedElements) → AreRising m → t < length m.types → length (numbered_elements_bytes es) ≡ length (elements_bytes m (elements_in m es))
+    → length (encoded_annotation_bytes t es) ≡ length (uleb128 (type_index m (type_at m t)) ++ (uleb128 (length (names_of (elements_in m es))) ++ elements_bytes m (elements_in m es)))
+annotation_lengths m t es r lt e =
+    let names = length (names_of (elements_in m es)) in
+    omega (
+      arith,
+      length-append (uleb128 t) (count_bytes (elements_count es) ++ numbered_elements_bytes es),
+      length-append (count_bytes (elements_count es)) (numbered_elements_bytes es),
+      length-append (uleb128 (type_index m (type_at m t))) (uleb128 names ++ elements_bytes m (elements_in m es)),
+      length-append (uleb128 names) (elements_bytes m (elements_in m es)),
+      count_length (elements_count es),
+      ap (λ (n : ℕ). length (uleb128 n)) (elements_count_is m es),
+      ap (λ (n : ℕ). length (uleb128 n)) (type_rank m t r lt),
+      e,
+    )
+
+mutual
+  lengths_are : (m : Mentions) (x : NumberedValue) → AreRising m → IsKnown m x → length (numbered_bytes x) ≡ length (value_bytes m (value_in m x))
+  lengths_are m (Plain l) r h = ap (λ (l : List ℕ). length l) (literal_is m l)
+  lengths_are m (Named k i) r h = ap (λ (l : List ℕ). length l) (named_is m k i r h)
+  lengths_are m (Array xs) r h = ap suc (count_lengths m xs (values_lengths_are m xs r h))
+  lengths_are m (Annotated t es) r h = ap suc (annotation_lengths m t es r h.0 (elements_lengths_are m es r h.1))
+
+  values_lengths_are : (m : Mentions) (xs : NumberedValues) → AreRising m → AreKnown m xs → length (numbered_values_bytes xs) ≡ length (values_bytes m (values_in m xs))
+  values_lengths_are m NoValue r h = refl
+  values_lengths_are m (ThenNext x xs) r h =
+      omega (arith, length-append (numbered_bytes x) (numbered_values_bytes xs), length-append (value_bytes m (value_in m x)) (values_bytes m (values_in m xs)), lengths_are m x r h.0, values_lengths_are m xs r h.1)
+
+  elements_lengths_are : (m : Mentions) (es : NumberedElements) → AreRising m → HaveKnown m es → length (numbered_elements_bytes es) ≡ length (elements_bytes m (elements_in m es))
+  elements_lengths_are m NoElement r h = refl
+  elements_lengths_are m (ThenNamed name x es) r h =
+      let v = value_bytes m (value_in m x) in
+      let rest = elements_bytes m (elements_in m es) in
+      omega (
+        arith,
+        length-append (uleb128 name) (numbered_bytes x ++ numbered_elements_bytes es),
+        length-append (numbered_bytes x) (numbered_elements_bytes es),
+        length-append (uleb128 (text_index m (text_at m name))) (v ++ rest),
+        length-append v rest,
+        ap (λ (n : ℕ). length (uleb128 n)) (text_rank m name r h.0),
+        lengths_are m x r h.1,
+        elements_lengths_are m es r h.2,
+      )
+
+-- static values
+pub array_lengths_are : (m : Mentions) (xs : NumberedValues) (vs : Values) → AreRising m → StandFor m xs vs → length (numbered_array_bytes xs) ≡ length (encoded_array_bytes m vs)
+array_lengths_are m xs vs rising stand = count_lengths m xs (values_lengths_are m xs rising stand.known) ∙ ap (λ (l : Values). length (encoded_array_bytes m l)) stand.mean
+
+-- an annotation
+pub annotation_lengths_are : (m : Mentions) (x : NumberedAnnotation) (a : Annotation) → AreRising m → StandsForAnnotation m x a → length (numbered_annotation_bytes x) ≡ length (annotation_bytes m a)
+annotation_lengths_are m x a rising stands =
+    ap suc (annotation_lengths m x.type x.elements rising stands.known.type_in (elements_lengths_are m x.elements rising stands.known.elements_known))
+    ∙ ap (λ (b : Annotation). length (annotation_bytes m b)) stands.means
 
 -- ---- sizes
 
@@ -129,9 +202,9 @@ mutual
   pub size_is : (m : Mentions) (x : NumberedValue) → length (numbered_bytes x) ≤ numbered_weight x
   size_is m (Plain l) = literal_size m l
   size_is m (Named k i) = value_bytes-size m (CharValue i)
-  size_is m (Array xs) = omega (arith, length-append (uleb128 (values_count xs)) (numbered_values_bytes xs), uleb128-size (values_count xs), values_size_is m xs)
+  size_is m (Array xs) = omega (arith, length-append (count_bytes (values_count xs)) (numbered_values_bytes xs), count-size (values_count xs), values_size_is m xs)
   size_is m (Annotated t es) =
-      omega (arith, length-append (uleb128 t) (uleb128 (elements_count es) ++ numbered_elements_bytes es), length-append (uleb128 (elements_count es)) (numbered_elements_bytes es), uleb128-size t, uleb128-size (elements_count es), elements_size_is m es)
+      omega (arith, length-append (uleb128 t) (count_bytes (elements_count es) ++ numbered_elements_bytes es), length-append (count_bytes (elements_count es)) (numbered_elements_bytes es), uleb128-size t, count-size (elements_count es), elements_size_is m es)
 
   -- values
   pub values_size_is : (m : Mentions) (xs : NumberedValues) → length (numbered_values_bytes xs) ≤ numbered_values_weight xs
@@ -146,7 +219,7 @@ mutual
 
 -- values with their count
 pub array_size_is : (m : Mentions) (xs : NumberedValues) → length (numbered_array_bytes xs) ≤ 6 + numbered_values_weight xs
-array_size_is m xs = omega (arith, length-append (uleb128 (values_count xs)) (numbered_values_bytes xs), uleb128-size (values_count xs), values_size_is m xs)
+array_size_is m xs = omega (arith, length-append (count_bytes (values_count xs)) (numbered_values_bytes xs), count-size (values_count xs), values_size_is m xs)
 
 -- an annotation
 pub annotation_size_is : (m : Mentions) (a : NumberedAnnotation) → length (numbered_annotation_bytes a) ≤ numbered_annotation_weight a

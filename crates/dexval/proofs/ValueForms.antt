@@ -1,5 +1,5 @@
 -- The values of the code by their variants, and what is written for each.
-use Rattle.std.proofs.Common.{◌≡◌, ℕ, ◌+◌, ◌<◌, ◌^◌, List, [], ◌∷◌, length, map, sym, ap, ◌∙◌, subst, arith}
+use Rattle.std.proofs.Common.{◌≡◌, ℕ, ◌+◌, ◌<◌, List, [], ◌∷◌, map, sym, ap, ◌∙◌, arith}
 use Rattle.std.specs.Prelude.{ℤ, Result}
 use Rattle.std.specs.Global.{Vec}
 use Rattle.dexspec.specs.Values.{byte_value_type, short_value_type, char_value_type, int_value_type, long_value_type, float_value_type, double_value_type, string_value_type, type_value_type, field_value_type, method_value_type, enum_value_type}
@@ -14,8 +14,7 @@ use Rattle.dexval.specs.declared.value.Value.TheFolds.{fold-roll-Value}
 use Rattle.dexval.specs.declared.value.Element.{Element}
 use Rattle.dexval.specs.Code.{value_of, element_of, value_step, element_step}
 use Rattle.dexval.specs.Numbered.{NumberedValue, Plain, Named, ByteLiteral, ShortLiteral, CharLiteral, IntLiteral, LongLiteral, FloatLiteral, DoubleLiteral, StringReference, TypeReference, FieldReference, MethodReference, EnumReference, Array, Annotated, values_of_list, elements_of_list}
-use Rattle.dexval.specs.Spelled.{IsCounted, AreCounted, HaveCounted, values_count, elements_count, numbered_weight, numbered_values_weight, numbered_elements_weight, numbered_bytes, numbered_array_bytes, encoded_annotation_bytes}
-use Rattle.dexval.proofs.Members.{count_values_is, count_elements_is}
+use Rattle.dexval.specs.Spelled.{numbered_weight, numbered_values_weight, numbered_elements_weight, numbered_bytes, numbered_array_bytes, encoded_annotation_bytes}
 
 -- an array is the array of its values
 pub array_is : (v : Value) (values : Vec Value) → v ≡ variants.Array values → value_of v ≡ Array (values_of_list (map value_of values.items))
@@ -24,25 +23,6 @@ array_is v values e = ap value_of (e ∙ sym (variants.rolls-Array values)) ∙ 
 -- an annotation that of its type and elements
 pub annotation_is : (v : Value) (t : ℕ) (elements : Vec Element) → v ≡ variants.Annotation t elements → value_of v ≡ Annotated t (elements_of_list (map element_of elements.items))
 annotation_is v t elements e = ap value_of (e ∙ sym (variants.rolls-Annotation t elements)) ∙ fold-roll-Value NumberedValue (ℕ × NumberedValue) value_step element_step (layers.Annotation t elements)
-
--- the values of an array are few, and counted
-pub array_counted : (v : Value) (values : Vec Value) → v ≡ variants.Array values → IsCounted (value_of v) → (length values.items < 2 ^ 32) × AreCounted (values_of_list (map value_of values.items))
-array_counted v values e h =
-    let parts : (values_count (values_of_list (map value_of values.items)) < 2 ^ 32) × AreCounted (values_of_list (map value_of values.items)) = subst IsCounted (array_is v values e) h in
-    (omega (arith, parts.0, count_values_is values.items), parts.1)
-
--- the elements of an annotation are few, and counted
-pub annotation_counted : (v : Value) (t : ℕ) (elements : Vec Element) → v ≡ variants.Annotation t elements → IsCounted (value_of v) → (length elements.items < 2 ^ 32) × HaveCounted (elements_of_list (map element_of elements.items))
-annotation_counted v t elements e h =
-    let parts : (elements_count (elements_of_list (map element_of elements.items)) < 2 ^ 32) × HaveCounted (elements_of_list (map element_of elements.items)) = subst IsCounted (annotation_is v t elements e) h in
-    (omega (arith, parts.0, count_elements_is elements.items), parts.1)
-
--- the same of what is as long as they are
-pub array_counted_in : (v : Value) (values : Vec Value) {xs : List Value} → v ≡ variants.Array values → xs ≡ values.items → IsCounted (value_of v) → (length xs < 2 ^ 32) × AreCounted (values_of_list (map value_of xs))
-array_counted_in v values e same h = subst (λ (l : List Value). (length l < 2 ^ 32) × AreCounted (values_of_list (map value_of l))) (sym same) (array_counted v values e h)
-
-pub annotation_counted_in : (v : Value) (t : ℕ) (elements : Vec Element) {xs : List Element} → v ≡ variants.Annotation t elements → xs ≡ elements.items → IsCounted (value_of v) → (length xs < 2 ^ 32) × HaveCounted (elements_of_list (map element_of xs))
-annotation_counted_in v t elements e same h = subst (λ (l : List Element). (length l < 2 ^ 32) × HaveCounted (elements_of_list (map element_of l))) (sym same) (annotation_counted v t elements e h)
 
 -- ---- what is put for each value that holds no other
 

@@ -1,5 +1,5 @@
 -- Values, annotations and sets spelled in the fewest bytes, their numbers put in, and what they weigh.
-use Rattle.std.specs.Prelude.{ℕ, ◌+◌, ◌*◌, ◌^◌, ◌<◌, List, [], ◌∷◌, ◌++◌, length, map, sum_by, if◌then◌else◌}
+use Rattle.std.specs.Prelude.{ℕ, ◌+◌, ◌-◌, ◌*◌, ◌^◌, ◌<◌, min, List, [], ◌∷◌, ◌++◌, length, map, sum_by, if◌then◌else◌}
 use Rattle.dexspec.specs.Numbers.{uleb128}
 use Rattle.dexspec.specs.Values.{value_byte, byte_value_type, short_value_type, char_value_type, int_value_type, long_value_type, float_value_type, double_value_type, string_value_type, type_value_type, field_value_type, method_value_type, enum_value_type, array_value_type, annotation_value_type, null_value_type, boolean_value_type}
 use Rattle.dexspec.specs.Spellings.{unsigned_bytes, signed_bytes, bits_bytes, offsets_bytes}
@@ -42,6 +42,10 @@ IsCountedAnnotation a = (elements_count a.elements < 2 ^ 32) × HaveCounted a.el
 
 -- ---- bytes
 
+-- a count as a uleb128; 2 ^ 32 - 1, the most that one holds, where it is more
+unfoldable pub count_bytes : ℕ → List ℕ
+count_bytes n = uleb128 (min (2 ^ 32 - 1) n)
+
 -- a value that names no symbol
 abbrev pub literal_bytes : Literal → List ℕ
 literal_bytes (ByteLiteral z) = signed_bytes byte_value_type z
@@ -67,8 +71,8 @@ abbrev mutual
   pub numbered_bytes : NumberedValue → List ℕ
   numbered_bytes (Plain literal) = literal_bytes literal
   numbered_bytes (Named reference i) = unsigned_bytes (reference_code reference) i
-  numbered_bytes (Array xs) = value_byte 0 array_value_type ∷ (uleb128 (values_count xs) ++ numbered_values_bytes xs)
-  numbered_bytes (Annotated t es) = value_byte 0 annotation_value_type ∷ (uleb128 t ++ (uleb128 (elements_count es) ++ numbered_elements_bytes es))
+  numbered_bytes (Array xs) = value_byte 0 array_value_type ∷ (count_bytes (values_count xs) ++ numbered_values_bytes xs)
+  numbered_bytes (Annotated t es) = value_byte 0 annotation_value_type ∷ (uleb128 t ++ (count_bytes (elements_count es) ++ numbered_elements_bytes es))
 
   -- values one after the other
   pub numbered_values_bytes : NumberedValues → List ℕ
@@ -82,11 +86,11 @@ abbrev mutual
 
 -- an encoded_array
 abbrev pub numbered_array_bytes : NumberedValues → List ℕ
-numbered_array_bytes xs = uleb128 (values_count xs) ++ numbered_values_bytes xs
+numbered_array_bytes xs = count_bytes (values_count xs) ++ numbered_values_bytes xs
 
 -- an encoded_annotation
 abbrev pub encoded_annotation_bytes : ℕ → NumberedElements → List ℕ
-encoded_annotation_bytes t es = uleb128 t ++ (uleb128 (elements_count es) ++ numbered_elements_bytes es)
+encoded_annotation_bytes t es = uleb128 t ++ (count_bytes (elements_count es) ++ numbered_elements_bytes es)
 
 -- an annotation_item
 abbrev pub numbered_annotation_bytes : NumberedAnnotation → List ℕ

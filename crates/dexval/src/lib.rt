@@ -20,7 +20,7 @@ pub use same::same_values_mapped;
 pub use set::AnnotationSet;
 pub use set_put::put_set;
 pub use set_reading::read_set;
-pub use sizes::annotation_size;
+pub use sizes::{annotation_size, ref_list_size, set_size, statics_size};
 pub use value::{Element, Value};
 pub use value_reading::{read_statics, read_value};
 pub use weight::{parameter_sets_weight, statics_weight};

@@ -12,7 +12,7 @@ ghost use Rattle.dexspec.specs.Aside.Writing.{Puts};
 ghost use Rattle.dexval.specs.Appending.{Appends};
 ghost use Rattle.dexval.specs.Code.{value_of, element_of, annotation_of, visibility_of};
 ghost use Rattle.dexval.specs.Numbered.{value_in, values_in, annotation_in, values_of_list, elements_of_list, StandsFor, StandFor, StandsForAnnotation};
-ghost use Rattle.dexval.specs.Spelled.{IsCounted, AreCounted, HaveCounted, IsCountedAnnotation, numbered_bytes, numbered_array_bytes, numbered_values_bytes, numbered_elements_bytes, encoded_annotation_bytes, numbered_annotation_bytes};
+ghost use Rattle.dexval.specs.Spelled.{IsCounted, AreCounted, IsCountedAnnotation, count_bytes, numbered_bytes, numbered_array_bytes, numbered_values_bytes, numbered_elements_bytes, encoded_annotation_bytes, numbered_annotation_bytes};
 
 use crate::annotation::{Annotation, Visibility};
 use crate::value::{Element, Value};
@@ -124,13 +124,14 @@ fn append_number(value: u32, out: &mut Vec<u8>) -> Result<(), AllocError>
     put_u(value, out)
 }
 
-// Appends a count as a uleb128. Where it has more than 32 bits it is not appended.
+// Appends a count as a uleb128, which holds 32 bits.
+#[tactic(auto, unfolding(crate::specs::Spelled::count_bytes))]
 fn append_count(count: usize, out: &mut Vec<u8>) -> Result<(), AllocError>
-    ensures { Appends (count < 2 ^ 32) (uleb128 count) out.old out.new result }
+    ensures { Appends ⊤ (count_bytes count) out.old out.new result }
 {
     match u32::try_from(count) {
         Ok(count) => append_number(count, out),
-        Err(_) => Err(AllocError),
+        Err(_) => append_number(u32::MAX, out),
     }
 }
 
@@ -138,7 +139,7 @@ fn append_count(count: usize, out: &mut Vec<u8>) -> Result<(), AllocError>
 #[cycle(appending)]
 #[tactic(auto, using(crate::proofs::Joining::puts_appends))]
 fn append_value(value: &Value, out: &mut Vec<u8>) -> Result<(), AllocError>
-    ensures { Appends (IsCounted (value_of value.now)) (numbered_bytes (value_of value.now)) out.old out.new result }
+    ensures { Appends ⊤ (numbered_bytes (value_of value.now)) out.old out.new result }
 {
     match value {
         Value::Byte(number) => append_signed(BYTE, i64::from(*number), out),
@@ -169,7 +170,7 @@ fn append_value(value: &Value, out: &mut Vec<u8>) -> Result<(), AllocError>
 // Appends an encoded_array.
 #[cycle(appending)]
 fn append_array(values: &[Value], out: &mut Vec<u8>) -> Result<(), AllocError>
-    ensures { Appends ((length values.now < 2 ^ 32) × AreCounted (values_of_list (map value_of values.now))) (numbered_array_bytes (values_of_list (map value_of values.now))) out.old out.new result }
+    ensures { Appends ⊤ (numbered_array_bytes (values_of_list (map value_of values.now))) out.old out.new result }
 {
     append_count(values.len(), out)?;
     append_values(values, out)
@@ -178,7 +179,7 @@ fn append_array(values: &[Value], out: &mut Vec<u8>) -> Result<(), AllocError>
 // Appends values one after the other.
 #[cycle(appending)]
 fn append_values(values: &[Value], out: &mut Vec<u8>) -> Result<(), AllocError>
-    ensures { Appends (AreCounted (values_of_list (map value_of values.now))) (numbered_values_bytes (values_of_list (map value_of values.now))) out.old out.new result }
+    ensures { Appends ⊤ (numbered_values_bytes (values_of_list (map value_of values.now))) out.old out.new result }
 {
     for value in values {
         append_value(value, out)?;
@@ -189,7 +190,7 @@ fn append_values(values: &[Value], out: &mut Vec<u8>) -> Result<(), AllocError>
 // Appends an encoded_annotation.
 #[cycle(appending)]
 fn append_annotation(typ: u32, elements: &[Element], out: &mut Vec<u8>) -> Result<(), AllocError>
-    ensures { Appends ((length elements.now < 2 ^ 32) × HaveCounted (elements_of_list (map element_of elements.now))) (encoded_annotation_bytes typ (elements_of_list (map element_of elements.now))) out.old out.new result }
+    ensures { Appends ⊤ (encoded_annotation_bytes typ (elements_of_list (map element_of elements.now))) out.old out.new result }
 {
     append_number(typ, out)?;
     append_count(elements.len(), out)?;
@@ -199,7 +200,7 @@ fn append_annotation(typ: u32, elements: &[Element], out: &mut Vec<u8>) -> Resul
 // Appends elements one after the other.
 #[cycle(appending)]
 fn append_elements(elements: &[Element], out: &mut Vec<u8>) -> Result<(), AllocError>
-    ensures { Appends (HaveCounted (elements_of_list (map element_of elements.now))) (numbered_elements_bytes (elements_of_list (map element_of elements.now))) out.old out.new result }
+    ensures { Appends ⊤ (numbered_elements_bytes (elements_of_list (map element_of elements.now))) out.old out.new result }
 {
     for element in elements {
         append_number(element.name, out)?;
@@ -223,17 +224,16 @@ impl Visibility {
 
 // Appends an annotation_item.
 fn append_item(annotation: &Annotation, out: &mut Vec<u8>) -> Result<(), AllocError>
-    ensures { Appends (IsCountedAnnotation (annotation_of annotation.now)) (numbered_annotation_bytes (annotation_of annotation.now)) out.old out.new result }
+    ensures { Appends ⊤ (numbered_annotation_bytes (annotation_of annotation.now)) out.old out.new result }
 {
     append_byte(annotation.visibility.number(), out)?;
     append_annotation(annotation.typ, &annotation.elements, out)
 }
 
 // Appends the value with its numbers.
-#[tactic(auto, using(crate::proofs::Settling::settled, crate::proofs::Settling::taken_back, crate::proofs::Settling::kept))]
+#[tactic(auto, using(crate::proofs::Settling::settled, crate::proofs::Settling::taken_back))]
 fn put_numbered_value(value: &Value, out: &mut Vec<u8>) -> Result<(), AllocError>
-    ensures put { IsCounted (value_of value.now) → Puts (numbered_bytes (value_of value.now)) out.old out.new result }
-    ensures kept { OnErr result (out.new.items ≡ out.old.items) }
+    ensures { Puts (numbered_bytes (value_of value.now)) out.old out.new result }
 {
     let start = out.len();
     let answer = append_value(value, out);
@@ -244,10 +244,9 @@ fn put_numbered_value(value: &Value, out: &mut Vec<u8>) -> Result<(), AllocError
 }
 
 // Appends the values with their numbers.
-#[tactic(auto, using(crate::proofs::Settling::settled, crate::proofs::Settling::taken_back, crate::proofs::Settling::kept))]
+#[tactic(auto, using(crate::proofs::Settling::settled, crate::proofs::Settling::taken_back))]
 fn put_numbered_statics(values: &[Value], out: &mut Vec<u8>) -> Result<(), AllocError>
-    ensures put { length values.now < 2 ^ 32 → AreCounted (values_of_list (map value_of values.now)) → Puts (numbered_array_bytes (values_of_list (map value_of values.now))) out.old out.new result }
-    ensures kept { OnErr result (out.new.items ≡ out.old.items) }
+    ensures { Puts (numbered_array_bytes (values_of_list (map value_of values.now))) out.old out.new result }
 {
     let start = out.len();
     let answer = append_array(values, out);
@@ -258,10 +257,9 @@ fn put_numbered_statics(values: &[Value], out: &mut Vec<u8>) -> Result<(), Alloc
 }
 
 // Appends the annotation with its numbers.
-#[tactic(auto, using(crate::proofs::Settling::settled, crate::proofs::Settling::taken_back, crate::proofs::Settling::kept))]
+#[tactic(auto, using(crate::proofs::Settling::settled, crate::proofs::Settling::taken_back))]
 fn put_numbered_annotation(annotation: &Annotation, out: &mut Vec<u8>) -> Result<(), AllocError>
-    ensures put { IsCountedAnnotation (annotation_of annotation.now) → Puts (numbered_annotation_bytes (annotation_of annotation.now)) out.old out.new result }
-    ensures kept { OnErr result (out.new.items ≡ out.old.items) }
+    ensures { Puts (numbered_annotation_bytes (annotation_of annotation.now)) out.old out.new result }
 {
     let start = out.len();
     let answer = append_item(annotation, out);
@@ -274,8 +272,9 @@ fn put_numbered_annotation(annotation: &Annotation, out: &mut Vec<u8>) -> Result
 /// Appends a value (an encoded_value), each number and each index in the fewest bytes, and what the value holds in the
 /// order in which it holds it.
 ///
-/// It fails for want of memory, and where an array or an annotation in it has 2^32 members or more; the vector is then
-/// as it was. Of fewer it puts each where the spare room is at least what the value weighs.
+/// It fails only for want of memory, and not where the spare room is at least what the value weighs; the vector is then
+/// as it was. An array or an annotation of 2^32 members or more, which no file holds, is put with the count 2^32 - 1, the
+/// most that a count says: what weighs less than 2^32 has none.
 ///
 /// Source: "encoded_value encoding", "encoded_array format" and "encoded_annotation format".
 pub fn put_value(
@@ -283,10 +282,9 @@ pub fn put_value(
     numbering: &Numbering<'_>,
     out: &mut Vec<u8>,
 ) -> Result<(), AllocError>
-    ensures bytes { IsCounted (value_of value.now) → Puts (numbered_bytes (value_of value.now)) out.old out.new result }
+    ensures bytes { Puts (numbered_bytes (value_of value.now)) out.old out.new result }
     ensures symbolic { (symbolic : ValueMeant) → IsCounted (value_of value.now) → StandsFor numbering.now (value_of value.now) symbolic → Puts (value_bytes numbering.now symbolic) out.old out.new result }
-    ensures room { (m : Mentions) → IsCounted (value_of value.now) → vec_len out.old + value_weight (value_in m (value_of value.now)) ≤ vec_capacity out.old → IsOk result }
-    ensures kept { OnErr result (out.new.items ≡ out.old.items) }
+    ensures room { (m : Mentions) → vec_len out.old + value_weight (value_in m (value_of value.now)) ≤ vec_capacity out.old → IsOk result }
 {
     numbering.is_numbering();
     put_numbered_value(value, out)
@@ -294,8 +292,8 @@ pub fn put_value(
 
 /// Appends the values with which static fields begin (an encoded_array_item), each as [`put_value`] does.
 ///
-/// It fails for want of memory, and where they, or the members of an array or an annotation in them, are 2^32 or more;
-/// the vector is then as it was. Fewer it puts where the spare room is at least what the values weigh and there is one.
+/// It fails only for want of memory, and not where the spare room is at least what the values weigh and there is one; the
+/// vector is then as it was. It appends as many bytes as [`statics_size`](crate::statics_size) says.
 ///
 /// Source: "encoded_array_item" and "encoded_array format".
 pub fn put_statics(
@@ -303,10 +301,9 @@ pub fn put_statics(
     numbering: &Numbering<'_>,
     out: &mut Vec<u8>,
 ) -> Result<(), AllocError>
-    ensures bytes { length values.now < 2 ^ 32 → AreCounted (values_of_list (map value_of values.now)) → Puts (numbered_array_bytes (values_of_list (map value_of values.now))) out.old out.new result }
+    ensures bytes { Puts (numbered_array_bytes (values_of_list (map value_of values.now))) out.old out.new result }
     ensures symbolic { (symbolic : ValuesMeant) → length values.now < 2 ^ 32 → AreCounted (values_of_list (map value_of values.now)) → StandFor numbering.now (values_of_list (map value_of values.now)) symbolic → Puts (encoded_array_bytes numbering.now symbolic) out.old out.new result }
-    ensures room { (m : Mentions) → length values.now < 2 ^ 32 → AreCounted (values_of_list (map value_of values.now)) → 0 < length values.now → vec_len out.old + static_values_weight (values_in m (values_of_list (map value_of values.now))) ≤ vec_capacity out.old → IsOk result }
-    ensures kept { OnErr result (out.new.items ≡ out.old.items) }
+    ensures room { (m : Mentions) → 0 < length values.now → vec_len out.old + static_values_weight (values_in m (values_of_list (map value_of values.now))) ≤ vec_capacity out.old → IsOk result }
 {
     numbering.is_numbering();
     put_numbered_statics(values, out)
@@ -315,8 +312,8 @@ pub fn put_statics(
 /// Appends an annotation (an annotation_item): its visibility, its type, and its elements in their order, each value as
 /// [`put_value`] does.
 ///
-/// It fails for want of memory, and where it, or an array or an annotation in it, has 2^32 members or more; the vector
-/// is then as it was. One of fewer it puts where the spare room is at least what the annotation weighs.
+/// It fails only for want of memory, and not where the spare room is at least what the annotation weighs; the vector is
+/// then as it was. It appends as many bytes as [`annotation_size`](crate::annotation_size) says.
 ///
 /// Source: "annotation_item" and "encoded_annotation format".
 pub fn put_annotation(
@@ -324,10 +321,9 @@ pub fn put_annotation(
     numbering: &Numbering<'_>,
     out: &mut Vec<u8>,
 ) -> Result<(), AllocError>
-    ensures bytes { IsCountedAnnotation (annotation_of annotation.now) → Puts (numbered_annotation_bytes (annotation_of annotation.now)) out.old out.new result }
+    ensures bytes { Puts (numbered_annotation_bytes (annotation_of annotation.now)) out.old out.new result }
     ensures symbolic { (symbolic : AnnotationMeant) → IsCountedAnnotation (annotation_of annotation.now) → StandsForAnnotation numbering.now (annotation_of annotation.now) symbolic → Puts (annotation_bytes numbering.now symbolic) out.old out.new result }
-    ensures room { (m : Mentions) → IsCountedAnnotation (annotation_of annotation.now) → vec_len out.old + annotation_weight (annotation_in m (annotation_of annotation.now)) ≤ vec_capacity out.old → IsOk result }
-    ensures kept { OnErr result (out.new.items ≡ out.old.items) }
+    ensures room { (m : Mentions) → vec_len out.old + annotation_weight (annotation_in m (annotation_of annotation.now)) ≤ vec_capacity out.old → IsOk result }
 {
     numbering.is_numbering();
     put_numbered_annotation(annotation, out)

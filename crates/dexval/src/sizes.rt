@@ -1,20 +1,27 @@
 //! How many bytes values and annotations take in their shortest spelling.
 
-ghost use Rattle.std.specs.Prelude.{◌≡◌, ◌+◌, ◌-◌, ◌^◌, ◌≤◌, min, map, length};
+ghost use Rattle.std.specs.Prelude.{◌≡◌, ℕ, ◌+◌, ◌-◌, ◌^◌, ◌≤◌, List, min, map, length};
 ghost use Rattle.dexspec.specs.Numbers.{uleb128};
-ghost use Rattle.dexspec.specs.Spellings.{unsigned_width, signed_width, bits_width};
-ghost use Rattle.dexval.specs.Code.{value_of, element_of, annotation_of};
-ghost use Rattle.dexval.specs.Numbered.{values_of_list, elements_of_list};
-ghost use Rattle.dexval.specs.Spelled.{numbered_bytes, numbered_array_bytes, encoded_annotation_bytes, numbered_annotation_bytes};
+ghost use Rattle.dexspec.specs.Values.{Values as ValuesMeant};
+ghost use Rattle.dexspec.specs.Annotations.{Annotation as AnnotationMeant};
+ghost use Rattle.dexspec.specs.Mentions.{Mentions};
+ghost use Rattle.dexspec.specs.Spellings.{unsigned_width, signed_width, bits_width, encoded_array_bytes, annotation_bytes, offsets_bytes};
+ghost use Rattle.dexpool.specs.Numberings.{AreRising};
+ghost use Rattle.dexval.specs.Code.{value_of, element_of, annotation_of, set_of};
+ghost use Rattle.dexval.specs.Numbered.{values_of_list, elements_of_list, StandFor, StandsForAnnotation};
+ghost use Rattle.dexval.specs.Spelled.{count_bytes, numbered_bytes, numbered_array_bytes, encoded_annotation_bytes, numbered_annotation_bytes, numbered_set_bytes};
 
 use crate::annotation::Annotation;
+use crate::set::AnnotationSet;
 use crate::value::{Element, Value};
 use crate::widths::{bits_width, signed_width, unsigned_width};
 use dexleb::len_u;
 
 // How many bytes a count takes as a uleb128.
+#[tactic(auto, using(crate::proofs::Counts::count_length))]
 fn count_size(count: usize) -> u64
-    ensures { result ≡ length (uleb128 count) }
+    ensures size { result ≡ length (count_bytes count) }
+    ensures bound { result ≤ 5 }
 {
     match count {
         0..=0x7f => 1,
@@ -104,12 +111,52 @@ fn encoded_annotation_size(typ: u32, elements: &[Element]) -> u64
     size
 }
 
-/// How many bytes [`put_annotation`](crate::put_annotation) appends for the annotation, or 2^64 - 1 where they are more.
-/// No memory is taken.
-///
-/// Source: "annotation_item" and "encoded_annotation format".
-pub fn annotation_size(annotation: &Annotation) -> u64
+// How many bytes an annotation_item takes.
+fn item_size(annotation: &Annotation) -> u64
     ensures { result ≡ min (2 ^ 64 - 1) (length (numbered_annotation_bytes (annotation_of annotation.now))) }
 {
     1u64.saturating_add(encoded_annotation_size(annotation.typ, &annotation.elements))
+}
+
+/// How many bytes [`put_annotation`](crate::put_annotation) appends for the annotation, or 2^64 - 1 where they are more:
+/// those of the annotation that it stands for in a numbering. No memory is taken.
+///
+/// Source: "annotation_item" and "encoded_annotation format".
+pub fn annotation_size(annotation: &Annotation) -> u64
+    ensures size { result ≡ min (2 ^ 64 - 1) (length (numbered_annotation_bytes (annotation_of annotation.now))) }
+    ensures symbolic { (m : Mentions) (symbolic : AnnotationMeant) → AreRising m → StandsForAnnotation m (annotation_of annotation.now) symbolic → result ≡ min (2 ^ 64 - 1) (length (annotation_bytes m symbolic)) }
+{
+    item_size(annotation)
+}
+
+/// How many bytes [`put_statics`](crate::put_statics) appends for the values with which static fields begin, or 2^64 - 1
+/// where they are more: those of the values that they stand for in a numbering. No memory is taken.
+///
+/// Source: "encoded_array_item" and "encoded_array format".
+pub fn statics_size(values: &[Value]) -> u64
+    ensures size { result ≡ min (2 ^ 64 - 1) (length (numbered_array_bytes (values_of_list (map value_of values.now)))) }
+    ensures symbolic { (m : Mentions) (symbolic : ValuesMeant) → AreRising m → StandFor m (values_of_list (map value_of values.now)) symbolic → result ≡ min (2 ^ 64 - 1) (length (encoded_array_bytes m symbolic)) }
+{
+    array_size(values)
+}
+
+/// How many bytes [`put_set`](crate::put_set) appends for the set, wherever its annotations stand: four, and four for
+/// each of them. No memory is taken.
+///
+/// Source: "annotation_set_item".
+pub fn set_size(set: &AnnotationSet) -> u64
+    ensures size { (first : ℕ) → result ≡ length (numbered_set_bytes first (set_of set.now)) }
+    ensures symbolic { (offsets : List ℕ) → length offsets ≡ length (set_of set.now) → result ≡ length (offsets_bytes offsets) }
+{
+    4 + 4 * set.annotations().len() as u64
+}
+
+/// How many bytes an annotation_set_ref_list of these sets takes, wherever they stand: four, and four for each of them.
+/// No memory is taken.
+///
+/// Source: "annotation_set_ref_list".
+pub fn ref_list_size(sets: &[AnnotationSet]) -> u64
+    ensures { (offsets : List ℕ) → length offsets ≡ length sets.now → result ≡ length (offsets_bytes offsets) }
+{
+    4 + 4 * sets.len() as u64
 }

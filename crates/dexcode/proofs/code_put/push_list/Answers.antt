@@ -3,4 +3,4 @@ use Rattle.dexcode.proofs.HandlerPlaces.{weight_count}
 use Rattle.dexcode.proofs.code_put.push_list.Goals as goal
 
 pub overflow_cast-handlers : goal.overflow_cast-handlers
-overflow_cast-handlers c = omega (arith, weight_count c.args.handlers.now, c.requires.short.light)
+overflow_cast-handlers c = omega (arith, weight_count c.args.handlers.now, c.requires.light)

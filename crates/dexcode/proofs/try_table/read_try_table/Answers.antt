@@ -3,7 +3,7 @@ use Rattle.dexspec.specs.Code.{most_handlers}
 use Rattle.dexcode.specs.Numbered.{all_named, handlers_of, handlers_weight}
 use Rattle.dexcode.specs.Reading.{IsListAt, TriesRead, TryItemsAt, IsTriesFault}
 use Rattle.dexcode.proofs.HandlersRead.{fault_so}
-use Rattle.dexcode.proofs.TryTables.{NoTries, found_tries, found_within, found_whole, no_tries, too_heavy}
+use Rattle.dexcode.proofs.TryTables.{NoTries, found_tries, found_within, found_formed, no_tries, too_heavy}
 use Rattle.dexcode.proofs.try_table.read_try_table.Goals as goal
 
 pub returns-in-Err-read_try_items-clause-fault : goal.returns-in-Err-read_try_items-clause-fault
@@ -27,12 +27,12 @@ of-requires-clause-within c =
     let read = subst (λ ns. TriesRead c.args.units ns c.args.bytes.now c.args.at c.args.count ts to) c.deref.ensures.value c.in-Ok-read_try_items.ensures.tries.1 in
     rw c.deref-2.ensures.value (rw c.deref-3.ensures.value (found_within c.args.starts.now c.args.types c.args.units c.args.bytes.now c.args.at c.args.count hs numbers ts to list read))
 
-pub of-requires-clause-whole : goal.of-requires-clause-whole
-of-requires-clause-whole c =
+pub of-requires-clause-formed : goal.of-requires-clause-formed
+of-requires-clause-formed c =
     let hs = c.in-Ok.list.handlers.items in
     let numbers = c.in-Ok.list.numbers.items in
     let list = subst (λ n. IsListAt c.args.starts.now c.args.types c.args.bytes.now (c.args.at + 8 * n) hs numbers) c.from-size.ensures c.in-Ok.ensures.list in
-    rw c.deref-3.ensures.value (found_whole c.args.starts.now c.args.types c.args.units c.args.bytes.now c.args.at c.args.count hs numbers list)
+    rw c.deref-3.ensures.value (found_formed c.args.starts.now c.args.types c.args.units c.args.bytes.now c.args.at c.args.count hs numbers list)
 
 pub returns-in-Some-clause-tries : goal.returns-in-Some-clause-tries
 returns-in-Some-clause-tries c =

@@ -7,7 +7,7 @@ use Rattle.dexinsn.proofs.reading.read_indices.Goals as goal
 use Rattle.dexinsn.proofs.reading.read_indices.Goals.{in-Some+else-len-number+else-is_err, in-None}
 
 pub loop-cut-init : goal.loop-cut-init
-loop-cut-init c = none_read c.args.units.now c.args.pools.now c.new-indices.result.items c.new-indices.ensures.items
+loop-cut-init c = none_read c.args.units.now c.args.pools.now c.in-Ok.indices.items c.in-Ok.ensures.items
 
 pub kind_at-requires : goal.kind_at-requires
 kind_at-requires c = unit_within c.args.units.now c.args.cuts.now c.loop-cut.cut-index _ c.loop-cut-test.true c.requires.pieces
@@ -38,4 +38,6 @@ loop-cut-preserved c =
     ]
 
 pub returns-clause-indices : goal.returns-clause-indices
-returns-clause-indices c = all_read c.args.units.now c.args.pools.now c.args.cuts.now c.loop-cut.cut-index c.loop-cut.indices.items (omega arith) c.loop-cut.invariant
+returns-clause-indices c =
+    subst (AreIndicesOf c.args.units.now c.args.pools.now (cuts_of c.args.cuts.now)) (sym c.shrink_to_fit.ensures.items)
+    (all_read c.args.units.now c.args.pools.now c.args.cuts.now c.loop-cut.cut-index c.loop-cut.indices.items (omega arith) c.loop-cut.invariant)

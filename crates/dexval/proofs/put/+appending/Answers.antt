@@ -2,45 +2,45 @@ use Rattle.std.proofs.Common.{◌++◌, ℕ, ap, sym, rules, map, to_z, of_z, w6
 use Rattle.dexspec.specs.Numbers.{uleb128}
 use Rattle.dexval.specs.Code.{value_of, element_of}
 use Rattle.dexval.specs.Numbered.{values_of_list, elements_of_list}
-use Rattle.dexval.specs.Spelled.{elements_count, numbered_values_bytes, numbered_elements_bytes, numbered_bytes}
-use Rattle.dexval.proofs.Joining.{appended_both, stopped_after, stopped_before, appends_after, appends_same, appends_if, stopped_if, stops}
-use Rattle.dexval.proofs.Members.{value_step_on, value_stop, value_counted, count_values_is, element_step_on, element_stop, element_counted, count_elements_is, value_lighter, element_lighter}
-use Rattle.dexval.proofs.ValueForms.{array_counted_in, annotation_counted_in, array_put, annotation_put, array_lighter, annotation_lighter, byte_put, short_put, char_put, int_put, long_put, float_put, double_put, string_put, type_put, field_put, method_put, enum_put}
+use Rattle.dexval.specs.Spelled.{elements_count, count_bytes, numbered_values_bytes, numbered_elements_bytes, numbered_bytes}
+use Rattle.dexval.proofs.Joining.{appended_both, stopped_after, stopped_before, appends_after, appends_same, stops}
+use Rattle.dexval.proofs.Members.{value_step_on, value_stop, count_values_is, element_step_on, element_stop, count_elements_is, value_lighter, element_lighter}
+use Rattle.dexval.proofs.ValueForms.{array_put, annotation_put, array_lighter, annotation_lighter, byte_put, short_put, char_put, int_put, long_put, float_put, double_put, string_put, type_put, field_put, method_put, enum_put}
 use Rattle.dexval.proofs.put.+appending.Goals as goal
 
 pub append_annotation-returns-in_err-append_number : goal.append_annotation-returns-in_err-append_number
 append_annotation-returns-in_err-append_number t c =
     let es = elements_of_list (map element_of c.args.elements.now) in
-    stops c.from_residual.ensures.0 (stopped_if (λ counted. tt) (stopped_before c.in_err-append_number.ensures.err (uleb128 (elements_count es) ++ numbered_elements_bytes es)))
+    stops c.from_residual.ensures.0 (stopped_before c.in_err-append_number.ensures.err (count_bytes (elements_count es) ++ numbered_elements_bytes es))
 
 pub append_annotation-returns-in_err-append_count : goal.append_annotation-returns-in_err-append_count
 append_annotation-returns-in_err-append_count t c =
     let es = elements_of_list (map element_of c.args.elements.now) in
-    let same = ap (λ (n : ℕ). uleb128 c.args.typ ++ (uleb128 n ++ numbered_elements_bytes es)) (sym (count_elements_is c.args.elements.now)) in
-    appends_same same (stops c.from_residual-in_err-append_count.ensures.0 (stopped_if (λ counted. counted.0) (stopped_after c.in_ok-append_number.ensures.ok (stopped_before c.in_err-append_count.ensures.err (numbered_elements_bytes es)))))
+    let same = ap (λ (n : ℕ). uleb128 c.args.typ ++ (count_bytes n ++ numbered_elements_bytes es)) (sym (count_elements_is c.args.elements.now)) in
+    appends_same same (stops c.from_residual-in_err-append_count.ensures.0 (stopped_after c.in_ok-append_number.ensures.ok (stopped_before c.in_err-append_count.ensures.err (numbered_elements_bytes es))))
 
 pub append_annotation-returns : goal.append_annotation-returns
 append_annotation-returns t c =
     let es = elements_of_list (map element_of c.args.elements.now) in
-    let same = ap (λ (n : ℕ). uleb128 c.args.typ ++ (uleb128 n ++ numbered_elements_bytes es)) (sym (count_elements_is c.args.elements.now)) in
-    appends_same same (appends_after c.in_ok-append_number.ensures.ok (appends_after c.in_ok-append_count.ensures.ok (appends_if (λ counted. counted.1) c.append_elements.ensures)))
+    let same = ap (λ (n : ℕ). uleb128 c.args.typ ++ (count_bytes n ++ numbered_elements_bytes es)) (sym (count_elements_is c.args.elements.now)) in
+    appends_same same (appends_after c.in_ok-append_number.ensures.ok (appends_after c.in_ok-append_count.ensures.ok c.append_elements.ensures))
 
 pub append_array-returns-in_err-append_count : goal.append_array-returns-in_err-append_count
 append_array-returns-in_err-append_count t c =
     let xs = values_of_list (map value_of c.args.values.now) in
-    let same = ap (λ (n : ℕ). uleb128 n ++ numbered_values_bytes xs) (sym (count_values_is c.args.values.now)) in
-    appends_same same (stops c.from_residual.ensures.0 (stopped_if (λ counted. counted.0) (stopped_before c.in_err-append_count.ensures.err (numbered_values_bytes xs))))
+    let same = ap (λ (n : ℕ). count_bytes n ++ numbered_values_bytes xs) (sym (count_values_is c.args.values.now)) in
+    appends_same same (stops c.from_residual.ensures.0 (stopped_before c.in_err-append_count.ensures.err (numbered_values_bytes xs)))
 
 pub append_array-returns : goal.append_array-returns
 append_array-returns t c =
     let xs = values_of_list (map value_of c.args.values.now) in
-    let same = ap (λ (n : ℕ). uleb128 n ++ numbered_values_bytes xs) (sym (count_values_is c.args.values.now)) in
-    appends_same same (appends_after c.in_ok-append_count.ensures.ok (appends_if (λ counted. counted.1) c.append_values.ensures))
+    let same = ap (λ (n : ℕ). count_bytes n ++ numbered_values_bytes xs) (sym (count_values_is c.args.values.now)) in
+    appends_same same (appends_after c.in_ok-append_count.ensures.ok c.append_values.ensures)
 
 pub append_elements-returns-in_err-append_number : goal.append_elements-returns-in_err-append_number
 append_elements-returns-in_err-append_number t c =
     let d = c.element-item.result in
-    stops c.from_residual.ensures.0 (stopped_if (λ counted. tt) (element_stop c.args.elements.now c.loop-element.element-index d c.loop-element-test.true c.element-item.is c.loop-element.invariant (stopped_before c.in_err-append_number.ensures.err (numbered_bytes (value_of d.value)))))
+    stops c.from_residual.ensures.0 (element_stop c.args.elements.now c.loop-element.element-index d c.loop-element-test.true c.element-item.is c.loop-element.invariant (stopped_before c.in_err-append_number.ensures.err (numbered_bytes (value_of d.value))))
 
 pub append_elements-append_value-requires : goal.append_elements-append_value-requires
 append_elements-append_value-requires t c =
@@ -50,8 +50,7 @@ append_elements-append_value-requires t c =
 pub append_elements-returns-in_err-append_value : goal.append_elements-returns-in_err-append_value
 append_elements-returns-in_err-append_value t c =
     let d = c.element-item.result in
-    let counts = element_counted c.args.elements.now c.loop-element.element-index d c.loop-element-test.true c.element-item.is in
-    stops c.from_residual-in_err-append_value.ensures.0 (stopped_if counts (element_stop c.args.elements.now c.loop-element.element-index d c.loop-element-test.true c.element-item.is c.loop-element.invariant (stopped_after c.in_ok-append_number.ensures.ok c.in_err-append_value.ensures.err)))
+    stops c.from_residual-in_err-append_value.ensures.0 (element_stop c.args.elements.now c.loop-element.element-index d c.loop-element-test.true c.element-item.is c.loop-element.invariant (stopped_after c.in_ok-append_number.ensures.ok c.in_err-append_value.ensures.err))
 
 pub append_elements-loop-element-preserved : goal.append_elements-loop-element-preserved
 append_elements-loop-element-preserved t c =
@@ -69,13 +68,11 @@ append_value-append_annotation-requires t c =
 
 pub append_value-returns-in_ok-append_byte-in-Array : goal.append_value-returns-in_ok-append_byte-in-Array
 append_value-returns-in_ok-append_byte-in-Array t c =
-    let counts = array_counted_in c.args.value.now c.in-Array.values c.in-Array.is c.deref.ensures.value in
-    array_put c.args.value.now c.in-Array.values c.in-Array.is c.deref.ensures.value c.in_ok-append_byte-in-Array.ensures.ok (appends_if counts c.append_array.ensures)
+    array_put c.args.value.now c.in-Array.values c.in-Array.is c.deref.ensures.value c.in_ok-append_byte-in-Array.ensures.ok c.append_array.ensures
 
 pub append_value-returns-in_ok-append_byte-in-Annotation : goal.append_value-returns-in_ok-append_byte-in-Annotation
 append_value-returns-in_ok-append_byte-in-Annotation t c =
-    let counts = annotation_counted_in c.args.value.now c.in-Annotation.typ c.in-Annotation.elements c.in-Annotation.is c.deref-in-Annotation.ensures.value in
-    annotation_put c.args.value.now c.in-Annotation.typ c.in-Annotation.elements c.in-Annotation.is c.deref-in-Annotation.ensures.value c.in_ok-append_byte-in-Annotation.ensures.ok (appends_if counts c.append_annotation.ensures)
+    annotation_put c.args.value.now c.in-Annotation.typ c.in-Annotation.elements c.in-Annotation.is c.deref-in-Annotation.ensures.value c.in_ok-append_byte-in-Annotation.ensures.ok c.append_annotation.ensures
 
 pub append_values-append_value-requires : goal.append_values-append_value-requires
 append_values-append_value-requires t c =
@@ -84,8 +81,7 @@ append_values-append_value-requires t c =
 
 pub append_values-returns-in_err-append_value : goal.append_values-returns-in_err-append_value
 append_values-returns-in_err-append_value t c =
-    let counts = value_counted c.args.values.now c.loop-value.value-index c.value-item.result c.loop-value-test.true c.value-item.is in
-    stops c.from_residual.ensures.0 (stopped_if counts (value_stop c.args.values.now c.loop-value.value-index c.value-item.result c.loop-value-test.true c.value-item.is c.loop-value.invariant c.in_err-append_value.ensures.err))
+    stops c.from_residual.ensures.0 (value_stop c.args.values.now c.loop-value.value-index c.value-item.result c.loop-value-test.true c.value-item.is c.loop-value.invariant c.in_err-append_value.ensures.err)
 
 pub append_values-loop-value-preserved : goal.append_values-loop-value-preserved
 append_values-loop-value-preserved t c = value_step_on c.args.values.now c.loop-value.value-index c.value-item.result c.loop-value-test.true c.value-item.is c.loop-value.invariant c.in_ok-append_value.ensures.ok

@@ -5,7 +5,7 @@ use Rattle.dexval.proofs.Weights.{elements_weight_is}
 use Rattle.dexval.proofs.put.put_annotation.Goals as goal
 
 pub returns-clause-symbolic : goal.returns-clause-symbolic
-returns-clause-symbolic c = λ symbolic counted. annotation_put_is c.args.numbering.now (annotation_of c.args.annotation.now) c.is_numbering.ensures.rising (c.put_numbered_annotation.ensures.put counted) symbolic
+returns-clause-symbolic c = annotation_put_is c.args.numbering.now (annotation_of c.args.annotation.now) c.is_numbering.ensures.rising c.put_numbered_annotation.ensures
 
 pub returns-clause-room : goal.returns-clause-room
-returns-clause-room c = λ m counted le. let x = annotation_of c.args.annotation.now in (c.put_numbered_annotation.ensures.put counted).room (omega (arith, le, annotation_size_is m x, elements_weight_is m x.elements))
+returns-clause-room c = λ m le. let x = annotation_of c.args.annotation.now in c.put_numbered_annotation.ensures.room (omega (arith, le, annotation_size_is m x, elements_weight_is m x.elements))

@@ -21,7 +21,7 @@ loop-annotation-preserved c =
           ∙ ap (λ (n : ℕ). old ++ (before ++ uint n)) is ∙ ap (λ (l : List ℕ). old ++ l) (sym (one_offset c.args.first xs i d lt c.annotation-item.is));
       len = omega (arith, c.push_u32.ensures.len, c.loop-annotation.invariant.len);
       capacity = omega (arith, c.push_u32.ensures.capacity, c.loop-annotation.invariant.capacity);
-      next = omega (arith, c.saturating_add-offset.ensures, c.annotation_size.ensures, is, next_offset c.args.first xs i d lt c.annotation-item.is);
+      next = omega (arith, c.saturating_add-offset.ensures, c.annotation_size.ensures.size, is, next_offset c.args.first xs i d lt c.annotation-item.is);
     }
 
 pub returns : goal.returns

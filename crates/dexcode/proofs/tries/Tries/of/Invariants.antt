@@ -1,5 +1,5 @@
 use Rattle.std.proofs.Common.{◌≡◌, ◌<◌, length, take, All}
-use Rattle.dexcode.specs.Numbered.{AreKnown, IsWhole, all_named, handlers_of}
+use Rattle.dexcode.specs.Numbered.{AreKnown, IsFormedHandler, all_named, handlers_of}
 use Rattle.dexcode.proofs.tries.Tries.of.Given as goal
 
 abbrev pub invariant-loop-item : goal.invariant-loop-item
@@ -8,4 +8,4 @@ invariant-loop-item l =
     × (l.handlers.keys ≡ handlers_of (all_named l.listed (take l.item-index l.tries)))
     × (all_named l.handlers.keys l.numbered.items ≡ all_named l.listed (take l.item-index l.tries))
     × All (λ t. t.handler < length l.handlers.keys) l.numbered.items
-    × All IsWhole l.handlers.keys
+    × All IsFormedHandler l.handlers.keys

@@ -1,0 +1,130 @@
+//! How long code items are.
+
+ghost use Rattle.std.specs.Prelude.{◌≡◌, ◌+◌, ◌*◌, ◌^◌, ◌<◌, ◌≤◌, ℕ, List, length, option_to_list};
+ghost use Rattle.std.specs.List.{flat_map};
+ghost use Rattle.dexspec.specs.Code as symbolic;
+ghost use Rattle.dexspec.specs.Code.{most_handlers};
+ghost use Rattle.dexspec.specs.Mentions.{Mentions};
+ghost use Rattle.dexspec.specs.Numbers.{uleb128};
+ghost use Rattle.dexspec.specs.Spellings.{code_bytes};
+ghost use Rattle.dexpool.specs.Numberings.{AreRising};
+ghost use Rattle.dexinsn.specs.Numbered.{NumberedCode};
+ghost use Rattle.dexcode.specs.CodePut.{gap_bytes, handler_count, numbered_catch_bytes, numbered_code_bytes, numbered_handler_bytes, numbered_item_bytes, numbered_list_bytes, unit_count};
+ghost use Rattle.dexcode.specs.Numbered.{NumberedHandler, AreStored, StandsForCode, all_named, handlers_weight};
+
+use crate::code::Code;
+use crate::code_laws::code_bytes_law;
+use crate::handlers::{Catch, Handler};
+use crate::tries::Try;
+use dexinsn::Pieces;
+use dexleb::{len_s, len_u};
+
+// How many bytes a catch has.
+fn catch_len(catch: &Catch) -> usize
+    ensures len { result ≡ length (numbered_catch_bytes catch.now) }
+    ensures few { result ≤ 10 }
+{
+    len_u(catch.typ) + len_u(catch.address)
+}
+
+// How many bytes catches have.
+fn catches_len(catches: &[Catch]) -> usize
+    requires { length catches.now < 2 ^ 16 }
+    ensures len { result ≡ length (flat_map numbered_catch_bytes catches.now) }
+    ensures few { result ≤ 10 * length catches.now }
+{
+    let mut len = 0;
+    for catch in catches {
+        len += catch_len(catch);
+    }
+    len
+}
+
+// How many bytes the address for all else has.
+fn catch_all_len(catch_all: Option<u32>) -> usize
+    ensures len { result ≡ length (flat_map uleb128 (option_to_list catch_all)) }
+    ensures few { result ≤ 5 }
+{
+    match catch_all {
+        Some(address) => len_u(address),
+        None => 0,
+    }
+}
+
+// The number of catches, 0 or less where there is an address for all else.
+pub(crate) fn handler_count(handler: &Handler) -> i32
+    requires { length handler.now.catches < 2 ^ 16 }
+    ensures { result ≡ handler_count handler.now }
+{
+    let count = handler.catches().len() as i32;
+    match handler.catch_all() {
+        Some(_) => -count,
+        None => count,
+    }
+}
+
+// How many bytes a handler has.
+pub(crate) fn handler_len(handler: &Handler) -> usize
+    requires { length handler.now.catches < 2 ^ 16 }
+    ensures len { result ≡ length (numbered_handler_bytes handler.now) }
+    ensures few { result ≤ 10 + 10 * length handler.now.catches }
+{
+    len_s(handler_count(handler))
+        + catches_len(handler.catches())
+        + catch_all_len(handler.catch_all())
+}
+
+// How many bytes the list of handlers has.
+fn list_len(handlers: &[Handler]) -> usize
+    requires { handlers_weight handlers.now ≤ most_handlers }
+    ensures len { result ≡ length (numbered_list_bytes handlers.now) }
+    ensures few { result < 2 ^ 18 }
+{
+    let mut len = len_u(handlers.len() as u32);
+    for handler in handlers {
+        len += handler_len(handler);
+    }
+    len
+}
+
+// How many bytes the zero has that stands where the number of units is odd.
+fn gap_len(units: u32) -> usize
+    ensures len { result ≡ length (gap_bytes units) }
+    ensures few { result ≤ 2 }
+{
+    if units % 2 == 1 { 2 } else { 0 }
+}
+
+// How many units the pieces have.
+pub(crate) fn unit_count(pieces: &Pieces<'_>) -> u32
+    ensures { result ≡ unit_count pieces.now }
+{
+    pieces.units()
+}
+
+// How many bytes a code item of so many units has, whose list of handlers has so many.
+pub(crate) fn placed_len(units: u32, tries: &[Try], list: usize) -> usize
+    requires few { list < 2 ^ 18 }
+    requires tries { length tries.now < 2 ^ 16 }
+    ensures { (debug_off : ℕ) (c : NumberedCode) (hs : List NumberedHandler) → AreStored hs tries.now → units ≡ unit_count c → list ≡ length (numbered_list_bytes hs) → result ≡ length (numbered_item_bytes debug_off c (all_named hs tries.now)) }
+{
+    let front = 16 + 2 * units as usize;
+    if tries.is_empty() {
+        return front;
+    }
+    front + gap_len(units) + 8 * tries.len() + list
+}
+
+impl<'a> Code<'a> {
+    /// The number of bytes that [`put_code`](crate::put_code) appends, wherever the debug program is. No memory is taken.
+    ///
+    /// Source: "code_item".
+    pub fn item_len(&self) -> usize
+        ensures numbered { (debug_off : ℕ) → result ≡ length (numbered_code_bytes debug_off self.now) }
+        ensures symbolic { (m : Mentions) (debug_off : ℕ) (x : symbolic.Code) → AreRising m → StandsForCode m self.now x → result ≡ length (code_bytes m debug_off x) }
+    {
+        code_bytes_law();
+        let (items, handlers) = self.tries.parts();
+        placed_len(unit_count(&self.pieces), items, list_len(handlers))
+    }
+}

@@ -1,0 +1,8 @@
+use Rattle.std.proofs.Common.{ℕ, ap, ◌∙◌, min, ◌^◌, ◌-◌}
+use Rattle.dexval.specs.Code.{annotation_of}
+use Rattle.dexval.proofs.Spelling.{annotation_lengths_are}
+use Rattle.dexval.proofs.sizes.annotation_size.Goals as goal
+
+pub returns-clause-symbolic : goal.returns-clause-symbolic
+returns-clause-symbolic c = λ m symbolic rising stands.
+    c.item_size.ensures ∙ ap (λ (n : ℕ). min (2 ^ 64 - 1) n) (annotation_lengths_are m (annotation_of c.args.annotation.now) symbolic rising stands)

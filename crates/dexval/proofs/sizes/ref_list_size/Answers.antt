@@ -1,0 +1,6 @@
+use Rattle.std.proofs.Common.{arith}
+use Rattle.dexspec.proofs.SizeItems.{offsets_bytes-size}
+use Rattle.dexval.proofs.sizes.ref_list_size.Goals as goal
+
+pub returns : goal.returns
+returns c = λ offsets e. omega (arith, offsets_bytes-size offsets, e)

@@ -1,10 +1,11 @@
 //! Maps from the numbers of one numbering to those of another.
 
-ghost use Rattle.std.specs.Prelude.{◌≡◌};
+ghost use Rattle.std.specs.Prelude.{◌≡◌, []};
 ghost use Rattle.dexpool.specs.Numberings.{image_of};
 ghost use Rattle.dexpool.specs.Orderly.{KeepOrder};
 
 use crate::symbols::SymbolKind;
+use std::alloc::Global;
 use std::marker::Model;
 
 /// For each number of a numbering the number of the same symbol in another one, if it is there. Numbers keep their
@@ -30,6 +31,19 @@ impl Model for Remap {
 }
 
 impl Remap {
+    /// No number leads anywhere. No memory is taken.
+    pub fn none(alloc: Global) -> Remap
+        ensures { result ≡ record { texts = []; types = []; protos = []; fields = []; methods = [] } }
+    {
+        Remap {
+            strings: Vec::new(alloc),
+            types: Vec::new(alloc),
+            protos: Vec::new(alloc),
+            fields: Vec::new(alloc),
+            methods: Vec::new(alloc),
+        }
+    }
+
     /// Numbers keep their order where they lead somewhere, so no two of a kind lead to one. It does nothing: its contract
     /// tells what every map is, for the proofs of callers.
     pub fn keeps_order(&self)

@@ -7,6 +7,7 @@ pub mod ElementsRead
 pub mod FileRead
 pub mod Fitted
 pub mod Growing
+pub mod Hashed
 pub mod Images
 pub mod Joining
 pub mod Keeping
@@ -19,6 +20,7 @@ pub mod NestedRead
 pub mod Offsets
 pub mod Ranked
 pub mod Renumbered
+pub mod Unmoved
 pub mod ScalarsRead
 pub mod SetsRead
 pub mod Settling

@@ -1,6 +1,7 @@
 pub mod Appending
 pub mod Code
 pub mod Directories
+pub mod Equality
 pub mod Items
 pub mod Nesting
 pub mod Numbered

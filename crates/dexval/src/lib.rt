@@ -9,6 +9,7 @@
 pub use annotation::{Annotation, Visibility};
 pub use directory::Directory;
 pub use directory_reading::{read_directory, read_directory_within};
+pub use equality::set_equality_law;
 pub use fitting::values_fit;
 pub use laws::{
     counts_law, images_law, marks_law, narrow_law, places_law, renumber_law, same_law, uses_law,
@@ -30,7 +31,9 @@ mod budget;
 mod copying;
 mod directory;
 mod directory_reading;
+mod equality;
 mod fitting;
+mod hashing;
 mod laws;
 mod marking;
 mod nesting;
@@ -43,7 +46,9 @@ mod set;
 mod set_put;
 mod set_reading;
 mod sizes;
+mod type_codes;
 mod value;
 mod value_reading;
+mod visibility;
 mod weight;
 mod widths;

@@ -10,48 +10,20 @@ ghost use Rattle.dexspec.specs.Spellings.{complement, unsigned_bytes, signed_byt
 ghost use Rattle.dexspec.specs.Weight.{value_weight, static_values_weight, annotation_weight};
 ghost use Rattle.dexspec.specs.Aside.Writing.{Puts};
 ghost use Rattle.dexval.specs.Appending.{Appends};
-ghost use Rattle.dexval.specs.Code.{value_of, element_of, annotation_of, visibility_of};
+ghost use Rattle.dexval.specs.Code.{value_of, element_of, annotation_of};
 ghost use Rattle.dexval.specs.Numbered.{value_in, values_in, annotation_in, values_of_list, elements_of_list, StandsFor, StandFor, StandsForAnnotation};
 ghost use Rattle.dexval.specs.Spelled.{IsCounted, AreCounted, IsCountedAnnotation, count_bytes, numbered_bytes, numbered_array_bytes, numbered_values_bytes, numbered_elements_bytes, encoded_annotation_bytes, numbered_annotation_bytes};
 
-use crate::annotation::{Annotation, Visibility};
+use crate::annotation::Annotation;
+use crate::type_codes::{
+    ANNOTATION, ARRAY, BOOLEAN, BYTE, CHAR, DOUBLE, ENUM, FIELD, FLOAT, INT, LONG, METHOD, NULL,
+    SHORT, STRING, TYPE,
+};
 use crate::value::{Element, Value};
 use crate::widths::{bits_width, magnitude, signed_width, unsigned_width};
 use dexleb::put_u;
 use dexpool::Numbering;
 use std::alloc::AllocError;
-
-const BYTE: u8 = 0x00;
-
-const SHORT: u8 = 0x02;
-
-const CHAR: u8 = 0x03;
-
-const INT: u8 = 0x04;
-
-const LONG: u8 = 0x06;
-
-const FLOAT: u8 = 0x10;
-
-const DOUBLE: u8 = 0x11;
-
-const STRING: u8 = 0x17;
-
-const TYPE: u8 = 0x18;
-
-const FIELD: u8 = 0x19;
-
-const METHOD: u8 = 0x1a;
-
-const ENUM: u8 = 0x1b;
-
-const ARRAY: u8 = 0x1c;
-
-const ANNOTATION: u8 = 0x1d;
-
-const NULL: u8 = 0x1e;
-
-const BOOLEAN: u8 = 0x1f;
 
 // Appends a type code that counts so many bytes, and these lowest bytes of a number.
 fn append_low(code: u8, width: usize, value: u64, out: &mut Vec<u8>) -> Result<(), AllocError>
@@ -207,19 +179,6 @@ fn append_elements(elements: &[Element], out: &mut Vec<u8>) -> Result<(), AllocE
         append_value(&element.value, out)?;
     }
     Ok(())
-}
-
-impl Visibility {
-    // The number of the visibility.
-    fn number(self) -> u8
-        ensures { result ≡ visibility_of self }
-    {
-        match self {
-            Visibility::Build => 0,
-            Visibility::Runtime => 1,
-            Visibility::System => 2,
-        }
-    }
 }
 
 // Appends an annotation_item.

@@ -1,0 +1,54 @@
+-- Where no number leads anywhere, all stays as it is.
+use Rattle.std.proofs.Common.{◌≡◌, ℕ, Bool, true, false, [], ◌∷◌, refl, ap, sym, ◌∙◌}
+use Rattle.std.specs.Prelude.{IsTrue, ◌↔◌}
+use Rattle.std.specs.Bool.{Decides}
+use Rattle.dexpool.specs.declared.symbols.SymbolKind.{SymbolKind}
+use Rattle.dexpool.specs.declared.symbols.SymbolKind.TheVariants as kinds
+use Rattle.dexpool.specs.Numberings.{Maps}
+use Rattle.dexval.specs.Numbered.{NumberedValue, NumberedValues, NumberedElements, NumberedAnnotation, NumberedSet, Plain, Named, Array, Annotated, NoValue, ThenNext, NoElement, ThenNamed, kind_of_reference}
+use Rattle.dexval.specs.Renumbering.{led, renumbered, renumbered_values, renumbered_elements, renumbered_set}
+
+-- no number leads anywhere
+abbrev pub nowhere : Maps
+nowhere = record { texts = []; types = []; protos = []; fields = []; methods = [] }
+
+stays : (kind : SymbolKind) (i : ℕ) → led nowhere kind i ≡ i
+stays kinds.Text i = refl
+stays kinds.Typ i = refl
+stays kinds.Proto i = refl
+stays kinds.Field i = refl
+stays kinds.Method i = refl
+
+mutual
+  value_stays : (x : NumberedValue) → renumbered nowhere x ≡ x
+  value_stays (Plain l) = refl
+  value_stays (Named k i) = ap (Named k) (stays (kind_of_reference k) i)
+  value_stays (Array xs) = ap Array (values_stay xs)
+  value_stays (Annotated t es) = ap (Annotated t) (elements_stay es)
+
+  values_stay : (xs : NumberedValues) → renumbered_values nowhere xs ≡ xs
+  values_stay NoValue = refl
+  values_stay (ThenNext x xs) = ap (λ (y : NumberedValue). ThenNext y (renumbered_values nowhere xs)) (value_stays x) ∙ ap (ThenNext x) (values_stay xs)
+
+  elements_stay : (es : NumberedElements) → renumbered_elements nowhere es ≡ es
+  elements_stay NoElement = refl
+  elements_stay (ThenNamed name x es) = ap (λ (y : NumberedValue). ThenNamed name y (renumbered_elements nowhere es)) (value_stays x) ∙ ap (ThenNamed name x) (elements_stay es)
+
+-- an annotation by its parts
+abbrev annotation_with : ℕ → ℕ → NumberedElements → NumberedAnnotation
+annotation_with v t es = record { visibility = v; type = t; elements = es }
+
+pub set_stays : (s : NumberedSet) → renumbered_set nowhere s ≡ s
+set_stays [] = refl
+set_stays (a ∷ s) = ap (λ (b : NumberedAnnotation). b ∷ renumbered_set nowhere s) (ap (annotation_with a.visibility a.type) (elements_stay a.elements)) ∙ ap (λ (l : NumberedSet). a ∷ l) (set_stays s)
+
+-- two answers to one question
+by_answer : {P : Type 0} (r b : Bool) → (IsTrue r ↔ P) → Decides b P → r ≡ b
+by_answer true true h k = refl
+by_answer false false h k = refl
+by_answer true false h k = sym (k.1 (h.0 refl))
+by_answer false true h k = h.1 (k.0 refl)
+
+-- whether two sets are the same
+pub same_answer : (s t : NumberedSet) (r b : Bool) → (IsTrue r ↔ (renumbered_set nowhere s ≡ renumbered_set nowhere t)) → Decides b (s ≡ t) → r ≡ b
+same_answer s t r b h k = by_answer r b ((λ e. sym (set_stays s) ∙ h.0 e ∙ set_stays t), (λ e. h.1 (ap (renumbered_set nowhere) e))) k

@@ -1,0 +1,28 @@
+use Rattle.std.proofs.Common.{sym, ◌∙◌, arith}
+use Rattle.dexval.proofs.Hashed.{value_next, values_done, element_next, elements_done, array_whole, annotation_whole}
+use Rattle.dexval.proofs.hashing.+hashing.Goals as goal
+
+pub hash_value-returns-in-Array : goal.hash_value-returns-in-Array
+hash_value-returns-in-Array g t c =
+    array_whole g.H.Hasher.write c.args.value.now c.in-Array.values c.len.result c.args.state.now c.hash_coded-in-Array.new.state c.hash_values.new.state c.in-Array.is c.deref.ensures.value (c.len.ensures ∙ sym c.deref.ensures.len)
+    c.hash_coded-in-Array.ensures c.hash_values.ensures
+
+pub hash_value-returns-in-Annotation : goal.hash_value-returns-in-Annotation
+hash_value-returns-in-Annotation g t c =
+    annotation_whole g.H.Hasher.write c.args.value.now c.in-Annotation.typ c.in-Annotation.elements c.len-in-Annotation.result c.args.state.now c.hash_coded-in-Annotation.new.state c.hash.new.state c.hash_elements.new.state
+    c.in-Annotation.is c.deref-in-Annotation.ensures.value (c.len-in-Annotation.ensures ∙ sym c.deref-in-Annotation.ensures.len) c.hash_coded-in-Annotation.ensures c.hash.ensures c.hash_elements.ensures
+
+pub hash_values-loop-value-preserved : goal.hash_values-loop-value-preserved
+hash_values-loop-value-preserved g t c =
+    value_next g.H.Hasher.write c.args.values.now c.loop-value.value-index c.value-item.result c.args.state.now c.loop-value.state c.hash_value.new.state c.loop-value-test.true c.value-item.is c.loop-value.invariant c.hash_value.ensures
+
+pub hash_values-returns : goal.hash_values-returns
+hash_values-returns g t c = values_done g.H.Hasher.write c.args.values.now c.loop-value.value-index c.args.state.now c.loop-value.state (omega arith) c.loop-value.invariant
+
+pub hash_elements-loop-element-preserved : goal.hash_elements-loop-element-preserved
+hash_elements-loop-element-preserved g t c =
+    element_next g.H.Hasher.write c.args.elements.now c.loop-element.element-index c.element-item.result c.args.state.now c.loop-element.state c.hash.new.state c.hash_value.new.state c.loop-element-test.true c.element-item.is
+    c.loop-element.invariant c.hash.ensures c.hash_value.ensures
+
+pub hash_elements-returns : goal.hash_elements-returns
+hash_elements-returns g t c = elements_done g.H.Hasher.write c.args.elements.now c.loop-element.element-index c.args.state.now c.loop-element.state (omega arith) c.loop-element.invariant

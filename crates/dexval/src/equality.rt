@@ -1,0 +1,43 @@
+//! Sets of annotations that are the same are equal, and are hashed alike.
+
+ghost use Rattle.std.specs.Prelude.{◌≡◌, ◌↔◌, IsTrue};
+ghost use Rattle.std.specs.Cmp.{partial_equiv_from_equiv};
+ghost use Rattle.dexval.specs.Code.{set_of};
+ghost use Rattle.dexval.specs.Equality.{equal_sets, equal_sets_equiv, set_input, equal_sets_alike};
+
+use crate::hashing::hash_annotations;
+use crate::set::AnnotationSet;
+use dexpool::Remap;
+use std::hash::{Hash, Hasher};
+
+impl PartialEq for AnnotationSet {
+    ghost eq = { equal_sets };
+
+    ghost laws = { partial_equiv_from_equiv equal_sets_equiv };
+
+    fn eq(&self, other: &AnnotationSet) -> bool {
+        let nowhere = Remap::none(*self.annotations.allocator());
+        self.same_mapped(&nowhere, other, &nowhere)
+    }
+}
+
+impl Eq for AnnotationSet {
+    ghost laws = { equal_sets_equiv };
+}
+
+impl Hash for AnnotationSet {
+    ghost hash_input = { set_input };
+
+    ghost respects_eq = { equal_sets_alike };
+
+    fn hash<H: Hasher>(&self, state: &mut H) {
+        hash_annotations(self.annotations(), state);
+    }
+}
+
+/// Sets are equal exactly where their annotations are the same, one for one: visibilities, types, names and values. Then
+/// they are hashed alike.
+pub fn set_equality_law()
+    ensures equal { (x y : AnnotationSet) → IsTrue (⟦<AnnotationSet as PartialEq>⟧.eq x y) ↔ (set_of x ≡ set_of y) }
+    ensures hashed { (x y : AnnotationSet) → set_of x ≡ set_of y → ⟦<AnnotationSet as Hash>⟧.hash_input x ≡ ⟦<AnnotationSet as Hash>⟧.hash_input y }
+{}

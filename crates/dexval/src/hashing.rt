@@ -1,0 +1,96 @@
+//! Values and annotations fed to a hasher.
+
+ghost use Rattle.std.specs.Prelude.{◌≡◌, ◌++◌, fold, length, map};
+ghost use Rattle.std.specs.Hash as fed;
+ghost use Rattle.dexval.specs.Code.{value_of, element_of, annotation_of};
+ghost use Rattle.dexval.specs.Equality.{value_input, values_input, elements_input, annotation_input};
+ghost use Rattle.dexval.specs.Numbered.{values_of_list, elements_of_list};
+
+use crate::annotation::Annotation;
+use crate::type_codes::{
+    ANNOTATION, ARRAY, BOOLEAN, BYTE, CHAR, DOUBLE, ENUM, FIELD, FLOAT, INT, LONG, METHOD, NULL,
+    SHORT, STRING, TYPE,
+};
+use crate::value::{Element, Value};
+use std::hash::{Hash, Hasher};
+
+// Feeds a type code and what is hashed behind it.
+fn hash_coded<T: Hash, H: Hasher>(code: u8, number: &T, state: &mut H)
+    ensures { state.new ≡ fold H.write state.old (fed.u8 code ++ T.hash_input number.now) }
+{
+    state.write_u8(code);
+    number.hash(state);
+}
+
+// Feeds a value.
+#[cycle(hashing)]
+fn hash_value<H: Hasher>(value: &Value, state: &mut H)
+    ensures { state.new ≡ fold H.write state.old (value_input (value_of value.now)) }
+{
+    match value {
+        Value::Byte(number) => hash_coded(BYTE, number, state),
+        Value::Short(number) => hash_coded(SHORT, number, state),
+        Value::Char(unit) => hash_coded(CHAR, unit, state),
+        Value::Int(number) => hash_coded(INT, number, state),
+        Value::Long(number) => hash_coded(LONG, number, state),
+        Value::Float(bits) => hash_coded(FLOAT, bits, state),
+        Value::Double(bits) => hash_coded(DOUBLE, bits, state),
+        Value::String(number) => hash_coded(STRING, number, state),
+        Value::Typ(number) => hash_coded(TYPE, number, state),
+        Value::Field(number) => hash_coded(FIELD, number, state),
+        Value::Method(number) => hash_coded(METHOD, number, state),
+        Value::Enum(number) => hash_coded(ENUM, number, state),
+        Value::Array(values) => {
+            hash_coded(ARRAY, &values.len(), state);
+            hash_values(values, state);
+        }
+        Value::Annotation(typ, elements) => {
+            hash_coded(ANNOTATION, typ, state);
+            elements.len().hash(state);
+            hash_elements(elements, state);
+        }
+        Value::Null => state.write_u8(NULL),
+        Value::Boolean(is) => hash_coded(BOOLEAN, is, state),
+    }
+}
+
+// Feeds values.
+#[cycle(hashing)]
+fn hash_values<H: Hasher>(values: &[Value], state: &mut H)
+    ensures { state.new ≡ fold H.write state.old (values_input (values_of_list (map value_of values.now))) }
+{
+    for value in values {
+        hash_value(value, state);
+    }
+}
+
+// Feeds the names of elements and their values.
+#[cycle(hashing)]
+fn hash_elements<H: Hasher>(elements: &[Element], state: &mut H)
+    ensures { state.new ≡ fold H.write state.old (elements_input (elements_of_list (map element_of elements.now))) }
+{
+    for element in elements {
+        element.name.hash(state);
+        hash_value(&element.value, state);
+    }
+}
+
+// Feeds an annotation.
+fn hash_annotation<H: Hasher>(annotation: &Annotation, state: &mut H)
+    ensures { state.new ≡ fold H.write state.old (annotation_input (annotation_of annotation.now)) }
+{
+    state.write_u8(annotation.visibility.number());
+    annotation.typ.hash(state);
+    annotation.elements.len().hash(state);
+    hash_elements(&annotation.elements, state);
+}
+
+/// Feeds annotations, with their number.
+pub(crate) fn hash_annotations<H: Hasher>(annotations: &[Annotation], state: &mut H)
+    ensures { state.new ≡ fold H.write state.old (fed.slice annotation_input (map annotation_of annotations.now)) }
+{
+    annotations.len().hash(state);
+    for annotation in annotations {
+        hash_annotation(annotation, state);
+    }
+}

@@ -77,16 +77,8 @@ fn mark_number(kind: SymbolKind, number: Option<u32>, marks: &mut Marks)
     ensures { AreMarkedToo (number_uses kind number) marks.old marks.new }
 {
     if let Some(number) = number {
-        mark_one(kind, number as usize, marks);
+        marks.mark(kind, number as usize);
     }
-}
-
-// Marks one symbol.
-pub(crate) fn mark_one(kind: SymbolKind, number: usize, marks: &mut Marks)
-    requires { HasMark marks.old (record { kind = kind; number = number }) }
-    ensures { AreMarkedToo (record { kind = kind; number = number } ∷ []) marks.old marks.new }
-{
-    marks.mark(kind, number);
 }
 
 // Marks the symbols of an operation.

@@ -14,6 +14,11 @@ ghost use Rattle.dexcode.specs.DebugPut.{Pushes, HasRoomFor};
 
 use crate::debug::Debug;
 use crate::debug_laws::debug_bytes_law;
+use crate::debug_opcodes::{
+    DBG_ADVANCE_LINE, DBG_ADVANCE_PC, DBG_END_LOCAL, DBG_END_SEQUENCE, DBG_RESTART_LOCAL,
+    DBG_SET_EPILOGUE_BEGIN, DBG_SET_FILE, DBG_SET_PROLOGUE_END, DBG_START_LOCAL,
+    DBG_START_LOCAL_EXTENDED,
+};
 use crate::debug_operation::Operation;
 use dexleb::{len_s, len_u, put_p1, put_s, put_u};
 use dexpool::Numbering;
@@ -154,11 +159,11 @@ fn push_operation(operation: &Operation, out: &mut Vec<u8>)
 {
     match operation {
         Operation::AdvancePc(addresses) => {
-            push_byte(0x01, out);
+            push_byte(DBG_ADVANCE_PC, out);
             push_u(*addresses, out);
         }
         Operation::AdvanceLine(lines) => {
-            push_byte(0x02, out);
+            push_byte(DBG_ADVANCE_LINE, out);
             push_s(*lines, out);
         }
         Operation::StartLocal {
@@ -166,7 +171,7 @@ fn push_operation(operation: &Operation, out: &mut Vec<u8>)
             name,
             typ,
         } => {
-            push_byte(0x03, out);
+            push_byte(DBG_START_LOCAL, out);
             push_local(*register, *name, *typ, out);
         }
         Operation::StartLocalExtended {
@@ -175,22 +180,22 @@ fn push_operation(operation: &Operation, out: &mut Vec<u8>)
             typ,
             signature,
         } => {
-            push_byte(0x04, out);
+            push_byte(DBG_START_LOCAL_EXTENDED, out);
             push_local(*register, *name, *typ, out);
             push_index(*signature, out);
         }
         Operation::EndLocal(register) => {
-            push_byte(0x05, out);
+            push_byte(DBG_END_LOCAL, out);
             push_u(*register, out);
         }
         Operation::RestartLocal(register) => {
-            push_byte(0x06, out);
+            push_byte(DBG_RESTART_LOCAL, out);
             push_u(*register, out);
         }
-        Operation::SetPrologueEnd => push_byte(0x07, out),
-        Operation::SetEpilogueBegin => push_byte(0x08, out),
+        Operation::SetPrologueEnd => push_byte(DBG_SET_PROLOGUE_END, out),
+        Operation::SetEpilogueBegin => push_byte(DBG_SET_EPILOGUE_BEGIN, out),
         Operation::SetFile(name) => {
-            push_byte(0x09, out);
+            push_byte(DBG_SET_FILE, out);
             push_index(*name, out);
         }
         Operation::Special(opcode) => push_byte(*opcode, out),
@@ -228,7 +233,7 @@ fn push_debug(debug: &Debug, out: &mut Vec<u8>)
     push_u(debug.parameter_names.len() as u32, out);
     push_names(&debug.parameter_names, out);
     push_operations(&debug.operations, out);
-    push_byte(0x00, out);
+    push_byte(DBG_END_SEQUENCE, out);
 }
 
 // Appends a debug program.

@@ -9,6 +9,11 @@ ghost use Rattle.dexcode.specs.declared.debug_reading.Counts.{Counts};
 ghost use Rattle.dexcode.specs.DebugReading.{IsDebugAt, IsDebugFault, IndexAt, LocalAt, ExtendedAt, OperandsAt, NumberedDebugAt, AreNames, AreNoNames, AreOperations, IsNoProgram, IsNoDebug};
 
 use crate::debug::Debug;
+use crate::debug_opcodes::{
+    DBG_ADVANCE_LINE, DBG_ADVANCE_PC, DBG_END_LOCAL, DBG_END_SEQUENCE, DBG_RESTART_LOCAL,
+    DBG_SET_EPILOGUE_BEGIN, DBG_SET_FILE, DBG_SET_PROLOGUE_END, DBG_START_LOCAL,
+    DBG_START_LOCAL_EXTENDED,
+};
 use crate::debug_operation::Operation;
 use dexhead::Frame;
 use dexleb::{read_p1, read_s, read_u};
@@ -193,15 +198,15 @@ fn operation_at(bytes: &[u8], at: usize, opcode: u8, counts: Counts) -> Option<(
     ensures only { (op : Operation) (n : ℕ) → OperandsAt counts opcode bytes.now at op n → result ≡ Some (op, n) }
 {
     match opcode {
-        0x01 => advance_pc_at(bytes, at),
-        0x02 => advance_line_at(bytes, at),
-        0x03 => start_local_at(bytes, at, counts),
-        0x04 => start_local_extended_at(bytes, at, counts),
-        0x05 => end_local_at(bytes, at),
-        0x06 => restart_local_at(bytes, at),
-        0x07 => Some((Operation::SetPrologueEnd, 0)),
-        0x08 => Some((Operation::SetEpilogueBegin, 0)),
-        0x09 => set_file_at(bytes, at, counts),
+        DBG_ADVANCE_PC => advance_pc_at(bytes, at),
+        DBG_ADVANCE_LINE => advance_line_at(bytes, at),
+        DBG_START_LOCAL => start_local_at(bytes, at, counts),
+        DBG_START_LOCAL_EXTENDED => start_local_extended_at(bytes, at, counts),
+        DBG_END_LOCAL => end_local_at(bytes, at),
+        DBG_RESTART_LOCAL => restart_local_at(bytes, at),
+        DBG_SET_PROLOGUE_END => Some((Operation::SetPrologueEnd, 0)),
+        DBG_SET_EPILOGUE_BEGIN => Some((Operation::SetEpilogueBegin, 0)),
+        DBG_SET_FILE => set_file_at(bytes, at, counts),
         _ => Some((Operation::Special(opcode), 0)),
     }
 }
@@ -250,7 +255,7 @@ fn read_operations(
     let mut at = from;
     while at < bytes.len() {
         let opcode = bytes[at];
-        if opcode == 0 {
+        if opcode == DBG_END_SEQUENCE {
             return Ok(operations);
         }
         let (operation, len) = match operation_at(bytes, at + 1, opcode, counts) {

@@ -39,6 +39,7 @@ mod debug;
 mod debug_equality;
 mod debug_laws;
 mod debug_numbers;
+mod debug_opcodes;
 mod debug_operation;
 mod debug_positions;
 mod debug_put;

@@ -5,7 +5,6 @@ ghost use Rattle.std.specs.List.{flat_map};
 ghost use Rattle.dexpool.specs.Uses.{HasMark, AreMarkedToo};
 ghost use Rattle.dexcode.specs.Renumbering.{catch_use, handler_uses, tries_uses, HasTypePlace, renumbered_catch, renumbered_handler, renumbered_try};
 
-use crate::debug_numbers::mark_one;
 use crate::handlers::{Catch, Handler};
 use crate::tries::Tries;
 use dexpool::{Marks, Remap, SymbolKind};
@@ -67,7 +66,7 @@ fn mark_catches(catches: &[Catch], marks: &mut Marks)
     ensures { AreMarkedToo (map catch_use catches.now) marks.old marks.new }
 {
     for catch in catches {
-        mark_one(SymbolKind::Typ, catch.typ as usize, marks);
+        marks.mark(SymbolKind::Typ, catch.typ as usize);
     }
 }
 

@@ -71,14 +71,6 @@ fn have_places(units: &Units<'_>, indices: &[Index], remap: &Remap) -> bool
     true
 }
 
-// Marks one symbol.
-fn mark_one(kind: SymbolKind, number: usize, marks: &mut Marks)
-    requires { HasMark marks.old (record { kind = kind; number = number }) }
-    ensures { AreMarkedToo (record { kind = kind; number = number } ∷ []) marks.old marks.new }
-{
-    marks.mark(kind, number);
-}
-
 // Marks the symbols of all indices.
 fn mark_indices(units: &Units<'_>, indices: &[Index], marks: &mut Marks)
     requires indexed { All (IsIndexed units.now) indices.now }
@@ -87,7 +79,7 @@ fn mark_indices(units: &Units<'_>, indices: &[Index], marks: &mut Marks)
 {
     for index in indices {
         let kind = index_kind_at(units, index.unit as usize);
-        mark_one(kind, index.number as usize, marks);
+        marks.mark(kind, index.number as usize);
     }
 }
 

@@ -1,33 +1,24 @@
 -- What marks that are closed downwards keep: the marked symbols, and what these mention.
-use Rattle.std.proofs.Common.{◌≡◌, ◌⊎◌, ℕ, ◌<◌, Bool, List, [], ◌∷◌, ◌++◌, length, get_or, map, refl, sym, ap, ◌∙◌, subst, arith, inl, inr, Ordering}
+use Rattle.std.proofs.Common.{◌≡◌, ℕ, ◌<◌, Bool, List, [], ◌∷◌, ◌++◌, length, get_or, map, refl, sym, ap, ◌∙◌, subst, arith, inl, inr, Ordering}
 use Rattle.std.specs.List.{All, Contains, flat_map}
 use Rattle.std.specs.Cmp.{IsTotalOrder}
 use Rattle.std.specs.FinMap.{IsAntisymmetric}
-use Rattle.std.proofs.lemmas.List.{length-map, get_or-map, map-append}
-use Rattle.std.proofs.lemmas.List.Elements.{All-map, All-weaker, All-contains, All-head, All-tail, Contains-get_or, Contains-append_left, Contains-append_right, Contains-append_cases}
-use Rattle.dexspec.specs.Lists.{rises, in_order}
+use Rattle.std.proofs.lemmas.List.{map-append}
+use Rattle.std.proofs.lemmas.List.Elements.{All-head, All-tail, Contains-append_left, Contains-append_right, Contains-append_cases}
+use Rattle.dexspec.specs.Lists.{in_order}
 use Rattle.dexspec.specs.Texts.{Text, text_cmp}
-use Rattle.dexspec.specs.Names.{IsValueType, shorty}
+use Rattle.dexspec.specs.Names.{shorty}
 use Rattle.dexspec.specs.Symbols.{Proto, Field, Method, Symbol, TextSymbol, TypeSymbol, ProtoSymbol, FieldSymbol, MethodSymbol, proto_cmp, field_cmp, method_cmp}
-use Rattle.dexspec.specs.Mentions.{Mentions, closed, texts_in, types_in, protos_in, fields_in, methods_in, proto_types}
+use Rattle.dexspec.specs.Mentions.{closed, texts_in, types_in, protos_in, fields_in, methods_in, proto_types}
 use Rattle.dexspec.proofs.Members.{AreAmong, Contains-nil, Contains-first, Contains-later, Contains-cons_cases, Contains-flat_map, Contains-flat_map_source}
 use Rattle.dexspec.proofs.Depths.{Contains-map}
 use Rattle.dexspec.proofs.Mapped.{Contains-map_source}
-use Rattle.dexspec.proofs.InOrder.{Rises, Rises-from_rises, Rises-same, Rises-in_order, in_order-has, in_order-only}
+use Rattle.dexspec.proofs.InOrder.{Rises, Rises-same, Rises-in_order, in_order-has, in_order-only}
 use Rattle.dexspec.proofs.SymbolOrders.{text_total, text_exact, proto_total, proto_exact, field_total, field_exact, method_total, method_exact}
 use Rattle.dexrows.specs.Cut.{kept}
-use Rattle.dexpool.specs.declared.rows.ProtoEntry.{ProtoEntry}
-use Rattle.dexrows.specs.declared.fields.FieldRow.{FieldRow}
-use Rattle.dexrows.specs.declared.methods.MethodRow.{MethodRow}
-use Rattle.dexpool.specs.declared.tables.Tables.{Tables}
-use Rattle.dexpool.specs.declared.marks.Marks.{Marks}
-use Rattle.dexpool.specs.Tables.{text_of, type_of, span_of, proto_of, proto_at, field_of, method_of}
-use Rattle.dexpool.specs.Numberings.{AreMarksOf, AreRising, AllLead, marked}
-use Rattle.dexpool.specs.Stored.{symbols_in, IsTypeNumber, IsTypeOf, IsProtoEntry, IsFieldRow, IsMethodRow, AreTables}
-use Rattle.dexpool.specs.Closing.{IsMarked, mark_all, field_types, entry_types, AreClosure, AreClosed, HasMarkedEntry, HasMarkedField, HasMarkedMethod, kept_symbols, kept_places}
-use Rattle.dexpool.proofs.KeptRows.{kept_from, kept_has, kept_all, kept-map, kept_rises, kept_leads, length-mark_all, mark_stays, mark_comes, mark_from, mark_all-append}
+use Rattle.dexpool.specs.Closing.{mark_all}
+use Rattle.dexpool.proofs.KeptRows.{kept_from, kept_has, mark_stays, mark_comes, mark_from}
 use Rattle.dexpool.proofs.KeptTables.{mapped_twice}
-use Rattle.dexpool.proofs.TablesStand.{are_rising}
 
 -- ---- lists of the same members
 

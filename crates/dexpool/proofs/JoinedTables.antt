@@ -1,5 +1,5 @@
 -- The five joined tables are tables of a numbering, the union of the parts, and their images are maps.
-use Rattle.std.proofs.Common.{◌≡◌, ℕ, ◌<◌, true, List, [], length, get_or, map, Option, Some, refl, sym, ap, ◌∙◌, subst, arith}
+use Rattle.std.proofs.Common.{◌≡◌, ℕ, ◌<◌, true, List, [], length, get_or, map, Option, Some, sym, ap, ◌∙◌, subst, arith}
 use Rattle.std.specs.List.{All, AllZip}
 use Rattle.std.specs.Cmp.{IsTotalOrder}
 use Rattle.std.specs.FinMap.{IsAntisymmetric}
@@ -55,16 +55,16 @@ images_keep of R o exact parts to items images u rise i d lt =
     (leads R o (of (get_or parts i part)) to (All-get_or (λ m. rises R (of m) ≡ true) parts i part less rise) (union_rises of R o exact parts to (map items images) u) (items (get_or images i d)) moves).rising
 
 module _ (parts : List Mentions) (numberings : All IsNumbering parts) (t : Tables) (strings types protos fields methods : List (List ℕ))
-    (jt : AreJoinedTexts parts t.strings.items strings) (jy : AreJoinedTypes parts t.strings.items t.types.items types) (jp : AreJoinedProtos parts t.strings.items t.types.items t.parameters.items t.protos.items protos)
-    (jf : AreJoinedFields parts t.strings.items t.types.items t.fields.items fields) (jm : AreJoinedMethods parts t.strings.items t.types.items t.parameters.items t.protos.items t.methods.items methods) where
+    (jt : AreJoinedTexts parts t.strings.items strings) (jy : AreJoinedTypes parts t.strings.items t.types.items types) (jp : AreJoinedProtos parts t.strings.items t.types.items t.parameters t.protos.items protos)
+    (jf : AreJoinedFields parts t.strings.items t.types.items t.fields.items fields) (jm : AreJoinedMethods parts t.strings.items t.types.items t.parameters t.protos.items t.methods.items methods) where
   descriptors : All (λ n. IsDescriptor (text_of t.strings.items n)) t.types.items
   descriptors = all_seen (text_of t.strings.items) IsDescriptor t.types.items
       (all_union (λ (m : Mentions). m.types) text_cmp text_total text_exact IsDescriptor parts (map (text_of t.strings.items) t.types.items) jy.union.all
       (All-weaker IsNumbering (λ m. All IsDescriptor m.types) (λ m n. n.types_formed) parts numberings))
 
-  protos_formed : All (λ p. IsProto (proto_of t.strings.items t.types.items t.parameters.items p)) t.protos.items
-  protos_formed = all_seen (proto_of t.strings.items t.types.items t.parameters.items) IsProto t.protos.items
-      (all_union (λ (m : Mentions). m.protos) symbols.proto_cmp proto_total proto_exact IsProto parts (map (proto_of t.strings.items t.types.items t.parameters.items) t.protos.items) jp.union.all
+  protos_formed : All (λ p. IsProto (proto_of t.strings.items t.types.items t.parameters p)) t.protos.items
+  protos_formed = all_seen (proto_of t.strings.items t.types.items t.parameters) IsProto t.protos.items
+      (all_union (λ (m : Mentions). m.protos) symbols.proto_cmp proto_total proto_exact IsProto parts (map (proto_of t.strings.items t.types.items t.parameters) t.protos.items) jp.union.all
       (All-weaker IsNumbering (λ m. All IsProto m.protos) (λ m n. n.protos_formed) parts numberings))
 
   fields_formed : All (λ f. IsField (field_of t.strings.items t.types.items f)) t.fields.items
@@ -72,18 +72,18 @@ module _ (parts : List Mentions) (numberings : All IsNumbering parts) (t : Table
       (all_union (λ (m : Mentions). m.fields) symbols.field_cmp field_total field_exact IsField parts (map (field_of t.strings.items t.types.items) t.fields.items) jf.union.all
       (All-weaker IsNumbering (λ m. All IsField m.fields) (λ m n. n.fields_formed) parts numberings))
 
-  methods_formed : All (λ m. IsMethod (method_of t.strings.items t.types.items t.parameters.items t.protos.items m)) t.methods.items
-  methods_formed = all_seen (method_of t.strings.items t.types.items t.parameters.items t.protos.items) IsMethod t.methods.items
-      (all_union (λ (m : Mentions). m.methods) symbols.method_cmp method_total method_exact IsMethod parts (map (method_of t.strings.items t.types.items t.parameters.items t.protos.items) t.methods.items) jm.union.all
+  methods_formed : All (λ m. IsMethod (method_of t.strings.items t.types.items t.parameters t.protos.items m)) t.methods.items
+  methods_formed = all_seen (method_of t.strings.items t.types.items t.parameters t.protos.items) IsMethod t.methods.items
+      (all_union (λ (m : Mentions). m.methods) symbols.method_cmp method_total method_exact IsMethod parts (map (method_of t.strings.items t.types.items t.parameters t.protos.items) t.methods.items) jm.union.all
       (All-weaker IsNumbering (λ m. All IsMethod m.methods) (λ m n. n.methods_formed) parts numberings))
 
   pub are_tables : AreTables t
   are_tables = record {
     texts_rise = texts_rise parts numberings t.strings.items strings jt;
     types_rise = types_rise parts numberings t.strings.items strings jt t.types.items types jy;
-    protos_rise = protos_rise parts numberings t.strings.items strings jt t.types.items types jy t.parameters.items t.protos.items protos jp;
+    protos_rise = protos_rise parts numberings t.strings.items strings jt t.types.items types jy t.parameters t.protos.items protos jp;
     fields_rise = field_rows_rise parts numberings t.strings.items strings jt t.types.items types jy t.fields.items fields jf;
-    methods_rise = method_rows_rise parts numberings t.strings.items strings jt t.types.items types jy t.parameters.items t.protos.items protos jp t.methods.items methods jm;
+    methods_rise = method_rows_rise parts numberings t.strings.items strings jt t.types.items types jy t.parameters t.protos.items protos jp t.methods.items methods jm;
     types_stand = λ k d lt. record { text_in = jy.within k d lt; descriptor = descriptors k d lt };
     protos_stand = λ k d lt.
         let w = jp.within k d lt in
@@ -93,7 +93,7 @@ module _ (parts : List Mentions) (numberings : All IsNumbering parts) (t : Table
           return_in = w.return_in;
           parameters_in = λ j e less. record {
             type_in = w.parameters_in j e less;
-            is = all_seen (type_of t.strings.items t.types.items) IsValueType (span_of t.parameters.items (get_or t.protos.items k d).parameters) formed.parameters j e less;
+            is = all_seen (type_of t.strings.items t.types.items) IsValueType (span_of t.parameters (get_or t.protos.items k d).parameters) formed.parameters j e less;
           };
           shorty_in = w.shorty_in;
           shorty_is = jp.shorties k d lt;
@@ -118,11 +118,11 @@ module _ (parts : List Mentions) (numberings : All IsNumbering parts) (t : Table
       (λ i d e lt. record {
         texts_lead = one_leads (λ (m : Mentions). m.texts) text_cmp text_total text_exact parts t.strings.items strings jt (All-weaker IsNumbering (λ m. rises text_cmp m.texts ≡ true) (λ m n. n.rising.texts_rise) parts numberings) (λ m. m.texts) maps h.texts_are i d e lt;
         types_lead = one_leads (λ (m : Mentions). m.types) text_cmp text_total text_exact parts (map (text_of t.strings.items) t.types.items) types jy.union (All-weaker IsNumbering (λ m. rises text_cmp m.types ≡ true) (λ m n. n.rising.types_rise) parts numberings) (λ m. m.types) maps h.types_are i d e lt;
-        protos_lead = one_leads (λ (m : Mentions). m.protos) symbols.proto_cmp proto_total proto_exact parts (map (proto_of t.strings.items t.types.items t.parameters.items) t.protos.items) protos jp.union
+        protos_lead = one_leads (λ (m : Mentions). m.protos) symbols.proto_cmp proto_total proto_exact parts (map (proto_of t.strings.items t.types.items t.parameters) t.protos.items) protos jp.union
             (All-weaker IsNumbering (λ m. rises symbols.proto_cmp m.protos ≡ true) (λ m n. n.rising.protos_rise) parts numberings) (λ m. m.protos) maps h.protos_are i d e lt;
         fields_lead = one_leads (λ (m : Mentions). m.fields) symbols.field_cmp field_total field_exact parts (map (field_of t.strings.items t.types.items) t.fields.items) fields jf.union
             (All-weaker IsNumbering (λ m. rises symbols.field_cmp m.fields ≡ true) (λ m n. n.rising.fields_rise) parts numberings) (λ m. m.fields) maps h.fields_are i d e lt;
-        methods_lead = one_leads (λ (m : Mentions). m.methods) symbols.method_cmp method_total method_exact parts (map (method_of t.strings.items t.types.items t.parameters.items t.protos.items) t.methods.items) methods jm.union
+        methods_lead = one_leads (λ (m : Mentions). m.methods) symbols.method_cmp method_total method_exact parts (map (method_of t.strings.items t.types.items t.parameters t.protos.items) t.methods.items) methods jm.union
             (All-weaker IsNumbering (λ m. rises symbols.method_cmp m.methods ≡ true) (λ m n. n.rising.methods_rise) parts numberings) (λ m. m.methods) maps h.methods_are i d e lt;
       })
 

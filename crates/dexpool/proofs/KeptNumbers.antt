@@ -1,5 +1,5 @@
 -- Where the numbers of marked symbols lead: somewhere, to a number that is not greater, and to one of the other numbering.
-use Rattle.std.proofs.Common.{◌≡◌, ℕ, zero, suc, ◌+◌, ◌<◌, ◌≤◌, ◌||◌, ◌&&◌, ◌==◌, Bool, true, false, List, [], ◌∷◌, get_or, map, refl, sym, ap, ◌∙◌, subst, arith, eq-eqb, Option, Some, None, IsSome}
+use Rattle.std.proofs.Common.{◌≡◌, ℕ, zero, suc, ◌+◌, ◌≤◌, ◌||◌, ◌&&◌, ◌==◌, Bool, true, false, List, [], ◌∷◌, get_or, map, refl, sym, ◌∙◌, subst, arith, eq-eqb, Option, Some, None, IsSome}
 use Rattle.std.specs.List.{All, Contains, flat_map}
 use Rattle.std.proofs.lemmas.List.Elements.{All-weaker, Contains-get_or}
 use Rattle.dexspec.proofs.Members.{list_any-member}
@@ -13,7 +13,7 @@ use Rattle.dexpool.specs.declared.tables.Tables.{Tables}
 use Rattle.dexpool.specs.declared.marks.Marks.{Marks}
 use Rattle.dexpool.specs.declared.symbols.SymbolKind.{SymbolKind}
 use Rattle.dexpool.specs.declared.symbols.SymbolKind.TheVariants as kinds
-use Rattle.dexpool.specs.Numberings.{Maps, AllLead, Leads, image, image_of}
+use Rattle.dexpool.specs.Numberings.{Maps, AllLead, image}
 use Rattle.dexpool.specs.Orderly.{LeadDown}
 use Rattle.dexpool.specs.Laws.{LeadsWithin}
 use Rattle.dexpool.specs.Uses.{Use, AreMarkedToo, IsMarkedUse, IsLedUse, LeadsMarked, marks_of, same_kind, occurs}
@@ -66,7 +66,7 @@ kept_marked t marks closed is kinds.Text i e =
 kept_marked t marks closed is kinds.Typ i e =
     let methods = map (λ (m : MethodRow). m.class) (kept marks.methods.items t.methods.items) in
     let fields = flat_map field_types (kept marks.fields.items t.fields.items) in
-    let protos = flat_map (entry_types t.parameters.items) (kept closed.protos.items t.protos.items) in
+    let protos = flat_map (entry_types t.parameters) (kept closed.protos.items t.protos.items) in
     has_image closed.types.items i (stays_too marks.types.items closed.types.items methods fields protos is.types_are i e)
 kept_marked t marks closed is kinds.Proto i e =
     has_image closed.protos.items i (stays marks.protos.items closed.protos.items (map (λ (m : MethodRow). m.proto) (kept marks.methods.items t.methods.items)) is.protos_are i e)

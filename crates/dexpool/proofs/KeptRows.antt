@@ -1,16 +1,15 @@
 -- Marked members of a list: which they are, where they stand, and what more marks keep.
-use Rattle.std.proofs.Common.{◌≡◌, ◌≢◌, ◌⊎◌, ℕ, zero, suc, ◌+◌, ◌<◌, Bool, true, false, List, [], ◌∷◌, ◌++◌, length, get_or, map, set, drop, replicate, refl, sym, ap, ◌∙◌, subst, arith, inl, inr, Ordering, Option, Some, None, slice_index}
+use Rattle.std.proofs.Common.{◌≡◌, ◌≢◌, ◌⊎◌, ℕ, zero, suc, ◌+◌, ◌<◌, Bool, true, false, List, [], ◌∷◌, ◌++◌, length, get_or, map, set, drop, replicate, refl, sym, ap, ◌∙◌, arith, inl, inr, Ordering, Option, Some, None, slice_index}
 use Rattle.std.specs.List.{All, Contains, flat_map}
 use Rattle.std.specs.Cmp.{IsTotalOrder}
 use Rattle.std.proofs.lemmas.Bool.{cases_eq, cases_order}
 use Rattle.std.proofs.lemmas.List.{length-set, length-map, get_or-map, get_or-set_same, get_or-set_other, drop_more}
-use Rattle.std.proofs.lemmas.List.Elements.{All-head, All-tail, All-contains, Contains-get_or, Contains-append_left, Contains-append_right, Contains-append_cases}
-use Rattle.dexspec.proofs.Members.{AreAmong, Contains-nil, Contains-first, Contains-later, Contains-cons_cases}
+use Rattle.dexspec.proofs.Members.{Contains-nil, Contains-first, Contains-later, Contains-cons_cases}
 use Rattle.dexspec.proofs.Mapped.{All-among}
 use Rattle.dexspec.proofs.InOrder.{Rises, AreDistinct-from_Rises}
 use Rattle.dexrows.specs.Cut.{kept, places}
-use Rattle.dexrows.proofs.KeptPlaces.{kept_among, length_places, marked_has, unmarked_has, stands_at, places_rise}
-use Rattle.dexpool.specs.Numberings.{IsAt, Leads, image}
+use Rattle.dexrows.proofs.KeptPlaces.{kept_among, length_places, marked_has, stands_at, places_rise}
+use Rattle.dexpool.specs.Numberings.{Leads, image}
 use Rattle.dexpool.specs.Orderly.{KeepsOrder}
 use Rattle.dexpool.specs.Closing.{IsMarked, mark_all, number_or_none}
 

@@ -1,5 +1,5 @@
 -- The closed marks of tables: they are closed, and keep what the marked symbols mention.
-use Rattle.std.proofs.Common.{◌≡◌, ◌⊎◌, ℕ, ◌<◌, Bool, List, [], ◌∷◌, ◌++◌, length, get_or, map, refl, sym, ap, ◌∙◌, subst, arith, inl, inr}
+use Rattle.std.proofs.Common.{◌≡◌, ℕ, ◌<◌, List, [], ◌∷◌, ◌++◌, length, get_or, map, refl, sym, ap, ◌∙◌, subst, arith, inl, inr}
 use Rattle.std.specs.List.{All, Contains, flat_map}
 use Rattle.std.proofs.lemmas.List.{length-map, get_or-map, map-append}
 use Rattle.std.proofs.lemmas.List.Elements.{All-weaker, All-contains, All-head, All-tail, Contains-get_or, Contains-append_left, Contains-append_right, Contains-append_cases}
@@ -19,7 +19,7 @@ use Rattle.dexrows.specs.declared.methods.MethodRow.{MethodRow}
 use Rattle.dexpool.specs.declared.rows.ProtoEntry.{ProtoEntry}
 use Rattle.dexpool.specs.declared.tables.Tables.{Tables}
 use Rattle.dexpool.specs.declared.marks.Marks.{Marks}
-use Rattle.dexpool.specs.Tables.{text_of, type_of, span_of, proto_of, proto_at, field_of, method_of}
+use Rattle.dexpool.specs.Tables.{text_of, type_of, span_of, proto_of, field_of, method_of}
 use Rattle.dexpool.specs.Numberings.{AreMarksOf, AllLead, marked}
 use Rattle.dexpool.specs.Stored.{symbols_in, IsTypeNumber, IsTypeOf, IsProtoEntry, IsFieldRow, IsMethodRow, AreTables}
 use Rattle.dexpool.specs.Closing.{IsMarked, mark_all, field_types, entry_types, AreClosure, AreClosed, HasMarkedEntry, HasMarkedField, HasMarkedMethod, kept_symbols, kept_places}
@@ -74,7 +74,7 @@ module _ (t : Tables) (ok : AreTables t) (marks : Marks) (count : AreMarksOf (sy
   proto_numbers = map (λ (m : MethodRow). m.proto) methods
 
   protos_counted : length (symbols_in t).protos ≡ length t.protos.items
-  protos_counted = length-map t.protos.items (proto_of t.strings.items t.types.items t.parameters.items)
+  protos_counted = length-map t.protos.items (proto_of t.strings.items t.types.items t.parameters)
 
   proto_within : (n : ℕ) → Contains proto_numbers n → n < length (symbols_in t).protos
   proto_within n d =
@@ -84,8 +84,8 @@ module _ (t : Tables) (ok : AreTables t) (marks : Marks) (count : AreMarksOf (sy
   protos_grown : Same (kept c.protos.items (symbols_in t).protos) (kept marks.protos.items (symbols_in t).protos ++ map (λ (x : Method). x.proto) (kept marks.methods.items (symbols_in t).methods))
   protos_grown =
       let none : Proto = record { return_type = []; parameters = [] } in
-      let of_row = method_of t.strings.items t.types.items t.parameters.items t.protos.items in
-      let of_entry = proto_of t.strings.items t.types.items t.parameters.items in
+      let of_row = method_of t.strings.items t.types.items t.parameters t.protos.items in
+      let of_entry = proto_of t.strings.items t.types.items t.parameters in
       kept_grown c.protos.items marks.protos.items proto_numbers (symbols_in t).protos (map (λ (x : Method). x.proto) (kept marks.methods.items (symbols_in t).methods)) none count.protos_count proto_within is.protos_are
       (named (λ (m : MethodRow). m.proto) (λ n. get_or (symbols_in t).protos n none) of_row (λ (x : Method). x.proto) methods
       (All-weaker (IsMethodRow t) (λ (m : MethodRow). get_or (symbols_in t).protos m.proto none ≡ (of_row m).proto) (λ m k. get_or-map of_entry t.protos.items m.proto _ none k.proto_in) methods are_methods)
@@ -100,7 +100,7 @@ module _ (t : Tables) (ok : AreTables t) (marks : Marks) (count : AreMarksOf (sy
   field_numbers = flat_map field_types fields
 
   abbrev entry_numbers : List ℕ
-  entry_numbers = flat_map (entry_types t.parameters.items) protos
+  entry_numbers = flat_map (entry_types t.parameters) protos
 
   abbrev type_numbers : List ℕ
   type_numbers = (class_numbers ++ field_numbers) ++ entry_numbers
@@ -123,11 +123,11 @@ module _ (t : Tables) (ok : AreTables t) (marks : Marks) (count : AreMarksOf (sy
             | inr l ↦ elim (Contains-cons_cases z.0.typ n [] l) [ inl e ↦ omega (arith, k.type_is.type_in, e) | inr l ↦ absurd (omega (arith, l.1)) ]
           ]
     ]
-    | inr d ↦ let z = Contains-flat_map_source (entry_types t.parameters.items) protos n d in
+    | inr d ↦ let z = Contains-flat_map_source (entry_types t.parameters) protos n d in
         let k = All-contains (IsProtoEntry t) protos z.0 are_entries z.1 in
-        elim (Contains-cons_cases z.0.return_type n (span_of t.parameters.items z.0.parameters) z.2) [
+        elim (Contains-cons_cases z.0.return_type n (span_of t.parameters z.0.parameters) z.2) [
           | inl e ↦ omega (arith, k.return_in, e)
-          | inr l ↦ (All-contains (IsTypeOf IsValueType t) (span_of t.parameters.items z.0.parameters) n k.parameters_in l).type_in
+          | inr l ↦ (All-contains (IsTypeOf IsValueType t) (span_of t.parameters z.0.parameters) n k.parameters_in l).type_in
         ]
   ]
 
@@ -140,9 +140,9 @@ module _ (t : Tables) (ok : AreTables t) (marks : Marks) (count : AreMarksOf (sy
   types_named : map (λ n. get_or (symbols_in t).types n []) type_numbers ≡ named_types
   types_named =
       let at = λ (n : ℕ). get_or (symbols_in t).types n [] in
-      let of_method = method_of t.strings.items t.types.items t.parameters.items t.protos.items in
+      let of_method = method_of t.strings.items t.types.items t.parameters t.protos.items in
       let of_field = field_of t.strings.items t.types.items in
-      let of_entry = proto_of t.strings.items t.types.items t.parameters.items in
+      let of_entry = proto_of t.strings.items t.types.items t.parameters in
       let classes : map at class_numbers ≡ map (λ (x : Method). x.class) (kept marks.methods.items (symbols_in t).methods) =
       named (λ (m : MethodRow). m.class) at of_method (λ (x : Method). x.class) methods (All-weaker (IsMethodRow t) (λ (m : MethodRow). at m.class ≡ (of_method m).class) (λ m k. type_is m.class k.class_is.type_in) methods are_methods)
       ∙ ap (map (λ (x : Method). x.class)) (sym (kept-map of_method marks.methods.items t.methods.items)) in
@@ -151,9 +151,9 @@ module _ (t : Tables) (ok : AreTables t) (marks : Marks) (count : AreMarksOf (sy
       (All-weaker (IsFieldRow t) (λ (f : FieldRow). map at (field_types f) ≡ (of_field f).class ∷ (of_field f).type ∷ []) (λ f k. λ i. type_is f.class k.class_is.type_in i ∷ type_is f.typ k.type_is.type_in i ∷ []) fields are_fields)
       ∙ ap (flat_map (λ (f : Field). f.class ∷ f.type ∷ [])) (sym (kept-map of_field marks.fields.items t.fields.items)) in
       let entries : map at entry_numbers ≡ flat_map proto_types (kept c.protos.items (symbols_in t).protos) =
-      named_flat (entry_types t.parameters.items) at of_entry proto_types protos
-      (All-weaker (IsProtoEntry t) (λ (p : ProtoEntry). map at (entry_types t.parameters.items p) ≡ proto_types (of_entry p))
-      (λ p k. let span = span_of t.parameters.items p.parameters in
+      named_flat (entry_types t.parameters) at of_entry proto_types protos
+      (All-weaker (IsProtoEntry t) (λ (p : ProtoEntry). map at (entry_types t.parameters p) ≡ proto_types (of_entry p))
+      (λ p k. let span = span_of t.parameters p.parameters in
       let parameters = map_agree at (type_of t.strings.items t.types.items) span (All-weaker (IsTypeOf IsValueType t) (λ n. at n ≡ type_of t.strings.items t.types.items n) (λ n j. type_is n j.type_in) span k.parameters_in) in
       λ i. type_is p.return_type k.return_in i ∷ parameters i) protos are_entries)
       ∙ ap (flat_map proto_types) (sym (kept-map of_entry c.protos.items t.protos.items)) in
@@ -202,9 +202,9 @@ module _ (t : Tables) (ok : AreTables t) (marks : Marks) (count : AreMarksOf (sy
   texts_named : map (λ n. get_or t.strings.items n []) text_numbers ≡ named_texts
   texts_named =
       let at = text_of t.strings.items in
-      let of_method = method_of t.strings.items t.types.items t.parameters.items t.protos.items in
+      let of_method = method_of t.strings.items t.types.items t.parameters t.protos.items in
       let of_field = field_of t.strings.items t.types.items in
-      let of_entry = proto_of t.strings.items t.types.items t.parameters.items in
+      let of_entry = proto_of t.strings.items t.types.items t.parameters in
       let a = map (λ (m : MethodRow). m.name) methods in
       let b = map (λ (f : FieldRow). f.name) fields in
       let of_methods : map at a ≡ map (λ (x : Method). x.name) (kept marks.methods.items (symbols_in t).methods) =
@@ -236,8 +236,8 @@ module _ (t : Tables) (ok : AreTables t) (marks : Marks) (count : AreMarksOf (sy
   name_marked : (n : ℕ) → Contains name_numbers n → IsMarked c.strings.items n
   name_marked n d = text_marked n (Contains-append_left (name_numbers ++ shorty_numbers) types n (Contains-append_left name_numbers shorty_numbers n d))
 
-  entry_marked : (p : ProtoEntry) → Contains protos p → (n : ℕ) → Contains (entry_types t.parameters.items p) n → IsMarked c.types.items n
-  entry_marked p h n d = type_marked n (Contains-append_right (class_numbers ++ field_numbers) entry_numbers n (Contains-flat_map (entry_types t.parameters.items) protos p n h d))
+  entry_marked : (p : ProtoEntry) → Contains protos p → (n : ℕ) → Contains (entry_types t.parameters p) n → IsMarked c.types.items n
+  entry_marked p h n d = type_marked n (Contains-append_right (class_numbers ++ field_numbers) entry_numbers n (Contains-flat_map (entry_types t.parameters) protos p n h d))
 
   field_marked : (f : FieldRow) → Contains fields f → (n : ℕ) → Contains (field_types f) n → IsMarked c.types.items n
   field_marked f h n d = type_marked n (Contains-append_left (class_numbers ++ field_numbers) entry_numbers n (Contains-append_right class_numbers field_numbers n (Contains-flat_map field_types fields f n h d)))
@@ -247,8 +247,8 @@ module _ (t : Tables) (ok : AreTables t) (marks : Marks) (count : AreMarksOf (sy
     types_closed = all_of (IsMarked c.strings.items) types (λ n d. text_marked n (Contains-append_right (name_numbers ++ shorty_numbers) types n d));
     protos_closed = all_of (HasMarkedEntry t c) protos (λ p h. record {
       shorty_marked = text_marked p.shorty (Contains-append_left (name_numbers ++ shorty_numbers) types p.shorty (Contains-append_right name_numbers shorty_numbers p.shorty (Contains-map (λ (q : ProtoEntry). q.shorty) protos p h)));
-      return_marked = entry_marked p h p.return_type (Contains-first p.return_type (span_of t.parameters.items p.parameters));
-      parameters_marked = all_of (IsMarked c.types.items) (span_of t.parameters.items p.parameters) (λ n d. entry_marked p h n (Contains-later p.return_type n (span_of t.parameters.items p.parameters) d));
+      return_marked = entry_marked p h p.return_type (Contains-first p.return_type (span_of t.parameters p.parameters));
+      parameters_marked = all_of (IsMarked c.types.items) (span_of t.parameters p.parameters) (λ n d. entry_marked p h n (Contains-later p.return_type n (span_of t.parameters p.parameters) d));
     });
     fields_closed = subst (λ bs. All (HasMarkedField c) (kept bs t.fields.items)) (sym is.fields_are) (all_of (HasMarkedField c) fields (λ f h. record {
       class_marked = field_marked f h f.class (Contains-first f.class (f.typ ∷ []));

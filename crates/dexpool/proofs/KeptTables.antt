@@ -1,5 +1,5 @@
 -- The marked rows of tables, renumbered: tables of the marked symbols.
-use Rattle.std.proofs.Common.{◌≡◌, ℕ, ◌<◌, ◌≤◌, Bool, true, List, [], ◌∷◌, length, get_or, map, refl, sym, ap, ◌∙◌, subst, arith, slice_index, Ordering, Option}
+use Rattle.std.proofs.Common.{◌≡◌, ℕ, ◌<◌, Bool, true, List, [], ◌∷◌, length, get_or, map, refl, sym, ap, ◌∙◌, subst, arith, slice_index, Ordering, Option}
 use Rattle.std.specs.List.{All}
 use Rattle.std.specs.Cmp.{IsTotalOrder}
 use Rattle.std.proofs.lemmas.List.{length-map, get_or-map}
@@ -16,12 +16,11 @@ use Rattle.dexrows.specs.Numbers.{ProtoNumbers}
 use Rattle.dexrows.specs.declared.types.TypeRow.{TypeRow}
 use Rattle.dexrows.specs.declared.fields.FieldRow.{FieldRow}
 use Rattle.dexrows.specs.declared.methods.MethodRow.{MethodRow}
-use Rattle.dexpool.specs.declared.rows.ProtoEntry.{ProtoEntry}
 use Rattle.dexpool.specs.declared.tables.Tables.{Tables}
 use Rattle.dexpool.specs.declared.marks.Marks.{Marks}
 use Rattle.dexpool.specs.Tables.{text_of, type_of, span_of, proto_of, proto_at, field_of, method_of, type_cmp, proto_cmp, field_cmp, method_cmp}
 use Rattle.dexpool.specs.Reading.{HasSpan}
-use Rattle.dexpool.specs.Numberings.{AreMarksOf, AreRising}
+use Rattle.dexpool.specs.Numberings.{AreMarksOf}
 use Rattle.dexpool.specs.Renumbering.{numbers_of, moved_type, moved_proto, moved_field, moved_method, IsEntryWithin, IsFieldWithin, IsMethodWithin}
 use Rattle.dexpool.specs.Stored.{symbols_in, IsTypeNumber, IsTypeOf, IsProtoEntry, IsFieldRow, IsMethodRow, AreTables}
 use Rattle.dexpool.specs.Closing.{number_or_none, IsMarked, AreClosed, HasMarkedEntry, HasMarkedField, HasMarkedMethod, kept_symbols}
@@ -68,8 +67,8 @@ row_proto texts types row = record { return_type = type_of texts types row.retur
 pub record IsCut (t : Tables) (marks : Marks) (cut : Tables) : Type 0 where
   pub strings_are : cut.strings.items ≡ kept marks.strings.items t.strings.items
   pub types_are : cut.types.items ≡ map (slice_index (new_numbers marks.strings.items)) (kept marks.types.items t.types.items)
-  pub protos_are : map (numbers_of cut.parameters.items) cut.protos.items ≡ map (moved_proto (new_numbers marks.strings.items) (new_numbers marks.types.items) t.parameters.items) (kept marks.protos.items t.protos.items)
-  pub spans : All (λ p. HasSpan cut.parameters.items p.parameters) cut.protos.items
+  pub protos_are : map (numbers_of cut.parameters) cut.protos.items ≡ map (moved_proto (new_numbers marks.strings.items) (new_numbers marks.types.items) t.parameters) (kept marks.protos.items t.protos.items)
+  pub spans : All (λ p. HasSpan cut.parameters p.parameters) cut.protos.items
   pub fields_are : cut.fields.items ≡ map (moved_field (new_numbers marks.strings.items) (new_numbers marks.types.items)) (kept marks.fields.items t.fields.items)
   pub methods_are : cut.methods.items ≡ map (moved_method (new_numbers marks.strings.items) (new_numbers marks.types.items) (new_numbers marks.protos.items)) (kept marks.methods.items t.methods.items)
 
@@ -144,12 +143,12 @@ module _ (t : Tables) (ok : AreTables t) (marks : Marks) (count : AreMarksOf (sy
   protos_same =
       let ns = new_numbers marks.strings.items in
       let nt = new_numbers marks.types.items in
-      let ps = t.parameters.items in
+      let ps = t.parameters in
       let rows = kept marks.protos.items t.protos.items in
       let of_row = row_proto cut.strings.items cut.types.items in
-      let of_cut = proto_of cut.strings.items cut.types.items cut.parameters.items in
+      let of_cut = proto_of cut.strings.items cut.types.items cut.parameters in
       let of_t = proto_of t.strings.items t.types.items ps in
-      sym (mapped_twice (numbers_of cut.parameters.items) of_row of_cut cut.protos.items (λ k d lt. refl))
+      sym (mapped_twice (numbers_of cut.parameters) of_row of_cut cut.protos.items (λ k d lt. refl))
       ∙ ap (map of_row) is.protos_are
       ∙ mapped_twice (moved_proto ns nt ps) of_row of_t rows
       (All-weaker (HasMarkedEntry t marks) (λ p. of_row (moved_proto ns nt ps p) ≡ of_t p)
@@ -157,29 +156,29 @@ module _ (t : Tables) (ok : AreTables t) (marks : Marks) (count : AreMarksOf (sy
       ∙ sym (kept-map of_t marks.protos.items t.protos.items)
 
   protos_counted : length cut.protos.items ≡ length (kept marks.protos.items (symbols_in t).protos)
-  protos_counted = sym (length-map cut.protos.items (proto_of cut.strings.items cut.types.items cut.parameters.items)) ∙ ap length protos_same
+  protos_counted = sym (length-map cut.protos.items (proto_of cut.strings.items cut.types.items cut.parameters)) ∙ ap length protos_same
 
   proto_within : (n : ℕ) → IsMarked marks.protos.items n → slice_index (new_numbers marks.protos.items) n < length cut.protos.items
   proto_within n m = omega (arith, protos_counted, (is_moved marks.protos.items (symbols_in t).protos n count.protos_count m).within)
 
   proto_moved : (n : ℕ) → IsMarked marks.protos.items n
-      → proto_of cut.strings.items cut.types.items cut.parameters.items (proto_at cut.protos.items (slice_index (new_numbers marks.protos.items) n)) ≡ proto_of t.strings.items t.types.items t.parameters.items (proto_at t.protos.items n)
+      → proto_of cut.strings.items cut.types.items cut.parameters (proto_at cut.protos.items (slice_index (new_numbers marks.protos.items) n)) ≡ proto_of t.strings.items t.types.items t.parameters (proto_at t.protos.items n)
   proto_moved n m =
       let k = slice_index (new_numbers marks.protos.items) n in
       let none : symbols.Proto = record { return_type = []; parameters = [] } in
-      let of_cut = proto_of cut.strings.items cut.types.items cut.parameters.items in
-      let of_t = proto_of t.strings.items t.types.items t.parameters.items in
+      let of_cut = proto_of cut.strings.items cut.types.items cut.parameters in
+      let of_t = proto_of t.strings.items t.types.items t.parameters in
       let lt : n < length t.protos.items = omega (arith, mark_within marks.protos.items n m, count.protos_count, length-map t.protos.items of_t) in
       sym (get_or-map of_cut cut.protos.items k _ none (proto_within n m)) ∙ ap (λ ps. get_or ps k none) protos_same
       ∙ (is_moved marks.protos.items (symbols_in t).protos n count.protos_count m).same none ∙ get_or-map of_t t.protos.items n _ none lt
 
-  cut_rows_stand : All (λ p. IsRow cut (numbers_of cut.parameters.items p)) cut.protos.items
+  cut_rows_stand : All (λ p. IsRow cut (numbers_of cut.parameters p)) cut.protos.items
   cut_rows_stand =
       let ns = new_numbers marks.strings.items in
       let nt = new_numbers marks.types.items in
-      let ps = t.parameters.items in
+      let ps = t.parameters in
       let rows = kept marks.protos.items t.protos.items in
-      all_seen (numbers_of cut.parameters.items) (IsRow cut) cut.protos.items (subst (All (IsRow cut)) (sym is.protos_are) (All-map (IsRow cut) (moved_proto ns nt ps) rows
+      all_seen (numbers_of cut.parameters) (IsRow cut) cut.protos.items (subst (All (IsRow cut)) (sym is.protos_are) (All-map (IsRow cut) (moved_proto ns nt ps) rows
       (all_both (HasMarkedEntry t marks) (IsProtoEntry t) (λ p. IsRow cut (moved_proto ns nt ps p)) rows closed.protos_closed (kept_all (IsProtoEntry t) marks.protos.items t.protos.items ok.protos_stand)
       (λ p m k. record {
         return_in = type_within p.return_type m.return_marked;
@@ -192,15 +191,15 @@ module _ (t : Tables) (ok : AreTables t) (marks : Marks) (count : AreMarksOf (sy
 
   cut_protos_stand : All (IsProtoEntry cut) cut.protos.items
   cut_protos_stand =
-      all_both (λ p. HasSpan cut.parameters.items p.parameters) (λ p. IsRow cut (numbers_of cut.parameters.items p)) (IsProtoEntry cut) cut.protos.items is.spans cut_rows_stand
+      all_both (λ p. HasSpan cut.parameters p.parameters) (λ p. IsRow cut (numbers_of cut.parameters p)) (IsProtoEntry cut) cut.protos.items is.spans cut_rows_stand
       (λ p s r. record { span = s; return_in = r.return_in; parameters_in = r.parameters_in; shorty_in = r.shorty_in; shorty_is = r.shorty_is })
 
-  cut_protos_in : All (HasTypeNumbers cut.parameters.items (length cut.types.items)) cut.protos.items
-  cut_protos_in = All-weaker (IsProtoEntry cut) (HasTypeNumbers cut.parameters.items (length cut.types.items)) (entry_numbers cut) cut.protos.items cut_protos_stand
+  cut_protos_in : All (HasTypeNumbers cut.parameters (length cut.types.items)) cut.protos.items
+  cut_protos_in = All-weaker (IsProtoEntry cut) (HasTypeNumbers cut.parameters (length cut.types.items)) (entry_numbers cut) cut.protos.items cut_protos_stand
 
-  cut_protos_rise : rises (proto_cmp cut.parameters.items) cut.protos.items ≡ true
+  cut_protos_rise : rises (proto_cmp cut.parameters) cut.protos.items ≡ true
   cut_protos_rise =
-      order.protos_rise_alike cut.strings.items cut_texts_rise cut.types.items cut_types_in cut_types_rise cut.parameters.items cut.protos.items cut_protos_in
+      order.protos_rise_alike cut.strings.items cut_texts_rise cut.types.items cut_types_in cut_types_rise cut.parameters cut.protos.items cut_protos_in
       ∙ ap (rises symbols.proto_cmp) protos_same ∙ kept_rise symbols.proto_cmp proto_total marks.protos.items (symbols_in t).protos (are_rising t ok).protos_rise
 
   -- ---- fields
@@ -246,8 +245,8 @@ module _ (t : Tables) (ok : AreTables t) (marks : Marks) (count : AreMarksOf (sy
       let nt = new_numbers marks.types.items in
       let np = new_numbers marks.protos.items in
       let rows = kept marks.methods.items t.methods.items in
-      let of_cut = method_of cut.strings.items cut.types.items cut.parameters.items cut.protos.items in
-      let of_t = method_of t.strings.items t.types.items t.parameters.items t.protos.items in
+      let of_cut = method_of cut.strings.items cut.types.items cut.parameters cut.protos.items in
+      let of_t = method_of t.strings.items t.types.items t.parameters t.protos.items in
       ap (map of_cut) is.methods_are
       ∙ mapped_twice (moved_method ns nt np) of_cut of_t rows
       (All-weaker (HasMarkedMethod marks) (λ x. of_cut (moved_method ns nt np x) ≡ of_t x)
@@ -271,7 +270,7 @@ module _ (t : Tables) (ok : AreTables t) (marks : Marks) (count : AreMarksOf (sy
 
   cut_methods_rise : rises method_cmp cut.methods.items ≡ true
   cut_methods_rise =
-      order.methods_rise_alike cut.strings.items cut_texts_rise cut.types.items cut_types_in cut_types_rise cut.parameters.items cut.protos.items cut_protos_in cut_protos_rise cut.methods.items
+      order.methods_rise_alike cut.strings.items cut_texts_rise cut.types.items cut_types_in cut_types_rise cut.parameters cut.protos.items cut_protos_in cut_protos_rise cut.methods.items
       (All-weaker (IsMethodRow cut) (HasMethodNumbers (length cut.types.items) (length cut.strings.items) (length cut.protos.items)) (method_numbers cut) cut.methods.items cut_methods_stand)
       ∙ ap (rises symbols.method_cmp) methods_same ∙ kept_rise symbols.method_cmp method_total marks.methods.items (symbols_in t).methods (are_rising t ok).methods_rise
 
@@ -302,12 +301,12 @@ module _ (t : Tables) (ok : AreTables t) (ss : List ℕ) (strings : length ss �
   types_within types e = subst (All (λ n. n < length ss)) (sym e) (All-weaker (IsTypeNumber t) (λ n. n < length ss) (λ n k. omega (arith, k.text_in, strings)) t.types.items ok.types_stand)
 
   module _ (ts : List ℕ) (types : length ts ≡ length t.types.items) where
-    pub protos_within : All (IsEntryWithin (length ss) (length ts) t.parameters.items) t.protos.items
-    protos_within = All-weaker (IsProtoEntry t) (IsEntryWithin (length ss) (length ts) t.parameters.items) (λ p k. record {
+    pub protos_within : All (IsEntryWithin (length ss) (length ts) t.parameters) t.protos.items
+    protos_within = All-weaker (IsProtoEntry t) (IsEntryWithin (length ss) (length ts) t.parameters) (λ p k. record {
       shorty_in = omega (arith, k.shorty_in, strings);
       return_in = omega (arith, k.return_in, types);
       span = k.span;
-      parameters_in = All-weaker (IsTypeOf IsValueType t) (λ n. n < length ts) (λ n i. omega (arith, i.type_in, types)) (span_of t.parameters.items p.parameters) k.parameters_in;
+      parameters_in = All-weaker (IsTypeOf IsValueType t) (λ n. n < length ts) (λ n i. omega (arith, i.type_in, types)) (span_of t.parameters p.parameters) k.parameters_in;
     }) t.protos.items ok.protos_stand
 
     pub fields_within : (fields : List FieldRow) → fields ≡ t.fields.items → All (IsFieldWithin (length ss) (length ts)) fields

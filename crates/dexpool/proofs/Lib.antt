@@ -31,3 +31,5 @@ pub mod UnionLaws
 pub mod LeadingAll
 pub mod MarksMade
 pub mod KeptNumbers
+pub mod FileLists
+pub mod ListedPlaces

@@ -1,14 +1,10 @@
 -- Rows of a part that are renumbered stand for the same symbols as before.
-use Rattle.std.proofs.Common.{◌≡◌, ℕ, ◌<◌, List, [], ◌∷◌, length, get_or, map, refl, sym, ap, ◌∙◌, subst, arith, slice_index}
+use Rattle.std.proofs.Common.{◌≡◌, ℕ, ◌<◌, List, [], length, map, sym, ap, ◌∙◌, subst, arith, slice_index}
 use Rattle.std.specs.List.{All}
-use Rattle.std.specs.Ordering.{ordering_then, nat_cmp}
-use Rattle.std.specs.Cmp.Lexicographic.{slice_cmp}
 use Rattle.std.proofs.lemmas.List.{get_or-map, length-map}
 use Rattle.std.proofs.lemmas.List.Elements.{All-map, All-weaker}
-use Rattle.dexspec.specs.Texts.{Text, text_cmp}
-use Rattle.dexspec.specs.Lists.{rises}
+use Rattle.dexspec.specs.Texts.{Text}
 use Rattle.dexspec.specs.Names.{IsValueType, shorty}
-use Rattle.dexspec.specs.Mentions.{Mentions}
 use Rattle.dexrows.specs.Numbers.{ProtoNumbers}
 use Rattle.dexrows.specs.declared.types.TypeRow.{TypeRow}
 use Rattle.dexrows.specs.declared.fields.FieldRow.{FieldRow}
@@ -18,7 +14,7 @@ use Rattle.dexpool.specs.declared.tables.Tables.{Tables}
 use Rattle.dexpool.specs.Tables.{text_of, type_of, span_of, proto_of, field_of, proto_at, method_of}
 use Rattle.dexpool.specs.Renumbering.{moved_type, moved_proto, moved_field, moved_method, IsEntryWithin, IsFieldWithin, IsMethodWithin}
 use Rattle.dexpool.specs.Joining.{Moves, StandFor, proto_of_row, IsRowOf}
-use Rattle.dexpool.specs.Stored.{symbols_in, IsTypeNumber, IsTypeOf, IsProtoEntry, IsFieldRow, IsMethodRow, AreTables}
+use Rattle.dexpool.specs.Stored.{symbols_in, IsTypeOf, IsProtoEntry, IsFieldRow, IsMethodRow, AreTables}
 use Rattle.dexpool.proofs.Pairs.{map_both}
 use Rattle.dexpool.proofs.TablesStand.{types_in}
 
@@ -61,44 +57,44 @@ module _ (t : Tables) (ok : AreTables t) (texts : List Text) (strings : List ℕ
 
     -- ---- protos
 
-    entry_within : (p : ProtoEntry) → IsProtoEntry t p → IsEntryWithin (length strings) (length images) t.parameters.items p
+    entry_within : (p : ProtoEntry) → IsProtoEntry t p → IsEntryWithin (length strings) (length images) t.parameters p
     entry_within p h = record {
       shorty_in = omega (arith, h.shorty_in, by_texts.count);
       return_in = omega (arith, h.return_in, types_count);
       span = h.span;
-      parameters_in = All-weaker (IsTypeOf IsValueType t) (λ n. n < length images) (λ n k. omega (arith, k.type_in, types_count)) (span_of t.parameters.items p.parameters) h.parameters_in;
+      parameters_in = All-weaker (IsTypeOf IsValueType t) (λ n. n < length images) (λ n k. omega (arith, k.type_in, types_count)) (span_of t.parameters p.parameters) h.parameters_in;
     }
 
     -- the parts of protos have images
-    pub protos_movable : All (IsEntryWithin (length strings) (length images) t.parameters.items) t.protos.items
-    protos_movable = All-weaker (IsProtoEntry t) (IsEntryWithin (length strings) (length images) t.parameters.items) entry_within t.protos.items ok.protos_stand
+    pub protos_movable : All (IsEntryWithin (length strings) (length images) t.parameters) t.protos.items
+    protos_movable = All-weaker (IsProtoEntry t) (IsEntryWithin (length strings) (length images) t.parameters) entry_within t.protos.items ok.protos_stand
 
-    proto_moved : (p : ProtoEntry) → IsProtoEntry t p → proto_of_row texts types (moved_proto strings images t.parameters.items p) ≡ proto_of t.strings.items t.types.items t.parameters.items p
+    proto_moved : (p : ProtoEntry) → IsProtoEntry t p → proto_of_row texts types (moved_proto strings images t.parameters p) ≡ proto_of t.strings.items t.types.items t.parameters p
     proto_moved p h =
         let r = type_moved p.return_type h.return_in in
-        let ps = types_moved (span_of t.parameters.items p.parameters) h.parameters_in in
+        let ps = types_moved (span_of t.parameters p.parameters) h.parameters_in in
         λ i. record { return_type = r i; parameters = ps i }
 
-    row_within : (p : ProtoEntry) → IsProtoEntry t p → IsRowOf texts types (moved_proto strings images t.parameters.items p)
+    row_within : (p : ProtoEntry) → IsProtoEntry t p → IsRowOf texts types (moved_proto strings images t.parameters p)
     row_within p h =
         let r = type_moved p.return_type h.return_in in
-        let ps = types_moved (span_of t.parameters.items p.parameters) h.parameters_in in
+        let ps = types_moved (span_of t.parameters p.parameters) h.parameters_in in
         record {
           shorty_in = text_within p.shorty h.shorty_in;
           return_in = type_within p.return_type h.return_in;
-          parameters_in = All-map (λ n. n < length types) (slice_index images) (span_of t.parameters.items p.parameters)
-              (All-weaker (IsTypeOf IsValueType t) (λ n. slice_index images n < length types) (λ n k. type_within n k.type_in) (span_of t.parameters.items p.parameters) h.parameters_in);
+          parameters_in = All-map (λ n. n < length types) (slice_index images) (span_of t.parameters p.parameters)
+              (All-weaker (IsTypeOf IsValueType t) (λ n. slice_index images n < length types) (λ n k. type_within n k.type_in) (span_of t.parameters p.parameters) h.parameters_in);
           shorty_is = text_moved p.shorty h.shorty_in ∙ h.shorty_is ∙ sym (λ i. shorty (r i) (ps i));
         }
 
-    pub protos_stand : (rows : List ProtoNumbers) → rows ≡ map (moved_proto strings images t.parameters.items) t.protos.items → StandFor (proto_of_row texts types) (IsRowOf texts types) (symbols_in t).protos rows
+    pub protos_stand : (rows : List ProtoNumbers) → rows ≡ map (moved_proto strings images t.parameters) t.protos.items → StandFor (proto_of_row texts types) (IsRowOf texts types) (symbols_in t).protos rows
     protos_stand rows is = record {
       same = ap (map (proto_of_row texts types)) is
-          ∙ map_both (moved_proto strings images t.parameters.items) (proto_of_row texts types) (proto_of t.strings.items t.types.items t.parameters.items) t.protos.items
-          (All-weaker (IsProtoEntry t) (λ p. proto_of_row texts types (moved_proto strings images t.parameters.items p) ≡ proto_of t.strings.items t.types.items t.parameters.items p) proto_moved t.protos.items ok.protos_stand);
+          ∙ map_both (moved_proto strings images t.parameters) (proto_of_row texts types) (proto_of t.strings.items t.types.items t.parameters) t.protos.items
+          (All-weaker (IsProtoEntry t) (λ p. proto_of_row texts types (moved_proto strings images t.parameters p) ≡ proto_of t.strings.items t.types.items t.parameters p) proto_moved t.protos.items ok.protos_stand);
       within = subst (All (IsRowOf texts types)) (sym is)
-          (All-map (IsRowOf texts types) (moved_proto strings images t.parameters.items) t.protos.items
-          (All-weaker (IsProtoEntry t) (λ p. IsRowOf texts types (moved_proto strings images t.parameters.items p)) row_within t.protos.items ok.protos_stand));
+          (All-map (IsRowOf texts types) (moved_proto strings images t.parameters) t.protos.items
+          (All-weaker (IsProtoEntry t) (λ p. IsRowOf texts types (moved_proto strings images t.parameters p)) row_within t.protos.items ok.protos_stand));
     }
 
     -- ---- fields
@@ -134,18 +130,18 @@ module _ (t : Tables) (ok : AreTables t) (texts : List Text) (strings : List ℕ
 
     module _ (parameters : List ℕ) (protos : List ProtoEntry) (places : List ℕ) (by_protos : Moves (symbols_in t).protos (map (proto_of texts types parameters) protos) places) where
       protos_count : length places ≡ length t.protos.items
-      protos_count = by_protos.count ∙ length-map t.protos.items (proto_of t.strings.items t.types.items t.parameters.items)
+      protos_count = by_protos.count ∙ length-map t.protos.items (proto_of t.strings.items t.types.items t.parameters)
 
       proto_within : (n : ℕ) → n < length t.protos.items → slice_index places n < length protos
       proto_within n lt =
           let d = proto_of texts types parameters (proto_at protos n) in
-          omega (arith, (by_protos.same n d (omega (arith, lt, length-map t.protos.items (proto_of t.strings.items t.types.items t.parameters.items)))).within, length-map protos (proto_of texts types parameters))
+          omega (arith, (by_protos.same n d (omega (arith, lt, length-map t.protos.items (proto_of t.strings.items t.types.items t.parameters)))).within, length-map protos (proto_of texts types parameters))
 
-      proto_kept : (n : ℕ) → n < length t.protos.items → proto_of texts types parameters (proto_at protos (slice_index places n)) ≡ proto_of t.strings.items t.types.items t.parameters.items (proto_at t.protos.items n)
+      proto_kept : (n : ℕ) → n < length t.protos.items → proto_of texts types parameters (proto_at protos (slice_index places n)) ≡ proto_of t.strings.items t.types.items t.parameters (proto_at t.protos.items n)
       proto_kept n lt =
           let d = proto_of texts types parameters (proto_at protos n) in
-          let at = by_protos.same n d (omega (arith, lt, length-map t.protos.items (proto_of t.strings.items t.types.items t.parameters.items))) in
-          sym (get_or-map (proto_of texts types parameters) protos (slice_index places n) _ d (proto_within n lt)) ∙ at.is d ∙ get_or-map (proto_of t.strings.items t.types.items t.parameters.items) t.protos.items n _ d lt
+          let at = by_protos.same n d (omega (arith, lt, length-map t.protos.items (proto_of t.strings.items t.types.items t.parameters))) in
+          sym (get_or-map (proto_of texts types parameters) protos (slice_index places n) _ d (proto_within n lt)) ∙ at.is d ∙ get_or-map (proto_of t.strings.items t.types.items t.parameters) t.protos.items n _ d lt
 
       method_within : (m : MethodRow) → IsMethodRow t m → IsMethodWithin (length strings) (length images) (length places) m
       method_within m h = record { class_in = omega (arith, h.class_is.type_in, types_count); name_in = omega (arith, h.name_in, by_texts.count); proto_in = omega (arith, h.proto_in, protos_count) }
@@ -154,7 +150,7 @@ module _ (t : Tables) (ok : AreTables t) (texts : List Text) (strings : List ℕ
       pub methods_movable : All (IsMethodWithin (length strings) (length images) (length places)) t.methods.items
       methods_movable = All-weaker (IsMethodRow t) (IsMethodWithin (length strings) (length images) (length places)) method_within t.methods.items ok.methods_stand
 
-      method_moved : (m : MethodRow) → IsMethodRow t m → method_of texts types parameters protos (moved_method strings images places m) ≡ method_of t.strings.items t.types.items t.parameters.items t.protos.items m
+      method_moved : (m : MethodRow) → IsMethodRow t m → method_of texts types parameters protos (moved_method strings images places m) ≡ method_of t.strings.items t.types.items t.parameters t.protos.items m
       method_moved m h =
           let c = type_moved m.class h.class_is.type_in in
           let n = text_moved m.name h.name_in in
@@ -168,8 +164,8 @@ module _ (t : Tables) (ok : AreTables t) (texts : List Text) (strings : List ℕ
           → StandFor (method_of texts types parameters protos) (IsMethodWithin (length texts) (length types) (length protos)) (symbols_in t).methods rows
       methods_stand rows is = record {
         same = ap (map (method_of texts types parameters protos)) is
-            ∙ map_both (moved_method strings images places) (method_of texts types parameters protos) (method_of t.strings.items t.types.items t.parameters.items t.protos.items) t.methods.items
-            (All-weaker (IsMethodRow t) (λ m. method_of texts types parameters protos (moved_method strings images places m) ≡ method_of t.strings.items t.types.items t.parameters.items t.protos.items m) method_moved t.methods.items ok.methods_stand);
+            ∙ map_both (moved_method strings images places) (method_of texts types parameters protos) (method_of t.strings.items t.types.items t.parameters t.protos.items) t.methods.items
+            (All-weaker (IsMethodRow t) (λ m. method_of texts types parameters protos (moved_method strings images places m) ≡ method_of t.strings.items t.types.items t.parameters t.protos.items m) method_moved t.methods.items ok.methods_stand);
         within = subst (All (IsMethodWithin (length texts) (length types) (length protos))) (sym is)
             (All-map (IsMethodWithin (length texts) (length types) (length protos)) (moved_method strings images places) t.methods.items
             (All-weaker (IsMethodRow t) (λ m. IsMethodWithin (length texts) (length types) (length protos) (moved_method strings images places m)) moved_method_within t.methods.items ok.methods_stand));

@@ -6,9 +6,9 @@ use Rattle.std.proofs.Math.Seq.{drop-cons}
 use Rattle.std.specs.Cmp.{IsTotalOrder, nat_cmp_is}
 use Rattle.std.proofs.lemmas.Bool.{cases_order}
 use Rattle.std.specs.List.{All, AllZip}
-use Rattle.std.proofs.lemmas.List.Elements.{Contains-get_or, All-nil, All-cons}
+use Rattle.std.proofs.lemmas.List.Elements.{All-nil, All-cons}
 use Rattle.dexspec.specs.Lists.{rises, rank}
-use Rattle.dexspec.proofs.InOrder.{Rises, less_is, rank-cons, rank-above, Rises-from_rises, Rises-places}
+use Rattle.dexspec.proofs.InOrder.{less_is, rank-cons, Rises-from_rises, Rises-places}
 use Rattle.dexpool.specs.Ranking.{ComeFirst, PassBelow}
 use Rattle.dexpool.specs.Numberings.{IsAt}
 

@@ -64,10 +64,10 @@ module _ (b : List ℕ) (t : Tables) (names : AreNames b t.strings.items t.types
     type_is = record { type_in = omega (arith, s.is.type.row, s.numbers.type, names.types_are.count); is = s.is.formed.type };
   }
 
-  proto_entry : (k : ℕ) (p : ProtoEntry) → ProtoStands t.strings.items t.types.items t.parameters.items b k p → IsProtoEntry t p
+  proto_entry : (k : ℕ) (p : ProtoEntry) → ProtoStands t.strings.items t.types.items t.parameters b k p → IsProtoEntry t p
   proto_entry k p s =
       let type = type_of t.strings.items t.types.items in
-      let ns = span_of t.parameters.items p.parameters in
+      let ns = span_of t.parameters p.parameters in
       let o = uint_at b (row_at b ProtoIds k + 8) in
       let list : OrNone TypeListAt [] b o (map type ns) = s.is.parameters in
       let listed_types = all_types b t.strings.items t.types.items o (subst (λ (l : List ℕ). OrNone TypeListAt [] b o (map type l)) (sym s.numbers.parameters_are) list) in
@@ -84,7 +84,7 @@ module _ (b : List ℕ) (t : Tables) (names : AreNames b t.strings.items t.types
         shorty_is = one_string b _ _ _ (text_row b t.strings.items p.shorty _ names.texts_are shorty_in s.numbers.shorty) s.is.shorty;
       }
 
-  method_row : (k : ℕ) (m : MethodRow) → AreProtos b t.strings.items t.types.items t.parameters.items t.protos.items → MethodStands t.strings.items t.types.items t.parameters.items t.protos.items b k m → IsMethodRow t m
+  method_row : (k : ℕ) (m : MethodRow) → AreProtos b t.strings.items t.types.items t.parameters t.protos.items → MethodStands t.strings.items t.types.items t.parameters t.protos.items b k m → IsMethodRow t m
   method_row k m p s = record {
     class_is = record { type_in = omega (arith, s.is.class.row, s.numbers.class, names.types_are.count); is = s.is.formed.class };
     name_in = omega (arith, s.is.name.row, s.numbers.name, names.texts_are.count);
@@ -94,11 +94,11 @@ module _ (b : List ℕ) (t : Tables) (names : AreNames b t.strings.items t.types
 
 -- ---- the tables of a file
 
-pub read_tables : (b : List ℕ) (t : Tables) → AreRead b t.strings.items t.types.items t.parameters.items t.protos.items t.fields.items t.methods.items → AreTables t
+pub read_tables : (b : List ℕ) (t : Tables) → AreRead b t.strings.items t.types.items t.parameters t.protos.items t.fields.items t.methods.items → AreTables t
 read_tables b t h =
     let texts = t.strings.items in
     let types = t.types.items in
-    let ps = t.parameters.items in
+    let ps = t.parameters in
     let protos = t.protos.items in
     record {
       texts_rise = texts_rise b texts h.names.texts_are;

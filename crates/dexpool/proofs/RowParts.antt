@@ -28,18 +28,18 @@ module _ (t : Tables) (h : AreTables t) where
   types_at (n ∷ ns) k = (type_at n (All-head (IsTypeOf IsValueType t) n ns k).type_in, types_at ns (All-tail (IsTypeOf IsValueType t) n ns k))
 
   -- the entry's numbers are those of its proto's parts
-  pub entry_stands : (p : ProtoEntry) → IsProtoEntry t p → StandsForProto (symbols_in t) (record { shorty = p.shorty; return_type = p.return_type; parameters = span_of t.parameters.items p.parameters }) (proto_of t.strings.items t.types.items t.parameters.items p)
+  pub entry_stands : (p : ProtoEntry) → IsProtoEntry t p → StandsForProto (symbols_in t) (record { shorty = p.shorty; return_type = p.return_type; parameters = span_of t.parameters p.parameters }) (proto_of t.strings.items t.types.items t.parameters p)
   entry_stands p k = record {
     shorty_is = subst (IsAt t.strings.items p.shorty) k.shorty_is (text_at p.shorty k.shorty_in);
     return_is = type_at p.return_type k.return_in;
-    parameters_are = types_at (span_of t.parameters.items p.parameters) k.parameters_in;
+    parameters_are = types_at (span_of t.parameters p.parameters) k.parameters_in;
   }
 
   -- and so those of the proto of its row
-  pub row_stands : (i : ℕ) (p : ProtoEntry) (r : ProtoNumbers) (d : Proto) → i < length (symbols_in t).protos → p ≡ get_or t.protos.items i p → r ≡ record { shorty = p.shorty; return_type = p.return_type; parameters = span_of t.parameters.items p.parameters }
+  pub row_stands : (i : ℕ) (p : ProtoEntry) (r : ProtoNumbers) (d : Proto) → i < length (symbols_in t).protos → p ≡ get_or t.protos.items i p → r ≡ record { shorty = p.shorty; return_type = p.return_type; parameters = span_of t.parameters p.parameters }
       → StandsForProto (symbols_in t) r (get_or (symbols_in t).protos i d)
   row_stands i p r d small at is =
-      let lt : i < length t.protos.items = omega (arith, small, length-map t.protos.items (proto_of t.strings.items t.types.items t.parameters.items)) in
+      let lt : i < length t.protos.items = omega (arith, small, length-map t.protos.items (proto_of t.strings.items t.types.items t.parameters)) in
       let entry = subst (IsProtoEntry t) (sym at) (h.protos_stand i p lt) in
-      let proto : proto_of t.strings.items t.types.items t.parameters.items p ≡ get_or (symbols_in t).protos i d = ap (proto_of t.strings.items t.types.items t.parameters.items) at ∙ sym (get_or-map (proto_of t.strings.items t.types.items t.parameters.items) t.protos.items i p d lt) in
-      subst (λ (x : Proto). StandsForProto (symbols_in t) r x) proto (subst (λ (x : ProtoNumbers). StandsForProto (symbols_in t) x (proto_of t.strings.items t.types.items t.parameters.items p)) (sym is) (entry_stands p entry))
+      let proto : proto_of t.strings.items t.types.items t.parameters p ≡ get_or (symbols_in t).protos i d = ap (proto_of t.strings.items t.types.items t.parameters) at ∙ sym (get_or-map (proto_of t.strings.items t.types.items t.parameters) t.protos.items i p d lt) in
+      subst (λ (x : Proto). StandsForProto (symbols_in t) r x) proto (subst (λ (x : ProtoNumbers). StandsForProto (symbols_in t) x (proto_of t.strings.items t.types.items t.parameters p)) (sym is) (entry_stands p entry))

@@ -19,7 +19,7 @@ pub record HaveSameRows (t u : Tables) : Type 0 where
   pub strings : t.strings.items ≡ u.strings.items
   pub types : t.types.items ≡ u.types.items
   pub protos : t.protos.items ≡ u.protos.items
-  pub parameters : t.parameters.items ≡ u.parameters.items
+  pub parameters : t.parameters ≡ u.parameters
   pub fields : t.fields.items ≡ u.fields.items
   pub methods : t.methods.items ≡ u.methods.items
 
@@ -41,14 +41,14 @@ module _ (t u : Tables) (s : HaveSameRows t u) where
   proto_entry : (p : ProtoEntry) → IsProtoEntry t p → IsProtoEntry u p
   proto_entry p h =
       let text : text_of t.strings.items p.shorty ≡ text_of u.strings.items p.shorty = λ i. text_of (s.strings i) p.shorty in
-      let letters : shorty (type_of t.strings.items t.types.items p.return_type) (map (type_of t.strings.items t.types.items) (span_of t.parameters.items p.parameters))
-      ≡ shorty (type_of u.strings.items u.types.items p.return_type) (map (type_of u.strings.items u.types.items) (span_of u.parameters.items p.parameters)) =
+      let letters : shorty (type_of t.strings.items t.types.items p.return_type) (map (type_of t.strings.items t.types.items) (span_of t.parameters p.parameters))
+      ≡ shorty (type_of u.strings.items u.types.items p.return_type) (map (type_of u.strings.items u.types.items) (span_of u.parameters p.parameters)) =
       λ i. shorty (type_of (s.strings i) (s.types i) p.return_type) (map (type_of (s.strings i) (s.types i)) (span_of (s.parameters i) p.parameters)) in
       record {
         span = subst (λ (l : List ℕ). HasSpan l p.parameters) s.parameters h.span;
         return_in = subst (λ (l : List ℕ). p.return_type < length l) s.types h.return_in;
         parameters_in = subst (λ (l : List ℕ). All (IsTypeOf IsValueType u) (span_of l p.parameters)) s.parameters
-            (All-weaker (IsTypeOf IsValueType t) (IsTypeOf IsValueType u) (type_in IsValueType) (span_of t.parameters.items p.parameters) h.parameters_in);
+            (All-weaker (IsTypeOf IsValueType t) (IsTypeOf IsValueType u) (type_in IsValueType) (span_of t.parameters p.parameters) h.parameters_in);
         shorty_in = subst (λ (l : List Text). p.shorty < length l) s.strings h.shorty_in;
         shorty_is = sym text ∙ h.shorty_is ∙ letters;
       }
@@ -72,7 +72,7 @@ module _ (t u : Tables) (s : HaveSameRows t u) where
   -- rows that stand in the one stand in the other
   pub same_tables : AreTables t → AreTables u
   same_tables h =
-      let protos_alike : rises (proto_cmp t.parameters.items) t.protos.items ≡ rises (proto_cmp u.parameters.items) u.protos.items = λ i. rises (proto_cmp (s.parameters i)) (s.protos i) in
+      let protos_alike : rises (proto_cmp t.parameters) t.protos.items ≡ rises (proto_cmp u.parameters) u.protos.items = λ i. rises (proto_cmp (s.parameters i)) (s.protos i) in
       record {
         texts_rise = subst (λ (l : List Text). rises text_cmp l ≡ true) s.strings h.texts_rise;
         types_rise = subst (λ (l : List ℕ). rises type_cmp l ≡ true) s.types h.types_rise;

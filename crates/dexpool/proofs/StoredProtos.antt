@@ -1,15 +1,35 @@
 -- One entry more in a table of protos.
-use Rattle.std.proofs.Common.{◌≡◌, ℕ, List, [], ◌∷◌, ◌++◌, length, map, refl, ap, ◌∙◌, subst, sym, arith}
+use Rattle.std.proofs.Common.{◌≡◌, ℕ, ◌-◌, List, [], ◌∷◌, ◌++◌, length, map, take, drop, refl, ap, ◌∙◌, subst, sym, arith, drop_at}
 use Rattle.std.specs.List.{All}
-use Rattle.std.proofs.lemmas.List.{map-append, length-append}
+use Rattle.std.proofs.lemmas.List.{map-append, length-append, take_all, take-append-le, drop-append-le, length-drop}
 use Rattle.std.proofs.lemmas.List.Elements.{All-head, All-tail, All-weaker, All-push}
-use Rattle.dexrows.specs.Numbers.{ProtoNumbers}
 use Rattle.dexpool.specs.declared.rows.Span.{Span}
 use Rattle.dexpool.specs.declared.rows.ProtoEntry.{ProtoEntry}
 use Rattle.dexpool.specs.Tables.{span_of}
 use Rattle.dexpool.specs.Reading.{HasSpan}
 use Rattle.dexpool.specs.Renumbering.{numbers_of}
-use Rattle.dexpool.proofs.ProtoRows.{span_grown, span_is}
+
+-- ---- the shared list
+
+empty_part : (xs : List ℕ) (n : ℕ) → n ≡ 0 → take n xs ≡ []
+empty_part xs n e = ap (λ (m : ℕ). take m xs) e
+
+-- a part stays as it was where the list grows
+span_grown : (xs ys : List ℕ) (s : Span) → HasSpan xs s → span_of (xs ++ ys) s ≡ span_of xs s
+span_grown xs ys s h =
+    ap (λ (l : List ℕ). take (s.end - s.start) l) (drop-append-le s.start xs ys (omega (arith, h.ordered, h.within)))
+    ∙ take-append-le (s.end - s.start) (drop s.start xs) ys (omega (arith, h.ordered, h.within, length-drop s.start xs))
+
+-- what was appended
+part_is : (part whole new old l : List ℕ) (start : ℕ) → part ≡ drop start whole → whole ≡ new → new ≡ old ++ l → start ≡ length old → part ≡ l
+part_is part whole new old l start e same grown at = e ∙ ap (drop start) (same ∙ grown) ∙ ap (λ (n : ℕ). drop n (old ++ l)) at ∙ drop_at old l (length old) refl
+
+span_is : (new old l : List ℕ) (s : Span) → new ≡ old ++ l → s.start ≡ length old → s.end ≡ length new → span_of new s ≡ l
+span_is new old l s grown start end =
+    let rest : drop s.start new ≡ l = part_is (drop s.start new) new new old l s.start refl refl grown start in
+    ap (λ (xs : List ℕ). take (s.end - s.start) xs) rest ∙ take_all (s.end - s.start) l (omega (arith, start, end, ap (λ (xs : List ℕ). length xs) grown, length-append old l))
+
+-- ---- rows
 
 module _ (old new more : List ℕ) (grown : new ≡ old ++ more) where
   kept_row : (p : ProtoEntry) → HasSpan old p.parameters → numbers_of new p ≡ numbers_of old p

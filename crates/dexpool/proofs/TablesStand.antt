@@ -24,10 +24,10 @@ use Rattle.dexpool.proofs.NumberOrder.{HasTypeNumbers, HasFieldNumbers, HasMetho
 module _ (t : Tables) where
   -- ---- the numbers of rows that stand
 
-  pub entry_numbers : (p : ProtoEntry) → IsProtoEntry t p → HasTypeNumbers t.parameters.items (length t.types.items) p
+  pub entry_numbers : (p : ProtoEntry) → IsProtoEntry t p → HasTypeNumbers t.parameters (length t.types.items) p
   entry_numbers p h = record {
     return_in = h.return_in;
-    parameters_in = All-weaker (IsTypeOf IsValueType t) (λ k. k < length t.types.items) (λ n k. k.type_in) (span_of t.parameters.items p.parameters) h.parameters_in;
+    parameters_in = All-weaker (IsTypeOf IsValueType t) (λ k. k < length t.types.items) (λ n k. k.type_in) (span_of t.parameters p.parameters) h.parameters_in;
   }
 
   pub field_numbers : (f : FieldRow) → IsFieldRow t f → HasFieldNumbers (length t.types.items) (length t.strings.items) f
@@ -40,8 +40,8 @@ module _ (t : Tables) where
     pub types_in : All (λ n. n < length t.strings.items) t.types.items
     types_in = All-weaker (IsTypeNumber t) (λ n. n < length t.strings.items) (λ n k. k.text_in) t.types.items h.types_stand
 
-    pub protos_in : All (HasTypeNumbers t.parameters.items (length t.types.items)) t.protos.items
-    protos_in = All-weaker (IsProtoEntry t) (HasTypeNumbers t.parameters.items (length t.types.items)) entry_numbers t.protos.items h.protos_stand
+    pub protos_in : All (HasTypeNumbers t.parameters (length t.types.items)) t.protos.items
+    protos_in = All-weaker (IsProtoEntry t) (HasTypeNumbers t.parameters (length t.types.items)) entry_numbers t.protos.items h.protos_stand
 
     pub fields_in : All (HasFieldNumbers (length t.types.items) (length t.strings.items)) t.fields.items
     fields_in = All-weaker (IsFieldRow t) (HasFieldNumbers (length t.types.items) (length t.strings.items)) field_numbers t.fields.items h.fields_stand
@@ -61,17 +61,17 @@ module _ (t : Tables) where
 
     -- numbers of protos
     pub protos_agree : (m n : ℕ) → m < length t.protos.items → n < length t.protos.items → nat_cmp m n
-        ≡ symbols.proto_cmp (proto_of t.strings.items t.types.items t.parameters.items (proto_at t.protos.items m)) (proto_of t.strings.items t.types.items t.parameters.items (proto_at t.protos.items n))
-    protos_agree m n lt lt' = order.protos_agree t.strings.items h.texts_rise t.types.items types_in h.types_rise t.parameters.items t.protos.items protos_in h.protos_rise m n lt lt'
+        ≡ symbols.proto_cmp (proto_of t.strings.items t.types.items t.parameters (proto_at t.protos.items m)) (proto_of t.strings.items t.types.items t.parameters (proto_at t.protos.items n))
+    protos_agree m n lt lt' = order.protos_agree t.strings.items h.texts_rise t.types.items types_in h.types_rise t.parameters t.protos.items protos_in h.protos_rise m n lt lt'
 
     -- rows of types
     pub type_rows_agree : (m n : ℕ) → m < length t.strings.items → n < length t.strings.items → type_cmp m n ≡ text_cmp (text_of t.strings.items m) (text_of t.strings.items n)
     type_rows_agree m n lt lt' = order.type_rows_agree t.strings.items h.texts_rise m n lt lt'
 
     -- rows of protos
-    pub proto_rows_agree : (p q : ProtoEntry) → IsProtoEntry t p → IsProtoEntry t q → proto_cmp t.parameters.items p q
-        ≡ symbols.proto_cmp (proto_of t.strings.items t.types.items t.parameters.items p) (proto_of t.strings.items t.types.items t.parameters.items q)
-    proto_rows_agree p q k l = order.proto_rows_agree t.strings.items h.texts_rise t.types.items types_in h.types_rise t.parameters.items p q (entry_numbers p k) (entry_numbers q l)
+    pub proto_rows_agree : (p q : ProtoEntry) → IsProtoEntry t p → IsProtoEntry t q → proto_cmp t.parameters p q
+        ≡ symbols.proto_cmp (proto_of t.strings.items t.types.items t.parameters p) (proto_of t.strings.items t.types.items t.parameters q)
+    proto_rows_agree p q k l = order.proto_rows_agree t.strings.items h.texts_rise t.types.items types_in h.types_rise t.parameters p q (entry_numbers p k) (entry_numbers q l)
 
     -- rows of fields
     pub field_rows_agree : (f g : FieldRow) → IsFieldRow t f → IsFieldRow t g → field_cmp f g ≡ symbols.field_cmp (field_of t.strings.items t.types.items f) (field_of t.strings.items t.types.items g)
@@ -79,9 +79,9 @@ module _ (t : Tables) where
 
     -- rows of methods
     pub method_rows_agree : (m n : MethodRow) → IsMethodRow t m → IsMethodRow t n → method_cmp m n
-        ≡ symbols.method_cmp (method_of t.strings.items t.types.items t.parameters.items t.protos.items m) (method_of t.strings.items t.types.items t.parameters.items t.protos.items n)
+        ≡ symbols.method_cmp (method_of t.strings.items t.types.items t.parameters t.protos.items m) (method_of t.strings.items t.types.items t.parameters t.protos.items n)
     method_rows_agree m n k l =
-        order.method_rows_agree t.strings.items h.texts_rise t.types.items types_in h.types_rise t.parameters.items t.protos.items protos_in h.protos_rise m n (method_numbers m k) (method_numbers n l)
+        order.method_rows_agree t.strings.items h.texts_rise t.types.items types_in h.types_rise t.parameters t.protos.items protos_in h.protos_rise m n (method_numbers m k) (method_numbers n l)
 
     -- the five lists of symbols rise
     pub are_rising : AreRising (symbols_in t)
@@ -91,9 +91,9 @@ module _ (t : Tables) where
         record {
           texts_rise = h.texts_rise;
           types_rise = sym (order.types_rise_alike texts h.texts_rise types types_in) ∙ h.types_rise;
-          protos_rise = sym (order.protos_rise_alike texts h.texts_rise types types_in h.types_rise t.parameters.items t.protos.items protos_in) ∙ h.protos_rise;
+          protos_rise = sym (order.protos_rise_alike texts h.texts_rise types types_in h.types_rise t.parameters t.protos.items protos_in) ∙ h.protos_rise;
           fields_rise = sym (order.fields_rise_alike texts h.texts_rise types types_in h.types_rise t.fields.items fields_in) ∙ h.fields_rise;
-          methods_rise = sym (order.methods_rise_alike texts h.texts_rise types types_in h.types_rise t.parameters.items t.protos.items protos_in h.protos_rise t.methods.items methods_in) ∙ h.methods_rise;
+          methods_rise = sym (order.methods_rise_alike texts h.texts_rise types types_in h.types_rise t.parameters t.protos.items protos_in h.protos_rise t.methods.items methods_in) ∙ h.methods_rise;
         }
 
     -- ---- the parts of symbols are there
@@ -104,13 +104,13 @@ module _ (t : Tables) where
     pub type_there : (n : ℕ) → n < length t.types.items → Contains (symbols_in t).types (type_of t.strings.items t.types.items n)
     type_there n lt = Contains-map (text_of t.strings.items) t.types.items (get_or t.types.items n 0) (Contains-get_or t.types.items n 0 lt)
 
-    pub proto_there : (n : ℕ) → n < length t.protos.items → Contains (symbols_in t).protos (proto_of t.strings.items t.types.items t.parameters.items (proto_at t.protos.items n))
-    proto_there n lt = Contains-map (proto_of t.strings.items t.types.items t.parameters.items) t.protos.items (proto_at t.protos.items n) (Contains-get_or t.protos.items n _ lt)
+    pub proto_there : (n : ℕ) → n < length t.protos.items → Contains (symbols_in t).protos (proto_of t.strings.items t.types.items t.parameters (proto_at t.protos.items n))
+    proto_there n lt = Contains-map (proto_of t.strings.items t.types.items t.parameters) t.protos.items (proto_at t.protos.items n) (Contains-get_or t.protos.items n _ lt)
 
-    proto_parts : (p : ProtoEntry) → IsProtoEntry t p → HasProtoParts (symbols_in t) (proto_of t.strings.items t.types.items t.parameters.items p)
+    proto_parts : (p : ProtoEntry) → IsProtoEntry t p → HasProtoParts (symbols_in t) (proto_of t.strings.items t.types.items t.parameters p)
     proto_parts p k =
         let type = type_of t.strings.items t.types.items in
-        let ns = span_of t.parameters.items p.parameters in
+        let ns = span_of t.parameters p.parameters in
         record {
           shorty_in = subst (Contains t.strings.items) k.shorty_is (text_there p.shorty k.shorty_in);
           types_in = λ x c. elim (Contains-cons_cases (type p.return_type) x (map type ns) c) [
@@ -123,7 +123,7 @@ module _ (t : Tables) where
     field_parts : (f : FieldRow) → IsFieldRow t f → HasFieldParts (symbols_in t) (field_of t.strings.items t.types.items f)
     field_parts f k = record { class_in = type_there f.class k.class_is.type_in; name_in = text_there f.name k.name_in; type_in = type_there f.typ k.type_is.type_in }
 
-    method_parts : (m : MethodRow) → IsMethodRow t m → HasMethodParts (symbols_in t) (method_of t.strings.items t.types.items t.parameters.items t.protos.items m)
+    method_parts : (m : MethodRow) → IsMethodRow t m → HasMethodParts (symbols_in t) (method_of t.strings.items t.types.items t.parameters t.protos.items m)
     method_parts m k = record { class_in = type_there m.class k.class_is.type_in; name_in = text_there m.name k.name_in; proto_in = proto_there m.proto k.proto_in }
 
     -- ---- symbols are well formed
@@ -131,10 +131,10 @@ module _ (t : Tables) where
     pub descriptor_of : (n : ℕ) → n < length t.types.items → IsDescriptor (type_of t.strings.items t.types.items n)
     descriptor_of n lt = (h.types_stand n 0 lt).descriptor
 
-    proto_formed : (p : ProtoEntry) → IsProtoEntry t p → IsProto (proto_of t.strings.items t.types.items t.parameters.items p)
+    proto_formed : (p : ProtoEntry) → IsProtoEntry t p → IsProto (proto_of t.strings.items t.types.items t.parameters p)
     proto_formed p k =
         let type = type_of t.strings.items t.types.items in
-        let ns = span_of t.parameters.items p.parameters in
+        let ns = span_of t.parameters p.parameters in
         record {
           return_type = descriptor_of p.return_type k.return_in;
           parameters = All-map IsValueType type ns (All-weaker (IsTypeOf IsValueType t) (λ n. IsValueType (type n)) (λ n i. i.is) ns k.parameters_in);
@@ -143,7 +143,7 @@ module _ (t : Tables) where
     field_formed : (f : FieldRow) → IsFieldRow t f → IsField (field_of t.strings.items t.types.items f)
     field_formed f k = record { class = k.class_is.is; name = k.name_is; type = k.type_is.is }
 
-    method_formed : (m : MethodRow) → IsMethodRow t m → IsMethod (method_of t.strings.items t.types.items t.parameters.items t.protos.items m)
+    method_formed : (m : MethodRow) → IsMethodRow t m → IsMethod (method_of t.strings.items t.types.items t.parameters t.protos.items m)
     method_formed m k = record { class = k.class_is.is; name = k.name_is; proto = proto_formed (proto_at t.protos.items m.proto) (h.protos_stand m.proto _ k.proto_in) }
 
     -- ---- what the tables stand for is a numbering
@@ -151,7 +151,7 @@ module _ (t : Tables) where
     are_numbering =
         let texts = t.strings.items in
         let types = t.types.items in
-        let ps = t.parameters.items in
+        let ps = t.parameters in
         let protos = t.protos.items in
         record {
           rising = are_rising;

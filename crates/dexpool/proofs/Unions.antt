@@ -1,11 +1,11 @@
 -- Sorted rows joined: what they stand for is the union of what the parts' rows stand for.
-use Rattle.std.proofs.Common.{◌≡◌, ℕ, zero, suc, ◌<◌, true, List, [], ◌∷◌, length, get_or, map, refl, sym, ap, ◌∙◌, subst, arith, inl, inr, slice_index}
+use Rattle.std.proofs.Common.{◌≡◌, ℕ, ◌<◌, true, List, [], ◌∷◌, length, get_or, map, sym, ap, ◌∙◌, subst, arith, slice_index}
 use Rattle.std.specs.List.{All, AllZip, Contains, flat_map}
 use Rattle.std.specs.Cmp.{IsTotalOrder}
 use Rattle.std.specs.FinMap.{IsAntisymmetric}
 use Rattle.std.specs.declared.cmp.Ordering.{Ordering}
 use Rattle.std.proofs.lemmas.Cmp.{tied_itself}
-use Rattle.std.proofs.lemmas.List.{get_or-map, get_or_default, length-map}
+use Rattle.std.proofs.lemmas.List.{get_or-map, length-map}
 use Rattle.std.proofs.lemmas.List.Elements.{All-weaker, All-contains, All-contains_itself, Contains-get_or}
 use Rattle.dexspec.specs.Lists.{rises, in_order}
 use Rattle.dexspec.specs.Rows.{key_cmp}
@@ -15,7 +15,6 @@ use Rattle.dexspec.proofs.Mapped.{Contains-map_source}
 use Rattle.dexspec.proofs.Depths.{Contains-map}
 use Rattle.dexspec.proofs.SymbolOrders.{text_total}
 use Rattle.dexrows.specs.Join.{row_cmp, AreSorted, IsImage, IsOfParts, IsJoin}
-use Rattle.dexpool.specs.Numberings.{IsAt}
 use Rattle.dexpool.specs.Joining.{Moves, IsUnion, StandFor}
 use Rattle.dexpool.proofs.NumberOrder.{rises-map}
 use Rattle.dexpool.proofs.Pairs.{zip_source, zip_target, zip_along}

@@ -1,5 +1,5 @@
 -- What the symbols of tables weigh, by the numbers in the tables.
-use Rattle.std.proofs.Common.{◌≡◌, ◌<◌, ◌≤◌, ℕ, ◌+◌, ◌-◌, ◌*◌, List, [], ◌∷◌, length, map, take, drop, refl, sym, ap, ◌∙◌, arith, sum_by}
+use Rattle.std.proofs.Common.{◌≡◌, ℕ, ◌+◌, ◌-◌, ◌*◌, List, [], ◌∷◌, length, map, drop, refl, ap, ◌∙◌, arith, sum_by}
 use Rattle.std.specs.List.{All}
 use Rattle.std.proofs.lemmas.List.{length-map, length-take, length-drop}
 use Rattle.std.proofs.lemmas.List.Elements.{All-head, All-tail, All-weaker}
@@ -33,13 +33,13 @@ pub tables_weight : (t : Tables) → AreTables t → mentions_weight (symbols_in
     ≡ sum_by text_weight t.strings.items + 4 * length t.types.items + sum_by (λ p. 20 + 2 * (p.parameters.end - p.parameters.start)) t.protos.items + 8 * length t.fields.items + 8 * length t.methods.items
 tables_weight t h =
     let weighs = λ (p : ProtoEntry). 20 + 2 * (p.parameters.end - p.parameters.start) in
-    let stand = proto_of t.strings.items t.types.items t.parameters.items in
+    let stand = proto_of t.strings.items t.types.items t.parameters in
     let protos : sum_by proto_weight (map stand t.protos.items) ≡ sum_by weighs t.protos.items =
-    sum_by-mapped proto_weight stand weighs t.protos.items (All-weaker (IsProtoEntry t) (λ p. proto_weight (stand p) ≡ weighs p) (λ p e. entry_weight t.strings.items t.types.items t.parameters.items p e.span) t.protos.items h.protos_stand) in
+    sum_by-mapped proto_weight stand weighs t.protos.items (All-weaker (IsProtoEntry t) (λ p. proto_weight (stand p) ≡ weighs p) (λ p e. entry_weight t.strings.items t.types.items t.parameters p e.span) t.protos.items h.protos_stand) in
     omega (
       arith,
       protos,
       length-map t.types.items (text_of t.strings.items),
       length-map t.fields.items (field_of t.strings.items t.types.items),
-      length-map t.methods.items (method_of t.strings.items t.types.items t.parameters.items t.protos.items),
+      length-map t.methods.items (method_of t.strings.items t.types.items t.parameters t.protos.items),
     )

@@ -40,14 +40,14 @@ pub record AreClosure (t : Tables) (marks closed : Marks) : Type 0 where
   pub methods_are : closed.methods.items ≡ marks.methods.items
   pub fields_are : closed.fields.items ≡ marks.fields.items
   pub protos_are : closed.protos.items ≡ mark_all marks.protos.items (map (λ m. m.proto) (kept marks.methods.items t.methods.items))
-  pub types_are : closed.types.items ≡ mark_all (mark_all (mark_all marks.types.items (map (λ m. m.class) (kept marks.methods.items t.methods.items))) (flat_map field_types (kept marks.fields.items t.fields.items))) (flat_map (entry_types t.parameters.items) (kept closed.protos.items t.protos.items))
+  pub types_are : closed.types.items ≡ mark_all (mark_all (mark_all marks.types.items (map (λ m. m.class) (kept marks.methods.items t.methods.items))) (flat_map field_types (kept marks.fields.items t.fields.items))) (flat_map (entry_types t.parameters) (kept closed.protos.items t.protos.items))
   pub strings_are : closed.strings.items ≡ mark_all (mark_all (mark_all (mark_all marks.strings.items (map (λ m. m.name) (kept marks.methods.items t.methods.items))) (map (λ f. f.name) (kept marks.fields.items t.fields.items))) (map (λ p. p.shorty) (kept closed.protos.items t.protos.items))) (kept closed.types.items t.types.items)
 
 -- the numbers of an entry are marked
 pub record HasMarkedEntry (t : Tables) (marks : Marks) (p : ProtoEntry) : Type 0 where
   pub shorty_marked : IsMarked marks.strings.items p.shorty
   pub return_marked : IsMarked marks.types.items p.return_type
-  pub parameters_marked : All (IsMarked marks.types.items) (span_of t.parameters.items p.parameters)
+  pub parameters_marked : All (IsMarked marks.types.items) (span_of t.parameters p.parameters)
 
 -- those of a field
 pub record HasMarkedField (marks : Marks) (f : FieldRow) : Type 0 where

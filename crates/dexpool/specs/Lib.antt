@@ -13,3 +13,4 @@ pub mod Joining
 pub mod Laws
 pub mod Orderly
 pub mod Uses
+pub mod Lists

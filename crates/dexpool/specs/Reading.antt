@@ -1,8 +1,8 @@
 -- Rows that are read one after the other.
-use Rattle.std.specs.Prelude.{◌≡◌, ℕ, ◌+◌, ◌*◌, ◌%◌, ◌<◌, ◌≤◌, Bool, true, ◌++◌, map, All, if◌then◌else◌, ◌==◌, List, [], ◌∷◌, length, slice_index_or}
+use Rattle.std.specs.Prelude.{◌≡◌, ℕ, ◌+◌, ◌*◌, ◌/◌, ◌%◌, ◌<◌, ◌≤◌, Bool, true, map, All, if◌then◌else◌, ◌==◌, List, [], ◌∷◌, length, slice_index_or}
 use Rattle.std.specs.Ordering.{is_lt}
 use Rattle.std.specs.declared.cmp.Ordering.{Ordering}
-use Rattle.dexspec.specs.Bytes.{uint_at, ushort_at}
+use Rattle.dexspec.specs.Bytes.{uint_at, ushort_at, ushorts_at}
 use Rattle.dexspec.specs.Texts.{Text}
 use Rattle.dexspec.specs.Header.{StringIds, TypeIds, ProtoIds, FieldIds, MethodIds, table_size}
 use Rattle.dexspec.specs.Rows.{row_at, StringRow, TypeRow, HasString, type_indices, TypeListAt, HasType, HasProto, HasField, HasMethod}
@@ -112,6 +112,16 @@ pub record HasSpan (parameters : List ℕ) (s : Span) : Type 0 where
   pub ordered : s.start ≤ s.end
   pub within : s.end ≤ length parameters
 
+-- the bytes as numbers of two bytes each
+abbrev pub file_numbers : List ℕ → List ℕ
+file_numbers b = ushorts_at b 0 (length b / 2)
+
+-- the parameters that are listed there, and where
+pub record IsListed (b : List ℕ) (texts : List Text) (types : List ℕ) (o : ℕ) (s : Span) : Type 0 where
+  pub parameters : HasParameters b texts types o
+  pub span : HasSpan (file_numbers b) s
+  pub is : span_of (file_numbers b) s ≡ listed b o
+
 -- the indices of row i: shorty, return type, and the offset of the parameters
 pub record HasIndices (b : List ℕ) (i shorty return_type off : ℕ) : Type 0 where
   pub shorty_is : uint_at b (row_at b ProtoIds i) ≡ shorty
@@ -129,11 +139,6 @@ pub record HasProtoNumbers (b : List ℕ) (parameters : List ℕ) (i : ℕ) (p :
 pub record ProtoStands (texts : List Text) (types : List ℕ) (parameters : List ℕ) (b : List ℕ) (i : ℕ) (p : ProtoEntry) : Type 0 where
   pub numbers : HasProtoNumbers b parameters i p
   pub is : rows.ProtoRow b i (proto_of texts types parameters p)
-
--- row i is read, its parameters behind the others
-pub record IsAdded (texts : List Text) (types old new : List ℕ) (b : List ℕ) (i : ℕ) (p : ProtoEntry) : Type 0 where
-  pub grows : (more : List ℕ) × (new ≡ old ++ more)
-  pub stands : ProtoStands texts types new b i p
 
 -- each index names a type
 abbrev pub AllTypes : List ℕ → List Text → List ℕ → List ℕ → Type 0

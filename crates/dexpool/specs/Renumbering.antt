@@ -1,5 +1,5 @@
 -- Rows whose numbers are replaced: by the numbers at their places in the images.
-use Rattle.std.specs.Prelude.{ℕ, ◌<◌, List, map, length, slice_index, All}
+use Rattle.std.specs.Prelude.{ℕ, ◌<◌, List, map, slice_index, All}
 use Rattle.dexrows.specs.Numbers.{ProtoNumbers}
 use Rattle.dexrows.specs.declared.types.TypeRow.{TypeRow}
 use Rattle.dexrows.specs.declared.fields.FieldRow.{FieldRow}

@@ -14,7 +14,7 @@ use Rattle.dexpool.specs.Pools.{symbols_of}
 
 -- what the tables stand for
 abbrev pub symbols_in : Tables → Mentions
-symbols_in t = symbols_of t.strings.items t.types.items t.parameters.items t.protos.items t.fields.items t.methods.items
+symbols_in t = symbols_of t.strings.items t.types.items t.parameters t.protos.items t.fields.items t.methods.items
 
 -- the number is that of a text which is a descriptor
 pub record IsTypeNumber (t : Tables) (n : ℕ) : Type 0 where
@@ -28,11 +28,11 @@ pub record IsTypeOf (Is : List ℕ → Type 0) (t : Tables) (n : ℕ) : Type 0 w
 
 -- the entry's numbers are in range, and make a proto
 pub record IsProtoEntry (t : Tables) (p : ProtoEntry) : Type 0 where
-  pub span : HasSpan t.parameters.items p.parameters
+  pub span : HasSpan t.parameters p.parameters
   pub return_in : p.return_type < length t.types.items
-  pub parameters_in : All (IsTypeOf IsValueType t) (span_of t.parameters.items p.parameters)
+  pub parameters_in : All (IsTypeOf IsValueType t) (span_of t.parameters p.parameters)
   pub shorty_in : p.shorty < length t.strings.items
-  pub shorty_is : text_of t.strings.items p.shorty ≡ shorty (type_of t.strings.items t.types.items p.return_type) (map (type_of t.strings.items t.types.items) (span_of t.parameters.items p.parameters))
+  pub shorty_is : text_of t.strings.items p.shorty ≡ shorty (type_of t.strings.items t.types.items p.return_type) (map (type_of t.strings.items t.types.items) (span_of t.parameters p.parameters))
 
 -- the row's numbers are in range, and make a field
 pub record IsFieldRow (t : Tables) (f : FieldRow) : Type 0 where
@@ -52,7 +52,7 @@ pub record IsMethodRow (t : Tables) (m : MethodRow) : Type 0 where
 pub record AreTables (t : Tables) : Type 0 where
   pub texts_rise : rises text_cmp t.strings.items ≡ true
   pub types_rise : rises type_cmp t.types.items ≡ true
-  pub protos_rise : rises (proto_cmp t.parameters.items) t.protos.items ≡ true
+  pub protos_rise : rises (proto_cmp t.parameters) t.protos.items ≡ true
   pub fields_rise : rises field_cmp t.fields.items ≡ true
   pub methods_rise : rises method_cmp t.methods.items ≡ true
   pub types_stand : All (IsTypeNumber t) t.types.items

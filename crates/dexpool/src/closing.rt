@@ -8,11 +8,11 @@ ghost use Rattle.dexpool.specs.Stored.{symbols_in, AreTables};
 ghost use Rattle.dexpool.specs.Renumbering.{IsEntryWithin, IsFieldWithin, IsMethodWithin};
 ghost use Rattle.dexpool.specs.Closing.{mark_all, field_types, entry_types, AreClosure};
 
+use crate::lists::Parameters;
 use crate::marks::Marks;
-use crate::protos::part;
 use crate::rows::ProtoEntry;
 use crate::tables::Tables;
-use dexrows::{FieldRow, MethodRow};
+use dexrows::{FieldRow, MethodRow, TypeNumbers};
 use std::alloc::AllocError;
 
 /// The marks, and marks on what marked symbols name, in one pass over each table.
@@ -61,7 +61,7 @@ fn mark_below(
     requires types { length types.old ≡ length tables.now.types.items }
     requires protos { length protos.old ≡ length tables.now.protos.items }
     ensures protos { protos.new ≡ mark_all protos.old (map (λ m. m.proto) (kept methods.now tables.now.methods.items)) }
-    ensures types { types.new ≡ mark_all (mark_all (mark_all types.old (map (λ m. m.class) (kept methods.now tables.now.methods.items))) (flat_map field_types (kept fields.now tables.now.fields.items))) (flat_map (entry_types tables.now.parameters.items) (kept protos.new tables.now.protos.items)) }
+    ensures types { types.new ≡ mark_all (mark_all (mark_all types.old (map (λ m. m.class) (kept methods.now tables.now.methods.items))) (flat_map field_types (kept fields.now tables.now.fields.items))) (flat_map (entry_types tables.now.parameters) (kept protos.new tables.now.protos.items)) }
     ensures strings { strings.new ≡ mark_all (mark_all (mark_all (mark_all strings.old (map (λ m. m.name) (kept methods.now tables.now.methods.items))) (map (λ f. f.name) (kept fields.now tables.now.fields.items))) (map (λ p. p.shorty) (kept protos.new tables.now.protos.items))) (kept types.new tables.now.types.items) }
 {
     mark_by_methods(&tables.methods, methods, strings, types, protos);
@@ -112,7 +112,7 @@ fn mark_by_fields(fields: &[FieldRow], marks: &[bool], strings: &mut [bool], typ
 // Marks the shorties, return types and parameters of marked protos.
 fn mark_by_protos(
     protos: &[ProtoEntry],
-    parameters: &[usize],
+    parameters: &Parameters<'_>,
     marks: &[bool],
     strings: &mut [bool],
     types: &mut [bool],
@@ -126,7 +126,7 @@ fn mark_by_protos(
         if marks[i] {
             strings[proto.shorty] = true;
             types[proto.return_type] = true;
-            mark_numbers(part(parameters, proto.parameters), types);
+            mark_numbers(&parameters.part(proto.parameters), types);
         }
     }
 }
@@ -145,11 +145,11 @@ fn mark_by_types(types: &[usize], marks: &[bool], strings: &mut [bool])
 }
 
 // Marks each of the numbers.
-fn mark_numbers(numbers: &[usize], marks: &mut [bool])
+fn mark_numbers(numbers: &TypeNumbers<'_>, marks: &mut [bool])
     requires { All (λ n. n < length marks.old) numbers.now }
     ensures { marks.new ≡ mark_all marks.old numbers.now }
 {
-    for number in numbers {
-        marks[*number] = true;
+    for i in 0..numbers.len() {
+        marks[numbers.at(i)] = true;
     }
 }

@@ -10,6 +10,7 @@ ghost use Rattle.dexpool.specs.Renumbering.{numbers_in, HasSpans};
 ghost use Rattle.dexpool.specs.Joining.{AreJoinedTexts, AreJoinedTypes, AreJoinedProtos, AreJoinedFields, AreJoinedMethods, AreMapsOf};
 ghost use Rattle.dexpool.specs.Stored.{symbols_in, AreTables};
 
+use crate::lists::Parameters;
 use crate::numbering::Numbering;
 use crate::protos::Protos;
 use crate::remap::Remap;
@@ -64,7 +65,7 @@ pub(crate) fn join_tables<'a>(
         strings: strings.rows,
         types: types.numbers,
         protos: protos.table.rows,
-        parameters: protos.table.parameters,
+        parameters: Parameters::own(protos.table.parameters),
         fields: fields.rows,
         methods: methods.rows,
     };

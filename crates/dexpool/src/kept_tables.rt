@@ -6,6 +6,7 @@ ghost use Rattle.dexpool.specs.Numberings.{AreMarksOf};
 ghost use Rattle.dexpool.specs.Stored.{symbols_in, AreTables};
 ghost use Rattle.dexpool.specs.Closing.{AreClosed, AreKept, number_or_none};
 
+use crate::lists::Parameters;
 use crate::marks::Marks;
 use crate::remap::Remap;
 use crate::renumbering::{
@@ -54,7 +55,7 @@ pub(crate) fn keep_marked<'a>(
         strings: strings.rows,
         types: types_kept,
         protos: protos_kept.rows,
-        parameters: protos_kept.parameters,
+        parameters: Parameters::own(protos_kept.parameters),
         fields: fields.rows,
         methods: methods.rows,
     };

@@ -14,6 +14,7 @@ mod keeping;
 mod kept_tables;
 mod kinds;
 mod laws;
+mod lists;
 mod marks;
 mod methods;
 mod names;
@@ -32,7 +33,7 @@ mod tables;
 mod types;
 mod weight;
 
-pub use dexrows::{FieldRow, MethodRow, ProtoRow, Row, TypeRow};
+pub use dexrows::{FieldRow, MethodRow, ProtoRow, Row, TypeNumbers, TypeRow};
 pub use faults::{ItemFault, ReadFault};
 pub use laws::{marked_law, mentions_law, number_law, union_law, within_law};
 pub use marks::Marks;

@@ -8,13 +8,13 @@ ghost use Rattle.dexspec.specs.Rows as rows;
 ghost use Rattle.dexspec.specs.Conditions.{Condition};
 ghost use Rattle.dexspec.specs.Accepted.{HoldsThroughout};
 ghost use Rattle.dexpool.specs.Tables.{method_cmp};
-ghost use Rattle.dexpool.specs.Reading.{is_above_last, AreNames, AreProtos, AreMethods, MethodStands, HasMethodNumbers, AreMethodNames};
+ghost use Rattle.dexpool.specs.Reading.{is_above_last, AreNames, AreProtos, AreMethods, MethodStands, HasMethodNumbers, AreMethodNames, file_numbers};
 ghost use Rattle.dexpool.specs.Faults.{IsFault};
 
 use crate::faults::{ReadFault, refused};
 use crate::kinds::is_reference;
 use crate::names::Names;
-use crate::protos::Protos;
+use crate::rows::ProtoEntry;
 use dexhead::{Frame, Table, u16_at, u32_at};
 use dexrows::{MethodRow, Row};
 use dexstr::{Text, is_member_name};
@@ -42,11 +42,11 @@ fn is_method(class: &Text<'_>, name: &Text<'_>) -> bool
 }
 
 // The numbers of a row, if it is a method.
-fn method_at(names: &Names<'_, '_>, protos: &Protos, i: u32) -> Option<MethodRow>
+fn method_at(names: &Names<'_, '_>, protos: &[ProtoEntry], i: u32) -> Option<MethodRow>
     requires names { AreNames names.now.frame.now names.now.strings.now names.now.types.now }
-    requires protos { AreProtos names.now.frame.now names.now.strings.now names.now.types.now protos.now.parameters.items protos.now.rows.items }
+    requires protos { AreProtos names.now.frame.now names.now.strings.now names.now.types.now (file_numbers names.now.frame.now) protos.now }
     requires row { i < table_size names.now.frame.now MethodIds }
-    ensures { MatchOption result ((m : Method) → rows.MethodRow names.now.frame.now i m → ⊥) (MethodStands names.now.strings.now names.now.types.now protos.now.parameters.items protos.now.rows.items names.now.frame.now i) }
+    ensures { MatchOption result ((m : Method) → rows.MethodRow names.now.frame.now i m → ⊥) (MethodStands names.now.strings.now names.now.types.now (file_numbers names.now.frame.now) protos.now names.now.frame.now i) }
 {
     let method = method_numbers(names.frame, i);
     let class = match names.typ(method.class) {
@@ -57,7 +57,7 @@ fn method_at(names: &Names<'_, '_>, protos: &Protos, i: u32) -> Option<MethodRow
         Some(name) => name,
         None => return None,
     };
-    if protos.rows.len() <= method.proto {
+    if protos.len() <= method.proto {
         return None;
     }
     if !is_method(class, name) {
@@ -84,12 +84,12 @@ fn is_above(methods: &[MethodRow], method: &MethodRow) -> bool
 pub(crate) fn read_methods(
     alloc: Global,
     names: &Names<'_, '_>,
-    protos: &Protos,
+    protos: &[ProtoEntry],
 ) -> Result<Vec<MethodRow>, ReadFault>
     requires names { AreNames names.now.frame.now names.now.strings.now names.now.types.now }
-    requires protos { AreProtos names.now.frame.now names.now.strings.now names.now.types.now protos.now.parameters.items protos.now.rows.items }
+    requires protos { AreProtos names.now.frame.now names.now.strings.now names.now.types.now (file_numbers names.now.frame.now) protos.now }
     requires fields { HoldsThroughout Condition.Fields names.now.frame.now }
-    ensures ok { IfOk result (λ methods. AreMethods names.now.frame.now names.now.strings.now names.now.types.now protos.now.parameters.items protos.now.rows.items methods.items) }
+    ensures ok { IfOk result (λ methods. AreMethods names.now.frame.now names.now.strings.now names.now.types.now (file_numbers names.now.frame.now) protos.now methods.items) }
     ensures err { IfErr result (IsFault names.now.frame.now) }
 {
     let mut methods = Vec::new(alloc);

@@ -5,8 +5,8 @@ ghost use Rattle.dexspec.specs.Symbols.{Proto, Field, Method};
 ghost use Rattle.dexpool.specs.Pools.{count_of};
 ghost use Rattle.dexpool.specs.Numberings.{IsAt, IsNumbering, StandsForProto, StandsForField, StandsForMethod};
 
+use crate::lists::Parameters;
 use crate::pools::Pools;
-use crate::protos::part;
 use crate::symbols::SymbolKind;
 use crate::tables::Tables;
 use dexrows::{FieldRow, MethodRow, ProtoRow};
@@ -56,7 +56,7 @@ impl<'a> Numbering<'a> {
                 strings: Vec::new(alloc),
                 types: Vec::new(alloc),
                 protos: Vec::new(alloc),
-                parameters: Vec::new(alloc),
+                parameters: Parameters::own(Vec::new(alloc)),
                 fields: Vec::new(alloc),
                 methods: Vec::new(alloc),
             },
@@ -83,7 +83,7 @@ impl<'a> Numbering<'a> {
         let strings = copied(alloc, &tables.strings)?;
         let types = Vec::from_slice(alloc, &tables.types)?;
         let protos = Vec::from_slice(alloc, &tables.protos)?;
-        let parameters = Vec::from_slice(alloc, &tables.parameters)?;
+        let parameters = tables.parameters.copy()?;
         let fields = Vec::from_slice(alloc, &tables.fields)?;
         let methods = Vec::from_slice(alloc, &tables.methods)?;
         Ok(Numbering {
@@ -156,8 +156,8 @@ impl<'a> Numbering<'a> {
         ensures { (d : Proto) → StandsForProto self.now result (slice_index_or self.now.protos i d) }
     {
         let entry = self.tables.protos[i];
-        let parameters = part(&self.tables.parameters, entry.parameters);
-        ProtoRow::new(entry.shorty, entry.return_type, parameters)
+        let parameters = self.tables.parameters.part(entry.parameters);
+        ProtoRow::of(entry.shorty, entry.return_type, parameters)
     }
 
     /// The numbers of the parts of a field. No memory is taken.

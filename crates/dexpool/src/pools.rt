@@ -10,10 +10,11 @@ ghost use Rattle.dexpool.specs.Faults.{IsFault};
 
 use crate::faults::ReadFault;
 use crate::fields::read_fields;
+use crate::lists::Parameters;
 use crate::methods::read_methods;
 use crate::names::Names;
 use crate::numbering::Numbering;
-use crate::protos::{Protos, read_protos};
+use crate::protos::read_protos;
 use crate::strings::read_strings;
 use crate::symbols::{FieldSymbol, MethodSymbol, ProtoSymbol, Symbol, SymbolKind, type_name};
 use crate::tables::Tables;
@@ -61,16 +62,16 @@ impl<'a> Pools<'a> {
             strings: &strings,
             types: &types,
         };
-        let protos = read_protos(alloc, &names)?;
+        let parameters = Parameters::of_file(frame.bytes());
+        let protos = read_protos(alloc, &names, &parameters)?;
         let fields = read_fields(alloc, &names)?;
         let methods = read_methods(alloc, &names, &protos)?;
-        let Protos { rows, parameters } = protos;
         Ok(Pools {
             numbering: Numbering {
                 tables: Tables {
                     strings,
                     types,
-                    protos: rows,
+                    protos,
                     parameters,
                     fields,
                     methods,

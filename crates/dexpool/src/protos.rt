@@ -1,20 +1,21 @@
 //! The pool of protos.
 
-ghost use Rattle.std.specs.Prelude.{◌≡◌, ◌+◌, ◌<◌, ◌≤◌, ℕ, List, length, MatchOption, IfOk, IfErr, slice_index_or};
+ghost use Rattle.std.specs.Prelude.{◌≡◌, ◌<◌, ℕ, List, length, MatchOption, IfOk, IfErr, slice_index_or};
 ghost use Rattle.dexspec.specs.Header.{ProtoIds, table_size};
 ghost use Rattle.dexspec.specs.Symbols.{Proto};
 ghost use Rattle.dexspec.specs.Rows as rows;
 ghost use Rattle.dexpool.specs.Tables.{span_of, proto_cmp};
-ghost use Rattle.dexpool.specs.Reading.{is_above_last, AreNames, AreProtos, HasIndices, HasSpan, IsAdded};
+ghost use Rattle.dexpool.specs.Reading.{is_above_last, AreNames, AreProtos, HasIndices, HasSpan, ProtoStands, file_numbers};
 ghost use Rattle.dexpool.specs.Faults.{IsFault};
 
 use crate::faults::{ReadFault, refused};
+use crate::lists::Parameters;
 use crate::names::Names;
-use crate::parameters::push_parameters;
+use crate::parameters::parameters_at;
 use crate::rows::{ProtoEntry, Span};
 use crate::shorties::is_shorty;
 use dexhead::{Frame, Table, u32_at};
-use std::alloc::{AllocError, Global};
+use std::alloc::Global;
 use std::cmp::Ordering;
 
 /// The protos by row, and the types of their parameters, each as its number.
@@ -44,42 +45,25 @@ fn indices_at(frame: &Frame<'_>, i: u32) -> Indices
     }
 }
 
-// The proto of a row, if it is one, whose parameters are appended.
-fn proto_at(
-    names: &Names<'_, '_>,
-    i: u32,
-    parameters: &mut Vec<usize>,
-) -> Result<Option<ProtoEntry>, AllocError>
+// The proto of a row, if it is one.
+fn proto_at(names: &Names<'_, '_>, file: &Parameters<'_>, i: u32) -> Option<ProtoEntry>
     requires names { AreNames names.now.frame.now names.now.strings.now names.now.types.now }
+    requires file { file.now ≡ file_numbers names.now.frame.now }
     requires row { i < table_size names.now.frame.now ProtoIds }
-    ensures { IfOk result (λ found. MatchOption found ((p : Proto) → rows.ProtoRow names.now.frame.now i p → ⊥) (IsAdded names.now.strings.now names.now.types.now parameters.old.items parameters.new.items names.now.frame.now i)) }
+    ensures { MatchOption result ((p : Proto) → rows.ProtoRow names.now.frame.now i p → ⊥) (ProtoStands names.now.strings.now names.now.types.now (file_numbers names.now.frame.now) names.now.frame.now i) }
 {
     let indices = indices_at(names.frame, i);
-    let shorty = match names.text(indices.shorty) {
-        Some(shorty) => shorty,
-        None => return Ok(None),
-    };
-    let return_type = match names.typ(indices.return_type) {
-        Some(return_type) => return_type,
-        None => return Ok(None),
-    };
-    let start = parameters.len();
-    let good = push_parameters(names, indices.off, parameters)?;
-    if !good {
-        return Ok(None);
+    let shorty = names.text(indices.shorty)?;
+    let return_type = names.typ(indices.return_type)?;
+    let span = parameters_at(names, indices.off)?;
+    if !is_shorty(names, shorty, return_type, &file.part(span)) {
+        return None;
     }
-    let (_, listed) = parameters.split_at(start);
-    if !is_shorty(names, shorty, return_type, listed) {
-        return Ok(None);
-    }
-    Ok(Some(ProtoEntry {
+    Some(ProtoEntry {
         shorty: indices.shorty,
         return_type: indices.return_type,
-        parameters: Span {
-            start,
-            end: parameters.len(),
-        },
-    }))
+        parameters: span,
+    })
 }
 
 /// The types of the parameters of a row.
@@ -93,22 +77,21 @@ pub(crate) fn part(parameters: &[usize], span: Span) -> &[usize]
 }
 
 // How two rows compare: by the return type, and then by the parameters.
-fn compare(parameters: &[usize], left: &ProtoEntry, right: &ProtoEntry) -> Ordering
+fn compare(parameters: &Parameters<'_>, left: &ProtoEntry, right: &ProtoEntry) -> Ordering
     requires left { HasSpan parameters.now left.now.parameters }
     requires right { HasSpan parameters.now right.now.parameters }
     ensures { result ≡ proto_cmp parameters.now left.now right.now }
 {
     match left.return_type.cmp(&right.return_type) {
-        Ordering::Equal => part(parameters, left.parameters).cmp(part(
-            parameters,
-            right.parameters,
-        )),
+        Ordering::Equal => parameters
+            .part(left.parameters)
+            .compare(&parameters.part(right.parameters)),
         unlike => unlike,
     }
 }
 
 // Whether the proto comes behind the last one, if there is one.
-fn is_above(parameters: &[usize], protos: &[ProtoEntry], proto: &ProtoEntry) -> bool
+fn is_above(parameters: &Parameters<'_>, protos: &[ProtoEntry], proto: &ProtoEntry) -> bool
     requires protos { (k : ℕ) (d : ProtoEntry) → k < length protos.now → HasSpan parameters.now (slice_index_or protos.now k d).parameters }
     requires proto { HasSpan parameters.now proto.now.parameters }
     ensures { result ≡ is_above_last (proto_cmp parameters.now) proto.now protos.now }
@@ -119,29 +102,33 @@ fn is_above(parameters: &[usize], protos: &[ProtoEntry], proto: &ProtoEntry) -> 
     compare(parameters, &protos[protos.len() - 1], proto).is_lt()
 }
 
-/// The protos, by row.
+/// The protos, by row, whose parameters stay in the bytes.
 ///
 /// Error: condition 13 fails, at the least row with an index out of range, whose parameters are no list
 /// of types in the data or name void, whose shorty is not that of its types, or which does not come behind
 /// the row before it, by the return type and then by the parameters. Source: "proto_id_item" and
 /// "type_list".
-pub(crate) fn read_protos(alloc: Global, names: &Names<'_, '_>) -> Result<Protos, ReadFault>
-    requires { AreNames names.now.frame.now names.now.strings.now names.now.types.now }
-    ensures ok { IfOk result (λ protos. AreProtos names.now.frame.now names.now.strings.now names.now.types.now protos.parameters.items protos.rows.items) }
+pub(crate) fn read_protos(
+    alloc: Global,
+    names: &Names<'_, '_>,
+    file: &Parameters<'_>,
+) -> Result<Vec<ProtoEntry>, ReadFault>
+    requires names { AreNames names.now.frame.now names.now.strings.now names.now.types.now }
+    requires file { file.now ≡ file_numbers names.now.frame.now }
+    ensures ok { IfOk result (λ protos. AreProtos names.now.frame.now names.now.strings.now names.now.types.now (file_numbers names.now.frame.now) protos.items) }
     ensures err { IfErr result (IsFault names.now.frame.now) }
 {
-    let mut parameters = Vec::new(alloc);
     let mut rows = Vec::new(alloc);
     let count = names.frame.size(Table::ProtoIds);
     for i in 0..count {
-        let proto = match proto_at(names, i, &mut parameters)? {
+        let proto = match proto_at(names, file, i) {
             Some(proto) => proto,
             None => return Err(refused(13, i)),
         };
-        if !is_above(&parameters, &rows, &proto) {
+        if !is_above(file, &rows, &proto) {
             return Err(refused(13, i));
         }
         rows.push(proto)?;
     }
-    Ok(Protos { rows, parameters })
+    Ok(rows)
 }

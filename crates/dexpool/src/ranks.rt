@@ -10,6 +10,7 @@ ghost use Rattle.dexpool.specs.Ranking.{ComeFirst, PassBelow};
 
 use crate::numbering::Numbering;
 use crate::symbols::{FieldSymbol, MethodSymbol, ProtoSymbol, SymbolKind};
+use dexrows::TypeNumbers;
 use dexstr::{Name, Text};
 use std::cmp::Ordering;
 
@@ -51,12 +52,12 @@ impl<'a> Numbering<'a> {
 
     // How the types of numbers compare with other types: the first that differ decide, and else a front
     // comes first.
-    fn compare_types(&self, numbers: &[usize], descriptors: &[Name]) -> Ordering
+    fn compare_types(&self, numbers: &TypeNumbers<'_>, descriptors: &[Name]) -> Ordering
         requires { All (λ n. n < length self.now.types) numbers.now }
         ensures { (d : List ℕ) → result ≡ slice_cmp text_cmp (map (λ n. slice_index_or self.now.types n d) numbers.now) descriptors.now }
     {
         for i in 0..numbers.len().min(descriptors.len()) {
-            match self.compare_type(numbers[i], &descriptors[i].text()) {
+            match self.compare_type(numbers.at(i), &descriptors[i].text()) {
                 Ordering::Equal => {}
                 unlike => return unlike,
             }
@@ -71,7 +72,7 @@ impl<'a> Numbering<'a> {
     {
         let row = self.proto(i);
         match self.compare_type(row.return_type(), &proto.return_type.text()) {
-            Ordering::Equal => self.compare_types(row.parameters(), &proto.parameters),
+            Ordering::Equal => self.compare_types(&row.parameters(), &proto.parameters),
             unlike => unlike,
         }
     }

@@ -6,7 +6,7 @@ ghost use Rattle.dexpool.specs.Renumbering.{moved_type, IsEntryWithin, HasSpans,
 use crate::protos::{Protos, part};
 use crate::rows::{ProtoEntry, Span};
 use crate::tables::Tables;
-use dexrows::{FieldRow, MethodRow, ProtoRow, TypeRow};
+use dexrows::{FieldRow, MethodRow, ProtoRow, TypeNumbers, TypeRow};
 use std::alloc::{AllocError, Global};
 
 /// The rows of types, by the images of their texts.
@@ -39,12 +39,16 @@ pub(crate) fn descriptors(alloc: Global, rows: &[TypeRow]) -> Result<Vec<usize>,
 }
 
 // Appends the images of numbers.
-fn push_images(numbers: &[usize], images: &[usize], to: &mut Vec<usize>) -> Result<(), AllocError>
+fn push_images(
+    numbers: &TypeNumbers<'_>,
+    images: &[usize],
+    to: &mut Vec<usize>,
+) -> Result<(), AllocError>
     requires { All (λ n. n < length images.now) numbers.now }
     ensures { OnOk result (to.new.items ≡ to.old.items ++ map (slice_index images.now) numbers.now) }
 {
-    for n in numbers {
-        to.push(images[*n])?;
+    for i in 0..numbers.len() {
+        to.push(images[numbers.at(i)])?;
     }
     Ok(())
 }
@@ -56,16 +60,16 @@ pub(crate) fn renumbered_protos(
     strings: &[usize],
     types: &[usize],
 ) -> Result<Protos, AllocError>
-    requires { All (IsEntryWithin (length strings.now) (length types.now) tables.now.parameters.items) tables.now.protos.items }
+    requires { All (IsEntryWithin (length strings.now) (length types.now) tables.now.parameters) tables.now.protos.items }
     ensures spans { IfOk result HasSpans }
-    ensures rows { IfOk result (λ protos. numbers_in protos ≡ map (moved_proto strings.now types.now tables.now.parameters.items) tables.now.protos.items) }
+    ensures rows { IfOk result (λ protos. numbers_in protos ≡ map (moved_proto strings.now types.now tables.now.parameters) tables.now.protos.items) }
 {
     let mut rows = Vec::with_capacity(alloc, tables.protos.len())?;
-    let mut parameters = Vec::with_capacity(alloc, tables.parameters.len())?;
+    let mut parameters = Vec::new(alloc);
     for entry in &tables.protos {
         let start = parameters.len();
         push_images(
-            part(&tables.parameters, entry.parameters),
+            &tables.parameters.part(entry.parameters),
             types,
             &mut parameters,
         )?;
@@ -97,6 +101,17 @@ pub(crate) fn proto_rows(alloc: Global, protos: &Protos) -> Result<Vec<ProtoRow<
     Ok(rows)
 }
 
+// Appends numbers.
+fn push_numbers(numbers: &TypeNumbers<'_>, to: &mut Vec<usize>) -> Result<(), AllocError>
+    ensures { OnOk result (to.new.items ≡ to.old.items ++ numbers.now) }
+{
+    to.reserve(numbers.len())?;
+    for i in 0..numbers.len() {
+        to.push(numbers.at(i))?;
+    }
+    Ok(())
+}
+
 /// A table of protos with these rows.
 pub(crate) fn stored(alloc: Global, protos: &[ProtoRow<'_>]) -> Result<Protos, AllocError>
     ensures spans { IfOk result HasSpans }
@@ -106,7 +121,7 @@ pub(crate) fn stored(alloc: Global, protos: &[ProtoRow<'_>]) -> Result<Protos, A
     let mut parameters = Vec::new(alloc);
     for proto in protos {
         let start = parameters.len();
-        parameters.extend_from_slice(proto.parameters())?;
+        push_numbers(&proto.parameters(), &mut parameters)?;
         rows.push(ProtoEntry {
             shorty: proto.shorty(),
             return_type: proto.return_type(),

@@ -7,6 +7,7 @@ ghost use Rattle.dexpool.specs.Reading.{AreNames, AllTypes};
 
 use crate::kinds::letter;
 use crate::names::Names;
+use dexrows::TypeNumbers;
 use dexstr::{Text, Units};
 
 // Takes the next unit, and answers whether it is this letter.
@@ -37,7 +38,7 @@ pub(crate) fn is_shorty(
     names: &Names<'_, '_>,
     text: &Text<'_>,
     return_type: &Text<'_>,
-    parameters: &[usize],
+    parameters: &TypeNumbers<'_>,
 ) -> bool
     requires names { AreNames names.now.frame.now names.now.strings.now names.now.types.now }
     requires parameters { AllTypes names.now.frame.now names.now.strings.now names.now.types.now parameters.now }
@@ -48,7 +49,7 @@ pub(crate) fn is_shorty(
         return false;
     }
     for i in 0..parameters.len() {
-        let typ = match names.typ(parameters[i]) {
+        let typ = match names.typ(parameters.at(i)) {
             Some(typ) => typ,
             None => return false,
         };

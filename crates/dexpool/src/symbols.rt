@@ -5,10 +5,9 @@ ghost use Rattle.dexspec.specs.Symbols as symbols;
 ghost use Rattle.dexpool.specs.Tables.{type_of, proto_of, field_of, method_of};
 ghost use Rattle.dexpool.specs.Stored.{IsProtoEntry, IsFieldRow, IsMethodRow, AreTables};
 
-use crate::protos::part;
 use crate::rows::ProtoEntry;
 use crate::tables::Tables;
-use dexrows::{FieldRow, MethodRow};
+use dexrows::{FieldRow, MethodRow, TypeNumbers};
 use dexstr::Name;
 use std::alloc::{AllocError, Global};
 use std::marker::Model;
@@ -112,14 +111,18 @@ pub(crate) fn type_name(alloc: Global, tables: &Tables<'_>, typ: usize) -> Resul
 }
 
 // The names that types are.
-fn type_names(alloc: Global, tables: &Tables<'_>, types: &[usize]) -> Result<Vec<Name>, AllocError>
+fn type_names(
+    alloc: Global,
+    tables: &Tables<'_>,
+    types: &TypeNumbers<'_>,
+) -> Result<Vec<Name>, AllocError>
     requires tables { AreTables tables.now }
     requires rows { All (λ typ. typ < length tables.now.types.items) types.now }
     ensures { IfOk result (λ names. names.items ≡ map (type_of tables.now.strings.items tables.now.types.items) types.now) }
 {
     let mut names = Vec::with_capacity(alloc, types.len())?;
     for i in 0..types.len() {
-        names.push(type_name(alloc, tables, types[i])?)?;
+        names.push(type_name(alloc, tables, types.at(i))?)?;
     }
     Ok(names)
 }
@@ -179,11 +182,11 @@ impl ProtoSymbol {
     ) -> Result<ProtoSymbol, AllocError>
         requires tables { AreTables tables.now }
         requires row { IsProtoEntry tables.now row.now }
-        ensures { IfOk result (λ symbol. symbol ≡ proto_of tables.now.strings.items tables.now.types.items tables.now.parameters.items row.now) }
+        ensures { IfOk result (λ symbol. symbol ≡ proto_of tables.now.strings.items tables.now.types.items tables.now.parameters row.now) }
     {
         Ok(ProtoSymbol {
             return_type: type_name(alloc, tables, row.return_type)?,
-            parameters: type_names(alloc, tables, part(&tables.parameters, row.parameters))?,
+            parameters: type_names(alloc, tables, &tables.parameters.part(row.parameters))?,
         })
     }
 }
@@ -244,7 +247,7 @@ impl MethodSymbol {
     ) -> Result<MethodSymbol, AllocError>
         requires tables { AreTables tables.now }
         requires row { IsMethodRow tables.now row.now }
-        ensures { IfOk result (λ symbol. symbol ≡ method_of tables.now.strings.items tables.now.types.items tables.now.parameters.items tables.now.protos.items row.now) }
+        ensures { IfOk result (λ symbol. symbol ≡ method_of tables.now.strings.items tables.now.types.items tables.now.parameters tables.now.protos.items row.now) }
     {
         Ok(MethodSymbol {
             class: type_name(alloc, tables, row.class)?,

@@ -1,5 +1,6 @@
 //! The five tables of a numbering, each sorted, whose rows are numbers of rows below them.
 
+use crate::lists::Parameters;
 use crate::rows::ProtoEntry;
 use dexrows::{FieldRow, MethodRow};
 use dexstr::Text;
@@ -11,7 +12,7 @@ pub struct Tables<'a> {
     pub(crate) types: Vec<usize>,
     pub(crate) protos: Vec<ProtoEntry>,
     // The types of all parameters.
-    pub(crate) parameters: Vec<usize>,
+    pub(crate) parameters: Parameters<'a>,
     pub(crate) fields: Vec<FieldRow>,
     pub(crate) methods: Vec<MethodRow>,
 }

@@ -5,3 +5,4 @@ pub mod CutRows
 pub mod Images
 pub mod KeptPlaces
 pub mod MappedRows
+pub mod Shorts

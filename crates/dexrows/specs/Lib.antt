@@ -3,3 +3,4 @@ pub mod KeyOrders
 pub mod Join
 pub mod Merge
 pub mod Cut
+pub mod Listed

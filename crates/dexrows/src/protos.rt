@@ -4,6 +4,7 @@ ghost use Rattle.std.specs.Prelude.{◌≡◌, ◌∷◌, [], true, All, map, le
 ghost use Rattle.dexrows.specs.KeyOrders.{both_same, same_number, same_numbers};
 
 use crate::lower::LowerPlaces;
+use crate::numbers::TypeNumbers;
 use crate::rows::Row;
 use std::cmp::Ordering;
 use std::marker::Model;
@@ -15,7 +16,7 @@ use std::marker::Model;
 pub struct ProtoRow<'p> {
     shorty: usize,
     return_type: usize,
-    parameters: &'p [usize],
+    parameters: TypeNumbers<'p>,
 }
 
 impl<'p> Model for ProtoRow<'p> {
@@ -23,7 +24,7 @@ impl<'p> Model for ProtoRow<'p> {
 
     ghost Value = { ProtoNumbers };
 
-    ghost view = { λ row. record { shorty = row.shorty; return_type = row.return_type; parameters = row.parameters.now } };
+    ghost view = { λ row. record { shorty = row.shorty; return_type = row.return_type; parameters = row.parameters } };
 }
 
 impl<'p> ProtoRow<'p> {
@@ -31,6 +32,13 @@ impl<'p> ProtoRow<'p> {
     /// parameters.
     pub fn new(shorty: usize, return_type: usize, parameters: &'p [usize]) -> ProtoRow<'p>
         ensures { result ≡ record { shorty = shorty; return_type = return_type; parameters = parameters.now } }
+    {
+        ProtoRow::of(shorty, return_type, TypeNumbers::words(parameters))
+    }
+
+    /// The row with these numbers, whose parameters may stand in a file.
+    pub fn of(shorty: usize, return_type: usize, parameters: TypeNumbers<'p>) -> ProtoRow<'p>
+        ensures { result ≡ record { shorty = shorty; return_type = return_type; parameters = parameters.entry } }
     {
         ProtoRow {
             shorty,
@@ -54,20 +62,20 @@ impl<'p> ProtoRow<'p> {
     }
 
     /// The types of the parameters, in their order.
-    pub fn parameters(&self) -> &'p [usize]
-        ensures { result.now ≡ self.now.parameters }
+    pub fn parameters(&self) -> TypeNumbers<'p>
+        ensures { result ≡ self.now.parameters }
     {
-        self.parameters
+        self.parameters.clone()
     }
 }
 
 /// A row of protos is ordered by its return type, and then by its parameters. Its shorty follows from these.
 impl<'p> Row for ProtoRow<'p> {
-    type Key = (usize, &'p [usize]);
+    type Key = (usize, TypeNumbers<'p>);
 
     type List = &'p [usize];
 
-    ghost numbers_of = { λ key. key.0 ∷ key.1.now };
+    ghost numbers_of = { λ key. key.0 ∷ key.1 };
 
     ghost key_of = { λ row. row.return_type ∷ row.parameters };
 
@@ -79,13 +87,13 @@ impl<'p> Row for ProtoRow<'p> {
 
     ghost keeps_order = { λ among lower rise x y in_x in_y. both_same _ _ _ _ (same_number among.types lower.types rise.types x.return_type y.return_type in_x.0 in_y.0) (same_numbers among.types lower.types rise.types x.parameters y.parameters in_x.1 in_y.1) };
 
-    fn key(&self) -> (usize, &'p [usize]) {
-        (self.return_type, self.parameters)
+    fn key(&self) -> (usize, TypeNumbers<'p>) {
+        (self.return_type, self.parameters.clone())
     }
 
     fn compare(&self, other: &Self) -> Ordering {
         match self.return_type.cmp(&other.return_type) {
-            Ordering::Equal => self.parameters.cmp(other.parameters),
+            Ordering::Equal => self.parameters.compare(&other.parameters),
             order => order,
         }
     }
@@ -94,7 +102,7 @@ impl<'p> Row for ProtoRow<'p> {
         ProtoRow {
             shorty: self.shorty,
             return_type: self.return_type,
-            parameters: self.parameters,
+            parameters: self.parameters.clone(),
         }
     }
 
@@ -102,7 +110,7 @@ impl<'p> Row for ProtoRow<'p> {
         ProtoRow {
             shorty: lower.strings[self.shorty],
             return_type: lower.types[self.return_type],
-            parameters: list,
+            parameters: TypeNumbers::words(list),
         }
     }
 }

@@ -35,7 +35,7 @@ loop-i-preserved c =
     let by_types = subst (λ (m : Mentions). Moves m.types (map (text_of c.args.strings.now.rows.items) c.args.types.now.numbers.items) c.index-in-loop-i.result.now.items) (sym c.tables.ensures.symbols) seen_types in
     let table = c.in_ok-renumbered_protos.field-0 in
     let stand = protos_stand c.tables.result.now c.tables.ensures.tables c.args.strings.now.rows.items c.index.result.now.items by_strings c.args.types.now.numbers.items c.index-in-loop-i.result.now.items by_types (numbers_in table)
-    (c.in_ok-renumbered_protos.ensures.rows ∙ (λ i. map (moved_proto (c.deref.ensures.value i) (c.deref-in-loop-i.ensures.value i) c.tables.result.now.parameters.items) c.tables.result.now.protos.items)) in
+    (c.in_ok-renumbered_protos.ensures.rows ∙ (λ i. map (moved_proto (c.deref.ensures.value i) (c.deref-in-loop-i.ensures.value i) c.tables.result.now.parameters) c.tables.result.now.protos.items)) in
     record {
       spans = subst (All HasSpans) (sym c.in_ok-push.ensures.items) (All-push HasSpans c.loop-i.tables.items table c.loop-i.invariant.spans c.in_ok-renumbered_protos.ensures.spans);
       rows = zip_more (λ (part : Mentions) xs. StandFor (proto_of_row c.args.strings.now.rows.items c.args.types.now.numbers.items) (IsRowOf c.args.strings.now.rows.items c.args.types.now.numbers.items) part.protos xs) (λ part. part.now) numbers_in

@@ -1,7 +1,8 @@
-use Rattle.std.proofs.Common.{map}
+use Rattle.std.proofs.Common.{ℕ, List, map, sym, subst}
 use Rattle.dexspec.specs.Texts.{text_cmp}
 use Rattle.dexspec.specs.Symbols.{proto_cmp, field_cmp, method_cmp}
 use Rattle.dexspec.specs.Mentions.{Mentions}
+use Rattle.dexpool.specs.Joining.{AreJoinedProtos, AreJoinedMethods}
 use Rattle.dexpool.specs.Tables.{text_of, proto_of, field_of, method_of}
 use Rattle.dexpool.proofs.JoinedTables.{images_count, are_tables, are_union, all_lead, texts_keep, types_keep, protos_keep, fields_keep, methods_keep}
 use Rattle.dexpool.proofs.joined_tables.join_tables.Goals as goal
@@ -42,18 +43,25 @@ pub remaps-requires-clause-methods_keep : goal.remaps-requires-clause-methods_ke
 remaps-requires-clause-methods_keep c = rw c.deref-5.ensures.value
     (methods_keep (λ image. image.items) (map (λ part. part.now) c.args.parts.now) c.in_ok-strings.ensures.numberings c.in_ok-methods.methods.images.items (map (method_of c.in_ok-strings.strings.rows.items c.in_ok-types.types.numbers.items c.in_ok-protos.protos.table.parameters.items c.in_ok-protos.protos.table.rows.items) c.in_ok-methods.methods.rows.items) c.in_ok-methods.ensures.union)
 
+-- the joined protos and methods, whose parameters the tables own
+own_protos : (c : goal.After-drop-strings-2) → AreJoinedProtos (map (λ part. part.now) c.args.parts.now) c.in_ok-strings.strings.rows.items c.in_ok-types.types.numbers.items c.own.result c.in_ok-protos.protos.table.rows.items (map (λ image. image.items) c.in_ok-protos.protos.images.items)
+own_protos c = subst (λ (ps : List ℕ). AreJoinedProtos (map (λ part. part.now) c.args.parts.now) c.in_ok-strings.strings.rows.items c.in_ok-types.types.numbers.items ps c.in_ok-protos.protos.table.rows.items (map (λ image. image.items) c.in_ok-protos.protos.images.items)) (sym c.own.ensures) c.in_ok-protos.ensures
+
+own_methods : (c : goal.After-drop-strings-2) → AreJoinedMethods (map (λ part. part.now) c.args.parts.now) c.in_ok-strings.strings.rows.items c.in_ok-types.types.numbers.items c.own.result c.in_ok-protos.protos.table.rows.items c.in_ok-methods.methods.rows.items (map (λ image. image.items) c.in_ok-methods.methods.images.items)
+own_methods c = subst (λ (ps : List ℕ). AreJoinedMethods (map (λ part. part.now) c.args.parts.now) c.in_ok-strings.strings.rows.items c.in_ok-types.types.numbers.items ps c.in_ok-protos.protos.table.rows.items c.in_ok-methods.methods.rows.items (map (λ image. image.items) c.in_ok-methods.methods.images.items)) (sym c.own.ensures) c.in_ok-methods.ensures
+
 pub returns-clause-tables : goal.returns-clause-tables
-returns-clause-tables c = are_tables (map (λ part. part.now) c.args.parts.now) c.in_ok-strings.ensures.numberings (record { strings = c.in_ok-strings.strings.rows; types = c.in_ok-types.types.numbers; protos = c.in_ok-protos.protos.table.rows; parameters = c.in_ok-protos.protos.table.parameters; fields = c.in_ok-fields.fields.rows; methods = c.in_ok-methods.methods.rows })
+returns-clause-tables c = are_tables (map (λ part. part.now) c.args.parts.now) c.in_ok-strings.ensures.numberings (record { strings = c.in_ok-strings.strings.rows; types = c.in_ok-types.types.numbers; protos = c.in_ok-protos.protos.table.rows; parameters = c.own.result; fields = c.in_ok-fields.fields.rows; methods = c.in_ok-methods.methods.rows })
     (map (λ image. image.items) c.in_ok-strings.strings.images.items) (map (λ image. image.items) c.in_ok-types.types.images.items) (map (λ image. image.items) c.in_ok-protos.protos.images.items) (map (λ image. image.items) c.in_ok-fields.fields.images.items) (map (λ image. image.items) c.in_ok-methods.methods.images.items)
-    c.in_ok-strings.ensures.texts c.in_ok-types.ensures c.in_ok-protos.ensures c.in_ok-fields.ensures c.in_ok-methods.ensures
+    c.in_ok-strings.ensures.texts c.in_ok-types.ensures (own_protos c) c.in_ok-fields.ensures (own_methods c)
 
 pub returns-clause-union : goal.returns-clause-union
-returns-clause-union c = are_union (map (λ part. part.now) c.args.parts.now) c.in_ok-strings.ensures.numberings (record { strings = c.in_ok-strings.strings.rows; types = c.in_ok-types.types.numbers; protos = c.in_ok-protos.protos.table.rows; parameters = c.in_ok-protos.protos.table.parameters; fields = c.in_ok-fields.fields.rows; methods = c.in_ok-methods.methods.rows })
+returns-clause-union c = are_union (map (λ part. part.now) c.args.parts.now) c.in_ok-strings.ensures.numberings (record { strings = c.in_ok-strings.strings.rows; types = c.in_ok-types.types.numbers; protos = c.in_ok-protos.protos.table.rows; parameters = c.own.result; fields = c.in_ok-fields.fields.rows; methods = c.in_ok-methods.methods.rows })
     (map (λ image. image.items) c.in_ok-strings.strings.images.items) (map (λ image. image.items) c.in_ok-types.types.images.items) (map (λ image. image.items) c.in_ok-protos.protos.images.items) (map (λ image. image.items) c.in_ok-fields.fields.images.items) (map (λ image. image.items) c.in_ok-methods.methods.images.items)
-    c.in_ok-strings.ensures.texts c.in_ok-types.ensures c.in_ok-protos.ensures c.in_ok-fields.ensures c.in_ok-methods.ensures
+    c.in_ok-strings.ensures.texts c.in_ok-types.ensures (own_protos c) c.in_ok-fields.ensures (own_methods c)
 
 pub returns-clause-maps : goal.returns-clause-maps
-returns-clause-maps c = all_lead (map (λ part. part.now) c.args.parts.now) c.in_ok-strings.ensures.numberings (record { strings = c.in_ok-strings.strings.rows; types = c.in_ok-types.types.numbers; protos = c.in_ok-protos.protos.table.rows; parameters = c.in_ok-protos.protos.table.parameters; fields = c.in_ok-fields.fields.rows; methods = c.in_ok-methods.methods.rows })
+returns-clause-maps c = all_lead (map (λ part. part.now) c.args.parts.now) c.in_ok-strings.ensures.numberings (record { strings = c.in_ok-strings.strings.rows; types = c.in_ok-types.types.numbers; protos = c.in_ok-protos.protos.table.rows; parameters = c.own.result; fields = c.in_ok-fields.fields.rows; methods = c.in_ok-methods.methods.rows })
     (map (λ image. image.items) c.in_ok-strings.strings.images.items) (map (λ image. image.items) c.in_ok-types.types.images.items) (map (λ image. image.items) c.in_ok-protos.protos.images.items) (map (λ image. image.items) c.in_ok-fields.fields.images.items) (map (λ image. image.items) c.in_ok-methods.methods.images.items)
-    c.in_ok-strings.ensures.texts c.in_ok-types.ensures c.in_ok-protos.ensures c.in_ok-fields.ensures c.in_ok-methods.ensures
+    c.in_ok-strings.ensures.texts c.in_ok-types.ensures (own_protos c) c.in_ok-fields.ensures (own_methods c)
     c.in_ok-remaps.remaps.items (rw (c.deref.ensures.value, c.deref-2.ensures.value, c.deref-3.ensures.value, c.deref-4.ensures.value, c.deref-5.ensures.value) at c.in_ok-remaps.ensures)

@@ -1,8 +1,11 @@
-use Rattle.std.proofs.Common.{◌≡◌, ◌∙◌, ap, length, map, sym, subst}
+use Rattle.std.proofs.Common.{◌≡◌, ◌∙◌, ℕ, List, ap, length, map, sym, subst}
+use Rattle.std.specs.List.{All}
 use Rattle.std.proofs.lemmas.List.{length-map}
 use Rattle.dexrows.specs.Cut.{kept, places}
 use Rattle.dexrows.specs.declared.types.TypeRow.{TypeRow}
-use Rattle.dexpool.specs.Renumbering.{moved_type, moved_proto, moved_field, moved_method}
+use Rattle.dexpool.specs.declared.rows.ProtoEntry.{ProtoEntry}
+use Rattle.dexpool.specs.Reading.{HasSpan}
+use Rattle.dexpool.specs.Renumbering.{numbers_of, moved_type, moved_proto, moved_field, moved_method}
 use Rattle.dexpool.specs.Closing.{number_or_none}
 use Rattle.dexpool.specs.Orderly.{KeepsOrder}
 use Rattle.dexpool.proofs.KeptRows.{kept-map, new_numbers, places_keep}
@@ -72,17 +75,17 @@ returns c =
     let r14 = c.deref-14.ensures.value in
     let r19 = c.deref-19.ensures.value in
     let types = c.deref-6.ensures.value ∙ c.in_ok-type_rows.ensures ∙ (λ i. map (moved_type (s5 i)) (r4 i)) in
-    let protos = c.deref-11.ensures.value ∙ c.in_ok-moved_rows.ensures ∙ c.in_ok-moved.ensures.rows ∙ (λ i. map (moved_proto (s9 i) (t10 i) t.parameters.items) t.protos.items) in
+    let protos = c.deref-11.ensures.value ∙ c.in_ok-moved_rows.ensures ∙ c.in_ok-moved.ensures.rows ∙ (λ i. map (moved_proto (s9 i) (t10 i) t.parameters) t.protos.items) in
     let fields = c.deref-17.ensures.value ∙ c.in_ok-field_rows.ensures ∙ (λ i. map (moved_field (s15 i) (t16 i)) (r14 i)) in
     let methods = c.deref-23.ensures.value ∙ c.in_ok-method_rows.ensures ∙ (λ i. map (moved_method (s20 i) (t21 i) (p22 i)) (r19 i)) in
-    let mp = moved_proto (new_numbers marks.strings.items) (new_numbers marks.types.items) t.parameters.items in
+    let mp = moved_proto (new_numbers marks.strings.items) (new_numbers marks.types.items) t.parameters in
     let mf = moved_field (new_numbers marks.strings.items) (new_numbers marks.types.items) in
     let mm = moved_method (new_numbers marks.strings.items) (new_numbers marks.types.items) (new_numbers marks.protos.items) in
-    let is : IsCut t marks (record { strings = c.in_ok-strings.strings.rows; types = c.in_ok-types_kept.types_kept; protos = c.in_ok-protos_kept.protos_kept.rows; parameters = c.in_ok-protos_kept.protos_kept.parameters; fields = c.in_ok-fields.fields.rows; methods = c.in_ok-methods.methods.rows }) = record {
+    let is : IsCut t marks (record { strings = c.in_ok-strings.strings.rows; types = c.in_ok-types_kept.types_kept; protos = c.in_ok-protos_kept.protos_kept.rows; parameters = c.own.result; fields = c.in_ok-fields.fields.rows; methods = c.in_ok-methods.methods.rows }) = record {
       strings_are = c.in_ok-strings.ensures.rows ∙ (λ i. kept (c.deref-2.ensures.value i) (c.deref.ensures.value i));
       types_are = c.in_ok-types_kept.ensures ∙ ap (map (λ (row : TypeRow). row.descriptor)) (c.deref-25.ensures.value ∙ c.in_ok-types.ensures.rows ∙ (λ i. kept (m7 i) (types i))) ∙ cut_types (new_numbers marks.strings.items) marks.types.items t.types.items;
-      protos_are = c.in_ok-protos_kept.ensures.rows ∙ c.deref-26.ensures.value ∙ c.in_ok-protos.ensures.rows ∙ (λ i. kept (m12 i) (protos i)) ∙ kept-map mp marks.protos.items t.protos.items;
-      spans = c.in_ok-protos_kept.ensures.spans;
+      protos_are = ap (λ (ps : List ℕ). map (numbers_of ps) c.in_ok-protos_kept.protos_kept.rows.items) c.own.ensures ∙ c.in_ok-protos_kept.ensures.rows ∙ c.deref-26.ensures.value ∙ c.in_ok-protos.ensures.rows ∙ (λ i. kept (m12 i) (protos i)) ∙ kept-map mp marks.protos.items t.protos.items;
+      spans = subst (λ (ps : List ℕ). All (λ (p : ProtoEntry). HasSpan ps p.parameters) c.in_ok-protos_kept.protos_kept.rows.items) (sym c.own.ensures) c.in_ok-protos_kept.ensures.spans;
       fields_are = c.in_ok-fields.ensures.rows ∙ (λ i. kept (m18 i) (fields i)) ∙ kept-map mf marks.fields.items t.fields.items;
       methods_are = c.in_ok-methods.ensures.rows ∙ (λ i. kept (m24 i) (methods i)) ∙ kept-map mm marks.methods.items t.methods.items;
     } in

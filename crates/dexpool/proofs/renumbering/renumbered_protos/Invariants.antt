@@ -6,6 +6,6 @@ use Rattle.dexpool.proofs.renumbering.renumbered_protos.Given as goal
 
 abbrev pub invariant-loop-entry : goal.invariant-loop-entry
 invariant-loop-entry l = record {
-  rows : map (numbers_of l.parameters.items) l.rows.items ≡ map (moved_proto l.strings l.types l.tables.parameters.items) (take l.entry-index l.tables.protos.items);
+  rows : map (numbers_of l.parameters.items) l.rows.items ≡ map (moved_proto l.strings l.types l.tables.parameters) (take l.entry-index l.tables.protos.items);
   spans : All (λ entry. HasSpan l.parameters.items entry.parameters) l.rows.items;
 }

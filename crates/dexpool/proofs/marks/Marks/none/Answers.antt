@@ -1,4 +1,4 @@
-use Rattle.std.proofs.Common.{◌≡◌, ◌++◌, map}
+use Rattle.std.proofs.Common.{◌++◌, map}
 use Rattle.dexspec.specs.Symbols.{TextSymbol, TypeSymbol, ProtoSymbol, FieldSymbol, MethodSymbol}
 use Rattle.dexpool.proofs.KeptRows.{kept_none}
 use Rattle.dexpool.proofs.marks.Marks.none.Goals as goal

@@ -1,4 +1,4 @@
-use Rattle.std.proofs.Common.{◌≡◌, ◌<◌, ◌∙◌, ap, sym, subst, [], ℕ, List, length, map, get_or}
+use Rattle.std.proofs.Common.{◌<◌, ◌∙◌, ap, sym, subst, [], length, map, get_or}
 use Rattle.std.specs.List.{All}
 use Rattle.std.specs.Cmp.Lexicographic.{slice_cmp}
 use Rattle.dexspec.specs.Symbols.{Proto}

@@ -18,9 +18,9 @@ same_rows c = record {
   strings = sym (c.in_ok-strings.ensures ∙ c.deref.ensures.value);
   types = sym (c.in_ok-types.ensures.items ∙ c.deref-2.ensures.value);
   protos = sym (c.in_ok-protos.ensures.items ∙ c.deref-3.ensures.value);
-  parameters = sym (c.in_ok-parameters.ensures.items ∙ c.deref-4.ensures.value);
-  fields = sym (c.in_ok-fields.ensures.items ∙ c.deref-5.ensures.value);
-  methods = sym (c.in_ok-methods.ensures.items ∙ c.deref-6.ensures.value);
+  parameters = sym (c.in_ok-parameters.ensures);
+  fields = sym (c.in_ok-fields.ensures.items ∙ c.deref-4.ensures.value);
+  methods = sym (c.in_ok-methods.ensures.items ∙ c.deref-5.ensures.value);
 }
 
 pub invariant_of-result : goal.invariant_of-result

@@ -6,8 +6,8 @@ use Rattle.dexspec.specs.Rows.{TypeRow}
 use Rattle.dexspec.proofs.OneRow.{one_type}
 use Rattle.dexpool.specs.Reading.{IsType, IsParameter}
 use Rattle.dexpool.proofs.Bytes.{ushort_at_rest}
-use Rattle.dexpool.proofs.TypeLists.{appended_more, parameters_more, no_parameters}
-use Rattle.dexpool.proofs.parameters.push_list.Goals as goal
+use Rattle.dexpool.proofs.TypeLists.{parameters_more, no_parameters}
+use Rattle.dexpool.proofs.parameters.are_parameters.Goals as goal
 
 index_is : (b list : List ℕ) (off k m n : ℕ) → n ≡ m → m ≡ ushort_at list (4 + 2 * k) → list ≡ drop off b → n ≡ ushort_at b (off + 4 + 2 * k)
 index_is b list off k m n e read is = e ∙ read ∙ ushort_at_rest b list off (4 + 2 * k) (off + 4 + 2 * k) is (omega arith)
@@ -35,8 +35,5 @@ pub loop-k-preserved : goal.loop-k-preserved
 loop-k-preserved c =
     let b = c.args.names.now.frame.now in
     let index = index_is b c.rest-list.result.now c.args.off c.loop-k.k _ _ c.from-index.ensures c.u16_at.ensures c.rest-list.ensures in
-    record {
-      appended = appended_more c.args.parameters.now.items c.loop-k.parameters.items c.push.new.self.items b (c.args.off + 4) c.loop-k.k c.from-index.result c.loop-k.invariant.appended c.in_ok-push.ensures.items index;
-      good = parameters_more b c.args.names.now.strings.now c.args.names.now.types.now (c.args.off + 4) c.loop-k.k c.loop-k.invariant.good
-          (is_parameter b c.args.names.now.strings.now c.args.names.now.types.now _ _ c.in-Some.typ.now index c.in-Some.ensures (c.if-not-is_value.ensures.0 refl));
-    }
+    parameters_more b c.args.names.now.strings.now c.args.names.now.types.now (c.args.off + 4) c.loop-k.k c.loop-k.invariant
+    (is_parameter b c.args.names.now.strings.now c.args.names.now.types.now _ _ c.in-Some.typ.now index c.in-Some.ensures (c.if-not-is_value.ensures.0 refl))

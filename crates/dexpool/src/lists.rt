@@ -1,0 +1,105 @@
+//! The parameters that the rows of a table of protos name.
+
+ghost use Rattle.std.specs.Prelude.{◌≡◌, ◌/◌, length, IfOk};
+ghost use Rattle.dexspec.specs.Bytes.{ushorts_at};
+ghost use Rattle.dexpool.specs.Tables.{span_of};
+ghost use Rattle.dexpool.specs.Reading.{HasSpan};
+
+use crate::rows::Span;
+use dexrows::TypeNumbers;
+use std::alloc::AllocError;
+use std::marker::Model;
+
+/// How the lists of a table are kept.
+#[derive(Drop)]
+pub(crate) enum Kept<'a> {
+    /// In the bytes of a file, of which each two spell a number.
+    File(&'a [u8]),
+    /// Each number by itself.
+    Own(Vec<usize>),
+}
+
+/// The numbers of the types of all parameters of a table's protos. Those of a file stay in its bytes, where rows
+/// may share them. Contracts see one list, of which each row has a part.
+#[derive(Drop)]
+pub struct Parameters<'a> {
+    kept: Kept<'a>,
+}
+
+impl<'a> Model for Parameters<'a> {
+    ghost use Rattle.std.specs.Prelude.{ℕ, List};
+    ghost use Rattle.dexpool.specs.Lists.{numbers_in};
+
+    ghost Value = { List ℕ };
+
+    ghost view = { λ p. numbers_in p.kept };
+}
+
+// A part of the numbers.
+fn own_part(numbers: &[usize], span: Span) -> &[usize]
+    requires { HasSpan numbers.now span }
+    ensures { result.now ≡ span_of numbers.now span }
+{
+    let (_, rest) = numbers.split_at(span.start);
+    let (part, _) = rest.split_at(span.end - span.start);
+    part
+}
+
+// The bytes that spell a part of the numbers.
+fn file_part(bytes: &[u8], span: Span) -> &[u8]
+    requires { HasSpan (ushorts_at bytes.now 0 (length bytes.now / 2)) span }
+    ensures { ushorts_at result.now 0 (length result.now / 2) ≡ span_of (ushorts_at bytes.now 0 (length bytes.now / 2)) span }
+{
+    let (_, rest) = bytes.split_at(2 * span.start);
+    let (part, _) = rest.split_at(2 * (span.end - span.start));
+    part
+}
+
+impl<'a> Parameters<'a> {
+    /// The numbers that the bytes of a file spell, two bytes for each.
+    pub(crate) fn of_file(bytes: &'a [u8]) -> Parameters<'a>
+        ensures { result ≡ ushorts_at bytes.now 0 (length bytes.now / 2) }
+    {
+        Parameters {
+            kept: Kept::File(bytes),
+        }
+    }
+
+    /// These numbers.
+    pub(crate) fn own(numbers: Vec<usize>) -> Parameters<'a>
+        ensures { result ≡ numbers.items }
+    {
+        Parameters {
+            kept: Kept::Own(numbers),
+        }
+    }
+
+    /// The parameters of a row. No memory is taken.
+    pub(crate) fn part(&self, span: Span) -> TypeNumbers<'_>
+        requires { HasSpan self.now span }
+        ensures { result ≡ span_of self.now span }
+    {
+        if let Kept::File(bytes) = &self.kept {
+            return TypeNumbers::shorts(file_part(bytes, span));
+        }
+        if let Kept::Own(numbers) = &self.kept {
+            return TypeNumbers::words(own_part(numbers, span));
+        }
+        TypeNumbers::words(&[])
+    }
+
+    /// The same numbers: those of a file stay where they are.
+    ///
+    /// Error: the memory for the others was refused.
+    pub(crate) fn copy(&self) -> Result<Parameters<'a>, AllocError>
+        ensures { IfOk result (λ copy. copy ≡ self.now) }
+    {
+        match &self.kept {
+            Kept::File(bytes) => Ok(Parameters::of_file(bytes)),
+            Kept::Own(numbers) => Ok(Parameters::own(Vec::from_slice(
+                *numbers.allocator(),
+                numbers,
+            )?)),
+        }
+    }
+}

@@ -1,3 +1,7 @@
+pub mod NameTests
+pub mod CodeTests
+pub mod ClassTests
+pub mod GoodTests
 pub mod WholeFrame
 pub mod WholeRows
 pub mod WholeLate

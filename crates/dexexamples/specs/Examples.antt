@@ -1,12 +1,13 @@
 -- Small classes whose files, weights and ranks are known from outside.
-use Rattle.std.specs.Prelude.{[], ◌∷◌, Some, None, codes, pos}
+use Rattle.std.specs.Prelude.{ℕ, List, [], ◌∷◌, Some, None, codes, pos}
 use Rattle.dexspec.specs.Texts.{Text}
 use Rattle.dexspec.specs.Symbols.{Proto, TextSymbol}
 use Rattle.dexspec.specs.Pieces.{Instruction}
 use Rattle.dexspec.specs.Code.{Code}
 use Rattle.dexspec.specs.Debug.{Special}
-use Rattle.dexspec.specs.Values.{NoValues, ThenValue, IntValue, NoElements}
-use Rattle.dexspec.specs.Classes.{Body, Definition, MethodDef}
+use Rattle.dexspec.specs.Values.{Value, ShortValue, IntValue, NoValues, ThenValue, NoElements, ThenElement}
+use Rattle.dexspec.specs.Annotations.{AnnotationSet}
+use Rattle.dexspec.specs.Classes.{Body, Definition, FieldDef, MethodDef}
 
 abbrev pub object : Text
 object = codes "Ljava/lang/Object;"
@@ -78,31 +79,67 @@ class_f = (
   },
 )
 
--- the same with the field annotated as the class is
-abbrev pub class_f2 : Definition
-class_f2 = (
-  codes "LA;",
-  record (body_under object) {
-    annotations = record { visibility = 1; type = codes "LN;"; elements = NoElements } ∷ [];
-    static_fields = record { name = codes "x"; type = codes "I"; flags = 9; annotations = record { visibility = 1; type = codes "LN;"; elements = NoElements } ∷ [] } ∷ [];
-    static_values = ThenValue (IntValue (pos 5)) NoValues;
-  },
-)
+-- a static field `:I` with a set
+abbrev pub int_field : Text → AnnotationSet → FieldDef
+int_field name set = record { name = name; type = codes "I"; flags = 9; annotations = set }
 
--- return-void with a debug program: one position, at line 10
-abbrev pub empty_code : Code
-empty_code = record {
+-- `LN;`, and `LN;` with this value of its element `v`
+abbrev pub set_n : AnnotationSet
+set_n = record { visibility = 1; type = codes "LN;"; elements = NoElements } ∷ []
+
+abbrev pub set_v : Value → AnnotationSet
+set_v value = record { visibility = 1; type = codes "LN;"; elements = ThenElement (codes "v") value NoElements } ∷ []
+
+-- `LA;` with a set of its own, and fields
+abbrev pub annotated : AnnotationSet → List FieldDef → Definition
+annotated set fields = (codes "LA;", record (body_under object) { annotations = set; static_fields = fields })
+
+-- `LA;` and its field with one set, and the field has the value 5
+abbrev pub class_set_twice : Definition
+class_set_twice = (codes "LA;", record (annotated set_n (int_field (codes "x") set_n ∷ [])).1 { static_values = ThenValue (IntValue (pos 5)) NoValues })
+
+-- the set of `LA;` is that of its second field
+abbrev pub class_set_first_use : Definition
+class_set_first_use = annotated (set_v (IntValue (pos 1))) (int_field (codes "x") (set_v (IntValue (pos 2))) ∷ int_field (codes "y") (set_v (IntValue (pos 1))) ∷ [])
+
+-- the sets of `LA;` and its field have one type, and unlike values
+abbrev pub class_sets_alike : Definition
+class_sets_alike = annotated (set_v (IntValue (pos 1))) (int_field (codes "x") (set_v (IntValue (pos 2))) ∷ [])
+
+-- the same with one number of two kinds
+abbrev pub class_sets_kind : Definition
+class_sets_kind = annotated (set_v (IntValue (pos 1))) (int_field (codes "x") (set_v (ShortValue (pos 1))) ∷ [])
+
+-- return-void with a debug program: one position, at this line
+abbrev pub code_at : ℕ → Code
+code_at line = record {
   registers = 1;
   ins = 0;
   outs = 0;
   pieces = Instruction (0x000e ∷ []) None ∷ [];
   tries = [];
-  debug = Some (record { line_start = 10; parameter_names = []; operations = Special 0x0e ∷ [] });
+  debug = Some (record { line_start = line; parameter_names = []; operations = Special 0x0e ∷ [] });
 }
 
-abbrev pub method_n : Code → MethodDef
-method_n code = record (method_m code) { name = codes "n" }
+-- the public static method of this name with such code
+abbrev pub method_at : Text → ℕ → MethodDef
+method_at name line = record (method_m (code_at line)) { name = name }
 
 -- `LA;` with two methods that have equal debug programs
-abbrev pub class_s : Definition
-class_s = (codes "LA;", record (body_under object) { direct_methods = method_m empty_code ∷ method_n empty_code ∷ [] })
+abbrev pub class_debug_twice : Definition
+class_debug_twice = (codes "LA;", record (body_under object) { direct_methods = method_at (codes "m") 10 ∷ method_at (codes "n") 10 ∷ [] })
+
+-- the debug program of the first method is that of the third
+abbrev pub class_debug_first_use : Definition
+class_debug_first_use = (codes "LA;", record (body_under object) { direct_methods = method_at (codes "m") 10 ∷ method_at (codes "n") 11 ∷ method_at (codes "o") 10 ∷ [] })
+
+-- `LA;` and `LB;` with the interface `LI;`, and `LA;` with a method `m(LI;)V`
+abbrev pub classes_list_thrice : List Definition
+classes_list_thrice = (
+  codes "LA;",
+  record (body_under object) {
+    interfaces = codes "LI;" ∷ [];
+    direct_methods = record { name = codes "m"; proto = record { return_type = codes "V"; parameters = codes "LI;" ∷ [] }; flags = 9; code = None; annotations = []; parameter_annotations = [] } ∷ [];
+  },
+)
+    ∷ (codes "LB;", record (body_under object) { interfaces = codes "LI;" ∷ [] }) ∷ []

@@ -8,7 +8,7 @@ ghost use Rattle.dexspec.specs.Mentions.{mentions};
 ghost use Rattle.dexspec.specs.Stripping.{strip};
 ghost use Rattle.dexspec.specs.Texts.{text_cmp};
 ghost use Rattle.dexspec.specs.Weight.{weight};
-ghost use Rattle.dexexamples.specs.Examples.{class_a, class_b, class_d, class_p, class_f, class_z, class_b_under_z, class_s};
+ghost use Rattle.dexexamples.specs.Examples.{class_a, class_b, class_d, class_p, class_f, class_z, class_b_under_z, class_debug_twice};
 
 /// The weights of no class, of one without members, of two, of one with a method, of one with a static field, a
 /// static value and an annotation, and of one with debug programs, as it is and stripped.
@@ -18,8 +18,8 @@ pub fn weights()
     ensures two { weight (class_a ∷ class_b ∷ []) ≡ 1330 }
     ensures method { weight (class_p (codes "hi") ∷ []) ≡ 1346 }
     ensures annotated { weight (class_f ∷ []) ≡ 1329 }
-    ensures debug { weight (class_s ∷ []) ≡ 1428 }
-    ensures stripped { weight (strip (class_s ∷ [])) ≡ 1404 }
+    ensures debug { weight (class_debug_twice ∷ []) ≡ 1428 }
+    ensures stripped { weight (strip (class_debug_twice ∷ [])) ≡ 1404 }
 {}
 
 /// A text's index is the number of lesser texts that are mentioned, which grows with the classes.

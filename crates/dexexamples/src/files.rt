@@ -3,8 +3,8 @@
 ghost use Rattle.std.specs.Prelude.{◌≡◌, [], ◌∷◌, ◌++◌, codes};
 ghost use Rattle.sha1.specs.Sha1.{sha1};
 ghost use Rattle.dexspec.specs.Canonical.{ordered, unsigned_file, with_sums};
-ghost use Rattle.dexexamples.specs.Examples.{class_a, class_p, class_s, class_f2};
-ghost use Rattle.dexexamples.specs.SharedFiles.{file_s, file_f2};
+ghost use Rattle.dexexamples.specs.Examples.{class_a, class_p, class_debug_twice, class_debug_first_use, class_set_twice, class_set_first_use, class_sets_alike, class_sets_kind, classes_list_thrice};
+ghost use Rattle.dexexamples.specs.SharedFiles.{debug_twice_file, debug_first_use_file, set_twice_file, set_first_use_file, sets_alike_file, sets_kind_file, list_thrice_file};
 ghost use Rattle.dexspec.specs.Stripping.{strip};
 ghost use Rattle.dexspec.specs.Weight.{weight};
 ghost use Rattle.dexexamples.specs.ExpectedFiles.{empty_file, file_a, file_p, front_a, sha1_of_abc};
@@ -24,11 +24,31 @@ pub fn sums()
     ensures file { with_sums file_a ≡ front_a ++ file_a }
 {}
 
-/// Files whose equal items stand once: debug programs, and sets of annotations.
-pub fn shared()
-    ensures debug { unsigned_file (ordered (class_s ∷ [])) ≡ file_s }
-    ensures sets { unsigned_file (ordered (class_f2 ∷ [])) ≡ file_f2 }
-    ensures sets_weight { weight (class_f2 ∷ []) ≡ 1353 }
+/// Equal debug programs stand once, and where they are used first.
+pub fn shared_debug()
+    ensures twice { unsigned_file (ordered (class_debug_twice ∷ [])) ≡ debug_twice_file }
+    ensures twice_weight { weight (class_debug_twice ∷ []) ≡ 1428 }
+    ensures first_use { unsigned_file (ordered (class_debug_first_use ∷ [])) ≡ debug_first_use_file }
+    ensures first_use_weight { weight (class_debug_first_use ∷ []) ≡ 1518 }
+{}
+
+/// Equal sets of annotations stand once, and where they are used first. Sets that agree in their types alone are
+/// two, and so are sets that agree in all but the kind of a number.
+pub fn shared_sets()
+    ensures twice { unsigned_file (ordered (class_set_twice ∷ [])) ≡ set_twice_file }
+    ensures twice_weight { weight (class_set_twice ∷ []) ≡ 1353 }
+    ensures first_use { unsigned_file (ordered (class_set_first_use ∷ [])) ≡ set_first_use_file }
+    ensures first_use_weight { weight (class_set_first_use ∷ []) ≡ 1456 }
+    ensures alike { unsigned_file (ordered (class_sets_alike ∷ [])) ≡ sets_alike_file }
+    ensures alike_weight { weight (class_sets_alike ∷ []) ≡ 1379 }
+    ensures kind { unsigned_file (ordered (class_sets_kind ∷ [])) ≡ sets_kind_file }
+    ensures kind_weight { weight (class_sets_kind ∷ []) ≡ 1379 }
+{}
+
+/// Equal lists of types stand once, those of protos and of classes together.
+pub fn shared_lists()
+    ensures thrice { unsigned_file (ordered classes_list_thrice) ≡ list_thrice_file }
+    ensures thrice_weight { weight classes_list_thrice ≡ 1464 }
 {}
 
 /// Two files that were made without this project: one with tries, debug programs, payloads, annotations of

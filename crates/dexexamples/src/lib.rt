@@ -6,6 +6,7 @@ pub mod accepted;
 pub mod classes;
 pub mod code;
 pub mod files;
+pub mod good;
 pub mod numbers;
 pub mod texts;
 pub mod values;

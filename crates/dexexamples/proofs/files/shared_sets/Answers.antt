@@ -1,0 +1,41 @@
+use Rattle.std.proofs.Common.{refl}
+use Rattle.dexspec.specs.Mentions.{mentions, symbols_of}
+use Rattle.dexspec.specs.Depth.{depth, in_class_order}
+use Rattle.dexspec.specs.Bytes.{bytes_of, ushort, uint}
+use Rattle.dexspec.specs.Opcodes.{opcode_of, opcode_runs}
+use Rattle.dexspec.specs.Spellings.{code_bytes, debug_bytes, class_data_bytes}
+use Rattle.dexspec.specs.Weight.{weight}
+use Rattle.dexspec.specs.Canonical.{unsigned_file, layout, type_list_end, type_list_offsets, annotation_end, annotation_offsets, array_end, array_offsets, string_end, debug_end, debug_offsets, code_end, code_offsets, class_data_end, class_data_offsets, set_end, set_offsets, ref_list_end, ref_list_offsets, directory_end, directory_offsets}
+use Rattle.dexexamples.proofs.files.shared_sets.Goals as goal
+
+pub returns-clause-twice : goal.returns-clause-twice
+unfolding unsigned_file layout type_list_end type_list_offsets annotation_end annotation_offsets array_end array_offsets string_end debug_end debug_offsets code_end code_offsets class_data_end class_data_offsets set_end set_offsets ref_list_end ref_list_offsets directory_end directory_offsets mentions symbols_of in_class_order depth code_bytes debug_bytes class_data_bytes ushort uint bytes_of opcode_of opcode_runs
+returns-clause-twice c = refl
+
+pub returns-clause-twice_weight : goal.returns-clause-twice_weight
+unfolding weight mentions symbols_of
+returns-clause-twice_weight c = refl
+
+pub returns-clause-first_use : goal.returns-clause-first_use
+unfolding unsigned_file layout type_list_end type_list_offsets annotation_end annotation_offsets array_end array_offsets string_end debug_end debug_offsets code_end code_offsets class_data_end class_data_offsets set_end set_offsets ref_list_end ref_list_offsets directory_end directory_offsets mentions symbols_of in_class_order depth code_bytes debug_bytes class_data_bytes ushort uint bytes_of opcode_of opcode_runs
+returns-clause-first_use c = refl
+
+pub returns-clause-first_use_weight : goal.returns-clause-first_use_weight
+unfolding weight mentions symbols_of
+returns-clause-first_use_weight c = refl
+
+pub returns-clause-alike : goal.returns-clause-alike
+unfolding unsigned_file layout type_list_end type_list_offsets annotation_end annotation_offsets array_end array_offsets string_end debug_end debug_offsets code_end code_offsets class_data_end class_data_offsets set_end set_offsets ref_list_end ref_list_offsets directory_end directory_offsets mentions symbols_of in_class_order depth code_bytes debug_bytes class_data_bytes ushort uint bytes_of opcode_of opcode_runs
+returns-clause-alike c = refl
+
+pub returns-clause-alike_weight : goal.returns-clause-alike_weight
+unfolding weight mentions symbols_of
+returns-clause-alike_weight c = refl
+
+pub returns-clause-kind : goal.returns-clause-kind
+unfolding unsigned_file layout type_list_end type_list_offsets annotation_end annotation_offsets array_end array_offsets string_end debug_end debug_offsets code_end code_offsets class_data_end class_data_offsets set_end set_offsets ref_list_end ref_list_offsets directory_end directory_offsets mentions symbols_of in_class_order depth code_bytes debug_bytes class_data_bytes ushort uint bytes_of opcode_of opcode_runs
+returns-clause-kind c = refl
+
+pub returns-clause-kind_weight : goal.returns-clause-kind_weight
+unfolding weight mentions symbols_of
+returns-clause-kind_weight c = refl

@@ -20,6 +20,8 @@ use Rattle.dexspec.specs.Sameness.{same_types}
 use Rattle.dexspec.proofs.Sameness.{types_decide}
 use Rattle.dexspec.proofs.Members.{Contains-nil, Contains-first, Contains-later, Contains-cons_cases}
 use Rattle.dexspec.proofs.Sources.{distinct_source}
+use Rattle.dexspec.proofs.Distinct.{distinct_led}
+use Rattle.dexspec.proofs.Sharing.{numbers_led}
 use Rattle.std.proofs.lemmas.Bool.Decides.{same_from_decides}
 use Rattle.dexspec.proofs.Tables.{table_start}
 use Rattle.dexclass.specs.Numbered.{NumberedClass, definition_of, type_at, text_at}
@@ -27,8 +29,7 @@ use Rattle.dexclass.specs.Marking.{IsInRange}
 use Rattle.dexhead.specs.Laid.{behind_header, map_start}
 use Rattle.dexcanon.specs.Bare.{bare_mentions, bare, list_bytes, list_uses, same_numbers, list_items, lists_of, offsets_of, data_from, strings_from, strings_to, map_from, string_offsets, list_offsets, class_row, entry_unless_empty, types_from, classes_from, entries, bare_rows, bare_data}
 use Rattle.dexcanon.proofs.Along.{bytes_plain, present_map}
-use Rattle.dexcanon.proofs.Shared.{distinct_led, numbers_led}
-use Rattle.dexcanon.proofs.PlacesTo.{numbers_decide}
+use Rattle.dexcanon.proofs.ListUses.{numbers_decide}
 use Rattle.dexcanon.proofs.BareSections.{zeros, annotation_none, array_none, debug_none, code_none, class_data_none, set_none, ref_list_none, directory_none, directory_zeros, class_data_zeros, array_zeros, array_end_is, directory_end_is}
 
 -- the index of each symbol is its number

@@ -7,7 +7,7 @@ use Rattle.dexspec.proofs.Stands.{length_rows}
 use Rattle.std.proofs.lemmas.List.{length-append}
 use Rattle.dexclass.specs.Numbered.{NumberedClass}
 use Rattle.dexcanon.specs.Bare.{list_bytes, class_row}
-use Rattle.dexcanon.proofs.PlacesTo.{length-list_bytes}
+use Rattle.dexcanon.proofs.ListUses.{length-list_bytes}
 
 pub length_numbers : (ns : List ℕ) → length (flat_map uint ns) ≡ 4 * length ns
 length_numbers ns = length_rows uint 4 length-uint ns

@@ -1,7 +1,6 @@
 pub mod Along
-pub mod Distinct
-pub mod Shared
 pub mod BareSections
+pub mod ListUses
 pub mod BareFile
 pub mod PlacesTo
 pub mod LaidParts

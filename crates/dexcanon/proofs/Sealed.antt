@@ -30,7 +30,7 @@ use Rattle.std.proofs.lemmas.Bool.{cases_lt}
 use Rattle.std.proofs.lemmas.List.{get_or-map, length-map}
 use Rattle.std.specs.List.{Contains}
 use Rattle.dexcanon.proofs.BareFile.{behind_is}
-use Rattle.dexcanon.proofs.PlacesTo.{length-list_bytes, some_use, uses_have}
+use Rattle.dexcanon.proofs.ListUses.{length-list_bytes, some_use, uses_have}
 use Rattle.dexcanon.proofs.Pieces.{zip_rows}
 use Rattle.dexcanon.proofs.OfProgram.{IsBareFile, tells_layout}
 

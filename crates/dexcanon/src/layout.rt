@@ -97,7 +97,7 @@ pub(crate) fn round_up(at: u32) -> u32
     (at + 3) / 4 * 4
 }
 
-// Where the type lists of the classes stand, from a place on.
+// Where the type lists of the classes stand, from a place on: equal ones once, where the first of them would.
 fn place_lists(alloc: Global, classes: &[Class], from: u32) -> Result<Lists, AllocError>
     requires { end_from 4 from (lists_of classes.now) < 2 ^ 31 }
     ensures { IfOk result (AreListPlaces from classes.now) }
@@ -110,7 +110,7 @@ fn place_lists(alloc: Global, classes: &[Class], from: u32) -> Result<Lists, All
     let mut greatest = HEADER_SIZE as usize;
     for r in 0..classes.len() {
         let interfaces = classes[r].interfaces();
-        if interfaces.len() == 0 {
+        if interfaces.is_empty() {
             offsets.push(0)?;
             continue;
         }

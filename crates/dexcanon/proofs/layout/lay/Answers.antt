@@ -10,7 +10,7 @@ use Rattle.dexcanon.specs.Bare.{lists_of, offsets_of, data_from, strings_from, s
 use Rattle.std.specs.List.{flat_map}
 use Rattle.dexcanon.specs.Laid.{file_length, entry_of}
 use Rattle.dexcanon.proofs.LaidParts.{entry_with, same_entry, five_entries, same_rows, six_rows, length-map_bytes}
-use Rattle.dexcanon.proofs.PlacesTo.{lists_few, firsts_count}
+use Rattle.dexcanon.proofs.ListUses.{lists_few, firsts_count}
 use Rattle.dexcanon.proofs.layout.lay.Goals as goal
 use Rattle.dexcanon.proofs.layout.lay.Goals.{After-len, After-len-2}
 

@@ -1,4 +1,4 @@
-use Rattle.std.proofs.Common.{◌≡◌, ℕ, ◌+◌, ◌*◌, ◌<◌, ◌≤◌, true, false, List, [], ◌∷◌, ◌++◌, length, map, take, drop, get_or, arith, ap, sym, refl, ◌∙◌, Bor}
+use Rattle.std.proofs.Common.{◌≡◌, ℕ, ◌+◌, ◌*◌, ◌<◌, ◌≤◌, ◌==◌, Bool, true, false, List, [], ◌∷◌, ◌++◌, length, map, take, drop, get_or, arith, ap, sym, refl, ◌∙◌, eqb-true, eq-eqb, Bor}
 use Rattle.std.specs.Prelude.{slice_index}
 use Rattle.std.specs.List.{list_any}
 use Rattle.std.proofs.lemmas.List.{length-map, take_more, take-append-drop, take_all, get_or_default}
@@ -6,7 +6,9 @@ use Rattle.dexspec.specs.Bytes.{round_up}
 use Rattle.dexspec.specs.Placing.{end_from}
 use Rattle.dexclass.specs.Numbered.{NumberedClass}
 use Rattle.dexcanon.specs.Bare.{lists_of, same_numbers, no_class}
-use Rattle.dexcanon.proofs.Shared.{any_mapped, position_mapped, denied, granted, inserted}
+use Rattle.std.proofs.lemmas.Bool.{not-true, not-false}
+use Rattle.dexspec.proofs.Distinct.{inserted}
+use Rattle.dexspec.proofs.FirstPlaces.{any_mapped, position_mapped}
 use Rattle.dexcanon.proofs.PlacesTo.{ListsTo, lists_pass, lists_again, lists_take, placed_within, places_count, lists_same}
 use Rattle.dexcanon.proofs.layout.place_lists.Goals as goal
 use Rattle.dexcanon.proofs.layout.place_lists.Goals.{After-places-in-loop-r-1, In_ok-push-3, then-is_new+in_ok-push-2+in_ok-push-3, else-is_new}
@@ -15,14 +17,21 @@ use Rattle.dexcanon.proofs.layout.place_lists.Goals.{After-places-in-loop-r-1, I
 abbrev lists : List (Bor (List ℕ)) → List (List ℕ)
 lists ks = map (λ k. k.now) ks
 
+-- what is told to be empty is, and what is not is not
+none_of : (n : ℕ) (b : Bool) → b ≡ (n == 0) → b ≡ true → n ≡ 0
+none_of n b e t = eqb-true n 0 (sym e ∙ t)
+
+some_of : (n : ℕ) (b : Bool) → b ≡ (n == 0) → b ≡ false → n ≡ 0 → ⊥
+some_of n b e f z = let t : b ≡ true = e ∙ eq-eqb n 0 z in absurd cc
+
 -- the classes up to the next
 front : (cs : List NumberedClass) (r : ℕ) (c : NumberedClass) → r < length cs → c ≡ get_or cs r c → take (r + 1) cs ≡ take r cs ++ c ∷ []
 front cs r c lt is = take_more cs r c lt ∙ ap (λ d. take r cs ++ d ∷ []) (sym is)
 
-pub loop-r-preserved-then-interfaces-eq0 : goal.loop-r-preserved-then-interfaces-eq0
-loop-r-preserved-then-interfaces-eq0 c =
+pub loop-r-preserved-then-is_empty : goal.loop-r-preserved-then-is_empty
+loop-r-preserved-then-is_empty c =
     let k = c.index-classes-r.result in
-    lists_same (lists_pass c.loop-r.invariant k c.interfaces-interfaces.result.now c.interfaces-interfaces.ensures c.if-interfaces-eq0.true) _ _ _ _ _ _ _
+    lists_same (lists_pass c.loop-r.invariant k c.interfaces-interfaces.result.now c.interfaces-interfaces.ensures (none_of (length c.interfaces-interfaces.result.now) c.is_empty.result c.is_empty.ensures c.if-is_empty.true)) _ _ _ _ _ _ _
     (front c.args.classes.now c.loop-r.r k c.loop-r-test.true c.index-classes-r.is) refl refl refl c.in_ok-push.ensures.items refl refl
 
 pub round_up-off-requires : goal.round_up-off-requires
@@ -38,8 +47,8 @@ taken c =
     let r = c.loop-r.r in
     let ns = c.interfaces-interfaces.result in
     let keys = c.loop-r.written.keys in
-    let absent : list_any (same_numbers ns.now) (lists keys) ≡ false = any_mapped (λ (j : Bor (List ℕ)). j.now) (same_numbers ns.now) keys ∙ denied _ (sym c.in_ok-number.ensures.added ∙ c.if-is_new.true) in
-    lists_take c.loop-r.invariant k ns.now r c.in_ok-number.number c.max-greatest.result c.interfaces-interfaces.ensures c.if-interfaces-eq0.false absent
+    let absent : list_any (same_numbers ns.now) (lists keys) ≡ false = any_mapped (λ (j : Bor (List ℕ)). j.now) (same_numbers ns.now) keys ∙ not-true _ (sym c.in_ok-number.ensures.added ∙ c.if-is_new.true) in
+    lists_take c.loop-r.invariant k ns.now r c.in_ok-number.number c.max-greatest.result c.interfaces-interfaces.ensures (some_of (length ns.now) c.is_empty.result c.is_empty.ensures c.if-is_empty.false) absent
     (c.in_ok-number.ensures.index ∙ sym (position_mapped (λ (j : Bor (List ℕ)). j.now) (same_numbers ns.now) keys)) c.loop-r-test.true
     (get_or_default cs r no_class k c.loop-r-test.true ∙ sym c.index-classes-r.is) (omega (arith, c.max-greatest.ensures)) (omega (arith, c.max-greatest.ensures))
 
@@ -78,11 +87,11 @@ step c =
     let classes = front cs r k c.loop-r-test.true c.index-classes-r.is in
     elim c.if-is_new.branch [
       | then-is_new+in_ok-push-2+in_ok-push-3 w ↦
-          let none = denied _ (sym c.in_ok-number.ensures.added ∙ w.if-is_new.true) in
+          let none = not-true _ (sym c.in_ok-number.ensures.added ∙ w.if-is_new.true) in
           let off = w.round_up-off.ensures in
           let places : c.if-is_new.places.items ≡ c.loop-r.places.items ++ round_up 4 c.loop-r.end ∷ [] =
           ap (λ v. v.items) w.places-is ∙ w.in_ok-push-2.ensures.items ∙ ap (λ n. c.loop-r.places.items ++ n ∷ []) off in
-          let h = lists_take c.loop-r.invariant k ns.now r c.in_ok-number.number c.max-greatest.result c.interfaces-interfaces.ensures c.if-interfaces-eq0.false (any ∙ none) number c.loop-r-test.true
+          let h = lists_take c.loop-r.invariant k ns.now r c.in_ok-number.number c.max-greatest.result c.interfaces-interfaces.ensures (some_of (length ns.now) c.is_empty.result c.is_empty.ensures c.if-is_empty.false) (any ∙ none) number c.loop-r-test.true
           (get_or_default cs r no_class k c.loop-r-test.true ∙ sym c.index-classes-r.is) (omega (arith, c.max-greatest.ensures)) (omega (arith, c.max-greatest.ensures)) in
           lists_same h _ _ _ _ _ _ _ classes
           (ap lists c.in_ok-number.ensures.keys ∙ inserted now _ keys ns false none)
@@ -90,9 +99,9 @@ step c =
           (ap (λ p. c.loop-r.offsets.items ++ slice_index p c.in_ok-number.number ∷ []) places)
           (w.end-is ∙ ap (λ n. n + 4 + 2 * length ns.now) off) refl
       | else-is_new w ↦
-          let some = granted _ (sym c.in_ok-number.ensures.added ∙ w.if-is_new.false) in
+          let some = not-false _ (sym c.in_ok-number.ensures.added ∙ w.if-is_new.false) in
           let places : c.if-is_new.places.items ≡ c.loop-r.places.items = ap (λ v. v.items) w.places-is in
-          let h = lists_again c.loop-r.invariant k ns.now c.in_ok-number.number c.max-greatest.result c.interfaces-interfaces.ensures c.if-interfaces-eq0.false (any ∙ some) number
+          let h = lists_again c.loop-r.invariant k ns.now c.in_ok-number.number c.max-greatest.result c.interfaces-interfaces.ensures (some_of (length ns.now) c.is_empty.result c.is_empty.ensures c.if-is_empty.false) (any ∙ some) number
           (omega (arith, c.max-greatest.ensures)) (omega (arith, c.max-greatest.ensures)) in
           lists_same h _ _ _ _ _ _ _ classes
           (ap lists c.in_ok-number.ensures.keys ∙ inserted now _ keys ns true some)

@@ -5,7 +5,7 @@ use Rattle.dexspec.specs.Bytes.{round_up, padding}
 use Rattle.dexspec.specs.Placing.{bytes_from, end_from}
 use Rattle.dexclass.specs.Numbered.{NumberedClass}
 use Rattle.dexcanon.specs.Bare.{list_bytes, lists_of}
-use Rattle.dexcanon.proofs.PlacesTo.{length-list_bytes}
+use Rattle.dexcanon.proofs.ListUses.{length-list_bytes}
 use Rattle.dexcanon.proofs.Made.{fault_exit, adds_more}
 use Rattle.dexcanon.proofs.Pieces.{zeros_are}
 use Rattle.dexcanon.proofs.ListsMade.{Next, next_list, FirstList, lent_list}

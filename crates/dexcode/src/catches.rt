@@ -126,10 +126,7 @@ pub(crate) fn read_handler(
     };
     let first = at + count_size;
     let many = count.unsigned_abs() as usize;
-    let (catches, catches_size) = match read_catches(alloc, bytes, first, many, starts, types) {
-        Ok(read) => read,
-        Err(fault) => return Err(fault),
-    };
+    let (catches, catches_size) = read_catches(alloc, bytes, first, many, starts, types)?;
     let (catch_all, all_size) = match read_catch_all(bytes, first + catches_size, count, starts) {
         Some(read) => read,
         None => return Err(ItemFault::Refused(19)),

@@ -73,10 +73,7 @@ pub fn read_code<'a>(
     if !frame.is_in_data(off, 16 + 2 * units) {
         return Err(ItemFault::Refused(18));
     }
-    let (pieces, starts) = match read_pieces_and_starts(alloc, frame, pools, off) {
-        Ok(read) => read,
-        Err(fault) => return Err(fault),
-    };
+    let (pieces, starts) = read_pieces_and_starts(alloc, frame, pools, off)?;
     let types = pools.len(SymbolKind::Typ);
     let tries = match read_tries(alloc, bytes, off_bytes, &starts, types) {
         Ok(tries) => tries,
@@ -90,12 +87,10 @@ pub fn read_code<'a>(
             debug: None,
         });
     }
-    match read_debug(alloc, frame, pools, debug_off) {
-        Ok(debug) => Ok(Code {
-            pieces,
-            tries,
-            debug: Some(debug),
-        }),
-        Err(fault) => Err(fault),
-    }
+    let debug = read_debug(alloc, frame, pools, debug_off)?;
+    Ok(Code {
+        pieces,
+        tries,
+        debug: Some(debug),
+    })
 }

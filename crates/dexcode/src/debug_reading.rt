@@ -286,14 +286,8 @@ fn read_numbered(alloc: Global, bytes: &[u8], at: usize, counts: Counts) -> Resu
         None => return Err(ItemFault::Refused(20)),
     };
     let from = at + start_len + count_len;
-    let (parameter_names, end) = match read_names(alloc, bytes, from, count, counts.texts) {
-        Ok(read) => read,
-        Err(fault) => return Err(fault),
-    };
-    let operations = match read_operations(alloc, bytes, end, counts) {
-        Ok(operations) => operations,
-        Err(fault) => return Err(fault),
-    };
+    let (parameter_names, end) = read_names(alloc, bytes, from, count, counts.texts)?;
+    let operations = read_operations(alloc, bytes, end, counts)?;
     Ok(Debug {
         line_start,
         parameter_names,

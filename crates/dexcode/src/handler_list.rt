@@ -56,10 +56,7 @@ fn read_handlers(
     let mut size = 0;
     for number in 0..count {
         let place = first + size;
-        let (handler, len) = match read_handler(alloc, bytes, place, starts, types) {
-            Ok(read) => read,
-            Err(fault) => return Err(fault),
-        };
+        let (handler, len) = read_handler(alloc, bytes, place, starts, types)?;
         if handlers.push(handler).is_err() {
             return Err(ItemFault::Memory);
         }

@@ -30,14 +30,8 @@ pub(crate) fn read_try_table(
         return Err(ItemFault::Refused(19));
     }
     let list_at = at + size;
-    let list = match read_list(alloc, bytes, list_at, starts, types) {
-        Ok(list) => list,
-        Err(fault) => return Err(fault),
-    };
-    let items = match read_try_items(alloc, bytes, at, count, units, &list.numbers) {
-        Ok(items) => items,
-        Err(fault) => return Err(fault),
-    };
+    let list = read_list(alloc, bytes, list_at, starts, types)?;
+    let items = read_try_items(alloc, bytes, at, count, units, &list.numbers)?;
     let tries = match Tries::of(alloc, &items, &list.handlers) {
         Ok(tries) => tries,
         Err(_) => return Err(ItemFault::Memory),

@@ -1,12 +1,12 @@
 -- An instruction with an index has room for it.
-use Rattle.std.proofs.Common.{◌≡◌, ℕ, ◌+◌, ◌-◌, ◌<◌, ◌≤◌, nat_le, Bool, true, false, ◌&&◌, cond, List, [], ◌∷◌, length, drop, slice_index, Option, Some, None, inl, inr, refl, ap, sym, ◌∙◌, subst, arith, length-drop}
+use Rattle.std.proofs.Common.{◌≡◌, ℕ, ◌+◌, ◌-◌, ◌<◌, ◌≤◌, nat_le, Bool, true, false, ◌&&◌, ◌||◌, ◌==◌, cond, List, [], ◌∷◌, length, drop, slice_index, Option, Some, None, inl, inr, refl, ap, sym, ◌∙◌, subst, arith, length-drop}
 use Rattle.std.specs.List.{find, list_all}
 use Rattle.std.specs.Option.{option_map, option_and_then}
 use Rattle.std.proofs.lemmas.Bool.{leb-true, and_parts, eqb-true}
 use Rattle.std.proofs.lemmas.Option.{same_Some}
 use Rattle.dexspec.specs.Symbols.{Pool}
 use Rattle.dexspec.specs.Opcodes.{Opcode, OpcodeRun, Format, units_in, opcode_of, opcode_runs, is_in_run}
-use Rattle.dexspec.specs.Pieces.{piece_size, index_pool, is_wide_index, is_payload_ident, low_byte}
+use Rattle.dexspec.specs.Pieces.{piece_size, index_pool, is_wide_index, is_payload_ident, packed_switch_ident, sparse_switch_ident, array_data_ident, low_byte}
 use Rattle.dexspec.proofs.Blanked.{InstructionPiece, piece_is}
 
 -- what has an index has two units at least
@@ -92,3 +92,25 @@ wide_room_behind us at n pool size named wide =
     let r : HasRoom (drop at us) n = has_room at (drop at us) n pool size named in
     let l : length (drop at us) ≡ length us - at = length-drop at us in
     omega (arith, r.within, r.three wide)
+
+-- a payload begins with the opcode of an instruction that has no index
+payload_first : (a b c : Bool) (u : ℕ) → (u == packed_switch_ident) ≡ a → (u == sparse_switch_ident) ≡ b → (u == array_data_ident) ≡ c → (a || (b || c)) ≡ true → low_byte u ≡ 0
+payload_first true b c u e f g h = ap low_byte (eqb-true u packed_switch_ident e)
+payload_first false true c u e f g h = ap low_byte (eqb-true u sparse_switch_ident f)
+payload_first false false true u e f g h = ap low_byte (eqb-true u array_data_ident g)
+payload_first false false false u e f g h = absurd cc
+
+abbrev index_of_op : ℕ → Option Pool
+index_of_op op = option_and_then (λ (o : Opcode). o.index) (opcode_of op)
+
+nop_alone : index_of_op 0 ≡ None
+unfolding opcode_of opcode_runs
+nop_alone = refl
+
+alone_by : (t : Bool) (u : ℕ) → is_payload_ident u ≡ t → cond t None (index_of_op (low_byte u)) ≡ index_of_op (low_byte u)
+alone_by false u e = refl
+alone_by true u e = sym (ap index_of_op (payload_first (u == packed_switch_ident) (u == sparse_switch_ident) (u == array_data_ident) u refl refl refl e) ∙ nop_alone)
+
+-- so the opcode alone tells the pool of the index
+pub pool_of_first : (us : List ℕ) → index_pool us ≡ option_and_then (λ (o : Opcode). o.index) (opcode_of (low_byte (slice_index us 0)))
+pool_of_first us = alone_by (is_payload_ident (slice_index us 0)) (slice_index us 0) refl

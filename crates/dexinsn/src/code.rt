@@ -72,10 +72,7 @@ pub fn split(alloc: Global, units: &[u16]) -> Result<Vec<Cut>, CodeFault>
         return Err(CodeFault::Empty);
     }
     let units = Units::of_numbers(units);
-    let marked = match Marked::cut(alloc, &units) {
-        Ok(marked) => marked,
-        Err(fault) => return Err(fault),
-    };
+    let marked = Marked::cut(alloc, &units)?;
     match marked.first_astray() {
         Some(unit) => Err(CodeFault::Target(unit)),
         None => Ok(marked.into_cuts()),

@@ -10,7 +10,6 @@ ghost use Rattle.dexinsn.specs.Numbered.{kind_of_pool, kind_in, index_room};
 use crate::code_units::Units;
 use crate::format::IndexKind;
 use crate::opcodes::index_kind;
-use crate::payload::PayloadKind;
 use crate::units::opcode_in;
 use dexpool::SymbolKind;
 
@@ -30,15 +29,13 @@ fn symbol_kind(kind: IndexKind) -> SymbolKind
 }
 
 /// The kind of symbol that the index of the piece at a unit names; `None` where the piece has no index.
+#[tactic(auto, using(crate::proofs::IndexRoom::pool_of_first))]
 pub(crate) fn kind_at(units: &Units<'_>, unit: usize) -> Option<SymbolKind>
     requires { unit < length units.now }
     ensures { result ≡ option_map kind_of_pool (index_pool (drop unit units.now)) }
 {
-    let first = units.at(unit);
-    if PayloadKind::of(first).is_some() {
-        return None;
-    }
-    match index_kind(opcode_in(first)) {
+    // A payload begins as the instruction nop does, which has no index.
+    match index_kind(opcode_in(units.at(unit))) {
         Some(kind) => Some(symbol_kind(kind)),
         None => None,
     }

@@ -44,10 +44,7 @@ fn cut_code<'u, 'a>(alloc: Global, units: &'u Units<'a>) -> Result<Marked<'u, 'a
     if units.len() == 0 {
         return Err(CodeFault::Empty);
     }
-    let marked = match Marked::cut(alloc, units) {
-        Ok(marked) => marked,
-        Err(fault) => return Err(fault),
-    };
+    let marked = Marked::cut(alloc, units)?;
     match marked.first_astray() {
         Some(unit) => Err(CodeFault::Target(unit)),
         None => Ok(marked),
@@ -106,10 +103,7 @@ fn index_code(
         Err(CodeFault::Memory) => return Err(ItemFault::Memory),
         Err(_) => return Err(ItemFault::Refused(18)),
     };
-    let indices = match read_indices(alloc, &units, &marked.cuts, pools) {
-        Ok(indices) => indices,
-        Err(fault) => return Err(fault),
-    };
+    let indices = read_indices(alloc, &units, &marked.cuts, pools)?;
     Ok((indices, marked.into_marks()))
 }
 
@@ -131,10 +125,8 @@ pub fn read_pieces<'a>(
     ensures pieces { ArePools frame.now pools.now → IfOk result (λ pieces. ArePiecesAt frame.now off pools.now pieces.pieces) }
     ensures refused { ArePools frame.now pools.now → IfErr result (IsPiecesFault frame.now off) }
 {
-    match read_pieces_and_starts(alloc, frame, pools, off) {
-        Ok((pieces, _)) => Ok(pieces),
-        Err(fault) => Err(fault),
-    }
+    let (pieces, _) = read_pieces_and_starts(alloc, frame, pools, off)?;
+    Ok(pieces)
 }
 
 /// Reads what [`read_pieces`] reads, and the units at which instructions begin: those that tries, handlers and
@@ -158,10 +150,7 @@ pub fn read_pieces_and_starts<'a>(
         Some(bytes) => bytes,
         None => return Err(ItemFault::Refused(18)),
     };
-    let (indices, marks) = match index_code(alloc, bytes, pools) {
-        Ok(read) => read,
-        Err(fault) => return Err(fault),
-    };
+    let (indices, marks) = index_code(alloc, bytes, pools)?;
     let code = frame.rest(off);
     let pieces = Pieces {
         registers: u16_at(code, 0),

@@ -1,4 +1,5 @@
 use Rattle.std.proofs.Common.{ℕ, Result, Err, sym, ◌∙◌, subst}
+use Rattle.std.proofs.lemmas.Result.{err_from_is_err_and}
 use Rattle.dexpool.specs.declared.faults.ItemFault.{ItemFault}
 use Rattle.dexinsn.specs.Units.{units_in}
 use Rattle.dexinsn.specs.Reading.{AreStartMarks}
@@ -6,10 +7,11 @@ use Rattle.dexinsn.proofs.FaultsRead.{code_fault}
 use Rattle.dexinsn.proofs.StartsRead.{marked_starts}
 use Rattle.dexinsn.proofs.reading.index_code.Goals as goal
 
-pub returns-in-Err-read_indices-clause-fault : goal.returns-in-Err-read_indices-clause-fault
-returns-in-Err-read_indices-clause-fault c =
-    let r : Result ℕ ItemFault = Err c.in-Err-read_indices.fault in
-    code_fault r _ _ c.args.pools.now c.in-Ok.marked.cuts.items c.deref.result.now c.of_bytes-units.ensures c.deref.ensures.value c.in-Ok.ensures.code c.in-Err-read_indices.ensures.fault
+pub returns-in_err-indices-clause-fault : goal.returns-in_err-indices-clause-fault
+returns-in_err-indices-clause-fault c =
+    let p = err_from_is_err_and c.from_residual.result c.from_residual.ensures.1 in
+    let r : Result ℕ ItemFault = Err c.in_err-indices.field-0.0 in
+    rw (p.1, p.2) (code_fault r _ _ c.args.pools.now c.in-Ok.marked.cuts.items c.deref.result.now c.of_bytes-units.ensures c.deref.ensures.value c.in-Ok.ensures.code c.in_err-indices.ensures.fault)
 
 pub returns-clause-marks : goal.returns-clause-marks
 returns-clause-marks c =

@@ -33,9 +33,13 @@ fn copied_value(value: &Value) -> Result<Value, AllocError>
     })
 }
 
-// The same values.
+/// The same values, as those of static fields, with all that they hold.
+///
+/// Error: memory was refused.
+///
+/// Source: "encoded_array format".
 #[cycle(copying)]
-fn copied_values(values: &Vec<Value>) -> Result<Vec<Value>, AllocError>
+pub fn copied_values(values: &Vec<Value>) -> Result<Vec<Value>, AllocError>
     ensures { IfOk result (λ copy. map value_of copy.items ≡ map value_of values.now.items) }
 {
     let mut copy = Vec::with_capacity(*values.allocator(), values.len())?;

@@ -7,6 +7,7 @@
 #![tactic(auto)]
 
 pub use annotation::{Annotation, Visibility};
+pub use copying::copied_values;
 pub use directory::Directory;
 pub use directory_reading::{read_directory, read_directory_within};
 pub use equality::set_equality_law;
@@ -16,8 +17,8 @@ pub use laws::{
 };
 pub use marking::mark_values;
 pub use put::{put_annotation, put_statics, put_value};
-pub use renumbering::renumber_values;
-pub use same::same_values_mapped;
+pub use renumbering::{led, renumber_values};
+pub use same::{ends_alike, same_values_mapped};
 pub use set::AnnotationSet;
 pub use set_put::put_set;
 pub use set_reading::read_set;

@@ -1,6 +1,6 @@
 //! Marks on the symbols that occur in values and in sets of annotations.
 
-ghost use Rattle.std.specs.Prelude.{◌≡◌, ◌∷◌, [], All, map};
+ghost use Rattle.std.specs.Prelude.{All, map};
 ghost use Rattle.std.specs.List.{flat_map};
 ghost use Rattle.dexval.specs.Code.{value_of, element_of, annotation_of, set_of};
 ghost use Rattle.dexval.specs.Numbered.{values_of_list, elements_of_list};
@@ -11,14 +11,6 @@ use crate::annotation::Annotation;
 use crate::set::AnnotationSet;
 use crate::value::{Element, Value};
 use dexpool::{Marks, SymbolKind};
-
-// Marks one symbol.
-fn mark_one(kind: SymbolKind, number: usize, marks: &mut Marks)
-    requires { HasMark marks.old (record { kind = kind; number = number }) }
-    ensures { AreMarkedToo (record { kind = kind; number = number } ∷ []) marks.old marks.new }
-{
-    marks.mark(kind, number);
-}
 
 // Marks the names of elements, and the symbols that occur in their values.
 #[cycle(marking)]
@@ -54,14 +46,14 @@ impl Value {
         ensures { AreMarkedToo (value_uses (value_of self.now)) marks.old marks.new }
     {
         match self {
-            Value::String(number) => mark_one(SymbolKind::Text, *number as usize, marks),
-            Value::Typ(number) => mark_one(SymbolKind::Typ, *number as usize, marks),
-            Value::Field(number) => mark_one(SymbolKind::Field, *number as usize, marks),
-            Value::Method(number) => mark_one(SymbolKind::Method, *number as usize, marks),
-            Value::Enum(number) => mark_one(SymbolKind::Field, *number as usize, marks),
+            Value::String(number) => marks.mark(SymbolKind::Text, *number as usize),
+            Value::Typ(number) => marks.mark(SymbolKind::Typ, *number as usize),
+            Value::Field(number) => marks.mark(SymbolKind::Field, *number as usize),
+            Value::Method(number) => marks.mark(SymbolKind::Method, *number as usize),
+            Value::Enum(number) => marks.mark(SymbolKind::Field, *number as usize),
             Value::Array(values) => mark_values(values, marks),
             Value::Annotation(typ, elements) => {
-                mark_one(SymbolKind::Typ, *typ as usize, marks);
+                marks.mark(SymbolKind::Typ, *typ as usize);
                 mark_elements(elements, marks);
             }
             _ => {}
@@ -78,7 +70,7 @@ impl Element {
         requires { All (HasMark marks.old) (element_uses (element_of self.now)) }
         ensures { AreMarkedToo (element_uses (element_of self.now)) marks.old marks.new }
     {
-        mark_one(SymbolKind::Text, self.name as usize, marks);
+        marks.mark(SymbolKind::Text, self.name as usize);
         self.value.mark(marks);
     }
 }
@@ -91,7 +83,7 @@ impl Annotation {
         requires { All (HasMark marks.old) (annotation_uses (annotation_of self.now)) }
         ensures { AreMarkedToo (annotation_uses (annotation_of self.now)) marks.old marks.new }
     {
-        mark_one(SymbolKind::Typ, self.typ as usize, marks);
+        marks.mark(SymbolKind::Typ, self.typ as usize);
         mark_elements(&self.elements, marks);
     }
 }

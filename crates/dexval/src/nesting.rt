@@ -7,6 +7,7 @@ ghost use Rattle.dexval.specs.Scalars.{NoValueAt, IsReadAt};
 ghost use Rattle.dexval.specs.Nesting.{AreFilePools, NoArrayAt, AreReadAt, NoElementAt, IsElementReadAt, NoElementsAt, AreElementsReadAt, NoAnnotationAt, IsAnnotationReadAt};
 
 use crate::scalars::scalar_at;
+use crate::type_codes::{ANNOTATION, ARRAY};
 use crate::value::{Element, Value};
 use dexleb::read_u;
 use dexpool::{Pools, SymbolKind};
@@ -28,7 +29,7 @@ pub(crate) fn value_at(
         return Ok(None);
     }
     match bytes[at] {
-        0x1c => {
+        ARRAY => {
             if depth == 0 {
                 return Ok(None);
             }
@@ -37,7 +38,7 @@ pub(crate) fn value_at(
                 None => Ok(None),
             }
         }
-        0x1d => {
+        ANNOTATION => {
             if depth == 0 {
                 return Ok(None);
             }

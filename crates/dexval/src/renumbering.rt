@@ -11,8 +11,10 @@ use crate::set::AnnotationSet;
 use crate::value::{Element, Value};
 use dexpool::{Remap, SymbolKind};
 
-// The number that a number leads to.
-fn led(remap: &Remap, kind: SymbolKind, number: u32) -> u32
+/// The number that the number of a symbol of a kind leads to. No memory is taken.
+///
+/// Condition: it leads to one, below 2^32.
+pub fn led(remap: &Remap, kind: SymbolKind, number: u32) -> u32
     requires { LeadsOn remap.now kind number }
     ensures { result ≡ led remap.now kind number }
 {

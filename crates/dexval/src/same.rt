@@ -21,8 +21,9 @@ fn end(remap: &Remap, kind: SymbolKind, number: u32) -> usize
     }
 }
 
-// Whether both numbers lead to one.
-fn ends_alike(kind: SymbolKind, mine: &Remap, number: u32, theirs: &Remap, other: u32) -> bool
+/// Whether two numbers of symbols of a kind are the same, once each is led on by a map of its own. A number that leads
+/// nowhere stays. No memory is taken.
+pub fn ends_alike(kind: SymbolKind, mine: &Remap, number: u32, theirs: &Remap, other: u32) -> bool
     ensures { IsTrue result ↔ (led mine.now kind number ≡ led theirs.now kind other) }
 {
     end(mine, kind, number) == end(theirs, kind, other)

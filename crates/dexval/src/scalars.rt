@@ -8,26 +8,34 @@ ghost use Rattle.dexval.specs.Code.{value_of};
 ghost use Rattle.dexval.specs.Scalars.{width_of, HasNumber, Spells, IsUnknown, NoValueAt, IsReadAt};
 
 use crate::numbers::{bits, signed, unsigned};
+use crate::type_codes::{
+    BOOLEAN, BYTE, CHAR, DOUBLE, ENUM, FIELD, FLOAT, INT, LONG, METHOD, NULL, SHORT, STRING, TYPE,
+};
 use crate::value::Value;
 use dexpool::{Pools, SymbolKind};
+
+// The first byte of a truth value, whose argument is the value.
+const FALSE: u8 = BOOLEAN;
+
+const TRUE: u8 = 0x20 + BOOLEAN;
 
 // The most bytes of a value of a type code, if an argument counts them.
 fn width_of(code: u8) -> Option<usize>
     ensures { result ≡ width_of code }
 {
     match code {
-        0x00 => Some(1),
-        0x02 => Some(2),
-        0x03 => Some(2),
-        0x04 => Some(4),
-        0x06 => Some(8),
-        0x10 => Some(4),
-        0x11 => Some(8),
-        0x17 => Some(4),
-        0x18 => Some(4),
-        0x19 => Some(4),
-        0x1a => Some(4),
-        0x1b => Some(4),
+        BYTE => Some(1),
+        SHORT => Some(2),
+        CHAR => Some(2),
+        INT => Some(4),
+        LONG => Some(8),
+        FLOAT => Some(4),
+        DOUBLE => Some(8),
+        STRING => Some(4),
+        TYPE => Some(4),
+        FIELD => Some(4),
+        METHOD => Some(4),
+        ENUM => Some(4),
         _ => None,
     }
 }
@@ -67,18 +75,18 @@ fn spelled(code: u8, number: &[u8], pools: &Pools<'_>) -> Option<Value>
     ensures { MatchOption result (IsUnknown pools.now code number.now) (λ value. Spells pools.now code number.now (value_of value)) }
 {
     match code {
-        0x00 => Some(Value::Byte(signed(number) as i8)),
-        0x02 => Some(Value::Short(signed(number) as i16)),
-        0x03 => Some(Value::Char(unsigned(number) as u16)),
-        0x04 => Some(Value::Int(signed(number) as i32)),
-        0x06 => Some(Value::Long(signed(number))),
-        0x10 => Some(Value::Float(bits(number, 4) as u32)),
-        0x11 => Some(Value::Double(bits(number, 8))),
-        0x17 => Some(Value::String(index_of(number, SymbolKind::Text, pools)?)),
-        0x18 => Some(Value::Typ(index_of(number, SymbolKind::Typ, pools)?)),
-        0x19 => Some(Value::Field(index_of(number, SymbolKind::Field, pools)?)),
-        0x1a => Some(Value::Method(index_of(number, SymbolKind::Method, pools)?)),
-        0x1b => Some(Value::Enum(index_of(number, SymbolKind::Field, pools)?)),
+        BYTE => Some(Value::Byte(signed(number) as i8)),
+        SHORT => Some(Value::Short(signed(number) as i16)),
+        CHAR => Some(Value::Char(unsigned(number) as u16)),
+        INT => Some(Value::Int(signed(number) as i32)),
+        LONG => Some(Value::Long(signed(number))),
+        FLOAT => Some(Value::Float(bits(number, 4) as u32)),
+        DOUBLE => Some(Value::Double(bits(number, 8))),
+        STRING => Some(Value::String(index_of(number, SymbolKind::Text, pools)?)),
+        TYPE => Some(Value::Typ(index_of(number, SymbolKind::Typ, pools)?)),
+        FIELD => Some(Value::Field(index_of(number, SymbolKind::Field, pools)?)),
+        METHOD => Some(Value::Method(index_of(number, SymbolKind::Method, pools)?)),
+        ENUM => Some(Value::Enum(index_of(number, SymbolKind::Field, pools)?)),
         _ => None,
     }
 }
@@ -123,9 +131,9 @@ pub(crate) fn scalar_at(bytes: &[u8], pools: &Pools<'_>, at: usize) -> Option<(V
     ensures within { IfSome result (λ read. at + read.1 ≤ length bytes.now) }
 {
     match bytes[at] {
-        0x1e => Some((Value::Null, 1)),
-        0x1f => Some((Value::Boolean(false), 1)),
-        0x3f => Some((Value::Boolean(true), 1)),
+        NULL => Some((Value::Null, 1)),
+        FALSE => Some((Value::Boolean(false), 1)),
+        TRUE => Some((Value::Boolean(true), 1)),
         _ => sized_at(bytes, pools, at),
     }
 }

@@ -31,23 +31,23 @@ marking::mark_elements-loop-element-preserved t c =
     subst (λ us. AreMarkedToo us old c.mark.new.marks) (sym (uses_of_elements (take (i + 1) xs)))
     (member_marked part_uses xs i c.element-item.result old c.loop-element.marks c.mark.new.marks c.loop-element-test.true c.element-item.is before c.mark.ensures)
 
-pub value::Value::mark-mark_one-requires : goal.value::Value::mark-mark_one-requires
-value::Value::mark-mark_one-requires t c = named_has_mark c.args.marks.now c.args.self.now StringReference c.in-String.number (ap value_of c.in-String.is ∙ string_is c.in-String.number) c.requires
+pub value::Value::mark-mark-requires : goal.value::Value::mark-mark-requires
+value::Value::mark-mark-requires t c = named_has_mark c.args.marks.now c.args.self.now StringReference c.in-String.number (ap value_of c.in-String.is ∙ string_is c.in-String.number) c.requires
 
-pub value::Value::mark-mark_one-requires-in-Typ : goal.value::Value::mark-mark_one-requires-in-Typ
-value::Value::mark-mark_one-requires-in-Typ t c = named_has_mark c.args.marks.now c.args.self.now TypeReference c.in-Typ.number (ap value_of c.in-Typ.is ∙ typ_is c.in-Typ.number) c.requires
+pub value::Value::mark-mark-requires-in-Typ : goal.value::Value::mark-mark-requires-in-Typ
+value::Value::mark-mark-requires-in-Typ t c = named_has_mark c.args.marks.now c.args.self.now TypeReference c.in-Typ.number (ap value_of c.in-Typ.is ∙ typ_is c.in-Typ.number) c.requires
 
-pub value::Value::mark-mark_one-requires-in-Field : goal.value::Value::mark-mark_one-requires-in-Field
-value::Value::mark-mark_one-requires-in-Field t c = named_has_mark c.args.marks.now c.args.self.now FieldReference c.in-Field.number (ap value_of c.in-Field.is ∙ field_is c.in-Field.number) c.requires
+pub value::Value::mark-mark-requires-in-Field : goal.value::Value::mark-mark-requires-in-Field
+value::Value::mark-mark-requires-in-Field t c = named_has_mark c.args.marks.now c.args.self.now FieldReference c.in-Field.number (ap value_of c.in-Field.is ∙ field_is c.in-Field.number) c.requires
 
-pub value::Value::mark-mark_one-requires-in-Method : goal.value::Value::mark-mark_one-requires-in-Method
-value::Value::mark-mark_one-requires-in-Method t c = named_has_mark c.args.marks.now c.args.self.now MethodReference c.in-Method.number (ap value_of c.in-Method.is ∙ method_is c.in-Method.number) c.requires
+pub value::Value::mark-mark-requires-in-Method : goal.value::Value::mark-mark-requires-in-Method
+value::Value::mark-mark-requires-in-Method t c = named_has_mark c.args.marks.now c.args.self.now MethodReference c.in-Method.number (ap value_of c.in-Method.is ∙ method_is c.in-Method.number) c.requires
 
-pub value::Value::mark-mark_one-requires-in-Enum : goal.value::Value::mark-mark_one-requires-in-Enum
-value::Value::mark-mark_one-requires-in-Enum t c = named_has_mark c.args.marks.now c.args.self.now EnumReference c.in-Enum.number (ap value_of c.in-Enum.is ∙ enum_is c.in-Enum.number) c.requires
+pub value::Value::mark-mark-requires-in-Enum : goal.value::Value::mark-mark-requires-in-Enum
+value::Value::mark-mark-requires-in-Enum t c = named_has_mark c.args.marks.now c.args.self.now EnumReference c.in-Enum.number (ap value_of c.in-Enum.is ∙ enum_is c.in-Enum.number) c.requires
 
-pub value::Value::mark-mark_one-requires-in-Annotation : goal.value::Value::mark-mark_one-requires-in-Annotation
-value::Value::mark-mark_one-requires-in-Annotation t c =
+pub value::Value::mark-mark-requires-in-Annotation : goal.value::Value::mark-mark-requires-in-Annotation
+value::Value::mark-mark-requires-in-Annotation t c =
     let elements = c.in-Annotation.elements in
     let all = subst (λ x. All (HasMark c.args.marks.now) (value_uses x)) (ap value_of c.in-Annotation.is ∙ annotation_is c.in-Annotation.typ elements) c.requires in
     All-head (HasMark c.args.marks.now) (record { kind = kinds.Typ; number = c.in-Annotation.typ }) (elements_uses (elements_of_list (map element_of elements.items))) all
@@ -56,11 +56,11 @@ pub value::Value::mark-mark_elements-requires : goal.value::Value::mark-mark_ele
 value::Value::mark-mark_elements-requires t c =
     let elements = c.in-Annotation.elements in
     let old = c.args.marks.now in
-    let new = c.mark_one-in-Annotation.new.marks in
+    let new = c.mark-in-Annotation.new.self in
     let u : Use = record { kind = kinds.Typ; number = c.in-Annotation.typ } in
     let us = elements_uses (elements_of_list (map element_of elements.items)) in
     let all = subst (λ x. All (HasMark old) (value_uses x)) (ap value_of c.in-Annotation.is ∙ annotation_is c.in-Annotation.typ elements) c.requires in
-    let still = still_all (u ∷ []) us old new c.mark_one-in-Annotation.ensures (All-tail (HasMark old) u us all) in
+    let still = still_all (u ∷ []) us old new c.mark-in-Annotation.ensures (All-tail (HasMark old) u us all) in
     let lighter = annotation_lighter c.args.self.now c.in-Annotation.typ elements c.in-Annotation.is c.deref-in-Annotation.ensures.value in
     (search rules, subst (λ (l : List Element). All (HasMark new) (elements_uses (elements_of_list (map element_of l)))) (sym c.deref-in-Annotation.ensures.value) still)
 
@@ -82,16 +82,16 @@ marking::mark_values-loop-value-preserved t c =
     subst (λ us. AreMarkedToo us old c.mark.new.marks) (sym (uses_of_values (take (i + 1) xs)))
     (member_marked code_uses xs i c.value-item.result old c.loop-value.marks c.mark.new.marks c.loop-value-test.true c.value-item.is before c.mark.ensures)
 
-pub value::Element::mark-mark_one-requires : goal.value::Element::mark-mark_one-requires
-value::Element::mark-mark_one-requires t c =
+pub value::Element::mark-mark-requires : goal.value::Element::mark-mark-requires
+value::Element::mark-mark-requires t c =
     let e = c.args.self.now in
     let all = subst (λ p. All (HasMark c.args.marks.now) (element_uses p)) (element_is e) c.requires in
     All-head (HasMark c.args.marks.now) (record { kind = kinds.Text; number = e.name }) (code_uses e.value) all
 
-pub value::Element::mark-mark-requires : goal.value::Element::mark-mark-requires
-value::Element::mark-mark-requires t c =
+pub value::Element::mark-mark-requires-2 : goal.value::Element::mark-mark-requires-2
+value::Element::mark-mark-requires-2 t c =
     let e = c.args.self.now in
     let old = c.args.marks.now in
     let u : Use = record { kind = kinds.Text; number = e.name } in
     let all = subst (λ p. All (HasMark old) (element_uses p)) (element_is e) c.requires in
-    (search rules, still_all (u ∷ []) (code_uses e.value) old c.mark_one.new.marks c.mark_one.ensures (All-tail (HasMark old) u (code_uses e.value) all))
+    (search rules, still_all (u ∷ []) (code_uses e.value) old c.mark.new.self c.mark.ensures (All-tail (HasMark old) u (code_uses e.value) all))

@@ -10,13 +10,13 @@ use Rattle.dexval.specs.Uses.{elements_uses}
 use Rattle.dexval.proofs.Marked.{still_all}
 use Rattle.dexval.proofs.annotation.Annotation.mark.Goals as goal
 
-pub mark_one-requires : goal.mark_one-requires
-mark_one-requires c = All-head (HasMark c.args.marks.now) (record { kind = kinds.Typ; number = c.args.self.now.typ }) (elements_uses (elements_of_list (map element_of c.args.self.now.elements.items))) c.requires
+pub mark-requires : goal.mark-requires
+mark-requires c = All-head (HasMark c.args.marks.now) (record { kind = kinds.Typ; number = c.args.self.now.typ }) (elements_uses (elements_of_list (map element_of c.args.self.now.elements.items))) c.requires
 
 pub mark_elements-requires : goal.mark_elements-requires
 mark_elements-requires c =
     let old = c.args.marks.now in
-    let new = c.mark_one.new.marks in
+    let new = c.mark.new.self in
     let u : Use = record { kind = kinds.Typ; number = c.args.self.now.typ } in
     let us = elements_uses (elements_of_list (map element_of c.args.self.now.elements.items)) in
-    subst (λ (l : List Element). All (HasMark new) (elements_uses (elements_of_list (map element_of l)))) (sym c.deref.ensures.value) (still_all (u ∷ []) us old new c.mark_one.ensures (All-tail (HasMark old) u us c.requires))
+    subst (λ (l : List Element). All (HasMark new) (elements_uses (elements_of_list (map element_of l)))) (sym c.deref.ensures.value) (still_all (u ∷ []) us old new c.mark.ensures (All-tail (HasMark old) u us c.requires))

@@ -1,5 +1,5 @@
 -- Small classes whose files, weights and ranks are known from outside.
-use Rattle.std.specs.Prelude.{ℕ, List, [], ◌∷◌, Some, None, codes, pos}
+use Rattle.std.specs.Prelude.{ℕ, List, [], ◌∷◌, ◌++◌, Some, None, codes, pos}
 use Rattle.dexspec.specs.Texts.{Text}
 use Rattle.dexspec.specs.Symbols.{Proto, TextSymbol}
 use Rattle.dexspec.specs.Pieces.{Instruction}
@@ -143,3 +143,22 @@ classes_list_thrice = (
   },
 )
     ∷ (codes "LB;", record (body_under object) { interfaces = codes "LI;" ∷ [] }) ∷ []
+
+-- the sets of `LA;` and its field have an equal annotation, and are unlike
+abbrev pub class_annotation_twice : Definition
+class_annotation_twice = annotated set_n (int_field (codes "x") (set_n ++ record { visibility = 1; type = codes "LP;"; elements = NoElements } ∷ []) ∷ [])
+
+-- a class of this name with the interface `LI;`, a set, and a method `m(LI;)V` with a debug program
+abbrev pub class_sharing : Text → Definition
+class_sharing name = (
+  name,
+  record (body_under object) {
+    interfaces = codes "LI;" ∷ [];
+    annotations = set_v (IntValue (pos 7));
+    direct_methods = record (method_at (codes "m") 10) { proto = record { return_type = codes "V"; parameters = codes "LI;" ∷ [] } } ∷ [];
+  },
+)
+
+-- three of them
+abbrev pub classes_sharing : List Definition
+classes_sharing = class_sharing (codes "LA;") ∷ class_sharing (codes "LB;") ∷ class_sharing (codes "LC;") ∷ []

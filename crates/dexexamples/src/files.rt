@@ -3,8 +3,8 @@
 ghost use Rattle.std.specs.Prelude.{◌≡◌, [], ◌∷◌, ◌++◌, codes};
 ghost use Rattle.sha1.specs.Sha1.{sha1};
 ghost use Rattle.dexspec.specs.Canonical.{ordered, unsigned_file, with_sums};
-ghost use Rattle.dexexamples.specs.Examples.{class_a, class_p, class_debug_twice, class_debug_first_use, class_set_twice, class_set_first_use, class_sets_alike, class_sets_kind, classes_list_thrice};
-ghost use Rattle.dexexamples.specs.SharedFiles.{debug_twice_file, debug_first_use_file, set_twice_file, set_first_use_file, sets_alike_file, sets_kind_file, list_thrice_file};
+ghost use Rattle.dexexamples.specs.Examples.{class_a, class_p, class_debug_twice, class_debug_first_use, class_set_twice, class_set_first_use, class_sets_alike, class_sets_kind, classes_list_thrice, classes_sharing, class_annotation_twice};
+ghost use Rattle.dexexamples.specs.SharedFiles.{debug_twice_file, debug_first_use_file, set_twice_file, set_first_use_file, sets_alike_file, sets_kind_file, list_thrice_file, shared_by_classes_file, annotation_twice_file, code_twice_file};
 ghost use Rattle.dexspec.specs.Stripping.{strip};
 ghost use Rattle.dexspec.specs.Weight.{weight};
 ghost use Rattle.dexexamples.specs.ExpectedFiles.{empty_file, file_a, file_p, front_a, sha1_of_abc};
@@ -27,7 +27,6 @@ pub fn sums()
 /// Equal debug programs stand once, and where they are used first.
 pub fn shared_debug()
     ensures twice { unsigned_file (ordered (class_debug_twice ∷ [])) ≡ debug_twice_file }
-    ensures twice_weight { weight (class_debug_twice ∷ []) ≡ 1428 }
     ensures first_use { unsigned_file (ordered (class_debug_first_use ∷ [])) ≡ debug_first_use_file }
     ensures first_use_weight { weight (class_debug_first_use ∷ []) ≡ 1518 }
 {}
@@ -49,6 +48,19 @@ pub fn shared_sets()
 pub fn shared_lists()
     ensures thrice { unsigned_file (ordered classes_list_thrice) ≡ list_thrice_file }
     ensures thrice_weight { weight classes_list_thrice ≡ 1464 }
+{}
+
+/// Classes share with one another: three of them have one list of types, one set and one debug program.
+pub fn shared_by_classes()
+    ensures file { unsigned_file (ordered classes_sharing) ≡ shared_by_classes_file }
+    ensures file_weight { weight classes_sharing ≡ 1927 }
+{}
+
+/// Nothing else is shared: equal annotations of unlike sets stand twice, and so does equal code.
+pub fn not_shared()
+    ensures annotations { unsigned_file (ordered (class_annotation_twice ∷ [])) ≡ annotation_twice_file }
+    ensures annotations_weight { weight (class_annotation_twice ∷ []) ≡ 1377 }
+    ensures code { unsigned_file (ordered (strip (class_debug_twice ∷ []))) ≡ code_twice_file }
 {}
 
 /// Two files that were made without this project: one with tries, debug programs, payloads, annotations of

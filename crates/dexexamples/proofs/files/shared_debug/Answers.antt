@@ -12,10 +12,6 @@ pub returns-clause-twice : goal.returns-clause-twice
 unfolding unsigned_file layout type_list_end type_list_offsets annotation_end annotation_offsets array_end array_offsets string_end debug_end debug_offsets code_end code_offsets class_data_end class_data_offsets set_end set_offsets ref_list_end ref_list_offsets directory_end directory_offsets mentions symbols_of in_class_order depth code_bytes debug_bytes class_data_bytes ushort uint bytes_of opcode_of opcode_runs
 returns-clause-twice c = refl
 
-pub returns-clause-twice_weight : goal.returns-clause-twice_weight
-unfolding weight mentions symbols_of
-returns-clause-twice_weight c = refl
-
 pub returns-clause-first_use : goal.returns-clause-first_use
 unfolding unsigned_file layout type_list_end type_list_offsets annotation_end annotation_offsets array_end array_offsets string_end debug_end debug_offsets code_end code_offsets class_data_end class_data_offsets set_end set_offsets ref_list_end ref_list_offsets directory_end directory_offsets mentions symbols_of in_class_order depth code_bytes debug_bytes class_data_bytes ushort uint bytes_of opcode_of opcode_runs
 returns-clause-first_use c = refl

@@ -84,7 +84,7 @@ wide_image r kinds.Field i j fit e = omega (arith, fit.fields_fit i j e)
 wide_image r kinds.Method i j fit e = omega (arith, fit.methods_fit i j e)
 
 -- no number of a short string leads beyond 16 bits
-abbrev ShortLead : Maps → List ℕ → Type 0
+abbrev pub ShortLead : Maps → List ℕ → Type 0
 ShortLead r ns = (i j : ℕ) → Contains ns i → image r.texts i ≡ Some j → j < 2 ^ 16
 
 image_by : (r : Maps) (w : Bool) (k : SymbolKind) (i j : ℕ) → ImagesFit r → ((is_text k && not w) ≡ true → image_of r k i ≡ Some j → j < 2 ^ 16) → image_of r k i ≡ Some j → j < cond w (2 ^ 32) (2 ^ 16)
@@ -141,7 +141,7 @@ short_led r (Instruction us (Some n)) i has c =
     subst (λ k. IsSome (image r.texts k)) s.1 (text_led r (kind_in us) (is_wide_index us) n s.0 has)
 short_led r (Payload us) i has c = absurd (Contains-nil i c)
 
-shorts_led : (r : Maps) (ps : List NumberedPiece) (i : ℕ) → All (HasImage r) ps → Contains (short_strings ps) i → IsSome (image r.texts i)
+pub shorts_led : (r : Maps) (ps : List NumberedPiece) (i : ℕ) → All (HasImage r) ps → Contains (short_strings ps) i → IsSome (image r.texts i)
 shorts_led r [] i all c = absurd (Contains-nil i c)
 shorts_led r (p ∷ ps) i all c = elim (Contains-append_cases (short_string p) (short_strings ps) i c) [
   | inl l ↦ short_led r p i (All-head (HasImage r) p ps all) l
@@ -164,7 +164,7 @@ lesser_image r i g j (Some k) order e some short le f = lesser_by r i g j k (nat
 below : (ns : List ℕ) (g i : ℕ) → All (λ k. k ≤ g) ns → Contains ns i → i ≤ g
 below ns g i all c = subst (λ k. k ≤ g) c.2 (All-get_or (λ k. k ≤ g) ns c.0 i c.1 all)
 
-short_lead : (r : Maps) (ns : List ℕ) (greatest : Option ℕ) → KeepOrder r → IsGreatest ns greatest → LeadsShort r greatest → ((i : ℕ) → Contains ns i → IsSome (image r.texts i)) → ShortLead r ns
+pub short_lead : (r : Maps) (ns : List ℕ) (greatest : Option ℕ) → KeepOrder r → IsGreatest ns greatest → LeadsShort r greatest → ((i : ℕ) → Contains ns i → IsSome (image r.texts i)) → ShortLead r ns
 short_lead r ns None order is short led i j c e = absurd (Contains-nil i (subst (λ ks. Contains ks i) is c))
 short_lead r ns (Some g) order is short led i j c e = lesser_image r i g j (image r.texts g) order refl (led g is.0) short (below ns g i is.1 c) e
 

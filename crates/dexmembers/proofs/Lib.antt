@@ -20,6 +20,7 @@ pub mod OfClass
 pub mod OneMember
 pub mod Owned
 pub mod PairsMerged
+pub mod Placed
 pub mod Partways
 pub mod RenumberingKept
 pub mod RenumberingLists

@@ -14,3 +14,5 @@ pub mod Stored
 pub mod Uses
 pub mod Weighing
 pub mod Weight
+pub mod Fitting
+pub mod Stripped

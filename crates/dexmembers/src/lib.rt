@@ -24,12 +24,17 @@ mod renumbering_laws;
 mod row_annotations;
 mod row_parts;
 mod same;
+mod short_strings;
 mod static_values;
+mod stripping;
 mod uses_laws;
 mod weighing;
 
 pub use members::{Field, Members, Method};
 pub use put_laws::few_members_law;
 pub use reading::read_members;
-pub use renumbering_laws::{members_led_law, members_same_law};
+pub use renumbering_laws::{
+    members_cut_law, members_joined_law, members_led_law, members_same_law,
+};
+pub use stripping::members_stripped_law;
 pub use uses_laws::members_uses_law;

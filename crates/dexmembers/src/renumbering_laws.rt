@@ -1,18 +1,21 @@
 //! Laws of what classes declare, led to other numbers. Each function does nothing: its contract is the law, for the callers
 //! that cite it.
 
-ghost use Rattle.std.specs.Prelude.{◌≡◌, ◌↔◌, All};
+ghost use Rattle.std.specs.Prelude.{◌≡◌, ◌↔◌, ℕ, All, Option};
 ghost use Rattle.dexspec.specs.Texts.{Text};
 ghost use Rattle.dexspec.specs.Mentions.{Mentions};
 ghost use Rattle.dexpool.specs.Numberings.{AreRising, Maps, AllLead};
+ghost use Rattle.dexpool.specs.Orderly.{KeepOrder, LeadDown};
 ghost use Rattle.dexpool.specs.Uses.{IsLedUse};
+ghost use Rattle.dexinsn.specs.Fitting.{ImagesFit, IsGreatest, LeadsShort};
+ghost use Rattle.dexmembers.specs.Fitting.{NumbersFit, members_short_strings};
 ghost use Rattle.dexmembers.specs.Uses.{members_uses};
 ghost use Rattle.dexmembers.specs.Numbered.{NumberedMembers, members_in, AreKnownMembers, AreOrdered, AreOfClass};
-ghost use Rattle.dexmembers.specs.Renumbering.{renumbered_members};
+ghost use Rattle.dexmembers.specs.Renumbering.{renumbered_members, MembersHavePlaces};
 
-use dexcode::{code_kept_law, code_led_law};
+use dexcode::{code_cut_law, code_images_law, code_joined_law, code_kept_law, code_led_law};
 use dexpool::number_law;
-use dexval::{renumber_law, same_law};
+use dexval::{narrow_law, renumber_law, same_law};
 
 /// Under other numbers, where each number leads somewhere, members stand for what they stood for. They are in order where
 /// they were, and of the class that they were of.
@@ -36,4 +39,26 @@ pub fn members_same_law()
     same_law();
     code_led_law();
     code_kept_law();
+}
+
+/// After a cut: where numbers fit their places, as those of all members do ([`Members::numbers_fit`](crate::Members::numbers_fit)),
+/// and each that occurs leads somewhere, to none greater, each leads to one that fits its place, and
+/// [`renumber`](crate::Members::renumber) may be called.
+pub fn members_cut_law()
+    ensures { (r : Maps) (x : NumberedMembers) → LeadDown r → NumbersFit x → All (IsLedUse r) (members_uses x) → MembersHavePlaces r x }
+{
+    narrow_law();
+    code_cut_law();
+    code_images_law();
+}
+
+/// After a join: where the numbering is not too large, and the greatest short string
+/// ([`Members::greatest_short_string`](crate::Members::greatest_short_string)) leads below 2^16, each number that leads somewhere
+/// leads to one that fits its place. [`joined_places_law`](dexinsn::joined_places_law) says of the maps of a join that they fit.
+pub fn members_joined_law()
+    ensures { (r : Maps) (x : NumberedMembers) (greatest : Option ℕ) → KeepOrder r → ImagesFit r → IsGreatest (members_short_strings x) greatest → LeadsShort r greatest → All (IsLedUse r) (members_uses x) → MembersHavePlaces r x }
+{
+    narrow_law();
+    code_joined_law();
+    code_images_law();
 }

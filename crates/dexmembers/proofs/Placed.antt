@@ -1,0 +1,160 @@
+-- Members whose numbers lead somewhere, after a cut and after a join: each leads to one that fits its place.
+use Rattle.std.proofs.Common.{◌≡◌, ℕ, ◌^◌, ◌<◌, ◌≤◌, suc, Bool, true, false, nat_lt, max, List, [], ◌∷◌, ◌++◌, Option, Some, None, refl, sym, ap, subst, ◌∙◌, arith, inl, inr}
+use Rattle.std.specs.Prelude.{IsSome, IfSome, option_to_list}
+use Rattle.std.specs.List.{All, Contains, flat_map}
+use Rattle.std.proofs.lemmas.Bool.{ltb-true, ltb-false}
+use Rattle.std.proofs.lemmas.List.{append-nil}
+use Rattle.std.proofs.lemmas.List.Elements.{All-nil, All-cons, All-head, All-tail, All-append, All-weaker, Contains-append_left, Contains-append_right, Contains-append_cases}
+use Rattle.dexspec.proofs.Members.{Contains-nil, Contains-first}
+use Rattle.dexpool.specs.declared.symbols.SymbolKind.{SymbolKind}
+use Rattle.dexpool.specs.declared.symbols.SymbolKind.TheVariants as kinds
+use Rattle.dexpool.specs.Numberings.{Maps, image, image_of}
+use Rattle.dexpool.specs.Orderly.{KeepOrder, LeadDown}
+use Rattle.dexpool.specs.Uses.{IsLedUse}
+use Rattle.dexinsn.specs.Numbered as pieces
+use Rattle.dexinsn.specs.Fitting.{ImagesFit, IsGreatest, LeadsShort, short_strings}
+use Rattle.dexinsn.proofs.Fits.{ShortLead, short_lead, shorts_led}
+use Rattle.dexcode.specs.Numbered.{NumberedItem}
+use Rattle.dexcode.specs.Renumbering.{item_uses, HasPlaces, HasImages}
+use Rattle.dexcode.specs.Renumbering as code
+use Rattle.dexval.specs.Numbered.{NumberedSet, NumberedValues}
+use Rattle.dexval.specs.Renumbering.{LeadsNarrow, LeadsOn, SetHasPlaces, HavePlaces}
+use Rattle.dexmembers.specs.Numbered.{NumberedField, NumberedMethod, NumberedMembers, methods_of}
+use Rattle.dexmembers.specs.Renumbering.{FieldHasPlaces, MethodHasPlaces, MembersHavePlaces}
+use Rattle.dexmembers.specs.Uses.{members_uses}
+use Rattle.dexmembers.specs.Fitting.{MethodFits, NumbersFit, code_short_strings, method_short_strings, members_short_strings}
+use Rattle.dexmembers.proofs.RenumberingLists.{all_left, all_right, all_both}
+use Rattle.dexmembers.proofs.Images.{SetHasImages, HaveImages, FieldHasImages, MethodHasImages, MembersHaveImages, members_images, some_of}
+
+-- the code of the method, if it has some, has places
+abbrev pub CodePlaced : Maps → NumberedMethod → Type 0
+CodePlaced r x = IfSome x.code (HasPlaces r)
+
+-- what holds of the code, if there is some, for two reasons
+coded : {P K Q : NumberedItem → Type 0} (o : Option NumberedItem) → ((c : NumberedItem) → P c → K c → Q c) → IfSome o P → IfSome o K → IfSome o Q
+coded None step h k = tt
+coded (Some c) step h k = step c h k
+
+-- ---- from code that has places to members that have
+
+module _ (r : Maps) (narrow : LeadsNarrow r) (sets : (s : NumberedSet) → SetHasImages r s → SetHasPlaces r s) (values : (xs : NumberedValues) → HaveImages r xs → HavePlaces r xs) where
+  on : (kind : SymbolKind) (i : ℕ) → IsSome (image_of r kind i) → LeadsOn r kind i
+  on kind i h = let at = some_of (image_of r kind i) h in (at.0, at.1, λ lt. narrow kind i at.0 at.1 lt)
+
+  field_placed : (f : NumberedField) → FieldHasImages r f → FieldHasPlaces r f
+  field_placed f h = record { number_leads = on kinds.Field f.number h.number_leads; annotations_lead = sets f.annotations h.annotations_lead }
+
+  method_placed : (x : NumberedMethod) → MethodHasImages r x → CodePlaced r x → MethodHasPlaces r x
+  method_placed x h placed = record {
+    number_leads = on kinds.Method x.number h.number_leads;
+    code_leads = placed;
+    annotations_lead = sets x.annotations h.annotations_lead;
+    parameters_lead = All-weaker (SetHasImages r) (SetHasPlaces r) sets x.parameter_annotations h.parameters_lead;
+  }
+
+  pub members_placed : (x : NumberedMembers) → MembersHaveImages r x → All (CodePlaced r) (methods_of x) → MembersHavePlaces r x
+  members_placed x h placed = record {
+    annotations_lead = sets x.annotations h.annotations_lead;
+    static_fields_lead = All-weaker (FieldHasImages r) (FieldHasPlaces r) field_placed x.static_fields h.static_fields_lead;
+    instance_fields_lead = All-weaker (FieldHasImages r) (FieldHasPlaces r) field_placed x.instance_fields h.instance_fields_lead;
+    direct_methods_lead = all_both (MethodHasImages r) (CodePlaced r) (MethodHasPlaces r) method_placed x.direct_methods h.direct_methods_lead (all_left (CodePlaced r) x.direct_methods x.virtual_methods placed);
+    virtual_methods_lead = all_both (MethodHasImages r) (CodePlaced r) (MethodHasPlaces r) method_placed x.virtual_methods h.virtual_methods_lead (all_right (CodePlaced r) x.direct_methods x.virtual_methods placed);
+    values_lead = values x.static_values h.values_lead;
+  }
+
+-- all methods lead somewhere
+methods_lead : (r : Maps) (x : NumberedMembers) → MembersHaveImages r x → All (MethodHasImages r) (methods_of x)
+methods_lead r x h = All-append (MethodHasImages r) x.direct_methods x.virtual_methods h.direct_methods_lead h.virtual_methods_lead
+
+-- ---- after a cut
+
+pub code_cut : (r : Maps) (x : NumberedMembers) → ((c : NumberedItem) → HasImages r c → code.NumbersFit c → HasPlaces r c) → MembersHaveImages r x → NumbersFit x → All (CodePlaced r) (methods_of x)
+code_cut r x cut h fit = all_both (MethodHasImages r) MethodFits (CodePlaced r) (λ y leads fits. coded y.code cut leads.code_leads fits) (methods_of x) (methods_lead r x h) fit
+
+-- ---- the greatest of numbers
+
+-- of two greatest numbers the greater is the greatest of all
+both_by : (ns ks : List ℕ) (g h m : ℕ) (b : Bool) → nat_lt g h ≡ b → max g h ≡ m → IsGreatest ns (Some g) → IsGreatest ks (Some h) → IsGreatest (ns ++ ks) (Some m)
+both_by ns ks g h m true test e is are =
+    let less : g < h = ltb-true g h test in
+    let same : h ≡ m = omega (arith, e, less) in (
+      Contains-append_right ns ks m (subst (Contains ks) same are.0),
+      All-append (λ k. k ≤ m) ns ks (All-weaker (λ k. k ≤ g) (λ k. k ≤ m) (λ k le. omega (arith, le, less, same)) ns is.1) (All-weaker (λ k. k ≤ h) (λ k. k ≤ m) (λ k le. omega (arith, le, same)) ks are.1),
+    )
+both_by ns ks g h m false test e is are =
+    let le : h ≤ g = ltb-false g h test in
+    let same : g ≡ m = omega (arith, e, le) in (
+      Contains-append_left ns ks m (subst (Contains ns) same is.0),
+      All-append (λ k. k ≤ m) ns ks (All-weaker (λ k. k ≤ g) (λ k. k ≤ m) (λ k less. omega (arith, less, same)) ns is.1) (All-weaker (λ k. k ≤ h) (λ k. k ≤ m) (λ k less. omega (arith, less, le, same)) ks are.1),
+    )
+
+pub both_greatest : (ns ks : List ℕ) (g h : ℕ) → IsGreatest ns (Some g) → IsGreatest ks (Some h) → IsGreatest (ns ++ ks) (Some (max g h))
+both_greatest ns ks g h is are = both_by ns ks g h (max g h) (nat_lt g h) refl refl is are
+
+pub left_greatest : (ns ks : List ℕ) (g : Option ℕ) → IsGreatest ns g → IsGreatest ks None → IsGreatest (ns ++ ks) g
+left_greatest ns ks g is none = subst (λ l. IsGreatest l g) (sym (append-nil ns) ∙ ap (λ l. ns ++ l) (sym none)) is
+
+pub right_greatest : (ns ks : List ℕ) (h : Option ℕ) → IsGreatest ns None → IsGreatest ks h → IsGreatest (ns ++ ks) h
+right_greatest ns ks h none are = subst (λ l. IsGreatest (l ++ ks) h) (sym none) are
+
+one_greatest : (n : ℕ) → IsGreatest (n ∷ []) (Some n)
+one_greatest n = (Contains-first n [], All-cons (λ k. k ≤ n) n [] (omega arith) (All-nil (λ k. k ≤ n)))
+
+-- each list has one, or has no number
+with_greatest : (n : ℕ) (ns : List ℕ) (g : Option ℕ) → IsGreatest ns g → (h : Option ℕ) × IsGreatest (n ∷ ns) h
+with_greatest n ns None is = (Some n, left_greatest (n ∷ []) ns (Some n) (one_greatest n) is)
+with_greatest n ns (Some g) is = (Some (max n g), both_greatest (n ∷ []) ns n g (one_greatest n) is)
+
+has_greatest : (ns : List ℕ) → (g : Option ℕ) × IsGreatest ns g
+has_greatest [] = (None, refl)
+has_greatest (n ∷ ns) = let rest = has_greatest ns in with_greatest n ns rest.0 rest.1
+
+-- ---- after a join
+
+-- the short strings of the code of a method lead somewhere
+code_shorts_led : (r : Maps) (o : Option NumberedItem) (i : ℕ) → IfSome o (HasImages r) → Contains (flat_map code_short_strings (option_to_list o)) i → IsSome (image r.texts i)
+code_shorts_led r None i h c = absurd (Contains-nil i c)
+code_shorts_led r (Some x) i h c = shorts_led r x.body.pieces i h.pieces_have (subst (λ ns. Contains ns i) (append-nil (short_strings x.body.pieces)) c)
+
+methods_shorts_led : (r : Maps) (xs : List NumberedMethod) (i : ℕ) → All (MethodHasImages r) xs → Contains (flat_map method_short_strings xs) i → IsSome (image r.texts i)
+methods_shorts_led r [] i h c = absurd (Contains-nil i c)
+methods_shorts_led r (x ∷ xs) i h c = elim (Contains-append_cases (method_short_strings x) (flat_map method_short_strings xs) i c) [
+  | inl l ↦ code_shorts_led r x.code i (All-head (MethodHasImages r) x xs h).code_leads l
+  | inr l ↦ methods_shorts_led r xs i (All-tail (MethodHasImages r) x xs h) l
+]
+
+-- where all short strings lead to numbers of 16 bits, those of each method do
+each_short : (r : Maps) (xs : List NumberedMethod) → ShortLead r (flat_map method_short_strings xs) → All (λ x. ShortLead r (method_short_strings x)) xs
+each_short r [] h = All-nil (λ x. ShortLead r (method_short_strings x))
+each_short r (x ∷ xs) h =
+    All-cons (λ y. ShortLead r (method_short_strings y)) x xs
+    (λ i j c e. h i j (Contains-append_left (method_short_strings x) (flat_map method_short_strings xs) i c) e)
+    (each_short r xs (λ i j c e. h i j (Contains-append_right (method_short_strings x) (flat_map method_short_strings xs) i c) e))
+
+-- the greatest of them leads so
+greatest_short : (r : Maps) (ns : List ℕ) (g : Option ℕ) → ShortLead r ns → IsGreatest ns g → LeadsShort r g
+greatest_short r ns None h is = tt
+greatest_short r ns (Some g) h is = λ j e. h g j is.0 e
+
+module _ (r : Maps) (joined : (c : NumberedItem) (g : Option ℕ) → IsGreatest (short_strings c.body.pieces) g → LeadsShort r g → HasImages r c → HasPlaces r c) where
+  code_joined : (o : Option NumberedItem) → IfSome o (HasImages r) → ShortLead r (flat_map code_short_strings (option_to_list o)) → IfSome o (HasPlaces r)
+  code_joined None h short = tt
+  code_joined (Some c) h short =
+      let ns = short_strings c.body.pieces in
+      let mine : ShortLead r ns = subst (ShortLead r) (append-nil ns) short in
+      let g = has_greatest ns in
+      joined c g.0 g.1 (greatest_short r ns g.0 mine g.1) h
+
+  pub codes_joined : (x : NumberedMembers) (greatest : Option ℕ) → KeepOrder r → MembersHaveImages r x → IsGreatest (members_short_strings x) greatest → LeadsShort r greatest → All (CodePlaced r) (methods_of x)
+  codes_joined x greatest order h is short =
+      let all = methods_lead r x h in
+      let lead : ShortLead r (members_short_strings x) = short_lead r (members_short_strings x) greatest order is short (λ i c. methods_shorts_led r (methods_of x) i all c) in
+      all_both (MethodHasImages r) (λ y. ShortLead r (method_short_strings y)) (CodePlaced r) (λ y leads shorts. code_joined y.code leads.code_leads shorts) (methods_of x) all (each_short r (methods_of x) lead)
+
+-- numbers of 32 bits lead to such
+pub fit_narrow : (r : Maps) → ImagesFit r → LeadsNarrow r
+fit_narrow r fit kinds.Text i j e lt = let z = fit.texts_fit i j e in omega (arith, z)
+fit_narrow r fit kinds.Typ i j e lt = let z = fit.types_fit i j e in omega (arith, z)
+fit_narrow r fit kinds.Proto i j e lt = let z = fit.protos_fit i j e in omega (arith, z)
+fit_narrow r fit kinds.Field i j e lt = let z = fit.fields_fit i j e in omega (arith, z)
+fit_narrow r fit kinds.Method i j e lt = let z = fit.methods_fit i j e in omega (arith, z)

@@ -1,0 +1,36 @@
+-- What a class declares without its debug programs.
+use Rattle.std.specs.Prelude.{map, None}
+use Rattle.std.specs.Option.{option_map}
+use Rattle.dexspec.specs.Stripping.{strip_method}
+use Rattle.dexcode.specs.Numbered.{NumberedItem}
+use Rattle.dexmembers.specs.Numbered.{NumberedMethod, NumberedMembers, Members}
+
+-- the code without its debug program
+abbrev pub stripped_code : NumberedItem → NumberedItem
+stripped_code c = record { body = c.body; tries = c.tries; debug = None }
+
+-- the method, its code so
+abbrev pub stripped_method : NumberedMethod → NumberedMethod
+stripped_method x = record { number = x.number; flags = x.flags; code = option_map stripped_code x.code; annotations = x.annotations; parameter_annotations = x.parameter_annotations }
+
+-- all members, each method so
+abbrev pub stripped_members : NumberedMembers → NumberedMembers
+stripped_members x = record {
+  annotations = x.annotations;
+  static_fields = x.static_fields;
+  instance_fields = x.instance_fields;
+  direct_methods = map stripped_method x.direct_methods;
+  virtual_methods = map stripped_method x.virtual_methods;
+  static_values = x.static_values;
+}
+
+-- the same of members with symbols
+abbrev pub strip_members : Members → Members
+strip_members x = record {
+  annotations = x.annotations;
+  static_fields = x.static_fields;
+  instance_fields = x.instance_fields;
+  direct_methods = map strip_method x.direct_methods;
+  virtual_methods = map strip_method x.virtual_methods;
+  static_values = x.static_values;
+}

@@ -1,0 +1,95 @@
+//! Texts that a const-string names, in the code of what classes declare, and whether numbers fit their places now.
+
+ghost use Rattle.std.specs.Prelude.{◌++◌, ℕ, List, option_to_list, All};
+ghost use Rattle.std.specs.List.{flat_map};
+ghost use Rattle.dexinsn.specs.Fitting.{IsGreatest};
+ghost use Rattle.dexmembers.specs.Fitting.{MethodFits, NumbersFit, code_short_strings, method_short_strings, members_short_strings};
+
+use crate::members::{Members, Method};
+use dexcode::Code;
+
+// The greater of two numbers, if there are any.
+fn greater(left: Option<u32>, right: Option<u32>) -> Option<u32>
+    ensures { (ns ks : List ℕ) → IsGreatest ns left → IsGreatest ks right → IsGreatest (ns ++ ks) result }
+{
+    match left {
+        None => right,
+        Some(number) => match right {
+            None => left,
+            Some(other) => Some(number.max(other)),
+        },
+    }
+}
+
+// The greatest such number in the code, if there is some.
+fn greatest_of_code(code: &Option<Code<'_>>) -> Option<u32>
+    ensures { IsGreatest (flat_map code_short_strings (option_to_list code.now)) result }
+{
+    match code {
+        Some(code) => code.greatest_short_string(),
+        None => None,
+    }
+}
+
+// The greatest such number in the code of methods.
+fn greatest_of_methods(methods: &[Method<'_>]) -> Option<u32>
+    ensures { IsGreatest (flat_map method_short_strings methods.now) result }
+{
+    let mut greatest = None;
+    for method in methods {
+        greatest = greater(greatest, method.greatest_short_string());
+    }
+    greatest
+}
+
+// Each number in the code of methods fits its place.
+fn methods_fit_now(methods: &[Method<'_>])
+    ensures { All MethodFits methods.now }
+{
+    for method in methods {
+        method.numbers_fit();
+    }
+}
+
+impl Method<'_> {
+    // The greatest such number in the method's code.
+    fn greatest_short_string(&self) -> Option<u32>
+        ensures { IsGreatest (method_short_strings self.now) result }
+    {
+        greatest_of_code(&self.code)
+    }
+
+    // Each number in the method's code fits its place.
+    fn numbers_fit(&self)
+        ensures { MethodFits self.now }
+    {
+        if let Some(code) = &self.code {
+            code.numbers_fit();
+        }
+    }
+}
+
+impl Members<'_> {
+    /// The greatest number of a text that a const-string names in the code of the methods, not counting
+    /// const-string/jumbo, or `None` where there is no const-string. No memory is taken.
+    ///
+    /// Source: "code_item", the field `insns`.
+    pub fn greatest_short_string(&self) -> Option<u32>
+        ensures { IsGreatest (members_short_strings self.now) result }
+    {
+        greater(
+            greatest_of_methods(&self.direct_methods),
+            greatest_of_methods(&self.virtual_methods),
+        )
+    }
+
+    /// Each number in the code of the methods fits its place: it is below 2^16 in an instruction but for
+    /// const-string/jumbo, below 2^32 for a type that is caught, and below 2^32 - 1 in a debug program. It changes nothing:
+    /// its contract tells what numbers of all members are, for the proofs of callers.
+    pub fn numbers_fit(&self)
+        ensures { NumbersFit self.now }
+    {
+        methods_fit_now(&self.direct_methods);
+        methods_fit_now(&self.virtual_methods);
+    }
+}

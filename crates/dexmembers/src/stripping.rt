@@ -1,0 +1,47 @@
+//! What classes declare, without debug programs.
+
+ghost use Rattle.std.specs.Prelude.{◌≡◌, map};
+ghost use Rattle.dexspec.specs.Mentions.{Mentions};
+ghost use Rattle.dexmembers.specs.Numbered.{NumberedMembers, members_in};
+ghost use Rattle.dexmembers.specs.Stripped.{stripped_method, stripped_members, strip_members};
+
+use crate::members::{Members, Method};
+
+// Leaves out the debug programs of methods.
+fn drop_debugs(methods: &mut Vec<Method<'_>>)
+    ensures { methods.new.items ≡ map stripped_method methods.old.items }
+{
+    for i in 0..methods.len() {
+        methods[i].drop_debug();
+    }
+}
+
+impl<'a> Method<'a> {
+    // Leaves out the debug program.
+    fn drop_debug(&mut self)
+        ensures { self.new ≡ stripped_method self.old }
+    {
+        if let Some(code) = &mut self.code {
+            code.drop_debug();
+        }
+    }
+}
+
+impl<'a> Members<'a> {
+    /// Leaves out the debug programs of all methods. Instructions and tries stay, and so do the texts that a const-string
+    /// names. No memory is taken.
+    ///
+    /// Source: "code_item", the field `debug_info_off`, where 0 stands for none.
+    pub fn drop_debug(&mut self)
+        ensures { self.new ≡ stripped_members self.old }
+    {
+        drop_debugs(&mut self.direct_methods);
+        drop_debugs(&mut self.virtual_methods);
+    }
+}
+
+/// Members without their debug programs stand for what they stood for, without debug programs. It does nothing: its contract
+/// is the law, for the callers that cite it.
+pub fn members_stripped_law()
+    ensures { (m : Mentions) (x : NumberedMembers) → members_in m (stripped_members x) ≡ strip_members (members_in m x) }
+{}

@@ -4,12 +4,14 @@ ghost use Rattle.dexpool.specs.Pools.{ArePools};
 
 use crate::fault::CaseFault;
 use crate::outcome::Outcome;
+use crate::reads::directory::weight_of;
 use dexcode::{code_uses_law, debug_uses_law, positions, read_code, read_debug};
 use dexhead::{Frame, Table};
 use dexmembers::read_members;
 use dexpool::{ItemFault, Marks, Pools, ReadFault};
 use dexval::{
-    annotation_size, mark_values, marks_law, read_set, read_statics, read_value, statics_weight,
+    annotation_size, mark_values, marks_law, read_directory, read_set, read_statics, read_value,
+    statics_weight,
 };
 use std::alloc::{AllocError, Global};
 
@@ -62,6 +64,7 @@ fn weight(
         "value" => read_value(alloc, frame, pools, place)?.0.weight(),
         "statics" => statics_weight(&read_statics(alloc, frame, pools, place)?),
         "set" => read_set(alloc, frame, pools, place)?.weight(),
+        "directory" => weight_of(&read_directory(alloc, frame, pools, place)?),
         "debug" => read_debug(alloc, frame, pools, place)?.weight(),
         "code" => read_code(alloc, frame, pools, place)?.weight(),
         "members" if place < frame.size(Table::ClassDefs) => {
@@ -135,7 +138,10 @@ fn value_marks(
 ) -> Result<Marks, ItemFault>
     requires { ArePools frame.now pools.now }
 {
-    let mut marks = Marks::none(alloc, pools.numbering())?;
+    let mut marks = match Marks::none(alloc, pools.numbering()) {
+        Ok(marks) => marks,
+        Err(_) => return Err(ItemFault::Memory),
+    };
     let value = match read_value(alloc, frame, pools, off) {
         Ok((value, _)) => value,
         Err(fault) => return Err(fault),
@@ -154,7 +160,10 @@ fn statics_marks(
 ) -> Result<Marks, ItemFault>
     requires { ArePools frame.now pools.now }
 {
-    let mut marks = Marks::none(alloc, pools.numbering())?;
+    let mut marks = match Marks::none(alloc, pools.numbering()) {
+        Ok(marks) => marks,
+        Err(_) => return Err(ItemFault::Memory),
+    };
     let values = match read_statics(alloc, frame, pools, off) {
         Ok(values) => values,
         Err(fault) => return Err(fault),
@@ -173,7 +182,10 @@ fn set_marks(
 ) -> Result<Marks, ItemFault>
     requires { ArePools frame.now pools.now }
 {
-    let mut marks = Marks::none(alloc, pools.numbering())?;
+    let mut marks = match Marks::none(alloc, pools.numbering()) {
+        Ok(marks) => marks,
+        Err(_) => return Err(ItemFault::Memory),
+    };
     let set = match read_set(alloc, frame, pools, off) {
         Ok(set) => set,
         Err(fault) => return Err(fault),
@@ -192,7 +204,10 @@ fn debug_marks(
 ) -> Result<Marks, ItemFault>
     requires { ArePools frame.now pools.now }
 {
-    let mut marks = Marks::none(alloc, pools.numbering())?;
+    let mut marks = match Marks::none(alloc, pools.numbering()) {
+        Ok(marks) => marks,
+        Err(_) => return Err(ItemFault::Memory),
+    };
     let debug = match read_debug(alloc, frame, pools, off) {
         Ok(debug) => debug,
         Err(fault) => return Err(fault),
@@ -211,7 +226,10 @@ fn code_marks(
 ) -> Result<Marks, ItemFault>
     requires { ArePools frame.now pools.now }
 {
-    let mut marks = Marks::none(alloc, pools.numbering())?;
+    let mut marks = match Marks::none(alloc, pools.numbering()) {
+        Ok(marks) => marks,
+        Err(_) => return Err(ItemFault::Memory),
+    };
     let code = match read_code(alloc, frame, pools, off) {
         Ok(code) => code,
         Err(fault) => return Err(fault),

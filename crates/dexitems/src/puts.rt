@@ -8,9 +8,10 @@ use crate::outcome::Outcome;
 use crate::words::word_of;
 use dexcode::{put_code, put_debug, read_code, read_debug};
 use dexhead::Frame;
-use dexpool::{ItemFault, Pools, ReadFault};
+use dexpool::{ItemFault, Numbering, Pools, ReadFault};
 use dexval::{
-    counts_law, put_annotation, put_set, put_statics, put_value, read_set, read_statics, read_value,
+    AnnotationSet, counts_law, put_annotation, put_set, put_statics, put_value, read_set,
+    read_statics, read_value,
 };
 use std::alloc::Global;
 
@@ -174,10 +175,20 @@ fn put_set_again(
     out: &mut Vec<u8>,
 ) -> Result<(), ItemFault> {
     let set = read_set(alloc, frame, pools, off)?;
+    put_light_set(&set, first, pools.numbering(), out)
+}
+
+// Appends a set that is light enough to be behind the place where its annotations stand.
+fn put_light_set(
+    set: &AnnotationSet,
+    first: u32,
+    numbering: &Numbering<'_>,
+    out: &mut Vec<u8>,
+) -> Result<(), ItemFault> {
     counts_law();
-    if u64::from(first).saturating_add(set.weight()) >= 0x1_0000_0000 {
+    if set.weight() >= 0x1_0000_0000 - u64::from(first) {
         return Err(ItemFault::Refused(0));
     }
-    put_set(&set, first, out, pools.numbering())?;
+    put_set(set, first, out, numbering)?;
     Ok(())
 }

@@ -5,7 +5,7 @@
 
 mod code;
 mod debug;
-mod directory;
+pub mod directory;
 mod members;
 mod set;
 mod statics;
@@ -44,6 +44,8 @@ pub fn run(alloc: Global, kind: Kind, bytes: &[u8], case: &str) -> Result<Outcom
 
 /// A map that leads each number of a numbering to itself.
 pub fn as_it_is(alloc: Global, numbering: &Numbering<'_>) -> Result<Remap, CaseFault> {
-    let (_, remaps) = Numbering::join(alloc, &[numbering])?;
+    let mut parts = Vec::new(alloc);
+    parts.push(numbering)?;
+    let (_, remaps) = Numbering::join(alloc, &parts)?;
     remaps.into_iter().next().ok_or(CaseFault::Memory)
 }

@@ -1,6 +1,6 @@
 //! Two items of a file compared: a word for their kind, and `FILE OFFSET OFFSET yes` or `.. no`. Values, arrays, sets and
 //! debug programs are compared as they are, looked up in a set of what is hashed, and compared led on; code is compared
-//! led on.
+//! led on, and for `bare` the debug program of the first is dropped before.
 
 use crate::fault::CaseFault;
 use crate::outcome::Outcome;
@@ -55,7 +55,8 @@ pub fn run(alloc: Global, word: &str, bytes: &[u8], case: &str) -> Result<Outcom
         "statics" => statics(alloc, &frame, &pools, &remap, off, other),
         "set" => sets(alloc, &frame, &pools, &remap, off, other),
         "debug" => debugs(alloc, &frame, &pools, &remap, off, other),
-        "code" => codes(alloc, &frame, &pools, &remap, off, other),
+        "code" => codes(alloc, &frame, &pools, &remap, off, other, false),
+        "bare" => codes(alloc, &frame, &pools, &remap, off, other, true),
         _ => return Err(CaseFault::Form),
     };
     match compared {
@@ -152,7 +153,7 @@ fn debugs(
     })
 }
 
-// How the code items at two offsets compare.
+// How the code items at two offsets compare, the first perhaps without its debug program.
 fn codes(
     alloc: Global,
     frame: &Frame<'_>,
@@ -160,8 +161,12 @@ fn codes(
     remap: &Remap,
     off: u32,
     other: u32,
+    is_bare: bool,
 ) -> Result<Likeness, ItemFault> {
-    let code = read_code(alloc, frame, pools, off)?;
+    let mut code = read_code(alloc, frame, pools, off)?;
+    if is_bare {
+        code.drop_debug();
+    }
     let other = read_code(alloc, frame, pools, other)?;
     let is_same = code.same_mapped(remap, &other, remap);
     Ok(Likeness {

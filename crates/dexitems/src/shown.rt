@@ -10,7 +10,7 @@ use dexpool::Numbering;
 
 /// An item whose numbers are those of a numbering. It prints as the files of right answers have it.
 #[derive(Drop)]
-pub struct Shown<'s, T> {
-    pub numbering: &'s Numbering<'s>,
+pub struct Shown<'n, 'a, 's, T> {
+    pub numbering: &'n Numbering<'a>,
     pub item: &'s T,
 }

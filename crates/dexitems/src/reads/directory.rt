@@ -37,8 +37,8 @@ pub fn run(
     answered(alloc, text, wrong, right)
 }
 
-// What the sets and lists of sets of a directory weigh.
-fn weight_of(directory: &Directory) -> u64 {
+/// What the sets and lists of sets of a directory weigh.
+pub fn weight_of(directory: &Directory) -> u64 {
     let mut weight = directory.own.weight();
     for (_, set) in &directory.fields {
         weight = weight.saturating_add(set.weight());

@@ -27,11 +27,7 @@ pub fn run(
         Err(fault) => return refused(alloc, fault, right),
     };
     let numbering = pools.numbering();
-    let shown = Shown {
-        numbering,
-        item: &members,
-    };
-    let text = format!(in alloc; "ok {shown}")?;
+    let text = told(alloc, numbering, &members)?;
     let weight = members.weight();
     let wrong = if !is_copied(alloc, numbering, &members)? {
         Some("the copy is another")
@@ -43,6 +39,12 @@ pub fn run(
         None
     };
     answered(alloc, text, wrong, right)
+}
+
+// Members in print.
+fn told(alloc: Global, numbering: &Numbering<'_>, item: &Members<'_>) -> Result<String, CaseFault> {
+    let shown = Shown { numbering, item };
+    Ok(format!(in alloc; "ok {shown}")?)
 }
 
 // Whether a copy of members is the same.

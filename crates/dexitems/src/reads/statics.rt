@@ -11,7 +11,7 @@ use crate::outcome::Outcome;
 use crate::reads::as_it_is;
 use crate::shown::Shown;
 use dexhead::Frame;
-use dexpool::{Marks, Numbering, Pools};
+use dexpool::{Marks, Numbering, Pools, Remap};
 use dexval::{
     Value, mark_values, marks_law, read_statics, renumber_values, same_values_mapped, values_fit,
 };
@@ -41,6 +41,23 @@ pub fn run(
     answered(alloc, text, wrong, right)
 }
 
+// A numbering of just the symbols that occur in values, and where numbers lead.
+fn kept<'a>(
+    alloc: Global,
+    numbering: &Numbering<'a>,
+    values: &[Value],
+) -> Result<(Numbering<'a>, Remap), AllocError>
+    requires { AreKnown numbering.now (values_of_list (map value_of values.now)) }
+{
+    let mut marks = match Marks::none(alloc, numbering) {
+        Ok(marks) => marks,
+        Err(error) => return Err(error),
+    };
+    marks_law();
+    mark_values(values, &mut marks);
+    numbering.keep(alloc, &marks)
+}
+
 // What is wrong with the other calls on values.
 fn wrong_call(
     alloc: Global,
@@ -53,16 +70,17 @@ fn wrong_call(
     if led != *values {
         return Ok(Some("a copy is another"));
     }
-    let mut marks = Marks::none(alloc, numbering)?;
-    marks_law();
-    mark_values(values, &mut marks);
-    let (kept, remap) = numbering.keep(alloc, &marks)?;
+    let (kept, remap) = kept(alloc, numbering, values)?;
     if !values_fit(&led, &remap) {
         return Ok(Some("a marked symbol is not kept"));
     }
     renumber_values(&mut led, &remap);
     if !same_values_mapped(values, &remap, &led, &as_it_is(alloc, &kept)?) {
         return Ok(Some("their numbers are led elsewhere"));
+    }
+    let are_alike = same_values_mapped(values, &remap, values, &as_it_is(alloc, numbering)?);
+    if are_alike != (led == *values) {
+        return Ok(Some("with other numbers they are the same, or with these others"));
     }
     let text = told(alloc, numbering, values)?;
     let text_led = told(alloc, &kept, &led)?;

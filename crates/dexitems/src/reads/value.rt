@@ -10,9 +10,9 @@ use crate::outcome::Outcome;
 use crate::reads::as_it_is;
 use crate::shown::Shown;
 use dexhead::Frame;
-use dexpool::{Marks, Numbering, Pools};
+use dexpool::{Marks, Numbering, Pools, Remap};
 use dexval::{Value, marks_law, read_value};
-use std::alloc::Global;
+use std::alloc::{AllocError, Global};
 
 /// Runs a line: `ok USED VALUE`.
 pub fn run(
@@ -38,6 +38,23 @@ pub fn run(
     answered(alloc, text, wrong, right)
 }
 
+// A numbering of just the symbols that occur in a value, and where numbers lead.
+fn kept<'a>(
+    alloc: Global,
+    numbering: &Numbering<'a>,
+    value: &Value,
+) -> Result<(Numbering<'a>, Remap), AllocError>
+    requires { IsKnown numbering.now (value_of value.now) }
+{
+    let mut marks = match Marks::none(alloc, numbering) {
+        Ok(marks) => marks,
+        Err(error) => return Err(error),
+    };
+    marks_law();
+    value.mark(&mut marks);
+    numbering.keep(alloc, &marks)
+}
+
 // What is wrong with the other calls on a value.
 fn wrong_call(
     alloc: Global,
@@ -50,16 +67,17 @@ fn wrong_call(
     if led != *value {
         return Ok(Some("the copy is another"));
     }
-    let mut marks = Marks::none(alloc, numbering)?;
-    marks_law();
-    value.mark(&mut marks);
-    let (kept, remap) = numbering.keep(alloc, &marks)?;
+    let (kept, remap) = kept(alloc, numbering, value)?;
     if !led.fits(&remap) {
         return Ok(Some("a marked symbol is not kept"));
     }
     led.renumber(&remap);
     if !value.same_mapped(&remap, &led, &as_it_is(alloc, &kept)?) {
         return Ok(Some("its numbers are led elsewhere"));
+    }
+    let is_alike = value.same_mapped(&remap, value, &as_it_is(alloc, numbering)?);
+    if is_alike != (led == *value) {
+        return Ok(Some("with other numbers it is the same, or with these another"));
     }
     let text = told(alloc, numbering, value)?;
     let text_led = told(alloc, &kept, &led)?;

@@ -2,7 +2,7 @@
 
 use crate::shown::Shown;
 use crate::shown::debug::print_debug;
-use crate::shown::symbols::{print_symbol, print_type};
+use crate::shown::symbols::{print_comma, print_symbol, print_type};
 use dexcode::{Code, Handler, Try};
 use dexinsn::{Piece, PieceKind, mnemonic};
 use dexpool::{Numbering, SymbolKind};
@@ -70,19 +70,18 @@ fn print_handler<W: fmt::Write>(
     numbering: &Numbering<'_>,
     f: &mut fmt::Formatter<W>,
 ) -> fmt::Result {
-    f.write_str(" / handler")?;
-    let mut mark = " ";
-    for catch in handler.catches() {
-        f.write_str(mark)?;
+    f.write_str(" / handler ")?;
+    for (i, catch) in handler.catches().iter().enumerate() {
+        print_comma(i, f)?;
         print_type(numbering, catch.typ as usize, f)?;
         let address = catch.address;
         write!(f, " {address}")?;
-        mark = ", ";
     }
-    match handler.catch_all() {
-        Some(address) => write!(f, "{mark}all {address}"),
-        None => Ok(()),
+    if let Some(address) = handler.catch_all() {
+        print_comma(handler.catches().len(), f)?;
+        write!(f, "all {address}")?;
     }
+    Ok(())
 }
 
 // Prints a try: ` / try START COUNT HANDLER`.
@@ -95,7 +94,7 @@ fn print_try<W: fmt::Write>(item: Try, f: &mut fmt::Formatter<W>) -> fmt::Result
     write!(f, " / try {start} {count} {handler}")
 }
 
-impl fmt::Display for Shown<'_, Code<'_>> {
+impl fmt::Display for Shown<'_, '_, '_, Code<'_>> {
     fn fmt<W: fmt::Write>(&self, f: &mut fmt::Formatter<W>) -> fmt::Result {
         let code = self.item;
         print_lines(code, self.numbering, f)?;

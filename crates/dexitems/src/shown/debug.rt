@@ -1,7 +1,7 @@
 //! Debug programs.
 
 use crate::shown::Shown;
-use crate::shown::symbols::{print_string, print_type};
+use crate::shown::symbols::{print_comma, print_string, print_type};
 use dexcode::{Debug, Operation};
 use dexpool::Numbering;
 use std::fmt;
@@ -81,28 +81,24 @@ pub fn print_debug<W: fmt::Write>(
     f: &mut fmt::Formatter<W>,
 ) -> fmt::Result {
     let line_start = debug.line_start();
-    write!(f, "debug {line_start} ")?;
-    let mut mark = "(";
-    for name in debug.parameter_names() {
-        f.write_str(mark)?;
+    write!(f, "debug {line_start} (")?;
+    for (i, name) in debug.parameter_names().iter().enumerate() {
+        print_comma(i, f)?;
         print_text_or_none(numbering, *name, f)?;
-        mark = ", ";
     }
-    f.write_str(if debug.parameter_names().is_empty() {
-        "()"
-    } else {
+    f.write_str(if debug.operations().is_empty() {
         ")"
+    } else {
+        ") "
     })?;
-    let mut mark = " ";
-    for operation in debug.operations() {
-        f.write_str(mark)?;
+    for (i, operation) in debug.operations().iter().enumerate() {
+        print_comma(i, f)?;
         print_operation(operation, numbering, f)?;
-        mark = ", ";
     }
     Ok(())
 }
 
-impl fmt::Display for Shown<'_, Debug> {
+impl fmt::Display for Shown<'_, '_, '_, Debug> {
     fn fmt<W: fmt::Write>(&self, f: &mut fmt::Formatter<W>) -> fmt::Result {
         print_debug(self.item, self.numbering, f)
     }

@@ -4,6 +4,11 @@ use dexpool::{Numbering, SymbolKind};
 use dexstr::Text;
 use std::fmt;
 
+/// Prints what stands before an item of a list: nothing before the first.
+pub fn print_comma<W: fmt::Write>(place: usize, f: &mut fmt::Formatter<W>) -> fmt::Result {
+    f.write_str(if place == 0 { "" } else { ", " })
+}
+
 // Prints a text without quotes: the units from 0x20 to 0x7e as themselves, and `"` and `\` behind a backslash.
 fn print_text<W: fmt::Write>(text: &Text<'_>, f: &mut fmt::Formatter<W>) -> fmt::Result {
     for unit in text.units() {

@@ -1,7 +1,7 @@
 //! Values, annotations, sets and directories.
 
 use crate::shown::Shown;
-use crate::shown::symbols::{print_field, print_method, print_string, print_type};
+use crate::shown::symbols::{print_comma, print_field, print_method, print_string, print_type};
 use dexpool::Numbering;
 use dexval::{Annotation, AnnotationSet, Directory, Element, Value, Visibility};
 use std::fmt;
@@ -59,14 +59,10 @@ fn print_values<W: fmt::Write>(
     numbering: &Numbering<'_>,
     f: &mut fmt::Formatter<W>,
 ) -> fmt::Result {
-    let mut mark = "[";
-    for value in values {
-        f.write_str(mark)?;
+    f.write_str("[")?;
+    for (i, value) in values.iter().enumerate() {
+        print_comma(i, f)?;
         print_value(value, numbering, f)?;
-        mark = ", ";
-    }
-    if values.is_empty() {
-        f.write_str("[")?;
     }
     f.write_str("]")
 }
@@ -78,16 +74,12 @@ fn print_elements<W: fmt::Write>(
     numbering: &Numbering<'_>,
     f: &mut fmt::Formatter<W>,
 ) -> fmt::Result {
-    let mut mark = "(";
-    for element in elements {
-        f.write_str(mark)?;
+    f.write_str("(")?;
+    for (i, element) in elements.iter().enumerate() {
+        print_comma(i, f)?;
         print_string(numbering, element.name, f)?;
         f.write_str(" = ")?;
         print_value(&element.value, numbering, f)?;
-        mark = ", ";
-    }
-    if elements.is_empty() {
-        f.write_str("(")?;
     }
     f.write_str(")")
 }
@@ -113,14 +105,10 @@ fn print_set<W: fmt::Write>(
     numbering: &Numbering<'_>,
     f: &mut fmt::Formatter<W>,
 ) -> fmt::Result {
-    let mut mark = "{";
-    for annotation in set.annotations() {
-        f.write_str(mark)?;
+    f.write_str("{")?;
+    for (i, annotation) in set.annotations().iter().enumerate() {
+        print_comma(i, f)?;
         print_annotation(annotation, numbering, f)?;
-        mark = ", ";
-    }
-    if set.is_empty() {
-        f.write_str("{")?;
     }
     f.write_str("}")
 }
@@ -131,14 +119,10 @@ fn print_sets<W: fmt::Write>(
     numbering: &Numbering<'_>,
     f: &mut fmt::Formatter<W>,
 ) -> fmt::Result {
-    let mut mark = "[";
-    for set in sets {
-        f.write_str(mark)?;
+    f.write_str("[")?;
+    for (i, set) in sets.iter().enumerate() {
+        print_comma(i, f)?;
         print_set(set, numbering, f)?;
-        mark = ", ";
-    }
-    if sets.is_empty() {
-        f.write_str("[")?;
     }
     f.write_str("]")
 }
@@ -172,25 +156,25 @@ fn print_directory<W: fmt::Write>(
     Ok(())
 }
 
-impl fmt::Display for Shown<'_, Value> {
+impl fmt::Display for Shown<'_, '_, '_, Value> {
     fn fmt<W: fmt::Write>(&self, f: &mut fmt::Formatter<W>) -> fmt::Result {
         print_value(self.item, self.numbering, f)
     }
 }
 
-impl fmt::Display for Shown<'_, Vec<Value>> {
+impl fmt::Display for Shown<'_, '_, '_, Vec<Value>> {
     fn fmt<W: fmt::Write>(&self, f: &mut fmt::Formatter<W>) -> fmt::Result {
         print_values(self.item, self.numbering, f)
     }
 }
 
-impl fmt::Display for Shown<'_, AnnotationSet> {
+impl fmt::Display for Shown<'_, '_, '_, AnnotationSet> {
     fn fmt<W: fmt::Write>(&self, f: &mut fmt::Formatter<W>) -> fmt::Result {
         print_set(self.item, self.numbering, f)
     }
 }
 
-impl fmt::Display for Shown<'_, Directory> {
+impl fmt::Display for Shown<'_, '_, '_, Directory> {
     fn fmt<W: fmt::Write>(&self, f: &mut fmt::Formatter<W>) -> fmt::Result {
         print_directory(self.item, self.numbering, f)
     }

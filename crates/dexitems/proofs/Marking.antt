@@ -1,0 +1,17 @@
+-- Marks after more symbols are marked.
+use Rattle.std.proofs.Common.{List, ◌∙◌}
+use Rattle.dexspec.specs.Mentions.{Mentions}
+use Rattle.dexpool.specs.declared.marks.Marks.{Marks}
+use Rattle.dexpool.specs.declared.symbols.SymbolKind.TheVariants as kinds
+use Rattle.dexpool.specs.Numberings.{AreMarksOf}
+use Rattle.dexpool.specs.Uses.{Use, AreMarkedToo}
+
+-- there are as many marks as before
+pub as_many : (m : Mentions) (us : List Use) (old new : Marks) → AreMarksOf m old → AreMarkedToo us old new → AreMarksOf m new
+as_many m us old new are more = record {
+  strings_count = more.count kinds.Text ∙ are.strings_count;
+  types_count = more.count kinds.Typ ∙ are.types_count;
+  protos_count = more.count kinds.Proto ∙ are.protos_count;
+  fields_count = more.count kinds.Field ∙ are.fields_count;
+  methods_count = more.count kinds.Method ∙ are.methods_count;
+}

@@ -1,0 +1,77 @@
+//! Why the program stops, and why a line is not run.
+
+use hex::FromHexError;
+use std::alloc::{AllocError, AllocFailed};
+use std::num::ParseIntError;
+use std::{fmt, io};
+use thiserror::Error;
+
+/// Why the program stops, or why a line is not run.
+#[derive(Debug, Drop, Error)]
+pub enum CaseFault {
+    /// The words are not the names of files of right answers.
+    #[error("usage: dexitems FILE.. (value.txt statics.txt set.txt directory.txt debug_info.txt code.txt classdata.txt item_puts.txt index.txt)")]
+    Words,
+    /// A file cannot be read.
+    #[error("{name}: cannot be read: {error}")]
+    File { name: String, error: io::Error },
+    /// A line has not the form of its kind. It counts as failed, and the program goes on.
+    #[error("not a line of this kind")]
+    Form,
+    /// The output fails.
+    #[error("{0}")]
+    Output(io::Error),
+    #[error("out of memory")]
+    Memory,
+}
+
+impl CaseFault {
+    /// The status that the program ends with.
+    pub fn status(&self) -> u8 {
+        match self {
+            CaseFault::Form => 1,
+            CaseFault::Words => 2,
+            CaseFault::File { .. } => 3,
+            CaseFault::Output(_) | CaseFault::Memory => 4,
+        }
+    }
+}
+
+impl From<io::Error> for CaseFault {
+    fn from(error: io::Error) -> CaseFault {
+        CaseFault::Output(error)
+    }
+}
+
+impl From<AllocError> for CaseFault {
+    fn from(_error: AllocError) -> CaseFault {
+        CaseFault::Memory
+    }
+}
+
+impl<T: Drop> From<AllocFailed<T>> for CaseFault {
+    fn from(_error: AllocFailed<T>) -> CaseFault {
+        CaseFault::Memory
+    }
+}
+
+impl From<FromHexError> for CaseFault {
+    fn from(error: FromHexError) -> CaseFault {
+        match error {
+            FromHexError::OutOfMemory => CaseFault::Memory,
+            _ => CaseFault::Form,
+        }
+    }
+}
+
+impl From<ParseIntError> for CaseFault {
+    fn from(_error: ParseIntError) -> CaseFault {
+        CaseFault::Form
+    }
+}
+
+impl From<fmt::Error> for CaseFault {
+    fn from(_error: fmt::Error) -> CaseFault {
+        CaseFault::Memory
+    }
+}

@@ -1,0 +1,75 @@
+//! Numbers that lead nowhere, and kinds of values with one number.
+
+use dexpool::{Numbering, Remap};
+use dexval::{Value, values_fit};
+use std::alloc::Global;
+
+/// A map that leads no number anywhere.
+fn nowhere(alloc: Global) -> Option<Remap> {
+    let empty = Numbering::empty(alloc);
+    let mut parts = Vec::new(alloc);
+    parts.push(&empty).ok()?;
+    let (_, remaps) = Numbering::join(alloc, &parts).ok()?;
+    remaps.into_iter().next()
+}
+
+/// Whether the numbers of a value lead somewhere.
+fn fits(alloc: Global, value: &Value) -> Option<bool> {
+    Some(value.fits(&nowhere(alloc)?))
+}
+
+#[test]
+fn numbers_that_lead_nowhere_do_not_fit(rt: HostRuntime) {
+    assert_eq!(rt; fits(rt.alloc(), &Value::String(0)), Some(false));
+    assert_eq!(rt; fits(rt.alloc(), &Value::Typ(0)), Some(false));
+    assert_eq!(rt; fits(rt.alloc(), &Value::Field(0)), Some(false));
+    assert_eq!(rt; fits(rt.alloc(), &Value::Method(0)), Some(false));
+    assert_eq!(rt; fits(rt.alloc(), &Value::Enum(0)), Some(false));
+    assert_eq!(rt; fits(rt.alloc(), &Value::Int(0)), Some(true));
+}
+
+/// Whether null and another value fit.
+fn both_fit(alloc: Global, value: Value) -> Option<bool> {
+    Some(values_fit(&[Value::Null, value], &nowhere(alloc)?))
+}
+
+#[test]
+fn each_of_several_values_has_to_fit(rt: HostRuntime) {
+    assert_eq!(rt; both_fit(rt.alloc(), Value::Boolean(true)), Some(true));
+    assert_eq!(rt; both_fit(rt.alloc(), Value::String(4)), Some(false));
+}
+
+/// Whether the values are the same, where numbers lead nowhere.
+fn same(alloc: Global, value: &Value, other: &Value) -> Option<bool> {
+    let remap = nowhere(alloc)?;
+    Some(value.same_mapped(&remap, other, &remap))
+}
+
+#[test]
+fn kinds_tell_values_apart(rt: HostRuntime) {
+    let alloc = rt.alloc();
+    assert_eq!(rt; same(alloc, &Value::Int(5), &Value::Int(5)), Some(true));
+    assert_eq!(rt; same(alloc, &Value::Int(5), &Value::Float(5)), Some(false));
+    assert_eq!(rt;
+        same(alloc, &Value::Long(5), &Value::Double(5)),
+        Some(false)
+    );
+    assert_eq!(rt; same(alloc, &Value::Field(1), &Value::Enum(1)), Some(false));
+    assert_eq!(rt;
+        same(alloc, &Value::Null, &Value::Boolean(false)),
+        Some(false)
+    );
+}
+
+#[test]
+fn numbers_that_lead_nowhere_stay(rt: HostRuntime) {
+    let alloc = rt.alloc();
+    assert_eq!(rt;
+        same(alloc, &Value::String(1), &Value::String(1)),
+        Some(true)
+    );
+    assert_eq!(rt;
+        same(alloc, &Value::String(1), &Value::String(2)),
+        Some(false)
+    );
+}

@@ -1,0 +1,188 @@
+//! Items put where the spare room is just what their contracts ask for: the vector does not grow. The bytes that are
+//! wanted were written down by hand from the format.
+
+use crate::made_files::{ITEMS, file_with};
+use dexcode::{put_code, put_debug, read_code, read_debug};
+use dexhead::Frame;
+use dexmembers::Members;
+use dexpool::{Numbering, Pools};
+use dexval::{
+    Annotation, AnnotationSet, Element, Value, Visibility, put_annotation, put_set, put_statics,
+    put_value,
+};
+use std::alloc::Global;
+
+/// What a long of eight bytes is put as in the room of its weight, and that room afterwards.
+fn long_in_its_weight(alloc: Global) -> Option<(Vec<u8>, usize)> {
+    let mut bytes = Vec::with_capacity(alloc, 9).ok()?;
+    let long = Value::Long(-9223372036854775808);
+    put_value(&long, &Numbering::empty(alloc), &mut bytes).ok()?;
+    let room = bytes.capacity();
+    Some((bytes, room))
+}
+
+#[test]
+fn a_value_is_put_in_its_weight(rt: HostRuntime) {
+    let Some((bytes, room)) = long_in_its_weight(rt.alloc()) else {
+        panic!(rt; "no bytes")
+    };
+    let wanted = [0xe6, 0x00, 0x00, 0x00, 0x00, 0x00, 0x00, 0x00, 0x80];
+    assert_eq!(rt; bytes.as_slice(), wanted.as_slice());
+    assert_eq!(rt; room, 9);
+}
+
+/// What two static values are put as in the room of their weight, and that room afterwards.
+fn statics_in_their_weight(alloc: Global) -> Option<(Vec<u8>, usize)> {
+    let mut bytes = Vec::with_capacity(alloc, 24).ok()?;
+    let values = [Value::Int(128), Value::Null];
+    put_statics(&values, &Numbering::empty(alloc), &mut bytes).ok()?;
+    let room = bytes.capacity();
+    Some((bytes, room))
+}
+
+#[test]
+fn static_values_are_put_in_their_weight(rt: HostRuntime) {
+    let Some((bytes, room)) = statics_in_their_weight(rt.alloc()) else {
+        panic!(rt; "no bytes")
+    };
+    assert_eq!(rt; bytes.as_slice(), [0x02, 0x24, 0x80, 0x00, 0x1e].as_slice());
+    assert_eq!(rt; room, 24);
+}
+
+/// What an annotation is put as in the room of its weight, and that room afterwards.
+fn annotation_in_its_weight(alloc: Global) -> Option<(Vec<u8>, usize)> {
+    let element = Element {
+        name: 5,
+        value: Value::String(128),
+    };
+    let annotation = Annotation {
+        visibility: Visibility::Runtime,
+        typ: 2,
+        elements: vec![in alloc; element].ok()?,
+    };
+    let mut bytes = Vec::with_capacity(alloc, 26).ok()?;
+    put_annotation(&annotation, &Numbering::empty(alloc), &mut bytes).ok()?;
+    let room = bytes.capacity();
+    Some((bytes, room))
+}
+
+#[test]
+fn an_annotation_is_put_in_its_weight(rt: HostRuntime) {
+    let Some((bytes, room)) = annotation_in_its_weight(rt.alloc()) else {
+        panic!(rt; "no bytes")
+    };
+    assert_eq!(rt;
+        bytes.as_slice(),
+        [0x01, 0x02, 0x01, 0x05, 0x17, 0x80].as_slice()
+    );
+    assert_eq!(rt; room, 26);
+}
+
+/// What a set without annotations is put as behind a byte, in room for four more, and the room afterwards.
+fn set_in_its_room(alloc: Global) -> Option<(Vec<u8>, usize)> {
+    let mut bytes = Vec::with_capacity(alloc, 5).ok()?;
+    bytes.push(0x7f).ok()?;
+    let set = AnnotationSet::empty(alloc);
+    put_set(&set, 188, &mut bytes, &Numbering::empty(alloc)).ok()?;
+    let room = bytes.capacity();
+    Some((bytes, room))
+}
+
+#[test]
+fn a_set_is_put_in_its_room(rt: HostRuntime) {
+    let Some((bytes, room)) = set_in_its_room(rt.alloc()) else {
+        panic!(rt; "no bytes")
+    };
+    assert_eq!(rt; bytes.as_slice(), [0x7f, 0, 0, 0, 0].as_slice());
+    assert_eq!(rt; room, 5);
+}
+
+/// What a debug program is put as in the room of its weight, and that room afterwards.
+fn debug_in_its_weight(alloc: Global) -> Option<(Vec<u8>, usize)> {
+    let file = file_with(alloc, &[0x0a, 0x00, 0x02, 0x01, 0x0e, 0x00])?;
+    let frame = Frame::open(&file).ok()?;
+    let pools = Pools::read(alloc, &frame).ok()?;
+    let debug = read_debug(alloc, &frame, &pools, ITEMS).ok()?;
+    // 11, 1 + 5 for the step of lines, and 1 for the special operation.
+    let mut bytes = Vec::with_capacity(alloc, 18).ok()?;
+    put_debug(&debug, pools.numbering(), &mut bytes).ok()?;
+    let room = bytes.capacity();
+    Some((bytes, room))
+}
+
+#[test]
+fn a_debug_program_is_put_in_its_weight(rt: HostRuntime) {
+    let Some((bytes, room)) = debug_in_its_weight(rt.alloc()) else {
+        panic!(rt; "no bytes")
+    };
+    assert_eq!(rt;
+        bytes.as_slice(),
+        [0x0a, 0x00, 0x02, 0x01, 0x0e, 0x00].as_slice()
+    );
+    assert_eq!(rt; room, 18);
+}
+
+/// A code_item of one `return-void`.
+const CODE: [u8; 18] = [1, 0, 0, 0, 0, 0, 0, 0, 0, 0, 0, 0, 1, 0, 0, 0, 14, 0];
+
+/// What code is put as in the room of its weight less 3, and that room afterwards.
+fn code_in_its_weight(alloc: Global) -> Option<(Vec<u8>, usize)> {
+    let file = file_with(alloc, &CODE)?;
+    let frame = Frame::open(&file).ok()?;
+    let pools = Pools::read(alloc, &frame).ok()?;
+    let code = read_code(alloc, &frame, &pools, ITEMS).ok()?;
+    if !code.types_fit() {
+        return None;
+    }
+    // 24, and 2 for the unit.
+    let mut bytes = Vec::with_capacity(alloc, 23).ok()?;
+    put_code(&code, 0, pools.numbering(), &mut bytes).ok()?;
+    let room = bytes.capacity();
+    Some((bytes, room))
+}
+
+#[test]
+fn code_is_put_in_its_weight(rt: HostRuntime) {
+    let Some((bytes, room)) = code_in_its_weight(rt.alloc()) else {
+        panic!(rt; "no bytes")
+    };
+    assert_eq!(rt; bytes.as_slice(), CODE.as_slice());
+    assert_eq!(rt; room, 23);
+}
+
+/// What the class data of no members is put as in room for 20 bytes, and that room afterwards.
+fn class_data_in_its_room(alloc: Global) -> Option<(Vec<u8>, usize)> {
+    let mut bytes = Vec::with_capacity(alloc, 20).ok()?;
+    Members::empty(alloc).put_class_data(&[], &mut bytes).ok()?;
+    let room = bytes.capacity();
+    Some((bytes, room))
+}
+
+#[test]
+fn class_data_is_put_in_its_room(rt: HostRuntime) {
+    let Some((bytes, room)) = class_data_in_its_room(rt.alloc()) else {
+        panic!(rt; "no bytes")
+    };
+    assert_eq!(rt; bytes.as_slice(), [0, 0, 0, 0].as_slice());
+    assert_eq!(rt; room, 20);
+}
+
+/// What the directory of no members with a set at 300 is put as in room for 16 bytes, and that room afterwards.
+fn directory_in_its_room(alloc: Global) -> Option<(Vec<u8>, usize)> {
+    let mut bytes = Vec::with_capacity(alloc, 16).ok()?;
+    Members::empty(alloc)
+        .put_directory(300, &[], &[], &[], &mut bytes)
+        .ok()?;
+    let room = bytes.capacity();
+    Some((bytes, room))
+}
+
+#[test]
+fn a_directory_is_put_in_its_room(rt: HostRuntime) {
+    let Some((bytes, room)) = directory_in_its_room(rt.alloc()) else {
+        panic!(rt; "no bytes")
+    };
+    let wanted = [44, 1, 0, 0, 0, 0, 0, 0, 0, 0, 0, 0, 0, 0, 0, 0];
+    assert_eq!(rt; bytes.as_slice(), wanted.as_slice());
+    assert_eq!(rt; room, 16);
+}

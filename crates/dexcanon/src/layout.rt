@@ -22,7 +22,8 @@ use std::alloc::{AllocError, Global};
 
 const HEADER_SIZE: u32 = 112;
 
-/// Where everything stands in the canonical file of a program, and how long the file is.
+/// Where everything stands in the canonical file of a program, and how long the file is. Classes with equal lists of
+/// interfaces share one, which stands in the place of the first.
 ///
 /// Source: the Android page "Dalvik Executable format", "File layout"; the order of what stands in each section is
 /// this project's rule.
@@ -34,7 +35,7 @@ pub struct Layout {
     pub(crate) strings: Vec<u32>,
     // Where the interfaces of each class are listed, or 0.
     pub(crate) lists: Vec<u32>,
-    // The first class of each list.
+    // The first class that has each list, in the order of the lists.
     pub(crate) firsts: Vec<usize>,
     pub(crate) entries: Vec<MapEntry>,
     // Where the sections before the map end.
@@ -48,7 +49,7 @@ pub struct Layout {
 pub(crate) struct Lists {
     // For each class 0 or the offset of its list.
     pub(crate) offsets: Vec<u32>,
-    // The first class of each list.
+    // The first class that has each list, in the order of the lists.
     pub(crate) firsts: Vec<usize>,
     pub(crate) end: u32,
     // No list has more bytes, with those that align it.

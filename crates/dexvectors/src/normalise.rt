@@ -1,4 +1,4 @@
-//! Files normalised: `normalise FILE CANON`. A copy of the program is made to bytes, and the program is written to a
+//! Files normalised: `normalise FILE CANON`. The program is made to bytes, and a copy of it is written to a
 //! device. Today only plain files are read.
 
 ghost use Rattle.std.specs.Prelude.{◌≡◌, IfOk, IsTrue};
@@ -27,8 +27,10 @@ pub fn run(alloc: Global, bytes: &[u8], right: &[u8]) -> Result<Outcome, VectorF
         }
         Err(ReadFault::Memory) => return Err(VectorFault::Memory),
     };
-    let copy = program.copy()?;
-    if is_written_as(alloc, &copy, right)? && is_given(alloc, &program, right)? {
+    if !is_given(alloc, &program.copy()?, right)? {
+        return other_bytes(alloc);
+    }
+    if is_written_as(alloc, &program, right)? {
         return Ok(Outcome::Passed);
     }
     other_bytes(alloc)

@@ -1,14 +1,15 @@
 //! Symbols of rows: `symbol FILE POOL ROW TEXT`. A type is shown by its descriptor, a proto as `(PARAMETERS)RETURN`, a
-//! field as `CLASS->NAME:TYPE` and a method as `CLASS->NAME(PARAMETERS)RETURN`.
+//! field as `CLASS->NAME:TYPE` and a method as `CLASS->NAME(PARAMETERS)RETURN`. A copy of the symbol is shown, and has to
+//! rank as its row in a numbering of the pools.
 
 use crate::fault::VectorFault;
 use crate::outcome::Outcome;
 use crate::words::push_name;
 use dexhead::Frame;
-use dexpool::{Pools, ProtoSymbol, Symbol, SymbolKind};
+use dexpool::{Numbering, Pools, ProtoSymbol, Symbol, SymbolKind};
 use std::alloc::{AllocError, Global};
 
-/// Runs a line, given what stands in it behind the file's name: how it goes. A copy of the symbol is shown.
+/// Runs a line, given what stands in it behind the file's name: how it goes.
 pub fn run(alloc: Global, bytes: &[u8], asked: &str) -> Result<Outcome, VectorFault> {
     let (pool, rest) = asked.split_once(' ').ok_or(VectorFault::Form)?;
     let (row, right) = rest.split_once(' ').ok_or(VectorFault::Form)?;
@@ -20,11 +21,38 @@ pub fn run(alloc: Global, bytes: &[u8], asked: &str) -> Result<Outcome, VectorFa
     let Ok(pools) = Pools::read(alloc, &frame) else {
         return Ok(Outcome::Failed(String::from_str(alloc, "no pools")?));
     };
+    let answered = named(alloc, &pools, kind, row)?;
+    Ok(Outcome::of(answered, right))
+}
+
+// What a row names, by a copy of its symbol, or why it names none.
+fn named(
+    alloc: Global,
+    pools: &Pools<'_>,
+    kind: SymbolKind,
+    row: u32,
+) -> Result<String, AllocError> {
     if row as usize >= pools.len(kind) {
-        return Ok(Outcome::Failed(String::from_str(alloc, "no row")?));
+        return String::from_str(alloc, "no row");
     }
-    let copy = pools.symbol(alloc, kind, row)?.copy()?;
-    Ok(Outcome::of(shown(alloc, &copy)?, right))
+    let symbol = pools.symbol(alloc, kind, row)?;
+    let copy = symbol.copy()?;
+    let numbering = Numbering::of(pools)?;
+    if rank(&numbering, &copy) != row as usize {
+        return String::from_str(alloc, "another rank");
+    }
+    shown(alloc, &copy)
+}
+
+// How many symbols of its kind are less.
+fn rank(numbering: &Numbering<'_>, symbol: &Symbol) -> usize {
+    match symbol {
+        Symbol::Text(name) => numbering.rank_string(&name.text()),
+        Symbol::Typ(name) => numbering.rank_type(&name.text()),
+        Symbol::Proto(proto) => numbering.rank_proto(proto),
+        Symbol::Field(field) => numbering.rank_field(field),
+        Symbol::Method(method) => numbering.rank_method(method),
+    }
 }
 
 // The pool of this name.

@@ -1,6 +1,6 @@
 use Rattle.std.proofs.Common.{◌≡◌, vec_len}
 use Rattle.dexcmd.specs.Runs.{AllWork}
-use Rattle.dextests_runs.proofs.runs.checked.Given as goal
+use Rattle.dextests.proofs.runs.checked.Given as goal
 
 -- a name and a reader for each file so far, and no reader has failed
 abbrev pub invariant-loop-name : goal.invariant-loop-name

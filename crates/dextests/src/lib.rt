@@ -1,31 +1,22 @@
-//! Tests of the crates through their public calls.
+//! Tests of what no line of data shows: devices that fail, the order and the equality of texts, generic functions at
+//! concrete types, and the words of the command line.
 //!
 //! They stand in a crate of their own because a crate that holds tests is proved twice.
 #![tactic(auto)]
 
 #[cfg(test)]
-mod class_files;
+mod files;
 #[cfg(test)]
-mod class_flags;
+mod runs;
 #[cfg(test)]
-mod code_pieces;
+mod scripts;
 #[cfg(test)]
-mod code_units;
+mod sentences;
 #[cfg(test)]
-mod generated_merges;
+mod tables;
 #[cfg(test)]
-mod joined_numberings;
+mod texts;
 #[cfg(test)]
-mod kept_numberings;
+mod words;
 #[cfg(test)]
-mod plain_files;
-#[cfg(test)]
-mod plain_merges;
-#[cfg(test)]
-mod pools;
-#[cfg(test)]
-mod programs;
-#[cfg(test)]
-mod random;
-#[cfg(test)]
-mod written_files;
+mod written;

@@ -1,10 +1,13 @@
 //! Lines that ask for one call each.
 
 mod debug;
+mod flags;
 mod leb;
 mod names;
+mod opcodes;
 mod puts;
 mod split;
+mod sums;
 mod text;
 
 use crate::fault::VectorFault;
@@ -20,7 +23,10 @@ pub fn run_call(alloc: Global, kind: Kind, line: &str) -> Result<(Kind, Outcome)
         Kind::Text => text::run(alloc, line)?,
         Kind::Names => names::run(alloc, line)?,
         Kind::Split => split::run(alloc, line)?,
+        Kind::Opcodes => opcodes::run(alloc, line)?,
         Kind::Debug => debug::run(alloc, line)?,
+        Kind::Sums => sums::run(alloc, line)?,
+        Kind::Flags => flags::run(alloc, line)?,
         _ => Outcome::Unserved,
     };
     Ok((kind, outcome))

@@ -10,7 +10,7 @@ use thiserror::Error;
 #[derive(Debug, Drop, Error)]
 pub enum VectorFault {
     /// The words are not the names of files of right answers.
-    #[error("usage: dexvectors FILE.. (leb.txt puts.txt text.txt names.txt split.txt debug.txt index.txt)")]
+    #[error("usage: dexvectors FILE.. (calls/NAME.txt or FOLDER/index.txt)")]
     Words,
     /// A file cannot be read.
     #[error("{name}: cannot be read: {error}")]

@@ -44,10 +44,13 @@ pub fn run_file<R: Files + Print + AllocGlobal>(rt: &R, name: &str) -> Result<Ta
     };
     println!(rt; "{name}")?;
     let mut tallies: BTreeMap<Kind, Tally> = BTreeMap::new(rt.alloc());
-    for line in text.as_str().lines() {
+    for (number, line) in (1u64..).zip(text.as_str().lines()) {
+        if line.starts_with('#') {
+            continue;
+        }
         let (kind, outcome) = run_line(rt, source, line)?;
         if let Outcome::Failed(answered) = &outcome {
-            println!(rt; "  {line}")?;
+            println!(rt; "  {name}:{number}: {line}")?;
             println!(rt; "    answered: {answered}")?;
         }
         tallies

@@ -4,7 +4,7 @@ use crate::fault::VectorFault;
 use crate::file::read_file;
 use crate::kind::Kind;
 use crate::outcome::Outcome;
-use crate::{check, merge, normalise, weight};
+use crate::{check, merge, normalise, regroup, symbol, weight};
 use std::path::Path;
 use std::rt::Files;
 
@@ -21,6 +21,10 @@ pub fn run_case<R: Files + AllocGlobal>(
             let (bytes, right) = file_and_answer(rt, folder, case)?;
             check::run(rt.alloc(), &bytes, right)
         }
+        Kind::Symbol => {
+            let (bytes, asked) = file_and_answer(rt, folder, case)?;
+            Ok((kind, symbol::run(rt.alloc(), &bytes, asked)?))
+        }
         Kind::Weight => {
             let (bytes, right) = file_and_answer(rt, folder, case)?;
             Ok((kind, weight::run(rt.alloc(), &bytes, right)?))
@@ -31,6 +35,7 @@ pub fn run_case<R: Files + AllocGlobal>(
             Ok((kind, normalise::run(rt.alloc(), &bytes, &right)?))
         }
         Kind::Merge => Ok((kind, merge::run(rt, folder, case)?)),
+        Kind::Regroup => Ok((kind, regroup::run(rt, folder, case)?)),
         Kind::Unknown => Err(VectorFault::Form),
         _ => Ok((kind, Outcome::Unserved)),
     }

@@ -15,8 +15,16 @@ pub enum Kind {
     Names,
     /// Code cut into pieces.
     Split,
+    /// The format, the pool of the index and the mnemonic of an opcode.
+    Opcodes,
     /// The positions of a debug program.
     Debug,
+    /// The checksum and the digest of bytes.
+    Sums,
+    /// Access flags as text.
+    Flags,
+    /// The symbol of a row of a pool.
+    Symbol,
     /// A file that is accepted or refused.
     Check,
     /// A file that meets conditions 1 to 16 and is not plain.
@@ -31,6 +39,10 @@ pub enum Kind {
     Strip,
     /// Files merged by a plan under caps.
     Merge,
+    /// Files merged in many orders and groupings under caps.
+    Regroup,
+    /// Files merged by a plan under caps, and then stripped.
+    MergeStrip,
     /// Nothing that this program knows.
     Unknown,
 }
@@ -44,7 +56,10 @@ impl Kind {
             "text.txt" => Some(Kind::Text),
             "names.txt" => Some(Kind::Names),
             "split.txt" => Some(Kind::Split),
+            "opcodes.txt" => Some(Kind::Opcodes),
             "debug.txt" => Some(Kind::Debug),
+            "sums.txt" => Some(Kind::Sums),
+            "flags.txt" => Some(Kind::Flags),
             _ => None,
         }
     }
@@ -52,12 +67,15 @@ impl Kind {
     /// The kind of a line of an index, by its first word.
     pub fn of_case(word: &str) -> Kind {
         match word {
+            "symbol" => Kind::Symbol,
             "check" => Kind::Check,
             "weight" => Kind::Weight,
             "normalise" => Kind::Normalise,
             "dump" => Kind::Dump,
             "strip" => Kind::Strip,
             "merge" => Kind::Merge,
+            "regroup" => Kind::Regroup,
+            "mergestrip" => Kind::MergeStrip,
             _ => Kind::Unknown,
         }
     }
@@ -71,7 +89,11 @@ impl fmt::Display for Kind {
             Kind::Text => "text",
             Kind::Names => "names",
             Kind::Split => "split",
+            Kind::Opcodes => "opcodes",
             Kind::Debug => "debug",
+            Kind::Sums => "sums",
+            Kind::Flags => "flags",
+            Kind::Symbol => "symbol",
             Kind::Check => "check",
             Kind::CheckTo16 => "check to 16 (beyond it not yet served)",
             Kind::Weight => "weight",
@@ -79,6 +101,8 @@ impl fmt::Display for Kind {
             Kind::Dump => "dump",
             Kind::Strip => "strip",
             Kind::Merge => "merge",
+            Kind::Regroup => "regroup",
+            Kind::MergeStrip => "mergestrip",
             Kind::Unknown => "unknown",
         })
     }

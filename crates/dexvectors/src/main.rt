@@ -1,9 +1,9 @@
 //! Runs files of right answers through the calls of the libraries, and tells what did not pass.
 //!
-//! The command line has the names of such files: `leb.txt`, `puts.txt`, `text.txt`, `names.txt`,
-//! `split.txt` and `debug.txt` have a call on each line, and an `index.txt` has a case on each line, over
-//! files that lie beside it. What each line passed is counted by its kind; a line that did not pass is
-//! printed whole.
+//! The command line has the names of such files: `leb.txt`, `puts.txt`, `text.txt`, `names.txt`, `split.txt`,
+//! `opcodes.txt`, `debug.txt`, `sums.txt` and `flags.txt` have a call on each line, and an `index.txt` has a case on
+//! each line, over files that lie beside it. A line that begins with `#` says what those that follow show. What each
+//! line passed is counted by its kind; a line that did not pass is printed whole, with its file and number.
 //!
 //! The status is 0 where each line passed or is not served yet, 1 where a line failed, 2 where the words
 //! are not the names of such files, 3 where a file cannot be read, and 4 where the output or memory fails.
@@ -19,6 +19,9 @@ mod merge;
 mod normalise;
 mod outcome;
 mod plans;
+mod random;
+mod regroup;
+mod symbol;
 mod tally;
 mod weight;
 mod words;

@@ -1,5 +1,5 @@
 //! Files merged: `merge PLAN caps T P F M S W files FILE.. ok CANON`, `.. fault CAUSE | CAUSE ..`, any of
-//! which is right, or `.. badplan`. Today only plain files are read.
+//! which is right, or `.. badplan`; no files are `-`. Today only plain files are read.
 
 use crate::check::LATER;
 use crate::fault::VectorFault;
@@ -7,24 +7,33 @@ use crate::file::read_file;
 use crate::normalise::{is_written_as, other_bytes};
 use crate::outcome::Outcome;
 use crate::plans::{caps_in, plan_in};
-use dexclass::read;
+use crate::words::push_name;
+use dexclass::{Program, read};
 use dexhead::Refusal;
-use dexmerge::{MergeFault, PlanFault, merge_plan};
+use dexmerge::{Caps, MergeFault, Plan, PlanFault, merge_plan};
 use dexpool::ReadFault;
 use dexstr::Name;
-use std::alloc::Global;
+use std::alloc::{AllocError, Global};
 use std::path::Path;
 use std::rt::Files;
 
 /// What is right.
-#[derive(Clone, Copy)]
+#[derive(Drop)]
 enum RightAnswer<'a> {
-    /// The file of this name is written.
-    Written(&'a str),
+    /// These bytes are written.
+    Written(Vec<u8>),
     /// One of these causes is told.
     Causes(&'a str),
     /// The plan is refused.
     BadPlan,
+}
+
+/// Files to be merged under caps, and what is right.
+#[derive(Drop)]
+pub(crate) struct Merge<'a> {
+    files: Vec<Vec<u8>>,
+    caps: Caps,
+    right: RightAnswer<'a>,
 }
 
 /// Runs a line, given what stands in it behind the word of its kind: how it goes.
@@ -35,44 +44,82 @@ pub fn run<R: Files + AllocGlobal>(
 ) -> Result<Outcome, VectorFault> {
     let alloc = rt.alloc();
     let (plan, rest) = case.split_once(" caps ").ok_or(VectorFault::Form)?;
-    let (caps, rest) = rest.split_once(" files ").ok_or(VectorFault::Form)?;
     let plan = plan_in(alloc, plan)?;
-    let caps = caps_in(alloc, caps)?;
-    let (names, right) = answer_in(rest)?;
-    let mut files = Vec::new(alloc);
-    for name in names.split(' ') {
-        files.push(read_file(rt, folder, name)?)?;
+    let merge = Merge::of(rt, folder, rest)?;
+    match merge.programs(alloc)? {
+        Ok(programs) => merge.planned(alloc, &programs, &plan),
+        Err(outcome) => Ok(outcome),
     }
-    let mut programs = Vec::new(alloc);
-    for file in &files {
-        match read(alloc, file) {
-            Ok(program) => programs.push(program)?,
-            Err(ReadFault::Refused(Refusal { number: LATER, .. })) => return Ok(Outcome::Unserved),
-            Err(ReadFault::Refused(_)) => return failed(alloc, "a file is refused"),
-            Err(ReadFault::Memory) => return Err(VectorFault::Memory),
-        }
-    }
-    match merge_plan(alloc, &programs, &plan, &caps) {
-        Ok(program) => match right {
-            RightAnswer::Written(name) => {
-                let right = read_file(rt, folder, name)?;
-                if is_written_as(alloc, &program, &right)? {
-                    return Ok(Outcome::Passed);
-                }
-                other_bytes(alloc)
+}
+
+impl<'a> Merge<'a> {
+    /// What the words of a line behind `caps` ask for.
+    pub(crate) fn of<R: Files + AllocGlobal>(
+        rt: &R,
+        folder: Path<'_>,
+        words: &'a str,
+    ) -> Result<Merge<'a>, VectorFault> {
+        let (caps, rest) = words.split_once(" files ").ok_or(VectorFault::Form)?;
+        let caps = caps_in(rt.alloc(), caps)?;
+        let (names, right) = answer_in(rt, folder, rest)?;
+        let mut files = Vec::new(rt.alloc());
+        for name in names.split(' ') {
+            if name != "-" {
+                files.push(read_file(rt, folder, name)?)?;
             }
-            _ => failed(alloc, "ok"),
-        },
-        Err(PlanFault::BadPlan) => match right {
-            RightAnswer::BadPlan => Ok(Outcome::Passed),
-            _ => failed(alloc, "badplan"),
-        },
-        Err(PlanFault::Merge(fault)) => told(alloc, &fault, right),
+        }
+        Ok(Merge { files, caps, right })
+    }
+
+    /// The programs of the files, or how the line goes where a file is not read.
+    pub(crate) fn programs(
+        &self,
+        alloc: Global,
+    ) -> Result<Result<Vec<Program<'_>>, Outcome>, VectorFault> {
+        let mut programs = Vec::new(alloc);
+        for file in &self.files {
+            match read(alloc, file) {
+                Ok(program) => programs.push(program)?,
+                Err(ReadFault::Refused(Refusal { number: LATER, .. })) => {
+                    return Ok(Err(Outcome::Unserved));
+                }
+                Err(ReadFault::Refused(_)) => return Ok(Err(failed(alloc, "a file is refused")?)),
+                Err(ReadFault::Memory) => return Err(VectorFault::Memory),
+            }
+        }
+        Ok(Ok(programs))
+    }
+
+    /// How the line goes where the programs are merged by this plan.
+    pub(crate) fn planned(
+        &self,
+        alloc: Global,
+        programs: &[Program<'_>],
+        plan: &Plan,
+    ) -> Result<Outcome, VectorFault> {
+        match merge_plan(alloc, programs, plan, &self.caps) {
+            Ok(program) => match &self.right {
+                RightAnswer::Written(right) if is_written_as(alloc, &program, right)? => {
+                    Ok(Outcome::Passed)
+                }
+                RightAnswer::Written(_) => other_bytes(alloc),
+                _ => Ok(failed(alloc, "ok")?),
+            },
+            Err(PlanFault::BadPlan) => match self.right {
+                RightAnswer::BadPlan => Ok(Outcome::Passed),
+                _ => Ok(failed(alloc, "badplan")?),
+            },
+            Err(PlanFault::Merge(fault)) => told(alloc, &fault, &self.right),
+        }
     }
 }
 
 // How a line goes whose files are not merged, for this cause.
-fn told(alloc: Global, fault: &MergeFault, right: RightAnswer<'_>) -> Result<Outcome, VectorFault> {
+fn told(
+    alloc: Global,
+    fault: &MergeFault,
+    right: &RightAnswer<'_>,
+) -> Result<Outcome, VectorFault> {
     let told = cause_of(alloc, fault)?;
     match right {
         RightAnswer::Causes(causes) if causes.split(" | ").any(|cause| cause == told.as_str()) => {
@@ -83,14 +130,18 @@ fn told(alloc: Global, fault: &MergeFault, right: RightAnswer<'_>) -> Result<Out
 }
 
 // What was answered instead.
-fn failed(alloc: Global, answered: &str) -> Result<Outcome, VectorFault> {
+fn failed(alloc: Global, answered: &str) -> Result<Outcome, AllocError> {
     Ok(Outcome::Failed(String::from_str(alloc, answered)?))
 }
 
 // The names of the files, and what is right.
-fn answer_in(words: &str) -> Result<(&str, RightAnswer<'_>), VectorFault> {
+fn answer_in<'a, R: Files + AllocGlobal>(
+    rt: &R,
+    folder: Path<'_>,
+    words: &'a str,
+) -> Result<(&'a str, RightAnswer<'a>), VectorFault> {
     if let Some((names, written)) = words.split_once(" ok ") {
-        return Ok((names, RightAnswer::Written(written)));
+        return Ok((names, RightAnswer::Written(read_file(rt, folder, written)?)));
     }
     if let Some((names, causes)) = words.split_once(" fault ") {
         return Ok((names, RightAnswer::Causes(causes)));
@@ -123,16 +174,10 @@ fn kind_of_cap(cap: u8) -> &'static str {
     }
 }
 
-// A word and the name of a class, whose units that are not printed stand as four digits.
+// A word and the name of a class.
 fn named(alloc: Global, word: &str, name: &Name) -> Result<String, VectorFault> {
     let mut words = String::from_str(alloc, word)?;
-    write!(words, " ")?;
-    for unit in name.text().units() {
-        match u8::try_from(unit) {
-            Ok(byte @ (b'"' | b'\\')) => write!(words, "\\{}", char::from(byte))?,
-            Ok(byte @ 0x20..=0x7e) => write!(words, "{}", char::from(byte))?,
-            _ => write!(words, "\\u{unit:04x}")?,
-        }
-    }
+    words.push_str(" ")?;
+    push_name(&mut words, name)?;
     Ok(words)
 }

@@ -1,4 +1,5 @@
-//! Files normalised: `normalise FILE CANON`. Today only plain files are read.
+//! Files normalised: `normalise FILE CANON`. The program is made to bytes, and a copy of it is written to a
+//! device. Today only plain files are read.
 
 ghost use Rattle.std.specs.Prelude.{◌≡◌, IfOk, IsTrue};
 ghost use Rattle.dexspec.specs.Canonical.{canonical};
@@ -7,9 +8,9 @@ ghost use Rattle.dexvectors.specs.Told.{Normalises};
 use crate::check::LATER;
 use crate::fault::VectorFault;
 use crate::outcome::Outcome;
-use dexcanon::to_bytes;
+use dexcanon::{StoreFault, to_bytes, write_to};
 use dexclass::{Program, read};
-use dexhead::Refusal;
+use dexhead::{Device, Refusal};
 use dexpool::ReadFault;
 use std::alloc::{AllocError, Global};
 
@@ -26,6 +27,9 @@ pub fn run(alloc: Global, bytes: &[u8], right: &[u8]) -> Result<Outcome, VectorF
         }
         Err(ReadFault::Memory) => return Err(VectorFault::Memory),
     };
+    if !is_given(alloc, &program.copy()?, right)? {
+        return other_bytes(alloc);
+    }
     if is_written_as(alloc, &program, right)? {
         return Ok(Outcome::Passed);
     }
@@ -38,6 +42,16 @@ pub fn is_written_as(alloc: Global, program: &Program<'_>, right: &[u8]) -> Resu
 {
     let written = to_bytes(alloc, program)?;
     Ok(right == written.as_slice())
+}
+
+// Whether a device is given these bytes as the canonical file of the program.
+fn is_given(alloc: Global, program: &Program<'_>, right: &[u8]) -> Result<bool, AllocError> {
+    let mut out = Device::new(Vec::new(alloc));
+    match write_to(alloc, program, &mut out) {
+        Ok(()) => Ok(out.into_inner().as_slice() == right),
+        Err(StoreFault::Memory) => Err(AllocError),
+        Err(StoreFault::Io) => Ok(false),
+    }
 }
 
 /// How a line goes whose canonical file has other bytes.

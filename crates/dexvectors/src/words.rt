@@ -1,6 +1,7 @@
-//! Bytes and units as words of hexadecimal digits; no bytes and no units are `-`.
+//! Bytes and units as words of hexadecimal digits, where no bytes and no units are `-`; and names as words.
 
 use crate::fault::VectorFault;
+use dexstr::Name;
 use std::alloc::{AllocError, Global};
 
 /// The bytes that a word stands for.
@@ -34,4 +35,16 @@ pub fn word_of(alloc: Global, units: &[u16]) -> Result<String, AllocError> {
         write!(word, "{unit:04x}")?;
     }
     Ok(word)
+}
+
+/// Appends the text of a name: units that are not printed stand as `\u` and four digits, and `"` and `\` behind a `\`.
+pub fn push_name(words: &mut String, name: &Name) -> Result<(), AllocError> {
+    for unit in name.text().units() {
+        match u8::try_from(unit) {
+            Ok(byte @ (b'"' | b'\\')) => write!(words, "\\{}", char::from(byte))?,
+            Ok(byte @ 0x20..=0x7e) => write!(words, "{}", char::from(byte))?,
+            _ => write!(words, "\\u{unit:04x}")?,
+        }
+    }
+    Ok(())
 }

@@ -1,5 +1,5 @@
 //! What a text may name: `UNITS KIND MEMBER`, the kind of type descriptor or `None`, and 1 where a member
-//! may be named so, else 0.
+//! may be named so, else 0. The text is read from an item that the line's units are spelled in, and is put as that item.
 
 ghost use Rattle.std.specs.Prelude.{◌≡◌, ◌++◌, IfOk, OnOk};
 ghost use Rattle.dexspec.specs.Texts.{form, string_data};
@@ -8,7 +8,7 @@ use crate::fault::VectorFault;
 use crate::outcome::Outcome;
 use crate::words::units_in;
 use dexleb::put_u;
-use dexstr::{Text, descriptor_kind, is_member_name};
+use dexstr::{Text, descriptor_kind, is_member_name, put_text};
 use std::alloc::{AllocError, Global};
 
 /// Runs a line.
@@ -18,6 +18,11 @@ pub fn run(alloc: Global, line: &str) -> Result<Outcome, VectorFault> {
     let Ok((text, _)) = Text::read(&item, 0) else {
         return Ok(Outcome::Failed(String::from_str(alloc, "no text")?));
     };
+    let mut put = Vec::new(alloc);
+    put_text(&text, &mut put)?;
+    if put.as_slice() != item.as_slice() {
+        return Ok(Outcome::Failed(String::from_str(alloc, "another item")?));
+    }
     let member = u8::from(is_member_name(&text));
     let answered = match descriptor_kind(&text) {
         Some(kind) => format!(in alloc; "{kind:?} {member}")?,

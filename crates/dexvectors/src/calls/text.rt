@@ -1,9 +1,9 @@
-//! Texts read: `HEX ok USED UNITS`, or `HEX` and a fault.
+//! Texts read: `HEX ok USED UNITS`, or `HEX` and a fault. The units are told of a copy that owns them.
 
 use crate::fault::VectorFault;
 use crate::outcome::Outcome;
 use crate::words::{bytes_in, word_of};
-use dexstr::Text;
+use dexstr::{Name, Text};
 use std::alloc::Global;
 
 /// Runs a line.
@@ -12,7 +12,8 @@ pub fn run(alloc: Global, line: &str) -> Result<Outcome, VectorFault> {
     let bytes = bytes_in(alloc, word)?;
     let answered = match Text::read(&bytes, 0) {
         Ok((text, used)) => {
-            let units: Vec<u16> = text.units().collect(alloc)?;
+            let copy = Name::of(alloc, &text)?.copy()?;
+            let units: Vec<u16> = copy.text().units().collect(alloc)?;
             let units = word_of(alloc, &units)?;
             format!(in alloc; "ok {used} {units}")?
         }

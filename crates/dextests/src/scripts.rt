@@ -1,0 +1,87 @@
+//! Devices that move few bytes a call, or fail at one.
+
+ghost use Rattle.std.specs.Prelude.{◌≤◌, IfOk};
+
+use std::io;
+use std::io::{ErrorKind, Read, Write};
+
+/// How a device moves its bytes: so many a call at most, and what it does at one call, where it does not.
+#[derive(Clone, Copy)]
+pub(crate) struct Script {
+    pub(crate) most: usize,
+    pub(crate) failing: usize,
+    /// The fault of that call; where there is none it moves no byte.
+    pub(crate) fault: Option<ErrorKind>,
+}
+
+/// All at once.
+pub(crate) const WHOLE: Script = Script {
+    most: 8192,
+    failing: 1000000,
+    fault: None,
+};
+
+/// So many bytes a call at most.
+pub(crate) fn by(most: usize) -> Script {
+    Script { most, ..WHOLE }
+}
+
+/// The same, and one call fails.
+pub(crate) fn failing(most: usize, failing: usize) -> Script {
+    Script {
+        most,
+        failing,
+        fault: Some(ErrorKind::BrokenPipe),
+    }
+}
+
+/// Follows its script, and counts the calls.
+#[derive(Drop)]
+pub(crate) struct Scripted<T> {
+    pub(crate) inner: T,
+    script: Script,
+    pub(crate) calls: usize,
+}
+
+impl<T> Scripted<T> {
+    pub(crate) fn new(inner: T, script: Script) -> Self {
+        Scripted {
+            inner,
+            script,
+            calls: 0,
+        }
+    }
+
+    // How many of so many bytes this call moves.
+    fn answer(&mut self, len: usize) -> io::Result<usize>
+        ensures { IfOk result (λ n. n ≤ len) }
+    {
+        let call = self.calls;
+        self.calls = call.saturating_add(1);
+        if call != self.script.failing {
+            return Ok(self.script.most.min(len));
+        }
+        match self.script.fault {
+            Some(kind) => Err(kind.into()),
+            None => Ok(0),
+        }
+    }
+}
+
+impl<T: Read> Read for Scripted<T> {
+    fn read(&mut self, buf: &mut [u8]) -> io::Result<usize> {
+        let n = self.answer(buf.len())?;
+        self.inner.read(&mut buf[..n])
+    }
+}
+
+impl<T: Write> Write for Scripted<T> {
+    fn write(&mut self, bytes: &[u8]) -> io::Result<usize> {
+        let n = self.answer(bytes.len())?;
+        self.inner.write(&bytes[..n])
+    }
+
+    fn flush(&mut self) -> io::Result<()> {
+        Ok(())
+    }
+}

@@ -1,0 +1,92 @@
+//! The words of the command line.
+
+use dexcmd::read_words;
+use std::alloc::{AllocError, Global};
+
+// The words of a line, divided by one blank.
+fn words_of(alloc: Global, line: &str) -> Result<Vec<&str>, AllocError> {
+    let mut words = Vec::new(alloc);
+    for word in line.split(' ') {
+        if !word.is_empty() {
+            words.push(word)?;
+        }
+    }
+    Ok(words)
+}
+
+// Whether the words are read as this job.
+fn are_read(alloc: Global, words: &str, job: &str) -> Option<bool> {
+    let words = words_of(alloc, words).ok()?;
+    let read = read_words(alloc, words.as_slice()).ok()?;
+    Some(format!(in alloc; "{read:?}").ok()?.as_str() == job)
+}
+
+#[test]
+fn words_are_read_as_jobs(rt: HostRuntime) {
+    for (words, job) in [
+        ("check a.dex", "Check([\"a.dex\"])"),
+        (
+            "check a.dex b a.dex",
+            "Check([\"a.dex\", \"b\", \"a.dex\"])",
+        ),
+        ("normalise a.dex a.dex", "Normalise(\"a.dex\", \"a.dex\")"),
+        ("normalise -- -a -b", "Normalise(\"-a\", \"-b\")"),
+        (
+            "merge --out out.dex a.dex b a.dex",
+            "Merge(\"out.dex\", None, Caps { types: 65535, protos: 65535, fields: 65536, methods: 65536, short_strings: 65536, weight: 1073741824 }, [\"a.dex\", \"b\", \"a.dex\"])",
+        ),
+        (
+            "merge a --max-types=0 --max-protos 1 --fan 65535 --max-fields 2 --out=o --max-methods 3 --max-weight 4 b",
+            "Merge(\"o\", Some(65535), Caps { types: 0, protos: 1, fields: 2, methods: 3, short_strings: 65536, weight: 4 }, [\"a\", \"b\"])",
+        ),
+        (
+            "merge --fan 2 --max-types 65535 --max-protos 65535 --max-fields 65536 --max-methods 65536 --max-weight 1073741824 --out o a",
+            "Merge(\"o\", Some(2), Caps { types: 65535, protos: 65535, fields: 65536, methods: 65536, short_strings: 65536, weight: 1073741824 }, [\"a\"])",
+        ),
+    ] {
+        assert!(rt; are_read(rt.alloc(), words, job) == Some(true), "{words}");
+    }
+}
+
+// The exit status where the words are no command.
+fn status(alloc: Global, words: &str) -> Option<i32> {
+    let words = words_of(alloc, words).ok()?;
+    Some(read_words(alloc, words.as_slice()).err()?.exit_code())
+}
+
+#[test]
+fn other_words_are_refused(rt: HostRuntime) {
+    for words in [
+        "",
+        "check",
+        "normalise a.dex",
+        "normalise a.dex b.dex c.dex",
+        "check --fan a.dex",
+        "dump a.dex",
+        "merge --out o",
+        "merge a b",
+        "merge --out o --out o a",
+        "merge --out o --fan 0 a",
+        "merge --out o --fan 1 a",
+        "merge --out o --fan 65536 a",
+        "merge --out o --fan two a",
+        "merge --out o --fan 2 --fan 2 a",
+        "merge --out o --max-types 65536 a",
+        "merge --out o --max-types -1 a",
+        "merge --out o --max-types 2 --max-types 2 a",
+        "merge --out o --max-protos 65536 a",
+        "merge --out o --max-protos 2 --max-protos 2 a",
+        "merge --out o --max-fields 65537 a",
+        "merge --out o --max-fields 2 --max-fields 2 a",
+        "merge --out o --max-methods 65537 a",
+        "merge --out o --max-methods 2 --max-methods 2 a",
+        "merge --out o --max-weight 1073741825 a",
+        "merge --out o --max-weight 2 --max-weight 2 a",
+        "merge --out o --max-short-strings 1 a",
+        "merge --out o --max 1 a",
+    ] {
+        assert!(rt; status(rt.alloc(), words) == Some(2), "{words}");
+    }
+    let help = status(rt.alloc(), "merge --help");
+    assert!(rt; help == Some(0));
+}

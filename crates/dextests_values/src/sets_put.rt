@@ -3,8 +3,11 @@
 use crate::values_read::file;
 use dexhead::Frame;
 use dexpool::{Numbering, Pools};
-use dexval::{AnnotationSet, annotation_size, counts_law, put_set, read_set};
+use dexval::{
+    AnnotationSet, annotation_size, counts_law, put_set, read_set, ref_list_size, set_size,
+};
 use std::alloc::Global;
+use std::hash::{DefaultHasher, Hash, Hasher};
 
 /// The set at an offset of the file. At 428 it has two annotations, of which the first takes five bytes, at 460 none.
 fn set(alloc: Global, off: u32) -> Option<AnnotationSet> {
@@ -56,6 +59,29 @@ fn sizes(alloc: Global, off: u32) -> Option<(u64, u64)> {
         [first, second] => Some((annotation_size(first), annotation_size(second))),
         _ => None,
     }
+}
+
+/// How many bytes the item of a set takes, and a list of that set alone.
+fn item_sizes(alloc: Global, off: u32) -> Option<(u64, u64)> {
+    let set = set(alloc, off)?;
+    Some((set_size(&set), ref_list_size(&[set])))
+}
+
+/// What a set is hashed to.
+fn hash_of(set: &AnnotationSet) -> u64 {
+    let mut state = DefaultHasher::new();
+    set.hash(&mut state);
+    state.finish()
+}
+
+/// Whether two sets are equal, and whether they are hashed alike.
+fn alike(alloc: Global, off: u32, other: u32) -> Option<(bool, bool)> {
+    let set_there = set(alloc, off)?;
+    let set_here = set(alloc, other)?;
+    Some((
+        set_there == set_here,
+        hash_of(&set_there) == hash_of(&set_here),
+    ))
 }
 
 #[test]
@@ -122,4 +148,20 @@ fn a_set_weighs_its_annotations_and_their_offsets(rt: HostRuntime) {
 #[test]
 fn a_set_without_annotations_weighs_nothing(rt: HostRuntime) {
     assert_eq!(rt; set(rt.alloc(), 460).map(|set| set.weight()), Some(0));
+}
+
+#[test]
+fn the_sizes_of_sets_and_lists(rt: HostRuntime) {
+    assert_eq!(rt; item_sizes(rt.alloc(), 428), Some((12, 8)));
+    assert_eq!(rt; item_sizes(rt.alloc(), 460), Some((4, 8)));
+}
+
+#[test]
+fn a_set_read_twice_is_equal(rt: HostRuntime) {
+    assert_eq!(rt; alike(rt.alloc(), 428, 428), Some((true, true)));
+}
+
+#[test]
+fn sets_of_two_and_of_none_differ(rt: HostRuntime) {
+    assert_eq!(rt; alike(rt.alloc(), 428, 460), Some((false, false)));
 }

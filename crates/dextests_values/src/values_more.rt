@@ -2,9 +2,6 @@
 //! by a program of its own, which shares nothing with the crate: each constant is the offset of a value. It has the texts
 //! `I`, `LA;`, `LB;`, `V`, `a`, `b` and `x`, the types of the first four, two fields and two methods.
 
-ghost use Rattle.dexval.specs.Code.{value_of};
-ghost use Rattle.dexval.specs.Spelled.{IsCounted};
-
 use dexhead::Frame;
 use dexpool::{ItemFault, Numbering, Pools};
 use dexval::{
@@ -307,9 +304,7 @@ fn what_has_no_count_of_bytes_has_0_in_its_place(rt: HostRuntime) {
 }
 
 /// Whether a value is put as these bytes.
-fn is_put_as(alloc: Global, value: &Value, wanted: &[u8]) -> Option<bool>
-    requires { IsCounted (value_of value.now) }
-{
+fn is_put_as(alloc: Global, value: &Value, wanted: &[u8]) -> Option<bool> {
     let mut bytes = Vec::new(alloc);
     put_value(value, &Numbering::empty(alloc), &mut bytes).ok()?;
     Some(bytes.as_slice() == wanted)

@@ -1,31 +1,17 @@
 //! Values, static values and annotations put and weighed. The bytes were written down by hand from the format.
 
-ghost use Rattle.dexval.specs.Code.{value_of};
-ghost use Rattle.dexval.specs.Spelled.{IsCounted};
-
 use dexpool::Numbering;
 use dexval::{
-    Annotation, Element, Value, Visibility, counts_law, parameter_sets_weight, put_annotation,
-    put_statics, put_value, statics_weight,
+    Annotation, Element, Value, Visibility, parameter_sets_weight, put_annotation, put_statics,
+    put_value, statics_size, statics_weight,
 };
 use std::alloc::Global;
 
 /// What a value is put as.
-fn put(alloc: Global, value: &Value) -> Option<Vec<u8>>
-    requires { IsCounted (value_of value.now) }
-{
+fn put(alloc: Global, value: &Value) -> Option<Vec<u8>> {
     let mut bytes = Vec::new(alloc);
     put_value(value, &Numbering::empty(alloc), &mut bytes).ok()?;
     Some(bytes)
-}
-
-/// What a value with others in it is put as.
-fn put_light(alloc: Global, value: &Value) -> Option<Vec<u8>> {
-    counts_law();
-    if value.weight() > 1000 {
-        return None;
-    }
-    put(alloc, value)
 }
 
 /// An array of a short, null and an array of one value.
@@ -38,7 +24,7 @@ fn array_in_an_array(alloc: Global) -> Option<Value> {
 /// What it is put as.
 fn put_array_in_an_array(alloc: Global) -> Option<Vec<u8>> {
     let value = array_in_an_array(alloc)?;
-    put_light(alloc, &value)
+    put(alloc, &value)
 }
 
 /// An int and a text, each with its name.
@@ -57,7 +43,7 @@ fn two_elements(alloc: Global) -> Option<Vec<Element>> {
 /// What an annotation as a value is put as.
 fn put_annotation_value(alloc: Global) -> Option<Vec<u8>> {
     let value = Value::Annotation(3, two_elements(alloc)?);
-    put_light(alloc, &value)
+    put(alloc, &value)
 }
 
 /// What an array of no values is put as.
@@ -232,6 +218,14 @@ fn weighs_static_values(rt: HostRuntime) {
     assert_eq!(rt;
         statics_weight(&[Value::Byte(0), Value::Null, Value::Boolean(true)]),
         33
+    );
+}
+
+#[test]
+fn the_size_of_static_values(rt: HostRuntime) {
+    assert_eq!(rt;
+        statics_size(&[Value::Byte(0), Value::Null, Value::Boolean(true)]),
+        5
     );
 }
 

@@ -158,7 +158,8 @@ fn is_proto(
     let proto = numbering.proto(i);
     proto.shorty() == shorty
         && proto.return_type() == return_type
-        && proto.parameters() == [parameter].as_slice()
+        && proto.parameters().len() == 1
+        && proto.parameters().at(0) == parameter
 }
 
 // The pools of a file.

@@ -245,7 +245,7 @@ fn has_method(numbering: &Numbering<'_>, i: usize, row: MethodRow) -> bool {
 fn are_same(row: &ProtoRow<'_>, other: &ProtoRow<'_>) -> bool {
     row.shorty() == other.shorty()
         && row.return_type() == other.return_type()
-        && row.parameters() == other.parameters()
+        && row.parameters().compare(&other.parameters()).is_eq()
 }
 
 // Whether the numbering is that of the good file.

@@ -14,3 +14,4 @@ pub mod Laws
 pub mod Orderly
 pub mod Uses
 pub mod Lists
+pub mod Judged

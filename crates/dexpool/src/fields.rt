@@ -89,8 +89,8 @@ pub(crate) fn read_fields(alloc: Global, names: &Names<'_, '_>) -> Result<Vec<Fi
     ensures ok { IfOk result (λ fields. AreFields names.now.frame.now names.now.strings.now names.now.types.now fields.items) }
     ensures err { IfErr result (IsFault names.now.frame.now) }
 {
-    let mut fields = Vec::new(alloc);
     let count = names.frame.size(Table::FieldIds);
+    let mut fields = Vec::with_capacity(alloc, count as usize)?;
     for i in 0..count {
         let field = match field_at(names, i) {
             Some(field) => field,

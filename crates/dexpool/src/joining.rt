@@ -16,6 +16,9 @@ impl<'a> Numbering<'a> {
     /// sorts nothing.
     ///
     /// Error: the memory for the tables and the maps was refused.
+    ///
+    /// Source: this project's rule; the orders are those of "string_id_item", "type_id_item", "proto_id_item",
+    /// "field_id_item" and "method_id_item".
     pub fn join(
         alloc: Global,
         parts: &[&Numbering<'a>],

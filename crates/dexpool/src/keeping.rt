@@ -18,6 +18,8 @@ impl<'a> Numbering<'a> {
     /// just those that are kept, each marked one among them, and to no greater number.
     ///
     /// Condition: there is a mark for each symbol. Error: the memory for the tables and the map was refused.
+    ///
+    /// Source: this project's rule, that a file has the symbols that its classes mention and no others.
     pub fn keep(&self, alloc: Global, marks: &Marks) -> Result<(Numbering<'a>, Remap), AllocError>
         requires { AreMarksOf self.now marks.now }
         ensures kept { IfOk result (λ cut. cut.0 ≡ closed (marked self.now marks.now)) }

@@ -10,6 +10,7 @@ mod faults;
 mod fields;
 mod joined_tables;
 mod joining;
+mod judged;
 mod keeping;
 mod kept_tables;
 mod kinds;

@@ -11,10 +11,15 @@ use std::alloc::{AllocError, Global};
 /// A mark for each symbol of a numbering, by its number: whether it is to be kept.
 #[derive(Drop)]
 pub struct Marks {
+    /// For each text by its number, whether it is marked.
     pub strings: Vec<bool>,
+    /// For each type.
     pub types: Vec<bool>,
+    /// For each proto.
     pub protos: Vec<bool>,
+    /// For each field.
     pub fields: Vec<bool>,
+    /// For each method.
     pub methods: Vec<bool>,
 }
 

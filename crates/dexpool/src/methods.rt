@@ -92,8 +92,8 @@ pub(crate) fn read_methods(
     ensures ok { IfOk result (λ methods. AreMethods names.now.frame.now names.now.strings.now names.now.types.now (file_numbers names.now.frame.now) protos.now methods.items) }
     ensures err { IfErr result (IsFault names.now.frame.now) }
 {
-    let mut methods = Vec::new(alloc);
     let count = names.frame.size(Table::MethodIds);
+    let mut methods = Vec::with_capacity(alloc, count as usize)?;
     for i in 0..count {
         let method = match method_at(names, protos, i) {
             Some(method) => method,

@@ -6,17 +6,19 @@ ghost use Rattle.dexspec.specs.Symbols.{Proto};
 ghost use Rattle.dexspec.specs.Rows as rows;
 ghost use Rattle.dexpool.specs.Tables.{span_of, proto_cmp};
 ghost use Rattle.dexpool.specs.Reading.{is_above_last, AreNames, AreProtos, HasIndices, HasSpan, ProtoStands, file_numbers};
+ghost use Rattle.dexpool.specs.Judged.{AreJudged};
 ghost use Rattle.dexpool.specs.Faults.{IsFault};
 
 use crate::faults::{ReadFault, refused};
+use crate::judged::{Judged, has_shorty, known_parameters, note};
+use crate::kinds::letter;
 use crate::lists::Parameters;
 use crate::names::Names;
-use crate::parameters::parameters_at;
 use crate::rows::{ProtoEntry, Span};
-use crate::shorties::is_shorty;
 use dexhead::{Frame, Table, u32_at};
-use std::alloc::Global;
+use std::alloc::{AllocError, Global};
 use std::cmp::Ordering;
+use std::collections::HashMap;
 
 /// The protos by row, and the types of their parameters, each as its number.
 #[derive(Drop)]
@@ -45,25 +47,56 @@ fn indices_at(frame: &Frame<'_>, i: u32) -> Indices
     }
 }
 
-// The proto of a row, if it is one.
-fn proto_at(names: &Names<'_, '_>, file: &Parameters<'_>, i: u32) -> Option<ProtoEntry>
+// The proto of a row, if it is one. Of lists that rows share, `lists` tells what was judged.
+fn proto_at(
+    names: &Names<'_, '_>,
+    file: &Parameters<'_>,
+    lists: &mut HashMap<u32, Judged>,
+    i: u32,
+) -> Result<Option<ProtoEntry>, AllocError>
     requires names { AreNames names.now.frame.now names.now.strings.now names.now.types.now }
     requires file { file.now ≡ file_numbers names.now.frame.now }
+    requires lists { AreJudged names.now.frame.now names.now.strings.now names.now.types.now lists.old }
     requires row { i < table_size names.now.frame.now ProtoIds }
-    ensures { MatchOption result ((p : Proto) → rows.ProtoRow names.now.frame.now i p → ⊥) (ProtoStands names.now.strings.now names.now.types.now (file_numbers names.now.frame.now) names.now.frame.now i) }
+    ensures lists { IfOk result (λ _. AreJudged names.now.frame.now names.now.strings.now names.now.types.now lists.new) }
+    ensures proto { IfOk result (λ found. MatchOption found ((p : Proto) → rows.ProtoRow names.now.frame.now i p → ⊥) (ProtoStands names.now.strings.now names.now.types.now (file_numbers names.now.frame.now) names.now.frame.now i)) }
 {
     let indices = indices_at(names.frame, i);
-    let shorty = names.text(indices.shorty)?;
-    let return_type = names.typ(indices.return_type)?;
-    let span = parameters_at(names, indices.off)?;
-    if !is_shorty(names, shorty, return_type, &file.part(span)) {
-        return None;
+    let shorty = match names.text(indices.shorty) {
+        Some(shorty) => shorty,
+        None => return Ok(None),
+    };
+    let return_type = match names.typ(indices.return_type) {
+        Some(return_type) => return_type,
+        None => return Ok(None),
+    };
+    let span = match known_parameters(names, lists, indices.off) {
+        Some(span) => span,
+        None => return Ok(None),
+    };
+    if !has_shorty(
+        names,
+        file,
+        lists,
+        indices.off,
+        span,
+        indices.shorty,
+        shorty,
+        return_type,
+    ) {
+        return Ok(None);
     }
-    Some(ProtoEntry {
+    let judged = Judged {
+        span,
+        shorty: indices.shorty,
+        letter: letter(return_type),
+    };
+    note(names, lists, indices.off, judged)?;
+    Ok(Some(ProtoEntry {
         shorty: indices.shorty,
         return_type: indices.return_type,
         parameters: span,
-    })
+    }))
 }
 
 /// The types of the parameters of a row.
@@ -118,10 +151,11 @@ pub(crate) fn read_protos(
     ensures ok { IfOk result (λ protos. AreProtos names.now.frame.now names.now.strings.now names.now.types.now (file_numbers names.now.frame.now) protos.items) }
     ensures err { IfErr result (IsFault names.now.frame.now) }
 {
-    let mut rows = Vec::new(alloc);
     let count = names.frame.size(Table::ProtoIds);
+    let mut lists = HashMap::new(alloc);
+    let mut rows = Vec::with_capacity(alloc, count as usize)?;
     for i in 0..count {
-        let proto = match proto_at(names, file, i) {
+        let proto = match proto_at(names, file, &mut lists, i)? {
             Some(proto) => proto,
             None => return Err(refused(13, i)),
         };

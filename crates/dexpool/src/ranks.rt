@@ -107,7 +107,9 @@ impl<'a> Numbering<'a> {
         }
     }
 
-    /// The number of lesser texts. No memory is taken.
+    /// The number of lesser texts, from 0 on. No memory is taken.
+    ///
+    /// Source: the order of the rows, "string_id_item".
     pub fn rank_string(&self, text: &Text<'_>) -> usize
         ensures { result ≡ rank text_cmp text.now self.now.texts }
     {
@@ -118,7 +120,9 @@ impl<'a> Numbering<'a> {
         )
     }
 
-    /// The number of lesser types, for a type by its descriptor. No memory is taken.
+    /// The number of lesser types, for a type by its descriptor, from 0 on. No memory is taken.
+    ///
+    /// Source: the order of the rows, "type_id_item".
     pub fn rank_type(&self, descriptor: &Text<'_>) -> usize
         ensures { result ≡ rank text_cmp descriptor.now self.now.types }
     {
@@ -129,7 +133,9 @@ impl<'a> Numbering<'a> {
         )
     }
 
-    /// The number of lesser protos. No memory is taken.
+    /// The number of lesser protos, from 0 on. No memory is taken.
+    ///
+    /// Source: the order of the rows, "proto_id_item".
     pub fn rank_proto(&self, proto: &ProtoSymbol) -> usize
         ensures { result ≡ rank proto_cmp proto.now self.now.protos }
     {
@@ -140,7 +146,9 @@ impl<'a> Numbering<'a> {
         )
     }
 
-    /// The number of lesser fields. No memory is taken.
+    /// The number of lesser fields, from 0 on. No memory is taken.
+    ///
+    /// Source: the order of the rows, "field_id_item".
     pub fn rank_field(&self, field: &FieldSymbol) -> usize
         ensures { result ≡ rank field_cmp field.now self.now.fields }
     {
@@ -151,7 +159,9 @@ impl<'a> Numbering<'a> {
         )
     }
 
-    /// The number of lesser methods. No memory is taken.
+    /// The number of lesser methods, from 0 on. No memory is taken.
+    ///
+    /// Source: the order of the rows, "method_id_item".
     pub fn rank_method(&self, method: &MethodSymbol) -> usize
         ensures { result ≡ rank method_cmp method.now self.now.methods }
     {

@@ -6,7 +6,7 @@ ghost use Rattle.dexpool.specs.Renumbering.{moved_type, IsEntryWithin, HasSpans,
 use crate::protos::{Protos, part};
 use crate::rows::{ProtoEntry, Span};
 use crate::tables::Tables;
-use dexrows::{FieldRow, MethodRow, ProtoRow, TypeNumbers, TypeRow};
+use dexrows::{FieldRow, LowerPlaces, MethodRow, ProtoRow, Row, TypeNumbers, TypeRow};
 use std::alloc::{AllocError, Global};
 
 /// The rows of types, by the images of their texts.
@@ -144,13 +144,14 @@ pub(crate) fn renumbered_fields(
     requires { All (IsFieldWithin (length strings.now) (length types.now)) fields.now }
     ensures { IfOk result (λ rows. rows.items ≡ map (moved_field strings.now types.now) fields.now) }
 {
+    let lower = LowerPlaces {
+        strings,
+        types,
+        protos: &[],
+    };
     let mut rows = Vec::with_capacity(alloc, fields.len())?;
     for field in fields {
-        rows.push(FieldRow {
-            class: types[field.class],
-            name: strings[field.name],
-            typ: types[field.typ],
-        })?;
+        rows.push(field.renumbered(lower, ()))?;
     }
     Ok(rows)
 }
@@ -166,13 +167,14 @@ pub(crate) fn renumbered_methods(
     requires { All (IsMethodWithin (length strings.now) (length types.now) (length protos.now)) methods.now }
     ensures { IfOk result (λ rows. rows.items ≡ map (moved_method strings.now types.now protos.now) methods.now) }
 {
+    let lower = LowerPlaces {
+        strings,
+        types,
+        protos,
+    };
     let mut rows = Vec::with_capacity(alloc, methods.len())?;
     for method in methods {
-        rows.push(MethodRow {
-            class: types[method.class],
-            name: strings[method.name],
-            proto: protos[method.proto],
-        })?;
+        rows.push(method.renumbered(lower, ()))?;
     }
     Ok(rows)
 }

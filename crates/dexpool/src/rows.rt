@@ -17,6 +17,8 @@ pub struct ProtoEntry {
 /// A part of a list that rows share: from `start` on, up to `end`.
 #[derive(Clone, Copy, Debug, PartialEq, Eq)]
 pub struct Span {
+    /// The place of its first number.
     pub start: usize,
+    /// The place behind its last number.
     pub end: usize,
 }

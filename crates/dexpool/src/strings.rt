@@ -22,8 +22,8 @@ pub(crate) fn read_strings<'a>(alloc: Global, frame: &Frame<'a>) -> Result<Vec<T
     ensures ok { IfOk result (λ texts. AreTexts frame.now texts.items) }
     ensures err { IfErr result (IsFault frame.now) }
 {
-    let mut strings = Vec::new(alloc);
     let count = frame.size(Table::StringIds);
+    let mut strings = Vec::with_capacity(alloc, count as usize)?;
     for i in 0..count {
         let text = match string_at(frame, i) {
             Some(text) => text,

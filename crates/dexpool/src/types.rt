@@ -29,8 +29,8 @@ pub(crate) fn read_types(
     ensures ok { IfOk result (λ types. AreTypes frame.now strings.now types.items) }
     ensures err { IfErr result (IsFault frame.now) }
 {
-    let mut types = Vec::new(alloc);
     let count = frame.size(Table::TypeIds);
+    let mut types = Vec::with_capacity(alloc, count as usize)?;
     for i in 0..count {
         let index = match type_at(frame, strings, i) {
             Some(index) => index,

@@ -33,7 +33,8 @@ fn protos_weight(protos: &[ProtoEntry]) -> u64
 }
 
 impl<'a> Numbering<'a> {
-    /// What the symbols weigh together, or 2^64 - 1 where that is more. No memory is taken.
+    /// What the symbols weigh together, in bytes that their rows and items have at most in a canonical file (this
+    /// project's rule), or 2^64 - 1 where that is more. No memory is taken.
     pub fn weight(&self) -> u64
         ensures { result ≡ min (2 ^ 64 - 1) (mentions_weight self.now) }
     {

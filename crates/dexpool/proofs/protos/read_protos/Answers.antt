@@ -9,8 +9,9 @@ use Rattle.dexpool.proofs.protos.read_protos.Goals as goal
 
 pub returns-in-None-clause-err : goal.returns-in-None-clause-err
 returns-in-None-clause-err c =
+    let none = rw c.in-None.is at c.in_ok-proto.ensures.proto in
     subst (IsFault c.args.names.now.frame.now) (sym c.refused.ensures)
-    (refused_protos c.args.names.now.frame.now c.loop-i.i c.requires.names.frame c.requires.names.texts_are.held c.requires.names.types_are.held (omega arith) c.loop-i.invariant.held (λ h. c.in-None.ensures h.proto h.is))
+    (refused_protos c.args.names.now.frame.now c.loop-i.i c.requires.names.frame c.requires.names.texts_are.held c.requires.names.types_are.held (omega arith) c.loop-i.invariant.rows.held (λ h. none h.proto h.is))
 
 pub returns-then-not-is_above-clause-err : goal.returns-then-not-is_above-clause-err
 returns-then-not-is_above-clause-err c =
@@ -18,11 +19,11 @@ returns-then-not-is_above-clause-err c =
     let texts = c.args.names.now.strings.now in
     let types = c.args.names.now.types.now in
     let ps = file_numbers b in
-    let is = c.in-Some.ensures in
-    let before = c.loop-i.invariant in
+    let is = rw c.in-Some.is at c.in_ok-proto.ensures.proto in
+    let before = c.loop-i.invariant.rows in
     let above = told_proto c.args.file.now ps c.loop-i.rows.items c.deref.result.now c.in-Some.proto _ c.requires.file c.deref.ensures.value c.if-not-is_above.ensures in
     subst (IsFault b) (sym c.refused-then-not-is_above.ensures)
-    (refused_protos b c.loop-i.i c.requires.names.frame c.requires.names.texts_are.held c.requires.names.types_are.held (omega arith) c.loop-i.invariant.held
+    (refused_protos b c.loop-i.i c.requires.names.frame c.requires.names.texts_are.held c.requires.names.types_are.held (omega arith) c.loop-i.invariant.rows.held
     (no_proto texts types ps b c.loop-i.rows.items c.loop-i.i c.in-Some.proto before is above))
 
 pub loop-i-preserved : goal.loop-i-preserved
@@ -31,8 +32,11 @@ loop-i-preserved c =
     let texts = c.args.names.now.strings.now in
     let types = c.args.names.now.types.now in
     let ps = file_numbers b in
-    let is = c.in-Some.ensures in
-    let before = c.loop-i.invariant in
+    let is = rw c.in-Some.is at c.in_ok-proto.ensures.proto in
+    let before = c.loop-i.invariant.rows in
     let above = told_proto c.args.file.now ps c.loop-i.rows.items c.deref.result.now c.in-Some.proto _ c.requires.file c.deref.ensures.value c.if-not-is_above.ensures in
-    read_more (ProtoStands texts types ps) HasProto b c.loop-i.rows.items c.push.new.self.items c.loop-i.i c.in-Some.proto before is
-    (has_proto texts types ps b c.loop-i.rows.items c.loop-i.i c.in-Some.proto before is above) c.in_ok-push.ensures.items
+    record {
+      rows = read_more (ProtoStands texts types ps) HasProto b c.loop-i.rows.items c.push.new.self.items c.loop-i.i c.in-Some.proto before is
+          (has_proto texts types ps b c.loop-i.rows.items c.loop-i.i c.in-Some.proto before is above) c.in_ok-push.ensures.items;
+      lists = c.in_ok-proto.ensures.lists;
+    }

@@ -67,8 +67,9 @@ fn print_proto<W: fmt::Write>(
     }
     let proto = numbering.proto(number);
     f.write_str("(")?;
-    for parameter in proto.parameters() {
-        print_type(numbering, *parameter, f)?;
+    let parameters = proto.parameters();
+    for i in 0..parameters.len() {
+        print_type(numbering, parameters.at(i), f)?;
     }
     f.write_str(")")?;
     print_type(numbering, proto.return_type(), f)

@@ -234,15 +234,27 @@ fn stands_class_data(
     code_offs: &[u32],
     off: u32,
 ) -> Result<bool, CaseFault> {
+    let mut out = Vec::new(alloc);
+    if !put_counted_data(members, code_offs, &mut out)? {
+        return Ok(false);
+    }
+    Ok(stand(frame.bytes(), off, &out))
+}
+
+// Appends the class data of members, if there is an offset for each method.
+fn put_counted_data(
+    members: &Members<'_>,
+    code_offs: &[u32],
+    out: &mut Vec<u8>,
+) -> Result<bool, AllocError> {
     if !are_few(members) {
         return Ok(false);
     }
     if code_offs.len() != members.direct_methods().len() + members.virtual_methods().len() {
         return Ok(false);
     }
-    let mut out = Vec::new(alloc);
-    members.put_class_data(code_offs, &mut out)?;
-    Ok(stand(frame.bytes(), off, &out))
+    members.put_class_data(code_offs, out)?;
+    Ok(true)
 }
 
 // Whether the directory that stands at an offset is put for members.
@@ -253,43 +265,70 @@ fn stands_directory(
     offs: &DirectoryOffs,
     off: u32,
 ) -> Result<bool, CaseFault> {
+    let of_fields = field_offs(alloc, members, &offs.fields)?;
+    let of_methods = method_offs(alloc, members, &offs.methods)?;
+    let of_parameters = method_offs(alloc, members, &offs.parameters)?;
+    let mut out = Vec::new(alloc);
+    if !put_counted(
+        members,
+        offs.own,
+        &of_fields,
+        &of_methods,
+        &of_parameters,
+        &mut out,
+    )? {
+        return Ok(false);
+    }
+    Ok(stand(frame.bytes(), off, &out))
+}
+
+// Appends the directory of members, if there is an offset for each of them.
+fn put_counted(
+    members: &Members<'_>,
+    own_off: u32,
+    field_offs: &[u32],
+    method_offs: &[u32],
+    parameter_offs: &[u32],
+    out: &mut Vec<u8>,
+) -> Result<bool, AllocError> {
     if !are_few(members) {
         return Ok(false);
     }
-    let fields = members.static_fields().len() + members.instance_fields().len();
-    let methods = members.direct_methods().len() + members.virtual_methods().len();
-    let mut field_offs = Vec::new(alloc);
-    push_field_offs(members.static_fields(), &offs.fields, &mut field_offs)?;
-    push_field_offs(members.instance_fields(), &offs.fields, &mut field_offs)?;
-    let mut method_offs = Vec::new(alloc);
-    push_method_offs(members.direct_methods(), &offs.methods, &mut method_offs)?;
-    push_method_offs(members.virtual_methods(), &offs.methods, &mut method_offs)?;
-    let mut parameter_offs = Vec::new(alloc);
-    push_method_offs(
-        members.direct_methods(),
-        &offs.parameters,
-        &mut parameter_offs,
-    )?;
-    push_method_offs(
-        members.virtual_methods(),
-        &offs.parameters,
-        &mut parameter_offs,
-    )?;
-    if field_offs.len() != fields
-        || method_offs.len() != methods
-        || parameter_offs.len() != methods
-    {
+    if field_offs.len() != members.static_fields().len() + members.instance_fields().len() {
         return Ok(false);
     }
+    if method_offs.len() != members.direct_methods().len() + members.virtual_methods().len() {
+        return Ok(false);
+    }
+    if parameter_offs.len() != method_offs.len() {
+        return Ok(false);
+    }
+    members.put_directory(own_off, field_offs, method_offs, parameter_offs, out)?;
+    Ok(true)
+}
+
+// The offset of each field, the static ones first.
+fn field_offs(
+    alloc: Global,
+    members: &Members<'_>,
+    offs: &BTreeMap<u32, u32>,
+) -> Result<Vec<u32>, AllocError> {
     let mut out = Vec::new(alloc);
-    members.put_directory(
-        offs.own,
-        &field_offs,
-        &method_offs,
-        &parameter_offs,
-        &mut out,
-    )?;
-    Ok(stand(frame.bytes(), off, &out))
+    push_field_offs(members.static_fields(), offs, &mut out)?;
+    push_field_offs(members.instance_fields(), offs, &mut out)?;
+    Ok(out)
+}
+
+// The offset of each method, the direct ones first.
+fn method_offs(
+    alloc: Global,
+    members: &Members<'_>,
+    offs: &BTreeMap<u32, u32>,
+) -> Result<Vec<u32>, AllocError> {
+    let mut out = Vec::new(alloc);
+    push_method_offs(members.direct_methods(), offs, &mut out)?;
+    push_method_offs(members.virtual_methods(), offs, &mut out)?;
+    Ok(out)
 }
 
 // Whether members are few enough to be put.

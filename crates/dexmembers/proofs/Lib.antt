@@ -32,5 +32,6 @@ pub mod RowStands
 pub mod RowWeighed
 pub mod SameMembers
 pub mod StaticValuesRead
+pub mod StrippedMembers
 pub mod Taken
 pub mod Weighed

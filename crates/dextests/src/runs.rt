@@ -310,8 +310,16 @@ fn conflict_line(alloc: Global) -> Option<String> {
     let (first, second) = (letter_a(alloc)?, final_a(alloc)?);
     let files = [(first.as_slice(), WHOLE), (second.as_slice(), WHOLE)];
     let merged = merged(alloc, files, [1, 0], WHOLE)?;
-    let fault = merged.answer.err()?;
-    let (status, line) = explain(alloc, &fault, &["a.dex", "b.dex"], "out.dex").ok()?;
+    let Err(RunFault::Merge(cause)) = merged.answer else {
+        return None;
+    };
+    let (status, line) = explain(
+        alloc,
+        &RunFault::Merge(cause),
+        &["a.dex", "b.dex"],
+        "out.dex",
+    )
+    .ok()?;
     if status != 1 || merged.writes != 0 {
         return None;
     }

@@ -309,10 +309,12 @@ fn a_bad_plan_is_told_before_a_reader_is_called(rt: HostRuntime) {
 fn conflict_line(alloc: Global) -> Option<String> {
     let (first, second) = (letter_a(alloc)?, final_a(alloc)?);
     let files = [(first.as_slice(), WHOLE), (second.as_slice(), WHOLE)];
-    let merged = merged(alloc, files, [1, 0], WHOLE)?;
-    let fault = merged.answer.err()?;
-    let (status, line) = explain(alloc, &fault, &["a.dex", "b.dex"], "out.dex").ok()?;
-    if status != 1 || merged.writes != 0 {
+    let Ran { answer, writes, .. } = merged(alloc, files, [1, 0], WHOLE)?;
+    let Err(RunFault::Merge(cause)) = answer else {
+        return None;
+    };
+    let (status, line) = explain(alloc, &RunFault::Merge(cause), &[], "out").ok()?;
+    if status != 1 || writes != 0 {
         return None;
     }
     Some(line)

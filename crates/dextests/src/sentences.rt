@@ -1,42 +1,50 @@
 //! What is said of faults, and plans of fans by what they look like.
 
+ghost use Rattle.std.specs.Prelude.{◌≤◌, IfSome};
+ghost use Rattle.dexcmd.specs.Lines.{HasName};
+
 use dexcmd::{MergeCause, RunFault, explain, fan_plan};
 use dexhead::Refusal;
 use dexmerge::Plan;
 use std::alloc::{AllocError, Global};
 
 // Whether the fault has this status and this line, among two inputs.
-fn is_told(alloc: Global, fault: &RunFault, status: u8, line: &str) -> Option<bool> {
+fn is_told(alloc: Global, fault: &RunFault, status: u8, line: &str) -> Option<bool>
+    requires { HasName 2 fault.now }
+{
     let told = explain(alloc, fault, &["a.dex", "b c"], "out.dex").ok()?;
     Some(told.0 == status && told.1.as_str() == line)
 }
 
-#[test]
-fn faults_have_a_status_and_a_line(rt: HostRuntime) {
+// Some faults, each with its status and its line.
+fn fault(case: u8) -> (RunFault, u8, &'static str)
+    ensures { HasName 2 result.0 }
+{
     let refusal = Refusal {
         number: 3,
         place: 38,
     };
-    for (fault, status, line) in [
-        (
+    let cap = MergeCause::Cap(5);
+    match case {
+        0 => (
             RunFault::Input(1, refusal),
             1,
             "dexkit: b c: refused 3 Version at 38",
         ),
-        (RunFault::Plan, 1, "dexkit: bad plan"),
-        (
-            RunFault::Merge(MergeCause::Cap(5)),
-            1,
-            "dexkit: cap short-strings",
-        ),
-        (RunFault::Read(0), 3, "dexkit: a.dex: cannot be read"),
-        (RunFault::Write, 3, "dexkit: out.dex: cannot be written"),
-        (RunFault::Memory, 4, "dexkit: out of memory"),
-    ] {
-        assert!(rt;
-            is_told(rt.alloc(), &fault, status, line) == Some(true),
-            "{line}"
-        );
+        1 => (RunFault::Plan, 1, "dexkit: bad plan"),
+        2 => (RunFault::Merge(cap), 1, "dexkit: cap short-strings"),
+        3 => (RunFault::Read(0), 3, "dexkit: a.dex: cannot be read"),
+        4 => (RunFault::Write, 3, "dexkit: out.dex: cannot be written"),
+        _ => (RunFault::Memory, 4, "dexkit: out of memory"),
+    }
+}
+
+#[test]
+fn faults_have_a_status_and_a_line(rt: HostRuntime) {
+    for case in 0..6 {
+        let (fault, status, line) = fault(case);
+        let told = is_told(rt.alloc(), &fault, status, line);
+        assert!(rt; told == Some(true), "{line}");
     }
 }
 
@@ -56,28 +64,38 @@ fn push_plan(alloc: Global, plan: &Plan, text: &mut String) -> Result<(), AllocE
 }
 
 // Whether the plan that a fan makes of so many files looks like this.
-fn is_fanned(alloc: Global, files: usize, fan: Option<usize>, right: &str) -> Option<bool> {
+fn is_fanned(alloc: Global, files: usize, fan: Option<usize>, right: &str) -> Option<bool>
+    requires files { 1 ≤ files }
+    requires fan { IfSome fan (λ fan. 2 ≤ fan) }
+{
     let plan = fan_plan(alloc, files, fan).ok()?;
     let mut text = String::new(alloc);
     push_plan(alloc, &plan, &mut text).ok()?;
     Some(text.as_str() == right)
 }
 
+// Some numbers of files, with a fan or none, and what the plan looks like.
+fn fan(case: u8) -> (usize, Option<usize>, &'static str)
+    ensures files { 1 ≤ result.0 }
+    ensures fan { IfSome result.1 (λ fan. 2 ≤ fan) }
+{
+    match case {
+        0 => (5, Some(2), "((( 0 1)( 2 3))(( 4)))"),
+        1 => (4, Some(2), "(( 0 1)( 2 3))"),
+        2 => (10, Some(3), "((( 0 1 2)( 3 4 5)( 6 7 8))(( 9)))"),
+        3 => (3, Some(3), "( 0 1 2)"),
+        4 => (2, Some(65_535), "( 0 1)"),
+        5 => (1, Some(2), " 0"),
+        6 => (1, None, "( 0)"),
+        _ => (5, None, "( 0 1 2 3 4)"),
+    }
+}
+
 #[test]
 fn a_fan_makes_a_plan(rt: HostRuntime) {
-    for (files, fan, right) in [
-        (5, Some(2), "((( 0 1)( 2 3))(( 4)))"),
-        (4, Some(2), "(( 0 1)( 2 3))"),
-        (10, Some(3), "((( 0 1 2)( 3 4 5)( 6 7 8))(( 9)))"),
-        (3, Some(3), "( 0 1 2)"),
-        (2, Some(65_535), "( 0 1)"),
-        (1, Some(2), " 0"),
-        (1, None, "( 0)"),
-        (5, None, "( 0 1 2 3 4)"),
-    ] {
-        assert!(rt;
-            is_fanned(rt.alloc(), files, fan, right) == Some(true),
-            "{right}"
-        );
+    for case in 0..8 {
+        let (files, fan, right) = fan(case);
+        let fanned = is_fanned(rt.alloc(), files, fan, right);
+        assert!(rt; fanned == Some(true), "{right}");
     }
 }

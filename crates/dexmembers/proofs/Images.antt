@@ -7,13 +7,11 @@ use Rattle.dexpool.specs.declared.symbols.SymbolKind.TheVariants as kinds
 use Rattle.dexpool.specs.Numberings.{Maps}
 use Rattle.dexpool.specs.Uses.{Use, IsLedUse}
 use Rattle.dexcode.specs.Numbered.{NumberedItem}
-use Rattle.dexcode.specs.Renumbering.{item_uses, HasPlaces, HasImages}
+use Rattle.dexcode.specs.Renumbering.{item_uses, HasImages}
 use Rattle.dexval.specs.Numbered.{NumberedSet, NumberedValues}
-use Rattle.dexval.specs.Renumbering.{LeadsOn, SetHasPlaces, HavePlaces}
 use Rattle.dexval.specs.Uses.{set_uses, values_uses}
 use Rattle.dexval.proofs.Marked.{all_front, all_back}
 use Rattle.dexmembers.specs.Numbered.{NumberedField, NumberedMethod, NumberedMembers, fields_of, methods_of}
-use Rattle.dexmembers.specs.Renumbering.{FieldHasPlaces, MethodHasPlaces, MembersHavePlaces}
 use Rattle.dexmembers.specs.Uses.{field_uses, method_uses, members_uses}
 use Rattle.dexmembers.proofs.RenumberingLists.{all_left, all_right}
 

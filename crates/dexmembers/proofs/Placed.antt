@@ -1,5 +1,5 @@
 -- Members whose numbers lead somewhere, after a cut and after a join: each leads to one that fits its place.
-use Rattle.std.proofs.Common.{◌≡◌, ℕ, ◌^◌, ◌<◌, ◌≤◌, suc, Bool, true, false, nat_lt, max, List, [], ◌∷◌, ◌++◌, Option, Some, None, refl, sym, ap, subst, ◌∙◌, arith, inl, inr}
+use Rattle.std.proofs.Common.{◌≡◌, ℕ, ◌<◌, ◌≤◌, Bool, true, false, nat_lt, max, List, [], ◌∷◌, ◌++◌, Option, Some, None, refl, sym, ap, subst, ◌∙◌, arith, inl, inr}
 use Rattle.std.specs.Prelude.{IsSome, IfSome, option_to_list}
 use Rattle.std.specs.List.{All, Contains, flat_map}
 use Rattle.std.proofs.lemmas.Bool.{ltb-true, ltb-false}
@@ -9,9 +9,7 @@ use Rattle.dexspec.proofs.Members.{Contains-nil, Contains-first}
 use Rattle.dexpool.specs.declared.symbols.SymbolKind.{SymbolKind}
 use Rattle.dexpool.specs.declared.symbols.SymbolKind.TheVariants as kinds
 use Rattle.dexpool.specs.Numberings.{Maps, image, image_of}
-use Rattle.dexpool.specs.Orderly.{KeepOrder, LeadDown}
-use Rattle.dexpool.specs.Uses.{IsLedUse}
-use Rattle.dexinsn.specs.Numbered as pieces
+use Rattle.dexpool.specs.Orderly.{KeepOrder}
 use Rattle.dexinsn.specs.Fitting.{ImagesFit, IsGreatest, LeadsShort, short_strings}
 use Rattle.dexinsn.proofs.Fits.{ShortLead, short_lead, shorts_led}
 use Rattle.dexcode.specs.Numbered.{NumberedItem}
@@ -21,10 +19,9 @@ use Rattle.dexval.specs.Numbered.{NumberedSet, NumberedValues}
 use Rattle.dexval.specs.Renumbering.{LeadsNarrow, LeadsOn, SetHasPlaces, HavePlaces}
 use Rattle.dexmembers.specs.Numbered.{NumberedField, NumberedMethod, NumberedMembers, methods_of}
 use Rattle.dexmembers.specs.Renumbering.{FieldHasPlaces, MethodHasPlaces, MembersHavePlaces}
-use Rattle.dexmembers.specs.Uses.{members_uses}
 use Rattle.dexmembers.specs.Fitting.{MethodFits, NumbersFit, code_short_strings, method_short_strings, members_short_strings}
 use Rattle.dexmembers.proofs.RenumberingLists.{all_left, all_right, all_both}
-use Rattle.dexmembers.proofs.Images.{SetHasImages, HaveImages, FieldHasImages, MethodHasImages, MembersHaveImages, members_images, some_of}
+use Rattle.dexmembers.proofs.Images.{SetHasImages, HaveImages, FieldHasImages, MethodHasImages, MembersHaveImages, some_of}
 
 -- the code of the method, if it has some, has places
 abbrev pub CodePlaced : Maps → NumberedMethod → Type 0

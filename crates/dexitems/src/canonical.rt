@@ -120,46 +120,69 @@ fn judge_class(
 ) -> Result<Judged, CaseFault>
     requires { row < table_size frame.now ClassDefs }
 {
-    let class = frame.row(Table::ClassDefs, row);
-    let annotations_off = number_at(class, 20)?;
-    let class_data_off = number_at(class, 24)?;
-    let static_values_off = number_at(class, 28)?;
     let members = match read_members(alloc, frame, pools, row, u64::MAX) {
         Ok(Some(members)) => members,
         Err(ItemFault::Memory) => return Err(CaseFault::Memory),
         _ => return Ok(Judged::Astray(0)),
     };
+    judge_row(
+        alloc,
+        frame,
+        pools,
+        frame.row(Table::ClassDefs, row),
+        &members,
+    )
+}
+
+// Judges the items that the bytes of a class row lead to.
+fn judge_row(
+    alloc: Global,
+    frame: &Frame<'_>,
+    pools: &Pools<'_>,
+    row: &[u8],
+    members: &Members<'_>,
+) -> Result<Judged, CaseFault> {
+    let annotations_off = number_at(row, 20)?;
+    let class_data_off = number_at(row, 24)?;
     let mut items = Vec::new(alloc);
-    let mut count: usize = 0;
-    if class_data_off != 0 {
-        let code_offs = method_code_offs(alloc, frame.bytes(), class_data_off)?;
-        if !stands_class_data(alloc, frame, &members, &code_offs, class_data_off)? {
-            return Ok(Judged::Astray(class_data_off));
-        }
-        count += 1;
-        push_codes(frame.bytes(), &code_offs, &mut items)?;
+    if !stands_class_data(alloc, frame, members, class_data_off, &mut items)? {
+        return Ok(Judged::Astray(class_data_off));
     }
-    if annotations_off != 0 {
-        let offs = directory_offs(alloc, frame.bytes(), annotations_off)?;
-        if !stands_directory(alloc, frame, &members, &offs, annotations_off)? {
-            return Ok(Judged::Astray(annotations_off));
-        }
-        count += 1;
-        push_sets(alloc, frame.bytes(), &offs, &mut items)?;
+    if !stands_directory(alloc, frame, members, annotations_off, &mut items)? {
+        return Ok(Judged::Astray(annotations_off));
     }
-    if static_values_off != 0 {
-        items.push(Item {
-            put: Put::Statics,
-            off: static_values_off,
-            at: static_values_off,
-        })?;
-    }
-    for item in &items {
+    push_statics(number_at(row, 28)?, &mut items)?;
+    let beside = usize::from(class_data_off != 0) + usize::from(annotations_off != 0);
+    judge_items(alloc, frame, pools, &items, beside)
+}
+
+// Judges items; so many others stand.
+fn judge_items(
+    alloc: Global,
+    frame: &Frame<'_>,
+    pools: &Pools<'_>,
+    items: &[Item],
+    others: usize,
+) -> Result<Judged, CaseFault> {
+    for item in items {
         if !item.is_put_as_it_stands(alloc, frame, pools)? {
             return Ok(Judged::Astray(item.off));
         }
     }
-    Ok(Judged::Items(count.saturating_add(items.len())))
+    Ok(Judged::Items(others.saturating_add(items.len())))
+}
+
+// Appends the array of values at an offset, if there is one.
+fn push_statics(off: u32, items: &mut Vec<Item>) -> Result<(), CaseFault> {
+    if off == 0 {
+        return Ok(());
+    }
+    items.push(Item {
+        put: Put::Statics,
+        off,
+        at: off,
+    })?;
+    Ok(())
 }
 
 // Appends the code items at these offsets, and their debug programs.
@@ -226,16 +249,22 @@ fn push_sets(
     Ok(())
 }
 
-// Whether the class data that stands at an offset is put for members.
+// Whether the class data that stands at an offset, if there is some, is put for members. Appends the code that it leads
+// to.
 fn stands_class_data(
     alloc: Global,
     frame: &Frame<'_>,
     members: &Members<'_>,
-    code_offs: &[u32],
     off: u32,
+    items: &mut Vec<Item>,
 ) -> Result<bool, CaseFault> {
+    if off == 0 {
+        return Ok(true);
+    }
+    let code_offs = method_code_offs(alloc, frame.bytes(), off)?;
+    push_codes(frame.bytes(), &code_offs, items)?;
     let mut out = Vec::new(alloc);
-    if !put_counted_data(members, code_offs, &mut out)? {
+    if !put_counted_data(members, &code_offs, &mut out)? {
         return Ok(false);
     }
     Ok(stand(frame.bytes(), off, &out))
@@ -257,14 +286,19 @@ fn put_counted_data(
     Ok(true)
 }
 
-// Whether the directory that stands at an offset is put for members.
+// Whether the directory that stands at an offset, if there is one, is put for members. Appends the sets that it leads to.
 fn stands_directory(
     alloc: Global,
     frame: &Frame<'_>,
     members: &Members<'_>,
-    offs: &DirectoryOffs,
     off: u32,
+    items: &mut Vec<Item>,
 ) -> Result<bool, CaseFault> {
+    if off == 0 {
+        return Ok(true);
+    }
+    let offs = directory_offs(alloc, frame.bytes(), off)?;
+    push_sets(alloc, frame.bytes(), &offs, items)?;
     let of_fields = field_offs(alloc, members, &offs.fields)?;
     let of_methods = method_offs(alloc, members, &offs.methods)?;
     let of_parameters = method_offs(alloc, members, &offs.parameters)?;

@@ -2,7 +2,7 @@
 
 mod code;
 mod debug;
-mod members;
+pub mod members;
 mod symbols;
 mod values;
 

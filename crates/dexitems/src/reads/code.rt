@@ -79,19 +79,36 @@ fn wrong_call(
 ) -> Result<Option<&'static str>, CaseFault>
     requires { IsKnownCode numbering.now code.now }
 {
-    let copy = code.copy()?;
-    let remap = as_it_is(alloc, numbering)?;
-    if !code.same_mapped(&remap, &copy, &remap) {
+    if !is_copied(alloc, numbering, code)? {
         return Ok(Some("the copy is another"));
     }
-    let Some((led, kept, remap)) = led_on(alloc, numbering, code)? else {
-        return Ok(Some("a marked symbol is not kept"));
-    };
-    if !code.same_mapped(&remap, &led, &as_it_is(alloc, &kept)?) {
+    match led_on(alloc, numbering, code)? {
+        Some((led, kept, remap)) => wrong_lead(alloc, numbering, code, &kept, &led, &remap),
+        None => Ok(Some("a marked symbol is not kept")),
+    }
+}
+
+// Whether a copy of code is the same.
+fn is_copied(alloc: Global, numbering: &Numbering<'_>, code: &Code<'_>) -> Result<bool, CaseFault> {
+    let copy = code.copy()?;
+    let remap = as_it_is(alloc, numbering)?;
+    Ok(code.same_mapped(&remap, &copy, &remap))
+}
+
+// What is wrong with code that is led on to another numbering.
+fn wrong_lead(
+    alloc: Global,
+    numbering: &Numbering<'_>,
+    code: &Code<'_>,
+    kept: &Numbering<'_>,
+    led: &Code<'_>,
+    remap: &Remap,
+) -> Result<Option<&'static str>, CaseFault> {
+    if !code.same_mapped(remap, led, &as_it_is(alloc, kept)?) {
         return Ok(Some("its numbers are led elsewhere"));
     }
     let text = told(alloc, numbering, code)?;
-    let text_led = told(alloc, &kept, &led)?;
+    let text_led = told(alloc, kept, led)?;
     Ok((text != text_led).then_some("led on it prints otherwise"))
 }
 

@@ -4,7 +4,7 @@ use crate::answer::{answered, refused};
 use crate::fault::CaseFault;
 use crate::outcome::Outcome;
 use crate::reads::as_it_is;
-use crate::shown::Shown;
+use crate::shown::members::ShownMembers;
 use dexhead::{Frame, Table};
 use dexmembers::{Members, read_members};
 use dexpool::{ItemFault, Numbering, Pools};
@@ -27,7 +27,8 @@ pub fn run(
         Err(fault) => return refused(alloc, fault, right),
     };
     let numbering = pools.numbering();
-    let text = told(alloc, numbering, &members)?;
+    let declared = told(alloc, numbering, &members)?;
+    let text = format!(in alloc; "ok {declared}")?;
     let weight = members.weight();
     let wrong = if !is_copied(alloc, numbering, &members)? {
         Some("the copy is another")
@@ -42,9 +43,13 @@ pub fn run(
 }
 
 // Members in print.
-fn told(alloc: Global, numbering: &Numbering<'_>, item: &Members<'_>) -> Result<String, CaseFault> {
-    let shown = Shown { numbering, item };
-    Ok(format!(in alloc; "ok {shown}")?)
+fn told(
+    alloc: Global,
+    numbering: &Numbering<'_>,
+    members: &Members<'_>,
+) -> Result<String, CaseFault> {
+    let shown = ShownMembers { numbering, members };
+    Ok(format!(in alloc; "{shown}")?)
 }
 
 // Whether a copy of members is the same.

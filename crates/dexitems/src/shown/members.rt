@@ -1,6 +1,5 @@
 //! What class rows declare, as a listing has it.
 
-use crate::shown::Shown;
 use crate::shown::code::print_lines;
 use crate::shown::symbols::{print_field_name, print_method_name};
 use dexmembers::{Field, Members, Method};
@@ -89,43 +88,57 @@ fn print_methods<W: fmt::Write>(
     Ok(())
 }
 
-impl fmt::Display for Shown<'_, '_, '_, Members<'_>> {
+// Prints the lines of members, or `-` for none.
+fn print_members<W: fmt::Write>(
+    members: &Members<'_>,
+    names: &Numbering<'_>,
+    f: &mut fmt::Formatter<W>,
+) -> fmt::Result {
+    let are_first = true;
+    print_fields(
+        are_first,
+        "static-field ",
+        members.static_fields(),
+        names,
+        f,
+    )?;
+    let are_first = are_first && members.static_fields().is_empty();
+    print_fields(
+        are_first,
+        "instance-field ",
+        members.instance_fields(),
+        names,
+        f,
+    )?;
+    let are_first = are_first && members.instance_fields().is_empty();
+    print_methods(
+        are_first,
+        "direct-method ",
+        members.direct_methods(),
+        names,
+        f,
+    )?;
+    let are_first = are_first && members.direct_methods().is_empty();
+    print_methods(
+        are_first,
+        "virtual-method ",
+        members.virtual_methods(),
+        names,
+        f,
+    )?;
+    let is_empty = are_first && members.virtual_methods().is_empty();
+    f.write_str(if is_empty { "-" } else { "" })
+}
+
+/// Members whose numbers are those of a numbering.
+#[derive(Drop)]
+pub struct ShownMembers<'n, 'a, 's> {
+    pub numbering: &'n Numbering<'a>,
+    pub members: &'s Members<'s>,
+}
+
+impl fmt::Display for ShownMembers<'_, '_, '_> {
     fn fmt<W: fmt::Write>(&self, f: &mut fmt::Formatter<W>) -> fmt::Result {
-        let members = self.item;
-        let names = self.numbering;
-        let are_first = true;
-        print_fields(
-            are_first,
-            "static-field ",
-            members.static_fields(),
-            names,
-            f,
-        )?;
-        let are_first = are_first && members.static_fields().is_empty();
-        print_fields(
-            are_first,
-            "instance-field ",
-            members.instance_fields(),
-            names,
-            f,
-        )?;
-        let are_first = are_first && members.instance_fields().is_empty();
-        print_methods(
-            are_first,
-            "direct-method ",
-            members.direct_methods(),
-            names,
-            f,
-        )?;
-        let are_first = are_first && members.direct_methods().is_empty();
-        print_methods(
-            are_first,
-            "virtual-method ",
-            members.virtual_methods(),
-            names,
-            f,
-        )?;
-        let is_empty = are_first && members.virtual_methods().is_empty();
-        f.write_str(if is_empty { "-" } else { "" })
+        print_members(self.members, self.numbering, f)
     }
 }

@@ -2,10 +2,8 @@
 //! `FILE COUNT`, every item that the class rows of a canonical file lead to, so many in all: code, debug programs, sets
 //! and their annotations, arrays of values, class data and directories.
 
-ghost use Rattle.std.specs.Prelude.{◌<◌, ◌^◌, IsTrue, length};
+ghost use Rattle.std.specs.Prelude.{◌<◌};
 ghost use Rattle.dexspec.specs.Header.{ClassDefs, table_size};
-ghost use Rattle.dexmembers.specs.Numbered.{fields_of, methods_of};
-ghost use Rattle.dexmembers.specs.Spelled.{HasFewMembers};
 
 use crate::fault::CaseFault;
 use crate::offsets::{DirectoryOffs, directory_offs, list_offs, method_code_offs, number_at};
@@ -120,7 +118,7 @@ fn judge_class(
 ) -> Result<Judged, CaseFault>
     requires { row < table_size frame.now ClassDefs }
 {
-    let members = match read_members(alloc, frame, pools, row, u64::MAX) {
+    let members = match read_members(alloc, frame, pools, row, u32::MAX) {
         Ok(Some(members)) => members,
         Err(ItemFault::Memory) => return Err(CaseFault::Memory),
         _ => return Ok(Judged::Astray(0)),
@@ -276,9 +274,6 @@ fn put_counted_data(
     code_offs: &[u32],
     out: &mut Vec<u8>,
 ) -> Result<bool, AllocError> {
-    if !are_few(members) {
-        return Ok(false);
-    }
     if code_offs.len() != members.direct_methods().len() + members.virtual_methods().len() {
         return Ok(false);
     }
@@ -325,9 +320,6 @@ fn put_counted(
     parameter_offs: &[u32],
     out: &mut Vec<u8>,
 ) -> Result<bool, AllocError> {
-    if !are_few(members) {
-        return Ok(false);
-    }
     if field_offs.len() != members.static_fields().len() + members.instance_fields().len() {
         return Ok(false);
     }
@@ -363,24 +355,6 @@ fn method_offs(
     push_method_offs(members.direct_methods(), offs, &mut out)?;
     push_method_offs(members.virtual_methods(), offs, &mut out)?;
     Ok(out)
-}
-
-// Whether members are few enough to be put.
-fn are_few(members: &Members<'_>) -> bool
-    ensures few { IsTrue result → HasFewMembers members.now }
-    ensures fields { IsTrue result → length (fields_of members.now) < 2 ^ 32 }
-    ensures methods { IsTrue result → length (methods_of members.now) < 2 ^ 32 }
-{
-    if members.static_fields().len() >= 0x8000_0000 {
-        return false;
-    }
-    if members.instance_fields().len() >= 0x8000_0000 {
-        return false;
-    }
-    if members.direct_methods().len() >= 0x8000_0000 {
-        return false;
-    }
-    members.virtual_methods().len() < 0x8000_0000
 }
 
 // The offset that belongs to a number; 0 stands for none.

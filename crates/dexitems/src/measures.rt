@@ -68,7 +68,7 @@ fn weight(
         "debug" => read_debug(alloc, frame, pools, place)?.weight(),
         "code" => read_code(alloc, frame, pools, place)?.weight(),
         "members" if place < frame.size(Table::ClassDefs) => {
-            match read_members(alloc, frame, pools, place, u64::MAX)? {
+            match read_members(alloc, frame, pools, place, u32::MAX)? {
                 Some(members) => members.weight(),
                 None => u64::MAX,
             }

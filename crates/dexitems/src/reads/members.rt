@@ -21,7 +21,7 @@ pub fn run(
     if row >= frame.size(Table::ClassDefs) {
         return Err(CaseFault::Form);
     }
-    let members = match read_members(alloc, frame, pools, row, u64::MAX) {
+    let members = match read_members(alloc, frame, pools, row, u32::MAX) {
         Ok(Some(members)) => members,
         Ok(None) => return Ok(Outcome::failed(alloc, "too heavy")?),
         Err(fault) => return refused(alloc, fault, right),
@@ -74,7 +74,10 @@ fn is_within(
     if row >= frame.size(Table::ClassDefs) {
         return Err(CaseFault::Form);
     }
-    match read_members(alloc, frame, pools, row, most) {
+    if most > u64::from(u32::MAX) {
+        return Ok(false);
+    }
+    match read_members(alloc, frame, pools, row, most as u32) {
         Ok(found) => Ok(found.is_some()),
         Err(ItemFault::Memory) => Err(CaseFault::Memory),
         Err(_) => Ok(false),

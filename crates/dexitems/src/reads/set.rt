@@ -55,6 +55,15 @@ fn kept<'a>(
     numbering.keep(alloc, &marks)
 }
 
+// Leads the numbers of a set on, where each leads somewhere, and tells whether it did.
+fn is_led_on(set: &mut AnnotationSet, remap: &Remap) -> bool {
+    if !set.fits(remap) {
+        return false;
+    }
+    set.renumber(remap);
+    true
+}
+
 // What is wrong with the other calls on a set.
 fn wrong_call(
     alloc: Global,
@@ -68,10 +77,9 @@ fn wrong_call(
         return Ok(Some("the copy is another"));
     }
     let (kept, remap) = kept(alloc, numbering, set)?;
-    if !led.fits(&remap) {
+    if !is_led_on(&mut led, &remap) {
         return Ok(Some("a marked symbol is not kept"));
     }
-    led.renumber(&remap);
     if !set.same_mapped(&remap, &led, &as_it_is(alloc, &kept)?) {
         return Ok(Some("its numbers are led elsewhere"));
     }

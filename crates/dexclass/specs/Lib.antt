@@ -1,8 +1,7 @@
 pub mod Rows
 pub mod Numbered
-pub mod Marking
+pub mod Uses
 pub mod Renumbering
 pub mod Parents
 pub mod FlagNames
 pub mod Programs
-pub mod Reading

@@ -2,18 +2,19 @@
 use Rattle.std.specs.Prelude.{ℕ, ◌==◌, if◌then◌else◌, List, [], map, Option, Some, None, slice_index_or}
 use Rattle.std.specs.Option.{option_map}
 use Rattle.dexspec.specs.Texts.{Text}
-use Rattle.dexspec.specs.Values.{NoValues}
 use Rattle.dexspec.specs.Classes.{Definition, class_idx, access_flags, superclass_idx, interfaces_off, source_file_idx, no_index}
 use Rattle.dexspec.specs.Mentions.{Mentions}
+use Rattle.dexmembers.specs.Numbered.{Members, NumberedMembers, members_in}
 use Rattle.dexclass.specs.Rows.{interface_indices}
 
--- A class: the numbers of its type, of its superclass, of its interfaces and of its source text.
+-- A class: the numbers of its type, of its superclass, of its interfaces and of its source text, and what it declares.
 pub record NumberedClass : Type 0 where
   pub name : ℕ
   pub flags : ℕ
   pub superclass : Option ℕ
   pub interfaces : List ℕ
   pub source : Option ℕ
+  pub members : NumberedMembers
 
 -- the text of a number
 abbrev pub text_at : Mentions → ℕ → Text
@@ -23,7 +24,7 @@ text_at m i = slice_index_or m.texts i []
 abbrev pub type_at : Mentions → ℕ → Text
 type_at m i = slice_index_or m.types i []
 
--- the definition that the numbers stand for; it has no members, values and annotations
+-- the definition that the numbers stand for
 abbrev pub definition_of : Mentions → NumberedClass → Definition
 definition_of m c = (
   type_at m c.name,
@@ -32,12 +33,12 @@ definition_of m c = (
     superclass = option_map (type_at m) c.superclass;
     interfaces = map (type_at m) c.interfaces;
     source = option_map (text_at m) c.source;
-    annotations = [];
-    static_fields = [];
-    instance_fields = [];
-    direct_methods = [];
-    virtual_methods = [];
-    static_values = NoValues;
+    annotations = (members_in m c.members).annotations;
+    static_fields = (members_in m c.members).static_fields;
+    instance_fields = (members_in m c.members).instance_fields;
+    direct_methods = (members_in m c.members).direct_methods;
+    virtual_methods = (members_in m c.members).virtual_methods;
+    static_values = (members_in m c.members).static_values;
   },
 )
 
@@ -45,12 +46,13 @@ definition_of m c = (
 abbrev pub number_of : ℕ → Option ℕ
 number_of i = if i == no_index then None else Some i
 
--- class row r with the indices of the file as numbers
-abbrev pub class_of_row : List ℕ → ℕ → NumberedClass
-class_of_row b r = record {
+-- class row r with the indices of the file as numbers, and what it declares
+abbrev pub class_of_row : List ℕ → ℕ → NumberedMembers → NumberedClass
+class_of_row b r x = record {
   name = class_idx b r;
   flags = access_flags b r;
   superclass = number_of (superclass_idx b r);
   interfaces = interface_indices b (interfaces_off b r);
   source = number_of (source_file_idx b r);
+  members = x;
 }

@@ -4,6 +4,7 @@ use Rattle.std.specs.List.{Contains}
 use Rattle.dexspec.specs.Lists.{present, rises, AreDistinct}
 use Rattle.dexspec.specs.Texts.{text_cmp}
 use Rattle.dexspec.specs.Mentions.{Mentions}
+use Rattle.dexmembers.specs.Numbered.{no_members}
 use Rattle.dexclass.specs.Numbered.{NumberedClass}
 
 -- the numbers of the superclass and the interfaces
@@ -12,7 +13,7 @@ parent_numbers c = option_to_list c.superclass ++ c.interfaces
 
 -- a class of nothing
 abbrev pub no_class : NumberedClass
-no_class = record { name = 0; flags = 0; superclass = None; interfaces = []; source = None }
+no_class = record { name = 0; flags = 0; superclass = None; interfaces = []; source = None; members = no_members }
 
 -- the name of class i
 abbrev pub name_number : List NumberedClass → ℕ → ℕ

@@ -1,11 +1,13 @@
 -- Classes whose numbers are led to those of another numbering.
-use Rattle.std.specs.Prelude.{◌≡◌, ℕ, List, map, Option, unwrap_or}
+use Rattle.std.specs.Prelude.{◌≡◌, ℕ, List, map, All, Option, unwrap_or}
 use Rattle.std.specs.Option.{option_map}
 use Rattle.dexspec.specs.Mentions.{Mentions}
 use Rattle.dexpool.specs.Numberings.{Maps, AllLead, image}
 use Rattle.dexpool.specs.Laws.{LeadsAll}
+use Rattle.dexpool.specs.Uses.{IsLedUse}
+use Rattle.dexmembers.specs.Renumbering.{renumbered_members, MembersHavePlaces}
 use Rattle.dexclass.specs.Numbered.{NumberedClass, definition_of}
-use Rattle.dexclass.specs.Marking.{IsInRange}
+use Rattle.dexclass.specs.Uses.{class_uses, IsKnownClass}
 
 -- where a number leads; one that leads nowhere stays
 abbrev pub led : List (Option ℕ) → ℕ → ℕ
@@ -19,7 +21,16 @@ renumbered r c = record {
   superclass = option_map (led r.types) c.superclass;
   interfaces = map (led r.types) c.interfaces;
   source = option_map (led r.texts) c.source;
+  members = renumbered_members r c.members;
 }
+
+-- each number in what the class declares leads to one that fits its place; the others have room for any
+abbrev pub ClassHasPlaces : Maps → NumberedClass → Type 0
+ClassHasPlaces r c = MembersHavePlaces r c.members
+
+-- each symbol that occurs in the class leads somewhere
+abbrev pub IsLedClass : Maps → NumberedClass → Type 0
+IsLedClass r c = All (IsLedUse r) (class_uses c)
 
 -- the maps lead each number of the first numbering to that of the same symbol in the second
 pub record LeadInto (m n : Mentions) (r : Maps) : Type 0 where
@@ -29,9 +40,10 @@ pub record LeadInto (m n : Mentions) (r : Maps) : Type 0 where
 -- led on, the class stands for the same definition, by numbers of the second numbering
 pub record StaysSame (m n : Mentions) (r : Maps) (c : NumberedClass) : Type 0 where
   pub same : definition_of n (renumbered r c) ≡ definition_of m c
-  pub numbers_in : IsInRange n (renumbered r c)
+  pub known : IsKnownClass n (renumbered r c)
 
--- the class's numbers are those of symbols, and the maps lead each of them to the same symbol of the whole
+-- the class's numbers are those of symbols, and the maps lead each symbol that occurs to the same one of the whole
 pub record IsPartClass (whole m : Mentions) (r : Maps) (c : NumberedClass) : Type 0 where
-  pub lead : LeadInto m whole r
-  pub numbers_in : IsInRange m c
+  pub lead : AllLead m whole r
+  pub led : IsLedClass r c
+  pub known : IsKnownClass m c

@@ -5,11 +5,12 @@ ghost use Rattle.dexspec.specs.Lists.{AreDistinct};
 ghost use Rattle.dexclass.specs.Parents.{no_class};
 
 use crate::classes::Class;
+use dexmembers::Members;
 use std::alloc::{AllocError, Global};
 use std::mem;
 
 // A class of nothing. No memory is taken.
-fn nothing(alloc: Global) -> Class
+fn nothing<'a>(alloc: Global) -> Class<'a>
     ensures { result ≡ no_class }
 {
     Class {
@@ -18,6 +19,7 @@ fn nothing(alloc: Global) -> Class
         superclass: None,
         interfaces: Vec::new(alloc),
         source: None,
+        members: Members::empty(alloc),
     }
 }
 
@@ -25,11 +27,11 @@ fn nothing(alloc: Global) -> Class
 ///
 /// Conditions: each place is that of a class, and no two are the same. Error: the memory for the list was
 /// refused.
-pub(crate) fn arrange(
+pub(crate) fn arrange<'a>(
     alloc: Global,
-    classes: &mut Vec<Class>,
+    classes: &mut Vec<Class<'a>>,
     order: &[usize],
-) -> Result<Vec<Class>, AllocError>
+) -> Result<Vec<Class<'a>>, AllocError>
     requires within { All (λ i. i < length classes.old.items) order.now }
     requires distinct { AreDistinct order.now }
     ensures { IfOk result (λ arranged. arranged.items ≡ map (λ i. slice_index_or classes.old.items i no_class) order.now) }

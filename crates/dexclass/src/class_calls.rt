@@ -3,7 +3,9 @@
 ghost use Rattle.std.specs.Prelude.{◌≡◌, ◌↔◌, ◌-◌, ◌^◌, min, map, IfOk, IsTrue};
 ghost use Rattle.dexspec.specs.Mentions.{Mentions};
 ghost use Rattle.dexspec.specs.Weight.{body_weight};
+ghost use Rattle.dexpool.specs.Numberings.{AreRising};
 ghost use Rattle.dexclass.specs.Numbered.{definition_of};
+ghost use Rattle.dexclass.specs.Uses.{IsKnownClass};
 ghost use Rattle.dexclass.specs.Renumbering.{led, renumbered};
 
 use crate::classes::Class;
@@ -11,22 +13,25 @@ use crate::renumbering::{optional_text_number, optional_type_number, type_number
 use dexpool::Remap;
 use std::alloc::AllocError;
 
-impl Class {
+impl<'a> Class<'a> {
     /// What the class weighs without the symbols that it names, in bytes, or 2^64 - 1 where that is more. No memory
     /// is taken.
     ///
-    /// Source: "class_def_item" and "type_list", the sizes of their fields; the weight is this project's rule.
+    /// Source: "class_def_item" and "type_list", and what [`dexmembers::Members::weight`] names, the sizes of their fields; the
+    /// weight is this project's rule.
     pub fn weight(&self) -> u64
-        ensures { (m : Mentions) → result ≡ min (2 ^ 64 - 1) (body_weight (definition_of m self.now).1) }
+        ensures { (m : Mentions) → AreRising m → IsKnownClass m self.now → result ≡ min (2 ^ 64 - 1) (body_weight (definition_of m self.now).1) }
     {
         let interfaces = 2u64.saturating_mul(self.interfaces.len() as u64);
-        interfaces.saturating_add(96)
+        interfaces
+            .saturating_add(96)
+            .saturating_add(self.members.weight())
     }
 
-    /// The same class, with a list of interfaces of its own.
+    /// The same class, with lists of its own. The units of code are borrowed as before.
     ///
-    /// Error: the memory for the list was refused.
-    pub fn copy(&self) -> Result<Class, AllocError>
+    /// Error: memory was refused.
+    pub fn copy(&self) -> Result<Class<'a>, AllocError>
         ensures { IfOk result (λ copy. copy ≡ self.now) }
     {
         let interfaces = Vec::from_slice(*self.interfaces.allocator(), &self.interfaces)?;
@@ -36,12 +41,13 @@ impl Class {
             superclass: self.superclass,
             interfaces,
             source: self.source,
+            members: self.members.copy()?,
         })
     }
 
     /// Whether the two classes are the same where the numbers of each are led on, as `renumber` leads them. Classes
     /// of unlike names are told apart at once. No memory is taken.
-    pub fn same_mapped(&self, mine: &Remap, other: &Class, theirs: &Remap) -> bool
+    pub fn same_mapped(&self, mine: &Remap, other: &Class<'_>, theirs: &Remap) -> bool
         ensures { IsTrue result ↔ (renumbered mine.now self.now ≡ renumbered theirs.now other.now) }
     {
         if type_number(mine, self.name) != type_number(theirs, other.name) {
@@ -58,7 +64,10 @@ impl Class {
         if optional_text_number(mine, self.source) != optional_text_number(theirs, other.source) {
             return false;
         }
-        lead_alike(mine, &self.interfaces, theirs, &other.interfaces)
+        if !lead_alike(mine, &self.interfaces, theirs, &other.interfaces) {
+            return false;
+        }
+        self.members.same_mapped(mine, &other.members, theirs)
     }
 }
 

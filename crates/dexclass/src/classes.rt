@@ -8,31 +8,37 @@ ghost use Rattle.dexclass.specs.Numbered.{number_of, class_of_row};
 
 use crate::class_rows::{NO_INDEX, row_fields};
 use dexhead::{Frame, u16_at};
+use dexmembers::Members;
 use dexpool::type_list_len;
 use std::alloc::{AllocError, Global};
 use std::marker::Model;
 
-/// A class definition. Its types and texts are numbers of a numbering.
+/// A class definition. Its types and texts, and the symbols of what it declares, are numbers of a numbering.
 ///
 /// Source: "class_def_item".
 #[derive(Drop)]
-pub struct Class {
+pub struct Class<'a> {
     pub(crate) name: usize,
     pub(crate) flags: u32,
     pub(crate) superclass: Option<usize>,
     pub(crate) interfaces: Vec<usize>,
     pub(crate) source: Option<usize>,
+    pub(crate) members: Members<'a>,
 }
 
-impl Model for Class {
+impl<'a> Model for Class<'a> {
+    ghost use Rattle.std.specs.Coded.{codes};
+    ghost use Rattle.dexmembers.specs.Stored.{elements_code, values_code};
     ghost use Rattle.dexclass.specs.Numbered.{NumberedClass};
 
     ghost Value = { NumberedClass };
 
-    ghost view = { λ c. record { name = c.name; flags = c.flags; superclass = c.superclass; interfaces = c.interfaces.items; source = c.source } };
+    ghost coded = { Prim.hlevel (codes, elements_code, values_code) };
+
+    ghost view = { λ c. record { name = c.name; flags = c.flags; superclass = c.superclass; interfaces = c.interfaces.items; source = c.source; members = c.members } };
 }
 
-impl Class {
+impl<'a> Class<'a> {
     /// The number of the class's type. No memory is taken.
     pub fn name(&self) -> usize
         ensures { result ≡ self.now.name }
@@ -69,6 +75,16 @@ impl Class {
     {
         self.source
     }
+
+    /// What the class declares: its annotations, its fields and methods, and what its static fields begin with. No memory
+    /// is taken.
+    ///
+    /// Source: "class_data_item", "annotations_directory_item", "encoded_array_item".
+    pub fn members(&self) -> &Members<'a>
+        ensures { result.now ≡ self.now.members }
+    {
+        &self.members
+    }
 }
 
 // The number of an index, if it is one.
@@ -102,15 +118,20 @@ fn interfaces_at(alloc: Global, frame: &Frame<'_>, off: u32) -> Result<Vec<usize
     Ok(interfaces)
 }
 
-/// The class of row `r`, with the indices of the file as numbers.
+/// The class of row `r`, with the indices of the file as numbers, and with what it declares.
 ///
 /// Condition: the row meets condition 16. Error: the memory for its interfaces was refused.
 ///
 /// Source: "class_def_item" and "type_list".
-pub(crate) fn class_at(alloc: Global, frame: &Frame<'_>, r: u32) -> Result<Class, AllocError>
+pub(crate) fn class_at<'a>(
+    alloc: Global,
+    frame: &Frame<'a>,
+    r: u32,
+    members: Members<'a>,
+) -> Result<Class<'a>, AllocError>
     requires row { r < table_size frame.now ClassDefs }
     requires holds { HasClass frame.now r }
-    ensures { IfOk result (λ class. class ≡ class_of_row frame.now r) }
+    ensures { IfOk result (λ class. class ≡ class_of_row frame.now r members.entry) }
 {
     let row = row_fields(frame, r);
     Ok(Class {
@@ -119,5 +140,6 @@ pub(crate) fn class_at(alloc: Global, frame: &Frame<'_>, r: u32) -> Result<Class
         superclass: number_of(row.superclass),
         interfaces: interfaces_at(alloc, frame, row.interfaces_off)?,
         source: number_of(row.source_file),
+        members,
     })
 }

@@ -1,20 +1,42 @@
-//! Laws of classes that are led on. Each function does nothing: its contract is the law, for the callers that cite
-//! it.
+//! Laws of classes that are led on, and of the symbols that occur in them. Each function does nothing: its contract is the
+//! law, for the callers that cite it.
 
-ghost use Rattle.std.specs.Prelude.{◌≡◌, ◌↔◌};
-ghost use Rattle.dexspec.specs.Mentions.{Mentions};
-ghost use Rattle.dexpool.specs.Numberings.{AreRising, Maps};
+ghost use Rattle.std.specs.Prelude.{◌≡◌, ◌↔◌, All};
+ghost use Rattle.std.specs.List.{AllZip};
+ghost use Rattle.dexspec.specs.Mentions.{Mentions, symbols_of};
+ghost use Rattle.dexpool.specs.Laws.{LeadsAll};
+ghost use Rattle.dexpool.specs.Numberings.{AreRising, AreMarksOf, AllLead, Maps};
+ghost use Rattle.dexpool.specs.Uses.{HasMark, IsUseOf};
+ghost use Rattle.dexpool.specs.declared.marks.Marks.{Marks};
 ghost use Rattle.dexclass.specs.Numbered.{NumberedClass, definition_of};
-ghost use Rattle.dexclass.specs.Marking.{IsInRange};
-ghost use Rattle.dexclass.specs.Renumbering.{renumbered, LeadInto, StaysSame, IsPartClass};
+ghost use Rattle.dexclass.specs.Uses.{IsKnownClass, class_uses};
+ghost use Rattle.dexclass.specs.Renumbering.{renumbered, IsLedClass, StaysSame, IsPartClass};
 
-/// A class whose numbers are led to those of the same symbols in another numbering stands there for the same
-/// definition.
+use dexmembers::{members_led_law, members_same_law, members_uses_law};
+
+/// The symbols that occur in a class are those of what it stands for, one for one and in their order. Where there is a mark
+/// for each symbol, there is one for each that occurs.
+pub fn uses_law()
+    ensures uses { (m : Mentions) (c : NumberedClass) → AreRising m → IsKnownClass m c → AllZip (IsUseOf m) (class_uses c) (symbols_of (definition_of m c)) }
+    ensures marks { (m : Mentions) (marks : Marks) (c : NumberedClass) → AreMarksOf m marks → IsKnownClass m c → All (HasMark marks) (class_uses c) }
+{
+    members_uses_law();
+}
+
+/// A class of which each symbol that occurs is led to the same one in another numbering stands there for the same definition.
+/// Where all symbols of the numbering lead somewhere, those of the class do.
 pub fn renumbering_law()
-    ensures { (m n : Mentions) (r : Maps) (c : NumberedClass) → LeadInto m n r → IsInRange m c → StaysSame m n r c }
-{}
+    ensures same { (m n : Mentions) (r : Maps) (c : NumberedClass) → AllLead m n r → IsLedClass r c → IsKnownClass m c → StaysSame m n r c }
+    ensures all { (m : Mentions) (r : Maps) (c : NumberedClass) → LeadsAll m r → IsKnownClass m c → IsLedClass r c }
+{
+    members_led_law();
+}
 
-/// Classes of two numberings stand for the same definition just where they are led to the same class of a third.
+/// Classes of two numberings stand for the same definition just where they are led to the same class of a third. It is not
+/// asked that numbers fit their places there.
 pub fn same_law()
     ensures { (m n whole : Mentions) (r s : Maps) (c d : NumberedClass) → AreRising whole → IsPartClass whole m r c → IsPartClass whole n s d → (renumbered r c ≡ renumbered s d) ↔ (definition_of m c ≡ definition_of n d) }
-{}
+{
+    members_led_law();
+    members_same_law();
+}

@@ -18,10 +18,12 @@ mod parents;
 mod programs;
 mod reading;
 mod renumbering;
+mod stripping;
 mod trimming;
 
 pub use classes::Class;
 pub use flags::{ClassFlags, FieldFlags, MethodFlags};
-pub use laws::{renumbering_law, same_law};
+pub use laws::{renumbering_law, same_law, uses_law};
 pub use programs::Program;
 pub use reading::read;
+pub use stripping::strip;

@@ -1,56 +1,57 @@
-//! Marks on the symbols of classes.
+//! Marks on the symbols that occur in classes.
 
-ghost use Rattle.std.specs.Prelude.{◌≡◌, ◌<◌, ◌++◌, ◌∷◌, [], ℕ, List, All, length, option_to_list};
-ghost use Rattle.dexpool.specs.Numberings.{AreMarksOf};
-ghost use Rattle.dexspec.specs.Mentions.{Mentions};
-ghost use Rattle.dexclass.specs.Marking.{AreMarked, HaveMarked, IsInRange, type_numbers, text_numbers};
+ghost use Rattle.std.specs.Prelude.{All, map, option_to_list};
+ghost use Rattle.dexpool.specs.Uses.{HasMark, AreMarkedToo};
+ghost use Rattle.dexclass.specs.Uses.{type_use, text_use, class_uses};
 
 use crate::classes::Class;
-use dexpool::Marks;
+use dexpool::{Marks, SymbolKind};
 
-// Marks a number.
-fn mark_one(marks: &mut Vec<bool>, i: usize)
-    requires { i < length marks.old.items }
-    ensures count { length marks.new.items ≡ length marks.old.items }
-    ensures marked { (numbers : List ℕ) → AreMarked marks.old.items numbers → AreMarked marks.new.items (numbers ++ i ∷ []) }
+// Marks types.
+fn mark_types(types: &[usize], marks: &mut Marks)
+    requires { All (HasMark marks.old) (map type_use types.now) }
+    ensures { AreMarkedToo (map type_use types.now) marks.old marks.new }
 {
-    marks[i] = true;
-}
-
-// Marks a number, if there is one.
-fn mark_optional(marks: &mut Vec<bool>, i: Option<usize>)
-    requires { All (λ n. n < length marks.old.items) (option_to_list i) }
-    ensures count { length marks.new.items ≡ length marks.old.items }
-    ensures marked { (numbers : List ℕ) → AreMarked marks.old.items numbers → AreMarked marks.new.items (numbers ++ option_to_list i) }
-{
-    if let Some(i) = i {
-        mark_one(marks, i);
+    for typ in types {
+        marks.mark(SymbolKind::Typ, *typ);
     }
 }
 
-// Marks numbers.
-fn mark_all(marks: &mut Vec<bool>, numbers: &[usize])
-    requires { All (λ n. n < length marks.old.items) numbers.now }
-    ensures count { length marks.new.items ≡ length marks.old.items }
-    ensures marked { (before : List ℕ) → AreMarked marks.old.items before → AreMarked marks.new.items (before ++ numbers.now) }
+// Marks a type, if there is one.
+fn mark_optional_type(typ: Option<usize>, marks: &mut Marks)
+    requires { All (HasMark marks.old) (map type_use (option_to_list typ)) }
+    ensures { AreMarkedToo (map type_use (option_to_list typ)) marks.old marks.new }
 {
-    for k in 0..numbers.len() {
-        mark_one(marks, numbers[k]);
+    if let Some(typ) = typ {
+        marks.mark(SymbolKind::Typ, typ);
     }
 }
 
-impl Class {
-    /// Marks each number that occurs in the class. No memory is taken.
+// Marks a text, if there is one.
+fn mark_optional_text(text: Option<usize>, marks: &mut Marks)
+    requires { All (HasMark marks.old) (map text_use (option_to_list text)) }
+    ensures { AreMarkedToo (map text_use (option_to_list text)) marks.old marks.new }
+{
+    if let Some(text) = text {
+        marks.mark(SymbolKind::Text, text);
+    }
+}
+
+impl<'a> Class<'a> {
+    /// Marks each symbol that occurs in the class: its type, its superclass, its interfaces, its source text, its fields and
+    /// methods, and what their code, annotations and values name. Marks that stand stay. No memory is taken.
     ///
-    /// Condition: there is a mark for each symbol of a numbering, of which the class's numbers are.
+    /// Condition: there is a mark for each of them.
+    ///
+    /// Source: "class_def_item".
     pub fn mark(&self, marks: &mut Marks)
-        requires { (m : Mentions) × AreMarksOf m marks.old × IsInRange m self.now }
-        ensures count { (m : Mentions) → AreMarksOf m marks.old → AreMarksOf m marks.new }
-        ensures marked { (types texts : List ℕ) → HaveMarked marks.old types texts → HaveMarked marks.new (types ++ type_numbers self.now) (texts ++ text_numbers self.now) }
+        requires { All (HasMark marks.old) (class_uses self.now) }
+        ensures { AreMarkedToo (class_uses self.now) marks.old marks.new }
     {
-        mark_one(&mut marks.types, self.name());
-        mark_optional(&mut marks.types, self.superclass());
-        mark_all(&mut marks.types, self.interfaces());
-        mark_optional(&mut marks.strings, self.source());
+        marks.mark(SymbolKind::Typ, self.name);
+        mark_optional_type(self.superclass, marks);
+        mark_types(&self.interfaces, marks);
+        mark_optional_text(self.source, marks);
+        self.members.mark(marks);
     }
 }

@@ -14,7 +14,7 @@ use dexorder::class_order;
 use std::alloc::{AllocError, Global};
 
 // The numbers of the classes' names.
-fn names(alloc: Global, classes: &[Class]) -> Result<Vec<usize>, AllocError>
+fn names(alloc: Global, classes: &[Class<'_>]) -> Result<Vec<usize>, AllocError>
     ensures { IfOk result (λ names. names.items ≡ map (λ c. c.name) classes.now) }
 {
     let mut names = Vec::with_capacity(alloc, classes.len())?;
@@ -31,11 +31,11 @@ fn names(alloc: Global, classes: &[Class]) -> Result<Vec<usize>, AllocError>
 ///
 /// Source: "class_defs", a superclass and interfaces stand before the class; by depth and then by name is this
 /// project's rule.
-pub(crate) fn in_order(
+pub(crate) fn in_order<'a>(
     alloc: Global,
-    classes: &mut Vec<Class>,
+    classes: &mut Vec<Class<'a>>,
     types: usize,
-) -> Result<Vec<Class>, AllocError>
+) -> Result<Vec<Class<'a>>, AllocError>
     requires numbering { (m : Mentions) × (length m.types ≡ types) × AreNamed m classes.old.items × IsAcyclic (map (definition_of m) classes.old.items) }
     ensures order { IfOk result (λ ordered. (m : Mentions) → AreNamed m classes.old.items → IsAcyclic (map (definition_of m) classes.old.items) → map (definition_of m) ordered.items ≡ in_class_order (map (definition_of m) classes.old.items)) }
     ensures members { IfOk result (λ ordered. AreIn ordered.items classes.old.items) }

@@ -9,7 +9,7 @@ use dexorder::Hierarchy;
 use std::alloc::{AllocError, Global};
 
 // For each type of a numbering the class that has it as its name, if one has.
-fn places(alloc: Global, classes: &[Class], types: usize) -> Result<Vec<Option<usize>>, AllocError>
+fn places(alloc: Global, classes: &[Class<'_>], types: usize) -> Result<Vec<Option<usize>>, AllocError>
     requires { All (λ c. c.name < types) classes.now }
     ensures { IfOk result (λ places. ArePlaces classes.now places.items) }
 {
@@ -52,7 +52,7 @@ fn push_parent(
 fn parents_of(
     alloc: Global,
     places: &[Option<usize>],
-    class: &Class,
+    class: &Class<'_>,
 ) -> Result<Vec<usize>, AllocError>
     ensures { IfOk result (λ parents. parents.items ≡ defined_parents places.now class.now) }
 {
@@ -72,7 +72,7 @@ fn parents_of(
 /// Condition: each class's name is below the number of types. Error: the memory for it was refused.
 pub(crate) fn hierarchy(
     alloc: Global,
-    classes: &[Class],
+    classes: &[Class<'_>],
     types: usize,
 ) -> Result<Hierarchy, AllocError>
     requires { All (λ c. c.name < types) classes.now }

@@ -1,14 +1,15 @@
 //! Programs: sets of class definitions.
 
-ghost use Rattle.std.specs.Prelude.{◌≡◌, ◌<◌, ◌-◌, ◌^◌, min, length, map, sum_by, IfOk};
+ghost use Rattle.std.specs.Prelude.{◌≡◌, ◌<◌, ◌-◌, ◌^◌, min, length, map, sum_by, All, IfOk};
 ghost use Rattle.std.specs.FinMap as finite;
 ghost use Rattle.dexspec.specs.Files.{definitions, IsCollectionOf};
 ghost use Rattle.dexspec.specs.WellFormed.{AreWellFormed};
 ghost use Rattle.dexspec.specs.Mentions.{Mentions, mentions};
 ghost use Rattle.dexspec.specs.Weight.{body_weight, weight};
 ghost use Rattle.dexspec.specs.Merging.{IsGood, greatest_caps};
-ghost use Rattle.dexspec.specs.Plain.{ArePlain};
 ghost use Rattle.dexclass.specs.Numbered.{definition_of};
+ghost use Rattle.dexpool.specs.Numberings.{AreRising};
+ghost use Rattle.dexclass.specs.Uses.{IsKnownClass};
 ghost use Rattle.dexclass.specs.Programs.{AreMergeable, AreClassesOf, IsClassAt};
 
 use crate::classes::Class;
@@ -25,7 +26,7 @@ use std::marker::Model;
 #[derive(Drop)]
 pub struct Program<'a> {
     pub(crate) numbering: Numbering<'a>,
-    pub(crate) classes: Vec<Class>,
+    pub(crate) classes: Vec<Class<'a>>,
     pub(crate) weight: u64,
 }
 
@@ -65,7 +66,7 @@ impl<'a> Program<'a> {
     /// The classes, by depth and then by name. Their numbers are those of the program's numbering. No memory is taken.
     ///
     /// Source: "class_defs"; by depth and then by name is this project's rule.
-    pub fn classes(&self) -> &[Class]
+    pub fn classes(&self) -> &[Class<'a>]
         ensures { AreClassesOf self.now result.now }
     {
         &self.classes
@@ -74,7 +75,7 @@ impl<'a> Program<'a> {
     /// Class `i` in the order of `classes`. No memory is taken.
     ///
     /// Condition: `i` is below the number of classes.
-    pub fn class(&self, i: usize) -> &Class
+    pub fn class(&self, i: usize) -> &Class<'a>
         requires { i < length (definitions self.now) }
         ensures { IsClassAt self.now i result.now }
     {
@@ -95,12 +96,10 @@ impl<'a> Program<'a> {
         self.weight
     }
 
-    /// Does nothing: its clauses tell what holds of every program. While files that are not plain are refused, each
-    /// definition is plain.
+    /// Does nothing: its clauses tell what holds of every program.
     pub fn is_good(&self)
         ensures good { IsGood greatest_caps (definitions self.now) }
         ensures formed { AreWellFormed (definitions self.now) }
-        ensures plain { ArePlain (definitions self.now) }
     {
         let _classes = &self.classes;
     }
@@ -112,7 +111,7 @@ impl<'a> Program<'a> {
     pub fn of(
         alloc: Global,
         numbering: Numbering<'a>,
-        mut classes: Vec<Class>,
+        mut classes: Vec<Class<'a>>,
     ) -> Result<Program<'a>, AllocError>
         requires { AreMergeable numbering classes.items }
         ensures { IfOk result (IsCollectionOf (map (definition_of numbering.entry) classes.items)) }
@@ -143,7 +142,7 @@ impl<'a> Program<'a> {
 }
 
 // The same classes, with lists of their own.
-fn copied(alloc: Global, classes: &[Class]) -> Result<Vec<Class>, AllocError>
+fn copied<'a>(alloc: Global, classes: &[Class<'a>]) -> Result<Vec<Class<'a>>, AllocError>
     ensures { IfOk result (λ copy. copy.items ≡ classes.now) }
 {
     let mut copy = Vec::with_capacity(alloc, classes.len())?;
@@ -154,8 +153,8 @@ fn copied(alloc: Global, classes: &[Class]) -> Result<Vec<Class>, AllocError>
 }
 
 // What classes weigh without the symbols that they name, or 2^64 - 1 where that is more.
-fn bodies_weight(classes: &[Class]) -> u64
-    ensures { (m : Mentions) → result ≡ min (2 ^ 64 - 1) (sum_by (λ c. body_weight (definition_of m c).1) classes.now) }
+fn bodies_weight(classes: &[Class<'_>]) -> u64
+    ensures { (m : Mentions) → AreRising m → All (IsKnownClass m) classes.now → result ≡ min (2 ^ 64 - 1) (sum_by (λ c. body_weight (definition_of m c).1) classes.now) }
 {
     let mut weight: u64 = 0;
     for class in classes {
@@ -165,10 +164,12 @@ fn bodies_weight(classes: &[Class]) -> u64
 }
 
 // What classes weigh over the numbering of just what they mention, or 2^64 - 1 where that is more.
-fn weight_of(numbering: &Numbering<'_>, classes: &[Class]) -> u64
-    requires { numbering.now ≡ mentions (map (definition_of numbering.now) classes.now) }
+fn weight_of(numbering: &Numbering<'_>, classes: &[Class<'_>]) -> u64
+    requires known { All (IsKnownClass numbering.now) classes.now }
+    requires mentions { numbering.now ≡ mentions (map (definition_of numbering.now) classes.now) }
     ensures { result ≡ min (2 ^ 64 - 1) (weight (map (definition_of numbering.now) classes.now)) }
 {
+    numbering.is_numbering();
     bodies_weight(classes)
         .saturating_add(numbering.weight())
         .saturating_add(1024)

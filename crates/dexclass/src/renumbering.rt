@@ -2,7 +2,7 @@
 
 ghost use Rattle.std.specs.Prelude.{◌≡◌, map};
 ghost use Rattle.std.specs.Option.{option_map};
-ghost use Rattle.dexclass.specs.Renumbering.{led, renumbered};
+ghost use Rattle.dexclass.specs.Renumbering.{led, renumbered, ClassHasPlaces};
 
 use crate::classes::Class;
 use dexpool::{Remap, SymbolKind};
@@ -56,14 +56,20 @@ fn renumber_types(remap: &Remap, numbers: &mut Vec<usize>)
     }
 }
 
-impl Class {
-    /// Leads each number of the class on; a number that leads nowhere stays. No memory is taken.
+impl<'a> Class<'a> {
+    /// Leads each number of the class on. A number of a type of its own, of its text, of a member, of a value or of an annotation
+    /// that leads nowhere stays. No memory is taken.
+    ///
+    /// Condition: each number in what the class declares leads to one that fits its place, as
+    /// [`dexmembers::Members::renumber`] asks.
     pub fn renumber(&mut self, remap: &Remap)
+        requires { ClassHasPlaces remap.now self.old }
         ensures { self.new ≡ renumbered remap.now self.old }
     {
         self.name = type_number(remap, self.name);
         self.superclass = optional_type_number(remap, self.superclass);
         self.source = optional_text_number(remap, self.source);
         renumber_types(remap, &mut self.interfaces);
+        self.members.renumber(remap);
     }
 }

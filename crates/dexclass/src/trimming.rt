@@ -4,8 +4,8 @@ ghost use Rattle.std.specs.Prelude.{◌≡◌, All, IfOk, map};
 ghost use Rattle.dexspec.specs.Mentions.{mentions};
 ghost use Rattle.dexpool.specs.Numberings.{AreMarksOf};
 ghost use Rattle.dexclass.specs.Numbered.{definition_of};
-ghost use Rattle.dexclass.specs.Marking.{IsInRange, HaveMarked, type_numbers, text_numbers};
-ghost use Rattle.dexclass.specs.Renumbering.{renumbered};
+ghost use Rattle.dexclass.specs.Uses.{IsKnownClass, HaveMarked, class_uses};
+ghost use Rattle.dexclass.specs.Renumbering.{renumbered, ClassHasPlaces};
 ghost use Rattle.std.specs.List.{flat_map};
 
 use crate::classes::Class;
@@ -13,10 +13,14 @@ use dexpool::{Marks, Numbering, Remap};
 use std::alloc::{AllocError, Global};
 
 // Marks what the classes name.
-fn marked(alloc: Global, numbering: &Numbering<'_>, classes: &[Class]) -> Result<Marks, AllocError>
-    requires { All (IsInRange numbering.now) classes.now }
+fn marked(
+    alloc: Global,
+    numbering: &Numbering<'_>,
+    classes: &[Class<'_>],
+) -> Result<Marks, AllocError>
+    requires { All (IsKnownClass numbering.now) classes.now }
     ensures count { IfOk result (AreMarksOf numbering.now) }
-    ensures marked { IfOk result (λ marks. HaveMarked marks (flat_map type_numbers classes.now) (flat_map text_numbers classes.now)) }
+    ensures marked { IfOk result (HaveMarked (flat_map class_uses classes.now)) }
 {
     let mut marks = Marks::none(alloc, numbering)?;
     for i in 0..classes.len() {
@@ -26,7 +30,8 @@ fn marked(alloc: Global, numbering: &Numbering<'_>, classes: &[Class]) -> Result
 }
 
 // Leads the numbers of the classes on.
-fn renumber(remap: &Remap, classes: &mut Vec<Class>)
+fn renumber(remap: &Remap, classes: &mut Vec<Class<'_>>)
+    requires { All (ClassHasPlaces remap.now) classes.old.items }
     ensures { classes.new.items ≡ map (renumbered remap.now) classes.old.items }
 {
     for i in 0..classes.len() {
@@ -41,11 +46,11 @@ fn renumber(remap: &Remap, classes: &mut Vec<Class>)
 pub(crate) fn trim<'a>(
     alloc: Global,
     numbering: &Numbering<'a>,
-    classes: &mut Vec<Class>,
+    classes: &mut Vec<Class<'a>>,
 ) -> Result<Numbering<'a>, AllocError>
-    requires { All (IsInRange numbering.now) classes.old.items }
+    requires { All (IsKnownClass numbering.now) classes.old.items }
     ensures mentions { IfOk result (λ trimmed. trimmed ≡ mentions (map (definition_of numbering.now) classes.old.items)) }
-    ensures numbers { IfOk result (λ trimmed. All (IsInRange trimmed) classes.new.items) }
+    ensures numbers { IfOk result (λ trimmed. All (IsKnownClass trimmed) classes.new.items) }
     ensures same { IfOk result (λ trimmed. map (definition_of trimmed) classes.new.items ≡ map (definition_of numbering.now) classes.old.items) }
 {
     let marks = marked(alloc, numbering, classes)?;

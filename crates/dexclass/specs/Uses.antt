@@ -1,0 +1,42 @@
+-- The symbols that occur in a class, by their numbers, and classes whose numbers are those of symbols.
+use Rattle.std.specs.Prelude.{◌≡◌, ℕ, ◌<◌, false, List, ◌∷◌, ◌++◌, length, map, All, option_to_list, slice_index_or}
+use Rattle.dexspec.specs.Mentions.{Mentions}
+use Rattle.dexpool.specs.declared.symbols.SymbolKind.{SymbolKind}
+use Rattle.dexpool.specs.declared.symbols.SymbolKind.TheVariants as kinds
+use Rattle.dexpool.specs.declared.marks.Marks.{Marks}
+use Rattle.dexpool.specs.Uses.{Use, marks_of, occurs}
+use Rattle.dexmembers.specs.Numbered.{AreKnownMembers, AreOrdered, AreOfClass}
+use Rattle.dexmembers.specs.Uses.{members_uses}
+use Rattle.dexclass.specs.Numbered.{NumberedClass, type_at}
+
+-- the numbers of its own types: its name, its superclass, its interfaces
+abbrev pub type_numbers : NumberedClass → List ℕ
+type_numbers c = c.name ∷ (option_to_list c.superclass ++ c.interfaces)
+
+-- the number of its source text, if there is one
+abbrev pub text_numbers : NumberedClass → List ℕ
+text_numbers c = option_to_list c.source
+
+-- a type that occurs
+abbrev pub type_use : ℕ → Use
+type_use i = record { kind = kinds.Typ; number = i }
+
+-- a text that occurs
+abbrev pub text_use : ℕ → Use
+text_use i = record { kind = kinds.Text; number = i }
+
+-- what occurs in a class: its own types and text, and what it declares names
+abbrev pub class_uses : NumberedClass → List Use
+class_uses c = map type_use (type_numbers c) ++ (map text_use (text_numbers c) ++ members_uses c.members)
+
+-- the class's numbers are those of symbols, and it declares members of its own, in order
+pub record IsKnownClass (m : Mentions) (c : NumberedClass) : Type 0 where
+  pub types_in : All (λ i. i < length m.types) (type_numbers c)
+  pub texts_in : All (λ i. i < length m.texts) (text_numbers c)
+  pub members_known : AreKnownMembers m c.members
+  pub members_ordered : AreOrdered c.members
+  pub members_own : AreOfClass m (type_at m c.name) c.members
+
+-- just what occurs is marked
+abbrev pub HaveMarked : List Use → Marks → Type 0
+HaveMarked us marks = (kind : SymbolKind) (i : ℕ) → slice_index_or (marks_of kind marks) i false ≡ occurs us kind i

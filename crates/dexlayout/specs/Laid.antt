@@ -1,0 +1,114 @@
+-- What a layout tells of the canonical file of classes.
+use Rattle.std.specs.Prelude.{◌≡◌, ℕ, ◌+◌, ◌^◌, ◌<◌, ◌≤◌, max, Option, List, [], ◌∷◌, map, length, All, drop, slice_index}
+use Rattle.std.specs.List.{flat_map}
+use Rattle.dexspec.specs.Mentions.{Mentions}
+use Rattle.dexspec.specs.Header.{header_length}
+use Rattle.dexspec.specs.Placing.{Ordered, EqualOnce, Placed, Items, offsets_from, SetOffsets}
+use Rattle.dexspec.specs.Spellings.{annotation_bytes}
+use Rattle.dexspec.specs.Annotations.{AnnotationSet}
+use Rattle.dexspec.specs.Canonical.{layout, map_of, data_sections, type_list_items, type_list_section, type_list_offsets, type_list_end, set_items, annotation_section, annotation_offsets, annotation_end, array_section, array_offsets, array_end, string_section, string_end, debug_items, debug_section, debug_offsets, debug_end, code_section, code_offsets, code_end, class_data_section, class_data_offsets, class_data_end, set_section, set_offsets, set_end, ref_list_section, ref_list_offsets, ref_list_end, directory_section, directory_offsets, directory_end}
+use Rattle.dexhead.specs.Laid.{TellsLayout, map_start, map_list}
+use Rattle.dexpool.specs.Numberings.{IsNumbering}
+use Rattle.dexval.specs.Numbered.{set_in}
+use Rattle.dexcode.specs.Meaning.{debug_in}
+use Rattle.dexclass.specs.Numbered.{NumberedClass, definition_of, type_at}
+use Rattle.dexclass.specs.Uses.{IsKnownClass}
+use Rattle.dexlayout.specs.Places.{ItemPlaces, TypeListPlaces, AnnotationPlaces, DebugPlaces, SetPlaces, Places}
+
+-- ---- classes that are laid out
+
+-- the classes in their order, over the numbering of what they mention
+abbrev pub ordered_of : Mentions → List NumberedClass → Ordered
+ordered_of m cs = record { classes = map (definition_of m) cs; pools = m; sharing = EqualOnce }
+
+-- where the file ends
+abbrev pub file_end : Ordered → ℕ
+file_end K = map_start K + length (map_list K)
+
+-- the classes are those of a numbering, their indices fit, and the file is not too long
+pub record AreWritable (m : Mentions) (cs : List NumberedClass) : Type 0 where
+  pub numbering : IsNumbering m
+  pub known : All (IsKnownClass m) cs
+  pub types_few : length m.types ≤ 65535
+  pub protos_few : length m.protos ≤ 65535
+  pub fits : file_end (ordered_of m cs) ≤ 2 ^ 30
+
+-- ---- lengths
+
+-- the greatest length of items
+abbrev pub greatest_of : List (List ℕ) → ℕ
+greatest_of [] = 0
+greatest_of (x ∷ xs) = max (length x) (greatest_of xs)
+
+-- the greatest length of the items of sections
+abbrev pub greatest_in : List Placed → ℕ
+greatest_in [] = 0
+greatest_in (p ∷ ps) = max (greatest_of p.items) (greatest_in ps)
+
+-- the greatest length of an item of the file, the header and the map among them
+abbrev pub greatest_item : Ordered → ℕ
+greatest_item K = max header_length (max (length (map_list K)) (greatest_in (data_sections K)))
+
+-- ---- parts of a layout
+
+-- items of one kind stand so
+pub record StandSo (offsets : List ℕ) (end : ℕ) (items : List (List ℕ)) (p : ItemPlaces) : Type 0 where
+  pub offsets_are : p.offsets ≡ offsets
+  pub end_is : p.end ≡ end
+  pub greatest_is : p.greatest ≡ greatest_of items
+
+-- the type lists
+pub record AreTypeLists (m : Mentions) (cs : List NumberedClass) (p : TypeListPlaces) : Type 0 where
+  pub written_are : map (map (type_at m)) p.written ≡ (type_list_items (ordered_of m cs)).written
+  pub known : All (All (λ i. i < length m.types)) p.written
+  pub places_are : StandSo (type_list_offsets (ordered_of m cs)) (type_list_end (ordered_of m cs)) (type_list_section (ordered_of m cs)).items p.places
+
+-- where the first annotation of each set stands, if the first of all stands at a place
+abbrev pub first_offsets : Mentions → ℕ → List AnnotationSet → List ℕ
+first_offsets m from [] = []
+first_offsets m from (s ∷ ss) = from ∷ first_offsets m (from + length (flat_map (annotation_bytes m) s)) ss
+
+-- the annotations of the sets that are written
+pub record AreAnnotations (m : Mentions) (cs : List NumberedClass) (p : AnnotationPlaces) : Type 0 where
+  pub written_are : map (set_in m) p.written ≡ (set_items (ordered_of m cs)).written
+  pub places_are : StandSo (first_offsets m (type_list_end (ordered_of m cs)) (set_items (ordered_of m cs)).written) (annotation_end (ordered_of m cs)) (annotation_section (ordered_of m cs)).items p.places
+
+-- the debug programs
+pub record AreDebugs (m : Mentions) (cs : List NumberedClass) (p : DebugPlaces) : Type 0 where
+  pub written_are : map (debug_in m) p.written ≡ (debug_items (ordered_of m cs)).written
+  pub places_are : StandSo (debug_offsets (ordered_of m cs)) (debug_end (ordered_of m cs)) (debug_section (ordered_of m cs)).items p.places
+
+-- the sets
+pub record AreSets (m : Mentions) (cs : List NumberedClass) (p : SetPlaces) : Type 0 where
+  pub own_are : p.own ≡ map (λ s. s.own) (set_offsets (ordered_of m cs))
+  pub fields_are : p.fields ≡ flat_map (λ s. s.fields) (set_offsets (ordered_of m cs))
+  pub methods_are : p.methods ≡ flat_map (λ s. map (λ os. slice_index os 0) s.methods) (set_offsets (ordered_of m cs))
+  pub parameters_are : p.parameters ≡ flat_map (λ s. flat_map (drop 1) s.methods) (set_offsets (ordered_of m cs))
+  pub end_is : p.end ≡ set_end (ordered_of m cs)
+  pub greatest_is : p.greatest ≡ greatest_of (set_section (ordered_of m cs)).items
+
+-- ---- the whole
+
+-- the layout tells where everything stands in the file of these classes
+pub record IsLaid (m : Mentions) (cs : List NumberedClass) (p : Places) : Type 0 where
+  pub head_tells : TellsLayout p.head (ordered_of m cs)
+  pub signature_length : length p.head.signature ≡ 20
+  pub type_lists_are : AreTypeLists m cs p.type_lists
+  pub annotations_are : AreAnnotations m cs p.annotations
+  pub static_values_are : StandSo (array_offsets (ordered_of m cs)) (array_end (ordered_of m cs)) (array_section (ordered_of m cs)).items p.static_values
+  pub strings_are : StandSo (layout (ordered_of m cs)).strings (string_end (ordered_of m cs)) (string_section (ordered_of m cs)).items p.strings
+  pub debugs_are : AreDebugs m cs p.debugs
+  pub codes_are : StandSo (code_offsets (ordered_of m cs)) (code_end (ordered_of m cs)) (code_section (ordered_of m cs)).items p.codes
+  pub class_data_are : StandSo (class_data_offsets (ordered_of m cs)) (class_data_end (ordered_of m cs)) (class_data_section (ordered_of m cs)).items p.class_data
+  pub sets_are : AreSets m cs p.sets
+  pub ref_lists_are : StandSo (ref_list_offsets (ordered_of m cs)) (ref_list_end (ordered_of m cs)) (ref_list_section (ordered_of m cs)).items p.ref_lists
+  pub directories_are : StandSo (directory_offsets (ordered_of m cs)) (directory_end (ordered_of m cs)) (directory_section (ordered_of m cs)).items p.directories
+  pub entries_are : p.entries ≡ map_of (ordered_of m cs) (layout (ordered_of m cs)) (map_start (ordered_of m cs))
+  pub greatest_is : p.greatest ≡ greatest_item (ordered_of m cs)
+
+-- ---- before the offsets are known
+
+-- uses that share equal items: what is written, and for each use the number of its item
+pub record AreShared {X Y : Type 0} (meant : X → Y) (items : Items Y) (written : List X) (numbers : List (Option ℕ)) : Type 0 where
+  pub written_are : map meant written ≡ items.written
+  pub numbers_are : numbers ≡ items.numbers

@@ -1,0 +1,53 @@
+-- Where everything stands in a canonical file, as a layout tells it: by numbers.
+use Rattle.std.specs.Prelude.{ℕ, List}
+use Rattle.dexspec.specs.Sections.{Section}
+use Rattle.dexhead.specs.declared.head.Head.{Head}
+use Rattle.dexval.specs.Numbered.{NumberedSet}
+use Rattle.dexcode.specs.Debug.{NumberedDebug}
+
+-- Where items begin, an offset for each use and 0 where it has no item; where they end; how long the longest is.
+pub record ItemPlaces : Type 0 where
+  pub offsets : List ℕ
+  pub end : ℕ
+  pub greatest : ℕ
+
+-- The type lists that are written, by numbers of types, and where they stand: for each proto, and then for each class.
+pub record TypeListPlaces : Type 0 where
+  pub written : List (List ℕ)
+  pub places : ItemPlaces
+
+-- The annotation sets that are written, and for each of them where the first of its annotations stands.
+pub record AnnotationPlaces : Type 0 where
+  pub written : List NumberedSet
+  pub places : ItemPlaces
+
+-- The debug programs that are written, and where they stand: for each method.
+pub record DebugPlaces : Type 0 where
+  pub written : List NumberedDebug
+  pub places : ItemPlaces
+
+-- Where annotation sets stand: the own one of each class, that of each field, that of each method, and those of the
+-- parameters of each method.
+pub record SetPlaces : Type 0 where
+  pub own : List ℕ
+  pub fields : List ℕ
+  pub methods : List ℕ
+  pub parameters : List ℕ
+  pub end : ℕ
+  pub greatest : ℕ
+
+-- A whole layout: the header, without its sums, the parts in the order of the file, and the map.
+pub record Places : Type 0 where
+  pub head : Head
+  pub type_lists : TypeListPlaces
+  pub annotations : AnnotationPlaces
+  pub static_values : ItemPlaces
+  pub strings : ItemPlaces
+  pub debugs : DebugPlaces
+  pub codes : ItemPlaces
+  pub class_data : ItemPlaces
+  pub sets : SetPlaces
+  pub ref_lists : ItemPlaces
+  pub directories : ItemPlaces
+  pub entries : List (Section × ℕ × ℕ)
+  pub greatest : ℕ

@@ -1,0 +1,166 @@
+//! Layouts of canonical files.
+
+ghost use Rattle.std.specs.Prelude.{◌≡◌, IfOk, List, length, map};
+ghost use Rattle.dexspec.specs.Files.{definitions};
+ghost use Rattle.dexspec.specs.Mentions.{mentions};
+ghost use Rattle.dexspec.specs.Canonical.{canonical, ordered};
+ghost use Rattle.dexhead.specs.Written.{entry_meant};
+ghost use Rattle.dexclass.specs.Programs.{AreClassesOf};
+ghost use Rattle.dexclass.specs.Numbered.{NumberedClass};
+ghost use Rattle.dexlayout.specs.Laid.{AreWritable, IsLaid, ordered_of};
+
+use crate::annotations::Annotations;
+use crate::debugs::DebugPrograms;
+use crate::offsets::Offsets;
+use crate::sets::Sets;
+use crate::type_lists::TypeLists;
+use dexclass::Program;
+use dexhead::{Head, MapEntry};
+use std::alloc::{AllocError, Global};
+use std::marker::Model;
+
+/// Where everything stands in the canonical file of a program, and how long the file is. Equal type lists, debug programs and
+/// annotation sets have one item, in the place of the first use.
+///
+/// Source: "Overall file layout"; the order of what stands in each section is this project's rule.
+#[derive(Drop)]
+pub struct Layout<'p> {
+    pub(crate) head: Head,
+    pub(crate) type_lists: TypeLists<'p>,
+    pub(crate) annotations: Annotations<'p>,
+    pub(crate) static_values: Offsets,
+    pub(crate) strings: Offsets,
+    pub(crate) debugs: DebugPrograms<'p>,
+    pub(crate) codes: Offsets,
+    pub(crate) class_data: Offsets,
+    pub(crate) sets: Sets,
+    pub(crate) ref_lists: Offsets,
+    pub(crate) directories: Offsets,
+    pub(crate) entries: Vec<MapEntry>,
+    pub(crate) greatest: usize,
+}
+
+impl<'p> Model for Layout<'p> {
+    ghost use Rattle.std.specs.Prelude.{map};
+    ghost use Rattle.std.specs.Coded.{codes};
+    ghost use Rattle.dexmembers.specs.Stored.{elements_code};
+    ghost use Rattle.dexhead.specs.Written.{entry_meant};
+    ghost use Rattle.dexlayout.specs.Places.{Places};
+
+    ghost Value = { Places };
+
+    ghost coded = { Prim.hlevel (codes, elements_code) };
+
+    ghost view = { λ l. record { head = l.head; type_lists = l.type_lists; annotations = l.annotations; static_values = l.static_values; strings = l.strings; debugs = l.debugs; codes = l.codes; class_data = l.class_data; sets = l.sets; ref_lists = l.ref_lists; directories = l.directories; entries = map entry_meant l.entries.items; greatest = l.greatest } };
+}
+
+impl<'p> Layout<'p> {
+    /// The layout of a program's canonical file. Time is linear in what is written, memory some 8 bytes for each use and item.
+    ///
+    /// Error: the memory for it was refused.
+    pub fn of(alloc: Global, program: &'p Program<'_>) -> Result<Layout<'p>, AllocError>
+        ensures laid { IfOk result (λ layout. (cs : List NumberedClass) → AreClassesOf program.now cs → IsLaid (mentions (definitions program.now)) cs layout) }
+        ensures writable { (cs : List NumberedClass) → AreClassesOf program.now cs → AreWritable (mentions (definitions program.now)) cs × (ordered_of (mentions (definitions program.now)) cs ≡ ordered (definitions program.now)) }
+        ensures len { IfOk result (λ layout. layout.head.file_size ≡ length (canonical program.now)) }
+    {
+        Err(AllocError)
+    }
+
+    /// The header, with sums of 0.
+    pub fn head(&self) -> Head
+        ensures { result ≡ self.now.head }
+    {
+        self.head
+    }
+
+    /// The length of the file, in bytes.
+    pub fn len(&self) -> u32
+        ensures { result ≡ self.now.head.file_size }
+    {
+        self.head.file_size
+    }
+
+    /// The type lists that are written, and where they stand, for each proto and then for each class.
+    pub fn type_lists(&self) -> &TypeLists<'p>
+        ensures { result.now ≡ self.now.type_lists }
+    {
+        &self.type_lists
+    }
+
+    /// The annotation sets that are written, and where the first annotation of each stands.
+    pub fn annotations(&self) -> &Annotations<'p>
+        ensures { result.now ≡ self.now.annotations }
+    {
+        &self.annotations
+    }
+
+    /// Where the static values of each class stand.
+    pub fn static_values(&self) -> &Offsets
+        ensures { result.now ≡ self.now.static_values }
+    {
+        &self.static_values
+    }
+
+    /// Where each text stands.
+    pub fn strings(&self) -> &Offsets
+        ensures { result.now ≡ self.now.strings }
+    {
+        &self.strings
+    }
+
+    /// The debug programs that are written, and where they stand, for each method.
+    pub fn debugs(&self) -> &DebugPrograms<'p>
+        ensures { result.now ≡ self.now.debugs }
+    {
+        &self.debugs
+    }
+
+    /// Where the code of each method stands.
+    pub fn codes(&self) -> &Offsets
+        ensures { result.now ≡ self.now.codes }
+    {
+        &self.codes
+    }
+
+    /// Where the class data of each class stand.
+    pub fn class_data(&self) -> &Offsets
+        ensures { result.now ≡ self.now.class_data }
+    {
+        &self.class_data
+    }
+
+    /// Where the annotation sets stand.
+    pub fn sets(&self) -> &Sets
+        ensures { result.now ≡ self.now.sets }
+    {
+        &self.sets
+    }
+
+    /// Where the list of the sets of the parameters of each method stands.
+    pub fn ref_lists(&self) -> &Offsets
+        ensures { result.now ≡ self.now.ref_lists }
+    {
+        &self.ref_lists
+    }
+
+    /// Where the annotations directory of each class stands; they end where the sections before the map end.
+    pub fn directories(&self) -> &Offsets
+        ensures { result.now ≡ self.now.directories }
+    {
+        &self.directories
+    }
+
+    /// The entries of the map.
+    pub fn entries(&self) -> &[MapEntry]
+        ensures { map entry_meant result.now ≡ self.now.entries }
+    {
+        &self.entries
+    }
+
+    /// How many bytes the longest item of the file has, the header and the map among them.
+    pub fn greatest(&self) -> usize
+        ensures { result ≡ self.now.greatest }
+    {
+        self.greatest
+    }
+}

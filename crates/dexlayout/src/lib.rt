@@ -1,0 +1,27 @@
+//! Where everything stands in the canonical file of a program.
+//!
+//! Source: the Android page "Dalvik Executable format", "Overall file layout"; the order of what stands in each section, and that
+//! equal type lists, debug programs and annotation sets are written once, is this project's rule.
+#![tactic(auto)]
+
+mod annotations;
+mod class_data;
+mod codes;
+mod debugs;
+mod directories;
+mod layout;
+mod laying;
+mod offsets;
+mod ref_lists;
+mod sets;
+mod shared_sets;
+mod static_values;
+mod strings;
+mod type_lists;
+
+pub use annotations::Annotations;
+pub use debugs::DebugPrograms;
+pub use layout::Layout;
+pub use offsets::Offsets;
+pub use sets::Sets;
+pub use type_lists::TypeLists;

@@ -1,8 +1,7 @@
 pub mod Indices
 pub mod Interfaces
 pub mod Judged
-pub mod Listed
-pub mod PlainClasses
+pub mod RowClasses
 pub mod Marked
 pub mod Renumbered
 pub mod Alike
@@ -17,10 +16,13 @@ pub mod Arranged
 pub mod Ordered
 pub mod Unmarked
 pub mod Trimmed
-pub mod RowsInRange
+pub mod RowsKnown
 pub mod RowsBelow
+pub mod RowFaults
 pub mod Summing
-pub mod ReadPlain
+pub mod Mergeable
+pub mod ReadPrograms
+pub mod StrippedPrograms
 pub mod ProgramClasses
 pub mod EmptyPrograms
 pub mod OneOrder

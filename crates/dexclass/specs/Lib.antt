@@ -5,3 +5,5 @@ pub mod Renumbering
 pub mod Parents
 pub mod FlagNames
 pub mod Programs
+pub mod Reading
+pub mod Stripped

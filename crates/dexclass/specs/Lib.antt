@@ -3,6 +3,5 @@ pub mod Numbered
 pub mod Marking
 pub mod Renumbering
 pub mod Parents
-pub mod FlagNames
 pub mod Programs
 pub mod Reading

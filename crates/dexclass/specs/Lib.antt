@@ -3,7 +3,6 @@ pub mod Numbered
 pub mod Uses
 pub mod Renumbering
 pub mod Parents
-pub mod FlagNames
 pub mod Programs
 pub mod Reading
 pub mod Stripped

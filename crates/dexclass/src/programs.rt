@@ -123,7 +123,7 @@ impl<'a> Program<'a> {
         classes: Vec<Class<'a>>,
     ) -> Result<Program<'a>, AllocError>
         requires { AreMergeable numbering classes.items }
-        ensures { IfOk result (IsCollectionOf (map (definition_of numbering.entry) classes.items)) }
+        ensures { IfOk result (IsCollectionOf (map (definition_of numbering.entry) classes.entry.items)) }
     {
         numbering.is_numbering();
         let weight = weight_of(&numbering, &classes);
@@ -141,7 +141,7 @@ impl<'a> Program<'a> {
     ) -> Result<Program<'a>, AllocError>
         requires mergeable { AreMergeable numbering classes.items }
         requires total { total ≡ weight (map (definition_of numbering) classes.items) }
-        ensures { IfOk result (IsCollectionOf (map (definition_of numbering.entry) classes.items)) }
+        ensures { IfOk result (IsCollectionOf (map (definition_of numbering.entry) classes.entry.items)) }
     {
         numbering.is_numbering();
         let types = numbering.count(SymbolKind::Typ);

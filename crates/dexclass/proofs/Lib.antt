@@ -4,9 +4,10 @@ pub mod Judged
 pub mod Listed
 pub mod PlainClasses
 pub mod Marked
+pub mod OwnUses
+pub mod ClassSymbols
 pub mod Renumbered
 pub mod Alike
-pub mod KeptMembers
 pub mod Mentioned
 pub mod LedOn
 pub mod SameClasses

@@ -3,9 +3,10 @@ pub mod Interfaces
 pub mod Judged
 pub mod RowClasses
 pub mod Marked
+pub mod OwnUses
+pub mod ClassSymbols
 pub mod Renumbered
 pub mod Alike
-pub mod KeptMembers
 pub mod Mentioned
 pub mod LedOn
 pub mod SameClasses

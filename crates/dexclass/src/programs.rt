@@ -82,8 +82,8 @@ impl<'a> Program<'a> {
         &self.classes[i]
     }
 
-    /// The classes, by depth and then by name, moved out of the program. Their numbers are those of its numbering. No memory
-    /// is taken.
+    /// The classes, by depth and then by name, moved out of the program. Their numbers are those of its numbering. No
+    /// memory is taken.
     pub fn into_classes(self) -> Vec<Class<'a>>
         ensures { AreClassesOf self.entry result.items }
     {

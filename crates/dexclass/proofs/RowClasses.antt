@@ -42,7 +42,7 @@ pub row_weight : (b : List ℕ) (m : Mentions) (r : ℕ) (z : Members) → body_
 row_weight b m r z =
     let is = interface_indices b (interfaces_off b r) in
     let parts : body_weight (row_body b m r z)
-        ≡ 96 + 2 * length (map (type_at m) is) + set_weight z.annotations + sum_by field_weight (z.static_fields ++ z.instance_fields) + sum_by method_weight (z.direct_methods ++ z.virtual_methods) + static_values_weight z.static_values = refl in
+    ≡ 96 + 2 * length (map (type_at m) is) + set_weight z.annotations + sum_by field_weight (z.static_fields ++ z.instance_fields) + sum_by method_weight (z.direct_methods ++ z.virtual_methods) + static_values_weight z.static_values = refl in
     omega (arith, parts, length-map is (type_at m))
 
 module _ (b : List ℕ) (m : Mentions) (pools : ArePools b m) where

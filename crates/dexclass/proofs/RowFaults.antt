@@ -97,8 +97,7 @@ pub together_fault : (b : List ℕ) → HoldBelow 17 b → (D : List Definition)
 together_fault b h D readable rows n bodies r is sum heavy =
     let more : most_weight < weight D = omega (arith, heavy.heavy, ap mentions_weight is, sum, weight_is D) in
     let some = some_rows b (table_size b ClassDefs) D rows more in
-    let last : table_size b ClassDefs ≡ r.place + 1 = omega (arith, some, heavy.last) in
-    (
+    let last : table_size b ClassDefs ≡ r.place + 1 = omega (arith, some, heavy.last) in (
       Condition.Weight,
       r.place,
       heavy.number_is,

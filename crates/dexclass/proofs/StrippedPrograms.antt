@@ -11,7 +11,7 @@ use Rattle.dexspec.specs.Files.{Collection, definitions, IsCollectionOf}
 use Rattle.dexspec.specs.Mentions.{Mentions, mentions}
 use Rattle.dexspec.specs.Depth.{in_class_order}
 use Rattle.dexspec.specs.WellFormed.{AreWellFormed}
-use Rattle.dexspec.specs.Merging.{IsGood, greatest_caps}
+use Rattle.dexspec.specs.Merging.{Caps, IsGood, greatest_caps}
 use Rattle.dexspec.specs.Stripping.{strip_definition, strip, strip_collection}
 use Rattle.dexspec.proofs.Absorption.{IsGood-within}
 use Rattle.dexspec.proofs.ClassOrder.{definitions-distinct}
@@ -84,6 +84,10 @@ one_name E apart i j d li lj e =
         | inr more ↦ absurd (apart j i d more (omega (arith, li, few)) (sym same))
       ]
     ]
+
+-- what is good stays so
+pub stays_good : (K : Collection) → definitions (strip_collection K) ≡ strip (definitions K) → ((caps : Caps) (D : List Definition) → IsGood caps D → IsGood caps (strip D)) → (caps : Caps) → IsGood caps (definitions K) → IsGood caps (definitions (strip_collection K))
+stays_good K is stays caps good = subst (IsGood caps) (sym is) (stays caps (definitions K) good)
 
 module _ (K : Collection) where
   abbrev E : List Definition

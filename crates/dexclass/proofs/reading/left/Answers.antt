@@ -2,5 +2,5 @@ use Rattle.std.proofs.Common.{ℕ, subst, arith}
 use Rattle.dexclass.specs.Rows.{HasInterfaceList}
 use Rattle.dexclass.proofs.reading.left.Goals as goal
 
-pub interfaces_len-requires : goal.interfaces_len-requires
-interfaces_len-requires c = subst (HasInterfaceList c.args.frame.now) c.row_fields.ensures.interfaces_are c.requires.holds.interfaces
+pub interfaces_len-interfaces-requires : goal.interfaces_len-interfaces-requires
+interfaces_len-interfaces-requires c = subst (HasInterfaceList c.args.frame.now) c.row_fields.ensures.interfaces_are c.requires.holds.interfaces

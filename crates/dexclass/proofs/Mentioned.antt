@@ -1,5 +1,5 @@
 -- The symbols that are marked are those that occur, and so are those that they mention.
-use Rattle.std.proofs.Common.{◌≡◌, ℕ, ◌<◌, ◌==◌, ◌&&◌, Bool, true, false, List, [], ◌∷◌, ◌++◌, map, get_or, refl, sym, ap, ◌∙◌, subst, inl, inr, eq-eqb}
+use Rattle.std.proofs.Common.{◌≡◌, ℕ, ◌==◌, ◌&&◌, Bool, true, false, List, [], ◌∷◌, ◌++◌, map, get_or, refl, sym, ap, ◌∙◌, subst, inl, inr, eq-eqb}
 use Rattle.std.specs.List.{All, AllZip, Contains, flat_map}
 use Rattle.std.proofs.lemmas.Bool.{eqb-true}
 use Rattle.std.proofs.lemmas.List.Elements.{Contains-append_left, Contains-append_right, Contains-append_cases}
@@ -13,8 +13,8 @@ use Rattle.dexspec.proofs.SymbolOrders.{text_total, text_exact, proto_total, pro
 use Rattle.dexpool.specs.declared.symbols.SymbolKind.{SymbolKind}
 use Rattle.dexpool.specs.declared.symbols.SymbolKind.TheVariants as kinds
 use Rattle.dexpool.specs.declared.marks.Marks.{Marks}
-use Rattle.dexpool.specs.Numberings.{IsAt, IsNumbered, IsOfKind, marked}
-use Rattle.dexpool.specs.Uses.{Use, IsUseOf, IsMarkedUse, marks_of, same_kind, occurs}
+use Rattle.dexpool.specs.Numberings.{IsNumbered, IsOfKind, marked}
+use Rattle.dexpool.specs.Uses.{Use, IsUseOf, IsMarkedUse, marks_of, same_kind}
 use Rattle.dexpool.proofs.KeptRows.{kept_from, kept_has}
 use Rattle.dexpool.proofs.Pairs.{zip_source, zip_target}
 use Rattle.dexclass.specs.Uses.{HaveMarked}

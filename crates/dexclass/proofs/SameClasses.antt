@@ -1,9 +1,8 @@
 -- Classes that are led on stand for the same definitions; led into one numbering they are the same just where their
 -- definitions are.
-use Rattle.std.proofs.Common.{◌≡◌, ℕ, ◌<◌, List, [], ◌∷◌, ◌++◌, length, map, Option, option_to_list, refl, sym, ap, ◌∙◌, subst}
+use Rattle.std.proofs.Common.{◌≡◌, ℕ, ◌<◌, List, [], ◌∷◌, ◌++◌, length, map, option_to_list, sym, ap, ◌∙◌, subst}
 use Rattle.std.specs.Prelude.{◌↔◌, IsSome}
 use Rattle.std.specs.List.{All, AllZip}
-use Rattle.std.specs.Option.{option_map}
 use Rattle.std.proofs.lemmas.List.Elements.{All-nil, All-cons, All-head, All-tail}
 use Rattle.dexspec.specs.Texts.{Text}
 use Rattle.dexspec.specs.Symbols.{Symbol, TextSymbol, TypeSymbol, ProtoSymbol, FieldSymbol, MethodSymbol}
@@ -15,15 +14,15 @@ use Rattle.dexpool.specs.Pools.{count_of}
 use Rattle.dexpool.specs.Laws.{LeadsAll}
 use Rattle.dexpool.specs.Numberings.{AreRising, Maps, AllLead, IsNumbered, IsOfKind, image}
 use Rattle.dexpool.specs.Uses.{Use, IsUseOf, IsLedUse}
-use Rattle.dexmembers.specs.Numbered.{Members, NumberedMembers, members_in, members_of, AreKnownMembers, AreOrdered, AreOfClass}
+use Rattle.dexmembers.specs.Numbered.{NumberedMembers, members_in, members_of, AreKnownMembers, AreOrdered, AreOfClass}
 use Rattle.dexmembers.specs.Renumbering.{renumbered_members}
 use Rattle.dexmembers.specs.Uses.{members_uses}
-use Rattle.dexclass.specs.Numbered.{NumberedClass, type_at, text_at, definition_of}
-use Rattle.dexclass.specs.Uses.{type_numbers, text_numbers, type_use, text_use, class_uses, IsKnownClass}
+use Rattle.dexclass.specs.Numbered.{NumberedClass, type_at, definition_of}
+use Rattle.dexclass.specs.Uses.{type_numbers, text_numbers, type_use, text_use, IsKnownClass}
 use Rattle.dexclass.specs.Renumbering.{led, renumbered, IsLedClass, StaysSame, IsPartClass}
 use Rattle.dexclass.proofs.Marked.{all_front, all_back}
 use Rattle.dexclass.proofs.OwnUses.{all_mapped}
-use Rattle.dexclass.proofs.LedOn.{led_at, led_is, all_led, optional_led, all_within, optional_numbers, numbers_behind, one_at, one_list, one_optional}
+use Rattle.dexclass.proofs.LedOn.{led_is, all_led, optional_led, all_within, optional_numbers, numbers_behind, one_at, one_list, one_optional}
 
 -- ---- where all symbols lead somewhere
 

@@ -1,13 +1,12 @@
 -- Classes whose numbers are led to those of what they mention.
-use Rattle.std.proofs.Common.{◌≡◌, ℕ, List, [], ◌∷◌, ◌++◌, map, get_or, refl, sym, ap, ◌∙◌, subst}
-use Rattle.std.specs.List.{All, AllZip, Contains, flat_map}
+use Rattle.std.proofs.Common.{◌≡◌, List, [], ◌∷◌, map, get_or, refl, sym, ap, ◌∙◌, subst}
+use Rattle.std.specs.List.{All, AllZip, flat_map}
 use Rattle.std.proofs.lemmas.List.Elements.{All-nil, All-cons, All-head, All-tail, All-map, Contains-get_or}
-use Rattle.dexspec.specs.Symbols.{Symbol}
 use Rattle.dexspec.specs.Mentions.{Mentions, symbols_of, mentions, closed}
 use Rattle.dexspec.proofs.Members.{Contains-flat_map}
 use Rattle.dexpool.specs.declared.marks.Marks.{Marks}
-use Rattle.dexpool.specs.Numberings.{Maps, AllLead, marked}
-use Rattle.dexpool.specs.Uses.{Use, IsUseOf, IsLedUse, LeadsMarked}
+use Rattle.dexpool.specs.Numberings.{Maps, marked}
+use Rattle.dexpool.specs.Uses.{IsUseOf, LeadsMarked}
 use Rattle.dexclass.specs.Numbered.{NumberedClass, definition_of}
 use Rattle.dexclass.specs.Uses.{class_uses, IsKnownClass, HaveMarked}
 use Rattle.dexclass.specs.Renumbering.{renumbered, IsLedClass, StaysSame}

@@ -1,8 +1,4 @@
-use Rattle.std.specs.List.{AllZip}
-use Rattle.dexspec.specs.Mentions.{symbols_of}
-use Rattle.dexpool.specs.Uses.{IsUseOf}
-use Rattle.dexmembers.specs.Numbered.{members_in}
-use Rattle.dexmembers.specs.Uses.{members_uses, members_symbols}
+use Rattle.dexmembers.specs.Uses.{members_uses}
 use Rattle.dexclass.specs.Numbered.{type_at}
 use Rattle.dexclass.specs.Uses.{type_numbers, text_numbers}
 use Rattle.dexclass.proofs.OwnUses.{own_marks}

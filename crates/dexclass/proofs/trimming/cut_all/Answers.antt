@@ -1,11 +1,11 @@
-use Rattle.std.proofs.Common.{◌∙◌, sym, ap, subst, arith}
+use Rattle.std.proofs.Common.{◌<◌, ◌∙◌, length, sym, ap, subst, arith}
 use Rattle.dexclass.specs.Renumbering.{renumbered, IsLedClass}
 use Rattle.dexclass.proofs.Renumbered.{next_is, led_more}
 use Rattle.dexclass.proofs.trimming.cut_all.Goals as goal
 
 pub cut-requires : goal.cut-requires
 cut-requires c =
-    let lt = omega (arith, c.loop-i-test.true, c.loop-i.invariant.len) in
+    let lt : c.loop-i.i < length c.args.classes.now.items = omega (arith, c.loop-i-test.true, c.loop-i.invariant.len) in
     let same = next_is (renumbered c.args.remap.now) c.loop-i.classes.items c.args.classes.now.items c.loop-i.i c.index_mut.result.now lt c.loop-i.invariant in
     record {
       down = c.requires.down;

@@ -1,10 +1,10 @@
 -- What a program keeps tells of its collection.
-use Rattle.std.proofs.Common.{◌≡◌, ℕ, ◌<◌, List, [], ◌∷◌, length, get_or, map, refl, sym, ap, ◌∙◌, subst, arith, sum_by}
+use Rattle.std.proofs.Common.{◌≡◌, ℕ, ◌<◌, List, [], ◌∷◌, length, get_or, refl, sym, ap, ◌∙◌, subst, arith, sum_by}
 use Rattle.std.proofs.lemmas.List.{length-map, get_or-map}
 use Rattle.std.proofs.lemmas.List.Sums.{sum_by-cons}
 use Rattle.dexspec.specs.Classes.{Definition}
 use Rattle.dexspec.specs.Files.{Collection, definitions}
-use Rattle.dexspec.specs.Mentions.{Mentions, mentions}
+use Rattle.dexspec.specs.Mentions.{mentions}
 use Rattle.dexspec.specs.Depth.{in_class_order}
 use Rattle.dexspec.proofs.ClassOrder.{in_class_order-same_sum, definitions-distinct}
 use Rattle.dexclass.specs.Numbered.{NumberedClass, definition_of}

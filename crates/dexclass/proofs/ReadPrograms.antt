@@ -1,10 +1,10 @@
 -- Classes that are trimmed make the program that a file denotes.
-use Rattle.std.proofs.Common.{◌≡◌, ℕ, ◌+◌, ◌≤◌, List, map, sym, ap, ◌∙◌, subst, arith}
+use Rattle.std.proofs.Common.{◌≡◌, ℕ, List, map, sym, ap, ◌∙◌, subst, arith}
 use Rattle.std.specs.FinMap as finite
 use Rattle.dexspec.specs.Header.{ClassDefs, table_size}
 use Rattle.dexspec.specs.Classes.{Definition}
 use Rattle.dexspec.specs.Files.{Collection, definitions, Denotes, IsCollectionOf}
-use Rattle.dexspec.specs.Mentions.{Mentions, mentions}
+use Rattle.dexspec.specs.Mentions.{Mentions}
 use Rattle.dexspec.specs.Weight.{weight, mentions_weight}
 use Rattle.dexspec.specs.WellFormed.{AreWellFormed}
 use Rattle.dexspec.specs.Merging.{IsGood, greatest_caps}

@@ -3,13 +3,12 @@ use Rattle.std.proofs.Common.{◌≡◌, ℕ, zero, suc, ◌+◌, ◌*◌, ◌-�
 use Rattle.dexspec.specs.Header.{ClassDefs, table_size}
 use Rattle.dexspec.specs.Classes.{Definition, class_idx, interfaces_off}
 use Rattle.dexspec.specs.Mentions.{Mentions, mentions}
-use Rattle.dexspec.specs.Weight.{weight, body_weight, mentions_weight, most_weight}
+use Rattle.dexspec.specs.Weight.{weight, mentions_weight, most_weight}
 use Rattle.dexspec.specs.Conditions.{Condition, number}
-use Rattle.dexspec.specs.Accepted.{HasClass, HoldBelow, AreRows, FailsAt, Holds, place, rows_judged, IsRefused}
+use Rattle.dexspec.specs.Accepted.{HasClass, HoldBelow, AreRows, FailsAt, place, rows_judged, IsRefused}
 use Rattle.dexspec.proofs.Denoted.{AreReadable}
 use Rattle.dexhead.specs.declared.refusal.Refusal.{Refusal}
 use Rattle.dexpool.specs.Pools.{ArePools}
-use Rattle.dexpool.specs.declared.faults.ItemFault.{ItemFault}
 use Rattle.dexpool.specs.declared.faults.ItemFault.TheVariants as items
 use Rattle.dexpool.specs.declared.faults.ReadFault.{ReadFault}
 use Rattle.dexpool.specs.declared.faults.ReadFault.TheVariants.{Refused, Memory}

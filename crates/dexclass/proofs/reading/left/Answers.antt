@@ -1,4 +1,4 @@
-use Rattle.std.proofs.Common.{ℕ, subst, arith}
+use Rattle.std.proofs.Common.{subst}
 use Rattle.dexclass.specs.Rows.{HasInterfaceList}
 use Rattle.dexclass.proofs.reading.left.Goals as goal
 

@@ -1,10 +1,6 @@
-use Rattle.std.proofs.Common.{map, sym, subst}
-use Rattle.std.specs.Prelude.{All}
+use Rattle.std.proofs.Common.{map}
 use Rattle.std.proofs.lemmas.Result.{err_from_is_err_and}
-use Rattle.dexspec.specs.Header.{ClassDefs, table_size}
-use Rattle.dexspec.specs.Mentions.{Mentions}
 use Rattle.dexclass.specs.Numbered.{definition_of}
-use Rattle.dexclass.specs.Uses.{IsKnownClass}
 use Rattle.dexclass.proofs.RowFaults.{together_fault}
 use Rattle.dexclass.proofs.Mergeable.{AreTrimmed, are_trimmed}
 use Rattle.dexclass.proofs.ReadPrograms.{total_is, read_as, mergeable}

@@ -1,4 +1,4 @@
-use Rattle.std.proofs.Common.{List, map, sym, subst}
+use Rattle.std.proofs.Common.{sym, subst}
 use Rattle.std.specs.Prelude.{All}
 use Rattle.dexspec.specs.Files.{definitions}
 use Rattle.dexspec.specs.Depth.{in_class_order}

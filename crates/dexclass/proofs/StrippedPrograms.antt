@@ -16,6 +16,8 @@ use Rattle.dexspec.proofs.Absorption.{IsGood-within}
 use Rattle.dexspec.proofs.ClassOrder.{definitions-distinct}
 use Rattle.dexspec.proofs.ClassPlaces.{in_class_order-only, in_class_order-has, class_names-apart}
 use Rattle.dexspec.proofs.Collections.{definitions-are, collection-one}
+use Rattle.dexspec.proofs.StripCollection.{definitions-strip_collection}
+use Rattle.dexspec.proofs.StripGood.{IsGood-strip}
 use Rattle.dexmembers.specs.Numbered.{members_in, AreKnownMembers, AreOrdered, AreOfClass}
 use Rattle.dexmembers.specs.Stripped.{stripped_members, strip_members}
 use Rattle.dexclass.specs.Numbered.{NumberedClass, type_at, definition_of}
@@ -85,8 +87,8 @@ one_name E apart i j d li lj e =
     ]
 
 -- what is good stays so
-pub stays_good : (K : Collection) → definitions (strip_collection K) ≡ strip (definitions K) → ((caps : Caps) (D : List Definition) → IsGood caps D → IsGood caps (strip D)) → (caps : Caps) → IsGood caps (definitions K) → IsGood caps (definitions (strip_collection K))
-stays_good K is stays caps good = subst (IsGood caps) (sym is) (stays caps (definitions K) good)
+pub stays_good : (K : Collection) (caps : Caps) → IsGood caps (definitions K) → IsGood caps (definitions (strip_collection K))
+stays_good K caps good = subst (IsGood caps) (sym (definitions-strip_collection K)) (IsGood-strip (definitions K) caps good)
 
 module _ (K : Collection) where
   abbrev E : List Definition

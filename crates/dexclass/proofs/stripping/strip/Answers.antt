@@ -13,9 +13,6 @@ use Rattle.dexclass.proofs.StrippedPrograms.{class_stripped, class_known, all_kn
 use Rattle.dexclass.proofs.stripping.strip.Goals as goal
 use Rattle.dexclass.proofs.stripping.strip.Goals.{In_ok-numbering}
 
-pub returns-in_err-classes-clause-good : goal.returns-in_err-classes-clause-good
-returns-in_err-classes-clause-good c = stays_good c.args.program.now (c.strip_collection_law.ensures.whole c.args.program.now).in_order c.strip_good.ensures.good
-
 pub trim-requires : goal.trim-requires
 trim-requires c =
     let law = c.members_stripped_law.ensures in
@@ -23,9 +20,6 @@ trim-requires c =
     subst (λ (n : Mentions). All (IsKnownClass n) c.in_ok-classes.classes.items) (sym c.numbering.ensures)
     (all_known m c.classes.result.now (λ x h. class_known m x h (law.known m x.members h.members_known) (law.ordered x.members h.members_ordered) (law.own m (type_at m x.name) x.members h.members_own))
     c.classes.ensures.known c.in_ok-classes.classes.items c.in_ok-classes.ensures)
-
-pub returns-in_err-numbering-clause-good : goal.returns-in_err-numbering-clause-good
-returns-in_err-numbering-clause-good c = stays_good c.args.program.now (c.strip_collection_law.ensures.whole c.args.program.now).in_order c.strip_good.ensures.good
 
 -- the classes as they are trimmed
 trimmed : (c : In_ok-numbering) → AreTrimmed (strip (in_class_order (definitions c.args.program.now))) c.in_ok-numbering.numbering c.trim.new.classes.items
@@ -46,5 +40,11 @@ returns-clause-stripped c =
     let K = c.args.program.now in
     if_ok_each _ _ c.of.result (λ L is. stripped_collection K c.in_ok-numbering.numbering c.trim.new.classes.items (trimmed (goal.at.returns-clause-stripped c).In_ok-numbering) (c.strip_collection_law.ensures.listed (in_class_order (definitions K)) K) L is) c.of.ensures
 
+pub returns-in_err-classes-clause-good : goal.returns-in_err-classes-clause-good
+returns-in_err-classes-clause-good c = stays_good c.args.program.now
+
+pub returns-in_err-numbering-clause-good : goal.returns-in_err-numbering-clause-good
+returns-in_err-numbering-clause-good c = stays_good c.args.program.now
+
 pub returns-clause-good : goal.returns-clause-good
-returns-clause-good c = stays_good c.args.program.now (c.strip_collection_law.ensures.whole c.args.program.now).in_order c.strip_good.ensures.good
+returns-clause-good c = stays_good c.args.program.now

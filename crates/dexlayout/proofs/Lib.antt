@@ -1,4 +1,5 @@
 pub mod Ends
 pub mod OwnParts
+pub mod OwnSizes
 pub mod OwnSteps
 pub mod Owned

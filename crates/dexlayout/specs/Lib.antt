@@ -1,4 +1,5 @@
 pub mod Places
 pub mod Running
+pub mod Sizes
 pub mod Laid
 pub mod Parts

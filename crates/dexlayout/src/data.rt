@@ -19,7 +19,8 @@ use crate::map_entries::count_placed;
 use crate::offsets::{Offsets, round_up};
 use crate::ref_lists::place_ref_lists;
 use crate::sets::{Sets, place_sets};
-use crate::shared_sets::{SharedSets, share_sets};
+use crate::shared_sets::share_sets;
+use crate::sharing::Shared;
 use crate::static_values::place_static_values;
 use crate::strings::place_strings;
 use crate::tables::entry;
@@ -59,7 +60,7 @@ pub(crate) fn place_data<'p>(
     ensures { IfOk result (AreData numbering.now classes.now) }
 {
     let type_lists = place_type_lists(alloc, numbering, classes, from)?;
-    let SharedSets { written, numbers } = share_sets(alloc, classes)?;
+    let Shared { written, numbers } = share_sets(alloc, classes)?;
     let annotations = place_annotations(alloc, written, type_lists.places().end())?;
     let static_values = place_static_values(alloc, classes, annotations.places().end())?;
     let strings = place_strings(alloc, numbering, static_values.end())?;
@@ -74,7 +75,8 @@ pub(crate) fn place_data<'p>(
         &numbers,
         class_data.end(),
     )?;
-    let ref_lists = place_ref_lists(alloc, numbering, classes, sets.end())?;
+    let methods = codes.offsets().len();
+    let ref_lists = place_ref_lists(alloc, numbering, classes, methods, sets.end())?;
     let directories = place_directories(
         alloc,
         numbering,

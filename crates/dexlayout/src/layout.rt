@@ -11,11 +11,13 @@ ghost use Rattle.dexlayout.specs.Laid.{AreWritable, IsLaid, ordered_of};
 
 use crate::annotations::Annotations;
 use crate::debugs::DebugPrograms;
+use crate::laying::lay;
 use crate::offsets::Offsets;
 use crate::sets::Sets;
 use crate::type_lists::TypeLists;
 use dexclass::Program;
 use dexhead::{Head, MapEntry};
+use dexlaws_size::fitting_size_law;
 use std::alloc::{AllocError, Global};
 use std::marker::Model;
 
@@ -63,7 +65,12 @@ impl<'p> Layout<'p> {
         ensures writable { (cs : List NumberedClass) → AreClassesOf program.now cs → AreWritable (mentions (definitions program.now)) cs × (ordered_of (mentions (definitions program.now)) cs ≡ ordered (definitions program.now)) }
         ensures len { IfOk result (λ layout. layout.head.file_size ≡ length (canonical program.now)) }
     {
-        Err(AllocError)
+        program.is_good();
+        let numbering = program.numbering();
+        numbering.is_numbering();
+        fitting_size_law();
+        let layout = lay(alloc, numbering, program.classes())?;
+        Ok(layout)
     }
 
     /// The header, with sums of 0.

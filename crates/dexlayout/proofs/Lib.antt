@@ -2,3 +2,10 @@ pub mod Ends
 pub mod OwnParts
 pub mod OwnSteps
 pub mod Owned
+pub mod SetAnnotations
+pub mod SetDirectories
+pub mod SetItems
+pub mod SetLists
+pub mod SetParts
+pub mod SetsGathered
+pub mod SetsStand

@@ -74,7 +74,7 @@ pub(crate) fn place_data<'p>(
         &numbers,
         class_data.end(),
     )?;
-    let ref_lists = place_ref_lists(alloc, numbering, classes, sets.end())?;
+    let ref_lists = place_ref_lists(alloc, numbering, classes, sets.methods().len(), sets.end())?;
     let directories = place_directories(
         alloc,
         numbering,

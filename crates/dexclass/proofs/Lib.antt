@@ -25,8 +25,3 @@ pub mod ProgramClasses
 pub mod EmptyPrograms
 pub mod OneOrder
 pub mod ProgramsOf
-pub mod SingleBits
-pub mod Growing
-pub mod Hexadecimal
-pub mod Composed
-pub mod FlagTables

@@ -3,5 +3,4 @@ pub mod Numbered
 pub mod Uses
 pub mod Renumbering
 pub mod Parents
-pub mod FlagNames
 pub mod Programs

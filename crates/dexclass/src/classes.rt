@@ -7,6 +7,7 @@ ghost use Rattle.dexclass.specs.Rows.{interface_indices, HasInterfaceList};
 ghost use Rattle.dexclass.specs.Numbered.{number_of, class_of_row};
 
 use crate::class_rows::{NO_INDEX, row_fields};
+use dexflags::ClassFlags;
 use dexhead::{Frame, u16_at};
 use dexmembers::Members;
 use dexpool::type_list_len;
@@ -49,10 +50,10 @@ impl<'a> Class<'a> {
     /// The access flags. No memory is taken.
     ///
     /// Source: "access_flags definitions".
-    pub fn flags(&self) -> u32
-        ensures { result ≡ self.now.flags }
+    pub fn flags(&self) -> ClassFlags
+        ensures { result.0 ≡ self.now.flags }
     {
-        self.flags
+        ClassFlags::from_bits_retain(self.flags)
     }
 
     /// The number of the superclass's type, if there is one. No memory is taken.

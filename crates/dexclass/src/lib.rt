@@ -8,8 +8,6 @@ mod class_calls;
 mod class_rows;
 mod class_types;
 mod classes;
-mod flags;
-mod flags_text;
 mod judging;
 mod laws;
 mod marking;
@@ -22,7 +20,6 @@ mod stripping;
 mod trimming;
 
 pub use classes::Class;
-pub use flags::{ClassFlags, FieldFlags, MethodFlags};
 pub use laws::{renumbering_law, same_law, uses_law};
 pub use programs::Program;
 pub use reading::read;

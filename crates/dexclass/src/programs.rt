@@ -82,6 +82,15 @@ impl<'a> Program<'a> {
         &self.classes[i]
     }
 
+    /// The classes, by depth and then by name, moved out of the program. Their numbers are those of its numbering. No
+    /// memory is taken.
+    pub fn into_classes(self) -> Vec<Class<'a>>
+        ensures { AreClassesOf self.entry result.items }
+    {
+        let Program { classes, .. } = self;
+        classes
+    }
+
     /// The numbering of just what the classes mention. No memory is taken.
     pub fn numbering(&self) -> &Numbering<'a>
         ensures { result.now ≡ mentions (definitions self.now) }

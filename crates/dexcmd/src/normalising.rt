@@ -1,10 +1,11 @@
 //! The run of `normalise`.
 
 ghost use Rattle.std.specs.Prelude.{◌≡◌, ◌++◌, ◌↔◌, true, false, OnOk, IfErr, IsErrOf};
+ghost use Rattle.dexspec.specs.Accepted.{IsAccepted};
 ghost use Rattle.dexspec.specs.Files.{Collection, Denotes};
 ghost use Rattle.dexspec.specs.Canonical.{canonical};
 ghost use Rattle.dexcmd.specs.Inputs.{bytes_read};
-ghost use Rattle.dexcmd.specs.Runs.{ArePlainFile, IsOfInput, HasLeft};
+ghost use Rattle.dexcmd.specs.Runs.{IsOfInput, HasLeft};
 ghost use Rattle.dexcmd.specs.declared.faults.RunFault.TheVariants.{Read, Write};
 
 use crate::faults::RunFault;
@@ -31,7 +32,7 @@ pub fn normalise_run<R: Source, W: Sink>(
 ) -> Result<(), RunFault>
     requires input { R.has_failed input.old ≡ false }
     requires out { W.has_failed out.old ≡ false }
-    ensures accepted { OnOk result (R.tells input.old → ArePlainFile (bytes_read (R.to_come input.old))) }
+    ensures accepted { OnOk result (R.tells input.old → IsAccepted (bytes_read (R.to_come input.old))) }
     ensures written { OnOk result (R.tells input.old → W.tells out.old → (K : Collection) → Denotes (bytes_read (R.to_come input.old)) K →
         W.taken out.new ≡ W.taken out.old ++ canonical K) }
     ensures fault { IfErr result (IsOfInput (R.tells input.old) (bytes_read (R.to_come input.old))) }

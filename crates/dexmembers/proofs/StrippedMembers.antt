@@ -1,12 +1,18 @@
--- Members without their debug programs stand for what they stood for without them.
-use Rattle.std.proofs.Common.{◌≡◌, List, [], ◌∷◌, map, Option, Some, None, refl}
+-- Members without their debug programs stand for what they stood for without them, and stay known, in order, and of their class.
+use Rattle.std.proofs.Common.{◌≡◌, ℕ, List, [], ◌∷◌, map, Option, Some, None, get_or, refl, sym, subst}
+use Rattle.std.specs.Prelude.{All, IfSome}
 use Rattle.std.specs.Option.{option_map}
+use Rattle.std.proofs.lemmas.List.{map-append}
+use Rattle.std.proofs.lemmas.List.Elements.{All-map}
+use Rattle.dexspec.specs.ClassData.{ShareNone}
+use Rattle.dexspec.specs.Texts.{Text}
 use Rattle.dexspec.specs.Mentions.{Mentions}
 use Rattle.dexspec.specs.Stripping.{strip_code, strip_method}
-use Rattle.dexcode.specs.Meaning.{code_in}
+use Rattle.dexspec.proofs.Mapped.{map-kept}
+use Rattle.dexcode.specs.Meaning.{code_in, IsKnownCode}
 use Rattle.dexcode.specs.Numbered.{NumberedItem}
 use Rattle.dexval.specs.Numbered.{set_in, values_in, method_at}
-use Rattle.dexmembers.specs.Numbered.{NumberedMethod, NumberedMembers, field_in, method_in, members_in}
+use Rattle.dexmembers.specs.Numbered.{NumberedMethod, NumberedMembers, field_in, method_in, members_in, methods_of, IsKnownMethod, AreKnownMembers, NumbersRise, AreOrdered, AreOfClass}
 use Rattle.dexmembers.specs.Stripped.{stripped_code, stripped_method, stripped_members, strip_members}
 
 code_stripped : (m : Mentions) (o : Option NumberedItem) → option_map (code_in m) (option_map stripped_code o) ≡ option_map strip_code (option_map (code_in m) o)
@@ -35,4 +41,58 @@ members_stripped m x = λ i. record {
   direct_methods = methods_stripped m x.direct_methods i;
   virtual_methods = methods_stripped m x.virtual_methods i;
   static_values = values_in m x.static_values;
+}
+
+-- ---- what they stay
+
+-- code that is known stays so
+code_stays : (m : Mentions) (o : Option NumberedItem) → IfSome o (IsKnownCode m) → IfSome (option_map stripped_code o) (IsKnownCode m)
+code_stays m None h = tt
+code_stays m (Some c) h = record { pieces_known = h.pieces_known; tries_known = h.tries_known; debug_known = tt }
+
+method_stays : (m : Mentions) (x : NumberedMethod) → IsKnownMethod m x → IsKnownMethod m (stripped_method x)
+method_stays m x h = record { number_in = h.number_in; code_known = code_stays m x.code h.code_known; annotations_known = h.annotations_known; parameters_known = h.parameters_known }
+
+methods_stay : (m : Mentions) (xs : List NumberedMethod) → All (IsKnownMethod m) xs → All (IsKnownMethod m) (map stripped_method xs)
+methods_stay m xs h = All-map (IsKnownMethod m) stripped_method xs (λ k d lt. method_stays m (get_or xs k d) (h k d lt))
+
+-- their numbers are those of symbols
+pub stripped_known : (m : Mentions) (x : NumberedMembers) → AreKnownMembers m x → AreKnownMembers m (stripped_members x)
+stripped_known m x h = record {
+  annotations_known = h.annotations_known;
+  static_fields_known = h.static_fields_known;
+  instance_fields_known = h.instance_fields_known;
+  direct_methods_known = methods_stay m x.direct_methods h.direct_methods_known;
+  virtual_methods_known = methods_stay m x.virtual_methods h.virtual_methods_known;
+  values_known = h.values_known;
+}
+
+abbrev number_of : NumberedMethod → ℕ
+number_of y = y.number
+
+-- methods keep their numbers
+numbers_stay : (xs : List NumberedMethod) → map number_of (map stripped_method xs) ≡ map number_of xs
+numbers_stay xs = map-kept stripped_method number_of (λ y. refl) xs
+
+-- so they keep their order
+pub stripped_ordered : (x : NumberedMembers) → AreOrdered x → AreOrdered (stripped_members x)
+stripped_ordered x h =
+    let direct = numbers_stay x.direct_methods in
+    let virtual = numbers_stay x.virtual_methods in
+    record {
+      static_fields_rise = h.static_fields_rise;
+      instance_fields_rise = h.instance_fields_rise;
+      direct_methods_rise = subst NumbersRise (sym direct) h.direct_methods_rise;
+      virtual_methods_rise = subst NumbersRise (sym virtual) h.virtual_methods_rise;
+      fields_apart = h.fields_apart;
+      methods_apart = subst (ShareNone (map number_of (map stripped_method x.direct_methods))) (sym virtual)
+          (subst (λ ns. ShareNone ns (map number_of x.virtual_methods)) (sym direct) h.methods_apart);
+    }
+
+-- and are members of their class
+pub stripped_own : (m : Mentions) (class : Text) (x : NumberedMembers) → AreOfClass m class x → AreOfClass m class (stripped_members x)
+stripped_own m class x h = record {
+  fields_of_class = h.fields_of_class;
+  methods_of_class = subst (All (λ (y : NumberedMethod). (method_at m y.number).class ≡ class)) (map-append stripped_method x.direct_methods x.virtual_methods)
+      (All-map (λ (y : NumberedMethod). (method_at m y.number).class ≡ class) stripped_method (methods_of x) (λ k d lt. h.methods_of_class k d lt));
 }

@@ -1,8 +1,9 @@
 //! What classes declare, without debug programs.
 
 ghost use Rattle.std.specs.Prelude.{◌≡◌, map};
+ghost use Rattle.dexspec.specs.Texts.{Text};
 ghost use Rattle.dexspec.specs.Mentions.{Mentions};
-ghost use Rattle.dexmembers.specs.Numbered.{NumberedMembers, members_in};
+ghost use Rattle.dexmembers.specs.Numbered.{NumberedMembers, members_in, AreKnownMembers, AreOrdered, AreOfClass};
 ghost use Rattle.dexmembers.specs.Stripped.{stripped_method, stripped_members, strip_members};
 
 use crate::members::{Members, Method};
@@ -40,8 +41,11 @@ impl<'a> Members<'a> {
     }
 }
 
-/// Members without their debug programs stand for what they stood for, without debug programs. It does nothing: its contract
-/// is the law, for the callers that cite it.
+/// Members without their debug programs stand for what they stood for, without debug programs. They stay known to a numbering,
+/// in order, and members of their class. It does nothing: its contract is the law, for the callers that cite it.
 pub fn members_stripped_law()
-    ensures { (m : Mentions) (x : NumberedMembers) → members_in m (stripped_members x) ≡ strip_members (members_in m x) }
+    ensures same { (m : Mentions) (x : NumberedMembers) → members_in m (stripped_members x) ≡ strip_members (members_in m x) }
+    ensures known { (m : Mentions) (x : NumberedMembers) → AreKnownMembers m x → AreKnownMembers m (stripped_members x) }
+    ensures ordered { (x : NumberedMembers) → AreOrdered x → AreOrdered (stripped_members x) }
+    ensures own { (m : Mentions) (class : Text) (x : NumberedMembers) → AreOfClass m class x → AreOfClass m class (stripped_members x) }
 {}

@@ -1,5 +1,14 @@
-use Rattle.dexmembers.proofs.StrippedMembers.{members_stripped}
+use Rattle.dexmembers.proofs.StrippedMembers.{members_stripped, stripped_known, stripped_ordered, stripped_own}
 use Rattle.dexmembers.proofs.stripping.members_stripped_law.Goals as goal
 
-pub returns : goal.returns
-returns c = members_stripped
+pub returns-clause-same : goal.returns-clause-same
+returns-clause-same c = members_stripped
+
+pub returns-clause-known : goal.returns-clause-known
+returns-clause-known c = stripped_known
+
+pub returns-clause-ordered : goal.returns-clause-ordered
+returns-clause-ordered c = stripped_ordered
+
+pub returns-clause-own : goal.returns-clause-own
+returns-clause-own c = stripped_own

@@ -1,6 +1,6 @@
 use Rattle.std.proofs.Common.{◌≡◌, ◌<◌, ◌+◌, ◌^◌, suc, drop, length, false}
 use Rattle.std.specs.Fmt.{digits, digits_onto}
-use Rattle.dexclass.proofs.flags_text.put_hexadecimal.Given as goal
+use Rattle.dexflags.proofs.flags_text.put_hexadecimal.Given as goal
 
 -- the digits behind the place stand; there is a place for each digit that is left
 abbrev pub invariant-loop-rest : goal.invariant-loop-rest

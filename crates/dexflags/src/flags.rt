@@ -48,15 +48,29 @@ impl Flags for ClassFlags {
     }
 
     fn bits(&self) -> u32 {
-        self.0
+        ClassFlags::bits(self)
     }
 
     fn from_bits_retain(bits: u32) -> ClassFlags {
-        ClassFlags(bits)
+        ClassFlags::from_bits_retain(bits)
     }
 }
 
 impl ClassFlags {
+    /// The flags with these 32 bits, of which bits without a name are kept. No memory is taken.
+    pub const fn from_bits_retain(bits: u32) -> ClassFlags
+        ensures { result.0 ≡ bits }
+    {
+        ClassFlags(bits)
+    }
+
+    /// The 32 bits. No memory is taken.
+    pub const fn bits(&self) -> u32
+        ensures { result ≡ self.now.0 }
+    {
+        self.0
+    }
+
     /// Appends the flags as text: `0x` and the number in hexadecimal, and in round brackets the names of the
     /// bits that are set, from the lowest, joined by commas.
     ///
@@ -112,15 +126,29 @@ impl Flags for FieldFlags {
     }
 
     fn bits(&self) -> u32 {
-        self.0
+        FieldFlags::bits(self)
     }
 
     fn from_bits_retain(bits: u32) -> FieldFlags {
-        FieldFlags(bits)
+        FieldFlags::from_bits_retain(bits)
     }
 }
 
 impl FieldFlags {
+    /// The flags with these 32 bits, of which bits without a name are kept. No memory is taken.
+    pub const fn from_bits_retain(bits: u32) -> FieldFlags
+        ensures { result.0 ≡ bits }
+    {
+        FieldFlags(bits)
+    }
+
+    /// The 32 bits. No memory is taken.
+    pub const fn bits(&self) -> u32
+        ensures { result ≡ self.now.0 }
+    {
+        self.0
+    }
+
     /// Appends the flags as text: `0x` and the number in hexadecimal, and in round brackets the names of the
     /// bits that are set, from the lowest, joined by commas.
     ///
@@ -176,15 +204,29 @@ impl Flags for MethodFlags {
     }
 
     fn bits(&self) -> u32 {
-        self.0
+        MethodFlags::bits(self)
     }
 
     fn from_bits_retain(bits: u32) -> MethodFlags {
-        MethodFlags(bits)
+        MethodFlags::from_bits_retain(bits)
     }
 }
 
 impl MethodFlags {
+    /// The flags with these 32 bits, of which bits without a name are kept. No memory is taken.
+    pub const fn from_bits_retain(bits: u32) -> MethodFlags
+        ensures { result.0 ≡ bits }
+    {
+        MethodFlags(bits)
+    }
+
+    /// The 32 bits. No memory is taken.
+    pub const fn bits(&self) -> u32
+        ensures { result ≡ self.now.0 }
+    {
+        self.0
+    }
+
     /// Appends the flags as text: `0x` and the number in hexadecimal, and in round brackets the names of the
     /// bits that are set, from the lowest, joined by commas.
     ///

@@ -8,8 +8,8 @@ use Rattle.std.specs.Global.{Vec}
 use Rattle.std.specs.List.{join_with_byte}
 use Rattle.bitflags.specs.Sets.{Row}
 use Rattle.dexspec.specs.Flags.{has_bit}
-use Rattle.dexclass.specs.FlagNames.{Grows, listed, set_names, shown_name}
-use Rattle.dexclass.proofs.Growing.{Growing, kept_on, front_of_front}
+use Rattle.dexflags.specs.FlagNames.{Grows, listed, set_names, shown_name}
+use Rattle.dexflags.proofs.Growing.{Growing, kept_on, front_of_front}
 
 -- an item after others
 pub after : {T E : Type 0} (old mid new : Vec ℕ) (before item : List ℕ) (r : Result T E) → Growing old mid before → Grows item mid new r → Grows (before ++ item) old new r

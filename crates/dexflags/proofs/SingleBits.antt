@@ -6,7 +6,7 @@ use Rattle.std.proofs.lemmas.Nat.Bits.{and_pow}
 use Rattle.std.specs.Int.{bit_at}
 use Rattle.std.specs.Int.RustNames.{bit_and}
 use Rattle.dexspec.specs.Flags.{has_bit}
-use Rattle.dexclass.specs.FlagNames.{IsSingleBit}
+use Rattle.dexflags.specs.FlagNames.{IsSingleBit}
 
 -- none or one of a number that is above 0 is all of it where it is one
 all_or_none : (x p : ℕ) → x < 2 → 0 < p → (x * p == p) ≡ (x == 1)

@@ -1,7 +1,7 @@
 use Rattle.std.proofs.Common.{◌≡◌, ◌-◌, take, false, arith, rules, refl, drop, set}
 use Rattle.std.specs.Fmt.{digits}
-use Rattle.dexclass.proofs.Hexadecimal.{none_yet, one_more, all_digits, has_place, fits_less}
-use Rattle.dexclass.proofs.flags_text.put_hexadecimal.Goals as goal
+use Rattle.dexflags.proofs.Hexadecimal.{none_yet, one_more, all_digits, has_place, fits_less}
+use Rattle.dexflags.proofs.flags_text.put_hexadecimal.Goals as goal
 
 pub loop-rest-init : goal.loop-rest-init
 loop-rest-init c = record { len = refl; place = omega arith; written = none_yet c.args.number; fits = omega arith }

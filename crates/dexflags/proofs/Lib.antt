@@ -1,0 +1,5 @@
+pub mod SingleBits
+pub mod Growing
+pub mod Hexadecimal
+pub mod Composed
+pub mod FlagTables

@@ -1,2 +1,4 @@
 pub mod Ends
+pub mod OwnParts
+pub mod OwnSteps
 pub mod Owned

@@ -1,3 +1,4 @@
 pub mod Places
 pub mod Running
 pub mod Laid
+pub mod Parts

@@ -11,12 +11,14 @@ mod debugs;
 mod directories;
 mod layout;
 mod laying;
+mod map_entries;
 mod offsets;
 mod ref_lists;
 mod sets;
 mod shared_sets;
 mod static_values;
 mod strings;
+mod tables;
 mod type_lists;
 
 pub use annotations::Annotations;

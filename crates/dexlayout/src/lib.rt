@@ -7,6 +7,7 @@
 mod annotations;
 mod class_data;
 mod codes;
+mod data;
 mod debugs;
 mod directories;
 mod layout;

@@ -1,6 +1,6 @@
 //! The map of a file.
 
-ghost use Rattle.std.specs.Prelude.{◌≡◌, ◌^◌, ◌<◌, ◌+◌, [], ◌∷◌, ◌++◌, length, map, IfOk, OnOk};
+ghost use Rattle.std.specs.Prelude.{◌≡◌, ◌<◌, ◌+◌, [], ◌∷◌, ◌++◌, length, map, IfOk, OnOk};
 ghost use Rattle.std.specs.List.{flat_map};
 ghost use Rattle.dexspec.specs.Sections as kinds;
 ghost use Rattle.dexhead.specs.Written.{entry_meant};
@@ -11,11 +11,10 @@ use dexhead::{MapEntry, Section};
 use std::alloc::{AllocError, Global};
 
 /// How many items there are: as many as offsets that are not 0.
-pub(crate) fn count_placed(offsets: &[u32]) -> u32
-    requires { length offsets.now < 2 ^ 32 }
+pub(crate) fn count_placed(offsets: &[u32]) -> usize
     ensures { result ≡ count_placed offsets.now }
 {
-    offsets.iter().filter(|off| **off != 0).count() as u32
+    offsets.iter().filter(|off| **off != 0).count()
 }
 
 /// The entries of a map: the header's, those of the parts that are not empty, tables before sections, and the map's own.

@@ -1,12 +1,12 @@
 //! Where the arrays of static values stand.
 
 ghost use Rattle.std.specs.Prelude.{◌≡◌, IfOk};
+ghost use Rattle.dexspec.specs.Mentions.{Mentions};
 ghost use Rattle.dexspec.specs.Canonical.{annotation_end, array_end, array_offsets, array_section};
 ghost use Rattle.dexlayout.specs.Laid.{AreWritable, StandSo, ordered_of};
 
 use crate::offsets::Offsets;
 use dexclass::Class;
-use dexpool::Numbering;
 use std::alloc::{AllocError, Global};
 
 /// Where the arrays of static values stand, for each class, behind the annotations.
@@ -16,13 +16,11 @@ use std::alloc::{AllocError, Global};
 /// Source: "encoded_array_item".
 pub(crate) fn place_static_values(
     alloc: Global,
-    numbering: &Numbering<'_>,
     classes: &[Class<'_>],
     from: u32,
 ) -> Result<Offsets, AllocError>
-    requires classes { AreWritable numbering.now classes.now }
-    requires from { from ≡ annotation_end (ordered_of numbering.now classes.now) }
-    ensures { IfOk result (StandSo (array_offsets (ordered_of numbering.now classes.now)) (array_end (ordered_of numbering.now classes.now)) (array_section (ordered_of numbering.now classes.now)).items) }
+    requires { (m : Mentions) × AreWritable m classes.now × (from ≡ annotation_end (ordered_of m classes.now)) }
+    ensures { IfOk result (λ places. (m : Mentions) → AreWritable m classes.now → from ≡ annotation_end (ordered_of m classes.now) → StandSo (array_offsets (ordered_of m classes.now)) (array_end (ordered_of m classes.now)) (array_section (ordered_of m classes.now)).items places) }
 {
     Err(AllocError)
 }

@@ -2,3 +2,8 @@ pub mod Ends
 pub mod OwnParts
 pub mod OwnSteps
 pub mod Owned
+pub mod SharedIdentity
+pub mod SharedKinds
+pub mod SharedPlaces
+pub mod SharedSame
+pub mod SharedUses

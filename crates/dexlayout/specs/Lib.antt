@@ -2,3 +2,6 @@ pub mod Places
 pub mod Running
 pub mod Laid
 pub mod Parts
+pub mod ListKeys
+pub mod Sharing
+pub mod SharedUses

@@ -1,5 +1,6 @@
 pub mod Ends
 pub mod OwnParts
+pub mod OwnSizes
 pub mod OwnSteps
 pub mod Owned
 pub mod SharedIdentity

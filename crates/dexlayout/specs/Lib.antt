@@ -1,5 +1,6 @@
 pub mod Places
 pub mod Running
+pub mod Sizes
 pub mod Laid
 pub mod Parts
 pub mod ListKeys

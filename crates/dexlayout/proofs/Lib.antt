@@ -1,5 +1,6 @@
 pub mod Ends
 pub mod OwnParts
+pub mod OwnSizes
 pub mod OwnSteps
 pub mod Owned
 pub mod SetAnnotations
@@ -9,3 +10,8 @@ pub mod SetLists
 pub mod SetParts
 pub mod SetsGathered
 pub mod SetsStand
+pub mod SharedIdentity
+pub mod SharedKinds
+pub mod SharedPlaces
+pub mod SharedSame
+pub mod SharedUses

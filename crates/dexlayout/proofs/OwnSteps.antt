@@ -1,12 +1,13 @@
 -- Items that are placed one after the other by a loop: what is still to be placed.
 use Rattle.std.proofs.Common.{◌≡◌, ℕ, ◌+◌, ◌<◌, ◌≤◌, max, List, [], ◌∷◌, ◌++◌, length, get_or, map, drop, Option, Some, refl, sym, ap, ◌∙◌, arith, append_assoc}
+use Rattle.std.specs.List.{flat_map}
 use Rattle.std.proofs.lemmas.List.{append-nil, drop_more, drop_all}
 use Rattle.dexspec.specs.Bytes.{round_up}
 use Rattle.dexspec.specs.Placing.{offsets_from, end_from}
 use Rattle.dexlayout.specs.Places.{ItemPlaces}
 use Rattle.dexlayout.specs.Running.{none_from, put_at, place_use, place_uses}
 use Rattle.dexlayout.specs.Laid.{greatest_of, StandSo}
-use Rattle.dexlayout.proofs.Owned.{place_grows}
+use Rattle.dexlayout.proofs.Owned.{place_append, place_grows}
 
 -- an item that is not aligned stands where the one before it ends
 pub put_plain : (p : ItemPlaces) (len : ℕ) → place_use 1 p (Some len) ≡ put_at p p.end len
@@ -16,6 +17,25 @@ put_plain p len = let here : round_up 1 p.end ≡ p.end = omega arith in ap (λ 
 pub left_next : {X : Type 0} (align : ℕ) (size : X → Option ℕ) (p : ItemPlaces) (xs : List X) (i : ℕ) (x : X) → i < length xs → get_or xs i x ≡ x
     → place_uses align p (map size (drop i xs)) ≡ place_uses align (place_use align p (size x)) (map size (drop (i + 1) xs))
 left_next align size p xs i x lt is = ap (λ ys. place_uses align p (map size ys)) (drop_more xs i x lt ∙ ap (λ y. y ∷ drop (i + 1) xs) is)
+
+-- it fits
+pub left_fits : {X : Type 0} {all : ItemPlaces} (align : ℕ) (size : X → Option ℕ) (p : ItemPlaces) (xs : List X) (i : ℕ) (x : X) → i < length xs → get_or xs i x ≡ x → place_uses align p (map size (drop i xs)) ≡ all
+    → (place_use align p (size x)).end ≤ all.end
+left_fits align size p xs i x lt is leads =
+    let e = ap (λ (q : ItemPlaces). q.end) (sym (left_next align size p xs i x lt is) ∙ leads) in
+    omega (arith, e, place_grows align (place_use align p (size x)) (map size (drop (i + 1) xs)))
+
+-- the same where each has several uses
+pub several_next : {X : Type 0} (align : ℕ) (several : X → List (Option ℕ)) (p : ItemPlaces) (xs : List X) (i : ℕ) (x : X) → i < length xs → get_or xs i x ≡ x
+    → place_uses align p (flat_map several (drop i xs)) ≡ place_uses align (place_uses align p (several x)) (flat_map several (drop (i + 1) xs))
+several_next align several p xs i x lt is =
+    ap (λ ys. place_uses align p (flat_map several ys)) (drop_more xs i x lt ∙ ap (λ y. y ∷ drop (i + 1) xs) is) ∙ place_append align p (several x) (flat_map several (drop (i + 1) xs))
+
+pub several_fit : {X : Type 0} {all : ItemPlaces} (align : ℕ) (several : X → List (Option ℕ)) (p : ItemPlaces) (xs : List X) (i : ℕ) (x : X) → i < length xs → get_or xs i x ≡ x → place_uses align p (flat_map several (drop i xs)) ≡ all
+    → (place_uses align p (several x)).end ≤ all.end
+several_fit align several p xs i x lt is leads =
+    let e = ap (λ (q : ItemPlaces). q.end) (sym (several_next align several p xs i x lt is) ∙ leads) in
+    omega (arith, e, place_grows align (place_uses align p (several x)) (flat_map several (drop (i + 1) xs)))
 
 -- none is left
 pub left_none : {X : Type 0} (align : ℕ) (size : X → Option ℕ) (p : ItemPlaces) (xs : List X) (i : ℕ) → length xs ≤ i → place_uses align p (map size (drop i xs)) ≡ p

@@ -10,7 +10,7 @@ use Rattle.dexspec.specs.Canonical.{layout, map_of, data_sections, type_list_ite
 use Rattle.dexhead.specs.Laid.{TellsLayout, map_start, map_list}
 use Rattle.dexpool.specs.Numberings.{IsNumbering}
 use Rattle.dexval.specs.Numbered.{set_in, IsKnownSet}
-use Rattle.dexcode.specs.Meaning.{debug_in}
+use Rattle.dexcode.specs.Meaning.{debug_in, IsKnownDebug}
 use Rattle.dexclass.specs.Numbered.{NumberedClass, definition_of, type_at}
 use Rattle.dexclass.specs.Uses.{IsKnownClass}
 use Rattle.dexlayout.specs.Places.{ItemPlaces, TypeListPlaces, AnnotationPlaces, DebugPlaces, SetPlaces, Places}
@@ -77,6 +77,7 @@ pub record AreAnnotations (m : Mentions) (cs : List NumberedClass) (p : Annotati
 -- the debug programs
 pub record AreDebugs (m : Mentions) (cs : List NumberedClass) (p : DebugPlaces) : Type 0 where
   pub written_are : map (debug_in m) p.written ≡ (debug_items (ordered_of m cs)).written
+  pub known : All (IsKnownDebug m) p.written
   pub places_are : StandSo (debug_offsets (ordered_of m cs)) (debug_end (ordered_of m cs)) (debug_section (ordered_of m cs)).items p.places
 
 -- the sets

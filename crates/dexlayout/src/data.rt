@@ -75,8 +75,7 @@ pub(crate) fn place_data<'p>(
         &numbers,
         class_data.end(),
     )?;
-    let methods = codes.offsets().len();
-    let ref_lists = place_ref_lists(alloc, numbering, classes, methods, sets.end())?;
+    let ref_lists = place_ref_lists(alloc, numbering, classes, sets.methods().len(), sets.end())?;
     let directories = place_directories(
         alloc,
         numbering,

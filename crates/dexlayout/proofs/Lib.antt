@@ -1,5 +1,6 @@
 pub mod Ends
 pub mod OwnCounts
+pub mod OwnFile
 pub mod OwnParts
 pub mod OwnSizes
 pub mod OwnSteps

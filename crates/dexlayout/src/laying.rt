@@ -48,7 +48,7 @@ pub(crate) fn lay<'p>(
         static_values: data.static_values,
         strings: data.strings,
         debugs: data.debugs,
-        codes: data.codes,
+        code_items: data.codes,
         class_data: data.class_data,
         sets: data.sets,
         ref_lists: data.ref_lists,

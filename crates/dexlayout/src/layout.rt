@@ -33,7 +33,7 @@ pub struct Layout<'p> {
     pub(crate) static_values: Offsets,
     pub(crate) strings: Offsets,
     pub(crate) debugs: DebugPrograms<'p>,
-    pub(crate) codes: Offsets,
+    pub(crate) code_items: Offsets,
     pub(crate) class_data: Offsets,
     pub(crate) sets: Sets,
     pub(crate) ref_lists: Offsets,
@@ -53,7 +53,7 @@ impl<'p> Model for Layout<'p> {
 
     ghost coded = { Prim.hlevel (codes, elements_code) };
 
-    ghost view = { λ l. record { head = l.head; type_lists = l.type_lists; annotations = l.annotations; static_values = l.static_values; strings = l.strings; debugs = l.debugs; codes = l.codes; class_data = l.class_data; sets = l.sets; ref_lists = l.ref_lists; directories = l.directories; entries = map entry_meant l.entries.items; greatest = l.greatest } };
+    ghost view = { λ l. record { head = l.head; type_lists = l.type_lists; annotations = l.annotations; static_values = l.static_values; strings = l.strings; debugs = l.debugs; codes = l.code_items; class_data = l.class_data; sets = l.sets; ref_lists = l.ref_lists; directories = l.directories; entries = map entry_meant l.entries.items; greatest = l.greatest } };
 }
 
 impl<'p> Layout<'p> {
@@ -126,7 +126,7 @@ impl<'p> Layout<'p> {
     pub fn codes(&self) -> &Offsets
         ensures { result.now ≡ self.now.codes }
     {
-        &self.codes
+        &self.code_items
     }
 
     /// Where the class data of each class stand.

@@ -45,9 +45,13 @@ max_more ns r s n a b er es ea eb = omega (arith, er, es, ea, eb, max_of_last ns
 
 -- ---- offsets of items
 
+-- nothing before
+plus_zero : (n : ℕ) → 0 + n ≡ n
+plus_zero n = omega arith
+
 -- an offset more
 count_more : (offs : List ℕ) (o : ℕ) (b : Bool) → not (o == 0) ≡ b → count_placed (offs ++ o ∷ []) ≡ count_placed offs + cond b 1 0
-count_more offs o b e = sum_by-append (λ (k : ℕ). cond (not (k == 0)) 1 0) offs (o ∷ []) ∙ ap (λ c. count_placed offs + cond c 1 0) e
+count_more offs o b e = sum_by-append (λ (k : ℕ). cond (not (k == 0)) 1 0) offs (o ∷ []) ∙ ap (λ n. count_placed offs + n) (plus_zero (cond (not (o == 0)) 1 0)) ∙ ap (λ c. count_placed offs + cond c 1 0) e
 
 -- that of an item
 count_item : (offs : List ℕ) (o : ℕ) → 0 < o → count_placed (offs ++ o ∷ []) ≡ count_placed offs + 1
@@ -69,7 +73,7 @@ module _ {X : Type 0} (f : X → List ℕ) (align : ℕ) where
   -- as many as items
   pub own_count : (from : ℕ) (us : List (Option X)) → 0 < from
       → count_placed (uses_offsets (own_items us).numbers (offsets_from align from (map f (own_items us).written))) ≡ length (map f (own_items us).written)
-  own_count from us some = ap count_placed (sym (own_stand f align from us).offsets_are) ∙ count_go us (none_from from) some ∙ sym (length-map (present us) f)
+  own_count from us some = ap count_placed (sym (own_stand f align from us).offsets_are) ∙ count_go us (none_from from) some ∙ plus_zero (length (present us)) ∙ sym (length-map (present us) f)
 
 -- ---- those of each section
 
@@ -183,7 +187,7 @@ few_items K ends =
       class_data = few 1 (code_end K) (class_data_end K) (class_data_section K).items h.1.1.1.1.1.1.1.0 ends.class_data (items_few 1 (code_end K) (class_data_section K).items (b 6 d (omega arith)));
       sets = few 4 (class_data_end K) (set_end K) (set_section K).items h.1.1.1.1.1.1.1.1.0 ends.sets (items_few 4 (class_data_end K) (set_section K).items (b 7 d (omega arith)));
       ref_lists = few 4 (set_end K) (ref_list_end K) (ref_list_section K).items h.1.1.1.1.1.1.1.1.1.0 ends.ref_lists (items_few 4 (set_end K) (ref_list_section K).items (b 8 d (omega arith)));
-      directories = few 4 (ref_list_end K) (directory_end K) (directory_section K).items h.1.1.1.1.1.1.1.1.1.1 ends.directories (items_few 4 (ref_list_end K) (directory_section K).items (b 9 d (omega arith)));
+      directories = few 4 (ref_list_end K) (directory_end K) (directory_section K).items (sym h.1.1.1.1.1.1.1.1.1.1) ends.directories (items_few 4 (ref_list_end K) (directory_section K).items (b 9 d (omega arith)));
     }
 
 -- ---- texts

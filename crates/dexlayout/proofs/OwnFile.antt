@@ -10,10 +10,10 @@ use Rattle.dexspec.specs.Files.{Collection, definitions}
 use Rattle.dexspec.specs.Mentions.{Mentions, mentions}
 use Rattle.dexspec.specs.Merging.{Caps, greatest_caps, AreCaps, Fits}
 use Rattle.dexspec.specs.Placing.{Ordered, EqualOnce}
-use Rattle.dexspec.specs.Canonical.{Layout, layout, map_of, map_bytes, map_entry_bytes, unsigned_file, with_sums, ordered, canonical, data_sections, type_list_items, type_list_section, type_list_offsets, type_list_end, set_items, annotation_section, annotation_end, array_section, array_offsets, array_end, string_section, string_end, debug_items, debug_section, debug_offsets, debug_end, code_section, code_offsets, code_end, class_data_section, class_data_offsets, class_data_end, set_section, set_offsets, set_end, ref_list_section, ref_list_offsets, ref_list_end, directory_section, directory_offsets, directory_end}
+use Rattle.dexspec.specs.Canonical.{Layout, layout, map_of, map_bytes, map_entry_bytes, unsigned_file, with_sums, ordered, canonical, data_start, data_sections, type_list_items, type_list_section, type_list_offsets, type_list_end, set_items, annotation_section, annotation_end, array_section, array_offsets, array_end, string_section, string_end, debug_items, debug_section, debug_offsets, debug_end, code_section, code_offsets, code_end, class_data_section, class_data_offsets, class_data_end, set_section, set_offsets, set_end, ref_list_section, ref_list_offsets, ref_list_end, directory_section, directory_offsets, directory_end}
 use Rattle.dexspec.proofs.ByteNumbers.{length-uint, length-ushort}
 use Rattle.dexspec.proofs.Stands.{length_rows}
-use Rattle.dexspec.proofs.Laying.{map_place, map_place_is, map_list_named, parts}
+use Rattle.dexspec.proofs.Laying.{data_before_map, map_place, map_place_is, map_list_named, parts}
 use Rattle.dexhead.specs.Laid.{TellsLayout, map_start, map_list}
 use Rattle.dexpool.specs.Numberings.{IsNumbering}
 use Rattle.dexclass.specs.Numbered.{NumberedClass, definition_of}
@@ -121,6 +121,10 @@ module _ (m : Mentions) (cs ds : List NumberedClass) (e : ordered_of m cs ≡ or
     entries_are = h.entries_are ∙ ap (λ (K : Ordered). map_of K (layout K) (map_start K)) e;
     greatest_is = h.greatest_is ∙ ap greatest_item e;
   }
+
+-- the data begin before the map
+pub data_before : (K : Ordered) → data_start K ≤ map_start K
+data_before K = omega (arith, data_before_map K, places_same K)
 
 -- ---- the map
 

@@ -7,9 +7,9 @@ use Rattle.dexhead.specs.Laid.{map_start, map_list}
 use Rattle.dexhead.specs.Written.{entry_meant}
 use Rattle.dexlayout.specs.Laid.{ordered_of, greatest_in, StandSo}
 use Rattle.dexlayout.proofs.Ends.{end_in_file, map_start_is, chained}
-use Rattle.dexlayout.proofs.OwnFile.{entries_same, map_size_is}
+use Rattle.dexlayout.proofs.OwnFile.{entries_same, map_size_is, data_before}
 use Rattle.dexlayout.proofs.laying.lay.Goals as goal
-use Rattle.dexlayout.proofs.laying.lay.Goals.{After-round_up-map_off, After-len}
+use Rattle.dexlayout.proofs.laying.lay.Goals.{After-len}
 
 pub round_up-map_off-requires : goal.round_up-map_off-requires
 round_up-map_off-requires c =
@@ -18,12 +18,6 @@ round_up-map_off-requires c =
 
 pub entries-sections-requires : goal.entries-sections-requires
 entries-sections-requires c = (c.args.classes.now, c.requires, c.in_ok-data.ensures, c.of-tables.ensures.end_is)
-
--- where the map begins
-map_begins : (c : After-round_up-map_off) → c.round_up-map_off.result ≡ map_start (ordered_of c.args.numbering.now c.args.classes.now)
-map_begins c =
-    let K = ordered_of c.args.numbering.now c.args.classes.now in
-    c.round_up-map_off.ensures ∙ ap (round_up 4) (c.end.ensures ∙ c.in_ok-data.ensures.directories_are.end_is) ∙ sym (map_start_is K)
 
 -- the map
 entries_are : (c : After-len) → map entry_meant c.in_ok-entries.entries.items ≡ map_of (ordered_of c.args.numbering.now c.args.classes.now) (layout (ordered_of c.args.numbering.now c.args.classes.now)) (map_start (ordered_of c.args.numbering.now c.args.classes.now))
@@ -45,6 +39,25 @@ small c =
     let K = ordered_of c.args.numbering.now c.args.classes.now in
     let map_is = c.round_up-map_off.ensures ∙ ap (round_up 4) (c.end.ensures ∙ c.in_ok-data.ensures.directories_are.end_is) ∙ sym (map_start_is K) in
     omega (arith, map_is, map_size c, c.requires.fits)
+
+pub overflow_cast-map_size : goal.overflow_cast-map_size
+overflow_cast-map_size c = omega (arith, small ((goal.at.overflow_cast-map_size c).After-len))
+
+pub overflow_mul-map_size : goal.overflow_mul-map_size
+overflow_mul-map_size c = omega (arith, small ((goal.at.overflow_mul-map_size c).After-len))
+
+pub overflow_add-map_size : goal.overflow_add-map_size
+overflow_add-map_size c = omega (arith, small ((goal.at.overflow_add-map_size c).After-len))
+
+pub overflow_add-file_size : goal.overflow_add-file_size
+overflow_add-file_size c = omega (arith, small ((goal.at.overflow_add-file_size c).After-len))
+
+pub overflow_sub-head : goal.overflow_sub-head
+overflow_sub-head c =
+    let here = (goal.at.overflow_sub-head c).After-len in
+    let K = ordered_of c.args.numbering.now c.args.classes.now in
+    let map_is = c.round_up-map_off.ensures ∙ ap (round_up 4) (c.end.ensures ∙ c.in_ok-data.ensures.directories_are.end_is) ∙ sym (map_start_is K) in
+    omega (arith, c.of-tables.ensures.end_is, map_is, data_before K)
 
 pub returns : goal.returns
 returns c =

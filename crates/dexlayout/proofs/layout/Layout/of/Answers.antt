@@ -32,6 +32,12 @@ returns-clause-writable c = λ cs of.
     let numbering = subst IsNumbering c.numbering-numbering.ensures c.is_numbering.ensures in
     (writable C cs numbering c.is_good.ensures.good.fits c.fitting_size_law.ensures.canonical of, ordered_is C cs of)
 
+pub returns-in_err-layout-clause-writable : goal.returns-in_err-layout-clause-writable
+returns-in_err-layout-clause-writable c = λ cs of.
+    let C = c.args.program.now in
+    let numbering = subst IsNumbering c.numbering-numbering.ensures c.is_numbering.ensures in
+    (writable C cs numbering c.is_good.ensures.good.fits c.fitting_size_law.ensures.canonical of, ordered_is C cs of)
+
 pub returns-clause-len : goal.returns-clause-len
 returns-clause-len c =
     let C = c.args.program.now in

@@ -20,11 +20,14 @@ flat_mapped g [] = refl
 flat_mapped g (x ∷ xs) = ap (λ ys. g x ++ ys) (flat_mapped g xs)
 
 annotations_flat : (xs : List (Bor AnnotationSet)) (ws : List NumberedSet) → map (λ s. set_of s.now) xs ≡ ws → length (flat_map (λ s. set_of s.now) xs) ≡ length (flat_map (λ (set : NumberedSet). set) ws)
-annotations_flat xs ws e = ap (λ as. length as) (flat_mapped (λ (s : Bor AnnotationSet). set_of s.now) xs) ∙ ap (λ (ss : List NumberedSet). length (flat_map (λ (set : NumberedSet). set) ss)) e
+annotations_flat xs ws e = ap (λ l. length l) (flat_mapped (λ (s : Bor AnnotationSet). set_of s.now) xs) ∙ ap (λ (ss : List NumberedSet). length (flat_map (λ (set : NumberedSet). set) ss)) e
 
 -- an entry, of equal numbers
-same_entry : (s : Section) (n n' o o' : ℕ) → n ≡ n' → o ≡ o' → (s, n, o) ≡ (s, n', o')
-same_entry s n n' o o' en eo = λ i. (s, en i, eo i)
+abbrev entry_with : Section → ℕ → ℕ → Section × ℕ × ℕ
+entry_with s n o = (s, n, o)
+
+same_entry : (s : Section) (n n' o o' : ℕ) → n ≡ n' → o ≡ o' → entry_with s n o ≡ entry_with s n' o'
+same_entry s n n' o o' en eo = ap (λ k. entry_with s k o) en ∙ ap (entry_with s n') eo
 
 -- what is not aligned
 plain : (n : ℕ) → n ≡ round_up 1 n

@@ -90,10 +90,10 @@ known_size own f g h a b c bytes fa gb hc af bg ch size = by (own + (f + (g + h)
         sym (cond-true (own + (a + b + c) == 0) None (Some (16 + 8 * (a + b + c))) (eq-eqb (own + (a + b + c)) 0 nothing))
     by false e size =
         let some : 0 < own + (a + b + c) = positive (own + (a + b + c)) (λ n.
-          let none : own + (f + (g + h)) ≡ 0 = omega (arith, n, af (omega (arith, n)), bg (omega (arith, n)), ch (omega (arith, n))) in
-          let is : (own + (f + (g + h)) == 0) ≡ true = eq-eqb (own + (f + (g + h))) 0 none in
-          let z : true ≡ false = sym is ∙ e in
-          cc) in
+        let none : own + (f + (g + h)) ≡ 0 = omega (arith, n, af (omega (arith, n)), bg (omega (arith, n)), ch (omega (arith, n))) in
+        let is : (own + (f + (g + h)) == 0) ≡ true = eq-eqb (own + (f + (g + h))) 0 none in
+        let z : true ≡ false = sym is ∙ e in
+        cc) in
         ap Some (size refl) ∙ sym (cond-false (own + (a + b + c) == 0) None (Some (16 + 8 * (a + b + c))) (not_zero (own + (a + b + c)) some))
 
 -- a class without one is passed
@@ -220,8 +220,8 @@ module _ (m : Mentions) (ranks : RanksAreNumbers m) where
       known_size s.own (length (pairs fis s.fields)) (length (pairs mis firsts)) (length (pairs mis lists)) (count_placed s.fields) (count_placed firsts) (count_placed lists) _
       (no_pairs fis s.fields fl) (no_pairs mis firsts ml) (no_pairs mis lists ll) (none_placed fis s.fields fl) (none_placed mis firsts ml) (none_placed mis lists ll)
       (λ there.
-        ap (λ (l : List ℕ). length l) (sym (spelled.directory_spelled m ranks name d.1 c.members s.own s.fields firsts lists s _ known.members_known known.members_ordered known.members_own refl many_fields first_count many_lists refl refl refl there))
-        ∙ spelled.directory_size c.members s.own s.fields firsts lists many_fields first_count many_lists)
+      ap (λ (l : List ℕ). length l) (sym (spelled.directory_spelled m ranks name d.1 c.members s.own s.fields firsts lists s _ known.members_known known.members_ordered known.members_own refl many_fields first_count many_lists refl refl refl there))
+      ∙ spelled.directory_size c.members s.own s.fields firsts lists many_fields first_count many_lists)
 
   -- the directories of all classes
   all_directories : (cs : List NumberedClass) → All (IsKnownClass m) cs → (offs lists : List ℕ) → length (flat_map sets_of_class cs) ≤ length offs → length (flat_map (λ c. methods_of c.members) cs) ≤ length lists

@@ -99,9 +99,9 @@ pub numbers_within : (K : Ordered) → All (λ n. IfSome n (λ i. i < length (se
 numbers_within K =
     let are = items_numbered K.sharing same_set set_decides (set_uses K) in
     λ k d lt.
-        let there : k < length (set_uses K) = omega (arith, lt, are.count) in
-        let n = (set_items K).numbers in
-        subst (λ o. IfSome o (λ i. i < length (set_items K).written)) (get_or_default n k None d lt) (is_within (get_or (set_uses K) k None) (get_or n k None) (set_items K).written (are.each k there))
+    let there : k < length (set_uses K) = omega (arith, lt, are.count) in
+    let n = (set_items K).numbers in
+    subst (λ o. IfSome o (λ i. i < length (set_items K).written)) (get_or_default n k None d lt) (is_within (get_or (set_uses K) k None) (get_or n k None) (set_items K).written (are.each k there))
 
 -- ---- all sets
 

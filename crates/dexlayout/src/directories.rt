@@ -72,7 +72,14 @@ pub(crate) fn place_directories(
         let (field_offs, fields_left) = fields.split_at(field_count);
         let (method_offs, methods_left) = methods.split_at(method_count);
         let (list_offs, lists_left) = lists.split_at(method_count);
-        place_directory(members, own[i], field_offs, method_offs, list_offs, &mut places)?;
+        place_directory(
+            members,
+            own[i],
+            field_offs,
+            method_offs,
+            list_offs,
+            &mut places,
+        )?;
         fields = fields_left;
         methods = methods_left;
         lists = lists_left;

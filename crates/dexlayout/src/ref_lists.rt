@@ -47,8 +47,8 @@ fn place_class_lists(class: &Class<'_>, places: &mut Offsets) -> Result<(), Allo
     place_lists(members.virtual_methods(), places)
 }
 
-/// Where the list of the sets of the parameters of each method stands, behind the sets, of which it has the offsets. There are so
-/// many methods in all.
+/// Where the list of the sets of the parameters of each method stands, behind the sets. Memory is taken for so many methods at
+/// once.
 ///
 /// Error: memory was refused.
 ///

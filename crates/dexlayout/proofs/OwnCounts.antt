@@ -1,5 +1,5 @@
 -- How many items each section of the data has, and how long the longest of several is.
-use Rattle.std.proofs.Common.{◌≡◌, ℕ, suc, ◌+◌, ◌<◌, ◌≤◌, ◌^◌, max, Bool, true, false, cond, List, [], ◌∷◌, ◌++◌, length, map, Option, None, Some, refl, sym, ap, ◌∙◌, arith}
+use Rattle.std.proofs.Common.{◌≡◌, ℕ, ◌+◌, ◌<◌, ◌≤◌, ◌^◌, max, Bool, true, false, cond, List, [], ◌∷◌, ◌++◌, length, map, Option, None, Some, refl, sym, ap, ◌∙◌, arith}
 use Rattle.std.specs.Prelude.{◌==◌, not}
 use Rattle.std.specs.List.{flat_map}
 use Rattle.std.proofs.lemmas.Bool.{ne_eqb}
@@ -12,7 +12,7 @@ use Rattle.dexspec.specs.Classes.{Definition}
 use Rattle.dexspec.specs.Mentions.{Mentions}
 use Rattle.dexspec.specs.Texts.{string_data}
 use Rattle.dexspec.specs.Spellings.{code_bytes, encoded_array_bytes, class_data_bytes, offsets_bytes, type_list_bytes, annotation_bytes, debug_bytes}
-use Rattle.dexspec.specs.Annotations.{Annotation, AnnotationSet}
+use Rattle.dexspec.specs.Annotations.{AnnotationSet}
 use Rattle.dexspec.specs.Placing.{own_items, uses_offsets, offsets_from, end_from, offsets, Ordered, static_values_uses, code_uses, class_data_uses, ref_list_uses, directory_uses}
 use Rattle.dexspec.specs.Canonical.{data_start, type_list_items, type_list_section, type_list_end, set_items, annotation_section, annotation_end, annotation_offsets, array_section, array_offsets, array_end, string_section, string_end, debug_items, debug_section, debug_end, debug_offsets, code_section, code_offsets, code_end, class_data_section, class_data_offsets, class_data_end, set_section, set_offsets, set_end, ref_list_section, ref_list_offsets, ref_list_end, directory_section, directory_offsets, directory_end}
 use Rattle.dexspec.proofs.Places.{length-padding, items_few}

@@ -1,24 +1,24 @@
 -- The file of a program's classes: it is written where the program is good, and is as long as a layout tells.
-use Rattle.std.proofs.Common.{◌≡◌, ℕ, ◌+◌, ◌*◌, ◌≤◌, ◌^◌, List, [], ◌∷◌, ◌++◌, length, map, refl, sym, ap, subst, ◌∙◌, arith}
-use Rattle.std.specs.List.{All, flat_map}
+use Rattle.std.proofs.Common.{◌≡◌, ℕ, ◌+◌, ◌*◌, ◌≤◌, List, [], ◌∷◌, ◌++◌, length, map, sym, ap, subst, ◌∙◌, arith}
+use Rattle.std.specs.List.{flat_map}
 use Rattle.std.specs.Prelude.{slice_index, drop}
 use Rattle.std.proofs.lemmas.List.{length-append}
-use Rattle.dexspec.specs.Bytes.{uint, round_up}
+use Rattle.dexspec.specs.Bytes.{uint}
 use Rattle.dexspec.specs.Header.{HasSize}
 use Rattle.dexspec.specs.Sections.{Section, HeaderItem, MapList}
 use Rattle.dexspec.specs.Files.{Collection, definitions}
 use Rattle.dexspec.specs.Mentions.{Mentions, mentions}
 use Rattle.dexspec.specs.Merging.{Caps, greatest_caps, AreCaps, Fits}
 use Rattle.dexspec.specs.Placing.{Ordered, EqualOnce}
-use Rattle.dexspec.specs.Canonical.{Layout, layout, map_of, map_bytes, map_entry_bytes, unsigned_file, with_sums, ordered, canonical, data_start, data_sections, type_list_items, type_list_section, type_list_offsets, type_list_end, set_items, annotation_section, annotation_end, array_section, array_offsets, array_end, string_section, string_end, debug_items, debug_section, debug_offsets, debug_end, code_section, code_offsets, code_end, class_data_section, class_data_offsets, class_data_end, set_section, set_offsets, set_end, ref_list_section, ref_list_offsets, ref_list_end, directory_section, directory_offsets, directory_end}
+use Rattle.dexspec.specs.Canonical.{layout, map_of, map_bytes, map_entry_bytes, unsigned_file, with_sums, ordered, canonical, data_start, type_list_items, type_list_section, type_list_offsets, type_list_end, set_items, annotation_section, annotation_end, array_section, array_offsets, array_end, string_section, string_end, debug_items, debug_section, debug_offsets, debug_end, code_section, code_offsets, code_end, class_data_section, class_data_offsets, class_data_end, set_section, set_offsets, set_end, ref_list_section, ref_list_offsets, ref_list_end, directory_section, directory_offsets, directory_end}
 use Rattle.dexspec.proofs.ByteNumbers.{length-uint, length-ushort}
 use Rattle.dexspec.proofs.Stands.{length_rows}
 use Rattle.dexspec.proofs.Laying.{data_before_map, map_place, map_place_is, map_list_named, parts}
 use Rattle.dexhead.specs.Laid.{TellsLayout, map_start, map_list}
 use Rattle.dexpool.specs.Numberings.{IsNumbering}
-use Rattle.dexclass.specs.Numbered.{NumberedClass, definition_of}
+use Rattle.dexclass.specs.Numbered.{NumberedClass}
 use Rattle.dexclass.specs.Programs.{AreClassesOf}
-use Rattle.dexlayout.specs.Places.{ItemPlaces, TypeListPlaces, AnnotationPlaces, DebugPlaces, SetPlaces, Places}
+use Rattle.dexlayout.specs.Places.{TypeListPlaces, AnnotationPlaces, DebugPlaces, SetPlaces, Places}
 use Rattle.dexlayout.specs.Laid.{ordered_of, file_end, AreWritable, greatest_of, greatest_item, first_offsets, StandSo, AreTypeLists, AreAnnotations, AreDebugs, AreSets, IsLaid}
 use Rattle.dexlayout.specs.Parts.{entry_of, table_parts, section_parts}
 use Rattle.dexlayout.proofs.Ends.{map_start_is}

@@ -70,11 +70,7 @@ fn field_count(members: &Members<'_>) -> usize
 }
 
 // The data of one class behind the others.
-fn place_item(
-    class: &Class<'_>,
-    code_offs: &[u32],
-    places: &mut Offsets,
-) -> Result<(), AllocError>
+fn place_item(class: &Class<'_>, code_offs: &[u32], places: &mut Offsets) -> Result<(), AllocError>
     requires offsets { length code_offs.now ≡ length (methods_of class.now.members) }
     requires fits { (place_use 1 places.old (class_data_size class.now code_offs.now)).end ≤ 2 ^ 30 }
     ensures { OnOk result (places.new ≡ place_use 1 places.old (class_data_size class.now code_offs.now)) }

@@ -1,6 +1,4 @@
-use Rattle.std.proofs.Common.{◌≡◌, length, drop}
-use Rattle.std.specs.List.{flat_map}
-use Rattle.dexmembers.specs.Numbered.{methods_of}
+use Rattle.std.proofs.Common.{drop}
 use Rattle.dexlayout.specs.Running.{none_from, place_uses}
 use Rattle.dexlayout.specs.Sizes.{class_data_sizes}
 use Rattle.dexlayout.proofs.class_data.place_items.Given as goal

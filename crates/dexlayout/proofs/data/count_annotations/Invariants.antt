@@ -1,4 +1,4 @@
-use Rattle.std.proofs.Common.{◌≡◌, ◌≤◌, ◌^◌, length, take, ◌+◌, drop}
+use Rattle.std.proofs.Common.{◌≡◌, length, ◌+◌, drop}
 use Rattle.std.specs.List.{flat_map}
 use Rattle.dexval.specs.Code.{set_of}
 use Rattle.dexlayout.proofs.data.count_annotations.Given as goal

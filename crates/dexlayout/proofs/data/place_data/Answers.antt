@@ -1,9 +1,7 @@
-use Rattle.std.proofs.Common.{◌≡◌, map, arith, ap, sym, subst, ◌∙◌}
-use Rattle.std.specs.List.{All}
+use Rattle.std.proofs.Common.{map, ap, ◌∙◌}
 use Rattle.std.proofs.lemmas.List.Elements.{All-map}
-use Rattle.dexspec.specs.Canonical.{set_items}
 use Rattle.dexval.specs.Code.{set_of}
-use Rattle.dexval.specs.Numbered.{set_in, IsKnownSet}
+use Rattle.dexval.specs.Numbered.{IsKnownSet}
 use Rattle.dexlayout.specs.Places.{ItemPlaces}
 use Rattle.dexlayout.specs.Laid.{ordered_of}
 use Rattle.dexlayout.proofs.Ends.{end_in_file}

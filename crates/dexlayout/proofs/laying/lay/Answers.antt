@@ -1,12 +1,12 @@
 use Rattle.std.proofs.Common.{◌≡◌, ℕ, ◌+◌, ◌*◌, ◌-◌, ◌≤◌, max, length, map, refl, arith, ap, sym, ◌∙◌}
 use Rattle.std.proofs.lemmas.List.{length-map}
 use Rattle.dexspec.specs.Bytes.{round_up}
-use Rattle.dexspec.specs.Canonical.{Layout, layout, map_of, data_sections, data_start, directory_end, string_end, string_section}
+use Rattle.dexspec.specs.Canonical.{Layout, layout, map_of, data_sections}
 use Rattle.dexspec.proofs.Placements.{layout_is}
 use Rattle.dexhead.specs.Laid.{map_start, map_list}
 use Rattle.dexhead.specs.Written.{entry_meant}
-use Rattle.dexlayout.specs.Laid.{ordered_of, greatest_in, StandSo}
-use Rattle.dexlayout.proofs.Ends.{end_in_file, map_start_is, chained}
+use Rattle.dexlayout.specs.Laid.{ordered_of, greatest_in}
+use Rattle.dexlayout.proofs.Ends.{end_in_file, map_start_is}
 use Rattle.dexlayout.proofs.OwnFile.{entries_same, map_size_is, data_before}
 use Rattle.dexlayout.proofs.laying.lay.Goals as goal
 use Rattle.dexlayout.proofs.laying.lay.Goals.{After-len}

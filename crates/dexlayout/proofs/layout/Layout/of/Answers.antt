@@ -1,12 +1,7 @@
-use Rattle.std.proofs.Common.{◌≡◌, List, sym, ap, subst, ◌∙◌}
-use Rattle.dexspec.specs.Files.{Collection, definitions}
+use Rattle.std.proofs.Common.{sym, ap, subst, ◌∙◌}
+use Rattle.dexspec.specs.Files.{definitions}
 use Rattle.dexspec.specs.Mentions.{mentions}
-use Rattle.dexspec.specs.Header.{HasSize}
-use Rattle.dexspec.specs.Merging.{Caps, greatest_caps, AreCaps, Fits}
-use Rattle.dexspec.specs.Canonical.{canonical}
 use Rattle.dexpool.specs.Numberings.{IsNumbering}
-use Rattle.dexclass.specs.Numbered.{NumberedClass}
-use Rattle.dexclass.specs.Programs.{AreClassesOf}
 use Rattle.dexlayout.specs.Laid.{AreWritable, IsLaid, file_end}
 use Rattle.dexlayout.proofs.OwnFile.{writable, ordered_is, laid_same, length_canonical}
 use Rattle.dexlayout.proofs.layout.Layout.of.Goals as goal

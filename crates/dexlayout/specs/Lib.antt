@@ -1,2 +1,11 @@
-pub mod Places
+pub mod Annotated
+pub mod Directories
+pub mod Gathering
 pub mod Laid
+pub mod ListKeys
+pub mod Parts
+pub mod Places
+pub mod Running
+pub mod SharedUses
+pub mod Sharing
+pub mod Sizes

@@ -1,15 +1,17 @@
 //! Where annotations stand: those of each annotation set that is written, set by set.
 
-ghost use Rattle.std.specs.Prelude.{◌≡◌, IfOk, List, map};
+ghost use Rattle.std.specs.Prelude.{◌≡◌, ◌+◌, ◌<◌, ◌≤◌, ◌^◌, All, IfOk, OnOk, List, map};
 ghost use Rattle.dexspec.specs.Canonical.{set_items, type_list_end};
 ghost use Rattle.dexval.specs.Code.{set_of};
-ghost use Rattle.dexval.specs.Numbered.{set_in};
+ghost use Rattle.dexval.specs.Numbered.{set_in, IsKnownSet};
+ghost use Rattle.dexlayout.specs.Annotated.{annotation_lens, begin_set, lengthen, place_set, place_sets};
+ghost use Rattle.dexlayout.specs.Running.{none_from};
 ghost use Rattle.dexlayout.specs.Laid.{AreWritable, AreAnnotations, ordered_of};
 ghost use Rattle.dexspec.specs.Mentions.{Mentions};
 ghost use Rattle.dexclass.specs.Numbered.{NumberedClass};
 
 use crate::offsets::Offsets;
-use dexval::AnnotationSet;
+use dexval::{AnnotationSet, annotation_size};
 use std::alloc::{AllocError, Global};
 use std::marker::Model;
 
@@ -53,15 +55,51 @@ impl<'p> Annotations<'p> {
     }
 }
 
-/// Where the annotations of sets stand, behind the type lists.
+impl Offsets {
+    // One set more: it has the offset of the first of its annotations.
+    fn begin_set(&mut self) -> Result<(), AllocError>
+        ensures { OnOk result (self.new ≡ begin_set self.old) }
+    {
+        self.offsets.push(self.end)?;
+        Ok(())
+    }
+
+    // One annotation more, of so many bytes, behind the others of its set.
+    fn lengthen(&mut self, len: u32)
+        requires { self.old.end + len < 2 ^ 32 }
+        ensures { self.new ≡ lengthen self.old len }
+    {
+        self.end += len;
+        self.greatest = self.greatest.max(len as usize);
+    }
+
+    // One set more, with its annotations.
+    fn place_set(&mut self, set: &AnnotationSet) -> Result<(), AllocError>
+        requires { (place_set self.old (annotation_lens (set_of set.now))).end ≤ 2 ^ 30 }
+        ensures { OnOk result (self.new ≡ place_set self.old (annotation_lens (set_of set.now))) }
+    {
+        self.begin_set()?;
+        for annotation in set.annotations() {
+            self.lengthen(annotation_size(annotation) as u32);
+        }
+        Ok(())
+    }
+}
+
+/// Where the annotations of sets stand, from a place on, set by set.
 ///
-/// Error: memory was refused.
+/// Condition: they end within what a file may have. Error: memory was refused.
 pub(crate) fn place_annotations<'p>(
     alloc: Global,
     written: Vec<&'p AnnotationSet>,
     from: u32,
 ) -> Result<Annotations<'p>, AllocError>
-    ensures { IfOk result (λ placed. (m : Mentions) (cs : List NumberedClass) → AreWritable m cs → map (λ s. set_in m (set_of s.now)) written.entry.items ≡ (set_items (ordered_of m cs)).written → from ≡ type_list_end (ordered_of m cs) → AreAnnotations m cs placed) }
+    requires { (place_sets (none_from from) (map (λ s. set_of s.now) written.items)).end ≤ 2 ^ 30 }
+    ensures { IfOk result (λ placed. (m : Mentions) (cs : List NumberedClass) → AreWritable m cs → map (λ s. set_in m (set_of s.now)) written.entry.items ≡ (set_items (ordered_of m cs)).written → All (λ s. IsKnownSet m (set_of s.now)) written.entry.items → from ≡ type_list_end (ordered_of m cs) → AreAnnotations m cs placed) }
 {
-    Err(AllocError)
+    let mut places = Offsets::starting_at(alloc, from, written.len())?;
+    for set in &written {
+        places.place_set(set)?;
+    }
+    Ok(Annotations { written, places })
 }

@@ -1,12 +1,17 @@
 //! Where class data stand.
 
-ghost use Rattle.std.specs.Prelude.{◌≡◌, IfOk};
+ghost use Rattle.std.specs.Prelude.{◌≡◌, ◌+◌, ◌^◌, ◌≤◌, IfOk, OnOk, length};
+ghost use Rattle.std.specs.List.{flat_map};
+ghost use Rattle.dexspec.specs.Mentions.{Mentions};
 ghost use Rattle.dexspec.specs.Canonical.{class_data_end, class_data_offsets, class_data_section, code_end, code_offsets};
+ghost use Rattle.dexmembers.specs.Numbered.{fields_of, methods_of};
 ghost use Rattle.dexlayout.specs.Laid.{AreWritable, StandSo, ordered_of};
+ghost use Rattle.dexlayout.specs.Running.{none_from, place_use, place_uses};
+ghost use Rattle.dexlayout.specs.Sizes.{class_data_size, class_data_sizes};
 
 use crate::offsets::Offsets;
 use dexclass::Class;
-use dexpool::Numbering;
+use dexmembers::Members;
 use std::alloc::{AllocError, Global};
 
 /// Where the class data of each class stand, behind the code, of which they have the offsets.
@@ -16,15 +21,66 @@ use std::alloc::{AllocError, Global};
 /// Source: "class_data_item".
 pub(crate) fn place_class_data(
     alloc: Global,
-    numbering: &Numbering<'_>,
     classes: &[Class<'_>],
     code_offs: &[u32],
     from: u32,
 ) -> Result<Offsets, AllocError>
-    requires classes { AreWritable numbering.now classes.now }
-    requires code { code_offs.now ≡ code_offsets (ordered_of numbering.now classes.now) }
-    requires from { from ≡ code_end (ordered_of numbering.now classes.now) }
-    ensures { IfOk result (StandSo (class_data_offsets (ordered_of numbering.now classes.now)) (class_data_end (ordered_of numbering.now classes.now)) (class_data_section (ordered_of numbering.now classes.now)).items) }
+    requires { (m : Mentions) × AreWritable m classes.now × (code_offs.now ≡ code_offsets (ordered_of m classes.now)) × (from ≡ code_end (ordered_of m classes.now)) }
+    ensures { IfOk result (λ places. (m : Mentions) → AreWritable m classes.now → code_offs.now ≡ code_offsets (ordered_of m classes.now) → from ≡ code_end (ordered_of m classes.now) → StandSo (class_data_offsets (ordered_of m classes.now)) (class_data_end (ordered_of m classes.now)) (class_data_section (ordered_of m classes.now)).items places) }
 {
-    Err(AllocError)
+    let places = place_items(alloc, classes, code_offs, from)?;
+    Ok(places)
+}
+
+// Where the class data stand from a place on.
+fn place_items(
+    alloc: Global,
+    classes: &[Class<'_>],
+    code_offs: &[u32],
+    from: u32,
+) -> Result<Offsets, AllocError>
+    requires offsets { length code_offs.now ≡ length (flat_map (λ c. methods_of c.members) classes.now) }
+    requires fits { (place_uses 1 (none_from from) (class_data_sizes classes.now code_offs.now)).end ≤ 2 ^ 30 }
+    ensures { IfOk result (λ places. places ≡ place_uses 1 (none_from from) (class_data_sizes classes.now code_offs.now)) }
+{
+    let mut rest = code_offs;
+    let mut places = Offsets::starting_at(alloc, from, classes.len())?;
+    for class in classes {
+        let (offs, others) = rest.split_at(method_count(class.members()));
+        place_item(class, offs, &mut places)?;
+        rest = others;
+    }
+    Ok(places)
+}
+
+// How many methods there are.
+fn method_count(members: &Members<'_>) -> usize
+    ensures { result ≡ length (methods_of members.now) }
+{
+    members.are_few();
+    members.direct_methods().len() + members.virtual_methods().len()
+}
+
+// How many fields there are.
+fn field_count(members: &Members<'_>) -> usize
+    ensures { result ≡ length (fields_of members.now) }
+{
+    members.are_few();
+    members.static_fields().len() + members.instance_fields().len()
+}
+
+// The data of one class behind the others.
+fn place_item(class: &Class<'_>, code_offs: &[u32], places: &mut Offsets) -> Result<(), AllocError>
+    requires offsets { length code_offs.now ≡ length (methods_of class.now.members) }
+    requires fits { (place_use 1 places.old (class_data_size class.now code_offs.now)).end ≤ 2 ^ 30 }
+    ensures { OnOk result (places.new ≡ place_use 1 places.old (class_data_size class.now code_offs.now)) }
+{
+    let members = class.members();
+    if field_count(members) == 0 && method_count(members) == 0 {
+        places.pass()?;
+        return Ok(());
+    }
+    let off = places.end();
+    places.put_at(off, members.class_data_len(code_offs) as u32)?;
+    Ok(())
 }

@@ -1,12 +1,17 @@
 //! Where code stands.
 
-ghost use Rattle.std.specs.Prelude.{◌≡◌, IfOk};
+ghost use Rattle.std.specs.Prelude.{◌≡◌, ◌^◌, ◌≤◌, IfOk, OnOk, map};
+ghost use Rattle.std.specs.List.{flat_map};
+ghost use Rattle.dexspec.specs.Mentions.{Mentions};
 ghost use Rattle.dexspec.specs.Canonical.{code_end, code_offsets, code_section, debug_end};
 ghost use Rattle.dexlayout.specs.Laid.{AreWritable, StandSo, ordered_of};
+ghost use Rattle.dexlayout.specs.Running.{none_from, place_use, place_uses};
+ghost use Rattle.dexlayout.specs.Sizes.{class_code_sizes, code_size};
 
-use crate::offsets::Offsets;
+use crate::offsets::{Offsets, round_up};
 use dexclass::Class;
-use dexpool::Numbering;
+use dexcode::code_bytes_law;
+use dexmembers::Method;
 use std::alloc::{AllocError, Global};
 
 /// Where the code of each method of each class stands, the direct ones first, behind the debug programs, of which it has the offsets.
@@ -16,13 +21,62 @@ use std::alloc::{AllocError, Global};
 /// Source: "code_item".
 pub(crate) fn place_codes(
     alloc: Global,
-    numbering: &Numbering<'_>,
     classes: &[Class<'_>],
     from: u32,
 ) -> Result<Offsets, AllocError>
-    requires classes { AreWritable numbering.now classes.now }
-    requires from { from ≡ debug_end (ordered_of numbering.now classes.now) }
-    ensures { IfOk result (StandSo (code_offsets (ordered_of numbering.now classes.now)) (code_end (ordered_of numbering.now classes.now)) (code_section (ordered_of numbering.now classes.now)).items) }
+    requires { (m : Mentions) × AreWritable m classes.now × (from ≡ debug_end (ordered_of m classes.now)) }
+    ensures { IfOk result (λ places. (m : Mentions) → AreWritable m classes.now → from ≡ debug_end (ordered_of m classes.now) → StandSo (code_offsets (ordered_of m classes.now)) (code_end (ordered_of m classes.now)) (code_section (ordered_of m classes.now)).items places) }
 {
-    Err(AllocError)
+    code_bytes_law();
+    let places = place_items(alloc, classes, from)?;
+    Ok(places)
+}
+
+// Where the code of classes stands from a place on.
+fn place_items(alloc: Global, classes: &[Class<'_>], from: u32) -> Result<Offsets, AllocError>
+    requires { (place_uses 4 (none_from from) (flat_map class_code_sizes classes.now)).end ≤ 2 ^ 30 }
+    ensures { IfOk result (λ places. places ≡ place_uses 4 (none_from from) (flat_map class_code_sizes classes.now)) }
+{
+    let mut places = Offsets::starting_at(alloc, from, classes.len())?;
+    for class in classes {
+        place_class(class, &mut places)?;
+    }
+    Ok(places)
+}
+
+// The code of one class behind the others.
+fn place_class(class: &Class<'_>, places: &mut Offsets) -> Result<(), AllocError>
+    requires { (place_uses 4 places.old (class_code_sizes class.now)).end ≤ 2 ^ 30 }
+    ensures { OnOk result (places.new ≡ place_uses 4 places.old (class_code_sizes class.now)) }
+{
+    let members = class.members();
+    place_methods(members.direct_methods(), places)?;
+    place_methods(members.virtual_methods(), places)?;
+    Ok(())
+}
+
+// That of methods.
+fn place_methods(methods: &[Method<'_>], places: &mut Offsets) -> Result<(), AllocError>
+    requires { (place_uses 4 places.old (map code_size methods.now)).end ≤ 2 ^ 30 }
+    ensures { OnOk result (places.new ≡ place_uses 4 places.old (map code_size methods.now)) }
+{
+    for method in methods {
+        place_code(method, places)?;
+    }
+    Ok(())
+}
+
+// That of one method.
+fn place_code(method: &Method<'_>, places: &mut Offsets) -> Result<(), AllocError>
+    requires { (place_use 4 places.old (code_size method.now)).end ≤ 2 ^ 30 }
+    ensures { OnOk result (places.new ≡ place_use 4 places.old (code_size method.now)) }
+{
+    match method.code() {
+        Some(code) => {
+            let off = round_up(places.end());
+            places.put_at(off, code.item_len() as u32)?;
+        }
+        None => places.pass()?,
+    }
+    Ok(())
 }

@@ -1,14 +1,43 @@
 //! Where annotations directories stand.
 
-ghost use Rattle.std.specs.Prelude.{◌≡◌, IfOk};
+ghost use Rattle.std.specs.Prelude.{◌≡◌, ◌^◌, ◌≤◌, IfOk, OnOk, length};
 ghost use Rattle.dexspec.specs.Canonical.{directory_end, directory_offsets, directory_section, ref_list_end, ref_list_offsets};
+ghost use Rattle.dexmembers.specs.Numbered.{fields_of, methods_of};
+ghost use Rattle.dexlayout.specs.Directories.{entry_count, directory_size};
 ghost use Rattle.dexlayout.specs.Laid.{AreWritable, AreSets, StandSo, ordered_of};
+ghost use Rattle.dexlayout.specs.Running.{place_use};
 
-use crate::offsets::Offsets;
+use crate::offsets::{Offsets, round_up};
 use crate::sets::Sets;
 use dexclass::Class;
-use dexpool::Numbering;
+use dexmembers::Members;
+use dexpool::{Numbering, number_law};
 use std::alloc::{AllocError, Global};
+
+// A directory without members has so many bytes.
+const EMPTY_DIRECTORY: usize = 16;
+
+// Places the directory of a class, unless all offsets are 0.
+fn place_directory(
+    members: &Members<'_>,
+    own_off: u32,
+    field_offs: &[u32],
+    method_offs: &[u32],
+    list_offs: &[u32],
+    places: &mut Offsets,
+) -> Result<(), AllocError>
+    requires fields { length field_offs.now ≡ length (fields_of members.now) }
+    requires methods { length method_offs.now ≡ length (methods_of members.now) }
+    requires lists { length list_offs.now ≡ length (methods_of members.now) }
+    requires fits { (place_use 4 places.old (directory_size own_off (entry_count field_offs.now method_offs.now list_offs.now))).end ≤ 2 ^ 30 }
+    ensures { OnOk result (places.new ≡ place_use 4 places.old (directory_size own_off (entry_count field_offs.now method_offs.now list_offs.now))) }
+{
+    let len = members.directory_len(field_offs, method_offs, list_offs);
+    if own_off == 0 && len == EMPTY_DIRECTORY {
+        return places.pass();
+    }
+    places.put_at(round_up(places.end()), len as u32)
+}
 
 /// Where the annotations directory of each class stands, behind the lists of sets of parameters.
 ///
@@ -29,5 +58,31 @@ pub(crate) fn place_directories(
     requires from { from ≡ ref_list_end (ordered_of numbering.now classes.now) }
     ensures { IfOk result (StandSo (directory_offsets (ordered_of numbering.now classes.now)) (directory_end (ordered_of numbering.now classes.now)) (directory_section (ordered_of numbering.now classes.now)).items) }
 {
-    Err(AllocError)
+    number_law();
+    let own = sets.own();
+    let mut fields = sets.fields();
+    let mut methods = sets.methods();
+    let mut lists = ref_lists;
+    let mut places = Offsets::starting_at(alloc, from, classes.len())?;
+    for i in 0..classes.len() {
+        let members = classes[i].members();
+        members.are_few();
+        let field_count = members.static_fields().len() + members.instance_fields().len();
+        let method_count = members.direct_methods().len() + members.virtual_methods().len();
+        let (field_offs, fields_left) = fields.split_at(field_count);
+        let (method_offs, methods_left) = methods.split_at(method_count);
+        let (list_offs, lists_left) = lists.split_at(method_count);
+        place_directory(
+            members,
+            own[i],
+            field_offs,
+            method_offs,
+            list_offs,
+            &mut places,
+        )?;
+        fields = fields_left;
+        methods = methods_left;
+        lists = lists_left;
+    }
+    Ok(places)
 }

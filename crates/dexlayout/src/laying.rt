@@ -3,8 +3,13 @@
 ghost use Rattle.std.specs.Prelude.{IfOk};
 ghost use Rattle.dexlayout.specs.Laid.{AreWritable, IsLaid};
 
+use crate::data::place_data;
 use crate::layout::Layout;
+use crate::map_entries::map_entries;
+use crate::offsets::round_up;
+use crate::tables::{HEADER_SIZE, Tables};
 use dexclass::Class;
+use dexhead::Head;
 use dexpool::Numbering;
 use std::alloc::{AllocError, Global};
 
@@ -19,5 +24,36 @@ pub(crate) fn lay<'p>(
     requires { AreWritable numbering.now classes.now }
     ensures { IfOk result (IsLaid numbering.now classes.now) }
 {
-    Err(AllocError)
+    let tables = Tables::of(numbering, classes);
+    let data = place_data(alloc, numbering, classes, tables.end)?;
+    let map_off = round_up(data.directories.end());
+    let sections = data.entries(numbering, tables.end);
+    let entries = map_entries(alloc, &tables.entries(), &sections, map_off)?;
+    let map_size = 4 + 12 * entries.len() as u32;
+    let file_size = map_off + map_size;
+    let longest = data.greatest();
+    let head = Head {
+        checksum: 0,
+        signature: [0; 20],
+        file_size,
+        map_off,
+        tables: tables.rows(),
+        data_size: file_size - tables.end,
+        data_off: tables.end,
+    };
+    Ok(Layout {
+        head,
+        type_lists: data.type_lists,
+        annotations: data.annotations,
+        static_values: data.static_values,
+        strings: data.strings,
+        debugs: data.debugs,
+        code_items: data.codes,
+        class_data: data.class_data,
+        sets: data.sets,
+        ref_lists: data.ref_lists,
+        directories: data.directories,
+        entries,
+        greatest: longest.max(map_size as usize).max(HEADER_SIZE as usize),
+    })
 }

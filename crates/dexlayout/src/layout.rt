@@ -11,11 +11,13 @@ ghost use Rattle.dexlayout.specs.Laid.{AreWritable, IsLaid, ordered_of};
 
 use crate::annotations::Annotations;
 use crate::debugs::DebugPrograms;
+use crate::laying::lay;
 use crate::offsets::Offsets;
 use crate::sets::Sets;
 use crate::type_lists::TypeLists;
 use dexclass::Program;
 use dexhead::{Head, MapEntry};
+use dexlaws_size::fitting_size_law;
 use std::alloc::{AllocError, Global};
 use std::marker::Model;
 
@@ -31,7 +33,7 @@ pub struct Layout<'p> {
     pub(crate) static_values: Offsets,
     pub(crate) strings: Offsets,
     pub(crate) debugs: DebugPrograms<'p>,
-    pub(crate) codes: Offsets,
+    pub(crate) code_items: Offsets,
     pub(crate) class_data: Offsets,
     pub(crate) sets: Sets,
     pub(crate) ref_lists: Offsets,
@@ -51,7 +53,7 @@ impl<'p> Model for Layout<'p> {
 
     ghost coded = { Prim.hlevel (codes, elements_code) };
 
-    ghost view = { λ l. record { head = l.head; type_lists = l.type_lists; annotations = l.annotations; static_values = l.static_values; strings = l.strings; debugs = l.debugs; codes = l.codes; class_data = l.class_data; sets = l.sets; ref_lists = l.ref_lists; directories = l.directories; entries = map entry_meant l.entries.items; greatest = l.greatest } };
+    ghost view = { λ l. record { head = l.head; type_lists = l.type_lists; annotations = l.annotations; static_values = l.static_values; strings = l.strings; debugs = l.debugs; codes = l.code_items; class_data = l.class_data; sets = l.sets; ref_lists = l.ref_lists; directories = l.directories; entries = map entry_meant l.entries.items; greatest = l.greatest } };
 }
 
 impl<'p> Layout<'p> {
@@ -63,7 +65,12 @@ impl<'p> Layout<'p> {
         ensures writable { (cs : List NumberedClass) → AreClassesOf program.now cs → AreWritable (mentions (definitions program.now)) cs × (ordered_of (mentions (definitions program.now)) cs ≡ ordered (definitions program.now)) }
         ensures len { IfOk result (λ layout. layout.head.file_size ≡ length (canonical program.now)) }
     {
-        Err(AllocError)
+        program.is_good();
+        let numbering = program.numbering();
+        numbering.is_numbering();
+        fitting_size_law();
+        let layout = lay(alloc, numbering, program.classes())?;
+        Ok(layout)
     }
 
     /// The header, with sums of 0.
@@ -119,7 +126,7 @@ impl<'p> Layout<'p> {
     pub fn codes(&self) -> &Offsets
         ensures { result.now ≡ self.now.codes }
     {
-        &self.codes
+        &self.code_items
     }
 
     /// Where the class data of each class stand.

@@ -1,22 +1,24 @@
 //! Where everything stands in the canonical file of a program.
-//!
-//! Source: the Android page "Dalvik Executable format", "Overall file layout"; the order of what stands in each section, and that
-//! equal type lists, debug programs and annotation sets are written once, is this project's rule.
 #![tactic(auto)]
 
 mod annotations;
 mod class_data;
 mod codes;
+mod data;
 mod debugs;
 mod directories;
-mod layout;
 mod laying;
+mod layout;
+mod list_keys;
+mod map_entries;
 mod offsets;
 mod ref_lists;
 mod sets;
 mod shared_sets;
+mod sharing;
 mod static_values;
 mod strings;
+mod tables;
 mod type_lists;
 
 pub use annotations::Annotations;

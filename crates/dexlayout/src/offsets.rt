@@ -1,7 +1,10 @@
 //! Where items of one kind begin and end.
 
-ghost use Rattle.std.specs.Prelude.{◌≡◌};
+ghost use Rattle.std.specs.Prelude.{◌≡◌, ◌+◌, ◌<◌, ◌^◌, IfOk, OnOk};
+ghost use Rattle.dexspec.specs.Bytes as bytes;
+ghost use Rattle.dexlayout.specs.Running.{none_from, pass, put_at};
 
+use std::alloc::{AllocError, Global};
 use std::marker::Model;
 
 /// Where the items of one kind stand: an offset for each use, in bytes from the start of the file, and 0 where a use has no item.
@@ -41,4 +44,48 @@ impl Offsets {
     {
         self.greatest
     }
+
+    /// No items yet, and memory for so many uses; the first item will stand at a place or behind it.
+    ///
+    /// Error: memory was refused.
+    pub(crate) fn starting_at(alloc: Global, from: u32, uses: usize) -> Result<Offsets, AllocError>
+        ensures { IfOk result (λ places. places ≡ none_from from) }
+    {
+        Ok(Offsets {
+            offsets: Vec::with_capacity(alloc, uses)?,
+            end: from,
+            greatest: 0,
+        })
+    }
+
+    /// One use more, which has no item.
+    ///
+    /// Error: memory was refused.
+    pub(crate) fn pass(&mut self) -> Result<(), AllocError>
+        ensures { OnOk result (self.new ≡ pass self.old) }
+    {
+        self.offsets.push(0)?;
+        Ok(())
+    }
+
+    /// One use more, whose item of so many bytes stands at an offset.
+    ///
+    /// Error: memory was refused.
+    pub(crate) fn put_at(&mut self, off: u32, len: u32) -> Result<(), AllocError>
+        requires { off + len < 2 ^ 32 }
+        ensures { OnOk result (self.new ≡ put_at self.old off len) }
+    {
+        self.offsets.push(off)?;
+        self.end = off + len;
+        self.greatest = self.greatest.max(len as usize);
+        Ok(())
+    }
+}
+
+/// The least multiple of 4 that is not less.
+pub(crate) fn round_up(at: u32) -> u32
+    requires { at < 2 ^ 31 }
+    ensures { result ≡ bytes.round_up 4 at }
+{
+    (at + 3) / 4 * 4
 }

@@ -1,15 +1,54 @@
 //! Where lists of sets of parameters stand.
 
-ghost use Rattle.std.specs.Prelude.{◌≡◌, IfOk};
+ghost use Rattle.std.specs.Prelude.{◌≡◌, ◌^◌, ◌≤◌, IfOk, OnOk, length};
 ghost use Rattle.dexspec.specs.Canonical.{ref_list_end, ref_list_offsets, ref_list_section, set_end};
+ghost use Rattle.dexmembers.specs.Numbered.{methods_of};
+ghost use Rattle.dexlayout.specs.Gathering.{list_size, list_sizes};
 ghost use Rattle.dexlayout.specs.Laid.{AreWritable, StandSo, ordered_of};
+ghost use Rattle.dexlayout.specs.Running.{place_use, place_uses};
 
-use crate::offsets::Offsets;
+use crate::offsets::{Offsets, round_up};
 use dexclass::Class;
+use dexmembers::Method;
 use dexpool::Numbering;
+use dexval::ref_list_size;
 use std::alloc::{AllocError, Global};
 
-/// Where the list of the sets of the parameters of each method stands, behind the sets, of which it has the offsets.
+// Places the list of a method behind those that stand, unless it is empty.
+fn place_list(method: &Method<'_>, places: &mut Offsets) -> Result<(), AllocError>
+    requires { (place_use 4 places.old (list_size (length method.now.parameter_annotations))).end ≤ 2 ^ 30 }
+    ensures { OnOk result (places.new ≡ place_use 4 places.old (list_size (length method.now.parameter_annotations))) }
+{
+    let sets = method.parameter_annotations();
+    if sets.is_empty() {
+        return places.pass();
+    }
+    places.put_at(round_up(places.end()), ref_list_size(sets) as u32)
+}
+
+// Places the lists of methods.
+fn place_lists(methods: &[Method<'_>], places: &mut Offsets) -> Result<(), AllocError>
+    requires { (place_uses 4 places.old (list_sizes methods.now)).end ≤ 2 ^ 30 }
+    ensures { OnOk result (places.new ≡ place_uses 4 places.old (list_sizes methods.now)) }
+{
+    for method in methods {
+        place_list(method, places)?;
+    }
+    Ok(())
+}
+
+// Places the lists of the methods of a class.
+fn place_class_lists(class: &Class<'_>, places: &mut Offsets) -> Result<(), AllocError>
+    requires { (place_uses 4 places.old (list_sizes (methods_of class.now.members))).end ≤ 2 ^ 30 }
+    ensures { OnOk result (places.new ≡ place_uses 4 places.old (list_sizes (methods_of class.now.members))) }
+{
+    let members = class.members();
+    place_lists(members.direct_methods(), places)?;
+    place_lists(members.virtual_methods(), places)
+}
+
+/// Where the list of the sets of the parameters of each method stands, behind the sets. Memory is taken for so many methods at
+/// once.
 ///
 /// Error: memory was refused.
 ///
@@ -18,11 +57,16 @@ pub(crate) fn place_ref_lists(
     alloc: Global,
     numbering: &Numbering<'_>,
     classes: &[Class<'_>],
+    methods: usize,
     from: u32,
 ) -> Result<Offsets, AllocError>
     requires classes { AreWritable numbering.now classes.now }
     requires from { from ≡ set_end (ordered_of numbering.now classes.now) }
     ensures { IfOk result (StandSo (ref_list_offsets (ordered_of numbering.now classes.now)) (ref_list_end (ordered_of numbering.now classes.now)) (ref_list_section (ordered_of numbering.now classes.now)).items) }
 {
-    Err(AllocError)
+    let mut places = Offsets::starting_at(alloc, from, methods)?;
+    for class in classes {
+        place_class_lists(class, &mut places)?;
+    }
+    Ok(places)
 }

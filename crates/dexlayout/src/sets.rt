@@ -1,12 +1,20 @@
 //! Where annotation sets stand.
 
-ghost use Rattle.std.specs.Prelude.{◌≡◌, IfOk};
+ghost use Rattle.std.specs.Prelude.{◌≡◌, ◌^◌, ◌≤◌, List, [], ◌∷◌, length, map, drop, Some, IfOk, OnOk};
+ghost use Rattle.std.specs.List.{flat_map};
 ghost use Rattle.dexspec.specs.Canonical.{class_data_end, set_items};
+ghost use Rattle.dexval.specs.Code.{set_of};
+ghost use Rattle.dexlayout.specs.Gathering.{set_len, sets_of_method, sets_of_class, parts_of_methods, parts_of_class, gather_own, gather_method, gather_methods, gather_class};
 ghost use Rattle.dexlayout.specs.Laid.{AreWritable, AreAnnotations, AreSets, ordered_of};
+ghost use Rattle.dexlayout.specs.Running.{none_from, place_uses};
 
 use crate::annotations::Annotations;
+use crate::offsets::{Offsets, round_up};
+use crate::sharing::place_shared;
 use dexclass::Class;
+use dexmembers::Method;
 use dexpool::Numbering;
+use dexval::{AnnotationSet, set_size};
 use std::alloc::{AllocError, Global};
 use std::marker::Model;
 
@@ -76,6 +84,97 @@ impl Sets {
     }
 }
 
+impl Sets {
+    // No sets yet, and memory for so many classes; those that are written are placed.
+    fn none(alloc: Global, classes: usize, written: &Offsets) -> Result<Sets, AllocError>
+        ensures { IfOk result (λ sets. sets ≡ record { own = []; fields = []; methods = []; parameters = []; end = written.now.end; greatest = written.now.greatest }) }
+    {
+        Ok(Sets {
+            own: Vec::with_capacity(alloc, classes)?,
+            fields: Vec::new(alloc),
+            methods: Vec::new(alloc),
+            parameters: Vec::new(alloc),
+            end: written.end(),
+            greatest: written.greatest(),
+        })
+    }
+
+    // Adds the offset of a class's own set and those of the sets of its fields.
+    fn gather_own(&mut self, own: u32, fields: &[u32]) -> Result<(), AllocError>
+        ensures { OnOk result (self.new ≡ gather_own self.old own fields.now) }
+    {
+        self.own.push(own)?;
+        self.fields.extend_from_slice(fields)?;
+        Ok(())
+    }
+
+    // Adds the offsets of a method's own set and of those of its parameters.
+    fn gather_method(&mut self, offs: &[u32]) -> Result<(), AllocError>
+        requires { 1 ≤ length offs.now }
+        ensures { OnOk result (self.new ≡ gather_method self.old offs.now) }
+    {
+        let (_, parameters) = offs.split_at(1);
+        self.methods.push(offs[0])?;
+        self.parameters.extend_from_slice(parameters)?;
+        Ok(())
+    }
+
+    // Adds the offsets of the sets of methods, and answers those that are left.
+    fn gather_methods<'o>(
+        &mut self,
+        methods: &[Method<'_>],
+        offs: &'o [u32],
+    ) -> Result<&'o [u32], AllocError>
+        requires { length (flat_map sets_of_method methods.now) ≤ length offs.now }
+        ensures gathered { OnOk result (self.new ≡ gather_methods self.old (parts_of_methods methods.now offs.now)) }
+        ensures left { IfOk result (λ rest. rest.now ≡ drop (length (flat_map sets_of_method methods.now)) offs.now) }
+    {
+        let mut rest = offs;
+        for method in methods {
+            let (sets, behind) = rest.split_at(1 + method.parameter_annotations().len());
+            self.gather_method(sets)?;
+            rest = behind;
+        }
+        Ok(rest)
+    }
+
+    // Adds the offsets of the sets of a class, and answers those that are left.
+    fn gather_class<'o>(
+        &mut self,
+        class: &Class<'_>,
+        offs: &'o [u32],
+    ) -> Result<&'o [u32], AllocError>
+        requires { length (sets_of_class class.now) ≤ length offs.now }
+        ensures gathered { OnOk result (self.new ≡ gather_class self.old (parts_of_class class.now offs.now)) }
+        ensures left { IfOk result (λ rest. rest.now ≡ drop (length (sets_of_class class.now)) offs.now) }
+    {
+        let members = class.members();
+        members.are_few();
+        let count = members.static_fields().len() + members.instance_fields().len();
+        let (_, rest) = offs.split_at(1);
+        let (fields, rest) = rest.split_at(count);
+        self.gather_own(offs[0], fields)?;
+        let rest = self.gather_methods(members.direct_methods(), rest)?;
+        self.gather_methods(members.virtual_methods(), rest)
+    }
+}
+
+// Where the sets stand that are written, one after the other.
+fn place_written(
+    alloc: Global,
+    written: &[&AnnotationSet],
+    from: u32,
+) -> Result<Offsets, AllocError>
+    requires { (place_uses 4 (none_from from) (map (λ s. Some (set_len (set_of s.now))) written.now)).end ≤ 2 ^ 30 }
+    ensures { IfOk result (λ places. places ≡ place_uses 4 (none_from from) (map (λ s. Some (set_len (set_of s.now))) written.now)) }
+{
+    let mut places = Offsets::starting_at(alloc, from, written.len())?;
+    for set in written {
+        places.put_at(round_up(places.end()), set_size(set) as u32)?;
+    }
+    Ok(places)
+}
+
 /// Where the sets stand, behind the class data. `numbers` has for each use the number of its set among those that are written.
 ///
 /// Error: memory was refused.
@@ -93,5 +192,12 @@ pub(crate) fn place_sets(
     requires from { from ≡ class_data_end (ordered_of numbering.now classes.now) }
     ensures { IfOk result (AreSets numbering.now classes.now) }
 {
-    Err(AllocError)
+    let written = place_written(alloc, annotations.written(), from)?;
+    let uses = place_shared(alloc, numbers, &written)?;
+    let mut sets = Sets::none(alloc, classes.len(), &written)?;
+    let mut rest = uses.offsets();
+    for class in classes {
+        rest = sets.gather_class(class, rest)?;
+    }
+    Ok(sets)
 }

@@ -1,12 +1,15 @@
 //! Where the arrays of static values stand.
 
-ghost use Rattle.std.specs.Prelude.{◌≡◌, IfOk};
+ghost use Rattle.std.specs.Prelude.{◌≡◌, ◌^◌, ◌≤◌, IfOk, OnOk, map};
+ghost use Rattle.dexspec.specs.Mentions.{Mentions};
 ghost use Rattle.dexspec.specs.Canonical.{annotation_end, array_end, array_offsets, array_section};
 ghost use Rattle.dexlayout.specs.Laid.{AreWritable, StandSo, ordered_of};
+ghost use Rattle.dexlayout.specs.Running.{none_from, place_use, place_uses};
+ghost use Rattle.dexlayout.specs.Sizes.{static_size};
 
 use crate::offsets::Offsets;
 use dexclass::Class;
-use dexpool::Numbering;
+use dexval::statics_size;
 use std::alloc::{AllocError, Global};
 
 /// Where the arrays of static values stand, for each class, behind the annotations.
@@ -16,13 +19,39 @@ use std::alloc::{AllocError, Global};
 /// Source: "encoded_array_item".
 pub(crate) fn place_static_values(
     alloc: Global,
-    numbering: &Numbering<'_>,
     classes: &[Class<'_>],
     from: u32,
 ) -> Result<Offsets, AllocError>
-    requires classes { AreWritable numbering.now classes.now }
-    requires from { from ≡ annotation_end (ordered_of numbering.now classes.now) }
-    ensures { IfOk result (StandSo (array_offsets (ordered_of numbering.now classes.now)) (array_end (ordered_of numbering.now classes.now)) (array_section (ordered_of numbering.now classes.now)).items) }
+    requires { (m : Mentions) × AreWritable m classes.now × (from ≡ annotation_end (ordered_of m classes.now)) }
+    ensures { IfOk result (λ places. (m : Mentions) → AreWritable m classes.now → from ≡ annotation_end (ordered_of m classes.now) → StandSo (array_offsets (ordered_of m classes.now)) (array_end (ordered_of m classes.now)) (array_section (ordered_of m classes.now)).items places) }
 {
-    Err(AllocError)
+    let places = place_arrays(alloc, classes, from)?;
+    Ok(places)
+}
+
+// Where the arrays stand from a place on.
+fn place_arrays(alloc: Global, classes: &[Class<'_>], from: u32) -> Result<Offsets, AllocError>
+    requires { (place_uses 1 (none_from from) (map static_size classes.now)).end ≤ 2 ^ 30 }
+    ensures { IfOk result (λ places. places ≡ place_uses 1 (none_from from) (map static_size classes.now)) }
+{
+    let mut places = Offsets::starting_at(alloc, from, classes.len())?;
+    for class in classes {
+        place_array(class, &mut places)?;
+    }
+    Ok(places)
+}
+
+// The array of one class behind the others.
+fn place_array(class: &Class<'_>, places: &mut Offsets) -> Result<(), AllocError>
+    requires { (place_use 1 places.old (static_size class.now)).end ≤ 2 ^ 30 }
+    ensures { OnOk result (places.new ≡ place_use 1 places.old (static_size class.now)) }
+{
+    let values = class.members().static_values();
+    if values.is_empty() {
+        places.pass()?;
+        return Ok(());
+    }
+    let off = places.end();
+    places.put_at(off, statics_size(values) as u32)?;
+    Ok(())
 }

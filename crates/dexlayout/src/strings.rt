@@ -1,15 +1,15 @@
 //! Where the texts stand.
 
-ghost use Rattle.std.specs.Prelude.{◌≡◌, IfOk};
-ghost use Rattle.dexspec.specs.Canonical.{array_end, layout, string_end, string_section};
-ghost use Rattle.dexlayout.specs.Laid.{AreWritable, StandSo, ordered_of};
+ghost use Rattle.std.specs.Prelude.{◌≡◌, ◌^◌, ◌≤◌, IfOk, map};
+ghost use Rattle.dexspec.specs.Texts.{string_data};
+ghost use Rattle.dexspec.specs.Placing.{offsets_from, end_from};
+ghost use Rattle.dexlayout.specs.Laid.{StandSo};
 
 use crate::offsets::Offsets;
-use dexclass::Class;
-use dexpool::Numbering;
+use dexpool::{Numbering, SymbolKind};
 use std::alloc::{AllocError, Global};
 
-/// Where the texts stand, behind the static values.
+/// Where the texts stand from a place on, one behind the other.
 ///
 /// Error: memory was refused.
 ///
@@ -17,12 +17,17 @@ use std::alloc::{AllocError, Global};
 pub(crate) fn place_strings(
     alloc: Global,
     numbering: &Numbering<'_>,
-    classes: &[Class<'_>],
     from: u32,
 ) -> Result<Offsets, AllocError>
-    requires classes { AreWritable numbering.now classes.now }
-    requires from { from ≡ array_end (ordered_of numbering.now classes.now) }
-    ensures { IfOk result (StandSo (layout (ordered_of numbering.now classes.now)).strings (string_end (ordered_of numbering.now classes.now)) (string_section (ordered_of numbering.now classes.now)).items) }
+    requires { end_from 1 from (map string_data numbering.now.texts) ≤ 2 ^ 30 }
+    ensures { IfOk result (StandSo (offsets_from 1 from (map string_data numbering.now.texts)) (end_from 1 from (map string_data numbering.now.texts)) (map string_data numbering.now.texts)) }
 {
-    Err(AllocError)
+    let count = numbering.count(SymbolKind::Text);
+    let mut places = Offsets::starting_at(alloc, from, count)?;
+    for i in 0..count {
+        let off = places.end();
+        let len = numbering.string(i).item_len();
+        places.put_at(off, len as u32)?;
+    }
+    Ok(places)
 }

@@ -1,12 +1,22 @@
 //! Where type lists stand: those of the parameters of protos, and of the interfaces of classes.
 
-ghost use Rattle.std.specs.Prelude.{◌≡◌, ◌<◌, ◌^◌, IfOk};
-ghost use Rattle.dexspec.specs.Canonical.{data_start, type_list_end};
-ghost use Rattle.dexlayout.specs.Laid.{AreWritable, AreTypeLists, ordered_of};
+ghost use Rattle.std.specs.Prelude.{◌≡◌, ◌∷◌, [], ◌++◌, ◌^◌, ◌≤◌, All, IfOk, List, OnOk, Option, Some, map};
+ghost use Rattle.dexspec.specs.Canonical.{data_start, type_list_items};
+ghost use Rattle.dexspec.specs.Mentions.{Mentions};
+ghost use Rattle.dexspec.specs.Placing.{unless_empty};
+ghost use Rattle.dexspec.specs.Texts.{Text};
+ghost use Rattle.dexclass.specs.Numbered.{type_at};
+ghost use Rattle.dexclass.specs.Uses.{IsKnownClass};
+ghost use Rattle.dexlayout.specs.Laid.{AreShared, AreTypeLists, AreWritable, ordered_of};
+ghost use Rattle.dexlayout.specs.Running.{none_from, place_uses};
+ghost use Rattle.dexlayout.specs.SharedUses.{AreTypes, SharesLists, interfaces_use};
+ghost use Rattle.dexlayout.specs.Sharing.{list_len};
 
-use crate::offsets::Offsets;
+use crate::list_keys::ListKey;
+use crate::offsets::{Offsets, round_up};
+use crate::sharing::{Shared, Sharing, place_shared};
 use dexclass::Class;
-use dexpool::Numbering;
+use dexpool::{Numbering, SymbolKind};
 use dexrows::TypeNumbers;
 use std::alloc::{AllocError, Global};
 use std::marker::Model;
@@ -45,6 +55,84 @@ impl<'p> TypeLists<'p> {
     }
 }
 
+// Adds a use of a type list, which has no item where the list is empty.
+fn add_list<'p>(sharing: &mut Sharing<ListKey<'p>>, list: TypeNumbers<'p>) -> Result<(), AllocError>
+    ensures { (m : Mentions) (uses : List (Option (List Text))) → AreTypes m list.entry → SharesLists m uses sharing.old.items.keys sharing.old.numbers.items → OnOk result (SharesLists m (uses ++ unless_empty (map (type_at m) list.entry) ∷ []) sharing.new.items.keys sharing.new.numbers.items) }
+{
+    if list.len() == 0 {
+        return sharing.add(None);
+    }
+    sharing.add(Some(ListKey { list }))
+}
+
+// Adds the uses of the parameters of protos.
+fn add_parameters<'p>(
+    sharing: &mut Sharing<ListKey<'p>>,
+    numbering: &'p Numbering<'_>,
+) -> Result<(), AllocError>
+    ensures { (uses : List (Option (List Text))) → SharesLists numbering.now uses sharing.old.items.keys sharing.old.numbers.items → OnOk result (SharesLists numbering.now (uses ++ map (λ p. unless_empty p.parameters) numbering.now.protos) sharing.new.items.keys sharing.new.numbers.items) }
+{
+    for i in 0..numbering.count(SymbolKind::Proto) {
+        add_list(sharing, numbering.proto(i).parameters())?;
+    }
+    Ok(())
+}
+
+// Adds the uses of the interfaces of classes.
+fn add_interfaces<'p>(
+    sharing: &mut Sharing<ListKey<'p>>,
+    classes: &'p [Class<'_>],
+) -> Result<(), AllocError>
+    ensures { (m : Mentions) (uses : List (Option (List Text))) → All (IsKnownClass m) classes.now → SharesLists m uses sharing.old.items.keys sharing.old.numbers.items → OnOk result (SharesLists m (uses ++ map (interfaces_use m) classes.now) sharing.new.items.keys sharing.new.numbers.items) }
+{
+    for i in 0..classes.len() {
+        add_list(sharing, TypeNumbers::words(classes[i].interfaces()))?;
+    }
+    Ok(())
+}
+
+// The type lists that protos and classes share.
+fn share_type_lists<'p>(
+    alloc: Global,
+    numbering: &'p Numbering<'_>,
+    classes: &'p [Class<'_>],
+) -> Result<Shared<ListKey<'p>>, AllocError>
+    requires { AreWritable numbering.now classes.now }
+    ensures shared { IfOk result (λ shared. AreShared (map (type_at numbering.now)) (type_list_items (ordered_of numbering.now classes.now)) shared.written.items shared.numbers.items) }
+    ensures known { IfOk result (λ shared. All (AreTypes numbering.now) shared.written.items) }
+{
+    let protos = numbering.count(SymbolKind::Proto);
+    let mut sharing = Sharing::for_uses(alloc, protos + classes.len())?;
+    add_parameters(&mut sharing, numbering)?;
+    add_interfaces(&mut sharing, classes)?;
+    sharing.finish(alloc)
+}
+
+// The lists that were keys.
+fn lists_of<'p>(alloc: Global, keys: Vec<ListKey<'p>>) -> Result<Vec<TypeNumbers<'p>>, AllocError>
+    ensures { IfOk result (λ lists. lists.items ≡ keys.entry.items) }
+{
+    let mut lists = Vec::with_capacity(alloc, keys.len())?;
+    for key in &keys {
+        lists.push(key.list.clone())?;
+    }
+    Ok(lists)
+}
+
+// Where the type lists that are written stand, from a place on.
+fn place_lists(alloc: Global, lists: &[TypeNumbers<'_>], from: u32) -> Result<Offsets, AllocError>
+    requires { (place_uses 4 (none_from from) (map (λ list. Some (list_len list)) lists.now)).end ≤ 2 ^ 30 }
+    ensures { IfOk result (λ places. places ≡ place_uses 4 (none_from from) (map (λ list. Some (list_len list)) lists.now)) }
+{
+    let mut places = Offsets::starting_at(alloc, from, lists.len())?;
+    for i in 0..lists.len() {
+        let off = round_up(places.end());
+        let len = 4 + 2 * lists[i].len() as u32;
+        places.put_at(off, len)?;
+    }
+    Ok(places)
+}
+
 /// Where the type lists stand, behind the tables.
 ///
 /// Error: memory was refused.
@@ -58,5 +146,10 @@ pub(crate) fn place_type_lists<'p>(
     requires from { from ≡ data_start (ordered_of numbering.now classes.now) }
     ensures { IfOk result (AreTypeLists numbering.now classes.now) }
 {
-    Err(AllocError)
+    let shared = share_type_lists(alloc, numbering, classes)?;
+    let Shared { written, numbers } = shared;
+    let written = lists_of(alloc, written)?;
+    let lists = place_lists(alloc, &written, from)?;
+    let places = place_shared(alloc, &numbers, &lists)?;
+    Ok(TypeLists { written, places })
 }

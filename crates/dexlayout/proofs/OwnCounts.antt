@@ -1,0 +1,207 @@
+-- How many items each section of the data has, and how long the longest of several is.
+use Rattle.std.proofs.Common.{◌≡◌, ℕ, ◌+◌, ◌<◌, ◌≤◌, ◌^◌, max, Bool, true, false, cond, List, [], ◌∷◌, ◌++◌, length, map, Option, None, Some, refl, sym, ap, ◌∙◌, arith}
+use Rattle.std.specs.Prelude.{◌==◌, not}
+use Rattle.std.specs.List.{flat_map}
+use Rattle.std.proofs.lemmas.Bool.{ne_eqb}
+use Rattle.std.proofs.lemmas.List.{length-append, length-map, map-id}
+use Rattle.std.proofs.lemmas.List.Sums.{sum_by-append}
+use Rattle.dexspec.specs.Lists.{present}
+use Rattle.dexspec.specs.Bytes.{round_up}
+use Rattle.dexspec.specs.Code.{Code}
+use Rattle.dexspec.specs.Classes.{Definition}
+use Rattle.dexspec.specs.Mentions.{Mentions}
+use Rattle.dexspec.specs.Texts.{string_data}
+use Rattle.dexspec.specs.Spellings.{code_bytes, encoded_array_bytes, class_data_bytes, offsets_bytes, type_list_bytes, annotation_bytes, debug_bytes}
+use Rattle.dexspec.specs.Annotations.{AnnotationSet}
+use Rattle.dexspec.specs.Placing.{own_items, uses_offsets, offsets_from, end_from, offsets, Ordered, static_values_uses, code_uses, class_data_uses, ref_list_uses, directory_uses}
+use Rattle.dexspec.specs.Canonical.{data_start, type_list_items, type_list_section, type_list_end, set_items, annotation_section, annotation_end, annotation_offsets, array_section, array_offsets, array_end, string_section, string_end, debug_items, debug_section, debug_end, debug_offsets, code_section, code_offsets, code_end, class_data_section, class_data_offsets, class_data_end, set_section, set_offsets, set_end, ref_list_section, ref_list_offsets, ref_list_end, directory_section, directory_offsets, directory_end}
+use Rattle.dexspec.proofs.Places.{length-padding, items_few}
+use Rattle.dexspec.proofs.Placements.{sections_follow, sections_have_bytes, length-chunks}
+use Rattle.dexval.specs.Numbered.{NumberedSet, annotation_in, set_in}
+use Rattle.dexcode.specs.Meaning.{debug_in}
+use Rattle.dexclass.specs.Numbered.{NumberedClass, type_at}
+use Rattle.dexlayout.specs.Places.{ItemPlaces}
+use Rattle.dexlayout.specs.Running.{none_from, pass, put_at, place_uses}
+use Rattle.dexlayout.specs.Parts.{AreData, count_placed}
+use Rattle.dexlayout.specs.declared.data.Data.{Data}
+use Rattle.dexlayout.specs.Laid.{StandSo, ordered_of}
+use Rattle.dexlayout.proofs.Ends.{EndInFile, chained}
+use Rattle.dexlayout.proofs.Owned.{sizes, own_stand}
+
+-- ---- the greatest of several
+
+-- the greatest of numbers
+abbrev pub max_of : List ℕ → ℕ
+max_of [] = 0
+max_of (n ∷ ns) = max n (max_of ns)
+
+max_of_last : (ns : List ℕ) (n : ℕ) → max_of (ns ++ n ∷ []) ≡ max (max_of ns) n
+max_of_last [] n = omega arith
+max_of_last (k ∷ ks) n = let rest = max_of_last ks n in omega (arith, rest)
+
+-- with one more
+pub max_more : (ns : List ℕ) (r s n a b : ℕ) → r ≡ max_of ns → s ≡ max r a → a ≡ b → b ≡ n → s ≡ max_of (ns ++ n ∷ [])
+max_more ns r s n a b er es ea eb = omega (arith, er, es, ea, eb, max_of_last ns n)
+
+-- ---- offsets of items
+
+-- nothing before
+plus_zero : (n : ℕ) → 0 + n ≡ n
+plus_zero n = omega arith
+
+-- an offset more
+count_more : (offs : List ℕ) (o : ℕ) (b : Bool) → not (o == 0) ≡ b → count_placed (offs ++ o ∷ []) ≡ count_placed offs + cond b 1 0
+count_more offs o b e = sum_by-append (λ (k : ℕ). cond (not (k == 0)) 1 0) offs (o ∷ []) ∙ ap (λ n. count_placed offs + n) (plus_zero (cond (not (o == 0)) 1 0)) ∙ ap (λ c. count_placed offs + cond c 1 0) e
+
+-- that of an item
+count_item : (offs : List ℕ) (o : ℕ) → 0 < o → count_placed (offs ++ o ∷ []) ≡ count_placed offs + 1
+count_item offs o some = count_more offs o true (ap not (ne_eqb o 0 (λ e. omega (arith, some, e))))
+
+-- that of none
+count_none : (offs : List ℕ) → count_placed (offs ++ 0 ∷ []) ≡ count_placed offs
+count_none offs = count_more offs 0 false refl ∙ omega arith
+
+module _ {X : Type 0} (f : X → List ℕ) (align : ℕ) where
+  count_go : (us : List (Option X)) (p : ItemPlaces) → 0 < p.end → count_placed (place_uses align p (sizes f us)).offsets ≡ count_placed p.offsets + length (present us)
+  count_go [] p some = omega arith
+  count_go (None ∷ us) p some = count_go us (pass p) some ∙ ap (λ n. n + length (present us)) (count_none p.offsets)
+  count_go (Some x ∷ us) p some =
+      let o = round_up align p.end in
+      let here : 0 < o = omega (arith, some, length-padding align p.end) in
+      count_go us (put_at p o (length (f x))) (omega (arith, here)) ∙ ap (λ n. n + length (present us)) (count_item p.offsets o here) ∙ omega arith
+
+  -- as many as items
+  pub own_count : (from : ℕ) (us : List (Option X)) → 0 < from
+      → count_placed (uses_offsets (own_items us).numbers (offsets_from align from (map f (own_items us).written))) ≡ length (map f (own_items us).written)
+  own_count from us some = ap count_placed (sym (own_stand f align from us).offsets_are) ∙ count_go us (none_from from) some ∙ plus_zero (length (present us)) ∙ sym (length-map (present us) f)
+
+-- ---- those of each section
+
+-- the data begins behind the header
+starts : (K : Ordered) → 0 < data_start K
+starts K = omega arith
+
+array_count : (K : Ordered) → count_placed (array_offsets K) ≡ length (array_section K).items
+unfolding array_offsets
+array_count K = let h = chained K in own_count (encoded_array_bytes K.pools) 1 (annotation_end K) (static_values_uses K) (omega (arith, starts K, h.type_lists, h.annotations))
+
+code_count : (K : Ordered) → count_placed (code_offsets K) ≡ length (code_section K).items
+unfolding code_offsets
+code_count K =
+    let h = chained K in
+    own_count (λ (p : Code × ℕ). code_bytes K.pools p.1 p.0) 4 (debug_end K) (code_uses K (debug_offsets K)) (omega (arith, starts K, h.type_lists, h.annotations, h.arrays, h.strings, h.debugs))
+
+class_data_count : (K : Ordered) → count_placed (class_data_offsets K) ≡ length (class_data_section K).items
+unfolding class_data_offsets
+class_data_count K =
+    let h = chained K in
+    own_count (λ (p : Definition × List ℕ). class_data_bytes K.pools p.0 p.1) 1 (code_end K) (class_data_uses K (code_offsets K)) (omega (arith, starts K, h.type_lists, h.annotations, h.arrays, h.strings, h.debugs, h.codes))
+
+ref_list_count : (K : Ordered) → count_placed (ref_list_offsets K) ≡ length (ref_list_section K).items
+unfolding ref_list_offsets
+ref_list_count K =
+    let h = chained K in
+    own_count offsets_bytes 4 (set_end K) (ref_list_uses K (set_offsets K)) (omega (arith, starts K, h.type_lists, h.annotations, h.arrays, h.strings, h.debugs, h.codes, h.class_data, h.sets))
+
+directory_count : (K : Ordered) → count_placed (directory_offsets K) ≡ length (directory_section K).items
+unfolding directory_offsets
+directory_count K =
+    let h = chained K in
+    let us = directory_uses K (set_offsets K) (ref_list_offsets K) in
+    let same : map (λ (x : List ℕ). x) (own_items us).written ≡ (own_items us).written = map-id (own_items us).written in
+    ap (λ xs. count_placed (uses_offsets (own_items us).numbers (offsets_from 4 (ref_list_end K) xs))) (sym same)
+    ∙ own_count (λ (x : List ℕ). x) 4 (ref_list_end K) us (omega (arith, starts K, h.type_lists, h.annotations, h.arrays, h.strings, h.debugs, h.codes, h.class_data, h.sets, h.ref_lists))
+    ∙ ap (λ (xs : List (List ℕ)). length xs) same
+
+-- the sets
+set_count : (K : Ordered) → length (set_section K).items ≡ length (set_items K).written
+unfolding annotation_offsets
+set_count K = length-map (annotation_offsets K) offsets_bytes ∙ length-chunks (map (λ (set : AnnotationSet). length set) (set_items K).written) _ ∙ length-map (set_items K).written _
+
+-- annotations of sets that stand for others
+length-annotations : (m : Mentions) (ws : List NumberedSet) → length (flat_map (λ (set : AnnotationSet). set) (map (set_in m) ws)) ≡ length (flat_map (λ (set : NumberedSet). set) ws)
+length-annotations m [] = refl
+length-annotations m (w ∷ ws) =
+    omega (arith, length-append (set_in m w) (flat_map (λ (set : AnnotationSet). set) (map (set_in m) ws)), length-append w (flat_map (λ (set : NumberedSet). set) ws), length-map w (annotation_in m), length-annotations m ws)
+
+-- what is told of the items of each section says how many there are
+pub record AreCounted (K : Ordered) (d : Data) : Type 0 where
+  pub type_lists : length d.type_lists.written ≡ length (type_list_section K).items
+  pub annotations : length (flat_map (λ set. set) d.annotations.written) ≡ length (annotation_section K).items
+  pub arrays : count_placed d.static_values.offsets ≡ length (array_section K).items
+  pub strings : length K.pools.texts ≡ length (string_section K).items
+  pub debugs : length d.debugs.written ≡ length (debug_section K).items
+  pub codes : count_placed d.codes.offsets ≡ length (code_section K).items
+  pub class_data : count_placed d.class_data.offsets ≡ length (class_data_section K).items
+  pub sets : length d.annotations.written ≡ length (set_section K).items
+  pub ref_lists : count_placed d.ref_lists.offsets ≡ length (ref_list_section K).items
+  pub directories : count_placed d.directories.offsets ≡ length (directory_section K).items
+
+pub counted : (m : Mentions) (cs : List NumberedClass) {d : Data} → AreData m cs d → AreCounted (ordered_of m cs) d
+counted m cs {d} h =
+    let K = ordered_of m cs in
+    let items = (set_items K).written in
+    record {
+      type_lists = sym (length-map d.type_lists.written (map (type_at m))) ∙ ap (λ xs. length xs) h.type_lists_are.written_are ∙ sym (length-map (type_list_items K).written (type_list_bytes m));
+      annotations = sym (length-annotations m d.annotations.written) ∙ ap (λ (xs : List AnnotationSet). length (flat_map (λ (set : AnnotationSet). set) xs)) h.annotations_are.written_are
+          ∙ sym (length-map (flat_map (λ (set : AnnotationSet). set) items) (annotation_bytes m));
+      arrays = ap count_placed h.static_values_are.offsets_are ∙ array_count K;
+      strings = sym (length-map m.texts string_data);
+      debugs = sym (length-map d.debugs.written (debug_in m)) ∙ ap (λ xs. length xs) h.debugs_are.written_are ∙ sym (length-map (debug_items K).written (debug_bytes m));
+      codes = ap count_placed h.codes_are.offsets_are ∙ code_count K;
+      class_data = ap count_placed h.class_data_are.offsets_are ∙ class_data_count K;
+      sets = sym (length-map d.annotations.written (set_in m)) ∙ ap (λ (xs : List AnnotationSet). length xs) h.annotations_are.written_are ∙ sym (set_count K);
+      ref_lists = ap count_placed h.ref_lists_are.offsets_are ∙ ref_list_count K;
+      directories = ap count_placed h.directories_are.offsets_are ∙ directory_count K;
+    }
+
+-- each section has no more items than the file may have bytes
+pub record HaveFewItems (K : Ordered) : Type 0 where
+  pub type_lists : length (type_list_section K).items ≤ 2 ^ 30
+  pub annotations : length (annotation_section K).items ≤ 2 ^ 30
+  pub arrays : length (array_section K).items ≤ 2 ^ 30
+  pub strings : length (string_section K).items ≤ 2 ^ 30
+  pub debugs : length (debug_section K).items ≤ 2 ^ 30
+  pub codes : length (code_section K).items ≤ 2 ^ 30
+  pub class_data : length (class_data_section K).items ≤ 2 ^ 30
+  pub sets : length (set_section K).items ≤ 2 ^ 30
+  pub ref_lists : length (ref_list_section K).items ≤ 2 ^ 30
+  pub directories : length (directory_section K).items ≤ 2 ^ 30
+
+-- no more items than where they end
+few : (align from last : ℕ) (xs : List (List ℕ)) → last ≡ end_from align from xs → last ≤ 2 ^ 30 → from + length xs ≤ end_from align from xs → length xs ≤ 2 ^ 30
+few align from last xs e le h = omega (arith, e, le, h)
+
+pub few_items : (K : Ordered) → EndInFile K → HaveFewItems K
+few_items K ends =
+    let h = sections_follow K in
+    let b = sections_have_bytes K in
+    let d = type_list_section K in
+    record {
+      type_lists = few 4 (data_start K) (type_list_end K) (type_list_section K).items h.1.0 ends.type_lists (items_few 4 (data_start K) (type_list_section K).items (b 0 d (omega arith)));
+      annotations = few 1 (type_list_end K) (annotation_end K) (annotation_section K).items h.1.1.0 ends.annotations (items_few 1 (type_list_end K) (annotation_section K).items (b 1 d (omega arith)));
+      arrays = few 1 (annotation_end K) (array_end K) (array_section K).items h.1.1.1.0 ends.arrays (items_few 1 (annotation_end K) (array_section K).items (b 2 d (omega arith)));
+      strings = few 1 (array_end K) (string_end K) (string_section K).items h.1.1.1.1.0 ends.strings (items_few 1 (array_end K) (string_section K).items (b 3 d (omega arith)));
+      debugs = few 1 (string_end K) (debug_end K) (debug_section K).items h.1.1.1.1.1.0 ends.debugs (items_few 1 (string_end K) (debug_section K).items (b 4 d (omega arith)));
+      codes = few 4 (debug_end K) (code_end K) (code_section K).items h.1.1.1.1.1.1.0 ends.codes (items_few 4 (debug_end K) (code_section K).items (b 5 d (omega arith)));
+      class_data = few 1 (code_end K) (class_data_end K) (class_data_section K).items h.1.1.1.1.1.1.1.0 ends.class_data (items_few 1 (code_end K) (class_data_section K).items (b 6 d (omega arith)));
+      sets = few 4 (class_data_end K) (set_end K) (set_section K).items h.1.1.1.1.1.1.1.1.0 ends.sets (items_few 4 (class_data_end K) (set_section K).items (b 7 d (omega arith)));
+      ref_lists = few 4 (set_end K) (ref_list_end K) (ref_list_section K).items h.1.1.1.1.1.1.1.1.1.0 ends.ref_lists (items_few 4 (set_end K) (ref_list_section K).items (b 8 d (omega arith)));
+      directories = few 4 (ref_list_end K) (directory_end K) (directory_section K).items (sym h.1.1.1.1.1.1.1.1.1.1) ends.directories (items_few 4 (ref_list_end K) (directory_section K).items (b 9 d (omega arith)));
+    }
+
+-- ---- texts
+
+-- the texts stand behind the static values
+pub strings_stand : (K : Ordered) (from : ℕ) {p : ItemPlaces} → from ≡ array_end K
+    → StandSo (offsets_from 1 from (map string_data K.pools.texts)) (end_from 1 from (map string_data K.pools.texts)) (map string_data K.pools.texts) p
+    → StandSo (offsets (string_section K)) (string_end K) (string_section K).items p
+strings_stand K from {p} e h = record {
+  offsets_are = h.offsets_are ∙ ap (λ n. offsets_from 1 n (map string_data K.pools.texts)) e;
+  end_is = h.end_is ∙ ap (λ n. end_from 1 n (map string_data K.pools.texts)) e ∙ sym (sections_follow K).1.1.1.1.0;
+  greatest_is = h.greatest_is;
+}
+
+-- and fit the file
+pub strings_fit : (K : Ordered) (from : ℕ) → from ≡ array_end K → EndInFile K → end_from 1 from (map string_data K.pools.texts) ≤ 2 ^ 30
+strings_fit K from e ends = omega (arith, ap (λ n. end_from 1 n (map string_data K.pools.texts)) e, (sections_follow K).1.1.1.1.0, ends.strings)

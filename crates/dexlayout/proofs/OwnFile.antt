@@ -1,0 +1,142 @@
+-- The file of a program's classes: it is written where the program is good, and is as long as a layout tells.
+use Rattle.std.proofs.Common.{◌≡◌, ℕ, ◌+◌, ◌*◌, ◌≤◌, List, [], ◌∷◌, ◌++◌, length, map, sym, ap, subst, ◌∙◌, arith}
+use Rattle.std.specs.List.{flat_map}
+use Rattle.std.specs.Prelude.{slice_index, drop}
+use Rattle.std.proofs.lemmas.List.{length-append}
+use Rattle.dexspec.specs.Bytes.{uint}
+use Rattle.dexspec.specs.Header.{HasSize}
+use Rattle.dexspec.specs.Sections.{Section, HeaderItem, MapList}
+use Rattle.dexspec.specs.Files.{Collection, definitions}
+use Rattle.dexspec.specs.Mentions.{Mentions, mentions}
+use Rattle.dexspec.specs.Merging.{Caps, greatest_caps, AreCaps, Fits}
+use Rattle.dexspec.specs.Placing.{Ordered, EqualOnce}
+use Rattle.dexspec.specs.Canonical.{layout, map_of, map_bytes, map_entry_bytes, unsigned_file, with_sums, ordered, canonical, data_start, type_list_items, type_list_section, type_list_offsets, type_list_end, set_items, annotation_section, annotation_end, array_section, array_offsets, array_end, string_section, string_end, debug_items, debug_section, debug_offsets, debug_end, code_section, code_offsets, code_end, class_data_section, class_data_offsets, class_data_end, set_section, set_offsets, set_end, ref_list_section, ref_list_offsets, ref_list_end, directory_section, directory_offsets, directory_end}
+use Rattle.dexspec.proofs.ByteNumbers.{length-uint, length-ushort}
+use Rattle.dexspec.proofs.Stands.{length_rows}
+use Rattle.dexspec.proofs.Laying.{data_before_map, map_place, map_place_is, map_list_named, parts}
+use Rattle.dexhead.specs.Laid.{TellsLayout, map_start, map_list}
+use Rattle.dexpool.specs.Numberings.{IsNumbering}
+use Rattle.dexclass.specs.Numbered.{NumberedClass}
+use Rattle.dexclass.specs.Programs.{AreClassesOf}
+use Rattle.dexlayout.specs.Places.{TypeListPlaces, AnnotationPlaces, DebugPlaces, SetPlaces, Places}
+use Rattle.dexlayout.specs.Laid.{ordered_of, file_end, AreWritable, greatest_of, greatest_item, first_offsets, StandSo, AreTypeLists, AreAnnotations, AreDebugs, AreSets, IsLaid}
+use Rattle.dexlayout.specs.Parts.{entry_of, table_parts, section_parts}
+use Rattle.dexlayout.proofs.Ends.{map_start_is}
+use Rattle.dexlayout.proofs.OwnParts.{map_parts}
+
+-- ---- the length of the file
+
+-- an entry has twelve bytes
+length-map_entry : (e : Section × ℕ × ℕ) → length (map_entry_bytes e) ≡ 12
+length-map_entry e = omega (arith, length-append {A = ℕ}, length-uint, length-ushort)
+
+-- and a map four more than its entries
+pub length-map_bytes : (es : List (Section × ℕ × ℕ)) → length (map_bytes es) ≡ 4 + 12 * length es
+length-map_bytes es = length-append (uint (length es)) (flat_map map_entry_bytes es) ∙ omega (arith, length-uint (length es), length_rows map_entry_bytes 12 length-map_entry es)
+
+-- where the map begins, by two names
+places_same : (K : Ordered) → map_place K ≡ map_start K
+places_same K = map_place_is K ∙ sym (map_start_is K)
+
+-- the file ends where it is told to
+length_file : (K : Ordered) → length (with_sums (unsigned_file K)) ≡ file_end K
+length_file K =
+    let list = ap (λ es. length (map_bytes es)) (map_list_named K ∙ ap (map_of K (layout K)) (places_same K)) in
+    (parts K).size ∙ ap (λ n. n + length (map_bytes (Rattle.dexspec.proofs.Laying.map_list K))) (places_same K) ∙ ap (λ n. map_start K + n) list
+
+-- and so does a canonical file
+pub length_canonical : (C : Collection) → length (canonical C) ≡ file_end (ordered (definitions C))
+unfolding canonical
+length_canonical C = length_file (ordered (definitions C))
+
+-- ---- a program's classes
+
+-- in order they are those of the canonical file
+pub ordered_is : (C : Collection) (cs : List NumberedClass) → AreClassesOf C cs → ordered_of (mentions (definitions C)) cs ≡ ordered (definitions C)
+ordered_is C cs of = ap (λ ds. record { classes = ds; pools = mentions (definitions C); sharing = EqualOnce }) of.are
+
+-- the greatest caps are caps
+greatest_are : AreCaps greatest_caps
+greatest_are = record { types = omega arith; protos = omega arith; fields = omega arith; methods = omega arith; short_strings = omega arith; weight = omega arith }
+
+-- what fits the greatest caps can be written
+pub writable : (C : Collection) (cs : List NumberedClass) → IsNumbering (mentions (definitions C)) → Fits greatest_caps (definitions C)
+    → ((caps : Caps) (D : Collection) → AreCaps caps → Fits caps (definitions D) → HasSize (canonical D)) → AreClassesOf C cs → AreWritable (mentions (definitions C)) cs
+writable C cs numbering fits law of = record {
+  numbering = numbering;
+  known = of.known;
+  types_few = fits.types;
+  protos_few = fits.protos;
+  fits = omega (arith, (law greatest_caps C greatest_are fits).most, length_canonical C, ap file_end (ordered_is C cs of));
+}
+
+-- ---- classes of the same definitions have the same layout
+
+module _ (m : Mentions) (cs ds : List NumberedClass) (e : ordered_of m cs ≡ ordered_of m ds) where
+  type_lists_same : {p : TypeListPlaces} → AreTypeLists m cs p → AreTypeLists m ds p
+  type_lists_same {p} h = record {
+    written_are = h.written_are ∙ ap (λ (K : Ordered). (type_list_items K).written) e;
+    known = h.known;
+    places_are = subst (λ (K : Ordered). StandSo (type_list_offsets K) (type_list_end K) (type_list_section K).items p.places) e h.places_are;
+  }
+
+  annotations_same : {p : AnnotationPlaces} → AreAnnotations m cs p → AreAnnotations m ds p
+  annotations_same {p} h = record {
+    written_are = h.written_are ∙ ap (λ (K : Ordered). (set_items K).written) e;
+    known = h.known;
+    places_are = subst (λ (K : Ordered). StandSo (first_offsets m (type_list_end K) (set_items K).written) (annotation_end K) (annotation_section K).items p.places) e h.places_are;
+  }
+
+  debugs_same : {p : DebugPlaces} → AreDebugs m cs p → AreDebugs m ds p
+  debugs_same {p} h = record {
+    written_are = h.written_are ∙ ap (λ (K : Ordered). (debug_items K).written) e;
+    known = h.known;
+    places_are = subst (λ (K : Ordered). StandSo (debug_offsets K) (debug_end K) (debug_section K).items p.places) e h.places_are;
+  }
+
+  sets_same : {p : SetPlaces} → AreSets m cs p → AreSets m ds p
+  sets_same {p} h = record {
+    own_are = h.own_are ∙ ap (λ (K : Ordered). map (λ s. s.own) (set_offsets K)) e;
+    fields_are = h.fields_are ∙ ap (λ (K : Ordered). flat_map (λ s. s.fields) (set_offsets K)) e;
+    methods_are = h.methods_are ∙ ap (λ (K : Ordered). flat_map (λ s. map (λ os. slice_index os 0) s.methods) (set_offsets K)) e;
+    parameters_are = h.parameters_are ∙ ap (λ (K : Ordered). flat_map (λ s. flat_map (drop 1) s.methods) (set_offsets K)) e;
+    end_is = h.end_is ∙ ap set_end e;
+    greatest_is = h.greatest_is ∙ ap (λ (K : Ordered). greatest_of (set_section K).items) e;
+  }
+
+  pub laid_same : {p : Places} → IsLaid m cs p → IsLaid m ds p
+  laid_same {p} h = record {
+    head_tells = subst (TellsLayout p.head) e h.head_tells;
+    signature_length = h.signature_length;
+    type_lists_are = type_lists_same h.type_lists_are;
+    annotations_are = annotations_same h.annotations_are;
+    static_values_are = subst (λ (K : Ordered). StandSo (array_offsets K) (array_end K) (array_section K).items p.static_values) e h.static_values_are;
+    strings_are = subst (λ (K : Ordered). StandSo (layout K).strings (string_end K) (string_section K).items p.strings) e h.strings_are;
+    debugs_are = debugs_same h.debugs_are;
+    codes_are = subst (λ (K : Ordered). StandSo (code_offsets K) (code_end K) (code_section K).items p.codes) e h.codes_are;
+    class_data_are = subst (λ (K : Ordered). StandSo (class_data_offsets K) (class_data_end K) (class_data_section K).items p.class_data) e h.class_data_are;
+    sets_are = sets_same h.sets_are;
+    ref_lists_are = subst (λ (K : Ordered). StandSo (ref_list_offsets K) (ref_list_end K) (ref_list_section K).items p.ref_lists) e h.ref_lists_are;
+    directories_are = subst (λ (K : Ordered). StandSo (directory_offsets K) (directory_end K) (directory_section K).items p.directories) e h.directories_are;
+    entries_are = h.entries_are ∙ ap (λ (K : Ordered). map_of K (layout K) (map_start K)) e;
+    greatest_is = h.greatest_is ∙ ap greatest_item e;
+  }
+
+-- the data begin before the map
+pub data_before : (K : Ordered) → data_start K ≤ map_start K
+data_before K = omega (arith, data_before_map K, places_same K)
+
+-- ---- the map
+
+-- the entries of the parts are the map
+pub entries_same : (K : Ordered) (off : ℕ) (tables sections es : List (Section × ℕ × ℕ))
+    → es ≡ (HeaderItem, 1, 0) ∷ (flat_map entry_of tables ++ (flat_map entry_of sections ++ (MapList, 1, off) ∷ [])) → tables ≡ table_parts K → sections ≡ section_parts K → off ≡ map_start K
+    → es ≡ map_of K (layout K) (map_start K)
+entries_same K off tables sections es e et es' eo =
+    e ∙ ap (λ ts. (HeaderItem, 1, 0) ∷ (flat_map entry_of ts ++ (flat_map entry_of sections ++ (MapList, 1, off) ∷ []))) et
+    ∙ ap (λ ss. (HeaderItem, 1, 0) ∷ (flat_map entry_of (table_parts K) ++ (flat_map entry_of ss ++ (MapList, 1, off) ∷ []))) es'
+    ∙ map_parts K off ∙ ap (map_of K (layout K)) eo
+
+-- and have its size
+pub map_size_is : (K : Ordered) (es : List (Section × ℕ × ℕ)) (n : ℕ) → es ≡ map_of K (layout K) (map_start K) → n ≡ length es → 4 + 12 * n ≡ length (map_list K)
+map_size_is K es n e en = ap (λ k. 4 + 12 * k) en ∙ sym (length-map_bytes es) ∙ ap (λ l. length (map_bytes l)) e

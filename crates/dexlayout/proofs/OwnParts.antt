@@ -1,0 +1,52 @@
+-- The tables and the map's entries, from their parts.
+use Rattle.std.proofs.Common.{◌≡◌, ℕ, ◌+◌, ◌*◌, ◌≤◌, List, [], ◌∷◌, ◌++◌, length, map, refl, sym, ap, ◌∙◌, arith}
+use Rattle.std.specs.List.{flat_map}
+use Rattle.std.specs.Prelude.{◌==◌, if◌then◌else◌, slice_index}
+use Rattle.std.proofs.lemmas.List.{length-map}
+use Rattle.dexspec.specs.Bytes.{round_up}
+use Rattle.dexspec.specs.Header.{Table}
+use Rattle.dexspec.specs.Mentions.{Mentions}
+use Rattle.dexspec.specs.Sections.{Section, HeaderItem, TableOf, MapList}
+use Rattle.dexspec.specs.Placing.{Ordered, Placed, offsets, offsets_from}
+use Rattle.dexspec.specs.Canonical.{Layout, layout, placed_tables, data_sections, map_of}
+use Rattle.dexspec.proofs.Placements.{layout_is}
+use Rattle.dexclass.specs.Numbered.{NumberedClass, definition_of}
+use Rattle.dexlayout.specs.Laid.{AreWritable, ordered_of}
+use Rattle.dexlayout.specs.Parts.{entry_of, table_parts, section_parts}
+use Rattle.dexlayout.proofs.Ends.{end_in_file}
+
+-- the rows of all tables fit the file
+pub rows_few : (m : Mentions) (cs : List NumberedClass) → AreWritable m cs
+    → 112 + 4 * length m.texts + 4 * length m.types + 12 * length m.protos + 8 * length m.fields + 8 * length m.methods + 32 * length cs ≤ 1073741824
+rows_few m cs w = omega (arith, (end_in_file (ordered_of m cs) w.fits).tables, length-map cs (definition_of m))
+
+-- six of each, one by one
+pub six_same : {X : Type 0} (a b c d e f a' b' c' d' e' f' : X) → a ≡ a' → b ≡ b' → c ≡ c' → d ≡ d' → e ≡ e' → f ≡ f'
+    → a ∷ b ∷ c ∷ d ∷ e ∷ f ∷ [] ≡ a' ∷ b' ∷ c' ∷ d' ∷ e' ∷ f' ∷ []
+six_same a b c d e f a' b' c' d' e' f' ea eb ec ed ee ef = cc
+
+-- ten of each
+pub ten_same : {X : Type 0} (a b c d e f g h j k a' b' c' d' e' f' g' h' j' k' : X) → a ≡ a' → b ≡ b' → c ≡ c' → d ≡ d' → e ≡ e' → f ≡ f' → g ≡ g' → h ≡ h' → j ≡ j' → k ≡ k'
+    → a ∷ b ∷ c ∷ d ∷ e ∷ f ∷ g ∷ h ∷ j ∷ k ∷ [] ≡ a' ∷ b' ∷ c' ∷ d' ∷ e' ∷ f' ∷ g' ∷ h' ∷ j' ∷ k' ∷ []
+ten_same a b c d e f g h j k a' b' c' d' e' f' g' h' j' k' ea eb ec ed ee ef eg eh ej ek = cc
+
+-- entries of parts, as the map has them
+entries_mapped : {X : Type 0} (part : X → Section × ℕ × ℕ) (entries : X → List (Section × ℕ × ℕ)) → ((x : X) → entry_of (part x) ≡ entries x) → (xs : List X) → flat_map entry_of (map part xs) ≡ flat_map entries xs
+entries_mapped part entries each [] = refl
+entries_mapped part entries each (x ∷ xs) = ap (λ es. es ++ flat_map entry_of (map part xs)) (each x) ∙ ap (λ es. entries x ++ es) (entries_mapped part entries each xs)
+
+-- where the first item stands, if there is one
+first_stands : (kind : Section) (align from : ℕ) (items : List (List ℕ))
+    → entry_of (kind, length items, round_up align from) ≡ (if length items == 0 then [] else (kind, length items, slice_index (offsets_from align from items) 0) ∷ [])
+first_stands kind align from [] = refl
+first_stands kind align from (x ∷ xs) = refl
+
+-- the map by its parts
+pub map_parts : (K : Ordered) (map_off : ℕ) → (HeaderItem, 1, 0) ∷ (flat_map entry_of (table_parts K) ++ (flat_map entry_of (section_parts K) ++ (MapList, 1, map_off) ∷ [])) ≡ map_of K (layout K) map_off
+map_parts K map_off =
+    let tables : Table × ℕ × ℕ → List (Section × ℕ × ℕ) = λ t. if t.1 == 0 then [] else (TableOf t.0, t.1, t.2) ∷ [] in
+    let sections : Placed → List (Section × ℕ × ℕ) = λ p. if length p.items == 0 then [] else (p.kind, length p.items, slice_index (offsets p) 0) ∷ [] in
+    ap (λ es. (HeaderItem, 1, 0) ∷ (es ++ (flat_map entry_of (section_parts K) ++ (MapList, 1, map_off) ∷ []))) (entries_mapped (λ t. (TableOf t.0, t.1, t.2)) tables (λ t. refl) (placed_tables K))
+    ∙ ap (λ es. (HeaderItem, 1, 0) ∷ (flat_map tables (placed_tables K) ++ (es ++ (MapList, 1, map_off) ∷ [])))
+    (entries_mapped (λ p. (p.kind, length p.items, round_up p.align p.from)) sections (λ p. first_stands p.kind p.align p.from p.items) (data_sections K))
+    ∙ ap (λ (l : Layout). map_of K l map_off) (sym (layout_is K))

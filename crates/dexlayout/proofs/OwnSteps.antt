@@ -1,0 +1,67 @@
+-- Items that are placed one after the other by a loop: what is still to be placed.
+use Rattle.std.proofs.Common.{◌≡◌, ℕ, ◌+◌, ◌<◌, ◌≤◌, max, List, [], ◌∷◌, ◌++◌, length, get_or, map, drop, Option, Some, refl, sym, ap, ◌∙◌, arith, append_assoc}
+use Rattle.std.specs.List.{flat_map}
+use Rattle.std.proofs.lemmas.List.{append-nil, drop_more, drop_all}
+use Rattle.dexspec.specs.Bytes.{round_up}
+use Rattle.dexspec.specs.Placing.{offsets_from, end_from}
+use Rattle.dexlayout.specs.Places.{ItemPlaces}
+use Rattle.dexlayout.specs.Running.{none_from, put_at, place_use, place_uses}
+use Rattle.dexlayout.specs.Laid.{greatest_of, StandSo}
+use Rattle.dexlayout.proofs.Owned.{place_append, place_grows}
+
+-- an item that is not aligned stands where the one before it ends
+pub put_plain : (p : ItemPlaces) (len : ℕ) → place_use 1 p (Some len) ≡ put_at p p.end len
+put_plain p len = let here : round_up 1 p.end ≡ p.end = omega arith in ap (λ off. put_at p off len) here
+
+-- the next of those that are left
+pub left_next : {X : Type 0} (align : ℕ) (size : X → Option ℕ) (p : ItemPlaces) (xs : List X) (i : ℕ) (x : X) → i < length xs → get_or xs i x ≡ x
+    → place_uses align p (map size (drop i xs)) ≡ place_uses align (place_use align p (size x)) (map size (drop (i + 1) xs))
+left_next align size p xs i x lt is = ap (λ ys. place_uses align p (map size ys)) (drop_more xs i x lt ∙ ap (λ y. y ∷ drop (i + 1) xs) is)
+
+-- it fits
+pub left_fits : {X : Type 0} {all : ItemPlaces} (align : ℕ) (size : X → Option ℕ) (p : ItemPlaces) (xs : List X) (i : ℕ) (x : X) → i < length xs → get_or xs i x ≡ x → place_uses align p (map size (drop i xs)) ≡ all
+    → (place_use align p (size x)).end ≤ all.end
+left_fits align size p xs i x lt is leads =
+    let e = ap (λ (q : ItemPlaces). q.end) (sym (left_next align size p xs i x lt is) ∙ leads) in
+    omega (arith, e, place_grows align (place_use align p (size x)) (map size (drop (i + 1) xs)))
+
+-- the same where each has several uses
+pub several_next : {X : Type 0} (align : ℕ) (several : X → List (Option ℕ)) (p : ItemPlaces) (xs : List X) (i : ℕ) (x : X) → i < length xs → get_or xs i x ≡ x
+    → place_uses align p (flat_map several (drop i xs)) ≡ place_uses align (place_uses align p (several x)) (flat_map several (drop (i + 1) xs))
+several_next align several p xs i x lt is =
+    ap (λ ys. place_uses align p (flat_map several ys)) (drop_more xs i x lt ∙ ap (λ y. y ∷ drop (i + 1) xs) is) ∙ place_append align p (several x) (flat_map several (drop (i + 1) xs))
+
+pub several_fit : {X : Type 0} {all : ItemPlaces} (align : ℕ) (several : X → List (Option ℕ)) (p : ItemPlaces) (xs : List X) (i : ℕ) (x : X) → i < length xs → get_or xs i x ≡ x → place_uses align p (flat_map several (drop i xs)) ≡ all
+    → (place_uses align p (several x)).end ≤ all.end
+several_fit align several p xs i x lt is leads =
+    let e = ap (λ (q : ItemPlaces). q.end) (sym (several_next align several p xs i x lt is) ∙ leads) in
+    omega (arith, e, place_grows align (place_uses align p (several x)) (flat_map several (drop (i + 1) xs)))
+
+-- none is left
+pub left_none : {X : Type 0} (align : ℕ) (size : X → Option ℕ) (p : ItemPlaces) (xs : List X) (i : ℕ) → length xs ≤ i → place_uses align p (map size (drop i xs)) ≡ p
+left_none align size p xs i le = ap (λ ys. place_uses align p (map size ys)) (drop_all i xs le)
+
+module _ {X : Type 0} (f : X → List ℕ) (align : ℕ) where
+  -- how many bytes one has
+  abbrev size : X → Option ℕ
+  size x = Some (length (f x))
+
+  offsets_all : (xs : List X) (p : ItemPlaces) → (place_uses align p (map size xs)).offsets ≡ p.offsets ++ offsets_from align p.end (map f xs)
+  offsets_all [] p = sym (append-nil p.offsets)
+  offsets_all (x ∷ xs) p = offsets_all xs (put_at p (round_up align p.end) (length (f x))) ∙ append_assoc p.offsets (round_up align p.end ∷ []) _
+
+  end_all : (xs : List X) (p : ItemPlaces) → (place_uses align p (map size xs)).end ≡ end_from align p.end (map f xs)
+  end_all [] p = refl
+  end_all (x ∷ xs) p = end_all xs (put_at p (round_up align p.end) (length (f x)))
+
+  greatest_all : (xs : List X) (p : ItemPlaces) → (place_uses align p (map size xs)).greatest ≡ max p.greatest (greatest_of (map f xs))
+  greatest_all [] p = omega arith
+  greatest_all (x ∷ xs) p = let rest = greatest_all xs (put_at p (round_up align p.end) (length (f x))) in omega (arith, rest)
+
+  -- where items stand of which each is there
+  pub all_stand : (from : ℕ) (xs : List X) → StandSo (offsets_from align from (map f xs)) (end_from align from (map f xs)) (map f xs) (place_uses align (none_from from) (map size xs))
+  all_stand from xs = record {
+    offsets_are = offsets_all xs (none_from from);
+    end_is = end_all xs (none_from from);
+    greatest_is = greatest_all xs (none_from from) ∙ omega arith;
+  }

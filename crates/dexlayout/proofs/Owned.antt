@@ -1,0 +1,92 @@
+-- Items of their own: going through the uses with a running end gives the offsets of the uses, where the items end, and
+-- how long the longest is.
+use Rattle.std.proofs.Common.{◌≡◌, ℕ, ◌+◌, ◌<◌, ◌≤◌, max, List, [], ◌∷◌, ◌++◌, length, get_or, map, take, Option, None, Some, refl, sym, ap, ◌∙◌, arith, append_assoc}
+use Rattle.std.specs.Prelude.{slice_index}
+use Rattle.std.specs.Option.{option_map, option_map_or}
+use Rattle.std.proofs.lemmas.List.{append-nil, length-append, take_more, get_or-append-add}
+use Rattle.dexspec.specs.Lists.{present}
+use Rattle.dexspec.specs.Bytes.{round_up}
+use Rattle.dexspec.specs.Placing.{own_numbers, own_items, offsets_from, end_from, uses_offsets}
+use Rattle.dexspec.proofs.Places.{length-padding}
+use Rattle.dexlayout.specs.Places.{ItemPlaces}
+use Rattle.dexlayout.specs.Running.{none_from, pass, put_at, place_use, place_uses}
+use Rattle.dexlayout.specs.Laid.{greatest_of, StandSo}
+
+-- how many bytes each use has, if it has an item
+abbrev pub sizes : {X : Type 0} → (X → List ℕ) → List (Option X) → List (Option ℕ)
+sizes f us = map (option_map (λ x. length (f x))) us
+
+-- ---- the running places
+
+-- uses behind others
+pub place_append : (align : ℕ) (p : ItemPlaces) (us vs : List (Option ℕ)) → place_uses align p (us ++ vs) ≡ place_uses align (place_uses align p us) vs
+place_append align p [] vs = refl
+place_append align p (u ∷ us) vs = place_append align (place_use align p u) us vs
+
+-- one use more
+pub place_more : (align : ℕ) (p : ItemPlaces) (us : List (Option ℕ)) (u : Option ℕ) → place_uses align p (us ++ u ∷ []) ≡ place_use align (place_uses align p us) u
+place_more align p us u = place_append align p us (u ∷ [])
+
+-- the use at a place more
+pub place_next : (align : ℕ) (p : ItemPlaces) (us : List (Option ℕ)) (i : ℕ) (d : Option ℕ) → i < length us → place_uses align p (take (i + 1) us) ≡ place_use align (place_uses align p (take i us)) (get_or us i d)
+place_next align p us i d lt = ap (place_uses align p) (take_more us i d lt) ∙ place_more align p (take i us) (get_or us i d)
+
+-- they do not end before they begin
+pub place_grows : (align : ℕ) (p : ItemPlaces) (us : List (Option ℕ)) → p.end ≤ (place_uses align p us).end
+place_grows align p [] = omega arith
+place_grows align p (None ∷ us) = place_grows align (pass p) us
+place_grows align p (Some n ∷ us) =
+    let rest = place_grows align (put_at p (round_up align p.end) n) us in
+    omega (arith, rest, length-padding align p.end)
+
+-- the first do not end behind all
+pub place_within : (align : ℕ) (p : ItemPlaces) (us vs : List (Option ℕ)) → (place_uses align p us).end ≤ (place_uses align p (us ++ vs)).end
+place_within align p us vs =
+    let joined = ap (λ (q : ItemPlaces). q.end) (place_append align p us vs) in
+    omega (arith, joined, place_grows align (place_uses align p us) vs)
+
+-- ---- they are those of items of their own
+
+-- the offset of a use's item, behind others
+abbrev offset_of : List ℕ → Option ℕ → ℕ
+offset_of offs n = option_map_or (slice_index offs) n 0
+
+module _ {X : Type 0} (f : X → List ℕ) (align : ℕ) where
+  offsets_go : (us : List (Option X)) (before : List ℕ) (p : ItemPlaces)
+      → (place_uses align p (sizes f us)).offsets ≡ p.offsets ++ map (offset_of (before ++ offsets_from align p.end (map f (present us)))) (own_numbers (length before) us)
+  offsets_go [] before p = sym (append-nil p.offsets)
+  offsets_go (None ∷ us) before p = offsets_go us before (pass p) ∙ append_assoc p.offsets (0 ∷ []) _
+  offsets_go (Some x ∷ us) before p =
+      let o = round_up align p.end in
+      let next = offsets_from align (o + length (f x)) (map f (present us)) in
+      let all = before ++ o ∷ next in
+      let joined : (before ++ o ∷ []) ++ next ≡ all = append_assoc before (o ∷ []) next in
+      let count : length (before ++ o ∷ []) ≡ length before + 1 = length-append before (o ∷ []) in
+      let here : slice_index all (length before) ≡ o = ap (slice_index all) (omega arith) ∙ get_or-append-add before (o ∷ next) 0 0 in
+      offsets_go us (before ++ o ∷ []) (put_at p o (length (f x)))
+      ∙ append_assoc p.offsets (o ∷ []) _
+      ∙ ap (λ os. p.offsets ++ (o ∷ map (offset_of os) (own_numbers (length (before ++ o ∷ [])) us))) joined
+      ∙ ap (λ n. p.offsets ++ (o ∷ map (offset_of all) (own_numbers n us))) count
+      ∙ ap (λ k. p.offsets ++ (k ∷ map (offset_of all) (own_numbers (length before + 1) us))) (sym here)
+
+  end_go : (us : List (Option X)) (p : ItemPlaces) → (place_uses align p (sizes f us)).end ≡ end_from align p.end (map f (present us))
+  end_go [] p = refl
+  end_go (None ∷ us) p = end_go us (pass p)
+  end_go (Some x ∷ us) p = end_go us (put_at p (round_up align p.end) (length (f x)))
+
+  greatest_go : (us : List (Option X)) (p : ItemPlaces) → (place_uses align p (sizes f us)).greatest ≡ max p.greatest (greatest_of (map f (present us)))
+  greatest_go [] p = omega arith
+  greatest_go (None ∷ us) p = greatest_go us (pass p)
+  greatest_go (Some x ∷ us) p =
+      let rest = greatest_go us (put_at p (round_up align p.end) (length (f x))) in
+      omega (arith, rest)
+
+  -- where items of their own stand
+  pub own_stand : (from : ℕ) (us : List (Option X))
+      → StandSo (uses_offsets (own_items us).numbers (offsets_from align from (map f (own_items us).written))) (end_from align from (map f (own_items us).written)) (map f (own_items us).written)
+      (place_uses align (none_from from) (sizes f us))
+  own_stand from us = record {
+    offsets_are = offsets_go us [] (none_from from);
+    end_is = end_go us (none_from from);
+    greatest_is = greatest_go us (none_from from) ∙ omega arith;
+  }

@@ -1,0 +1,193 @@
+-- A numbering led to itself: each number leads to itself, and what is led on stays as it is.
+use Rattle.std.proofs.Common.{◌≡◌, ℕ, zero, suc, ◌+◌, ◌<◌, ◌≤◌, List, [], ◌∷◌, ◌++◌, length, get_or, map, refl, sym, ap, ◌∙◌, arith, inl, inr}
+use Rattle.std.specs.Prelude.{Option, Some, None, IfSome, All, is_some, unwrap_or}
+use Rattle.std.specs.List.{flat_map}
+use Rattle.std.proofs.lemmas.Bool.{cases_lt}
+use Rattle.std.proofs.lemmas.List.{get_or_default}
+use Rattle.std.proofs.lemmas.List.Elements.{All-nil, All-cons, All-append, All-head, All-tail}
+use Rattle.dexspec.specs.Mentions.{Mentions}
+use Rattle.dexpool.specs.declared.symbols.SymbolKind.{SymbolKind}
+use Rattle.dexpool.specs.declared.symbols.SymbolKind.TheVariants as kinds
+use Rattle.dexpool.specs.Laws.{LeadsAll}
+use Rattle.dexpool.specs.Numberings.{Leads, Maps, AllLead, image, image_of}
+use Rattle.dexpool.specs.Pools.{count_of}
+use Rattle.dexcode.specs.declared.debug_operation.Operation.{Operation}
+use Rattle.dexcode.specs.declared.debug_operation.Operation.TheVariants.{AdvancePc, AdvanceLine, StartLocal, StartLocalExtended, EndLocal, RestartLocal, SetPrologueEnd, SetEpilogueBegin, SetFile, Special}
+use Rattle.dexcode.specs.Debug.{NumberedDebug, name_of, type_of, signature_of, with_numbers, number_uses, operation_uses, debug_uses, HasImage, image_or_none, renumbered_operation, renumbered_debug}
+use Rattle.dexcode.specs.Meaning.{IsKnownText, IsKnownOperation, IsKnownDebug}
+use Rattle.dexval.specs.Numbered.{NumberedValue, NumberedValues, NumberedElements, NumberedAnnotation, NumberedSet, Plain, Named, Array, Annotated, NoValue, ThenNext, NoElement, ThenNamed, kind_of_reference}
+use Rattle.dexval.specs.Renumbering.{led, renumbered, renumbered_values, renumbered_elements, renumbered_set}
+
+-- ---- each number leads to itself
+
+-- so many numbers, from one on
+abbrev upto : ℕ → ℕ → List (Option ℕ)
+upto from zero = []
+upto from (suc n) = Some from ∷ upto (from + 1) n
+
+length-upto : (from n : ℕ) → length (upto from n) ≡ n
+length-upto from zero = refl
+length-upto from (suc n) = ap suc (length-upto (from + 1) n)
+
+at_upto : (from n i : ℕ) → i < n → get_or (upto from n) i None ≡ Some (from + i)
+at_upto from zero i lt = absurd (omega (arith, lt))
+at_upto from (suc n) zero lt = ap Some (omega arith)
+at_upto from (suc n) (suc i) lt = at_upto (from + 1) n i (omega (arith, lt)) ∙ ap Some (omega arith)
+
+behind_upto : (from n i : ℕ) → n ≤ i → get_or (upto from n) i None ≡ None
+behind_upto from zero i le = refl
+behind_upto from (suc n) zero le = absurd (omega (arith, le))
+behind_upto from (suc n) (suc i) le = behind_upto (from + 1) n i (omega (arith, le))
+
+from_none : (n i : ℕ) → i < n → image (upto 0 n) i ≡ Some i
+from_none n i lt = at_upto 0 n i lt ∙ ap Some (omega arith)
+
+-- where a number leads that leads somewhere
+leads_there : (n i j : ℕ) → image (upto 0 n) i ≡ Some j → (i < n) × (i ≡ j)
+leads_there n i j e = elim (cases_lt i n) [
+  | inl lt ↦ (lt, let same : Some i ≡ Some j = sym (from_none n i lt) ∙ e in cc)
+  | inr ge ↦ let nothing : None ≡ Some j = sym (behind_upto 0 n i ge) ∙ e in absurd cc
+]
+
+leads_itself : {X : Type 0} (xs : List X) → Leads xs xs (upto 0 (length xs))
+leads_itself xs = record {
+  count = length-upto 0 (length xs);
+  same = λ i j d e. let h = leads_there (length xs) i j e in record { within = omega (arith, h.0, h.1); is = λ x. ap (λ n. get_or xs n x) (sym h.1) ∙ get_or_default xs i x d h.0 };
+  none = λ i d lt e there. let nothing : Some i ≡ None = sym (from_none (length xs) i lt) ∙ e in absurd cc;
+  rising = λ h i j k less e f. omega (arith, less, (leads_there (length xs) h j e).1, (leads_there (length xs) i k f).1);
+}
+
+-- the map of a numbering to itself
+abbrev pub itself : Mentions → Maps
+itself m = record {
+  texts = upto 0 (length m.texts);
+  types = upto 0 (length m.types);
+  protos = upto 0 (length m.protos);
+  fields = upto 0 (length m.fields);
+  methods = upto 0 (length m.methods);
+}
+
+pub all_lead_itself : (m : Mentions) → AllLead m m (itself m)
+all_lead_itself m = record {
+  texts_lead = leads_itself m.texts;
+  types_lead = leads_itself m.types;
+  protos_lead = leads_itself m.protos;
+  fields_lead = leads_itself m.fields;
+  methods_lead = leads_itself m.methods;
+}
+
+-- the image of a number of the numbering
+image_is : (m : Mentions) (kind : SymbolKind) (i : ℕ) → i < count_of kind m → image_of (itself m) kind i ≡ Some i
+image_is m kinds.Text i lt = from_none (length m.texts) i lt
+image_is m kinds.Typ i lt = from_none (length m.types) i lt
+image_is m kinds.Proto i lt = from_none (length m.protos) i lt
+image_is m kinds.Field i lt = from_none (length m.fields) i lt
+image_is m kinds.Method i lt = from_none (length m.methods) i lt
+
+-- and of any other
+no_image : (m : Mentions) (kind : SymbolKind) (i : ℕ) → count_of kind m ≤ i → image_of (itself m) kind i ≡ None
+no_image m kinds.Text i le = behind_upto 0 (length m.texts) i le
+no_image m kinds.Typ i le = behind_upto 0 (length m.types) i le
+no_image m kinds.Proto i le = behind_upto 0 (length m.protos) i le
+no_image m kinds.Field i le = behind_upto 0 (length m.fields) i le
+no_image m kinds.Method i le = behind_upto 0 (length m.methods) i le
+
+pub leads_all_itself : (m : Mentions) → LeadsAll m (itself m)
+leads_all_itself m kind i lt = ap is_some (image_is m kind i lt)
+
+-- ---- sets
+
+module _ (m : Mentions) where
+  stays : (kind : SymbolKind) (i : ℕ) → led (itself m) kind i ≡ i
+  stays kind i = elim (cases_lt i (count_of kind m)) [
+    | inl lt ↦ ap (λ o. unwrap_or o i) (image_is m kind i lt)
+    | inr ge ↦ ap (λ o. unwrap_or o i) (no_image m kind i ge)
+  ]
+
+  mutual
+    value_stays : (x : NumberedValue) → renumbered (itself m) x ≡ x
+    value_stays (Plain l) = refl
+    value_stays (Named k i) = ap (Named k) (stays (kind_of_reference k) i)
+    value_stays (Array xs) = ap Array (values_stay xs)
+    value_stays (Annotated t es) = ap (λ (n : ℕ). Annotated n (renumbered_elements (itself m) es)) (stays kinds.Typ t) ∙ ap (Annotated t) (elements_stay es)
+
+    values_stay : (xs : NumberedValues) → renumbered_values (itself m) xs ≡ xs
+    values_stay NoValue = refl
+    values_stay (ThenNext x xs) = ap (λ (y : NumberedValue). ThenNext y (renumbered_values (itself m) xs)) (value_stays x) ∙ ap (ThenNext x) (values_stay xs)
+
+    elements_stay : (es : NumberedElements) → renumbered_elements (itself m) es ≡ es
+    elements_stay NoElement = refl
+    elements_stay (ThenNamed name x es) =
+        ap (λ (n : ℕ). ThenNamed n (renumbered (itself m) x) (renumbered_elements (itself m) es)) (stays kinds.Text name)
+        ∙ ap (λ (y : NumberedValue). ThenNamed name y (renumbered_elements (itself m) es)) (value_stays x) ∙ ap (ThenNamed name x) (elements_stay es)
+
+  -- an annotation by its parts
+  abbrev annotation_with : ℕ → ℕ → NumberedElements → NumberedAnnotation
+  annotation_with v t es = record { visibility = v; type = t; elements = es }
+
+  pub set_stays : (s : NumberedSet) → renumbered_set (itself m) s ≡ s
+  set_stays [] = refl
+  set_stays (a ∷ s) =
+      ap (λ (b : NumberedAnnotation). b ∷ renumbered_set (itself m) s)
+      (ap (λ (n : ℕ). annotation_with a.visibility n (renumbered_elements (itself m) a.elements)) (stays kinds.Typ a.type) ∙ ap (annotation_with a.visibility a.type) (elements_stay a.elements))
+      ∙ ap (λ (l : NumberedSet). a ∷ l) (set_stays s)
+
+  -- ---- debug programs
+
+  optional_stays : (kind : SymbolKind) (o : Option ℕ) → IfSome o (λ n. n < count_of kind m) → image_or_none (itself m) kind o ≡ o
+  optional_stays kind None h = refl
+  optional_stays kind (Some n) h = image_is m kind n h
+
+  same_operation : (op : Operation) → with_numbers op (name_of op) (type_of op) (signature_of op) ≡ op
+  same_operation (AdvancePc addresses) = refl
+  same_operation (AdvanceLine lines) = refl
+  same_operation (StartLocal register name typ) = refl
+  same_operation (StartLocalExtended register name typ signature) = refl
+  same_operation (EndLocal register) = refl
+  same_operation (RestartLocal register) = refl
+  same_operation SetPrologueEnd = refl
+  same_operation SetEpilogueBegin = refl
+  same_operation (SetFile name) = refl
+  same_operation (Special opcode) = refl
+
+  operation_stays : (op : Operation) → IsKnownOperation m op → renumbered_operation (itself m) op ≡ op
+  operation_stays op h =
+      let r = itself m in
+      ap (λ o. with_numbers op o (image_or_none r kinds.Typ (type_of op)) (image_or_none r kinds.Text (signature_of op))) (optional_stays kinds.Text (name_of op) h.name_known)
+      ∙ ap (λ o. with_numbers op (name_of op) o (image_or_none r kinds.Text (signature_of op))) (optional_stays kinds.Typ (type_of op) h.type_known)
+      ∙ ap (with_numbers op (name_of op) (type_of op)) (optional_stays kinds.Text (signature_of op) h.signature_known)
+      ∙ same_operation op
+
+  -- what stays, member by member
+  list_stays : {X : Type 0} (f : X → X) (K : X → Type 0) → ((x : X) → K x → f x ≡ x) → (xs : List X) → All K xs → map f xs ≡ xs
+  list_stays f K each [] h = refl
+  list_stays f K each (x ∷ xs) h = ap (λ y. y ∷ map f xs) (each x (All-head K x xs h)) ∙ ap (λ ys. x ∷ ys) (list_stays f K each xs (All-tail K x xs h))
+
+  -- a debug program by its parts
+  abbrev debug_with : ℕ → List (Option ℕ) → List Operation → NumberedDebug
+  debug_with line names operations = record { line_start = line; parameter_names = names; operations = operations }
+
+  pub debug_stays : (d : NumberedDebug) → IsKnownDebug m d → renumbered_debug (itself m) d ≡ d
+  debug_stays d h =
+      ap (λ ns. debug_with d.line_start ns (map (renumbered_operation (itself m)) d.operations)) (list_stays (image_or_none (itself m) kinds.Text) (IsKnownText m) (optional_stays kinds.Text) d.parameter_names h.names_known)
+      ∙ ap (debug_with d.line_start d.parameter_names) (list_stays (renumbered_operation (itself m)) (IsKnownOperation m) operation_stays d.operations h.operations_known)
+
+  -- each number of it leads somewhere
+  optional_led : (kind : SymbolKind) (o : Option ℕ) → IfSome o (λ n. n < count_of kind m) → All (HasImage (itself m)) (number_uses kind o)
+  optional_led kind None h = All-nil (HasImage (itself m))
+  optional_led kind (Some n) h = All-cons (HasImage (itself m)) (record { kind = kind; number = n }) [] (leads_all_itself m kind n h) (All-nil (HasImage (itself m)))
+
+  operation_led : (op : Operation) → IsKnownOperation m op → All (HasImage (itself m)) (operation_uses op)
+  operation_led op h =
+      All-append (HasImage (itself m)) (number_uses kinds.Text (name_of op)) (number_uses kinds.Typ (type_of op) ++ number_uses kinds.Text (signature_of op)) (optional_led kinds.Text (name_of op) h.name_known)
+      (All-append (HasImage (itself m)) (number_uses kinds.Typ (type_of op)) (number_uses kinds.Text (signature_of op)) (optional_led kinds.Typ (type_of op) h.type_known) (optional_led kinds.Text (signature_of op) h.signature_known))
+
+  parts_led : {X Y : Type 0} (P : Y → Type 0) (f : X → List Y) (K : X → Type 0) → ((x : X) → K x → All P (f x)) → (xs : List X) → All K xs → All P (flat_map f xs)
+  parts_led P f K each [] h = All-nil P
+  parts_led P f K each (x ∷ xs) h = All-append P (f x) (flat_map f xs) (each x (All-head K x xs h)) (parts_led P f K each xs (All-tail K x xs h))
+
+  pub debug_led : (d : NumberedDebug) → IsKnownDebug m d → All (HasImage (itself m)) (debug_uses d)
+  debug_led d h =
+      All-append (HasImage (itself m)) (flat_map (number_uses kinds.Text) d.parameter_names) (flat_map operation_uses d.operations)
+      (parts_led (HasImage (itself m)) (number_uses kinds.Text) (IsKnownText m) (optional_led kinds.Text) d.parameter_names h.names_known)
+      (parts_led (HasImage (itself m)) operation_uses (IsKnownOperation m) operation_led d.operations h.operations_known)

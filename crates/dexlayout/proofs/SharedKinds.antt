@@ -1,0 +1,200 @@
+-- The kinds of item that uses share, in a whole file: type lists, annotation sets and debug programs.
+use Rattle.std.proofs.Common.{◌≡◌, ℕ, ◌^◌, ◌<◌, ◌≤◌, List, [], ◌∷◌, ◌++◌, length, map, None, Some, refl, sym, ap, subst, ◌∙◌, arith, append_assoc}
+use Rattle.std.specs.Prelude.{All, IfSome, IsTrue, Option, ◌↔◌}
+use Rattle.std.specs.Borrow.{Bor}
+use Rattle.std.specs.List.{flat_map}
+use Rattle.std.specs.Option.{option_map, option_map_or}
+use Rattle.std.proofs.lemmas.Grind.{flat_map-append}
+use Rattle.std.proofs.lemmas.List.{map-append, length-append, length-map}
+use Rattle.std.proofs.lemmas.List.Elements.{All-map}
+use Rattle.std.proofs.lemmas.Simd.{map-map}
+use Rattle.dexspec.specs.Annotations.{AnnotationSet}
+use Rattle.dexspec.specs.Bytes.{uint, ushort}
+use Rattle.dexspec.specs.Canonical.{data_start, type_list_items, type_list_section, type_list_offsets, type_list_end, set_items, string_end, debug_items, debug_section, debug_offsets, debug_end}
+use Rattle.dexspec.specs.Classes.{FieldDef, MethodDef}
+use Rattle.dexspec.specs.Debug.{Debug}
+use Rattle.dexspec.specs.Mentions.{Mentions}
+use Rattle.dexspec.specs.Placing.{offsets, offsets_from, end_from, unless_empty, method_sets, class_sets, type_list_uses, set_uses, debug_uses, all_methods}
+use Rattle.dexspec.specs.Sameness.{same_types, same_set, same_debug}
+use Rattle.dexspec.specs.Spellings.{type_index, type_list_bytes, debug_bytes}
+use Rattle.dexspec.proofs.ByteNumbers.{length-uint, length-ushort}
+use Rattle.dexspec.proofs.Sameness.{types_decide, debug_decides}
+use Rattle.dexspec.proofs.Stands.{length_rows}
+use Rattle.dexcode.specs.Debug.{NumberedDebug, numbered_debug_bytes}
+use Rattle.dexcode.specs.Meaning.{code_in, debug_in, IsKnownDebug}
+use Rattle.dexcode.specs.Numbered.{NumberedItem}
+use Rattle.dexcode.proofs.DebugMeanings.{bytes_are}
+use Rattle.dexcode.proofs.MeaningDebug.{debug_stands}
+use Rattle.dexval.specs.declared.set.AnnotationSet.{AnnotationSet as CodeSet}
+use Rattle.dexval.specs.Code.{set_of}
+use Rattle.dexval.specs.Equality.{equal_sets, set_decides}
+use Rattle.dexval.specs.Numbered.{set_in}
+use Rattle.dexmembers.specs.Numbered.{NumberedField, NumberedMethod, field_in, method_in, methods_of}
+use Rattle.dexpool.specs.Numberings.{AreRising}
+use Rattle.dexclass.specs.Numbered.{NumberedClass, definition_of, type_at}
+use Rattle.dexlayout.specs.Places.{ItemPlaces}
+use Rattle.dexlayout.specs.Laid.{AreShared, AreTypeLists, AreDebugs, AreWritable, StandSo, ordered_of}
+use Rattle.dexlayout.specs.Running.{none_from}
+use Rattle.dexlayout.specs.Sharing.{list_len}
+use Rattle.dexlayout.specs.SharedUses.{AreTypes, SharesLists, SharesSets, SharesDebugs, interfaces_use, set_use, field_uses, method_uses, methods_uses, members_uses, equal_debugs, debugs_uses}
+use Rattle.dexlayout.proofs.Ends.{end_in_file}
+use Rattle.dexlayout.proofs.SharedPlaces.{placed, written_stand, by_numbers, uses_stand, numbers_within, offsets_count}
+use Rattle.dexlayout.proofs.SharedSame.{lists_agree, sets_agree, debugs_agree}
+use Rattle.dexlayout.proofs.SharedUses.{shared_are}
+
+-- ---- type lists
+
+-- those of protos, and then those of classes
+pub list_uses_are : (m : Mentions) (cs : List NumberedClass) → map (λ p. unless_empty p.parameters) m.protos ++ map (interfaces_use m) cs ≡ type_list_uses (ordered_of m cs)
+list_uses_are m cs = ap (λ us. map (λ p. unless_empty p.parameters) m.protos ++ us) (sym (map-map (λ d. unless_empty d.1.interfaces) (definition_of m) cs))
+
+pub lists_shared : (m : Mentions) (cs : List NumberedClass) (ks : List (List ℕ)) (ns : List (Option ℕ)) → AreRising m → SharesLists m (type_list_uses (ordered_of m cs)) ks ns → AreShared (map (type_at m)) (type_list_items (ordered_of m cs)) ks ns
+lists_shared m cs ks ns rising h = shared_are h same_types (lists_agree m rising)
+
+-- a type_list has four bytes and two for each type
+list_len_is : (m : Mentions) (ns : List ℕ) → list_len ns ≡ length (type_list_bytes m (map (type_at m) ns))
+list_len_is m ns =
+    let ts = map (type_at m) ns in
+    omega (arith, length-append (uint (length ts)) (flat_map (λ t. ushort (type_index m t)) ts), length-uint (length ts), length_rows (λ t. ushort (type_index m t)) 2 (λ t. length-ushort (type_index m t)) ts, length-map ns (type_at m))
+
+module _ (m : Mentions) (cs : List NumberedClass) (from : ℕ) (is : from ≡ data_start (ordered_of m cs)) (written : List (List ℕ)) (numbers : List (Option ℕ)) (known : All (AreTypes m) written)
+    (h : AreShared (map (type_at m)) (type_list_items (ordered_of m cs)) written numbers) where
+  -- where those stand that are written
+  abbrev pub list_places : ItemPlaces
+  list_places = placed list_len 4 (none_from from) written
+
+  lists_stand : StandSo (offsets (type_list_section (ordered_of m cs))) (type_list_end (ordered_of m cs)) (type_list_section (ordered_of m cs)).items list_places
+  unfolding type_list_end
+  lists_stand =
+      let items = (type_list_section (ordered_of m cs)).items in
+      subst (λ n. StandSo (offsets_from 4 n items) (end_from 4 n items) items list_places) is
+      (written_stand 4 from list_len (type_list_bytes m) (map (type_at m)) (AreTypes m) written (type_list_items (ordered_of m cs)).written (λ ns _. list_len_is m ns) known h.written_are)
+
+  -- they end within the file
+  pub lists_fit : AreWritable m cs → list_places.end ≤ 2 ^ 30
+  lists_fit w = omega (arith, lists_stand.end_is, (end_in_file (ordered_of m cs) w.fits).type_lists)
+
+  -- each use has the number of one of them
+  pub lists_numbered : All (λ n. IfSome n (λ i. i < length list_places.offsets)) numbers
+  lists_numbered =
+      let items = type_list_items (ordered_of m cs) in
+      numbers_within same_types types_decide (type_list_uses (ordered_of m cs)) numbers (length list_places.offsets) h.numbers_are
+      (offsets_count 4 (data_start (ordered_of m cs)) lists_stand ∙ length-map items.written (type_list_bytes m))
+
+  -- the type lists of the file
+  pub lists_laid : AreTypeLists m cs (record { written = written; places = by_numbers numbers list_places })
+  unfolding type_list_offsets
+  lists_laid = record { written_are = h.written_are; known = known; places_are = uses_stand numbers (type_list_items (ordered_of m cs)).numbers h.numbers_are lists_stand }
+
+-- ---- annotation sets
+
+-- those of fields, and those of methods
+fields_mean : (m : Mentions) (fs : List NumberedField) → map unless_empty (map (λ (f : FieldDef). f.annotations) (map (field_in m) fs)) ≡ field_uses m fs
+fields_mean m [] = refl
+fields_mean m (f ∷ fs) = ap (λ us. set_use m f.annotations ∷ us) (fields_mean m fs)
+
+methods_mean : (m : Mentions) (xs : List NumberedMethod) → map unless_empty (flat_map method_sets (map (method_in m) xs)) ≡ methods_uses m xs
+methods_mean m [] = refl
+methods_mean m (x ∷ xs) =
+    let rest = flat_map method_sets (map (method_in m) xs) in
+    map-append unless_empty (method_sets (method_in m x)) rest
+    ∙ ap (λ us. (set_use m x.annotations ∷ us) ++ map unless_empty rest) (map-map unless_empty (set_in m) x.parameter_annotations)
+    ∙ ap (λ us. method_uses m x ++ us) (methods_mean m xs)
+
+-- those of a class
+class_means : (m : Mentions) (c : NumberedClass) → map unless_empty (class_sets (definition_of m c)) ≡ members_uses m c.members
+class_means m c =
+    let x = c.members in
+    let set_in_field : FieldDef → AnnotationSet = λ f. f.annotations in
+    let sf = map (field_in m) x.static_fields in
+    let inf = map (field_in m) x.instance_fields in
+    let dm = map (method_in m) x.direct_methods in
+    let vm = map (method_in m) x.virtual_methods in
+    let fields : map unless_empty (map set_in_field (sf ++ inf)) ≡ field_uses m x.static_fields ++ field_uses m x.instance_fields =
+    ap (map unless_empty) (map-append set_in_field sf inf) ∙ map-append unless_empty (map set_in_field sf) (map set_in_field inf)
+    ∙ (λ i. fields_mean m x.static_fields i ++ fields_mean m x.instance_fields i) in
+    let methods : map unless_empty (flat_map method_sets (dm ++ vm)) ≡ methods_uses m x.direct_methods ++ methods_uses m x.virtual_methods =
+    ap (map unless_empty) (flat_map-append method_sets dm vm) ∙ map-append unless_empty (flat_map method_sets dm) (flat_map method_sets vm)
+    ∙ (λ i. methods_mean m x.direct_methods i ++ methods_mean m x.virtual_methods i) in
+    ap (λ us. set_use m x.annotations ∷ us)
+    (map-append unless_empty (map set_in_field (sf ++ inf)) (flat_map method_sets (dm ++ vm)) ∙ (λ i. fields i ++ methods i)
+    ∙ append_assoc (field_uses m x.static_fields) (field_uses m x.instance_fields) (methods_uses m x.direct_methods ++ methods_uses m x.virtual_methods))
+
+-- those of classes
+pub set_uses_are : (m : Mentions) (cs : List NumberedClass) → flat_map (λ c. members_uses m c.members) cs ≡ set_uses (ordered_of m cs)
+set_uses_are m [] = refl
+set_uses_are m (c ∷ cs) =
+    (λ i. sym (class_means m c) i ++ set_uses_are m cs i)
+    ∙ sym (map-append unless_empty (class_sets (definition_of m c)) (flat_map class_sets (map (definition_of m) cs)))
+
+pub sets_shared : (m : Mentions) (cs : List NumberedClass) (ks : List (Bor CodeSet)) (ns : List (Option ℕ)) → AreRising m → SharesSets m (set_uses (ordered_of m cs)) ks ns
+    → AreShared (λ (s : Bor CodeSet). set_in m (set_of s.now)) (set_items (ordered_of m cs)) ks ns
+sets_shared m cs ks ns rising h = shared_are h same_set (λ s t. sets_agree m rising (equal_sets s.now t.now) (set_of s.now) (set_of t.now) (set_decides (set_of s.now) (set_of t.now)))
+
+-- ---- debug programs
+
+-- the debug program that code means
+code_debug : (m : Mentions) (code : Option NumberedItem) → option_map_or (λ c. c.debug) (option_map (code_in m) code) None ≡ option_map (debug_in m) (option_map_or (λ c. c.debug) code None)
+code_debug m None = refl
+code_debug m (Some c) = refl
+
+-- those of methods
+abbrev method_debug : MethodDef → Option Debug
+method_debug x = option_map_or (λ c. c.debug) x.code None
+
+debugs_mean : (m : Mentions) (xs : List NumberedMethod) → map method_debug (map (method_in m) xs) ≡ debugs_uses m xs
+debugs_mean m [] = refl
+debugs_mean m (x ∷ xs) = λ i. code_debug m x.code i ∷ debugs_mean m xs i
+
+-- those of classes
+pub debug_uses_are : (m : Mentions) (cs : List NumberedClass) → flat_map (λ c. debugs_uses m (methods_of c.members)) cs ≡ debug_uses (ordered_of m cs)
+debug_uses_are m [] = refl
+debug_uses_are m (c ∷ cs) =
+    let dm = c.members.direct_methods in
+    let vm = c.members.virtual_methods in
+    let here : debugs_uses m (dm ++ vm) ≡ map method_debug (map (method_in m) dm ++ map (method_in m) vm) = sym (debugs_mean m (dm ++ vm)) ∙ ap (map method_debug) (map-append (method_in m) dm vm) in
+    (λ i. here i ++ debug_uses_are m cs i) ∙ sym (map-append method_debug (map (method_in m) dm ++ map (method_in m) vm) (all_methods (map (definition_of m) cs)))
+
+pub debugs_shared : (m : Mentions) (cs : List NumberedClass) (ks : List (Bor NumberedDebug)) (ns : List (Option ℕ)) → ((d e : NumberedDebug) → IsTrue (equal_debugs d e) ↔ (d ≡ e)) → AreRising m
+    → SharesDebugs m (debug_uses (ordered_of m cs)) ks ns → AreShared (λ (d : Bor NumberedDebug). debug_in m d.now) (debug_items (ordered_of m cs)) ks ns
+debugs_shared m cs ks ns exact rising h = shared_are h same_debug (λ d e. debugs_agree m rising (equal_debugs d.now e.now) d.now e.now (exact d.now e.now))
+
+-- how many bytes a debug program has
+abbrev pub debug_len : Bor NumberedDebug → ℕ
+debug_len d = length (numbered_debug_bytes d.now)
+
+module _ (m : Mentions) (cs : List NumberedClass) (w : AreWritable m cs) (from : ℕ) (is : from ≡ string_end (ordered_of m cs)) (written : List (Bor NumberedDebug)) (numbers : List (Option ℕ))
+    (known : All (λ d. IsKnownDebug m d.now) written) (h : AreShared (λ (d : Bor NumberedDebug). debug_in m d.now) (debug_items (ordered_of m cs)) written numbers) where
+  -- where those stand that are written
+  abbrev pub debug_places : ItemPlaces
+  debug_places = placed debug_len 1 (none_from from) written
+
+  debug_len_is : (d : Bor NumberedDebug) → IsKnownDebug m d.now → debug_len d ≡ length (debug_bytes m (debug_in m d.now))
+  debug_len_is d k = ap (λ (l : List ℕ). length l) (bytes_are m d.now (debug_in m d.now) w.numbering.rising (debug_stands m d.now k))
+
+  debugs_stand : StandSo (offsets (debug_section (ordered_of m cs))) (debug_end (ordered_of m cs)) (debug_section (ordered_of m cs)).items debug_places
+  unfolding debug_end
+  debugs_stand =
+      let items = (debug_section (ordered_of m cs)).items in
+      subst (λ n. StandSo (offsets_from 1 n items) (end_from 1 n items) items debug_places) is
+      (written_stand 1 from debug_len (debug_bytes m) (λ d. debug_in m d.now) (λ d. IsKnownDebug m d.now) written (debug_items (ordered_of m cs)).written debug_len_is known h.written_are)
+
+  -- they end within the file
+  pub debugs_fit : debug_places.end ≤ 2 ^ 30
+  debugs_fit = omega (arith, debugs_stand.end_is, (end_in_file (ordered_of m cs) w.fits).debugs)
+
+  -- each use has the number of one of them
+  pub debugs_numbered : All (λ n. IfSome n (λ i. i < length debug_places.offsets)) numbers
+  debugs_numbered =
+      let items = debug_items (ordered_of m cs) in
+      numbers_within same_debug debug_decides (debug_uses (ordered_of m cs)) numbers (length debug_places.offsets) h.numbers_are
+      (offsets_count 1 (string_end (ordered_of m cs)) debugs_stand ∙ length-map items.written (debug_bytes m))
+
+  -- the debug programs of the file
+  pub debugs_laid : AreDebugs m cs (record { written = map (λ (d : Bor NumberedDebug). d.now) written; places = by_numbers numbers debug_places })
+  unfolding debug_offsets
+  debugs_laid = record {
+    written_are = map-map (debug_in m) (λ (d : Bor NumberedDebug). d.now) written ∙ h.written_are;
+    known = All-map (IsKnownDebug m) (λ (d : Bor NumberedDebug). d.now) written known;
+    places_are = uses_stand numbers (debug_items (ordered_of m cs)).numbers h.numbers_are debugs_stand;
+  }

@@ -1,0 +1,63 @@
+-- Numbers of a numbering are the same just where what they stand for is the same: of type lists, sets and debug programs.
+use Rattle.std.proofs.Common.{◌≡◌, ℕ, ◌<◌, Bool, List, [], ◌∷◌, length, map, refl, sym, ap, ◌∙◌}
+use Rattle.std.specs.Prelude.{All}
+use Rattle.std.specs.Bool.{Decides}
+use Rattle.std.proofs.lemmas.Bool.Decides.{same_from_decides}
+use Rattle.std.proofs.lemmas.List.Elements.{All-head, All-tail}
+use Rattle.dexspec.specs.Lists.{rank}
+use Rattle.dexspec.specs.Texts.{text_cmp}
+use Rattle.dexspec.specs.Mentions.{Mentions}
+use Rattle.dexspec.specs.Sameness.{same_types, same_debug, same_set}
+use Rattle.dexspec.proofs.Equality.{IsEquality}
+use Rattle.dexspec.proofs.Sameness.{types_decide, debug_decides, set_decides}
+use Rattle.dexpool.specs.Numberings.{AreRising}
+use Rattle.dexpool.proofs.UnionLaws.{ranks_are_numbers}
+use Rattle.dexcode.specs.Debug.{NumberedDebug}
+use Rattle.dexcode.specs.Meaning.{debug_in, IsKnownDebug}
+use Rattle.dexcode.proofs.MeaningRanked as debugs
+use Rattle.dexval.specs.Numbered.{NumberedSet, set_in, type_at, IsKnownSet}
+use Rattle.dexval.proofs.Images.{known_set_led}
+use Rattle.dexval.proofs.Ranked as sets
+use Rattle.dexlayout.specs.ListKeys.{same_numbers, same_numbers_decides}
+use Rattle.dexlayout.proofs.SharedIdentity.{itself, all_lead_itself, leads_all_itself, set_stays, debug_stays, debug_led}
+
+-- ---- tests of what is led one to one
+
+-- where equal numbers stand for what is equal, and only such, the tests agree
+agree : {X Y : Type 0} (f : X → Y) (same : Bool) (alike : Y → Y → Bool) → IsEquality alike → (x y : X) → Decides same (x ≡ y) → (f x ≡ f y → x ≡ y) → alike (f x) (f y) ≡ same
+agree f same alike exact x y is one = same_from_decides (alike (f x) (f y)) same (exact (f x) (f y)) ((λ e. ap f (is.0 e)), (λ e. is.1 (one e)))
+
+module _ (m : Mentions) (rising : AreRising m) where
+  -- ---- type lists
+
+  -- the numbers are those of types
+  abbrev pub AreTypes : List ℕ → Type 0
+  AreTypes ns = All (λ i. i < length m.types) ns
+
+  types_back : (ns : List ℕ) → AreTypes ns → map (λ t. rank text_cmp t m.types) (map (type_at m) ns) ≡ ns
+  types_back [] h = refl
+  types_back (n ∷ ns) h =
+      ap (λ k. k ∷ map (λ t. rank text_cmp t m.types) (map (type_at m) ns)) ((ranks_are_numbers m rising).types_are n [] (All-head (λ i. i < length m.types) n ns h))
+      ∙ ap (λ ks. n ∷ ks) (types_back ns (All-tail (λ i. i < length m.types) n ns h))
+
+  pub lists_agree : (xs ys : List ℕ) → AreTypes xs → AreTypes ys → same_types (map (type_at m) xs) (map (type_at m) ys) ≡ same_numbers xs ys
+  lists_agree xs ys hx hy =
+      agree (map (type_at m)) (same_numbers xs ys) same_types types_decide xs ys (same_numbers_decides xs ys)
+      (λ e. sym (types_back xs hx) ∙ ap (map (λ t. rank text_cmp t m.types)) e ∙ types_back ys hy)
+
+  -- ---- sets
+
+  pub sets_agree : (same : Bool) (x y : NumberedSet) → Decides same (x ≡ y) → IsKnownSet m x → IsKnownSet m y → same_set (set_in m x) (set_in m y) ≡ same
+  sets_agree same x y is hx hy =
+      let r = itself m in
+      let led = sets.same_set m m m r r (ranks_are_numbers m rising) (all_lead_itself m) (all_lead_itself m) x y (set_in m x) (set_in m y)
+      (known_set_led m r (leads_all_itself m) x hx) (known_set_led m r (leads_all_itself m) y hy) (record { known = hx; means = refl }) (record { known = hy; means = refl }) in
+      agree (set_in m) same same_set set_decides x y is (λ e. sym (set_stays m x) ∙ led.1 e ∙ set_stays m y)
+
+  -- ---- debug programs
+
+  pub debugs_agree : (same : Bool) (d e : NumberedDebug) → Decides same (d ≡ e) → IsKnownDebug m d → IsKnownDebug m e → same_debug (debug_in m d) (debug_in m e) ≡ same
+  debugs_agree same d e is hd he =
+      let r = itself m in
+      let led = debugs.same_debug m m m r r (ranks_are_numbers m rising) (all_lead_itself m) (all_lead_itself m) d e (debug_led m d hd) (debug_led m e he) hd he in
+      agree (debug_in m) same same_debug debug_decides d e is (λ h. sym (debug_stays m d hd) ∙ led.1 h ∙ debug_stays m e he)

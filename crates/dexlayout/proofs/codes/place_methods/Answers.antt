@@ -1,0 +1,8 @@
+use Rattle.std.proofs.Common.{arith, sym}
+use Rattle.dexlayout.specs.Sizes.{code_size}
+use Rattle.dexlayout.proofs.OwnSteps.{left_fits}
+use Rattle.dexlayout.proofs.codes.place_methods.Goals as goal
+
+pub place_code-requires : goal.place_code-requires
+place_code-requires c =
+    omega (arith, left_fits 4 code_size c.loop-method.places c.args.methods.now c.loop-method.method-index c.method-item.result c.loop-method-test.true (sym c.method-item.is) c.loop-method.invariant, c.requires)

@@ -1,0 +1,7 @@
+use Rattle.std.proofs.Common.{◌≡◌, map, drop}
+use Rattle.dexlayout.specs.Running.{place_uses}
+use Rattle.dexlayout.specs.Sizes.{code_size}
+use Rattle.dexlayout.proofs.codes.place_methods.Given as goal
+
+abbrev pub invariant-loop-method : goal.invariant-loop-method
+invariant-loop-method l = place_uses 4 l.places (map code_size (drop l.method-index l.methods)) ≡ place_uses 4 l.fn.places (map code_size l.methods)

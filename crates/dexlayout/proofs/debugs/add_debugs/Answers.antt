@@ -1,0 +1,39 @@
+use Rattle.std.proofs.Common.{◌≡◌, Option, Some, None, Ok, sym, ap, subst, Bor}
+use Rattle.std.specs.Prelude.{IfSome, MatchOption, Result}
+use Rattle.std.specs.Option.{option_map, option_map_or}
+use Rattle.dexspec.specs.Mentions.{Mentions}
+use Rattle.dexcode.specs.Debug.{NumberedDebug}
+use Rattle.dexcode.specs.Meaning.{debug_in, IsKnownCode, IsKnownDebug}
+use Rattle.dexcode.specs.Numbered.{NumberedItem}
+use Rattle.dexmembers.specs.Numbered.{NumberedMethod, IsKnownMethod}
+use Rattle.dexlayout.specs.SharedUses.{SharesDebugs, debug_of}
+use Rattle.dexlayout.proofs.SharedUses.{shared_use, uses_next}
+use Rattle.dexlayout.proofs.debugs.add_debugs.Goals as goal
+
+-- the debug program of code whose numbers are known has such
+code_debug_known : (m : Mentions) (code : Option NumberedItem) → IfSome code (IsKnownCode m) → IfSome (option_map_or (λ c. c.debug) code None) (IsKnownDebug m)
+code_debug_known m None h = tt
+code_debug_known m (Some c) h = h.debug_known
+
+-- what is lent is the debug program
+lent_known : (m : Mentions) (o : Option (Bor NumberedDebug)) (d : Option NumberedDebug) → MatchOption o (d ≡ None) (λ b. d ≡ Some b.now) → IfSome d (IsKnownDebug m) → IfSome o (λ b. IsKnownDebug m b.now)
+lent_known m None d is h = tt
+lent_known m (Some b) d is h = subst (λ e. IfSome e (IsKnownDebug m)) is h
+
+lent_means : (m : Mentions) (o : Option (Bor NumberedDebug)) (d : Option NumberedDebug) → MatchOption o (d ≡ None) (λ b. d ≡ Some b.now) → option_map (debug_in m) d ≡ option_map (λ b. debug_in m b.now) o
+lent_means m None d is = ap (option_map (debug_in m)) is
+lent_means m (Some b) d is = ap (option_map (debug_in m)) is
+
+pub loop-i-preserved : goal.loop-i-preserved
+loop-i-preserved c = λ m uses known h.
+    let xs = c.args.methods.now in
+    let i = c.loop-i.i in
+    let x = c.index-methods-i.result in
+    let here : IsKnownMethod m x = subst (IsKnownMethod m) (sym c.index-methods-i.is) (known i x c.loop-i-test.true) in
+    let o = c.debug_of.result in
+    let u = option_map (debug_in m) (debug_of x) in
+    let done : Result (Unit {0}) (Unit {0}) = Ok tt in
+    subst (λ us. SharesDebugs m us c.add.new.self.items.keys c.add.new.self.numbers.items)
+    (uses_next (λ (y : NumberedMethod). option_map (debug_in m) (debug_of y)) uses xs i x c.loop-i-test.true (sym c.index-methods-i.is))
+    (shared_use (c.loop-i.invariant m uses known h) done _ _ o u (lent_known m o (debug_of x) c.debug_of.ensures (code_debug_known m x.code here.code_known)) (lent_means m o (debug_of x) c.debug_of.ensures)
+    (c.in_ok-add.ensures (c.loop-i.invariant m uses known h).used (c.loop-i.invariant m uses known h).items))

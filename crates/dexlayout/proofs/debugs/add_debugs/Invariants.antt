@@ -1,0 +1,11 @@
+use Rattle.std.proofs.Common.{◌++◌, take}
+use Rattle.std.specs.Prelude.{All, List, Option}
+use Rattle.dexspec.specs.Debug.{Debug as DebugMeant}
+use Rattle.dexspec.specs.Mentions.{Mentions}
+use Rattle.dexmembers.specs.Numbered.{IsKnownMethod}
+use Rattle.dexlayout.specs.SharedUses.{SharesDebugs, debugs_uses}
+use Rattle.dexlayout.proofs.debugs.add_debugs.Given as goal
+
+abbrev pub invariant-loop-i : goal.invariant-loop-i
+invariant-loop-i l = (m : Mentions) (uses : List (Option DebugMeant)) → All (IsKnownMethod m) l.methods → SharesDebugs m uses l.fn.sharing.items.keys l.fn.sharing.numbers.items
+    → SharesDebugs m (uses ++ debugs_uses m (take l.i l.methods)) l.sharing.items.keys l.sharing.numbers.items

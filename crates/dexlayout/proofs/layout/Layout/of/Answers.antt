@@ -1,0 +1,41 @@
+use Rattle.std.proofs.Common.{sym, ap, subst, ◌∙◌}
+use Rattle.dexspec.specs.Files.{definitions}
+use Rattle.dexspec.specs.Mentions.{mentions}
+use Rattle.dexpool.specs.Numberings.{IsNumbering}
+use Rattle.dexlayout.specs.Laid.{AreWritable, IsLaid, file_end}
+use Rattle.dexlayout.proofs.OwnFile.{writable, ordered_is, laid_same, length_canonical}
+use Rattle.dexlayout.proofs.layout.Layout.of.Goals as goal
+
+pub lay-requires : goal.lay-requires
+lay-requires c =
+    let C = c.args.program.now in
+    let is = c.numbering-numbering.ensures in
+    let w = writable C c.classes.result.now (subst IsNumbering is c.is_numbering.ensures) c.is_good.ensures.good.fits c.fitting_size_law.ensures.canonical c.classes.ensures in
+    subst (λ m. AreWritable m c.classes.result.now) (sym is) w
+
+pub returns-clause-laid : goal.returns-clause-laid
+returns-clause-laid c = λ cs of.
+    let C = c.args.program.now in
+    let m = mentions (definitions C) in
+    let here = c.classes.result.now in
+    let laid = subst (λ n. IsLaid n here c.in_ok-layout.layout) c.numbering-numbering.ensures c.in_ok-layout.ensures in
+    laid_same m here cs (ordered_is C here c.classes.ensures ∙ sym (ordered_is C cs of)) laid
+
+pub returns-clause-writable : goal.returns-clause-writable
+returns-clause-writable c = λ cs of.
+    let C = c.args.program.now in
+    let numbering = subst IsNumbering c.numbering-numbering.ensures c.is_numbering.ensures in
+    (writable C cs numbering c.is_good.ensures.good.fits c.fitting_size_law.ensures.canonical of, ordered_is C cs of)
+
+pub returns-in_err-layout-clause-writable : goal.returns-in_err-layout-clause-writable
+returns-in_err-layout-clause-writable c = λ cs of.
+    let C = c.args.program.now in
+    let numbering = subst IsNumbering c.numbering-numbering.ensures c.is_numbering.ensures in
+    (writable C cs numbering c.is_good.ensures.good.fits c.fitting_size_law.ensures.canonical of, ordered_is C cs of)
+
+pub returns-clause-len : goal.returns-clause-len
+returns-clause-len c =
+    let C = c.args.program.now in
+    let here = c.classes.result.now in
+    let laid = subst (λ n. IsLaid n here c.in_ok-layout.layout) c.numbering-numbering.ensures c.in_ok-layout.ensures in
+    laid.head_tells.file_ends ∙ ap file_end (ordered_is C here c.classes.ensures) ∙ sym (length_canonical C)

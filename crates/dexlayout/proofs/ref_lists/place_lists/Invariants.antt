@@ -1,0 +1,8 @@
+use Rattle.std.proofs.Common.{◌≡◌, drop}
+use Rattle.dexlayout.specs.Gathering.{list_sizes}
+use Rattle.dexlayout.specs.Running.{place_uses}
+use Rattle.dexlayout.proofs.ref_lists.place_lists.Given as goal
+
+-- what is still to be placed leads to all
+abbrev pub invariant-loop-method : goal.invariant-loop-method
+invariant-loop-method l = place_uses 4 l.places (list_sizes (drop l.method-index l.methods)) ≡ place_uses 4 l.fn.places (list_sizes l.methods)

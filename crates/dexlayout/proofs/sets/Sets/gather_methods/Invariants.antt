@@ -1,0 +1,12 @@
+use Rattle.std.proofs.Common.{◌≡◌, ◌≤◌, length, drop}
+use Rattle.std.specs.List.{flat_map}
+use Rattle.dexlayout.specs.Gathering.{sets_of_method, parts_of_methods, gather_methods}
+use Rattle.dexlayout.proofs.sets.Sets.gather_methods.Given as goal
+
+-- what is left leads to all
+abbrev pub invariant-loop-method : goal.invariant-loop-method
+invariant-loop-method l = record {
+  gathered : gather_methods l.self (parts_of_methods (drop l.method-index l.methods) l.rest) ≡ gather_methods l.fn.self (parts_of_methods l.methods l.offs);
+  left : drop (length (flat_map sets_of_method (drop l.method-index l.methods))) l.rest ≡ drop (length (flat_map sets_of_method l.methods)) l.offs;
+  enough : length (flat_map sets_of_method (drop l.method-index l.methods)) ≤ length l.rest;
+}

@@ -1,0 +1,11 @@
+use Rattle.std.proofs.Common.{◌++◌, take}
+use Rattle.std.specs.Prelude.{All, List, Option}
+use Rattle.dexspec.specs.Annotations.{AnnotationSet as SetMeant}
+use Rattle.dexspec.specs.Mentions.{Mentions}
+use Rattle.dexmembers.specs.Numbered.{IsKnownField}
+use Rattle.dexlayout.specs.SharedUses.{SharesSets, field_uses}
+use Rattle.dexlayout.proofs.shared_sets.add_fields.Given as goal
+
+abbrev pub invariant-loop-i : goal.invariant-loop-i
+invariant-loop-i l = (m : Mentions) (uses : List (Option SetMeant)) → All (IsKnownField m) l.fields → SharesSets m uses l.fn.sharing.items.keys l.fn.sharing.numbers.items
+    → SharesSets m (uses ++ field_uses m (take l.i l.fields)) l.sharing.items.keys l.sharing.numbers.items

@@ -1,0 +1,10 @@
+use Rattle.std.proofs.Common.{take}
+use Rattle.std.specs.Prelude.{All}
+use Rattle.std.specs.List.{flat_map}
+use Rattle.dexspec.specs.Mentions.{Mentions}
+use Rattle.dexclass.specs.Uses.{IsKnownClass}
+use Rattle.dexlayout.specs.SharedUses.{SharesSets, members_uses}
+use Rattle.dexlayout.proofs.shared_sets.share_sets.Given as goal
+
+abbrev pub invariant-loop-i : goal.invariant-loop-i
+invariant-loop-i l = (m : Mentions) → All (IsKnownClass m) l.classes → SharesSets m (flat_map (λ c. members_uses m c.members) (take l.i l.classes)) l.sharing.items.keys l.sharing.numbers.items

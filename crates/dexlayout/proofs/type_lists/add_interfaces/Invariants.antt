@@ -1,0 +1,11 @@
+use Rattle.std.proofs.Common.{◌++◌, map, take}
+use Rattle.std.specs.Prelude.{All, List, Option}
+use Rattle.dexspec.specs.Mentions.{Mentions}
+use Rattle.dexspec.specs.Texts.{Text}
+use Rattle.dexclass.specs.Uses.{IsKnownClass}
+use Rattle.dexlayout.specs.SharedUses.{SharesLists, interfaces_use}
+use Rattle.dexlayout.proofs.type_lists.add_interfaces.Given as goal
+
+abbrev pub invariant-loop-i : goal.invariant-loop-i
+invariant-loop-i l = (m : Mentions) (uses : List (Option (List Text))) → All (IsKnownClass m) l.classes → SharesLists m uses l.fn.sharing.items.keys l.fn.sharing.numbers.items
+    → SharesLists m (uses ++ map (interfaces_use m) (take l.i l.classes)) l.sharing.items.keys l.sharing.numbers.items

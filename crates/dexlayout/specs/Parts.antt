@@ -1,0 +1,57 @@
+-- The tables and the map that a layout is put together from.
+use Rattle.std.specs.Prelude.{◌≡◌, ℕ, ◌+◌, ◌*◌, ◌==◌, if◌then◌else◌, not, List, [], ◌∷◌, length, map, count_by}
+use Rattle.dexspec.specs.Bytes.{round_up}
+use Rattle.dexspec.specs.Header.{header_length}
+use Rattle.dexspec.specs.Sections.{Section, TableOf}
+use Rattle.dexspec.specs.Placing.{Ordered, offsets}
+use Rattle.dexspec.specs.Canonical.{placed_tables, data_start, data_sections, array_section, array_offsets, array_end, string_section, string_end, code_section, code_offsets, code_end, class_data_section, class_data_offsets, class_data_end, ref_list_section, ref_list_offsets, ref_list_end, directory_section, directory_offsets, directory_end}
+use Rattle.dexhead.specs.Written.{rows_meant}
+use Rattle.dexspec.specs.Mentions.{Mentions}
+use Rattle.dexclass.specs.Numbered.{NumberedClass}
+use Rattle.dexlayout.specs.declared.data.Data.{Data}
+use Rattle.dexlayout.specs.declared.tables.Tables.{Tables}
+use Rattle.dexlayout.specs.Laid.{ordered_of, StandSo, AreTypeLists, AreAnnotations, AreDebugs, AreSets}
+
+-- a table of so many rows, and where it begins if it has some
+abbrev pub rows_from : ℕ → ℕ → ℕ × ℕ
+rows_from size from = (size, if size == 0 then 0 else from)
+
+-- the six tables stand so, and the data behind them
+pub record AreTables (K : Ordered) (t : Tables) : Type 0 where
+  pub string_ids_are : rows_meant t.string_ids ≡ rows_from (length K.pools.texts) header_length
+  pub type_ids_are : rows_meant t.type_ids ≡ rows_from (length K.pools.types) (header_length + 4 * length K.pools.texts)
+  pub proto_ids_are : rows_meant t.proto_ids ≡ rows_from (length K.pools.protos) (header_length + 4 * length K.pools.texts + 4 * length K.pools.types)
+  pub field_ids_are : rows_meant t.field_ids ≡ rows_from (length K.pools.fields) (header_length + 4 * length K.pools.texts + 4 * length K.pools.types + 12 * length K.pools.protos)
+  pub method_ids_are : rows_meant t.method_ids ≡ rows_from (length K.pools.methods) (header_length + 4 * length K.pools.texts + 4 * length K.pools.types + 12 * length K.pools.protos + 8 * length K.pools.fields)
+  pub class_defs_are : rows_meant t.class_defs
+      ≡ rows_from (length K.classes) (header_length + 4 * length K.pools.texts + 4 * length K.pools.types + 12 * length K.pools.protos + 8 * length K.pools.fields + 8 * length K.pools.methods)
+  pub end_is : t.end ≡ data_start K
+
+-- the entry of a part, unless it is empty
+abbrev pub entry_of : Section × ℕ × ℕ → List (Section × ℕ × ℕ)
+entry_of e = if e.1 == 0 then [] else e ∷ []
+
+-- the tables as parts of the map
+abbrev pub table_parts : Ordered → List (Section × ℕ × ℕ)
+table_parts K = map (λ t. (TableOf t.0, t.1, t.2)) (placed_tables K)
+
+-- the sections of the data as parts of the map, each where its first item would stand
+abbrev pub section_parts : Ordered → List (Section × ℕ × ℕ)
+section_parts K = map (λ p. (p.kind, length p.items, round_up p.align p.from)) (data_sections K)
+
+-- how many offsets are those of an item
+abbrev pub count_placed : List ℕ → ℕ
+count_placed offs = count_by (λ o. not (o == 0)) offs
+
+-- the items of each section of the data stand where they stand in the file of these classes
+pub record AreData (m : Mentions) (cs : List NumberedClass) (d : Data) : Type 0 where
+  pub type_lists_are : AreTypeLists m cs d.type_lists
+  pub annotations_are : AreAnnotations m cs d.annotations
+  pub static_values_are : StandSo (array_offsets (ordered_of m cs)) (array_end (ordered_of m cs)) (array_section (ordered_of m cs)).items d.static_values
+  pub strings_are : StandSo (offsets (string_section (ordered_of m cs))) (string_end (ordered_of m cs)) (string_section (ordered_of m cs)).items d.strings
+  pub debugs_are : AreDebugs m cs d.debugs
+  pub codes_are : StandSo (code_offsets (ordered_of m cs)) (code_end (ordered_of m cs)) (code_section (ordered_of m cs)).items d.codes
+  pub class_data_are : StandSo (class_data_offsets (ordered_of m cs)) (class_data_end (ordered_of m cs)) (class_data_section (ordered_of m cs)).items d.class_data
+  pub sets_are : AreSets m cs d.sets
+  pub ref_lists_are : StandSo (ref_list_offsets (ordered_of m cs)) (ref_list_end (ordered_of m cs)) (ref_list_section (ordered_of m cs)).items d.ref_lists
+  pub directories_are : StandSo (directory_offsets (ordered_of m cs)) (directory_end (ordered_of m cs)) (directory_section (ordered_of m cs)).items d.directories

@@ -1,0 +1,26 @@
+-- Items of one kind that are placed one after the other.
+use Rattle.std.specs.Prelude.{ℕ, ◌+◌, max, List, [], ◌∷◌, ◌++◌, Option, Some, None}
+use Rattle.dexspec.specs.Bytes.{round_up}
+use Rattle.dexlayout.specs.Places.{ItemPlaces}
+
+-- no items yet: the first stands at a place or behind it
+abbrev pub none_from : ℕ → ItemPlaces
+none_from from = record { offsets = []; end = from; greatest = 0 }
+
+-- a use more, without an item
+abbrev pub pass : ItemPlaces → ItemPlaces
+pass p = record { offsets = p.offsets ++ 0 ∷ []; end = p.end; greatest = p.greatest }
+
+-- a use more, whose item of so many bytes stands at an offset
+abbrev pub put_at : ItemPlaces → ℕ → ℕ → ItemPlaces
+put_at p off len = record { offsets = p.offsets ++ off ∷ []; end = off + len; greatest = max p.greatest len }
+
+-- a use more, by the number of its bytes if it has an item
+abbrev pub place_use : ℕ → ItemPlaces → Option ℕ → ItemPlaces
+place_use align p None = pass p
+place_use align p (Some len) = put_at p (round_up align p.end) len
+
+-- uses, one after the other
+abbrev pub place_uses : ℕ → ItemPlaces → List (Option ℕ) → ItemPlaces
+place_uses align p [] = p
+place_uses align p (u ∷ us) = place_uses align (place_use align p u) us

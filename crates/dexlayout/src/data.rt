@@ -1,0 +1,191 @@
+//! The sections of the data, one behind the other.
+
+ghost use Rattle.std.specs.Prelude.{◌≡◌, ◌^◌, ◌≤◌, List, IfOk, length, map};
+ghost use Rattle.std.specs.List.{flat_map};
+ghost use Rattle.dexspec.specs.Mentions.{Mentions};
+ghost use Rattle.dexspec.specs.Canonical.{data_sections, data_start};
+ghost use Rattle.dexhead.specs.Written.{entry_meant};
+ghost use Rattle.dexval.specs.Code.{set_of};
+ghost use Rattle.dexclass.specs.Numbered.{NumberedClass};
+ghost use Rattle.dexlayout.specs.Laid.{AreWritable, greatest_in, ordered_of};
+ghost use Rattle.dexlayout.specs.Parts.{AreData, section_parts};
+
+use crate::annotations::{Annotations, place_annotations};
+use crate::class_data::place_class_data;
+use crate::codes::place_codes;
+use crate::debugs::{DebugPrograms, place_debugs};
+use crate::directories::place_directories;
+use crate::map_entries::count_placed;
+use crate::offsets::{Offsets, round_up};
+use crate::ref_lists::place_ref_lists;
+use crate::sets::{Sets, place_sets};
+use crate::shared_sets::share_sets;
+use crate::sharing::Shared;
+use crate::static_values::place_static_values;
+use crate::strings::place_strings;
+use crate::tables::entry;
+use crate::type_lists::{TypeLists, place_type_lists};
+use dexclass::Class;
+use dexhead::{MapEntry, Section};
+use dexpool::{Numbering, SymbolKind};
+use dexval::AnnotationSet;
+use std::alloc::{AllocError, Global};
+
+/// Where the items of each section of the data stand, in the order of the file.
+#[derive(Drop)]
+pub(crate) struct Data<'p> {
+    pub(crate) type_lists: TypeLists<'p>,
+    pub(crate) annotations: Annotations<'p>,
+    pub(crate) static_values: Offsets,
+    pub(crate) strings: Offsets,
+    pub(crate) debugs: DebugPrograms<'p>,
+    pub(crate) codes: Offsets,
+    pub(crate) class_data: Offsets,
+    pub(crate) sets: Sets,
+    pub(crate) ref_lists: Offsets,
+    pub(crate) directories: Offsets,
+}
+
+/// Where the items of each section stand, behind the tables.
+///
+/// Error: memory was refused.
+pub(crate) fn place_data<'p>(
+    alloc: Global,
+    numbering: &'p Numbering<'_>,
+    classes: &'p [Class<'_>],
+    from: u32,
+) -> Result<Data<'p>, AllocError>
+    requires classes { AreWritable numbering.now classes.now }
+    requires from { from ≡ data_start (ordered_of numbering.now classes.now) }
+    ensures { IfOk result (AreData numbering.now classes.now) }
+{
+    let type_lists = place_type_lists(alloc, numbering, classes, from)?;
+    let Shared { written, numbers } = share_sets(alloc, classes)?;
+    let annotations = place_annotations(alloc, written, type_lists.places().end())?;
+    let static_values = place_static_values(alloc, classes, annotations.places().end())?;
+    let strings = place_strings(alloc, numbering, static_values.end())?;
+    let debugs = place_debugs(alloc, classes, strings.end())?;
+    let codes = place_codes(alloc, classes, debugs.places().end())?;
+    let class_data = place_class_data(alloc, classes, codes.offsets(), codes.end())?;
+    let sets = place_sets(
+        alloc,
+        numbering,
+        classes,
+        &annotations,
+        &numbers,
+        class_data.end(),
+    )?;
+    let ref_lists = place_ref_lists(alloc, numbering, classes, sets.methods().len(), sets.end())?;
+    let directories = place_directories(
+        alloc,
+        numbering,
+        classes,
+        &sets,
+        ref_lists.offsets(),
+        ref_lists.end(),
+    )?;
+    Ok(Data {
+        type_lists,
+        annotations,
+        static_values,
+        strings,
+        debugs,
+        codes,
+        class_data,
+        sets,
+        ref_lists,
+        directories,
+    })
+}
+
+// How many annotations the sets have.
+fn count_annotations(sets: &[&AnnotationSet]) -> u32
+    requires { length (flat_map (λ s. set_of s.now) sets.now) ≤ 2 ^ 30 }
+    ensures { result ≡ length (flat_map (λ s. set_of s.now) sets.now) }
+{
+    let mut count = 0;
+    for set in sets {
+        count += set.annotations().len() as u32;
+    }
+    count
+}
+
+impl Data<'_> {
+    /// The sections as parts of the map, from the end of the tables on.
+    pub(crate) fn entries(&self, numbering: &Numbering<'_>, from: u32) -> [MapEntry; 10]
+        requires { (cs : List NumberedClass) × AreWritable numbering.now cs × AreData numbering.now cs self.now × (from ≡ data_start (ordered_of numbering.now cs)) }
+        ensures { (cs : List NumberedClass) → AreWritable numbering.now cs → AreData numbering.now cs self.now → from ≡ data_start (ordered_of numbering.now cs) → map entry_meant result ≡ section_parts (ordered_of numbering.now cs) }
+    {
+        let written = self.annotations.written();
+        [
+            entry(
+                Section::TypeLists,
+                self.type_lists.written().len() as u32,
+                round_up(from),
+            ),
+            entry(
+                Section::AnnotationItems,
+                count_annotations(written),
+                self.type_lists.places().end(),
+            ),
+            entry(
+                Section::EncodedArrayItems,
+                count_placed(self.static_values.offsets()) as u32,
+                self.annotations.places().end(),
+            ),
+            entry(
+                Section::StringDataItems,
+                numbering.count(SymbolKind::Text) as u32,
+                self.static_values.end(),
+            ),
+            entry(
+                Section::DebugInfoItems,
+                self.debugs.written().len() as u32,
+                self.strings.end(),
+            ),
+            entry(
+                Section::CodeItems,
+                count_placed(self.codes.offsets()) as u32,
+                round_up(self.debugs.places().end()),
+            ),
+            entry(
+                Section::ClassDataItems,
+                count_placed(self.class_data.offsets()) as u32,
+                self.codes.end(),
+            ),
+            entry(
+                Section::AnnotationSets,
+                written.len() as u32,
+                round_up(self.class_data.end()),
+            ),
+            entry(
+                Section::AnnotationSetRefLists,
+                count_placed(self.ref_lists.offsets()) as u32,
+                round_up(self.sets.end()),
+            ),
+            entry(
+                Section::AnnotationsDirectories,
+                count_placed(self.directories.offsets()) as u32,
+                round_up(self.ref_lists.end()),
+            ),
+        ]
+    }
+
+    /// How many bytes the longest item of the sections has, or 0 where there is none.
+    pub(crate) fn greatest(&self) -> usize
+        ensures { (m : Mentions) (cs : List NumberedClass) → AreData m cs self.now → result ≡ greatest_in (data_sections (ordered_of m cs)) }
+    {
+        self.type_lists
+            .places()
+            .greatest()
+            .max(self.annotations.places().greatest())
+            .max(self.static_values.greatest())
+            .max(self.strings.greatest())
+            .max(self.debugs.places().greatest())
+            .max(self.codes.greatest())
+            .max(self.class_data.greatest())
+            .max(self.sets.greatest())
+            .max(self.ref_lists.greatest())
+            .max(self.directories.greatest())
+    }
+}

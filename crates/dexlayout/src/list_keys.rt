@@ -1,0 +1,53 @@
+//! Type lists that are equal where their numbers are.
+
+ghost use Rattle.dexspec.specs.Rows.{key_cmp};
+ghost use Rattle.std.specs.Prelude.{◌≡◌};
+ghost use Rattle.std.specs.Cmp.{partial_equiv_from_equiv};
+ghost use Rattle.std.specs.Hash as fed;
+ghost use Rattle.dexlayout.specs.ListKeys.{same_numbers, same_numbers_equiv, same_numbers_alike};
+
+use dexrows::TypeNumbers;
+use std::hash::{Hash, Hasher};
+use std::marker::Model;
+
+/// A type list by the numbers of its types, which is equal to another where these are.
+#[derive(Drop)]
+pub(crate) struct ListKey<'p> {
+    pub(crate) list: TypeNumbers<'p>,
+}
+
+impl<'p> Model for ListKey<'p> {
+    ghost use Rattle.std.specs.Prelude.{ℕ, List};
+
+    ghost Value = { List ℕ };
+
+    ghost view = { λ k. k.list };
+}
+
+impl PartialEq for ListKey<'_> {
+    ghost eq = { same_numbers };
+
+    ghost laws = { partial_equiv_from_equiv same_numbers_equiv };
+
+    fn eq(&self, other: &ListKey<'_>) -> bool {
+        self.list.compare(&other.list).is_eq()
+    }
+}
+
+impl Eq for ListKey<'_> {
+    ghost laws = { same_numbers_equiv };
+}
+
+impl Hash for ListKey<'_> {
+    ghost hash_input = { fed.slice fed.usize };
+
+    ghost respects_eq = { same_numbers_alike };
+
+    fn hash<H: Hasher>(&self, state: &mut H) {
+        let count = self.list.len();
+        count.hash(state);
+        for i in 0..count {
+            self.list.at(i).hash(state);
+        }
+    }
+}

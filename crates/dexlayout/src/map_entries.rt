@@ -1,0 +1,50 @@
+//! The map of a file.
+
+ghost use Rattle.std.specs.Prelude.{◌≡◌, ◌<◌, ◌+◌, [], ◌∷◌, ◌++◌, length, map, IfOk, OnOk};
+ghost use Rattle.std.specs.List.{flat_map};
+ghost use Rattle.dexspec.specs.Sections as kinds;
+ghost use Rattle.dexhead.specs.Written.{entry_meant};
+ghost use Rattle.dexlayout.specs.Parts.{entry_of, count_placed};
+
+use crate::tables::entry;
+use dexhead::{MapEntry, Section};
+use std::alloc::{AllocError, Global};
+
+/// How many items there are: as many as offsets that are not 0.
+pub(crate) fn count_placed(offsets: &[u32]) -> usize
+    ensures { result ≡ count_placed offsets.now }
+{
+    offsets.iter().filter(|off| **off != 0).count()
+}
+
+/// The entries of a map: the header's, those of the parts that are not empty, tables before sections, and the map's own.
+///
+/// Error: memory was refused.
+pub(crate) fn map_entries(
+    alloc: Global,
+    tables: &[MapEntry],
+    sections: &[MapEntry],
+    map_off: u32,
+) -> Result<Vec<MapEntry>, AllocError>
+    requires few { length tables.now + length sections.now < 100 }
+    ensures { IfOk result (λ entries. map entry_meant entries.items ≡ (kinds.HeaderItem, 1, 0) ∷ (flat_map entry_of (map entry_meant tables.now) ++ (flat_map entry_of (map entry_meant sections.now) ++ (kinds.MapList, 1, map_off) ∷ []))) }
+{
+    let mut entries = Vec::with_capacity(alloc, 2 + tables.len() + sections.len())?;
+    entries.push(entry(Section::HeaderItem, 1, 0))?;
+    push_parts(tables, &mut entries)?;
+    push_parts(sections, &mut entries)?;
+    entries.push(entry(Section::MapList, 1, map_off))?;
+    Ok(entries)
+}
+
+// Appends the entries of the parts that are not empty.
+fn push_parts(parts: &[MapEntry], entries: &mut Vec<MapEntry>) -> Result<(), AllocError>
+    ensures { OnOk result (map entry_meant entries.new.items ≡ map entry_meant entries.old.items ++ flat_map entry_of (map entry_meant parts.now)) }
+{
+    for part in parts {
+        if part.size > 0 {
+            entries.push(*part)?;
+        }
+    }
+    Ok(())
+}

@@ -1,0 +1,111 @@
+//! Items that equal uses share.
+
+ghost use Rattle.std.specs.Prelude.{◌≡◌, ℕ, List, [], ◌∷◌, ◌++◌, Option, Some, None, OnOk, IfOk};
+ghost use Rattle.std.specs.Prelude.{◌<◌, All, IfSome, length, slice_index};
+ghost use Rattle.std.specs.Option.{option_map_or};
+ghost use Rattle.dexspec.specs.Placing.{uses_offsets};
+ghost use Rattle.dexlayout.specs.Sharing.{HaveItems};
+
+use crate::offsets::Offsets;
+use indexmap::IndexSet;
+use std::alloc::{AllocError, Global};
+use std::hash::Hash;
+
+/// Uses in their order, and what they use: of equal items one is kept, in the place of the first use.
+#[derive(Drop)]
+pub(crate) struct Sharing<T: Eq + Hash> {
+    items: IndexSet<T>,
+    numbers: Vec<Option<usize>>,
+}
+
+/// The items that uses share, each once, in the order of their first use, and for each use the number of its item, if it has one.
+#[derive(Drop)]
+pub(crate) struct Shared<T> {
+    pub(crate) written: Vec<T>,
+    pub(crate) numbers: Vec<Option<usize>>,
+}
+
+impl<T: Eq + Hash + Drop> Sharing<T> {
+    /// No uses. No memory is taken.
+    pub(crate) fn new(alloc: Global) -> Sharing<T>
+        ensures { HaveItems T.eq [] result.items.keys result.numbers.items }
+    {
+        Sharing {
+            items: IndexSet::new(alloc),
+            numbers: Vec::new(alloc),
+        }
+    }
+
+    /// No uses, and memory for the numbers of so many.
+    ///
+    /// Error: memory was refused.
+    pub(crate) fn for_uses(alloc: Global, uses: usize) -> Result<Sharing<T>, AllocError>
+        ensures { IfOk result (λ sharing. HaveItems T.eq [] sharing.items.keys sharing.numbers.items) }
+    {
+        Ok(Sharing {
+            items: IndexSet::new(alloc),
+            numbers: Vec::with_capacity(alloc, uses)?,
+        })
+    }
+
+    /// Adds a use, of an item or of none.
+    ///
+    /// Error: memory was refused.
+    pub(crate) fn add(&mut self, used: Option<T>) -> Result<(), AllocError>
+        ensures { (uses : List (Option T)) → HaveItems T.eq uses self.old.items.keys self.old.numbers.items → OnOk result (HaveItems T.eq (uses ++ used ∷ []) self.new.items.keys self.new.numbers.items) }
+    {
+        let number = match used {
+            Some(item) => {
+                let (number, _) = self.items.insert_full(item)?;
+                Some(number)
+            }
+            None => None,
+        };
+        self.numbers.push(number)?;
+        Ok(())
+    }
+
+    /// The items, and the number of each use.
+    ///
+    /// Error: memory was refused.
+    pub(crate) fn finish(self, alloc: Global) -> Result<Shared<T>, AllocError>
+        ensures { (uses : List (Option T)) → HaveItems T.eq uses self.items.keys self.numbers.items → IfOk result (λ shared. HaveItems T.eq uses shared.written.items shared.numbers.items) }
+    {
+        let Sharing { items, numbers } = self;
+        let written = items.into_iter().collect(alloc)?;
+        Ok(Shared { written, numbers })
+    }
+}
+
+// The offset of a use's item, or 0 where it has none.
+fn use_offset(number: Option<usize>, offsets: &[u32]) -> u32
+    requires { IfSome number (λ i. i < length offsets.now) }
+    ensures { result ≡ option_map_or (slice_index offsets.now) number 0 }
+{
+    match number {
+        Some(number) => offsets[number],
+        None => 0,
+    }
+}
+
+/// Where the items of uses stand, for each use, by their numbers and by where the items stand that are written.
+///
+/// Error: memory was refused.
+pub(crate) fn place_shared(
+    alloc: Global,
+    numbers: &[Option<usize>],
+    written: &Offsets,
+) -> Result<Offsets, AllocError>
+    requires { All (λ number. IfSome number (λ i. i < length written.now.offsets)) numbers.now }
+    ensures { IfOk result (λ places. places ≡ record { offsets = uses_offsets numbers.now written.now.offsets; end = written.now.end; greatest = written.now.greatest }) }
+{
+    let mut offsets = Vec::with_capacity(alloc, numbers.len())?;
+    for number in numbers {
+        offsets.push(use_offset(*number, &written.offsets))?;
+    }
+    Ok(Offsets {
+        offsets,
+        end: written.end,
+        greatest: written.greatest,
+    })
+}

@@ -1,0 +1,240 @@
+-- One class of each name, class by class and part by part.
+use Rattle.std.proofs.Common.{◌≡◌, ◌≢◌, ℕ, zero, suc, ◌+◌, ◌<◌, Bool, true, false, List, [], ◌∷◌, ◌++◌, length, get_or, take, map, replicate, refl, sym, ap, ◌∙◌, subst, arith, inl, inr}
+use Rattle.std.specs.Prelude.{All, slice_set, slice_index_or}
+use Rattle.std.specs.List.{Contains, AllZip, flat_map}
+use Rattle.std.proofs.lemmas.Bool.{false≢true, cases_eq}
+use Rattle.std.proofs.lemmas.List.{append_assoc, append-nil, length-set, map-append, get_or-set_same, get_or-set_other, get_or-replicate, length-replicate, get_or_default}
+use Rattle.std.proofs.lemmas.List.Elements.{All-nil, All-push, Contains-append_left, Contains-append_right, Contains-append_cases}
+use Rattle.std.proofs.lemmas.List.Quantifiers.{all_pairs_push}
+use Rattle.dexspec.specs.Lists.{AreDistinct}
+use Rattle.dexspec.specs.Texts.{Text}
+use Rattle.dexspec.specs.Classes.{Definition}
+use Rattle.dexspec.specs.Depth.{in_class_order}
+use Rattle.dexspec.specs.Files.{Collection, definitions, AreSame, IsCollectionOf}
+use Rattle.dexspec.specs.Mentions.{Mentions, mentions}
+use Rattle.dexspec.specs.Merging.{Caps, AreCaps, IsConsistent, IsGood, greatest_caps}
+use Rattle.dexspec.specs.WellFormed.{IsWellFormed, AreWellFormed}
+use Rattle.dexspec.proofs.Absorption.{IsGood-within}
+use Rattle.dexspec.proofs.ClassOrder.{definitions-distinct}
+use Rattle.dexspec.proofs.ClassPlaces.{in_class_order-only, in_class_order-has, Contains-map_source}
+use Rattle.dexspec.proofs.Depths.{Contains-map}
+use Rattle.dexspec.proofs.Growth.{mentions-same}
+use Rattle.dexspec.proofs.Members.{Contains-nil, Contains-first, Contains-cons_cases, Contains-flat_map}
+use Rattle.dexpool.specs.Numberings.{Maps}
+use Rattle.dexclass.specs.Numbered.{NumberedClass, type_at, definition_of}
+use Rattle.dexclass.specs.Uses.{IsKnownClass}
+use Rattle.dexclass.specs.Programs.{AreClassesOf, AreMergeable}
+use Rattle.dexclass.specs.Renumbering.{led, renumbered, StaysSame}
+use Rattle.dexmerge.specs.Gathering.{IsPartOf, AreGathered, AreOneOfEach}
+use Rattle.dexmerge.specs.Unions.{IsJudged}
+use Rattle.dexmerge.proofs.CapLaws.{good_greatest}
+use Rattle.dexmerge.proofs.PartMembers.{KeepMeaning, LeadClasses, lead_at}
+
+-- the names of classes
+abbrev pub names_of : List NumberedClass → List ℕ
+names_of cs = map (λ c. c.name) cs
+
+-- no class yet
+pub none_gathered : (m : Mentions) (types : ℕ) (marks : List Bool) → length m.types ≡ types → marks ≡ replicate types false → AreGathered m [] [] marks
+none_gathered m types marks count none = record {
+  count = ap length none ∙ length-replicate types false ∙ sym count;
+  known = All-nil (IsKnownClass m);
+  formed = λ d c. absurd (Contains-nil d c);
+  within = λ d c. absurd (Contains-nil d c);
+  names = λ d c. absurd (Contains-nil d c);
+  distinct = λ i j d less lt. absurd (omega (arith, lt));
+  marked = λ t e. absurd (false≢true (sym (all_false types t) ∙ ap (λ (l : List Bool). get_or l t false) (sym none) ∙ e));
+  all_marked = λ t c. absurd (Contains-nil t c);
+}
+  where
+    all_false : (n i : ℕ) → get_or (replicate n false) i false ≡ false
+    all_false zero i = refl
+    all_false (suc n) zero = refl
+    all_false (suc n) (suc i) = all_false n i
+
+-- the same definitions
+pub gathered_same : (m : Mentions) (D E : List Definition) (cs : List NumberedClass) (marks : List Bool) → AreSame D E → AreGathered m D cs marks → AreGathered m E cs marks
+gathered_same m D E cs marks same h = record {
+  count = h.count;
+  known = h.known;
+  formed = λ d c. h.formed d ((same d).1 c);
+  within = λ d c. (same d).0 (h.within d c);
+  names = λ d c. h.names d ((same d).1 c);
+  distinct = h.distinct;
+  marked = h.marked;
+  all_marked = h.all_marked;
+}
+
+module _ (m : Mentions) (D : List Definition) (cs : List NumberedClass) (marks : List Bool) (h : AreGathered m D cs marks) (c : NumberedClass) (formed : IsWellFormed (definition_of m c)) where
+  abbrev d : Definition
+  d = definition_of m c
+
+  all_formed : AreWellFormed (D ++ d ∷ [])
+  all_formed e has = elim (Contains-append_cases D (d ∷ []) e has) [
+    | inl before ↦ h.formed e before
+    | inr last ↦ elim (Contains-cons_cases d e [] last) [
+      | inl same ↦ subst IsWellFormed same formed
+      | inr never ↦ absurd (Contains-nil e never)
+    ]
+  ]
+
+  -- a class whose name is there
+  pub kept_gathered : slice_index_or marks c.name false ≡ true → AreGathered m (D ++ d ∷ []) cs marks
+  kept_gathered there =
+      let s = Contains-map_source (λ (x : NumberedClass). x.name) cs c.name (h.marked c.name there) in
+      record {
+        count = h.count;
+        known = h.known;
+        formed = all_formed;
+        within = λ e has. Contains-append_left D (d ∷ []) e (h.within e has);
+        names = λ e has. elim (Contains-append_cases D (d ∷ []) e has) [
+          | inl before ↦ h.names e before
+          | inr last ↦ elim (Contains-cons_cases d e [] last) [
+            | inl same ↦ (s.0, s.1, ap (type_at m) s.2 ∙ ap (λ (x : Definition). x.0) same)
+            | inr never ↦ absurd (Contains-nil e never)
+          ]
+        ];
+        distinct = h.distinct;
+        marked = h.marked;
+        all_marked = h.all_marked;
+      }
+
+  names_more : names_of (cs ++ c ∷ []) ≡ names_of cs ++ c.name ∷ []
+  names_more = map-append (λ (x : NumberedClass). x.name) cs (c ∷ [])
+
+  -- a class whose name is not
+  pub more_gathered : IsKnownClass m c → slice_index_or marks c.name false ≡ false → AreGathered m (D ++ d ∷ []) (cs ++ c ∷ []) (slice_set marks c.name true)
+  more_gathered known fresh = record {
+    count = length-set marks c.name true ∙ h.count;
+    known = All-push (IsKnownClass m) cs c h.known known;
+    formed = all_formed;
+    within = λ e has. elim (Contains-append_cases (map (definition_of m) cs) (d ∷ []) e (subst (λ (l : List Definition). Contains l e) (map-append (definition_of m) cs (c ∷ [])) has)) [
+      | inl before ↦ Contains-append_left D (d ∷ []) e (h.within e before)
+      | inr last ↦ Contains-append_right D (d ∷ []) e last
+    ];
+    names = λ e has. elim (Contains-append_cases D (d ∷ []) e has) [
+      | inl before ↦ (let x = h.names e before in (x.0, Contains-append_left cs (c ∷ []) x.0 x.1, x.2))
+      | inr last ↦ elim (Contains-cons_cases d e [] last) [
+        | inl same ↦ (c, Contains-append_right cs (c ∷ []) c (Contains-first c []), ap (λ (x : Definition). x.0) same)
+        | inr never ↦ absurd (Contains-nil e never)
+      ]
+    ];
+    distinct = subst AreDistinct (sym names_more) (all_pairs_push (λ x y. x ≢ y) (names_of cs) c.name h.distinct
+        (λ k e lt same. false≢true (sym fresh ∙ h.all_marked c.name (k, lt, get_or_default (names_of cs) k c.name e lt ∙ same))));
+    marked = λ t e. subst (λ (l : List ℕ). Contains l t) (sym names_more) (elim (cases_eq t c.name) [
+      | inl same ↦ Contains-append_right (names_of cs) (c.name ∷ []) t (subst (Contains (c.name ∷ [])) (sym same) (Contains-first c.name []))
+      | inr other ↦ Contains-append_left (names_of cs) (c.name ∷ []) t (h.marked t (sym (get_or-set_other marks c.name t true false other) ∙ e))
+    ]);
+    all_marked = λ t has. elim (cases_eq t c.name) [
+      | inl same ↦ ap (λ (k : ℕ). get_or (slice_set marks c.name true) k false) same ∙ get_or-set_same marks c.name true false (omega (arith, known.types_in 0 0 (omega arith), h.count))
+      | inr other ↦ get_or-set_other marks c.name t true false other ∙ h.all_marked t (elim (Contains-append_cases (names_of cs) (c.name ∷ []) t (subst (λ (l : List ℕ). Contains l t) names_more has)) [
+        | inl before ↦ before
+        | inr last ↦ elim (Contains-cons_cases c.name t [] last) [ inl same ↦ absurd (other (sym same)) | inr never ↦ absurd (Contains-nil t never) ]
+      ])
+    ];
+  }
+
+-- ---- the classes of a part
+
+module _ (keep : KeepMeaning) (leads : LeadClasses) (m : Mentions) (K : Collection) (r : Maps) (p : IsPartOf m K r) (formed : AreWellFormed (definitions K)) where
+  abbrev pub own : Mentions
+  own = mentions (definitions K)
+
+  -- led on, a class of the part stands for the same
+  part_stays : (c : NumberedClass) → IsKnownClass own c → StaysSame own m r c
+  part_stays c known = keep own m r c p.lead.lead (leads own r c p.lead.all known) known
+
+  -- it has a mark
+  pub name_within : (c : NumberedClass) (marks : List Bool) → IsKnownClass own c → length marks ≡ length m.types → led r.types c.name < length marks
+  name_within c marks known count = omega (arith, (part_stays c known).known.types_in 0 0 (omega arith), count)
+
+  module _ (D : List Definition) (xs : List NumberedClass) (c : NumberedClass) (known : IsKnownClass own c) (has : Contains (definitions K) (definition_of own c)) (cs : List NumberedClass) (marks : List Bool) (h : AreGathered m (D ++ map (definition_of own) xs) cs marks) where
+    same : definition_of m (renumbered r c) ≡ definition_of own c
+    same = (part_stays c known).same
+
+    next : (D ++ map (definition_of own) xs) ++ definition_of m (renumbered r c) ∷ [] ≡ D ++ map (definition_of own) (xs ++ c ∷ [])
+    next =
+        append_assoc D (map (definition_of own) xs) (definition_of m (renumbered r c) ∷ []) ∙ ap (λ (x : Definition). D ++ (map (definition_of own) xs ++ x ∷ [])) same
+        ∙ ap (λ (l : List Definition). D ++ l) (sym (map-append (definition_of own) xs (c ∷ [])))
+
+    well : IsWellFormed (definition_of m (renumbered r c))
+    well = subst IsWellFormed (sym same) (formed (definition_of own c) has)
+
+    -- a class whose name is there
+    pub part_kept : slice_index_or marks (led r.types c.name) false ≡ true → AreGathered m (D ++ map (definition_of own) (xs ++ c ∷ [])) cs marks
+    part_kept there = subst (λ (l : List Definition). AreGathered m l cs marks) next (kept_gathered m (D ++ map (definition_of own) xs) cs marks h (renumbered r c) well there)
+
+    -- and one whose name is not
+    pub part_more : slice_index_or marks (led r.types c.name) false ≡ false → AreGathered m (D ++ map (definition_of own) (xs ++ c ∷ [])) (cs ++ renumbered r c ∷ []) (slice_set marks (led r.types c.name) true)
+    part_more fresh = subst (λ (l : List Definition). AreGathered m l (cs ++ renumbered r c ∷ []) (slice_set marks (led r.types c.name) true)) next
+        (more_gathered m (D ++ map (definition_of own) xs) cs marks h (renumbered r c) well (part_stays c known).known fresh)
+
+-- a class of a part is known, and stands for one of its definitions
+pub class_known : (K : Collection) (ps : List NumberedClass) (c : NumberedClass) → AreClassesOf K ps → Contains ps c → IsKnownClass (mentions (definitions K)) c
+class_known K ps c are has = subst (IsKnownClass (mentions (definitions K))) has.2 (are.known has.0 c has.1)
+
+pub class_stands : (K : Collection) (ps : List NumberedClass) (c : NumberedClass) → AreClassesOf K ps → Contains ps c → Contains (definitions K) (definition_of (mentions (definitions K)) c)
+class_stands K ps c are has =
+    let own = mentions (definitions K) in
+    in_class_order-only (definitions K) (definition_of own c) (subst (λ (l : List Definition). Contains l (definition_of own c)) are.are (Contains-map (definition_of own) ps c has))
+
+-- all classes of a part
+pub part_done : (m : Mentions) (D : List Definition) (K : Collection) (ps cs : List NumberedClass) (marks : List Bool) → AreClassesOf K ps → AreGathered m (D ++ map (definition_of (mentions (definitions K))) ps) cs marks → AreGathered m (D ++ definitions K) cs marks
+part_done m D K ps cs marks are h =
+    let ordered = subst (λ (l : List Definition). AreGathered m (D ++ l) cs marks) are.are h in
+    gathered_same m (D ++ in_class_order (definitions K)) (D ++ definitions K) cs marks (λ d. (
+      λ c. elim (Contains-append_cases D (in_class_order (definitions K)) d c) [
+        | inl first ↦ Contains-append_left D (definitions K) d first
+        | inr last ↦ Contains-append_right D (definitions K) d (in_class_order-only (definitions K) d last)
+      ],
+      λ c. elim (Contains-append_cases D (definitions K) d c) [
+        | inl first ↦ Contains-append_left D (in_class_order (definitions K)) d first
+        | inr last ↦ Contains-append_right D (in_class_order (definitions K)) d (in_class_order-has (definitions K) d (definitions-distinct K) last)
+      ],
+    )) ordered
+
+-- ---- all of them
+
+-- where no name has two definitions, the classes stand for all of them
+pub one_of_each : (m : Mentions) (D : List Definition) (cs : List NumberedClass) (marks : List Bool) → IsConsistent D → AreGathered m D cs marks → AreOneOfEach m D cs
+one_of_each m D cs marks consistent h = record {
+  known = h.known;
+  formed = h.formed;
+  same = λ d. (h.within d, λ has.
+      let x = h.names d has in
+      let there : Contains (map (definition_of m) cs) (definition_of m x.0) = Contains-map (definition_of m) cs x.0 x.1 in
+      let body : (definition_of m x.0).1 ≡ d.1 = consistent d.0 (definition_of m x.0).1 d.1 (subst (λ (n : Text). Contains D (n, (definition_of m x.0).1)) x.2 (h.within (definition_of m x.0) there)) has in
+      subst (Contains (map (definition_of m) cs)) (λ i. (x.2 i, body i)) there);
+  distinct = h.distinct;
+}
+
+-- they make a program
+pub are_mergeable : (m : Mentions) (D : List Definition) (cs : List NumberedClass) → m ≡ mentions D → IsGood greatest_caps D → AreOneOfEach m D cs → AreMergeable m cs
+are_mergeable m D cs own good h =
+    let E = map (definition_of m) cs in
+    record {
+      known = h.known;
+      mentions_are = own ∙ mentions-same D E (λ d. (h.same d).1) (λ d. (h.same d).0);
+      names_differ = h.distinct;
+      good = IsGood-within E D (λ d. (h.same d).0) greatest_caps good;
+      formed = λ d has. h.formed d ((h.same d).0 has);
+    }
+
+-- of just the definitions
+pub collection_is : (m : Mentions) (D : List Definition) (cs : List NumberedClass) (K : Collection) → AreOneOfEach m D cs → IsCollectionOf (map (definition_of m) cs) K → IsCollectionOf D K
+collection_is m D cs K h k name c = (λ e. (h.same (name, c)).0 ((k name c).0 e), λ has. (k name c).1 ((h.same (name, c)).1 has))
+
+-- what is judged under some caps is so under the greatest
+pub judged_greatest : (caps : Caps) (parts : List Collection) (m : Mentions) (remaps : List Maps) → AreCaps caps → IsJudged caps parts m remaps → IsJudged greatest_caps parts m remaps
+judged_greatest caps parts m remaps are j = record { joined = j.joined; good = good_greatest caps (flat_map definitions parts) are j.good }
+
+-- a part of the union
+pub is_part : (parts : List Collection) (m : Mentions) (remaps : List Maps) (i : ℕ) (K : Collection) (r : Maps) → IsJudged greatest_caps parts m remaps → i < length parts → K ≡ get_or parts i K → r ≡ get_or remaps i r → IsPartOf m K r
+is_part parts m remaps i K r j lt at to = record {
+  whole = flat_map definitions parts;
+  mentions_are = j.joined.mentions_are;
+  rising = j.joined.rising;
+  good = j.good;
+  within = λ d c. Contains-flat_map definitions parts K d (i, lt, sym at) c;
+  lead = lead_at m parts remaps i K r lt at to j.joined.lead;
+}

@@ -10,6 +10,7 @@ ghost use Rattle.dexmembers.specs.Attaching.{looked_up, sets_of, EntriesRise, Ha
 use crate::class_data::{EncodedField, EncodedMethod};
 use crate::members::{Field, Method};
 use dexcode::Code;
+use dexflags::{FieldFlags, MethodFlags};
 use dexval::AnnotationSet;
 use std::alloc::{AllocError, Global};
 use std::mem;
@@ -65,7 +66,7 @@ pub(crate) fn attach_fields(
         let annotations = take_set(alloc, sets, field.index);
         fields.push(Field {
             number: field.index,
-            flags: field.flags,
+            flags: FieldFlags::from_bits_retain(field.flags),
             annotations,
         })?;
     }
@@ -96,7 +97,7 @@ pub(crate) fn attach_methods<'a>(
         let parameter_annotations = take_list(alloc, lists, method.index);
         methods.push(Method {
             number: method.index,
-            flags: method.flags,
+            flags: MethodFlags::from_bits_retain(method.flags),
             code,
             annotations,
             parameter_annotations,

@@ -30,7 +30,7 @@ fn append_field(field: &Field, last: u32, out: &mut Vec<u8>) -> Result<(), Alloc
     ensures { Appends ⊤ (numbered_field_bytes last field.now) out.old out.new result }
 {
     append_number(field.number().saturating_sub(last), out)?;
-    append_number(field.flags(), out)
+    append_number(field.flags().bits(), out)
 }
 
 // Appends encoded_fields.
@@ -55,7 +55,7 @@ fn append_method(
     ensures { Appends ⊤ (numbered_method_bytes last method.now code_off) out.old out.new result }
 {
     append_number(method.number().saturating_sub(last), out)?;
-    append_number(method.flags(), out)?;
+    append_number(method.flags().bits(), out)?;
     append_number(code_off, out)
 }
 

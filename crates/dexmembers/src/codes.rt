@@ -13,6 +13,7 @@ use crate::class_data::EncodedMethod;
 use dexcode::{Code, debug_bare_law, read_code};
 use dexhead::Frame;
 use dexpool::{ItemFault, Pools};
+use indexmap::IndexSet;
 use std::alloc::Global;
 
 // The code at an offset, or none at 0.
@@ -72,7 +73,7 @@ fn judge_code(
     }
 }
 
-// Judges the code of the methods, and keeps none of it. Code at the offset of the method before is not read again.
+// Judges the code of the methods, and keeps none of it. Code at one offset is read once.
 fn judge_codes(
     alloc: Global,
     frame: &Frame<'_>,
@@ -82,11 +83,12 @@ fn judge_codes(
     ensures judged { ArePools frame.now pools.now → OnOk result (HaveCodes frame.now methods.now) }
     ensures refused { ArePools frame.now pools.now → IfErr result (IsCodesFault frame.now methods.now) }
 {
-    let mut judged = 0;
+    let mut judged = IndexSet::new(alloc);
     for method in methods {
-        if method.code_off != judged {
+        let (_, is_new) = judged.insert_full(method.code_off)?;
+        if is_new {
             match judge_code(alloc, frame, pools, method.code_off) {
-                Ok(()) => judged = method.code_off,
+                Ok(()) => {}
                 Err(fault) => return Err(fault),
             }
         }

@@ -14,7 +14,7 @@ fn field_len(field: &Field, last: u32) -> usize
     ensures exact { result ≡ length (numbered_field_bytes last field.now) }
     ensures few { result ≤ 10 }
 {
-    len_u(field.number().saturating_sub(last)) + len_u(field.flags())
+    len_u(field.number().saturating_sub(last)) + len_u(field.flags().bits())
 }
 
 // How many bytes encoded_fields have.
@@ -37,7 +37,7 @@ fn method_len(method: &Method<'_>, last: u32, code_off: u32) -> usize
     ensures exact { result ≡ length (numbered_method_bytes last method.now code_off) }
     ensures few { result ≤ 15 }
 {
-    len_u(method.number().saturating_sub(last)) + (len_u(method.flags()) + len_u(code_off))
+    len_u(method.number().saturating_sub(last)) + (len_u(method.flags().bits()) + len_u(code_off))
 }
 
 // How many bytes encoded_methods have, each with the offset of its code.

@@ -6,6 +6,7 @@ ghost use Rattle.dexval.specs.Numbered.{values_of_list};
 ghost use Rattle.dexmembers.specs.Numbered.{no_members, AreFew};
 
 use dexcode::Code;
+use dexflags::{FieldFlags, MethodFlags};
 use dexval::{AnnotationSet, Value};
 use std::alloc::Global;
 use std::marker::Model;
@@ -16,7 +17,7 @@ use std::marker::Model;
 #[derive(Drop)]
 pub struct Field {
     pub(crate) number: u32,
-    pub(crate) flags: u32,
+    pub(crate) flags: FieldFlags,
     pub(crate) annotations: AnnotationSet,
 }
 
@@ -30,7 +31,7 @@ impl Model for Field {
 
     ghost coded = { Prim.hlevel (codes, elements_code) };
 
-    ghost view = { λ f. record { number = f.number; flags = f.flags; annotations = set_of f.annotations } };
+    ghost view = { λ f. record { number = f.number; flags = f.flags.0; annotations = set_of f.annotations } };
 }
 
 /// A declared method: its number among the methods, its access flags, its code, if it has some, its annotations, and sets of
@@ -40,7 +41,7 @@ impl Model for Field {
 #[derive(Drop)]
 pub struct Method<'a> {
     pub(crate) number: u32,
-    pub(crate) flags: u32,
+    pub(crate) flags: MethodFlags,
     pub(crate) code: Option<Code<'a>>,
     pub(crate) annotations: AnnotationSet,
     pub(crate) parameter_annotations: Vec<AnnotationSet>,
@@ -57,7 +58,7 @@ impl<'a> Model for Method<'a> {
 
     ghost coded = { Prim.hlevel (codes, elements_code) };
 
-    ghost view = { λ x. record { number = x.number; flags = x.flags; code = x.code; annotations = set_of x.annotations; parameter_annotations = map set_of x.parameter_annotations.items } };
+    ghost view = { λ x. record { number = x.number; flags = x.flags.0; code = x.code; annotations = set_of x.annotations; parameter_annotations = map set_of x.parameter_annotations.items } };
 }
 
 /// What a class declares: its own annotations, its fields and methods by number, and what its static fields begin with, in
@@ -102,8 +103,8 @@ impl Field {
     /// The access flags. No memory is taken.
     ///
     /// Source: "access_flags definitions".
-    pub fn flags(&self) -> u32
-        ensures { result ≡ self.now.flags }
+    pub fn flags(&self) -> FieldFlags
+        ensures { result.0 ≡ self.now.flags }
     {
         self.flags
     }
@@ -127,8 +128,8 @@ impl<'a> Method<'a> {
     /// The access flags. No memory is taken.
     ///
     /// Source: "access_flags definitions".
-    pub fn flags(&self) -> u32
-        ensures { result ≡ self.now.flags }
+    pub fn flags(&self) -> MethodFlags
+        ensures { result.0 ≡ self.now.flags }
     {
         self.flags
     }

@@ -62,7 +62,7 @@ fn print_fields<W: fmt::Write>(
         print_break(are_first && i == 0, f)?;
         f.write_str(kind)?;
         print_field_name(numbering, field.number() as usize, f)?;
-        print_flags(field.flags(), false, f)?;
+        print_flags(field.flags().bits(), false, f)?;
     }
     Ok(())
 }
@@ -79,7 +79,7 @@ fn print_methods<W: fmt::Write>(
         print_break(are_first && i == 0, f)?;
         f.write_str(kind)?;
         print_method_name(numbering, method.number() as usize, f)?;
-        print_flags(method.flags(), true, f)?;
+        print_flags(method.flags().bits(), true, f)?;
         if let Some(code) = method.code() {
             f.write_str(" / ")?;
             print_lines(code, numbering, f)?;

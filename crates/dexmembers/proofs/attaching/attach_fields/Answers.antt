@@ -19,6 +19,6 @@ loop-field-preserved c =
       done = λ rise up.
           let set = next_there (λ (y : EncodedField). y.index) set_of xs i none old c.loop-field.sets.items (set_of c.take_set-annotations.result) lt up rise c.loop-field.invariant.taken c.take_set-annotations.ensures.taken in
           c.in_ok-push.ensures.items
-          ∙ ((λ k. c.loop-field.invariant.done rise up k ++ record { number = x.index; flags = x.flags; annotations = set k } ∷ [])
+          ∙ ((λ k. c.loop-field.invariant.done rise up k ++ record { number = x.index; flags = c.from_bits_retain.ensures k; annotations = set k } ∷ [])
           ∙ sym (front_more (field_with old) xs i x lt (λ d. get_or_default xs i d none lt)));
     }

@@ -29,6 +29,6 @@ loop-method-preserved c =
           let set = next_there (λ (y : EncodedMethod). y.index) set_of xs i none sets c.loop-method.sets.items (set_of c.take_set-annotations.result) lt up rise h.sets_taken c.take_set-annotations.ensures.taken in
           let list = next_there (λ (y : EncodedMethod). y.index) sets_of xs i none lists c.loop-method.lists.items (sets_of c.take_list-parameter_annotations.result) lt up rise' h.lists_taken c.take_list-parameter_annotations.ensures.taken in
           c.in_ok-push.ensures.items
-          ∙ ((λ k. h.done rise rise' up many k ++ record { number = x.index; flags = x.flags; code = c.flatten-code.result; annotations = set k; parameter_annotations = list k } ∷ [])
+          ∙ ((λ k. h.done rise rise' up many k ++ record { number = x.index; flags = c.from_bits_retain.ensures k; code = c.flatten-code.result; annotations = set k; parameter_annotations = list k } ∷ [])
           ∙ sym (zip_more (method_with sets lists) xs ys i x c.flatten-code.result lt (omega (arith, many, lt)) (λ d. get_or_default xs i d none lt) (next many).1));
     }

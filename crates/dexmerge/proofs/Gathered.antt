@@ -25,10 +25,16 @@ use Rattle.dexclass.specs.Numbered.{NumberedClass, type_at, definition_of}
 use Rattle.dexclass.specs.Uses.{IsKnownClass}
 use Rattle.dexclass.specs.Programs.{AreClassesOf, AreMergeable}
 use Rattle.dexclass.specs.Renumbering.{led, renumbered, StaysSame}
-use Rattle.dexmerge.specs.Gathering.{IsPartOf, AreGathered, AreOneOfEach}
+use Rattle.dexmerge.specs.Gathering.{IsPartOf, AreGathered, IsAdded, AreOneOfEach}
+use Rattle.dexmerge.specs.declared.gathering.Gathered.{Gathered}
 use Rattle.dexmerge.specs.Unions.{IsJudged}
 use Rattle.dexmerge.proofs.CapLaws.{good_greatest}
 use Rattle.dexmerge.proofs.PartMembers.{KeepMeaning, LeadClasses, lead_at}
+
+-- what each member stands for itself
+pub map_same : {X : Type 0} (xs : List X) → map (λ x. x) xs ≡ xs
+map_same [] = refl
+map_same {X} (x ∷ xs) = ap (λ (l : List X). x ∷ l) (map_same xs)
 
 -- the names of classes
 abbrev pub names_of : List NumberedClass → List ℕ
@@ -134,6 +140,15 @@ module _ (m : Mentions) (D : List Definition) (cs : List NumberedClass) (marks :
     ];
   }
 
+-- a class that is pushed, or one that is not
+pub added_new : (c : NumberedClass) (old new : Gathered) → slice_index_or old.is_name.items c.name false ≡ false → new.classes.items ≡ old.classes.items ++ c ∷ [] → new.is_name.items ≡ slice_set old.is_name.items c.name true → IsAdded c old new
+added_new c old new fresh classes names m D h known formed =
+    subst (λ (l : List NumberedClass). AreGathered m (D ++ definition_of m c ∷ []) l new.is_name.items) (sym classes)
+    (subst (λ (l : List Bool). AreGathered m (D ++ definition_of m c ∷ []) (old.classes.items ++ c ∷ []) l) (sym names) (more_gathered m D old.classes.items old.is_name.items h c formed known fresh))
+
+pub added_same : (c : NumberedClass) (old : Gathered) → slice_index_or old.is_name.items c.name false ≡ true → IsAdded c old old
+added_same c old there m D h known formed = kept_gathered m D old.classes.items old.is_name.items h c formed there
+
 -- ---- the classes of a part
 
 module _ (keep : KeepMeaning) (leads : LeadClasses) (m : Mentions) (K : Collection) (r : Maps) (p : IsPartOf m K r) (formed : AreWellFormed (definitions K)) where
@@ -148,31 +163,17 @@ module _ (keep : KeepMeaning) (leads : LeadClasses) (m : Mentions) (K : Collecti
   pub name_within : (c : NumberedClass) (marks : List Bool) → IsKnownClass own c → length marks ≡ length m.types → led r.types c.name < length marks
   name_within c marks known count = omega (arith, (part_stays c known).known.types_in 0 0 (omega arith), count)
 
-  module _ (D : List Definition) (xs : List NumberedClass) (c : NumberedClass) (known : IsKnownClass own c) (has : Contains (definitions K) (definition_of own c)) (cs : List NumberedClass) (marks : List Bool) (h : AreGathered m (D ++ map (definition_of own) xs) cs marks) where
-    same : definition_of m (renumbered r c) ≡ definition_of own c
-    same = (part_stays c known).same
+  -- one class of the part more
+  pub part_more : (D : List Definition) (xs : List NumberedClass) (c : NumberedClass) (old new : Gathered) → IsKnownClass own c → Contains (definitions K) (definition_of own c) → IsAdded (renumbered r c) old new → AreGathered m (D ++ map (definition_of own) xs) old.classes.items old.is_name.items
+      → AreGathered m (D ++ map (definition_of own) (xs ++ c ∷ [])) new.classes.items new.is_name.items
+  part_more D xs c old new known has added h =
+      let same : definition_of m (renumbered r c) ≡ definition_of own c = (part_stays c known).same in
+      let next : (D ++ map (definition_of own) xs) ++ definition_of m (renumbered r c) ∷ [] ≡ D ++ map (definition_of own) (xs ++ c ∷ []) =
+      append_assoc D (map (definition_of own) xs) (definition_of m (renumbered r c) ∷ []) ∙ ap (λ (x : Definition). D ++ (map (definition_of own) xs ++ x ∷ [])) same
+      ∙ ap (λ (l : List Definition). D ++ l) (sym (map-append (definition_of own) xs (c ∷ []))) in
+      subst (λ (l : List Definition). AreGathered m l new.classes.items new.is_name.items) next (added m (D ++ map (definition_of own) xs) h (part_stays c known).known (subst IsWellFormed (sym same) (formed (definition_of own c) has)))
 
-    next : (D ++ map (definition_of own) xs) ++ definition_of m (renumbered r c) ∷ [] ≡ D ++ map (definition_of own) (xs ++ c ∷ [])
-    next =
-        append_assoc D (map (definition_of own) xs) (definition_of m (renumbered r c) ∷ []) ∙ ap (λ (x : Definition). D ++ (map (definition_of own) xs ++ x ∷ [])) same
-        ∙ ap (λ (l : List Definition). D ++ l) (sym (map-append (definition_of own) xs (c ∷ [])))
-
-    well : IsWellFormed (definition_of m (renumbered r c))
-    well = subst IsWellFormed (sym same) (formed (definition_of own c) has)
-
-    -- a class whose name is there
-    pub part_kept : slice_index_or marks (led r.types c.name) false ≡ true → AreGathered m (D ++ map (definition_of own) (xs ++ c ∷ [])) cs marks
-    part_kept there = subst (λ (l : List Definition). AreGathered m l cs marks) next (kept_gathered m (D ++ map (definition_of own) xs) cs marks h (renumbered r c) well there)
-
-    -- and one whose name is not
-    pub part_more : slice_index_or marks (led r.types c.name) false ≡ false → AreGathered m (D ++ map (definition_of own) (xs ++ c ∷ [])) (cs ++ renumbered r c ∷ []) (slice_set marks (led r.types c.name) true)
-    part_more fresh = subst (λ (l : List Definition). AreGathered m l (cs ++ renumbered r c ∷ []) (slice_set marks (led r.types c.name) true)) next
-        (more_gathered m (D ++ map (definition_of own) xs) cs marks h (renumbered r c) well (part_stays c known).known fresh)
-
--- a class of a part is known, and stands for one of its definitions
-pub class_known : (K : Collection) (ps : List NumberedClass) (c : NumberedClass) → AreClassesOf K ps → Contains ps c → IsKnownClass (mentions (definitions K)) c
-class_known K ps c are has = subst (IsKnownClass (mentions (definitions K))) has.2 (are.known has.0 c has.1)
-
+-- a class of a part stands for one of its definitions
 pub class_stands : (K : Collection) (ps : List NumberedClass) (c : NumberedClass) → AreClassesOf K ps → Contains ps c → Contains (definitions K) (definition_of (mentions (definitions K)) c)
 class_stands K ps c are has =
     let own = mentions (definitions K) in

@@ -9,6 +9,7 @@ pub mod UnionLaws
 pub mod CapLaws
 pub mod MergeLaws
 pub mod ShortStrings
+pub mod FarTexts
 pub mod JoinedPlaces
 pub mod Gathered
 pub mod JoinLaws

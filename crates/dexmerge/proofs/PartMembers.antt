@@ -75,6 +75,10 @@ module _ (keep : KeepMeaning) (leads : LeadClasses) (m : Mentions) (K : Collecti
         formed = λ d c. elim (Contains-append_cases D (definitions K) d c) [ inl first ↦ h.formed d first | inr last ↦ formed d last ];
       }
 
+-- a class of a part is known
+pub class_known : (K : Collection) (ps : List NumberedClass) (c : NumberedClass) → AreClassesOf K ps → Contains ps c → IsKnownClass (mentions (definitions K)) c
+class_known K ps c are has = subst (IsKnownClass (mentions (definitions K))) has.2 (are.known has.0 c has.1)
+
 -- a class of a part, and maps that lead the part into the whole
 pub of_part : KeepMeaning → LeadClasses → (m : Mentions) (K : Collection) (c : Candidate) → LeadInto (mentions (definitions K)) m c.remap.now → AreRising (mentions (definitions K)) → IsKnownClass (mentions (definitions K)) c.class.now → IsOfPart m c
 of_part keep leads m K c lead rising known =

@@ -48,7 +48,7 @@ some_code m None code e = absurd cc
 some_code m (Some k) code e = (k, refl, cc)
 
 -- a member of what is there, or of nothing
-option_source : (o : Option NumberedItem) (k : NumberedItem) → Contains (option_to_list o) k → o ≡ Some k
+pub option_source : (o : Option NumberedItem) (k : NumberedItem) → Contains (option_to_list o) k → o ≡ Some k
 option_source None k c = absurd (Contains-nil k c)
 option_source (Some j) k c = elim (Contains-cons_cases j k [] c) [
   | inl e ↦ ap Some e

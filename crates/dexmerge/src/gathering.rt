@@ -11,7 +11,7 @@ ghost use Rattle.dexclass.specs.Numbered.{NumberedClass, definition_of};
 ghost use Rattle.dexclass.specs.Renumbering.{ClassHasPlaces, led, renumbered};
 ghost use Rattle.dexclass.specs.Uses.{IsKnownClass};
 ghost use Rattle.dexmerge.specs.Unions.{IsJudged};
-ghost use Rattle.dexmerge.specs.Gathering.{AreGathered, AreOneOfEach, IsPartOf};
+ghost use Rattle.dexmerge.specs.Gathering.{AreGathered, AreOneOfEach, IsAdded, IsPartOf};
 
 use dexclass::{Class, Program, renumbering_law};
 use dexinsn::joined_places_law;
@@ -42,9 +42,10 @@ impl<'a> Gathered<'a> {
     fn none(alloc: Global, types: usize) -> Result<Gathered<'a>, AllocError>
         ensures { IfOk result (λ gathered. (m : Mentions) → length m.types ≡ types → AreGathered m [] gathered.classes.items gathered.is_name.items) }
     {
+        let is_name = vec![in alloc; false; types]?;
         Ok(Gathered {
             classes: Vec::new(alloc),
-            is_name: vec![in alloc; false; types]?,
+            is_name,
         })
     }
 
@@ -72,6 +73,46 @@ impl<'a> Gathered<'a> {
         Ok(())
     }
 
+    // Adds a class of a part, with its numbers led on, where none of its name is there yet.
+    fn take(&mut self, class: Class<'a>, remap: &Remap) -> Result<(), AllocError>
+        requires places { ClassHasPlaces remap.now class }
+        requires name { led remap.now.types class.name < length self.old.is_name.items }
+        ensures count { OnOk result (length self.new.is_name.items ≡ length self.old.is_name.items) }
+        ensures added { OnOk result (IsAdded (renumbered remap.now class.entry) self.old self.new) }
+    {
+        if !self.has_name_of(&class, remap) {
+            self.push(class, remap)?;
+        }
+        Ok(())
+    }
+
+    // Adds a copy of a class of a part, with its numbers led on, where none of its name is there yet.
+    fn copy(&mut self, class: &Class<'a>, remap: &Remap) -> Result<(), AllocError>
+        requires places { ClassHasPlaces remap.now class.now }
+        requires name { led remap.now.types class.now.name < length self.old.is_name.items }
+        ensures count { OnOk result (length self.new.is_name.items ≡ length self.old.is_name.items) }
+        ensures added { OnOk result (IsAdded (renumbered remap.now class.now) self.old self.new) }
+    {
+        if !self.has_name_of(class, remap) {
+            self.push(class.copy()?, remap)?;
+        }
+        Ok(())
+    }
+
+    // Adds the classes of a part whose names are not there yet. They are moved.
+    fn take_all(&mut self, part: Program<'a>, remap: &Remap) -> Result<(), AllocError>
+        requires { (m : Mentions) × IsPartOf m part remap.now × (length self.old.is_name.items ≡ length m.types) }
+        ensures { OnOk result ((m : Mentions) (D : List Definition) → IsPartOf m part.entry remap.now → AreGathered m D self.old.classes.items self.old.is_name.items → AreGathered m (D ++ definitions part.entry) self.new.classes.items self.new.is_name.items) }
+    {
+        renumbering_law();
+        places_law();
+        part.is_good();
+        for class in part.into_classes() {
+            self.take(class, remap)?;
+        }
+        Ok(())
+    }
+
     // Adds copies of the classes of a part whose names are not there yet.
     fn copy_all(&mut self, part: &Program<'a>, remap: &Remap) -> Result<(), AllocError>
         requires { (m : Mentions) × IsPartOf m part.now remap.now × (length self.old.is_name.items ≡ length m.types) }
@@ -79,25 +120,9 @@ impl<'a> Gathered<'a> {
     {
         renumbering_law();
         places_law();
+        part.is_good();
         for class in part.classes() {
-            if !self.has_name_of(class, remap) {
-                self.push(class.copy()?, remap)?;
-            }
-        }
-        Ok(())
-    }
-
-    // Adds the classes of a part whose names are not there yet. They are moved.
-    fn move_all(&mut self, part: Program<'a>, remap: &Remap) -> Result<(), AllocError>
-        requires { (m : Mentions) × IsPartOf m part remap.now × (length self.old.is_name.items ≡ length m.types) }
-        ensures { OnOk result ((m : Mentions) (D : List Definition) → IsPartOf m part.entry remap.now → AreGathered m D self.old.classes.items self.old.is_name.items → AreGathered m (D ++ definitions part.entry) self.new.classes.items self.new.is_name.items) }
-    {
-        renumbering_law();
-        places_law();
-        for class in part.into_classes() {
-            if !self.has_name_of(&class, remap) {
-                self.push(class, remap)?;
-            }
+            self.copy(class, remap)?;
         }
         Ok(())
     }
@@ -107,7 +132,7 @@ impl<'a> Gathered<'a> {
 ///
 /// Condition: a map for each part, first those that are owned, into a union of so many types that is good. Error: the
 /// memory for the list or for a copy was refused.
-pub(crate) fn gathered<'a>(
+pub(crate) fn gather<'a>(
     alloc: Global,
     owned: Vec<Program<'a>>,
     files: &[&Program<'a>],
@@ -118,14 +143,14 @@ pub(crate) fn gathered<'a>(
     ensures { IfOk result (λ classes. (m : Mentions) → length m.types ≡ types → IsJudged greatest_caps (owned.entry.items ++ map (λ file. file.now) files.now) m remaps.now → AreOneOfEach m (flat_map definitions (owned.entry.items ++ map (λ file. file.now) files.now)) classes.items) }
 {
     let (own, rest) = remaps.split_at(owned.len());
-    let mut gathered = Gathered::none(alloc, types)?;
+    let mut all = Gathered::none(alloc, types)?;
     let mut i = 0;
     for program in owned {
-        gathered.move_all(program, &own[i])?;
+        all.take_all(program, &own[i])?;
         i += 1;
     }
     for i in 0..files.len() {
-        gathered.copy_all(files[i], &rest[i])?;
+        all.copy_all(files[i], &rest[i])?;
     }
-    Ok(gathered.classes)
+    Ok(all.classes)
 }

@@ -11,7 +11,7 @@ ghost use Rattle.dexmerge.specs.Unions.{IsJoined, IsJudged};
 
 use crate::caps::Caps;
 use crate::faults::MergeFault;
-use crate::gathering::gathered;
+use crate::gathering::gather;
 use crate::judging::judge;
 use dexclass::Program;
 use dexpool::{Numbering, Remap, SymbolKind};
@@ -87,7 +87,7 @@ pub(crate) fn merge_all<'a>(
     };
     caps.are_caps();
     let types = numbering.count(SymbolKind::Typ);
-    let classes = gathered(alloc, owned, files, &remaps, types)?;
+    let classes = gather(alloc, owned, files, &remaps, types)?;
     Ok(Program::of(alloc, numbering, classes)?)
 }
 

@@ -5,7 +5,7 @@ use Rattle.std.specs.Option.{option_map}
 use Rattle.std.specs.List.{Contains, flat_map, filter}
 use Rattle.std.proofs.lemmas.Bool.{cases_order}
 use Rattle.std.proofs.lemmas.List.{length-map, get_or-map, get_or_default}
-use Rattle.std.proofs.lemmas.List.Elements.{Contains-get_or}
+use Rattle.std.proofs.lemmas.List.Elements.{All-contains, Contains-get_or}
 use Rattle.std.proofs.lemmas.Slice.Eq.{slice_eq-Decides}
 use Rattle.std.proofs.lemmas.Bool.Decides.{Decides-eqb}
 use Rattle.dexspec.specs.Lists.{present}
@@ -14,13 +14,14 @@ use Rattle.dexspec.specs.Classes.{Definition}
 use Rattle.dexspec.specs.Depth.{parents, is_defined, above}
 use Rattle.dexspec.specs.Mentions.{Mentions}
 use Rattle.dexspec.proofs.Members.{Contains-nil, Contains-first, Contains-later, Contains-cons_cases, Contains-flat_map, Contains-flat_map_source, Contains-filter, Contains-filter_source, list_any-member, list_any-source}
+use Rattle.dexspec.proofs.Depths.{Contains-map}
+use Rattle.dexspec.proofs.Mapped.{Contains-map_source}
 use Rattle.dexspec.proofs.InOrder.{Rises-from_rises, Rises-places, irreflexive}
 use Rattle.dexspec.proofs.SymbolOrders.{text_total}
 use Rattle.dexorder.specs.Depths.{parents_of, AreWithin}
 use Rattle.dexorder.specs.Definitions.{name_at, AreClassesOf}
 use Rattle.dexclass.specs.Numbered.{NumberedClass, type_at, definition_of}
 use Rattle.dexclass.specs.Parents.{parent_numbers, no_class, name_number, ArePlaces, defined_parents, AreNamed}
-use Rattle.dexclass.proofs.Mentioned.{Contains-map, Contains-map_source, All-member}
 
 same_is : (s t : Text) → same_text s t ≡ true → s ≡ t
 same_is s t e = (slice_eq-Decides Decides-eqb s t (same_text s t) refl).0 e
@@ -153,7 +154,7 @@ module _ (m : Mentions) (cs : List NumberedClass) (named : AreNamed m cs) where
         let k = Contains-map_source (definition_of m) cs e.0 e.1 in
         let other : get_or cs k.1.0 no_class ≡ k.0 = get_or_default cs k.1.0 no_class k.0 k.1.1 ∙ k.1.2 in
         let named_p : type_at m (name_number cs k.1.0) ≡ type_at m p.0 = ap (λ (x : NumberedClass). type_at m x.name) other ∙ ap (λ (x : Definition). x.0) k.2 ∙ same_is e.0.0 name e.2 ∙ sym p.2 in
-        let number : name_number cs k.1.0 ≡ p.0 = one_number _ _ (named.names k.1.0 k.1.1) (All-member (λ q. q < length m.types) (parent_numbers c.0) p.0 (named.parents_in c.0 c.1) p.1) named_p in
+        let number : name_number cs k.1.0 ≡ p.0 = one_number _ _ (named.names k.1.0 k.1.1) (All-contains (λ q. q < length m.types) (parent_numbers c.0) p.0 (named.parents_in c.0 c.1) p.1) named_p in
         let some = option_is (get_or places p.0 None) (subst (λ (n : ℕ). IsSome (get_or places n None)) number (h.all k.1.0 k.1.1)) in
         let at = h.some p.0 some.0 some.1 in
         let listed : Contains (defined_parents places c.0) some.0 = present_has (map (λ q. get_or places q None) (parent_numbers c.0)) some.0 (subst (Contains (map (λ q. get_or places q None) (parent_numbers c.0))) some.1 (Contains-map (λ q. get_or places q None) (parent_numbers c.0) p.0 p.1)) in

@@ -14,7 +14,7 @@ use Rattle.dexspec.specs.Merging.{Fits, IsGood, greatest_caps}
 use Rattle.dexspec.proofs.Members.{Contains-nil}
 use Rattle.dexspec.proofs.WeightGrowth.{weight-within}
 use Rattle.dexclass.specs.Numbered.{NumberedClass, definition_of}
-use Rattle.dexclass.specs.Marking.{IsInRange}
+use Rattle.dexclass.specs.Uses.{IsKnownClass}
 use Rattle.dexclass.specs.Programs.{collection_of, IsProgram}
 
 -- no symbol
@@ -67,7 +67,7 @@ empty_program m cs e f =
     record {
       mentions_are = is;
       classes_are = record {
-        numbers_in = subst (λ l. All (IsInRange (mentions (definitions K))) l) (sym f) (λ k d lt. absurd (omega arith));
+        known = subst (λ l. All (IsKnownClass (mentions (definitions K))) l) (sym f) (λ k d lt. absurd (omega arith));
         are = ap (map (definition_of (mentions (definitions K)))) f ∙ sym nothing_in_order ∙ ap in_class_order (sym none);
       };
       good = subst (IsGood greatest_caps) (sym none) good_nothing;

@@ -12,7 +12,7 @@ use Rattle.dexspec.specs.Classes.{ClassListAt}
 use Rattle.dexspec.specs.Accepted.{IsDefinedBefore}
 use Rattle.dexpool.specs.Reading.{HasRoom}
 use Rattle.dexpool.proofs.Bytes.{ushort_at_rest}
-use Rattle.dexclass.specs.Rows.{IsClassIndex, IsInterfaceIndex, interface_indices, HasInterfaces}
+use Rattle.dexclass.specs.Rows.{IsClassIndex, IsInterfaceIndex, interface_indices, HasInterfaceList, HasInterfaces}
 
 -- ---- indices one by one
 
@@ -82,6 +82,15 @@ of_classes b (i ∷ is) (t ∷ ts) rows classes =
 
 pub listed_interfaces : (b : List ℕ) (o : ℕ) → o ≢ 0 → interface_indices b o ≡ type_indices b o
 listed_interfaces b o ne = rw (ne_eqb o 0 ne) refl
+
+-- there are as many as there is room for
+pub interfaces_count : (b : List ℕ) (off count : ℕ) → off ≢ 0 → HasRoom b off count → count ≡ length (interface_indices b off)
+interfaces_count b off count some room = room.count ∙ sym (length-ushorts b (off + 4) (uint_at b off)) ∙ ap length (sym (listed_interfaces b off some))
+
+-- a list that stands there has room
+pub listed_room : (b : List ℕ) (off : ℕ) → off ≢ 0 → HasInterfaceList b off → HasRoom b off (uint_at b off)
+listed_room b off some (ts, inl none) = absurd (some none.0)
+listed_room b off some (ts, inr list) = record { count = refl; in_data = list.1.list.in_data; aligned = list.1.list.aligned }
 
 module _ (b : List ℕ) (r off count : ℕ) (some : off ≢ 0) (room : HasRoom b off count) where
   pub has_interfaces : All (IsInterfaceIndex b r) (type_indices b off) → HasInterfaces b r off

@@ -1,34 +1,66 @@
--- Marks on numbers.
-use Rattle.std.proofs.Common.{◌≡◌, ℕ, ◌+◌, ◌<◌, Bool, true, false, List, [], ◌∷◌, ◌++◌, length, get_or, take, sym, ap, ◌∙◌, subst, inl, inr}
-use Rattle.std.specs.Prelude.{slice_set, slice_index_or}
-use Rattle.std.specs.List.{Contains}
-use Rattle.std.proofs.lemmas.Bool.{cases_eq}
-use Rattle.std.proofs.lemmas.List.{get_or-set_same, get_or-set_other, take_more, append_assoc}
-use Rattle.std.proofs.lemmas.List.Elements.{Contains-append_left, Contains-append_right, Contains-append_cases}
-use Rattle.dexspec.proofs.Members.{Contains-nil, Contains-first, Contains-cons_cases}
-use Rattle.dexclass.specs.Marking.{AreMarked}
+-- Marks on one list of symbols after the other.
+use Rattle.std.proofs.Common.{◌≡◌, ℕ, ◌+◌, ◌<◌, ◌==◌, Bool, true, false, ◌||◌, ◌&&◌, List, [], ◌∷◌, ◌++◌, length, take, get_or, refl, ap, sym, ◌∙◌, subst}
+use Rattle.std.specs.List.{All, flat_map}
+use Rattle.std.proofs.lemmas.List.{take_more, append-nil}
+use Rattle.std.proofs.lemmas.List.Elements.{All-nil, All-cons, All-head, All-tail}
+use Rattle.std.proofs.lemmas.List.Folds.{list_any-append}
+use Rattle.std.proofs.lemmas.Grind.{flat_map-append}
+use Rattle.dexpool.specs.declared.marks.Marks.{Marks}
+use Rattle.dexpool.specs.declared.symbols.SymbolKind.{SymbolKind}
+use Rattle.dexpool.specs.Uses.{Use, marks_of, HasMark, same_kind, occurs, AreMarkedToo}
+use Rattle.dexpool.proofs.MarksMade.{still_marked}
+use Rattle.dexclass.specs.Uses.{HaveMarked}
 
--- one number more
-pub marked_one : (marks : List Bool) (numbers : List ℕ) (i : ℕ) → i < length marks → AreMarked marks numbers → AreMarked (slice_set marks i true) (numbers ++ i ∷ [])
-marked_one marks numbers i lt h k = elim (cases_eq i k) [
-  | inl same ↦ (
-    λ e. subst (Contains (numbers ++ i ∷ [])) same (Contains-append_right numbers (i ∷ []) i (Contains-first i [])),
-    λ c. subst (λ (n : ℕ). slice_index_or (slice_set marks i true) n false ≡ true) same (get_or-set_same marks i true false lt),
-  )
-  | inr other ↦
-      let e : slice_index_or (slice_set marks i true) k false ≡ slice_index_or marks k false = get_or-set_other marks i k true false (λ e. other (sym e)) in (
-        λ yes. Contains-append_left numbers (i ∷ []) k ((h k).0 (sym e ∙ yes)),
-        λ c. e ∙ (h k).1 (elim (Contains-append_cases numbers (i ∷ []) k c) [
-          | inl before ↦ before
-          | inr last ↦ absurd (elim (Contains-cons_cases i k [] last) [ inl is ↦ other is | inr none ↦ Contains-nil k none ])
-        ]),
-      )
-]
+-- ---- what holds of all members of joined lists
 
--- the first k of a list, and the next
-pub marked_next : (marks : List Bool) (before numbers : List ℕ) (k d : ℕ) → k < length numbers → AreMarked marks ((before ++ take k numbers) ++ get_or numbers k d ∷ []) → AreMarked marks (before ++ take (k + 1) numbers)
-marked_next marks before numbers k d lt h = subst (AreMarked marks) (append_assoc before (take k numbers) (get_or numbers k d ∷ []) ∙ ap (λ (l : List ℕ). before ++ l) (sym (take_more numbers k d lt))) h
+pub all_front : {X : Type 0} (P : X → Type 0) (xs ys : List X) → All P (xs ++ ys) → All P xs
+all_front P [] ys h = All-nil P
+all_front P (x ∷ xs) ys h = All-cons P x xs (All-head P x (xs ++ ys) h) (all_front P xs ys (All-tail P x (xs ++ ys) h))
 
--- three parts
-pub marked_three : (marks : List Bool) (before xs ys : List ℕ) (i : ℕ) → AreMarked marks (((before ++ i ∷ []) ++ xs) ++ ys) → AreMarked marks (before ++ i ∷ (xs ++ ys))
-marked_three marks before xs ys i h = subst (AreMarked marks) (append_assoc (before ++ i ∷ []) xs ys ∙ append_assoc before (i ∷ []) (xs ++ ys)) h
+pub all_back : {X : Type 0} (P : X → Type 0) (xs ys : List X) → All P (xs ++ ys) → All P ys
+all_back P [] ys h = h
+all_back P (x ∷ xs) ys h = all_back P xs ys (All-tail P x (xs ++ ys) h)
+
+-- ---- one list after the other
+
+or_assoc : (a b c : Bool) → ((a || b) || c) ≡ (a || (b || c))
+or_assoc true b c = refl
+or_assoc false b c = refl
+
+-- what occurs in two lists
+occurs_both : (us vs : List Use) (j : SymbolKind) (i : ℕ) → occurs (us ++ vs) j i ≡ (occurs us j i || occurs vs j i)
+occurs_both us vs j i = list_any-append (λ v. same_kind v.kind j && v.number == i) us vs
+
+-- the marks of two lists, one made after the other
+pub marked_both : (us vs : List Use) (a b c : Marks) → AreMarkedToo us a b → AreMarkedToo vs b c → AreMarkedToo (us ++ vs) a c
+marked_both us vs a b c before more = record {
+  count = λ j. more.count j ∙ before.count j;
+  each = λ j i.
+      more.each j i ∙ ap (λ (t : Bool). t || occurs vs j i) (before.each j i) ∙ or_assoc (get_or (marks_of j a) i false) (occurs us j i) (occurs vs j i)
+      ∙ ap (λ (t : Bool). get_or (marks_of j a) i false || t) (sym (occurs_both us vs j i));
+}
+
+-- there still is a mark for each that had one
+pub still_all : (us vs : List Use) (a b : Marks) → AreMarkedToo us a b → All (HasMark a) vs → All (HasMark b) vs
+still_all us [] a b h all = All-nil (HasMark b)
+still_all us (v ∷ vs) a b h all = All-cons (HasMark b) v vs (still_marked us v a b h (All-head (HasMark a) v vs all)) (still_all us vs a b h (All-tail (HasMark a) v vs all))
+
+-- there is a mark for each behind those that were marked
+pub rest_marked : (us vs : List Use) (a b : Marks) → AreMarkedToo us a b → All (HasMark a) (us ++ vs) → All (HasMark b) vs
+rest_marked us vs a b h all = still_all us vs a b h (all_back (HasMark a) us vs all)
+
+-- ---- from no mark on
+
+-- just these were marked, and others are now
+pub have_more : (us vs : List Use) (a b : Marks) → HaveMarked us a → AreMarkedToo vs a b → HaveMarked (us ++ vs) b
+have_more us vs a b before more j i = more.each j i ∙ ap (λ (t : Bool). t || occurs vs j i) (before j i) ∙ sym (occurs_both us vs j i)
+
+-- the symbols of one member more
+uses_more : {X : Type 0} (uses : X → List Use) (xs : List X) (i : ℕ) (d : X) → i < length xs → d ≡ get_or xs i d → flat_map uses (take i xs) ++ uses d ≡ flat_map uses (take (i + 1) xs)
+uses_more uses xs i d lt e =
+    ap (λ l. flat_map uses (take i xs) ++ l) (sym (append-nil (uses d))) ∙ sym (flat_map-append uses (take i xs) (d ∷ []))
+    ∙ ap (λ x. flat_map uses (take i xs ++ x ∷ [])) e ∙ ap (flat_map uses) (sym (take_more xs i d lt))
+
+-- marks on one member more
+pub have_next : {X : Type 0} (uses : X → List Use) (xs : List X) (i : ℕ) (d : X) (a b : Marks) → i < length xs → d ≡ get_or xs i d → HaveMarked (flat_map uses (take i xs)) a → AreMarkedToo (uses d) a b → HaveMarked (flat_map uses (take (i + 1) xs)) b
+have_next uses xs i d a b lt e before more = subst (λ us. HaveMarked us b) (uses_more uses xs i d lt e) (have_more (flat_map uses (take i xs)) (uses d) a b before more)

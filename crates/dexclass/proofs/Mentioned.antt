@@ -1,22 +1,23 @@
--- The symbols that marked classes mention.
-use Rattle.std.proofs.Common.{◌≡◌, ℕ, ◌<◌, List, [], ◌∷◌, ◌++◌, length, refl, sym, ap, ◌∙◌, subst, inl, inr}
-use Rattle.std.specs.Prelude.{map, All, Option, Some, None, option_to_list}
-use Rattle.std.specs.Option.{option_map}
-use Rattle.std.specs.List.{Contains, flat_map}
+-- The symbols that are marked are those that occur, and so are those that they mention.
+use Rattle.std.proofs.Common.{◌≡◌, ℕ, ◌==◌, ◌&&◌, Bool, true, false, List, [], ◌∷◌, ◌++◌, map, get_or, refl, sym, ap, ◌∙◌, subst, inl, inr, eq-eqb}
+use Rattle.std.specs.List.{All, AllZip, Contains, flat_map}
+use Rattle.std.proofs.lemmas.Bool.{eqb-true}
 use Rattle.std.proofs.lemmas.List.Elements.{Contains-append_left, Contains-append_right, Contains-append_cases}
 use Rattle.dexrows.specs.Cut.{kept}
 use Rattle.dexspec.specs.Texts.{Text, text_cmp}
-use Rattle.dexspec.specs.Symbols.{Symbol, TextSymbol, TypeSymbol, ProtoSymbol, FieldSymbol, MethodSymbol, proto_cmp, field_cmp, method_cmp}
-use Rattle.dexspec.specs.Mentions.{Mentions, symbols_of, mentions, closed, texts_in, types_in, protos_in, fields_in, methods_in}
-use Rattle.dexspec.specs.Classes.{Definition}
-use Rattle.dexspec.proofs.Members.{AreAmong, Contains-nil, Contains-first, Contains-later, Contains-cons_cases, Contains-flat_map, Contains-flat_map_source, AreAmong-flat_map}
+use Rattle.dexspec.specs.Symbols.{Proto, Field, Method, Symbol, TextSymbol, TypeSymbol, ProtoSymbol, FieldSymbol, MethodSymbol, proto_cmp, field_cmp, method_cmp}
+use Rattle.dexspec.specs.Mentions.{Mentions, closed, texts_in, types_in, protos_in, fields_in, methods_in}
+use Rattle.dexspec.proofs.Members.{AreAmong, Contains-nil, Contains-first, Contains-later, Contains-cons_cases, AreAmong-flat_map, and_first, and_second, list_any-member, list_any-source}
 use Rattle.dexspec.proofs.InOrder.{in_order-same}
 use Rattle.dexspec.proofs.SymbolOrders.{text_total, text_exact, proto_total, proto_exact, field_total, field_exact, method_total, method_exact}
-use Rattle.dexpool.specs.Numberings.{marked}
+use Rattle.dexpool.specs.declared.symbols.SymbolKind.{SymbolKind}
+use Rattle.dexpool.specs.declared.symbols.SymbolKind.TheVariants as kinds
 use Rattle.dexpool.specs.declared.marks.Marks.{Marks}
-use Rattle.dexclass.specs.Numbered.{NumberedClass, text_at, type_at, definition_of}
-use Rattle.dexclass.specs.Marking.{type_numbers, text_numbers, HaveMarked, IsInRange}
-use Rattle.dexclass.proofs.KeptMembers.{kept_has, kept_source, kept_none}
+use Rattle.dexpool.specs.Numberings.{IsNumbered, IsOfKind, marked}
+use Rattle.dexpool.specs.Uses.{Use, IsUseOf, IsMarkedUse, marks_of, same_kind}
+use Rattle.dexpool.proofs.KeptRows.{kept_from, kept_has}
+use Rattle.dexpool.proofs.Pairs.{zip_source, zip_target}
+use Rattle.dexclass.specs.Uses.{HaveMarked}
 
 -- ---- members of mapped lists
 
@@ -36,61 +37,52 @@ module _ {X Y : Type 0} (f : X → Y) where
   ]
 
 -- a member of a list of which all pass
-pub All-member : (P : ℕ → Type 0) (xs : List ℕ) (x : ℕ) → All P xs → Contains xs x → P x
+pub All-member : {X : Type 0} (P : X → Type 0) (xs : List X) (x : X) → All P xs → Contains xs x → P x
 All-member P xs x all c = subst P c.2 (all c.0 x c.1)
 
--- ---- the symbols of a class
+-- ---- symbols of a kind and a number
 
--- the type and text symbols of numbers
-abbrev pub numbered_symbols : Mentions → NumberedClass → List Symbol
-numbered_symbols m c = map (λ i. TypeSymbol (type_at m i)) (type_numbers c) ++ map (λ i. TextSymbol (text_at m i)) (text_numbers c)
+-- kinds that are one
+same_is : (k j : SymbolKind) → same_kind k j ≡ true → k ≡ j
+same_is kinds.Text kinds.Text e = refl
+same_is kinds.Typ kinds.Typ e = refl
+same_is kinds.Proto kinds.Proto e = refl
+same_is kinds.Field kinds.Field e = refl
+same_is kinds.Method kinds.Method e = refl
+same_is _ _ e = cc
 
-map_twice : (f : ℕ → Text) (is : List ℕ) → map TypeSymbol (map f is) ≡ map (λ i. TypeSymbol (f i)) is
-map_twice f [] = refl
-map_twice f (i ∷ is) = ap (λ (l : List Symbol). TypeSymbol (f i) ∷ l) (map_twice f is)
+-- each kind is itself
+is_same : (k : SymbolKind) → same_kind k k ≡ true
+is_same kinds.Text = refl
+is_same kinds.Typ = refl
+is_same kinds.Proto = refl
+is_same kinds.Field = refl
+is_same kinds.Method = refl
 
--- they are those of the definition
-pub symbols_are : (m : Mentions) (c : NumberedClass) → symbols_of (definition_of m c) ≡ numbered_symbols m c
-unfolding symbols_of
-symbols_are m c = ap (λ (l : List Symbol). TypeSymbol (type_at m c.name) ∷ l) (parts c.superclass c.source)
-  where
-    rest : Option ℕ → List Symbol
-    rest s = map TypeSymbol (map (type_at m) c.interfaces) ++ (map TextSymbol (option_to_list (option_map (text_at m) s)) ++ [])
+module _ (m : Mentions) (i : ℕ) where
+  text_is : (s : Symbol) (x : Text) → IsNumbered m i s → IsOfKind kinds.Text s → ((d : Text) → get_or m.texts i d ≡ x) → s ≡ TextSymbol x
+  text_is (TextSymbol y) x at of is = ap TextSymbol (sym (at.is y) ∙ is y)
+  text_is _ x at of is = absurd of
 
-    behind : (s : Option ℕ) → rest s ≡ map (λ i. TypeSymbol (type_at m i)) c.interfaces ++ map (λ i. TextSymbol (text_at m i)) (option_to_list s)
-    behind None = ap (λ (l : List Symbol). l ++ []) (map_twice (type_at m) c.interfaces)
-    behind (Some i) = ap (λ (l : List Symbol). l ++ (TextSymbol (text_at m i) ∷ [])) (map_twice (type_at m) c.interfaces)
+  type_is : (s : Symbol) (x : Text) → IsNumbered m i s → IsOfKind kinds.Typ s → ((d : Text) → get_or m.types i d ≡ x) → s ≡ TypeSymbol x
+  type_is (TypeSymbol y) x at of is = ap TypeSymbol (sym (at.is y) ∙ is y)
+  type_is _ x at of is = absurd of
 
-    parts : (p s : Option ℕ) → map TypeSymbol (option_to_list (option_map (type_at m) p)) ++ rest s
-        ≡ map (λ i. TypeSymbol (type_at m i)) (option_to_list p ++ c.interfaces) ++ map (λ i. TextSymbol (text_at m i)) (option_to_list s)
-    parts None s = behind s
-    parts (Some i) s = ap (λ (l : List Symbol). TypeSymbol (type_at m i) ∷ l) (behind s)
+  proto_is : (s : Symbol) (x : Proto) → IsNumbered m i s → IsOfKind kinds.Proto s → ((d : Proto) → get_or m.protos i d ≡ x) → s ≡ ProtoSymbol x
+  proto_is (ProtoSymbol y) x at of is = ap ProtoSymbol (sym (at.is y) ∙ is y)
+  proto_is _ x at of is = absurd of
 
--- ---- what is marked is what occurs
+  field_is : (s : Symbol) (x : Field) → IsNumbered m i s → IsOfKind kinds.Field s → ((d : Field) → get_or m.fields i d ≡ x) → s ≡ FieldSymbol x
+  field_is (FieldSymbol y) x at of is = ap FieldSymbol (sym (at.is y) ∙ is y)
+  field_is _ x at of is = absurd of
 
-module _ (m : Mentions) (cs : List NumberedClass) (marks : Marks) (h : HaveMarked marks (flat_map type_numbers cs) (flat_map text_numbers cs)) (range : (c : NumberedClass) → Contains cs c → IsInRange m c) where
-  abbrev pub definitions : List Definition
-  definitions = map (definition_of m) cs
+  method_is : (s : Symbol) (x : Method) → IsNumbered m i s → IsOfKind kinds.Method s → ((d : Method) → get_or m.methods i d ≡ x) → s ≡ MethodSymbol x
+  method_is (MethodSymbol y) x at of is = ap MethodSymbol (sym (at.is y) ∙ is y)
+  method_is _ x at of is = absurd of
 
-  abbrev pub occurring : List Symbol
-  occurring = flat_map symbols_of definitions
+-- ---- the symbols that are marked
 
-  occurs : (c : NumberedClass) (s : Symbol) → Contains cs c → Contains (numbered_symbols m c) s → Contains occurring s
-  occurs c s member has = Contains-flat_map symbols_of definitions (definition_of m c) s (Contains-map (definition_of m) cs c member) (subst (λ (l : List Symbol). Contains l s) (sym (symbols_are m c)) has)
-
-  -- the number of a class's type or text occurs
-  pub type_occurs : (i : ℕ) → Contains (flat_map type_numbers cs) i → Contains occurring (TypeSymbol (type_at m i))
-  type_occurs i c =
-      let of = Contains-flat_map_source type_numbers cs i c in
-      occurs of.0 (TypeSymbol (type_at m i)) of.1
-      (Contains-append_left (map (λ i. TypeSymbol (type_at m i)) (type_numbers of.0)) (map (λ i. TextSymbol (text_at m i)) (text_numbers of.0)) (TypeSymbol (type_at m i)) (Contains-map (λ i. TypeSymbol (type_at m i)) (type_numbers of.0) i of.2))
-
-  pub text_occurs : (i : ℕ) → Contains (flat_map text_numbers cs) i → Contains occurring (TextSymbol (text_at m i))
-  text_occurs i c =
-      let of = Contains-flat_map_source text_numbers cs i c in
-      occurs of.0 (TextSymbol (text_at m i)) of.1
-      (Contains-append_right (map (λ i. TypeSymbol (type_at m i)) (type_numbers of.0)) (map (λ i. TextSymbol (text_at m i)) (text_numbers of.0)) (TextSymbol (text_at m i)) (Contains-map (λ i. TextSymbol (text_at m i)) (text_numbers of.0) i of.2))
-
+module _ (m : Mentions) (marks : Marks) where
   abbrev pub texts_part : List Symbol
   texts_part = map TextSymbol (kept marks.strings.items m.texts)
 
@@ -106,87 +98,135 @@ module _ (m : Mentions) (cs : List NumberedClass) (marks : Marks) (h : HaveMarke
   abbrev pub methods_part : List Symbol
   methods_part = map MethodSymbol (kept marks.methods.items m.methods)
 
-  from_texts : (s : Symbol) → Contains texts_part s → Contains occurring s
+  abbrev behind_protos : List Symbol
+  behind_protos = fields_part ++ methods_part
+
+  abbrev behind_types : List Symbol
+  behind_types = protos_part ++ behind_protos
+
+  abbrev behind_texts : List Symbol
+  behind_texts = types_part ++ behind_types
+
+  -- what stands at one of five parts is marked
+  in_types : (s : Symbol) → Contains types_part s → Contains (marked m marks) s
+  in_types s c = Contains-append_right texts_part behind_texts s (Contains-append_left types_part behind_types s c)
+
+  in_protos : (s : Symbol) → Contains protos_part s → Contains (marked m marks) s
+  in_protos s c = Contains-append_right texts_part behind_texts s (Contains-append_right types_part behind_types s (Contains-append_left protos_part behind_protos s c))
+
+  in_members : (s : Symbol) → Contains behind_protos s → Contains (marked m marks) s
+  in_members s c = Contains-append_right texts_part behind_texts s (Contains-append_right types_part behind_types s (Contains-append_right protos_part behind_protos s c))
+
+  -- a symbol whose number is marked
+  pub is_kept : (kind : SymbolKind) (i : ℕ) (s : Symbol) → get_or (marks_of kind marks) i false ≡ true → IsNumbered m i s → IsOfKind kind s → Contains (marked m marks) s
+  is_kept kinds.Text i (TextSymbol x) e at of =
+      Contains-append_left texts_part behind_texts (TextSymbol x) (Contains-map TextSymbol (kept marks.strings.items m.texts) x (subst (Contains (kept marks.strings.items m.texts)) (at.is x) (kept_has marks.strings.items m.texts i x e at.within)))
+  is_kept kinds.Typ i (TypeSymbol x) e at of =
+      in_types (TypeSymbol x) (Contains-map TypeSymbol (kept marks.types.items m.types) x (subst (Contains (kept marks.types.items m.types)) (at.is x) (kept_has marks.types.items m.types i x e at.within)))
+  is_kept kinds.Proto i (ProtoSymbol x) e at of =
+      in_protos (ProtoSymbol x) (Contains-map ProtoSymbol (kept marks.protos.items m.protos) x (subst (Contains (kept marks.protos.items m.protos)) (at.is x) (kept_has marks.protos.items m.protos i x e at.within)))
+  is_kept kinds.Field i (FieldSymbol x) e at of =
+      in_members (FieldSymbol x) (Contains-append_left fields_part methods_part (FieldSymbol x)
+      (Contains-map FieldSymbol (kept marks.fields.items m.fields) x (subst (Contains (kept marks.fields.items m.fields)) (at.is x) (kept_has marks.fields.items m.fields i x e at.within))))
+  is_kept kinds.Method i (MethodSymbol x) e at of =
+      in_members (MethodSymbol x) (Contains-append_right fields_part methods_part (MethodSymbol x)
+      (Contains-map MethodSymbol (kept marks.methods.items m.methods) x (subst (Contains (kept marks.methods.items m.methods)) (at.is x) (kept_has marks.methods.items m.methods i x e at.within))))
+  is_kept _ i _ e at of = absurd of
+
+-- ---- what is marked is what occurs
+
+module _ (m : Mentions) (us : List Use) (ss : List Symbol) (marks : Marks) (zip : AllZip (IsUseOf m) us ss) (h : HaveMarked us marks) where
+  -- a symbol that occurs, of a kind and a number
+  record Occurs (kind : SymbolKind) (i : ℕ) : Type 0 where
+    pub symbol : Symbol
+    pub occurs : Contains ss symbol
+    pub number_is : IsNumbered m i symbol
+    pub kind_is : IsOfKind kind symbol
+
+  -- a marked number is that of a symbol that occurs
+  occurs_there : (kind : SymbolKind) (i : ℕ) → get_or (marks_of kind marks) i false ≡ true → Occurs kind i
+  occurs_there kind i e =
+      let u = list_any-source (λ (u : Use). same_kind u.kind kind && u.number == i) us (sym (h kind i) ∙ e) in
+      let s = zip_target (IsUseOf m) us ss u.0 zip u.1 in record {
+        symbol = s.0;
+        occurs = s.1;
+        number_is = subst (λ n. IsNumbered m n s.0) (eqb-true u.0.number i (and_second (same_kind u.0.kind kind) (u.0.number == i) u.2)) s.2.0;
+        kind_is = subst (λ k. IsOfKind k s.0) (same_is u.0.kind kind (and_first (same_kind u.0.kind kind) (u.0.number == i) u.2)) s.2.1;
+      }
+
+  from_texts : (s : Symbol) → Contains (texts_part m marks) s → Contains ss s
   from_texts s c =
       let t = Contains-map_source TextSymbol (kept marks.strings.items m.texts) s c in
-      let k = kept_source marks.strings.items m.texts t.0 t.1 in
-      subst (Contains occurring) (ap TextSymbol (k.is []) ∙ t.2) (text_occurs k.place ((h.texts_marked k.place).0 k.marked))
+      let k = kept_from marks.strings.items m.texts t.0 t.1 in
+      let o = occurs_there kinds.Text k.at k.marked in
+      subst (Contains ss) (text_is m k.at o.symbol t.0 o.number_is o.kind_is k.is ∙ t.2) o.occurs
 
-  from_types : (s : Symbol) → Contains types_part s → Contains occurring s
+  from_types : (s : Symbol) → Contains (types_part m marks) s → Contains ss s
   from_types s c =
       let t = Contains-map_source TypeSymbol (kept marks.types.items m.types) s c in
-      let k = kept_source marks.types.items m.types t.0 t.1 in
-      subst (Contains occurring) (ap TypeSymbol (k.is []) ∙ t.2) (type_occurs k.place ((h.types_marked k.place).0 k.marked))
+      let k = kept_from marks.types.items m.types t.0 t.1 in
+      let o = occurs_there kinds.Typ k.at k.marked in
+      subst (Contains ss) (type_is m k.at o.symbol t.0 o.number_is o.kind_is k.is ∙ t.2) o.occurs
 
-  from_protos : (s : Symbol) → Contains protos_part s → ⊥
+  from_protos : (s : Symbol) → Contains (protos_part m marks) s → Contains ss s
   from_protos s c =
       let t = Contains-map_source ProtoSymbol (kept marks.protos.items m.protos) s c in
-      kept_none marks.protos.items m.protos (λ i e. Contains-nil i ((h.protos_marked i).0 e)) t.0 t.1
+      let k = kept_from marks.protos.items m.protos t.0 t.1 in
+      let o = occurs_there kinds.Proto k.at k.marked in
+      subst (Contains ss) (proto_is m k.at o.symbol t.0 o.number_is o.kind_is k.is ∙ t.2) o.occurs
 
-  from_fields : (s : Symbol) → Contains fields_part s → ⊥
+  from_fields : (s : Symbol) → Contains (fields_part m marks) s → Contains ss s
   from_fields s c =
       let t = Contains-map_source FieldSymbol (kept marks.fields.items m.fields) s c in
-      kept_none marks.fields.items m.fields (λ i e. Contains-nil i ((h.fields_marked i).0 e)) t.0 t.1
+      let k = kept_from marks.fields.items m.fields t.0 t.1 in
+      let o = occurs_there kinds.Field k.at k.marked in
+      subst (Contains ss) (field_is m k.at o.symbol t.0 o.number_is o.kind_is k.is ∙ t.2) o.occurs
 
-  from_methods : (s : Symbol) → Contains methods_part s → ⊥
+  from_methods : (s : Symbol) → Contains (methods_part m marks) s → Contains ss s
   from_methods s c =
       let t = Contains-map_source MethodSymbol (kept marks.methods.items m.methods) s c in
-      kept_none marks.methods.items m.methods (λ i e. Contains-nil i ((h.methods_marked i).0 e)) t.0 t.1
+      let k = kept_from marks.methods.items m.methods t.0 t.1 in
+      let o = occurs_there kinds.Method k.at k.marked in
+      subst (Contains ss) (method_is m k.at o.symbol t.0 o.number_is o.kind_is k.is ∙ t.2) o.occurs
 
-  pub marked_occur : AreAmong (marked m marks) occurring
-  marked_occur s c = elim (Contains-append_cases texts_part (types_part ++ (protos_part ++ (fields_part ++ methods_part))) s c) [
+  pub marked_occur : AreAmong (marked m marks) ss
+  marked_occur s c = elim (Contains-append_cases (texts_part m marks) (behind_texts m marks) s c) [
     | inl t ↦ from_texts s t
-    | inr c1 ↦ elim (Contains-append_cases types_part (protos_part ++ (fields_part ++ methods_part)) s c1) [
+    | inr c1 ↦ elim (Contains-append_cases (types_part m marks) (behind_types m marks) s c1) [
       | inl t ↦ from_types s t
-      | inr c2 ↦ elim (Contains-append_cases protos_part (fields_part ++ methods_part) s c2) [
-        | inl t ↦ absurd (from_protos s t)
-        | inr c3 ↦ elim (Contains-append_cases fields_part methods_part s c3) [
-          | inl t ↦ absurd (from_fields s t)
-          | inr t ↦ absurd (from_methods s t)
+      | inr c2 ↦ elim (Contains-append_cases (protos_part m marks) (behind_protos m marks) s c2) [
+        | inl t ↦ from_protos s t
+        | inr c3 ↦ elim (Contains-append_cases (fields_part m marks) (methods_part m marks) s c3) [
+          | inl t ↦ from_fields s t
+          | inr t ↦ from_methods s t
         ]
       ]
     ]
   ]
 
-  -- the type and the text of a number of a class are marked
-  type_marked : (c : NumberedClass) (i : ℕ) → Contains cs c → Contains (type_numbers c) i → Contains (marked m marks) (TypeSymbol (type_at m i))
-  type_marked c i member has =
-      let lt = All-member (λ k. k < length m.types) (type_numbers c) i (range c member).types_in has in
-      let e = (h.types_marked i).1 (Contains-flat_map type_numbers cs c i member has) in
-      Contains-append_right texts_part (types_part ++ (protos_part ++ (fields_part ++ methods_part))) (TypeSymbol (type_at m i))
-      (Contains-append_left types_part (protos_part ++ (fields_part ++ methods_part)) (TypeSymbol (type_at m i))
-      (Contains-map TypeSymbol (kept marks.types.items m.types) (type_at m i) (kept_has marks.types.items m.types i [] lt e)))
+  -- what occurs is marked
+  pub is_marked : (u : Use) → Contains us u → IsMarkedUse marks u
+  is_marked u c =
+      let passes : (same_kind u.kind u.kind && u.number == u.number) ≡ true = ap (λ (b : Bool). b && u.number == u.number) (is_same u.kind) ∙ eq-eqb u.number u.number refl in
+      h u.kind u.number ∙ list_any-member (λ (v : Use). same_kind v.kind u.kind && v.number == u.number) us u c passes
 
-  text_marked : (c : NumberedClass) (i : ℕ) → Contains cs c → Contains (text_numbers c) i → Contains (marked m marks) (TextSymbol (text_at m i))
-  text_marked c i member has =
-      let lt = All-member (λ k. k < length m.texts) (text_numbers c) i (range c member).texts_in has in
-      let e = (h.texts_marked i).1 (Contains-flat_map text_numbers cs c i member has) in
-      Contains-append_left texts_part (types_part ++ (protos_part ++ (fields_part ++ methods_part))) (TextSymbol (text_at m i))
-      (Contains-map TextSymbol (kept marks.strings.items m.texts) (text_at m i) (kept_has marks.strings.items m.texts i [] lt e))
-
-  pub occurring_marked : AreAmong occurring (marked m marks)
+  pub occurring_marked : AreAmong ss (marked m marks)
   occurring_marked s c =
-      let d = Contains-flat_map_source symbols_of definitions s c in
-      let of = Contains-map_source (definition_of m) cs d.0 d.1 in
-      let has : Contains (numbered_symbols m of.0) s = subst (λ (l : List Symbol). Contains l s) (ap symbols_of (sym of.2) ∙ symbols_are m of.0) d.2 in
-      elim (Contains-append_cases (map (λ i. TypeSymbol (type_at m i)) (type_numbers of.0)) (map (λ i. TextSymbol (text_at m i)) (text_numbers of.0)) s has) [
-        | inl t ↦ let i = Contains-map_source (λ i. TypeSymbol (type_at m i)) (type_numbers of.0) s t in subst (Contains (marked m marks)) i.2 (type_marked of.0 i.0 of.1 i.1)
-        | inr t ↦ let i = Contains-map_source (λ i. TextSymbol (text_at m i)) (text_numbers of.0) s t in subst (Contains (marked m marks)) i.2 (text_marked of.0 i.0 of.1 i.1)
-      ]
+      let u = zip_source (IsUseOf m) us ss s zip c in
+      is_kept m marks u.0.kind u.0.number s (is_marked u.0 u.1) u.2.0 u.2.1
 
-  among : {X : Type 0} (f : Symbol → List X) → AreAmong (flat_map f (marked m marks)) (flat_map f occurring)
-  among f = AreAmong-flat_map f (marked m marks) occurring marked_occur
+  among : {X : Type 0} (f : Symbol → List X) → AreAmong (flat_map f (marked m marks)) (flat_map f ss)
+  among f = AreAmong-flat_map f (marked m marks) ss marked_occur
 
-  back : {X : Type 0} (f : Symbol → List X) → AreAmong (flat_map f occurring) (flat_map f (marked m marks))
-  back f = AreAmong-flat_map f occurring (marked m marks) occurring_marked
+  back : {X : Type 0} (f : Symbol → List X) → AreAmong (flat_map f ss) (flat_map f (marked m marks))
+  back f = AreAmong-flat_map f ss (marked m marks) occurring_marked
 
-  -- so what is kept is what the definitions mention
-  pub kept_mentions : closed (marked m marks) ≡ mentions (map (definition_of m) cs)
-  unfolding mentions
-  kept_mentions = λ i. record {
-    texts = in_order-same text_cmp text_total text_exact (flat_map texts_in (marked m marks)) (flat_map texts_in occurring) (among texts_in) (back texts_in) i;
-    types = in_order-same text_cmp text_total text_exact (flat_map types_in (marked m marks)) (flat_map types_in occurring) (among types_in) (back types_in) i;
-    protos = in_order-same proto_cmp proto_total proto_exact (flat_map protos_in (marked m marks)) (flat_map protos_in occurring) (among protos_in) (back protos_in) i;
-    fields = in_order-same field_cmp field_total field_exact (flat_map fields_in (marked m marks)) (flat_map fields_in occurring) (among fields_in) (back fields_in) i;
-    methods = in_order-same method_cmp method_total method_exact (flat_map methods_in (marked m marks)) (flat_map methods_in occurring) (among methods_in) (back methods_in) i;
+  -- so what is kept is what they mention
+  pub kept_closed : closed (marked m marks) ≡ closed ss
+  kept_closed = λ i. record {
+    texts = in_order-same text_cmp text_total text_exact (flat_map texts_in (marked m marks)) (flat_map texts_in ss) (among texts_in) (back texts_in) i;
+    types = in_order-same text_cmp text_total text_exact (flat_map types_in (marked m marks)) (flat_map types_in ss) (among types_in) (back types_in) i;
+    protos = in_order-same proto_cmp proto_total proto_exact (flat_map protos_in (marked m marks)) (flat_map protos_in ss) (among protos_in) (back protos_in) i;
+    fields = in_order-same field_cmp field_total field_exact (flat_map fields_in (marked m marks)) (flat_map fields_in ss) (among fields_in) (back fields_in) i;
+    methods = in_order-same method_cmp method_total method_exact (flat_map methods_in (marked m marks)) (flat_map methods_in ss) (among methods_in) (back methods_in) i;
   }

@@ -6,13 +6,13 @@ use Rattle.std.specs.List.Sorted.{IsPermutation}
 use Rattle.std.proofs.lemmas.List.{length-map, get_or-map, get_or_default}
 use Rattle.std.proofs.lemmas.List.FromFn.{get_or-range_with_len, length-range_with_len}
 use Rattle.std.proofs.lemmas.List.Sorted.{Contains-permutation, IsPermutation-sym}
-use Rattle.std.proofs.lemmas.List.Elements.{Contains-get_or}
+use Rattle.std.proofs.lemmas.List.Elements.{All-contains, Contains-get_or}
 use Rattle.dexspec.specs.Lists.{rises, AreDistinct}
 use Rattle.dexspec.specs.Classes.{Definition}
 use Rattle.dexspec.specs.Depth.{IsAcyclic, in_class_order}
 use Rattle.dexspec.specs.Mentions.{Mentions}
 use Rattle.dexspec.proofs.InOrder.{Rises-from_rises, AreDistinct-from_Rises}
-use Rattle.dexspec.proofs.Mapped.{AreDistinct-map_source}
+use Rattle.dexspec.proofs.Mapped.{Contains-map_source, AreDistinct-map_source}
 use Rattle.dexorder.specs.Depths.{AreWithin, AreDepths}
 use Rattle.dexorder.specs.Definitions.{AreClassesOf, AreNamesOf}
 use Rattle.dexorder.specs.Places.{class_place, class_cmp}
@@ -21,7 +21,6 @@ use Rattle.dexorder.proofs.DefinitionDepths.{all_known}
 use Rattle.dexorder.proofs.DefinitionOrder.{same_order}
 use Rattle.dexclass.specs.Numbered.{NumberedClass, type_at, definition_of}
 use Rattle.dexclass.specs.Parents.{no_class, name_number, IsHierarchy, AreNamed}
-use Rattle.dexclass.proofs.Mentioned.{Contains-map_source, All-member}
 use Rattle.dexclass.proofs.Classed.{name_is, one_number, classes_of}
 use Rattle.dexclass.proofs.NamesOf.{names_of}
 
@@ -83,7 +82,7 @@ module _ (m : Mentions) (cs : List NumberedClass) (named : AreNamed m cs) where
       pub arranged_among : (arranged : List NumberedClass) → arranged ≡ map (λ i. get_or cs i no_class) order → (c : NumberedClass) → Contains arranged c → Contains cs c
       arranged_among arranged is c member =
           let s = Contains-map_source (λ i. get_or cs i no_class) order c (subst (λ (l : List NumberedClass). Contains l c) is member) in
-          let lt : s.0 < length cs = All-member (λ i. i < length cs) order s.0 order_within s.1 in
+          let lt : s.0 < length cs = All-contains (λ i. i < length cs) order s.0 order_within s.1 in
           (s.0, lt, get_or_default cs s.0 c no_class lt ∙ s.2)
 
       pub ordered_are : IsAcyclic D → (arranged : List NumberedClass) → arranged ≡ map (λ i. get_or cs i no_class) order → map (definition_of m) arranged ≡ in_class_order D

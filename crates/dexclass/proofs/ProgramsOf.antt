@@ -20,7 +20,7 @@ use Rattle.dexspec.proofs.ClassOrder.{definitions-distinct, definitions-differen
 use Rattle.dexspec.proofs.Collections.{collection-is, definitions-same}
 use Rattle.dexpool.specs.Numberings.{IsNumbering}
 use Rattle.dexclass.specs.Numbered.{NumberedClass, definition_of}
-use Rattle.dexclass.specs.Marking.{IsInRange}
+use Rattle.dexclass.specs.Uses.{IsKnownClass}
 use Rattle.dexclass.specs.Parents.{no_class, AreNamed}
 use Rattle.dexclass.specs.Programs.{collection_of, AreMergeable, IsProgram}
 use Rattle.dexclass.proofs.Ordered.{names_apart}
@@ -40,14 +40,14 @@ module _ (m : Mentions) (cs : List NumberedClass) (h : AreMergeable m cs) (numbe
   D = map (definition_of m) cs
 
   -- a class's numbers are those of the numbering
-  ranged : (c : NumberedClass) → Contains cs c → IsInRange m c
-  ranged c member = subst (IsInRange m) member.2 (h.numbers_in member.0 c member.1)
+  ranged : (c : NumberedClass) → Contains cs c → IsKnownClass m c
+  ranged c member = subst (IsKnownClass m) member.2 (h.known member.0 c member.1)
 
   -- the names and parents are types
   pub named : AreNamed m cs
   named = record {
     rising = numbering.rising.types_rise;
-    names = λ i lt. (h.numbers_in i no_class lt).types_in 0 0 (omega arith);
+    names = λ i lt. (h.known i no_class lt).types_in 0 0 (omega arith);
     parents_in = λ c member k d lt. (ranged c member).types_in (suc k) d (omega (arith, lt));
     distinct = h.names_differ;
   }
@@ -98,7 +98,7 @@ module _ (m : Mentions) (cs : List NumberedClass) (h : AreMergeable m cs) (numbe
     program_is heavy e = record {
       mentions_are = mentioned;
       classes_are = record {
-        numbers_in = subst (λ (n : Mentions). All (IsInRange n) new) mentioned (λ k d lt. ranged (get_or new k d) (range (get_or new k d) (Contains-get_or new k d lt)));
+        known = subst (λ (n : Mentions). All (IsKnownClass n) new) mentioned (λ k d lt. ranged (get_or new k d) (range (get_or new k d) (Contains-get_or new k d lt)));
         are = ap (λ (n : Mentions). map (definition_of n) new) (sym mentioned) ∙ order ∙ one_class_order D (definitions K) (λ d. (back d, within d)) h.good.acyclic apart (definitions-distinct K);
       };
       good = IsGood-within (definitions K) D within greatest_caps h.good;

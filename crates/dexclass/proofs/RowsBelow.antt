@@ -1,56 +1,37 @@
--- The class rows of a plain file, as the definitions of their numbers, and what these weigh.
-use Rattle.std.proofs.Common.{◌≡◌, ℕ, zero, suc, ◌+◌, ◌<◌, ◌≤◌, List, [], ◌∷◌, length, get_or, refl, ap, ◌∙◌, subst, arith}
-use Rattle.std.specs.Prelude.{map}
+-- The class rows of a file, the definitions that they are, and what these weigh.
+use Rattle.std.proofs.Common.{◌≡◌, ℕ, zero, suc, ◌+◌, ◌<◌, ◌≤◌, List, [], ◌∷◌, ◌++◌, length, get_or, ap, subst, arith, refl, inl, inr}
 use Rattle.std.specs.List.{AllZip, range_with_len}
-use Rattle.std.proofs.lemmas.List.{map-append}
+use Rattle.std.proofs.lemmas.Bool.{cases_lt}
 use Rattle.std.proofs.lemmas.List.Sums.{sum_by_push}
 use Rattle.dexspec.specs.Lists.{AreDistinct}
 use Rattle.dexspec.specs.Header.{ClassDefs, table_size}
 use Rattle.dexspec.specs.Classes.{Definition, ClassRow}
 use Rattle.dexspec.specs.Files.{Collection, Denotes, IsCollectionOf, AreWithin}
-use Rattle.dexspec.specs.Mentions.{Mentions, mentions}
+use Rattle.dexspec.specs.Mentions.{mentions}
 use Rattle.dexspec.specs.Weight.{weight, body_weight, mentions_weight, most_weight}
 use Rattle.dexspec.specs.Conditions.{Condition}
-use Rattle.dexspec.specs.Accepted.{HasClass, HoldBelow, AreRows, FailsAt, IsAccepted}
-use Rattle.dexspec.specs.Plain.{IsPlainFile}
+use Rattle.dexspec.specs.Accepted.{HoldBelow, IsReadable, AreRows, FailsAt, IsAccepted}
 use Rattle.dexspec.proofs.Readable.{row_of}
 use Rattle.dexspec.proofs.WeightGrowth.{weight-within}
-use Rattle.dexspec.proofs.PlainReadable.{plain_readable}
-use Rattle.dexspec.proofs.Denoted.{HasClasses, has_classes, same_class_row, rows_define, defined_rows}
-use Rattle.dexpool.specs.Pools.{ArePools}
-use Rattle.dexclass.specs.Numbered.{NumberedClass, definition_of, class_of_row}
-use Rattle.dexclass.specs.Reading.{classes_below, bodies_weight}
-use Rattle.dexclass.proofs.Listed.{rows_more}
-use Rattle.dexclass.proofs.PlainClasses.{row_stands}
+use Rattle.dexspec.proofs.Denoted.{HasClasses, has_classes, AreReadable, same_class_row, rows_define, defined_rows}
+use Rattle.dexclass.specs.Reading.{bodies_weight}
 
--- the definitions of the rows before row n
-abbrev pub definitions_below : List ℕ → Mentions → ℕ → List Definition
-definitions_below b m n = map (definition_of m) (classes_below b n)
-
--- the class is the definition that a row is
-abbrev IsRow : List ℕ → ℕ → Definition → Type 0
+-- the definition is what a row is
+abbrev pub IsRow : List ℕ → ℕ → Definition → Type 0
 IsRow b r d = ClassRow b r d.0 d.1
 
 -- ---- what they weigh
-
--- one row more
-pub bodies_more : (b : List ℕ) (m : Mentions) (n : ℕ) → bodies_weight (definitions_below b m (n + 1)) ≡ bodies_weight (definitions_below b m n) + body_weight (definition_of m (class_of_row b n)).1
-bodies_more b m n =
-    ap (λ (cs : List NumberedClass). bodies_weight (map (definition_of m) cs)) (rows_more (class_of_row b) n)
-    ∙ ap bodies_weight (map-append (definition_of m) (classes_below b n) (class_of_row b n ∷ []))
-    ∙ sum_by_push (λ (d : Definition). body_weight d.1) (definitions_below b m n) (definition_of m (class_of_row b n))
 
 -- the parts of the weight
 pub weight_is : (D : List Definition) → weight D ≡ 1024 + mentions_weight (mentions D) + bodies_weight D
 unfolding weight
 weight_is D = refl
 
--- ---- values of a run of rows
+-- one definition more
+pub bodies_more : (D : List Definition) (d : Definition) → bodies_weight (D ++ d ∷ []) ≡ bodies_weight D + body_weight d.1
+bodies_more D d = sum_by_push (λ (x : Definition). body_weight x.1) D d
 
--- two functions, one after the other
-zipped : {X Y : Type 0} (P : ℕ → Y → Type 0) (g : X → Y) (f : ℕ → X) (n a : ℕ) → ((r : ℕ) → a ≤ r → r < a + n → P r (g (f r))) → AllZip P (range_with_len a n) (map g (map f (range_with_len a n)))
-zipped P g f zero a each = tt
-zipped P g f (suc n) a each = (each a (omega arith) (omega arith), zipped P g f n (a + 1) (λ r le lt. each r (omega arith) (omega arith)))
+-- ---- values of a run of rows
 
 -- the value of a row
 at_row : {X : Type 0} (P : ℕ → X → Type 0) (n a : ℕ) (xs : List X) → AllZip P (range_with_len a n) xs → (i : ℕ) (d : X) → i < length xs → P (a + i) (get_or xs i d)
@@ -61,6 +42,29 @@ at_row P (suc n) a (x ∷ xs) h zero d lt = let e : a ≡ a + 0 = omega arith in
 at_row P (suc n) a (x ∷ xs) h (suc i) d lt =
     let e : a + 1 + i ≡ a + suc i = omega arith in
     subst (λ (k : ℕ). P k (get_or xs i d)) e (at_row P n (a + 1) xs h.1 i d (omega (arith, lt)))
+
+-- one row more
+row_more : {X : Type 0} (P : ℕ → X → Type 0) (n a : ℕ) (xs : List X) (x : X) → AllZip P (range_with_len a n) xs → P (a + n) x → AllZip P (range_with_len a (suc n)) (xs ++ x ∷ [])
+row_more P zero a [] x h p = let e : a + 0 ≡ a = omega arith in (subst (λ (k : ℕ). P k x) e p, tt)
+row_more P zero a (y ∷ ys) x h p = absurd h
+row_more P (suc n) a [] x h p = absurd h
+row_more P (suc n) a (y ∷ ys) x h p =
+    let e : a + suc n ≡ a + 1 + n = omega arith in
+    (h.0, row_more P n (a + 1) ys x h.1 (subst (λ (k : ℕ). P k x) e p))
+
+-- the definitions of one row more
+pub rows_more : (b : List ℕ) (r : ℕ) (D : List Definition) (d : Definition) → AreRows b r D → IsRow b r d → AreRows b (r + 1) (D ++ d ∷ [])
+rows_more b r D d rows row =
+    let e : suc r ≡ r + 1 = omega arith in
+    let f : r ≡ 0 + r = omega arith in
+    subst (λ (k : ℕ). AreRows b k (D ++ d ∷ [])) e (row_more (IsRow b) r 0 D d rows (subst (λ (k : ℕ). IsRow b k d) f row))
+
+-- what holds before row r, and of it, holds before the next
+pub readable_more : (b : List ℕ) (r : ℕ) → ((k : ℕ) → k < r → IsReadable b k) → IsReadable b r → (k : ℕ) → k < r + 1 → IsReadable b k
+readable_more b r before is k lt = elim (cases_lt k r) [
+  | inl small ↦ before k small
+  | inr large ↦ let same : r ≡ k = omega arith in subst (IsReadable b) same is
+]
 
 -- ---- rows of a file that meets conditions 1 to 16
 
@@ -93,49 +97,41 @@ module _ (b : List ℕ) (classes : HasClasses b) where
       λ row. (is name c).1 (defined_rows b classes D rows name c row),
     )
 
--- ---- rows of a plain file that meets conditions 1 to 16
+-- ---- condition 23
 
-module _ (b : List ℕ) (m : Mentions) (pools : ArePools b m) (h : HoldBelow 17 b) (plain : IsPlainFile b) where
-  has_class : (r : ℕ) → r < table_size b ClassDefs → HasClass b r
-  has_class r lt = h Condition.Classes (omega arith) r lt
+module _ (b : List ℕ) (h : HoldBelow 17 b) where
+  -- where readable rows up to a row weigh too much, it fails there
+  pub too_heavy : (r : ℕ) (D : List Definition) → r < table_size b ClassDefs → ((k : ℕ) → k < r + 1 → IsReadable b k) → AreRows b (r + 1) D → most_weight < weight D → FailsAt Condition.Weight b r
+  too_heavy r D lt readable rows more = record { before = h; late = omega arith; row = lt; fails = λ light. absurd (omega (arith, more, light D (λ k le. readable k (omega (arith, le))) rows)) }
 
-  -- they are the definitions of their numbers
-  pub rows_are : (n : ℕ) → n ≤ table_size b ClassDefs → AreRows b n (definitions_below b m n)
-  rows_are n le = zipped (IsRow b) (definition_of m) (class_of_row b) n 0 (λ r low lt. let few : r < table_size b ClassDefs = omega (arith, lt, le) in row_stands b m pools r few (has_class r few) (plain r few))
+  -- so it does where the bodies alone do
+  pub heavy_row : (r : ℕ) (D : List Definition) (d : Definition) → r < table_size b ClassDefs → ((k : ℕ) → k < r → IsReadable b k) → AreRows b r D → IsReadable b r → IsRow b r d → most_weight < bodies_weight D + body_weight d.1 → FailsAt Condition.Weight b r
+  heavy_row r D d lt readable rows is row heavy =
+      too_heavy r (D ++ d ∷ []) lt (readable_more b r readable is) (rows_more b r D d rows row) (omega (arith, heavy, weight_is (D ++ d ∷ []), bodies_more D d))
 
-  -- where those up to a row weigh too much, condition 23 fails there
-  pub too_heavy : (r : ℕ) → r < table_size b ClassDefs → most_weight < weight (definitions_below b m (r + 1)) → FailsAt Condition.Weight b r
-  too_heavy r lt more = record {
-    before = h;
-    late = omega arith;
-    row = lt;
-    fails = λ light.
-        absurd (omega (arith, more, light (definitions_below b m (r + 1)) (λ k le. let few : k < table_size b ClassDefs = omega (arith, le, lt) in plain_readable b k (plain k few) (has_class k few)) (rows_are (r + 1) (omega (arith, lt)))));
-  }
-
-  -- where all of them do not, the file is accepted
-  pub light_accepted : weight (definitions_below b m (table_size b ClassDefs)) ≤ most_weight → IsAccepted b
-  light_accepted light Condition.Size = h Condition.Size (omega arith)
-  light_accepted light Condition.Magic = h Condition.Magic (omega arith)
-  light_accepted light Condition.Version = h Condition.Version (omega arith)
-  light_accepted light Condition.Lengths = h Condition.Lengths (omega arith)
-  light_accepted light Condition.Endian = h Condition.Endian (omega arith)
-  light_accepted light Condition.Link = h Condition.Link (omega arith)
-  light_accepted light Condition.Checksum = h Condition.Checksum (omega arith)
-  light_accepted light Condition.Signature = h Condition.Signature (omega arith)
-  light_accepted light Condition.Layout = h Condition.Layout (omega arith)
-  light_accepted light Condition.Map = h Condition.Map (omega arith)
-  light_accepted light Condition.Strings = h Condition.Strings (omega arith)
-  light_accepted light Condition.Types = h Condition.Types (omega arith)
-  light_accepted light Condition.Protos = h Condition.Protos (omega arith)
-  light_accepted light Condition.Fields = h Condition.Fields (omega arith)
-  light_accepted light Condition.Methods = h Condition.Methods (omega arith)
-  light_accepted light Condition.Classes = h Condition.Classes (omega arith)
-  light_accepted light Condition.Members = λ r lt. (plain_readable b r (plain r lt) (has_class r lt)).members
-  light_accepted light Condition.Code = λ r lt. (plain_readable b r (plain r lt) (has_class r lt)).code
-  light_accepted light Condition.Tries = λ r lt. (plain_readable b r (plain r lt) (has_class r lt)).tries
-  light_accepted light Condition.Debug = λ r lt. (plain_readable b r (plain r lt) (has_class r lt)).debug
-  light_accepted light Condition.Values = λ r lt. (plain_readable b r (plain r lt) (has_class r lt)).values
-  light_accepted light Condition.Annotations = λ r lt. (plain_readable b r (plain r lt) (has_class r lt)).annotations
-  light_accepted light Condition.Weight = λ r lt E readable part.
-      light_rows b (has_classes b h) (definitions_below b m (table_size b ClassDefs)) (rows_are (table_size b ClassDefs) (omega arith)) light (r + 1) E part
+  module _ (D : List Definition) (readable : AreReadable b) (rows : AreRows b (table_size b ClassDefs) D) (light : weight D ≤ most_weight) where
+    -- where all rows are readable and do not weigh too much, the file is accepted
+    pub light_accepted : IsAccepted b
+    light_accepted Condition.Size = h Condition.Size (omega arith)
+    light_accepted Condition.Magic = h Condition.Magic (omega arith)
+    light_accepted Condition.Version = h Condition.Version (omega arith)
+    light_accepted Condition.Lengths = h Condition.Lengths (omega arith)
+    light_accepted Condition.Endian = h Condition.Endian (omega arith)
+    light_accepted Condition.Link = h Condition.Link (omega arith)
+    light_accepted Condition.Checksum = h Condition.Checksum (omega arith)
+    light_accepted Condition.Signature = h Condition.Signature (omega arith)
+    light_accepted Condition.Layout = h Condition.Layout (omega arith)
+    light_accepted Condition.Map = h Condition.Map (omega arith)
+    light_accepted Condition.Strings = h Condition.Strings (omega arith)
+    light_accepted Condition.Types = h Condition.Types (omega arith)
+    light_accepted Condition.Protos = h Condition.Protos (omega arith)
+    light_accepted Condition.Fields = h Condition.Fields (omega arith)
+    light_accepted Condition.Methods = h Condition.Methods (omega arith)
+    light_accepted Condition.Classes = h Condition.Classes (omega arith)
+    light_accepted Condition.Members = λ r lt. (readable r lt).members
+    light_accepted Condition.Code = λ r lt. (readable r lt).code
+    light_accepted Condition.Tries = λ r lt. (readable r lt).tries
+    light_accepted Condition.Debug = λ r lt. (readable r lt).debug
+    light_accepted Condition.Values = λ r lt. (readable r lt).values
+    light_accepted Condition.Annotations = λ r lt. (readable r lt).annotations
+    light_accepted Condition.Weight = λ r lt E some part. light_rows b (has_classes b h) D rows light (r + 1) E part

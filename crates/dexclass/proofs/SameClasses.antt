@@ -1,100 +1,164 @@
--- Classes that are led into one numbering are the same just where their definitions are.
-use Rattle.std.proofs.Common.{◌≡◌, ℕ, suc, ◌<◌, true, List, [], ◌∷◌, ◌++◌, length, get_or, refl, sym, ap, ◌∙◌, subst, arith, inl, inr}
-use Rattle.std.specs.Prelude.{◌↔◌, map, All, IsSome, Option, Some, None, option_to_list}
-use Rattle.std.specs.Option.{option_map}
-use Rattle.std.proofs.lemmas.Bool.{cases_order}
-use Rattle.std.specs.List.{Contains}
-use Rattle.dexspec.specs.Lists.{rises}
-use Rattle.dexspec.specs.Texts.{Text, text_cmp}
+-- Classes that are led on stand for the same definitions; led into one numbering they are the same just where their
+-- definitions are.
+use Rattle.std.proofs.Common.{◌≡◌, ℕ, ◌<◌, List, [], ◌∷◌, ◌++◌, length, map, option_to_list, sym, ap, ◌∙◌, subst}
+use Rattle.std.specs.Prelude.{◌↔◌, IsSome}
+use Rattle.std.specs.List.{All, AllZip}
+use Rattle.std.proofs.lemmas.List.Elements.{All-nil, All-cons, All-head, All-tail}
+use Rattle.dexspec.specs.Texts.{Text}
+use Rattle.dexspec.specs.Symbols.{Symbol, TextSymbol, TypeSymbol, ProtoSymbol, FieldSymbol, MethodSymbol}
 use Rattle.dexspec.specs.Classes.{Definition}
 use Rattle.dexspec.specs.Mentions.{Mentions}
-use Rattle.dexspec.proofs.InOrder.{Rises-from_rises, Rises-places, irreflexive}
-use Rattle.dexspec.proofs.SymbolOrders.{text_total}
+use Rattle.dexpool.specs.declared.symbols.SymbolKind.{SymbolKind}
 use Rattle.dexpool.specs.declared.symbols.SymbolKind.TheVariants as kinds
-use Rattle.dexpool.specs.Numberings.{AreRising, IsAt, Leads, Maps, image}
-use Rattle.dexclass.specs.Numbered.{NumberedClass, type_at, text_at, definition_of}
-use Rattle.dexclass.specs.Marking.{IsInRange, type_numbers, text_numbers}
-use Rattle.dexclass.specs.Renumbering.{led, renumbered, LeadInto, StaysSame, IsPartClass}
-use Rattle.dexclass.proofs.Judged.{all_left, all_right}
-use Rattle.dexclass.proofs.Mentioned.{All-member}
-use Rattle.dexclass.proofs.LedOn.{stays, numbers_stay}
+use Rattle.dexpool.specs.Pools.{count_of}
+use Rattle.dexpool.specs.Laws.{LeadsAll}
+use Rattle.dexpool.specs.Numberings.{AreRising, Maps, AllLead, IsNumbered, IsOfKind, image}
+use Rattle.dexpool.specs.Uses.{Use, IsUseOf, IsLedUse}
+use Rattle.dexmembers.specs.Numbered.{NumberedMembers, members_in, members_of, AreKnownMembers, AreOrdered, AreOfClass}
+use Rattle.dexmembers.specs.Renumbering.{renumbered_members}
+use Rattle.dexmembers.specs.Uses.{members_uses}
+use Rattle.dexclass.specs.Numbered.{NumberedClass, type_at, definition_of}
+use Rattle.dexclass.specs.Uses.{type_numbers, text_numbers, type_use, text_use, IsKnownClass}
+use Rattle.dexclass.specs.Renumbering.{led, renumbered, IsLedClass, StaysSame, IsPartClass}
+use Rattle.dexclass.proofs.Marked.{all_front, all_back}
+use Rattle.dexclass.proofs.OwnUses.{all_mapped}
+use Rattle.dexclass.proofs.LedOn.{led_is, all_led, optional_led, all_within, optional_numbers, numbers_behind, one_at, one_list, one_optional}
 
--- ---- where a number leads
+-- ---- where all symbols lead somewhere
 
--- where each number leads somewhere, it leads to the same text
-led_at : (from to : List Text) (images : List (Option ℕ)) (i : ℕ) (o : Option ℕ) → Leads from to images → image images i ≡ o → IsSome o → IsAt to (led images i) (get_or from i [])
-led_at from to images i None h e some = absurd cc
-led_at from to images i (Some j) h e some =
-    let there : led images i ≡ j = rw e refl in
-    subst (λ (k : ℕ). IsAt to k (get_or from i [])) (sym there) (h.same i j [] e)
+use_within : (m : Mentions) (kind : SymbolKind) (i : ℕ) (s : Symbol) → IsNumbered m i s → IsOfKind kind s → i < count_of kind m
+use_within m kinds.Text i (TextSymbol x) at of = at.within
+use_within m kinds.Typ i (TypeSymbol x) at of = at.within
+use_within m kinds.Proto i (ProtoSymbol x) at of = at.within
+use_within m kinds.Field i (FieldSymbol x) at of = at.within
+use_within m kinds.Method i (MethodSymbol x) at of = at.within
+use_within m _ i _ at of = absurd of
 
-module _ (m n : Mentions) (r : Maps) (h : LeadInto m n r) where
-  type_led : (i : ℕ) → i < length m.types → IsAt n.types (led r.types i) (type_at m i)
-  type_led i lt = led_at m.types n.types r.types i (image r.types i) h.lead.types_lead refl (h.all kinds.Typ i lt)
+-- those that occur do
+pub uses_led : (m : Mentions) (r : Maps) (us : List Use) (ss : List Symbol) → LeadsAll m r → AllZip (IsUseOf m) us ss → All (IsLedUse r) us
+uses_led m r [] [] all zip = All-nil (IsLedUse r)
+uses_led m r [] (s ∷ ss) all zip = absurd zip
+uses_led m r (u ∷ us) [] all zip = absurd zip
+uses_led m r (u ∷ us) (s ∷ ss) all zip = All-cons (IsLedUse r) u us (all u.kind u.number (use_within m u.kind u.number s zip.0.0 zip.0.1)) (uses_led m r us ss all zip.1)
 
-  text_led : (i : ℕ) → i < length m.texts → IsAt n.texts (led r.texts i) (text_at m i)
-  text_led i lt = led_at m.texts n.texts r.texts i (image r.texts i) h.lead.texts_lead refl (h.all kinds.Text i lt)
+-- ---- a class that is led on
 
-  -- it stands for the same definition
-  pub stays_same : (c : NumberedClass) → IsInRange m c → StaysSame m n r c
-  stays_same c range =
-      let types : (i : ℕ) → Contains (type_numbers c) i → Contains n.types (type_at m i)
-      = λ i has. let at = type_led i (All-member (λ k. k < length m.types) (type_numbers c) i range.types_in has) in (led r.types i, at.within, at.is (type_at m i)) in
-      let texts : (i : ℕ) → Contains (text_numbers c) i → Contains n.texts (text_at m i)
-      = λ i has. let at = text_led i (All-member (λ k. k < length m.texts) (text_numbers c) i range.texts_in has) in (led r.texts i, at.within, at.is (text_at m i)) in
-      record { same = stays m n r h.lead c range types texts; numbers_in = numbers_stay m n r h.lead c range types texts }
+module _ (r : Maps) (c : NumberedClass) (leads : IsLedClass r c) where
+  abbrev types_used : List Use
+  types_used = map type_use (type_numbers c)
 
--- ---- one number for each symbol
+  abbrev texts_used : List Use
+  texts_used = map text_use (text_numbers c)
 
-module _ (xs : List Text) (rising : rises text_cmp xs ≡ true) where
-  one_at : (i j : ℕ) → i < length xs → j < length xs → get_or xs i [] ≡ get_or xs j [] → i ≡ j
-  one_at i j li lj e = elim (cases_order i j) [
-    | inl same ↦ same
-    | inr other ↦ elim other [
-      | inl less ↦ absurd (irreflexive text_cmp text_total (get_or xs i []) (get_or xs j []) e (Rises-places text_cmp text_total xs i j [] (Rises-from_rises text_cmp text_total xs rising) less lj))
-      | inr more ↦ absurd (irreflexive text_cmp text_total (get_or xs j []) (get_or xs i []) (sym e) (Rises-places text_cmp text_total xs j i [] (Rises-from_rises text_cmp text_total xs rising) more li))
-    ]
-  ]
+  types_lead : All (λ i. IsSome (image r.types i)) (type_numbers c)
+  types_lead = all_mapped (λ i. IsSome (image r.types i)) (IsLedUse r) type_use (type_numbers c) (λ i h. h) (all_front (IsLedUse r) types_used (texts_used ++ members_uses c.members) leads)
 
-  one_optional : (o p : Option ℕ) → All (λ i. i < length xs) (option_to_list o) → All (λ i. i < length xs) (option_to_list p) → option_map (λ i. get_or xs i []) o ≡ option_map (λ i. get_or xs i []) p → o ≡ p
-  one_optional None None f g e = refl
-  one_optional None (Some j) f g e = absurd cc
-  one_optional (Some i) None f g e = absurd cc
-  one_optional (Some i) (Some j) f g e = let same : get_or xs i [] ≡ get_or xs j [] = cc in ap Some (one_at i j (f 0 0 (omega arith)) (g 0 0 (omega arith)) same)
+  behind_lead : All (IsLedUse r) (texts_used ++ members_uses c.members)
+  behind_lead = all_back (IsLedUse r) types_used (texts_used ++ members_uses c.members) leads
 
-  one_list : (is js : List ℕ) → All (λ i. i < length xs) is → All (λ i. i < length xs) js → map (λ i. get_or xs i []) is ≡ map (λ i. get_or xs i []) js → is ≡ js
-  one_list [] [] f g e = refl
-  one_list [] (j ∷ js) f g e = absurd cc
-  one_list (i ∷ is) [] f g e = absurd cc
-  one_list (i ∷ is) (j ∷ js) f g e =
-      let first : get_or xs i [] ≡ get_or xs j [] = cc in
-      let rest : map (λ k. get_or xs k []) is ≡ map (λ k. get_or xs k []) js = cc in
-      let one = one_at i j (f 0 0 (omega arith)) (g 0 0 (omega arith)) first in
-      ap (λ (k : ℕ). k ∷ is) one ∙ ap (λ (l : List ℕ). j ∷ l) (one_list is js (λ k d lt. f (suc k) d (omega (arith, lt))) (λ k d lt. g (suc k) d (omega (arith, lt))) rest)
+  texts_lead : All (λ i. IsSome (image r.texts i)) (text_numbers c)
+  texts_lead = all_mapped (λ i. IsSome (image r.texts i)) (IsLedUse r) text_use (text_numbers c) (λ i h. h) (all_front (IsLedUse r) texts_used (members_uses c.members) behind_lead)
+
+  name_leads : IsSome (image r.types c.name)
+  name_leads = All-head (λ i. IsSome (image r.types i)) c.name (option_to_list c.superclass ++ c.interfaces) types_lead
+
+  parents_lead : All (λ i. IsSome (image r.types i)) (option_to_list c.superclass ++ c.interfaces)
+  parents_lead = All-tail (λ i. IsSome (image r.types i)) c.name (option_to_list c.superclass ++ c.interfaces) types_lead
+
+  superclass_leads : All (λ i. IsSome (image r.types i)) (option_to_list c.superclass)
+  superclass_leads = all_front (λ i. IsSome (image r.types i)) (option_to_list c.superclass) c.interfaces parents_lead
+
+  interfaces_lead : All (λ i. IsSome (image r.types i)) c.interfaces
+  interfaces_lead = all_back (λ i. IsSome (image r.types i)) (option_to_list c.superclass) c.interfaces parents_lead
+
+  -- what it declares
+  pub members_lead : All (IsLedUse r) (members_uses c.members)
+  members_lead = all_back (IsLedUse r) texts_used (members_uses c.members) behind_lead
+
+-- what is known of members that are led on
+pub record MembersStay (m n : Mentions) (r : Maps) (class : Text) (x : NumberedMembers) : Type 0 where
+  pub known : AreKnownMembers n (renumbered_members r x)
+  pub same : members_in n (renumbered_members r x) ≡ members_in m x
+  pub ordered : AreOrdered (renumbered_members r x)
+  pub own : AreOfClass n class (renumbered_members r x)
+
+module _ (m n : Mentions) (r : Maps) (h : AllLead m n r) (c : NumberedClass) (leads : IsLedClass r c) where
+  pub name_led : type_at n (led r.types c.name) ≡ type_at m c.name
+  name_led = led_is m.types n.types r.types h.types_lead c.name (name_leads r c leads)
+
+  module _ (stay : MembersStay m n r (type_at m c.name) c.members) where
+    definition_led : definition_of n (renumbered r c) ≡ definition_of m c
+    definition_led =
+        let superclass = optional_led m.types n.types r.types h.types_lead c.superclass (superclass_leads r c leads) in
+        let interfaces = all_led m.types n.types r.types h.types_lead c.interfaces (interfaces_lead r c leads) in
+        let source = optional_led m.texts n.texts r.texts h.texts_lead c.source (texts_lead r c leads) in
+        let name = name_led in
+        let members = stay.same in
+        λ i. (
+          name i,
+          record {
+            flags = c.flags;
+            superclass = superclass i;
+            interfaces = interfaces i;
+            source = source i;
+            annotations = (members i).annotations;
+            static_fields = (members i).static_fields;
+            instance_fields = (members i).instance_fields;
+            direct_methods = (members i).direct_methods;
+            virtual_methods = (members i).virtual_methods;
+            static_values = (members i).static_values;
+          },
+        )
+
+    types_numbered : map (led r.types) (type_numbers c) ≡ type_numbers (renumbered r c)
+    types_numbered = ap (λ (l : List ℕ). led r.types c.name ∷ l) (numbers_behind (led r.types) c.superclass c.interfaces)
+
+    -- it stands for the same definition, by numbers of the other numbering
+    pub stays_same : IsKnownClass m c → StaysSame m n r c
+    stays_same known = record {
+      same = definition_led;
+      known = record {
+        types_in = subst (All (λ k. k < length n.types)) types_numbered (all_within m.types n.types r.types h.types_lead (type_numbers c) (types_lead r c leads));
+        texts_in = subst (All (λ k. k < length n.texts)) (optional_numbers (led r.texts) c.source) (all_within m.texts n.texts r.texts h.texts_lead (text_numbers c) (texts_lead r c leads));
+        members_known = stay.known;
+        members_ordered = stay.ordered;
+        members_own = subst (λ t. AreOfClass n t (renumbered_members r c.members)) (sym name_led) stay.own;
+      };
+    }
 
 -- ---- one class for each definition
 
--- the numbers behind the name
-behind : (P : ℕ → Type 0) (c : NumberedClass) → All P (type_numbers c) → All P (option_to_list c.superclass ++ c.interfaces)
-behind P c h k d lt = h (suc k) d (omega (arith, lt))
+-- members of classes of one name are the same where they stand for the same
+abbrev pub MembersSame : (m n : Mentions) (r s : Maps) (x y : NumberedMembers) → Type 0
+MembersSame m n r s x y = (name : Text) → AreOfClass m name x → AreOfClass n name y → members_in m x ≡ members_in n y → renumbered_members r x ≡ renumbered_members s y
 
-pub one_class : (m : Mentions) (c d : NumberedClass) → AreRising m → IsInRange m c → IsInRange m d → definition_of m c ≡ definition_of m d → c ≡ d
-one_class m c d rising f g e =
-    let P : ℕ → Type 0 = λ i. i < length m.types in
-    let name = one_at m.types rising.types_rise c.name d.name (f.types_in 0 0 (omega arith)) (g.types_in 0 0 (omega arith)) (ap (λ (x : Definition). x.0) e) in
-    let flags = ap (λ (x : Definition). x.1.flags) e in
-    let superclass = one_optional m.types rising.types_rise c.superclass d.superclass (all_left P (option_to_list c.superclass) c.interfaces (behind P c f.types_in)) (all_left P (option_to_list d.superclass) d.interfaces (behind P d g.types_in))
-    (ap (λ (x : Definition). x.1.superclass) e) in
-    let interfaces = one_list m.types rising.types_rise c.interfaces d.interfaces (all_right P (option_to_list c.superclass) c.interfaces (behind P c f.types_in)) (all_right P (option_to_list d.superclass) d.interfaces (behind P d g.types_in))
-    (ap (λ (x : Definition). x.1.interfaces) e) in
-    let source = one_optional m.texts rising.texts_rise c.source d.source f.texts_in g.texts_in (ap (λ (x : Definition). x.1.source) e) in
-    λ i. record { name = name i; flags = flags i; superclass = superclass i; interfaces = interfaces i; source = source i }
+module _ (m n whole : Mentions) (r s : Maps) (c d : NumberedClass) (rising : AreRising whole) (f : IsPartClass whole m r c) (g : IsPartClass whole n s d) (mine : StaysSame m whole r c) (theirs : StaysSame n whole s d) (members : MembersSame m n r s c.members d.members) where
+  types_mine : All (λ i. i < length whole.types) (type_numbers (renumbered r c))
+  types_mine = mine.known.types_in
 
--- led into one numbering, they are the same just where their definitions are
-pub same_classes : (m n whole : Mentions) (r s : Maps) (c d : NumberedClass) → AreRising whole → IsPartClass whole m r c → IsPartClass whole n s d → (renumbered r c ≡ renumbered s d) ↔ (definition_of m c ≡ definition_of n d)
-same_classes m n whole r s c d rising f g =
-    let x = stays_same m whole r f.lead c f.numbers_in in
-    let y = stays_same n whole s g.lead d g.numbers_in in (
-      λ e. sym x.same ∙ ap (definition_of whole) e ∙ y.same,
-      λ e. one_class whole (renumbered r c) (renumbered s d) rising x.numbers_in y.numbers_in (x.same ∙ e ∙ sym y.same),
-    )
+  types_theirs : All (λ i. i < length whole.types) (type_numbers (renumbered s d))
+  types_theirs = theirs.known.types_in
+
+  -- led to the same definition, they are the same
+  one_class : definition_of m c ≡ definition_of n d → renumbered r c ≡ renumbered s d
+  one_class e =
+      let P : ℕ → Type 0 = λ i. i < length whole.types in
+      let x = renumbered r c in
+      let y = renumbered s d in
+      let there : definition_of whole x ≡ definition_of whole y = mine.same ∙ e ∙ sym theirs.same in
+      let parents_mine = All-tail P x.name (option_to_list x.superclass ++ x.interfaces) types_mine in
+      let parents_theirs = All-tail P y.name (option_to_list y.superclass ++ y.interfaces) types_theirs in
+      let name = one_at whole.types rising.types_rise x.name y.name (All-head P x.name (option_to_list x.superclass ++ x.interfaces) types_mine) (All-head P y.name (option_to_list y.superclass ++ y.interfaces) types_theirs) (ap (λ (z : Definition). z.0) there) in
+      let flags = ap (λ (z : Definition). z.1.flags) there in
+      let superclass = one_optional whole.types rising.types_rise x.superclass y.superclass (all_front P (option_to_list x.superclass) x.interfaces parents_mine) (all_front P (option_to_list y.superclass) y.interfaces parents_theirs)
+      (ap (λ (z : Definition). z.1.superclass) there) in
+      let interfaces = one_list whole.types rising.types_rise x.interfaces y.interfaces (all_back P (option_to_list x.superclass) x.interfaces parents_mine) (all_back P (option_to_list y.superclass) y.interfaces parents_theirs)
+      (ap (λ (z : Definition). z.1.interfaces) there) in
+      let source = one_optional whole.texts rising.texts_rise x.source y.source mine.known.texts_in theirs.known.texts_in (ap (λ (z : Definition). z.1.source) there) in
+      let own : AreOfClass n (type_at m c.name) d.members = subst (λ t. AreOfClass n t d.members) (sym (ap (λ (z : Definition). z.0) e)) g.known.members_own in
+      let declared = members (type_at m c.name) f.known.members_own own (ap (λ (z : Definition). members_of z.1) e) in
+      λ i. record { name = name i; flags = flags i; superclass = superclass i; interfaces = interfaces i; source = source i; members = declared i }
+
+  -- led into one numbering, they are the same just where their definitions are
+  pub same_classes : (renumbered r c ≡ renumbered s d) ↔ (definition_of m c ≡ definition_of n d)
+  same_classes = (λ e. sym mine.same ∙ ap (definition_of whole) e ∙ theirs.same, λ e. one_class e)

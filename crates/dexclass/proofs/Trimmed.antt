@@ -1,58 +1,63 @@
 -- Classes whose numbers are led to those of what they mention.
-use Rattle.std.proofs.Common.{◌≡◌, ℕ, List, [], ◌∷◌, get_or, map, refl, sym, ap, ◌∙◌, subst}
-use Rattle.std.specs.Prelude.{All}
-use Rattle.std.specs.List.{Contains, flat_map}
-use Rattle.std.proofs.lemmas.List.Elements.{All-map, Contains-get_or}
-use Rattle.dexspec.specs.Mentions.{Mentions, mentions, closed}
-use Rattle.dexspec.proofs.Members.{Contains-first, Contains-later, Contains-flat_map}
-use Rattle.dexpool.specs.Numberings.{Maps, AllLead, marked}
+use Rattle.std.proofs.Common.{◌≡◌, List, [], ◌∷◌, map, get_or, refl, sym, ap, ◌∙◌, subst}
+use Rattle.std.specs.List.{All, AllZip, flat_map}
+use Rattle.std.proofs.lemmas.List.Elements.{All-nil, All-cons, All-head, All-tail, All-map, Contains-get_or}
+use Rattle.dexspec.specs.Mentions.{Mentions, symbols_of, mentions, closed}
+use Rattle.dexspec.proofs.Members.{Contains-flat_map}
 use Rattle.dexpool.specs.declared.marks.Marks.{Marks}
-use Rattle.dexclass.specs.Numbered.{NumberedClass, text_at, type_at, definition_of}
-use Rattle.dexclass.specs.Marking.{type_numbers, text_numbers, HaveMarked, IsInRange}
-use Rattle.dexclass.specs.Renumbering.{renumbered}
-use Rattle.dexclass.proofs.Mentioned.{kept_mentions, type_occurs, text_occurs}
-use Rattle.dexclass.proofs.LedOn.{stays, numbers_stay, type_mentioned, text_mentioned}
-
--- a member of a list of which all pass
-All_member : {X : Type 0} (P : X → Type 0) (xs : List X) (x : X) → All P xs → Contains xs x → P x
-All_member P xs x all c = subst P c.2 (all c.0 x c.1)
+use Rattle.dexpool.specs.Numberings.{Maps, marked}
+use Rattle.dexpool.specs.Uses.{IsUseOf, LeadsMarked}
+use Rattle.dexclass.specs.Numbered.{NumberedClass, definition_of}
+use Rattle.dexclass.specs.Uses.{class_uses, IsKnownClass, HaveMarked}
+use Rattle.dexclass.specs.Renumbering.{renumbered, IsLedClass, StaysSame}
+use Rattle.dexclass.proofs.Mentioned.{kept_closed, is_marked}
+use Rattle.dexclass.proofs.OwnUses.{parts_zip}
 
 -- what is the same of each member is so of the list
-each_same : {X Y Z : Type 0} (f : Y → Z) (g : X → Y) (h : X → Z) (xs : List X) → ((x : X) → Contains xs x → f (g x) ≡ h x) → map f (map g xs) ≡ map h xs
+each_same : {X Y Z : Type 0} (f : Y → Z) (g : X → Y) (h : X → Z) (xs : List X) → All (λ x. f (g x) ≡ h x) xs → map f (map g xs) ≡ map h xs
 each_same f g h [] each = refl
-each_same {X} {Y} {Z} f g h (x ∷ xs) each =
-    ap (λ (z : Z). z ∷ map f (map g xs)) (each x (Contains-first x xs)) ∙ ap (λ (l : List Z). h x ∷ l) (each_same f g h xs (λ y c. each y (Contains-later x y xs c)))
+each_same f g h (x ∷ xs) each =
+    let first = All-head (λ x. f (g x) ≡ h x) x xs each in
+    let rest = each_same f g h xs (All-tail (λ x. f (g x) ≡ h x) x xs each) in
+    λ i. first i ∷ rest i
 
-module _ (m : Mentions) (cs : List NumberedClass) (marks : Marks) (h : HaveMarked marks (flat_map type_numbers cs) (flat_map text_numbers cs)) (range : All (IsInRange m) cs) where
-  in_range : (c : NumberedClass) → Contains cs c → IsInRange m c
-  in_range c member = All_member (IsInRange m) cs c range member
+-- what two facts of each member give
+all_two : {X : Type 0} (P Q R : X → Type 0) → ((x : X) → P x → Q x → R x) → (xs : List X) → All P xs → All Q xs → All R xs
+all_two P Q R step [] h k = All-nil R
+all_two P Q R step (x ∷ xs) h k = All-cons R x xs (step x (All-head P x xs h) (All-head Q x xs k)) (all_two P Q R step xs (All-tail P x xs h) (All-tail Q x xs k))
+
+-- what one fact of each member gives
+all_one : {X : Type 0} (P Q : X → Type 0) → ((x : X) → P x → Q x) → (xs : List X) → All P xs → All Q xs
+all_one P Q step [] h = All-nil Q
+all_one P Q step (x ∷ xs) h = All-cons Q x xs (step x (All-head P x xs h)) (all_one P Q step xs (All-tail P x xs h))
+
+module _ (m : Mentions) (cs : List NumberedClass) (known : All (IsKnownClass m) cs) (step : (c : NumberedClass) → IsKnownClass m c → AllZip (IsUseOf m) (class_uses c) (symbols_of (definition_of m c))) (marks : Marks) (h : HaveMarked (flat_map class_uses cs) marks) where
+  -- what occurs in all classes
+  zipped : AllZip (IsUseOf m) (flat_map class_uses cs) (flat_map symbols_of (map (definition_of m) cs))
+  zipped = parts_zip (IsUseOf m) (IsKnownClass m) class_uses symbols_of (definition_of m) step cs known
 
   -- what is kept is what the classes mention
   pub trimmed_mentions : (n : Mentions) → n ≡ closed (marked m marks) → n ≡ mentions (map (definition_of m) cs)
-  trimmed_mentions n kept = kept ∙ kept_mentions m cs marks h in_range
+  unfolding mentions
+  trimmed_mentions n kept = kept ∙ kept_closed m (flat_map class_uses cs) (flat_map symbols_of (map (definition_of m) cs)) marks zipped h
 
-  module _ (n : Mentions) (r : Maps) (new : List NumberedClass) (kept : n ≡ closed (marked m marks)) (leads : AllLead m n r) (e : new ≡ map (renumbered r) cs) where
-    types_there : (c : NumberedClass) → Contains cs c → (i : ℕ) → Contains (type_numbers c) i → Contains n.types (type_at m i)
-    types_there c member i has =
-        subst (λ (k : Mentions). Contains k.types (type_at m i)) (sym (trimmed_mentions n kept))
-        (type_mentioned (map (definition_of m) cs) (type_at m i) (type_occurs m cs marks h in_range i (Contains-flat_map type_numbers cs c i member has)))
+  -- each symbol that occurs leads somewhere
+  pub all_lead : (r : Maps) → LeadsMarked marks r → All (IsLedClass r) cs
+  all_lead r leads i d lt k e within =
+      let c = get_or cs i d in
+      let u = get_or (class_uses c) k e in
+      let has = Contains-flat_map class_uses cs c u (Contains-get_or cs i d lt) (Contains-get_or (class_uses c) k e within) in
+      leads u.kind u.number (is_marked m (flat_map class_uses cs) (flat_map symbols_of (map (definition_of m) cs)) marks zipped h u has)
 
-    texts_there : (c : NumberedClass) → Contains cs c → (i : ℕ) → Contains (text_numbers c) i → Contains n.texts (text_at m i)
-    texts_there c member i has =
-        subst (λ (k : Mentions). Contains k.texts (text_at m i)) (sym (trimmed_mentions n kept))
-        (text_mentioned (map (definition_of m) cs) (text_at m i) (text_occurs m cs marks h in_range i (Contains-flat_map text_numbers cs c i member has)))
+-- led on, they stand for the same definitions by numbers of what is kept
+module _ (m n : Mentions) (r : Maps) (cs new : List NumberedClass) (stay : (c : NumberedClass) → IsLedClass r c → IsKnownClass m c → StaysSame m n r c) (lead : All (IsLedClass r) cs) (known : All (IsKnownClass m) cs) (e : new ≡ map (renumbered r) cs) where
+  all_stay : All (StaysSame m n r) cs
+  all_stay = all_two (IsLedClass r) (IsKnownClass m) (StaysSame m n r) stay cs lead known
 
-    -- there they stand for the same definitions
-    pub trimmed_same : map (definition_of n) new ≡ map (definition_of m) cs
-    trimmed_same =
-        ap (map (definition_of n)) e
-        ∙ each_same (definition_of n) (renumbered r) (definition_of m) cs (λ c member. stays m n r leads c (in_range c member) (types_there c member) (texts_there c member))
+  pub trimmed_same : map (definition_of n) new ≡ map (definition_of m) cs
+  trimmed_same =
+      ap (map (definition_of n)) e
+      ∙ each_same (definition_of n) (renumbered r) (definition_of m) cs (all_one (StaysSame m n r) (λ c. definition_of n (renumbered r c) ≡ definition_of m c) (λ c s. s.same) cs all_stay)
 
-    -- by numbers of what is kept
-    pub trimmed_in : All (IsInRange n) new
-    trimmed_in =
-        subst (All (IsInRange n)) (sym e)
-        (All-map (IsInRange n) (renumbered r) cs (λ k d lt.
-        let c = get_or cs k d in
-        let member = Contains-get_or cs k d lt in
-        numbers_stay m n r leads c (in_range c member) (types_there c member) (texts_there c member)))
+  pub trimmed_known : All (IsKnownClass n) new
+  trimmed_known = subst (All (IsKnownClass n)) (sym e) (All-map (IsKnownClass n) (renumbered r) cs (all_one (StaysSame m n r) (λ c. IsKnownClass n (renumbered r c)) (λ c s. s.known) cs all_stay))

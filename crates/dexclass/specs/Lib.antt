@@ -4,3 +4,5 @@ pub mod Uses
 pub mod Renumbering
 pub mod Parents
 pub mod Programs
+pub mod Reading
+pub mod Stripped

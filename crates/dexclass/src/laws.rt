@@ -24,11 +24,12 @@ pub fn uses_law()
 }
 
 /// A class of which each symbol that occurs is led to the same one in another numbering stands there for the same definition.
-/// Where all symbols of the numbering lead somewhere, those of the class do.
+/// Where all symbols of a numbering that rises lead somewhere, those of the class do.
 pub fn renumbering_law()
     ensures same { (m n : Mentions) (r : Maps) (c : NumberedClass) → AllLead m n r → IsLedClass r c → IsKnownClass m c → StaysSame m n r c }
-    ensures all { (m : Mentions) (r : Maps) (c : NumberedClass) → LeadsAll m r → IsKnownClass m c → IsLedClass r c }
+    ensures all { (m : Mentions) (r : Maps) (c : NumberedClass) → AreRising m → LeadsAll m r → IsKnownClass m c → IsLedClass r c }
 {
+    uses_law();
     members_led_law();
 }
 
@@ -37,6 +38,6 @@ pub fn renumbering_law()
 pub fn same_law()
     ensures { (m n whole : Mentions) (r s : Maps) (c d : NumberedClass) → AreRising whole → IsPartClass whole m r c → IsPartClass whole n s d → (renumbered r c ≡ renumbered s d) ↔ (definition_of m c ≡ definition_of n d) }
 {
-    members_led_law();
+    renumbering_law();
     members_same_law();
 }

@@ -9,7 +9,11 @@ use dexorder::Hierarchy;
 use std::alloc::{AllocError, Global};
 
 // For each type of a numbering the class that has it as its name, if one has.
-fn places(alloc: Global, classes: &[Class<'_>], types: usize) -> Result<Vec<Option<usize>>, AllocError>
+fn places(
+    alloc: Global,
+    classes: &[Class<'_>],
+    types: usize,
+) -> Result<Vec<Option<usize>>, AllocError>
     requires { All (λ c. c.name < types) classes.now }
     ensures { IfOk result (λ places. ArePlaces classes.now places.items) }
 {

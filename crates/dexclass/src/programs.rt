@@ -120,19 +120,36 @@ impl<'a> Program<'a> {
     pub fn of(
         alloc: Global,
         numbering: Numbering<'a>,
-        mut classes: Vec<Class<'a>>,
+        classes: Vec<Class<'a>>,
     ) -> Result<Program<'a>, AllocError>
         requires { AreMergeable numbering classes.items }
-        ensures { IfOk result (IsCollectionOf (map (definition_of numbering.entry) classes.items)) }
+        ensures { IfOk result (IsCollectionOf (map (definition_of numbering.entry) classes.entry.items)) }
     {
         numbering.is_numbering();
         let weight = weight_of(&numbering, &classes);
+        Program::weighing(alloc, numbering, classes, weight)
+    }
+
+    /// The program of classes that weigh `total` together, as [`Program::of`] makes it.
+    ///
+    /// Conditions: those of [`Program::of`]. Error: the memory for the order was refused.
+    pub(crate) fn weighing(
+        alloc: Global,
+        numbering: Numbering<'a>,
+        mut classes: Vec<Class<'a>>,
+        total: u64,
+    ) -> Result<Program<'a>, AllocError>
+        requires mergeable { AreMergeable numbering classes.items }
+        requires total { total ≡ weight (map (definition_of numbering) classes.items) }
+        ensures { IfOk result (IsCollectionOf (map (definition_of numbering.entry) classes.entry.items)) }
+    {
+        numbering.is_numbering();
         let types = numbering.count(SymbolKind::Typ);
         let classes = in_order(alloc, &mut classes, types)?;
         Ok(Program {
             numbering,
             classes,
-            weight,
+            weight: total,
         })
     }
 

@@ -1,11 +1,30 @@
 //! Reading a whole file.
 
-ghost use Rattle.std.specs.Prelude.{IfOk, IfErr};
+ghost use Rattle.std.specs.Prelude.{◌≡◌, ◌+◌, ◌*◌, ◌-◌, ◌<◌, ℕ, List, All, length, IfOk, IfErr, OnOk};
+ghost use Rattle.dexspec.specs.Header.{ClassDefs, table_size};
+ghost use Rattle.dexspec.specs.Classes.{interfaces_off};
+ghost use Rattle.dexspec.specs.Accepted.{HasClass, HoldBelow};
+ghost use Rattle.dexspec.specs.Weight.{most_weight};
+ghost use Rattle.dexpool.specs.Pools.{ArePools};
+ghost use Rattle.dexpool.specs.declared.faults.ReadFault.TheVariants.{Refused};
+ghost use Rattle.dexmembers.specs.Reading.{IsMembersFault};
+ghost use Rattle.dexclass.specs.Rows.{HasInterfaceList, interface_indices};
 ghost use Rattle.dexclass.specs.Programs.{IsReadAs, IsFaultOf};
+ghost use Rattle.dexclass.specs.Reading.{AreBodies, IsWhole, AreHeavyTogether};
 
+use crate::class_rows::row_fields;
+use crate::classes::{Class, class_at};
+use crate::judging::judge_classes;
 use crate::programs::Program;
-use dexpool::ReadFault;
+use crate::trimming::trim;
+use dexhead::{Frame, Refusal, Table};
+use dexlaws_denotes::good::denoted_is_good;
+use dexmembers::read_members;
+use dexpool::{ItemFault, Numbering, Pools, ReadFault, type_list_len};
 use std::alloc::Global;
+
+// The most that a program may weigh.
+const MOST_WEIGHT: u64 = 1 << 30;
 
 /// Reads a file: the program of its class definitions.
 ///
@@ -17,5 +36,158 @@ pub fn read<'a>(alloc: Global, bytes: &'a [u8]) -> Result<Program<'a>, ReadFault
     ensures accepted { IfOk result (IsReadAs bytes.now) }
     ensures refused { IfErr result (IsFaultOf bytes.now) }
 {
-    Err(ReadFault::Memory)
+    let frame = Frame::open(bytes)?;
+    let pools = Pools::read(alloc, &frame)?;
+    judge_classes(alloc, &frame, &pools)?;
+    read_rows(alloc, &frame, &pools)
+}
+
+// The number of interfaces that are listed at an offset.
+fn interfaces_len(frame: &Frame<'_>, off: u32) -> u32
+    requires { HasInterfaceList frame.now off }
+    ensures { result ≡ length (interface_indices frame.now off) }
+{
+    if off == 0 {
+        return 0;
+    }
+    match type_list_len(frame, off) {
+        Some(count) => count,
+        None => 0,
+    }
+}
+
+// What is left for what class row `r` declares, where the rows before it weigh so much.
+fn left(frame: &Frame<'_>, r: u32, weight: u64) -> u32
+    requires row { r < table_size frame.now ClassDefs }
+    requires holds { HasClass frame.now r }
+    ensures { result ≡ most_weight - weight - (96 + 2 * length (interface_indices frame.now (interfaces_off frame.now r))) }
+{
+    let interfaces = interfaces_len(frame, row_fields(frame, r).interfaces_off);
+    let row = 96 + 2 * u64::from(interfaces);
+    MOST_WEIGHT.saturating_sub(weight).saturating_sub(row) as u32
+}
+
+// The refusal of class row `r` by condition 23.
+fn too_heavy(r: u32) -> ReadFault
+    ensures { result ≡ Refused (record { number = 23; place = r }) }
+{
+    ReadFault::Refused(Refusal {
+        number: 23,
+        place: r,
+    })
+}
+
+// The fault of what class row `r` declares.
+fn at_row(fault: ItemFault, r: u32) -> ReadFault
+    ensures { (b : List ℕ) → HoldBelow 17 b → r < table_size b ClassDefs → IsMembersFault b r fault → IsFaultOf b result }
+{
+    match fault {
+        ItemFault::Refused(number) => ReadFault::Refused(Refusal { number, place: r }),
+        ItemFault::Memory => ReadFault::Memory,
+    }
+}
+
+// The classes of the first rows, with the indices of the file as numbers, and what they weigh without the symbols that
+// they name.
+#[derive(Drop)]
+struct Bodies<'a> {
+    classes: Vec<Class<'a>>,
+    weight: u64,
+}
+
+// Reads class row `r`, behind the rows before it.
+fn read_row<'a>(
+    alloc: Global,
+    frame: &Frame<'a>,
+    pools: &Pools<'a>,
+    r: u32,
+    bodies: &mut Bodies<'a>,
+) -> Result<(), ReadFault>
+    requires pools { ArePools frame.now pools.now }
+    requires before { HoldBelow 17 frame.now }
+    requires row { r < table_size frame.now ClassDefs }
+    requires bodies { AreBodies frame.now pools.now r bodies.old }
+    ensures accepted { OnOk result (AreBodies frame.now pools.now (r + 1) bodies.new) }
+    ensures refused { IfErr result (IsFaultOf frame.now) }
+{
+    pools.numbering().is_numbering();
+    let most = left(frame, r, bodies.weight);
+    let found = match read_members(alloc, frame, pools, r, most) {
+        Ok(found) => found,
+        Err(fault) => return Err(at_row(fault, r)),
+    };
+    let members = match found {
+        Some(members) => members,
+        None => return Err(too_heavy(r)),
+    };
+    let class = class_at(alloc, frame, r, members)?;
+    let weight = bodies.weight.saturating_add(class.weight());
+    if weight > MOST_WEIGHT {
+        return Err(too_heavy(r));
+    }
+    bodies.classes.push(class)?;
+    bodies.weight = weight;
+    Ok(())
+}
+
+// Reads the class rows, from row 0 on, until the classes weigh too much.
+fn read_bodies<'a>(
+    alloc: Global,
+    frame: &Frame<'a>,
+    pools: &Pools<'a>,
+) -> Result<Bodies<'a>, ReadFault>
+    requires pools { ArePools frame.now pools.now }
+    requires before { HoldBelow 17 frame.now }
+    ensures accepted { IfOk result (AreBodies frame.now pools.now (table_size frame.now ClassDefs)) }
+    ensures refused { IfErr result (IsFaultOf frame.now) }
+{
+    let count = frame.size(Table::ClassDefs);
+    let mut bodies = Bodies {
+        classes: Vec::with_capacity(alloc, count as usize)?,
+        weight: 0,
+    };
+    for r in 0..count {
+        read_row(alloc, frame, pools, r, &mut bodies)?;
+    }
+    Ok(bodies)
+}
+
+// What classes that weigh so much weigh with the symbols that they mention, which is judged at the last row.
+fn judge_weight(frame: &Frame<'_>, numbering: &Numbering<'_>, bodies: u64) -> Result<u64, Refusal>
+    ensures accepted { IfOk result (IsWhole numbering.now bodies) }
+    ensures refused { IfErr result (AreHeavyTogether frame.now numbering.now bodies) }
+{
+    let weight = numbering
+        .weight()
+        .saturating_add(bodies)
+        .saturating_add(1024);
+    if weight > MOST_WEIGHT {
+        return Err(Refusal {
+            number: 23,
+            place: frame.size(Table::ClassDefs).saturating_sub(1),
+        });
+    }
+    Ok(weight)
+}
+
+// Reads the class rows of a file of which conditions 1 to 16 hold.
+fn read_rows<'a>(
+    alloc: Global,
+    frame: &Frame<'a>,
+    pools: &Pools<'a>,
+) -> Result<Program<'a>, ReadFault>
+    requires bytes { All (λ byte. byte < 256) frame.now }
+    requires pools { ArePools frame.now pools.now }
+    requires before { HoldBelow 17 frame.now }
+    ensures accepted { IfOk result (IsReadAs frame.now) }
+    ensures refused { IfErr result (IsFaultOf frame.now) }
+{
+    denoted_is_good();
+    let Bodies {
+        mut classes,
+        weight,
+    } = read_bodies(alloc, frame, pools)?;
+    let numbering = trim(alloc, pools.numbering(), &mut classes)?;
+    let total = judge_weight(frame, &numbering, weight)?;
+    Ok(Program::weighing(alloc, numbering, classes, total)?)
 }

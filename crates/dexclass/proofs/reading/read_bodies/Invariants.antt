@@ -1,13 +1,5 @@
-use Rattle.std.proofs.Common.{◌≡◌, ◌≤◌, map}
-use Rattle.dexspec.specs.Mentions.{Mentions}
-use Rattle.dexspec.specs.Weight.{most_weight}
-use Rattle.dexclass.specs.Numbered.{definition_of}
-use Rattle.dexclass.specs.Reading.{classes_below, bodies_weight}
+use Rattle.dexclass.specs.Reading.{AreBodies}
 use Rattle.dexclass.proofs.reading.read_bodies.Given as goal
 
 abbrev pub invariant-loop-r : goal.invariant-loop-r
-invariant-loop-r l = record {
-  rows : l.classes.items ≡ classes_below l.frame l.r;
-  sum : (m : Mentions) → l.weight ≡ bodies_weight (map (definition_of m) (classes_below l.frame l.r));
-  light : l.weight ≤ most_weight;
-}
+invariant-loop-r l = AreBodies l.frame l.pools l.r l.bodies

@@ -1,16 +1,19 @@
 use Rattle.std.proofs.Common.{sym, subst}
-use Rattle.dexclass.specs.Marking.{IsInRange}
-use Rattle.dexclass.proofs.Unmarked.{none_marked, have_next}
+use Rattle.dexclass.specs.Uses.{IsKnownClass, class_uses}
+use Rattle.dexclass.proofs.Marked.{have_next}
+use Rattle.dexclass.proofs.Unmarked.{none_marked, still_marks}
 use Rattle.dexclass.proofs.trimming.marked.Goals as goal
 
-pub loop-i-init : goal.loop-i-init
-loop-i-init c = record { count = c.in_ok-marks.ensures.marks; marked = none_marked c.args.numbering.now c.in_ok-marks.marks c.in_ok-marks.ensures.marks c.in_ok-marks.ensures.none }
+pub loop-class-init : goal.loop-class-init
+loop-class-init c = record { count = c.in_ok-marks.ensures.marks; marked = none_marked c.args.numbering.now c.in_ok-marks.marks c.in_ok-marks.ensures.marks c.in_ok-marks.ensures.none }
 
 pub mark-requires : goal.mark-requires
-mark-requires c = (c.args.numbering.now, c.loop-i.invariant.count, subst (IsInRange c.args.numbering.now) (sym c.index-classes-i.is) (c.requires c.loop-i.i c.index-classes-i.result c.loop-i-test.true))
+mark-requires c =
+    let known = subst (IsKnownClass c.args.numbering.now) (sym c.class-item.is) (c.requires c.loop-class.class-index c.class-item.result c.loop-class-test.true) in
+    c.uses_law.ensures.marks c.args.numbering.now c.loop-class.marks c.class-item.result c.loop-class.invariant.count known
 
-pub loop-i-preserved : goal.loop-i-preserved
-loop-i-preserved c = record {
-  count = c.mark.ensures.count c.args.numbering.now c.loop-i.invariant.count;
-  marked = have_next c.mark.new.marks c.args.classes.now c.loop-i.i c.index-classes-i.result c.loop-i-test.true c.index-classes-i.is (c.mark.ensures.marked _ _ c.loop-i.invariant.marked);
+pub loop-class-preserved : goal.loop-class-preserved
+loop-class-preserved c = record {
+  count = still_marks c.args.numbering.now (class_uses c.class-item.result) c.loop-class.marks c.mark.new.marks c.loop-class.invariant.count c.mark.ensures;
+  marked = have_next class_uses c.args.classes.now c.loop-class.class-index c.class-item.result c.loop-class.marks c.mark.new.marks c.loop-class-test.true c.class-item.is c.loop-class.invariant.marked c.mark.ensures;
 }

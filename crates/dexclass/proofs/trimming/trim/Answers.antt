@@ -2,21 +2,42 @@ use Rattle.std.proofs.Common.{subst}
 use Rattle.std.specs.Prelude.{List}
 use Rattle.std.specs.List.{flat_map}
 use Rattle.dexclass.specs.Numbered.{NumberedClass}
-use Rattle.dexclass.specs.Marking.{HaveMarked, type_numbers, text_numbers}
-use Rattle.dexclass.proofs.Trimmed.{trimmed_mentions, trimmed_same, trimmed_in}
+use Rattle.dexclass.specs.Uses.{HaveMarked, class_uses}
+use Rattle.dexclass.proofs.Trimmed.{trimmed_mentions, all_lead, trimmed_same, trimmed_known}
 use Rattle.dexclass.proofs.trimming.trim.Goals as goal
+
+pub cut_all-requires : goal.cut_all-requires
+cut_all-requires c =
+    let m = c.args.numbering.now in
+    let cs = c.args.classes.now.items in
+    let marked = subst (λ (l : List NumberedClass). HaveMarked (flat_map class_uses l) c.in_ok-marks.marks) c.deref.ensures.value c.in_ok-marks.ensures.marked in
+    record {
+      down = c.in_ok-trimmed.ensures.down;
+      led = all_lead m cs c.requires (λ class known. c.uses_law.ensures.uses m class c.is_numbering.ensures.rising known) c.in_ok-marks.marks marked c.in_ok-trimmed.remap c.in_ok-trimmed.ensures.marked;
+    }
 
 pub returns-clause-mentions : goal.returns-clause-mentions
 returns-clause-mentions c =
-    trimmed_mentions c.args.numbering.now c.args.classes.now.items c.in_ok-marks.marks
-    (subst (λ (l : List NumberedClass). HaveMarked c.in_ok-marks.marks (flat_map type_numbers l) (flat_map text_numbers l)) c.deref.ensures.value c.in_ok-marks.ensures.marked) c.requires c.in_ok-trimmed.trimmed c.in_ok-trimmed.ensures.kept
-
-pub returns-clause-same : goal.returns-clause-same
-returns-clause-same c =
-    trimmed_same c.args.numbering.now c.args.classes.now.items c.in_ok-marks.marks
-    (subst (λ (l : List NumberedClass). HaveMarked c.in_ok-marks.marks (flat_map type_numbers l) (flat_map text_numbers l)) c.deref.ensures.value c.in_ok-marks.ensures.marked) c.requires c.in_ok-trimmed.trimmed c.in_ok-trimmed.remap c.renumber.new.classes.items c.in_ok-trimmed.ensures.kept c.in_ok-trimmed.ensures.map c.renumber.ensures
+    let m = c.args.numbering.now in
+    let marked = subst (λ (l : List NumberedClass). HaveMarked (flat_map class_uses l) c.in_ok-marks.marks) c.deref.ensures.value c.in_ok-marks.ensures.marked in
+    trimmed_mentions m c.args.classes.now.items c.requires (λ class known. c.uses_law.ensures.uses m class c.is_numbering.ensures.rising known) c.in_ok-marks.marks marked c.in_ok-trimmed.trimmed c.in_ok-trimmed.ensures.kept
 
 pub returns-clause-numbers : goal.returns-clause-numbers
 returns-clause-numbers c =
-    trimmed_in c.args.numbering.now c.args.classes.now.items c.in_ok-marks.marks
-    (subst (λ (l : List NumberedClass). HaveMarked c.in_ok-marks.marks (flat_map type_numbers l) (flat_map text_numbers l)) c.deref.ensures.value c.in_ok-marks.ensures.marked) c.requires c.in_ok-trimmed.trimmed c.in_ok-trimmed.remap c.renumber.new.classes.items c.in_ok-trimmed.ensures.kept c.in_ok-trimmed.ensures.map c.renumber.ensures
+    let m = c.args.numbering.now in
+    let cs = c.args.classes.now.items in
+    let n = c.in_ok-trimmed.trimmed in
+    let r = c.in_ok-trimmed.remap in
+    let marked = subst (λ (l : List NumberedClass). HaveMarked (flat_map class_uses l) c.in_ok-marks.marks) c.deref.ensures.value c.in_ok-marks.ensures.marked in
+    let led = all_lead m cs c.requires (λ class known. c.uses_law.ensures.uses m class c.is_numbering.ensures.rising known) c.in_ok-marks.marks marked r c.in_ok-trimmed.ensures.marked in
+    trimmed_known m n r cs c.cut_all.new.classes.items (λ class leads known. c.renumbering_law.ensures.same m n r class c.in_ok-trimmed.ensures.map leads known) led c.requires c.cut_all.ensures
+
+pub returns-clause-same : goal.returns-clause-same
+returns-clause-same c =
+    let m = c.args.numbering.now in
+    let cs = c.args.classes.now.items in
+    let n = c.in_ok-trimmed.trimmed in
+    let r = c.in_ok-trimmed.remap in
+    let marked = subst (λ (l : List NumberedClass). HaveMarked (flat_map class_uses l) c.in_ok-marks.marks) c.deref.ensures.value c.in_ok-marks.ensures.marked in
+    let led = all_lead m cs c.requires (λ class known. c.uses_law.ensures.uses m class c.is_numbering.ensures.rising known) c.in_ok-marks.marks marked r c.in_ok-trimmed.ensures.marked in
+    trimmed_same m n r cs c.cut_all.new.classes.items (λ class leads known. c.renumbering_law.ensures.same m n r class c.in_ok-trimmed.ensures.map leads known) led c.requires c.cut_all.ensures

@@ -1,46 +1,81 @@
-use Rattle.std.proofs.Common.{◌≡◌, ◌<◌, ℕ, List, suc, sym, ◌∙◌, subst, arith, length, ◌++◌, ◌∷◌, []}
-use Rattle.std.specs.Prelude.{All, Option, option_to_list}
-use Rattle.dexclass.specs.Marking.{AreMarked, type_numbers}
-use Rattle.dexclass.specs.Numbered.{NumberedClass}
-use Rattle.dexclass.proofs.Judged.{all_left, all_right}
-use Rattle.dexclass.proofs.Marked.{marked_three}
+use Rattle.std.proofs.Common.{◌∷◌, [], ◌++◌, ℕ, List, map, option_to_list, ap, sym, ◌∙◌, subst}
+use Rattle.std.specs.List.{All}
+use Rattle.std.proofs.lemmas.List.Elements.{All-head}
+use Rattle.dexpool.specs.Uses.{HasMark, AreMarkedToo}
+use Rattle.dexmembers.specs.Uses.{members_uses}
+use Rattle.dexclass.specs.Uses.{type_use, text_use, class_uses}
+use Rattle.dexclass.proofs.Marked.{all_front, marked_both, rest_marked}
+use Rattle.dexclass.proofs.OwnUses.{parts_are}
 use Rattle.dexclass.proofs.classes.Class.mark.Goals as goal
 
--- the numbers behind the first
-others : (P : ℕ → Type 0) (c : NumberedClass) → All P (type_numbers c) → All P (option_to_list c.superclass ++ c.interfaces)
-others P c h k d lt = h (suc k) d (omega (arith, lt))
+pub mark-requires : goal.mark-requires
+mark-requires c =
+    let s = c.self.inside in
+    let parents = map type_use (option_to_list s.superclass) in
+    let interfaces = map type_use s.interfaces.items in
+    let others = map text_use (option_to_list s.source) ++ members_uses s.members in
+    let all = subst (All (HasMark c.args.marks.now)) (sym (parts_are s.name s.superclass s.interfaces.items others)) (subst (λ x. All (HasMark c.args.marks.now) (class_uses x)) (sym c.self.view_is) c.requires) in
+    All-head (HasMark c.args.marks.now) (type_use s.name) (parents ++ (interfaces ++ others)) all
 
-below : (n m : ℕ) (xs : List ℕ) → n ≡ m → All (λ i. i < n) xs → All (λ i. i < m) xs
-below n m xs e h k d lt = omega (arith, e, h k d lt)
+pub mark_optional_type-requires : goal.mark_optional_type-requires
+mark_optional_type-requires c =
+    let s = c.self.inside in
+    let parents = map type_use (option_to_list s.superclass) in
+    let interfaces = map type_use s.interfaces.items in
+    let others = map text_use (option_to_list s.source) ++ members_uses s.members in
+    let all = subst (All (HasMark c.args.marks.now)) (sym (parts_are s.name s.superclass s.interfaces.items others)) (subst (λ x. All (HasMark c.args.marks.now) (class_uses x)) (sym c.self.view_is) c.requires) in
+    let all-1 = rest_marked (type_use s.name ∷ []) (parents ++ (interfaces ++ others)) c.args.marks.now c.mark.new.self c.mark.ensures all in
+    all_front (HasMark c.mark.new.self) parents (interfaces ++ others) all-1
 
-pub mark_optional-requires : goal.mark_optional-requires
-mark_optional-requires c =
-    let class = c.args.self.now in
-    let n = length c.requires.0.types in
-    subst (λ (o : Option ℕ). All (λ i. i < length c.mark_one.new.marks.items) (option_to_list o)) (sym c.superclass.ensures)
-    (below n _ _ (sym (c.mark_one.ensures.count ∙ c.requires.1.types_count)) (all_left (λ i. i < n) (option_to_list class.superclass) class.interfaces (others (λ i. i < n) class c.requires.2.types_in)))
+pub mark_types-requires : goal.mark_types-requires
+mark_types-requires c =
+    let s = c.self.inside in
+    let parents = map type_use (option_to_list s.superclass) in
+    let interfaces = map type_use s.interfaces.items in
+    let others = map text_use (option_to_list s.source) ++ members_uses s.members in
+    let all = subst (All (HasMark c.args.marks.now)) (sym (parts_are s.name s.superclass s.interfaces.items others)) (subst (λ x. All (HasMark c.args.marks.now) (class_uses x)) (sym c.self.view_is) c.requires) in
+    let all-1 = rest_marked (type_use s.name ∷ []) (parents ++ (interfaces ++ others)) c.args.marks.now c.mark.new.self c.mark.ensures all in
+    let all-2 = rest_marked parents (interfaces ++ others) c.mark.new.self c.mark_optional_type.new.marks c.mark_optional_type.ensures all-1 in
+    subst (λ (l : List ℕ). All (HasMark c.mark_optional_type.new.marks) (map type_use l)) (sym c.deref.ensures.value) (all_front (HasMark c.mark_optional_type.new.marks) interfaces others all-2)
 
-pub mark_all-requires : goal.mark_all-requires
-mark_all-requires c =
-    let class = c.args.self.now in
-    let n = length c.requires.0.types in
-    subst (λ (l : List ℕ). All (λ i. i < length c.mark_optional.new.marks.items) l) (sym c.interfaces.ensures)
-    (below n _ _ (sym (c.mark_optional.ensures.count ∙ c.mark_one.ensures.count ∙ c.requires.1.types_count)) (all_right (λ i. i < n) (option_to_list class.superclass) class.interfaces (others (λ i. i < n) class c.requires.2.types_in)))
+pub mark_optional_text-requires : goal.mark_optional_text-requires
+mark_optional_text-requires c =
+    let s = c.self.inside in
+    let parents = map type_use (option_to_list s.superclass) in
+    let interfaces = map type_use s.interfaces.items in
+    let source = map text_use (option_to_list s.source) in
+    let others = source ++ members_uses s.members in
+    let all = subst (All (HasMark c.args.marks.now)) (sym (parts_are s.name s.superclass s.interfaces.items others)) (subst (λ x. All (HasMark c.args.marks.now) (class_uses x)) (sym c.self.view_is) c.requires) in
+    let all-1 = rest_marked (type_use s.name ∷ []) (parents ++ (interfaces ++ others)) c.args.marks.now c.mark.new.self c.mark.ensures all in
+    let all-2 = rest_marked parents (interfaces ++ others) c.mark.new.self c.mark_optional_type.new.marks c.mark_optional_type.ensures all-1 in
+    let third = subst (λ (l : List ℕ). AreMarkedToo (map type_use l) c.mark_optional_type.new.marks c.mark_types.new.marks) c.deref.ensures.value c.mark_types.ensures in
+    let all-3 = rest_marked interfaces others c.mark_optional_type.new.marks c.mark_types.new.marks third all-2 in
+    all_front (HasMark c.mark_types.new.marks) source (members_uses s.members) all-3
 
-pub returns-clause-marked : goal.returns-clause-marked
-returns-clause-marked c = λ types texts h.
-    let class = c.args.self.now in
-    record {
-      types_marked =
-          let one = c.mark_one.ensures.marked types h.types_marked in
-          let two = c.mark_optional.ensures.marked _ one in
-          let three = c.mark_all.ensures.marked _ two in
-          marked_three c.mark_all.new.marks.items types (option_to_list class.superclass) class.interfaces class.name
-          (subst (λ (l : List ℕ). AreMarked c.mark_all.new.marks.items (((types ++ class.name ∷ []) ++ option_to_list class.superclass) ++ l)) c.interfaces.ensures
-          (subst (λ (o : Option ℕ). AreMarked c.mark_all.new.marks.items (((types ++ class.name ∷ []) ++ option_to_list o) ++ c.interfaces.result.now)) c.superclass.ensures
-          (subst (λ (i : ℕ). AreMarked c.mark_all.new.marks.items (((types ++ i ∷ []) ++ option_to_list c.superclass.result) ++ c.interfaces.result.now)) c.name.ensures three)));
-      texts_marked = subst (λ (o : Option ℕ). AreMarked c.mark_optional-2.new.marks.items (texts ++ option_to_list o)) c.source.ensures (c.mark_optional-2.ensures.marked texts h.texts_marked);
-      protos_marked = h.protos_marked;
-      fields_marked = h.fields_marked;
-      methods_marked = h.methods_marked;
-    }
+pub mark-requires-2 : goal.mark-requires-2
+mark-requires-2 c =
+    let s = c.self.inside in
+    let parents = map type_use (option_to_list s.superclass) in
+    let interfaces = map type_use s.interfaces.items in
+    let source = map text_use (option_to_list s.source) in
+    let others = source ++ members_uses s.members in
+    let all = subst (All (HasMark c.args.marks.now)) (sym (parts_are s.name s.superclass s.interfaces.items others)) (subst (λ x. All (HasMark c.args.marks.now) (class_uses x)) (sym c.self.view_is) c.requires) in
+    let all-1 = rest_marked (type_use s.name ∷ []) (parents ++ (interfaces ++ others)) c.args.marks.now c.mark.new.self c.mark.ensures all in
+    let all-2 = rest_marked parents (interfaces ++ others) c.mark.new.self c.mark_optional_type.new.marks c.mark_optional_type.ensures all-1 in
+    let third = subst (λ (l : List ℕ). AreMarkedToo (map type_use l) c.mark_optional_type.new.marks c.mark_types.new.marks) c.deref.ensures.value c.mark_types.ensures in
+    let all-3 = rest_marked interfaces others c.mark_optional_type.new.marks c.mark_types.new.marks third all-2 in
+    rest_marked source (members_uses s.members) c.mark_types.new.marks c.mark_optional_text.new.marks c.mark_optional_text.ensures all-3
+
+pub returns : goal.returns
+returns c =
+    let s = c.self.inside in
+    let parents = map type_use (option_to_list s.superclass) in
+    let interfaces = map type_use s.interfaces.items in
+    let source = map text_use (option_to_list s.source) in
+    let others = source ++ members_uses s.members in
+    let third = subst (λ (l : List ℕ). AreMarkedToo (map type_use l) c.mark_optional_type.new.marks c.mark_types.new.marks) c.deref.ensures.value c.mark_types.ensures in
+    let behind-3 = marked_both source (members_uses s.members) c.mark_types.new.marks c.mark_optional_text.new.marks c.mark-2.new.marks c.mark_optional_text.ensures c.mark-2.ensures in
+    let behind-2 = marked_both interfaces others c.mark_optional_type.new.marks c.mark_types.new.marks c.mark-2.new.marks third behind-3 in
+    let behind-1 = marked_both parents (interfaces ++ others) c.mark.new.self c.mark_optional_type.new.marks c.mark-2.new.marks c.mark_optional_type.ensures behind-2 in
+    let behind-0 = marked_both (type_use s.name ∷ []) (parents ++ (interfaces ++ others)) c.args.marks.now c.mark.new.self c.mark-2.new.marks c.mark.ensures behind-1 in
+    subst (λ us. AreMarkedToo us c.args.marks.now c.mark-2.new.marks) (parts_are s.name s.superclass s.interfaces.items others ∙ ap class_uses c.self.view_is) behind-0

@@ -1,24 +1,49 @@
--- The numbers of a plain class row stand for the definition that the row is.
-use Rattle.std.proofs.Common.{◌≡◌, ℕ, ◌<◌, Bool, true, false, List, [], ◌∷◌, refl, sym, ap, ◌∙◌, subst, inl, inr}
+-- The numbers of a class row stand for the definition that the row is.
+use Rattle.std.proofs.Common.{◌≡◌, ℕ, ◌+◌, ◌*◌, ◌<◌, Bool, true, false, List, [], ◌∷◌, ◌++◌, length, refl, sym, ap, ◌∙◌, subst, arith, inl, inr, sum_by}
 use Rattle.std.specs.Prelude.{◌==◌, if◌then◌else◌, map, Option, Some, None}
 use Rattle.std.specs.Option.{option_map}
 use Rattle.std.specs.List.{AllZip}
 use Rattle.std.proofs.lemmas.Bool.{eqb-true, false≢true}
+use Rattle.std.proofs.lemmas.List.{length-map}
 use Rattle.dexspec.specs.Lists.{OrNone}
 use Rattle.dexspec.specs.Texts.{Text}
 use Rattle.dexspec.specs.Header.{ClassDefs, table_size}
 use Rattle.dexspec.specs.Rows.{StringRow, TypeRow, type_indices}
-use Rattle.dexspec.specs.Annotations.{no_directory}
-use Rattle.dexspec.specs.ClassData.{no_class_data}
-use Rattle.dexspec.specs.Classes.{ClassRow, ClassTypeRow, ClassListAt, IndexOrNone, class_idx, superclass_idx, interfaces_off, source_file_idx, no_index}
+use Rattle.dexspec.specs.Classes.{Body, ClassRow, ClassTypeRow, ClassListAt, IndexOrNone, class_idx, access_flags, superclass_idx, interfaces_off, source_file_idx, no_index}
 use Rattle.dexspec.specs.Mentions.{Mentions}
+use Rattle.dexspec.specs.Weight.{set_weight, field_weight, method_weight, static_values_weight, body_weight}
 use Rattle.dexspec.specs.Accepted.{HasClass}
-use Rattle.dexspec.specs.Plain.{IsPlainRow}
 use Rattle.dexspec.proofs.OneRow.{one_string, one_type}
 use Rattle.dexpool.specs.Pools.{ArePools}
+use Rattle.dexmembers.specs.Numbered.{Members}
+use Rattle.dexmembers.specs.Weight.{members_weight}
+use Rattle.dexmembers.specs.Reading.{MembersRow}
 use Rattle.dexclass.specs.Rows.{interface_indices}
-use Rattle.dexclass.specs.Numbered.{text_at, type_at, definition_of, class_of_row}
+use Rattle.dexclass.specs.Numbered.{text_at, type_at, number_of}
 use Rattle.dexclass.proofs.Interfaces.{listed_interfaces}
+
+-- the body of a row that declares this
+abbrev pub row_body : List ℕ → Mentions → ℕ → Members → Body
+row_body b m r z = record {
+  flags = access_flags b r;
+  superclass = option_map (type_at m) (number_of (superclass_idx b r));
+  interfaces = map (type_at m) (interface_indices b (interfaces_off b r));
+  source = option_map (text_at m) (number_of (source_file_idx b r));
+  annotations = z.annotations;
+  static_fields = z.static_fields;
+  instance_fields = z.instance_fields;
+  direct_methods = z.direct_methods;
+  virtual_methods = z.virtual_methods;
+  static_values = z.static_values;
+}
+
+-- what it weighs
+pub row_weight : (b : List ℕ) (m : Mentions) (r : ℕ) (z : Members) → body_weight (row_body b m r z) ≡ 96 + 2 * length (interface_indices b (interfaces_off b r)) + members_weight z
+row_weight b m r z =
+    let is = interface_indices b (interfaces_off b r) in
+    let parts : body_weight (row_body b m r z)
+    ≡ 96 + 2 * length (map (type_at m) is) + set_weight z.annotations + sum_by field_weight (z.static_fields ++ z.instance_fields) + sum_by method_weight (z.direct_methods ++ z.virtual_methods) + static_values_weight z.static_values = refl in
+    omega (arith, parts, length-map is (type_at m))
 
 module _ (b : List ℕ) (m : Mentions) (pools : ArePools b m) where
   -- a type row is that of its number
@@ -49,23 +74,27 @@ module _ (b : List ℕ) (m : Mentions) (pools : ArePools b m) where
       let e : ts ≡ map (type_at m) (interface_indices b o) = listed_is (type_indices b o) ts list.1.list.types ∙ ap (map (type_at m)) (sym (listed_interfaces b o list.0)) in
       inr (list.0, subst (ClassListAt b o) e list.1)
 
-  -- the row is the definition of its numbers
-  pub row_stands : (r : ℕ) → r < table_size b ClassDefs → HasClass b r → IsPlainRow b r → ClassRow b r (definition_of m (class_of_row b r)).0 (definition_of m (class_of_row b r)).1
-  row_stands r lt h plain = record {
+  -- the row's name is the type of its number
+  pub row_name : (r : ℕ) → HasClass b r → ClassTypeRow b (class_idx b r) (type_at m (class_idx b r))
+  row_name r h = subst (ClassTypeRow b (class_idx b r)) (type_is (class_idx b r) h.name h.is.row) h.is
+
+  -- the row is this definition
+  pub row_stands : (r : ℕ) (z : Members) → r < table_size b ClassDefs → HasClass b r → MembersRow b r z → ClassRow b r (type_at m (class_idx b r)) (row_body b m r z)
+  row_stands r z lt h y = record {
     row = lt;
-    class = subst (ClassTypeRow b (class_idx b r)) (type_is (class_idx b r) h.name h.is.row) h.is;
+    class = row_name r h;
     flags = refl;
     superclass = optional_stands ClassTypeRow (type_at m) (λ i t row. type_is i t row.row) (superclass_idx b r) (superclass_idx b r == no_index) refl h.superclass.0 h.superclass.1;
     interfaces = interfaces_stand (interfaces_off b r) h.interfaces.0 h.interfaces.1;
     source = optional_stands StringRow (text_at m) text_is (source_file_idx b r) (source_file_idx b r == no_index) refl h.source.0 h.source.1;
-    directory = no_directory;
-    directory_is = inl (plain.annotations, refl);
-    members = no_class_data;
-    members_are = inl (plain.class_data, refl);
-    annotations = refl;
-    static_fields = refl;
-    instance_fields = refl;
-    direct_methods = tt;
-    virtual_methods = tt;
-    static_values = inl (plain.static_values, refl);
+    directory = y.directory;
+    directory_is = y.directory_is;
+    members = y.declared;
+    members_are = y.declared_is;
+    annotations = y.annotations;
+    static_fields = y.static_fields;
+    instance_fields = y.instance_fields;
+    direct_methods = y.direct_methods;
+    virtual_methods = y.virtual_methods;
+    static_values = y.static_values;
   }

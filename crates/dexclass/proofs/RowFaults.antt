@@ -1,0 +1,105 @@
+-- The faults of class rows as they are read.
+use Rattle.std.proofs.Common.{◌≡◌, ℕ, zero, suc, ◌+◌, ◌*◌, ◌-◌, ◌<◌, ◌≤◌, List, [], ◌∷◌, length, map, refl, ap, subst, arith, inl, inr}
+use Rattle.dexspec.specs.Header.{ClassDefs, table_size}
+use Rattle.dexspec.specs.Classes.{Definition, class_idx, interfaces_off}
+use Rattle.dexspec.specs.Mentions.{Mentions, mentions}
+use Rattle.dexspec.specs.Weight.{weight, mentions_weight, most_weight}
+use Rattle.dexspec.specs.Conditions.{Condition, number}
+use Rattle.dexspec.specs.Accepted.{HasClass, HoldBelow, AreRows, FailsAt, place, rows_judged, IsRefused}
+use Rattle.dexspec.proofs.Denoted.{AreReadable}
+use Rattle.dexhead.specs.declared.refusal.Refusal.{Refusal}
+use Rattle.dexpool.specs.Pools.{ArePools}
+use Rattle.dexpool.specs.declared.faults.ItemFault.TheVariants as items
+use Rattle.dexpool.specs.declared.faults.ReadFault.{ReadFault}
+use Rattle.dexpool.specs.declared.faults.ReadFault.TheVariants.{Refused, Memory}
+use Rattle.dexmembers.specs.Reading.{AreHeavyMembers, IsMembersFault}
+use Rattle.dexclass.specs.Rows.{IsClassFault, interface_indices}
+use Rattle.dexclass.specs.Numbered.{type_at, definition_of}
+use Rattle.dexclass.specs.Programs.{IsFaultOf}
+use Rattle.dexclass.specs.Reading.{bodies_weight, AreBodies, AreHeavyTogether}
+use Rattle.dexclass.specs.declared.reading.Bodies.{Bodies}
+use Rattle.dexclass.proofs.RowClasses.{row_body, row_weight, row_stands}
+use Rattle.dexclass.proofs.RowsBelow.{weight_is, too_heavy, heavy_row}
+
+-- condition 16
+pub class_fault : (b : List ℕ) (f : ReadFault) → IsClassFault b f → IsFaultOf b f
+class_fault b Memory h = tt
+class_fault b (Refused r) h = (Condition.Classes, r.place, h.0, refl, inl (omega (arith, h.0), h.1))
+
+-- ---- conditions 17 to 22
+
+-- they are judged at class rows, and their rows are told
+late_row : (b : List ℕ) (r : ℕ) (c : Condition) → 17 ≤ number c → (rows_judged c b ≡ table_size b ClassDefs) × (r ≡ place c b r)
+late_row b r Condition.Size late = absurd (omega (arith, late))
+late_row b r Condition.Magic late = absurd (omega (arith, late))
+late_row b r Condition.Version late = absurd (omega (arith, late))
+late_row b r Condition.Lengths late = absurd (omega (arith, late))
+late_row b r Condition.Endian late = absurd (omega (arith, late))
+late_row b r Condition.Link late = absurd (omega (arith, late))
+late_row b r Condition.Checksum late = absurd (omega (arith, late))
+late_row b r Condition.Signature late = absurd (omega (arith, late))
+late_row b r Condition.Layout late = absurd (omega (arith, late))
+late_row b r Condition.Map late = absurd (omega (arith, late))
+late_row b r Condition.Strings late = absurd (omega (arith, late))
+late_row b r Condition.Types late = absurd (omega (arith, late))
+late_row b r Condition.Protos late = absurd (omega (arith, late))
+late_row b r Condition.Fields late = absurd (omega (arith, late))
+late_row b r Condition.Methods late = absurd (omega (arith, late))
+late_row b r Condition.Classes late = absurd (omega (arith, late))
+late_row b r Condition.Members late = (refl, refl)
+late_row b r Condition.Code late = (refl, refl)
+late_row b r Condition.Tries late = (refl, refl)
+late_row b r Condition.Debug late = (refl, refl)
+late_row b r Condition.Values late = (refl, refl)
+late_row b r Condition.Annotations late = (refl, refl)
+late_row b r Condition.Weight late = (refl, refl)
+
+-- a number of an item's fault is refused at the row
+pub item_refused : (b : List ℕ) (r n : ℕ) → HoldBelow 17 b → r < table_size b ClassDefs → IsMembersFault b r (items.Refused n) → IsRefused b n r
+item_refused b r n h lt fault =
+    let late : 17 ≤ number fault.0 = omega (arith, fault.1, fault.2) in
+    let at = late_row b r fault.0 late in
+    (fault.0, r, fault.1, at.1, inr (record { before = h; late = late; row = omega (arith, lt, at.0); fails = fault.4 }))
+
+-- ---- condition 23
+
+-- a row where it fails
+pub heavy_refused : (b : List ℕ) (r : ℕ) → FailsAt Condition.Weight b r → IsRefused b 23 r
+heavy_refused b r h = (Condition.Weight, r, refl, refl, inr h)
+
+module _ (b : List ℕ) (m : Mentions) (pools : ArePools b m) (h : HoldBelow 17 b) (r : ℕ) (bodies : Bodies) (before : AreBodies b m r bodies) (lt : r < table_size b ClassDefs) where
+  has_class : HasClass b r
+  has_class = h Condition.Classes (omega arith) r lt
+
+  -- what the row declares weighs more than is left
+  pub members_heavy : (most : ℕ) → most ≡ most_weight - bodies.weight - (96 + 2 * length (interface_indices b (interfaces_off b r))) → AreHeavyMembers b r most → IsRefused b 23 r
+  members_heavy most left heavy =
+      let D = map (definition_of m) bodies.classes.items in
+      let d : Definition = (type_at m (class_idx b r), row_body b m r heavy.members) in
+      heavy_refused b r (heavy_row b h r D d lt before.readable before.rows heavy.readable (row_stands b m pools r heavy.members lt has_class heavy.row)
+      (omega (arith, left, heavy.heavy, row_weight b m r heavy.members, before.weight_is)))
+
+-- nothing weighs little
+nothing_light : weight [] ≤ most_weight
+unfolding weight mentions
+nothing_light = omega arith
+
+-- what weighs too much is of some row
+some_rows : (b : List ℕ) (n : ℕ) (D : List Definition) → AreRows b n D → most_weight < weight D → 0 < n
+some_rows b zero [] rows heavy = absurd (omega (arith, heavy, nothing_light))
+some_rows b zero (d ∷ D) rows heavy = absurd rows
+some_rows b (suc n) D rows heavy = omega arith
+
+-- symbols and classes weigh too much together
+pub together_fault : (b : List ℕ) → HoldBelow 17 b → (D : List Definition) → AreReadable b → AreRows b (table_size b ClassDefs) D → (n : Mentions) (bodies : ℕ) (r : Refusal) → n ≡ mentions D → bodies ≡ bodies_weight D
+    → AreHeavyTogether b n bodies r → IsFaultOf b (Refused r)
+together_fault b h D readable rows n bodies r is sum heavy =
+    let more : most_weight < weight D = omega (arith, heavy.heavy, ap mentions_weight is, sum, weight_is D) in
+    let some = some_rows b (table_size b ClassDefs) D rows more in
+    let last : table_size b ClassDefs ≡ r.place + 1 = omega (arith, some, heavy.last) in (
+      Condition.Weight,
+      r.place,
+      heavy.number_is,
+      refl,
+      inr (too_heavy b h r.place D (omega (arith, last)) (λ k le. readable k (omega (arith, last, le))) (subst (λ (k : ℕ). AreRows b k D) last rows) more),
+    )

@@ -1,0 +1,112 @@
+-- Classes without their debug programs and source texts make the stripped program.
+use Rattle.std.proofs.Common.{◌≡◌, ℕ, ◌<◌, List, [], ◌∷◌, length, get_or, map, sym, ap, ◌∙◌, subst, arith, inl, inr}
+use Rattle.std.specs.Prelude.{All}
+use Rattle.std.specs.List.{Contains}
+use Rattle.std.proofs.lemmas.Bool.{cases_order}
+use Rattle.std.proofs.lemmas.List.{length-map, get_or-map}
+use Rattle.std.proofs.lemmas.List.Elements.{All-nil, All-map}
+use Rattle.dexspec.specs.Classes.{Definition}
+use Rattle.dexspec.specs.Files.{Collection, definitions, IsCollectionOf}
+use Rattle.dexspec.specs.Mentions.{Mentions, mentions}
+use Rattle.dexspec.specs.Depth.{in_class_order}
+use Rattle.dexspec.specs.WellFormed.{AreWellFormed}
+use Rattle.dexspec.specs.Merging.{Caps, IsGood, greatest_caps}
+use Rattle.dexspec.specs.Stripping.{strip_definition, strip, strip_collection}
+use Rattle.dexspec.proofs.Absorption.{IsGood-within}
+use Rattle.dexspec.proofs.ClassOrder.{definitions-distinct}
+use Rattle.dexspec.proofs.ClassPlaces.{in_class_order-only, in_class_order-has, class_names-apart}
+use Rattle.dexspec.proofs.Collections.{definitions-are, collection-one}
+use Rattle.dexmembers.specs.Numbered.{members_in, AreKnownMembers, AreOrdered, AreOfClass}
+use Rattle.dexmembers.specs.Stripped.{stripped_members, strip_members}
+use Rattle.dexclass.specs.Numbered.{NumberedClass, type_at, definition_of}
+use Rattle.dexclass.specs.Uses.{IsKnownClass}
+use Rattle.dexclass.specs.Programs.{AreClassesOf, AreMergeable}
+use Rattle.dexclass.specs.Stripped.{stripped_class}
+use Rattle.dexclass.proofs.Mergeable.{AreTrimmed, trimmed_mergeable}
+
+-- ---- a class
+
+-- it stands for the stripped definition
+pub class_stripped : (m : Mentions) (c : NumberedClass) → members_in m (stripped_members c.members) ≡ strip_members (members_in m c.members) → definition_of m (stripped_class c) ≡ strip_definition (definition_of m c)
+class_stripped m c e = λ i. (
+  type_at m c.name,
+  record (definition_of m (stripped_class c)).1 {
+    annotations = (e i).annotations;
+    static_fields = (e i).static_fields;
+    instance_fields = (e i).instance_fields;
+    direct_methods = (e i).direct_methods;
+    virtual_methods = (e i).virtual_methods;
+    static_values = (e i).static_values;
+  },
+)
+
+-- its numbers are those of symbols
+pub class_known : (m : Mentions) (c : NumberedClass) → IsKnownClass m c → AreKnownMembers m (stripped_members c.members) → AreOrdered (stripped_members c.members) → AreOfClass m (type_at m c.name) (stripped_members c.members) → IsKnownClass m (stripped_class c)
+class_known m c h known ordered own = record {
+  types_in = h.types_in;
+  texts_in = All-nil (λ i. i < length m.texts);
+  members_known = known;
+  members_ordered = ordered;
+  members_own = own;
+}
+
+-- ---- classes
+
+-- what is the same of each is so of all
+map_same : {X Y : Type 0} (f : X → Y) (g : X → X) (h : Y → Y) → ((x : X) → f (g x) ≡ h (f x)) → (xs : List X) → map f (map g xs) ≡ map h (map f xs)
+map_same f g h each [] = λ i. []
+map_same f g h each (x ∷ xs) = λ i. each x i ∷ map_same f g h each xs i
+
+-- they are known
+pub all_known : (m : Mentions) (cs : List NumberedClass) → ((c : NumberedClass) → IsKnownClass m c → IsKnownClass m (stripped_class c)) → All (IsKnownClass m) cs → (old : List NumberedClass) → old ≡ map stripped_class cs → All (IsKnownClass m) old
+all_known m cs each known old e = subst (All (IsKnownClass m)) (sym e) (All-map (IsKnownClass m) stripped_class cs (λ k d lt. each (get_or cs k d) (known k d lt)))
+
+-- they stand for the stripped definitions
+pub all_stripped : (K : Collection) (cs : List NumberedClass) → AreClassesOf K cs → ((m : Mentions) (c : NumberedClass) → definition_of m (stripped_class c) ≡ strip_definition (definition_of m c)) → (old : List NumberedClass) → old ≡ map stripped_class cs
+    → map (definition_of (mentions (definitions K))) old ≡ strip (in_class_order (definitions K))
+all_stripped K cs of each old e =
+    let m = mentions (definitions K) in
+    ap (map (definition_of m)) e ∙ map_same (definition_of m) stripped_class strip_definition (each m) cs ∙ ap strip of.are
+
+-- ---- programs
+
+-- no two stripped definitions have one name
+one_name : (E : List Definition) → ((i j : ℕ) (d : Definition) → i < j → j < length E → (get_or E i d).0 ≡ (get_or E j d).0 → ⊥) → (i j : ℕ) (d : Definition) → i < length (strip E) → j < length (strip E) → (get_or (strip E) i d).0 ≡ (get_or (strip E) j d).0 → i ≡ j
+one_name E apart i j d li lj e =
+    let few = length-map E strip_definition in
+    let at : (k : ℕ) → k < length E → (get_or (strip E) k d).0 ≡ (get_or E k d).0 = λ k lt. ap (λ (x : Definition). x.0) (get_or-map strip_definition E k d d lt) in
+    let same : (get_or E i d).0 ≡ (get_or E j d).0 = sym (at i (omega (arith, li, few))) ∙ e ∙ at j (omega (arith, lj, few)) in
+    elim (cases_order i j) [
+      | inl is ↦ is
+      | inr other ↦ elim other [
+        | inl less ↦ absurd (apart i j d less (omega (arith, lj, few)) same)
+        | inr more ↦ absurd (apart j i d more (omega (arith, li, few)) (sym same))
+      ]
+    ]
+
+-- what is good stays so
+pub stays_good : (K : Collection) → definitions (strip_collection K) ≡ strip (definitions K) → ((caps : Caps) (D : List Definition) → IsGood caps D → IsGood caps (strip D)) → (caps : Caps) → IsGood caps (definitions K) → IsGood caps (definitions (strip_collection K))
+stays_good K is stays caps good = subst (IsGood caps) (sym is) (stays caps (definitions K) good)
+
+module _ (K : Collection) where
+  abbrev E : List Definition
+  E = in_class_order (definitions K)
+
+  -- the order has the members of the collection
+  order_within : (d : Definition) → Contains E d → Contains (definitions K) d
+  order_within d c = in_class_order-only (definitions K) d c
+
+  -- and no other collection has
+  order_of : IsCollectionOf E K
+  order_of name c =
+      let is = definitions-are K name c in
+      (λ member. in_class_order-has (definitions K) (name, c) (definitions-distinct K) (is.0 member), λ has. is.1 (order_within (name, c) has))
+
+  -- trimmed, they can be merged
+  pub stripped_mergeable : (n : Mentions) (cs : List NumberedClass) → AreTrimmed (strip E) n cs → IsGood greatest_caps (definitions K) → AreWellFormed (definitions K) → (IsGood greatest_caps E → IsGood greatest_caps (strip E)) → (AreWellFormed E → AreWellFormed (strip E)) → AreMergeable n cs
+  stripped_mergeable n cs trimmed good formed stays stay =
+      trimmed_mergeable (strip E) n cs trimmed (one_name E (class_names-apart (definitions K))) (stays (IsGood-within E (definitions K) order_within greatest_caps good)) (stay (λ d c. formed d (order_within d c)))
+
+  -- and their program is the stripped one
+  pub stripped_collection : (n : Mentions) (cs : List NumberedClass) → AreTrimmed (strip E) n cs → (IsCollectionOf E K → IsCollectionOf (strip E) (strip_collection K)) → (L : Collection) → IsCollectionOf (map (definition_of n) cs) L → L ≡ strip_collection K
+  stripped_collection n cs trimmed listed L is = collection-one (strip E) L (strip_collection K) (subst (λ (D : List Definition). IsCollectionOf D L) trimmed.same is) (listed order_of)

@@ -1,5 +1,0 @@
-use Rattle.dexclass.proofs.Marked.{marked_one}
-use Rattle.dexclass.proofs.marking.mark_one.Goals as goal
-
-pub returns-clause-marked : goal.returns-clause-marked
-returns-clause-marked c = λ numbers h. marked_one c.args.marks.now.items numbers c.args.i c.requires h

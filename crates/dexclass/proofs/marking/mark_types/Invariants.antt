@@ -1,0 +1,7 @@
+use Rattle.std.proofs.Common.{map, take}
+use Rattle.dexpool.specs.Uses.{AreMarkedToo}
+use Rattle.dexclass.specs.Uses.{type_use}
+use Rattle.dexclass.proofs.marking.mark_types.Given as goal
+
+abbrev pub invariant-loop-typ : goal.invariant-loop-typ
+invariant-loop-typ l = AreMarkedToo (map type_use (take l.typ-index l.types)) l.initial.marks l.marks

@@ -1,0 +1,35 @@
+-- The class rows of a file, read one after the other.
+use Rattle.std.specs.Prelude.{◌≡◌, ℕ, ◌+◌, ◌-◌, ◌<◌, ◌≤◌, List, map, All, sum_by}
+use Rattle.dexspec.specs.Header.{ClassDefs, table_size}
+use Rattle.dexspec.specs.Classes.{Definition}
+use Rattle.dexspec.specs.Mentions.{Mentions}
+use Rattle.dexspec.specs.Accepted.{IsReadable, AreRows}
+use Rattle.dexspec.specs.Weight.{mentions_weight, body_weight, most_weight}
+use Rattle.dexhead.specs.declared.refusal.Refusal.{Refusal}
+use Rattle.dexclass.specs.Numbered.{definition_of}
+use Rattle.dexclass.specs.Uses.{IsKnownClass}
+use Rattle.dexclass.specs.declared.reading.Bodies.{Bodies}
+
+-- what definitions weigh without the symbols that they mention
+abbrev pub bodies_weight : List Definition → ℕ
+bodies_weight D = sum_by (λ d. body_weight d.1) D
+
+-- The rows before row n are readable, and are the definitions of the classes, whose numbers are those of symbols. They weigh
+-- as is told, and no more than they may.
+pub record AreBodies (b : List ℕ) (m : Mentions) (n : ℕ) (bodies : Bodies) : Type 0 where
+  pub readable : (k : ℕ) → k < n → IsReadable b k
+  pub known : All (IsKnownClass m) bodies.classes.items
+  pub rows : AreRows b n (map (definition_of m) bodies.classes.items)
+  pub weight_is : bodies.weight ≡ bodies_weight (map (definition_of m) bodies.classes.items)
+  pub light : bodies.weight ≤ most_weight
+
+-- what bodies that weigh so much weigh with the symbols, which is no more than it may be
+pub record IsWhole (m : Mentions) (bodies total : ℕ) : Type 0 where
+  pub weight_is : total ≡ 1024 + mentions_weight m + bodies
+  pub light : total ≤ most_weight
+
+-- the refusal tells the last row, where the symbols and the classes weigh too much together
+pub record AreHeavyTogether (b : List ℕ) (m : Mentions) (bodies : ℕ) (r : Refusal) : Type 0 where
+  pub number_is : r.number ≡ 23
+  pub last : r.place ≡ table_size b ClassDefs - 1
+  pub heavy : most_weight < 1024 + mentions_weight m + bodies

@@ -1,9 +1,9 @@
 -- One class of each name, class by class and part by part.
-use Rattle.std.proofs.Common.{◌≡◌, ◌≢◌, ℕ, zero, suc, ◌+◌, ◌<◌, Bool, true, false, List, [], ◌∷◌, ◌++◌, length, get_or, take, map, replicate, refl, sym, ap, ◌∙◌, subst, arith, inl, inr}
-use Rattle.std.specs.Prelude.{All, slice_set, slice_index_or}
+use Rattle.std.proofs.Common.{◌≡◌, ◌≢◌, ℕ, zero, suc, ◌+◌, ◌<◌, Bool, true, false, List, [], ◌∷◌, ◌++◌, length, get_or, take, drop, map, replicate, length-take, refl, sym, ap, ◌∙◌, subst, arith, inl, inr}
+use Rattle.std.specs.Prelude.{slice_set, slice_index_or}
 use Rattle.std.specs.List.{Contains, AllZip, flat_map}
 use Rattle.std.proofs.lemmas.Bool.{false≢true, cases_eq}
-use Rattle.std.proofs.lemmas.List.{append_assoc, append-nil, length-set, map-append, get_or-set_same, get_or-set_other, get_or-replicate, length-replicate, get_or_default}
+use Rattle.std.proofs.lemmas.List.{append_assoc, length-set, map-append, get_or-set_same, get_or-set_other, length-replicate, length-append, length-drop, get_or_default}
 use Rattle.std.proofs.lemmas.List.Elements.{All-nil, All-push, Contains-append_left, Contains-append_right, Contains-append_cases}
 use Rattle.std.proofs.lemmas.List.Quantifiers.{all_pairs_push}
 use Rattle.dexspec.specs.Lists.{AreDistinct}
@@ -19,22 +19,17 @@ use Rattle.dexspec.proofs.ClassOrder.{definitions-distinct}
 use Rattle.dexspec.proofs.ClassPlaces.{in_class_order-only, in_class_order-has, Contains-map_source}
 use Rattle.dexspec.proofs.Depths.{Contains-map}
 use Rattle.dexspec.proofs.Growth.{mentions-same}
-use Rattle.dexspec.proofs.Members.{Contains-nil, Contains-first, Contains-cons_cases, Contains-flat_map}
+use Rattle.dexspec.proofs.Members.{Contains-nil, Contains-first, Contains-later, Contains-cons_cases, Contains-flat_map}
 use Rattle.dexpool.specs.Numberings.{Maps}
 use Rattle.dexclass.specs.Numbered.{NumberedClass, type_at, definition_of}
 use Rattle.dexclass.specs.Uses.{IsKnownClass}
 use Rattle.dexclass.specs.Programs.{AreClassesOf, AreMergeable}
-use Rattle.dexclass.specs.Renumbering.{led, renumbered, StaysSame}
-use Rattle.dexmerge.specs.Gathering.{IsPartOf, AreGathered, IsAdded, AreOneOfEach}
+use Rattle.dexclass.specs.Renumbering.{led, renumbered, LeadInto, StaysSame}
+use Rattle.dexmerge.specs.Gathering.{IsPartOf, ArePartsOf, AreGathered, IsAdded, AreOneOfEach}
 use Rattle.dexmerge.specs.declared.gathering.Gathered.{Gathered}
 use Rattle.dexmerge.specs.Unions.{IsJudged}
 use Rattle.dexmerge.proofs.CapLaws.{good_greatest}
-use Rattle.dexmerge.proofs.PartMembers.{KeepMeaning, LeadClasses, lead_at}
-
--- what each member stands for itself
-pub map_same : {X : Type 0} (xs : List X) → map (λ x. x) xs ≡ xs
-map_same [] = refl
-map_same {X} (x ∷ xs) = ap (λ (l : List X). x ∷ l) (map_same xs)
+use Rattle.dexmerge.proofs.PartMembers.{KeepMeaning, LeadClasses, led_class, zip_at, parts_more}
 
 -- the names of classes
 abbrev pub names_of : List NumberedClass → List ℕ
@@ -157,7 +152,7 @@ module _ (keep : KeepMeaning) (leads : LeadClasses) (m : Mentions) (K : Collecti
 
   -- led on, a class of the part stands for the same
   part_stays : (c : NumberedClass) → IsKnownClass own c → StaysSame own m r c
-  part_stays c known = keep own m r c p.lead.lead (leads own r c p.lead.all known) known
+  part_stays c known = keep own m r c p.lead.lead (led_class leads K r c p.lead.all known) known
 
   -- it has a mark
   pub name_within : (c : NumberedClass) (marks : List Bool) → IsKnownClass own c → length marks ≡ length m.types → led r.types c.name < length marks
@@ -201,11 +196,14 @@ pub one_of_each : (m : Mentions) (D : List Definition) (cs : List NumberedClass)
 one_of_each m D cs marks consistent h = record {
   known = h.known;
   formed = h.formed;
-  same = λ d. (h.within d, λ has.
-      let x = h.names d has in
-      let there : Contains (map (definition_of m) cs) (definition_of m x.0) = Contains-map (definition_of m) cs x.0 x.1 in
-      let body : (definition_of m x.0).1 ≡ d.1 = consistent d.0 (definition_of m x.0).1 d.1 (subst (λ (n : Text). Contains D (n, (definition_of m x.0).1)) x.2 (h.within (definition_of m x.0) there)) has in
-      subst (Contains (map (definition_of m) cs)) (λ i. (x.2 i, body i)) there);
+  same = λ d. (
+    h.within d,
+    λ has.
+        let x = h.names d has in
+        let there : Contains (map (definition_of m) cs) (definition_of m x.0) = Contains-map (definition_of m) cs x.0 x.1 in
+        let body : (definition_of m x.0).1 ≡ d.1 = consistent d.0 (definition_of m x.0).1 d.1 (subst (λ (n : Text). Contains D (n, (definition_of m x.0).1)) x.2 (h.within (definition_of m x.0) there)) has in
+        subst (Contains (map (definition_of m) cs)) (λ i. (x.2 i, body i)) there,
+  );
   distinct = h.distinct;
 }
 
@@ -229,13 +227,55 @@ collection_is m D cs K h k name c = (λ e. (h.same (name, c)).0 ((k name c).0 e)
 pub judged_greatest : (caps : Caps) (parts : List Collection) (m : Mentions) (remaps : List Maps) → AreCaps caps → IsJudged caps parts m remaps → IsJudged greatest_caps parts m remaps
 judged_greatest caps parts m remaps are j = record { joined = j.joined; good = good_greatest caps (flat_map definitions parts) are j.good }
 
--- a part of the union
-pub is_part : (parts : List Collection) (m : Mentions) (remaps : List Maps) (i : ℕ) (K : Collection) (r : Maps) → IsJudged greatest_caps parts m remaps → i < length parts → K ≡ get_or parts i K → r ≡ get_or remaps i r → IsPartOf m K r
-is_part parts m remaps i K r j lt at to = record {
-  whole = flat_map definitions parts;
-  mentions_are = j.joined.mentions_are;
-  rising = j.joined.rising;
-  good = j.good;
-  within = λ d c. Contains-flat_map definitions parts K d (i, lt, sym at) c;
-  lead = lead_at m parts remaps i K r lt at to j.joined.lead;
-}
+-- the parts of a union
+pub parts_of : (whole parts : List Collection) (m : Mentions) (remaps : List Maps) → IsJudged greatest_caps whole m remaps → (given : List Maps) → ((K : Collection) → Contains parts K → Contains whole K) → length given ≡ length parts → AllZip (λ part remap. LeadInto (mentions (definitions part)) m remap) parts given → ArePartsOf m parts given
+parts_of whole parts m remaps j given within count lead = record { count = count; each = each_part parts given within lead }
+  where
+    each_part : (Ks : List Collection) (rs : List Maps) → ((K : Collection) → Contains Ks K → Contains whole K) → AllZip (λ part remap. LeadInto (mentions (definitions part)) m remap) Ks rs → AllZip (IsPartOf m) Ks rs
+    each_part [] [] in_whole h = tt
+    each_part [] (r ∷ rs) in_whole h = absurd h
+    each_part (K ∷ Ks) [] in_whole h = absurd h
+    each_part (K ∷ Ks) (r ∷ rs) in_whole h = (
+      record {
+        whole = flat_map definitions whole;
+        mentions_are = j.joined.mentions_are;
+        rising = j.joined.rising;
+        good = j.good;
+        within = λ d c. Contains-flat_map definitions whole K d (in_whole K (Contains-first K Ks)) c;
+        lead = h.0;
+      },
+      each_part Ks rs (λ L c. in_whole L (Contains-later K L Ks c)) h.1,
+    )
+
+-- a list that goes with two others goes with each, cut there
+zip_split : {A B : Type 0} (R : A → B → Type 0) (xs ys : List A) (zs : List B) → AllZip R (xs ++ ys) zs → AllZip R xs (take (length xs) zs) × AllZip R ys (drop (length xs) zs)
+zip_split R [] ys zs h = (tt, h)
+zip_split R (x ∷ xs) ys [] h = absurd h
+zip_split R (x ∷ xs) ys (z ∷ zs) h = let rest = zip_split R xs ys zs h.1 in ((h.0, rest.0), rest.1)
+
+module _ (owned files : List Collection) (m : Mentions) (remaps : List Maps) (j : IsJudged greatest_caps (owned ++ files) m remaps) where
+  halves : AllZip (λ part remap. LeadInto (mentions (definitions part)) m remap) owned (take (length owned) remaps) × AllZip (λ part remap. LeadInto (mentions (definitions part)) m remap) files (drop (length owned) remaps)
+  halves = zip_split (λ part remap. LeadInto (mentions (definitions part)) m remap) owned files remaps j.joined.lead
+
+  both : length remaps ≡ length owned + length files
+  both = j.joined.count ∙ length-append owned files
+
+  -- those that are owned
+  pub owned_parts : ArePartsOf m owned (take (length owned) remaps)
+  owned_parts = parts_of (owned ++ files) owned m remaps j (take (length owned) remaps) (λ K c. Contains-append_left owned files K c) (omega (arith, length-take (length owned) remaps, both)) halves.0
+
+  -- and those that are not
+  pub file_parts : ArePartsOf m files (drop (length owned) remaps)
+  file_parts = parts_of (owned ++ files) files m remaps j (drop (length owned) remaps) (λ K c. Contains-append_right owned files K c) (omega (arith, length-drop (length owned) remaps, both)) halves.1
+
+-- the part at a place
+pub part_is : (m : Mentions) (parts : List Collection) (remaps : List Maps) (i : ℕ) (K : Collection) (r : Maps) → ArePartsOf m parts remaps → i < length parts → K ≡ get_or parts i K → r ≡ get_or remaps i r → IsPartOf m K r
+part_is m parts remaps i K r h lt at to =
+    let there : IsPartOf m (get_or parts i K) (get_or remaps i r) = zip_at (IsPartOf m) parts remaps i K r h.each lt in
+    subst (λ (L : Collection). IsPartOf m L r) (sym at) (subst (IsPartOf m (get_or parts i K)) (sym to) there)
+
+-- the definitions of one part more
+pub more_parts : (m : Mentions) (D : List Definition) (parts : List Collection) (i : ℕ) (K : Collection) (cs : List NumberedClass) (marks : List Bool) → i < length parts → K ≡ get_or parts i K → AreGathered m ((D ++ flat_map definitions (take i parts)) ++ definitions K) cs marks → AreGathered m (D ++ flat_map definitions (take (i + 1) parts)) cs marks
+more_parts m D parts i K cs marks lt at h =
+    let more : flat_map definitions (take (i + 1) parts) ≡ flat_map definitions (take i parts) ++ definitions K = parts_more parts i K lt ∙ ap (λ (L : Collection). flat_map definitions (take i parts) ++ definitions L) (sym at) in
+    subst (λ (l : List Definition). AreGathered m l cs marks) (append_assoc D (flat_map definitions (take i parts)) (definitions K) ∙ ap (λ (l : List Definition). D ++ l) (sym more)) h

@@ -30,7 +30,7 @@ use Rattle.dexclass.specs.Numbered.{NumberedClass, definition_of}
 use Rattle.dexclass.specs.Uses.{IsKnownClass, type_use, text_use, type_numbers, text_numbers}
 use Rattle.dexclass.specs.Renumbering.{renumbered, ClassHasPlaces, StaysSame}
 use Rattle.dexmerge.specs.Gathering.{IsPartOf}
-use Rattle.dexmerge.proofs.PartMembers.{KeepMeaning, LeadClasses}
+use Rattle.dexmerge.proofs.PartMembers.{KeepMeaning, LeadClasses, led_class}
 use Rattle.dexmerge.proofs.ShortStrings.{leads_short, short_stands_for, rank_is}
 
 -- ---- the greatest of numbers
@@ -93,7 +93,7 @@ module _ (maps_fit : MapsFit) (members_fit : MembersFit) (keep : KeepMeaning) (l
     to = renumbered r c
 
     stays : StaysSame own m r c
-    stays = keep own m r c p.lead.lead (leads own r c p.lead.all known) known
+    stays = keep own m r c p.lead.lead (led_class leads K r c p.lead.all known) known
 
     -- led on, it stands for a definition of the whole
     is_within : AreWithin (map (definition_of m) (to ∷ [])) p.whole
@@ -106,7 +106,7 @@ module _ (maps_fit : MapsFit) (members_fit : MembersFit) (keep : KeepMeaning) (l
     short_below : (j : ℕ) → Contains (members_short_strings to.members) j → j < 2 ^ 16
     short_below j in_class =
         let f = short_stands_for m (to ∷ []) (All-cons (IsKnownClass m) to [] stays.known (All-nil (IsKnownClass m))) j
-            (Contains-flat_map (λ (x : NumberedClass). members_short_strings x.members) (to ∷ []) to j (Contains-first to []) in_class) in
+        (Contains-flat_map (λ (x : NumberedClass). members_short_strings x.members) (to ∷ []) to j (Contains-first to []) in_class) in
         let low : rank text_cmp f.0 (mentions p.whole).texts < 65536 = p.good.fits.short_strings f.0 (HasShortString-within (map (definition_of m) (to ∷ [])) p.whole is_within f.0 f.2) in
         let is : rank text_cmp f.0 (mentions p.whole).texts ≡ j = ap (λ (n : Mentions). rank text_cmp f.0 n.texts) (sym p.mentions_are) ∙ rank_is m p.rising j f.0 f.1 in
         omega (arith, low, is)
@@ -121,6 +121,6 @@ module _ (maps_fit : MapsFit) (members_fit : MembersFit) (keep : KeepMeaning) (l
     places_by =
         let x : NumberedMembers = c.members in
         let g = greatest_is (members_short_strings x) in
-        let all = leads own r c p.lead.all known in
+        let all = led_class leads K r c p.lead.all known in
         let uses : All (IsLedUse r) (members_uses x) = all_right (IsLedUse r) (map text_use (text_numbers c)) (members_uses x) (all_right (IsLedUse r) (map type_use (type_numbers c)) (map text_use (text_numbers c) ++ members_uses x) all) in
         members_fit r x g.0 (keep_order own m r p.lead.lead) (maps_fit own m r p.lead.lead (not_too_large m p.whole p.mentions_are p.good)) g.1 (leads_low g.0 g.1) uses

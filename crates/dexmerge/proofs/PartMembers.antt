@@ -4,13 +4,17 @@ use Rattle.std.specs.Prelude.{All}
 use Rattle.std.specs.List.{Contains, AllZip, flat_map}
 use Rattle.std.proofs.lemmas.List.{take_more, map-append, append-nil, get_or-map}
 use Rattle.std.proofs.lemmas.Grind.{flat_map-append}
-use Rattle.std.proofs.lemmas.List.Elements.{All-append, All-map, All-nil, All-push, Contains-append_left, Contains-append_right, Contains-append_cases}
+use Rattle.std.proofs.lemmas.List.Elements.{All-append, All-map, All-nil, Contains-append_left, Contains-append_right, Contains-append_cases}
 use Rattle.dexspec.specs.Classes.{Definition}
 use Rattle.dexspec.specs.Files.{Collection, definitions}
 use Rattle.dexspec.specs.WellFormed.{AreWellFormed}
 use Rattle.dexspec.specs.Depth.{in_class_order}
 use Rattle.dexspec.specs.Mentions.{Mentions, mentions}
+use Rattle.dexspec.specs.Texts.{text_cmp}
+use Rattle.dexspec.specs.Symbols.{proto_cmp, field_cmp, method_cmp}
 use Rattle.dexspec.proofs.Members.{Contains-nil}
+use Rattle.dexspec.proofs.Growth.{mentions-rising}
+use Rattle.dexspec.proofs.InOrder.{rises-from_Rises}
 use Rattle.dexspec.proofs.ClassOrder.{definitions-distinct}
 use Rattle.dexspec.proofs.ClassPlaces.{in_class_order-only, in_class_order-has}
 use Rattle.dexpool.specs.Numberings.{AreRising, Maps, AllLead}
@@ -43,7 +47,23 @@ KeepMeaning = (m n : Mentions) (r : Maps) (c : NumberedClass) → AllLead m n r 
 
 -- where all symbols lead somewhere, those of a class do
 abbrev pub LeadClasses : Type 0
-LeadClasses = (m : Mentions) (r : Maps) (c : NumberedClass) → LeadsAll m r → IsKnownClass m c → IsLedClass r c
+LeadClasses = (m : Mentions) (r : Maps) (c : NumberedClass) → AreRising m → LeadsAll m r → IsKnownClass m c → IsLedClass r c
+
+-- what is mentioned rises
+pub mentions_rise : (D : List Definition) → AreRising (mentions D)
+mentions_rise D =
+    let h = mentions-rising D in
+    record {
+      texts_rise = rises-from_Rises text_cmp (mentions D).texts h.texts;
+      types_rise = rises-from_Rises text_cmp (mentions D).types h.types;
+      protos_rise = rises-from_Rises proto_cmp (mentions D).protos h.protos;
+      fields_rise = rises-from_Rises field_cmp (mentions D).fields h.fields;
+      methods_rise = rises-from_Rises method_cmp (mentions D).methods h.methods;
+    }
+
+-- of a class of a part each symbol leads somewhere
+pub led_class : LeadClasses → (K : Collection) (r : Maps) (c : NumberedClass) → LeadsAll (mentions (definitions K)) r → IsKnownClass (mentions (definitions K)) c → IsLedClass r c
+led_class leads K r c all known = leads (mentions (definitions K)) r c (mentions_rise (definitions K)) all known
 
 module _ (keep : KeepMeaning) (leads : LeadClasses) (m : Mentions) (K : Collection) (r : Maps) (lead : LeadInto (mentions (definitions K)) m r) where
   abbrev own : Mentions
@@ -51,7 +71,7 @@ module _ (keep : KeepMeaning) (leads : LeadClasses) (m : Mentions) (K : Collecti
 
   -- a class of the part stays the same
   stays : (c : NumberedClass) → IsKnownClass own c → StaysSame own m r c
-  stays c known = keep own m r c lead.lead (leads own r c lead.all known) known
+  stays c known = keep own m r c lead.lead (led_class leads K r c lead.all known) known
 
   -- one part more
   pub members_more : (D : List Definition) (cs ps : List NumberedClass) → AreMembers m D cs → AreClassesOf K ps → AreWellFormed (definitions K) → AreMembers m (D ++ definitions K) (cs ++ map (renumbered r) ps)
@@ -80,13 +100,13 @@ pub class_known : (K : Collection) (ps : List NumberedClass) (c : NumberedClass)
 class_known K ps c are has = subst (IsKnownClass (mentions (definitions K))) has.2 (are.known has.0 c has.1)
 
 -- a class of a part, and maps that lead the part into the whole
-pub of_part : KeepMeaning → LeadClasses → (m : Mentions) (K : Collection) (c : Candidate) → LeadInto (mentions (definitions K)) m c.remap.now → AreRising (mentions (definitions K)) → IsKnownClass (mentions (definitions K)) c.class.now → IsOfPart m c
-of_part keep leads m K c lead rising known =
+pub of_part : KeepMeaning → LeadClasses → (m : Mentions) (K : Collection) (c : Candidate) → LeadInto (mentions (definitions K)) m c.remap.now → IsKnownClass (mentions (definitions K)) c.class.now → IsOfPart m c
+of_part keep leads m K c lead known =
     let own = mentions (definitions K) in
     record {
       part = own;
-      rising = rising;
-      is = record { lead = lead.lead; led = leads own c.remap.now c.class.now lead.all known; known = known };
+      rising = mentions_rise (definitions K);
+      is = record { lead = lead.lead; led = led_class leads K c.remap.now c.class.now lead.all known; known = known };
       same = (stays keep leads m K c.remap.now lead c.class.now known).same;
     }
 

@@ -1,6 +1,6 @@
 -- The texts that a const-string of classes names, by their numbers: what they stand for, and where they lead.
-use Rattle.std.proofs.Common.{◌≡◌, ℕ, ◌^◌, ◌<◌, ◌≤◌, Bool, true, false, not, ◌&&◌, if◌then◌else◌, List, [], ◌∷◌, ◌++◌, map, get_or, Option, Some, None, refl, sym, ap, ◌∙◌, subst, arith, inl, inr}
-use Rattle.std.specs.Prelude.{All, IfSome, option_to_list, slice_index}
+use Rattle.std.proofs.Common.{◌≡◌, ℕ, Bool, true, false, not, ◌&&◌, if◌then◌else◌, List, [], ◌∷◌, map, Option, Some, None, refl, sym, ap, ◌∙◌, subst, inl, inr}
+use Rattle.std.specs.Prelude.{All, IfSome, option_to_list}
 use Rattle.std.specs.List.{Contains, flat_map}
 use Rattle.std.specs.Option.{option_map}
 use Rattle.std.proofs.lemmas.List.{map-append}
@@ -22,11 +22,11 @@ use Rattle.dexspec.proofs.ClassPlaces.{Contains-map_source}
 use Rattle.dexpool.specs.declared.symbols.SymbolKind.{SymbolKind}
 use Rattle.dexpool.specs.declared.symbols.SymbolKind.TheVariants as kinds
 use Rattle.dexpool.specs.Numberings.{IsAt, AreRising, Maps, image, image_of}
-use Rattle.dexinsn.specs.Fitting.{is_text, is_short_string, short_string, short_strings, HasConstString}
-use Rattle.dexinsn.specs.Numbered.{NumberedPiece, Instruction, Payload, StandFor, kind_in, renumbered_piece}
+use Rattle.dexinsn.specs.Fitting.{is_text, is_short_string, short_string, HasConstString}
+use Rattle.dexinsn.specs.Numbered.{NumberedPiece, Instruction, Payload, kind_in, renumbered_piece}
 use Rattle.dexinsn.proofs.Fits.{short_named, short_stands}
 use Rattle.dexcode.specs.Numbered.{NumberedItem}
-use Rattle.dexcode.specs.Meaning.{code_in, piece_in, IsKnownCode}
+use Rattle.dexcode.specs.Meaning.{code_in, IsKnownCode}
 use Rattle.dexcode.specs.Renumbering.{renumbered_item}
 use Rattle.dexcode.proofs.Meanings.{code_stands}
 use Rattle.dexmembers.specs.Numbered.{NumberedMethod, NumberedMembers, methods_of, method_in, IsKnownMethod, AreKnownMembers}
@@ -99,18 +99,21 @@ module _ (m : Mentions) (cs : List NumberedClass) (known : All (IsKnownClass m) 
       let is : y.code ≡ Some k = option_source y.code k code.1 in
       let own : IsKnownCode m k = known_code m y k (known_one (IsKnownMethod m) (methods_of c.members) y (known_methods m c.members (known_one (IsKnownClass m) cs c known class.1).members_known) method.1) is in
       let f = short_stands m k.body.pieces (code_in m k).pieces n (code_stands m k own).pieces_are code.2 in
-      let named : HasConstString (code_in m k).pieces f.0 = f.2 in
-      (f.0, f.1, record {
-        definition = definition_of m c;
-        method = method_in m y;
-        code = code_in m k;
-        units = named.units;
-        member = Contains-map (definition_of m) cs c class.1;
-        declared = subst (λ (l : List MethodDef). Contains l (method_in m y)) (sym (declared_are m c)) (Contains-map (method_in m) (methods_of c.members) y method.1);
-        has_code = ap (option_map (code_in m)) is;
-        piece = named.piece;
-        short = named.short;
-      })
+      let named : HasConstString (code_in m k).pieces f.0 = f.2 in (
+        f.0,
+        f.1,
+        record {
+          definition = definition_of m c;
+          method = method_in m y;
+          code = code_in m k;
+          units = named.units;
+          member = Contains-map (definition_of m) cs c class.1;
+          declared = subst (λ (l : List MethodDef). Contains l (method_in m y)) (sym (declared_are m c)) (Contains-map (method_in m) (methods_of c.members) y method.1);
+          has_code = ap (option_map (code_in m)) is;
+          piece = named.piece;
+          short = named.short;
+        },
+      )
 
 -- a text's number is its rank
 pub rank_is : (m : Mentions) → AreRising m → (n : ℕ) (s : Text) → IsAt m.texts n s → rank text_cmp s m.texts ≡ n

@@ -1,6 +1,6 @@
 -- One class of each name, gathered from the parts of a union.
 use Rattle.std.specs.Prelude.{◌≡◌, ℕ, Bool, true, false, List, [], ◌∷◌, ◌++◌, map, length, All, slice_index_or}
-use Rattle.std.specs.List.{Contains}
+use Rattle.std.specs.List.{Contains, AllZip}
 use Rattle.dexspec.specs.Lists.{AreDistinct}
 use Rattle.dexspec.specs.Texts.{Text}
 use Rattle.dexspec.specs.Classes.{Definition}
@@ -22,6 +22,11 @@ pub record IsPartOf (m : Mentions) (K : Collection) (r : Maps) : Type 0 where
   pub good : IsGood greatest_caps whole
   pub within : AreWithin (definitions K) whole
   pub lead : LeadInto (mentions (definitions K)) m r
+
+-- parts of such a union, and a map for each
+pub record ArePartsOf (m : Mentions) (parts : List Collection) (remaps : List Maps) : Type 0 where
+  pub count : length remaps ≡ length parts
+  pub each : AllZip (IsPartOf m) parts remaps
 
 -- a class has this name
 abbrev pub HasName : Mentions → List NumberedClass → Text → Type 0

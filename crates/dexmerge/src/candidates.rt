@@ -105,7 +105,6 @@ fn push_classes<'a, 'b>(
 {
     renumbering_law();
     part.is_good();
-    part.numbering().is_numbering();
     for class in part.classes() {
         candidates.push(Candidate { class, remap })?;
     }

@@ -76,7 +76,10 @@ fn lesser(least: Option<usize>, name: usize) -> Option<usize>
 /// The least name of unlike candidates, if there is one.
 ///
 /// Condition: the places are those of the candidates.
-pub(crate) fn least_unlike(candidates: &[Candidate<'_, '_>], places: &[Option<usize>]) -> Option<usize>
+pub(crate) fn least_unlike(
+    candidates: &[Candidate<'_, '_>],
+    places: &[Option<usize>],
+) -> Option<usize>
     requires { ArePlaces (classes_of candidates.now) places.now }
     ensures { MatchOption result ((i : ℕ) → i < length candidates.now → IsAlike (classes_of candidates.now) places.now i) (IsLeastUnlike (classes_of candidates.now) places.now) }
 {

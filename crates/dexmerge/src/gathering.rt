@@ -11,7 +11,7 @@ ghost use Rattle.dexclass.specs.Numbered.{NumberedClass, definition_of};
 ghost use Rattle.dexclass.specs.Renumbering.{ClassHasPlaces, led, renumbered};
 ghost use Rattle.dexclass.specs.Uses.{IsKnownClass};
 ghost use Rattle.dexmerge.specs.Unions.{IsJudged};
-ghost use Rattle.dexmerge.specs.Gathering.{AreGathered, AreOneOfEach, IsAdded, IsPartOf};
+ghost use Rattle.dexmerge.specs.Gathering.{AreGathered, AreOneOfEach, ArePartsOf, IsAdded, IsPartOf};
 
 use dexclass::{Class, Program, renumbering_law};
 use dexinsn::joined_places_law;
@@ -102,7 +102,8 @@ impl<'a> Gathered<'a> {
     // Adds the classes of a part whose names are not there yet. They are moved.
     fn take_all(&mut self, part: Program<'a>, remap: &Remap) -> Result<(), AllocError>
         requires { (m : Mentions) × IsPartOf m part remap.now × (length self.old.is_name.items ≡ length m.types) }
-        ensures { OnOk result ((m : Mentions) (D : List Definition) → IsPartOf m part.entry remap.now → AreGathered m D self.old.classes.items self.old.is_name.items → AreGathered m (D ++ definitions part.entry) self.new.classes.items self.new.is_name.items) }
+        ensures count { OnOk result (length self.new.is_name.items ≡ length self.old.is_name.items) }
+        ensures gathered { OnOk result ((m : Mentions) (D : List Definition) → IsPartOf m part.entry remap.now → AreGathered m D self.old.classes.items self.old.is_name.items → AreGathered m (D ++ definitions part.entry) self.new.classes.items self.new.is_name.items) }
     {
         renumbering_law();
         places_law();
@@ -116,13 +117,39 @@ impl<'a> Gathered<'a> {
     // Adds copies of the classes of a part whose names are not there yet.
     fn copy_all(&mut self, part: &Program<'a>, remap: &Remap) -> Result<(), AllocError>
         requires { (m : Mentions) × IsPartOf m part.now remap.now × (length self.old.is_name.items ≡ length m.types) }
-        ensures { OnOk result ((m : Mentions) (D : List Definition) → IsPartOf m part.now remap.now → AreGathered m D self.old.classes.items self.old.is_name.items → AreGathered m (D ++ definitions part.now) self.new.classes.items self.new.is_name.items) }
+        ensures count { OnOk result (length self.new.is_name.items ≡ length self.old.is_name.items) }
+        ensures gathered { OnOk result ((m : Mentions) (D : List Definition) → IsPartOf m part.now remap.now → AreGathered m D self.old.classes.items self.old.is_name.items → AreGathered m (D ++ definitions part.now) self.new.classes.items self.new.is_name.items) }
     {
         renumbering_law();
         places_law();
         part.is_good();
         for class in part.classes() {
             self.copy(class, remap)?;
+        }
+        Ok(())
+    }
+
+    // Adds the classes of parts whose names are not there yet. They are moved.
+    fn take_parts(&mut self, parts: Vec<Program<'a>>, remaps: &[Remap]) -> Result<(), AllocError>
+        requires { (m : Mentions) × ArePartsOf m parts.items remaps.now × (length self.old.is_name.items ≡ length m.types) }
+        ensures count { OnOk result (length self.new.is_name.items ≡ length self.old.is_name.items) }
+        ensures gathered { OnOk result ((m : Mentions) (D : List Definition) → ArePartsOf m parts.entry.items remaps.now → AreGathered m D self.old.classes.items self.old.is_name.items → AreGathered m (D ++ flat_map definitions parts.entry.items) self.new.classes.items self.new.is_name.items) }
+    {
+        let mut i = 0;
+        for part in parts {
+            self.take_all(part, &remaps[i])?;
+            i += 1;
+        }
+        Ok(())
+    }
+
+    // Adds copies of the classes of parts whose names are not there yet.
+    fn copy_parts(&mut self, parts: &[&Program<'a>], remaps: &[Remap]) -> Result<(), AllocError>
+        requires { (m : Mentions) × ArePartsOf m (map (λ part. part.now) parts.now) remaps.now × (length self.old.is_name.items ≡ length m.types) }
+        ensures { OnOk result ((m : Mentions) (D : List Definition) → ArePartsOf m (map (λ part. part.now) parts.now) remaps.now → AreGathered m D self.old.classes.items self.old.is_name.items → AreGathered m (D ++ flat_map definitions (map (λ part. part.now) parts.now)) self.new.classes.items self.new.is_name.items) }
+    {
+        for i in 0..parts.len() {
+            self.copy_all(parts[i], &remaps[i])?;
         }
         Ok(())
     }
@@ -144,13 +171,7 @@ pub(crate) fn gather<'a>(
 {
     let (own, rest) = remaps.split_at(owned.len());
     let mut all = Gathered::none(alloc, types)?;
-    let mut i = 0;
-    for program in owned {
-        all.take_all(program, &own[i])?;
-        i += 1;
-    }
-    for i in 0..files.len() {
-        all.copy_all(files[i], &rest[i])?;
-    }
+    all.take_parts(owned, own)?;
+    all.copy_parts(files, rest)?;
     Ok(all.classes)
 }

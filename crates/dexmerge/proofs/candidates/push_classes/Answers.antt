@@ -3,8 +3,6 @@ use Rattle.std.specs.Prelude.{All}
 use Rattle.std.proofs.lemmas.List.{take_all}
 use Rattle.std.proofs.lemmas.List.Elements.{All-push}
 use Rattle.dexspec.specs.Files.{definitions}
-use Rattle.dexspec.specs.Mentions.{mentions}
-use Rattle.dexpool.specs.Numberings.{AreRising}
 use Rattle.dexclass.specs.Numbered.{NumberedClass}
 use Rattle.dexclass.specs.Renumbering.{renumbered}
 use Rattle.dexmerge.specs.Candidates.{AreMembers, IsOfPart, classes_of}
@@ -20,9 +18,8 @@ loop-class-preserved c =
     record {
       classes = push_more c.loop-class.candidates.items c.push.new.self.items _ (classes_of c.args.candidates.now.items) c.args.remap.now ps c.loop-class.class-index x c.in_ok-push.ensures.items refl c.loop-class-test.true c.class-item.is c.loop-class.invariant.classes;
       parts = λ m lead before.
-          let rising : AreRising (mentions (definitions K)) = subst AreRising c.numbering.ensures c.is_numbering.ensures.rising in
           subst (All (IsOfPart m)) (sym c.in_ok-push.ensures.items) (All-push (IsOfPart m) c.loop-class.candidates.items _ (c.loop-class.invariant.parts m lead before)
-          (of_part c.renumbering_law.ensures.same c.renumbering_law.ensures.all m K _ lead rising (class_known K ps x c.classes-class-items.ensures (c.loop-class.class-index, c.loop-class-test.true, sym c.class-item.is))));
+          (of_part c.renumbering_law.ensures.same c.renumbering_law.ensures.all m K _ lead (class_known K ps x c.classes-class-items.ensures (c.loop-class.class-index, c.loop-class-test.true, sym c.class-item.is))));
     }
 
 pub returns-clause-members : goal.returns-clause-members

@@ -2,8 +2,7 @@ use Rattle.std.proofs.Common.{List, map, sym, subst}
 use Rattle.std.specs.List.{flat_map}
 use Rattle.dexspec.specs.Classes.{Definition}
 use Rattle.dexspec.specs.Files.{Collection, definitions}
-use Rattle.dexmerge.specs.declared.candidates.Candidate.{Candidate}
-use Rattle.dexmerge.specs.Unions.{AreCopies, AreOnce}
+use Rattle.dexmerge.specs.Unions.{AreCopies}
 use Rattle.dexmerge.proofs.MergeLaws.{are_copies}
 use Rattle.dexmerge.proofs.judging.judge.Goals as goal
 

@@ -3,7 +3,6 @@ use Rattle.dexspec.specs.Texts.{Text}
 use Rattle.dexspec.specs.Merging.{IsFirstCause, Conflict}
 use Rattle.dexclass.specs.Numbered.{type_at}
 use Rattle.dexmerge.specs.Candidates.{classes_of, IsAlike, IsLeastUnlike, kept_classes}
-use Rattle.dexmerge.specs.Unions.{AreOnce}
 use Rattle.dexmerge.proofs.CandidatePlaces.{count_classes}
 use Rattle.dexmerge.proofs.MergeLaws.{copy_names, copies_conflict, copies_once}
 use Rattle.dexmerge.proofs.judging.one_of_each.Goals as goal

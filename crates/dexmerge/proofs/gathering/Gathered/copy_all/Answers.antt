@@ -42,8 +42,8 @@ loop-class-preserved c =
           (class_known K ps x c.classes-class-items.ensures has) (class_stands K ps x c.classes-class-items.ensures has) c.in_ok-copy.ensures.added (c.loop-class.invariant.gathered m D part h));
     }
 
-pub returns : goal.returns
-returns c = λ m D part h.
+pub returns-clause-gathered : goal.returns-clause-gathered
+returns-clause-gathered c = λ m D part h.
     let K = c.args.part.now in
     let own = mentions (definitions K) in
     let ps = c.classes-class-items.result.now in

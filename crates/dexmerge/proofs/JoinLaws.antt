@@ -1,5 +1,6 @@
 -- A join of what parts mention is what their union mentions.
-use Rattle.std.proofs.Common.{◌≡◌, ◌∙◌, Bor, List, [], ◌∷◌, ◌++◌, length, map, refl, sym, ap, subst, suc}
+use Rattle.std.proofs.Common.{◌≡◌, ℕ, ◌+◌, ◌<◌, ◌∙◌, Bor, List, [], ◌∷◌, ◌++◌, length, get_or, take, map, refl, sym, ap, subst, suc, arith}
+use Rattle.std.proofs.lemmas.List.{length-map, get_or-map, take_more, map-append, append_assoc}
 use Rattle.std.specs.List.{AllZip, flat_map}
 use Rattle.dexspec.specs.Classes.{Definition}
 use Rattle.dexspec.specs.Files.{Collection, definitions}
@@ -49,3 +50,11 @@ joined_is parts ms m remaps given union rising law lead whole =
       count = zip_length (λ part r. LeadInto (mentions (definitions part)) m r) Ks remaps zip;
       lead = zip;
     }
+
+-- one borrowed part more
+pub push_part : (owned : List Collection) (files : List (Bor Collection)) (i : ℕ) (d : Bor Collection) (old new : List (Bor Collection)) → i < length files → d ≡ get_or files i d → new ≡ old ++ d ∷ [] → map now_of old ≡ owned ++ take i (map now_of files) → map now_of new ≡ owned ++ take (i + 1) (map now_of files)
+push_part owned files i d old new lt at pushed h =
+    let few : i < length (map now_of files) = omega (arith, lt, length-map files now_of) in
+    let same : get_or (map now_of files) i d.now ≡ d.now = get_or-map now_of files i d d.now lt ∙ ap now_of (sym at) in
+    let more : take (i + 1) (map now_of files) ≡ take i (map now_of files) ++ d.now ∷ [] = take_more (map now_of files) i d.now few ∙ ap (λ (K : Collection). take i (map now_of files) ++ K ∷ []) same in
+    ap (map now_of) pushed ∙ map-append now_of old (d ∷ []) ∙ ap (λ (l : List Collection). l ++ d.now ∷ []) h ∙ append_assoc owned (take i (map now_of files)) (d.now ∷ []) ∙ ap (λ (l : List Collection). owned ++ l) (sym more)

@@ -8,6 +8,10 @@ pub mod Weighing
 pub mod UnionLaws
 pub mod CapLaws
 pub mod MergeLaws
+pub mod ShortStrings
+pub mod FarTexts
+pub mod JoinedPlaces
+pub mod Gathered
 pub mod JoinLaws
 pub mod PlanJudged
 pub mod PlannedLaws

@@ -1,98 +1,122 @@
 -- What the steps of a merge know.
-use Rattle.std.proofs.Common.{◌≡◌, ℕ, ◌<◌, List, length, map, sym, ◌∙◌, subst, arith, Option, Some, None}
-use Rattle.std.specs.Prelude.{All, MatchOption}
-use Rattle.std.specs.List.{AllZip, flat_map}
+use Rattle.std.proofs.Common.{◌≡◌, ℕ, ◌<◌, List, [], ◌∷◌, length, get_or, map, sym, ap, ◌∙◌, subst, arith, Option, Some, None}
+use Rattle.std.specs.Prelude.{All, MatchOption, ◌↔◌}
+use Rattle.std.specs.List.{AllZip, Contains, flat_map}
+use Rattle.std.proofs.lemmas.List.{length-map, get_or-map}
+use Rattle.std.proofs.lemmas.List.Elements.{All-get_or, Contains-get_or}
 use Rattle.dexspec.specs.Lists.{AreDistinct}
 use Rattle.dexspec.specs.Classes.{Definition}
-use Rattle.dexspec.specs.Files.{Collection, definitions, AreSame, IsCollectionOf}
+use Rattle.dexspec.specs.Files.{Collection, definitions, AreSame}
 use Rattle.dexspec.specs.Mentions.{Mentions, mentions}
-use Rattle.dexspec.specs.Merging.{Caps, AreCaps, IsConsistent, IsGood, IsFirstCause, Conflict, Cycle}
+use Rattle.dexspec.specs.Merging.{Caps, IsConsistent, IsGood, IsFirstCause, Conflict, Cycle}
 use Rattle.dexspec.proofs.Growth.{mentions-same}
 use Rattle.dexspec.proofs.FirstCauses.{first_cause-same}
 use Rattle.dexspec.proofs.Absorption.{IsGood-within}
-use Rattle.dexpool.specs.Numberings.{Maps}
+use Rattle.dexpool.specs.Numberings.{AreRising, AreIn, Maps}
 use Rattle.dexclass.specs.Numbered.{NumberedClass, type_at, definition_of}
-use Rattle.dexclass.specs.Parents.{name_number, ArePlaces}
-use Rattle.dexclass.specs.Programs.{AreMergeable}
-use Rattle.dexclass.specs.Renumbering.{LeadInto}
+use Rattle.dexclass.specs.Parents.{no_class, name_number, ArePlaces}
+use Rattle.dexclass.specs.Renumbering.{renumbered, LeadInto, IsPartClass}
 use Rattle.dexmerge.specs.Faults.{IsOfCap}
-use Rattle.dexmerge.specs.Candidates.{AreMembers, IsAlike, IsLeastUnlike, kept_classes}
-use Rattle.dexmerge.specs.Cycles.{AreAcyclic, IsFirstCycle}
+use Rattle.dexmerge.specs.declared.candidates.Candidate.{Candidate}
+use Rattle.dexmerge.specs.Candidates.{AreMembers, IsOfPart, IsAlike, IsLeastUnlike, kept_classes, class_of, classes_of, class_at}
+use Rattle.dexmerge.specs.Cycles.{AreKept, AreAcyclic, IsFirstCycle}
 use Rattle.dexmerge.specs.Amounts.{first_over}
 use Rattle.dexmerge.specs.Unions.{AreCopies, AreOnce, IsJoined}
-use Rattle.dexmerge.proofs.UnionLaws.{name_in, conflict_told, kept_members, kept_rise, are_kept, definitions_differ, consistent, cycle_told}
-use Rattle.dexmerge.proofs.CapLaws.{found_cap, good_greatest}
+use Rattle.dexmerge.proofs.UnionLaws.{AreTold, name_in, conflict_told, kept_members, kept_rise, are_kept, definitions_differ, consistent, cycle_told}
+use Rattle.dexmerge.proofs.CapLaws.{found_cap}
+
+-- the first of several
+first_of : {X : Type 0} (xs : List X) → 0 < length xs → X
+first_of [] lt = absurd (omega (arith, lt))
+first_of (x ∷ xs) lt = x
+
+all_member : {X : Type 0} (P : X → Type 0) (xs : List X) (x : X) → All P xs → Contains xs x → P x
+all_member P xs x all c = subst P c.2 (All-get_or P xs c.0 x c.1 all)
 
 -- the copies of joined parts
-pub are_copies : (parts : List Collection) (m : Mentions) (remaps : List Maps) (given : List Maps) (cs : List NumberedClass) → IsJoined parts m remaps → given ≡ remaps
-    → (AllZip (λ part remap. LeadInto (mentions (definitions part)) m remap) parts given → AreMembers m (flat_map definitions parts) cs) → AreCopies m (flat_map definitions parts) cs
-are_copies parts m remaps given cs j e members = record {
-  mentions_are = j.mentions_are;
-  rising = j.rising;
-  members = members (subst (λ (l : List Maps). AllZip (λ part remap. LeadInto (mentions (definitions part)) m remap) parts l) (sym e) j.lead);
-}
+pub are_copies : (parts : List Collection) (m : Mentions) (remaps : List Maps) (cs : List Candidate) → IsJoined parts m remaps → (AllZip (λ part remap. LeadInto (mentions (definitions part)) m remap) parts remaps → AreMembers m (flat_map definitions parts) (classes_of cs))
+    → (AllZip (λ part remap. LeadInto (mentions (definitions part)) m remap) parts remaps → All (IsOfPart m) cs) → AreCopies m (flat_map definitions parts) cs
+are_copies parts m remaps cs j members of_parts = record { mentions_are = j.mentions_are; rising = j.rising; of_parts = of_parts j.lead; members = members j.lead }
 
-module _ (m : Mentions) (D : List Definition) (cs : List NumberedClass) (h : AreCopies m D cs) where
+-- classes of two numberings that are led on are the same just where they stand for the same
+abbrev pub TellApart : Type 0
+TellApart = (m n whole : Mentions) (r s : Maps) (c d : NumberedClass) → AreRising whole → IsPartClass whole m r c → IsPartClass whole n s d → (renumbered r c ≡ renumbered s d) ↔ (definition_of m c ≡ definition_of n d)
+
+module _ (m : Mentions) (D : List Definition) (cs : List Candidate) (h : AreCopies m D cs) where
+  abbrev Cs : List NumberedClass
+  Cs = classes_of cs
+
   -- names are types
-  pub copy_names : All (λ c. c.name < length m.types) cs
-  copy_names i d lt = (h.members.numbers_in i d lt).types_in 0 0 (omega arith)
+  pub copy_names : All (λ c. c.name < length m.types) Cs
+  copy_names i d lt = (h.members.known i d lt).types_in 0 0 (omega arith)
 
-  module _ (places : List (Option ℕ)) (p : ArePlaces cs places) where
+  -- unlike classes stand for unlike definitions
+  told_by : TellApart → (a b : Candidate) → IsOfPart m a → IsOfPart m b → definition_of m (class_of a) ≡ definition_of m (class_of b) → class_of a ≡ class_of b
+  told_by tell a b p q e = (tell p.part q.part m a.remap.now b.remap.now a.class.now b.class.now h.rising p.is q.is).1 (sym p.same ∙ e ∙ q.same)
+
+  told_at : TellApart → (i j : ℕ) (d : Candidate) → i < length cs → j < length cs → definition_of m (class_at Cs i) ≡ definition_of m (class_at Cs j) → class_at Cs i ≡ class_at Cs j
+  told_at tell i j d li lj e =
+      let at : class_at Cs i ≡ class_of (get_or cs i d) = get_or-map class_of cs i d no_class li in
+      let to : class_at Cs j ≡ class_of (get_or cs j d) = get_or-map class_of cs j d no_class lj in
+      at ∙ told_by tell (get_or cs i d) (get_or cs j d) (h.of_parts i d li) (h.of_parts j d lj) (ap (definition_of m) (sym at) ∙ e ∙ ap (definition_of m) to) ∙ sym to
+
+  -- where there is a class, there is a candidate
+  some_candidate : (i : ℕ) → i < length Cs → Candidate
+  some_candidate i lt = first_of cs (omega (arith, lt, length-map cs class_of))
+
+  told : TellApart → AreTold m Cs
+  told tell i j li lj e = told_at tell i j (some_candidate i li) (omega (arith, li, length-map cs class_of)) (omega (arith, lj, length-map cs class_of)) e
+
+  module _ (places : List (Option ℕ)) (p : ArePlaces Cs places) where
     -- a conflict
-    pub copies_conflict : (caps : Caps) (name : ℕ) → IsLeastUnlike cs places name → IsFirstCause caps D (Conflict (type_at m name))
-    copies_conflict caps name l = first_cause-same caps (map (definition_of m) cs) D (Conflict (type_at m name)) h.members.same (conflict_told m h.rising cs h.members.numbers_in places p caps name l)
+    pub copies_conflict : TellApart → (caps : Caps) (name : ℕ) → IsLeastUnlike Cs places name → IsFirstCause caps D (Conflict (type_at m name))
+    copies_conflict tell caps name l = first_cause-same caps (map (definition_of m) Cs) D (Conflict (type_at m name)) h.members.same (conflict_told m h.rising Cs h.members.known places p (told tell) caps name l)
 
     -- the name of a conflict is a type
-    pub conflict_name : (name : ℕ) → IsLeastUnlike cs places name → name < length m.types
-    conflict_name name l = subst (λ (n : ℕ). n < length m.types) l.is.name_is (name_in m h.rising cs h.members.numbers_in l.is.place l.is.within)
+    pub conflict_name : (name : ℕ) → IsLeastUnlike Cs places name → name < length m.types
+    conflict_name name l = subst (λ (n : ℕ). n < length m.types) l.is.name_is (name_in m h.rising Cs h.members.known l.is.place l.is.within)
 
     -- one of each name
-    pub copies_once : ((i : ℕ) → i < length cs → IsAlike cs places i) → AreOnce m D (kept_classes cs places)
-    copies_once alike =
-        let members = kept_members m h.rising cs h.members.numbers_in places p D h.members alike in
+    pub copies_once : (ks : List Candidate) → classes_of ks ≡ kept_classes Cs places → AreIn ks cs → ((i : ℕ) → i < length Cs → IsAlike Cs places i) → AreOnce m D ks
+    copies_once ks are within alike =
+        let members = kept_members m h.rising Cs h.members.known places p D h.members alike in
         record {
-          copies = record { mentions_are = h.mentions_are; rising = h.rising; members = members };
-          kept = are_kept m h.rising (kept_classes cs places) members.numbers_in (kept_rise m h.rising cs h.members.numbers_in places p);
+          copies = record {
+            mentions_are = h.mentions_are;
+            rising = h.rising;
+            of_parts = λ i d lt. all_member (IsOfPart m) cs (get_or ks i d) h.of_parts (within (get_or ks i d) (Contains-get_or ks i d lt));
+            members = subst (AreMembers m D) (sym are) members;
+          };
+          kept = subst (AreKept m) (sym are) (are_kept m h.rising (kept_classes Cs places) members.known (kept_rise m h.rising Cs h.members.known places p));
         }
 
-module _ (m : Mentions) (D : List Definition) (cs : List NumberedClass) (h : AreOnce m D cs) where
+module _ (m : Mentions) (D : List Definition) (cs : List Candidate) (h : AreOnce m D cs) where
+  abbrev Ks : List NumberedClass
+  Ks = classes_of cs
+
   abbrev E : List Definition
-  E = map (definition_of m) cs
+  E = map (definition_of m) Ks
 
   same : AreSame E D
   same = h.copies.members.same
 
-  own : m ≡ mentions E
-  own = h.copies.mentions_are ∙ mentions-same D E (λ d. (same d).1) (λ d. (same d).0)
+  once_own : m ≡ mentions E
+  once_own = h.copies.mentions_are ∙ mentions-same D E (λ d. (same d).1) (λ d. (same d).0)
 
-  apart : AreDistinct E
-  apart = definitions_differ m h.copies.rising cs h.copies.members.numbers_in h.kept.rise
+  once_apart : AreDistinct E
+  once_apart = definitions_differ m h.copies.rising Ks h.copies.members.known h.kept.rise
 
   one_each : IsConsistent E
-  one_each = consistent m h.copies.rising cs h.copies.members.numbers_in h.kept.rise
+  one_each = consistent m h.copies.rising Ks h.copies.members.known h.kept.rise
 
   -- a cycle
-  pub once_cycle : (caps : Caps) (i : ℕ) → IsFirstCycle m cs i → IsFirstCause caps D (Cycle (type_at m (name_number cs i)))
-  once_cycle caps i f = first_cause-same caps E D (Cycle (type_at m (name_number cs i))) same (cycle_told m h.copies.rising cs h.copies.members.numbers_in h.kept.rise caps i f)
+  pub once_cycle : (caps : Caps) (i : ℕ) → IsFirstCycle m Ks i → IsFirstCause caps D (Cycle (type_at m (name_number Ks i)))
+  once_cycle caps i f = first_cause-same caps E D (Cycle (type_at m (name_number Ks i))) same (cycle_told m h.copies.rising Ks h.copies.members.known h.kept.rise caps i f)
 
   -- the first cap, if one is exceeded
   by_cap : (caps : Caps) (found : Option ℕ) → MatchOption found (IsGood caps E) (IsOfCap (IsFirstCause caps E)) → MatchOption found (IsGood caps D) (IsOfCap (IsFirstCause caps D))
   by_cap caps None good = IsGood-within D E (λ d. (same d).1) caps good
   by_cap caps (Some n) told = record { cap = told.cap; number_is = told.number_is; holds = first_cause-same caps E D _ same told.holds }
 
-  pub once_cap : (caps : Caps) (found : Option ℕ) → AreAcyclic m cs → found ≡ first_over caps m cs → MatchOption found (IsGood caps D) (IsOfCap (IsFirstCause caps D))
-  once_cap caps found acyclic is = by_cap caps found (found_cap caps m cs apart own one_each acyclic found is)
-
-  -- the classes make a program
-  pub once_mergeable : (caps : Caps) → AreCaps caps → IsGood caps D → AreMergeable m cs
-  once_mergeable caps c good = record {
-    numbers_in = h.copies.members.numbers_in;
-    mentions_are = own;
-    names_differ = h.kept.named.distinct;
-    good = IsGood-within E D (λ d. (same d).0) _ (good_greatest caps D c good);
-    formed = λ d has. h.copies.members.formed d ((same d).0 has);
-  }
-
-  -- of just the definitions
-  pub once_collection : (K : Collection) → IsCollectionOf E K → IsCollectionOf D K
-  once_collection K k name c = (λ e. (same (name, c)).0 ((k name c).0 e), λ has. (k name c).1 ((same (name, c)).1 has))
+  pub once_cap : (caps : Caps) (found : Option ℕ) → AreAcyclic m Ks → found ≡ first_over caps m Ks → MatchOption found (IsGood caps D) (IsOfCap (IsFirstCause caps D))
+  once_cap caps found acyclic is = by_cap caps found (found_cap caps m Ks once_apart once_own h.copies.rising h.copies.members.known one_each acyclic found is)

@@ -10,16 +10,21 @@ use Rattle.dexspec.specs.Files.{Collection, definitions}
 use Rattle.dexspec.specs.WellFormed.{AreWellFormed}
 use Rattle.dexspec.specs.Depth.{in_class_order}
 use Rattle.dexspec.specs.Mentions.{Mentions, mentions}
+use Rattle.dexspec.specs.Texts.{text_cmp}
+use Rattle.dexspec.specs.Symbols.{proto_cmp, field_cmp, method_cmp}
 use Rattle.dexspec.proofs.Members.{Contains-nil}
+use Rattle.dexspec.proofs.Growth.{mentions-rising}
+use Rattle.dexspec.proofs.InOrder.{rises-from_Rises}
 use Rattle.dexspec.proofs.ClassOrder.{definitions-distinct}
 use Rattle.dexspec.proofs.ClassPlaces.{in_class_order-only, in_class_order-has}
-use Rattle.dexpool.specs.Numberings.{Maps}
+use Rattle.dexpool.specs.Numberings.{AreRising, Maps, AllLead}
+use Rattle.dexpool.specs.Laws.{LeadsAll}
 use Rattle.dexclass.specs.Numbered.{NumberedClass, definition_of}
-use Rattle.dexclass.specs.Marking.{IsInRange}
+use Rattle.dexclass.specs.Uses.{IsKnownClass}
 use Rattle.dexclass.specs.Programs.{AreClassesOf}
-use Rattle.dexclass.specs.Renumbering.{renumbered, LeadInto}
-use Rattle.dexclass.proofs.SameClasses.{stays_same}
-use Rattle.dexmerge.specs.Candidates.{AreMembers}
+use Rattle.dexclass.specs.Renumbering.{renumbered, LeadInto, IsLedClass, StaysSame}
+use Rattle.dexmerge.specs.Candidates.{AreMembers, IsOfPart}
+use Rattle.dexmerge.specs.declared.candidates.Candidate.{Candidate}
 
 -- what is the same of each member is so of the list
 same_each : {X Y Z : Type 0} (f : Y → Z) (g : X → Y) (h : X → Z) (P : X → Type 0) (xs : List X) → All P xs → ((x : X) → P x → f (g x) ≡ h x) → map f (map g xs) ≡ map h xs
@@ -31,33 +36,78 @@ same_each {X} {Y} {Z} f g h P (x ∷ xs) all each =
 -- no part yet
 pub no_members : (m : Mentions) → AreMembers m [] []
 no_members m = record {
-  numbers_in = All-nil (IsInRange m);
+  known = All-nil (IsKnownClass m);
   same = λ d. (λ c. c, λ c. c);
   formed = λ d c. absurd (Contains-nil d c);
 }
 
--- one part more
-pub members_more : (m : Mentions) (D : List Definition) (K : Collection) (cs ps : List NumberedClass) (r : Maps) → LeadInto (mentions (definitions K)) m r → AreMembers m D cs → AreClassesOf K ps → AreWellFormed (definitions K)
-    → AreMembers m (D ++ definitions K) (cs ++ map (renumbered r) ps)
-members_more m D K cs ps r lead h are formed =
-    let own = mentions (definitions K) in
-    let led : map (definition_of m) (map (renumbered r) ps) ≡ in_class_order (definitions K) =
-    same_each (definition_of m) (renumbered r) (definition_of own) (IsInRange own) ps are.numbers_in (λ c range. (stays_same own m r lead c range).same) ∙ are.are in
-    let all : map (definition_of m) (cs ++ map (renumbered r) ps) ≡ map (definition_of m) cs ++ in_class_order (definitions K) =
-    map-append (definition_of m) cs (map (renumbered r) ps) ∙ ap (λ (l : List Definition). map (definition_of m) cs ++ l) led in
+-- classes of which each symbol leads to the same one stand for the same
+abbrev pub KeepMeaning : Type 0
+KeepMeaning = (m n : Mentions) (r : Maps) (c : NumberedClass) → AllLead m n r → IsLedClass r c → IsKnownClass m c → StaysSame m n r c
+
+-- where all symbols lead somewhere, those of a class do
+abbrev pub LeadClasses : Type 0
+LeadClasses = (m : Mentions) (r : Maps) (c : NumberedClass) → AreRising m → LeadsAll m r → IsKnownClass m c → IsLedClass r c
+
+-- what is mentioned rises
+pub mentions_rise : (D : List Definition) → AreRising (mentions D)
+mentions_rise D =
+    let h = mentions-rising D in
     record {
-      numbers_in = All-append (IsInRange m) cs (map (renumbered r) ps) h.numbers_in (All-map (IsInRange m) (renumbered r) ps (λ i d lt. (stays_same own m r lead (get_or ps i d) (are.numbers_in i d lt)).numbers_in));
-      same = λ d. (
-        λ c. elim (Contains-append_cases (map (definition_of m) cs) (in_class_order (definitions K)) d (subst (λ (l : List Definition). Contains l d) all c)) [
-          | inl first ↦ Contains-append_left D (definitions K) d ((h.same d).0 first)
-          | inr last ↦ Contains-append_right D (definitions K) d (in_class_order-only (definitions K) d last)
-        ],
-        λ c. subst (λ (l : List Definition). Contains l d) (sym all) (elim (Contains-append_cases D (definitions K) d c) [
-          | inl first ↦ Contains-append_left (map (definition_of m) cs) (in_class_order (definitions K)) d ((h.same d).1 first)
-          | inr last ↦ Contains-append_right (map (definition_of m) cs) (in_class_order (definitions K)) d (in_class_order-has (definitions K) d (definitions-distinct K) last)
-        ]),
-      );
-      formed = λ d c. elim (Contains-append_cases D (definitions K) d c) [ inl first ↦ h.formed d first | inr last ↦ formed d last ];
+      texts_rise = rises-from_Rises text_cmp (mentions D).texts h.texts;
+      types_rise = rises-from_Rises text_cmp (mentions D).types h.types;
+      protos_rise = rises-from_Rises proto_cmp (mentions D).protos h.protos;
+      fields_rise = rises-from_Rises field_cmp (mentions D).fields h.fields;
+      methods_rise = rises-from_Rises method_cmp (mentions D).methods h.methods;
+    }
+
+-- of a class of a part each symbol leads somewhere
+pub led_class : LeadClasses → (K : Collection) (r : Maps) (c : NumberedClass) → LeadsAll (mentions (definitions K)) r → IsKnownClass (mentions (definitions K)) c → IsLedClass r c
+led_class leads K r c all known = leads (mentions (definitions K)) r c (mentions_rise (definitions K)) all known
+
+module _ (keep : KeepMeaning) (leads : LeadClasses) (m : Mentions) (K : Collection) (r : Maps) (lead : LeadInto (mentions (definitions K)) m r) where
+  abbrev own : Mentions
+  own = mentions (definitions K)
+
+  -- a class of the part stays the same
+  stays : (c : NumberedClass) → IsKnownClass own c → StaysSame own m r c
+  stays c known = keep own m r c lead.lead (led_class leads K r c lead.all known) known
+
+  -- one part more
+  pub members_more : (D : List Definition) (cs ps : List NumberedClass) → AreMembers m D cs → AreClassesOf K ps → AreWellFormed (definitions K) → AreMembers m (D ++ definitions K) (cs ++ map (renumbered r) ps)
+  members_more D cs ps h are formed =
+      let led : map (definition_of m) (map (renumbered r) ps) ≡ in_class_order (definitions K) =
+      same_each (definition_of m) (renumbered r) (definition_of own) (IsKnownClass own) ps are.known (λ c known. (stays c known).same) ∙ are.are in
+      let all : map (definition_of m) (cs ++ map (renumbered r) ps) ≡ map (definition_of m) cs ++ in_class_order (definitions K) =
+      map-append (definition_of m) cs (map (renumbered r) ps) ∙ ap (λ (l : List Definition). map (definition_of m) cs ++ l) led in
+      record {
+        known = All-append (IsKnownClass m) cs (map (renumbered r) ps) h.known (All-map (IsKnownClass m) (renumbered r) ps (λ i d lt. (stays (get_or ps i d) (are.known i d lt)).known));
+        same = λ d. (
+          λ c. elim (Contains-append_cases (map (definition_of m) cs) (in_class_order (definitions K)) d (subst (λ (l : List Definition). Contains l d) all c)) [
+            | inl first ↦ Contains-append_left D (definitions K) d ((h.same d).0 first)
+            | inr last ↦ Contains-append_right D (definitions K) d (in_class_order-only (definitions K) d last)
+          ],
+          λ c. subst (λ (l : List Definition). Contains l d) (sym all) (elim (Contains-append_cases D (definitions K) d c) [
+            | inl first ↦ Contains-append_left (map (definition_of m) cs) (in_class_order (definitions K)) d ((h.same d).1 first)
+            | inr last ↦ Contains-append_right (map (definition_of m) cs) (in_class_order (definitions K)) d (in_class_order-has (definitions K) d (definitions-distinct K) last)
+          ]),
+        );
+        formed = λ d c. elim (Contains-append_cases D (definitions K) d c) [ inl first ↦ h.formed d first | inr last ↦ formed d last ];
+      }
+
+-- a class of a part is known
+pub class_known : (K : Collection) (ps : List NumberedClass) (c : NumberedClass) → AreClassesOf K ps → Contains ps c → IsKnownClass (mentions (definitions K)) c
+class_known K ps c are has = subst (IsKnownClass (mentions (definitions K))) has.2 (are.known has.0 c has.1)
+
+-- a class of a part, and maps that lead the part into the whole
+pub of_part : KeepMeaning → LeadClasses → (m : Mentions) (K : Collection) (c : Candidate) → LeadInto (mentions (definitions K)) m c.remap.now → IsKnownClass (mentions (definitions K)) c.class.now → IsOfPart m c
+of_part keep leads m K c lead known =
+    let own = mentions (definitions K) in
+    record {
+      part = own;
+      rising = mentions_rise (definitions K);
+      is = record { lead = lead.lead; led = led_class leads K c.remap.now c.class.now lead.all known; known = known };
+      same = (stays keep leads m K c.remap.now lead c.class.now known).same;
     }
 
 -- the definitions of one part more
@@ -75,3 +125,9 @@ zip_at R (x ∷ xs) (y ∷ ys) (suc i) d e h lt = zip_at R xs ys i d e h.1 (omeg
 -- the part at a place
 pub part_at : (parts : List (Bor Collection)) (i : ℕ) (d : Bor Collection) → i < length parts → d ≡ get_or parts i d → d.now ≡ get_or (map (λ (p : Bor Collection). p.now) parts) i d.now
 part_at parts i d lt e = ap (λ (p : Bor Collection). p.now) e ∙ sym (get_or-map (λ (p : Bor Collection). p.now) parts i d d.now lt)
+
+-- the maps at a place lead the part there into the whole
+pub lead_at : (m : Mentions) (Ks : List Collection) (remaps : List Maps) (i : ℕ) (K : Collection) (r : Maps) → i < length Ks → K ≡ get_or Ks i K → r ≡ get_or remaps i r → AllZip (λ part remap. LeadInto (mentions (definitions part)) m remap) Ks remaps → LeadInto (mentions (definitions K)) m r
+lead_at m Ks remaps i K r lt at to zip =
+    let lead : LeadInto (mentions (definitions (get_or Ks i K))) m (get_or remaps i r) = zip_at (λ part remap. LeadInto (mentions (definitions part)) m remap) Ks remaps i K r zip lt in
+    subst (λ (L : Collection). LeadInto (mentions (definitions L)) m r) (sym at) (subst (LeadInto (mentions (definitions (get_or Ks i K))) m) (sym to) lead)

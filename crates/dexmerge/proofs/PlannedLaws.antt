@@ -1,10 +1,10 @@
 -- The definitions of the parts of a plan.
-use Rattle.std.proofs.Common.{◌≡◌, ◌⊎◌, ℕ, ◌<◌, ◌≤◌, List, [], ◌∷◌, ◌++◌, length, get_or, take, map, refl, sym, ap, ◌∙◌, subst, inl, inr, Ok, Err}
-use Rattle.std.specs.Prelude.{Result, IfErr, slice_index_or}
+use Rattle.std.proofs.Common.{◌≡◌, ◌⊎◌, ℕ, ◌<◌, List, [], ◌∷◌, ◌++◌, length, get_or, map, refl, sym, ap, ◌∙◌, subst, inl, inr, Ok, Err}
+use Rattle.std.specs.Prelude.{Result, All, IfOk, IfErr, slice_index_or}
 use Rattle.std.specs.List.{Contains, flat_map}
-use Rattle.std.proofs.lemmas.List.{append-nil, take_all}
+use Rattle.std.proofs.lemmas.List.{append-nil}
 use Rattle.std.proofs.lemmas.Grind.{flat_map-append}
-use Rattle.std.proofs.lemmas.List.Elements.{Contains-append_left, Contains-append_right, Contains-append_cases, Contains-get_or}
+use Rattle.std.proofs.lemmas.List.Elements.{Contains-append_left, Contains-append_right, Contains-append_cases, Contains-get_or, All-get_or}
 use Rattle.dexspec.specs.Classes.{Definition}
 use Rattle.dexspec.specs.Files.{Collection, definitions, AreSame, AreWithin}
 use Rattle.dexspec.specs.Merging as merging
@@ -14,7 +14,6 @@ use Rattle.dexspec.proofs.Absorption.{IsGood-within, IsCause-within}
 use Rattle.dexspec.proofs.FirstCauses.{first_cause-same}
 use Rattle.dexmerge.specs.declared.faults.MergeFault.{MergeFault}
 use Rattle.dexmerge.specs.declared.faults.MergeFault.TheVariants as fault
-use Rattle.dexclass.proofs.Mentioned.{All-member}
 use Rattle.dexmerge.proofs.Marked.{part_leaves}
 use Rattle.dexmerge.specs.Plans.{plans_of}
 use Rattle.dexmerge.specs.Faults.{IsMerged, Tells, planned}
@@ -154,16 +153,33 @@ module _ (files : List Collection) where
 
 -- ---- what an answer gives
 
+pub if_ok_each : {A E : Type 0} (P Q : A → Type 0) (r : Result A E) → ((x : A) → P x → Q x) → IfOk r P → IfOk r Q
+if_ok_each P Q (Ok x) f h = f x h
+if_ok_each P Q (Err e) f h = h
+
 pub if_err_each : {A E : Type 0} (P Q : E → Type 0) (r : Result A E) → ((e : E) → P e → Q e) → IfErr r P → IfErr r Q
 if_err_each P Q (Ok x) f h = h
 if_err_each P Q (Err e) f h = f e h
 
 -- the programs of a node have its definitions
-pub programs_same : (files : List Collection) (ps : List Plan) (inner : List Collection) (n : ℕ) (D : List Definition) → length inner ≤ n → D ≡ of_files files (files_in ps) ++ flat_map definitions (take n inner) → AreSame (flat_map definitions inner) (of_plans files (nodes_in ps)) → AreSame D (planned files (Node (plans_of ps)))
-programs_same files ps inner n D le is same =
-    let all : D ≡ of_files files (files_in ps) ++ flat_map definitions inner = is ∙ ap (λ (l : List Collection). of_files files (files_in ps) ++ flat_map definitions l) (take_all n inner le) in
-    subst (λ (l : List Definition). AreSame l (planned files (Node (plans_of ps)))) (sym all) (node_same files ps inner same)
+pub programs_same : (files : List Collection) (ps : List Plan) (inner given : List Collection) → flat_map definitions given ≡ of_files files (files_in ps) → AreSame (flat_map definitions inner) (of_plans files (nodes_in ps)) → AreSame (flat_map definitions (inner ++ given)) (planned files (Node (plans_of ps)))
+programs_same files ps inner given is same =
+    let own : List Definition = flat_map definitions inner in
+    let all : flat_map definitions (inner ++ given) ≡ own ++ of_files files (files_in ps) = flat_map-append definitions inner given ∙ ap (λ (l : List Definition). own ++ l) is in
+    subst (λ (l : List Definition). AreSame l (planned files (Node (plans_of ps)))) (sym all) (λ d. (
+      λ c. (node_same files ps inner same d).0 (either_order own (of_files files (files_in ps)) d c),
+      λ c. either_order (of_files files (files_in ps)) own d ((node_same files ps inner same d).1 c),
+    ))
+  where
+    either_order : (D E : List Definition) (d : Definition) → Contains (D ++ E) d → Contains (E ++ D) d
+    either_order D E d c = elim (Contains-append_cases D E d c) [
+      | inl first ↦ Contains-append_right E D d first
+      | inr last ↦ Contains-append_left E D d last
+    ]
+
+pub all_member : (P : ℕ → Type 0) (xs : List ℕ) (x : ℕ) → All P xs → Contains xs x → P x
+all_member P xs x all c = subst P c.2 (All-get_or P xs c.0 x c.1 all)
 
 -- the files of a part are known
 pub part_known : (files : List Collection) (ps : List Plan) (p : Plan) → Contains ps p → AreKnown files (Node (plans_of ps)) → AreKnown files p
-part_known files ps p has known i d lt = All-member (λ k. k < length files) (all_leaves (plans_of ps)) (get_or (leaves p) i d) known (part_leaves ps p (get_or (leaves p) i d) has (Contains-get_or (leaves p) i d lt))
+part_known files ps p has known i d lt = all_member (λ k. k < length files) (all_leaves (plans_of ps)) (get_or (leaves p) i d) known (part_leaves ps p (get_or (leaves p) i d) has (Contains-get_or (leaves p) i d lt))

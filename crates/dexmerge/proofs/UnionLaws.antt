@@ -14,12 +14,12 @@ use Rattle.dexspec.proofs.Members.{Contains-nil, Contains-first, Contains-later,
 use Rattle.dexspec.proofs.InOrder.{Rises-from_rises, Rises-places, irreflexive, asymmetric}
 use Rattle.dexspec.proofs.SymbolOrders.{text_total}
 use Rattle.dexspec.proofs.Conflicts.{consistent-apart}
+use Rattle.dexspec.proofs.Depths.{Contains-map}
+use Rattle.dexspec.proofs.ClassPlaces.{Contains-map_source}
 use Rattle.dexpool.specs.Numberings.{AreRising}
 use Rattle.dexclass.specs.Numbered.{NumberedClass, type_at, definition_of}
-use Rattle.dexclass.specs.Marking.{IsInRange}
+use Rattle.dexclass.specs.Uses.{IsKnownClass}
 use Rattle.dexclass.specs.Parents.{no_class, name_number, parent_numbers, ArePlaces}
-use Rattle.dexclass.proofs.Mentioned.{Contains-map, Contains-map_source}
-use Rattle.dexclass.proofs.SameClasses.{one_class}
 use Rattle.dexmerge.specs.Candidates.{AreMembers, class_at, IsAlike, IsLeastUnlike, kept_classes}
 use Rattle.dexmerge.specs.Cycles.{AreKept, IsFirstCycle}
 
@@ -62,6 +62,10 @@ module _ (name : ℕ → ℕ) where
 all_behind : (P : ℕ → Type 0) (x : ℕ) (xs : List ℕ) → All P (x ∷ xs) → All P xs
 all_behind P x xs h i d lt = h (suc i) d (omega (arith, lt))
 
+-- classes that are unlike stand for unlike definitions
+abbrev pub AreTold : Mentions → List NumberedClass → Type 0
+AreTold m cs = (i j : ℕ) → i < length cs → j < length cs → definition_of m (class_at cs i) ≡ definition_of m (class_at cs j) → class_at cs i ≡ class_at cs j
+
 -- ---- numbers of types
 
 module _ (m : Mentions) (rising : AreRising m) where
@@ -88,7 +92,7 @@ module _ (m : Mentions) (rising : AreRising m) where
     ]
   ]
 
-  module _ (cs : List NumberedClass) (range : All (IsInRange m) cs) where
+  module _ (cs : List NumberedClass) (range : All (IsKnownClass m) cs) where
     abbrev E : List Definition
     E = map (definition_of m) cs
 
@@ -132,8 +136,8 @@ module _ (m : Mentions) (rising : AreRising m) where
           f k.0 k.1 ∙ sym (g k.0 (ap (λ (n : ℕ). get_or places n None) (sym e) ∙ k.1))
 
       -- the least name of unlike classes is the first cause
-      pub conflict_told : (caps : Caps) (name : ℕ) → IsLeastUnlike cs places name → IsFirstCause caps E (Conflict (type_at m name))
-      conflict_told caps name l = record { is = conflict; first = before }
+      pub conflict_told : AreTold m cs → (caps : Caps) (name : ℕ) → IsLeastUnlike cs places name → IsFirstCause caps E (Conflict (type_at m name))
+      conflict_told told caps name l = record { is = conflict; first = before }
         where
           kept_at : (l.is.kept < length cs) × (name_number cs l.is.kept ≡ name)
           kept_at = h.some name l.is.kept l.is.kept_is
@@ -147,8 +151,7 @@ module _ (m : Mentions) (rising : AreRising m) where
             other = (definition_of m (class_at cs l.is.kept)).1;
             one_in = at_name l.is.place l.is.within l.is.name_is;
             other_in = at_name l.is.kept kept_at.0 kept_at.1;
-            unlike = λ e. l.is.unlike (one_class m (class_at cs l.is.place) (class_at cs l.is.kept) rising (range l.is.place no_class l.is.within) (range l.is.kept no_class kept_at.0)
-                (λ i. (type_at m ((l.is.name_is ∙ sym kept_at.1) i), e i)));
+            unlike = λ e. l.is.unlike (told l.is.place l.is.kept l.is.within kept_at.0 (λ i. (type_at m ((l.is.name_is ∙ sym kept_at.1) i), e i)));
           }
 
           before : (other : Cause) → IsCause caps E other → IsToldBefore other (Conflict (type_at m name)) → ⊥
@@ -194,7 +197,7 @@ module _ (m : Mentions) (rising : AreRising m) where
       -- where all classes are alike, those that are kept stand for the same definitions
       pub kept_members : (D : List Definition) → AreMembers m D cs → ((i : ℕ) → i < length cs → IsAlike cs places i) → AreMembers m D (kept_classes cs places)
       kept_members D members alike = record {
-        numbers_in = λ i d lt. let has = kept_source (get_or (kept_classes cs places) i d) (Contains-get_or (kept_classes cs places) i d lt) in subst (IsInRange m) has.2 (range has.0 (get_or (kept_classes cs places) i d) has.1);
+        known = λ i d lt. let has = kept_source (get_or (kept_classes cs places) i d) (Contains-get_or (kept_classes cs places) i d lt) in subst (IsKnownClass m) has.2 (range has.0 (get_or (kept_classes cs places) i d) has.1);
         same = λ d. (
           λ c. (members.same d).0 (let s = Contains-map_source (definition_of m) (kept_classes cs places) d c in subst (Contains E) s.2 (Contains-map (definition_of m) cs s.0 (kept_source s.0 s.1))),
           λ c. let s = Contains-map_source (definition_of m) cs d ((members.same d).1 c) in
@@ -215,7 +218,7 @@ module _ (m : Mentions) (rising : AreRising m) where
 
   -- ---- classes by name
 
-  module _ (cs : List NumberedClass) (range : All (IsInRange m) cs) (rise : (i j : ℕ) → i < j → j < length cs → name_number cs i < name_number cs j) where
+  module _ (cs : List NumberedClass) (range : All (IsKnownClass m) cs) (rise : (i j : ℕ) → i < j → j < length cs → name_number cs i < name_number cs j) where
     -- no two places have one name
     one_place : (i j : ℕ) → i < length cs → j < length cs → name_number cs i ≡ name_number cs j → i ≡ j
     one_place i j li lj e = elim (cases_order i j) [
@@ -248,7 +251,7 @@ module _ (m : Mentions) (rising : AreRising m) where
       named = record {
         rising = rising.types_rise;
         names = name_in cs range;
-        parents_in = λ c has. all_behind (λ p. p < length m.types) c.name (parent_numbers c) (subst (IsInRange m) has.2 (range has.0 c has.1)).types_in;
+        parents_in = λ c has. all_behind (λ p. p < length m.types) c.name (parent_numbers c) (subst (IsKnownClass m) has.2 (range has.0 c has.1)).types_in;
         distinct = names_differ;
       };
       rise = rise;

@@ -1,22 +1,13 @@
 -- What classes weigh over a numbering.
-use Rattle.std.proofs.Common.{◌≡◌, ℕ, ◌+◌, ◌<◌, min, List, length, take, map, ap, ◌∙◌, arith, sum_by}
-use Rattle.std.proofs.lemmas.List.{length-map, take_more}
+use Rattle.std.proofs.Common.{◌≡◌, ℕ, ◌+◌, ◌<◌, min, List, length, take, ap, ◌∙◌, arith, sum_by}
+use Rattle.std.proofs.lemmas.List.{take_more}
 use Rattle.std.proofs.lemmas.List.Sums.{sum_by_push}
 use Rattle.dexspec.specs.Mentions.{Mentions}
 use Rattle.dexspec.specs.Weight.{body_weight}
-use Rattle.dexpool.specs.Numberings.{Maps}
-use Rattle.dexclass.specs.Numbered.{NumberedClass, type_at, definition_of}
+use Rattle.dexclass.specs.Numbered.{NumberedClass, definition_of}
 use Rattle.dexclass.specs.Parents.{no_class}
-use Rattle.dexclass.specs.Renumbering.{led, renumbered}
 use Rattle.dexmerge.specs.Candidates.{class_at}
 use Rattle.dexmerge.specs.Amounts.{weight_over}
-
--- led on, a class weighs the same
-pub weight_led : (m n : Mentions) (r : Maps) (c : NumberedClass) → body_weight (definition_of m (renumbered r c)).1 ≡ body_weight (definition_of n c).1
-weight_led m n r c =
-    let e : length (map (type_at m) (map (led r.types) c.interfaces)) ≡ length (map (type_at n) c.interfaces) =
-    omega (arith, length-map (map (led r.types) c.interfaces) (type_at m), length-map c.interfaces (led r.types), length-map c.interfaces (type_at n)) in
-    omega (arith, e)
 
 -- one class more
 pub weight_more : (m : Mentions) (cs : List NumberedClass) (i : ℕ) → i < length cs → weight_over m (take (i + 1) cs) ≡ weight_over m (take i cs) + body_weight (definition_of m (class_at cs i)).1

@@ -5,10 +5,11 @@ use Rattle.dexspec.specs.Classes.{Definition}
 use Rattle.dexspec.specs.Files.{AreSame}
 use Rattle.dexspec.specs.Mentions.{Mentions}
 use Rattle.dexspec.specs.WellFormed.{AreWellFormed}
+use Rattle.dexpool.specs.Numberings.{AreRising}
 use Rattle.dexclass.specs.Numbered.{NumberedClass, definition_of}
-use Rattle.dexclass.specs.Marking.{IsInRange}
+use Rattle.dexclass.specs.Uses.{IsKnownClass}
 use Rattle.dexclass.specs.Parents.{no_class, name_number}
-use Rattle.dexclass.specs.Renumbering.{renumbered}
+use Rattle.dexclass.specs.Renumbering.{renumbered, IsPartClass}
 use Rattle.dexmerge.specs.declared.candidates.Candidate.{Candidate}
 
 -- the class with the numbers of the union
@@ -19,9 +20,16 @@ class_of c = renumbered c.remap.now c.class.now
 abbrev pub classes_of : List Candidate → List NumberedClass
 classes_of cs = map class_of cs
 
+-- it is a class of a part whose maps lead to the whole, where it stands for the same
+pub record IsOfPart (whole : Mentions) (c : Candidate) : Type 0 where
+  pub part : Mentions
+  pub rising : AreRising part
+  pub is : IsPartClass whole part c.remap.now c.class.now
+  pub same : definition_of whole (class_of c) ≡ definition_of part c.class.now
+
 -- the classes stand for just these definitions, which are well formed
 pub record AreMembers (m : Mentions) (D : List Definition) (cs : List NumberedClass) : Type 0 where
-  pub numbers_in : All (IsInRange m) cs
+  pub known : All (IsKnownClass m) cs
   pub same : AreSame (map (definition_of m) cs) D
   pub formed : AreWellFormed D
 

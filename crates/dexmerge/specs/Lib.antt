@@ -6,4 +6,5 @@ pub mod Candidates
 pub mod Cycles
 pub mod Amounts
 pub mod Unions
+pub mod Gathering
 pub mod Parts

@@ -1,25 +1,27 @@
 -- Classes of a union over the numbering of what it mentions: all copies, and one of each name.
-use Rattle.std.specs.Prelude.{◌≡◌, List, length}
+use Rattle.std.specs.Prelude.{◌≡◌, List, length, All}
 use Rattle.std.specs.List.{AllZip, flat_map}
 use Rattle.dexspec.specs.Classes.{Definition}
 use Rattle.dexspec.specs.Files.{Collection, definitions}
 use Rattle.dexspec.specs.Mentions.{Mentions, mentions}
+use Rattle.dexspec.specs.Merging.{Caps, IsGood}
 use Rattle.dexpool.specs.Numberings.{AreRising, Maps}
-use Rattle.dexclass.specs.Numbered.{NumberedClass}
 use Rattle.dexclass.specs.Renumbering.{LeadInto}
-use Rattle.dexmerge.specs.Candidates.{AreMembers}
+use Rattle.dexmerge.specs.Candidates.{AreMembers, IsOfPart, classes_of}
 use Rattle.dexmerge.specs.Cycles.{AreKept}
+use Rattle.dexmerge.specs.declared.candidates.Candidate.{Candidate}
 
--- the classes stand for just these definitions, over the numbering of just what they mention
-pub record AreCopies (m : Mentions) (D : List Definition) (cs : List NumberedClass) : Type 0 where
+-- the candidates are classes of parts, and stand for just these definitions, over the numbering of just what they mention
+pub record AreCopies (m : Mentions) (D : List Definition) (cs : List Candidate) : Type 0 where
   pub mentions_are : m ≡ mentions D
   pub rising : AreRising m
-  pub members : AreMembers m D cs
+  pub of_parts : All (IsOfPart m) cs
+  pub members : AreMembers m D (classes_of cs)
 
 -- the same, and they are by name, one of each
-pub record AreOnce (m : Mentions) (D : List Definition) (cs : List NumberedClass) : Type 0 where
+pub record AreOnce (m : Mentions) (D : List Definition) (cs : List Candidate) : Type 0 where
   pub copies : AreCopies m D cs
-  pub kept : AreKept m cs
+  pub kept : AreKept m (classes_of cs)
 
 -- the numbering of all parts, and where the numbers of each lead
 pub record IsJoined (parts : List Collection) (m : Mentions) (remaps : List Maps) : Type 0 where
@@ -27,3 +29,8 @@ pub record IsJoined (parts : List Collection) (m : Mentions) (remaps : List Maps
   pub rising : AreRising m
   pub count : length remaps ≡ length parts
   pub lead : AllZip (λ part remap. LeadInto (mentions (definitions part)) m remap) parts remaps
+
+-- the same, of parts that can be merged
+pub record IsJudged (caps : Caps) (parts : List Collection) (m : Mentions) (remaps : List Maps) : Type 0 where
+  pub joined : IsJoined parts m remaps
+  pub good : IsGood caps (flat_map definitions parts)

@@ -6,22 +6,24 @@ ghost use Rattle.dexspec.specs.Classes.{Definition};
 ghost use Rattle.dexspec.specs.Files.{definitions};
 ghost use Rattle.dexspec.specs.Mentions.{Mentions, mentions};
 ghost use Rattle.dexspec.specs.Weight.{body_weight};
+ghost use Rattle.dexmembers.specs.Fitting.{members_short_strings};
 ghost use Rattle.dexclass.specs.Numbered.{definition_of};
-ghost use Rattle.dexclass.specs.Renumbering.{LeadInto, led};
-ghost use Rattle.dexmerge.specs.Candidates.{AreMembers, class_of, classes_of};
+ghost use Rattle.dexclass.specs.Renumbering.{LeadInto, IsLedClass, led};
+ghost use Rattle.dexmerge.specs.Amounts.{has_from};
+ghost use Rattle.dexmerge.specs.Candidates.{AreMembers, IsOfPart, class_of, classes_of};
 
-use dexclass::{Class, Program};
+use dexclass::{Class, Program, renumbering_law};
 use dexpool::{Remap, SymbolKind};
 use std::alloc::{AllocError, Global};
 
 /// A class of a part, and where the numbers of the part lead in the union.
 #[derive(Clone, Copy)]
-pub(crate) struct Candidate<'b> {
-    class: &'b Class,
+pub(crate) struct Candidate<'a, 'b> {
+    class: &'b Class<'a>,
     remap: &'b Remap,
 }
 
-impl<'b> Candidate<'b> {
+impl<'a, 'b> Candidate<'a, 'b> {
     /// The number of its type in the union.
     pub(crate) fn name(&self) -> usize
         ensures { result ≡ (class_of self.now).name }
@@ -57,7 +59,7 @@ impl<'b> Candidate<'b> {
     }
 
     /// Whether the two are the same class of the union.
-    pub(crate) fn is_same(&self, other: &Candidate<'_>) -> bool
+    pub(crate) fn is_same(&self, other: &Candidate<'_, '_>) -> bool
         ensures { IsTrue result ↔ (class_of self.now ≡ class_of other.now) }
     {
         self.class.same_mapped(self.remap, other.class, other.remap)
@@ -65,31 +67,43 @@ impl<'b> Candidate<'b> {
 
     /// What the class weighs without the symbols that it names, or 2^64 - 1 where that is more.
     pub(crate) fn weight(&self) -> u64
-        ensures { (m : Mentions) → result ≡ min (2 ^ 64 - 1) (body_weight (definition_of m (class_of self.now)).1) }
+        ensures { (m : Mentions) → IsOfPart m self.now → result ≡ min (2 ^ 64 - 1) (body_weight (definition_of m (class_of self.now)).1) }
     {
         self.class.weight()
     }
 
-    /// The class with the numbers of the union, as one of its own.
+    /// Whether the number in the union of a text that a `const-string` of the class names is not below a cap; a
+    /// `const-string/jumbo` does not count. Maps keep the order of numbers, so only the greatest has to be led on.
     ///
-    /// Error: the memory for it was refused.
-    pub(crate) fn copied(&self) -> Result<Class, AllocError>
-        ensures { IfOk result (λ class. class ≡ class_of self.now) }
+    /// Condition: each symbol that occurs in the class leads somewhere.
+    ///
+    /// Source: "Instruction Formats", the 16 bits of an index.
+    pub(crate) fn has_text_from(&self, cap: usize) -> bool
+        requires { IsLedClass self.now.remap.now self.now.class.now }
+        ensures { result ≡ has_from cap (members_short_strings (class_of self.now).members) }
     {
-        let mut class = self.class.copy()?;
-        class.renumber(self.remap);
-        Ok(class)
+        self.remap.keeps_order();
+        let greatest = match self.class.members().greatest_short_string() {
+            Some(greatest) => greatest,
+            None => return false,
+        };
+        match self.remap.image(SymbolKind::Text, greatest as usize) {
+            Some(image) => image >= cap,
+            None => false,
+        }
     }
 }
 
 // Appends the classes of a part.
-fn push_classes<'b>(
-    part: &'b Program<'_>,
+fn push_classes<'a, 'b>(
+    part: &'b Program<'a>,
     remap: &'b Remap,
-    candidates: &mut Vec<Candidate<'b>>,
+    candidates: &mut Vec<Candidate<'a, 'b>>,
 ) -> Result<(), AllocError>
-    ensures { OnOk result ((m : Mentions) (D : List Definition) → LeadInto (mentions (definitions part.now)) m remap.now → AreMembers m D (classes_of candidates.old.items) → AreMembers m (D ++ definitions part.now) (classes_of candidates.new.items)) }
+    ensures members { OnOk result ((m : Mentions) (D : List Definition) → LeadInto (mentions (definitions part.now)) m remap.now → AreMembers m D (classes_of candidates.old.items) → AreMembers m (D ++ definitions part.now) (classes_of candidates.new.items)) }
+    ensures parts { OnOk result ((m : Mentions) → LeadInto (mentions (definitions part.now)) m remap.now → All (IsOfPart m) candidates.old.items → All (IsOfPart m) candidates.new.items) }
 {
+    renumbering_law();
     part.is_good();
     for class in part.classes() {
         candidates.push(Candidate { class, remap })?;
@@ -100,13 +114,14 @@ fn push_classes<'b>(
 /// The classes of all parts.
 ///
 /// Condition: a map for each part. Error: the memory for the list was refused.
-pub(crate) fn candidates<'b>(
+pub(crate) fn candidates<'a, 'b>(
     alloc: Global,
-    parts: &'b [&Program<'_>],
+    parts: &'b [&Program<'a>],
     remaps: &'b [Remap],
-) -> Result<Vec<Candidate<'b>>, AllocError>
+) -> Result<Vec<Candidate<'a, 'b>>, AllocError>
     requires { length remaps.now ≡ length parts.now }
-    ensures { IfOk result (λ candidates. (m : Mentions) → AllZip (λ part remap. LeadInto (mentions (definitions part)) m remap) (map (λ part. part.now) parts.now) remaps.now → AreMembers m (flat_map definitions (map (λ part. part.now) parts.now)) (classes_of candidates.items)) }
+    ensures members { IfOk result (λ candidates. (m : Mentions) → AllZip (λ part remap. LeadInto (mentions (definitions part)) m remap) (map (λ part. part.now) parts.now) remaps.now → AreMembers m (flat_map definitions (map (λ part. part.now) parts.now)) (classes_of candidates.items)) }
+    ensures parts { IfOk result (λ candidates. (m : Mentions) → AllZip (λ part remap. LeadInto (mentions (definitions part)) m remap) (map (λ part. part.now) parts.now) remaps.now → All (IsOfPart m) candidates.items) }
 {
     let mut candidates = Vec::new(alloc);
     for i in 0..parts.len() {

@@ -2,6 +2,7 @@
 
 ghost use Rattle.std.specs.Prelude.{◌≡◌, ◌↔◌, ◌<◌, ◌++◌, ◌∷◌, [], ℕ, Option, Some, None, All, IfOk, OnOk, IsTrue, MatchOption, length, map, slice_index_or};
 ghost use Rattle.dexspec.specs.Lists.{present};
+ghost use Rattle.dexpool.specs.Numberings.{AreIn};
 ghost use Rattle.dexclass.specs.Parents.{ArePlaces};
 ghost use Rattle.dexmerge.specs.Candidates.{classes_of, class_at, kept_classes, IsAlike, IsLeastUnlike, lesser_of};
 
@@ -13,7 +14,7 @@ use std::alloc::{AllocError, Global};
 /// Condition: each candidate's name is below the number of types. Error: the memory for it was refused.
 pub(crate) fn places(
     alloc: Global,
-    candidates: &[Candidate<'_>],
+    candidates: &[Candidate<'_, '_>],
     types: usize,
 ) -> Result<Vec<Option<usize>>, AllocError>
     requires { All (λ c. c.name < types) (classes_of candidates.now) }
@@ -38,17 +39,20 @@ pub(crate) fn place(places: &[Option<usize>], typ: usize) -> Option<usize>
     }
 }
 
-// Whether two candidates are the same class.
-fn are_same(candidates: &[Candidate<'_>], i: usize, k: usize) -> bool
+// Whether two candidates are the same class. None is compared with itself.
+fn are_same(candidates: &[Candidate<'_, '_>], i: usize, k: usize) -> bool
     requires first { i < length candidates.now }
     requires second { k < length candidates.now }
     ensures { IsTrue result ↔ (class_at (classes_of candidates.now) i ≡ class_at (classes_of candidates.now) k) }
 {
+    if i == k {
+        return true;
+    }
     candidates[i].is_same(&candidates[k])
 }
 
 // Whether the candidate is the same class as the one that is kept of its name.
-fn is_alike(candidates: &[Candidate<'_>], places: &[Option<usize>], i: usize) -> bool
+fn is_alike(candidates: &[Candidate<'_, '_>], places: &[Option<usize>], i: usize) -> bool
     requires within { i < length candidates.now }
     requires places { ArePlaces (classes_of candidates.now) places.now }
     ensures { IsTrue result ↔ IsAlike (classes_of candidates.now) places.now i }
@@ -72,7 +76,10 @@ fn lesser(least: Option<usize>, name: usize) -> Option<usize>
 /// The least name of unlike candidates, if there is one.
 ///
 /// Condition: the places are those of the candidates.
-pub(crate) fn least_unlike(candidates: &[Candidate<'_>], places: &[Option<usize>]) -> Option<usize>
+pub(crate) fn least_unlike(
+    candidates: &[Candidate<'_, '_>],
+    places: &[Option<usize>],
+) -> Option<usize>
     requires { ArePlaces (classes_of candidates.now) places.now }
     ensures { MatchOption result ((i : ℕ) → i < length candidates.now → IsAlike (classes_of candidates.now) places.now i) (IsLeastUnlike (classes_of candidates.now) places.now) }
 {
@@ -86,13 +93,14 @@ pub(crate) fn least_unlike(candidates: &[Candidate<'_>], places: &[Option<usize>
 }
 
 // Appends a candidate, if there is one.
-fn push_kept<'b>(
-    candidates: &[Candidate<'b>],
+fn push_kept<'a, 'b>(
+    candidates: &[Candidate<'a, 'b>],
     place: Option<usize>,
-    kept: &mut Vec<Candidate<'b>>,
+    kept: &mut Vec<Candidate<'a, 'b>>,
 ) -> Result<(), AllocError>
     requires { (i : ℕ) → place ≡ Some i → i < length candidates.now }
-    ensures { OnOk result (classes_of kept.new.items ≡ classes_of kept.old.items ++ map (class_at (classes_of candidates.now)) (present (place ∷ []))) }
+    ensures within { OnOk result (AreIn kept.old.items candidates.now → AreIn kept.new.items candidates.now) }
+    ensures kept { OnOk result (classes_of kept.new.items ≡ classes_of kept.old.items ++ map (class_at (classes_of candidates.now)) (present (place ∷ []))) }
 {
     match place {
         Some(i) => {
@@ -106,13 +114,14 @@ fn push_kept<'b>(
 /// The candidates that are kept, by name.
 ///
 /// Condition: the places are those of the candidates. Error: the memory for the list was refused.
-pub(crate) fn kept<'b>(
+pub(crate) fn kept<'a, 'b>(
     alloc: Global,
-    candidates: &[Candidate<'b>],
+    candidates: &[Candidate<'a, 'b>],
     places: &[Option<usize>],
-) -> Result<Vec<Candidate<'b>>, AllocError>
+) -> Result<Vec<Candidate<'a, 'b>>, AllocError>
     requires { ArePlaces (classes_of candidates.now) places.now }
-    ensures { IfOk result (λ kept. classes_of kept.items ≡ kept_classes (classes_of candidates.now) places.now) }
+    ensures within { IfOk result (λ kept. AreIn kept.items candidates.now) }
+    ensures kept { IfOk result (λ kept. classes_of kept.items ≡ kept_classes (classes_of candidates.now) places.now) }
 {
     let mut kept = Vec::new(alloc);
     for typ in 0..places.len() {

@@ -1,16 +1,18 @@
 //! What a union comes to, and the first cap that it exceeds.
 
-ghost use Rattle.std.specs.Prelude.{◌≡◌, ◌-◌, ◌^◌, min, nat_lt};
+ghost use Rattle.std.specs.Prelude.{◌≡◌, ◌-◌, ◌^◌, min, nat_lt, All};
 ghost use Rattle.dexpool.specs.Pools.{count_of};
-ghost use Rattle.dexmerge.specs.Candidates.{classes_of};
-ghost use Rattle.dexmerge.specs.Amounts.{weight_over, first_over};
+ghost use Rattle.dexclass.specs.Uses.{IsKnownClass};
+ghost use Rattle.dexmerge.specs.Candidates.{IsOfPart, classes_of};
+ghost use Rattle.dexmerge.specs.Amounts.{weight_over, short_numbers, has_from, first_over};
 
 use crate::candidates::Candidate;
 use crate::caps::Caps;
 use dexpool::{Numbering, SymbolKind};
 
 // What the classes weigh, with the symbols of the numbering, or 2^64 - 1 where that is more.
-fn weight(numbering: &Numbering<'_>, classes: &[Candidate<'_>]) -> u64
+fn weight(numbering: &Numbering<'_>, classes: &[Candidate<'_, '_>]) -> u64
+    requires { All (IsOfPart numbering.now) classes.now }
     ensures { result ≡ min (2 ^ 64 - 1) (weight_over numbering.now (classes_of classes.now)) }
 {
     let mut weight = numbering.weight().saturating_add(1024);
@@ -27,21 +29,43 @@ fn has_more(numbering: &Numbering<'_>, kind: SymbolKind, cap: u32) -> bool
     numbering.count(kind) > cap as usize
 }
 
+// Whether the number of a text that a `const-string` names is not below a cap; a `const-string/jumbo` does not count.
+// No code is read where there are no more texts than the cap.
+fn has_text_from(numbering: &Numbering<'_>, classes: &[Candidate<'_, '_>], cap: u32) -> bool
+    requires parts { All (IsOfPart numbering.now) classes.now }
+    requires known { All (IsKnownClass numbering.now) (classes_of classes.now) }
+    ensures { result ≡ has_from cap (short_numbers (classes_of classes.now)) }
+{
+    if !has_more(numbering, SymbolKind::Text, cap) {
+        return false;
+    }
+    for i in 0..classes.len() {
+        if classes[i].has_text_from(cap as usize) {
+            return true;
+        }
+    }
+    false
+}
+
 // Whether the classes weigh more than a cap allows.
-fn is_heavier(numbering: &Numbering<'_>, classes: &[Candidate<'_>], caps: &Caps) -> bool
+fn is_heavier(numbering: &Numbering<'_>, classes: &[Candidate<'_, '_>], caps: &Caps) -> bool
+    requires { All (IsOfPart numbering.now) classes.now }
     ensures { result ≡ nat_lt caps.now.weight (weight_over numbering.now (classes_of classes.now)) }
 {
     caps.are_caps();
     weight(numbering, classes) > u64::from(caps.weight())
 }
 
-/// The number of the first cap that classes exceed, with the symbols of their numbering, if there is one. They are
-/// plain and so have no `const-string`.
+/// The number of the first cap that classes exceed, with the symbols of their numbering, if there is one.
+///
+/// Condition: the classes are classes of parts, led to the numbering.
 pub(crate) fn first_exceeded(
     numbering: &Numbering<'_>,
-    classes: &[Candidate<'_>],
+    classes: &[Candidate<'_, '_>],
     caps: &Caps,
 ) -> Option<u8>
+    requires parts { All (IsOfPart numbering.now) classes.now }
+    requires known { All (IsKnownClass numbering.now) (classes_of classes.now) }
     ensures { result ≡ first_over caps.now numbering.now (classes_of classes.now) }
 {
     if has_more(numbering, SymbolKind::Typ, caps.types()) {
@@ -55,6 +79,9 @@ pub(crate) fn first_exceeded(
     }
     if has_more(numbering, SymbolKind::Method, caps.methods()) {
         return Some(4);
+    }
+    if has_text_from(numbering, classes, caps.short_strings()) {
+        return Some(5);
     }
     if is_heavier(numbering, classes, caps) {
         return Some(6);

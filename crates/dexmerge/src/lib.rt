@@ -8,6 +8,8 @@ mod caps;
 mod copies;
 mod faults;
 mod fitting;
+mod gathering;
+mod judging;
 mod merging;
 mod parents;
 mod plan;

@@ -1,28 +1,39 @@
 //! Programs merged.
 
-ghost use Rattle.std.specs.Prelude.{◌≡◌, ◌<◌, length, List, IfOk, IfErr, OnOk, map};
+ghost use Rattle.std.specs.Prelude.{◌≡◌, ◌++◌, List, IfOk, IfErr, map};
 ghost use Rattle.std.specs.List.{flat_map};
 ghost use Rattle.dexspec.specs.Classes.{Definition};
 ghost use Rattle.dexspec.specs.Files.{definitions, AreWithin};
-ghost use Rattle.dexspec.specs.Merging as merging;
-ghost use Rattle.dexspec.specs.Merging.{IsGood, IsFirstCause};
+ghost use Rattle.dexspec.specs.Merging.{IsFirstCause};
 ghost use Rattle.dexlaws_growth.specs.Laws.{Absorbs};
-ghost use Rattle.dexclass.specs.Numbered.{type_at};
-ghost use Rattle.dexclass.specs.Parents.{name_number};
 ghost use Rattle.dexmerge.specs.Faults.{IsMerged, Tells};
-ghost use Rattle.dexmerge.specs.Candidates.{classes_of};
-ghost use Rattle.dexmerge.specs.Unions.{AreCopies, AreOnce, IsJoined};
+ghost use Rattle.dexmerge.specs.Unions.{IsJoined, IsJudged};
 
-use crate::candidates::{Candidate, candidates};
 use crate::caps::Caps;
-use crate::copies::{kept, least_unlike, places};
 use crate::faults::MergeFault;
-use crate::fitting::first_exceeded;
-use crate::parents::first_cycle;
-use dexclass::{Class, Program};
+use crate::gathering::gather;
+use crate::judging::judge;
+use dexclass::Program;
 use dexpool::{Numbering, Remap, SymbolKind};
-use dexstr::Name;
 use std::alloc::{AllocError, Global};
+
+// The parts: those that are owned, and then the files.
+fn all_parts<'a, 'b>(
+    alloc: Global,
+    owned: &'b [Program<'a>],
+    files: &[&'b Program<'a>],
+) -> Result<Vec<&'b Program<'a>>, AllocError>
+    ensures { IfOk result (λ parts. map (λ part. part.now) parts.items ≡ owned.now ++ map (λ file. file.now) files.now) }
+{
+    let mut parts = Vec::new(alloc);
+    for program in owned {
+        parts.push(program)?;
+    }
+    for i in 0..files.len() {
+        parts.push(files[i])?;
+    }
+    Ok(parts)
+}
 
 // The numbering of all parts, and where the numbers of each lead.
 fn joined<'a>(
@@ -41,66 +52,43 @@ fn joined<'a>(
     Ok((numbering, remaps))
 }
 
-// One class of each name. Classes of one name that are unlike are a conflict.
-fn one_of_each<'b>(
+// The numbering of parts that can be merged, and where the numbers of each lead.
+fn judged<'a>(
     alloc: Global,
-    numbering: &Numbering<'_>,
-    candidates: &[Candidate<'b>],
-) -> Result<Vec<Candidate<'b>>, MergeFault>
-    requires { (D : List Definition) × AreCopies numbering.now D (classes_of candidates.now) }
-    ensures kept { IfOk result (λ kept. (D : List Definition) → AreCopies numbering.now D (classes_of candidates.now) → AreOnce numbering.now D (classes_of kept.items)) }
-    ensures fault { IfErr result (λ fault. (caps : merging.Caps) (D : List Definition) → AreCopies numbering.now D (classes_of candidates.now) → Tells (IsFirstCause caps D) fault) }
-{
-    let places = places(alloc, candidates, numbering.count(SymbolKind::Typ))?;
-    match least_unlike(candidates, &places) {
-        Some(name) => Err(MergeFault::Conflict(Name::of(alloc, numbering.typ(name))?)),
-        None => Ok(kept(alloc, candidates, &places)?),
-    }
-}
-
-// The name of a class.
-fn name_of(
-    alloc: Global,
-    numbering: &Numbering<'_>,
-    classes: &[Candidate<'_>],
-    i: usize,
-) -> Result<Name, AllocError>
-    requires class { i < length classes.now }
-    requires name { name_number (classes_of classes.now) i < length numbering.now.types }
-    ensures { IfOk result (λ name. name ≡ type_at numbering.now (name_number (classes_of classes.now) i)) }
-{
-    Name::of(alloc, numbering.typ(classes[i].name()))
-}
-
-// Whether the classes can be merged: cycles are judged, and then caps.
-fn judge(
-    alloc: Global,
-    numbering: &Numbering<'_>,
-    classes: &[Candidate<'_>],
+    owned: &[Program<'a>],
+    files: &[&Program<'a>],
     caps: &Caps,
-) -> Result<(), MergeFault>
-    requires { (D : List Definition) × AreOnce numbering.now D (classes_of classes.now) }
-    ensures good { OnOk result ((D : List Definition) → AreOnce numbering.now D (classes_of classes.now) → IsGood caps.now D) }
-    ensures fault { IfErr result (λ fault. (D : List Definition) → AreOnce numbering.now D (classes_of classes.now) → Tells (IsFirstCause caps.now D) fault) }
+) -> Result<(Numbering<'a>, Vec<Remap>), MergeFault>
+    ensures good { IfOk result (λ judged. IsJudged caps.now (owned.now ++ map (λ file. file.now) files.now) judged.0 judged.1.items) }
+    ensures fault { IfErr result (Tells (IsFirstCause caps.now (flat_map definitions (owned.now ++ map (λ file. file.now) files.now)))) }
 {
-    match first_cycle(alloc, classes, numbering.count(SymbolKind::Typ))? {
-        Some(i) => Err(MergeFault::Cycle(name_of(alloc, numbering, classes, i)?)),
-        None => match first_exceeded(numbering, classes, caps) {
-            Some(cap) => Err(MergeFault::Cap(cap)),
-            None => Ok(()),
-        },
+    let parts = all_parts(alloc, owned, files)?;
+    let (numbering, remaps) = joined(alloc, &parts)?;
+    match judge(alloc, &numbering, &parts, &remaps, caps) {
+        Ok(()) => Ok((numbering, remaps)),
+        Err(fault) => Err(fault),
     }
 }
 
-// The classes as classes of the union.
-fn copied(alloc: Global, classes: &[Candidate<'_>]) -> Result<Vec<Class>, AllocError>
-    ensures { IfOk result (λ copies. copies.items ≡ classes_of classes.now) }
+/// The program of all classes of programs, as [`merge`] has it. Classes of those that are owned are moved, those of
+/// files are copied.
+pub(crate) fn merge_all<'a>(
+    alloc: Global,
+    owned: Vec<Program<'a>>,
+    files: &[&Program<'a>],
+    caps: &Caps,
+) -> Result<Program<'a>, MergeFault>
+    ensures merged { IfOk result (IsMerged caps.now (flat_map definitions (owned.entry.items ++ map (λ file. file.now) files.now))) }
+    ensures fault { IfErr result (Tells (IsFirstCause caps.now (flat_map definitions (owned.entry.items ++ map (λ file. file.now) files.now)))) }
 {
-    let mut copies = Vec::with_capacity(alloc, classes.len())?;
-    for i in 0..classes.len() {
-        copies.push(classes[i].copied()?)?;
-    }
-    Ok(copies)
+    let (numbering, remaps) = match judged(alloc, &owned, files, caps) {
+        Ok(judged) => judged,
+        Err(fault) => return Err(fault),
+    };
+    caps.are_caps();
+    let types = numbering.count(SymbolKind::Typ);
+    let classes = gather(alloc, owned, files, &remaps, types)?;
+    Ok(Program::of(alloc, numbering, classes)?)
 }
 
 /// The program of all classes of the parts, in any order and with any repeats.
@@ -118,14 +106,5 @@ pub fn merge<'a>(
     ensures law { (part whole : List Definition) → AreWithin part whole → Absorbs part whole }
 {
     dexlaws_growth::absorption_law();
-    let (numbering, remaps) = joined(alloc, parts)?;
-    let copies = candidates(alloc, parts, &remaps)?;
-    let classes = match one_of_each(alloc, &numbering, &copies) {
-        Ok(classes) => classes,
-        Err(fault) => return Err(fault),
-    };
-    judge(alloc, &numbering, &classes, caps)?;
-    let classes = copied(alloc, &classes)?;
-    caps.are_caps();
-    Ok(Program::of(alloc, numbering, classes)?)
+    merge_all(alloc, Vec::new(alloc), parts, caps)
 }

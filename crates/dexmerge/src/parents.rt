@@ -32,7 +32,7 @@ fn push_parent(
 // The classes that are parents of a class, in the place of what the list held.
 fn collect_parents(
     places: &[Option<usize>],
-    class: &Candidate<'_>,
+    class: &Candidate<'_, '_>,
     parents: &mut Vec<usize>,
 ) -> Result<(), AllocError>
     ensures { OnOk result (parents.new.items ≡ defined_parents places.now (class_of class.now)) }
@@ -51,7 +51,7 @@ fn collect_parents(
 // The classes, each with those of its parents that are among them.
 fn hierarchy(
     alloc: Global,
-    classes: &[Candidate<'_>],
+    classes: &[Candidate<'_, '_>],
     types: usize,
 ) -> Result<Hierarchy, AllocError>
     requires { All (λ c. c.name < types) (classes_of classes.now) }
@@ -87,7 +87,7 @@ fn first_without(depths: &[Option<usize>]) -> Option<usize>
 /// Source: "class_defs", a superclass and interfaces stand before the class.
 pub(crate) fn first_cycle(
     alloc: Global,
-    classes: &[Candidate<'_>],
+    classes: &[Candidate<'_, '_>],
     types: usize,
 ) -> Result<Option<usize>, AllocError>
     requires { (m : Mentions) × (length m.types ≡ types) × AreKept m (classes_of classes.now) }

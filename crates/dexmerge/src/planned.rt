@@ -11,7 +11,7 @@ ghost use Rattle.dexmerge.specs.Parts.{AreKnown, IsCauseOf, files_in, nodes_in, 
 
 use crate::caps::Caps;
 use crate::faults::{MergeFault, PlanFault};
-use crate::merging::merge;
+use crate::merging::{merge, merge_all};
 use crate::plan::{Plan, is_plan_for};
 use dexclass::Program;
 use std::alloc::{AllocError, Global};
@@ -42,28 +42,25 @@ fn push_files<'a, 'b>(
     Ok(())
 }
 
-// Merges the parts of a node. Those that are nodes have been merged.
-fn merge_node<'a, 'b>(
+// Merges the parts of a node. Those that are nodes have been merged, and what they made is moved.
+fn merge_node<'a>(
     alloc: Global,
-    files: &'b [Program<'a>],
+    files: &[Program<'a>],
     parts: &[Plan],
-    inner: &'b [Program<'a>],
+    inner: Vec<Program<'a>>,
     caps: &Caps,
 ) -> Result<Program<'a>, MergeFault>
     requires known { AreKnown files.now (merging.Node (plans_of (map plan_of parts.now))) }
-    requires inner { AreSame (flat_map definitions inner.now) (of_plans files.now (nodes_in (map plan_of parts.now))) }
+    requires inner { AreSame (flat_map definitions inner.items) (of_plans files.now (nodes_in (map plan_of parts.now))) }
     ensures merged { IfOk result (IsMerged caps.now (planned files.now (merging.Node (plans_of (map plan_of parts.now))))) }
     ensures fault { IfErr result (Tells (IsFirstCause caps.now (planned files.now (merging.Node (plans_of (map plan_of parts.now)))))) }
 {
     let mut programs = Vec::with_capacity(alloc, parts.len())?;
     push_files(files, parts, &mut programs)?;
-    for program in inner {
-        programs.push(program)?;
-    }
-    merge(alloc, &programs, caps)
+    merge_all(alloc, inner, &programs, caps)
 }
 
-// Merges the files of a plan. Each node is merged by itself; files are borrowed.
+// Merges the files of a plan. Each node is merged by itself; files are borrowed, and what inner nodes made is moved.
 fn merge_parts<'a>(
     alloc: Global,
     files: &[Program<'a>],
@@ -84,7 +81,7 @@ fn merge_parts<'a>(
                     Plan::Node(_) => inner.push(merge_parts(alloc, files, part, caps)?)?,
                 }
             }
-            merge_node(alloc, files, parts, &inner, caps)
+            merge_node(alloc, files, parts, inner, caps)
         }
     }
 }

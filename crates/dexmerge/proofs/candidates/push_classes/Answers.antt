@@ -1,17 +1,32 @@
-use Rattle.std.proofs.Common.{◌≡◌, ◌++◌, ◌∙◌, List, map, sym, ap, subst, arith}
+use Rattle.std.proofs.Common.{◌≡◌, ◌++◌, ◌∙◌, List, map, sym, ap, subst, arith, refl}
+use Rattle.std.specs.Prelude.{All}
 use Rattle.std.proofs.lemmas.List.{take_all}
+use Rattle.std.proofs.lemmas.List.Elements.{All-push}
 use Rattle.dexspec.specs.Files.{definitions}
 use Rattle.dexclass.specs.Numbered.{NumberedClass}
 use Rattle.dexclass.specs.Renumbering.{renumbered}
-use Rattle.dexmerge.specs.Candidates.{AreMembers, classes_of}
-use Rattle.dexmerge.proofs.PartMembers.{members_more}
+use Rattle.dexmerge.specs.Candidates.{AreMembers, IsOfPart, classes_of}
+use Rattle.dexmerge.proofs.CandidatePlaces.{push_more}
+use Rattle.dexmerge.proofs.PartMembers.{members_more, class_known, of_part}
 use Rattle.dexmerge.proofs.candidates.push_classes.Goals as goal
 
-pub returns : goal.returns
-returns c = λ m D lead h.
+pub loop-class-preserved : goal.loop-class-preserved
+loop-class-preserved c =
+    let K = c.args.part.now in
+    let ps = c.classes-class-items.result.now in
+    let x = c.class-item.result in
+    record {
+      classes = push_more c.loop-class.candidates.items c.push.new.self.items _ (classes_of c.args.candidates.now.items) c.args.remap.now ps c.loop-class.class-index x c.in_ok-push.ensures.items refl c.loop-class-test.true c.class-item.is c.loop-class.invariant.classes;
+      parts = λ m lead before.
+          subst (All (IsOfPart m)) (sym c.in_ok-push.ensures.items) (All-push (IsOfPart m) c.loop-class.candidates.items _ (c.loop-class.invariant.parts m lead before)
+          (of_part c.renumbering_law.ensures.same c.renumbering_law.ensures.all m K _ lead (class_known K ps x c.classes-class-items.ensures (c.loop-class.class-index, c.loop-class-test.true, sym c.class-item.is))));
+    }
+
+pub returns-clause-members : goal.returns-clause-members
+returns-clause-members c = λ m D lead h.
     let K = c.args.part.now in
     let r = c.args.remap.now in
     let ps = c.classes-class-items.result.now in
     let all : classes_of c.loop-class.candidates.items ≡ classes_of c.args.candidates.now.items ++ map (renumbered r) ps =
-    c.loop-class.invariant ∙ ap (λ (l : List NumberedClass). classes_of c.args.candidates.now.items ++ map (renumbered r) l) (take_all c.loop-class.class-index ps (omega arith)) in
-    subst (AreMembers m (D ++ definitions K)) (sym all) (members_more m D K (classes_of c.args.candidates.now.items) ps r lead h c.classes-class-items.ensures c.is_good.ensures.formed)
+    c.loop-class.invariant.classes ∙ ap (λ (l : List NumberedClass). classes_of c.args.candidates.now.items ++ map (renumbered r) l) (take_all c.loop-class.class-index ps (omega arith)) in
+    subst (AreMembers m (D ++ definitions K)) (sym all) (members_more c.renumbering_law.ensures.same c.renumbering_law.ensures.all m K r lead D (classes_of c.args.candidates.now.items) ps h c.classes-class-items.ensures c.is_good.ensures.formed)

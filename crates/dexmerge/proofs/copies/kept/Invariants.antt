@@ -1,6 +1,10 @@
 use Rattle.std.specs.Prelude.{◌≡◌, take}
+use Rattle.dexpool.specs.Numberings.{AreIn}
 use Rattle.dexmerge.specs.Candidates.{classes_of, kept_classes}
 use Rattle.dexmerge.proofs.copies.kept.Given as goal
 
 abbrev pub invariant-loop-typ : goal.invariant-loop-typ
-invariant-loop-typ l = classes_of l.kept.items ≡ kept_classes (classes_of l.candidates) (take l.typ l.places)
+invariant-loop-typ l = record {
+  within : AreIn l.kept.items l.candidates;
+  kept : classes_of l.kept.items ≡ kept_classes (classes_of l.candidates) (take l.typ l.places);
+}

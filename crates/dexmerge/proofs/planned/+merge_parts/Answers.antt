@@ -83,8 +83,7 @@ merge_node-requires-clause-inner t c =
     let files = c.args.files.now in
     let parts = c.deref-part-items.result.now in
     let all : map plan_of (take c.loop-part.part-index parts) ≡ map plan_of c.deref.result.now = ap (map plan_of) (take_all c.loop-part.part-index parts (omega arith) ∙ c.deref-part-items.ensures.value ∙ sym c.deref.ensures.value) in
-    subst (λ (l : List Collection). AreSame (flat_map definitions l) (of_plans files (nodes_in (map plan_of c.deref.result.now)))) (sym c.deref-in-Node.ensures.value)
-    (subst (λ (l : List merging.Plan). AreSame (flat_map definitions c.loop-part.inner.items) (of_plans files (nodes_in l))) all c.loop-part.invariant)
+    subst (λ (l : List merging.Plan). AreSame (flat_map definitions c.loop-part.inner.items) (of_plans files (nodes_in l))) all c.loop-part.invariant
 
 pub returns-after-loop-part-clause-fault : goal.returns-after-loop-part-clause-fault
 returns-after-loop-part-clause-fault t c =

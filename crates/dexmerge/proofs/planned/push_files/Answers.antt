@@ -8,12 +8,11 @@ use Rattle.dexspec.specs.Files.{Collection, definitions}
 use Rattle.dexspec.specs.Merging as merging
 use Rattle.dexspec.specs.Merging.{leaves, all_leaves}
 use Rattle.dexspec.proofs.Members.{Contains-first}
-use Rattle.dexclass.proofs.Mentioned.{All-member}
 use Rattle.dexmerge.specs.Plans.{plan_of, plans_of}
 use Rattle.dexmerge.specs.Parts.{files_in, of_files}
 use Rattle.dexmerge.proofs.Marked.{part_leaves}
 use Rattle.dexmerge.proofs.PlanForms.{leaf_is, node_is, part_member, parts_more}
-use Rattle.dexmerge.proofs.PlannedLaws.{leaf_more, node_no_file}
+use Rattle.dexmerge.proofs.PlannedLaws.{leaf_more, node_no_file, all_member}
 use Rattle.dexmerge.proofs.planned.push_files.Goals as goal
 
 pub file-requires : goal.file-requires
@@ -21,7 +20,7 @@ file-requires c =
     let parts = c.args.parts.now in
     let is : plan_of c.part-item.result ≡ merging.Leaf c.in-Leaf.number = leaf_is c.part-item.result c.in-Leaf.number c.in-Leaf.is in
     let own : Contains (leaves (plan_of c.part-item.result)) c.in-Leaf.number = subst (λ (p : merging.Plan). Contains (leaves p) c.in-Leaf.number) (sym is) (Contains-first c.in-Leaf.number []) in
-    All-member (λ i. i < length c.args.files.now) (all_leaves (plans_of (map plan_of parts))) c.in-Leaf.number c.requires
+    all_member (λ i. i < length c.args.files.now) (all_leaves (plans_of (map plan_of parts))) c.in-Leaf.number c.requires
     (part_leaves (map plan_of parts) (plan_of c.part-item.result) c.in-Leaf.number (part_member parts c.loop-part.part-index c.part-item.result c.loop-part-test.true c.part-item.is) own)
 
 pub loop-part-preserved-in-Node : goal.loop-part-preserved-in-Node

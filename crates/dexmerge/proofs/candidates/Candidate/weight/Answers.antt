@@ -1,6 +1,7 @@
-use Rattle.std.proofs.Common.{◌∙◌, ℕ, min, sym, ap}
-use Rattle.dexmerge.proofs.Weighing.{weight_led}
+use Rattle.std.proofs.Common.{◌∙◌, min, sym, ap}
+use Rattle.dexspec.specs.Classes.{Definition}
+use Rattle.dexspec.specs.Weight.{body_weight}
 use Rattle.dexmerge.proofs.candidates.Candidate.weight.Goals as goal
 
 pub returns : goal.returns
-returns c = λ m. c.weight.ensures m ∙ ap (λ (n : ℕ). min 18446744073709551615 n) (sym (weight_led m m c.args.self.now.remap.now c.args.self.now.class.now))
+returns c = λ m p. c.weight.ensures p.part p.rising p.is.known ∙ ap (λ (d : Definition). min 18446744073709551615 (body_weight d.1)) (sym p.same)

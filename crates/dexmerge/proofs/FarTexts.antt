@@ -1,0 +1,140 @@
+-- Texts that a const-string names, whose numbers are not below a cap.
+use Rattle.std.proofs.Common.{◌≡◌, ℕ, ◌+◌, ◌<◌, ◌≤◌, Bool, true, false, leb, List, [], ◌∷◌, ◌++◌, length, take, map, refl, sym, ap, ◌∙◌, subst, arith, inl, inr, Option, Some, None}
+use Rattle.std.specs.Prelude.{All, IsSome, IfSome, nat_lt, not, option_to_list}
+use Rattle.std.specs.List.{Contains}
+use Rattle.std.proofs.lemmas.Bool.{ltb-true, ltb-false, lt-ltb, leb-true, le-leb, cases_lt, false≢true}
+use Rattle.std.proofs.lemmas.List.{take_more, append-nil}
+use Rattle.std.proofs.lemmas.Grind.{flat_map-append}
+use Rattle.std.proofs.lemmas.List.Elements.{All-append, All-get_or, Contains-get_or, Contains-append_cases}
+use Rattle.dexspec.specs.Mentions.{Mentions}
+use Rattle.dexspec.proofs.Members.{Contains-nil, list_any-member, list_any-source, Contains-flat_map, Contains-flat_map_source}
+use Rattle.dexpool.specs.Numberings.{Maps, image}
+use Rattle.dexpool.specs.Orderly.{KeepOrder}
+use Rattle.dexpool.specs.Uses.{IsLedUse}
+use Rattle.dexinsn.specs.Fitting.{IsGreatest}
+use Rattle.dexinsn.proofs.Fits.{shorts_led}
+use Rattle.dexcode.specs.Numbered.{NumberedItem}
+use Rattle.dexcode.specs.Renumbering.{HasImages}
+use Rattle.dexcode.proofs.CodePlaces.{images_of_uses}
+use Rattle.dexmembers.specs.Numbered.{NumberedMethod, methods_of}
+use Rattle.dexmembers.specs.Renumbering.{renumbered_members}
+use Rattle.dexmembers.specs.Uses.{members_uses}
+use Rattle.dexmembers.specs.Fitting.{code_short_strings, method_short_strings, members_short_strings}
+use Rattle.dexmembers.proofs.Images.{MethodHasImages, members_images}
+use Rattle.dexmembers.proofs.RenumberingLists.{all_right}
+use Rattle.dexclass.specs.Numbered.{NumberedClass}
+use Rattle.dexclass.specs.Parents.{no_class}
+use Rattle.dexclass.specs.Renumbering.{IsLedClass}
+use Rattle.dexclass.specs.Uses.{IsKnownClass, type_use, text_use, type_numbers, text_numbers}
+use Rattle.dexmerge.specs.Candidates.{class_at}
+use Rattle.dexmerge.specs.Amounts.{short_numbers, has_from}
+use Rattle.dexmerge.proofs.ShortStrings.{led_short, leads_short, option_source, short_stands_for}
+
+-- ---- by cases
+
+not_false : (b : Bool) → (b ≡ true → ⊥) → b ≡ false
+not_false true h = absurd (h refl)
+not_false false h = refl
+
+not_true : (b : Bool) → not b ≡ true → b ≡ false
+not_true true e = absurd cc
+not_true false e = refl
+
+-- where each number is below the cap, none is from it on
+pub none_far : (cap : ℕ) (ns : List ℕ) → ((n : ℕ) → Contains ns n → n < cap) → has_from cap ns ≡ false
+none_far cap ns below = not_false (has_from cap ns) (λ e.
+    let s = list_any-source (λ (n : ℕ). not (nat_lt n cap)) ns e in
+    omega (arith, below s.0 s.1, ltb-false s.0 cap (not_true (nat_lt s.0 cap) s.2)))
+
+-- a number that is not below the cap
+pub one_far : (cap : ℕ) (ns : List ℕ) (n : ℕ) → Contains ns n → nat_lt n cap ≡ false → has_from cap ns ≡ true
+one_far cap ns n has far = list_any-member (λ (k : ℕ). not (nat_lt k cap)) ns n has (ap not far)
+
+-- at least is not less
+pub at_least : (a b : ℕ) → leb a b ≡ not (nat_lt b a)
+at_least a b = elim (cases_lt b a) [
+  | inl less ↦ not_false (leb a b) (λ e. omega (arith, less, leb-true a b e)) ∙ ap not (sym (lt-ltb b a less))
+  | inr le ↦ le-leb a b le ∙ ap not (sym (not_false (nat_lt b a) (λ e. omega (arith, le, ltb-true b a e))))
+]
+
+-- ---- the greatest, led on
+
+all_member : {X : Type 0} (P : X → Type 0) (xs : List X) (x : X) → All P xs → Contains xs x → P x
+all_member P xs x all c = subst P c.2 (All-get_or P xs c.0 x c.1 all)
+
+module _ (r : Maps) (c : NumberedClass) (led : IsLedClass r c) where
+  -- each symbol in what it declares leads somewhere
+  members_led : All (IsLedUse r) (members_uses c.members)
+  members_led = all_right (IsLedUse r) (map text_use (text_numbers c)) (members_uses c.members) (all_right (IsLedUse r) (map type_use (type_numbers c)) (map text_use (text_numbers c) ++ members_uses c.members) led)
+
+  -- so does each text that a const-string names
+  pub text_led : (n : ℕ) → Contains (members_short_strings c.members) n → IsSome (image r.texts n)
+  text_led n has =
+      let images = members_images r (images_of_uses r) c.members members_led in
+      let method = Contains-flat_map_source method_short_strings (methods_of c.members) n has in
+      let y : NumberedMethod = method.0 in
+      let own : MethodHasImages r y = all_member (MethodHasImages r) (methods_of c.members) y (All-append (MethodHasImages r) c.members.direct_methods c.members.virtual_methods images.direct_methods_lead images.virtual_methods_lead) method.1 in
+      let code = Contains-flat_map_source code_short_strings (option_to_list y.code) n method.2 in
+      let k : NumberedItem = code.0 in
+      let there : HasImages r k = subst (λ (o : Option NumberedItem). IfSome o (HasImages r)) (option_source y.code k code.1) own.code_leads in
+      shorts_led r k.body.pieces n there.pieces_have code.2
+
+  -- no text is named
+  pub none_named : (cap : ℕ) → IsGreatest (members_short_strings c.members) None → has_from cap (members_short_strings (renumbered_members r c.members)) ≡ false
+  none_named cap none = none_far cap (members_short_strings (renumbered_members r c.members)) (λ j has.
+      let s = led_short r c.members j has in absurd (Contains-nil s.0 (subst (λ (l : List ℕ). Contains l s.0) none s.1)))
+
+  -- the greatest leads nowhere
+  pub none_led : (g : ℕ) → IsGreatest (members_short_strings c.members) (Some g) → image r.texts g ≡ None → ⊥
+  none_led g is e = some_none (image r.texts g) (text_led g is.0) e
+    where
+      some_none : (o : Option ℕ) → IsSome o → o ≡ None → ⊥
+      some_none None s e = absurd cc
+      some_none (Some k) s e = absurd cc
+
+  -- where the greatest leads, all others lead before
+  no_greater : (g k j : ℕ) → KeepOrder r → IsGreatest (members_short_strings c.members) (Some g) → image r.texts g ≡ Some k → Contains (members_short_strings (renumbered_members r c.members)) j → j ≤ k
+  no_greater g k j order is to has =
+      let s = led_short r c.members j has in
+      let le : s.0 ≤ g = all_member (λ n. n ≤ g) (members_short_strings c.members) s.0 is.1 s.1 in
+      elim (cases_lt s.0 g) [
+        | inl less ↦ (let lt = order.texts_keep s.0 g j k less s.2 to in omega (arith, lt))
+        | inr ge ↦ (
+            let same : s.0 ≡ g = omega (arith, le, ge) in
+            let one : Some j ≡ Some k = sym s.2 ∙ ap (image r.texts) same ∙ to in
+            let is : j ≡ k = cc in omega (arith, is))
+      ]
+
+  -- the greatest decides
+  by_greatest : (g k cap : ℕ) (b : Bool) → nat_lt k cap ≡ b → KeepOrder r → IsGreatest (members_short_strings c.members) (Some g) → image r.texts g ≡ Some k → has_from cap (members_short_strings (renumbered_members r c.members)) ≡ not b
+  by_greatest g k cap true test order is to = none_far cap (members_short_strings (renumbered_members r c.members)) (λ j has. omega (arith, no_greater g k j order is to has, ltb-true k cap test))
+  by_greatest g k cap false test order is to = one_far cap (members_short_strings (renumbered_members r c.members)) k (leads_short r c.members g k is.0 to) test
+
+  pub greatest_decides : (g k cap : ℕ) → KeepOrder r → IsGreatest (members_short_strings c.members) (Some g) → image r.texts g ≡ Some k → has_from cap (members_short_strings (renumbered_members r c.members)) ≡ not (nat_lt k cap)
+  greatest_decides g k cap order is to = by_greatest g k cap (nat_lt k cap) refl order is to
+
+-- ---- class by class
+
+-- where there are no more texts than the cap, each number is below it
+pub few_texts : (m : Mentions) (cs : List NumberedClass) (cap : ℕ) → All (IsKnownClass m) cs → length m.texts ≤ cap → has_from cap (short_numbers cs) ≡ false
+few_texts m cs cap known few = none_far cap (short_numbers cs) (λ n has. let s = short_stands_for m cs known n has in omega (arith, s.1.within, few))
+
+-- where one class names a text from the cap on, they do
+pub one_names : (cs : List NumberedClass) (i cap : ℕ) → i < length cs → has_from cap (members_short_strings (class_at cs i).members) ≡ true → has_from cap (short_numbers cs) ≡ true
+one_names cs i cap lt far =
+    let s = list_any-source (λ (n : ℕ). not (nat_lt n cap)) (members_short_strings (class_at cs i).members) far in
+    list_any-member (λ (n : ℕ). not (nat_lt n cap)) (short_numbers cs) s.0 (Contains-flat_map (λ (x : NumberedClass). members_short_strings x.members) cs (class_at cs i) s.0 (Contains-get_or cs i no_class lt) s.1) s.2
+
+-- one class more that names none
+pub more_near : (cs : List NumberedClass) (i cap : ℕ) → i < length cs → has_from cap (short_numbers (take i cs)) ≡ false → has_from cap (members_short_strings (class_at cs i).members) ≡ false → has_from cap (short_numbers (take (i + 1) cs)) ≡ false
+more_near cs i cap lt before last =
+    let test : ℕ → Bool = λ n. not (nat_lt n cap) in
+    let own : List ℕ = members_short_strings (class_at cs i).members in
+    let more : short_numbers (take (i + 1) cs) ≡ short_numbers (take i cs) ++ own =
+    ap short_numbers (take_more cs i no_class lt) ∙ flat_map-append (λ (x : NumberedClass). members_short_strings x.members) (take i cs) (class_at cs i ∷ []) ∙ ap (λ (l : List ℕ). short_numbers (take i cs) ++ l) (append-nil own) in
+    not_false (has_from cap (short_numbers (take (i + 1) cs))) (λ e.
+    let s = list_any-source test (short_numbers (take (i + 1) cs)) e in
+    elim (Contains-append_cases (short_numbers (take i cs)) own s.0 (subst (λ (l : List ℕ). Contains l s.0) more s.1)) [
+      | inl first ↦ false≢true (sym before ∙ list_any-member test (short_numbers (take i cs)) s.0 first s.2)
+      | inr now ↦ false≢true (sym last ∙ list_any-member test own s.0 now s.2)
+    ])

@@ -1,0 +1,126 @@
+-- In a part of a union that is good under the greatest caps each number of a class leads to one that fits its place.
+use Rattle.std.proofs.Common.{◌≡◌, ℕ, ◌*◌, ◌^◌, ◌<◌, ◌≤◌, List, [], ◌∷◌, ◌++◌, length, map, refl, sym, ap, ◌∙◌, subst, arith, inl, inr, Option, Some, None}
+use Rattle.std.specs.Prelude.{All}
+use Rattle.std.specs.List.{Contains}
+use Rattle.std.proofs.lemmas.Bool.{cases_lt}
+use Rattle.std.proofs.lemmas.List.Elements.{All-nil, All-cons, All-weaker}
+use Rattle.dexspec.specs.Lists.{rank}
+use Rattle.dexspec.specs.Texts.{text_cmp}
+use Rattle.dexspec.specs.Classes.{Definition}
+use Rattle.dexspec.specs.Files.{Collection, definitions, AreWithin}
+use Rattle.dexspec.specs.Mentions.{Mentions, mentions}
+use Rattle.dexspec.specs.Weight.{weight}
+use Rattle.dexspec.specs.Merging.{IsGood, greatest_caps}
+use Rattle.dexspec.proofs.Absorption.{HasShortString-within}
+use Rattle.dexspec.proofs.Decided.{definition_same_or_not}
+use Rattle.dexspec.proofs.Growth.{mentions-same}
+use Rattle.dexspec.proofs.Members.{Contains-nil, Contains-first, Contains-later, Contains-cons_cases, Contains-flat_map}
+use Rattle.dexspec.proofs.Searches.{once_of}
+use Rattle.dexspec.proofs.SizeClasses.{mentions-cover}
+use Rattle.dexpool.specs.Numberings.{Maps, AllLead}
+use Rattle.dexpool.specs.Orderly.{KeepOrder}
+use Rattle.dexpool.specs.Uses.{IsLedUse}
+use Rattle.dexinsn.specs.Fitting.{ImagesFit, IsGreatest, IsNotTooLarge, LeadsShort}
+use Rattle.dexmembers.specs.Numbered.{NumberedMembers}
+use Rattle.dexmembers.specs.Uses.{members_uses}
+use Rattle.dexmembers.specs.Fitting.{members_short_strings}
+use Rattle.dexmembers.specs.Renumbering.{MembersHavePlaces}
+use Rattle.dexmembers.proofs.RenumberingLists.{all_right}
+use Rattle.dexclass.specs.Numbered.{NumberedClass, definition_of}
+use Rattle.dexclass.specs.Uses.{IsKnownClass, type_use, text_use, type_numbers, text_numbers}
+use Rattle.dexclass.specs.Renumbering.{renumbered, ClassHasPlaces, StaysSame}
+use Rattle.dexmerge.specs.Gathering.{IsPartOf}
+use Rattle.dexmerge.proofs.PartMembers.{KeepMeaning, LeadClasses, led_class}
+use Rattle.dexmerge.proofs.ShortStrings.{leads_short, short_stands_for, rank_is}
+
+-- ---- the greatest of numbers
+
+one_more : (n : ℕ) (ns : List ℕ) (o : Option ℕ) → IsGreatest ns o → (p : Option ℕ) × IsGreatest (n ∷ ns) p
+one_more n ns None none = (Some n, subst (λ (l : List ℕ). IsGreatest (n ∷ l) (Some n)) (sym none) (Contains-first n [], All-cons (λ k. k ≤ n) n [] (omega arith) (All-nil (λ k. k ≤ n))))
+one_more n ns (Some g) is = elim (cases_lt g n) [
+  | inl less ↦ (Some n, (Contains-first n ns, All-cons (λ k. k ≤ n) n ns (omega arith) (All-weaker (λ k. k ≤ g) (λ k. k ≤ n) (λ k h. omega (arith, h, less)) ns is.1)))
+  | inr le ↦ (Some g, (Contains-later n g ns is.0, All-cons (λ k. k ≤ g) n ns le is.1))
+]
+
+greatest_is : (ns : List ℕ) → (o : Option ℕ) × IsGreatest ns o
+greatest_is [] = (None, refl)
+greatest_is (n ∷ ns) = let rest = greatest_is ns in one_more n ns rest.0 rest.1
+
+-- ---- maps of a join
+
+keep_order : (m n : Mentions) (r : Maps) → AllLead m n r → KeepOrder r
+keep_order m n r l = record {
+  texts_keep = l.texts_lead.rising;
+  types_keep = l.types_lead.rising;
+  protos_keep = l.protos_lead.rising;
+  fields_keep = l.fields_lead.rising;
+  methods_keep = l.methods_lead.rising;
+}
+
+-- maps into a numbering that is not too large lead to numbers that fit
+abbrev pub MapsFit : Type 0
+MapsFit = (m n : Mentions) (r : Maps) → AllLead m n r → IsNotTooLarge n → ImagesFit r
+
+-- where the greatest short string leads low enough, each number of members leads to one that fits its place
+abbrev pub MembersFit : Type 0
+MembersFit = (r : Maps) (x : NumberedMembers) (greatest : Option ℕ) → KeepOrder r → ImagesFit r → IsGreatest (members_short_strings x) greatest → LeadsShort r greatest → All (IsLedUse r) (members_uses x) → MembersHavePlaces r x
+
+-- what definitions weigh bounds the number of texts that they mention
+texts_weigh : (E : List Definition) → 4 * length (mentions E).texts ≤ weight E
+unfolding weight
+texts_weigh E = omega (arith, mentions-cover (mentions E))
+
+-- in what is good under the greatest caps, nothing is too large
+not_too_large : (m : Mentions) (D : List Definition) → m ≡ mentions D → IsGood greatest_caps D → IsNotTooLarge m
+not_too_large m D own good =
+    let o = once_of definition_same_or_not D in
+    let heavy = good.fits.weight o.once o.distinct o.only in
+    let same : mentions o.once ≡ mentions D = mentions-same o.once D o.only o.has in
+    record {
+      texts_few = omega (arith, heavy, texts_weigh o.once, ap (λ (n : Mentions). length n.texts) (own ∙ sym same));
+      types_few = omega (arith, good.fits.types, ap (λ (n : Mentions). length n.types) own);
+      protos_few = omega (arith, good.fits.protos, ap (λ (n : Mentions). length n.protos) own);
+      fields_few = omega (arith, good.fits.fields, ap (λ (n : Mentions). length n.fields) own);
+      methods_few = omega (arith, good.fits.methods, ap (λ (n : Mentions). length n.methods) own);
+    }
+
+module _ (maps_fit : MapsFit) (members_fit : MembersFit) (keep : KeepMeaning) (leads : LeadClasses) (m : Mentions) (K : Collection) (r : Maps) (p : IsPartOf m K r) where
+  abbrev own : Mentions
+  own = mentions (definitions K)
+
+  module _ (c : NumberedClass) (known : IsKnownClass own c) (has : Contains (definitions K) (definition_of own c)) where
+    abbrev to : NumberedClass
+    to = renumbered r c
+
+    stays : StaysSame own m r c
+    stays = keep own m r c p.lead.lead (led_class leads K r c p.lead.all known) known
+
+    -- led on, it stands for a definition of the whole
+    is_within : AreWithin (map (definition_of m) (to ∷ [])) p.whole
+    is_within d has_d = elim (Contains-cons_cases (definition_of m to) d [] has_d) [
+      | inl e ↦ subst (Contains p.whole) (sym stays.same ∙ e) (p.within (definition_of own c) has)
+      | inr never ↦ absurd (Contains-nil d never)
+    ]
+
+    -- the text of a const-string has a number of 16 bits
+    short_below : (j : ℕ) → Contains (members_short_strings to.members) j → j < 2 ^ 16
+    short_below j in_class =
+        let f = short_stands_for m (to ∷ []) (All-cons (IsKnownClass m) to [] stays.known (All-nil (IsKnownClass m))) j
+        (Contains-flat_map (λ (x : NumberedClass). members_short_strings x.members) (to ∷ []) to j (Contains-first to []) in_class) in
+        let low : rank text_cmp f.0 (mentions p.whole).texts < 65536 = p.good.fits.short_strings f.0 (HasShortString-within (map (definition_of m) (to ∷ [])) p.whole is_within f.0 f.2) in
+        let is : rank text_cmp f.0 (mentions p.whole).texts ≡ j = ap (λ (n : Mentions). rank text_cmp f.0 n.texts) (sym p.mentions_are) ∙ rank_is m p.rising j f.0 f.1 in
+        omega (arith, low, is)
+
+    -- no short string leads too far
+    leads_low : (g : Option ℕ) → IsGreatest (members_short_strings c.members) g → LeadsShort r g
+    leads_low None is = tt
+    leads_low (Some g) is = λ j there. short_below j (leads_short r c.members g j is.0 there)
+
+    -- each number of the class has its place
+    pub places_by : ClassHasPlaces r c
+    places_by =
+        let x : NumberedMembers = c.members in
+        let g = greatest_is (members_short_strings x) in
+        let all = led_class leads K r c p.lead.all known in
+        let uses : All (IsLedUse r) (members_uses x) = all_right (IsLedUse r) (map text_use (text_numbers c)) (members_uses x) (all_right (IsLedUse r) (map type_use (type_numbers c)) (map text_use (text_numbers c) ++ members_uses x) all) in
+        members_fit r x g.0 (keep_order own m r p.lead.lead) (maps_fit own m r p.lead.lead (not_too_large m p.whole p.mentions_are p.good)) g.1 (leads_low g.0 g.1) uses

@@ -1,0 +1,212 @@
+-- The texts that a const-string of classes names, by their numbers: what they stand for, and where they lead.
+use Rattle.std.proofs.Common.{◌≡◌, ℕ, Bool, true, false, not, ◌&&◌, if◌then◌else◌, List, [], ◌∷◌, map, Option, Some, None, refl, sym, ap, ◌∙◌, subst, inl, inr}
+use Rattle.std.specs.Prelude.{All, IfSome, option_to_list}
+use Rattle.std.specs.List.{Contains, flat_map}
+use Rattle.std.specs.Option.{option_map}
+use Rattle.std.proofs.lemmas.List.{map-append}
+use Rattle.std.proofs.lemmas.List.Elements.{All-append, All-get_or}
+use Rattle.dexspec.specs.Texts.{Text, text_cmp}
+use Rattle.dexspec.specs.Lists.{rank}
+use Rattle.dexspec.specs.Symbols.{TextSymbol}
+use Rattle.dexspec.specs.Pieces.{low_byte, is_wide_index}
+use Rattle.dexspec.specs.Pieces as symbolic
+use Rattle.dexspec.specs.Code.{Code}
+use Rattle.dexspec.specs.Classes.{Definition, MethodDef, declared_methods}
+use Rattle.dexspec.specs.Mentions.{Mentions}
+use Rattle.dexspec.specs.Merging.{HasShortString}
+use Rattle.dexspec.proofs.Members.{Contains-nil, Contains-first, Contains-cons_cases, Contains-flat_map, Contains-flat_map_source}
+use Rattle.dexspec.proofs.InOrder.{Rises-from_rises, rank-get_or}
+use Rattle.dexspec.proofs.SymbolOrders.{text_total}
+use Rattle.dexspec.proofs.Depths.{Contains-map}
+use Rattle.dexspec.proofs.ClassPlaces.{Contains-map_source}
+use Rattle.dexpool.specs.declared.symbols.SymbolKind.{SymbolKind}
+use Rattle.dexpool.specs.declared.symbols.SymbolKind.TheVariants as kinds
+use Rattle.dexpool.specs.Numberings.{IsAt, AreRising, Maps, image, image_of}
+use Rattle.dexinsn.specs.Fitting.{is_text, is_short_string, short_string, HasConstString}
+use Rattle.dexinsn.specs.Numbered.{NumberedPiece, Instruction, Payload, kind_in, renumbered_piece}
+use Rattle.dexinsn.proofs.Fits.{short_named, short_stands}
+use Rattle.dexcode.specs.Numbered.{NumberedItem}
+use Rattle.dexcode.specs.Meaning.{code_in, IsKnownCode}
+use Rattle.dexcode.specs.Renumbering.{renumbered_item}
+use Rattle.dexcode.proofs.Meanings.{code_stands}
+use Rattle.dexmembers.specs.Numbered.{NumberedMethod, NumberedMembers, methods_of, method_in, IsKnownMethod, AreKnownMembers}
+use Rattle.dexmembers.specs.Renumbering.{renumbered_method, renumbered_members}
+use Rattle.dexmembers.specs.Fitting.{code_short_strings, method_short_strings, members_short_strings}
+use Rattle.dexclass.specs.Numbered.{NumberedClass, definition_of}
+use Rattle.dexclass.specs.Uses.{IsKnownClass}
+use Rattle.dexmerge.specs.Amounts.{short_numbers}
+
+-- ---- in symbols
+
+-- the number is that of a text
+abbrev IsOneOf : Mentions → List ℕ → Text → Type 0
+IsOneOf m ns s = (n : ℕ) × Contains ns n × IsAt m.texts n s
+
+-- code that is there
+some_code : (m : Mentions) (o : Option NumberedItem) (code : Code) → option_map (code_in m) o ≡ Some code → (k : NumberedItem) × (o ≡ Some k) × (code_in m k ≡ code)
+some_code m None code e = absurd cc
+some_code m (Some k) code e = (k, refl, cc)
+
+-- a member of what is there, or of nothing
+pub option_source : (o : Option NumberedItem) (k : NumberedItem) → Contains (option_to_list o) k → o ≡ Some k
+option_source None k c = absurd (Contains-nil k c)
+option_source (Some j) k c = elim (Contains-cons_cases j k [] c) [
+  | inl e ↦ ap Some e
+  | inr never ↦ absurd (Contains-nil k never)
+]
+
+known_code : (m : Mentions) (y : NumberedMethod) (k : NumberedItem) → IsKnownMethod m y → y.code ≡ Some k → IsKnownCode m k
+known_code m y k known e = subst (λ (o : Option NumberedItem). IfSome o (IsKnownCode m)) e known.code_known
+
+-- all methods are known
+known_methods : (m : Mentions) (x : NumberedMembers) → AreKnownMembers m x → All (IsKnownMethod m) (methods_of x)
+known_methods m x h = All-append (IsKnownMethod m) x.direct_methods x.virtual_methods h.direct_methods_known h.virtual_methods_known
+
+known_one : {X : Type 0} (P : X → Type 0) (xs : List X) (x : X) → All P xs → Contains xs x → P x
+known_one P xs x all c = subst P c.2 (All-get_or P xs c.0 x c.1 all)
+
+-- the methods of a definition are those of the class
+declared_are : (m : Mentions) (c : NumberedClass) → declared_methods (definition_of m c).1 ≡ map (method_in m) (methods_of c.members)
+declared_are m c = sym (map-append (method_in m) c.members.direct_methods c.members.virtual_methods)
+
+module _ (m : Mentions) (cs : List NumberedClass) (known : All (IsKnownClass m) cs) where
+  -- each text that a const-string names has one of the numbers
+  pub short_named_by : (s : Text) → HasShortString (map (definition_of m) cs) s → IsOneOf m (short_numbers cs) s
+  short_named_by s h =
+      let class = Contains-map_source (definition_of m) cs h.definition h.member in
+      let c : NumberedClass = class.0 in
+      let declared : Contains (map (method_in m) (methods_of c.members)) h.method = subst (λ (l : List MethodDef). Contains l h.method) (declared_are m c) (subst (λ (d : Definition). Contains (declared_methods d.1) h.method) (sym class.2) h.declared) in
+      let method = Contains-map_source (method_in m) (methods_of c.members) h.method declared in
+      let y : NumberedMethod = method.0 in
+      let code = some_code m y.code h.code (ap (λ (x : MethodDef). x.code) method.2 ∙ h.has_code) in
+      let k : NumberedItem = code.0 in
+      let own : IsKnownCode m k = known_code m y k (known_one (IsKnownMethod m) (methods_of c.members) y (known_methods m c.members (known_one (IsKnownClass m) cs c known class.1).members_known) method.1) code.1 in
+      let named : HasConstString (code_in m k).pieces s = record { units = h.units; piece = subst (λ (x : Code). Contains x.pieces (symbolic.Instruction h.units (Some (TextSymbol s)))) (sym code.2) h.piece; short = h.short } in
+      let f = short_named m k.body.pieces (code_in m k).pieces s (code_stands m k own).pieces_are named in
+      let in_method : Contains (method_short_strings y) f.0 = subst (λ (o : Option NumberedItem). Contains (flat_map code_short_strings (option_to_list o)) f.0) (sym code.1) (Contains-flat_map code_short_strings (k ∷ []) k f.0 (Contains-first k []) f.1) in
+      let in_class : Contains (members_short_strings c.members) f.0 = Contains-flat_map method_short_strings (methods_of c.members) y f.0 method.1 in_method in
+      (f.0, Contains-flat_map (λ (x : NumberedClass). members_short_strings x.members) cs c f.0 class.1 in_class, f.2)
+
+  -- and each number is that of such a text
+  pub short_stands_for : (n : ℕ) → Contains (short_numbers cs) n → (s : Text) × IsAt m.texts n s × HasShortString (map (definition_of m) cs) s
+  short_stands_for n has =
+      let class = Contains-flat_map_source (λ (x : NumberedClass). members_short_strings x.members) cs n has in
+      let c : NumberedClass = class.0 in
+      let method = Contains-flat_map_source method_short_strings (methods_of c.members) n class.2 in
+      let y : NumberedMethod = method.0 in
+      let code = Contains-flat_map_source code_short_strings (option_to_list y.code) n method.2 in
+      let k : NumberedItem = code.0 in
+      let is : y.code ≡ Some k = option_source y.code k code.1 in
+      let own : IsKnownCode m k = known_code m y k (known_one (IsKnownMethod m) (methods_of c.members) y (known_methods m c.members (known_one (IsKnownClass m) cs c known class.1).members_known) method.1) is in
+      let f = short_stands m k.body.pieces (code_in m k).pieces n (code_stands m k own).pieces_are code.2 in
+      let named : HasConstString (code_in m k).pieces f.0 = f.2 in (
+        f.0,
+        f.1,
+        record {
+          definition = definition_of m c;
+          method = method_in m y;
+          code = code_in m k;
+          units = named.units;
+          member = Contains-map (definition_of m) cs c class.1;
+          declared = subst (λ (l : List MethodDef). Contains l (method_in m y)) (sym (declared_are m c)) (Contains-map (method_in m) (methods_of c.members) y method.1);
+          has_code = ap (option_map (code_in m)) is;
+          piece = named.piece;
+          short = named.short;
+        },
+      )
+
+-- a text's number is its rank
+pub rank_is : (m : Mentions) → AreRising m → (n : ℕ) (s : Text) → IsAt m.texts n s → rank text_cmp s m.texts ≡ n
+rank_is m rising n s h = ap (λ (t : Text). rank text_cmp t m.texts) (sym (h.is [])) ∙ rank-get_or text_cmp text_total m.texts n [] (Rises-from_rises text_cmp text_total m.texts rising.texts_rise) h.within
+
+-- ---- led on
+
+-- the number of a text leads to another
+abbrev TextLeads : Maps → ℕ → ℕ → Type 0
+TextLeads r n j = image r.texts n ≡ Some j
+
+module _ {X : Type 0} (f : X → X) (s : X → List ℕ) (R : ℕ → ℕ → Type 0) where
+  -- what is led on to holds of a number that is led on
+  lifted : ((x : X) (j : ℕ) → Contains (s (f x)) j → (n : ℕ) × Contains (s x) n × R n j) → (xs : List X) (j : ℕ) → Contains (flat_map s (map f xs)) j → (n : ℕ) × Contains (flat_map s xs) n × R n j
+  lifted each xs j c =
+      let a = Contains-flat_map_source s (map f xs) j c in
+      let b = Contains-map_source f xs a.0 a.1 in
+      let e = each b.0 j (subst (λ (y : X). Contains (s y) j) (sym b.2) a.2) in
+      (e.0, Contains-flat_map s xs b.0 e.0 b.1 e.1, e.2)
+
+  -- and back
+  lowered : ((x : X) (n j : ℕ) → Contains (s x) n → R n j → Contains (s (f x)) j) → (xs : List X) (n j : ℕ) → Contains (flat_map s xs) n → R n j → Contains (flat_map s (map f xs)) j
+  lowered each xs n j c leads =
+      let a = Contains-flat_map_source s xs n c in
+      Contains-flat_map s (map f xs) (f a.0) j (Contains-map f xs a.0 a.1) (each a.0 n j a.2 leads)
+
+-- a number that is there under a condition
+one_if : (b : Bool) (n k : ℕ) → Contains (if b then n ∷ [] else []) k → (b ≡ true) × (n ≡ k)
+one_if true n k c = elim (Contains-cons_cases n k [] c) [
+  | inl e ↦ (refl, e)
+  | inr never ↦ absurd (Contains-nil k never)
+]
+one_if false n k c = absurd (Contains-nil k c)
+
+has_if : (b : Bool) (n : ℕ) → b ≡ true → Contains (if b then n ∷ [] else []) n
+has_if true n is = Contains-first n []
+has_if false n is = absurd cc
+
+-- a short string is a text
+as_text : (r : Maps) (k : SymbolKind) (w : Bool) (n : ℕ) → (is_text k && not w) ≡ true → image_of r k n ≡ image r.texts n
+as_text r kinds.Text w n is = refl
+as_text r kinds.Typ w n is = absurd cc
+as_text r kinds.Proto w n is = absurd cc
+as_text r kinds.Field w n is = absurd cc
+as_text r kinds.Method w n is = absurd cc
+
+module _ (r : Maps) where
+  -- a piece
+  led_by : (us : List ℕ) (n j : ℕ) (o : Option ℕ) → image_of r (kind_in us) n ≡ o → Contains (short_string (Instruction us o)) j → (k : ℕ) × Contains (short_string (Instruction us (Some n))) k × TextLeads r k j
+  led_by us n j None e c = absurd (Contains-nil j c)
+  led_by us n j (Some i) e c =
+      let is = one_if (is_short_string us) i j c in
+      (n, has_if (is_short_string us) n is.0, sym (as_text r (kind_in us) (is_wide_index us) n is.0) ∙ e ∙ ap Some is.1)
+
+  led_piece : (p : NumberedPiece) (j : ℕ) → Contains (short_string (renumbered_piece r p)) j → (n : ℕ) × Contains (short_string p) n × TextLeads r n j
+  led_piece (Instruction us None) j c = absurd (Contains-nil j c)
+  led_piece (Instruction us (Some n)) j c = led_by us n j (image_of r (kind_in us) n) refl c
+  led_piece (Payload us) j c = absurd (Contains-nil j c)
+
+  leads_piece : (p : NumberedPiece) (n j : ℕ) → Contains (short_string p) n → TextLeads r n j → Contains (short_string (renumbered_piece r p)) j
+  leads_piece (Instruction us None) n j c leads = absurd (Contains-nil n c)
+  leads_piece (Instruction us (Some i)) n j c leads =
+      let is = one_if (is_short_string us) i n c in
+      let to : image_of r (kind_in us) i ≡ Some j = as_text r (kind_in us) (is_wide_index us) i is.0 ∙ ap (image r.texts) is.1 ∙ leads in
+      subst (λ (o : Option ℕ). Contains (short_string (Instruction us o)) j) (sym to) (has_if (is_short_string us) j is.0)
+  leads_piece (Payload us) n j c leads = absurd (Contains-nil n c)
+
+  -- code
+  led_code : (k : NumberedItem) (j : ℕ) → Contains (code_short_strings (renumbered_item r k)) j → (n : ℕ) × Contains (code_short_strings k) n × TextLeads r n j
+  led_code k j c = lifted (renumbered_piece r) short_string (TextLeads r) led_piece k.body.pieces j c
+
+  leads_code : (k : NumberedItem) (n j : ℕ) → Contains (code_short_strings k) n → TextLeads r n j → Contains (code_short_strings (renumbered_item r k)) j
+  leads_code k n j c leads = lowered (renumbered_piece r) short_string (TextLeads r) leads_piece k.body.pieces n j c leads
+
+  optional : (o : Option NumberedItem) → option_to_list (option_map (renumbered_item r) o) ≡ map (renumbered_item r) (option_to_list o)
+  optional None = refl
+  optional (Some k) = refl
+
+  -- a method
+  led_method : (y : NumberedMethod) (j : ℕ) → Contains (method_short_strings (renumbered_method r y)) j → (n : ℕ) × Contains (method_short_strings y) n × TextLeads r n j
+  led_method y j c = lifted (renumbered_item r) code_short_strings (TextLeads r) led_code (option_to_list y.code) j (subst (λ (l : List NumberedItem). Contains (flat_map code_short_strings l) j) (optional y.code) c)
+
+  leads_method : (y : NumberedMethod) (n j : ℕ) → Contains (method_short_strings y) n → TextLeads r n j → Contains (method_short_strings (renumbered_method r y)) j
+  leads_method y n j c leads = subst (λ (l : List NumberedItem). Contains (flat_map code_short_strings l) j) (sym (optional y.code)) (lowered (renumbered_item r) code_short_strings (TextLeads r) leads_code (option_to_list y.code) n j c leads)
+
+  -- all members
+  methods_led : (x : NumberedMembers) → methods_of (renumbered_members r x) ≡ map (renumbered_method r) (methods_of x)
+  methods_led x = sym (map-append (renumbered_method r) x.direct_methods x.virtual_methods)
+
+  -- a short string of members that are led on is led on from one of theirs
+  pub led_short : (x : NumberedMembers) (j : ℕ) → Contains (members_short_strings (renumbered_members r x)) j → (n : ℕ) × Contains (members_short_strings x) n × TextLeads r n j
+  led_short x j c = lifted (renumbered_method r) method_short_strings (TextLeads r) led_method (methods_of x) j (subst (λ (l : List NumberedMethod). Contains (flat_map method_short_strings l) j) (methods_led x) c)
+
+  -- and where one of theirs leads, one is
+  pub leads_short : (x : NumberedMembers) (n j : ℕ) → Contains (members_short_strings x) n → TextLeads r n j → Contains (members_short_strings (renumbered_members r x)) j
+  leads_short x n j c leads = subst (λ (l : List NumberedMethod). Contains (flat_map method_short_strings l) j) (sym (methods_led x)) (lowered (renumbered_method r) method_short_strings (TextLeads r) leads_method (methods_of x) n j c leads)

@@ -1,0 +1,99 @@
+//! Whether the classes of parts can be merged: conflicts are judged first, then cycles, and then caps.
+
+ghost use Rattle.std.specs.Prelude.{◌≡◌, ◌<◌, length, List, IfOk, IfErr, OnOk, map};
+ghost use Rattle.std.specs.List.{flat_map};
+ghost use Rattle.dexspec.specs.Classes.{Definition};
+ghost use Rattle.dexspec.specs.Files.{definitions};
+ghost use Rattle.dexspec.specs.Merging as merging;
+ghost use Rattle.dexspec.specs.Merging.{IsGood, IsFirstCause};
+ghost use Rattle.dexclass.specs.Numbered.{type_at};
+ghost use Rattle.dexclass.specs.Parents.{name_number};
+ghost use Rattle.dexmerge.specs.Faults.{Tells};
+ghost use Rattle.dexmerge.specs.Candidates.{classes_of};
+ghost use Rattle.dexmerge.specs.Unions.{AreCopies, AreOnce, IsJoined};
+
+use crate::candidates::{Candidate, candidates};
+use crate::caps::Caps;
+use crate::copies::{kept, least_unlike, places};
+use crate::faults::MergeFault;
+use crate::fitting::first_exceeded;
+use crate::parents::first_cycle;
+use dexclass::{Program, same_law};
+use dexpool::{Numbering, Remap, SymbolKind};
+use dexstr::Name;
+use std::alloc::{AllocError, Global};
+
+// One class of each name. Classes of one name that are unlike are a conflict.
+fn one_of_each<'a, 'b>(
+    alloc: Global,
+    numbering: &Numbering<'_>,
+    candidates: &[Candidate<'a, 'b>],
+) -> Result<Vec<Candidate<'a, 'b>>, MergeFault>
+    requires { (D : List Definition) × AreCopies numbering.now D candidates.now }
+    ensures kept { IfOk result (λ kept. (D : List Definition) → AreCopies numbering.now D candidates.now → AreOnce numbering.now D kept.items) }
+    ensures fault { IfErr result (λ fault. (caps : merging.Caps) (D : List Definition) → AreCopies numbering.now D candidates.now → Tells (IsFirstCause caps D) fault) }
+{
+    same_law();
+    let places = places(alloc, candidates, numbering.count(SymbolKind::Typ))?;
+    match least_unlike(candidates, &places) {
+        Some(name) => Err(MergeFault::Conflict(Name::of(alloc, numbering.typ(name))?)),
+        None => Ok(kept(alloc, candidates, &places)?),
+    }
+}
+
+// The name of a class.
+fn name_of(
+    alloc: Global,
+    numbering: &Numbering<'_>,
+    classes: &[Candidate<'_, '_>],
+    i: usize,
+) -> Result<Name, AllocError>
+    requires class { i < length classes.now }
+    requires name { name_number (classes_of classes.now) i < length numbering.now.types }
+    ensures { IfOk result (λ name. name ≡ type_at numbering.now (name_number (classes_of classes.now) i)) }
+{
+    Name::of(alloc, numbering.typ(classes[i].name()))
+}
+
+// Whether classes, one of each name, can be merged: cycles are judged, and then caps.
+fn judge_once(
+    alloc: Global,
+    numbering: &Numbering<'_>,
+    classes: &[Candidate<'_, '_>],
+    caps: &Caps,
+) -> Result<(), MergeFault>
+    requires { (D : List Definition) × AreOnce numbering.now D classes.now }
+    ensures good { OnOk result ((D : List Definition) → AreOnce numbering.now D classes.now → IsGood caps.now D) }
+    ensures fault { IfErr result (λ fault. (D : List Definition) → AreOnce numbering.now D classes.now → Tells (IsFirstCause caps.now D) fault) }
+{
+    match first_cycle(alloc, classes, numbering.count(SymbolKind::Typ))? {
+        Some(i) => Err(MergeFault::Cycle(name_of(alloc, numbering, classes, i)?)),
+        None => match first_exceeded(numbering, classes, caps) {
+            Some(cap) => Err(MergeFault::Cap(cap)),
+            None => Ok(()),
+        },
+    }
+}
+
+/// Whether the classes of parts can be merged.
+///
+/// Condition: the numbering is that of all parts, and the maps lead the numbers of each to it. Error: the first cause
+/// why they cannot; or `Memory` where a growth was refused.
+pub(crate) fn judge(
+    alloc: Global,
+    numbering: &Numbering<'_>,
+    parts: &[&Program<'_>],
+    remaps: &[Remap],
+    caps: &Caps,
+) -> Result<(), MergeFault>
+    requires { IsJoined (map (λ part. part.now) parts.now) numbering.now remaps.now }
+    ensures good { OnOk result (IsGood caps.now (flat_map definitions (map (λ part. part.now) parts.now))) }
+    ensures fault { IfErr result (Tells (IsFirstCause caps.now (flat_map definitions (map (λ part. part.now) parts.now)))) }
+{
+    let copies = candidates(alloc, parts, remaps)?;
+    let classes = match one_of_each(alloc, numbering, &copies) {
+        Ok(classes) => classes,
+        Err(fault) => return Err(fault),
+    };
+    judge_once(alloc, numbering, &classes, caps)
+}

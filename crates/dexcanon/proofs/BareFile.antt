@@ -24,8 +24,8 @@ use Rattle.dexspec.proofs.Distinct.{distinct_led}
 use Rattle.dexspec.proofs.Sharing.{numbers_led}
 use Rattle.std.proofs.lemmas.Bool.Decides.{same_from_decides}
 use Rattle.dexspec.proofs.Tables.{table_start}
-use Rattle.dexclass.specs.Numbered.{NumberedClass, definition_of, type_at, text_at}
-use Rattle.dexclass.specs.Marking.{IsInRange}
+use Rattle.dexplain.specs.Numbered.{NumberedClass, definition_of, type_at, text_at}
+use Rattle.dexplain.specs.Marking.{IsInRange}
 use Rattle.dexhead.specs.Laid.{behind_header, map_start}
 use Rattle.dexcanon.specs.Bare.{bare_mentions, bare, list_bytes, list_uses, same_numbers, list_items, lists_of, offsets_of, data_from, strings_from, strings_to, map_from, string_offsets, list_offsets, class_row, entry_unless_empty, types_from, classes_from, entries, bare_rows, bare_data}
 use Rattle.dexcanon.proofs.Along.{bytes_plain, present_map}

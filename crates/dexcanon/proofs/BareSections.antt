@@ -16,7 +16,7 @@ use Rattle.dexspec.specs.Annotations.{AnnotationSet}
 use Rattle.dexspec.specs.Spellings.{annotation_bytes, encoded_array_bytes, debug_bytes, code_bytes, class_data_bytes, offsets_bytes}
 use Rattle.dexspec.specs.Placing.{values_unless_empty, offsets, end_from, unless_empty, own_numbers, Ordered, uses_offsets, all_methods, set_uses, class_sets, is_empty_class, class_data_uses, by_class, SetOffsets, set_offsets_of, set_offsets_by_class, ref_list_uses, directory_bytes, directory_uses}
 use Rattle.dexspec.proofs.Placements.{length-by_class}
-use Rattle.dexclass.specs.Numbered.{NumberedClass, definition_of}
+use Rattle.dexplain.specs.Numbered.{NumberedClass, definition_of}
 use Rattle.dexcanon.specs.Bare.{bare_mentions, bare}
 
 -- a list of nothing, so many times

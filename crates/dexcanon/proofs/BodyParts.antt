@@ -7,7 +7,7 @@ use Rattle.dexspec.specs.Mentions.{Mentions}
 use Rattle.dexspec.specs.Spellings.{text_index}
 use Rattle.dexspec.specs.Canonical.{map_bytes}
 use Rattle.dexhead.specs.Written.{entry_meant}
-use Rattle.dexclass.specs.Numbered.{NumberedClass}
+use Rattle.dexplain.specs.Numbered.{NumberedClass}
 use Rattle.dexcanon.specs.declared.layout.Layout.{Layout}
 use Rattle.dexspec.specs.Placing.{bytes_from}
 use Rattle.dexcanon.specs.Bare.{class_row, lists_of}

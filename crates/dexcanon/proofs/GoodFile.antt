@@ -8,9 +8,9 @@ use Rattle.dexspec.specs.Plain.{ArePlain}
 use Rattle.dexspec.specs.Merging.{Caps, greatest_caps, AreCaps, Fits}
 use Rattle.dexspec.specs.Canonical.{canonical}
 use Rattle.dexpool.specs.Laws.{RanksAreNumbers}
-use Rattle.dexclass.specs.Numbered.{NumberedClass}
-use Rattle.dexclass.specs.Marking.{IsInRange}
-use Rattle.dexclass.specs.Programs.{AreClassesOf}
+use Rattle.dexplain.specs.Numbered.{NumberedClass}
+use Rattle.dexplain.specs.Marking.{IsInRange}
+use Rattle.dexplain.specs.Programs.{AreClassesOf}
 use Rattle.dexcanon.specs.Laid.{HaveNumbers, FitFile}
 use Rattle.dexcanon.proofs.OfProgram.{IsBareFile, bare_file, fit_file, length_canonical}
 use Rattle.dexcanon.proofs.Sealed.{have_numbers}

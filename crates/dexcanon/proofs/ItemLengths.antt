@@ -5,7 +5,7 @@ use Rattle.dexspec.specs.Bytes.{ushort, uint}
 use Rattle.dexspec.proofs.ByteNumbers.{length-uint, length-ushort}
 use Rattle.dexspec.proofs.Stands.{length_rows}
 use Rattle.std.proofs.lemmas.List.{length-append}
-use Rattle.dexclass.specs.Numbered.{NumberedClass}
+use Rattle.dexplain.specs.Numbered.{NumberedClass}
 use Rattle.dexcanon.specs.Bare.{list_bytes, class_row}
 use Rattle.dexcanon.proofs.ListUses.{length-list_bytes}
 

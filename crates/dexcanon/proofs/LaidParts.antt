@@ -7,7 +7,7 @@ use Rattle.std.specs.Prelude.{Bool, true, false, if◌then◌else◌, ◌==◌}
 use Rattle.dexspec.specs.Texts.{Text}
 use Rattle.dexspec.specs.Header.{StringIds, TypeIds, ClassDefs, header_length}
 use Rattle.dexspec.specs.Sections.{Section, TableOf, TypeLists, StringDataItems}
-use Rattle.dexclass.specs.Numbered.{NumberedClass}
+use Rattle.dexplain.specs.Numbered.{NumberedClass}
 use Rattle.dexspec.specs.Canonical.{map_bytes, map_entry_bytes}
 use Rattle.dexspec.proofs.ByteNumbers.{length-uint, length-ushort}
 use Rattle.dexspec.proofs.Stands.{length_rows}

@@ -19,7 +19,7 @@ use Rattle.dexspec.proofs.FirstPlaces.{position_stays}
 use Rattle.dexspec.proofs.Sharing.{present-append, position_is}
 use Rattle.dexspec.proofs.Members.{Contains-first, Contains-later}
 use Rattle.dexspec.proofs.Places.{end_from_le, items_few, end_append, offset_stays}
-use Rattle.dexclass.specs.Numbered.{NumberedClass}
+use Rattle.dexplain.specs.Numbered.{NumberedClass}
 use Rattle.dexcanon.specs.Bare.{list_bytes, list_uses, same_numbers, list_items, lists_of, offsets_of, interfaces_of, AreFirsts}
 
 -- a type_list has four bytes and two for each type

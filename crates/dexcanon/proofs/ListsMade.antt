@@ -6,7 +6,7 @@ use Rattle.std.proofs.lemmas.List.{drop_more, get_or-map, get_or_default, length
 use Rattle.dexspec.specs.Bytes.{round_up, padding}
 use Rattle.dexspec.specs.Placing.{bytes_from, end_from}
 use Rattle.dexspec.proofs.Places.{end_from_le}
-use Rattle.dexclass.specs.Numbered.{NumberedClass}
+use Rattle.dexplain.specs.Numbered.{NumberedClass}
 use Rattle.dexcanon.specs.Bare.{list_bytes, list_items, lists_of, interfaces_of, no_class, AreFirsts}
 use Rattle.dexcanon.specs.Taking.{Adds}
 

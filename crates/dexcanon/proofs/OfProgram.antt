@@ -13,9 +13,9 @@ use Rattle.dexspec.proofs.Placements.{layout_is, named_layout}
 use Rattle.dexspec.proofs.Places.{end_from_le}
 use Rattle.dexspec.proofs.Laying.{map_place, map_list_named, map_place_is, parts}
 use Rattle.dexpool.specs.Laws.{RanksAreNumbers}
-use Rattle.dexclass.specs.Numbered.{NumberedClass, definition_of}
-use Rattle.dexclass.specs.Marking.{IsInRange}
-use Rattle.dexclass.specs.Programs.{AreClassesOf}
+use Rattle.dexplain.specs.Numbered.{NumberedClass, definition_of}
+use Rattle.dexplain.specs.Marking.{IsInRange}
+use Rattle.dexplain.specs.Programs.{AreClassesOf}
 use Rattle.dexhead.specs.Laid.{map_start, TellsLayout}
 use Rattle.dexcanon.specs.declared.layout.Layout as code
 use Rattle.dexcanon.specs.Bare.{bare_mentions, bare, lists_of, data_from, strings_from, map_from, entries, classes_from}

@@ -11,7 +11,7 @@ use Rattle.dexspec.specs.Placing.{offsets_from, end_from}
 use Rattle.dexspec.proofs.Equality.{self, turned}
 use Rattle.dexspec.proofs.FirstPlaces.{position_last, position_none, position_alike}
 use Rattle.dexspec.proofs.Places.{end_from_le, length-offsets_from, end_more, offsets_more}
-use Rattle.dexclass.specs.Numbered.{NumberedClass}
+use Rattle.dexplain.specs.Numbered.{NumberedClass}
 use Rattle.dexcanon.specs.Bare.{list_bytes, same_numbers, list_items, lists_of, offsets_of, no_class, interfaces_of}
 use Rattle.dexcanon.proofs.ListUses.{length-list_bytes, numbers_decide, use_offset, written, before_stay, empty_use, some_use, written_none, written_some, lists_within}
 

@@ -12,8 +12,8 @@ use Rattle.dexspec.specs.Spellings.{text_index}
 use Rattle.dexspec.specs.Files.{Collection}
 use Rattle.dexspec.specs.Placing.{Ordered}
 use Rattle.dexspec.specs.Canonical.{map_bytes, unsigned_file, with_sums, canonical}
-use Rattle.dexclass.specs.Numbered.{NumberedClass}
-use Rattle.dexclass.specs.Marking.{IsInRange}
+use Rattle.dexplain.specs.Numbered.{NumberedClass}
+use Rattle.dexplain.specs.Marking.{IsInRange}
 use Rattle.dexhead.specs.declared.head.Head.{Head}
 use Rattle.dexhead.specs.Sums.{with_sums_set}
 use Rattle.dexhead.specs.Written.{head_bytes, entry_meant}

@@ -12,7 +12,7 @@ use Rattle.dexspec.specs.Mentions.{Mentions}
 use Rattle.dexspec.specs.Spellings.{text_index}
 use Rattle.dexspec.specs.Placing.{unless_empty, Items, shared_items, EqualOnce, Ordered, offsets_from, end_from, bytes_from, uses_offsets}
 use Rattle.dexspec.specs.Canonical.{map_bytes}
-use Rattle.dexclass.specs.Numbered.{NumberedClass, definition_of}
+use Rattle.dexplain.specs.Numbered.{NumberedClass, definition_of}
 
 -- texts and types alone
 abbrev pub bare_mentions : List Text → List Text → Mentions

@@ -9,7 +9,7 @@ use Rattle.dexspec.specs.Sections.{Section}
 use Rattle.dexspec.specs.Header.{header_length}
 use Rattle.dexspec.specs.Placing.{Ordered, offsets_from, end_from, bytes_from}
 use Rattle.dexspec.specs.Canonical.{layout, map_of, map_bytes}
-use Rattle.dexclass.specs.Numbered.{NumberedClass}
+use Rattle.dexplain.specs.Numbered.{NumberedClass}
 use Rattle.dexhead.specs.Written.{rows_meant, entry_meant}
 use Rattle.dexhead.specs.Laid.{TellsLayout, map_start}
 use Rattle.dexcanon.specs.declared.layout.Layout.{Layout}

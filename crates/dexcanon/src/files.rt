@@ -9,8 +9,8 @@ use crate::faults::StoreFault;
 use crate::layout::Layout;
 use crate::sections::put_body;
 use crate::taking::Takes;
-use dexclass::Class;
 use dexhead::Head;
+use dexplain::Class;
 use dexpool::Numbering;
 
 // A header from a place in it on, through a vector that is empty.

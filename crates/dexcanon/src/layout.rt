@@ -13,8 +13,8 @@ ghost use Rattle.dexhead.specs.Written.{rows_meant, entry_meant};
 ghost use Rattle.dexcanon.specs.Bare.{lists_of, unless_none};
 ghost use Rattle.dexcanon.specs.Laid.{IsLayoutOf, IsLaid, AreListPlaces, AreStringPlaces, entry_of, FitFile};
 
-use dexclass::{Class, Program};
 use dexhead::{Head, MapEntry, Rows, Section, Table};
+use dexplain::{Class, Program};
 use dexpool::{Numbering, SymbolKind};
 use dexstr::put_text;
 use indexmap::IndexSet;

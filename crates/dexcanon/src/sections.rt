@@ -9,7 +9,7 @@ ghost use Rattle.dexspec.specs.Spellings.{text_index};
 ghost use Rattle.dexspec.specs.Classes.{no_index};
 ghost use Rattle.dexspec.specs.Canonical.{map_bytes};
 ghost use Rattle.dexhead.specs.Written.{entry_meant};
-ghost use Rattle.dexclass.specs.Marking.{IsInRange};
+ghost use Rattle.dexplain.specs.Marking.{IsInRange};
 ghost use Rattle.dexpool.specs.Numberings.{IsNumbering};
 ghost use Rattle.dexspec.specs.Placing.{bytes_from, end_from};
 ghost use Rattle.dexcanon.specs.Bare.{lists_of, AreFirsts, class_row, data_from, bare_mentions, bare_rows, bare_data};
@@ -20,7 +20,7 @@ use crate::faults::StoreFault;
 use crate::items::{Entries, Number, Numbers, StringData, TypeList, Zeros};
 use crate::layout::{Layout, round_up};
 use crate::taking::{Takes, pass};
-use dexclass::Class;
+use dexplain::Class;
 use dexpool::{Numbering, SymbolKind};
 
 // The rows of the texts.

@@ -15,8 +15,8 @@ use crate::kept::{Keeps, Nothing};
 use crate::layout::lay;
 use crate::makings::{Hashes, Sums, Writes};
 use crate::sections::put_body;
-use dexclass::Program;
 use dexhead::{Adler, Sink, set_sums};
+use dexplain::Program;
 use sha1::Sha1;
 use std::alloc::{AllocError, Global};
 

@@ -4,7 +4,7 @@ use Rattle.std.specs.List.{list_any}
 use Rattle.std.proofs.lemmas.List.{length-map, take_more, take-append-drop, take_all, get_or_default}
 use Rattle.dexspec.specs.Bytes.{round_up}
 use Rattle.dexspec.specs.Placing.{end_from}
-use Rattle.dexclass.specs.Numbered.{NumberedClass}
+use Rattle.dexplain.specs.Numbered.{NumberedClass}
 use Rattle.dexcanon.specs.Bare.{lists_of, same_numbers, no_class}
 use Rattle.std.proofs.lemmas.Bool.{not-true, not-false}
 use Rattle.dexspec.proofs.Distinct.{inserted}

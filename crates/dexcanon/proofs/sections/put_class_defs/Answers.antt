@@ -3,7 +3,7 @@ use Rattle.std.specs.List.{flat_map}
 use Rattle.std.proofs.lemmas.List.{take_all}
 use Rattle.dexspec.specs.Bytes.{uint}
 use Rattle.dexspec.proofs.Placements.{length-zip}
-use Rattle.dexclass.specs.Numbered.{NumberedClass}
+use Rattle.dexplain.specs.Numbered.{NumberedClass}
 use Rattle.dexcanon.specs.Bare.{class_row}
 use Rattle.dexcanon.specs.Taking.{Adds}
 use Rattle.dexcanon.proofs.ItemLengths.{length_class_row}

@@ -1,6 +1,6 @@
 use Rattle.std.proofs.Common.{ℕ, take, zip}
 use Rattle.std.specs.List.{flat_map}
-use Rattle.dexclass.specs.Numbered.{NumberedClass}
+use Rattle.dexplain.specs.Numbered.{NumberedClass}
 use Rattle.dexcanon.specs.Bare.{class_row}
 use Rattle.dexcanon.specs.Taking.{Adds}
 use Rattle.dexcanon.proofs.sections.put_class_defs.Given as goal

@@ -3,7 +3,7 @@ use Rattle.std.specs.Prelude.{replicate, slice_index}
 use Rattle.std.proofs.lemmas.List.{length-replicate}
 use Rattle.dexspec.specs.Bytes.{round_up, padding}
 use Rattle.dexspec.specs.Placing.{bytes_from, end_from}
-use Rattle.dexclass.specs.Numbered.{NumberedClass}
+use Rattle.dexplain.specs.Numbered.{NumberedClass}
 use Rattle.dexcanon.specs.Bare.{list_bytes, lists_of}
 use Rattle.dexcanon.proofs.ListUses.{length-list_bytes}
 use Rattle.dexcanon.proofs.Made.{fault_exit, adds_more}

@@ -18,7 +18,7 @@ pub enum Verdict {
 const UNKNOWN: &str = "Unknown";
 
 // The names of the conditions, each at its number.
-const NAMES: [&str; 24] = [
+const NAMES: [&str; 25] = [
     UNKNOWN,
     "Size",
     "Magic",
@@ -43,6 +43,7 @@ const NAMES: [&str; 24] = [
     "Values",
     "Annotations",
     "Weight",
+    "Later",
 ];
 
 // The text with a number, or the default one behind the end.

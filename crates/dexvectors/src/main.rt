@@ -21,7 +21,6 @@ mod outcome;
 mod plans;
 mod random;
 mod regroup;
-mod strip;
 mod symbol;
 mod tally;
 mod weight;

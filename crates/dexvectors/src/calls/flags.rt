@@ -2,7 +2,8 @@
 
 use crate::fault::VectorFault;
 use crate::outcome::Outcome;
-use dexflags::{ClassFlags, FieldFlags, MethodFlags};
+use bitflags::Flags;
+use dexplain::{ClassFlags, FieldFlags, MethodFlags};
 use std::alloc::Global;
 
 /// Runs a line.

@@ -1,0 +1,76 @@
+-- No definitions are a program of no class.
+use Rattle.std.proofs.Common.{◌≡◌, List, [], map, refl, sym, ap, ◌∙◌, subst, arith}
+use Rattle.std.specs.Prelude.{All}
+use Rattle.std.specs.FinMap as finite
+use Rattle.std.proofs.lemmas.List.{nil_from_length}
+use Rattle.dexspec.specs.Texts.{text_cmp}
+use Rattle.dexspec.specs.Classes.{Body}
+use Rattle.dexspec.specs.Files.{definitions}
+use Rattle.dexspec.specs.WellFormed.{AreWellFormed}
+use Rattle.dexspec.specs.Mentions.{Mentions, mentions}
+use Rattle.dexspec.specs.Depth.{in_class_order}
+use Rattle.dexspec.specs.Weight.{weight}
+use Rattle.dexspec.specs.Merging.{Fits, IsGood, greatest_caps}
+use Rattle.dexspec.proofs.Members.{Contains-nil}
+use Rattle.dexspec.proofs.WeightGrowth.{weight-within}
+use Rattle.dexplain.specs.Numbered.{NumberedClass, definition_of}
+use Rattle.dexplain.specs.Marking.{IsInRange}
+use Rattle.dexplain.specs.Programs.{collection_of, IsProgram}
+
+-- no symbol
+abbrev no_mentions : Mentions
+no_mentions = record { texts = []; types = []; protos = []; fields = []; methods = [] }
+
+nothing_mentioned : mentions [] ≡ no_mentions
+unfolding mentions
+nothing_mentioned = refl
+
+nothing_weighs : weight [] ≡ 1024
+unfolding weight mentions
+nothing_weighs = refl
+
+nothing_in_order : in_class_order [] ≡ []
+unfolding in_class_order
+nothing_in_order = refl
+
+fits_nothing : Fits greatest_caps []
+unfolding mentions
+fits_nothing = record {
+  types = omega arith;
+  protos = omega arith;
+  fields = omega arith;
+  methods = omega arith;
+  short_strings = λ s h. absurd (Contains-nil h.definition h.member);
+  weight = λ E distinct within. omega (arith, weight-within E [] distinct within, nothing_weighs);
+}
+
+good_nothing : IsGood greatest_caps []
+good_nothing = record {
+  consistent = λ name one other c d. absurd (Contains-nil (name, one) c);
+  acyclic = λ name e. absurd cc;
+  fits = fits_nothing;
+}
+
+formed_nothing : AreWellFormed []
+formed_nothing d c = absurd (Contains-nil d c)
+
+-- a collection without members has no definitions
+no_definitions : definitions (finite.empty {R = text_cmp}) ≡ []
+no_definitions = nil_from_length (definitions finite.empty) (sym (finite.len-entries finite.empty) ∙ finite.len-empty text_cmp Body)
+
+-- no classes over no symbols
+pub empty_program : (m : Mentions) (cs : List NumberedClass) → m ≡ record { texts = []; types = []; protos = []; fields = []; methods = [] } → cs ≡ [] → IsProgram m cs 1024
+empty_program m cs e f =
+    let K = collection_of m cs in
+    let none : definitions K ≡ [] = ap (λ l. definitions (collection_of m l)) f ∙ no_definitions in
+    let is : m ≡ mentions (definitions K) = e ∙ sym nothing_mentioned ∙ ap mentions (sym none) in
+    record {
+      mentions_are = is;
+      classes_are = record {
+        numbers_in = subst (λ l. All (IsInRange (mentions (definitions K))) l) (sym f) (λ k d lt. absurd (omega arith));
+        are = ap (map (definition_of (mentions (definitions K)))) f ∙ sym nothing_in_order ∙ ap in_class_order (sym none);
+      };
+      good = subst (IsGood greatest_caps) (sym none) good_nothing;
+      formed = subst AreWellFormed (sym none) formed_nothing;
+      weight_is = sym nothing_weighs ∙ ap weight (sym none);
+    }

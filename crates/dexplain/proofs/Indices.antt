@@ -1,0 +1,71 @@
+-- Indices of classes and texts, and what tests and marks tell of them.
+use Rattle.std.proofs.Common.{◌≡◌, ◌≢◌, ℕ, zero, suc, ◌+◌, ◌<◌, Bool, false, List, [], ◌∷◌, ◌++◌, length, get_or, refl, sym, ap, ◌∙◌, subst, arith, inl, inr}
+use Rattle.std.specs.Prelude.{◌↔◌, IsTrue, All, nat_lt, Some, None}
+use Rattle.std.proofs.lemmas.Bool.{cases_lt, ltb-true, lt-ltb, ne_eqb}
+use Rattle.std.proofs.lemmas.List.{get_or_append_left, get_or_push}
+use Rattle.dexspec.specs.Texts.{Text}
+use Rattle.dexspec.specs.Names.{IsClass}
+use Rattle.dexspec.specs.Header.{TypeIds, table_size}
+use Rattle.dexspec.specs.Classes.{no_index}
+use Rattle.dexspec.specs.Mentions.{Mentions}
+use Rattle.dexspec.specs.Accepted.{IsDefinedBefore}
+use Rattle.dexspec.proofs.OneRow.{one_type}
+use Rattle.dexpool.specs.Pools.{ArePools}
+use Rattle.dexplain.specs.Rows.{AreClassTests, IsClassIndex, IsParentIndex, IsSourceIndex, IsInterfaceIndex, superclass_indices}
+
+-- a test in range tells whether the index is that of a class
+pub tested : (b : List ℕ) (m : Mentions) (tests : List Bool) (i : ℕ) → ArePools b m → AreClassTests m.types tests → i < length tests → IsTrue (get_or tests i false) ↔ IsClassIndex b i
+tested b m tests i pools h lt =
+    let row = pools.types_are.each i [] (omega (arith, lt, h.count, pools.types_are.count)) in
+    let each = h.each i (omega (arith, lt, h.count)) in
+    (λ e. (get_or m.types i [], record { row = row; class = each.0 e }), λ x. each.1 (subst IsClass (one_type b i x.0 (get_or m.types i []) x.1.row row) x.1.class))
+
+-- one more test
+pub tests_more : (types : List Text) (tests more : List Bool) (r : Bool) (i : ℕ) → length tests ≡ i → i < length types
+    → ((k : ℕ) → k < i → IsTrue (get_or tests k false) ↔ IsClass (get_or types k [])) → (IsTrue r ↔ IsClass (get_or types i [])) → more ≡ tests ++ r ∷ []
+    → (k : ℕ) → k < i + 1 → IsTrue (get_or more k false) ↔ IsClass (get_or types k [])
+tests_more types tests more r i count lt before is e k small = elim (cases_lt k i) [
+  | inl less ↦ subst (λ (v : Bool). IsTrue v ↔ IsClass (get_or types k [])) (sym (ap (λ (l : List Bool). get_or l k false) e ∙ get_or_append_left tests (r ∷ []) false k (omega (arith, less, count)))) (before k less)
+  | inr large ↦ let same : i ≡ k = omega arith in
+      subst (λ (n : ℕ). IsTrue (get_or more n false) ↔ IsClass (get_or types n [])) same
+      (subst (λ (v : Bool). IsTrue v ↔ IsClass (get_or types i [])) (sym (ap (λ (l : List Bool). get_or l i false) e ∙ get_or_push tests r false i count)) is)
+]
+
+-- the index of a parent that is not none
+pub parent_is : (b : List ℕ) (i : ℕ) → IsClassIndex b i → IsParentIndex b i
+parent_is b i h = (Some h.0, h.1)
+
+pub parent_class : (b : List ℕ) (i : ℕ) → i ≢ no_index → IsParentIndex b i → IsClassIndex b i
+parent_class b i some (None, e) = absurd (some e)
+parent_class b i some (Some t, h) = (t, h)
+
+-- the index of a source that is not none
+pub source_is : (b : List ℕ) (m : Mentions) (i n : ℕ) → ArePools b m → n ≡ length m.texts → i ≢ no_index → IsTrue (nat_lt i n) ↔ IsSourceIndex b i
+source_is b m i n pools e some = (
+  λ lt. (Some (get_or m.texts i []), pools.texts_are.each i [] (omega (arith, ltb-true i n lt, e, pools.texts_are.count))),
+  λ h. in_range h,
+)
+  where
+    in_range : IsSourceIndex b i → IsTrue (nat_lt i n)
+    in_range (None, none) = absurd (some none)
+    in_range (Some s, row) = lt-ltb i n (omega (arith, row.row, e, pools.texts_are.count))
+
+-- one interface
+pub interface_is : (b : List ℕ) (r i : ℕ) (t : Bool) → IsClassIndex b i → (IsTrue t ↔ IsDefinedBefore b r i) → IsTrue t ↔ IsInterfaceIndex b r i
+interface_is b r i t class before = (λ e. record { class_is = class; before = before.0 e }, λ h. before.1 h.before)
+
+-- the superclass alone
+pub superclass_before : (b : List ℕ) (r i : ℕ) (t : Bool) → i ≢ no_index → (IsTrue t ↔ IsDefinedBefore b r i) → IsTrue t ↔ All (IsDefinedBefore b r) (superclass_indices i)
+superclass_before b r i t some before =
+    let e : superclass_indices i ≡ i ∷ [] = rw (ne_eqb i no_index some) refl in (
+      λ yes. subst (All (IsDefinedBefore b r)) (sym e) (one (before.0 yes)),
+      λ all. before.1 (subst (All (IsDefinedBefore b r)) e all 0 0 (omega arith)),
+    )
+  where
+    one : IsDefinedBefore b r i → All (IsDefinedBefore b r) (i ∷ [])
+    one h zero d lt = h
+    one h (suc k) d lt = absurd (omega arith)
+
+-- a class in range
+pub class_in_range : (b : List ℕ) (i : ℕ) → IsClassIndex b i → i < table_size b TypeIds
+class_in_range b i h = h.1.row.row

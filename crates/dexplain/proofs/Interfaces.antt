@@ -1,0 +1,104 @@
+-- Lists of interfaces.
+use Rattle.std.proofs.Common.{◌≡◌, ◌≢◌, ℕ, zero, suc, ◌+◌, ◌*◌, ◌<◌, List, [], ◌∷◌, length, drop, get_or, refl, sym, ap, ◌∙◌, subst, arith, inl, inr}
+use Rattle.std.specs.Prelude.{All}
+use Rattle.std.specs.List.{AllZip}
+use Rattle.std.proofs.lemmas.Bool.{cases_lt, ne_eqb}
+use Rattle.dexspec.specs.Bytes.{uint_at, ushort_at, ushorts_at}
+use Rattle.dexspec.specs.Texts.{Text}
+use Rattle.dexspec.specs.Names.{IsClass}
+use Rattle.dexspec.specs.Rows.{TypeRow, type_indices}
+use Rattle.dexspec.specs.Lists.{OrNone}
+use Rattle.dexspec.specs.Classes.{ClassListAt}
+use Rattle.dexspec.specs.Accepted.{IsDefinedBefore}
+use Rattle.dexpool.specs.Reading.{HasRoom}
+use Rattle.dexpool.proofs.Bytes.{ushort_at_rest}
+use Rattle.dexplain.specs.Rows.{IsClassIndex, IsInterfaceIndex, interface_indices, HasInterfaces}
+
+-- ---- indices one by one
+
+length-ushorts : (b : List ℕ) (o n : ℕ) → length (ushorts_at b o n) ≡ n
+length-ushorts b o zero = refl
+length-ushorts b o (suc n) = ap suc (length-ushorts b (o + 2) n)
+
+ushort-index : (b : List ℕ) (o n k d : ℕ) → k < n → get_or (ushorts_at b o n) k d ≡ ushort_at b (o + 2 * k)
+ushort-index b o zero k d lt = absurd (omega arith)
+ushort-index b o (suc n) zero d lt = ap (ushort_at b) (omega arith)
+ushort-index b o (suc n) (suc k) d lt = ushort-index b (o + 2) n k d (omega arith) ∙ ap (ushort_at b) (omega arith)
+
+-- an index that is read from the rest of the file
+pub index_is : (b list : List ℕ) (off k m n : ℕ) → n ≡ m → m ≡ ushort_at list (4 + 2 * k) → list ≡ drop off b → n ≡ ushort_at b (off + 4 + 2 * k)
+index_is b list off k m n e read is = e ∙ read ∙ ushort_at_rest b list off (4 + 2 * k) (off + 4 + 2 * k) is (omega arith)
+
+module _ (b : List ℕ) (off count : ℕ) (room : HasRoom b off count) where
+  -- what holds of each index holds of all
+  pub all_indices : (P : ℕ → Type 0) → ((k : ℕ) → k < count → P (ushort_at b (off + 4 + 2 * k))) → All P (type_indices b off)
+  all_indices P each k d lt =
+      let small : k < uint_at b off = omega (arith, lt, length-ushorts b (off + 4) (uint_at b off)) in
+      subst P (sym (ushort-index b (off + 4) (uint_at b off) k d small)) (each k (omega (arith, small, room.count)))
+
+  -- and the other way round
+  pub index_of_all : (P : ℕ → Type 0) (k : ℕ) → k < count → All P (type_indices b off) → P (ushort_at b (off + 4 + 2 * k))
+  index_of_all P k lt all =
+      let small : k < uint_at b off = omega (arith, lt, room.count) in
+      subst P (ushort-index b (off + 4) (uint_at b off) k 0 small) (all k 0 (omega (arith, small, length-ushorts b (off + 4) (uint_at b off))))
+
+-- one index more
+pub interface_more : (b : List ℕ) (r o k n : ℕ) → ((j : ℕ) → j < k → IsInterfaceIndex b r (ushort_at b (o + 2 * j))) → n ≡ ushort_at b (o + 2 * k) → IsInterfaceIndex b r n → (j : ℕ) → j < k + 1 → IsInterfaceIndex b r (ushort_at b (o + 2 * j))
+interface_more b r o k n before e is j lt = elim (cases_lt j k) [
+  | inl small ↦ before j small
+  | inr large ↦ let same : k ≡ j = omega arith in subst (λ (m : ℕ). IsInterfaceIndex b r (ushort_at b (o + 2 * m))) same (subst (IsInterfaceIndex b r) e is)
+]
+
+-- ---- the classes of a list
+
+-- the types of rows that are classes
+pub record AreClasses (b : List ℕ) (indices : List ℕ) : Type 0 where
+  pub types : List Text
+  pub rows : AllZip (TypeRow b) indices types
+  pub classes : All IsClass types
+
+all_later : {X : Type 0} (P : X → Type 0) (x : X) (xs : List X) → All P (x ∷ xs) → All P xs
+all_later P x xs h k d lt = h (suc k) d (omega (arith, lt))
+
+all_more : {X : Type 0} (P : X → Type 0) (x : X) (xs : List X) → P x → All P xs → All P (x ∷ xs)
+all_more P x xs p h zero d lt = p
+all_more P x xs p h (suc k) d lt = h k d (omega (arith, lt))
+
+classes_of : (b : List ℕ) (indices : List ℕ) → All (IsClassIndex b) indices → AreClasses b indices
+classes_of b [] h = record { types = []; rows = tt; classes = λ k d lt. absurd (omega arith) }
+classes_of b (i ∷ is) h =
+    let first = h 0 0 (omega arith) in
+    let rest = classes_of b is (all_later (IsClassIndex b) i is h) in
+    record { types = first.0 ∷ rest.types; rows = (first.1.row, rest.rows); classes = all_more IsClass first.0 rest.types first.1.class rest.classes }
+
+pub of_classes : (b : List ℕ) (indices : List ℕ) (ts : List Text) → AllZip (TypeRow b) indices ts → All IsClass ts → All (IsClassIndex b) indices
+of_classes b [] [] rows classes = λ k d lt. absurd (omega arith)
+of_classes b [] (t ∷ ts) rows classes = absurd rows
+of_classes b (i ∷ is) [] rows classes = absurd rows
+of_classes b (i ∷ is) (t ∷ ts) rows classes =
+    all_more (IsClassIndex b) i is (t, record { row = rows.0; class = classes 0 [] (omega arith) }) (of_classes b is ts rows.1 (all_later IsClass t ts classes))
+
+-- ---- the list at an offset
+
+pub listed_interfaces : (b : List ℕ) (o : ℕ) → o ≢ 0 → interface_indices b o ≡ type_indices b o
+listed_interfaces b o ne = rw (ne_eqb o 0 ne) refl
+
+module _ (b : List ℕ) (r off count : ℕ) (some : off ≢ 0) (room : HasRoom b off count) where
+  pub has_interfaces : All (IsInterfaceIndex b r) (type_indices b off) → HasInterfaces b r off
+  has_interfaces all =
+      let are = classes_of b (type_indices b off) (λ k d lt. (all k d lt).class_is) in
+      record {
+        types = are.types;
+        list = inr (some, record { list = record { in_data = room.in_data; aligned = room.aligned; types = are.rows }; classes = are.classes });
+        before = subst (All (IsDefinedBefore b r)) (sym (listed_interfaces b off some)) (λ k d lt. (all k d lt).before);
+      }
+
+  pub of_interfaces : HasInterfaces b r off → All (IsInterfaceIndex b r) (type_indices b off)
+  of_interfaces h = both h.list
+    where
+      both : OrNone ClassListAt [] b off h.types → All (IsInterfaceIndex b r) (type_indices b off)
+      both (inl none) = absurd (some none.0)
+      both (inr list) = λ k d lt. record {
+        class_is = of_classes b (type_indices b off) h.types list.1.list.types list.1.classes k d lt;
+        before = subst (All (IsDefinedBefore b r)) (listed_interfaces b off some) h.before k d lt;
+      }

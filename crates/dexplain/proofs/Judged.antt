@@ -1,0 +1,106 @@
+-- Condition 16 at a row, from its parts.
+use Rattle.std.proofs.Common.{◌≡◌, ℕ, zero, suc, ◌+◌, ◌<◌, Bool, true, false, List, [], ◌∷◌, ◌++◌, get_or, sym, ◌∙◌, subst, arith, inl, inr}
+use Rattle.std.specs.Prelude.{All}
+use Rattle.std.proofs.lemmas.Bool.{cases_lt, false≢true}
+use Rattle.std.proofs.lemmas.List.Elements.{All-append}
+use Rattle.dexspec.specs.Header.{ClassDefs, table_size}
+use Rattle.dexspec.specs.Classes.{superclass_idx, interfaces_off, ClassTypeRow}
+use Rattle.dexspec.specs.Conditions.{Condition}
+use Rattle.dexspec.specs.Accepted.{HasClass, IsDefinedBefore, HoldBelow, FailsFirst}
+use Rattle.dexplain.specs.declared.class_rows.RowFields.{RowFields}
+use Rattle.dexplain.specs.Rows.{HasRowFields, IsClassIndex, IsParentIndex, IsSourceIndex, superclass_indices, interface_indices, HasInterfaces, AreDefinedMarks}
+use Rattle.dexplain.proofs.Indices.{class_in_range}
+
+-- ---- lists in two parts
+
+pub all_left : (P : ℕ → Type 0) (xs ys : List ℕ) → All P (xs ++ ys) → All P xs
+all_left P [] ys h k d lt = absurd (omega arith)
+all_left P (x ∷ xs) ys h zero d lt = h 0 d (omega arith)
+all_left P (x ∷ xs) ys h (suc k) d lt = all_left P xs ys (λ i e small. h (suc i) e (omega (arith, small))) k d (omega (arith, lt))
+
+pub all_right : (P : ℕ → Type 0) (xs ys : List ℕ) → All P (xs ++ ys) → All P ys
+all_right P [] ys h = h
+all_right P (x ∷ xs) ys h = all_right P xs ys (λ i e small. h (suc i) e (omega (arith, small)))
+
+-- ---- the parts
+
+module _ (b : List ℕ) (r : ℕ) (f : RowFields) (is : HasRowFields b r f) where
+  pub class_of : HasClass b r → IsClassIndex b f.class
+  class_of h = (h.name, subst (λ (i : ℕ). ClassTypeRow b i h.name) is.class_is h.is)
+
+  pub parent_of : HasClass b r → IsParentIndex b f.superclass
+  parent_of h = subst (IsParentIndex b) is.superclass_is h.superclass
+
+  pub source_of : HasClass b r → IsSourceIndex b f.source_file
+  source_of h = subst (IsSourceIndex b) is.source_is h.source
+
+  pub parent_before_of : HasClass b r → All (IsDefinedBefore b r) (superclass_indices f.superclass)
+  parent_before_of h = subst (λ (i : ℕ). All (IsDefinedBefore b r) (superclass_indices i)) is.superclass_is
+      (all_left (IsDefinedBefore b r) (superclass_indices (superclass_idx b r)) (interface_indices b (interfaces_off b r)) h.parents)
+
+  pub interfaces_of : HasClass b r → HasInterfaces b r f.interfaces_off
+  interfaces_of h = subst (HasInterfaces b r) is.interfaces_are (record {
+    types = h.interfaces.0;
+    list = h.interfaces.1;
+    before = all_right (IsDefinedBefore b r) (superclass_indices (superclass_idx b r)) (interface_indices b (interfaces_off b r)) h.parents;
+  })
+
+  module _ (seen : List Bool) (marks : AreDefinedMarks b r seen) where
+    pub seen_not : IsClassIndex b f.class → get_or seen f.class false ≡ true → HasClass b r → ⊥
+    seen_not class e h =
+        let before = (marks.each f.class (class_in_range b f.class class)).0 e in
+        h.first before.0 before.1 (before.2 ∙ sym is.class_is)
+
+    pub has_class : IsClassIndex b f.class → get_or seen f.class false ≡ false → IsParentIndex b f.superclass → IsSourceIndex b f.source_file
+        → All (IsDefinedBefore b r) (superclass_indices f.superclass) → HasInterfaces b r f.interfaces_off → HasClass b r
+    has_class class e parent source before interfaces =
+        let listed : HasInterfaces b r (interfaces_off b r) = subst (HasInterfaces b r) (sym is.interfaces_are) interfaces in
+        record {
+          name = class.0;
+          is = subst (λ (i : ℕ). ClassTypeRow b i class.0) (sym is.class_is) class.1;
+          first = λ k lt same. false≢true (sym e ∙ (marks.each f.class (class_in_range b f.class class)).1 (k, lt, same ∙ is.class_is));
+          superclass = subst (IsParentIndex b) (sym is.superclass_is) parent;
+          interfaces = (listed.types, listed.list);
+          source = subst (IsSourceIndex b) (sym is.source_is) source;
+          parents = All-append (IsDefinedBefore b r) (superclass_indices (superclass_idx b r)) (interface_indices b (interfaces_off b r))
+              (subst (λ (i : ℕ). All (IsDefinedBefore b r) (superclass_indices i)) (sym is.superclass_is) before) listed.before;
+        }
+
+-- ---- the rows
+
+-- one row more
+pub rows_more : (b : List ℕ) (r : ℕ) → ((k : ℕ) → k < r → HasClass b k) → HasClass b r → (k : ℕ) → k < r + 1 → HasClass b k
+rows_more b r before is k lt = elim (cases_lt k r) [
+  | inl small ↦ before k small
+  | inr large ↦ let same : r ≡ k = omega arith in subst (HasClass b) same is
+]
+
+-- the least row that fails
+pub fails_first : (b : List ℕ) (r : ℕ) → HoldBelow 16 b → r < table_size b ClassDefs → ((k : ℕ) → k < r → HasClass b k) → (HasClass b r → ⊥) → FailsFirst Condition.Classes b r
+fails_first b r before row rows fails = record { before = before; row = row; rows = rows; fails = fails }
+
+-- all rows
+pub hold_below : (b : List ℕ) → HoldBelow 16 b → ((k : ℕ) → k < table_size b ClassDefs → HasClass b k) → HoldBelow 17 b
+hold_below b before rows Condition.Size lt = before Condition.Size (omega arith)
+hold_below b before rows Condition.Magic lt = before Condition.Magic (omega arith)
+hold_below b before rows Condition.Version lt = before Condition.Version (omega arith)
+hold_below b before rows Condition.Lengths lt = before Condition.Lengths (omega arith)
+hold_below b before rows Condition.Endian lt = before Condition.Endian (omega arith)
+hold_below b before rows Condition.Link lt = before Condition.Link (omega arith)
+hold_below b before rows Condition.Checksum lt = before Condition.Checksum (omega arith)
+hold_below b before rows Condition.Signature lt = before Condition.Signature (omega arith)
+hold_below b before rows Condition.Layout lt = before Condition.Layout (omega arith)
+hold_below b before rows Condition.Map lt = before Condition.Map (omega arith)
+hold_below b before rows Condition.Strings lt = before Condition.Strings (omega arith)
+hold_below b before rows Condition.Types lt = before Condition.Types (omega arith)
+hold_below b before rows Condition.Protos lt = before Condition.Protos (omega arith)
+hold_below b before rows Condition.Fields lt = before Condition.Fields (omega arith)
+hold_below b before rows Condition.Methods lt = before Condition.Methods (omega arith)
+hold_below b before rows Condition.Classes lt = rows
+hold_below b before rows Condition.Members lt = absurd (omega arith)
+hold_below b before rows Condition.Code lt = absurd (omega arith)
+hold_below b before rows Condition.Tries lt = absurd (omega arith)
+hold_below b before rows Condition.Debug lt = absurd (omega arith)
+hold_below b before rows Condition.Values lt = absurd (omega arith)
+hold_below b before rows Condition.Annotations lt = absurd (omega arith)
+hold_below b before rows Condition.Weight lt = absurd (omega arith)

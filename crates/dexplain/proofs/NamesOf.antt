@@ -1,0 +1,49 @@
+-- The numbers of names order as the names.
+use Rattle.std.proofs.Common.{◌≡◌, ℕ, ◌<◌, List, [], length, get_or, map, sym, ap, ◌∙◌, arith, inl, inr}
+use Rattle.std.specs.Prelude.{◌↔◌}
+use Rattle.std.proofs.lemmas.Bool.{cases_order}
+use Rattle.std.proofs.lemmas.List.{length-map, get_or-map}
+use Rattle.dexspec.specs.Texts.{text_cmp}
+use Rattle.dexspec.specs.Mentions.{Mentions}
+use Rattle.dexspec.proofs.InOrder.{Rises-from_rises, Rises-places, irreflexive, asymmetric}
+use Rattle.dexspec.proofs.SymbolOrders.{text_total}
+use Rattle.std.specs.declared.cmp.Ordering.TheVariants.{Less}
+use Rattle.dexorder.specs.Definitions.{AreNamesOf}
+use Rattle.dexplain.specs.Numbered.{NumberedClass, type_at, definition_of}
+use Rattle.dexplain.specs.Parents.{no_class, name_number, AreNamed}
+use Rattle.dexplain.proofs.Classed.{name_is}
+
+module _ (m : Mentions) (cs : List NumberedClass) (named : AreNamed m cs) where
+  abbrev numbers : List ℕ
+  numbers = map (λ c. c.name) cs
+
+  number_is : (i : ℕ) → i < length cs → get_or numbers i 0 ≡ name_number cs i
+  number_is i lt = get_or-map (λ (c : NumberedClass). c.name) cs i no_class 0 lt
+
+  less_text : (i j : ℕ) → i < length m.types → j < length m.types → (i < j) ↔ (text_cmp (type_at m i) (type_at m j) ≡ Less)
+  less_text i j li lj = (
+    λ less. Rises-places text_cmp text_total m.types i j [] (Rises-from_rises text_cmp text_total m.types named.rising) less lj,
+    λ e. elim (cases_order i j) [
+      | inl same ↦ absurd (irreflexive text_cmp text_total (type_at m i) (type_at m j) (ap (type_at m) same) e)
+      | inr other ↦ elim other [
+        | inl less ↦ less
+        | inr more ↦ absurd (asymmetric text_cmp text_total (type_at m i) (type_at m j) e (Rises-places text_cmp text_total m.types j i [] (Rises-from_rises text_cmp text_total m.types named.rising) more li))
+      ]
+    ],
+  )
+
+  pub names_of : AreNamesOf (map (definition_of m) cs) numbers
+  names_of = record {
+    count = length-map cs (λ (c : NumberedClass). c.name) ∙ sym (length-map cs (definition_of m));
+    order = λ i j li lj.
+        let ci : i < length cs = omega (arith, li, length-map cs (definition_of m)) in
+        let cj : j < length cs = omega (arith, lj, length-map cs (definition_of m)) in
+        let both = less_text (name_number cs i) (name_number cs j) (named.names i ci) (named.names j cj) in
+        let ni = number_is i ci in
+        let nj = number_is j cj in
+        let ti = name_is m cs named i ci in
+        let tj = name_is m cs named j cj in (
+          λ less. (λ k. text_cmp (ti k) (tj k)) ∙ both.0 (omega (arith, less, ni, nj)),
+          λ e. let l = both.1 ((λ k. text_cmp (sym ti k) (sym tj k)) ∙ e) in omega (arith, l, ni, nj),
+        );
+  }

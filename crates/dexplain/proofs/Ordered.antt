@@ -1,0 +1,93 @@
+-- Classes in the order of their definitions.
+use Rattle.std.proofs.Common.{◌≡◌, ℕ, suc, ◌+◌, ◌<◌, true, List, [], ◌∷◌, length, get_or, map, refl, sym, ap, ◌∙◌, subst, arith, Option, Ok, Err}
+use Rattle.std.specs.Prelude.{All, Result, IfOk}
+use Rattle.std.specs.List.{Contains, range_with_len}
+use Rattle.std.specs.List.Sorted.{IsPermutation}
+use Rattle.std.proofs.lemmas.List.{length-map, get_or-map, get_or_default}
+use Rattle.std.proofs.lemmas.List.FromFn.{get_or-range_with_len, length-range_with_len}
+use Rattle.std.proofs.lemmas.List.Sorted.{Contains-permutation, IsPermutation-sym}
+use Rattle.std.proofs.lemmas.List.Elements.{Contains-get_or}
+use Rattle.dexspec.specs.Lists.{rises, AreDistinct}
+use Rattle.dexspec.specs.Classes.{Definition}
+use Rattle.dexspec.specs.Depth.{IsAcyclic, in_class_order}
+use Rattle.dexspec.specs.Mentions.{Mentions}
+use Rattle.dexspec.proofs.InOrder.{Rises-from_rises, AreDistinct-from_Rises}
+use Rattle.dexspec.proofs.Mapped.{AreDistinct-map_source}
+use Rattle.dexorder.specs.Depths.{AreWithin, AreDepths}
+use Rattle.dexorder.specs.Definitions.{AreClassesOf, AreNamesOf}
+use Rattle.dexorder.specs.Places.{class_place, class_cmp}
+use Rattle.dexorder.proofs.PlaceLaws.{class_total}
+use Rattle.dexorder.proofs.DefinitionDepths.{all_known}
+use Rattle.dexorder.proofs.DefinitionOrder.{same_order}
+use Rattle.dexplain.specs.Numbered.{NumberedClass, type_at, definition_of}
+use Rattle.dexplain.specs.Parents.{no_class, name_number, IsHierarchy, AreNamed}
+use Rattle.dexplain.proofs.Mentioned.{Contains-map_source, All-member}
+use Rattle.dexplain.proofs.Classed.{name_is, one_number, classes_of}
+use Rattle.dexplain.proofs.NamesOf.{names_of}
+
+-- what follows from what an answer gives
+pub if_ok_each : {A E : Type 0} (P Q : A → Type 0) (r : Result A E) → ((x : A) → P x → Q x) → IfOk r P → IfOk r Q
+if_ok_each P Q (Ok x) f h = f x h
+if_ok_each P Q (Err e) f h = h
+
+-- a number of the first n
+below : (n i : ℕ) → Contains (range_with_len 0 n) i → i < n
+below n i c =
+    let few : c.0 < n = omega (arith, c.1, length-range_with_len 0 n) in
+    let at : 0 + c.0 ≡ i = sym (get_or-range_with_len 0 n c.0 i few) ∙ c.2 in
+    omega (arith, few, at)
+
+module _ (m : Mentions) (cs : List NumberedClass) (named : AreNamed m cs) where
+  abbrev D : List Definition
+  D = map (definition_of m) cs
+
+  -- definitions of two classes have two names
+  pub names_apart : AreDistinct (map (λ (d : Definition). d.0) D)
+  names_apart i j d less lt e =
+      let few : j < length cs = omega (arith, lt, length-map D (λ (x : Definition). x.0), length-map cs (definition_of m)) in
+      let first : i < length cs = omega (arith, few, less) in
+      let ei : get_or (map (λ (x : Definition). x.0) D) i d ≡ type_at m (name_number cs i) = get_or_default (map (λ (x : Definition). x.0) D) i d [] (omega (arith, less, lt)) ∙ name_is m cs named i first in
+      let ej : get_or (map (λ (x : Definition). x.0) D) j d ≡ type_at m (name_number cs j) = get_or_default (map (λ (x : Definition). x.0) D) j d [] lt ∙ name_is m cs named j few in
+      let same : name_number cs i ≡ name_number cs j = one_number m cs named _ _ (named.names i first) (named.names j few) (sym ei ∙ e ∙ ej) in
+      named.distinct i j 0 less (omega (arith, few, length-map cs (λ (c : NumberedClass). c.name)))
+      (get_or-map (λ (c : NumberedClass). c.name) cs i no_class 0 first ∙ same ∙ sym (get_or-map (λ (c : NumberedClass). c.name) cs j no_class 0 few))
+
+  -- the classes at places are the definitions there
+  arranged_are : (order : List ℕ) → All (λ i. i < length cs) order → map (definition_of m) (map (λ i. get_or cs i no_class) order) ≡ map (λ i. get_or D i (definition_of m no_class)) order
+  arranged_are [] within = refl
+  arranged_are (i ∷ is) within =
+      ap (λ (x : Definition). x ∷ map (definition_of m) (map (λ k. get_or cs k no_class) is)) (sym (get_or-map (definition_of m) cs i no_class (definition_of m no_class) (within 0 0 (omega arith))))
+      ∙ ap (λ (l : List Definition). get_or D i (definition_of m no_class) ∷ l) (arranged_are is (λ k d lt. within (suc k) d (omega (arith, lt))))
+
+  module _ (H : List (List ℕ)) (h : IsHierarchy cs H) where
+    pub are_classes : AreClassesOf D H
+    are_classes = subst (AreClassesOf D) (sym h.is) (classes_of m cs named h.places h.are_places)
+
+    pub are_within : AreWithin H
+    are_within = are_classes.within
+
+    module _ (depths : List (Option ℕ)) (names order : List ℕ) (a : AreDepths H depths) (e : names ≡ map (λ c. c.name) cs) (p : IsPermutation (range_with_len 0 (length names)) order) (r : rises class_cmp (map (class_place depths names) order) ≡ true) where
+      -- no place stands twice
+      pub order_distinct : AreDistinct order
+      order_distinct = AreDistinct-map_source (class_place depths names) order (AreDistinct-from_Rises class_cmp class_total (map (class_place depths names) order) (Rises-from_rises class_cmp class_total (map (class_place depths names) order) r))
+
+      length_names : length names ≡ length cs
+      length_names = ap length e ∙ length-map cs (λ (c : NumberedClass). c.name)
+
+      pub order_within : All (λ i. i < length cs) order
+      order_within k d lt =
+          let c = Contains-permutation order (range_with_len 0 (length names)) (get_or order k d) (IsPermutation-sym (range_with_len 0 (length names)) order p) (Contains-get_or order k d lt) in
+          omega (arith, below (length names) (get_or order k d) c, length_names)
+
+      -- each is one of the classes
+      pub arranged_among : (arranged : List NumberedClass) → arranged ≡ map (λ i. get_or cs i no_class) order → (c : NumberedClass) → Contains arranged c → Contains cs c
+      arranged_among arranged is c member =
+          let s = Contains-map_source (λ i. get_or cs i no_class) order c (subst (λ (l : List NumberedClass). Contains l c) is member) in
+          let lt : s.0 < length cs = All-member (λ i. i < length cs) order s.0 order_within s.1 in
+          (s.0, lt, get_or_default cs s.0 c no_class lt ∙ s.2)
+
+      pub ordered_are : IsAcyclic D → (arranged : List NumberedClass) → arranged ≡ map (λ i. get_or cs i no_class) order → map (definition_of m) arranged ≡ in_class_order D
+      ordered_are acyclic arranged is =
+          let count : length names ≡ length D = length_names ∙ sym (length-map cs (definition_of m)) in
+          ap (map (definition_of m)) is ∙ arranged_are order order_within
+          ∙ same_order D H depths names are_classes a (all_known D H are_classes depths a acyclic) (subst (AreNamesOf D) (sym e) (names_of m cs named)) (definition_of m no_class) order names_apart (subst (λ (n : ℕ). IsPermutation (range_with_len 0 n) order) count p) r

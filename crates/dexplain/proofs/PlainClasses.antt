@@ -1,0 +1,71 @@
+-- The numbers of a plain class row stand for the definition that the row is.
+use Rattle.std.proofs.Common.{◌≡◌, ℕ, ◌<◌, Bool, true, false, List, [], ◌∷◌, refl, sym, ap, ◌∙◌, subst, inl, inr}
+use Rattle.std.specs.Prelude.{◌==◌, if◌then◌else◌, map, Option, Some, None}
+use Rattle.std.specs.Option.{option_map}
+use Rattle.std.specs.List.{AllZip}
+use Rattle.std.proofs.lemmas.Bool.{eqb-true, false≢true}
+use Rattle.dexspec.specs.Lists.{OrNone}
+use Rattle.dexspec.specs.Texts.{Text}
+use Rattle.dexspec.specs.Header.{ClassDefs, table_size}
+use Rattle.dexspec.specs.Rows.{StringRow, TypeRow, type_indices}
+use Rattle.dexspec.specs.Annotations.{no_directory}
+use Rattle.dexspec.specs.ClassData.{no_class_data}
+use Rattle.dexspec.specs.Classes.{ClassRow, ClassTypeRow, ClassListAt, IndexOrNone, class_idx, superclass_idx, interfaces_off, source_file_idx, no_index}
+use Rattle.dexspec.specs.Mentions.{Mentions}
+use Rattle.dexspec.specs.Accepted.{HasClass}
+use Rattle.dexspec.specs.Plain.{IsPlainRow}
+use Rattle.dexspec.proofs.OneRow.{one_string, one_type}
+use Rattle.dexpool.specs.Pools.{ArePools}
+use Rattle.dexplain.specs.Rows.{interface_indices}
+use Rattle.dexplain.specs.Numbered.{text_at, type_at, definition_of, class_of_row}
+use Rattle.dexplain.proofs.Interfaces.{listed_interfaces}
+
+module _ (b : List ℕ) (m : Mentions) (pools : ArePools b m) where
+  -- a type row is that of its number
+  pub type_is : (i : ℕ) (t : Text) → TypeRow b i t → t ≡ type_at m i
+  type_is i t row = one_type b i t (type_at m i) row (pools.types_are.each i [] row.row)
+
+  -- and a string row
+  pub text_is : (i : ℕ) (s : Text) → StringRow b i s → s ≡ text_at m i
+  text_is i s row = one_string b i s (text_at m i) row (pools.texts_are.each i [] row.row)
+
+  -- an index that may be none
+  optional_stands : (Row : List ℕ → ℕ → Text → Type 0) (at : ℕ → Text) → ((i : ℕ) (t : Text) → Row b i t → t ≡ at i) → (i : ℕ) (v : Bool) → (i == no_index) ≡ v
+      → (t : Option Text) → IndexOrNone Row b i t → IndexOrNone Row b i (option_map at (if v then None else Some i))
+  optional_stands Row at one i true e t h = eqb-true i no_index e
+  optional_stands Row at one i false e None h = absurd (false≢true (sym e ∙ ap (λ (k : ℕ). k == no_index) h))
+  optional_stands Row at one i false e (Some t) h = subst (Row b i) (one i t h) h
+
+  -- a list of types
+  listed_is : (is : List ℕ) (ts : List Text) → AllZip (TypeRow b) is ts → ts ≡ map (type_at m) is
+  listed_is [] [] h = refl
+  listed_is [] (t ∷ ts) h = absurd h
+  listed_is (i ∷ is) [] h = absurd h
+  listed_is (i ∷ is) (t ∷ ts) h = ap (λ (s : Text). s ∷ ts) (type_is i t h.0) ∙ ap (λ (l : List Text). type_at m i ∷ l) (listed_is is ts h.1)
+
+  interfaces_stand : (o : ℕ) (ts : List Text) → OrNone ClassListAt [] b o ts → OrNone ClassListAt [] b o (map (type_at m) (interface_indices b o))
+  interfaces_stand o ts (inl none) = inl (none.0, ap (λ (k : ℕ). map (type_at m) (interface_indices b k)) none.0)
+  interfaces_stand o ts (inr list) =
+      let e : ts ≡ map (type_at m) (interface_indices b o) = listed_is (type_indices b o) ts list.1.list.types ∙ ap (map (type_at m)) (sym (listed_interfaces b o list.0)) in
+      inr (list.0, subst (ClassListAt b o) e list.1)
+
+  -- the row is the definition of its numbers
+  pub row_stands : (r : ℕ) → r < table_size b ClassDefs → HasClass b r → IsPlainRow b r → ClassRow b r (definition_of m (class_of_row b r)).0 (definition_of m (class_of_row b r)).1
+  row_stands r lt h plain = record {
+    row = lt;
+    class = subst (ClassTypeRow b (class_idx b r)) (type_is (class_idx b r) h.name h.is.row) h.is;
+    flags = refl;
+    superclass = optional_stands ClassTypeRow (type_at m) (λ i t row. type_is i t row.row) (superclass_idx b r) (superclass_idx b r == no_index) refl h.superclass.0 h.superclass.1;
+    interfaces = interfaces_stand (interfaces_off b r) h.interfaces.0 h.interfaces.1;
+    source = optional_stands StringRow (text_at m) text_is (source_file_idx b r) (source_file_idx b r == no_index) refl h.source.0 h.source.1;
+    directory = no_directory;
+    directory_is = inl (plain.annotations, refl);
+    members = no_class_data;
+    members_are = inl (plain.class_data, refl);
+    annotations = refl;
+    static_fields = refl;
+    instance_fields = refl;
+    direct_methods = tt;
+    virtual_methods = tt;
+    static_values = inl (plain.static_values, refl);
+  }

@@ -1,0 +1,107 @@
+-- Classes in the order of a canonical file are a program, which weighs what they weigh with the numbering.
+use Rattle.std.proofs.Common.{◌≡◌, ℕ, suc, ◌^◌, ◌+◌, ◌≤◌, List, map, get_or, sym, ap, ◌∙◌, subst, arith, sum_by}
+use Rattle.std.specs.Prelude.{All}
+use Rattle.std.specs.List.{Contains}
+use Rattle.std.proofs.lemmas.List.Elements.{Contains-get_or}
+use Rattle.dexspec.specs.Lists.{AreDistinct}
+use Rattle.dexspec.specs.Classes.{Definition}
+use Rattle.dexspec.specs.Files.{Collection, definitions, AreSame, IsCollectionOf}
+use Rattle.dexspec.specs.Mentions.{Mentions, mentions}
+use Rattle.dexspec.specs.Depth.{in_class_order}
+use Rattle.dexspec.specs.Weight.{mentions_weight, body_weight, weight}
+use Rattle.dexspec.specs.Merging.{IsConsistent, greatest_caps}
+use Rattle.dexspec.proofs.Mapped.{AreDistinct-map_source}
+use Rattle.dexspec.proofs.SizeSums.{sum_by-map}
+use Rattle.dexspec.proofs.Growth.{mentions-same}
+use Rattle.dexspec.proofs.Absorption.{IsGood-within}
+use Rattle.dexspec.proofs.WeightGrowth.{weight-same}
+use Rattle.dexspec.proofs.ClassPlaces.{in_class_order-only, in_class_order-has}
+use Rattle.dexspec.proofs.ClassOrder.{definitions-distinct, definitions-different}
+use Rattle.dexspec.proofs.Collections.{collection-is, definitions-same}
+use Rattle.dexpool.specs.Numberings.{IsNumbering}
+use Rattle.dexplain.specs.Numbered.{NumberedClass, definition_of}
+use Rattle.dexplain.specs.Marking.{IsInRange}
+use Rattle.dexplain.specs.Parents.{no_class, AreNamed}
+use Rattle.dexplain.specs.Programs.{collection_of, AreMergeable, IsProgram}
+use Rattle.dexplain.proofs.Ordered.{names_apart}
+use Rattle.dexplain.proofs.OneOrder.{one_class_order}
+
+-- what classes weigh is what their bodies weigh with what they mention
+pub weight_parts : (m : Mentions) (cs : List NumberedClass) → m ≡ mentions (map (definition_of m) cs) → weight (map (definition_of m) cs) ≡ 1024 + mentions_weight m + sum_by (λ (c : NumberedClass). body_weight (definition_of m c).1) cs
+unfolding weight
+weight_parts m cs e =
+    let D = map (definition_of m) cs in
+    let mentioned : mentions_weight m ≡ mentions_weight (mentions D) = ap mentions_weight e in
+    let bodies : sum_by (λ (d : Definition). body_weight d.1) D ≡ sum_by (λ (c : NumberedClass). body_weight (definition_of m c).1) cs = sum_by-map (λ (d : Definition). body_weight d.1) (definition_of m) cs in
+    omega (arith, mentioned, bodies)
+
+module _ (m : Mentions) (cs : List NumberedClass) (h : AreMergeable m cs) (numbering : IsNumbering m) where
+  abbrev D : List Definition
+  D = map (definition_of m) cs
+
+  -- a class's numbers are those of the numbering
+  ranged : (c : NumberedClass) → Contains cs c → IsInRange m c
+  ranged c member = subst (IsInRange m) member.2 (h.numbers_in member.0 c member.1)
+
+  -- the names and parents are types
+  pub named : AreNamed m cs
+  named = record {
+    rising = numbering.rising.types_rise;
+    names = λ i lt. (h.numbers_in i no_class lt).types_in 0 0 (omega arith);
+    parents_in = λ c member k d lt. (ranged c member).types_in (suc k) d (omega (arith, lt));
+    distinct = h.names_differ;
+  }
+
+  -- no two definitions have one name
+  apart : AreDistinct (map (λ d. d.0) D)
+  apart = names_apart m cs named
+
+  distinct : AreDistinct D
+  distinct = AreDistinct-map_source (λ (d : Definition). d.0) D apart
+
+  -- so they weigh what a file can hold
+  pub weight_bound : weight D ≤ 2 ^ 30
+  weight_bound = h.good.fits.weight D distinct (λ d c. c)
+
+  module _ (new : List NumberedClass) (range : (c : NumberedClass) → Contains new c → Contains cs c) (order : map (definition_of m) new ≡ in_class_order D) where
+    abbrev K : Collection
+    K = collection_of m new
+
+    same : AreSame (map (definition_of m) new) D
+    same d = (
+      λ c. in_class_order-only D d (subst (λ (l : List Definition). Contains l d) order c),
+      λ c. subst (λ (l : List Definition). Contains l d) (sym order) (in_class_order-has D d apart c),
+    )
+
+    consistent : IsConsistent (map (definition_of m) new)
+    consistent name one other c d = h.good.consistent name one other ((same (name, one)).0 c) ((same (name, other)).0 d)
+
+    -- their collection is that of the classes
+    pub collection_is : IsCollectionOf D K
+    collection_is name c =
+        let is = collection-is (map (definition_of m) new) consistent name c in
+        (λ e. (same (name, c)).0 (is.0 e), λ x. is.1 ((same (name, c)).1 x))
+
+    members : AreSame (definitions K) D
+    members = definitions-same D K collection_is
+
+    within : (d : Definition) → Contains (definitions K) d → Contains D d
+    within d c = (members d).0 c
+
+    back : (d : Definition) → Contains D d → Contains (definitions K) d
+    back d c = (members d).1 c
+
+    mentioned : m ≡ mentions (definitions K)
+    mentioned = h.mentions_are ∙ mentions-same D (definitions K) back within
+
+    pub program_is : (heavy : ℕ) → heavy ≡ weight D → IsProgram m new heavy
+    program_is heavy e = record {
+      mentions_are = mentioned;
+      classes_are = record {
+        numbers_in = subst (λ (n : Mentions). All (IsInRange n) new) mentioned (λ k d lt. ranged (get_or new k d) (range (get_or new k d) (Contains-get_or new k d lt)));
+        are = ap (λ (n : Mentions). map (definition_of n) new) (sym mentioned) ∙ order ∙ one_class_order D (definitions K) (λ d. (back d, within d)) h.good.acyclic apart (definitions-distinct K);
+      };
+      good = IsGood-within (definitions K) D within greatest_caps h.good;
+      formed = λ d c. h.formed d (within d c);
+      weight_is = e ∙ weight-same D (definitions K) distinct (definitions-different K) back within;
+    }

@@ -1,0 +1,62 @@
+-- The numbers of a class row are those of symbols of the pools.
+use Rattle.std.proofs.Common.{◌≡◌, ◌≢◌, ℕ, zero, suc, ◌+◌, ◌<◌, ◌≤◌, List, [], length, sym, subst, arith, inl, inr, refl}
+use Rattle.std.specs.Prelude.{All, Option, Some, None, option_to_list}
+use Rattle.std.specs.List.{range_with_len}
+use Rattle.std.proofs.lemmas.Bool.{cases_eq, ne_eqb}
+use Rattle.std.proofs.lemmas.List.Elements.{All-nil, All-cons, All-append, All-map}
+use Rattle.dexspec.specs.Lists.{OrNone}
+use Rattle.dexspec.specs.Texts.{Text}
+use Rattle.dexspec.specs.Rows.{StringRow, type_indices}
+use Rattle.dexspec.specs.Classes.{ClassTypeRow, ClassListAt, IndexOrNone, class_idx, superclass_idx, interfaces_off, source_file_idx, no_index}
+use Rattle.dexspec.specs.Mentions.{Mentions}
+use Rattle.dexspec.specs.Accepted.{HasClass}
+use Rattle.dexpool.specs.Pools.{ArePools}
+use Rattle.dexplain.specs.Rows.{interface_indices}
+use Rattle.dexplain.specs.Numbered.{number_of, class_of_row}
+use Rattle.dexplain.specs.Marking.{IsInRange}
+use Rattle.dexplain.specs.Reading.{classes_below}
+use Rattle.dexplain.proofs.Indices.{class_in_range}
+use Rattle.dexplain.proofs.Interfaces.{of_classes, listed_interfaces}
+
+-- an index that may be none
+optional_in : (n i : ℕ) → (i ≢ no_index → i < n) → All (λ k. k < n) (option_to_list (number_of i))
+optional_in n i below = elim (cases_eq i no_index) [
+  | inl e ↦ subst (λ (k : ℕ). All (λ j. j < n) (option_to_list (number_of k))) (sym e) (All-nil (λ j. j < n))
+  | inr ne ↦
+      let is : number_of i ≡ Some i = rw (ne_eqb i no_index ne) refl in
+      subst (λ (o : Option ℕ). All (λ j. j < n) (option_to_list o)) (sym is) (All-cons (λ j. j < n) i [] (below ne) (All-nil (λ j. j < n)))
+]
+
+module _ (b : List ℕ) (m : Mentions) (pools : ArePools b m) where
+  parent_in : (i : ℕ) (t : Option Text) → IndexOrNone ClassTypeRow b i t → i ≢ no_index → i < length m.types
+  parent_in i None e ne = absurd (ne e)
+  parent_in i (Some t) h ne = omega (arith, h.row.row, pools.types_are.count)
+
+  source_in : (i : ℕ) (s : Option Text) → IndexOrNone StringRow b i s → i ≢ no_index → i < length m.texts
+  source_in i None e ne = absurd (ne e)
+  source_in i (Some s) h ne = omega (arith, h.row, pools.texts_are.count)
+
+  interfaces_in : (o : ℕ) (ts : List Text) → OrNone ClassListAt [] b o ts → All (λ k. k < length m.types) (interface_indices b o)
+  interfaces_in o ts (inl none) = subst (λ (k : ℕ). All (λ j. j < length m.types) (interface_indices b k)) (sym none.0) (All-nil (λ j. j < length m.types))
+  interfaces_in o ts (inr list) =
+      subst (All (λ j. j < length m.types)) (sym (listed_interfaces b o list.0))
+      (λ k d lt. omega (arith, class_in_range b _ (of_classes b (type_indices b o) ts list.1.list.types list.1.classes k d lt), pools.types_are.count))
+
+  -- a row that meets condition 16
+  row_in_range : (r : ℕ) → HasClass b r → IsInRange m (class_of_row b r)
+  row_in_range r h = record {
+    types_in = All-cons (λ j. j < length m.types) (class_idx b r) _ (omega (arith, h.is.row.row, pools.types_are.count))
+        (All-append (λ j. j < length m.types) (option_to_list (number_of (superclass_idx b r))) (interface_indices b (interfaces_off b r))
+        (optional_in (length m.types) (superclass_idx b r) (parent_in (superclass_idx b r) h.superclass.0 h.superclass.1))
+        (interfaces_in (interfaces_off b r) h.interfaces.0 h.interfaces.1));
+    texts_in = optional_in (length m.texts) (source_file_idx b r) (source_in (source_file_idx b r) h.source.0 h.source.1);
+  }
+
+  -- what holds of each number of a run holds of all
+  all_range : (P : ℕ → Type 0) (n a : ℕ) → ((r : ℕ) → a ≤ r → r < a + n → P r) → All P (range_with_len a n)
+  all_range P zero a each = All-nil P
+  all_range P (suc n) a each = All-cons P a (range_with_len (a + 1) n) (each a (omega arith) (omega arith)) (all_range P n (a + 1) (λ r le lt. each r (omega arith) (omega arith)))
+
+  -- the classes of rows that meet condition 16
+  pub classes_in_range : (n : ℕ) → ((r : ℕ) → r < n → HasClass b r) → All (IsInRange m) (classes_below b n)
+  classes_in_range n rows = All-map (IsInRange m) (class_of_row b) (range_with_len 0 n) (all_range (λ r. IsInRange m (class_of_row b r)) n 0 (λ r le lt. row_in_range r (rows r (omega (arith, lt)))))

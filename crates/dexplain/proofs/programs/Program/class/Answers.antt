@@ -1,0 +1,16 @@
+use Rattle.std.proofs.Common.{arith, subst, sym}
+use Rattle.dexspec.specs.Files.{Collection}
+use Rattle.dexplain.specs.Programs.{AreClassesOf}
+use Rattle.dexplain.proofs.ProgramClasses.{classes_count, class_is_at}
+use Rattle.dexplain.proofs.programs.Program.class.Goals as goal
+
+pub index-requires : goal.index-requires
+index-requires c =
+    let cs = c.self.inside.classes.items in
+    let count = classes_count c.args.self.now cs (subst (λ (K : Collection). AreClassesOf K cs) c.self.view_is c.self.invariant.classes_are) in
+    omega (arith, count)
+
+pub returns : goal.returns
+returns c =
+    let cs = c.self.inside.classes.items in
+    class_is_at c.args.self.now cs (subst (λ (K : Collection). AreClassesOf K cs) c.self.view_is c.self.invariant.classes_are) c.args.i c.index.result.now c.requires (sym c.index.ensures)

@@ -1,0 +1,11 @@
+use Rattle.std.proofs.Common.{arith, subst}
+use Rattle.dexspec.specs.Files.{Collection}
+use Rattle.dexplain.specs.Programs.{AreClassesOf}
+use Rattle.dexplain.proofs.ProgramClasses.{classes_count}
+use Rattle.dexplain.proofs.programs.Program.len.Goals as goal
+
+pub returns : goal.returns
+returns c =
+    let cs = c.self.inside.classes.items in
+    let count = classes_count c.args.self.now cs (subst (λ (K : Collection). AreClassesOf K cs) c.self.view_is c.self.invariant.classes_are) in
+    omega (arith, count)

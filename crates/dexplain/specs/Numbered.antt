@@ -1,0 +1,56 @@
+-- Class definitions with numbers in the place of symbols.
+use Rattle.std.specs.Prelude.{ℕ, ◌==◌, if◌then◌else◌, List, [], map, Option, Some, None, slice_index_or}
+use Rattle.std.specs.Option.{option_map}
+use Rattle.dexspec.specs.Texts.{Text}
+use Rattle.dexspec.specs.Values.{NoValues}
+use Rattle.dexspec.specs.Classes.{Definition, class_idx, access_flags, superclass_idx, interfaces_off, source_file_idx, no_index}
+use Rattle.dexspec.specs.Mentions.{Mentions}
+use Rattle.dexplain.specs.Rows.{interface_indices}
+
+-- A class: the numbers of its type, of its superclass, of its interfaces and of its source text.
+pub record NumberedClass : Type 0 where
+  pub name : ℕ
+  pub flags : ℕ
+  pub superclass : Option ℕ
+  pub interfaces : List ℕ
+  pub source : Option ℕ
+
+-- the text of a number
+abbrev pub text_at : Mentions → ℕ → Text
+text_at m i = slice_index_or m.texts i []
+
+-- the type of a number
+abbrev pub type_at : Mentions → ℕ → Text
+type_at m i = slice_index_or m.types i []
+
+-- the definition that the numbers stand for; it has no members, values and annotations
+abbrev pub definition_of : Mentions → NumberedClass → Definition
+definition_of m c = (
+  type_at m c.name,
+  record {
+    flags = c.flags;
+    superclass = option_map (type_at m) c.superclass;
+    interfaces = map (type_at m) c.interfaces;
+    source = option_map (text_at m) c.source;
+    annotations = [];
+    static_fields = [];
+    instance_fields = [];
+    direct_methods = [];
+    virtual_methods = [];
+    static_values = NoValues;
+  },
+)
+
+-- the number of an index, if it is one
+abbrev pub number_of : ℕ → Option ℕ
+number_of i = if i == no_index then None else Some i
+
+-- class row r with the indices of the file as numbers
+abbrev pub class_of_row : List ℕ → ℕ → NumberedClass
+class_of_row b r = record {
+  name = class_idx b r;
+  flags = access_flags b r;
+  superclass = number_of (superclass_idx b r);
+  interfaces = interface_indices b (interfaces_off b r);
+  source = number_of (source_file_idx b r);
+}

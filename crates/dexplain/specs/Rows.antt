@@ -1,0 +1,87 @@
+-- Class rows as they are judged.
+use Rattle.std.specs.Prelude.{◌≡◌, ◌↔◌, ℕ, ◌<◌, ◌==◌, Bool, false, IsTrue, List, [], ◌∷◌, length, if◌then◌else◌, Option, All, slice_index_or}
+use Rattle.dexspec.specs.Lists.{OrNone}
+use Rattle.dexspec.specs.Texts.{Text}
+use Rattle.dexspec.specs.Names.{IsClass}
+use Rattle.dexspec.specs.Header.{ClassDefs, TypeIds, table_size}
+use Rattle.dexspec.specs.Rows.{type_indices, StringRow}
+use Rattle.dexspec.specs.Classes.{class_idx, access_flags, superclass_idx, interfaces_off, source_file_idx, annotations_off, class_data_off, static_values_off, ClassTypeRow, ClassListAt, IndexOrNone, no_index}
+use Rattle.dexspec.specs.Conditions.{Condition}
+use Rattle.dexspec.specs.Accepted.{IsFrame, IsDefinedBefore, FailsFirst}
+use Rattle.dexspec.specs.Mentions.{Mentions}
+use Rattle.dexpool.specs.Pools.{ArePools}
+use Rattle.dexpool.specs.declared.faults.ReadFault.{ReadFault}
+use Rattle.dexpool.specs.declared.faults.ReadFault.TheVariants.{Refused, Memory}
+use Rattle.dexplain.specs.declared.class_rows.RowFields.{RowFields}
+
+-- class row r has these fields
+pub record HasRowFields (b : List ℕ) (r : ℕ) (f : RowFields) : Type 0 where
+  pub class_is : class_idx b r ≡ f.class
+  pub flags_are : access_flags b r ≡ f.flags
+  pub superclass_is : superclass_idx b r ≡ f.superclass
+  pub interfaces_are : interfaces_off b r ≡ f.interfaces_off
+  pub source_is : source_file_idx b r ≡ f.source_file
+  pub annotations_are : annotations_off b r ≡ f.annotations_off
+  pub class_data_is : class_data_off b r ≡ f.class_data_off
+  pub static_values_are : static_values_off b r ≡ f.static_values_off
+
+-- the tests tell of each type whether it is a class
+pub record AreClassTests (types : List Text) (tests : List Bool) : Type 0 where
+  pub count : length tests ≡ length types
+  pub each : (i : ℕ) → i < length types → IsTrue (slice_index_or tests i false) ↔ IsClass (slice_index_or types i [])
+
+-- row i of the types is a class
+abbrev pub IsClassIndex : List ℕ → ℕ → Type 0
+IsClassIndex b i = (t : Text) × ClassTypeRow b i t
+
+-- one of the class rows before row n is of this type
+abbrev pub IsDefinedBelow : List ℕ → ℕ → ℕ → Type 0
+IsDefinedBelow b n index = (k : ℕ) × (k < n) × (class_idx b k ≡ index)
+
+-- the marks tell of each type whether one of the class rows before row n is of it
+pub record AreDefinedMarks (b : List ℕ) (n : ℕ) (marks : List Bool) : Type 0 where
+  pub count : length marks ≡ table_size b TypeIds
+  pub each : (i : ℕ) → i < table_size b TypeIds → IsTrue (slice_index_or marks i false) ↔ IsDefinedBelow b n i
+
+-- what is known of a file before its class rows are judged
+pub record IsKnown (b : List ℕ) (m : Mentions) (class_types defined : List Bool) : Type 0 where
+  pub frame : IsFrame b
+  pub pools : ArePools b m
+  pub classes : AreClassTests m.types class_types
+  pub marks : AreDefinedMarks b (table_size b ClassDefs) defined
+
+-- the index is none, or that of a class
+abbrev pub IsParentIndex : List ℕ → ℕ → Type 0
+IsParentIndex b i = (t : Option Text) × IndexOrNone ClassTypeRow b i t
+
+-- the index is none, or that of a text
+abbrev pub IsSourceIndex : List ℕ → ℕ → Type 0
+IsSourceIndex b i = (s : Option Text) × IndexOrNone StringRow b i s
+
+-- the index is that of a class, which stands before row r if the file defines it
+pub record IsInterfaceIndex (b : List ℕ) (r i : ℕ) : Type 0 where
+  pub class_is : IsClassIndex b i
+  pub before : IsDefinedBefore b r i
+
+-- the index of the superclass, if it is one
+abbrev pub superclass_indices : ℕ → List ℕ
+superclass_indices i = if i == no_index then [] else i ∷ []
+
+-- the indices of the interfaces that are listed at an offset
+abbrev pub interface_indices : List ℕ → ℕ → List ℕ
+interface_indices b o = if o == 0 then [] else type_indices b o
+
+-- a list of classes stands there, or none
+abbrev pub HasInterfaceList : List ℕ → ℕ → Type 0
+HasInterfaceList b o = (ts : List Text) × OrNone ClassListAt [] b o ts
+
+-- a list of classes stands there, or none, and those that the file defines stand before row r
+pub record HasInterfaces (b : List ℕ) (r o : ℕ) : Type 0 where
+  pub types : List Text
+  pub list : OrNone ClassListAt [] b o types
+  pub before : All (IsDefinedBefore b r) (interface_indices b o)
+
+-- condition 16 is the first that fails, at its least row; want of memory says nothing of the file
+abbrev pub IsClassFault : List ℕ → ReadFault → Type 0
+IsClassFault b Memory = Unit {0}
+IsClassFault b (Refused r) = (r.number ≡ 16) × FailsFirst Condition.Classes b r.place

@@ -1,0 +1,43 @@
+//! Classes put into another order.
+
+ghost use Rattle.std.specs.Prelude.{◌≡◌, ◌<◌, All, IfOk, length, map, slice_index_or};
+ghost use Rattle.dexspec.specs.Lists.{AreDistinct};
+ghost use Rattle.dexplain.specs.Parents.{no_class};
+
+use crate::classes::Class;
+use std::alloc::{AllocError, Global};
+use std::mem;
+
+// A class of nothing. No memory is taken.
+fn nothing(alloc: Global) -> Class
+    ensures { result ≡ no_class }
+{
+    Class {
+        name: 0,
+        flags: 0,
+        superclass: None,
+        interfaces: Vec::new(alloc),
+        source: None,
+    }
+}
+
+/// The classes of these places, in the order of the places. They are taken from where they were.
+///
+/// Conditions: each place is that of a class, and no two are the same. Error: the memory for the list was
+/// refused.
+pub(crate) fn arrange(
+    alloc: Global,
+    classes: &mut Vec<Class>,
+    order: &[usize],
+) -> Result<Vec<Class>, AllocError>
+    requires within { All (λ i. i < length classes.old.items) order.now }
+    requires distinct { AreDistinct order.now }
+    ensures { IfOk result (λ arranged. arranged.items ≡ map (λ i. slice_index_or classes.old.items i no_class) order.now) }
+{
+    let mut arranged = Vec::with_capacity(alloc, order.len())?;
+    for k in 0..order.len() {
+        let class = mem::replace(&mut classes[order[k]], nothing(alloc));
+        arranged.push(class)?;
+    }
+    Ok(arranged)
+}

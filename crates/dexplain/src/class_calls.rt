@@ -1,0 +1,78 @@
+//! What a class weighs, copies of classes, and classes of two numberings that are the same.
+
+ghost use Rattle.std.specs.Prelude.{◌≡◌, ◌↔◌, ◌-◌, ◌^◌, min, map, IfOk, IsTrue};
+ghost use Rattle.dexspec.specs.Mentions.{Mentions};
+ghost use Rattle.dexspec.specs.Weight.{body_weight};
+ghost use Rattle.dexplain.specs.Numbered.{definition_of};
+ghost use Rattle.dexplain.specs.Renumbering.{led, renumbered};
+
+use crate::classes::Class;
+use crate::renumbering::{optional_text_number, optional_type_number, type_number};
+use dexpool::Remap;
+use std::alloc::AllocError;
+
+impl Class {
+    /// What the class weighs without the symbols that it names, in bytes, or 2^64 - 1 where that is more. No memory
+    /// is taken.
+    ///
+    /// Source: "class_def_item" and "type_list", the sizes of their fields; the weight is this project's rule.
+    pub fn weight(&self) -> u64
+        ensures { (m : Mentions) → result ≡ min (2 ^ 64 - 1) (body_weight (definition_of m self.now).1) }
+    {
+        let interfaces = 2u64.saturating_mul(self.interfaces.len() as u64);
+        interfaces.saturating_add(96)
+    }
+
+    /// The same class, with a list of interfaces of its own.
+    ///
+    /// Error: the memory for the list was refused.
+    pub fn copy(&self) -> Result<Class, AllocError>
+        ensures { IfOk result (λ copy. copy ≡ self.now) }
+    {
+        let interfaces = Vec::from_slice(*self.interfaces.allocator(), &self.interfaces)?;
+        Ok(Class {
+            name: self.name,
+            flags: self.flags,
+            superclass: self.superclass,
+            interfaces,
+            source: self.source,
+        })
+    }
+
+    /// Whether the two classes are the same where the numbers of each are led on, as `renumber` leads them. Classes
+    /// of unlike names are told apart at once. No memory is taken.
+    pub fn same_mapped(&self, mine: &Remap, other: &Class, theirs: &Remap) -> bool
+        ensures { IsTrue result ↔ (renumbered mine.now self.now ≡ renumbered theirs.now other.now) }
+    {
+        if type_number(mine, self.name) != type_number(theirs, other.name) {
+            return false;
+        }
+        if self.flags != other.flags {
+            return false;
+        }
+        if optional_type_number(mine, self.superclass)
+            != optional_type_number(theirs, other.superclass)
+        {
+            return false;
+        }
+        if optional_text_number(mine, self.source) != optional_text_number(theirs, other.source) {
+            return false;
+        }
+        lead_alike(mine, &self.interfaces, theirs, &other.interfaces)
+    }
+}
+
+// Whether two lists of types are led to the same numbers.
+fn lead_alike(mine: &Remap, numbers: &[usize], theirs: &Remap, others: &[usize]) -> bool
+    ensures { IsTrue result ↔ (map (led mine.now.types) numbers.now ≡ map (led theirs.now.types) others.now) }
+{
+    if numbers.len() != others.len() {
+        return false;
+    }
+    for k in 0..numbers.len() {
+        if type_number(mine, numbers[k]) != type_number(theirs, others[k]) {
+            return false;
+        }
+    }
+    true
+}

@@ -1,0 +1,70 @@
+//! Which types are classes, and which of them a file defines.
+
+ghost use Rattle.std.specs.Prelude.{◌≡◌, ◌↔◌, ◌<◌, ◌+◌, IsTrue, IfOk};
+ghost use Rattle.dexspec.specs.Names.{IsClass};
+ghost use Rattle.dexspec.specs.Header.{ClassDefs, TypeIds, table_size};
+ghost use Rattle.dexpool.specs.Pools.{ArePools};
+ghost use Rattle.dexplain.specs.Rows.{AreClassTests, AreDefinedMarks};
+
+use crate::class_rows::row_fields;
+use dexhead::{Frame, Table};
+use dexpool::{Pools, SymbolKind};
+use dexstr::{Kind, Text, descriptor_kind};
+use std::alloc::{AllocError, Global};
+
+// Whether the text is the descriptor of a class.
+fn is_class(text: &Text<'_>) -> bool
+    ensures { IsTrue result ↔ IsClass text.now }
+{
+    match descriptor_kind(text) {
+        Some(Kind::Class) => true,
+        Some(Kind::Void) => false,
+        Some(Kind::Primitive) => false,
+        Some(Kind::Array) => false,
+        None => false,
+    }
+}
+
+/// For each type of a file whether it is a class.
+pub(crate) fn class_types(alloc: Global, pools: &Pools<'_>) -> Result<Vec<bool>, AllocError>
+    ensures { IfOk result (λ tests. AreClassTests pools.now.types tests.items) }
+{
+    let count = pools.len(SymbolKind::Typ);
+    let mut tests = Vec::with_capacity(alloc, count)?;
+    for i in 0..count {
+        tests.push(is_class(pools.numbering().typ(i)))?;
+    }
+    Ok(tests)
+}
+
+/// Marks, for each type, of a file before any class row is judged: none.
+pub(crate) fn no_marks(alloc: Global, frame: &Frame<'_>) -> Result<Vec<bool>, AllocError>
+    ensures { IfOk result (λ marks. AreDefinedMarks frame.now 0 marks.items) }
+{
+    let marks = vec![in alloc; false; frame.size(Table::TypeIds) as usize]?;
+    Ok(marks)
+}
+
+/// Marks the type of class row `r`, if there is such a type.
+pub(crate) fn mark(frame: &Frame<'_>, r: u32, marks: &mut [bool])
+    requires row { r < table_size frame.now ClassDefs }
+    requires marks { AreDefinedMarks frame.now r marks.old }
+    ensures { AreDefinedMarks frame.now (r + 1) marks.new }
+{
+    let class = row_fields(frame, r).class as usize;
+    if class < marks.len() {
+        marks[class] = true;
+    }
+}
+
+/// For each type of a file whether a class row is of it.
+pub(crate) fn defined(alloc: Global, frame: &Frame<'_>) -> Result<Vec<bool>, AllocError>
+    ensures { IfOk result (λ marks. AreDefinedMarks frame.now (table_size frame.now ClassDefs) marks.items) }
+{
+    let mut marks = no_marks(alloc, frame)?;
+    let count = frame.size(Table::ClassDefs);
+    for r in 0..count {
+        mark(frame, r, &mut marks);
+    }
+    Ok(marks)
+}

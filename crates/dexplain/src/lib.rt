@@ -1,0 +1,27 @@
+//! Class definitions of a file, and programs: sets of class definitions.
+//!
+//! Source: the Android page "Dalvik Executable format", under the headings "class_def_item" and "type_list".
+#![tactic(auto)]
+
+mod arranging;
+mod class_calls;
+mod class_rows;
+mod class_types;
+mod classes;
+mod flags;
+mod flags_text;
+mod judging;
+mod laws;
+mod marking;
+mod ordering;
+mod parents;
+mod programs;
+mod reading;
+mod renumbering;
+mod trimming;
+
+pub use classes::Class;
+pub use flags::{ClassFlags, FieldFlags, MethodFlags};
+pub use laws::{renumbering_law, same_law};
+pub use programs::Program;
+pub use reading::read;

@@ -1,0 +1,175 @@
+//! Programs: sets of class definitions.
+
+ghost use Rattle.std.specs.Prelude.{◌≡◌, ◌<◌, ◌-◌, ◌^◌, min, length, map, sum_by, IfOk};
+ghost use Rattle.std.specs.FinMap as finite;
+ghost use Rattle.dexspec.specs.Files.{definitions, IsCollectionOf};
+ghost use Rattle.dexspec.specs.WellFormed.{AreWellFormed};
+ghost use Rattle.dexspec.specs.Mentions.{Mentions, mentions};
+ghost use Rattle.dexspec.specs.Weight.{body_weight, weight};
+ghost use Rattle.dexspec.specs.Merging.{IsGood, greatest_caps};
+ghost use Rattle.dexspec.specs.Plain.{ArePlain};
+ghost use Rattle.dexplain.specs.Numbered.{definition_of};
+ghost use Rattle.dexplain.specs.Programs.{AreMergeable, AreClassesOf, IsClassAt};
+
+use crate::classes::Class;
+use crate::ordering::in_order;
+use dexpool::{Numbering, SymbolKind};
+use std::alloc::{AllocError, Global};
+use std::marker::Model;
+
+/// A set of class definitions that can be merged and written: no two have one name, no class is above itself, and
+/// together they fit what a file can hold. Contracts see a finite map from names to the rest of each definition.
+///
+/// It keeps the numbering of just what the classes mention, and the classes with numbers in the place of symbols, by
+/// depth and then by name.
+#[derive(Drop)]
+pub struct Program<'a> {
+    pub(crate) numbering: Numbering<'a>,
+    pub(crate) classes: Vec<Class>,
+    pub(crate) weight: u64,
+}
+
+impl<'a> Model for Program<'a> {
+    ghost use Rattle.dexspec.specs.Files.{Collection};
+    ghost use Rattle.dexspec.specs.Aside.Codes.{collection_code};
+    ghost use Rattle.dexplain.specs.Programs.{collection_of, IsProgram};
+
+    ghost Value = { Collection };
+
+    ghost coded = { collection_code };
+
+    ghost view = { λ p. collection_of p.numbering p.classes.items };
+
+    ghost invariant = { λ p. IsProgram p.numbering p.classes.items p.weight };
+}
+
+impl<'a> Program<'a> {
+    /// A program without classes. No memory is taken.
+    pub fn empty(alloc: Global) -> Program<'a>
+        ensures { result ≡ finite.empty }
+    {
+        Program {
+            numbering: Numbering::empty(alloc),
+            classes: Vec::new(alloc),
+            weight: 1024,
+        }
+    }
+
+    /// The number of classes. No memory is taken.
+    pub fn len(&self) -> usize
+        ensures { result ≡ length (definitions self.now) }
+    {
+        self.classes.len()
+    }
+
+    /// The classes, by depth and then by name. Their numbers are those of the program's numbering. No memory is taken.
+    ///
+    /// Source: "class_defs"; by depth and then by name is this project's rule.
+    pub fn classes(&self) -> &[Class]
+        ensures { AreClassesOf self.now result.now }
+    {
+        &self.classes
+    }
+
+    /// Class `i` in the order of `classes`. No memory is taken.
+    ///
+    /// Condition: `i` is below the number of classes.
+    pub fn class(&self, i: usize) -> &Class
+        requires { i < length (definitions self.now) }
+        ensures { IsClassAt self.now i result.now }
+    {
+        &self.classes[i]
+    }
+
+    /// The numbering of just what the classes mention. No memory is taken.
+    pub fn numbering(&self) -> &Numbering<'a>
+        ensures { result.now ≡ mentions (definitions self.now) }
+    {
+        &self.numbering
+    }
+
+    /// What the classes weigh together. No memory is taken.
+    pub fn weight(&self) -> u64
+        ensures { result ≡ weight (definitions self.now) }
+    {
+        self.weight
+    }
+
+    /// Does nothing: its clauses tell what holds of every program. While files that are not plain are refused, each
+    /// definition is plain.
+    pub fn is_good(&self)
+        ensures good { IsGood greatest_caps (definitions self.now) }
+        ensures formed { AreWellFormed (definitions self.now) }
+        ensures plain { ArePlain (definitions self.now) }
+    {
+        let _classes = &self.classes;
+    }
+
+    /// The program of classes, in any order, over the numbering of just what they mention.
+    ///
+    /// Conditions: no two classes have one name, none is above itself, and together they fit what a file can hold.
+    /// Error: the memory for the order was refused.
+    pub fn of(
+        alloc: Global,
+        numbering: Numbering<'a>,
+        mut classes: Vec<Class>,
+    ) -> Result<Program<'a>, AllocError>
+        requires { AreMergeable numbering classes.items }
+        ensures { IfOk result (IsCollectionOf (map (definition_of numbering.entry) classes.items)) }
+    {
+        numbering.is_numbering();
+        let weight = weight_of(&numbering, &classes);
+        let types = numbering.count(SymbolKind::Typ);
+        let classes = in_order(alloc, &mut classes, types)?;
+        Ok(Program {
+            numbering,
+            classes,
+            weight,
+        })
+    }
+
+    /// The same program, in memory of its own.
+    ///
+    /// Error: the memory for it was refused.
+    pub fn copy(&self) -> Result<Program<'a>, AllocError>
+        ensures { IfOk result (λ copy. copy ≡ self.now) }
+    {
+        Ok(Program {
+            numbering: self.numbering.copy()?,
+            classes: copied(*self.classes.allocator(), &self.classes)?,
+            weight: self.weight,
+        })
+    }
+}
+
+// The same classes, with lists of their own.
+fn copied(alloc: Global, classes: &[Class]) -> Result<Vec<Class>, AllocError>
+    ensures { IfOk result (λ copy. copy.items ≡ classes.now) }
+{
+    let mut copy = Vec::with_capacity(alloc, classes.len())?;
+    for i in 0..classes.len() {
+        copy.push(classes[i].copy()?)?;
+    }
+    Ok(copy)
+}
+
+// What classes weigh without the symbols that they name, or 2^64 - 1 where that is more.
+fn bodies_weight(classes: &[Class]) -> u64
+    ensures { (m : Mentions) → result ≡ min (2 ^ 64 - 1) (sum_by (λ c. body_weight (definition_of m c).1) classes.now) }
+{
+    let mut weight: u64 = 0;
+    for class in classes {
+        weight = weight.saturating_add(class.weight());
+    }
+    weight
+}
+
+// What classes weigh over the numbering of just what they mention, or 2^64 - 1 where that is more.
+fn weight_of(numbering: &Numbering<'_>, classes: &[Class]) -> u64
+    requires { numbering.now ≡ mentions (map (definition_of numbering.now) classes.now) }
+    ensures { result ≡ min (2 ^ 64 - 1) (weight (map (definition_of numbering.now) classes.now)) }
+{
+    bodies_weight(classes)
+        .saturating_add(numbering.weight())
+        .saturating_add(1024)
+}

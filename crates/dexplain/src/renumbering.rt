@@ -1,0 +1,69 @@
+//! Classes whose numbers are led to those of another numbering.
+
+ghost use Rattle.std.specs.Prelude.{◌≡◌, map};
+ghost use Rattle.std.specs.Option.{option_map};
+ghost use Rattle.dexplain.specs.Renumbering.{led, renumbered};
+
+use crate::classes::Class;
+use dexpool::{Remap, SymbolKind};
+
+/// Where the number of a type leads.
+pub(crate) fn type_number(remap: &Remap, i: usize) -> usize
+    ensures { result ≡ led remap.now.types i }
+{
+    match remap.image(SymbolKind::Typ, i) {
+        Some(image) => image,
+        None => i,
+    }
+}
+
+// Where the number of a text leads.
+fn text_number(remap: &Remap, i: usize) -> usize
+    ensures { result ≡ led remap.now.texts i }
+{
+    match remap.image(SymbolKind::Text, i) {
+        Some(image) => image,
+        None => i,
+    }
+}
+
+/// Where the number of a type leads, if there is one.
+pub(crate) fn optional_type_number(remap: &Remap, i: Option<usize>) -> Option<usize>
+    ensures { result ≡ option_map (led remap.now.types) i }
+{
+    match i {
+        Some(i) => Some(type_number(remap, i)),
+        None => None,
+    }
+}
+
+/// Where the number of a text leads, if there is one.
+pub(crate) fn optional_text_number(remap: &Remap, i: Option<usize>) -> Option<usize>
+    ensures { result ≡ option_map (led remap.now.texts) i }
+{
+    match i {
+        Some(i) => Some(text_number(remap, i)),
+        None => None,
+    }
+}
+
+// Leads numbers of types on.
+fn renumber_types(remap: &Remap, numbers: &mut Vec<usize>)
+    ensures { numbers.new.items ≡ map (led remap.now.types) numbers.old.items }
+{
+    for k in 0..numbers.len() {
+        numbers[k] = type_number(remap, numbers[k]);
+    }
+}
+
+impl Class {
+    /// Leads each number of the class on; a number that leads nowhere stays. No memory is taken.
+    pub fn renumber(&mut self, remap: &Remap)
+        ensures { self.new ≡ renumbered remap.now self.old }
+    {
+        self.name = type_number(remap, self.name);
+        self.superclass = optional_type_number(remap, self.superclass);
+        self.source = optional_text_number(remap, self.source);
+        renumber_types(remap, &mut self.interfaces);
+    }
+}

@@ -1,0 +1,13 @@
+pub mod Marked
+pub mod PlanForms
+pub mod PartMembers
+pub mod Unlike
+pub mod CandidatePlaces
+pub mod CycleLaws
+pub mod Weighing
+pub mod UnionLaws
+pub mod CapLaws
+pub mod MergeLaws
+pub mod JoinLaws
+pub mod PlanJudged
+pub mod PlannedLaws

@@ -1,0 +1,121 @@
+-- Plans whose files are marked part by part.
+use Rattle.std.proofs.Common.{◌≡◌, ℕ, ◌-◌, ◌<◌, ◌≤◌, max, Bool, List, [], ◌∷◌, ◌++◌, length, get_or, refl, sym, ap, ◌∙◌, subst, arith, inl, inr}
+use Rattle.std.specs.Prelude.{All, slice_set, true, false}
+use Rattle.std.specs.List.{Contains}
+use Rattle.std.proofs.lemmas.List.{append_assoc, append-nil, get_or-set_same, get_or-set_other}
+use Rattle.std.proofs.lemmas.Bool.{cases_eq}
+use Rattle.std.proofs.lemmas.List.Elements.{All-append, All-cons, All-nil, Contains-append_left, Contains-append_right, Contains-append_cases, Contains-get_or}
+use Rattle.dexspec.proofs.Members.{Contains-nil, Contains-first, Contains-cons_cases}
+use Rattle.dexspec.specs.Merging.{Plan, Leaf, Node, leaves, all_leaves, plan_depth, plans_depth}
+use Rattle.dexplain_merge.specs.Plans.{plans_of}
+use Rattle.dexplain_merge.specs.Judging.{AreMarkedBy, IsMarkedBy, IsNoPlan}
+
+-- the parts are less deep, name only files that there are, and just these are marked beside those that were
+pub record ArePartsMarked (parts : List Plan) (depth : ℕ) (old new : List Bool) : Type 0 where
+  pub count : length new ≡ length old
+  pub shallow : plans_depth (plans_of parts) < depth
+  pub files : AreMarkedBy (all_leaves (plans_of parts)) old new
+
+-- ---- one part more
+
+leaves_more : (ps : List Plan) (p : Plan) → all_leaves (plans_of (ps ++ p ∷ [])) ≡ all_leaves (plans_of ps) ++ leaves p
+leaves_more [] p = append-nil (leaves p)
+leaves_more (q ∷ ps) p = ap (λ (l : List ℕ). leaves q ++ l) (leaves_more ps p) ∙ sym (append_assoc (leaves q) (all_leaves (plans_of ps)) (leaves p))
+
+depth_more : (ps : List Plan) (p : Plan) → plans_depth (plans_of (ps ++ p ∷ [])) ≡ max (plans_depth (plans_of ps)) (plan_depth p)
+depth_more [] p = omega arith
+depth_more (q ∷ ps) p = omega (arith, depth_more ps p)
+
+pub none_marked : (depth : ℕ) (marks : List Bool) → 0 < depth → ArePartsMarked [] depth marks marks
+none_marked depth marks lt = record {
+  count = refl;
+  shallow = lt;
+  files = record {
+    known = λ i d small. absurd (omega (arith, small));
+    marked = λ i. (λ e. inl e, λ either. elim either [ inl e ↦ e | inr c ↦ absurd (Contains-nil i c) ]);
+  };
+}
+
+pub one_more_marked : (ps : List Plan) (p : Plan) (depth : ℕ) (old mid new : List Bool) → ArePartsMarked ps depth old mid → 0 < depth → length new ≡ length mid → IsMarkedBy p (depth - 1) mid new → ArePartsMarked (ps ++ p ∷ []) depth old new
+one_more_marked ps p depth old mid new h lt count m = record {
+  count = count ∙ h.count;
+  shallow = omega (arith, depth_more ps p, h.shallow, m.shallow, lt);
+  files = subst (λ (l : List ℕ). AreMarkedBy l old new) (sym (leaves_more ps p)) (record {
+    known = All-append (λ i. i < length old) (all_leaves (plans_of ps)) (leaves p) h.files.known (λ i d small. omega (arith, m.files.known i d small, h.count));
+    marked = λ i. (
+      λ e. elim ((m.files.marked i).0 e) [
+        | inl before ↦ elim ((h.files.marked i).0 before) [
+          | inl first ↦ inl first
+          | inr c ↦ inr (Contains-append_left (all_leaves (plans_of ps)) (leaves p) i c)
+        ]
+        | inr c ↦ inr (Contains-append_right (all_leaves (plans_of ps)) (leaves p) i c)
+      ],
+      λ either. elim either [
+        | inl first ↦ (m.files.marked i).1 (inl ((h.files.marked i).1 (inl first)))
+        | inr c ↦ elim (Contains-append_cases (all_leaves (plans_of ps)) (leaves p) i c) [
+          | inl before ↦ (m.files.marked i).1 (inl ((h.files.marked i).1 (inr before)))
+          | inr now ↦ (m.files.marked i).1 (inr now)
+        ]
+      ],
+    );
+  });
+}
+
+-- all parts
+pub all_marked : (ps : List Plan) (depth : ℕ) (old new : List Bool) → ArePartsMarked ps depth old new → IsMarkedBy (Node (plans_of ps)) depth old new
+all_marked ps depth old new h = record { shallow = omega (arith, h.shallow); files = h.files }
+
+-- ---- a part that is none
+
+part_depth : (ps : List Plan) (p : Plan) → Contains ps p → plan_depth p ≤ plans_depth (plans_of ps)
+part_depth [] p c = absurd (Contains-nil p c)
+part_depth (q ∷ ps) p c = elim (Contains-cons_cases q p ps c) [
+  | inl e ↦ omega (arith, ap plan_depth e)
+  | inr later ↦ omega (arith, part_depth ps p later)
+]
+
+pub part_leaves : (ps : List Plan) (p : Plan) (i : ℕ) → Contains ps p → Contains (leaves p) i → Contains (all_leaves (plans_of ps)) i
+part_leaves [] p i c has = absurd (Contains-nil p c)
+part_leaves (q ∷ ps) p i c has = elim (Contains-cons_cases q p ps c) [
+  | inl e ↦ Contains-append_left (leaves q) (all_leaves (plans_of ps)) i (subst (λ (x : Plan). Contains (leaves x) i) (sym e) has)
+  | inr later ↦ Contains-append_right (leaves q) (all_leaves (plans_of ps)) i (part_leaves ps p i later has)
+]
+
+All_member : (P : ℕ → Type 0) (xs : List ℕ) (x : ℕ) → All P xs → Contains xs x → P x
+All_member P xs x all c = subst P c.2 (all c.0 x c.1)
+
+pub no_part : (ps : List Plan) (p : Plan) (depth files : ℕ) → Contains ps p → 0 < depth → IsNoPlan p (depth - 1) files → IsNoPlan (Node (plans_of ps)) depth files
+no_part ps p depth files c lt h = record {
+  not = λ shallow known. h.not (omega (arith, part_depth ps p c, shallow, lt)) (λ i d small. All_member (λ k. k < files) (all_leaves (plans_of ps)) (get_or (leaves p) i d) known (part_leaves ps p (get_or (leaves p) i d) c (Contains-get_or (leaves p) i d small)));
+}
+
+-- no plan has depth 0
+pub none_shallow : (p : Plan) (files : ℕ) → IsNoPlan p 0 files
+none_shallow (Leaf file) files = record { not = λ shallow known. absurd (omega (arith, shallow)) }
+none_shallow (Node ps) files = record { not = λ shallow known. absurd (omega (arith, shallow)) }
+
+-- a file that there is not
+pub unknown_file : (file depth files : ℕ) → files ≤ file → IsNoPlan (Leaf file) depth files
+unknown_file file depth files le = record { not = λ shallow known. absurd (omega (arith, le, known 0 0 (omega arith))) }
+
+-- the mark of a file
+pub file_marked : (file depth : ℕ) (marks : List Bool) → file < length marks → 0 < depth → IsMarkedBy (Leaf file) depth marks (slice_set marks file true)
+file_marked file depth marks lt deep = record {
+  shallow = omega (arith, deep);
+  files = record {
+    known = All-cons (λ i. i < length marks) file [] lt (All-nil (λ i. i < length marks));
+    marked = λ i. elim (cases_eq i file) [
+      | inl e ↦ (
+        λ marked. inr (subst (λ (k : ℕ). Contains (file ∷ []) k) (sym e) (Contains-first file [])),
+        λ either. subst (λ (k : ℕ). get_or (slice_set marks file true) k false ≡ true) (sym e) (get_or-set_same marks file true false lt),
+      )
+      | inr other ↦ (
+        λ marked. inl (sym (get_or-set_other marks file i true false other) ∙ marked),
+        λ either. elim either [
+          | inl before ↦ get_or-set_other marks file i true false other ∙ before
+          | inr c ↦ elim (Contains-cons_cases file i [] c) [ inl e ↦ absurd (other (sym e)) | inr never ↦ absurd (Contains-nil i never) ]
+        ],
+      )
+    ];
+  };
+}

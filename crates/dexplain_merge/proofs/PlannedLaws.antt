@@ -1,0 +1,169 @@
+-- The definitions of the parts of a plan.
+use Rattle.std.proofs.Common.{◌≡◌, ◌⊎◌, ℕ, ◌<◌, ◌≤◌, List, [], ◌∷◌, ◌++◌, length, get_or, take, map, refl, sym, ap, ◌∙◌, subst, inl, inr, Ok, Err}
+use Rattle.std.specs.Prelude.{Result, IfErr, slice_index_or}
+use Rattle.std.specs.List.{Contains, flat_map}
+use Rattle.std.proofs.lemmas.List.{append-nil, take_all}
+use Rattle.std.proofs.lemmas.Grind.{flat_map-append}
+use Rattle.std.proofs.lemmas.List.Elements.{Contains-append_left, Contains-append_right, Contains-append_cases, Contains-get_or}
+use Rattle.dexspec.specs.Classes.{Definition}
+use Rattle.dexspec.specs.Files.{Collection, definitions, AreSame, AreWithin}
+use Rattle.dexspec.specs.Merging as merging
+use Rattle.dexspec.specs.Merging.{Caps, Cause, IsCause, IsFirstCause, IsFlat, AreLeaves, Plan, Leaf, Node, leaves, all_leaves}
+use Rattle.dexspec.proofs.Members.{Contains-nil, Contains-cons_cases}
+use Rattle.dexspec.proofs.Absorption.{IsGood-within, IsCause-within}
+use Rattle.dexspec.proofs.FirstCauses.{first_cause-same}
+use Rattle.dexplain_merge.specs.declared.faults.MergeFault.{MergeFault}
+use Rattle.dexplain_merge.specs.declared.faults.MergeFault.TheVariants as fault
+use Rattle.dexplain.proofs.Mentioned.{All-member}
+use Rattle.dexplain_merge.proofs.Marked.{part_leaves}
+use Rattle.dexplain_merge.specs.Plans.{plans_of}
+use Rattle.dexplain_merge.specs.Faults.{IsMerged, Tells, planned}
+use Rattle.dexplain_merge.specs.Parts.{files_in, nodes_in, of_files, of_plans, AreKnown, IsCauseOf}
+
+-- ---- what faults tell
+
+pub tells_other : (P Q : Cause → Type 0) → ((cause : Cause) → P cause → Q cause) → (f : MergeFault) → Tells P f → Tells Q f
+tells_other P Q h (fault.Conflict name) x = h (merging.Conflict name) x
+tells_other P Q h (fault.Cycle name) x = h (merging.Cycle name) x
+tells_other P Q h (fault.Cap number) x = record { cap = x.cap; number_is = x.number_is; holds = h (merging.Exceeded x.cap) x.holds }
+tells_other P Q h fault.Memory x = tt
+
+-- ---- definitions of the same members
+
+pub merged_same : (caps : Caps) (D E : List Definition) (K : Collection) → AreSame D E → IsMerged caps D K → IsMerged caps E K
+merged_same caps D E K same h = record {
+  good = IsGood-within E D (λ d. (same d).1) caps h.good;
+  collection = λ name c. (λ e. (same (name, c)).0 ((h.collection name c).0 e), λ has. (h.collection name c).1 ((same (name, c)).1 has));
+}
+
+pub tells_same : (caps : Caps) (D E : List Definition) (f : MergeFault) → AreSame D E → Tells (IsFirstCause caps D) f → Tells (IsFirstCause caps E) f
+tells_same caps D E f same = tells_other (IsFirstCause caps D) (IsFirstCause caps E) (λ cause x. first_cause-same caps D E cause same x) f
+
+-- ---- the parts of a node
+
+module _ (files : List Collection) where
+  -- a definition of the parts is one of a leaf or of a node among them
+  parts_only : (ps : List Plan) (d : Definition) → Contains (of_files files (all_leaves (plans_of ps))) d → Contains (of_files files (files_in ps)) d ⊎ Contains (of_plans files (nodes_in ps)) d
+  parts_only [] d c = inl c
+  parts_only (Leaf file ∷ ps) d c = elim (Contains-append_cases (slice_index_or (map definitions files) file []) (of_files files (all_leaves (plans_of ps))) d c) [
+    | inl first ↦ inl (Contains-append_left (slice_index_or (map definitions files) file []) (of_files files (files_in ps)) d first)
+    | inr later ↦ elim (parts_only ps d later) [
+      | inl own ↦ inl (Contains-append_right (slice_index_or (map definitions files) file []) (of_files files (files_in ps)) d own)
+      | inr inner ↦ inr inner
+    ]
+  ]
+  parts_only (Node qs ∷ ps) d c = elim (Contains-append_cases (of_files files (all_leaves qs)) (of_files files (all_leaves (plans_of ps))) d (subst (λ (l : List Definition). Contains l d) (flat_map-append (λ i. slice_index_or (map definitions files) i []) (all_leaves qs) (all_leaves (plans_of ps))) c)) [
+    | inl first ↦ inr (Contains-append_left (planned files (Node qs)) (of_plans files (nodes_in ps)) d first)
+    | inr later ↦ elim (parts_only ps d later) [
+      | inl own ↦ inl own
+      | inr inner ↦ inr (Contains-append_right (planned files (Node qs)) (of_plans files (nodes_in ps)) d inner)
+    ]
+  ]
+
+  parts_has : (ps : List Plan) (d : Definition) → Contains (of_files files (files_in ps)) d ⊎ Contains (of_plans files (nodes_in ps)) d → Contains (of_files files (all_leaves (plans_of ps))) d
+  parts_has [] d (inl c) = c
+  parts_has [] d (inr c) = c
+  parts_has (Leaf file ∷ ps) d (inl c) = elim (Contains-append_cases (slice_index_or (map definitions files) file []) (of_files files (files_in ps)) d c) [
+    | inl first ↦ Contains-append_left (slice_index_or (map definitions files) file []) (of_files files (all_leaves (plans_of ps))) d first
+    | inr later ↦ Contains-append_right (slice_index_or (map definitions files) file []) (of_files files (all_leaves (plans_of ps))) d (parts_has ps d (inl later))
+  ]
+  parts_has (Leaf file ∷ ps) d (inr c) = Contains-append_right (slice_index_or (map definitions files) file []) (of_files files (all_leaves (plans_of ps))) d (parts_has ps d (inr c))
+  parts_has (Node qs ∷ ps) d (inl c) = subst (λ (l : List Definition). Contains l d) (sym (flat_map-append (λ i. slice_index_or (map definitions files) i []) (all_leaves qs) (all_leaves (plans_of ps))))
+      (Contains-append_right (of_files files (all_leaves qs)) (of_files files (all_leaves (plans_of ps))) d (parts_has ps d (inl c)))
+  parts_has (Node qs ∷ ps) d (inr c) = subst (λ (l : List Definition). Contains l d) (sym (flat_map-append (λ i. slice_index_or (map definitions files) i []) (all_leaves qs) (all_leaves (plans_of ps))))
+      (elim (Contains-append_cases (planned files (Node qs)) (of_plans files (nodes_in ps)) d c) [
+        | inl first ↦ Contains-append_left (of_files files (all_leaves qs)) (of_files files (all_leaves (plans_of ps))) d first
+        | inr later ↦ Contains-append_right (of_files files (all_leaves qs)) (of_files files (all_leaves (plans_of ps))) d (parts_has ps d (inr later))
+      ])
+
+  -- the files of the leaves and the programs of the nodes have the definitions of the whole
+  pub node_same : (ps : List Plan) (inner : List Collection) → AreSame (flat_map definitions inner) (of_plans files (nodes_in ps)) → AreSame (of_files files (files_in ps) ++ flat_map definitions inner) (planned files (Node (plans_of ps)))
+  node_same ps inner same d = (
+    λ c. parts_has ps d (elim (Contains-append_cases (of_files files (files_in ps)) (flat_map definitions inner) d c) [ inl own ↦ inl own | inr has ↦ inr ((same d).0 has) ]),
+    λ c. elim (parts_only ps d c) [
+      | inl own ↦ Contains-append_left (of_files files (files_in ps)) (flat_map definitions inner) d own
+      | inr has ↦ Contains-append_right (of_files files (files_in ps)) (flat_map definitions inner) d ((same d).1 has)
+    ],
+  )
+
+  -- the definitions of a part are among those of the whole
+  pub part_within : (ps : List Plan) (p : Plan) → Contains ps p → AreWithin (planned files p) (planned files (Node (plans_of ps)))
+  part_within [] p has d c = absurd (Contains-nil p has)
+  part_within (q ∷ ps) p has d c = subst (λ (l : List Definition). Contains l d) (sym (flat_map-append (λ i. slice_index_or (map definitions files) i []) (leaves q) (all_leaves (plans_of ps)))) (elim (Contains-cons_cases q p ps has) [
+    | inl e ↦ Contains-append_left (planned files q) (of_files files (all_leaves (plans_of ps))) d (subst (λ (x : Plan). Contains (planned files x) d) (sym e) c)
+    | inr later ↦ Contains-append_right (planned files q) (of_files files (all_leaves (plans_of ps))) d (part_within ps p later d c)
+  ])
+
+  -- a node among the parts is no leaf
+  no_leaves : (ps : List Plan) (qs : merging.Plans) → Contains ps (Node qs) → AreLeaves (plans_of ps) → ⊥
+  no_leaves [] qs has all = Contains-nil (Node qs) has
+  no_leaves (Leaf file ∷ ps) qs has all = elim (Contains-cons_cases (Leaf file) (Node qs) ps has) [ inl e ↦ absurd cc | inr later ↦ no_leaves ps qs later all ]
+  no_leaves (Node rs ∷ ps) qs has never = never
+
+  -- the cause of a node among the parts is one of the whole
+  pub part_tells : (caps : Caps) (ps : List Plan) (qs : merging.Plans) (f : MergeFault) → Contains ps (Node qs) → Tells (IsCauseOf caps files (Node qs)) f → Tells (IsCauseOf caps files (Node (plans_of ps))) f
+  part_tells caps ps qs f has = tells_other (IsCauseOf caps files (Node qs)) (IsCauseOf caps files (Node (plans_of ps))) (λ cause x. record {
+    holds = IsCause-within (planned files (Node qs)) (planned files (Node (plans_of ps))) (part_within ps (Node qs) has) caps cause x.holds;
+    first = λ flat. absurd (no_leaves ps qs has flat);
+  }) f
+
+  -- the first cause is a cause
+  pub first_tells : (caps : Caps) (p : Plan) (f : MergeFault) → Tells (IsFirstCause caps (planned files p)) f → Tells (IsCauseOf caps files p) f
+  first_tells caps p f = tells_other (IsFirstCause caps (planned files p)) (IsCauseOf caps files p) (λ cause x. record { holds = x.is; first = λ flat. x }) f
+
+  -- ---- part by part
+
+  files_more : (ps : List Plan) (p : Plan) → files_in (ps ++ p ∷ []) ≡ files_in ps ++ files_in (p ∷ [])
+  files_more [] p = refl
+  files_more (Leaf file ∷ ps) p = ap (λ (l : List ℕ). file ∷ l) (files_more ps p)
+  files_more (Node qs ∷ ps) p = files_more ps p
+
+  nodes_more : (ps : List Plan) (p : Plan) → nodes_in (ps ++ p ∷ []) ≡ nodes_in ps ++ nodes_in (p ∷ [])
+  nodes_more [] p = refl
+  nodes_more (Leaf file ∷ ps) p = nodes_more ps p
+  nodes_more (Node qs ∷ ps) p = ap (λ (l : List Plan). Node qs ∷ l) (nodes_more ps p)
+
+  -- a leaf more
+  pub leaf_more : (ps : List Plan) (file : ℕ) → of_files files (files_in (ps ++ Leaf file ∷ [])) ≡ of_files files (files_in ps) ++ slice_index_or (map definitions files) file []
+  leaf_more ps file =
+      ap (of_files files) (files_more ps (Leaf file)) ∙ flat_map-append (λ i. slice_index_or (map definitions files) i []) (files_in ps) (file ∷ [])
+      ∙ ap (λ (l : List Definition). of_files files (files_in ps) ++ l) (append-nil (slice_index_or (map definitions files) file []))
+
+  pub node_no_file : (ps : List Plan) (qs : merging.Plans) → files_in (ps ++ Node qs ∷ []) ≡ files_in ps
+  node_no_file ps qs = files_more ps (Node qs) ∙ append-nil (files_in ps)
+
+  pub leaf_no_node : (ps : List Plan) (file : ℕ) → nodes_in (ps ++ Leaf file ∷ []) ≡ nodes_in ps
+  leaf_no_node ps file = nodes_more ps (Leaf file) ∙ append-nil (nodes_in ps)
+
+  -- a node more
+  pub node_more : (ps : List Plan) (qs : merging.Plans) (inner : List Collection) (K : Collection) → AreSame (flat_map definitions inner) (of_plans files (nodes_in ps)) → AreSame (definitions K) (planned files (Node qs))
+      → AreSame (flat_map definitions (inner ++ K ∷ [])) (of_plans files (nodes_in (ps ++ Node qs ∷ [])))
+  node_more ps qs inner K same own d =
+      let all : flat_map definitions (inner ++ K ∷ []) ≡ flat_map definitions inner ++ definitions K = flat_map-append definitions inner (K ∷ []) ∙ ap (λ (l : List Definition). flat_map definitions inner ++ l) (append-nil (definitions K)) in
+      let whole : of_plans files (nodes_in (ps ++ Node qs ∷ [])) ≡ of_plans files (nodes_in ps) ++ planned files (Node qs) =
+      ap (of_plans files) (nodes_more ps (Node qs)) ∙ flat_map-append (planned files) (nodes_in ps) (Node qs ∷ []) ∙ ap (λ (l : List Definition). of_plans files (nodes_in ps) ++ l) (append-nil (planned files (Node qs))) in (
+        λ c. subst (λ (l : List Definition). Contains l d) (sym whole) (elim (Contains-append_cases (flat_map definitions inner) (definitions K) d (subst (λ (l : List Definition). Contains l d) all c)) [
+          | inl first ↦ Contains-append_left (of_plans files (nodes_in ps)) (planned files (Node qs)) d ((same d).0 first)
+          | inr last ↦ Contains-append_right (of_plans files (nodes_in ps)) (planned files (Node qs)) d ((own d).0 last)
+        ]),
+        λ c. subst (λ (l : List Definition). Contains l d) (sym all) (elim (Contains-append_cases (of_plans files (nodes_in ps)) (planned files (Node qs)) d (subst (λ (l : List Definition). Contains l d) whole c)) [
+          | inl first ↦ Contains-append_left (flat_map definitions inner) (definitions K) d ((same d).1 first)
+          | inr last ↦ Contains-append_right (flat_map definitions inner) (definitions K) d ((own d).1 last)
+        ]),
+      )
+
+-- ---- what an answer gives
+
+pub if_err_each : {A E : Type 0} (P Q : E → Type 0) (r : Result A E) → ((e : E) → P e → Q e) → IfErr r P → IfErr r Q
+if_err_each P Q (Ok x) f h = h
+if_err_each P Q (Err e) f h = f e h
+
+-- the programs of a node have its definitions
+pub programs_same : (files : List Collection) (ps : List Plan) (inner : List Collection) (n : ℕ) (D : List Definition) → length inner ≤ n → D ≡ of_files files (files_in ps) ++ flat_map definitions (take n inner) → AreSame (flat_map definitions inner) (of_plans files (nodes_in ps)) → AreSame D (planned files (Node (plans_of ps)))
+programs_same files ps inner n D le is same =
+    let all : D ≡ of_files files (files_in ps) ++ flat_map definitions inner = is ∙ ap (λ (l : List Collection). of_files files (files_in ps) ++ flat_map definitions l) (take_all n inner le) in
+    subst (λ (l : List Definition). AreSame l (planned files (Node (plans_of ps)))) (sym all) (node_same files ps inner same)
+
+-- the files of a part are known
+pub part_known : (files : List Collection) (ps : List Plan) (p : Plan) → Contains ps p → AreKnown files (Node (plans_of ps)) → AreKnown files p
+part_known files ps p has known i d lt = All-member (λ k. k < length files) (all_leaves (plans_of ps)) (get_or (leaves p) i d) known (part_leaves ps p (get_or (leaves p) i d) has (Contains-get_or (leaves p) i d lt))

@@ -1,0 +1,272 @@
+-- What the numbers of a union's classes say of its definitions.
+use Rattle.std.proofs.Common.{◌≡◌, ℕ, zero, suc, ◌+◌, ◌<◌, ◌≤◌, List, [], ◌∷◌, length, get_or, map, refl, sym, ap, ◌∙◌, subst, arith, inl, inr, Option, Some, None, Less}
+use Rattle.std.specs.Prelude.{All, IsSome}
+use Rattle.std.specs.List.{Contains}
+use Rattle.std.proofs.lemmas.Bool.{cases_order}
+use Rattle.std.proofs.lemmas.List.{length-map, get_or-map, get_or_default}
+use Rattle.std.proofs.lemmas.List.Elements.{Contains-get_or}
+use Rattle.dexspec.specs.Lists.{present, AreDistinct}
+use Rattle.dexspec.specs.Texts.{Text, text_cmp}
+use Rattle.dexspec.specs.Classes.{Body, Definition}
+use Rattle.dexspec.specs.Mentions.{Mentions}
+use Rattle.dexspec.specs.Merging.{Caps, IsConflict, IsConsistent, Cause, Conflict, Cycle, Exceeded, IsCause, IsToldBefore, IsFirstCause}
+use Rattle.dexspec.proofs.Members.{Contains-nil, Contains-first, Contains-later, Contains-cons_cases}
+use Rattle.dexspec.proofs.InOrder.{Rises-from_rises, Rises-places, irreflexive, asymmetric}
+use Rattle.dexspec.proofs.SymbolOrders.{text_total}
+use Rattle.dexspec.proofs.Conflicts.{consistent-apart}
+use Rattle.dexpool.specs.Numberings.{AreRising}
+use Rattle.dexplain.specs.Numbered.{NumberedClass, type_at, definition_of}
+use Rattle.dexplain.specs.Marking.{IsInRange}
+use Rattle.dexplain.specs.Parents.{no_class, name_number, parent_numbers, ArePlaces}
+use Rattle.dexplain.proofs.Mentioned.{Contains-map, Contains-map_source}
+use Rattle.dexplain.proofs.SameClasses.{one_class}
+use Rattle.dexplain_merge.specs.Candidates.{AreMembers, class_at, IsAlike, IsLeastUnlike, kept_classes}
+use Rattle.dexplain_merge.specs.Cycles.{AreKept, IsFirstCycle}
+
+option_is : (o : Option ℕ) → IsSome o → (k : ℕ) × (o ≡ Some k)
+option_is None s = absurd cc
+option_is (Some k) s = (k, refl)
+
+-- what is present stands at some place
+present_at : (places : List (Option ℕ)) (t k : ℕ) → get_or places t None ≡ Some k → Contains (present places) k
+present_at [] t k e = absurd cc
+present_at (None ∷ ps) zero k e = absurd cc
+present_at (None ∷ ps) (suc t) k e = present_at ps t k e
+present_at (Some j ∷ ps) zero k e = let same : j ≡ k = cc in subst (Contains (j ∷ present ps)) same (Contains-first j (present ps))
+present_at (Some j ∷ ps) (suc t) k e = Contains-later j k (present ps) (present_at ps t k e)
+
+present_source : (places : List (Option ℕ)) (k : ℕ) → Contains (present places) k → (t : ℕ) × (get_or places t None ≡ Some k)
+present_source [] k c = absurd (Contains-nil k c)
+present_source (None ∷ ps) k c = let s = present_source ps k c in (suc s.0, s.1)
+present_source (Some j ∷ ps) k c = elim (Contains-cons_cases j k (present ps) c) [
+  | inl e ↦ (0, ap Some e)
+  | inr later ↦ let s = present_source ps k later in (suc s.0, s.1)
+]
+
+-- where what stands at a place has the place as its name, names rise
+module _ (name : ℕ → ℕ) where
+  names_from : (places : List (Option ℕ)) (from : ℕ) → ((t k : ℕ) → get_or places t None ≡ Some k → name k ≡ from + t) → (i : ℕ) → i < length (present places) → from ≤ name (get_or (present places) i 0)
+  names_from [] from h i lt = absurd (omega (arith, lt))
+  names_from (None ∷ ps) from h i lt = omega (arith, names_from ps (from + 1) (λ t k e. omega (arith, h (suc t) k e)) i lt)
+  names_from (Some j ∷ ps) from h zero lt = omega (arith, h 0 j refl)
+  names_from (Some j ∷ ps) from h (suc i) lt = omega (arith, names_from ps (from + 1) (λ t k e. omega (arith, h (suc t) k e)) i (omega (arith, lt)))
+
+  names_rise : (places : List (Option ℕ)) (from : ℕ) → ((t k : ℕ) → get_or places t None ≡ Some k → name k ≡ from + t) → (i j : ℕ) → i < j → j < length (present places) → name (get_or (present places) i 0) < name (get_or (present places) j 0)
+  names_rise [] from h i j less lt = absurd (omega (arith, lt))
+  names_rise (None ∷ ps) from h i j less lt = names_rise ps (from + 1) (λ t k e. omega (arith, h (suc t) k e)) i j less lt
+  names_rise (Some x ∷ ps) from h i zero less lt = absurd (omega (arith, less))
+  names_rise (Some x ∷ ps) from h zero (suc j) less lt = omega (arith, h 0 x refl, names_from ps (from + 1) (λ t k e. omega (arith, h (suc t) k e)) j (omega (arith, lt)))
+  names_rise (Some x ∷ ps) from h (suc i) (suc j) less lt = names_rise ps (from + 1) (λ t k e. omega (arith, h (suc t) k e)) i j (omega (arith, less)) (omega (arith, lt))
+
+-- what holds of all holds of all but the first
+all_behind : (P : ℕ → Type 0) (x : ℕ) (xs : List ℕ) → All P (x ∷ xs) → All P xs
+all_behind P x xs h i d lt = h (suc i) d (omega (arith, lt))
+
+-- ---- numbers of types
+
+module _ (m : Mentions) (rising : AreRising m) where
+  less_text : (a b : ℕ) → a < b → b < length m.types → text_cmp (type_at m a) (type_at m b) ≡ Less
+  less_text a b less lt = Rises-places text_cmp text_total m.types a b [] (Rises-from_rises text_cmp text_total m.types rising.types_rise) less lt
+
+  -- a lesser type has a lesser number
+  less_number : (a b : ℕ) → a < length m.types → b < length m.types → text_cmp (type_at m a) (type_at m b) ≡ Less → a < b
+  less_number a b la lb e = elim (cases_order a b) [
+    | inl same ↦ absurd (irreflexive text_cmp text_total (type_at m a) (type_at m b) (ap (type_at m) same) e)
+    | inr other ↦ elim other [
+      | inl less ↦ less
+      | inr more ↦ absurd (asymmetric text_cmp text_total (type_at m a) (type_at m b) e (less_text b a more la))
+    ]
+  ]
+
+  -- a type has one number
+  one_number : (a b : ℕ) → a < length m.types → b < length m.types → type_at m a ≡ type_at m b → a ≡ b
+  one_number a b la lb e = elim (cases_order a b) [
+    | inl same ↦ same
+    | inr other ↦ elim other [
+      | inl less ↦ absurd (irreflexive text_cmp text_total (type_at m a) (type_at m b) e (less_text a b less lb))
+      | inr more ↦ absurd (irreflexive text_cmp text_total (type_at m b) (type_at m a) (sym e) (less_text b a more la))
+    ]
+  ]
+
+  module _ (cs : List NumberedClass) (range : All (IsInRange m) cs) where
+    abbrev E : List Definition
+    E = map (definition_of m) cs
+
+    pub name_in : (i : ℕ) → i < length cs → name_number cs i < length m.types
+    name_in i lt = (range i no_class lt).types_in 0 0 (omega arith)
+
+    -- the definition of a class
+    member : (i : ℕ) → i < length cs → Contains E (definition_of m (class_at cs i))
+    member i lt = Contains-map (definition_of m) cs (class_at cs i) (Contains-get_or cs i no_class lt)
+
+    -- a definition is that of a class
+    record IsOf (name : Text) (c : Body) : Type 0 where
+      place : ℕ
+      within : place < length cs
+      is : definition_of m (class_at cs place) ≡ (name, c)
+
+    source : (name : Text) (c : Body) → Contains E (name, c) → IsOf name c
+    source name c has =
+        let s = Contains-map_source (definition_of m) cs (name, c) has in
+        let at : class_at cs s.1.0 ≡ s.0 = get_or_default cs s.1.0 no_class s.0 s.1.1 ∙ s.1.2 in
+        record { place = s.1.0; within = s.1.1; is = ap (definition_of m) at ∙ s.2 }
+
+    name_of : (name : Text) (c : Body) (x : IsOf name c) → type_at m (name_number cs x.place) ≡ name
+    name_of name c x = ap (λ (d : Definition). d.0) x.is
+
+    -- two definitions of a name are classes of one number
+    one_name : (name : Text) (c d : Body) (x : IsOf name c) (y : IsOf name d) → name_number cs x.place ≡ name_number cs y.place
+    one_name name c d x y = one_number (name_number cs x.place) (name_number cs y.place) (name_in x.place x.within) (name_in y.place y.within) (name_of name c x ∙ sym (name_of name d y))
+
+    -- the same class is the same definition
+    one_body : (name : Text) (c d : Body) (x : IsOf name c) (y : IsOf name d) → class_at cs x.place ≡ class_at cs y.place → c ≡ d
+    one_body name c d x y e = ap (λ (z : Definition). z.1) (sym x.is ∙ ap (definition_of m) e ∙ y.is)
+
+    -- ---- conflicts
+
+    module _ (places : List (Option ℕ)) (h : ArePlaces cs places) where
+      -- alike classes of one name are the same
+      alike_same : (i j : ℕ) → i < length cs → name_number cs i ≡ name_number cs j → IsAlike cs places i → IsAlike cs places j → class_at cs i ≡ class_at cs j
+      alike_same i j lt e f g =
+          let k = option_is (get_or places (name_number cs i) None) (h.all i lt) in
+          f k.0 k.1 ∙ sym (g k.0 (ap (λ (n : ℕ). get_or places n None) (sym e) ∙ k.1))
+
+      -- the least name of unlike classes is the first cause
+      pub conflict_told : (caps : Caps) (name : ℕ) → IsLeastUnlike cs places name → IsFirstCause caps E (Conflict (type_at m name))
+      conflict_told caps name l = record { is = conflict; first = before }
+        where
+          kept_at : (l.is.kept < length cs) × (name_number cs l.is.kept ≡ name)
+          kept_at = h.some name l.is.kept l.is.kept_is
+
+          at_name : (i : ℕ) → i < length cs → name_number cs i ≡ name → Contains E (type_at m name, (definition_of m (class_at cs i)).1)
+          at_name i lt e = subst (λ (n : ℕ). Contains E (type_at m n, (definition_of m (class_at cs i)).1)) e (member i lt)
+
+          conflict : IsConflict E (type_at m name)
+          conflict = record {
+            one = (definition_of m (class_at cs l.is.place)).1;
+            other = (definition_of m (class_at cs l.is.kept)).1;
+            one_in = at_name l.is.place l.is.within l.is.name_is;
+            other_in = at_name l.is.kept kept_at.0 kept_at.1;
+            unlike = λ e. l.is.unlike (one_class m (class_at cs l.is.place) (class_at cs l.is.kept) rising (range l.is.place no_class l.is.within) (range l.is.kept no_class kept_at.0)
+                (λ i. (type_at m ((l.is.name_is ∙ sym kept_at.1) i), e i)));
+          }
+
+          before : (other : Cause) → IsCause caps E other → IsToldBefore other (Conflict (type_at m name)) → ⊥
+          before (Conflict n) x less =
+              let a = source n x.one x.one_in in
+              let b = source n x.other x.other_in in
+              let same = one_name n x.one x.other a b in
+              let number : name_number cs a.place < name = less_number (name_number cs a.place) name (name_in a.place a.within) (subst (λ (k : ℕ). k < length m.types) l.is.name_is (name_in l.is.place l.is.within)) (subst (λ (t : Text). text_cmp t (type_at m name) ≡ Less) (sym (name_of n x.one a)) less) in
+              x.unlike (one_body n x.one x.other a b (alike_same a.place b.place a.within same (l.least a.place a.within number) (l.least b.place b.within (omega (arith, number, same)))))
+          before (Cycle n) x never = never
+          before (Exceeded k) x never = never
+
+      -- ---- one of each name
+
+      -- a place that is kept is one of the places
+      placed : (t k : ℕ) → get_or places t None ≡ Some k → Contains (present places) k
+      placed t k e = present_at places t k e
+
+      source_place : (k : ℕ) → Contains (present places) k → k < length cs
+      source_place k has = let t = present_source places k has in (h.some t.0 k t.1).0
+
+      kept_within : (i : ℕ) → i < length (present places) → get_or (present places) i 0 < length cs
+      kept_within i lt = source_place (get_or (present places) i 0) (Contains-get_or (present places) i 0 lt)
+
+      count_kept : length (kept_classes cs places) ≡ length (present places)
+      count_kept = length-map (present places) (class_at cs)
+
+      kept_at : (i : ℕ) → i < length (kept_classes cs places) → class_at (kept_classes cs places) i ≡ class_at cs (get_or (present places) i 0)
+      kept_at i lt = get_or-map (class_at cs) (present places) i 0 no_class (omega (arith, lt, count_kept))
+
+      -- a class that is kept is one of the classes
+      kept_source : (c : NumberedClass) → Contains (kept_classes cs places) c → Contains cs c
+      kept_source c has =
+          let s = Contains-map_source (class_at cs) (present places) c has in
+          subst (Contains cs) s.2 (Contains-get_or cs s.0 no_class (source_place s.0 s.1))
+
+      -- and each alike class is kept
+      kept_has : (i : ℕ) → i < length cs → IsAlike cs places i → Contains (kept_classes cs places) (class_at cs i)
+      kept_has i lt alike =
+          let k = option_is (get_or places (name_number cs i) None) (h.all i lt) in
+          subst (Contains (kept_classes cs places)) (sym (alike k.0 k.1)) (Contains-map (class_at cs) (present places) k.0 (placed (name_number cs i) k.0 k.1))
+
+      -- where all classes are alike, those that are kept stand for the same definitions
+      pub kept_members : (D : List Definition) → AreMembers m D cs → ((i : ℕ) → i < length cs → IsAlike cs places i) → AreMembers m D (kept_classes cs places)
+      kept_members D members alike = record {
+        numbers_in = λ i d lt. let has = kept_source (get_or (kept_classes cs places) i d) (Contains-get_or (kept_classes cs places) i d lt) in subst (IsInRange m) has.2 (range has.0 (get_or (kept_classes cs places) i d) has.1);
+        same = λ d. (
+          λ c. (members.same d).0 (let s = Contains-map_source (definition_of m) (kept_classes cs places) d c in subst (Contains E) s.2 (Contains-map (definition_of m) cs s.0 (kept_source s.0 s.1))),
+          λ c. let s = Contains-map_source (definition_of m) cs d ((members.same d).1 c) in
+              let at : class_at cs s.1.0 ≡ s.0 = get_or_default cs s.1.0 no_class s.0 s.1.1 ∙ s.1.2 in
+              subst (Contains (map (definition_of m) (kept_classes cs places))) (ap (definition_of m) at ∙ s.2) (Contains-map (definition_of m) (kept_classes cs places) (class_at cs s.1.0) (kept_has s.1.0 s.1.1 (alike s.1.0 s.1.1))),
+        );
+        formed = members.formed;
+      }
+
+      -- their names rise
+      kept_name : (i : ℕ) → i < length (kept_classes cs places) → name_number (kept_classes cs places) i ≡ name_number cs (get_or (present places) i 0)
+      kept_name i lt = ap (λ (c : NumberedClass). c.name) (kept_at i lt)
+
+      pub kept_rise : (i j : ℕ) → i < j → j < length (kept_classes cs places) → name_number (kept_classes cs places) i < name_number (kept_classes cs places) j
+      kept_rise i j less lt =
+          let r = names_rise (name_number cs) places 0 (λ t k e. omega (arith, (h.some t k e).1)) i j less (omega (arith, lt, count_kept)) in
+          omega (arith, r, kept_name i (omega (arith, less, lt)), kept_name j lt)
+
+  -- ---- classes by name
+
+  module _ (cs : List NumberedClass) (range : All (IsInRange m) cs) (rise : (i j : ℕ) → i < j → j < length cs → name_number cs i < name_number cs j) where
+    -- no two places have one name
+    one_place : (i j : ℕ) → i < length cs → j < length cs → name_number cs i ≡ name_number cs j → i ≡ j
+    one_place i j li lj e = elim (cases_order i j) [
+      | inl same ↦ same
+      | inr other ↦ elim other [
+        | inl less ↦ absurd (omega (arith, rise i j less lj, e))
+        | inr more ↦ absurd (omega (arith, rise j i more li, e))
+      ]
+    ]
+
+    pub names_differ : AreDistinct (map (λ c. c.name) cs)
+    names_differ i j d less lt e =
+        let few : j < length cs = omega (arith, lt, length-map cs (λ (c : NumberedClass). c.name)) in
+        let ei : get_or (map (λ (c : NumberedClass). c.name) cs) i d ≡ name_number cs i = get_or-map (λ (c : NumberedClass). c.name) cs i no_class d (omega (arith, less, few)) in
+        let ej : get_or (map (λ (c : NumberedClass). c.name) cs) j d ≡ name_number cs j = get_or-map (λ (c : NumberedClass). c.name) cs j no_class d few in
+        omega (arith, rise i j less few, ei, ej, e)
+
+    -- no two definitions are the same
+    pub definitions_differ : AreDistinct (map (definition_of m) cs)
+    definitions_differ i j d less lt e =
+        let few : j < length cs = omega (arith, lt, length-map cs (definition_of m)) in
+        let first : i < length cs = omega (arith, few, less) in
+        let ei : get_or (map (definition_of m) cs) i d ≡ definition_of m (class_at cs i) = get_or-map (definition_of m) cs i no_class d first in
+        let ej : get_or (map (definition_of m) cs) j d ≡ definition_of m (class_at cs j) = get_or-map (definition_of m) cs j no_class d few in
+        let name : type_at m (name_number cs i) ≡ type_at m (name_number cs j) = ap (λ (x : Definition). x.0) (sym ei ∙ e ∙ ej) in
+        omega (arith, rise i j less few, one_number (name_number cs i) (name_number cs j) (name_in cs range i first) (name_in cs range j few) name)
+
+    pub are_kept : AreKept m cs
+    are_kept = record {
+      named = record {
+        rising = rising.types_rise;
+        names = name_in cs range;
+        parents_in = λ c has. all_behind (λ p. p < length m.types) c.name (parent_numbers c) (subst (IsInRange m) has.2 (range has.0 c has.1)).types_in;
+        distinct = names_differ;
+      };
+      rise = rise;
+    }
+
+    -- no name has two definitions
+    pub consistent : IsConsistent (map (definition_of m) cs)
+    consistent name one other c d =
+        let x = source cs range name one c in
+        let y = source cs range name other d in
+        let place = one_place x.place y.place x.within y.within (one_name cs range name one other x y) in
+        one_body cs range name one other x y (ap (class_at cs) place)
+
+    -- the first cycle is the first cause
+    pub cycle_told : (caps : Caps) (i : ℕ) → IsFirstCycle m cs i → IsFirstCause caps (map (definition_of m) cs) (Cycle (type_at m (name_number cs i)))
+    cycle_told caps i f = record { is = f.is; first = before }
+      where
+        before : (other : Cause) → IsCause caps (map (definition_of m) cs) other → IsToldBefore other (Cycle (type_at m (name_number cs i))) → ⊥
+        before (Conflict n) x _ = consistent-apart (map (definition_of m) cs) n consistent x
+        before (Cycle n) x less = f.least n x less
+        before (Exceeded k) x never = never

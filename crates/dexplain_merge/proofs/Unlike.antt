@@ -1,0 +1,84 @@
+-- The least name of unlike classes, class by class.
+use Rattle.std.proofs.Common.{◌≡◌, ℕ, ◌+◌, ◌<◌, min, List, length, get_or, refl, sym, ap, ◌∙◌, subst, arith, inl, inr, Option, Some, None}
+use Rattle.std.specs.Prelude.{IsSome, MatchOption}
+use Rattle.std.proofs.lemmas.Bool.{cases_lt}
+use Rattle.dexplain.specs.Numbered.{NumberedClass}
+use Rattle.dexplain.specs.Parents.{name_number, ArePlaces}
+use Rattle.dexplain_merge.specs.Candidates.{class_at, IsAlike, IsUnlike, IsLeastUnlike, lesser_of}
+
+-- it is of this name that there are unlike classes, and of no lesser name among the first n classes
+pub record IsUnlikeTo (cs : List NumberedClass) (places : List (Option ℕ)) (n name : ℕ) : Type 0 where
+  pub is : IsUnlike cs places name
+  pub least : (i : ℕ) → i < n → name_number cs i < name → IsAlike cs places i
+
+-- the same, or the first n classes are alike
+abbrev pub IsLeastTo : List NumberedClass → List (Option ℕ) → ℕ → Option ℕ → Type 0
+IsLeastTo cs places n None = (i : ℕ) → i < n → IsAlike cs places i
+IsLeastTo cs places n (Some name) = IsUnlikeTo cs places n name
+
+option_is : (o : Option ℕ) → IsSome o → (k : ℕ) × (o ≡ Some k)
+option_is None s = absurd cc
+option_is (Some k) s = (k, refl)
+
+module _ (cs : List NumberedClass) (places : List (Option ℕ)) where
+  pub none_unlike : IsLeastTo cs places 0 None
+  none_unlike i lt = absurd (omega (arith, lt))
+
+  -- an alike one more
+  last_alike : (n i : ℕ) → i < n + 1 → IsAlike cs places n → (i < n → IsAlike cs places i) → IsAlike cs places i
+  last_alike n i lt alike before = elim (cases_lt i n) [
+    | inl less ↦ before less
+    | inr le ↦ let same : n ≡ i = omega (arith, lt, le) in subst (IsAlike cs places) same alike
+  ]
+
+  pub alike_next : (n : ℕ) (least : Option ℕ) → IsLeastTo cs places n least → IsAlike cs places n → IsLeastTo cs places (n + 1) least
+  alike_next n None h alike = λ i lt. last_alike n i lt alike (h i)
+  alike_next n (Some name) h alike = record { is = h.is; least = λ i lt less. last_alike n i lt alike (λ few. h.least i few less) }
+
+  -- an unlike one more
+  unlike_is : (n : ℕ) → n < length cs → ArePlaces cs places → (IsAlike cs places n → ⊥) → IsUnlike cs places (name_number cs n)
+  unlike_is n lt h unlike =
+      let kept = option_is (get_or places (name_number cs n) None) (h.all n lt) in
+      record {
+        place = n;
+        kept = kept.0;
+        within = lt;
+        name_is = refl;
+        kept_is = kept.1;
+        unlike = λ e. unlike (λ k is. let same : kept.0 ≡ k = (let both : Some kept.0 ≡ Some k = sym kept.1 ∙ is in cc) in subst (λ (j : ℕ). class_at cs n ≡ class_at cs j) same e);
+      }
+
+  -- a class of a lesser name is not the last one
+  before_last : (n i name : ℕ) → i < n + 1 → name_number cs i < name → name ≡ name_number cs n → i < n
+  before_last n i name lt less is = elim (cases_lt i n) [
+    | inl few ↦ few
+    | inr le ↦ let same : n ≡ i = omega (arith, lt, le) in absurd (let e : name_number cs n ≡ name_number cs i = ap (name_number cs) same in omega (arith, e, less, is))
+  ]
+
+  pub unlike_next : (n : ℕ) (least : Option ℕ) → n < length cs → ArePlaces cs places → IsLeastTo cs places n least → (IsAlike cs places n → ⊥) → IsLeastTo cs places (n + 1) (lesser_of least (name_number cs n))
+  unlike_next n None lt h before unlike = record {
+    is = unlike_is n lt h unlike;
+    least = λ i few less. before i (before_last n i (name_number cs n) few less refl);
+  }
+  unlike_next n (Some name) lt h before unlike = elim (cases_lt (name_number cs n) name) [
+    | inl less ↦
+        let e : name_number cs n ≡ min name (name_number cs n) = omega (arith, less) in
+        subst (IsUnlikeTo cs places (n + 1)) e (record {
+          is = unlike_is n lt h unlike;
+          least = λ i few under. before.least i (before_last n i (name_number cs n) few under refl) (omega (arith, under, less));
+        })
+    | inr le ↦
+        let e : name ≡ min name (name_number cs n) = omega (arith, le) in
+        subst (IsUnlikeTo cs places (n + 1)) e (record {
+          is = before.is;
+          least = λ i few under. elim (cases_lt i n) [
+            | inl first ↦ before.least i first under
+            | inr last ↦ let same : n ≡ i = omega (arith, few, last) in absurd (let s : name_number cs n ≡ name_number cs i = ap (name_number cs) same in omega (arith, s, le, under))
+          ];
+        })
+  ]
+
+  -- all of them
+  pub least_is : (n : ℕ) (least : Option ℕ) → length cs ≡ n → IsLeastTo cs places n least → MatchOption least ((i : ℕ) → i < n → IsAlike cs places i) (IsLeastUnlike cs places)
+  least_is n None e h = h
+  least_is n (Some name) e h = record { is = h.is; least = λ i lt less. h.least i (omega (arith, lt, e)) less }

@@ -1,0 +1,30 @@
+-- What classes weigh over a numbering.
+use Rattle.std.proofs.Common.{◌≡◌, ℕ, ◌+◌, ◌<◌, min, List, length, take, map, ap, ◌∙◌, arith, sum_by}
+use Rattle.std.proofs.lemmas.List.{length-map, take_more}
+use Rattle.std.proofs.lemmas.List.Sums.{sum_by_push}
+use Rattle.dexspec.specs.Mentions.{Mentions}
+use Rattle.dexspec.specs.Weight.{body_weight}
+use Rattle.dexpool.specs.Numberings.{Maps}
+use Rattle.dexplain.specs.Numbered.{NumberedClass, type_at, definition_of}
+use Rattle.dexplain.specs.Parents.{no_class}
+use Rattle.dexplain.specs.Renumbering.{led, renumbered}
+use Rattle.dexplain_merge.specs.Candidates.{class_at}
+use Rattle.dexplain_merge.specs.Amounts.{weight_over}
+
+-- led on, a class weighs the same
+pub weight_led : (m n : Mentions) (r : Maps) (c : NumberedClass) → body_weight (definition_of m (renumbered r c)).1 ≡ body_weight (definition_of n c).1
+weight_led m n r c =
+    let e : length (map (type_at m) (map (led r.types) c.interfaces)) ≡ length (map (type_at n) c.interfaces) =
+    omega (arith, length-map (map (led r.types) c.interfaces) (type_at m), length-map c.interfaces (led r.types), length-map c.interfaces (type_at n)) in
+    omega (arith, e)
+
+-- one class more
+pub weight_more : (m : Mentions) (cs : List NumberedClass) (i : ℕ) → i < length cs → weight_over m (take (i + 1) cs) ≡ weight_over m (take i cs) + body_weight (definition_of m (class_at cs i)).1
+weight_more m cs i lt =
+    let f : NumberedClass → ℕ = λ c. body_weight (definition_of m c).1 in
+    let e : sum_by f (take (i + 1) cs) ≡ sum_by f (take i cs) + f (class_at cs i) = ap (sum_by f) (take_more cs i no_class lt) ∙ sum_by_push f (take i cs) (class_at cs i) in
+    omega (arith, e)
+
+-- sums that stop at a greatest number
+pub stops : (most x y a b whole : ℕ) → x ≡ min most a → y ≡ min most b → whole ≡ a + b → min (x + y) most ≡ min most whole
+stops most x y a b whole e f g = omega arith

@@ -1,0 +1,30 @@
+use Rattle.std.proofs.Common.{◌≡◌, ◌<◌, ◌∙◌, ℕ, Option, List, [], sym, ap, subst, arith, length}
+use Rattle.dexspec.specs.Texts.{Text}
+use Rattle.dexspec.specs.Merging.{IsFirstCause, Conflict}
+use Rattle.dexplain.specs.Numbered.{type_at}
+use Rattle.dexplain_merge.specs.Candidates.{classes_of, IsAlike, IsLeastUnlike, kept_classes}
+use Rattle.dexplain_merge.specs.Unions.{AreOnce}
+use Rattle.dexplain_merge.proofs.CandidatePlaces.{count_classes}
+use Rattle.dexplain_merge.proofs.MergeLaws.{copy_names, copies_conflict, copies_once}
+use Rattle.dexplain_merge.proofs.merging.one_of_each.Goals as goal
+
+pub places-requires : goal.places-requires
+places-requires c = λ i d lt. omega (arith, copy_names c.args.numbering.now c.requires.0 (classes_of c.args.candidates.now) c.requires.1 i d lt, c.count.ensures)
+
+pub returns-in-Some-clause-fault : goal.returns-in-Some-clause-fault
+returns-in-Some-clause-fault c = λ caps D h.
+    let m = c.args.numbering.now in
+    let cs = classes_of c.args.candidates.now in
+    let places = c.in_ok-places.places.items in
+    let least : IsLeastUnlike cs places c.in-Some.name = subst (λ (l : List (Option ℕ)). IsLeastUnlike cs l c.in-Some.name) c.deref.ensures.value c.in-Some.ensures in
+    let name : type_at m c.in-Some.name ≡ c.in_ok-of-in-Some.field-0 = c.typ.ensures.is [] ∙ sym c.in_ok-of-in-Some.ensures in
+    subst (λ (t : Text). IsFirstCause caps D (Conflict t)) name (copies_conflict m D cs h places c.in_ok-places.ensures.places caps c.in-Some.name least)
+
+pub returns-clause-kept : goal.returns-clause-kept
+returns-clause-kept c = λ D h.
+    let m = c.args.numbering.now in
+    let cs = classes_of c.args.candidates.now in
+    let places = c.in_ok-places.places.items in
+    let alike : (i : ℕ) → i < length cs → IsAlike cs places i = λ i lt. subst (λ (l : List (Option ℕ)). IsAlike cs l i) c.deref.ensures.value (c.in-None.ensures i (omega (arith, lt, count_classes c.args.candidates.now))) in
+    let are : classes_of c.in_ok-kept-in-None.field-0.items ≡ kept_classes cs places = c.in_ok-kept-in-None.ensures ∙ ap (kept_classes cs) c.deref-in-None.ensures.value in
+    subst (AreOnce m D) (sym are) (copies_once m D cs h places c.in_ok-places.ensures.places alike)

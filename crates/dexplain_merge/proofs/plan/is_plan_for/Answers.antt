@@ -1,0 +1,14 @@
+use Rattle.std.proofs.Common.{◌≡◌, ◌∙◌, List, Bool, length, false, ap, subst, replicate}
+use Rattle.std.specs.Prelude.{ℕ, ◌<◌, MatchBool}
+use Rattle.dexplain_merge.specs.Plans.{plan_of}
+use Rattle.dexplain_merge.specs.Judging.{IsMarkedBy, IsNamed, HasUnnamed}
+use Rattle.dexplain_merge.proofs.PlanJudged.{judged_by}
+use Rattle.dexplain_merge.proofs.plan.is_plan_for.Goals as goal
+
+pub returns : goal.returns
+returns c =
+    let p = plan_of c.args.plan.now in
+    let marks = c.mark_files.new.is_named.items in
+    let old : c.in_ok-is_named.is_named.items ≡ replicate c.args.files false = c.in_ok-is_named.ensures.items_if_clones_equal (λ y e. e) in
+    judged_by p c.args.files marks (subst (λ (l : List Bool). IsMarkedBy p 64 l marks) old c.if-not-mark_files.ensures.judged) (c.mark_files.ensures.count ∙ ap length old) c.are_all_named.result
+    (subst (λ (l : List Bool). MatchBool c.are_all_named.result ((i : ℕ) → i < length l → IsNamed l i) (HasUnnamed l)) c.deref.ensures.value c.are_all_named.ensures)

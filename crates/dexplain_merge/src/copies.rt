@@ -1,0 +1,122 @@
+//! Classes of one name: one of each name is kept, and a name of unlike classes is found.
+
+ghost use Rattle.std.specs.Prelude.{◌≡◌, ◌↔◌, ◌<◌, ◌++◌, ◌∷◌, [], ℕ, Option, Some, None, All, IfOk, OnOk, IsTrue, MatchOption, length, map, slice_index_or};
+ghost use Rattle.dexspec.specs.Lists.{present};
+ghost use Rattle.dexplain.specs.Parents.{ArePlaces};
+ghost use Rattle.dexplain_merge.specs.Candidates.{classes_of, class_at, kept_classes, IsAlike, IsLeastUnlike, lesser_of};
+
+use crate::candidates::Candidate;
+use std::alloc::{AllocError, Global};
+
+/// For each type of the union the number of a candidate that has it as its name, if one has.
+///
+/// Condition: each candidate's name is below the number of types. Error: the memory for it was refused.
+pub(crate) fn places(
+    alloc: Global,
+    candidates: &[Candidate<'_>],
+    types: usize,
+) -> Result<Vec<Option<usize>>, AllocError>
+    requires { All (λ c. c.name < types) (classes_of candidates.now) }
+    ensures count { IfOk result (λ places. length places.items ≡ types) }
+    ensures places { IfOk result (λ places. ArePlaces (classes_of candidates.now) places.items) }
+{
+    let mut places = vec![in alloc; None; types]?;
+    for i in 0..candidates.len() {
+        places[candidates[i].name()] = Some(i);
+    }
+    Ok(places)
+}
+
+/// The number of the candidate that is kept of a name, if one is.
+pub(crate) fn place(places: &[Option<usize>], typ: usize) -> Option<usize>
+    ensures { result ≡ slice_index_or places.now typ None }
+{
+    if typ < places.len() {
+        places[typ]
+    } else {
+        None
+    }
+}
+
+// Whether two candidates are the same class.
+fn are_same(candidates: &[Candidate<'_>], i: usize, k: usize) -> bool
+    requires first { i < length candidates.now }
+    requires second { k < length candidates.now }
+    ensures { IsTrue result ↔ (class_at (classes_of candidates.now) i ≡ class_at (classes_of candidates.now) k) }
+{
+    candidates[i].is_same(&candidates[k])
+}
+
+// Whether the candidate is the same class as the one that is kept of its name.
+fn is_alike(candidates: &[Candidate<'_>], places: &[Option<usize>], i: usize) -> bool
+    requires within { i < length candidates.now }
+    requires places { ArePlaces (classes_of candidates.now) places.now }
+    ensures { IsTrue result ↔ IsAlike (classes_of candidates.now) places.now i }
+{
+    match place(places, candidates[i].name()) {
+        Some(kept) => are_same(candidates, i, kept),
+        None => true,
+    }
+}
+
+// The lesser of the names.
+fn lesser(least: Option<usize>, name: usize) -> Option<usize>
+    ensures { result ≡ lesser_of least name }
+{
+    match least {
+        Some(least) => Some(least.min(name)),
+        None => Some(name),
+    }
+}
+
+/// The least name of unlike candidates, if there is one.
+///
+/// Condition: the places are those of the candidates.
+pub(crate) fn least_unlike(candidates: &[Candidate<'_>], places: &[Option<usize>]) -> Option<usize>
+    requires { ArePlaces (classes_of candidates.now) places.now }
+    ensures { MatchOption result ((i : ℕ) → i < length candidates.now → IsAlike (classes_of candidates.now) places.now i) (IsLeastUnlike (classes_of candidates.now) places.now) }
+{
+    let mut least = None;
+    for i in 0..candidates.len() {
+        if !is_alike(candidates, places, i) {
+            least = lesser(least, candidates[i].name());
+        }
+    }
+    least
+}
+
+// Appends a candidate, if there is one.
+fn push_kept<'b>(
+    candidates: &[Candidate<'b>],
+    place: Option<usize>,
+    kept: &mut Vec<Candidate<'b>>,
+) -> Result<(), AllocError>
+    requires { (i : ℕ) → place ≡ Some i → i < length candidates.now }
+    ensures { OnOk result (classes_of kept.new.items ≡ classes_of kept.old.items ++ map (class_at (classes_of candidates.now)) (present (place ∷ []))) }
+{
+    match place {
+        Some(i) => {
+            kept.push(candidates[i])?;
+            Ok(())
+        }
+        None => Ok(()),
+    }
+}
+
+/// The candidates that are kept, by name.
+///
+/// Condition: the places are those of the candidates. Error: the memory for the list was refused.
+pub(crate) fn kept<'b>(
+    alloc: Global,
+    candidates: &[Candidate<'b>],
+    places: &[Option<usize>],
+) -> Result<Vec<Candidate<'b>>, AllocError>
+    requires { ArePlaces (classes_of candidates.now) places.now }
+    ensures { IfOk result (λ kept. classes_of kept.items ≡ kept_classes (classes_of candidates.now) places.now) }
+{
+    let mut kept = Vec::new(alloc);
+    for typ in 0..places.len() {
+        push_kept(candidates, places[typ], &mut kept)?;
+    }
+    Ok(kept)
+}

@@ -1,0 +1,63 @@
+//! Why programs were not merged.
+
+ghost use Rattle.dexplain_merge.specs.declared.faults.MergeFault.TheVariants as merge_fault;
+ghost use Rattle.dexplain_merge.specs.declared.faults.PlanFault.TheVariants as plan_fault;
+ghost use Rattle.std.specs.Prelude.{◌≡◌};
+
+use dexstr::Name;
+use std::alloc::{AllocError, AllocFailed};
+
+/// Why there is no merged program.
+#[derive(Drop)]
+pub enum MergeFault {
+    /// Two unlike classes have this name.
+    Conflict(Name),
+    /// The class of this name is above itself, or below such a class.
+    Cycle(Name),
+    /// The classes exceed a cap: 1 the types, 2 the protos, 3 the fields, 4 the methods, 5 the texts that a
+    /// `const-string` names, 6 the weight.
+    Cap(u8),
+    /// A growth was refused.
+    Memory,
+}
+
+/// Why a plan was not carried out.
+#[derive(Drop)]
+pub enum PlanFault {
+    /// The plan names a file that there is not, or does not name one that there is, or is deeper than 64.
+    BadPlan,
+    /// The files cannot be merged, or a growth was refused.
+    Merge(MergeFault),
+}
+
+impl From<AllocError> for MergeFault {
+    ghost from_gives = { λ _ e. e ≡ merge_fault.Memory };
+
+    fn from(_e: AllocError) -> MergeFault {
+        MergeFault::Memory
+    }
+}
+
+impl<T: Drop> From<AllocFailed<T>> for MergeFault {
+    ghost from_gives = { λ _ e. e ≡ merge_fault.Memory };
+
+    fn from(_e: AllocFailed<T>) -> MergeFault {
+        MergeFault::Memory
+    }
+}
+
+impl From<AllocError> for PlanFault {
+    ghost from_gives = { λ _ e. e ≡ plan_fault.Merge merge_fault.Memory };
+
+    fn from(_e: AllocError) -> PlanFault {
+        PlanFault::Merge(MergeFault::Memory)
+    }
+}
+
+impl From<MergeFault> for PlanFault {
+    ghost from_gives = { λ f e. e ≡ plan_fault.Merge f };
+
+    fn from(fault: MergeFault) -> PlanFault {
+        PlanFault::Merge(fault)
+    }
+}

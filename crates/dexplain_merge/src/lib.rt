@@ -1,0 +1,20 @@
+//! Unions of programs: merged files, under caps and by plans.
+//!
+//! What can be merged, caps, plans and the causes for which there is no merged file are this project's rules.
+#![tactic(auto)]
+
+mod candidates;
+mod caps;
+mod copies;
+mod faults;
+mod fitting;
+mod merging;
+mod parents;
+mod plan;
+mod planned;
+
+pub use caps::Caps;
+pub use faults::{MergeFault, PlanFault};
+pub use merging::merge;
+pub use plan::{Plan, is_plan_for};
+pub use planned::merge_plan;

@@ -1,0 +1,72 @@
+//! Plans: the order in which files are merged.
+
+ghost use Rattle.std.specs.Prelude.{◌≡◌, ◌<◌, ℕ, length, IfOk, MatchBool};
+ghost use Rattle.dexspec.specs.Merging.{IsPlanFor};
+ghost use Rattle.dexplain_merge.specs.Plans.{plan_of};
+ghost use Rattle.dexplain_merge.specs.Judging.{IsMarkedBy, IsNamed, IsNoPlan, HasUnnamed};
+
+use std::alloc::{AllocError, Global};
+
+/// The deepest plan.
+const MOST_DEPTH: usize = 64;
+
+/// How files are merged: a file, by its number, or parts that are merged first.
+#[derive(Drop)]
+pub enum Plan {
+    /// The file of this number.
+    Leaf(usize),
+    /// The parts, merged.
+    Node(Vec<Plan>),
+}
+
+// Marks the files that a plan names. The answer is whether it names only files that there are, and is at most so deep.
+fn mark_files(plan: &Plan, depth: usize, is_named: &mut Vec<bool>) -> bool
+    ensures count { length is_named.new.items ≡ length is_named.old.items }
+    ensures judged { MatchBool result (IsMarkedBy (plan_of plan.now) depth is_named.old.items is_named.new.items) (IsNoPlan (plan_of plan.now) depth (length is_named.old.items)) }
+{
+    if depth == 0 {
+        return false;
+    }
+    match plan {
+        Plan::Leaf(file) => {
+            if *file >= is_named.len() {
+                return false;
+            }
+            is_named[*file] = true;
+            true
+        }
+        Plan::Node(parts) => {
+            for part in parts {
+                if !mark_files(part, depth - 1, is_named) {
+                    return false;
+                }
+            }
+            true
+        }
+    }
+}
+
+// Whether each mark is set.
+fn are_all_named(is_named: &[bool]) -> bool
+    ensures { MatchBool result ((i : ℕ) → i < length is_named.now → IsNamed is_named.now i) (HasUnnamed is_named.now) }
+{
+    for i in 0..is_named.len() {
+        if !is_named[i] {
+            return false;
+        }
+    }
+    true
+}
+
+/// Whether the plan names each of so many files and no other, and is at most 64 deep.
+///
+/// Error: the memory for marks on the files was refused.
+pub fn is_plan_for(alloc: Global, plan: &Plan, files: usize) -> Result<bool, AllocError>
+    ensures { IfOk result (λ is_plan. MatchBool is_plan (IsPlanFor files (plan_of plan.now)) (IsPlanFor files (plan_of plan.now) → ⊥)) }
+{
+    let mut is_named = vec![in alloc; false; files]?;
+    if !mark_files(plan, MOST_DEPTH, &mut is_named) {
+        return Ok(false);
+    }
+    Ok(are_all_named(&is_named))
+}

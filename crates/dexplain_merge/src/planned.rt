@@ -1,0 +1,113 @@
+//! Programs merged by a plan.
+
+ghost use Rattle.std.specs.Prelude.{◌≡◌, ◌++◌, ◌<◌, [], All, IfOk, IfErr, OnOk, length, map, slice_index_or};
+ghost use Rattle.std.specs.List.{flat_map};
+ghost use Rattle.dexspec.specs.Files.{definitions, AreSame};
+ghost use Rattle.dexspec.specs.Merging as merging;
+ghost use Rattle.dexspec.specs.Merging.{IsFirstCause, all_leaves};
+ghost use Rattle.dexplain_merge.specs.Plans.{plan_of, plans_of};
+ghost use Rattle.dexplain_merge.specs.Faults.{IsMerged, IsPlanned, IsPlanFault, Tells, planned};
+ghost use Rattle.dexplain_merge.specs.Parts.{AreKnown, IsCauseOf, files_in, nodes_in, of_files, of_plans};
+
+use crate::caps::Caps;
+use crate::faults::{MergeFault, PlanFault};
+use crate::merging::merge;
+use crate::plan::{Plan, is_plan_for};
+use dexplain::Program;
+use std::alloc::{AllocError, Global};
+
+// A file, by its number.
+fn file<'a, 'b>(files: &'b [Program<'a>], number: usize) -> &'b Program<'a>
+    requires { number < length files.now }
+    ensures { definitions result.now ≡ slice_index_or (map definitions files.now) number [] }
+{
+    &files[number]
+}
+
+// Appends the files of those parts that are leaves.
+fn push_files<'a, 'b>(
+    files: &'b [Program<'a>],
+    parts: &[Plan],
+    programs: &mut Vec<&'b Program<'a>>,
+) -> Result<(), AllocError>
+    requires { All (λ i. i < length files.now) (all_leaves (plans_of (map plan_of parts.now))) }
+    ensures { OnOk result (flat_map definitions (map (λ p. p.now) programs.new.items) ≡ flat_map definitions (map (λ p. p.now) programs.old.items) ++ of_files files.now (files_in (map plan_of parts.now))) }
+{
+    for part in parts {
+        match part {
+            Plan::Leaf(number) => programs.push(file(files, *number))?,
+            Plan::Node(_) => continue,
+        }
+    }
+    Ok(())
+}
+
+// Merges the parts of a node. Those that are nodes have been merged.
+fn merge_node<'a, 'b>(
+    alloc: Global,
+    files: &'b [Program<'a>],
+    parts: &[Plan],
+    inner: &'b [Program<'a>],
+    caps: &Caps,
+) -> Result<Program<'a>, MergeFault>
+    requires known { AreKnown files.now (merging.Node (plans_of (map plan_of parts.now))) }
+    requires inner { AreSame (flat_map definitions inner.now) (of_plans files.now (nodes_in (map plan_of parts.now))) }
+    ensures merged { IfOk result (IsMerged caps.now (planned files.now (merging.Node (plans_of (map plan_of parts.now))))) }
+    ensures fault { IfErr result (Tells (IsFirstCause caps.now (planned files.now (merging.Node (plans_of (map plan_of parts.now)))))) }
+{
+    let mut programs = Vec::with_capacity(alloc, parts.len())?;
+    push_files(files, parts, &mut programs)?;
+    for program in inner {
+        programs.push(program)?;
+    }
+    merge(alloc, &programs, caps)
+}
+
+// Merges the files of a plan. Each node is merged by itself; files are borrowed.
+fn merge_parts<'a>(
+    alloc: Global,
+    files: &[Program<'a>],
+    plan: &Plan,
+    caps: &Caps,
+) -> Result<Program<'a>, MergeFault>
+    requires { AreKnown files.now (plan_of plan.now) }
+    ensures merged { IfOk result (IsMerged caps.now (planned files.now (plan_of plan.now))) }
+    ensures fault { IfErr result (Tells (IsCauseOf caps.now files.now (plan_of plan.now))) }
+{
+    match plan {
+        Plan::Leaf(number) => merge(alloc, &[file(files, *number)], caps),
+        Plan::Node(parts) => {
+            let mut inner = Vec::new(alloc);
+            for part in parts {
+                match part {
+                    Plan::Leaf(_) => continue,
+                    Plan::Node(_) => inner.push(merge_parts(alloc, files, part, caps)?)?,
+                }
+            }
+            merge_node(alloc, files, parts, &inner, caps)
+        }
+    }
+}
+
+/// The program of all classes of the files that a plan names. Each node of the plan is merged by itself.
+///
+/// Error: `BadPlan`, first of all, exactly where the plan names a file that there is not, or does not name one that
+/// there is, or is deeper than 64. Else `Merge` with a cause that is true of the classes of all files; where the plan
+/// is a leaf or a node of leaves it is the one that `merge` tells.
+pub fn merge_plan<'a>(
+    alloc: Global,
+    files: &[Program<'a>],
+    plan: &Plan,
+    caps: &Caps,
+) -> Result<Program<'a>, PlanFault>
+    ensures merged { IfOk result (IsPlanned caps.now files.now (plan_of plan.now)) }
+    ensures fault { IfErr result (IsPlanFault caps.now files.now (plan_of plan.now)) }
+{
+    if !is_plan_for(alloc, plan, files.len())? {
+        return Err(PlanFault::BadPlan);
+    }
+    match merge_parts(alloc, files, plan, caps) {
+        Ok(program) => Ok(program),
+        Err(fault) => Err(PlanFault::Merge(fault)),
+    }
+}

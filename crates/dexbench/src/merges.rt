@@ -2,9 +2,9 @@
 
 use crate::fault::BenchFault;
 use dexcanon::to_bytes;
+use dexclass::{Program, read};
 use dexhead::{Refusal, adler};
-use dexplain::{Program, read};
-use dexplain_merge::{Caps, MergeFault, merge};
+use dexmerge::{Caps, MergeFault, merge};
 use dexpool::ReadFault;
 use sha1::Sha1;
 use std::alloc::{AllocError, Global};

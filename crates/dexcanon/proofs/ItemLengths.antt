@@ -1,22 +1,21 @@
 -- The bytes of items.
-use Rattle.std.proofs.Common.{◌≡◌, ℕ, ◌+◌, ◌*◌, List, length, arith}
+use Rattle.std.proofs.Common.{◌≡◌, ℕ, ◌+◌, ◌*◌, List, ◌++◌, length, map, arith, ◌∙◌}
 use Rattle.std.specs.List.{flat_map}
 use Rattle.dexspec.specs.Bytes.{ushort, uint}
+use Rattle.dexspec.specs.Sections.{Section}
+use Rattle.dexspec.specs.Spellings.{offsets_bytes}
+use Rattle.dexspec.specs.Canonical.{map_bytes, map_entry_bytes}
 use Rattle.dexspec.proofs.ByteNumbers.{length-uint, length-ushort}
 use Rattle.dexspec.proofs.Stands.{length_rows}
-use Rattle.std.proofs.lemmas.List.{length-append}
-use Rattle.dexplain.specs.Numbered.{NumberedClass}
-use Rattle.dexcanon.specs.Bare.{list_bytes, class_row}
-use Rattle.dexcanon.proofs.ListUses.{length-list_bytes}
+use Rattle.dexhead.specs.declared.map_list.MapEntry.{MapEntry}
+use Rattle.dexhead.specs.Written.{entry_meant}
+use Rattle.std.proofs.lemmas.List.{length-append, length-map}
 
 pub length_numbers : (ns : List ℕ) → length (flat_map uint ns) ≡ 4 * length ns
 length_numbers ns = length_rows uint 4 length-uint ns
 
-pub length_indices : (ns : List ℕ) → length (flat_map ushort ns) ≡ 2 * length ns
-length_indices ns = length_rows ushort 2 length-ushort ns
-
-pub length_list : (ns : List ℕ) → length (list_bytes ns) ≡ 4 + 2 * length ns
-length_list ns = length-list_bytes ns
+pub length_offsets : (ns : List ℕ) → length (offsets_bytes ns) ≡ 4 + 4 * length ns
+length_offsets ns = length-append (uint (length ns)) (flat_map uint ns) ∙ omega (arith, length-uint (length ns), length_numbers ns)
 
 pub length_four : (n : ℕ) → length (uint n) ≡ 4
 length_four n = length-uint n
@@ -24,5 +23,16 @@ length_four n = length-uint n
 pub length_two : (n : ℕ) → length (ushort n) ≡ 2
 length_two n = length-ushort n
 
-pub length_class_row : (c : NumberedClass) (off : ℕ) → length (class_row c off) ≡ 32
-length_class_row c off = omega (arith, length-append {A = ℕ}, length-uint)
+pub length_member : (c n t : ℕ) → length (ushort c ++ (ushort n ++ uint t)) ≡ 8
+length_member c n t = omega (arith, length-append {A = ℕ}, length-uint, length-ushort)
+
+-- an entry has twelve bytes
+length-map_entry : (e : Section × ℕ × ℕ) → length (map_entry_bytes e) ≡ 12
+length-map_entry e = omega (arith, length-append {A = ℕ}, length-uint, length-ushort)
+
+-- and a map four more than its entries
+pub length-map_bytes : (es : List (Section × ℕ × ℕ)) → length (map_bytes es) ≡ 4 + 12 * length es
+length-map_bytes es = length-append (uint (length es)) (flat_map map_entry_bytes es) ∙ omega (arith, length-uint (length es), length_rows map_entry_bytes 12 length-map_entry es)
+
+pub length_entries : (es : List MapEntry) → length (map_bytes (map entry_meant es)) ≡ 4 + 12 * length es
+length_entries es = length-map_bytes (map entry_meant es) ∙ omega (arith, length-map es entry_meant)

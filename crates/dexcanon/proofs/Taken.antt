@@ -1,10 +1,14 @@
 -- What stood in the vector is taken.
-use Rattle.std.proofs.Common.{◌≡◌, ℕ, ◌+◌, List, [], ◌++◌, length, take, Result, Ok, Err, OnErr, refl, sym, ap, subst, ◌∙◌, append_assoc}
+use Rattle.std.proofs.Common.{◌≡◌, ℕ, ◌+◌, List, [], ◌++◌, Bool, true, length, take, Result, Ok, Err, OnErr, IsErr, IsErrAnd, refl, sym, ap, subst, ◌∙◌, append_assoc}
+use Rattle.std.specs.Global.{Vec}
 use Rattle.std.proofs.lemmas.List.{append-nil}
 use Rattle.std.proofs.Math.Seq.{take-append-add}
 use Rattle.std.proofs.lemmas.Grind.{fold-append}
 use Rattle.dexspec.specs.Header.{adler_step, adler_sums}
-use Rattle.dexcanon.specs.Taking.{HasMade, HasFront}
+use Rattle.dexcanon.specs.declared.faults.StoreFault.{StoreFault}
+use Rattle.dexcanon.specs.declared.faults.StoreFault.TheVariants.{Memory, Io}
+use Rattle.dexcanon.specs.Taking.{HasMade, HasFront, Outcome}
+use Rattle.dexcanon.proofs.Made.{front_more}
 
 -- the item went to what the state has taken
 pub goes : {S : Type 0} (holds : S → List ℕ → Type 0) (s t : S) (item left : List ℕ) → left ≡ [] → ((b : List ℕ) → holds s b → holds t (b ++ item))
@@ -38,3 +42,13 @@ front_taken same before f = (f.0, rw (f.1, same, before) refl)
 pub on_err : {T E P : Type 0} (r : Result T E) → P → OnErr r P
 on_err (Ok _) p = tt
 on_err (Err _) p = p
+
+-- a state that failed before x has taken a front of what is made with x
+pub breaks_before : {S T : Type 0} {holds : S → List ℕ → Type 0} {has_failed : S → Bool} {empties : Bool} {limit : ℕ} {s t : S} {v w : Vec ℕ} (x : List ℕ) (r : Result T StoreFault)
+    → ((base m : List ℕ) → HasMade holds base s v.items m → HasFront holds base t m) → has_failed t ≡ true → IsErr r → IsErrAnd r (λ f. f ≡ Io) → Outcome holds has_failed empties limit s v t w x r
+breaks_before x (Ok _) front fails is and = absurd and
+breaks_before x (Err e) front fails is and = record {
+  ok = tt;
+  io = λ same. record { front = λ base m h. front_more x (front base m h); fails = fails };
+  memory = λ same room. absurd (let here : e ≡ Memory = cc in let never : Memory ≡ Io = sym here ∙ and in cc);
+}

@@ -1,4 +1,12 @@
-pub mod Written
-pub mod Bare
-pub mod Laid
+pub mod Annotations
+pub mod ClassItems
+pub mod ClassRows
+pub mod Codes
+pub mod Directories
+pub mod Ready
+pub mod RefLists
+pub mod Sets
 pub mod Taking
+pub mod TypeLists
+pub mod ValueItems
+pub mod Written

@@ -1,5 +1,5 @@
--- Bytes that go item by item through a vector into a state.
-use Rattle.std.specs.Prelude.{◌≡◌, ℕ, ◌≤◌, List, ◌++◌, Bool, true, false, take, Result, Err, OnOk, vec_len, vec_capacity}
+-- Bytes that gather in a vector, item by item, and are taken into a state when it is full.
+use Rattle.std.specs.Prelude.{◌≡◌, ℕ, ◌≤◌, List, ◌++◌, Bool, true, false, length, take, All, Result, Err, OnOk, vec_len, vec_capacity}
 use Rattle.std.specs.Global.{Vec}
 use Rattle.dexcanon.specs.declared.faults.StoreFault.{StoreFault}
 use Rattle.dexcanon.specs.declared.faults.StoreFault.TheVariants.{Memory, Io}
@@ -15,17 +15,17 @@ pub record HasFront {S : Type 0} (holds : S → List ℕ → Type 0) (base : Lis
   pub count : ℕ
   pub held : holds s (base ++ take count m)
 
--- there is room for an item in a vector that is empty before each
-pub record HasRoom (empties : Bool) (greatest : ℕ) (v : Vec ℕ) : Type 0 where
+-- no more than the limit has gathered, for which there is room, and it can be taken
+pub record HasRoom (empties : Bool) (limit : ℕ) (v : Vec ℕ) : Type 0 where
   pub emptied : empties ≡ true
-  pub empty : vec_len v ≡ 0
-  pub enough : greatest ≤ vec_capacity v
+  pub gathered : vec_len v ≤ limit
+  pub enough : limit ≤ vec_capacity v
 
 -- x was added
-pub record Adds {S : Type 0} (holds : S → List ℕ → Type 0) (has_failed : S → Bool) (empties : Bool) (greatest : ℕ) (s : S) (v : Vec ℕ) (t : S) (w : Vec ℕ) (x : List ℕ) : Type 0 where
+pub record Adds {S : Type 0} (holds : S → List ℕ → Type 0) (has_failed : S → Bool) (empties : Bool) (limit : ℕ) (s : S) (v : Vec ℕ) (t : S) (w : Vec ℕ) (x : List ℕ) : Type 0 where
   pub made : (base m : List ℕ) → HasMade holds base s v.items m → HasMade holds base t w.items (m ++ x)
   pub works : has_failed t ≡ false
-  pub room : HasRoom empties greatest v → HasRoom empties greatest w
+  pub room : HasRoom empties limit v → HasRoom empties limit w
 
 -- the state failed in the midst of x
 pub record Breaks {S : Type 0} (holds : S → List ℕ → Type 0) (has_failed : S → Bool) (s : S) (v : Vec ℕ) (t : S) (x : List ℕ) : Type 0 where
@@ -33,7 +33,11 @@ pub record Breaks {S : Type 0} (holds : S → List ℕ → Type 0) (has_failed :
   pub fails : has_failed t ≡ true
 
 -- x was added, or it was not and the state failed, or memory was wanting, as it is not where there is room
-pub record Outcome {S : Type 0} (holds : S → List ℕ → Type 0) (has_failed : S → Bool) (empties : Bool) (greatest : ℕ) (s : S) (v : Vec ℕ) (t : S) (w : Vec ℕ) (x : List ℕ) (r : Result (Unit {0}) StoreFault) : Type 0 where
-  pub ok : OnOk r (Adds holds has_failed empties greatest s v t w x)
+pub record Outcome {S T : Type 0} (holds : S → List ℕ → Type 0) (has_failed : S → Bool) (empties : Bool) (limit : ℕ) (s : S) (v : Vec ℕ) (t : S) (w : Vec ℕ) (x : List ℕ) (r : Result T StoreFault) : Type 0 where
+  pub ok : OnOk r (Adds holds has_failed empties limit s v t w x)
   pub io : r ≡ Err Io → Breaks holds has_failed s v t x
-  pub memory : r ≡ Err Memory → HasRoom empties greatest v → ⊥
+  pub memory : r ≡ Err Memory → HasRoom empties limit v → ⊥
+
+-- none of the items is longer than the limit
+abbrev pub AreWithin : ℕ → List (List ℕ) → Type 0
+AreWithin limit items = All (λ x. length x ≤ limit) items

@@ -1,53 +1,51 @@
-//! A file from a place in its header on, item by item.
+//! A file from a place in its header on.
 
-ghost use Rattle.std.specs.Prelude.{◌≡◌, ℕ, ◌≤◌, ◌++◌, false, drop, vec_len};
+ghost use Rattle.std.specs.Prelude.{◌≡◌, ◌<◌, ◌≤◌, ◌++◌, false, true, drop, vec_len, vec_capacity, OnOk, OnErr};
+ghost use Rattle.dexhead.specs.Laid.{behind_header};
 ghost use Rattle.dexhead.specs.Written.{head_bytes};
-ghost use Rattle.dexcanon.specs.Laid.{IsLaid, HaveNumbers, body_bytes};
+ghost use Rattle.dexlayout.specs.Laid.{ordered_of};
+ghost use Rattle.dexcanon.specs.Ready.{IsReady};
 ghost use Rattle.dexcanon.specs.Taking.{Outcome};
 
+use crate::body::put_body;
 use crate::faults::StoreFault;
-use crate::layout::Layout;
-use crate::sections::put_body;
+use crate::sections::Contents;
 use crate::taking::Takes;
 use dexhead::Head;
-use dexplain::Class;
-use dexpool::Numbering;
+use std::alloc::AllocError;
 
-// A header from a place in it on, through a vector that is empty.
-fn put_head<S, M: Takes<S>>(
-    head: &Head,
-    from: usize,
-    item: &mut Vec<u8>,
-    state: &mut S,
-) -> Result<(), StoreFault>
-    requires works { M.has_failed state.old ≡ false }
+// A header from a place in it on, into a vector that is empty.
+fn put_head(head: &Head, from: usize, gathered: &mut Vec<u8>) -> Result<(), AllocError>
     requires within { from ≤ 112 }
-    requires empty { vec_len item.old ≡ 0 }
-    ensures { (greatest : ℕ) → 112 ≤ greatest → Outcome M.holds M.has_failed M.empties greatest state.old item.old state.new item.new (drop from (head_bytes head.now)) result }
+    requires empty { vec_len gathered.old ≡ 0 }
+    ensures items { OnOk result (gathered.new.items ≡ drop from (head_bytes head.now)) }
+    ensures len { OnOk result (vec_len gathered.new ≤ 112) }
+    ensures room { OnErr result (vec_capacity gathered.old < 112) }
+    ensures capacity { OnOk result (vec_capacity gathered.old ≤ vec_capacity gathered.new) }
 {
-    head.put(item)?;
-    item.drain(..from);
-    M::take(state, item)?;
+    head.put(gathered)?;
+    gathered.drain(..from);
     Ok(())
 }
 
-/// The file with a header, from a place in the header on, through a vector that is empty.
+/// The file with a header, from a place in the header on, through a vector that is empty. All of it is taken.
 pub(crate) fn put_file<S, M: Takes<S>>(
     head: &Head,
     from: usize,
-    numbering: &Numbering<'_>,
-    classes: &[Class],
-    layout: &Layout,
-    item: &mut Vec<u8>,
+    contents: &Contents<'_, '_, '_, '_>,
+    limit: usize,
+    gathered: &mut Vec<u8>,
     state: &mut S,
 ) -> Result<(), StoreFault>
     requires works { M.has_failed state.old ≡ false }
     requires within { from ≤ 112 }
-    requires empty { vec_len item.old ≡ 0 }
-    requires laid { IsLaid numbering.now.texts numbering.now.types classes.now layout.now }
-    requires numbers { HaveNumbers numbering.now.texts numbering.now.types classes.now }
-    ensures { Outcome M.holds M.has_failed M.empties layout.now.greatest state.old item.old state.new item.new (drop from (head_bytes head.now) ++ body_bytes numbering.now classes.now layout.now) result }
+    requires empty { vec_len gathered.old ≡ 0 }
+    requires ready { IsReady contents.now.numbering.now contents.now.classes.now contents.now.layout.now limit }
+    ensures outcome { Outcome M.holds M.has_failed M.empties limit state.old gathered.old state.new gathered.new (drop from (head_bytes head.now) ++ behind_header (ordered_of contents.now.numbering.now contents.now.classes.now)) result }
+    ensures emptied { OnOk result (M.empties ≡ true → vec_len gathered.new ≡ 0) }
 {
-    put_head::<S, M>(head, from, item, state)?;
-    put_body::<S, M>(numbering, classes, layout, item, state)
+    put_head(head, from, gathered)?;
+    put_body::<S, M>(contents, limit, gathered, state)?;
+    M::take(state, gathered)?;
+    Ok(())
 }

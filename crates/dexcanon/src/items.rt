@@ -1,13 +1,13 @@
 //! Items of a file that is written.
 
-ghost use Rattle.std.specs.Prelude.{◌≡◌, ℕ, ◌+◌, ◌*◌, ◌^◌, ◌<◌, ◌≤◌, List, ◌++◌, length, map, replicate, All, vec_len, vec_capacity};
+ghost use Rattle.std.specs.Prelude.{◌≡◌, ℕ, ◌+◌, ◌*◌, ◌^◌, ◌<◌, ◌≤◌, List, ◌++◌, length, map, replicate, vec_len, vec_capacity};
 ghost use Rattle.std.specs.List.{flat_map};
 ghost use Rattle.dexspec.specs.Bytes.{ushort, uint};
 ghost use Rattle.dexspec.specs.Texts.{string_data};
 ghost use Rattle.dexspec.specs.Canonical.{map_bytes};
+ghost use Rattle.dexspec.specs.Spellings.{offsets_bytes};
 ghost use Rattle.dexspec.specs.Aside.Writing.{Puts};
 ghost use Rattle.dexhead.specs.Written.{entry_meant};
-ghost use Rattle.dexcanon.specs.Bare.{list_bytes};
 
 use dexhead::{MapEntry, MapList, put_u16, put_u32};
 use dexstr::{Text, put_text};
@@ -20,6 +20,11 @@ pub(crate) trait Item {
 
     // Its numbers fit.
     ghost fits: { Self → Type 0 };
+
+    /// How many bytes it has. No memory is taken.
+    fn len(&self) -> usize
+        requires { fits self.now }
+        ensures { result ≡ length (bytes self.now) };
 
     /// Appends its bytes. It fails only for want of memory, and not where there is room for them; the vector is then
     /// as it was.
@@ -36,13 +41,21 @@ pub(crate) struct Number(pub(crate) u32);
 #[derive(Drop)]
 pub(crate) struct Numbers<'a>(pub(crate) &'a [u32]);
 
+/// The row of a field or of a method: the number of its class, that of its type or of its proto, and that of its name.
+#[derive(Drop)]
+pub(crate) struct MemberRow {
+    pub(crate) class: u16,
+    pub(crate) second: u16,
+    pub(crate) name: u32,
+}
+
+/// A count and offsets: an annotation_set_item or an annotation_set_ref_list.
+#[derive(Drop)]
+pub(crate) struct OffsetList<'a>(pub(crate) &'a [u32]);
+
 /// Zeros that align what follows them.
 #[derive(Drop)]
 pub(crate) struct Zeros(pub(crate) usize);
-
-/// A type_list.
-#[derive(Drop)]
-pub(crate) struct TypeList<'a>(pub(crate) &'a [usize]);
 
 /// A string_data_item.
 #[derive(Drop)]
@@ -52,26 +65,26 @@ pub(crate) struct StringData<'a>(pub(crate) &'a Text<'a>);
 #[derive(Drop)]
 pub(crate) struct Entries<'a>(pub(crate) &'a [MapEntry]);
 
-// Appends a number of four bytes where there is room for it.
-#[tactic(auto, using(crate::proofs::ItemLengths::length_four))]
-fn push_u32(number: u32, out: &mut Vec<u8>)
-    requires { vec_len out.old + 4 ≤ vec_capacity out.old }
-    ensures items { out.new.items ≡ out.old.items ++ uint number }
-    ensures len { vec_len out.new ≡ vec_len out.old + 4 }
-    ensures capacity { vec_capacity out.old ≤ vec_capacity out.new }
-{
-    put_u32(number, out).unwrap();
-}
-
 // Appends a number of two bytes where there is room for it.
 #[tactic(auto, using(crate::proofs::ItemLengths::length_two))]
-fn push_u16(number: u16, out: &mut Vec<u8>)
+pub(crate) fn push_u16(number: u16, out: &mut Vec<u8>)
     requires { vec_len out.old + 2 ≤ vec_capacity out.old }
     ensures items { out.new.items ≡ out.old.items ++ ushort number }
     ensures len { vec_len out.new ≡ vec_len out.old + 2 }
     ensures capacity { vec_capacity out.old ≤ vec_capacity out.new }
 {
     put_u16(number, out).unwrap();
+}
+
+// Appends a number of four bytes where there is room for it.
+#[tactic(auto, using(crate::proofs::ItemLengths::length_four))]
+pub(crate) fn push_u32(number: u32, out: &mut Vec<u8>)
+    requires { vec_len out.old + 4 ≤ vec_capacity out.old }
+    ensures items { out.new.items ≡ out.old.items ++ uint number }
+    ensures len { vec_len out.new ≡ vec_len out.old + 4 }
+    ensures capacity { vec_capacity out.old ≤ vec_capacity out.new }
+{
+    put_u32(number, out).unwrap();
 }
 
 // Appends numbers of four bytes each where there is room for them.
@@ -86,23 +99,15 @@ fn push_numbers(numbers: &[u32], out: &mut Vec<u8>)
     }
 }
 
-// Appends numbers of two bytes each where there is room for them.
-fn push_indices(indices: &[usize], out: &mut Vec<u8>)
-    requires few { All (λ i. i < 65536) indices.now }
-    requires room { vec_len out.old + 2 * length indices.now ≤ vec_capacity out.old }
-    ensures items { out.new.items ≡ out.old.items ++ flat_map ushort indices.now }
-    ensures len { vec_len out.new ≡ vec_len out.old + 2 * length indices.now }
-    ensures capacity { vec_capacity out.old ≤ vec_capacity out.new }
-{
-    for index in indices {
-        push_u16(*index as u16, out);
-    }
-}
-
 impl Item for Number {
     ghost bytes = { λ n. uint n.0 };
 
     ghost fits = { λ n. Unit {0} };
+
+    #[tactic(auto, using(crate::proofs::ItemLengths::length_four))]
+    fn len(&self) -> usize {
+        4
+    }
 
     fn put(&self, out: &mut Vec<u8>) -> Result<(), AllocError> {
         put_u32(self.0, out)
@@ -115,8 +120,52 @@ impl Item for Numbers<'_> {
     ghost fits = { λ n. length n.0.now < 2 ^ 32 };
 
     #[tactic(auto, using(crate::proofs::ItemLengths::length_numbers))]
+    fn len(&self) -> usize {
+        4 * self.0.len()
+    }
+
+    #[tactic(auto, using(crate::proofs::ItemLengths::length_numbers))]
     fn put(&self, out: &mut Vec<u8>) -> Result<(), AllocError> {
         out.reserve(4 * self.0.len())?;
+        push_numbers(self.0, out);
+        Ok(())
+    }
+}
+
+impl Item for MemberRow {
+    ghost bytes = { λ r. ushort r.class ++ (ushort r.second ++ uint r.name) };
+
+    ghost fits = { λ r. Unit {0} };
+
+    #[tactic(auto, using(crate::proofs::ItemLengths::length_member))]
+    fn len(&self) -> usize {
+        8
+    }
+
+    #[tactic(auto, using(crate::proofs::ItemLengths::length_member))]
+    fn put(&self, out: &mut Vec<u8>) -> Result<(), AllocError> {
+        out.reserve(8)?;
+        push_u16(self.class, out);
+        push_u16(self.second, out);
+        push_u32(self.name, out);
+        Ok(())
+    }
+}
+
+impl Item for OffsetList<'_> {
+    ghost bytes = { λ n. offsets_bytes n.0.now };
+
+    ghost fits = { λ n. length n.0.now < 2 ^ 32 };
+
+    #[tactic(auto, using(crate::proofs::ItemLengths::length_offsets))]
+    fn len(&self) -> usize {
+        4 + 4 * self.0.len()
+    }
+
+    #[tactic(auto, using(crate::proofs::ItemLengths::length_offsets))]
+    fn put(&self, out: &mut Vec<u8>) -> Result<(), AllocError> {
+        out.reserve(4 + 4 * self.0.len())?;
+        push_u32(self.0.len() as u32, out);
         push_numbers(self.0, out);
         Ok(())
     }
@@ -127,23 +176,13 @@ impl Item for Zeros {
 
     ghost fits = { λ n. n.0 ≤ 3 };
 
+    fn len(&self) -> usize {
+        self.0
+    }
+
     fn put(&self, out: &mut Vec<u8>) -> Result<(), AllocError> {
         let zeros = [0; 3];
         out.extend_from_slice(&zeros[..self.0])
-    }
-}
-
-impl Item for TypeList<'_> {
-    ghost bytes = { λ l. list_bytes l.0.now };
-
-    ghost fits = { λ l. (length l.0.now < 2 ^ 31) × All (λ i. i < 65536) l.0.now };
-
-    #[tactic(auto, using(crate::proofs::ItemLengths::length_list))]
-    fn put(&self, out: &mut Vec<u8>) -> Result<(), AllocError> {
-        out.reserve(4 + 2 * self.0.len())?;
-        push_numbers(&[self.0.len() as u32], out);
-        push_indices(self.0, out);
-        Ok(())
     }
 }
 
@@ -151,6 +190,10 @@ impl Item for StringData<'_> {
     ghost bytes = { λ s. string_data s.0.now };
 
     ghost fits = { λ s. Unit {0} };
+
+    fn len(&self) -> usize {
+        self.0.item_len()
+    }
 
     fn put(&self, out: &mut Vec<u8>) -> Result<(), AllocError> {
         put_text(self.0, out)
@@ -161,6 +204,11 @@ impl Item for Entries<'_> {
     ghost bytes = { λ m. map_bytes (map entry_meant m.0.now) };
 
     ghost fits = { λ m. length m.0.now < 2 ^ 32 };
+
+    #[tactic(auto, using(crate::proofs::ItemLengths::length_entries))]
+    fn len(&self) -> usize {
+        4 + 12 * self.0.len()
+    }
 
     fn put(&self, out: &mut Vec<u8>) -> Result<(), AllocError> {
         MapList { entries: self.0 }.put(out)

@@ -1,15 +1,15 @@
-//! Items that stay in their vector.
+//! Bytes that stay in their vector.
 
 ghost use Rattle.std.specs.Prelude.{◌≡◌, [], false};
 
 use crate::taking::Takes;
 use dexhead::DeviceFault;
 
-/// A state of nothing: items stay in the vector.
+/// A state of nothing: bytes stay in the vector.
 #[derive(Drop)]
 pub(crate) struct Nothing;
 
-/// Leaves each item where it is.
+/// Leaves all bytes where they are.
 pub(crate) struct Keeps;
 
 impl Takes<Nothing> for Keeps {
@@ -19,7 +19,7 @@ impl Takes<Nothing> for Keeps {
 
     ghost empties = { false };
 
-    fn take(_state: &mut Nothing, _item: &mut Vec<u8>) -> Result<(), DeviceFault> {
+    fn take(_state: &mut Nothing, _gathered: &mut Vec<u8>) -> Result<(), DeviceFault> {
         Ok(())
     }
 }

@@ -4,17 +4,32 @@
 //! project's rule.
 #![tactic(auto)]
 
+mod annotation_sections;
+mod annotations;
+mod body;
+mod class_data;
+mod class_defs;
+mod codes;
+mod debugs;
+mod directories;
 mod faults;
 mod files;
 mod items;
+mod joined;
 mod kept;
-mod layout;
 mod makings;
+mod map;
 mod outputs;
+mod ref_lists;
 mod sections;
+mod sets;
+mod static_values;
+mod strings;
+mod tables;
 mod taking;
+mod type_lists;
+mod value_items;
 mod writing;
 
 pub use faults::StoreFault;
-pub use layout::Layout;
 pub use writing::{to_bytes, write_to};

@@ -1,6 +1,6 @@
-//! Ways to take the items of a file one at a time: into its signature, into its checksum, and to a writer.
+//! Ways to take the bytes of a file: into its two sums, and to a writer.
 
-ghost use Rattle.std.specs.Prelude.{◌≡◌, false, true};
+ghost use Rattle.std.specs.Prelude.{◌≡◌, ◌+◌, length, false, true};
 ghost use Rattle.sha1.specs.Sha1.{Holds};
 ghost use Rattle.dexspec.specs.Header.{adler_sums};
 
@@ -9,39 +9,30 @@ use crate::taking::Takes;
 use dexhead::{Adler, DeviceFault, Sink};
 use sha1::Sha1;
 
-/// Takes items into the message of a signature.
-pub(crate) struct Hashes;
-
-/// Takes items into the sums of a checksum.
-pub(crate) struct Sums;
-
-/// Takes items to a writer.
-pub(crate) struct Writes;
-
-impl Takes<Sha1> for Hashes {
-    ghost holds = { Holds };
-
-    ghost has_failed = { λ _. false };
-
-    ghost empties = { true };
-
-    fn take(message: &mut Sha1, item: &mut Vec<u8>) -> Result<(), DeviceFault> {
-        message.update(item);
-        item.clear();
-        Ok(())
-    }
+/// What the two sums of a file are made of: the message of the signature, and the checksum of the same bytes.
+#[derive(Drop)]
+pub(crate) struct Sums {
+    pub(crate) message: Sha1,
+    pub(crate) adler: Adler,
 }
 
-impl Takes<Adler> for Sums {
-    ghost holds = { λ sums bytes. sums ≡ adler_sums (1, 0) bytes };
+/// Takes bytes into the two sums.
+pub(crate) struct Adds;
+
+/// Takes bytes to a writer.
+pub(crate) struct Writes;
+
+impl Takes<Sums> for Adds {
+    ghost holds = { λ sums bytes. Holds sums.message bytes × (sums.adler ≡ adler_sums (1, 0) bytes) };
 
     ghost has_failed = { λ _. false };
 
     ghost empties = { true };
 
-    fn take(sums: &mut Adler, item: &mut Vec<u8>) -> Result<(), DeviceFault> {
-        sums.update(item);
-        item.clear();
+    fn take(sums: &mut Sums, gathered: &mut Vec<u8>) -> Result<(), DeviceFault> {
+        sums.message.update(gathered);
+        sums.adler.update(gathered);
+        gathered.clear();
         Ok(())
     }
 }
@@ -53,9 +44,9 @@ impl<W: Sink> Takes<W> for Writes {
 
     ghost empties = { true };
 
-    fn take(out: &mut W, item: &mut Vec<u8>) -> Result<(), DeviceFault> {
-        write_whole(out, item)?;
-        item.clear();
+    fn take(out: &mut W, gathered: &mut Vec<u8>) -> Result<(), DeviceFault> {
+        write_whole(out, gathered)?;
+        gathered.clear();
         Ok(())
     }
 }

@@ -1,197 +1,140 @@
-//! The sections of a file behind its header, item by item.
+//! The sections of a file behind its header.
 
-ghost use Rattle.std.specs.Prelude.{◌≡◌, ◌+◌, ◌*◌, ◌^◌, ◌<◌, ◌≤◌, ◌++◌, All, IfSome, unwrap_or, false, length, map, zip};
-ghost use Rattle.std.specs.List.{flat_map, concat};
-ghost use Rattle.dexspec.specs.Lists.{zip_with};
-ghost use Rattle.dexspec.specs.Bytes.{uint, padding};
-ghost use Rattle.dexspec.specs.Texts.{string_data};
-ghost use Rattle.dexspec.specs.Spellings.{text_index};
-ghost use Rattle.dexspec.specs.Classes.{no_index};
-ghost use Rattle.dexspec.specs.Canonical.{map_bytes};
-ghost use Rattle.dexhead.specs.Written.{entry_meant};
-ghost use Rattle.dexplain.specs.Marking.{IsInRange};
-ghost use Rattle.dexpool.specs.Numberings.{IsNumbering};
-ghost use Rattle.dexspec.specs.Placing.{bytes_from, end_from};
-ghost use Rattle.dexcanon.specs.Bare.{lists_of, AreFirsts, class_row, data_from, bare_mentions, bare_rows, bare_data};
-ghost use Rattle.dexcanon.specs.Laid.{IsLaid, HasSmallNumbers, HasFewIndices, HaveNumbers, body_bytes};
+ghost use Rattle.std.specs.Prelude.{◌≡◌, false};
+ghost use Rattle.dexspec.specs.Placing.{section_bytes};
+ghost use Rattle.dexspec.specs.Canonical.{type_list_section, annotation_section, array_section, string_section, debug_section, code_section, class_data_section};
+ghost use Rattle.dexlayout.specs.Laid.{ordered_of};
+ghost use Rattle.dexcanon.specs.Ready.{IsReady};
 ghost use Rattle.dexcanon.specs.Taking.{Outcome};
 
+use crate::class_data::put_class_data;
+use crate::codes::put_codes;
+use crate::debugs::put_debugs;
 use crate::faults::StoreFault;
-use crate::items::{Entries, Number, Numbers, StringData, TypeList, Zeros};
-use crate::layout::{Layout, round_up};
-use crate::taking::{Takes, pass};
-use dexplain::Class;
-use dexpool::{Numbering, SymbolKind};
+use crate::static_values::put_static_values;
+use crate::strings::put_strings;
+use crate::taking::Takes;
+use crate::type_lists::put_type_lists;
+use dexclass::Class;
+use dexlayout::Layout;
+use dexpool::Numbering;
 
-// The rows of the texts.
-fn put_string_ids<S, M: Takes<S>>(
-    layout: &Layout,
-    item: &mut Vec<u8>,
+/// What a file is made of: its classes by number, and where everything stands.
+#[derive(Clone, Copy)]
+pub(crate) struct Contents<'a, 'n, 'c, 'l> {
+    pub(crate) numbering: &'a Numbering<'n>,
+    pub(crate) classes: &'a [Class<'c>],
+    pub(crate) layout: &'a Layout<'l>,
+}
+
+/// The type lists.
+pub(crate) fn type_lists<S, M: Takes<S>>(
+    contents: &Contents<'_, '_, '_, '_>,
+    limit: usize,
+    gathered: &mut Vec<u8>,
     state: &mut S,
 ) -> Result<(), StoreFault>
     requires works { M.has_failed state.old ≡ false }
-    requires least { 112 ≤ layout.now.greatest }
-    ensures { Outcome M.holds M.has_failed M.empties layout.now.greatest state.old item.old state.new item.new (flat_map uint layout.now.strings.items) result }
+    requires ready { IsReady contents.now.numbering.now contents.now.classes.now contents.now.layout.now limit }
+    ensures { Outcome M.holds M.has_failed M.empties limit state.old gathered.old state.new gathered.new (section_bytes (type_list_section (ordered_of contents.now.numbering.now contents.now.classes.now))) result }
 {
-    for off in &layout.strings {
-        pass::<Number, S, M>(&Number(*off), item, state)?;
-    }
-    Ok(())
+    let lists = contents.layout.type_lists();
+    let from = contents.layout.head().data_off;
+    put_type_lists::<S, M>(
+        contents.numbering,
+        lists.written(),
+        from,
+        limit,
+        gathered,
+        state,
+    )
 }
 
-// The data of the texts.
-fn put_strings<S, M: Takes<S>>(
-    numbering: &Numbering<'_>,
-    layout: &Layout,
-    item: &mut Vec<u8>,
+/// The arrays of static values.
+pub(crate) fn static_values<S, M: Takes<S>>(
+    contents: &Contents<'_, '_, '_, '_>,
+    limit: usize,
+    gathered: &mut Vec<u8>,
     state: &mut S,
 ) -> Result<(), StoreFault>
     requires works { M.has_failed state.old ≡ false }
-    requires bound { All (λ s. length (string_data s) ≤ layout.now.greatest) numbering.now.texts }
-    ensures { Outcome M.holds M.has_failed M.empties layout.now.greatest state.old item.old state.new item.new (flat_map string_data numbering.now.texts) result }
+    requires ready { IsReady contents.now.numbering.now contents.now.classes.now contents.now.layout.now limit }
+    ensures { Outcome M.holds M.has_failed M.empties limit state.old gathered.old state.new gathered.new (section_bytes (array_section (ordered_of contents.now.numbering.now contents.now.classes.now))) result }
 {
-    let _greatest = layout.greatest;
-    for i in 0..numbering.count(SymbolKind::Text) {
-        pass::<StringData, S, M>(&StringData(numbering.string(i)), item, state)?;
-    }
-    Ok(())
+    let _layout = contents.layout;
+    put_static_values::<S, M>(contents.numbering, contents.classes, limit, gathered, state)
 }
 
-// The rows of the types.
-fn put_type_ids<S, M: Takes<S>>(
-    numbering: &Numbering<'_>,
-    layout: &Layout,
-    item: &mut Vec<u8>,
+/// The texts.
+pub(crate) fn strings<S, M: Takes<S>>(
+    contents: &Contents<'_, '_, '_, '_>,
+    limit: usize,
+    gathered: &mut Vec<u8>,
     state: &mut S,
 ) -> Result<(), StoreFault>
     requires works { M.has_failed state.old ≡ false }
-    requires least { 112 ≤ layout.now.greatest }
-    requires few { length numbering.now.texts < 2 ^ 32 }
-    ensures { Outcome M.holds M.has_failed M.empties layout.now.greatest state.old item.old state.new item.new (flat_map (λ t. uint (text_index numbering.now t)) numbering.now.types) result }
+    requires ready { IsReady contents.now.numbering.now contents.now.classes.now contents.now.layout.now limit }
+    ensures { Outcome M.holds M.has_failed M.empties limit state.old gathered.old state.new gathered.new (section_bytes (string_section (ordered_of contents.now.numbering.now contents.now.classes.now))) result }
 {
-    let _greatest = layout.greatest;
-    numbering.is_numbering();
-    dexpool::number_law();
-    for i in 0..numbering.count(SymbolKind::Typ) {
-        let row = Number(numbering.descriptor(i) as u32);
-        pass::<Number, S, M>(&row, item, state)?;
-    }
-    Ok(())
+    put_strings::<S, M>(contents.numbering, limit, gathered, state)
 }
 
-// The numbers of a class row.
-fn class_numbers(class: &Class, list_off: u32) -> [u32; 8]
-    requires { HasSmallNumbers class.now }
-    ensures { flat_map uint result ≡ class_row class.now list_off }
-{
-    let superclass = index(class.superclass());
-    let source = index(class.source());
-    [
-        class.name() as u32,
-        class.flags(),
-        superclass,
-        list_off,
-        source,
-        0,
-        0,
-        0,
-    ]
-}
-
-// A number, or the index that names nothing.
-fn index(number: Option<usize>) -> u32
-    requires { IfSome number (λ n. n < 2 ^ 32) }
-    ensures { result ≡ unwrap_or number no_index }
-{
-    match number {
-        Some(number) => number as u32,
-        None => 0xffff_ffff,
-    }
-}
-
-// The rows of the classes.
-fn put_class_defs<S, M: Takes<S>>(
-    classes: &[Class],
-    layout: &Layout,
-    item: &mut Vec<u8>,
+/// The debug programs.
+pub(crate) fn debugs<S, M: Takes<S>>(
+    contents: &Contents<'_, '_, '_, '_>,
+    limit: usize,
+    gathered: &mut Vec<u8>,
     state: &mut S,
 ) -> Result<(), StoreFault>
     requires works { M.has_failed state.old ≡ false }
-    requires least { 112 ≤ layout.now.greatest }
-    requires small { All HasSmallNumbers classes.now }
-    requires lists { length layout.now.lists.items ≡ length classes.now }
-    ensures { Outcome M.holds M.has_failed M.empties layout.now.greatest state.old item.old state.new item.new (flat_map (λ p. class_row p.0 p.1) (zip classes.now layout.now.lists.items)) result }
+    requires ready { IsReady contents.now.numbering.now contents.now.classes.now contents.now.layout.now limit }
+    ensures { Outcome M.holds M.has_failed M.empties limit state.old gathered.old state.new gathered.new (section_bytes (debug_section (ordered_of contents.now.numbering.now contents.now.classes.now))) result }
 {
-    for r in 0..classes.len() {
-        let numbers = class_numbers(&classes[r], layout.lists[r]);
-        pass::<Numbers, S, M>(&Numbers(&numbers), item, state)?;
-    }
-    Ok(())
+    let written = contents.layout.debugs().written();
+    put_debugs::<S, M>(contents.numbering, written, limit, gathered, state)
 }
 
-// The type lists of the classes, from a place on.
-fn put_lists<S, M: Takes<S>>(
-    classes: &[Class],
-    layout: &Layout,
-    from: u32,
-    item: &mut Vec<u8>,
+/// The code.
+pub(crate) fn codes<S, M: Takes<S>>(
+    contents: &Contents<'_, '_, '_, '_>,
+    limit: usize,
+    gathered: &mut Vec<u8>,
     state: &mut S,
 ) -> Result<(), StoreFault>
     requires works { M.has_failed state.old ≡ false }
-    requires least { 112 ≤ layout.now.greatest }
-    requires firsts { AreFirsts classes.now layout.now.firsts.items }
-    requires bound { All (λ c. 7 + 2 * length c.interfaces ≤ layout.now.greatest) classes.now }
-    requires few { All HasFewIndices classes.now }
-    requires fits { end_from 4 from (lists_of classes.now) < 2 ^ 31 }
-    ensures { Outcome M.holds M.has_failed M.empties layout.now.greatest state.old item.old state.new item.new (bytes_from 4 from (lists_of classes.now)) result }
+    requires ready { IsReady contents.now.numbering.now contents.now.classes.now contents.now.layout.now limit }
+    ensures { Outcome M.holds M.has_failed M.empties limit state.old gathered.old state.new gathered.new (section_bytes (code_section (ordered_of contents.now.numbering.now contents.now.classes.now))) result }
 {
-    let _greatest = layout.greatest;
-    let mut at = from;
-    for r in &layout.firsts {
-        let types = classes[*r].interfaces();
-        let off = round_up(at);
-        pass::<Zeros, S, M>(&Zeros((off - at) as usize), item, state)?;
-        pass::<TypeList, S, M>(&TypeList(types), item, state)?;
-        at = off + 4 + 2 * types.len() as u32;
-    }
-    Ok(())
+    let debugs = contents.layout.debugs().places();
+    put_codes::<S, M>(
+        contents.numbering,
+        contents.classes,
+        debugs.offsets(),
+        debugs.end(),
+        limit,
+        gathered,
+        state,
+    )
 }
 
-// The map, from a place on.
-fn put_map<S, M: Takes<S>>(
-    layout: &Layout,
-    at: u32,
-    item: &mut Vec<u8>,
+/// The class data.
+pub(crate) fn class_data<S, M: Takes<S>>(
+    contents: &Contents<'_, '_, '_, '_>,
+    limit: usize,
+    gathered: &mut Vec<u8>,
     state: &mut S,
 ) -> Result<(), StoreFault>
     requires works { M.has_failed state.old ≡ false }
-    requires least { 112 ≤ layout.now.greatest }
-    requires fits { at < 2 ^ 31 }
-    requires few { length layout.now.entries.items ≤ 7 }
-    ensures { Outcome M.holds M.has_failed M.empties layout.now.greatest state.old item.old state.new item.new (padding 4 at ++ map_bytes (map entry_meant layout.now.entries.items)) result }
+    requires ready { IsReady contents.now.numbering.now contents.now.classes.now contents.now.layout.now limit }
+    ensures { Outcome M.holds M.has_failed M.empties limit state.old gathered.old state.new gathered.new (section_bytes (class_data_section (ordered_of contents.now.numbering.now contents.now.classes.now))) result }
 {
-    let zeros = Zeros((round_up(at) - at) as usize);
-    pass::<Zeros, S, M>(&zeros, item, state)?;
-    pass::<Entries, S, M>(&Entries(&layout.entries), item, state)
-}
-
-/// All that stands behind the header.
-pub(crate) fn put_body<S, M: Takes<S>>(
-    numbering: &Numbering<'_>,
-    classes: &[Class],
-    layout: &Layout,
-    item: &mut Vec<u8>,
-    state: &mut S,
-) -> Result<(), StoreFault>
-    requires works { M.has_failed state.old ≡ false }
-    requires laid { IsLaid numbering.now.texts numbering.now.types classes.now layout.now }
-    requires numbers { HaveNumbers numbering.now.texts numbering.now.types classes.now }
-    ensures { Outcome M.holds M.has_failed M.empties layout.now.greatest state.old item.old state.new item.new (body_bytes numbering.now classes.now layout.now) result }
-{
-    put_string_ids::<S, M>(layout, item, state)?;
-    put_type_ids::<S, M>(numbering, layout, item, state)?;
-    put_class_defs::<S, M>(classes, layout, item, state)?;
-    put_lists::<S, M>(classes, layout, layout.head.data_off, item, state)?;
-    put_strings::<S, M>(numbering, layout, item, state)?;
-    put_map::<S, M>(layout, layout.data_end, item, state)
+    let code_offs = contents.layout.codes().offsets();
+    put_class_data::<S, M>(
+        contents.numbering,
+        contents.classes,
+        code_offs,
+        limit,
+        gathered,
+        state,
+    )
 }

@@ -1,10 +1,11 @@
-//! Where the bytes of a file go, item by item.
+//! Where the bytes of a file go: they gather in a vector, item by item, and are taken when it is full.
 
-ghost use Rattle.std.specs.Prelude.{◌≡◌, ℕ, ◌≤◌, List, ◌++◌, [], Bool, true, false, OnOk, OnErr, IsErr, ◌↔◌, length, take, vec_len, vec_capacity};
+ghost use Rattle.std.specs.Prelude.{◌≡◌, ℕ, ◌+◌, ◌^◌, ◌<◌, ◌≤◌, List, ◌++◌, [], Bool, true, false, OnOk, OnErr, IfOk, IsErr, ◌↔◌, length, take, vec_len, vec_capacity};
+ghost use Rattle.dexspec.specs.Bytes.{round_up, padding};
 ghost use Rattle.dexcanon.specs.Taking.{HasMade, HasFront, HasRoom, Outcome};
 
 use crate::faults::StoreFault;
-use crate::items::Item;
+use crate::items::{Item, Zeros};
 use dexhead::DeviceFault;
 
 /// A way to take bytes into a state.
@@ -15,31 +16,95 @@ pub(crate) trait Takes<S> {
     // The state has failed.
     ghost has_failed: { S → Bool };
 
-    // Whether the vector of the next item is empty.
+    // Whether the vector is empty after what gathered in it was taken.
     ghost empties: { Bool };
 
-    /// Takes the item that stands in the vector, or leaves it there.
-    fn take(state: &mut S, item: &mut Vec<u8>) -> Result<(), DeviceFault>
+    /// Takes what gathered in the vector, or leaves it there.
+    fn take(state: &mut S, gathered: &mut Vec<u8>) -> Result<(), DeviceFault>
         requires { has_failed state.old ≡ false }
         ensures works { OnOk result (has_failed state.new ≡ false) }
         ensures fails { OnErr result (has_failed state.new ≡ true) }
-        ensures made { OnOk result ((base m : List ℕ) → HasMade holds base state.old item.old.items m → HasMade holds base state.new item.new.items m) }
-        ensures front { OnErr result ((base m : List ℕ) → HasMade holds base state.old item.old.items m → HasFront holds base state.new m) }
-        ensures emptied { OnOk result (empties ≡ true → vec_len item.new ≡ 0) }
-        ensures capacity { OnOk result (vec_capacity item.old ≤ vec_capacity item.new) };
+        ensures made { OnOk result ((base m : List ℕ) → HasMade holds base state.old gathered.old.items m → HasMade holds base state.new gathered.new.items m) }
+        ensures front { OnErr result ((base m : List ℕ) → HasMade holds base state.old gathered.old.items m → HasFront holds base state.new m) }
+        ensures emptied { OnOk result (empties ≡ true → vec_len gathered.new ≡ 0) }
+        ensures capacity { OnOk result (vec_capacity gathered.old ≤ vec_capacity gathered.new) };
 }
 
-/// Puts an item and takes it.
+/// Puts an item behind what gathered, which is taken before where the two are longer than the limit.
 pub(crate) fn pass<I: Item, S, M: Takes<S>>(
     part: &I,
-    item: &mut Vec<u8>,
+    limit: usize,
+    gathered: &mut Vec<u8>,
     state: &mut S,
 ) -> Result<(), StoreFault>
     requires fits { I.fits part.now }
     requires works { M.has_failed state.old ≡ false }
-    ensures { (greatest : ℕ) → length (I.bytes part.now) ≤ greatest → Outcome M.holds M.has_failed M.empties greatest state.old item.old state.new item.new (I.bytes part.now) result }
+    requires within { length (I.bytes part.now) ≤ limit }
+    ensures { Outcome M.holds M.has_failed M.empties limit state.old gathered.old state.new gathered.new (I.bytes part.now) result }
 {
-    part.put(item)?;
-    M::take(state, item)?;
+    make_room::<S, M>(part.len(), limit, gathered, state)?;
+    part.put(gathered)?;
     Ok(())
+}
+
+// Takes what gathered where so many bytes behind it are more than the limit.
+fn make_room<S, M: Takes<S>>(
+    len: usize,
+    limit: usize,
+    gathered: &mut Vec<u8>,
+    state: &mut S,
+) -> Result<(), DeviceFault>
+    requires works { M.has_failed state.old ≡ false }
+    requires within { len ≤ limit }
+    ensures works { OnOk result (M.has_failed state.new ≡ false) }
+    ensures fails { OnErr result (M.has_failed state.new ≡ true) }
+    ensures made { OnOk result ((base m : List ℕ) → HasMade M.holds base state.old gathered.old.items m → HasMade M.holds base state.new gathered.new.items m) }
+    ensures front { OnErr result ((base m : List ℕ) → HasMade M.holds base state.old gathered.old.items m → HasFront M.holds base state.new m) }
+    ensures room { OnOk result (HasRoom M.empties limit gathered.old → vec_len gathered.new + len ≤ limit) }
+    ensures capacity { OnOk result (vec_capacity gathered.old ≤ vec_capacity gathered.new) }
+{
+    if limit.saturating_sub(gathered.len()) < len {
+        M::take(state, gathered)?;
+    }
+    Ok(())
+}
+
+/// Puts zeros up to a multiple of 4, and then an item. Where it ends is answered.
+pub(crate) fn pass_aligned<I: Item, S, M: Takes<S>>(
+    part: &I,
+    at: u32,
+    limit: usize,
+    gathered: &mut Vec<u8>,
+    state: &mut S,
+) -> Result<u32, StoreFault>
+    requires fits { I.fits part.now }
+    requires works { M.has_failed state.old ≡ false }
+    requires least { 4 ≤ limit }
+    requires within { length (I.bytes part.now) ≤ limit }
+    requires small { round_up 4 at + length (I.bytes part.now) < 2 ^ 31 }
+    ensures end { IfOk result (λ end. end ≡ round_up 4 at + length (I.bytes part.now)) }
+    ensures outcome { Outcome M.holds M.has_failed M.empties limit state.old gathered.old state.new gathered.new (padding 4 at ++ I.bytes part.now) result }
+{
+    let start = pass_zeros::<S, M>(at, limit, gathered, state)?;
+    pass::<I, S, M>(part, limit, gathered, state)?;
+    Ok(start + part.len() as u32)
+}
+
+/// Puts zeros up to a multiple of 4, which is answered.
+pub(crate) fn pass_zeros<S, M: Takes<S>>(
+    at: u32,
+    limit: usize,
+    gathered: &mut Vec<u8>,
+    state: &mut S,
+) -> Result<u32, StoreFault>
+    requires works { M.has_failed state.old ≡ false }
+    requires least { 4 ≤ limit }
+    requires small { at < 2 ^ 31 }
+    ensures end { IfOk result (λ end. end ≡ round_up 4 at) }
+    ensures outcome { Outcome M.holds M.has_failed M.empties limit state.old gathered.old state.new gathered.new (padding 4 at) result }
+{
+    let start = (at + 3) / 4 * 4;
+    let zeros = Zeros((start - at) as usize);
+    pass::<Zeros, S, M>(&zeros, limit, gathered, state)?;
+    Ok(start)
 }

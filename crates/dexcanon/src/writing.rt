@@ -1,45 +1,58 @@
 //! The canonical file as bytes, and written to a device.
 
-ghost use Rattle.std.specs.Prelude.{◌≡◌, ◌↔◌, ◌++◌, true, false, IfOk, OnOk, IfErr, IsErrOf};
+ghost use Rattle.std.specs.Prelude.{◌≡◌, ◌↔◌, ◌≤◌, ◌++◌, min, max, true, false, IfOk, OnOk, IfErr, IsErrOf, vec_len};
 ghost use Rattle.dexspec.specs.Files.{Collection, definitions, Denotes};
 ghost use Rattle.dexspec.specs.WellFormed.{AreWellFormed};
 ghost use Rattle.dexspec.specs.Merging.{IsGood, greatest_caps};
 ghost use Rattle.dexspec.specs.Accepted.{IsAccepted};
-ghost use Rattle.dexspec.specs.Canonical.{canonical};
+ghost use Rattle.dexspec.specs.Canonical.{canonical, with_sums, unsigned_file};
+ghost use Rattle.dexhead.specs.Laid.{behind_header};
+ghost use Rattle.dexhead.specs.Written.{head_bytes};
+ghost use Rattle.dexlayout.specs.Laid.{ordered_of};
+ghost use Rattle.dexcanon.specs.Ready.{IsReady};
+ghost use Rattle.dexcanon.specs.Taking.{HasRoom};
 ghost use Rattle.dexcanon.specs.Written.{HasLeft};
 ghost use Rattle.dexcanon.specs.declared.faults.StoreFault.TheVariants.{Io};
 
+use crate::body::put_body;
 use crate::faults::StoreFault;
 use crate::files::put_file;
+use crate::joined::joined_adler;
 use crate::kept::{Keeps, Nothing};
-use crate::layout::lay;
-use crate::makings::{Hashes, Sums, Writes};
-use crate::sections::put_body;
-use dexhead::{Adler, Sink, set_sums};
-use dexplain::Program;
+use crate::makings::{Adds, Sums, Writes};
+use crate::sections::Contents;
+use dexclass::Program;
+use dexhead::{Adler, Head, Sink, adler, set_sums};
+use dexlayout::Layout;
 use sha1::Sha1;
 use std::alloc::{AllocError, Global};
 
-/// The canonical file of a program. It is accepted, and stands for just the program's definitions.
+// A writer is given no more bytes at a time, but for longer items.
+const PIECE: usize = 65536;
+
+/// The canonical file of a program. It is accepted, and stands for just the program's definitions. The memory for it is
+/// reserved at once, before its first byte is made; the layout takes some 8 bytes for each use and item besides.
 ///
 /// Error: the memory for it was refused.
+///
+/// Source: "Dalvik Executable format", "Overall file layout".
 pub fn to_bytes(alloc: Global, program: &Program<'_>) -> Result<Vec<u8>, AllocError>
     ensures bytes { IfOk result (λ bytes. bytes.items ≡ canonical program.now) }
     ensures accepted { (K : Collection) → IsGood greatest_caps (definitions K) → AreWellFormed (definitions K) → IsAccepted (canonical K) }
     ensures denotes { (K : Collection) → IsGood greatest_caps (definitions K) → AreWellFormed (definitions K) → Denotes (canonical K) K }
 {
     dexlaws_normal::normal_form();
-    program.is_good();
-    let numbering = program.numbering();
-    let classes = program.classes();
-    numbering.is_numbering();
-    dexpool::number_law();
-    dexlaws_size::fitting_size_law();
     dexhead::laws::file_law();
-    let layout = lay(alloc, numbering, classes)?;
-    let mut file = Vec::with_capacity(alloc, layout.len() as usize)?;
-    layout.head.put(&mut file)?;
-    match put_body::<Nothing, Keeps>(numbering, classes, &layout, &mut file, &mut Nothing) {
+    let layout = Layout::of(alloc, program)?;
+    let contents = Contents {
+        numbering: program.numbering(),
+        classes: program.classes(),
+        layout: &layout,
+    };
+    let len = layout.len() as usize;
+    let mut file = Vec::with_capacity(alloc, len)?;
+    layout.head().put(&mut file)?;
+    match put_body::<Nothing, Keeps>(&contents, len, &mut file, &mut Nothing) {
         Ok(()) => {}
         Err(_) => return Err(AllocError),
     }
@@ -47,9 +60,9 @@ pub fn to_bytes(alloc: Global, program: &Program<'_>) -> Result<Vec<u8>, AllocEr
     Ok(file)
 }
 
-/// Writes the canonical file of a program, item by item. The items are made three times: for the signature, for the
-/// checksum, which covers the signature, and for the writer. One vector holds each in turn, and has room for the
-/// greatest before the first is made: the writer is given no slice that is longer.
+/// Writes the canonical file of a program. The file is made twice: for its two sums, both in one making, and for the
+/// writer. Its bytes gather in one vector, which has its room before anything is written; the writer is given no slice
+/// that is longer than 65,536 bytes, or than the longest item of the file where that has more.
 ///
 /// Condition: the writer has not failed. Error: `Memory` where a growth was refused, and then nothing was written;
 /// `Io` exactly where the writer failed in this call, and then a front of the file was written.
@@ -65,34 +78,48 @@ pub fn write_to<W: Sink>(
     ensures left { IfErr result (HasLeft (W.tells out.old) out.old out.new W.taken (canonical program.now)) }
     ensures device { IsErrOf result Io ↔ (W.has_failed out.new ≡ true) }
 {
-    program.is_good();
-    let numbering = program.numbering();
-    let classes = program.classes();
-    numbering.is_numbering();
-    dexpool::number_law();
-    dexlaws_size::fitting_size_law();
+    let layout = Layout::of(alloc, program)?;
+    let contents = Contents {
+        numbering: program.numbering(),
+        classes: program.classes(),
+        layout: &layout,
+    };
+    let limit = piece_limit(&layout);
+    let mut gathered = Vec::with_capacity(alloc, limit)?;
+    let head = sealed_head(&contents, limit, &mut gathered);
+    put_file::<W, Writes>(&head, 0, &contents, limit, &mut gathered, out)
+}
+
+// How many bytes gather at most: those of the file, or of a piece of it, or of its longest item.
+fn piece_limit(layout: &Layout<'_>) -> usize
+    ensures { result ≡ max layout.now.greatest (min layout.now.head.file_size 65536) }
+{
+    layout.greatest().max((layout.len() as usize).min(PIECE))
+}
+
+// The header of a file with its two sums, for which the file is made through a vector with room.
+fn sealed_head(contents: &Contents<'_, '_, '_, '_>, limit: usize, gathered: &mut Vec<u8>) -> Head
+    requires ready { IsReady contents.now.numbering.now contents.now.classes.now contents.now.layout.now limit }
+    requires room { HasRoom true limit gathered.old }
+    requires empty { vec_len gathered.old ≡ 0 }
+    ensures bytes { head_bytes result ++ behind_header (ordered_of contents.now.numbering.now contents.now.classes.now) ≡ with_sums (unsigned_file (ordered_of contents.now.numbering.now contents.now.classes.now)) }
+    ensures room { HasRoom true limit gathered.new }
+    ensures empty { vec_len gathered.new ≡ 0 }
+{
+    dexhead::laws::fields_law();
     dexhead::laws::file_law();
     dexhead::laws::sums_law();
-    let layout = lay(alloc, numbering, classes)?;
-    let mut item = Vec::with_capacity(alloc, layout.greatest)?;
-    let mut head = layout.head;
-
-    let mut message = Sha1::new();
-    put_file::<Sha1, Hashes>(
-        &head,
-        32,
-        numbering,
-        classes,
-        &layout,
-        &mut item,
-        &mut message,
-    )
-    .unwrap();
+    let mut head = contents.layout.head();
+    let mut sums = Sums {
+        message: Sha1::new(),
+        adler: Adler::new(),
+    };
+    put_file::<Sums, Adds>(&head, 32, contents, limit, gathered, &mut sums).unwrap();
+    let Sums {
+        message,
+        adler: back,
+    } = sums;
     head.signature = message.finalize();
-
-    let mut sums = Adler::new();
-    put_file::<Adler, Sums>(&head, 12, numbering, classes, &layout, &mut item, &mut sums).unwrap();
-    head.checksum = sums.value();
-
-    put_file::<W, Writes>(&head, 0, numbering, classes, &layout, &mut item, out)
+    head.checksum = joined_adler(adler(&head.signature), back.value(), head.file_size - 32);
+    head
 }

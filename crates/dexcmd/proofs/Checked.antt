@@ -6,7 +6,7 @@ use Rattle.std.proofs.lemmas.List.{take_more, drop_more, take_all, length-take-l
 use Rattle.std.specs.Prelude.{All}
 use Rattle.std.specs.List.{AllZip}
 use Rattle.dexspec.specs.Files.{Collection, definitions}
-use Rattle.dexplain.specs.Programs.{IsReadAs}
+use Rattle.dexclass.specs.Programs.{IsReadAs}
 use Rattle.dexcmd.specs.declared.lines.Verdict.{Verdict}
 use Rattle.dexcmd.specs.declared.lines.Verdict.TheVariants.{Accepted}
 use Rattle.dexcmd.specs.Lines.{check_line, check_lines, status_after}

@@ -11,7 +11,7 @@ use Rattle.std.proofs.Math.ListN.{drop_of_length-le}
 use Rattle.std.proofs.Math.Nat.{eq-or-lt_of_le, lt_of_mul-lt-mul_right, mul-le-mul_left, mul-le-mul_right, pow-le-pow_right, two-pow-succ}
 use Rattle.std.proofs.Math.Seq.{take-add}
 use Rattle.dexspec.specs.Merging.{Plan, Leaf, Node, leaves, all_leaves, plan_depth, plans_depth, IsPlanFor}
-use Rattle.dexplain_merge.specs.Plans.{plans_of}
+use Rattle.dexmerge.specs.Plans.{plans_of}
 use Rattle.dexcmd.specs.Fans.{leaf_plans, group, in_groups, grouped_often, IsGrouped, IsFanPlan}
 
 -- ---- the groups as they are made

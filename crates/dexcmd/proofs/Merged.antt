@@ -4,8 +4,8 @@ use Rattle.std.proofs.lemmas.List.{take_more, take_all, length-map, length-take-
 use Rattle.std.specs.Prelude.{All}
 use Rattle.dexspec.specs.Files.{Collection}
 use Rattle.dexspec.specs.Merging.{Caps, Plan, IsPlanFor}
-use Rattle.dexplain.specs.Programs.{IsReadAs}
-use Rattle.dexplain_merge.specs.Faults.{IsPlanned}
+use Rattle.dexclass.specs.Programs.{IsReadAs}
+use Rattle.dexmerge.specs.Faults.{IsPlanned}
 use Rattle.dexcmd.specs.declared.faults.RunFault.{RunFault}
 use Rattle.dexcmd.specs.declared.faults.RunFault.TheVariants as run
 use Rattle.dexcmd.specs.Runs.{AllWork}

@@ -1,9 +1,9 @@
 -- What was written for bytes that were read is the canonical file of what they denote.
 use Rattle.std.proofs.Common.{◌≡◌, ℕ, List, ◌++◌, take, ap, ◌∙◌, subst}
+use Rattle.dexspec.specs.Accepted.{IsAccepted}
 use Rattle.dexspec.specs.Files.{Collection, Denotes}
 use Rattle.dexspec.specs.Canonical.{canonical}
-use Rattle.dexplain.specs.Programs.{IsReadAs}
-use Rattle.dexcmd.specs.Runs.{ArePlainFile}
+use Rattle.dexclass.specs.Programs.{IsReadAs}
 
 -- what was read is what the bytes denote
 read_is : (one : (b : List ℕ) (K L : Collection) → Denotes b K → Denotes b L → K ≡ L) (b bytes : List ℕ) (K L : Collection) →
@@ -18,5 +18,5 @@ pub front_is : (one : (b : List ℕ) (K L : Collection) → Denotes b K → Deno
     bytes ≡ b → IsReadAs bytes L → Denotes b K → ((n : ℕ) × (new ≡ old ++ take n (canonical L))) → (n : ℕ) × (new ≡ old ++ take n (canonical K))
 front_is one b bytes K L old new same stands denotes front = (front.0, front.1 ∙ ap (λ J. old ++ take front.0 (canonical J)) (read_is one b bytes K L same stands denotes))
 
-pub plain_file : (b bytes : List ℕ) (L : Collection) → bytes ≡ b → IsReadAs bytes L → ArePlainFile b
-plain_file b bytes L same stands = subst (λ x. ArePlainFile x) same (record { accepted = stands.accepted; plain = stands.plain })
+pub accepted_file : (b bytes : List ℕ) (L : Collection) → bytes ≡ b → IsReadAs bytes L → IsAccepted b
+accepted_file b bytes L same stands = subst (λ x. IsAccepted x) same stands.accepted

@@ -3,7 +3,7 @@ use Rattle.std.specs.Prelude.{◌≡◌, ℕ, zero, suc, ◌+◌, ◌*◌, ◌<�
 use Rattle.std.specs.List.{range_with_len}
 use Rattle.std.specs.Int.{div_ceil}
 use Rattle.dexspec.specs.Merging.{Plan, Leaf, Node}
-use Rattle.dexplain_merge.specs.Plans.{plans_of}
+use Rattle.dexmerge.specs.Plans.{plans_of}
 
 -- a leaf for each of so many files
 abbrev pub leaf_plans : ℕ → List Plan

@@ -9,12 +9,12 @@ use Rattle.dexcmd.specs.declared.faults.MergeCause.TheVariants.{Conflict, Cycle,
 use Rattle.dexcmd.specs.declared.lines.Verdict.{Verdict}
 use Rattle.dexcmd.specs.declared.lines.Verdict.TheVariants.{Accepted, Refused}
 
--- the names of the conditions, each at its number; no condition has the number 0, and 24 is a file that is not plain
+-- the names of the conditions, each at its number; no condition has the number 0
 abbrev pub condition_names : List (List ℕ)
 condition_names = codes "Unknown" ∷ codes "Size" ∷ codes "Magic" ∷ codes "Version" ∷ codes "Lengths" ∷ codes "Endian" ∷ codes "Link"
     ∷ codes "Checksum" ∷ codes "Signature" ∷ codes "Layout" ∷ codes "Map" ∷ codes "Strings" ∷ codes "Types" ∷ codes "Protos"
     ∷ codes "Fields" ∷ codes "Methods" ∷ codes "Classes" ∷ codes "Members" ∷ codes "Code" ∷ codes "Tries" ∷ codes "Debug"
-    ∷ codes "Values" ∷ codes "Annotations" ∷ codes "Weight" ∷ codes "Later" ∷ []
+    ∷ codes "Values" ∷ codes "Annotations" ∷ codes "Weight" ∷ []
 
 -- the name of the condition with a number
 unfoldable pub condition_name : ℕ → List ℕ

@@ -2,12 +2,12 @@
 use Rattle.std.specs.Prelude.{◌≡◌, ℕ, ◌<◌, Bool, true, false, List, [], ◌++◌, length, take, slice_index_or}
 use Rattle.std.specs.List.{AllZip}
 use Rattle.dexspec.specs.Files.{Collection, Denotes}
-use Rattle.dexspec.specs.Accepted.{IsAccepted}
+use Rattle.dexspec.specs.Accepted.{IsAccepted, IsRefused}
 use Rattle.dexspec.specs.Merging.{Caps, Cause, Plan, IsPlanFor}
 use Rattle.dexspec.specs.Merging as merging
 use Rattle.dexspec.specs.Canonical.{canonical}
-use Rattle.dexplain.specs.Programs.{IsReadAs, IsReadFault}
-use Rattle.dexplain_merge.specs.Faults.{IsOfCap, IsPlanned, IsPlannedCause}
+use Rattle.dexclass.specs.Programs.{IsReadAs}
+use Rattle.dexmerge.specs.Faults.{IsOfCap, IsPlanned, IsPlannedCause}
 use Rattle.dexcmd.specs.declared.faults.MergeCause.{MergeCause}
 use Rattle.dexcmd.specs.declared.faults.MergeCause.TheVariants as cause
 use Rattle.dexcmd.specs.declared.faults.RunFault.{RunFault}
@@ -20,13 +20,13 @@ TellsCause P (cause.Conflict name) = P (merging.Conflict name)
 TellsCause P (cause.Cycle name) = P (merging.Cycle name)
 TellsCause P (cause.Cap number) = IsOfCap P number
 
--- Each of the files is accepted and plain, and these are the collections that they denote. What is said of bytes holds
+-- Each of the files is accepted, and these are the collections that they denote. What is said of bytes holds
 -- where the readers tell theirs.
 pub record AreReadAs (reads : Type 0) (files : List (List ℕ)) (collections : List Collection) : Type 0 where
   pub many : length collections ≡ length files
   pub read : reads → AllZip IsReadAs files collections
 
--- the first files are accepted and plain, and the next is refused so
+-- the first files are accepted, and the next is refused so
 pub record IsRefusedAt (reads : Type 0) (files : List (List ℕ)) (i : ℕ) (P : List ℕ → Type 0) : Type 0 where
   pub within : i < length files
   pub collections : List Collection
@@ -35,7 +35,7 @@ pub record IsRefusedAt (reads : Type 0) (files : List (List ℕ)) (i : ℕ) (P :
 
 -- what a fault of reading says of the files
 abbrev pub IsReadEachFault : Type 0 → List (List ℕ) → RunFault → Type 0
-IsReadEachFault reads files (run.Input i refusal) = IsRefusedAt reads files i (λ b. IsReadFault b refusal)
+IsReadEachFault reads files (run.Input i refusal) = IsRefusedAt reads files i (λ b. IsRefused b refusal.number refusal.place)
 IsReadEachFault reads files run.Plan = ⊥
 IsReadEachFault reads files (run.Merge told) = ⊥
 IsReadEachFault reads files (run.Read i) = IsRefusedAt reads files i (λ b. Unit {0})
@@ -82,7 +82,7 @@ IsFrontAppended writes old new bytes = writes → (n : ℕ) × (new ≡ old ++ t
 
 -- what a fault says of the files; `old` and `new` are what the writer has taken
 abbrev pub IsMergeFault : Type 0 → Type 0 → Caps → List (List ℕ) → Plan → List ℕ → List ℕ → RunFault → Type 0
-IsMergeFault reads writes caps files plan old new (run.Input i refusal) = IsPlanFor (length files) plan × IsRefusedAt reads files i (λ b. IsReadFault b refusal)
+IsMergeFault reads writes caps files plan old new (run.Input i refusal) = IsPlanFor (length files) plan × IsRefusedAt reads files i (λ b. IsRefused b refusal.number refusal.place)
 IsMergeFault reads writes caps files plan old new run.Plan = IsPlanFor (length files) plan → ⊥
 IsMergeFault reads writes caps files plan old new (run.Merge told) = IsUnmerged reads caps files plan told
 IsMergeFault reads writes caps files plan old new (run.Read i) = IsPlanFor (length files) plan × IsRefusedAt reads files i (λ b. Unit {0})

@@ -2,10 +2,9 @@
 use Rattle.std.specs.Prelude.{◌≡◌, ◌≢◌, ℕ, ◌<◌, Bool, true, false, List, ◌++◌, length, All, take, slice_index_or}
 use Rattle.std.specs.List.{AllZip}
 use Rattle.dexspec.specs.Files.{Collection, definitions, Denotes}
-use Rattle.dexspec.specs.Accepted.{IsAccepted}
-use Rattle.dexspec.specs.Plain.{IsPlainFile}
+use Rattle.dexspec.specs.Accepted.{IsAccepted, IsRefused}
 use Rattle.dexspec.specs.Canonical.{canonical}
-use Rattle.dexplain.specs.Programs.{IsReadAs, IsReadFault}
+use Rattle.dexclass.specs.Programs.{IsReadAs}
 use Rattle.dexcmd.specs.declared.faults.RunFault.{RunFault}
 use Rattle.dexcmd.specs.declared.faults.RunFault.TheVariants.{Input, Plan, Merge, Read, Write, Memory}
 use Rattle.dexcmd.specs.declared.lines.Verdict.{Verdict}
@@ -14,14 +13,9 @@ use Rattle.dexcmd.specs.Lines.{check_lines, check_status}
 
 -- ---- one file normalised
 
--- the bytes are accepted and plain
-pub record ArePlainFile (b : List ℕ) : Type 0 where
-  pub accepted : IsAccepted b
-  pub plain : IsPlainFile b
-
 -- a fault of a run with one input: the input is refused as `read` refuses it, and no other input and no plan is told
 abbrev pub IsOfInput : Type 0 → List ℕ → RunFault → Type 0
-IsOfInput tells b (Input i refusal) = (i ≡ 0) × (tells → IsReadFault b refusal)
+IsOfInput tells b (Input i refusal) = (i ≡ 0) × (tells → IsRefused b refusal.number refusal.place)
 IsOfInput tells b Plan = ⊥
 IsOfInput tells b (Merge told) = ⊥
 IsOfInput tells b (Read i) = i ≡ 0
@@ -35,7 +29,7 @@ HasLeft reads writes old new taken b (Input i refusal) = new ≡ old
 HasLeft reads writes old new taken b Plan = new ≡ old
 HasLeft reads writes old new taken b (Merge told) = new ≡ old
 HasLeft reads writes old new taken b (Read i) = new ≡ old
-HasLeft reads writes old new taken b Write = reads → ArePlainFile b × (writes → (K : Collection) → Denotes b K → (n : ℕ) × (taken new ≡ taken old ++ take n (canonical K)))
+HasLeft reads writes old new taken b Write = reads → IsAccepted b × (writes → (K : Collection) → Denotes b K → (n : ℕ) × (taken new ≡ taken old ++ take n (canonical K)))
 HasLeft reads writes old new taken b Memory = new ≡ old
 
 -- ---- files checked
@@ -43,7 +37,7 @@ HasLeft reads writes old new taken b Memory = new ≡ old
 -- the verdict is right of the bytes
 abbrev pub IsVerdict : List ℕ → Verdict → Type 0
 IsVerdict b (Accepted classes) = (K : Collection) × IsReadAs b K × (classes ≡ length (definitions K))
-IsVerdict b (Refused refusal) = IsReadFault b refusal
+IsVerdict b (Refused refusal) = IsRefused b refusal.number refusal.place
 
 -- The lines of these files were written, each with a verdict that is right of its bytes, and the status is that of the
 -- verdicts. What is said of bytes holds where the readers tell theirs, and what is said of lines where the writer does.

@@ -25,7 +25,7 @@ fn judge<R: Source>(alloc: Global, input: &mut R) -> Result<Verdict, InputFault>
     ensures fault { IfErr result (TellsOf (R.has_failed input.new)) }
 {
     let bytes = read_whole(alloc, input)?;
-    match dexplain::read(alloc, bytes.as_slice()) {
+    match dexclass::read(alloc, bytes.as_slice()) {
         Ok(program) => Ok(Verdict::Accepted(program.len())),
         Err(ReadFault::Refused(refusal)) => Ok(Verdict::Refused(refusal)),
         Err(ReadFault::Memory) => Err(InputFault::Memory),

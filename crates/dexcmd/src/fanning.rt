@@ -2,10 +2,10 @@
 
 ghost use Rattle.std.specs.Prelude.{◌≡◌, ◌≤◌, map, IfOk, IfSome};
 ghost use Rattle.dexspec.specs.Merging.{IsPlanFor};
-ghost use Rattle.dexplain_merge.specs.Plans.{plan_of};
+ghost use Rattle.dexmerge.specs.Plans.{plan_of};
 ghost use Rattle.dexcmd.specs.Fans.{leaf_plans, in_groups, IsFanPlan};
 
-use dexplain_merge::Plan;
+use dexmerge::Plan;
 use std::alloc::{AllocError, Global};
 
 // A leaf for each of so many files.

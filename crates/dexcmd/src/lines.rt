@@ -18,7 +18,7 @@ pub enum Verdict {
 const UNKNOWN: &str = "Unknown";
 
 // The names of the conditions, each at its number.
-const NAMES: [&str; 25] = [
+const NAMES: [&str; 24] = [
     UNKNOWN,
     "Size",
     "Magic",
@@ -43,7 +43,6 @@ const NAMES: [&str; 25] = [
     "Values",
     "Annotations",
     "Weight",
-    "Later",
 ];
 
 // The text with a number, or the default one behind the end.

@@ -1,8 +1,8 @@
 //! The run of `merge`.
 
 ghost use Rattle.std.specs.Prelude.{◌≡◌, false, length, map, All, IfOk, OnOk, IfErr};
-ghost use Rattle.dexplain_merge.specs.Faults.{IsPlanned};
-ghost use Rattle.dexplain_merge.specs.Plans.{plan_of};
+ghost use Rattle.dexmerge.specs.Faults.{IsPlanned};
+ghost use Rattle.dexmerge.specs.Plans.{plan_of};
 ghost use Rattle.dexcmd.specs.Inputs.{bytes_read};
 ghost use Rattle.dexcmd.specs.Merges.{AreReadAs, IsReadEachFault, IsUnionFault, IsMergedFile, IsAppended, IsMergeFault, IsLeft, IsOfDevices};
 ghost use Rattle.dexcmd.specs.Runs.{AllWork};
@@ -10,10 +10,10 @@ ghost use Rattle.dexcmd.specs.Runs.{AllWork};
 use crate::faults::{MergeCause, RunFault};
 use crate::inputs::{InputFault, read_whole};
 use dexcanon::{StoreFault, write_to};
+use dexclass::Program;
 use dexhead::{Sink, Source};
 use dexlaws_normal::normal_form;
-use dexplain::Program;
-use dexplain_merge::{Caps, MergeFault, Plan, PlanFault, is_plan_for, merge_plan};
+use dexmerge::{Caps, MergeFault, Plan, PlanFault, is_plan_for, merge_plan};
 use dexpool::ReadFault;
 use std::alloc::{AllocError, Global};
 
@@ -48,7 +48,7 @@ fn read_each<'a, R: Source>(
             Err(InputFault::Read) => return Err(RunFault::Read(i)),
             Err(InputFault::Memory) => return Err(RunFault::Memory),
         };
-        match dexplain::read(alloc, place.as_slice()) {
+        match dexclass::read(alloc, place.as_slice()) {
             Ok(program) => programs.push(program)?,
             Err(ReadFault::Refused(refusal)) => return Err(RunFault::Input(i, refusal)),
             Err(ReadFault::Memory) => return Err(RunFault::Memory),
@@ -87,7 +87,7 @@ fn united<'a>(
 /// Condition: no device has failed. Error: `Plan`, before any reader is called, exactly where the plan names an input
 /// that there is not, or does not name one that there is, or is deeper than 64. Then one input after the other is read
 /// whole and judged, and the first that fails ends the call: `Read` with its number exactly where its reader failed in
-/// this call, or `Input` with its number where it is refused, with what [`dexplain::read`] says of its bytes, of which
+/// this call, or `Input` with its number where it is refused, with what [`dexclass::read`] says of its bytes, of which
 /// `2^30 + 1` are read at most. Then `Merge` with a cause that is true of the union, the first one where the plan is a
 /// leaf or a node of leaves; `Write` exactly where the writer failed; `Memory` where a growth was refused. After
 /// `Write` a front of the canonical file was written, and after any other error nothing.

@@ -1,10 +1,11 @@
 //! The run of `normalise`.
 
 ghost use Rattle.std.specs.Prelude.{◌≡◌, ◌++◌, ◌↔◌, true, false, OnOk, IfErr, IsErrOf};
+ghost use Rattle.dexspec.specs.Accepted.{IsAccepted};
 ghost use Rattle.dexspec.specs.Files.{Collection, Denotes};
 ghost use Rattle.dexspec.specs.Canonical.{canonical};
 ghost use Rattle.dexcmd.specs.Inputs.{bytes_read};
-ghost use Rattle.dexcmd.specs.Runs.{ArePlainFile, IsOfInput, HasLeft};
+ghost use Rattle.dexcmd.specs.Runs.{IsOfInput, HasLeft};
 ghost use Rattle.dexcmd.specs.declared.faults.RunFault.TheVariants.{Read, Write};
 
 use crate::faults::RunFault;
@@ -19,7 +20,7 @@ use std::alloc::Global;
 /// has.
 ///
 /// Condition: neither device has failed. Error: `Input` with number 0 where the file is refused, with what
-/// [`dexplain::read`] says of its bytes, of which `2^30 + 1` are read at most; `Read` with number 0 exactly where the
+/// [`dexclass::read`] says of its bytes, of which `2^30 + 1` are read at most; `Read` with number 0 exactly where the
 /// reader failed in this call, and `Write` exactly where the writer did; `Memory` where a growth was refused; no other.
 /// After `Write` a front of the canonical file was written, and after any other error nothing.
 ///
@@ -31,7 +32,7 @@ pub fn normalise_run<R: Source, W: Sink>(
 ) -> Result<(), RunFault>
     requires input { R.has_failed input.old ≡ false }
     requires out { W.has_failed out.old ≡ false }
-    ensures accepted { OnOk result (R.tells input.old → ArePlainFile (bytes_read (R.to_come input.old))) }
+    ensures accepted { OnOk result (R.tells input.old → IsAccepted (bytes_read (R.to_come input.old))) }
     ensures written { OnOk result (R.tells input.old → W.tells out.old → (K : Collection) → Denotes (bytes_read (R.to_come input.old)) K →
         W.taken out.new ≡ W.taken out.old ++ canonical K) }
     ensures fault { IfErr result (IsOfInput (R.tells input.old) (bytes_read (R.to_come input.old))) }
@@ -46,7 +47,7 @@ pub fn normalise_run<R: Source, W: Sink>(
         Err(InputFault::Read) => return Err(RunFault::Read(0)),
         Err(InputFault::Memory) => return Err(RunFault::Memory),
     };
-    let program = match dexplain::read(alloc, bytes.as_slice()) {
+    let program = match dexclass::read(alloc, bytes.as_slice()) {
         Ok(program) => program,
         Err(ReadFault::Refused(refusal)) => return Err(RunFault::Input(0, refusal)),
         Err(ReadFault::Memory) => return Err(RunFault::Memory),

@@ -6,7 +6,7 @@ ghost use Rattle.dexcmd.specs.Words.{IsSound};
 
 use clap::error::ErrorKind;
 use clap::{Arg, ArgAction, ArgMatches, Command, Error, value_parser};
-use dexplain_merge::Caps;
+use dexmerge::Caps;
 use std::alloc::{AllocError, Global};
 
 const LEAST_FAN: u16 = 2;

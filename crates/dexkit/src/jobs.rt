@@ -9,7 +9,7 @@ ghost use Rattle.dexhead.specs.Device.{is_broken};
 use crate::files::{NewFile, OldFile};
 use dexcmd::{Job, RunFault, check_run, explain, fan_plan, merge_run, normalise_run};
 use dexhead::Device;
-use dexplain_merge::Caps;
+use dexmerge::Caps;
 use std::alloc::{AllocError, Global};
 use std::io;
 use std::rt::Files;

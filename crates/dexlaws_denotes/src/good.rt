@@ -4,7 +4,6 @@ ghost use Rattle.dexspec.specs.Files.{Collection, definitions, Denotes};
 ghost use Rattle.dexspec.specs.WellFormed.{AreWellFormed};
 ghost use Rattle.dexspec.specs.Merging.{IsGood, greatest_caps};
 ghost use Rattle.dexspec.specs.Accepted.{IsAccepted};
-ghost use Rattle.dexspec.specs.Plain.{IsPlainFile, ArePlain};
 ghost use Rattle.dexlaws_denotes.specs.Laws.{AreBytes};
 
 /// What an accepted list of bytes denotes is good: it has no conflict and no cycle, and fits the greatest
@@ -12,9 +11,4 @@ ghost use Rattle.dexlaws_denotes.specs.Laws.{AreBytes};
 pub fn denoted_is_good()
     ensures good { (b : List ℕ) (K : Collection) → AreBytes b → IsAccepted b → Denotes b K → IsGood greatest_caps (definitions K) }
     ensures formed { (b : List ℕ) (K : Collection) → AreBytes b → IsAccepted b → Denotes b K → AreWellFormed (definitions K) }
-{}
-
-/// What an accepted plain file denotes is plain.
-pub fn denoted_is_plain()
-    ensures { (b : List ℕ) (K : Collection) → IsAccepted b → IsPlainFile b → Denotes b K → ArePlain (definitions K) }
 {}

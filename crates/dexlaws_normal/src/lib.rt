@@ -17,7 +17,6 @@ ghost use Rattle.dexspec.specs.WellFormed.{AreWellFormed};
 ghost use Rattle.dexspec.specs.Merging.{Caps, AreCaps, greatest_caps, Fits, IsGood};
 ghost use Rattle.dexspec.specs.Conditions.{Condition};
 ghost use Rattle.dexspec.specs.Accepted.{HoldsThroughout, HoldBelow, IsReadable, IsAccepted};
-ghost use Rattle.dexspec.specs.Plain.{ArePlain, IsPlainFile};
 ghost use Rattle.dexspec.specs.Canonical.{canonical};
 ghost use Rattle.dexlaws_normal.specs.Laws.{AreListed, StandAtRanks, StandInRows, IsAcceptedAs};
 
@@ -57,13 +56,12 @@ pub fn methods_stand()
 {}
 
 /// The class rows of the canonical file of a good collection are its definitions, in order, and all that is
-/// to be read of them is there; those of a plain collection are plain.
+/// to be read of them is there.
 pub fn classes_stand()
     ensures holds { (K : Collection) → IsGood greatest_caps (definitions K) → AreWellFormed (definitions K) → HoldsThroughout Condition.Classes (canonical K) }
     ensures rows { (K : Collection) → IsGood greatest_caps (definitions K) → AreWellFormed (definitions K) → AreListed (λ r (d : Definition). ClassRow (canonical K) r d.0 d.1) (in_class_order (definitions K)) }
     ensures readable { (K : Collection) → IsGood greatest_caps (definitions K) → AreWellFormed (definitions K) → (r : ℕ) → r < table_size (canonical K) ClassDefs → IsReadable (canonical K) r }
     ensures weight { (K : Collection) → IsGood greatest_caps (definitions K) → AreWellFormed (definitions K) → HoldsThroughout Condition.Weight (canonical K) }
-    ensures plain { (K : Collection) → IsGood greatest_caps (definitions K) → AreWellFormed (definitions K) → ArePlain (definitions K) → IsPlainFile (canonical K) }
 {}
 
 /// Each symbol that occurs in a definition of a collection that fits stands, in the canonical file, in the row

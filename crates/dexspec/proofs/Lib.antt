@@ -58,8 +58,6 @@ pub mod Formed
 pub mod NormalRows
 pub mod ClassPlaces
 pub mod NormalClasses
-pub mod PlainItems
-pub mod PlainReadable
 pub mod NormalForm
 pub mod Uses
 pub mod Shorter
@@ -78,7 +76,6 @@ pub mod DenotedGood
 pub mod SymbolRows
 pub mod ShortStrings
 pub mod FormedRows
-pub mod PlainRows
 pub mod FormedValues
 pub mod MemberOrder
 pub mod FormedMembers

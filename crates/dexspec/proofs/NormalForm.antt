@@ -1,5 +1,5 @@
 -- The canonical file of a collection is accepted and denotes it, where what belongs to its classes is right.
-use Rattle.std.proofs.Common.{◌≡◌, ℕ, zero, suc, ◌+◌, ◌<◌, List, [], ◌∷◌, length, get_or, refl, sym, ap, ◌∙◌, subst, arith, All}
+use Rattle.std.proofs.Common.{◌≡◌, ℕ, zero, suc, ◌+◌, ◌<◌, List, [], ◌∷◌, length, get_or, refl, sym, ap, ◌∙◌, subst, arith}
 use Rattle.std.specs.List.{AllZip, Contains, range_with_len}
 use Rattle.std.proofs.lemmas.List.{get_or_default}
 use Rattle.std.proofs.lemmas.List.Elements.{Contains-get_or}
@@ -13,18 +13,16 @@ use Rattle.dexspec.specs.WellFormed.{AreWellFormed}
 use Rattle.dexspec.specs.Merging.{AreCaps, greatest_caps, Fits, IsGood}
 use Rattle.dexspec.specs.Conditions.{Condition}
 use Rattle.dexspec.specs.Accepted.{IsReadable, HasWeight, HoldBelow, IsFrame, IsAccepted}
-use Rattle.dexspec.specs.Plain.{IsPlain, ArePlain, IsPlainRow, IsPlainFile}
 use Rattle.dexspec.specs.Canonical.{canonical}
 use Rattle.dexspec.proofs.OneClass.{HasFewRows, one_class_row}
 use Rattle.dexspec.proofs.Collections.{definitions-are}
 use Rattle.dexspec.proofs.ClassOrder.{definitions-distinct}
 use Rattle.dexspec.proofs.SizeFile.{canonical-has_size}
 use Rattle.dexspec.proofs.Frames.{fits_few, canonical_laid, canonical_frame}
-use Rattle.dexspec.proofs.Formed.{All-member, mentions-pools}
+use Rattle.dexspec.proofs.Formed.{mentions-pools}
 use Rattle.dexspec.proofs.NormalRows.{IsNormal, count_small, has_string, has_type, has_proto, has_field, has_method}
 use Rattle.dexspec.proofs.ClassPlaces.{in_class_order-only, in_class_order-has, class_names-apart}
 use Rattle.dexspec.proofs.NormalClasses.{BelongsAt, AreNormal, class_stands, has_class}
-use Rattle.dexspec.proofs.PlainItems.{plain_class_row}
 
 -- a definition for places past the end
 abbrev pub some_class : Definition
@@ -180,18 +178,3 @@ normal_form K good formed items =
             (definitions-are K name c).1 (in_class_order-only D (name, c) (w.0, x.0, x.1))),
       );
     }
-
--- ---- plain collections
-
-module _ (K : Collection) (good : IsGood greatest_caps (definitions K)) (formed : AreWellFormed (definitions K)) (plain : ArePlain (definitions K)) where
-  -- its classes are plain
-  classes_plain : All IsPlain (in_class_order (definitions K))
-  classes_plain i d lt = All-member IsPlain (definitions K) (get_or (in_class_order (definitions K)) i d) plain (in_class_order-only (definitions K) (get_or (in_class_order (definitions K)) i d) (Contains-get_or (in_class_order (definitions K)) i d lt))
-
-  -- and so are its class rows
-  rows_plain : (r : ℕ) → r < length (in_class_order (definitions K)) → IsPlainRow (canonical K) r
-  rows_plain r lt = plain_class_row (canonical_normal K good.fits formed).laid r some_class lt (classes_plain r some_class lt)
-
-  -- the file is plain
-  pub plain_file : IsPlainFile (canonical K)
-  plain_file r lt = rows_plain r (omega (arith, lt, (canonical_normal K good.fits formed).laid.count ClassDefs))

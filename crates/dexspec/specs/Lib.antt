@@ -23,7 +23,6 @@ pub mod WellFormed
 pub mod Weight
 pub mod Conditions
 pub mod Accepted
-pub mod Plain
 pub mod Depth
 pub mod Spellings
 pub mod Placing

@@ -4,7 +4,7 @@ use crate::files::{cut_a, final_a, letter_a, unused_beside_a};
 use crate::scripts::{Script, Scripted, WHOLE, by, failing};
 use dexcmd::{RunFault, check_run, explain, merge_run, normalise_run};
 use dexhead::{Device, Sink, Source};
-use dexplain_merge::{Caps, Plan};
+use dexmerge::{Caps, Plan};
 use std::alloc::Global;
 use std::io::ErrorKind;
 

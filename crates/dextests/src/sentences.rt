@@ -5,7 +5,7 @@ ghost use Rattle.dexcmd.specs.Lines.{HasName};
 
 use dexcmd::{MergeCause, RunFault, explain, fan_plan};
 use dexhead::Refusal;
-use dexplain_merge::Plan;
+use dexmerge::Plan;
 use std::alloc::{AllocError, Global};
 
 // Whether the fault has this status and this line, among two inputs.

@@ -1,9 +1,10 @@
 //! Canonical files as a writer is given them, and where memory is wanting.
 
 use crate::files::{letter_a, unused_beside_a};
-use dexcanon::{Layout, StoreFault, to_bytes, write_to};
+use dexcanon::{StoreFault, to_bytes, write_to};
+use dexclass::{Program, read};
 use dexhead::Device;
-use dexplain::{Program, read};
+use dexlayout::Layout;
 use std::alloc::Global;
 use std::io;
 use std::io::Write;
@@ -42,14 +43,14 @@ fn written(alloc: Global, file: &[u8]) -> Option<(Result<(), StoreFault>, Record
     Some((answer, out.into_inner()))
 }
 
-// Whether all was written, no slice longer than the header, or memory was wanting and nothing was. This holds whichever
+// Whether all was written, a file below 64 KiB in one slice, or memory was wanting and nothing was. This holds whichever
 // growth is refused: where a file is not read, nothing is said.
 fn is_all_or_nothing(alloc: Global) -> Option<bool> {
     let right = letter_a(alloc)?;
     let file = unused_beside_a(alloc)?;
     let (answer, record) = written(alloc, &file)?;
     Some(match answer {
-        Ok(()) => record.bytes.as_slice() == right.as_slice() && record.longest == 112,
+        Ok(()) => record.bytes.as_slice() == right.as_slice() && record.longest == right.len(),
         Err(StoreFault::Memory) => record.calls == 0,
         Err(StoreFault::Io) => false,
     })

@@ -1,11 +1,13 @@
 -- What is told of a file, and what is right.
-use Rattle.std.specs.Prelude.{◌≡◌, ◌==◌, ℕ, Bool, false, List, length}
+use Rattle.std.specs.Prelude.{◌≡◌, ℕ, List, length}
 use Rattle.std.specs.List.{Contains}
+use Rattle.dexspec.specs.Accepted.{IsRefused}
+use Rattle.dexspec.specs.Stripping.{strip_collection}
 use Rattle.dexspec.specs.Files.{Collection, definitions}
 use Rattle.dexspec.specs.Weight.{weight}
 use Rattle.dexspec.specs.Canonical.{canonical}
 use Rattle.dexhead.specs.declared.refusal.Refusal.{Refusal}
-use Rattle.dexplain.specs.Programs.{IsReadAs, IsReadFault}
+use Rattle.dexclass.specs.Programs.{IsReadAs}
 use Rattle.dexvectors.specs.declared.check.RightAnswer.{RightAnswer}
 use Rattle.dexvectors.specs.declared.check.RightAnswer.TheVariants as right
 use Rattle.dexvectors.specs.declared.check.Answer.{Answer}
@@ -29,23 +31,24 @@ pub record Normalises (b whole : List ℕ) : Type 0 where
   pub is : IsReadAs b collection
   pub whole_is : whole ≡ canonical collection
 
+-- the bytes are read as a program that has this canonical file once it is stripped
+pub record Strips (b whole : List ℕ) : Type 0 where
+  pub collection : Collection
+  pub is : IsReadAs b collection
+  pub whole_is : whole ≡ canonical (strip_collection collection)
+
 -- what is told of the bytes is so
 abbrev pub IsTold : List ℕ → Answer → Type 0
 IsTold b (told.Accepted n) = HasClasses b n
-IsTold b (told.Refused r) = IsReadFault b r
+IsTold b (told.Refused r) = IsRefused b r.number r.place
 
 -- what is right is so: one of the refusals, or so many classes
 abbrev pub IsRight : List ℕ → RightAnswer → Type 0
 IsRight b (right.Accepted n) = HasClasses b n
-IsRight b (right.Refused rs) = (r : Refusal) × Contains rs.items r × IsReadFault b r
+IsRight b (right.Refused rs) = (r : Refusal) × Contains rs.items r × IsRefused b r.number r.place
 
 -- what was told is right
 abbrev pub Agree : RightAnswer → Answer → Type 0
 Agree (right.Accepted n) (told.Accepted m) = n ≡ m
 Agree (right.Refused rs) (told.Refused r) = Contains rs.items r
 Agree _ _ = ⊥
-
--- the file is not plain
-abbrev pub is_later : Answer → Bool
-is_later (told.Accepted n) = false
-is_later (told.Refused r) = r.number == 24

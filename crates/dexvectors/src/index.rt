@@ -4,7 +4,7 @@ use crate::fault::VectorFault;
 use crate::file::read_file;
 use crate::kind::Kind;
 use crate::outcome::Outcome;
-use crate::{check, merge, normalise, regroup, symbol, weight};
+use crate::{check, merge, normalise, regroup, strip, symbol, weight};
 use std::path::Path;
 use std::rt::Files;
 
@@ -19,7 +19,7 @@ pub fn run_case<R: Files + AllocGlobal>(
     match kind {
         Kind::Check => {
             let (bytes, right) = file_and_answer(rt, folder, case)?;
-            check::run(rt.alloc(), &bytes, right)
+            Ok((kind, check::run(rt.alloc(), &bytes, right)?))
         }
         Kind::Symbol => {
             let (bytes, asked) = file_and_answer(rt, folder, case)?;
@@ -34,7 +34,13 @@ pub fn run_case<R: Files + AllocGlobal>(
             let right = read_file(rt, folder, right)?;
             Ok((kind, normalise::run(rt.alloc(), &bytes, &right)?))
         }
+        Kind::Strip => {
+            let (bytes, right) = file_and_answer(rt, folder, case)?;
+            let right = read_file(rt, folder, right)?;
+            Ok((kind, strip::run(rt.alloc(), &bytes, &right)?))
+        }
         Kind::Merge => Ok((kind, merge::run(rt, folder, case)?)),
+        Kind::MergeStrip => Ok((kind, merge::run_stripped(rt, folder, case)?)),
         Kind::Regroup => Ok((kind, regroup::run(rt, folder, case)?)),
         Kind::Unknown => Err(VectorFault::Form),
         _ => Ok((kind, Outcome::Unserved)),

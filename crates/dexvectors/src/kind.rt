@@ -27,8 +27,6 @@ pub enum Kind {
     Symbol,
     /// A file that is accepted or refused.
     Check,
-    /// A file that meets conditions 1 to 16 and is not plain.
-    CheckTo16,
     /// The weight of a file's classes.
     Weight,
     /// The canonical file.
@@ -95,7 +93,6 @@ impl fmt::Display for Kind {
             Kind::Flags => "flags",
             Kind::Symbol => "symbol",
             Kind::Check => "check",
-            Kind::CheckTo16 => "check to 16 (beyond it not yet served)",
             Kind::Weight => "weight",
             Kind::Normalise => "normalise",
             Kind::Dump => "dump",

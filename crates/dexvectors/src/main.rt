@@ -21,6 +21,7 @@ mod outcome;
 mod plans;
 mod random;
 mod regroup;
+mod strip;
 mod symbol;
 mod tally;
 mod weight;

@@ -1,16 +1,14 @@
 //! Files merged: `merge PLAN caps T P F M S W files FILE.. ok CANON`, `.. fault CAUSE | CAUSE ..`, any of
-//! which is right, or `.. badplan`; no files are `-`. Today only plain files are read.
+//! which is right, or `.. badplan`; no files are `-`.
 
-use crate::check::LATER;
 use crate::fault::VectorFault;
 use crate::file::read_file;
 use crate::normalise::{is_written_as, other_bytes};
 use crate::outcome::Outcome;
 use crate::plans::{caps_in, plan_in};
 use crate::words::push_name;
-use dexhead::Refusal;
-use dexplain::{Program, read};
-use dexplain_merge::{Caps, MergeFault, Plan, PlanFault, merge_plan};
+use dexclass::{Program, read, strip};
+use dexmerge::{Caps, MergeFault, Plan, PlanFault, merge_plan};
 use dexpool::ReadFault;
 use dexstr::Name;
 use std::alloc::{AllocError, Global};
@@ -28,6 +26,30 @@ enum RightAnswer<'a> {
     BadPlan,
 }
 
+/// What becomes of the merged program before it is written.
+#[derive(Clone, Copy)]
+pub(crate) enum After {
+    /// It is written as it is.
+    Merged,
+    /// It is stripped.
+    Stripped,
+}
+
+impl After {
+    // Whether what is written of the program then has these bytes.
+    fn is_written_as(
+        self,
+        alloc: Global,
+        program: &Program<'_>,
+        right: &[u8],
+    ) -> Result<bool, AllocError> {
+        match self {
+            After::Merged => is_written_as(alloc, program, right),
+            After::Stripped => is_written_as(alloc, &strip(alloc, program)?, right),
+        }
+    }
+}
+
 /// Files to be merged under caps, and what is right.
 #[derive(Drop)]
 pub(crate) struct Merge<'a> {
@@ -42,12 +64,31 @@ pub fn run<R: Files + AllocGlobal>(
     folder: Path<'_>,
     case: &str,
 ) -> Result<Outcome, VectorFault> {
+    run_case(rt, folder, case, After::Merged)
+}
+
+/// The same where the merged program is stripped before it is written: `mergestrip`.
+pub fn run_stripped<R: Files + AllocGlobal>(
+    rt: &R,
+    folder: Path<'_>,
+    case: &str,
+) -> Result<Outcome, VectorFault> {
+    run_case(rt, folder, case, After::Stripped)
+}
+
+// Runs a line of either kind.
+fn run_case<R: Files + AllocGlobal>(
+    rt: &R,
+    folder: Path<'_>,
+    case: &str,
+    after: After,
+) -> Result<Outcome, VectorFault> {
     let alloc = rt.alloc();
     let (plan, rest) = case.split_once(" caps ").ok_or(VectorFault::Form)?;
     let plan = plan_in(alloc, plan)?;
     let merge = Merge::of(rt, folder, rest)?;
     match merge.programs(alloc)? {
-        Ok(programs) => merge.planned(alloc, &programs, &plan),
+        Ok(programs) => merge.planned(alloc, &programs, &plan, after),
         Err(outcome) => Ok(outcome),
     }
 }
@@ -80,9 +121,6 @@ impl<'a> Merge<'a> {
         for file in &self.files {
             match read(alloc, file) {
                 Ok(program) => programs.push(program)?,
-                Err(ReadFault::Refused(Refusal { number: LATER, .. })) => {
-                    return Ok(Err(Outcome::Unserved));
-                }
                 Err(ReadFault::Refused(_)) => return Ok(Err(failed(alloc, "a file is refused")?)),
                 Err(ReadFault::Memory) => return Err(VectorFault::Memory),
             }
@@ -96,10 +134,11 @@ impl<'a> Merge<'a> {
         alloc: Global,
         programs: &[Program<'_>],
         plan: &Plan,
+        after: After,
     ) -> Result<Outcome, VectorFault> {
         match merge_plan(alloc, programs, plan, &self.caps) {
             Ok(program) => match &self.right {
-                RightAnswer::Written(right) if is_written_as(alloc, &program, right)? => {
+                RightAnswer::Written(right) if after.is_written_as(alloc, &program, right)? => {
                     Ok(Outcome::Passed)
                 }
                 RightAnswer::Written(_) => other_bytes(alloc),

@@ -1,16 +1,15 @@
 //! Files normalised: `normalise FILE CANON`. The program is made to bytes, and a copy of it is written to a
-//! device. Today only plain files are read.
+//! device.
 
 ghost use Rattle.std.specs.Prelude.{◌≡◌, IfOk, IsTrue};
 ghost use Rattle.dexspec.specs.Canonical.{canonical};
 ghost use Rattle.dexvectors.specs.Told.{Normalises};
 
-use crate::check::LATER;
 use crate::fault::VectorFault;
 use crate::outcome::Outcome;
 use dexcanon::{StoreFault, to_bytes, write_to};
+use dexclass::{Program, read};
 use dexhead::{Device, Refusal};
-use dexplain::{Program, read};
 use dexpool::ReadFault;
 use std::alloc::{AllocError, Global};
 
@@ -20,7 +19,6 @@ pub fn run(alloc: Global, bytes: &[u8], right: &[u8]) -> Result<Outcome, VectorF
 {
     let program = match read(alloc, bytes) {
         Ok(program) => program,
-        Err(ReadFault::Refused(Refusal { number: LATER, .. })) => return Ok(Outcome::Unserved),
         Err(ReadFault::Refused(Refusal { number, place })) => {
             let answered = format!(in alloc; "refused {number} {place}")?;
             return Ok(Outcome::Failed(answered));

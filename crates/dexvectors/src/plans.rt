@@ -1,7 +1,7 @@
 //! Plans and caps in words: a plan is a number or a list of plans in brackets, and caps are six numbers.
 
 use crate::fault::VectorFault;
-use dexplain_merge::{Caps, Plan};
+use dexmerge::{Caps, Plan};
 use std::alloc::Global;
 
 /// The plan that a word stands for, as `((0 1) 2)`.

@@ -2,10 +2,10 @@
 //! CAUSE ..`. Each round draws a plan that names each file once and some more than once; each has to be answered so.
 
 use crate::fault::VectorFault;
-use crate::merge::Merge;
+use crate::merge::{After, Merge};
 use crate::outcome::Outcome;
 use crate::random::Random;
-use dexplain_merge::Plan;
+use dexmerge::Plan;
 use std::alloc::{AllocError, Global};
 use std::path::Path;
 use std::rt::Files;
@@ -30,7 +30,7 @@ pub fn run<R: Files + AllocGlobal>(
     let mut random = Random::new(1);
     for _ in 0..rounds {
         let plan = random_plan(alloc, &mut random, programs.len())?;
-        match merge.planned(alloc, &programs, &plan)? {
+        match merge.planned(alloc, &programs, &plan, After::Merged)? {
             Outcome::Passed => continue,
             outcome => return Ok(outcome),
         }

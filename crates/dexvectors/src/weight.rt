@@ -1,15 +1,14 @@
-//! Files weighed: `weight FILE WEIGHT`. Today only plain files are read.
+//! Files weighed: `weight FILE WEIGHT`.
 
 ghost use Rattle.std.specs.Prelude.{◌≡◌, IfOk, IsTrue};
 ghost use Rattle.dexspec.specs.Files.{definitions};
 ghost use Rattle.dexspec.specs.Weight.{weight};
 ghost use Rattle.dexvectors.specs.Told.{Weighs};
 
-use crate::check::LATER;
 use crate::fault::VectorFault;
 use crate::outcome::Outcome;
+use dexclass::{Program, read};
 use dexhead::Refusal;
-use dexplain::{Program, read};
 use dexpool::ReadFault;
 use std::alloc::Global;
 
@@ -18,13 +17,12 @@ pub fn run(alloc: Global, bytes: &[u8], right: &str) -> Result<Outcome, VectorFa
     weighed(alloc, bytes, right.parse()?)
 }
 
-// Passed where the classes of a file weigh so much; not served where the file is not plain.
+// Passed where the classes of a file weigh so much.
 fn weighed(alloc: Global, bytes: &[u8], right: u64) -> Result<Outcome, VectorFault>
     ensures { IfOk result (λ outcome. outcome ≡ Outcome.Passed → Weighs bytes.now right) }
 {
     let program = match read(alloc, bytes) {
         Ok(program) => program,
-        Err(ReadFault::Refused(Refusal { number: LATER, .. })) => return Ok(Outcome::Unserved),
         Err(ReadFault::Refused(Refusal { number, place })) => {
             let answered = format!(in alloc; "refused {number} {place}")?;
             return Ok(Outcome::Failed(answered));

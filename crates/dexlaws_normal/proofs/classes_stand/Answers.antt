@@ -4,7 +4,7 @@ use Rattle.dexspec.specs.Files.{definitions}
 use Rattle.dexspec.specs.Conditions.{Condition}
 use Rattle.dexspec.specs.Canonical.{canonical}
 use Rattle.dexspec.proofs.NormalClasses.{has_class}
-use Rattle.dexspec.proofs.NormalForm.{some_class, class_row_is, only_class, canonical_all_normal, plain_file}
+use Rattle.dexspec.proofs.NormalForm.{some_class, class_row_is, only_class, canonical_all_normal}
 use Rattle.dexspec.proofs.RowsReadable.{items_right, whole_normal_form}
 use Rattle.dexlaws_normal.proofs.classes_stand.Goals as goal
 
@@ -24,6 +24,3 @@ returns-clause-readable c = λ K good formed. (items_right K good formed).readab
 
 pub returns-clause-weight : goal.returns-clause-weight
 returns-clause-weight c = λ K good formed. (whole_normal_form K good formed).accepted Condition.Weight
-
-pub returns-clause-plain : goal.returns-clause-plain
-returns-clause-plain c = λ K good formed plain. plain_file K good formed plain

@@ -2,8 +2,7 @@
 
 use crate::fault::VectorFault;
 use crate::outcome::Outcome;
-use bitflags::Flags;
-use dexplain::{ClassFlags, FieldFlags, MethodFlags};
+use dexflags::{ClassFlags, FieldFlags, MethodFlags};
 use std::alloc::Global;
 
 /// Runs a line.

@@ -3,11 +3,11 @@ use Rattle.std.specs.Prelude.{ℕ, Option, Some, IfSome}
 use Rattle.std.proofs.lemmas.List.{length-map}
 use Rattle.dexspec.specs.Merging as merging
 use Rattle.dexspec.specs.Merging.{IsPlanFor}
-use Rattle.dexplain_merge.specs.declared.plan.Plan.{Plan}
-use Rattle.dexplain_merge.specs.declared.plan.Plan.TheVariants as variants
-use Rattle.dexplain_merge.specs.Plans.{plan_of, plans_of}
+use Rattle.dexmerge.specs.declared.plan.Plan.{Plan}
+use Rattle.dexmerge.specs.declared.plan.Plan.TheVariants as variants
+use Rattle.dexmerge.specs.Plans.{plan_of, plans_of}
 use Rattle.dexcmd.specs.Fans.{in_groups}
-use Rattle.dexplain_merge.proofs.PlanForms.{node_is}
+use Rattle.dexmerge.proofs.PlanForms.{node_is}
 use Rattle.dexcmd.proofs.Fanned.{AreGrouped, one_node_plan, one_round, groups_fewer, last_round, grouped_plan, few_files}
 use Rattle.dexcmd.proofs.fanning.fan_plan.Goals as goal
 use Rattle.dexcmd.proofs.fanning.fan_plan.Goals.{In_ok-plans-2}

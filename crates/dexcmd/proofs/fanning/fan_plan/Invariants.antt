@@ -1,5 +1,5 @@
 use Rattle.std.proofs.Common.{◌<◌, map, vec_len}
-use Rattle.dexplain_merge.specs.Plans.{plan_of}
+use Rattle.dexmerge.specs.Plans.{plan_of}
 use Rattle.dexcmd.proofs.Fanned.{AreGrouped}
 use Rattle.dexcmd.proofs.fanning.fan_plan.Given as goal
 

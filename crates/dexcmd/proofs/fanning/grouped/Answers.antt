@@ -5,11 +5,11 @@ use Rattle.std.proofs.lemmas.Bool.{cases_lt, eqb-true, false≢true}
 use Rattle.std.proofs.lemmas.Iterator.Consumers.{YieldsList-turn, YieldsList-end}
 use Rattle.std.proofs.lemmas.Iterator.Adapters.{YieldsList-from_vec}
 use Rattle.dexspec.specs.Merging as merging
-use Rattle.dexplain_merge.specs.declared.plan.Plan.{Plan}
-use Rattle.dexplain_merge.specs.declared.plan.Plan.TheVariants as variants
-use Rattle.dexplain_merge.specs.Plans.{plan_of, plans_of}
+use Rattle.dexmerge.specs.declared.plan.Plan.{Plan}
+use Rattle.dexmerge.specs.declared.plan.Plan.TheVariants as variants
+use Rattle.dexmerge.specs.Plans.{plan_of, plans_of}
 use Rattle.dexcmd.specs.Fans.{in_groups}
-use Rattle.dexplain_merge.proofs.PlanForms.{node_is}
+use Rattle.dexmerge.proofs.PlanForms.{node_is}
 use Rattle.dexcmd.proofs.Fanned.{IsCut, same_cut, one_more, group_more, last_closed, nothing_open}
 use Rattle.dexcmd.proofs.fanning.grouped.Goals as goal
 use Rattle.dexcmd.proofs.fanning.grouped.Goals.{then-len-fan+in_ok-push, else-len-fan, then-not-is_empty+in_ok-push-3, else-not-is_empty}

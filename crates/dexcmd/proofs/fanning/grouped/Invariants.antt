@@ -1,5 +1,5 @@
 use Rattle.std.proofs.Common.{◌<◌, length, map, vec_len}
-use Rattle.dexplain_merge.specs.Plans.{plan_of}
+use Rattle.dexmerge.specs.Plans.{plan_of}
 use Rattle.dexcmd.proofs.Fanned.{IsCut}
 use Rattle.dexcmd.proofs.fanning.grouped.Given as goal
 

@@ -1,10 +1,10 @@
 use Rattle.std.proofs.Common.{◌≡◌, ◌∙◌, ◌++◌, ◌∷◌, [], List, map, sym, ap, refl}
 use Rattle.std.proofs.lemmas.List.{map-append}
 use Rattle.dexspec.specs.Merging as merging
-use Rattle.dexplain_merge.specs.declared.plan.Plan.TheVariants as variants
-use Rattle.dexplain_merge.specs.Plans.{plan_of}
+use Rattle.dexmerge.specs.declared.plan.Plan.TheVariants as variants
+use Rattle.dexmerge.specs.Plans.{plan_of}
 use Rattle.dexcmd.specs.Fans.{leaf_plans}
-use Rattle.dexplain_merge.proofs.PlanForms.{leaf_is}
+use Rattle.dexmerge.proofs.PlanForms.{leaf_is}
 use Rattle.dexcmd.proofs.Fanned.{leaf_more}
 use Rattle.dexcmd.proofs.fanning.leaves.Goals as goal
 

@@ -1,5 +1,5 @@
 use Rattle.std.proofs.Common.{◌≡◌, map}
-use Rattle.dexplain_merge.specs.Plans.{plan_of}
+use Rattle.dexmerge.specs.Plans.{plan_of}
 use Rattle.dexcmd.specs.Fans.{leaf_plans}
 use Rattle.dexcmd.proofs.fanning.leaves.Given as goal
 

@@ -1,7 +1,7 @@
 use Rattle.std.proofs.Common.{arith, ◌≡◌, sym, ap, subst, length, map}
 use Rattle.std.proofs.lemmas.List.{length-map}
 use Rattle.dexspec.specs.Merging.{IsPlanFor}
-use Rattle.dexplain_merge.specs.Plans.{plan_of}
+use Rattle.dexmerge.specs.Plans.{plan_of}
 use Rattle.dexcmd.specs.Inputs.{bytes_read}
 use Rattle.dexcmd.proofs.Merged.{fault_of_merging, united_fault, united_as, plan_for_files}
 use Rattle.dexcmd.proofs.merging.merge_run.Goals as goal

@@ -3,7 +3,8 @@ use Rattle.std.proofs.lemmas.List.{length-map, drop-set-lt}
 use Rattle.std.proofs.lemmas.List.Elements.{All-set}
 use Rattle.std.proofs.lemmas.Grind.{drop_more_same}
 use Rattle.std.proofs.lemmas.Result.{err_from_is_err_and}
-use Rattle.dexplain.specs.Programs.{IsReadAs, IsReadFault}
+use Rattle.dexspec.specs.Accepted.{IsRefused}
+use Rattle.dexclass.specs.Programs.{IsReadAs}
 use Rattle.dexcmd.specs.Inputs.{bytes_read}
 use Rattle.dexcmd.proofs.Merged.{read_more, holds_now}
 use Rattle.dexcmd.proofs.merging.read_each.Goals as goal
@@ -34,9 +35,9 @@ returns-in-Err-Refused-clause-fault g c =
       within = omega (arith, count, c.requires.places);
       collections = c.loop-i.programs.items;
       before = c.loop-i.invariant.read;
-      here = holds_now (λ b. IsReadFault b c.in-Err-Refused.refusal) g.R.Source.tells (λ input. bytes_read (g.R.Source.to_come input)) c.loop-i.inputs c.args.inputs.now c.loop-i.i c.index-inputs-i.result
+      here = holds_now (λ b. IsRefused b c.in-Err-Refused.refusal.number c.in-Err-Refused.refusal.place) g.R.Source.tells (λ input. bytes_read (g.R.Source.to_come input)) c.loop-i.inputs c.args.inputs.now c.loop-i.i c.index-inputs-i.result
           c.loop-i.invariant.rest now lt c.index-inputs-i.is
-          (λ t. subst (λ b. IsReadFault b c.in-Err-Refused.refusal) (c.as_slice.ensures.value ∙ c.in-Ok.ensures.bytes t) fault);
+          (λ t. subst (λ b. IsRefused b c.in-Err-Refused.refusal.number c.in-Err-Refused.refusal.place) (c.as_slice.ensures.value ∙ c.in-Ok.ensures.bytes t) fault);
     })
 
 pub loop-i-preserved : goal.loop-i-preserved

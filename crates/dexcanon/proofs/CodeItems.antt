@@ -1,0 +1,86 @@
+-- The code of methods, method by method.
+use Rattle.std.proofs.Common.{◌≡◌, ℕ, ◌+◌, ◌<◌, List, ◌∷◌, ◌++◌, length, get_or, map, take, drop, Option, Some, None, ap, sym, subst, ◌∙◌, arith}
+use Rattle.std.specs.Option.{option_map, option_map_or}
+use Rattle.std.proofs.lemmas.List.{drop_more, length-append, length-take, length-drop, get_or-map, get_or_default, length-map, map-append}
+use Rattle.dexspec.specs.Lists.{present, zip_with}
+use Rattle.dexspec.proofs.Sharing.{present-append}
+use Rattle.dexspec.specs.Code.{Code}
+use Rattle.dexspec.specs.Mentions.{Mentions}
+use Rattle.dexcode.specs.Numbered.{NumberedItem}
+use Rattle.dexcode.specs.Meaning.{code_in}
+use Rattle.dexmembers.specs.Numbered.{NumberedMethod, NumberedMembers, method_in, methods_of}
+use Rattle.dexclass.specs.Numbered.{NumberedClass}
+use Rattle.dexcanon.specs.Codes.{code_use, code_item, class_methods, method_codes}
+use Rattle.dexcanon.proofs.OwnUses.{uses_left, zip_with_at, length-zip_with, zip_with_append, some_left, none_left, no_uses_left}
+
+module _ (m : Mentions) (xs : List NumberedMethod) (offs : List ℕ) where
+  -- the code of the methods
+  abbrev pub code_uses : List (Option (Code × ℕ))
+  code_uses = zip_with code_use (map (method_in m) xs) offs
+
+  pub length-code_uses : length offs ≡ length xs → length code_uses ≡ length xs
+  length-code_uses same = length-zip_with code_use (map (method_in m) xs) offs (same ∙ sym (length-map xs (method_in m))) ∙ length-map xs (method_in m)
+
+  -- that of a method
+  code_at : (i : ℕ) (x : NumberedMethod) (o : ℕ) (d : Option (Code × ℕ)) → i < length xs → length offs ≡ length xs → get_or xs i x ≡ x → get_or offs i o ≡ o → get_or code_uses i d ≡ code_use (method_in m x) o
+  code_at i x o d lt same is at =
+      zip_with_at code_use (map (method_in m) xs) offs i (method_in m x) o d (omega (arith, lt, length-map xs (method_in m))) (omega (arith, lt, same))
+      ∙ ap (λ y. code_use y (get_or offs i o)) (get_or-map (method_in m) xs i x (method_in m x) lt ∙ ap (method_in m) is) ∙ ap (code_use (method_in m x)) at
+
+  -- a method with code is the next
+  pub code_next : (i : ℕ) (x : NumberedMethod) (o : ℕ) (k : NumberedItem) → i < length xs → length offs ≡ length xs → get_or xs i x ≡ x → get_or offs i o ≡ o → x.code ≡ Some k
+      → uses_left (code_item m) code_uses i ≡ code_item m (code_in m k, o) ∷ uses_left (code_item m) code_uses (i + 1)
+  code_next i x o k lt same is at has =
+      some_left (code_item m) code_uses i (code_in m k, o) None (omega (arith, lt, length-code_uses same))
+      (code_at i x o None lt same is at ∙ ap (λ (c : Option NumberedItem). option_map_or (λ y. Some (y, o)) (option_map (code_in m) c) None) has)
+
+  -- one without leaves what is left
+  pub code_none : (i : ℕ) (x : NumberedMethod) (o : ℕ) → i < length xs → length offs ≡ length xs → get_or xs i x ≡ x → get_or offs i o ≡ o → x.code ≡ None
+      → uses_left (code_item m) code_uses i ≡ uses_left (code_item m) code_uses (i + 1)
+  code_none i x o lt same is at has =
+      none_left (code_item m) code_uses i None (omega (arith, lt, length-code_uses same))
+      (code_at i x o None lt same is at ∙ ap (λ (c : Option NumberedItem). option_map_or (λ y. Some (y, o)) (option_map (code_in m) c) None) has)
+
+  -- the same, where the offset is looked up
+  pub code_at_index : (i : ℕ) (x : NumberedMethod) (k : NumberedItem) → i < length xs → length offs ≡ length xs → x ≡ get_or xs i x → x.code ≡ Some k
+      → uses_left (code_item m) code_uses i ≡ code_item m (code_in m k, get_or offs i 0) ∷ uses_left (code_item m) code_uses (i + 1)
+  code_at_index i x k lt same is has = code_next i x (get_or offs i 0) k lt same (sym is) (get_or_default offs i (get_or offs i 0) 0 (omega (arith, lt, same))) has
+
+  pub no_code_at_index : (i : ℕ) (x : NumberedMethod) → i < length xs → length offs ≡ length xs → x ≡ get_or xs i x → x.code ≡ None → uses_left (code_item m) code_uses i ≡ uses_left (code_item m) code_uses (i + 1)
+  no_code_at_index i x lt same is has = code_none i x (get_or offs i 0) lt same (sym is) (get_or_default offs i (get_or offs i 0) 0 (omega (arith, lt, same))) has
+
+-- ---- methods of lists that are joined
+
+pub codes_append : (m : Mentions) (xs ys : List NumberedMethod) (offs : List ℕ) → method_codes m (xs ++ ys) offs ≡ method_codes m xs (take (length xs) offs) ++ method_codes m ys (drop (length xs) offs)
+codes_append m xs ys offs =
+    let ms = map (method_in m) xs in
+    let ns = map (method_in m) ys in
+    let count = length-map xs (method_in m) in
+    ap (λ zs. map (code_item m) (present (zip_with code_use zs offs))) (map-append (method_in m) xs ys)
+    ∙ ap (λ us. map (code_item m) (present us)) (zip_with_append code_use ms ns offs)
+    ∙ ap (λ n. map (code_item m) (present (zip_with code_use ms (take n offs) ++ zip_with code_use ns (drop n offs)))) count
+    ∙ ap (map (code_item m)) (present-append (zip_with code_use ms (take (length xs) offs)) (zip_with code_use ns (drop (length xs) offs)))
+    ∙ map-append (code_item m) (present (zip_with code_use ms (take (length xs) offs))) (present (zip_with code_use ns (drop (length xs) offs)))
+
+-- those of what a class declares
+pub member_codes : (m : Mentions) (x : NumberedMembers) (ds vs : List NumberedMethod) (offs own others : List ℕ) → ds ≡ x.direct_methods → vs ≡ x.virtual_methods → own ≡ take (length ds) offs → others ≡ drop (length ds) offs
+    → method_codes m (methods_of x) offs ≡ method_codes m ds own ++ method_codes m vs others
+member_codes m x ds vs offs own others de ve oe re =
+    ap (λ zs. method_codes m (zs ++ x.virtual_methods) offs) (sym de) ∙ ap (λ zs. method_codes m (ds ++ zs) offs) (sym ve) ∙ codes_append m ds vs offs
+    ∙ ap (λ os. method_codes m ds os ++ method_codes m vs (drop (length ds) offs)) (sym oe) ∙ ap (λ os. method_codes m ds own ++ method_codes m vs os) (sym re)
+
+module _ (cs : List NumberedClass) (rest own others : List ℕ) (r n : ℕ) (c : NumberedClass) (x : NumberedMembers) (lt : r < length cs) (is : c ≡ get_or cs r c) (members : x ≡ c.members) (count : n ≡ length (methods_of x)) where
+  next_class : class_methods (drop r cs) ≡ methods_of x ++ class_methods (drop (r + 1) cs)
+  next_class = ap class_methods (drop_more cs r c lt ∙ ap (λ y. y ∷ drop (r + 1) cs) (sym is)) ∙ ap (λ z. methods_of z ++ class_methods (drop (r + 1) cs)) (sym members)
+
+  -- those of the next class
+  pub class_codes : (m : Mentions) → own ≡ take n rest → others ≡ drop n rest → method_codes m (class_methods (drop r cs)) rest ≡ method_codes m (methods_of x) own ++ method_codes m (class_methods (drop (r + 1) cs)) others
+  class_codes m oe re =
+      let C = class_methods (drop (r + 1) cs) in
+      ap (λ zs. method_codes m zs rest) next_class ∙ codes_append m (methods_of x) C rest
+      ∙ ap (λ os. method_codes m (methods_of x) os ++ method_codes m C (drop (length (methods_of x)) rest)) (sym (oe ∙ ap (λ k. take k rest) count))
+      ∙ ap (λ os. method_codes m (methods_of x) own ++ method_codes m C os) (sym (re ∙ ap (λ k. drop k rest) count))
+
+  -- as many offsets are left as methods
+  pub class_rest : others ≡ drop n rest → length rest ≡ length (class_methods (drop r cs)) → length others ≡ length (class_methods (drop (r + 1) cs))
+  class_rest re same = omega (arith, ap (λ (os : List ℕ). length os) re, length-drop n rest, same, ap (λ (zs : List NumberedMethod). length zs) next_class, length-append (methods_of x) (class_methods (drop (r + 1) cs)), count)

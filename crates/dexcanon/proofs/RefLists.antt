@@ -1,0 +1,148 @@
+-- Lists of sets of parameters, list by list.
+use Rattle.std.proofs.Common.{◌≡◌, ℕ, zero, suc, ◌+◌, ◌<◌, ◌≤◌, List, [], ◌∷◌, ◌++◌, Bool, false, ◌==◌, length, get_or, map, take, drop, Result, Ok, Err, IsErr, IsErrAnd, ap, refl, sym, ◌∙◌, arith}
+use Rattle.std.specs.Prelude.{IfOk}
+use Rattle.std.specs.Global.{Vec}
+use Rattle.std.proofs.lemmas.List.{drop_more, length-drop, length-map, map-append}
+use Rattle.std.proofs.Math.Seq.{drop-nil}
+use Rattle.dexspec.specs.Lists.{chunks, present}
+use Rattle.dexspec.specs.Bytes.{round_up, padding}
+use Rattle.dexspec.specs.Placing.{unless_empty, bytes_from, end_from}
+use Rattle.dexspec.specs.Spellings.{offsets_bytes}
+use Rattle.dexval.specs.Numbered.{NumberedSet}
+use Rattle.dexmembers.specs.Numbered.{NumberedMethod, NumberedMembers, methods_of}
+use Rattle.dexclass.specs.Numbered.{NumberedClass}
+use Rattle.dexcanon.specs.declared.faults.StoreFault.{StoreFault}
+use Rattle.dexcanon.specs.Taking.{Adds, AreWithin, Outcome}
+use Rattle.dexcanon.specs.RefLists.{parameter_counts, class_parameter_counts, total, ref_lists}
+use Rattle.dexcanon.proofs.Aligned.{Aligned, aligned_none, aligned_as, aligned_more, front_short, front_ends, aligned_join, aligned_join_fault}
+
+-- ---- lists of offsets
+
+-- an empty list has no item
+pub list_skipped : (n : ℕ) (ns offs list : List ℕ) → list ≡ take n offs → length list ≡ 0 → ref_lists (n ∷ ns) offs ≡ ref_lists ns (drop n offs)
+list_skipped n ns offs [] is none = ap (λ l. map offsets_bytes (present (unless_empty l ∷ map unless_empty (chunks ns (drop n offs))))) (sym is)
+list_skipped n ns offs (o ∷ os) is none = absurd (omega (arith, none))
+
+-- any other one is the next item
+pub list_next : (n : ℕ) (ns offs list : List ℕ) → list ≡ take n offs → 0 < length list → ref_lists (n ∷ ns) offs ≡ offsets_bytes list ∷ ref_lists ns (drop n offs)
+list_next n ns offs [] is some = absurd (omega (arith, some))
+list_next n ns offs (o ∷ os) is some = ap (λ l. map offsets_bytes (present (unless_empty l ∷ map unless_empty (chunks ns (drop n offs))))) (sym is)
+
+-- what is dropped twice
+drop_twice : {X : Type 0} (m n : ℕ) (xs : List X) → drop n (drop m xs) ≡ drop (m + n) xs
+drop_twice zero n xs = let e : n ≡ 0 + n = omega arith in ap (λ k. drop k xs) e
+drop_twice (suc m) n [] = drop-nil n ∙ sym (drop-nil (suc m + n))
+drop_twice (suc m) n (x ∷ xs) = let e : suc (m + n) ≡ suc m + n = omega arith in drop_twice m n xs ∙ ap (λ k. drop k (x ∷ xs)) e
+
+-- the lists of joined counts
+lists_append_at : (ms ns offs list : List ℕ) → ref_lists (ms ++ ns) offs ≡ ref_lists ms offs ++ ref_lists ns (drop (total ms) offs)
+    → map offsets_bytes (present (unless_empty list ∷ map unless_empty (chunks (ms ++ ns) offs))) ≡ map offsets_bytes (present (unless_empty list ∷ map unless_empty (chunks ms offs))) ++ ref_lists ns (drop (total ms) offs)
+lists_append_at ms ns offs [] e = e
+lists_append_at ms ns offs (o ∷ os) e = ap (λ ls. offsets_bytes (o ∷ os) ∷ ls) e
+
+pub lists_append : (ms ns offs : List ℕ) → ref_lists (ms ++ ns) offs ≡ ref_lists ms offs ++ ref_lists ns (drop (total ms) offs)
+lists_append [] ns offs = refl
+lists_append (m ∷ ms) ns offs = lists_append_at ms ns (drop m offs) (take m offs) (lists_append ms ns (drop m offs)) ∙ ap (λ os. ref_lists (m ∷ ms) offs ++ ref_lists ns os) (drop_twice m (total ms) offs)
+
+pub total_append : (ms ns : List ℕ) → total (ms ++ ns) ≡ total ms + total ns
+total_append [] ns = omega arith
+total_append (m ∷ ms) ns = omega (arith, total_append ms ns)
+
+-- ---- how far a loop has come
+
+-- A front of the lists was added, and those of so many sets each are left, with enough offsets.
+pub record Listing {S : Type 0} (holds : S → List ℕ → Type 0) (has_failed : S → Bool) (empties : Bool) (limit : ℕ) (s : S) (v : Vec ℕ) (t : S) (w : Vec ℕ) (from : ℕ) (ns offs : List ℕ) (at : ℕ) (left rest : List ℕ) : Type 0 where
+  pub made : Aligned holds has_failed empties limit s v t w 4 from (ref_lists ns offs) at (ref_lists left rest)
+  pub enough : total left ≤ length rest
+  pub behind : drop (total left) rest ≡ drop (total ns) offs
+
+module _ {S : Type 0} {holds : S → List ℕ → Type 0} {has_failed : S → Bool} {empties : Bool} {limit : ℕ} where
+  -- at the start all are left
+  pub listing_none : (p : S) (q : Vec ℕ) (ns os : List ℕ) (o : ℕ) → has_failed p ≡ false → AreWithin limit (ref_lists ns os) → total ns ≤ length os → Listing holds has_failed empties limit p q p q o ns os o ns os
+  listing_none p q ns os o works within enough = record { made = aligned_none p q 4 o (ref_lists ns os) works within; enough = enough; behind = refl }
+
+module _ {S : Type 0} {holds : S → List ℕ → Type 0} {has_failed : S → Bool} {empties : Bool} {limit : ℕ} {s t : S} {v w : Vec ℕ} {from at : ℕ} {all offs left rest : List ℕ} where
+  -- the next count
+  module _ {n : ℕ} {ns others list : List ℕ} (h : Listing holds has_failed empties limit s v t w from all offs at left rest) (e : left ≡ n ∷ ns) (front : list ≡ take n rest) (back : others ≡ drop n rest) where
+    -- enough offsets are left behind it
+    enough_left : total ns ≤ length others
+    enough_left = omega (arith, h.enough, ap total e, ap (λ (os : List ℕ). length os) back, length-drop n rest)
+
+    same_behind : drop (total ns) others ≡ drop (total all) offs
+    same_behind = ap (drop (total ns)) back ∙ drop_twice n (total ns) rest ∙ ap (λ ms. drop (total ms) rest) (sym e) ∙ h.behind
+
+    -- there are so many offsets for it
+    pub enough_here : n ≤ length rest
+    enough_here = omega (arith, h.enough, ap total e)
+
+    skipped : length list ≡ 0 → ref_lists left rest ≡ ref_lists ns others
+    skipped none = ap (λ ms. ref_lists ms rest) e ∙ list_skipped n ns rest list front none ∙ ap (ref_lists ns) (sym back)
+
+    -- its list
+    pub next_list : 0 < length list → ref_lists left rest ≡ offsets_bytes list ∷ ref_lists ns others
+    next_list some = ap (λ ms. ref_lists ms rest) e ∙ list_next n ns rest list front some ∙ ap (λ os. offsets_bytes list ∷ ref_lists ns os) (sym back)
+
+    -- an empty one is passed over
+    pub listing_skip : length list ≡ 0 → Listing holds has_failed empties limit s v t w from all offs at ns others
+    listing_skip none = record { made = aligned_as (ref_lists ns others) (skipped none) h.made; enough = enough_left; behind = same_behind }
+
+    -- it was added
+    pub listing_more : {u : S} {z : Vec ℕ} (end : ℕ) → 0 < length list → end ≡ round_up 4 at + length (offsets_bytes list) → Adds holds has_failed empties limit t w u z (padding 4 at ++ offsets_bytes list) → Listing holds has_failed empties limit s v u z from all offs end ns others
+    listing_more end some is a = record { made = aligned_more h.made (next_list some) end is a; enough = enough_left; behind = same_behind }
+
+  -- the counts of the next methods
+  module _ (ms ns : List ℕ) (h : Listing holds has_failed empties limit s v t w from all offs at left rest) (e : left ≡ ms ++ ns) where
+    -- their lists
+    pub next_lists : (os : List ℕ) → os ≡ drop (total ms) rest → ref_lists left rest ≡ ref_lists ms rest ++ ref_lists ns os
+    next_lists os back = ap (λ ks. ref_lists ks rest) e ∙ lists_append ms ns rest ∙ ap (λ ks. ref_lists ms rest ++ ref_lists ns ks) (sym back)
+
+    -- are no longer than the limit, end before all, and there are so many offsets for them
+    pub lists_within : AreWithin limit (ref_lists ms rest)
+    lists_within = front_short (ref_lists ms rest) (ref_lists ns (drop (total ms) rest)) h.made (next_lists (drop (total ms) rest) refl)
+
+    pub lists_end : end_from 4 at (ref_lists ms rest) ≤ end_from 4 from (ref_lists all offs)
+    lists_end = front_ends (ref_lists ms rest) (ref_lists ns (drop (total ms) rest)) h.made (next_lists (drop (total ms) rest) refl)
+
+    pub lists_enough : total ms ≤ length rest
+    lists_enough = omega (arith, h.enough, ap total e, total_append ms ns)
+
+    -- they were added
+    pub listing_join : {u : S} {z : Vec ℕ} (end : ℕ) (os : List ℕ) → end ≡ end_from 4 at (ref_lists ms rest) → os ≡ drop (total ms) rest → Adds holds has_failed empties limit t w u z (bytes_from 4 at (ref_lists ms rest))
+        → Listing holds has_failed empties limit s v u z from all offs end ns os
+    listing_join end os is back a = record {
+      made = aligned_join (ref_lists ms rest) (ref_lists ns os) h.made (next_lists os back) end is a;
+      enough = omega (arith, h.enough, ap total e, total_append ms ns, ap (λ (ks : List ℕ). length ks) back, length-drop (total ms) rest);
+      behind = ap (drop (total ns)) back ∙ drop_twice (total ms) (total ns) rest ∙ ap (λ k. drop k rest) (sym (ap total e ∙ total_append ms ns)) ∙ h.behind;
+    }
+
+    -- the state failed in their midst
+    pub listing_fault : {T U : Type 0} {u : S} {z : Vec ℕ} {f : StoreFault} {r : Result T StoreFault} → Outcome {T = U} holds has_failed empties limit t w u z (bytes_from 4 at (ref_lists ms rest)) (Err f) → IsErr r → IsErrAnd r (λ k. k ≡ f)
+        → Outcome holds has_failed empties limit s v u z (bytes_from 4 from (ref_lists all offs)) r
+    listing_fault o is and = aligned_join_fault (ref_lists ms rest) (ref_lists ns (drop (total ms) rest)) h.made (next_lists (drop (total ms) rest) refl) o is and
+
+-- an answer of which something weaker holds
+pub ok_weaker : {T E : Type 0} (P Q : T → Type 0) (r : Result T E) → ((x : T) → P x → Q x) → IfOk r P → IfOk r Q
+ok_weaker P Q (Ok x) f h = f x h
+ok_weaker P Q (Err e) f h = tt
+
+-- ---- methods and classes
+
+-- the counts of the next method, whose sets have been seen, and of those behind it
+pub method_counts : {Y : Type 0} (g : Y → NumberedSet) (sets : List Y) (xs : List NumberedMethod) (i : ℕ) (x : NumberedMethod) → i < length xs → x ≡ get_or xs i x → map g sets ≡ x.parameter_annotations
+    → parameter_counts (drop i xs) ≡ length sets ∷ parameter_counts (drop (i + 1) xs)
+method_counts g sets xs i x lt is e =
+    ap parameter_counts (drop_more xs i x lt ∙ ap (λ y. y ∷ drop (i + 1) xs) (sym is)) ∙ ap (λ n. n ∷ parameter_counts (drop (i + 1) xs)) (ap (λ (ss : List NumberedSet). length ss) (sym e) ∙ length-map sets g)
+
+-- a list that is not empty
+pub some_of : (xs : List ℕ) (b : Bool) → b ≡ (length xs == 0) → b ≡ false → 0 < length xs
+some_of [] b is none = absurd cc
+some_of (x ∷ xs) b is none = omega arith
+
+-- those of what a class declares
+pub member_counts : (x : NumberedMembers) (ds vs : List NumberedMethod) → ds ≡ x.direct_methods → vs ≡ x.virtual_methods → parameter_counts (methods_of x) ≡ parameter_counts ds ++ parameter_counts vs
+member_counts x ds vs de ve = (λ i. parameter_counts (sym de i ++ sym ve i)) ∙ map-append (λ y. length y.parameter_annotations) ds vs
+
+-- those of the next class and of those behind it
+pub class_counts : (cs : List NumberedClass) (i : ℕ) (c : NumberedClass) (x : NumberedMembers) → i < length cs → c ≡ get_or cs i c → x ≡ c.members
+    → class_parameter_counts (drop i cs) ≡ parameter_counts (methods_of x) ++ class_parameter_counts (drop (i + 1) cs)
+class_counts cs i c x lt is members = ap class_parameter_counts (drop_more cs i c lt ∙ ap (λ y. y ∷ drop (i + 1) cs) (sym is)) ∙ ap (λ y. parameter_counts (methods_of y) ++ class_parameter_counts (drop (i + 1) cs)) (sym members)

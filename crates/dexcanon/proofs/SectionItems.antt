@@ -1,0 +1,150 @@
+-- The items of each section, of a file that is laid out.
+use Rattle.std.proofs.Common.{◌≡◌, ℕ, ◌+◌, ◌<◌, ◌≤◌, ◌^◌, List, [], ◌∷◌, ◌++◌, length, get_or, map, drop, max, Option, refl, sym, ap, subst, ◌∙◌, arith}
+use Rattle.std.specs.Prelude.{All}
+use Rattle.std.specs.List.{flat_map}
+use Rattle.std.proofs.lemmas.List.{length-map, map-append}
+use Rattle.std.proofs.lemmas.Simd.{map-map}
+use Rattle.std.proofs.lemmas.List.Elements.{All-nil, All-cons}
+use Rattle.dexspec.specs.Lists.{present, zip_with}
+use Rattle.dexspec.specs.Mentions.{Mentions}
+use Rattle.dexspec.specs.Classes.{MethodDef}
+use Rattle.dexspec.specs.Placing.{Ordered, Placed, section_bytes, all_methods, values_unless_empty, code_uses, debug_uses, EqualOnce, own_items, items_by, uses_offsets, offsets, end_from}
+use Rattle.dexspec.specs.Sameness.{same_debug}
+use Rattle.dexspec.specs.Canonical.{data_start, debug_end, class_data_end, set_end, ref_list_end, data_sections, type_list_section, annotation_section, array_section, string_section, debug_section, code_section, class_data_section, set_section, ref_list_section, directory_section, debug_offsets, code_offsets, debug_items}
+use Rattle.dexspec.specs.Spellings.{encoded_array_bytes}
+use Rattle.dexspec.proofs.Placements.{length-uses_offsets, length-items_offsets, length-zip_with, sections_follow}
+use Rattle.dexmembers.specs.Numbered.{method_in, methods_of}
+use Rattle.dexclass.specs.Numbered.{NumberedClass, definition_of}
+use Rattle.dexlayout.specs.Places.{Places}
+use Rattle.dexlayout.specs.Laid.{ordered_of, greatest_of, greatest_in, greatest_item, file_end}
+use Rattle.dexlayout.proofs.Ends.{end_in_file}
+use Rattle.dexcanon.specs.Taking.{AreWithin}
+use Rattle.dexcanon.specs.Ready.{IsReady}
+use Rattle.dexcanon.specs.Codes.{class_methods, method_codes, code_use, code_item}
+use Rattle.dexcanon.specs.ClassItems.{values_use}
+
+-- ---- no item is longer than the limit
+
+pub all_within : (limit : ℕ) (xs : List (List ℕ)) → greatest_of xs ≤ limit → AreWithin limit xs
+all_within limit [] le = All-nil (λ x. length x ≤ limit)
+all_within limit (x ∷ xs) le = All-cons (λ x. length x ≤ limit) x xs (omega (arith, le)) (all_within limit xs (omega (arith, le)))
+
+first_in : (limit : ℕ) (p : Placed) (ps : List Placed) → greatest_in (p ∷ ps) ≤ limit → greatest_of p.items ≤ limit
+first_in limit p ps le = omega (arith, le)
+
+rest_in : (limit : ℕ) (p : Placed) (ps : List Placed) → greatest_in (p ∷ ps) ≤ limit → greatest_in ps ≤ limit
+rest_in limit p ps le = omega (arith, le)
+
+module _ {m : Mentions} {cs : List NumberedClass} {p : Places} {limit : ℕ} (h : IsReady m cs p limit) where
+  -- all of the sections
+  sections_0 : greatest_in (data_sections (ordered_of m cs)) ≤ limit
+  sections_0 = omega (arith, h.greatest, h.laid.greatest_is)
+
+  pub type_lists_within : AreWithin limit (type_list_section (ordered_of m cs)).items
+  type_lists_within = all_within limit (type_list_section (ordered_of m cs)).items (first_in limit (type_list_section (ordered_of m cs)) (annotation_section (ordered_of m cs) ∷ array_section (ordered_of m cs) ∷ string_section (ordered_of m cs) ∷ debug_section (ordered_of m cs) ∷ code_section (ordered_of m cs) ∷ class_data_section (ordered_of m cs) ∷ set_section (ordered_of m cs) ∷ ref_list_section (ordered_of m cs) ∷ directory_section (ordered_of m cs) ∷ []) sections_0)
+
+  sections_1 : greatest_in (annotation_section (ordered_of m cs) ∷ array_section (ordered_of m cs) ∷ string_section (ordered_of m cs) ∷ debug_section (ordered_of m cs) ∷ code_section (ordered_of m cs) ∷ class_data_section (ordered_of m cs) ∷ set_section (ordered_of m cs) ∷ ref_list_section (ordered_of m cs) ∷ directory_section (ordered_of m cs) ∷ []) ≤ limit
+  sections_1 = rest_in limit (type_list_section (ordered_of m cs)) (annotation_section (ordered_of m cs) ∷ array_section (ordered_of m cs) ∷ string_section (ordered_of m cs) ∷ debug_section (ordered_of m cs) ∷ code_section (ordered_of m cs) ∷ class_data_section (ordered_of m cs) ∷ set_section (ordered_of m cs) ∷ ref_list_section (ordered_of m cs) ∷ directory_section (ordered_of m cs) ∷ []) sections_0
+
+  pub annotations_within : AreWithin limit (annotation_section (ordered_of m cs)).items
+  annotations_within = all_within limit (annotation_section (ordered_of m cs)).items (first_in limit (annotation_section (ordered_of m cs)) (array_section (ordered_of m cs) ∷ string_section (ordered_of m cs) ∷ debug_section (ordered_of m cs) ∷ code_section (ordered_of m cs) ∷ class_data_section (ordered_of m cs) ∷ set_section (ordered_of m cs) ∷ ref_list_section (ordered_of m cs) ∷ directory_section (ordered_of m cs) ∷ []) sections_1)
+
+  sections_2 : greatest_in (array_section (ordered_of m cs) ∷ string_section (ordered_of m cs) ∷ debug_section (ordered_of m cs) ∷ code_section (ordered_of m cs) ∷ class_data_section (ordered_of m cs) ∷ set_section (ordered_of m cs) ∷ ref_list_section (ordered_of m cs) ∷ directory_section (ordered_of m cs) ∷ []) ≤ limit
+  sections_2 = rest_in limit (annotation_section (ordered_of m cs)) (array_section (ordered_of m cs) ∷ string_section (ordered_of m cs) ∷ debug_section (ordered_of m cs) ∷ code_section (ordered_of m cs) ∷ class_data_section (ordered_of m cs) ∷ set_section (ordered_of m cs) ∷ ref_list_section (ordered_of m cs) ∷ directory_section (ordered_of m cs) ∷ []) sections_1
+
+  pub arrays_within : AreWithin limit (array_section (ordered_of m cs)).items
+  arrays_within = all_within limit (array_section (ordered_of m cs)).items (first_in limit (array_section (ordered_of m cs)) (string_section (ordered_of m cs) ∷ debug_section (ordered_of m cs) ∷ code_section (ordered_of m cs) ∷ class_data_section (ordered_of m cs) ∷ set_section (ordered_of m cs) ∷ ref_list_section (ordered_of m cs) ∷ directory_section (ordered_of m cs) ∷ []) sections_2)
+
+  sections_3 : greatest_in (string_section (ordered_of m cs) ∷ debug_section (ordered_of m cs) ∷ code_section (ordered_of m cs) ∷ class_data_section (ordered_of m cs) ∷ set_section (ordered_of m cs) ∷ ref_list_section (ordered_of m cs) ∷ directory_section (ordered_of m cs) ∷ []) ≤ limit
+  sections_3 = rest_in limit (array_section (ordered_of m cs)) (string_section (ordered_of m cs) ∷ debug_section (ordered_of m cs) ∷ code_section (ordered_of m cs) ∷ class_data_section (ordered_of m cs) ∷ set_section (ordered_of m cs) ∷ ref_list_section (ordered_of m cs) ∷ directory_section (ordered_of m cs) ∷ []) sections_2
+
+  pub strings_within : AreWithin limit (string_section (ordered_of m cs)).items
+  strings_within = all_within limit (string_section (ordered_of m cs)).items (first_in limit (string_section (ordered_of m cs)) (debug_section (ordered_of m cs) ∷ code_section (ordered_of m cs) ∷ class_data_section (ordered_of m cs) ∷ set_section (ordered_of m cs) ∷ ref_list_section (ordered_of m cs) ∷ directory_section (ordered_of m cs) ∷ []) sections_3)
+
+  sections_4 : greatest_in (debug_section (ordered_of m cs) ∷ code_section (ordered_of m cs) ∷ class_data_section (ordered_of m cs) ∷ set_section (ordered_of m cs) ∷ ref_list_section (ordered_of m cs) ∷ directory_section (ordered_of m cs) ∷ []) ≤ limit
+  sections_4 = rest_in limit (string_section (ordered_of m cs)) (debug_section (ordered_of m cs) ∷ code_section (ordered_of m cs) ∷ class_data_section (ordered_of m cs) ∷ set_section (ordered_of m cs) ∷ ref_list_section (ordered_of m cs) ∷ directory_section (ordered_of m cs) ∷ []) sections_3
+
+  pub debugs_within : AreWithin limit (debug_section (ordered_of m cs)).items
+  debugs_within = all_within limit (debug_section (ordered_of m cs)).items (first_in limit (debug_section (ordered_of m cs)) (code_section (ordered_of m cs) ∷ class_data_section (ordered_of m cs) ∷ set_section (ordered_of m cs) ∷ ref_list_section (ordered_of m cs) ∷ directory_section (ordered_of m cs) ∷ []) sections_4)
+
+  sections_5 : greatest_in (code_section (ordered_of m cs) ∷ class_data_section (ordered_of m cs) ∷ set_section (ordered_of m cs) ∷ ref_list_section (ordered_of m cs) ∷ directory_section (ordered_of m cs) ∷ []) ≤ limit
+  sections_5 = rest_in limit (debug_section (ordered_of m cs)) (code_section (ordered_of m cs) ∷ class_data_section (ordered_of m cs) ∷ set_section (ordered_of m cs) ∷ ref_list_section (ordered_of m cs) ∷ directory_section (ordered_of m cs) ∷ []) sections_4
+
+  pub codes_within : AreWithin limit (code_section (ordered_of m cs)).items
+  codes_within = all_within limit (code_section (ordered_of m cs)).items (first_in limit (code_section (ordered_of m cs)) (class_data_section (ordered_of m cs) ∷ set_section (ordered_of m cs) ∷ ref_list_section (ordered_of m cs) ∷ directory_section (ordered_of m cs) ∷ []) sections_5)
+
+  sections_6 : greatest_in (class_data_section (ordered_of m cs) ∷ set_section (ordered_of m cs) ∷ ref_list_section (ordered_of m cs) ∷ directory_section (ordered_of m cs) ∷ []) ≤ limit
+  sections_6 = rest_in limit (code_section (ordered_of m cs)) (class_data_section (ordered_of m cs) ∷ set_section (ordered_of m cs) ∷ ref_list_section (ordered_of m cs) ∷ directory_section (ordered_of m cs) ∷ []) sections_5
+
+  pub class_data_within : AreWithin limit (class_data_section (ordered_of m cs)).items
+  class_data_within = all_within limit (class_data_section (ordered_of m cs)).items (first_in limit (class_data_section (ordered_of m cs)) (set_section (ordered_of m cs) ∷ ref_list_section (ordered_of m cs) ∷ directory_section (ordered_of m cs) ∷ []) sections_6)
+
+  sections_7 : greatest_in (set_section (ordered_of m cs) ∷ ref_list_section (ordered_of m cs) ∷ directory_section (ordered_of m cs) ∷ []) ≤ limit
+  sections_7 = rest_in limit (class_data_section (ordered_of m cs)) (set_section (ordered_of m cs) ∷ ref_list_section (ordered_of m cs) ∷ directory_section (ordered_of m cs) ∷ []) sections_6
+
+  pub sets_within : AreWithin limit (set_section (ordered_of m cs)).items
+  sets_within = all_within limit (set_section (ordered_of m cs)).items (first_in limit (set_section (ordered_of m cs)) (ref_list_section (ordered_of m cs) ∷ directory_section (ordered_of m cs) ∷ []) sections_7)
+
+  sections_8 : greatest_in (ref_list_section (ordered_of m cs) ∷ directory_section (ordered_of m cs) ∷ []) ≤ limit
+  sections_8 = rest_in limit (set_section (ordered_of m cs)) (ref_list_section (ordered_of m cs) ∷ directory_section (ordered_of m cs) ∷ []) sections_7
+
+  pub ref_lists_within : AreWithin limit (ref_list_section (ordered_of m cs)).items
+  ref_lists_within = all_within limit (ref_list_section (ordered_of m cs)).items (first_in limit (ref_list_section (ordered_of m cs)) (directory_section (ordered_of m cs) ∷ []) sections_8)
+
+  sections_9 : greatest_in (directory_section (ordered_of m cs) ∷ []) ≤ limit
+  sections_9 = rest_in limit (ref_list_section (ordered_of m cs)) (directory_section (ordered_of m cs) ∷ []) sections_8
+
+  pub directories_within : AreWithin limit (directory_section (ordered_of m cs)).items
+  directories_within = all_within limit (directory_section (ordered_of m cs)).items (first_in limit (directory_section (ordered_of m cs)) ([]) sections_9)
+
+-- ---- symbols and numbers
+
+-- the methods of the definitions are those of the classes
+pub methods_are : (m : Mentions) (cs : List NumberedClass) → all_methods (map (definition_of m) cs) ≡ map (method_in m) (class_methods cs)
+methods_are m [] = refl
+methods_are m (c ∷ cs) =
+    ap (λ xs. xs ++ all_methods (map (definition_of m) cs)) (sym (map-append (method_in m) c.members.direct_methods c.members.virtual_methods))
+    ∙ ap (λ xs. map (method_in m) (methods_of c.members) ++ xs) (methods_are m cs) ∙ sym (map-append (method_in m) (methods_of c.members) (class_methods cs))
+
+-- as many
+pub count_methods : (m : Mentions) (cs : List NumberedClass) → length (all_methods (map (definition_of m) cs)) ≡ length (class_methods cs)
+count_methods m cs = ap (λ (xs : List MethodDef). length xs) (methods_are m cs) ∙ length-map (class_methods cs) (method_in m)
+
+-- the code of the classes
+pub codes_are : (m : Mentions) (cs : List NumberedClass) (offs : List ℕ) → method_codes m (class_methods cs) offs ≡ map (code_item m) (present (code_uses (ordered_of m cs) offs))
+codes_are m cs offs = ap (λ xs. map (code_item m) (present (zip_with code_use xs offs))) (sym (methods_are m cs))
+
+-- the static values of the classes
+pub values_are : (m : Mentions) (cs : List NumberedClass) → map (encoded_array_bytes m) (present (map (values_use m) cs)) ≡ (array_section (ordered_of m cs)).items
+values_are m cs = ap (λ us. map (encoded_array_bytes m) (present us)) (sym (map-map (λ d. values_unless_empty d.1.static_values) (definition_of m) cs))
+
+-- an offset for each method
+pub count_debug_offsets : (m : Mentions) (cs : List NumberedClass) → length (debug_offsets (ordered_of m cs)) ≡ length (class_methods cs)
+unfolding debug_offsets
+count_debug_offsets m cs =
+    let K = ordered_of m cs in
+    length-items_offsets EqualOnce same_debug (debug_uses K) (offsets (debug_section K)) ∙ length-map (all_methods K.classes) _ ∙ count_methods m cs
+
+pub count_code_offsets : (m : Mentions) (cs : List NumberedClass) → length (code_offsets (ordered_of m cs)) ≡ length (class_methods cs)
+unfolding code_offsets
+count_code_offsets m cs =
+    let K = ordered_of m cs in
+    length-uses_offsets (code_uses K (debug_offsets K)) (offsets (code_section K))
+    ∙ length-zip_with _ (all_methods K.classes) (debug_offsets K) (length (class_methods cs)) (count_methods m cs) (count_debug_offsets m cs)
+
+-- ---- aligned sections end within the file
+
+pub type_lists_fit : (K : Ordered) → file_end K ≤ 2 ^ 30 → end_from 4 (data_start K) (type_list_section K).items ≤ 2 ^ 30
+type_lists_fit K fits = omega (arith, (end_in_file K fits).type_lists, (sections_follow K).1.0)
+
+pub codes_fit : (K : Ordered) → file_end K ≤ 2 ^ 30 → end_from 4 (debug_end K) (code_section K).items ≤ 2 ^ 30
+codes_fit K fits = omega (arith, (end_in_file K fits).codes, (sections_follow K).1.1.1.1.1.1.0)
+
+pub sets_fit : (K : Ordered) → file_end K ≤ 2 ^ 30 → end_from 4 (class_data_end K) (set_section K).items ≤ 2 ^ 30
+sets_fit K fits = omega (arith, (end_in_file K fits).sets, (sections_follow K).1.1.1.1.1.1.1.1.0)
+
+pub ref_lists_fit : (K : Ordered) → file_end K ≤ 2 ^ 30 → end_from 4 (set_end K) (ref_list_section K).items ≤ 2 ^ 30
+ref_lists_fit K fits = omega (arith, (end_in_file K fits).ref_lists, (sections_follow K).1.1.1.1.1.1.1.1.1.0)
+
+pub directories_fit : (K : Ordered) → file_end K ≤ 2 ^ 30 → end_from 4 (ref_list_end K) (directory_section K).items ≤ 2 ^ 30
+directories_fit K fits = omega (arith, (end_in_file K fits).directories, (sections_follow K).1.1.1.1.1.1.1.1.1.1)

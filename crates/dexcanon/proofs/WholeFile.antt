@@ -1,0 +1,98 @@
+-- How long a whole file is, and that no item is longer.
+use Rattle.std.proofs.Common.{◌≡◌, ℕ, ◌+◌, ◌≤◌, ◌^◌, max, min, List, [], ◌∷◌, ◌++◌, length, refl, sym, ap, subst, ◌∙◌, arith}
+use Rattle.std.specs.List.{flat_map}
+use Rattle.std.proofs.lemmas.List.{length-append}
+use Rattle.dexspec.specs.Bytes.{round_up, padding}
+use Rattle.dexspec.specs.Files.{Collection, definitions}
+use Rattle.dexspec.specs.Header.{header_length}
+use Rattle.dexspec.specs.Mentions.{Mentions, mentions}
+use Rattle.dexspec.specs.Placing.{Ordered, Placed, bytes_from, section_bytes}
+use Rattle.dexspec.specs.Canonical.{Layout, layout, table_bytes, data_start, data_sections, directory_end, unsigned_file, with_sums, ordered, canonical}
+use Rattle.dexspec.proofs.Places.{length-padding, length-sections}
+use Rattle.dexspec.proofs.Placements.{named_layout, layout_is, named_layout_full, sections_follow}
+use Rattle.dexspec.proofs.Tables.{length-table_bytes}
+use Rattle.dexhead.specs.Laid.{map_list, behind_header}
+use Rattle.dexclass.specs.Numbered.{NumberedClass}
+use Rattle.dexlayout.specs.Places.{Places}
+use Rattle.dexlayout.specs.Laid.{AreWritable, IsLaid, ordered_of, file_end, greatest_of, greatest_in, greatest_item}
+use Rattle.dexcanon.specs.Ready.{IsReady}
+
+-- no item is longer than all of them
+greatest_short : (align from : ℕ) (xs : List (List ℕ)) → greatest_of xs ≤ length (bytes_from align from xs)
+greatest_short align from [] = omega arith
+greatest_short align from (x ∷ xs) =
+    let to = round_up align from + length x in
+    let rest = greatest_short align to xs in
+    omega (arith, rest, length-append (padding align from) (x ++ bytes_from align to xs), length-append x (bytes_from align to xs))
+
+-- nor than all sections
+greatest_in_short : (ps : List Placed) → greatest_in ps ≤ length (flat_map section_bytes ps)
+greatest_in_short [] = omega arith
+greatest_in_short (p ∷ ps) =
+    let first = greatest_short p.align p.from p.items in
+    let rest = greatest_in_short ps in
+    omega (arith, first, rest, length-append (section_bytes p) (flat_map section_bytes ps))
+
+-- what stands behind a header
+abbrev behind : Ordered → Layout → List ℕ → List ℕ
+behind K l m = table_bytes K l ++ (flat_map section_bytes l.sections ++ (padding 4 l.data_end ++ m))
+
+length_named : (K : Ordered) (m : List ℕ) → header_length + length (behind K (named_layout K) m) ≡ round_up 4 (directory_end K) + length m
+length_named K m =
+    let t = table_bytes K (named_layout K) in
+    let s = flat_map section_bytes (data_sections K) in
+    let p = padding 4 (directory_end K) in
+    omega (arith, length-append t (s ++ (p ++ m)), length-append s (p ++ m), length-append p m, length-table_bytes K (named_layout K) (named_layout_full K), length-sections (data_start K) (data_sections K) (directory_end K) (sections_follow K), length-padding 4 (directory_end K))
+
+-- the header and what stands behind it reach to the end of the file
+pub length_behind : (K : Ordered) → header_length + length (behind_header K) ≡ file_end K
+length_behind K =
+    let m = map_list K in
+    ap (λ (l : Layout). header_length + length (behind K l m)) (layout_is K) ∙ length_named K m ∙ ap (λ (l : Layout). round_up 4 l.data_end + length m) (sym (layout_is K))
+
+-- no item is longer than the file
+greatest_within : (K : Ordered) → greatest_item K ≤ file_end K
+greatest_within K =
+    let m = map_list K in
+    let t = table_bytes K (named_layout K) in
+    let s = flat_map section_bytes (data_sections K) in
+    let p = padding 4 (directory_end K) in
+    let whole = sym (length_behind K) ∙ ap (λ (l : Layout). header_length + length (behind K l m)) (layout_is K) in
+    let items = greatest_in_short (data_sections K) in
+    omega (arith, whole, items, length-append t (s ++ (p ++ m)), length-append s (p ++ m), length-append p m)
+
+-- the longest item, and the length of the file
+pub item_bounds : {m : Mentions} {cs : List NumberedClass} {p : Places} → IsLaid m cs p → (112 ≤ p.greatest) × (p.greatest ≤ p.head.file_size)
+item_bounds {m} {cs} {p} laid =
+    let K = ordered_of m cs in
+    let is = laid.greatest_is in
+    let within = greatest_within K in
+    let ends = laid.head_tells.file_ends in
+    (omega (arith, is), omega (arith, is, within, ends))
+
+-- the file can be made with such a limit
+pub ready : {m M : Mentions} {cs : List NumberedClass} {p : Places} (limit : ℕ) → m ≡ M → AreWritable M cs → IsLaid M cs p → p.greatest ≤ limit → limit ≤ p.head.file_size → IsReady m cs p limit
+ready {m} {M} {cs} {p} limit same writable laid least most =
+    let bounds = item_bounds laid in
+    let fits = writable.fits in
+    let ends = laid.head_tells.file_ends in
+    subst (λ n. IsReady n cs p limit) (sym same) (record {
+      writable = writable;
+      laid = laid;
+      least = omega (arith, bounds.0, least);
+      most = omega (arith, most, fits, ends);
+      greatest = least;
+    })
+
+-- the file of the numbers is that of the program
+pub canonical_is : (K : Collection) (m : Mentions) (cs : List NumberedClass) → m ≡ mentions (definitions K) → ordered_of (mentions (definitions K)) cs ≡ ordered (definitions K) → with_sums (unsigned_file (ordered_of m cs)) ≡ canonical K
+unfolding canonical
+canonical_is K m cs same is = ap (λ n. with_sums (unsigned_file (ordered_of n cs))) same ∙ ap (λ O. with_sums (unsigned_file O)) is
+
+-- as the whole file is long
+pub ready_whole : {m M : Mentions} {cs : List NumberedClass} {p : Places} (limit : ℕ) → limit ≡ p.head.file_size → m ≡ M → AreWritable M cs → IsLaid M cs p → IsReady m cs p limit
+ready_whole {p = p} limit is same writable laid = let within = (item_bounds laid).1 in ready limit same writable laid (omega (arith, is, within)) (omega (arith, is))
+
+-- as a piece of it is
+pub ready_piece : {m M : Mentions} {cs : List NumberedClass} {p : Places} (limit : ℕ) → limit ≡ max p.greatest (min p.head.file_size 65536) → m ≡ M → AreWritable M cs → IsLaid M cs p → IsReady m cs p limit
+ready_piece {p = p} limit is same writable laid = let within = (item_bounds laid).1 in ready limit same writable laid (omega (arith, is)) (omega (arith, is, within))

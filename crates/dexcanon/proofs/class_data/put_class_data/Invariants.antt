@@ -1,0 +1,12 @@
+use Rattle.std.proofs.Common.{◌≡◌, drop, length}
+use Rattle.dexcanon.specs.Codes.{class_methods}
+use Rattle.dexcanon.specs.ClassItems.{data_item, data_uses}
+use Rattle.dexcanon.proofs.Plainly.{Plainly}
+use Rattle.dexcanon.proofs.class_data.put_class_data.Given as goal
+
+abbrev pub invariant-loop-class : goal.invariant-loop-class
+invariant-loop-class g l = record {
+  made : Plainly g.M.Takes.holds g.M.Takes.has_failed g.M.Takes.empties l.limit l.fn.state l.fn.gathered l.state l.gathered (data_item l.numbering) (data_uses l.numbering l.classes l.code_offs)
+      (data_uses l.numbering (drop l.class-index l.classes) l.rest);
+  count : length l.rest ≡ length (class_methods (drop l.class-index l.classes));
+}

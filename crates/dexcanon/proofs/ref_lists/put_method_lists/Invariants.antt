@@ -1,0 +1,8 @@
+use Rattle.std.proofs.Common.{drop}
+use Rattle.dexcanon.specs.RefLists.{parameter_counts}
+use Rattle.dexcanon.proofs.RefLists.{Listing}
+use Rattle.dexcanon.proofs.ref_lists.put_method_lists.Given as goal
+
+abbrev pub invariant-loop-method : goal.invariant-loop-method
+invariant-loop-method g l =
+    Listing g.M.Takes.holds g.M.Takes.has_failed g.M.Takes.empties l.limit l.fn.state l.fn.gathered l.state l.gathered l.from (parameter_counts l.methods) l.set_offs l.at (parameter_counts (drop l.method-index l.methods)) l.rest

@@ -1,0 +1,26 @@
+use Rattle.std.proofs.Common.{◌+◌, ◌<◌, length, drop, arith}
+use Rattle.std.specs.Prelude.{slice_index_or}
+use Rattle.std.specs.List.{flat_map}
+use Rattle.std.proofs.lemmas.List.{get_or_default}
+use Rattle.dexspec.specs.Bytes.{uint}
+use Rattle.dexspec.proofs.ByteNumbers.{length-uint}
+use Rattle.dexcanon.proofs.Made.{made_fault, made_more}
+use Rattle.dexcanon.proofs.Rows.{rows_next}
+use Rattle.dexcanon.proofs.tables.put_string_ids.Goals as goal
+
+pub pass-requires-clause-within : goal.pass-requires-clause-within
+pass-requires-clause-within g c = omega (arith, length-uint (slice_index_or c.args.offsets.now c.loop-off.off-index 0), c.requires.least)
+
+pub returns-in_err-pass : goal.returns-in_err-pass
+returns-in_err-pass g c =
+    let xs = c.args.offsets.now in
+    let i = c.loop-off.off-index in
+    let x = slice_index_or xs i 0 in
+    made_fault (flat_map uint (drop (i + 1) xs)) c.loop-off.invariant (rows_next uint xs i x c.loop-off-test.true (get_or_default xs i x 0 c.loop-off-test.true)) c.in_err-pass.ensures c.from_residual.ensures.0 c.from_residual.ensures.1
+
+pub loop-off-preserved : goal.loop-off-preserved
+loop-off-preserved g c =
+    let xs = c.args.offsets.now in
+    let i = c.loop-off.off-index in
+    let x = slice_index_or xs i 0 in
+    made_more (flat_map uint (drop (i + 1) xs)) c.loop-off.invariant (rows_next uint xs i x c.loop-off-test.true (get_or_default xs i x 0 c.loop-off-test.true)) c.in_ok-pass.ensures.ok

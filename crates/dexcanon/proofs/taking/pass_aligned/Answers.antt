@@ -1,0 +1,12 @@
+use Rattle.std.proofs.Common.{◌++◌, refl}
+use Rattle.dexspec.specs.Bytes.{padding}
+use Rattle.dexcanon.proofs.Made.{same_fault, fault_within, outcome_after}
+use Rattle.dexcanon.proofs.taking.pass_aligned.Goals as goal
+
+pub returns-in_err-start-clause-outcome : goal.returns-in_err-start-clause-outcome
+returns-in_err-start-clause-outcome g c =
+    same_fault _ c.from_residual.result c.from_residual.ensures.0 c.from_residual.ensures.1 (fault_within (g.I.Item.bytes c.args.part.now) c.in_err-start.ensures.outcome)
+
+pub returns-in_err-pass-clause-outcome : goal.returns-in_err-pass-clause-outcome
+returns-in_err-pass-clause-outcome g c =
+    same_fault _ c.from_residual-in_err-pass.result c.from_residual-in_err-pass.ensures.0 c.from_residual-in_err-pass.ensures.1 (outcome_after c.in_ok-start.ensures.outcome.ok c.in_err-pass.ensures)

@@ -1,0 +1,16 @@
+-- When the bytes of a file can be made.
+use Rattle.std.specs.Prelude.{◌≡◌, ℕ, ◌≤◌, ◌^◌, Bool, false, List, ◌++◌}
+use Rattle.std.specs.List.{flat_map}
+use Rattle.dexspec.specs.Mentions.{Mentions}
+use Rattle.dexspec.specs.Placing.{Ordered, section_bytes}
+use Rattle.dexclass.specs.Numbered.{NumberedClass}
+use Rattle.dexlayout.specs.Places.{Places}
+use Rattle.dexlayout.specs.Laid.{AreWritable, IsLaid}
+
+-- the classes can be written, the layout is theirs, and the limit is no less than any item
+pub record IsReady (m : Mentions) (cs : List NumberedClass) (p : Places) (limit : ℕ) : Type 0 where
+  pub writable : AreWritable m cs
+  pub laid : IsLaid m cs p
+  pub least : 112 ≤ limit
+  pub most : limit ≤ 2 ^ 30
+  pub greatest : p.greatest ≤ limit

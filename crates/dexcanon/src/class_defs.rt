@@ -1,0 +1,95 @@
+//! The rows of the classes.
+//!
+//! Source: the heading "class_def_item" of the Android page "Dalvik Executable format".
+
+ghost use Rattle.std.specs.Prelude.{◌≡◌, ◌≤◌, ◌<◌, ◌^◌, false, length, map, unwrap_or, slice_index, IfSome, All};
+ghost use Rattle.std.specs.List.{concat, flat_map};
+ghost use Rattle.dexspec.specs.Lists.{zip_with};
+ghost use Rattle.dexspec.specs.Bytes.{uint};
+ghost use Rattle.dexspec.specs.Classes.{no_index};
+ghost use Rattle.dexspec.specs.Canonical.{class_offsets, class_row_bytes};
+ghost use Rattle.dexclass.specs.Numbered.{definition_of};
+ghost use Rattle.dexclass.specs.Uses.{IsKnownClass};
+ghost use Rattle.dexcanon.specs.ClassRows.{class_row};
+ghost use Rattle.dexcanon.specs.Taking.{Outcome};
+
+use crate::faults::StoreFault;
+use crate::items::Numbers;
+use crate::taking::{Takes, pass};
+use dexclass::Class;
+use dexpool::{Numbering, number_law};
+
+/// Where what the classes hold stands, an offset for each class: their interfaces, their annotations directories, their class data
+/// and their static values.
+#[derive(Drop)]
+pub(crate) struct ClassPlaces<'a> {
+    pub(crate) interfaces: &'a [u32],
+    pub(crate) annotations: &'a [u32],
+    pub(crate) class_data: &'a [u32],
+    pub(crate) static_values: &'a [u32],
+}
+
+// A number, or the index that names nothing.
+fn index(number: Option<usize>) -> u32
+    requires { IfSome number (λ n. n < 2 ^ 32) }
+    ensures { result ≡ unwrap_or number no_index }
+{
+    match number {
+        Some(number) => number as u32,
+        None => 0xffff_ffff,
+    }
+}
+
+// The numbers of a class row.
+fn row_of(class: &Class<'_>, places: &ClassPlaces<'_>, r: usize) -> [u32; 8]
+    requires name { class.now.name < 2 ^ 32 }
+    requires superclass { IfSome class.now.superclass (λ n. n < 2 ^ 32) }
+    requires source { IfSome class.now.source (λ n. n < 2 ^ 32) }
+    requires interfaces { r < length places.now.interfaces.now }
+    requires annotations { r < length places.now.annotations.now }
+    requires class_data { r < length places.now.class_data.now }
+    requires static_values { r < length places.now.static_values.now }
+    ensures { flat_map uint result ≡ class_row class.now (record { interfaces = slice_index places.now.interfaces.now r; annotations = slice_index places.now.annotations.now r; class_data = slice_index places.now.class_data.now r; static_values = slice_index places.now.static_values.now r }) }
+{
+    let superclass = index(class.superclass());
+    let source = index(class.source());
+    [
+        class.name() as u32,
+        class.flags().bits(),
+        superclass,
+        places.interfaces[r],
+        source,
+        places.annotations[r],
+        places.class_data[r],
+        places.static_values[r],
+    ]
+}
+
+/// The rows of the classes.
+pub(crate) fn put_class_defs<S, M: Takes<S>>(
+    numbering: &Numbering<'_>,
+    classes: &[Class<'_>],
+    places: &ClassPlaces<'_>,
+    limit: usize,
+    gathered: &mut Vec<u8>,
+    state: &mut S,
+) -> Result<(), StoreFault>
+    requires works { M.has_failed state.old ≡ false }
+    requires least { 112 ≤ limit }
+    requires known { All (IsKnownClass numbering.now) classes.now }
+    requires few_texts { length numbering.now.texts < 2 ^ 32 }
+    requires few_types { length numbering.now.types < 2 ^ 32 }
+    requires interfaces { length places.now.interfaces.now ≡ length classes.now }
+    requires annotations { length places.now.annotations.now ≡ length classes.now }
+    requires class_data { length places.now.class_data.now ≡ length classes.now }
+    requires static_values { length places.now.static_values.now ≡ length classes.now }
+    ensures { Outcome M.holds M.has_failed M.empties limit state.old gathered.old state.new gathered.new (concat (zip_with (class_row_bytes numbering.now) (map (definition_of numbering.now) classes.now) (class_offsets places.now.interfaces.now places.now.annotations.now places.now.class_data.now places.now.static_values.now))) result }
+{
+    numbering.is_numbering();
+    number_law();
+    for r in 0..classes.len() {
+        let row = row_of(&classes[r], places, r);
+        pass::<Numbers, S, M>(&Numbers(&row), limit, gathered, state)?;
+    }
+    Ok(())
+}

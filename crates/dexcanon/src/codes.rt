@@ -1,0 +1,157 @@
+//! The code of methods.
+//!
+//! Source: the heading "code_item" of the Android page "Dalvik Executable format".
+
+ghost use Rattle.std.specs.Prelude.{◌≡◌, ◌≤◌, ◌^◌, false, length, All, IfOk};
+ghost use Rattle.dexspec.specs.Spellings.{code_bytes};
+ghost use Rattle.dexspec.specs.Placing.{bytes_from, end_from};
+ghost use Rattle.dexcode.specs.Meaning.{code_in};
+ghost use Rattle.dexmembers.specs.Numbered.{AreKnownMembers, IsKnownMethod, methods_of};
+ghost use Rattle.dexclass.specs.Uses.{IsKnownClass};
+ghost use Rattle.dexcanon.specs.Codes.{IsFitCode, class_methods, method_codes};
+ghost use Rattle.dexcanon.specs.Taking.{AreWithin, Outcome};
+
+use crate::faults::StoreFault;
+use crate::items::Item;
+use crate::taking::{Takes, pass_aligned};
+use dexclass::Class;
+use dexcode::{Code, code_meaning_law, code_types_law, put_code};
+use dexmembers::{Members, Method};
+use dexpool::Numbering;
+use std::alloc::AllocError;
+
+/// A code_item, with the offset of its debug program.
+#[derive(Drop)]
+pub(crate) struct CodeItem<'a, 'n> {
+    pub(crate) numbering: &'a Numbering<'n>,
+    pub(crate) code: &'a Code<'a>,
+    pub(crate) debug_off: u32,
+}
+
+impl Item for CodeItem<'_, '_> {
+    ghost bytes = { λ c. code_bytes c.numbering.now c.debug_off (code_in c.numbering.now c.code.now) };
+
+    ghost fits = { λ c. IsFitCode c.numbering.now c.code.now };
+
+    fn len(&self) -> usize {
+        self.numbering.is_numbering();
+        code_meaning_law();
+        self.code.item_len()
+    }
+
+    fn put(&self, out: &mut Vec<u8>) -> Result<(), AllocError> {
+        code_meaning_law();
+        code_types_law();
+        put_code(self.code, self.debug_off, self.numbering, out)
+    }
+}
+
+// The code of methods, from a place on, with the offset of the debug program of each. Where it ends is answered.
+fn put_method_codes<S, M: Takes<S>>(
+    numbering: &Numbering<'_>,
+    methods: &[Method<'_>],
+    debug_offs: &[u32],
+    from: u32,
+    limit: usize,
+    gathered: &mut Vec<u8>,
+    state: &mut S,
+) -> Result<u32, StoreFault>
+    requires works { M.has_failed state.old ≡ false }
+    requires least { 112 ≤ limit }
+    requires known { All (IsKnownMethod numbering.now) methods.now }
+    requires types { length numbering.now.types ≤ 65536 }
+    requires offsets { length debug_offs.now ≡ length methods.now }
+    requires within { AreWithin limit (method_codes numbering.now methods.now debug_offs.now) }
+    requires fits { end_from 4 from (method_codes numbering.now methods.now debug_offs.now) ≤ 2 ^ 30 }
+    ensures end { IfOk result (λ end. end ≡ end_from 4 from (method_codes numbering.now methods.now debug_offs.now)) }
+    ensures outcome { Outcome M.holds M.has_failed M.empties limit state.old gathered.old state.new gathered.new (bytes_from 4 from (method_codes numbering.now methods.now debug_offs.now)) result }
+{
+    let mut at = from;
+    for i in 0..methods.len() {
+        let code = match methods[i].code() {
+            Some(code) => code,
+            None => continue,
+        };
+        let debug_off = debug_offs[i];
+        let item = CodeItem {
+            numbering,
+            code,
+            debug_off,
+        };
+        at = pass_aligned::<CodeItem, S, M>(&item, at, limit, gathered, state)?;
+    }
+    Ok(at)
+}
+
+// The code of what a class declares, in the same way.
+fn put_member_codes<S, M: Takes<S>>(
+    numbering: &Numbering<'_>,
+    members: &Members<'_>,
+    debug_offs: &[u32],
+    from: u32,
+    limit: usize,
+    gathered: &mut Vec<u8>,
+    state: &mut S,
+) -> Result<u32, StoreFault>
+    requires works { M.has_failed state.old ≡ false }
+    requires least { 112 ≤ limit }
+    requires known { AreKnownMembers numbering.now members.now }
+    requires types { length numbering.now.types ≤ 65536 }
+    requires offsets { length debug_offs.now ≡ length (methods_of members.now) }
+    requires within { AreWithin limit (method_codes numbering.now (methods_of members.now) debug_offs.now) }
+    requires fits { end_from 4 from (method_codes numbering.now (methods_of members.now) debug_offs.now) ≤ 2 ^ 30 }
+    ensures end { IfOk result (λ end. end ≡ end_from 4 from (method_codes numbering.now (methods_of members.now) debug_offs.now)) }
+    ensures outcome { Outcome M.holds M.has_failed M.empties limit state.old gathered.old state.new gathered.new (bytes_from 4 from (method_codes numbering.now (methods_of members.now) debug_offs.now)) result }
+{
+    let direct = members.direct_methods();
+    let others = members.virtual_methods();
+    let (direct_offs, other_offs) = debug_offs.split_at(direct.len());
+    let at = put_method_codes::<S, M>(
+        numbering,
+        direct,
+        direct_offs,
+        from,
+        limit,
+        gathered,
+        state,
+    )?;
+    put_method_codes::<S, M>(numbering, others, other_offs, at, limit, gathered, state)
+}
+
+/// The code of the methods of classes, from a place on, with the offset of the debug program of each.
+pub(crate) fn put_codes<S, M: Takes<S>>(
+    numbering: &Numbering<'_>,
+    classes: &[Class<'_>],
+    debug_offs: &[u32],
+    from: u32,
+    limit: usize,
+    gathered: &mut Vec<u8>,
+    state: &mut S,
+) -> Result<(), StoreFault>
+    requires works { M.has_failed state.old ≡ false }
+    requires least { 112 ≤ limit }
+    requires known { All (IsKnownClass numbering.now) classes.now }
+    requires types { length numbering.now.types ≤ 65536 }
+    requires offsets { length debug_offs.now ≡ length (class_methods classes.now) }
+    requires within { AreWithin limit (method_codes numbering.now (class_methods classes.now) debug_offs.now) }
+    requires fits { end_from 4 from (method_codes numbering.now (class_methods classes.now) debug_offs.now) ≤ 2 ^ 30 }
+    ensures { Outcome M.holds M.has_failed M.empties limit state.old gathered.old state.new gathered.new (bytes_from 4 from (method_codes numbering.now (class_methods classes.now) debug_offs.now)) result }
+{
+    let mut at = from;
+    let mut rest = debug_offs;
+    for class in classes {
+        let members = class.members();
+        let (own, others) = rest.split_at(method_count(members));
+        at = put_member_codes::<S, M>(numbering, members, own, at, limit, gathered, state)?;
+        rest = others;
+    }
+    Ok(())
+}
+
+/// The number of the methods that a class declares.
+pub(crate) fn method_count(members: &Members<'_>) -> usize
+    ensures { result ≡ length (methods_of members.now) }
+{
+    members.are_few();
+    members.direct_methods().len() + members.virtual_methods().len()
+}

@@ -1,0 +1,123 @@
+//! Annotations directories.
+//!
+//! Source: the heading "annotations_directory_item" of the Android page "Dalvik Executable format".
+
+ghost use Rattle.std.specs.Prelude.{◌≡◌, ◌≤◌, ◌^◌, ◌==◌, ◌&&◌, false, length};
+ghost use Rattle.dexspec.specs.Lists.{present};
+ghost use Rattle.dexspec.specs.Placing.{bytes_from, end_from};
+ghost use Rattle.dexmembers.specs.DirectoryPut.{numbered_directory_bytes};
+ghost use Rattle.dexmembers.specs.Numbered.{fields_of};
+ghost use Rattle.dexcanon.specs.Codes.{class_methods};
+ghost use Rattle.dexcanon.specs.Directories.{HaveOffsets, class_directories, class_fields};
+ghost use Rattle.dexcanon.specs.Taking.{AreWithin, Outcome};
+
+use crate::codes::method_count;
+use crate::faults::StoreFault;
+use crate::items::Item;
+use crate::taking::{Takes, pass_aligned};
+use dexclass::Class;
+use dexmembers::Members;
+use std::alloc::AllocError;
+
+// A directory without entries has so many bytes.
+const EMPTY_DIRECTORY: usize = 16;
+
+/// An annotations_directory_item, from the offsets of the sets and lists that it names.
+#[derive(Drop)]
+pub(crate) struct DirectoryItem<'a, 'm> {
+    pub(crate) members: &'a Members<'m>,
+    pub(crate) own_off: u32,
+    pub(crate) field_offs: &'a [u32],
+    pub(crate) method_offs: &'a [u32],
+    pub(crate) list_offs: &'a [u32],
+}
+
+impl Item for DirectoryItem<'_, '_> {
+    ghost bytes = { λ d. numbered_directory_bytes d.members.now d.own_off d.field_offs.now d.method_offs.now d.list_offs.now };
+
+    ghost fits = { λ d. HaveOffsets d.members.now d.field_offs.now d.method_offs.now d.list_offs.now };
+
+    fn len(&self) -> usize {
+        self.members
+            .directory_len(self.field_offs, self.method_offs, self.list_offs)
+    }
+
+    fn put(&self, out: &mut Vec<u8>) -> Result<(), AllocError> {
+        self.members.put_directory(
+            self.own_off,
+            self.field_offs,
+            self.method_offs,
+            self.list_offs,
+            out,
+        )
+    }
+}
+
+impl DirectoryItem<'_, '_> {
+    // Whether all offsets are 0.
+    fn is_empty(&self) -> bool
+        requires { HaveOffsets self.now.members.now self.now.field_offs.now self.now.method_offs.now self.now.list_offs.now }
+        ensures { result ≡ (self.now.own_off == 0 && length (numbered_directory_bytes self.now.members.now self.now.own_off self.now.field_offs.now self.now.method_offs.now self.now.list_offs.now) == 16) }
+    {
+        self.own_off == 0 && self.len() == EMPTY_DIRECTORY
+    }
+}
+
+// The number of the fields that a class declares.
+fn field_count(members: &Members<'_>) -> usize
+    ensures { result ≡ length (fields_of members.now) }
+{
+    members.are_few();
+    members.static_fields().len() + members.instance_fields().len()
+}
+
+/// The directories of classes, from a place on, from the offset of the own set of each class, those of the sets of the
+/// fields of all classes in turn, those of the sets of the methods, and those of the lists of the methods.
+pub(crate) fn put_directories<S, M: Takes<S>>(
+    classes: &[Class<'_>],
+    own_offs: &[u32],
+    field_offs: &[u32],
+    method_offs: &[u32],
+    list_offs: &[u32],
+    from: u32,
+    limit: usize,
+    gathered: &mut Vec<u8>,
+    state: &mut S,
+) -> Result<(), StoreFault>
+    requires works { M.has_failed state.old ≡ false }
+    requires least { 112 ≤ limit }
+    requires own { length classes.now ≤ length own_offs.now }
+    requires fields { length (class_fields classes.now) ≤ length field_offs.now }
+    requires methods { length (class_methods classes.now) ≤ length method_offs.now }
+    requires lists { length (class_methods classes.now) ≤ length list_offs.now }
+    requires within { AreWithin limit (present (class_directories classes.now own_offs.now field_offs.now method_offs.now list_offs.now)) }
+    requires fits { end_from 4 from (present (class_directories classes.now own_offs.now field_offs.now method_offs.now list_offs.now)) ≤ 2 ^ 30 }
+    ensures { Outcome M.holds M.has_failed M.empties limit state.old gathered.old state.new gathered.new (bytes_from 4 from (present (class_directories classes.now own_offs.now field_offs.now method_offs.now list_offs.now))) result }
+{
+    let mut at = from;
+    let mut fields = field_offs;
+    let mut methods = method_offs;
+    let mut lists = list_offs;
+    for i in 0..classes.len() {
+        let members = classes[i].members();
+        let count = method_count(members);
+        let (field_offs, other_fields) = fields.split_at(field_count(members));
+        let (method_offs, other_methods) = methods.split_at(count);
+        let (list_offs, other_lists) = lists.split_at(count);
+        fields = other_fields;
+        methods = other_methods;
+        lists = other_lists;
+        let item = DirectoryItem {
+            members,
+            own_off: own_offs[i],
+            field_offs,
+            method_offs,
+            list_offs,
+        };
+        if item.is_empty() {
+            continue;
+        }
+        at = pass_aligned::<DirectoryItem, S, M>(&item, at, limit, gathered, state)?;
+    }
+    Ok(())
+}

@@ -1,0 +1,28 @@
+//! The checksum of joined bytes.
+
+ghost use Rattle.std.specs.Prelude.{◌≡◌, ℕ, ◌%◌, ◌/◌, List, ◌++◌, length};
+ghost use Rattle.dexspec.specs.Header.{adler_32};
+
+// The greatest prime below 2^16.
+const MODULUS: u64 = 65521;
+
+/// The Adler-32 of bytes and more behind them, from that of each and the number of those behind.
+///
+/// Source: "Dalvik Executable format", "header_item", the field `checksum`.
+pub(crate) fn joined_adler(front: u32, back: u32, len: u32) -> u32
+    ensures { (xs ys : List ℕ) → front ≡ adler_32 xs → back ≡ adler_32 ys → len ≡ length ys → result ≡ adler_32 (xs ++ ys) }
+{
+    let (front_first, front_second) = halves(front);
+    let (back_first, back_second) = halves(back);
+    let step = front_first + (MODULUS - 1);
+    let first = (back_first + step) % MODULUS;
+    let second = (back_second + front_second + u64::from(len) * step) % MODULUS;
+    (second * 65536 + first) as u32
+}
+
+// The first sum and the second.
+fn halves(checksum: u32) -> (u64, u64)
+    ensures { result ≡ (checksum % 65536, checksum / 65536) }
+{
+    (u64::from(checksum % 65536), u64::from(checksum / 65536))
+}

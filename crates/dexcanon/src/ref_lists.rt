@@ -1,0 +1,98 @@
+//! Lists of the sets of parameters.
+//!
+//! Source: the heading "annotation_set_ref_list" of the Android page "Dalvik Executable format".
+
+ghost use Rattle.std.specs.Prelude.{◌≡◌, ◌≤◌, ◌^◌, false, length, drop, IfOk};
+ghost use Rattle.dexspec.specs.Placing.{bytes_from, end_from};
+ghost use Rattle.dexmembers.specs.Numbered.{methods_of};
+ghost use Rattle.dexcanon.specs.RefLists.{class_parameter_counts, parameter_counts, ref_lists, total};
+ghost use Rattle.dexcanon.specs.Taking.{AreWithin, Outcome};
+
+use crate::faults::StoreFault;
+use crate::items::OffsetList;
+use crate::taking::{Takes, pass_aligned};
+use dexclass::Class;
+use dexmembers::{Members, Method};
+
+// The lists of methods, from a place on, from the offsets of all sets in turn. Where they end is answered, and the
+// offsets that are left.
+fn put_method_lists<'o, S, M: Takes<S>>(
+    methods: &[Method<'_>],
+    set_offs: &'o [u32],
+    from: u32,
+    limit: usize,
+    gathered: &mut Vec<u8>,
+    state: &mut S,
+) -> Result<(u32, &'o [u32]), StoreFault>
+    requires works { M.has_failed state.old ≡ false }
+    requires least { 112 ≤ limit }
+    requires offsets { total (parameter_counts methods.now) ≤ length set_offs.now }
+    requires within { AreWithin limit (ref_lists (parameter_counts methods.now) set_offs.now) }
+    requires fits { end_from 4 from (ref_lists (parameter_counts methods.now) set_offs.now) ≤ 2 ^ 30 }
+    ensures end { IfOk result (λ p. p.0 ≡ end_from 4 from (ref_lists (parameter_counts methods.now) set_offs.now)) }
+    ensures left { IfOk result (λ p. p.1.now ≡ drop (total (parameter_counts methods.now)) set_offs.now) }
+    ensures outcome { Outcome M.holds M.has_failed M.empties limit state.old gathered.old state.new gathered.new (bytes_from 4 from (ref_lists (parameter_counts methods.now) set_offs.now)) result }
+{
+    let mut at = from;
+    let mut rest = set_offs;
+    for method in methods {
+        let (list, others) = rest.split_at(method.parameter_annotations().len());
+        rest = others;
+        if list.is_empty() {
+            continue;
+        }
+        at = pass_aligned::<OffsetList, S, M>(&OffsetList(list), at, limit, gathered, state)?;
+    }
+    Ok((at, rest))
+}
+
+// The lists of the methods of a class, in the same way.
+fn put_member_lists<'o, S, M: Takes<S>>(
+    members: &Members<'_>,
+    set_offs: &'o [u32],
+    from: u32,
+    limit: usize,
+    gathered: &mut Vec<u8>,
+    state: &mut S,
+) -> Result<(u32, &'o [u32]), StoreFault>
+    requires works { M.has_failed state.old ≡ false }
+    requires least { 112 ≤ limit }
+    requires offsets { total (parameter_counts (methods_of members.now)) ≤ length set_offs.now }
+    requires within { AreWithin limit (ref_lists (parameter_counts (methods_of members.now)) set_offs.now) }
+    requires fits { end_from 4 from (ref_lists (parameter_counts (methods_of members.now)) set_offs.now) ≤ 2 ^ 30 }
+    ensures end { IfOk result (λ p. p.0 ≡ end_from 4 from (ref_lists (parameter_counts (methods_of members.now)) set_offs.now)) }
+    ensures left { IfOk result (λ p. p.1.now ≡ drop (total (parameter_counts (methods_of members.now))) set_offs.now) }
+    ensures outcome { Outcome M.holds M.has_failed M.empties limit state.old gathered.old state.new gathered.new (bytes_from 4 from (ref_lists (parameter_counts (methods_of members.now)) set_offs.now)) result }
+{
+    let direct = members.direct_methods();
+    let others = members.virtual_methods();
+    let (at, rest) = put_method_lists::<S, M>(direct, set_offs, from, limit, gathered, state)?;
+    put_method_lists::<S, M>(others, rest, at, limit, gathered, state)
+}
+
+/// The lists of the methods of classes, from a place on, from the offsets of the sets of all parameters in turn.
+pub(crate) fn put_ref_lists<S, M: Takes<S>>(
+    classes: &[Class<'_>],
+    set_offs: &[u32],
+    from: u32,
+    limit: usize,
+    gathered: &mut Vec<u8>,
+    state: &mut S,
+) -> Result<(), StoreFault>
+    requires works { M.has_failed state.old ≡ false }
+    requires least { 112 ≤ limit }
+    requires offsets { total (class_parameter_counts classes.now) ≤ length set_offs.now }
+    requires within { AreWithin limit (ref_lists (class_parameter_counts classes.now) set_offs.now) }
+    requires fits { end_from 4 from (ref_lists (class_parameter_counts classes.now) set_offs.now) ≤ 2 ^ 30 }
+    ensures { Outcome M.holds M.has_failed M.empties limit state.old gathered.old state.new gathered.new (bytes_from 4 from (ref_lists (class_parameter_counts classes.now) set_offs.now)) result }
+{
+    let mut at = from;
+    let mut rest = set_offs;
+    for class in classes {
+        let members = class.members();
+        let (end, others) = put_member_lists::<S, M>(members, rest, at, limit, gathered, state)?;
+        at = end;
+        rest = others;
+    }
+    Ok(())
+}

@@ -1,5 +1,0 @@
-use Rattle.dexplain.specs.Rows.{AreDefinedMarks}
-use Rattle.dexplain.proofs.class_types.defined.Given as goal
-
-abbrev pub invariant-loop-r : goal.invariant-loop-r
-invariant-loop-r l = AreDefinedMarks l.frame l.r l.marks.items

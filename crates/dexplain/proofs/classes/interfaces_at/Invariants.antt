@@ -1,6 +1,0 @@
-use Rattle.std.specs.Prelude.{◌≡◌, ◌+◌}
-use Rattle.dexspec.specs.Bytes.{ushorts_at}
-use Rattle.dexplain.proofs.classes.interfaces_at.Given as goal
-
-abbrev pub invariant-loop-k : goal.invariant-loop-k
-invariant-loop-k l = l.interfaces.items ≡ ushorts_at l.frame (l.off + 4) l.k

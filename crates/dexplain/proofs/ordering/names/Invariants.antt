@@ -1,5 +1,0 @@
-use Rattle.std.specs.Prelude.{◌≡◌, map, take}
-use Rattle.dexplain.proofs.ordering.names.Given as goal
-
-abbrev pub invariant-loop-i : goal.invariant-loop-i
-invariant-loop-i l = l.names.items ≡ map (λ c. c.name) (take l.i l.classes)

@@ -1,7 +1,0 @@
-use Rattle.std.specs.Prelude.{◌≡◌, ◌-◌, ◌^◌, min, take}
-use Rattle.dexplain_merge.specs.Candidates.{classes_of}
-use Rattle.dexplain_merge.specs.Amounts.{weight_over}
-use Rattle.dexplain_merge.proofs.fitting.weight.Given as goal
-
-abbrev pub invariant-loop-i : goal.invariant-loop-i
-invariant-loop-i l = l.weight ≡ min (2 ^ 64 - 1) (weight_over l.numbering (take l.i (classes_of l.classes)))

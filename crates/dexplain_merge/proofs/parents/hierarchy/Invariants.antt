@@ -1,7 +1,0 @@
-use Rattle.std.specs.Prelude.{◌≡◌, map, take}
-use Rattle.dexplain.specs.Parents.{defined_parents}
-use Rattle.dexplain_merge.specs.Candidates.{classes_of}
-use Rattle.dexplain_merge.proofs.parents.hierarchy.Given as goal
-
-abbrev pub invariant-loop-i : goal.invariant-loop-i
-invariant-loop-i l = l.hierarchy ≡ map (defined_parents l.places.items) (take l.i (classes_of l.classes))

@@ -1,6 +1,0 @@
-use Rattle.std.specs.Prelude.{ℕ, ◌<◌}
-use Rattle.dexplain_merge.specs.Judging.{IsNamed}
-use Rattle.dexplain_merge.proofs.plan.are_all_named.Given as goal
-
-abbrev pub invariant-loop-i : goal.invariant-loop-i
-invariant-loop-i l = (k : ℕ) → k < l.i → IsNamed l.is_named k

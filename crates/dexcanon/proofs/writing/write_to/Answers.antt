@@ -1,8 +1,4 @@
-use Rattle.std.proofs.Common.{◌≡◌, ◌≤◌, ◌++◌, true, refl, subst, ◌∙◌, arith, OnOk, IfErr}
-use Rattle.dexhead.specs.Laid.{behind_header}
-use Rattle.dexhead.specs.Written.{head_bytes}
-use Rattle.dexspec.specs.Canonical.{canonical}
-use Rattle.dexlayout.specs.Laid.{ordered_of}
+use Rattle.std.proofs.Common.{◌≡◌, ◌++◌, subst, ◌∙◌, OnOk, IfErr}
 use Rattle.dexcanon.specs.Written.{HasLeft}
 use Rattle.dexcanon.proofs.WholeFile.{ready_piece, canonical_is}
 use Rattle.dexcanon.proofs.WithRoom.{written_all, written_front, told_failed}

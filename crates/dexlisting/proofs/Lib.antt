@@ -1,0 +1,4 @@
+pub mod ClassParts
+pub mod ListedPieces
+pub mod RowParts
+pub mod ShortFlags

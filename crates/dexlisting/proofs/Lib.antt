@@ -2,3 +2,4 @@ pub mod ClassParts
 pub mod ListedPieces
 pub mod RowParts
 pub mod ShortFlags
+pub mod Written

@@ -1,6 +1,6 @@
 //! Bytes on their way to the writer: they gather in a vector, and are written when it is full.
 
-ghost use Rattle.std.specs.Prelude.{◌≡◌, ◌≤◌, ◌+◌, length, [], true, false, OnOk, OnErr, IfOk};
+ghost use Rattle.std.specs.Prelude.{◌≡◌, ◌<◌, ◌≤◌, ◌+◌, ◌++◌, length, [], ◌∷◌, true, false, OnOk, OnErr, IfOk};
 
 use crate::flags::{MOST_FLAGS, Shown};
 use dexhead::{DeviceFault, Sink};
@@ -47,6 +47,8 @@ impl Gathered {
         requires { W.has_failed out.old ≡ false }
         ensures works { OnOk result (W.has_failed out.new ≡ false) }
         ensures fails { OnErr result (W.has_failed out.new ≡ true) }
+        ensures tells { W.tells out.old → W.tells out.new }
+        ensures added { OnOk result (W.tells out.old → W.taken out.new ++ self.new ≡ W.taken out.old ++ (self.old ++ bytes.now)) }
     {
         self.make_room(bytes.len(), out)?;
         if ROOM < bytes.len() {
@@ -61,6 +63,8 @@ impl Gathered {
         requires { W.has_failed out.old ≡ false }
         ensures works { OnOk result (W.has_failed out.new ≡ false) }
         ensures fails { OnErr result (W.has_failed out.new ≡ true) }
+        ensures tells { W.tells out.old → W.tells out.new }
+        ensures added { OnOk result (W.tells out.old → W.taken out.new ++ self.new ≡ W.taken out.old ++ (self.old ++ byte ∷ [])) }
     {
         self.make_room(1, out)?;
         self.bytes.push(byte).unwrap();
@@ -76,6 +80,8 @@ impl Gathered {
         requires { W.has_failed out.old ≡ false }
         ensures works { OnOk result (W.has_failed out.new ≡ false) }
         ensures fails { OnErr result (W.has_failed out.new ≡ true) }
+        ensures tells { W.tells out.old → W.tells out.new }
+        ensures added { OnOk result (W.tells out.old → W.taken out.new ++ self.new ≡ W.taken out.old ++ (self.old ++ F.text flags.now)) }
     {
         self.make_room(MOST_FLAGS, out)?;
         flags.put(&mut self.bytes).unwrap();
@@ -89,6 +95,8 @@ impl Gathered {
         requires { W.has_failed out.old ≡ false }
         ensures works { OnOk result (W.has_failed out.new ≡ false) }
         ensures fails { OnErr result (W.has_failed out.new ≡ true) }
+        ensures tells { W.tells out.old → W.tells out.new }
+        ensures written { OnOk result (W.tells out.old → W.taken out.new ≡ W.taken out.old ++ self.old) }
         ensures none { OnOk result (self.new ≡ []) }
     {
         write_whole(out, &self.bytes)?;
@@ -101,7 +109,10 @@ impl Gathered {
         requires { W.has_failed out.old ≡ false }
         ensures works { OnOk result (W.has_failed out.new ≡ false) }
         ensures fails { OnErr result (W.has_failed out.new ≡ true) }
+        ensures tells { W.tells out.old → W.tells out.new }
+        ensures kept { OnOk result (W.tells out.old → W.taken out.new ++ self.new ≡ W.taken out.old ++ self.old) }
         ensures room { OnOk result (more ≤ 65536 → length self.new + more ≤ 65536) }
+        ensures none { OnOk result (65536 < more → self.new ≡ []) }
     {
         if ROOM - self.bytes.len() < more {
             self.pass_on(out)?;
@@ -115,6 +126,8 @@ fn write_whole<W: Sink>(out: &mut W, bytes: &[u8]) -> Result<(), DeviceFault>
     requires { W.has_failed out.old ≡ false }
     ensures works { OnOk result (W.has_failed out.new ≡ false) }
     ensures fails { OnErr result (W.has_failed out.new ≡ true) }
+    ensures tells { W.tells out.old → W.tells out.new }
+    ensures written { OnOk result (W.tells out.old → W.taken out.new ≡ W.taken out.old ++ bytes.now) }
 {
     let mut rest = bytes;
     while !rest.is_empty() {

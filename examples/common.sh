@@ -1,3 +1,4 @@
+# shellcheck shell=sh
 # What the recipes share. Each `run` reads this file first.
 # DEXKIT names the program; without it, it is the one that `make` at the top of the repository builds.
 set -eu
@@ -7,7 +8,7 @@ examples=$(cd "$(dirname "$0")/.." && pwd)
 DEXKIT=${DEXKIT:-$examples/../crates/dexkit/out/dexkit}
 if ! command -v "$DEXKIT" >/dev/null; then
     echo "there is no program $DEXKIT: build it with make, or name one as DEXKIT=PATH" >&2
-    exit 2
+    exit 1
 fi
 DEXKIT=$(realpath "$(command -v "$DEXKIT")")
 export DEXKIT

@@ -1,4 +1,4 @@
-use Rattle.std.proofs.Common.{◌≡◌, ◌+◌, ◌≤◌, ◌++◌, length, arith, rules}
+use Rattle.std.proofs.Common.{◌≡◌, ◌+◌, ◌≤◌, length, rules}
 use Rattle.std.specs.Prelude.{vec_len, vec_capacity}
 use Rattle.dexlisting.proofs.Written.{put_on}
 use Rattle.dexlisting.proofs.gathering.Gathered.put_flags.Goals as goal

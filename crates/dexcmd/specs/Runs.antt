@@ -32,6 +32,17 @@ HasLeft reads writes old new taken b (Read i) = new ≡ old
 HasLeft reads writes old new taken b Write = reads → IsAccepted b × (writes → (K : Collection) → Denotes b K → (n : ℕ) × (taken new ≡ taken old ++ take n (canonical K)))
 HasLeft reads writes old new taken b Memory = new ≡ old
 
+-- ---- one file listed
+
+-- where the input is refused or cannot be read the writer is as it was
+abbrev pub IsUnwritten : {W : Type 0} → W → W → RunFault → Type 0
+IsUnwritten old new (Input i refusal) = new ≡ old
+IsUnwritten old new Plan = new ≡ old
+IsUnwritten old new (Merge told) = new ≡ old
+IsUnwritten old new (Read i) = new ≡ old
+IsUnwritten old new Write = Unit {0}
+IsUnwritten old new Memory = Unit {0}
+
 -- ---- files checked
 
 -- the verdict is right of the bytes

@@ -1,13 +1,11 @@
 -- The uses of classes, class by class.
-use Rattle.std.proofs.Common.{◌≡◌, ℕ, zero, suc, ◌+◌, ◌<◌, List, [], ◌∷◌, ◌++◌, Bool, true, false, length, get_or, map, take, drop, Option, Some, None, refl, sym, ap, subst, ◌∙◌, arith}
-use Rattle.std.specs.Prelude.{All, if◌then◌else◌, ◌==◌}
+use Rattle.std.proofs.Common.{◌≡◌, ℕ, zero, suc, ◌+◌, ◌<◌, List, [], ◌∷◌, Bool, true, false, length, get_or, map, take, drop, Option, Some, None, refl, sym, ap, ◌∙◌, arith}
+use Rattle.std.specs.Prelude.{if◌then◌else◌, ◌==◌}
 use Rattle.std.proofs.lemmas.List.{drop_more, length-map, length-append}
-use Rattle.dexspec.specs.Lists.{zip_with, chunks}
-use Rattle.dexspec.specs.Values.{Values}
 use Rattle.dexspec.specs.Classes.{Definition, declared_methods}
 use Rattle.dexspec.specs.Mentions.{Mentions}
 use Rattle.dexspec.specs.Placing.{values_unless_empty, is_empty_class}
-use Rattle.dexval.specs.Numbered.{NumberedValues, NumberedValue, values_in, values_of_list}
+use Rattle.dexval.specs.Numbered.{NumberedValue, values_in, values_of_list}
 use Rattle.dexmembers.specs.Numbered.{NumberedMembers, method_in, methods_of}
 use Rattle.dexclass.specs.Numbered.{NumberedClass, definition_of}
 use Rattle.dexcanon.specs.ClassItems.{values_use, data_use, data_uses}

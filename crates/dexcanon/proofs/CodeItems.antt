@@ -1,7 +1,7 @@
 -- The code of methods, method by method.
-use Rattle.std.proofs.Common.{◌≡◌, ℕ, ◌+◌, ◌<◌, List, ◌∷◌, ◌++◌, length, get_or, map, take, drop, Option, Some, None, ap, sym, subst, ◌∙◌, arith}
+use Rattle.std.proofs.Common.{◌≡◌, ℕ, ◌+◌, ◌<◌, List, ◌∷◌, ◌++◌, length, get_or, map, take, drop, Option, Some, None, ap, sym, ◌∙◌, arith}
 use Rattle.std.specs.Option.{option_map, option_map_or}
-use Rattle.std.proofs.lemmas.List.{drop_more, length-append, length-take, length-drop, get_or-map, get_or_default, length-map, map-append}
+use Rattle.std.proofs.lemmas.List.{drop_more, length-append, length-drop, get_or-map, get_or_default, length-map, map-append}
 use Rattle.dexspec.specs.Lists.{present, zip_with}
 use Rattle.dexspec.proofs.Sharing.{present-append}
 use Rattle.dexspec.specs.Code.{Code}
@@ -11,7 +11,7 @@ use Rattle.dexcode.specs.Meaning.{code_in}
 use Rattle.dexmembers.specs.Numbered.{NumberedMethod, NumberedMembers, method_in, methods_of}
 use Rattle.dexclass.specs.Numbered.{NumberedClass}
 use Rattle.dexcanon.specs.Codes.{code_use, code_item, class_methods, method_codes}
-use Rattle.dexcanon.proofs.OwnUses.{uses_left, zip_with_at, length-zip_with, zip_with_append, some_left, none_left, no_uses_left}
+use Rattle.dexcanon.proofs.OwnUses.{uses_left, zip_with_at, length-zip_with, zip_with_append, some_left, none_left}
 
 module _ (m : Mentions) (xs : List NumberedMethod) (offs : List ℕ) where
   -- the code of the methods

@@ -1,14 +1,12 @@
 -- Items one after the other: what is left of them before and behind the next.
-use Rattle.std.proofs.Common.{◌≡◌, ℕ, ◌+◌, ◌<◌, ◌≤◌, List, [], ◌∷◌, ◌++◌, length, get_or, map, take, drop, refl, sym, ap, subst, ◌∙◌, arith, append_assoc, zip, zero, suc}
-use Rattle.std.specs.Prelude.{All, replicate, ◌-◌, ◌%◌}
+use Rattle.std.proofs.Common.{◌≡◌, ℕ, ◌+◌, ◌<◌, ◌≤◌, List, [], ◌∷◌, ◌++◌, length, get_or, map, drop, refl, sym, ap, ◌∙◌, arith, append_assoc, zip}
+use Rattle.std.specs.Prelude.{replicate, ◌-◌, ◌%◌}
 use Rattle.std.specs.List.{flat_map, concat}
-use Rattle.std.proofs.lemmas.List.{drop_more, take_all}
-use Rattle.std.proofs.lemmas.List.Elements.{All-head, All-tail}
+use Rattle.std.proofs.lemmas.List.{drop_more}
 use Rattle.dexspec.specs.Lists.{zip_with}
 use Rattle.dexspec.specs.Bytes.{round_up, padding}
 use Rattle.dexspec.specs.Placing.{bytes_from, end_from}
-use Rattle.dexspec.proofs.Places.{end_from_le, end_append}
-use Rattle.dexcanon.specs.Taking.{AreWithin}
+use Rattle.dexspec.proofs.Places.{end_from_le}
 
 -- ---- rows, which need no alignment
 

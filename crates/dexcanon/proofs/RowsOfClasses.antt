@@ -1,14 +1,13 @@
 -- The rows of classes, class by class.
-use Rattle.std.proofs.Common.{◌≡◌, ℕ, zero, suc, ◌+◌, ◌<◌, ◌≤◌, ◌^◌, List, [], ◌∷◌, ◌++◌, length, get_or, map, drop, Option, Some, None, refl, sym, ap, subst, ◌∙◌, arith, zip}
+use Rattle.std.proofs.Common.{◌≡◌, ℕ, ◌+◌, ◌<◌, ◌≤◌, ◌^◌, List, [], ◌++◌, length, get_or, map, drop, Option, Some, None, refl, sym, ap, ◌∙◌, arith, zip}
 use Rattle.std.specs.Prelude.{All, IfSome, unwrap_or, slice_index, option_to_list}
-use Rattle.std.specs.List.{concat, flat_map}
+use Rattle.std.specs.List.{concat}
 use Rattle.std.specs.Option.{option_map, option_map_or}
 use Rattle.std.proofs.lemmas.List.{length-append, get_or-map, get_or_default, length-map, drop_all, drop_more}
 use Rattle.std.proofs.lemmas.List.Elements.{All-head, All-tail}
 use Rattle.dexspec.specs.Lists.{zip_with}
 use Rattle.dexspec.specs.Bytes.{uint}
-use Rattle.dexspec.specs.Texts.{Text}
-use Rattle.dexspec.specs.Classes.{Definition, no_index}
+use Rattle.dexspec.specs.Classes.{no_index}
 use Rattle.dexspec.specs.Mentions.{Mentions}
 use Rattle.dexspec.specs.Spellings.{text_index, type_index}
 use Rattle.dexspec.specs.Canonical.{ClassOffsets, class_offsets, class_row_bytes}
@@ -17,7 +16,7 @@ use Rattle.dexspec.proofs.Laying.{get_or-zip}
 use Rattle.dexspec.proofs.ByteNumbers.{length-uint}
 use Rattle.dexpool.specs.Laws.{RanksAreNumbers}
 use Rattle.dexclass.specs.Numbered.{NumberedClass, definition_of, text_at, type_at}
-use Rattle.dexclass.specs.Uses.{IsKnownClass, type_numbers}
+use Rattle.dexclass.specs.Uses.{IsKnownClass}
 use Rattle.dexcanon.specs.ClassRows.{class_row}
 use Rattle.dexcanon.proofs.Aligned.{all_front}
 use Rattle.dexcanon.proofs.OwnUses.{zip_with_at, length-zip_with}

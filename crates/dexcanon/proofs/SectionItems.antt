@@ -1,22 +1,20 @@
 -- The items of each section, of a file that is laid out.
-use Rattle.std.proofs.Common.{◌≡◌, ℕ, ◌+◌, ◌<◌, ◌≤◌, ◌^◌, List, [], ◌∷◌, ◌++◌, length, get_or, map, drop, max, Option, refl, sym, ap, subst, ◌∙◌, arith}
-use Rattle.std.specs.Prelude.{All}
-use Rattle.std.specs.List.{flat_map}
+use Rattle.std.proofs.Common.{◌≡◌, ℕ, ◌≤◌, ◌^◌, List, [], ◌∷◌, ◌++◌, length, map, refl, sym, ap, ◌∙◌, arith}
 use Rattle.std.proofs.lemmas.List.{length-map, map-append}
 use Rattle.std.proofs.lemmas.Simd.{map-map}
 use Rattle.std.proofs.lemmas.List.Elements.{All-nil, All-cons}
 use Rattle.dexspec.specs.Lists.{present, zip_with}
 use Rattle.dexspec.specs.Mentions.{Mentions}
 use Rattle.dexspec.specs.Classes.{MethodDef}
-use Rattle.dexspec.specs.Placing.{Ordered, Placed, section_bytes, all_methods, values_unless_empty, code_uses, debug_uses, EqualOnce, own_items, items_by, uses_offsets, offsets, end_from}
+use Rattle.dexspec.specs.Placing.{Ordered, Placed, all_methods, values_unless_empty, code_uses, debug_uses, EqualOnce, offsets, end_from}
 use Rattle.dexspec.specs.Sameness.{same_debug}
-use Rattle.dexspec.specs.Canonical.{data_start, debug_end, class_data_end, set_end, ref_list_end, data_sections, type_list_section, annotation_section, array_section, string_section, debug_section, code_section, class_data_section, set_section, ref_list_section, directory_section, debug_offsets, code_offsets, debug_items}
+use Rattle.dexspec.specs.Canonical.{data_start, debug_end, class_data_end, set_end, ref_list_end, data_sections, type_list_section, annotation_section, array_section, string_section, debug_section, code_section, class_data_section, set_section, ref_list_section, directory_section, debug_offsets, code_offsets}
 use Rattle.dexspec.specs.Spellings.{encoded_array_bytes}
 use Rattle.dexspec.proofs.Placements.{length-uses_offsets, length-items_offsets, length-zip_with, sections_follow}
 use Rattle.dexmembers.specs.Numbered.{method_in, methods_of}
 use Rattle.dexclass.specs.Numbered.{NumberedClass, definition_of}
 use Rattle.dexlayout.specs.Places.{Places}
-use Rattle.dexlayout.specs.Laid.{ordered_of, greatest_of, greatest_in, greatest_item, file_end}
+use Rattle.dexlayout.specs.Laid.{ordered_of, greatest_of, greatest_in, file_end}
 use Rattle.dexlayout.proofs.Ends.{end_in_file}
 use Rattle.dexcanon.specs.Taking.{AreWithin}
 use Rattle.dexcanon.specs.Ready.{IsReady}

@@ -1,5 +1,5 @@
 -- Type lists by numbers.
-use Rattle.std.proofs.Common.{◌≡◌, ℕ, ◌+◌, ◌*◌, ◌<◌, ◌≤◌, List, [], ◌∷◌, ◌++◌, length, map, refl, sym, ap, ◌∙◌, arith}
+use Rattle.std.proofs.Common.{◌≡◌, ℕ, ◌+◌, ◌*◌, ◌<◌, List, [], ◌∷◌, ◌++◌, length, refl, sym, ap, ◌∙◌, arith}
 use Rattle.std.specs.Prelude.{All, slice_index_or}
 use Rattle.std.specs.List.{flat_map}
 use Rattle.std.proofs.lemmas.List.{length-append, length-map}
@@ -10,7 +10,7 @@ use Rattle.dexspec.specs.Spellings.{type_index, type_list_bytes}
 use Rattle.dexspec.proofs.ByteNumbers.{length-uint, length-ushort}
 use Rattle.dexspec.proofs.Stands.{length_rows}
 use Rattle.dexpool.specs.Laws.{RanksAreNumbers}
-use Rattle.dexcanon.specs.TypeLists.{types_at, list_bytes, AreFewTypes}
+use Rattle.dexcanon.specs.TypeLists.{types_at, list_bytes}
 
 pub length_list : (ns : List ℕ) → length (list_bytes ns) ≡ 4 + 2 * length ns
 length_list ns = length-append (uint (length ns)) (flat_map ushort ns) ∙ omega (arith, length-uint (length ns), length_rows ushort 2 length-ushort ns)

@@ -1,12 +1,11 @@
 -- What stands behind the header, part by part.
-use Rattle.std.proofs.Common.{◌≡◌, ℕ, ◌+◌, ◌<◌, ◌≤◌, ◌^◌, List, [], ◌∷◌, ◌++◌, length, map, take, drop, refl, sym, ap, ◌∙◌, arith, append-nil}
+use Rattle.std.proofs.Common.{◌≡◌, ℕ, ◌+◌, ◌<◌, ◌^◌, List, ◌++◌, length, map, take, drop, sym, ap, ◌∙◌, arith}
 use Rattle.std.specs.List.{flat_map, concat}
 use Rattle.std.proofs.lemmas.List.{length-take, length-drop, length-map}
 use Rattle.dexspec.specs.Lists.{zip_with}
 use Rattle.dexspec.specs.Bytes.{uint, padding, round_up}
 use Rattle.dexspec.specs.Mentions.{Mentions}
 use Rattle.dexspec.specs.Spellings.{text_index}
-use Rattle.dexspec.specs.Placing.{Ordered, section_bytes}
 use Rattle.dexspec.specs.Canonical as canonical
 use Rattle.dexspec.specs.Canonical.{layout, proto_row_bytes, field_row_bytes, method_row_bytes, class_row_bytes, class_offsets, type_list_offsets, directory_offsets, class_data_offsets, array_offsets, map_bytes, map_of, directory_end}
 use Rattle.dexspec.proofs.Placements.{layout_is, length-type_list_offsets}

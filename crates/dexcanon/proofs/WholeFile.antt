@@ -1,5 +1,5 @@
 -- How long a whole file is, and that no item is longer.
-use Rattle.std.proofs.Common.{◌≡◌, ℕ, ◌+◌, ◌≤◌, ◌^◌, max, min, List, [], ◌∷◌, ◌++◌, length, refl, sym, ap, subst, ◌∙◌, arith}
+use Rattle.std.proofs.Common.{◌≡◌, ℕ, ◌+◌, ◌≤◌, max, min, List, [], ◌∷◌, ◌++◌, length, sym, ap, subst, ◌∙◌, arith}
 use Rattle.std.specs.List.{flat_map}
 use Rattle.std.proofs.lemmas.List.{length-append}
 use Rattle.dexspec.specs.Bytes.{round_up, padding}
@@ -7,7 +7,7 @@ use Rattle.dexspec.specs.Files.{Collection, definitions}
 use Rattle.dexspec.specs.Header.{header_length}
 use Rattle.dexspec.specs.Mentions.{Mentions, mentions}
 use Rattle.dexspec.specs.Placing.{Ordered, Placed, bytes_from, section_bytes}
-use Rattle.dexspec.specs.Canonical.{Layout, layout, table_bytes, data_start, data_sections, directory_end, unsigned_file, with_sums, ordered, canonical}
+use Rattle.dexspec.specs.Canonical.{Layout, table_bytes, data_start, data_sections, directory_end, unsigned_file, with_sums, ordered, canonical}
 use Rattle.dexspec.proofs.Places.{length-padding, length-sections}
 use Rattle.dexspec.proofs.Placements.{named_layout, layout_is, named_layout_full, sections_follow}
 use Rattle.dexspec.proofs.Tables.{length-table_bytes}

@@ -1,6 +1,6 @@
 -- What is left of a making for which there was room.
-use Rattle.std.proofs.Common.{◌≡◌, ℕ, ◌+◌, ◌<◌, ◌≤◌, List, [], ◌++◌, Bool, true, false, Result, Ok, Err, OnOk, OnErr, IfErr, IsErr, IsErrAnd, IsOk, refl, sym, ap, subst, ◌∙◌, arith, append-nil, append_assoc}
-use Rattle.std.specs.Prelude.{vec_len, vec_capacity}
+use Rattle.std.proofs.Common.{◌≡◌, ℕ, ◌<◌, ◌≤◌, List, [], ◌++◌, Bool, true, false, Result, Ok, Err, OnOk, IfErr, IsErr, IsErrAnd, IsOk, refl, sym, ap, subst, ◌∙◌, arith, append-nil}
+use Rattle.std.specs.Prelude.{◌↔◌, vec_len, vec_capacity}
 use Rattle.std.specs.Global.{Vec}
 use Rattle.std.proofs.lemmas.List.{nil_from_length}
 use Rattle.dexcanon.specs.declared.faults.StoreFault.{StoreFault}
@@ -60,6 +60,14 @@ module _ {W : Type 0} (tells : W → Type 0) (taken : W → List ℕ) {has_faile
   written_front (Err Io) o empty room = λ told.
       let f = (o.io refl).front (taken s) [] (made_none (Has tells taken) (taken s) s v empty (told, refl)) in
       (f.count, f.held.1)
+
+  -- the writer's fault is told exactly where it failed
+  pub told_failed : (r : Result (Unit {0}) StoreFault) → Outcome (Has tells taken) has_failed true limit s v t w x r → HasRoom true limit v → (r ≡ Err Io) ↔ (has_failed t ≡ true)
+  told_failed (Ok _) o room =
+      let works : has_failed t ≡ false = o.ok.works in
+      ((λ same. absurd cc), (λ fails. absurd (let never : false ≡ true = sym works ∙ fails in cc)))
+  told_failed (Err Memory) o room = absurd (o.memory refl room)
+  told_failed (Err Io) o room = ((λ _. (o.io refl).fails), (λ _. refl))
 
 module _ {S : Type 0} {holds : S → List ℕ → Type 0} {has_failed : S → Bool} {empties : Bool} {limit : ℕ} where
   -- x came into a vector that was empty

@@ -1,6 +1,6 @@
 -- What classes have items of: static values and class data, by numbers.
 use Rattle.std.specs.Prelude.{◌≡◌, ℕ, List, map, length, Option, Some, None, if◌then◌else◌}
-use Rattle.dexspec.specs.Lists.{present, zip_with, chunks}
+use Rattle.dexspec.specs.Lists.{zip_with, chunks}
 use Rattle.dexspec.specs.Values.{Values}
 use Rattle.dexspec.specs.Classes.{Definition, declared_methods}
 use Rattle.dexspec.specs.Mentions.{Mentions}

@@ -1,8 +1,7 @@
 -- The rows of classes, by numbers.
-use Rattle.std.specs.Prelude.{◌≡◌, ℕ, ◌<◌, ◌≤◌, ◌^◌, List, ◌++◌, length, unwrap_or}
+use Rattle.std.specs.Prelude.{ℕ, List, ◌++◌, unwrap_or}
 use Rattle.dexspec.specs.Bytes.{uint}
 use Rattle.dexspec.specs.Classes.{no_index}
-use Rattle.dexspec.specs.Mentions.{Mentions}
 use Rattle.dexspec.specs.Canonical.{ClassOffsets}
 use Rattle.dexclass.specs.Numbered.{NumberedClass}
 

@@ -1,8 +1,6 @@
 -- When the bytes of a file can be made.
-use Rattle.std.specs.Prelude.{◌≡◌, ℕ, ◌≤◌, ◌^◌, Bool, false, List, ◌++◌}
-use Rattle.std.specs.List.{flat_map}
+use Rattle.std.specs.Prelude.{ℕ, ◌≤◌, ◌^◌, List}
 use Rattle.dexspec.specs.Mentions.{Mentions}
-use Rattle.dexspec.specs.Placing.{Ordered, section_bytes}
 use Rattle.dexclass.specs.Numbered.{NumberedClass}
 use Rattle.dexlayout.specs.Places.{Places}
 use Rattle.dexlayout.specs.Laid.{AreWritable, IsLaid}

@@ -1,5 +1,5 @@
 -- Annotations and values by numbers, that fit an item.
-use Rattle.std.specs.Prelude.{ℕ, ◌^◌, ◌<◌, length}
+use Rattle.std.specs.Prelude.{◌^◌, ◌<◌, length}
 use Rattle.dexspec.specs.Mentions.{Mentions}
 use Rattle.dexspec.specs.Spellings.{annotation_bytes, encoded_array_bytes}
 use Rattle.dexval.specs.Numbered.{NumberedAnnotation, NumberedValues, annotation_in, values_in, IsKnownAnnotation, AreKnown}

@@ -21,7 +21,8 @@ use Rattle.dexspec.proofs.SymbolOrders.{text_total}
 use Rattle.dexorder.specs.Depths.{parents_of, AreWithin}
 use Rattle.dexorder.specs.Definitions.{name_at, AreClassesOf}
 use Rattle.dexclass.specs.Numbered.{NumberedClass, type_at, definition_of}
-use Rattle.dexclass.specs.Parents.{parent_numbers, no_class, name_number, ArePlaces, defined_parents, AreNamed}
+use Rattle.dexclass.specs.Parents.{parent_numbers, no_class, name_number, ArePlaces, AreNamed}
+use Rattle.dexclass.proofs.Places.{places_some, places_all, defined_parents}
 
 same_is : (s t : Text) → same_text s t ≡ true → s ≡ t
 same_is s t e = (slice_eq-Decides Decides-eqb s t (same_text s t) refl).0 e
@@ -98,7 +99,7 @@ module _ (m : Mentions) (cs : List NumberedClass) (named : AreNamed m cs) where
         subst (All (λ p. p < length classes)) (sym (get_or-map (defined_parents places) cs i no_class d few)) (λ k e small.
         let c = get_or cs i no_class in
         let s = parent_source c (get_or (defined_parents places c) k e) (Contains-get_or (defined_parents places c) k e small) in
-        let at = h.some s.0 (get_or (defined_parents places c) k e) s.2 in
+        let at = places_some cs places h s.0 (get_or (defined_parents places c) k e) s.2 in
         omega (arith, at.0, length-map cs (defined_parents places)))
 
     -- a defined parent is above
@@ -107,7 +108,7 @@ module _ (m : Mentions) (cs : List NumberedClass) (named : AreNamed m cs) where
         let c = get_or cs i no_class in
         let k = Contains-map_source (name_at D) (parents_of classes i) name has in
         let s = parent_source c k.0 (subst (λ (l : List ℕ). Contains l k.0) (at_class i lt) k.1) in
-        let at = h.some s.0 k.0 s.2 in
+        let at = places_some cs places h s.0 k.0 s.2 in
         let name_p : name ≡ type_at m s.0 = sym k.2 ∙ name_is k.0 at.0 ∙ ap (type_at m) at.1 in
         let member : Contains D (definition_of m c) = Contains-map (definition_of m) cs c (Contains-get_or cs i no_class lt) in
         let own : same_text (definition_of m c).0 (name_at D i) ≡ true = equal_same (type_at m c.name) (name_at D i) (sym (name_is i lt)) in
@@ -155,8 +156,8 @@ module _ (m : Mentions) (cs : List NumberedClass) (named : AreNamed m cs) where
         let other : get_or cs k.1.0 no_class ≡ k.0 = get_or_default cs k.1.0 no_class k.0 k.1.1 ∙ k.1.2 in
         let named_p : type_at m (name_number cs k.1.0) ≡ type_at m p.0 = ap (λ (x : NumberedClass). type_at m x.name) other ∙ ap (λ (x : Definition). x.0) k.2 ∙ same_is e.0.0 name e.2 ∙ sym p.2 in
         let number : name_number cs k.1.0 ≡ p.0 = one_number _ _ (named.names k.1.0 k.1.1) (All-contains (λ q. q < length m.types) (parent_numbers c.0) p.0 (named.parents_in c.0 c.1) p.1) named_p in
-        let some = option_is (get_or places p.0 None) (subst (λ (n : ℕ). IsSome (get_or places n None)) number (h.all k.1.0 k.1.1)) in
-        let at = h.some p.0 some.0 some.1 in
+        let some = option_is (get_or places p.0 None) (subst (λ (n : ℕ). IsSome (get_or places n None)) number (places_all cs places h k.1.0 k.1.1)) in
+        let at = places_some cs places h p.0 some.0 some.1 in
         let listed : Contains (defined_parents places c.0) some.0 = present_has (map (λ q. get_or places q None) (parent_numbers c.0)) some.0 (subst (Contains (map (λ q. get_or places q None) (parent_numbers c.0))) some.1 (Contains-map (λ q. get_or places q None) (parent_numbers c.0) p.0 p.1)) in
         let there : Contains (parents_of classes i) some.0 = subst (λ (l : List ℕ). Contains l some.0) (ap (defined_parents places) is ∙ sym (at_class i lt)) listed in
         subst (Contains (map (name_at D) (parents_of classes i))) (name_is some.0 at.0 ∙ ap (type_at m) at.1 ∙ p.2) (Contains-map (name_at D) (parents_of classes i) some.0 there)

@@ -23,6 +23,7 @@ use Rattle.dexclass.specs.Numbered.{NumberedClass, type_at, definition_of}
 use Rattle.dexclass.specs.Parents.{no_class, name_number, IsHierarchy, AreNamed}
 use Rattle.dexclass.proofs.Classed.{name_is, one_number, classes_of}
 use Rattle.dexclass.proofs.NamesOf.{names_of}
+use Rattle.dexclass.proofs.Places.{parents_are}
 
 -- what follows from what an answer gives
 pub if_ok_each : {A E : Type 0} (P Q : A → Type 0) (r : Result A E) → ((x : A) → P x → Q x) → IfOk r P → IfOk r Q
@@ -60,7 +61,7 @@ module _ (m : Mentions) (cs : List NumberedClass) (named : AreNamed m cs) where
 
   module _ (H : List (List ℕ)) (h : IsHierarchy cs H) where
     pub are_classes : AreClassesOf D H
-    are_classes = subst (AreClassesOf D) (sym h.is) (classes_of m cs named h.places h.are_places)
+    are_classes = subst (AreClassesOf D) (sym (parents_are cs H h)) (classes_of m cs named h.by_type h.are)
 
     pub are_within : AreWithin H
     are_within = are_classes.within

@@ -1,15 +1,16 @@
 -- The parents of numbered classes, as numbers of classes.
-use Rattle.std.specs.Prelude.{◌≡◌, ℕ, ◌<◌, true, All, List, [], ◌++◌, length, map, Option, None, Some, IsSome, option_to_list, slice_index_or}
+use Rattle.std.specs.Prelude.{◌≡◌, ℕ, ◌<◌, true, All, List, [], length, map, Option, None, slice_index_or}
 use Rattle.std.specs.List.{Contains}
-use Rattle.dexspec.specs.Lists.{present, rises, AreDistinct}
+use Rattle.dexspec.specs.Lists.{rises, AreDistinct}
 use Rattle.dexspec.specs.Texts.{text_cmp}
 use Rattle.dexspec.specs.Mentions.{Mentions}
 use Rattle.dexmembers.specs.Numbered.{no_members}
+use Rattle.dexorder.specs.Parents.{AreByType, IsHierarchyOf, parent_types}
 use Rattle.dexclass.specs.Numbered.{NumberedClass}
 
 -- the numbers of the superclass and the interfaces
 abbrev pub parent_numbers : NumberedClass → List ℕ
-parent_numbers c = option_to_list c.superclass ++ c.interfaces
+parent_numbers c = parent_types c.superclass c.interfaces
 
 -- a class of nothing
 abbrev pub no_class : NumberedClass
@@ -19,20 +20,13 @@ no_class = record { name = 0; flags = 0; superclass = None; interfaces = []; sou
 abbrev pub name_number : List NumberedClass → ℕ → ℕ
 name_number cs i = (slice_index_or cs i no_class).name
 
--- for each type the class that has it as its name, if one has
-pub record ArePlaces (cs : List NumberedClass) (places : List (Option ℕ)) : Type 0 where
-  pub some : (t i : ℕ) → slice_index_or places t None ≡ Some i → (i < length cs) × (name_number cs i ≡ t)
-  pub all : (i : ℕ) → i < length cs → IsSome (slice_index_or places (name_number cs i) None)
-
--- the classes that are parents
-abbrev pub defined_parents : List (Option ℕ) → NumberedClass → List ℕ
-defined_parents places c = present (map (λ p. slice_index_or places p None) (parent_numbers c))
+-- for each type a class that has it as its name, if one has
+abbrev pub ArePlaces : List NumberedClass → List (Option ℕ) → Type 0
+ArePlaces cs places = AreByType (map (λ c. c.name) cs) places
 
 -- the classes, each with its parents among them
-pub record IsHierarchy (cs : List NumberedClass) (parents : List (List ℕ)) : Type 0 where
-  pub places : List (Option ℕ)
-  pub are_places : ArePlaces cs places
-  pub is : parents ≡ map (defined_parents places) cs
+abbrev pub IsHierarchy : List NumberedClass → List (List ℕ) → Type 0
+IsHierarchy cs classes = IsHierarchyOf (map (λ c. c.name) cs) (map parent_numbers cs) classes
 
 -- each class's name and parents are types of the numbering
 pub record AreNamed (m : Mentions) (cs : List NumberedClass) : Type 0 where

@@ -10,6 +10,7 @@ use crate::class_rows::{NO_INDEX, row_fields};
 use dexflags::ClassFlags;
 use dexhead::{Frame, u16_at};
 use dexmembers::Members;
+use dexorder::HasParents;
 use dexpool::type_list_len;
 use std::alloc::{AllocError, Global};
 use std::marker::Model;
@@ -85,6 +86,30 @@ impl<'a> Class<'a> {
         ensures { result.now ≡ self.now.members }
     {
         &self.members
+    }
+}
+
+impl<'a> HasParents for Class<'a> {
+    ghost name_of = { λ c. c.name };
+
+    ghost superclass_of = { λ c. c.superclass };
+
+    ghost interfaces_of = { λ c. c.interfaces };
+
+    fn name(&self) -> usize {
+        self.name
+    }
+
+    fn superclass(&self) -> Option<usize> {
+        self.superclass
+    }
+
+    fn interface_count(&self) -> usize {
+        self.interfaces.len()
+    }
+
+    fn interface(&self, k: usize) -> usize {
+        self.interfaces[k]
     }
 }
 

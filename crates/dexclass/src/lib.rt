@@ -12,7 +12,6 @@ mod judging;
 mod laws;
 mod marking;
 mod ordering;
-mod parents;
 mod programs;
 mod reading;
 mod renumbering;

@@ -9,8 +9,7 @@ ghost use Rattle.dexclass.specs.Parents.{AreNamed};
 
 use crate::arranging::arrange;
 use crate::classes::Class;
-use crate::parents::hierarchy;
-use dexorder::class_order;
+use dexorder::{Hierarchy, class_order};
 use std::alloc::{AllocError, Global};
 
 // The numbers of the classes' names.
@@ -40,7 +39,7 @@ pub(crate) fn in_order<'a>(
     ensures order { IfOk result (λ ordered. (m : Mentions) → AreNamed m classes.old.items → IsAcyclic (map (definition_of m) classes.old.items) → map (definition_of m) ordered.items ≡ in_class_order (map (definition_of m) classes.old.items)) }
     ensures members { IfOk result (λ ordered. AreIn ordered.items classes.old.items) }
 {
-    let depths = hierarchy(alloc, classes, types)?.depths(alloc)?;
+    let depths = Hierarchy::of(alloc, classes, types)?.depths(alloc)?;
     let names = names(alloc, classes)?;
     let order = class_order(alloc, &depths, &names)?;
     arrange(alloc, classes, &order)

@@ -1,15 +1,18 @@
 //! Programs without debug programs and source texts.
 
-ghost use Rattle.std.specs.Prelude.{◌≡◌, map, IfOk};
-ghost use Rattle.dexspec.specs.Files.{definitions};
-ghost use Rattle.dexspec.specs.Merging.{Caps, IsGood};
+ghost use Rattle.std.specs.Prelude.{◌≡◌, List, map, IfOk};
+ghost use Rattle.dexspec.specs.Classes.{Definition};
+ghost use Rattle.dexspec.specs.Files.{Collection, IsCollectionOf, definitions};
+ghost use Rattle.dexspec.specs.Merging.{Caps, IsGood, Plan, union};
+ghost use Rattle.dexspec.specs.Stripping as stripping;
 ghost use Rattle.dexspec.specs.Stripping.{strip_collection};
+ghost use Rattle.dexlaws_strip.specs.Laws.{StripCommutes};
 ghost use Rattle.dexclass.specs.Stripped.{stripped_class};
 
 use crate::classes::Class;
 use crate::programs::Program;
 use crate::trimming::trim;
-use dexlaws_strip::{strip_collection_law, strip_good};
+use dexlaws_strip::{strip_collection_law, strip_good, strip_merge_law};
 use dexmembers::members_stripped_law;
 use std::alloc::{AllocError, Global};
 
@@ -35,7 +38,8 @@ fn all_stripped<'a>(alloc: Global, classes: &[Class<'a>]) -> Result<Vec<Class<'a
 }
 
 /// The program without its debug programs and source texts. The texts and types that only they mentioned leave the pools. What is
-/// good under caps stays so; a stripped program is its own strip.
+/// good under caps stays so; a stripped program is its own strip; and where programs merge by a plan under caps, the stripped ones
+/// merge by the same plan under the same caps, to what is left of their union.
 ///
 /// Error: the memory for the copy was refused.
 ///
@@ -44,10 +48,13 @@ fn all_stripped<'a>(alloc: Global, classes: &[Class<'a>]) -> Result<Vec<Class<'a
 pub fn strip<'a>(alloc: Global, program: &Program<'a>) -> Result<Program<'a>, AllocError>
     ensures stripped { IfOk result (λ stripped. stripped ≡ strip_collection program.now) }
     ensures good { (caps : Caps) → IsGood caps (definitions program.now) → IsGood caps (definitions (strip_collection program.now)) }
+    ensures all_good { (caps : Caps) (D : List Definition) → IsGood caps D → IsGood caps (stripping.strip D) }
+    ensures merges { (caps : Caps) (Ks : List Collection) (plan : Plan) (K : Collection) → IsCollectionOf (union (map definitions Ks) plan) K → StripCommutes caps Ks plan K }
     ensures twice { strip_collection (strip_collection program.now) ≡ strip_collection program.now }
 {
     strip_collection_law();
     strip_good();
+    strip_merge_law();
     members_stripped_law();
     program.is_good();
     let mut classes = all_stripped(alloc, program.classes())?;

@@ -1,13 +1,15 @@
 -- Candidates by their numbers.
 use Rattle.std.proofs.Common.{◌≡◌, ℕ, ◌+◌, ◌<◌, List, [], ◌∷◌, ◌++◌, length, get_or, take, map, sym, ap, ◌∙◌, subst, arith, Option, Some, None}
-use Rattle.std.specs.Prelude.{◌↔◌}
+use Rattle.std.specs.Prelude.{◌↔◌, All}
 use Rattle.std.proofs.lemmas.List.{length-map, get_or-map, take_more, map-append, append_assoc}
 use Rattle.dexspec.specs.Lists.{present}
 use Rattle.dexpool.specs.Numberings.{Maps}
 use Rattle.dexclass.specs.Numbered.{NumberedClass}
 use Rattle.dexclass.specs.Renumbering.{renumbered}
-use Rattle.dexclass.specs.Parents.{no_class, name_number, ArePlaces}
-use Rattle.dexclass.proofs.Places.{present-append}
+use Rattle.dexorder.specs.Parents.{AreByType, IsHierarchyOf}
+use Rattle.dexorder.proofs.ByType.{map-after, present-append}
+use Rattle.dexclass.specs.Parents.{no_class, name_number, parent_numbers, ArePlaces, IsHierarchy}
+use Rattle.dexclass.proofs.Places.{places_some}
 use Rattle.dexmerge.specs.Candidates.{class_of, classes_of, class_at, kept_classes, IsAlike}
 use Rattle.dexmerge.specs.declared.candidates.Candidate.{Candidate}
 
@@ -23,9 +25,21 @@ name_at_place cs i c lt e = ap (λ (x : NumberedClass). x.name) (at_place cs i c
 pub count_classes : (cs : List Candidate) → length (classes_of cs) ≡ length cs
 count_classes cs = length-map cs class_of
 
+-- what is known of the candidates is known of their classes
+pub places_of : (cs : List Candidate) (places : List (Option ℕ)) → AreByType (map (λ c. (class_of c).name) cs) places → ArePlaces (classes_of cs) places
+places_of cs places h = subst (λ (names : List ℕ). AreByType names places) (map-after class_of (λ (x : NumberedClass). x.name) cs) h
+
+pub names_below : (cs : List Candidate) (n : ℕ) → All (λ c. c.name < n) (classes_of cs) → All (λ c. (class_of c).name < n) cs
+names_below cs n all i d lt = subst (λ (x : NumberedClass). x.name < n) (get_or-map class_of cs i d no_class lt) (all i no_class (omega (arith, lt, length-map cs class_of)))
+
+pub hierarchy_of : (cs : List Candidate) (H : List (List ℕ)) → IsHierarchyOf (map (λ c. (class_of c).name) cs) (map (λ c. parent_numbers (class_of c)) cs) H → IsHierarchy (classes_of cs) H
+hierarchy_of cs H h =
+    subst (λ (names : List ℕ). IsHierarchyOf names (map parent_numbers (classes_of cs)) H) (map-after class_of (λ (x : NumberedClass). x.name) cs)
+    (subst (λ (parents : List (List ℕ)). IsHierarchyOf (map (λ c. (class_of c).name) cs) parents H) (map-after class_of parent_numbers cs) h)
+
 -- a class that is kept is one of them
 pub kept_within : (cs : List Candidate) (places : List (Option ℕ)) (t i : ℕ) → ArePlaces (classes_of cs) places → get_or places t None ≡ Some i → i < length cs
-kept_within cs places t i h e = omega (arith, (h.some t i e).0, count_classes cs)
+kept_within cs places t i h e = omega (arith, (places_some (classes_of cs) places h t i e).0, count_classes cs)
 
 -- alike where the two are the same
 pub alike_by : (cs : List NumberedClass) (places : List (Option ℕ)) (i k : ℕ) (P : Type 0) → get_or places (name_number cs i) None ≡ Some k → P ↔ (class_at cs i ≡ class_at cs k) → P ↔ IsAlike cs places i

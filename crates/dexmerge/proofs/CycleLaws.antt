@@ -1,8 +1,8 @@
 -- The first class without a depth has the least name that has none.
 use Rattle.std.proofs.Common.{◌≡◌, ℕ, ◌<◌, List, [], length, get_or, map, sym, ap, ◌∙◌, subst, arith, inl, inr, Option, Some, None, Less}
-use Rattle.std.specs.Prelude.{IsSome, MatchOption}
+use Rattle.std.specs.Prelude.{All, IsSome, MatchOption}
 use Rattle.std.proofs.lemmas.Bool.{cases_order}
-use Rattle.std.proofs.lemmas.List.{length-map}
+use Rattle.std.proofs.lemmas.List.{length-map, get_or_default}
 use Rattle.dexspec.specs.Texts.{Text, text_cmp}
 use Rattle.dexspec.specs.Classes.{Definition}
 use Rattle.dexspec.specs.Mentions.{Mentions}
@@ -10,13 +10,14 @@ use Rattle.dexspec.specs.Merging.{IsCycle}
 use Rattle.dexspec.proofs.InOrder.{Rises-from_rises, Rises-places, irreflexive, asymmetric}
 use Rattle.dexspec.proofs.SymbolOrders.{text_total}
 use Rattle.dexorder.specs.Depths.{AreDepths, AreWithin, IsAnswer, HasNone}
+use Rattle.dexorder.specs.Parents.{AllHaveDepths, IsFirstWithout}
 use Rattle.dexorder.specs.Definitions.{AreClassesOf}
 use Rattle.dexorder.proofs.DefinitionDepths.{no_cycle, is_cycle, cycle_class}
 use Rattle.dexclass.specs.Numbered.{NumberedClass, type_at, definition_of}
-use Rattle.dexclass.specs.Parents.{name_number, IsHierarchy}
+use Rattle.dexclass.specs.Parents.{no_class, name_number, IsHierarchy}
 use Rattle.dexclass.proofs.Classed.{name_is}
 use Rattle.dexclass.proofs.Ordered.{are_classes}
-use Rattle.dexmerge.specs.Cycles.{AreKept, AllHaveDepths, IsFirstWithout, AreAcyclic, IsFirstCycle}
+use Rattle.dexmerge.specs.Cycles.{AreKept, AreAcyclic, IsFirstCycle}
 
 -- a depth that is there and is not
 some_none : (o : Option ℕ) → IsSome o → o ≡ None → ⊥
@@ -24,6 +25,10 @@ some_none None s e = absurd cc
 some_none (Some k) s e = absurd cc
 
 module _ (m : Mentions) (cs : List NumberedClass) (kept : AreKept m cs) where
+  -- names are types
+  pub kept_below : All (λ c. c.name < length m.types) cs
+  kept_below i d lt = subst (λ (x : NumberedClass). x.name < length m.types) (get_or_default cs i no_class d lt) (kept.named.names i lt)
+
   abbrev D : List Definition
   D = map (definition_of m) cs
 

@@ -20,6 +20,7 @@ use Rattle.dexpool.specs.Numberings.{AreRising}
 use Rattle.dexclass.specs.Numbered.{NumberedClass, type_at, definition_of}
 use Rattle.dexclass.specs.Uses.{IsKnownClass}
 use Rattle.dexclass.specs.Parents.{no_class, name_number, parent_numbers, ArePlaces}
+use Rattle.dexclass.proofs.Places.{places_some, places_all}
 use Rattle.dexmerge.specs.Candidates.{AreMembers, class_at, IsAlike, IsLeastUnlike, kept_classes}
 use Rattle.dexmerge.specs.Cycles.{AreKept, IsFirstCycle}
 
@@ -132,7 +133,7 @@ module _ (m : Mentions) (rising : AreRising m) where
       -- alike classes of one name are the same
       alike_same : (i j : ℕ) → i < length cs → name_number cs i ≡ name_number cs j → IsAlike cs places i → IsAlike cs places j → class_at cs i ≡ class_at cs j
       alike_same i j lt e f g =
-          let k = option_is (get_or places (name_number cs i) None) (h.all i lt) in
+          let k = option_is (get_or places (name_number cs i) None) (places_all cs places h i lt) in
           f k.0 k.1 ∙ sym (g k.0 (ap (λ (n : ℕ). get_or places n None) (sym e) ∙ k.1))
 
       -- the least name of unlike classes is the first cause
@@ -140,7 +141,7 @@ module _ (m : Mentions) (rising : AreRising m) where
       conflict_told told caps name l = record { is = conflict; first = before }
         where
           kept_at : (l.is.kept < length cs) × (name_number cs l.is.kept ≡ name)
-          kept_at = h.some name l.is.kept l.is.kept_is
+          kept_at = places_some cs places h name l.is.kept l.is.kept_is
 
           at_name : (i : ℕ) → i < length cs → name_number cs i ≡ name → Contains E (type_at m name, (definition_of m (class_at cs i)).1)
           at_name i lt e = subst (λ (n : ℕ). Contains E (type_at m n, (definition_of m (class_at cs i)).1)) e (member i lt)
@@ -171,7 +172,7 @@ module _ (m : Mentions) (rising : AreRising m) where
       placed t k e = present_at places t k e
 
       source_place : (k : ℕ) → Contains (present places) k → k < length cs
-      source_place k has = let t = present_source places k has in (h.some t.0 k t.1).0
+      source_place k has = let t = present_source places k has in (places_some cs places h t.0 k t.1).0
 
       kept_within : (i : ℕ) → i < length (present places) → get_or (present places) i 0 < length cs
       kept_within i lt = source_place (get_or (present places) i 0) (Contains-get_or (present places) i 0 lt)
@@ -191,7 +192,7 @@ module _ (m : Mentions) (rising : AreRising m) where
       -- and each alike class is kept
       kept_has : (i : ℕ) → i < length cs → IsAlike cs places i → Contains (kept_classes cs places) (class_at cs i)
       kept_has i lt alike =
-          let k = option_is (get_or places (name_number cs i) None) (h.all i lt) in
+          let k = option_is (get_or places (name_number cs i) None) (places_all cs places h i lt) in
           subst (Contains (kept_classes cs places)) (sym (alike k.0 k.1)) (Contains-map (class_at cs) (present places) k.0 (placed (name_number cs i) k.0 k.1))
 
       -- where all classes are alike, those that are kept stand for the same definitions
@@ -213,7 +214,7 @@ module _ (m : Mentions) (rising : AreRising m) where
 
       pub kept_rise : (i j : ℕ) → i < j → j < length (kept_classes cs places) → name_number (kept_classes cs places) i < name_number (kept_classes cs places) j
       kept_rise i j less lt =
-          let r = names_rise (name_number cs) places 0 (λ t k e. omega (arith, (h.some t k e).1)) i j less (omega (arith, lt, count_kept)) in
+          let r = names_rise (name_number cs) places 0 (λ t k e. omega (arith, (places_some cs places h t k e).1)) i j less (omega (arith, lt, count_kept)) in
           omega (arith, r, kept_name i (omega (arith, less, lt)), kept_name j lt)
 
   -- ---- classes by name

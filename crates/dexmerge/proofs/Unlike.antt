@@ -4,6 +4,7 @@ use Rattle.std.specs.Prelude.{IsSome, MatchOption}
 use Rattle.std.proofs.lemmas.Bool.{cases_lt}
 use Rattle.dexclass.specs.Numbered.{NumberedClass}
 use Rattle.dexclass.specs.Parents.{name_number, ArePlaces}
+use Rattle.dexclass.proofs.Places.{places_all}
 use Rattle.dexmerge.specs.Candidates.{class_at, IsAlike, IsUnlike, IsLeastUnlike, lesser_of}
 
 -- it is of this name that there are unlike classes, and of no lesser name among the first n classes
@@ -38,7 +39,7 @@ module _ (cs : List NumberedClass) (places : List (Option ℕ)) where
   -- an unlike one more
   unlike_is : (n : ℕ) → n < length cs → ArePlaces cs places → (IsAlike cs places n → ⊥) → IsUnlike cs places (name_number cs n)
   unlike_is n lt h unlike =
-      let kept = option_is (get_or places (name_number cs n) None) (h.all n lt) in
+      let kept = option_is (get_or places (name_number cs n) None) (places_all cs places h n lt) in
       record {
         place = n;
         kept = kept.0;

@@ -1,5 +1,5 @@
 -- Classes by name, and which of them have no depth.
-use Rattle.std.specs.Prelude.{◌≡◌, ℕ, ◌<◌, List, map, length, All, Option, None, IsSome, slice_index_or}
+use Rattle.std.specs.Prelude.{ℕ, ◌<◌, ◌≡◌, List, map, length}
 use Rattle.std.specs.declared.cmp.Ordering.TheVariants.{Less}
 use Rattle.dexspec.specs.Texts.{Text, text_cmp}
 use Rattle.dexspec.specs.Mentions.{Mentions}
@@ -12,16 +12,6 @@ use Rattle.dexclass.specs.Parents.{name_number, AreNamed}
 pub record AreKept (m : Mentions) (cs : List NumberedClass) : Type 0 where
   pub named : AreNamed m cs
   pub rise : (i j : ℕ) → i < j → j < length cs → name_number cs i < name_number cs j
-
--- each class has a depth
-abbrev pub AllHaveDepths : List (Option ℕ) → Type 0
-AllHaveDepths depths = All (λ depth. IsSome depth) depths
-
--- the class has no depth, and each before it has one
-pub record IsFirstWithout (depths : List (Option ℕ)) (i : ℕ) : Type 0 where
-  pub within : i < length depths
-  pub none : slice_index_or depths i None ≡ None
-  pub before : (k : ℕ) → k < i → IsSome (slice_index_or depths k None)
 
 -- no class is above itself
 abbrev pub AreAcyclic : Mentions → List NumberedClass → Type 0

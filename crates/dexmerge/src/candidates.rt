@@ -13,6 +13,7 @@ ghost use Rattle.dexmerge.specs.Amounts.{has_from};
 ghost use Rattle.dexmerge.specs.Candidates.{AreMembers, IsOfPart, class_of, classes_of};
 
 use dexclass::{Class, Program, renumbering_law};
+use dexorder::HasParents;
 use dexpool::{Remap, SymbolKind};
 use std::alloc::{AllocError, Global};
 
@@ -24,32 +25,8 @@ pub(crate) struct Candidate<'a, 'b> {
 }
 
 impl<'a, 'b> Candidate<'a, 'b> {
-    /// The number of its type in the union.
-    pub(crate) fn name(&self) -> usize
-        ensures { result ≡ (class_of self.now).name }
-    {
-        self.led(self.class.name())
-    }
-
-    /// The number of the superclass's type in the union, if there is one.
-    pub(crate) fn superclass(&self) -> Option<usize>
-        ensures { result ≡ (class_of self.now).superclass }
-    {
-        match self.class.superclass() {
-            Some(superclass) => Some(self.led(superclass)),
-            None => None,
-        }
-    }
-
-    /// The numbers of the interfaces' types in the part, in their order.
-    pub(crate) fn interfaces(&self) -> &'b [usize]
-        ensures { map (led self.now.remap.now.types) result.now ≡ (class_of self.now).interfaces }
-    {
-        self.class.interfaces()
-    }
-
     /// The number in the union of a type of the part.
-    pub(crate) fn led(&self, typ: usize) -> usize
+    fn led(&self, typ: usize) -> usize
         ensures { result ≡ led self.now.remap.now.types typ }
     {
         match self.remap.image(SymbolKind::Typ, typ) {
@@ -91,6 +68,36 @@ impl<'a, 'b> Candidate<'a, 'b> {
             Some(image) => image >= cap,
             None => false,
         }
+    }
+}
+
+/// The numbers are those of the union.
+impl<'a, 'b> HasParents for Candidate<'a, 'b> {
+    ghost use Rattle.dexmerge.specs.Candidates.{class_of};
+
+    ghost name_of = { λ c. (class_of c).name };
+
+    ghost superclass_of = { λ c. (class_of c).superclass };
+
+    ghost interfaces_of = { λ c. (class_of c).interfaces };
+
+    fn name(&self) -> usize {
+        self.led(self.class.name())
+    }
+
+    fn superclass(&self) -> Option<usize> {
+        match self.class.superclass() {
+            Some(superclass) => Some(self.led(superclass)),
+            None => None,
+        }
+    }
+
+    fn interface_count(&self) -> usize {
+        self.class.interfaces().len()
+    }
+
+    fn interface(&self, k: usize) -> usize {
+        self.led(self.class.interfaces()[k])
     }
 }
 

@@ -7,37 +7,8 @@ ghost use Rattle.dexclass.specs.Parents.{ArePlaces};
 ghost use Rattle.dexmerge.specs.Candidates.{classes_of, class_at, kept_classes, IsAlike, IsLeastUnlike, lesser_of};
 
 use crate::candidates::Candidate;
+use dexorder::{HasParents, class_of_type};
 use std::alloc::{AllocError, Global};
-
-/// For each type of the union the number of a candidate that has it as its name, if one has.
-///
-/// Condition: each candidate's name is below the number of types. Error: the memory for it was refused.
-pub(crate) fn places(
-    alloc: Global,
-    candidates: &[Candidate<'_, '_>],
-    types: usize,
-) -> Result<Vec<Option<usize>>, AllocError>
-    requires { All (λ c. c.name < types) (classes_of candidates.now) }
-    ensures count { IfOk result (λ places. length places.items ≡ types) }
-    ensures places { IfOk result (λ places. ArePlaces (classes_of candidates.now) places.items) }
-{
-    let mut places = vec![in alloc; None; types]?;
-    for i in 0..candidates.len() {
-        places[candidates[i].name()] = Some(i);
-    }
-    Ok(places)
-}
-
-/// The number of the candidate that is kept of a name, if one is.
-pub(crate) fn place(places: &[Option<usize>], typ: usize) -> Option<usize>
-    ensures { result ≡ slice_index_or places.now typ None }
-{
-    if typ < places.len() {
-        places[typ]
-    } else {
-        None
-    }
-}
 
 // Whether two candidates are the same class. None is compared with itself.
 fn are_same(candidates: &[Candidate<'_, '_>], i: usize, k: usize) -> bool
@@ -57,7 +28,7 @@ fn is_alike(candidates: &[Candidate<'_, '_>], places: &[Option<usize>], i: usize
     requires places { ArePlaces (classes_of candidates.now) places.now }
     ensures { IsTrue result ↔ IsAlike (classes_of candidates.now) places.now i }
 {
-    match place(places, candidates[i].name()) {
+    match class_of_type(places, candidates[i].name()) {
         Some(kept) => are_same(candidates, i, kept),
         None => true,
     }

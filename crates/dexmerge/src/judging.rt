@@ -14,11 +14,12 @@ ghost use Rattle.dexmerge.specs.Unions.{AreCopies, AreOnce, IsJoined};
 
 use crate::candidates::{Candidate, candidates};
 use crate::caps::Caps;
-use crate::copies::{kept, least_unlike, places};
+use crate::copies::{kept, least_unlike};
+use crate::cycles::first_cycle;
 use crate::faults::MergeFault;
 use crate::fitting::first_exceeded;
-use crate::parents::first_cycle;
 use dexclass::{Program, same_law};
+use dexorder::{HasParents, classes_by_type};
 use dexpool::{Numbering, Remap, SymbolKind};
 use dexstr::Name;
 use std::alloc::{AllocError, Global};
@@ -34,7 +35,7 @@ fn one_of_each<'a, 'b>(
     ensures fault { IfErr result (λ fault. (caps : merging.Caps) (D : List Definition) → AreCopies numbering.now D candidates.now → Tells (IsFirstCause caps D) fault) }
 {
     same_law();
-    let places = places(alloc, candidates, numbering.count(SymbolKind::Typ))?;
+    let places = classes_by_type(alloc, candidates, numbering.count(SymbolKind::Typ))?;
     match least_unlike(candidates, &places) {
         Some(name) => Err(MergeFault::Conflict(Name::of(alloc, numbering.typ(name))?)),
         None => Ok(kept(alloc, candidates, &places)?),

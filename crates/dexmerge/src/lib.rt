@@ -6,12 +6,12 @@
 mod candidates;
 mod caps;
 mod copies;
+mod cycles;
 mod faults;
 mod fitting;
 mod gathering;
 mod judging;
 mod merging;
-mod parents;
 mod plan;
 mod planned;
 

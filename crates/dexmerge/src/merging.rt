@@ -4,7 +4,7 @@ ghost use Rattle.std.specs.Prelude.{◌≡◌, ◌++◌, List, IfOk, IfErr, map}
 ghost use Rattle.std.specs.List.{flat_map};
 ghost use Rattle.dexspec.specs.Classes.{Definition};
 ghost use Rattle.dexspec.specs.Files.{definitions, AreWithin};
-ghost use Rattle.dexspec.specs.Merging.{IsFirstCause};
+ghost use Rattle.dexspec.specs.Merging.{Cause, IsCause, IsFirstCause, IsGood};
 ghost use Rattle.dexlaws_growth.specs.Laws.{Absorbs};
 ghost use Rattle.dexmerge.specs.Faults.{IsMerged, Tells};
 ghost use Rattle.dexmerge.specs.Unions.{IsJoined, IsJudged};
@@ -95,7 +95,8 @@ pub(crate) fn merge_all<'a>(
 ///
 /// Error: `Conflict` with the least name that has two unlike classes; else `Cycle` with the least name of a class that
 /// is above itself or below such a class; else `Cap` with the first cap that the classes exceed; or `Memory` where a
-/// growth was refused. What can be merged whole can be merged in part, and each cause of a part is one of the whole.
+/// growth was refused. What can be merged whole can be merged in part, each cause of a part is one of the whole, and what
+/// can be merged has no cause.
 pub fn merge<'a>(
     alloc: Global,
     parts: &[&Program<'a>],
@@ -104,7 +105,9 @@ pub fn merge<'a>(
     ensures merged { IfOk result (IsMerged caps.now (flat_map definitions (map (λ part. part.now) parts.now))) }
     ensures fault { IfErr result (Tells (IsFirstCause caps.now (flat_map definitions (map (λ part. part.now) parts.now)))) }
     ensures law { (part whole : List Definition) → AreWithin part whole → Absorbs part whole }
+    ensures apart { (classes : List Definition) (cause : Cause) → IsGood caps.now classes → IsCause caps.now classes cause → ⊥ }
 {
+    dexlaws_causes::good_or_first_cause();
     dexlaws_growth::absorption_law();
     merge_all(alloc, Vec::new(alloc), parts, caps)
 }

@@ -1,10 +1,11 @@
 //! Programs merged by a plan.
 
-ghost use Rattle.std.specs.Prelude.{◌≡◌, ◌++◌, ◌<◌, [], All, IfOk, IfErr, OnOk, length, map, slice_index_or};
+ghost use Rattle.std.specs.Prelude.{◌≡◌, ◌++◌, ◌<◌, [], List, All, IfOk, IfErr, OnOk, length, map, slice_index_or};
 ghost use Rattle.std.specs.List.{flat_map};
 ghost use Rattle.dexspec.specs.Files.{definitions, AreSame};
 ghost use Rattle.dexspec.specs.Merging as merging;
-ghost use Rattle.dexspec.specs.Merging.{IsFirstCause, all_leaves};
+ghost use Rattle.dexspec.specs.Classes.{Definition};
+ghost use Rattle.dexspec.specs.Merging.{Cause, IsCause, IsFirstCause, IsGood, all_leaves};
 ghost use Rattle.dexmerge.specs.Plans.{plan_of, plans_of};
 ghost use Rattle.dexmerge.specs.Faults.{IsMerged, IsPlanned, IsPlanFault, Tells, planned};
 ghost use Rattle.dexmerge.specs.Parts.{AreKnown, IsCauseOf, files_in, nodes_in, of_files, of_plans};
@@ -90,7 +91,7 @@ fn merge_parts<'a>(
 ///
 /// Error: `BadPlan`, first of all, exactly where the plan names a file that there is not, or does not name one that
 /// there is, or is deeper than 64. Else `Merge` with a cause that is true of the classes of all files; where the plan
-/// is a leaf or a node of leaves it is the one that `merge` tells.
+/// is a leaf or a node of leaves it is the one that `merge` tells. What can be merged has no cause.
 pub fn merge_plan<'a>(
     alloc: Global,
     files: &[Program<'a>],
@@ -99,7 +100,9 @@ pub fn merge_plan<'a>(
 ) -> Result<Program<'a>, PlanFault>
     ensures merged { IfOk result (IsPlanned caps.now files.now (plan_of plan.now)) }
     ensures fault { IfErr result (IsPlanFault caps.now files.now (plan_of plan.now)) }
+    ensures apart { (classes : List Definition) (cause : Cause) → IsGood caps.now classes → IsCause caps.now classes cause → ⊥ }
 {
+    dexlaws_causes::good_or_first_cause();
     if !is_plan_for(alloc, plan, files.len())? {
         return Err(PlanFault::BadPlan);
     }

@@ -1,5 +1,6 @@
 pub mod Definitions
 pub mod Depths
+pub mod Parents
 pub mod Places
 pub mod Searching
 pub mod Spans

@@ -1,7 +1,8 @@
 //! The depths of classes: a search along the parents of each class, which visits each class once.
 
-ghost use Rattle.std.specs.Prelude.{◌≡◌, ◌<◌, ◌+◌, ◌++◌, [], ◌∷◌, length, slice_index_or, true, false, All, IfOk, OnOk};
+ghost use Rattle.std.specs.Prelude.{◌≡◌, ◌<◌, ◌+◌, ◌++◌, [], ◌∷◌, length, slice_index_or, true, false, All, IfOk, OnOk, MatchOption};
 ghost use Rattle.dexorder.specs.Depths.{AreWithin, AreDepths};
+ghost use Rattle.dexorder.specs.Parents.{AllHaveDepths, IsFirstWithout};
 ghost use Rattle.dexorder.specs.Searching.{IsSearch, IsWaitingFor, AreStillSeen, work};
 
 use crate::hierarchy::Hierarchy;
@@ -129,4 +130,16 @@ impl Hierarchy {
         }
         Ok(search.depths)
     }
+}
+
+/// The first class that has no depth in what [`Hierarchy::depths`] answered, if there is one. No memory is taken.
+pub fn first_without_depth(depths: &[Option<usize>]) -> Option<usize>
+    ensures { MatchOption result (AllHaveDepths depths.now) (IsFirstWithout depths.now) }
+{
+    for i in 0..depths.len() {
+        if depths[i].is_none() {
+            return Some(i);
+        }
+    }
+    None
 }

@@ -9,9 +9,12 @@ mod depths;
 mod hierarchy;
 mod laws;
 mod order;
+mod parents;
 
+pub use depths::first_without_depth;
 pub use hierarchy::Hierarchy;
 pub use laws::{
     classes_of_definitions, depths_of_classes, depths_of_definitions, order_of_definitions,
 };
 pub use order::class_order;
+pub use parents::{HasParents, class_of_type, classes_by_type};

@@ -4,7 +4,7 @@ use crate::fault::VectorFault;
 use crate::file::read_file;
 use crate::kind::Kind;
 use crate::outcome::Outcome;
-use crate::{check, merge, normalise, regroup, strip, symbol, weight};
+use crate::{check, dump, merge, normalise, regroup, strip, symbol, weight};
 use std::path::Path;
 use std::rt::Files;
 
@@ -38,6 +38,11 @@ pub fn run_case<R: Files + AllocGlobal>(
             let (bytes, right) = file_and_answer(rt, folder, case)?;
             let right = read_file(rt, folder, right)?;
             Ok((kind, strip::run(rt.alloc(), &bytes, &right)?))
+        }
+        Kind::Dump => {
+            let (bytes, right) = file_and_answer(rt, folder, case)?;
+            let right = read_file(rt, folder, right)?;
+            Ok((kind, dump::run(rt.alloc(), &bytes, &right)?))
         }
         Kind::Merge => Ok((kind, merge::run(rt, folder, case)?)),
         Kind::MergeStrip => Ok((kind, merge::run_stripped(rt, folder, case)?)),

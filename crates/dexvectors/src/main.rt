@@ -11,6 +11,7 @@
 
 mod calls;
 mod check;
+mod dump;
 mod fault;
 mod file;
 mod index;

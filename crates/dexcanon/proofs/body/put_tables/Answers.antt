@@ -1,11 +1,11 @@
-use Rattle.std.proofs.Common.{◌≡◌, ℕ, List, length, refl, sym, ap, arith, ◌∙◌}
+use Rattle.std.proofs.Common.{ℕ, List, length, refl, ap, arith, ◌∙◌}
 use Rattle.std.specs.List.{flat_map}
 use Rattle.dexspec.specs.Bytes.{uint}
 use Rattle.dexspec.proofs.Placements.{length-type_list_offsets, length-array_offsets, length-class_data_offsets, length-directory_offsets}
 use Rattle.dexlayout.specs.Places.{ItemPlaces, TypeListPlaces}
 use Rattle.dexlayout.specs.Laid.{ordered_of}
 use Rattle.dexcanon.proofs.Made.{made_none, made_more, made_fault, made_last, whole_as}
-use Rattle.dexcanon.proofs.WholeBody.{after_0, after_1, after_2, after_3, after_4, after_5, proto_rows, proto_count, class_rows_are, class_count, whole_count, texts_few}
+use Rattle.dexcanon.proofs.WholeBody.{after_0, after_1, after_2, after_3, after_4, after_5, proto_rows, class_rows_are, class_count, whole_count, texts_few}
 use Rattle.dexcanon.proofs.body.put_tables.Goals as goal
 
 pub split_at-requires : goal.split_at-requires

@@ -1,7 +1,7 @@
-use Rattle.std.proofs.Common.{◌≡◌, [], ◌+◌, map, drop, length, subst, sym, ap, refl, arith, ◌∙◌}
+use Rattle.std.proofs.Common.{◌+◌, drop, sym, ap, ◌∙◌}
 use Rattle.std.proofs.lemmas.List.{drop_all}
 use Rattle.dexclass.specs.Numbered.{definition_of}
-use Rattle.dexcanon.specs.ClassItems.{data_item, data_uses}
+use Rattle.dexcanon.specs.ClassItems.{data_uses}
 use Rattle.dexcanon.proofs.ClassUses.{data_some, data_none}
 use Rattle.dexcanon.proofs.CodeItems.{class_rest}
 use Rattle.dexcanon.proofs.Plainly.{plainly_none, plainly_skip, plainly_short, plainly_more, plainly_fault, plainly_all}

@@ -1,4 +1,4 @@
-use Rattle.std.proofs.Common.{◌≡◌, ◌+◌, ◌++◌, ◌≤◌, ℕ, List, length, drop, subst, sym, ap, arith, ◌∙◌}
+use Rattle.std.proofs.Common.{◌+◌, ◌++◌, ℕ, List, length, drop, subst, sym, ap, arith, ◌∙◌}
 use Rattle.std.specs.List.{concat}
 use Rattle.dexclass.specs.Uses.{IsKnownClass}
 use Rattle.dexcanon.proofs.Made.{made_none, made_more, made_fault, made_all}

@@ -1,5 +1,4 @@
-use Rattle.std.proofs.Common.{◌≡◌, ◌+◌, [], drop, length, refl, sym, arith, ap}
-use Rattle.std.proofs.lemmas.List.{drop_all}
+use Rattle.std.proofs.Common.{◌+◌, drop, arith}
 use Rattle.dexmembers.specs.Numbered.{methods_of}
 use Rattle.dexcanon.specs.Codes.{class_methods, method_codes}
 use Rattle.dexcanon.proofs.CodeItems.{class_codes, class_rest}

@@ -1,4 +1,4 @@
-use Rattle.std.proofs.Common.{◌≡◌, [], sym, arith, append-nil}
+use Rattle.std.proofs.Common.{arith}
 use Rattle.dexmembers.specs.Numbered.{methods_of}
 use Rattle.dexcanon.specs.Codes.{method_codes}
 use Rattle.dexcanon.proofs.CodeItems.{member_codes}

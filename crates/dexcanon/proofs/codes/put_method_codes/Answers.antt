@@ -1,10 +1,8 @@
-use Rattle.std.proofs.Common.{◌≡◌, ◌∷◌, ◌+◌, ◌<◌, ◌≤◌, ℕ, length, get_or, sym, ap, arith, ◌∙◌}
-use Rattle.std.proofs.lemmas.List.{get_or_default}
+use Rattle.std.proofs.Common.{sym, ap, arith, ◌∙◌}
 use Rattle.dexspec.specs.Placing.{end_from}
-use Rattle.dexcode.specs.Meaning.{code_in}
 use Rattle.dexcanon.specs.Codes.{code_item, method_codes}
 use Rattle.dexcanon.proofs.CodeItems.{code_uses, length-code_uses, code_at_index, no_code_at_index}
-use Rattle.dexcanon.proofs.OwnUses.{uses_left, no_uses_left}
+use Rattle.dexcanon.proofs.OwnUses.{no_uses_left}
 use Rattle.dexcanon.proofs.Aligned.{aligned_none, aligned_as, next_short, next_ends, aligned_more, aligned_fault, aligned_all}
 use Rattle.dexcanon.proofs.codes.put_method_codes.Goals as goal
 

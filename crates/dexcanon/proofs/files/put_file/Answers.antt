@@ -1,4 +1,4 @@
-use Rattle.std.proofs.Common.{◌≡◌, [], ◌++◌, drop, ap, sym, subst, arith}
+use Rattle.std.proofs.Common.{[], ◌++◌, drop}
 use Rattle.std.proofs.lemmas.List.{append-nil}
 use Rattle.dexhead.specs.Laid.{behind_header}
 use Rattle.dexhead.specs.Written.{head_bytes}

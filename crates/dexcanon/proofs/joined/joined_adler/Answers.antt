@@ -1,4 +1,4 @@
-use Rattle.std.proofs.Common.{sym, ◌∙◌}
+use Rattle.std.proofs.Common.{◌∙◌}
 use Rattle.dexcanon.proofs.JoinedSums as sums
 use Rattle.dexcanon.proofs.joined.joined_adler.Goals as goal
 

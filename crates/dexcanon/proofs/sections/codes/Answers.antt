@@ -1,6 +1,6 @@
-use Rattle.std.proofs.Common.{ℕ, List, ◌≤◌, ◌^◌, length, subst, sym, ap, ◌∙◌}
+use Rattle.std.proofs.Common.{ℕ, List, ◌≤◌, length, subst, sym, ap, ◌∙◌}
 use Rattle.dexspec.specs.Placing.{bytes_from, end_from}
-use Rattle.dexspec.specs.Canonical.{debug_end, debug_offsets, code_section}
+use Rattle.dexspec.specs.Canonical.{debug_end, debug_offsets}
 use Rattle.dexlayout.specs.Places.{DebugPlaces, ItemPlaces}
 use Rattle.dexlayout.specs.Laid.{ordered_of}
 use Rattle.dexcanon.specs.Taking.{AreWithin}

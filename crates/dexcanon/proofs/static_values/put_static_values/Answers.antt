@@ -1,6 +1,5 @@
-use Rattle.std.proofs.Common.{◌≡◌, ◌+◌, map, drop, length, subst, sym, ap, arith, ◌∙◌}
+use Rattle.std.proofs.Common.{◌+◌, map, drop, length, subst, sym, ap, arith, ◌∙◌}
 use Rattle.std.proofs.lemmas.List.{length-map, drop_all}
-use Rattle.dexspec.specs.Spellings.{encoded_array_bytes}
 use Rattle.dexval.specs.Code.{value_of}
 use Rattle.dexval.specs.Numbered.{values_in, values_of_list, AreKnown}
 use Rattle.dexmembers.specs.Numbered.{NumberedMembers}

@@ -1,4 +1,4 @@
-use Rattle.std.proofs.Common.{◌<◌, ◌≤◌, ◌+◌, length, drop, arith, sym, ap}
+use Rattle.std.proofs.Common.{◌+◌, drop, arith, sym, ap}
 use Rattle.std.specs.List.{flat_map}
 use Rattle.std.proofs.lemmas.List.{drop_all}
 use Rattle.dexspec.specs.Texts.{string_data}

@@ -1,4 +1,4 @@
-use Rattle.std.proofs.Common.{◌≡◌, [], ◌∷◌, ◌<◌, ◌≤◌, ◌+◌, length, arith, ap, drop, get_or, refl, sym, ◌∙◌, zip}
+use Rattle.std.proofs.Common.{◌≡◌, [], ◌∷◌, ◌<◌, ◌+◌, length, arith, ap, drop, get_or, refl, sym, zip}
 use Rattle.std.specs.List.{flat_map}
 use Rattle.std.proofs.lemmas.List.{drop_all, get_or_default}
 use Rattle.dexspec.specs.Canonical.{proto_row_bytes}

@@ -1,5 +1,3 @@
-use Rattle.std.proofs.Common.{◌++◌, refl}
-use Rattle.dexspec.specs.Bytes.{padding}
 use Rattle.dexcanon.proofs.Made.{same_fault, fault_within, outcome_after}
 use Rattle.dexcanon.proofs.taking.pass_aligned.Goals as goal
 

@@ -1,4 +1,4 @@
-use Rattle.std.proofs.Common.{◌≡◌, ◌∷◌, ◌<◌, ◌≤◌, ◌+◌, ℕ, List, length, get_or, map, drop, arith, sym, ap, subst}
+use Rattle.std.proofs.Common.{◌≡◌, ◌∷◌, ◌<◌, ◌+◌, length, map, drop, arith, sym, subst}
 use Rattle.std.specs.Prelude.{All}
 use Rattle.dexspec.specs.Spellings.{type_list_bytes}
 use Rattle.dexcanon.specs.TypeLists.{types_at}

@@ -1,4 +1,4 @@
-use Rattle.std.proofs.Common.{◌≡◌, ℕ, [], ◌++◌, length, drop, refl, sym, ap, subst, ◌∙◌, arith}
+use Rattle.std.proofs.Common.{◌≡◌, [], ◌++◌, length, drop, refl, sym, ap, subst, ◌∙◌, arith}
 use Rattle.sha1.specs.Sha1.{sha1}
 use Rattle.dexspec.specs.Header.{adler_32, adler_number}
 use Rattle.dexhead.specs.declared.head.Head.{Head}

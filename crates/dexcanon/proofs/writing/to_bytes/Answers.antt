@@ -21,13 +21,13 @@ unsealed c =
     let l = c.in_ok-layout.layout in
     let old = c.put.new.out.items in
     let w = c.in-Ok.ensures.ok.made [] old (record { gone = []; held = refl; joined = refl }) in
-    let head : old ≡ head_bytes l.head = c.in_ok-put.ensures.puts.ok ∙ ap (λ z. z ++ head_bytes l.head) c.in_ok-file.ensures.items in
+    let head : old ≡ head_bytes l.head = c.in_ok-put.ensures.puts.ok ∙ ap (λ z. z ++ head_bytes c.head.result) c.in_ok-file.ensures.items ∙ ap head_bytes c.head.ensures in
     ap (λ z. z ++ c.put_body.new.gathered.items) (sym w.held) ∙ w.joined ∙ ap (λ z. z ++ behind_header (ordered_of c.numbering.result.now c.classes.result.now)) head
 
 pub set_sums-requires : goal.set_sums-requires
 set_sums-requires c =
     let l = c.in_ok-layout.layout in
-    omega (arith, ap (λ z. length z) (c.deref_mut.ensures.value ∙ unsealed c), length-append (head_bytes l.head) (behind_header (ordered_of c.numbering.result.now c.classes.result.now)), c.in_ok-put.ensures.len)
+    omega (arith, ap (λ z. length z) (c.deref_mut.ensures.value ∙ unsealed c), length-append (head_bytes l.head) (behind_header (ordered_of c.numbering.result.now c.classes.result.now)), ap (λ h. length (head_bytes h)) c.head.ensures, c.in_ok-put.ensures.len)
 
 pub returns-clause-bytes : goal.returns-clause-bytes
 returns-clause-bytes c =

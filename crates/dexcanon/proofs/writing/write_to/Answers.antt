@@ -1,11 +1,7 @@
-use Rattle.std.proofs.Common.{◌≡◌, ◌≤◌, ◌++◌, true, refl, subst, ◌∙◌, arith, OnOk, IfErr}
-use Rattle.dexhead.specs.Laid.{behind_header}
-use Rattle.dexhead.specs.Written.{head_bytes}
-use Rattle.dexspec.specs.Canonical.{canonical}
-use Rattle.dexlayout.specs.Laid.{ordered_of}
+use Rattle.std.proofs.Common.{◌≡◌, ◌++◌, subst, ◌∙◌, OnOk, IfErr}
 use Rattle.dexcanon.specs.Written.{HasLeft}
 use Rattle.dexcanon.proofs.WholeFile.{ready_piece, canonical_is}
-use Rattle.dexcanon.proofs.WithRoom.{written_all, written_front}
+use Rattle.dexcanon.proofs.WithRoom.{written_all, written_front, told_failed}
 use Rattle.dexcanon.proofs.writing.write_to.Goals as goal
 
 pub sealed_head-head-requires-clause-ready : goal.sealed_head-head-requires-clause-ready
@@ -29,3 +25,6 @@ returns-clause-left g c =
     let whole = c.sealed_head-head.ensures.bytes ∙ canonical_is c.args.program.now c.numbering.result.now c.classes.result.now c.numbering.ensures (c.in_ok-layout.ensures.writable _ c.classes.ensures).1 in
     subst (λ z. IfErr c.put_file.result (HasLeft (g.W.Sink.tells c.args.out.now) c.args.out.now c.put_file.new.state g.W.Sink.taken z)) whole
     (written_front g.W.Sink.tells g.W.Sink.taken c.put_file.result c.put_file.ensures.outcome c.sealed_head-head.ensures.empty c.sealed_head-head.ensures.room)
+
+pub returns-clause-device : goal.returns-clause-device
+returns-clause-device g c = told_failed g.W.Sink.tells g.W.Sink.taken c.put_file.result c.put_file.ensures.outcome c.sealed_head-head.ensures.room

@@ -2,13 +2,20 @@ use Rattle.std.proofs.Common.{◌≡◌, ◌<◌, ◌∙◌, ℕ, Option, List, 
 use Rattle.dexspec.specs.Texts.{Text}
 use Rattle.dexspec.specs.Merging.{IsFirstCause, Conflict}
 use Rattle.dexclass.specs.Numbered.{type_at}
+use Rattle.dexclass.specs.Parents.{ArePlaces}
 use Rattle.dexmerge.specs.Candidates.{classes_of, IsAlike, IsLeastUnlike, kept_classes}
-use Rattle.dexmerge.proofs.CandidatePlaces.{count_classes}
+use Rattle.dexmerge.proofs.CandidatePlaces.{count_classes, names_below, places_of}
 use Rattle.dexmerge.proofs.MergeLaws.{copy_names, copies_conflict, copies_once}
 use Rattle.dexmerge.proofs.judging.one_of_each.Goals as goal
 
-pub places-requires : goal.places-requires
-places-requires c = λ i d lt. omega (arith, copy_names c.args.numbering.now c.requires.0 c.args.candidates.now c.requires.1 i d lt, c.count.ensures)
+pub classes_by_type-requires : goal.classes_by_type-requires
+classes_by_type-requires c = names_below c.args.candidates.now c.count.result (λ i d lt. omega (arith, copy_names c.args.numbering.now c.requires.0 c.args.candidates.now c.requires.1 i d lt, c.count.ensures))
+
+pub least_unlike-requires : goal.least_unlike-requires
+least_unlike-requires c = subst (ArePlaces (classes_of c.args.candidates.now)) (sym c.deref.ensures.value) (places_of c.args.candidates.now c.in_ok-places.places.items c.in_ok-places.ensures.classes)
+
+pub kept-requires : goal.kept-requires
+kept-requires c = subst (ArePlaces (classes_of c.args.candidates.now)) (sym c.deref-in-None.ensures.value) (places_of c.args.candidates.now c.in_ok-places.places.items c.in_ok-places.ensures.classes)
 
 pub returns-in-Some-clause-fault : goal.returns-in-Some-clause-fault
 returns-in-Some-clause-fault c = λ caps D h.
@@ -17,7 +24,7 @@ returns-in-Some-clause-fault c = λ caps D h.
     let places = c.in_ok-places.places.items in
     let least : IsLeastUnlike cs places c.in-Some.name = subst (λ (l : List (Option ℕ)). IsLeastUnlike cs l c.in-Some.name) c.deref.ensures.value c.in-Some.ensures in
     let name : type_at m c.in-Some.name ≡ c.in_ok-of-in-Some.field-0 = c.typ.ensures.is [] ∙ sym c.in_ok-of-in-Some.ensures in
-    subst (λ (t : Text). IsFirstCause caps D (Conflict t)) name (copies_conflict m D c.args.candidates.now h places c.in_ok-places.ensures.places c.same_law.ensures caps c.in-Some.name least)
+    subst (λ (t : Text). IsFirstCause caps D (Conflict t)) name (copies_conflict m D c.args.candidates.now h places (places_of c.args.candidates.now c.in_ok-places.places.items c.in_ok-places.ensures.classes) c.same_law.ensures caps c.in-Some.name least)
 
 pub returns-clause-kept : goal.returns-clause-kept
 returns-clause-kept c = λ D h.
@@ -26,4 +33,4 @@ returns-clause-kept c = λ D h.
     let places = c.in_ok-places.places.items in
     let alike : (i : ℕ) → i < length cs → IsAlike cs places i = λ i lt. subst (λ (l : List (Option ℕ)). IsAlike cs l i) c.deref.ensures.value (c.in-None.ensures i (omega (arith, lt, count_classes c.args.candidates.now))) in
     let are : classes_of c.in_ok-kept-in-None.field-0.items ≡ kept_classes cs places = c.in_ok-kept-in-None.ensures.kept ∙ ap (kept_classes cs) c.deref-in-None.ensures.value in
-    copies_once m D c.args.candidates.now h places c.in_ok-places.ensures.places c.in_ok-kept-in-None.field-0.items are c.in_ok-kept-in-None.ensures.within alike
+    copies_once m D c.args.candidates.now h places (places_of c.args.candidates.now c.in_ok-places.places.items c.in_ok-places.ensures.classes) c.in_ok-kept-in-None.field-0.items are c.in_ok-kept-in-None.ensures.within alike

@@ -1,4 +1,4 @@
-use Rattle.std.proofs.Common.{ap, refl, subst, sym}
+use Rattle.std.proofs.Common.{ap, subst, sym}
 use Rattle.dexmembers.specs.Numbered.{AreKnownMembers, AreOfClass, members_in}
 use Rattle.dexclass.specs.Numbered.{definition_of, type_at}
 use Rattle.dexcanon.proofs.class_data.ClassDataItem.put.Goals as goal

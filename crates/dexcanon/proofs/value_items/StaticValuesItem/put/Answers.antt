@@ -1,4 +1,4 @@
-use Rattle.std.proofs.Common.{◌<◌, ◌^◌, length, arith, refl, map}
+use Rattle.std.proofs.Common.{arith, refl, map}
 use Rattle.std.proofs.lemmas.List.{length-map}
 use Rattle.dexval.specs.Code.{value_of}
 use Rattle.dexval.specs.Numbered.{values_in, values_of_list}

@@ -1,0 +1,46 @@
+//! Access flags of each kind, as the listing shows them.
+
+ghost use Rattle.std.specs.Prelude.{ℕ, List, length, ◌≤◌};
+ghost use Rattle.dexspec.specs.Flags.{OfClass, OfField, OfMethod, flags_text};
+ghost use Rattle.dexspec.specs.Aside.Writing.{Puts};
+
+use dexflags::{ClassFlags, FieldFlags, MethodFlags};
+use std::alloc::AllocError;
+
+/// No text of flags has more bytes.
+pub(crate) const MOST_FLAGS: usize = 256;
+
+/// Access flags of a kind.
+pub(crate) trait Shown {
+    // The flags as text.
+    ghost text: { Self → List ℕ };
+
+    /// Appends the flags as text. It fails only for want of memory, and not where there is room for the text.
+    fn put(&self, out: &mut Vec<u8>) -> Result<(), AllocError>
+        ensures text { Puts (text self.now) out.old out.new result }
+        ensures short { length (text self.now) ≤ 256 };
+}
+
+impl Shown for ClassFlags {
+    ghost text = { λ flags. flags_text OfClass flags.0 };
+
+    fn put(&self, out: &mut Vec<u8>) -> Result<(), AllocError> {
+        self.put_flags(out)
+    }
+}
+
+impl Shown for FieldFlags {
+    ghost text = { λ flags. flags_text OfField flags.0 };
+
+    fn put(&self, out: &mut Vec<u8>) -> Result<(), AllocError> {
+        self.put_flags(out)
+    }
+}
+
+impl Shown for MethodFlags {
+    ghost text = { λ flags. flags_text OfMethod flags.0 };
+
+    fn put(&self, out: &mut Vec<u8>) -> Result<(), AllocError> {
+        self.put_flags(out)
+    }
+}

@@ -1,0 +1,19 @@
+//! The listing of a program: its classes, what they declare, and the instructions of their methods, as text.
+//!
+//! Source: the form is this project's rule; mnemonics are those of the Android page "Dalvik bytecode", and the names of
+//! access flags follow the page "Dalvik Executable format", "access_flags definitions".
+#![tactic(auto)]
+
+mod classes;
+mod codes;
+mod faults;
+mod flags;
+mod gathering;
+mod listing;
+mod members;
+mod numbers;
+mod symbols;
+mod texts;
+
+pub use faults::ListingFault;
+pub use listing::write_listing;

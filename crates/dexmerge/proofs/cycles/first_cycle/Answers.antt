@@ -1,0 +1,16 @@
+use Rattle.std.proofs.Common.{ℕ, ◌<◌, get_or, sym, subst}
+use Rattle.dexorder.specs.Depths.{AreDepths}
+use Rattle.dexmerge.specs.Candidates.{classes_of}
+use Rattle.dexmerge.proofs.CandidatePlaces.{hierarchy_of, names_below}
+use Rattle.dexmerge.proofs.CycleLaws.{kept_below, parents_within, found_is}
+use Rattle.dexmerge.proofs.cycles.first_cycle.Goals as goal
+
+pub of-requires : goal.of-requires
+of-requires c = names_below c.args.classes.now c.args.types (λ i d lt. subst (λ (n : ℕ). (get_or (classes_of c.args.classes.now) i d).name < n) c.requires.1 (kept_below c.requires.0 (classes_of c.args.classes.now) c.requires.2 i d lt))
+
+pub depths-requires : goal.depths-requires
+depths-requires c = parents_within c.requires.0 (classes_of c.args.classes.now) c.requires.2 c.in_ok-of.field-0 (hierarchy_of c.args.classes.now c.in_ok-of.field-0 c.in_ok-of.ensures)
+
+pub returns : goal.returns
+returns c = λ m kept. found_is m (classes_of c.args.classes.now) kept c.in_ok-of.field-0 (hierarchy_of c.args.classes.now c.in_ok-of.field-0 c.in_ok-of.ensures) c.deref.result.now
+    (subst (AreDepths c.in_ok-of.field-0) (sym c.deref.ensures.value) c.in_ok-depths.ensures) c.first_without_depth.result c.first_without_depth.ensures

@@ -1,0 +1,9 @@
+use Rattle.std.specs.Prelude.{◌≡◌, length, map, take}
+use Rattle.dexorder.specs.Parents.{AreByType}
+use Rattle.dexorder.proofs.parents.classes_by_type.Given as goal
+
+abbrev pub invariant-loop-i : goal.invariant-loop-i
+invariant-loop-i g l = record {
+  count : length l.by_type.items ≡ l.types;
+  done : AreByType (map g.C.HasParents.name_of (take l.i l.classes)) l.by_type.items;
+}

@@ -1,0 +1,33 @@
+-- Classes that have types as their names and as their parents. Types and classes are numbers.
+-- Source: "Dalvik Executable format", "class_def_item": class_idx, superclass_idx and interfaces_off.
+use Rattle.std.specs.Prelude.{◌≡◌, ℕ, ◌<◌, List, ◌++◌, length, map, All, Option, None, Some, IsSome, option_to_list, slice_index_or}
+use Rattle.dexspec.specs.Lists.{present}
+
+-- for each type a class that has it as its name, if one has
+pub record AreByType (names : List ℕ) (by_type : List (Option ℕ)) : Type 0 where
+  pub some : (t i : ℕ) → slice_index_or by_type t None ≡ Some i → (i < length names) × (slice_index_or names i 0 ≡ t)
+  pub all : (i : ℕ) → i < length names → IsSome (slice_index_or by_type (slice_index_or names i 0) None)
+
+-- the types that are parents: the superclass, and then the interfaces
+abbrev pub parent_types : Option ℕ → List ℕ → List ℕ
+parent_types superclass interfaces = option_to_list superclass ++ interfaces
+
+-- the classes of types, of those that have one
+abbrev pub classes_of_types : List (Option ℕ) → List ℕ → List ℕ
+classes_of_types by_type types = present (map (λ t. slice_index_or by_type t None) types)
+
+-- classes of these names and parents, each with those of its parents that are among them
+pub record IsHierarchyOf (names : List ℕ) (parents : List (List ℕ)) (classes : List (List ℕ)) : Type 0 where
+  pub by_type : List (Option ℕ)
+  pub are : AreByType names by_type
+  pub is : classes ≡ map (classes_of_types by_type) parents
+
+-- each class has a depth
+abbrev pub AllHaveDepths : List (Option ℕ) → Type 0
+AllHaveDepths depths = All (λ depth. IsSome depth) depths
+
+-- the class has no depth, and each before it has one
+pub record IsFirstWithout (depths : List (Option ℕ)) (i : ℕ) : Type 0 where
+  pub within : i < length depths
+  pub none : slice_index_or depths i None ≡ None
+  pub before : (k : ℕ) → k < i → IsSome (slice_index_or depths k None)

@@ -1,0 +1,129 @@
+//! Classes that name their parents by types, and the classes that are parents among them.
+
+ghost use Rattle.std.specs.Prelude.{◌≡◌, ◌<◌, ◌++◌, ◌∷◌, [], ℕ, List, Option, None, All, IfOk, OnOk, length, map, slice_index, slice_index_or};
+ghost use Rattle.dexorder.specs.Parents.{AreByType, IsHierarchyOf, classes_of_types, parent_types};
+
+use crate::hierarchy::Hierarchy;
+use std::alloc::{AllocError, Global};
+
+/// A class that has a type as its name, and types as its superclass and interfaces. Types are numbers.
+///
+/// Source: "class_def_item", `class_idx`, `superclass_idx` and `interfaces_off`.
+pub trait HasParents {
+    ghost name_of: { Self → ℕ };
+
+    ghost superclass_of: { Self → Option ℕ };
+
+    ghost interfaces_of: { Self → List ℕ };
+
+    /// The number of its type. No memory is taken.
+    fn name(&self) -> usize
+        ensures { result ≡ name_of self.now };
+
+    /// The number of the superclass's type, if there is one. No memory is taken.
+    fn superclass(&self) -> Option<usize>
+        ensures { result ≡ superclass_of self.now };
+
+    /// The number of interfaces. No memory is taken.
+    fn interface_count(&self) -> usize
+        ensures { result ≡ length (interfaces_of self.now) };
+
+    /// The number of the type of interface `k`. No memory is taken.
+    ///
+    /// Condition: `k` is below the number of interfaces.
+    fn interface(&self, k: usize) -> usize
+        requires { k < length (interfaces_of self.now) }
+        ensures { result ≡ slice_index (interfaces_of self.now) k };
+}
+
+/// For each type the number of a class that has it as its name, if one has.
+///
+/// Condition: the name of each class is below `types`, the number of types. The time is linear in the number of types and
+/// classes.
+///
+/// Error: the memory for it was refused.
+pub fn classes_by_type<C: HasParents>(
+    alloc: Global,
+    classes: &[C],
+    types: usize,
+) -> Result<Vec<Option<usize>>, AllocError>
+    requires { All (λ c. C.name_of c < types) classes.now }
+    ensures count { IfOk result (λ by_type. length by_type.items ≡ types) }
+    ensures classes { IfOk result (λ by_type. AreByType (map C.name_of classes.now) by_type.items) }
+{
+    let mut by_type = vec![in alloc; None; types]?;
+    for i in 0..classes.len() {
+        by_type[classes[i].name()] = Some(i);
+    }
+    Ok(by_type)
+}
+
+/// The class of a type in what [`classes_by_type`] answered, if it has one. No memory is taken.
+pub fn class_of_type(by_type: &[Option<usize>], typ: usize) -> Option<usize>
+    ensures { result ≡ slice_index_or by_type.now typ None }
+{
+    if typ < by_type.len() {
+        by_type[typ]
+    } else {
+        None
+    }
+}
+
+// Appends the class of a type, if it has one.
+fn push_class(
+    by_type: &[Option<usize>],
+    typ: usize,
+    classes: &mut Vec<usize>,
+) -> Result<(), AllocError>
+    ensures { OnOk result (classes.new.items ≡ classes.old.items ++ classes_of_types by_type.now (typ ∷ [])) }
+{
+    if let Some(class) = class_of_type(by_type, typ) {
+        classes.push(class)?;
+    }
+    Ok(())
+}
+
+// The classes that are parents of a class, in the place of what the list held.
+fn collect_parents<C: HasParents>(
+    by_type: &[Option<usize>],
+    class: &C,
+    parents: &mut Vec<usize>,
+) -> Result<(), AllocError>
+    ensures { OnOk result (parents.new.items ≡ classes_of_types by_type.now (parent_types (C.superclass_of class.now) (C.interfaces_of class.now))) }
+{
+    parents.clear();
+    if let Some(superclass) = class.superclass() {
+        push_class(by_type, superclass, parents)?;
+    }
+    for k in 0..class.interface_count() {
+        push_class(by_type, class.interface(k), parents)?;
+    }
+    Ok(())
+}
+
+impl Hierarchy {
+    /// The classes, each with those of its parents that are among them: the class of its superclass, and then those of its
+    /// interfaces, in their order.
+    ///
+    /// Condition: the name of each class is below `types`, the number of types. The time is linear in the number of types,
+    /// classes and parents.
+    ///
+    /// Error: the memory for it was refused.
+    pub fn of<C: HasParents>(
+        alloc: Global,
+        classes: &[C],
+        types: usize,
+    ) -> Result<Hierarchy, AllocError>
+        requires { All (λ c. C.name_of c < types) classes.now }
+        ensures { IfOk result (IsHierarchyOf (map C.name_of classes.now) (map (λ c. parent_types (C.superclass_of c) (C.interfaces_of c)) classes.now)) }
+    {
+        let by_type = classes_by_type(alloc, classes, types)?;
+        let mut hierarchy = Hierarchy::new(alloc);
+        let mut parents = Vec::new(alloc);
+        for i in 0..classes.len() {
+            collect_parents(&by_type, &classes[i], &mut parents)?;
+            hierarchy.push(&parents)?;
+        }
+        Ok(hierarchy)
+    }
+}

@@ -1,0 +1,50 @@
+# shellcheck shell=sh
+# What the recipes share. Each `run` reads this file first.
+# DEXKIT names the program; without it, it is the one that `make` at the top of the repository builds.
+set -eu
+export LC_ALL=C
+
+examples=$(cd "$(dirname "$0")/.." && pwd)
+DEXKIT=${DEXKIT:-$examples/../crates/dexkit/out/dexkit}
+if ! command -v "$DEXKIT" >/dev/null; then
+    echo "there is no program $DEXKIT: build it with make, or name one as DEXKIT=PATH" >&2
+    exit 1
+fi
+DEXKIT=$(realpath "$(command -v "$DEXKIT")")
+export DEXKIT
+
+# A folder of this run's own, with copies of the example files, so that a recipe may change them.
+room=$(mktemp -d)
+trap 'cd / && chmod -R u+w "$room" && rm -rf "$room"' EXIT
+cp -r "$examples/dex" "$room/dex"
+cd "$room"
+
+fail() {
+    echo "FAILED: $1" >&2
+    exit 1
+}
+
+# Every example file, in one order.
+all_files() {
+    find dex -name '*.dex' | sort
+}
+
+# Two files have the same bytes.
+same() {
+    cmp "$1" "$2" || fail "$1 and $2 differ"
+    echo "same bytes: $1 and $2"
+}
+
+# A file has the bytes that an independent program wrote for so named a file.
+same_as_reference() {
+    wanted=$(sed -n "s|^\([0-9a-f]*\)  $2\$|\1|p" "$examples/reproducible/SHA256SUMS")
+    [ -n "$wanted" ] || fail "SHA256SUMS has no $2"
+    [ "$(sha256sum <"$1" | cut -d' ' -f1)" = "$wanted" ] || fail "$1 is not the reference's $2"
+    echo "bytes of the reference: $1"
+}
+
+# So many of something were wanted.
+counted() {
+    [ "$2" = "$3" ] || fail "$1: $2, and not $3"
+    echo "$1: $2"
+}

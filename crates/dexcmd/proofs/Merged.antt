@@ -15,8 +15,8 @@ use Rattle.dexcmd.specs.declared.faults.MergeCause.{MergeCause}
 use Rattle.dexcmd.specs.declared.faults.MergeCause.TheVariants as cause
 use Rattle.dexcmd.specs.declared.faults.RunFault.{RunFault}
 use Rattle.dexcmd.specs.declared.faults.RunFault.TheVariants as run
-use Rattle.dexcmd.specs.Runs.{AllWork}
-use Rattle.dexcmd.specs.Merges.{AreReadFrom, IsReadEachFault, TellsCause, IsTrueCause, IsUnionFault, IsUnited, IsUnitedFault, IsFileOf, IsFrontAppended, IsMergedFile, IsMergeFault, IsWriteFault, AreUncalled, IsLeft, IsOfWriter, IsOfDevices}
+use Rattle.dexcmd.specs.Runs.{AllWork, IsLeft}
+use Rattle.dexcmd.specs.Merges.{AreReadFrom, IsReadEachFault, TellsCause, IsTrueCause, IsUnionFault, IsUnited, IsUnitedFault, IsFileOf, IsFrontAppended, IsMergedFile, IsMergeFault, IsWriteFault, AreUncalled, IsOfWriter, IsOfDevices}
 use Rattle.dexcmd.proofs.Checked.{zip_more, same_head}
 
 -- ---- inputs one after the other
@@ -46,11 +46,11 @@ zip_length P (x ∷ xs) (y ∷ ys) all = ap suc (zip_length P xs ys all.1)
 -- ---- their union
 
 -- where the union is good no cause is true of it
-pub true_cause : (apart : (caps : Caps) (D : List Definition) (c : Cause) → IsGood caps D → IsCause caps D c → ⊥) (caps : Caps) (collections : List Collection) (plan : Plan) (told : MergeCause) →
+pub true_cause : (caps : Caps) (apart : (D : List Definition) (c : Cause) → IsGood caps D → IsCause caps D c → ⊥) (collections : List Collection) (plan : Plan) (told : MergeCause) →
     TellsCause (IsPlannedCause caps collections plan) told → IsTrueCause caps collections plan told
-true_cause apart caps collections plan (cause.Conflict name) holds = record { cause = holds; bad = λ good. apart caps (planned collections plan) (merging.Conflict name) good holds.holds }
-true_cause apart caps collections plan (cause.Cycle name) holds = record { cause = holds; bad = λ good. apart caps (planned collections plan) (merging.Cycle name) good holds.holds }
-true_cause apart caps collections plan (cause.Cap number) holds = record { cause = holds; bad = λ good. apart caps (planned collections plan) (merging.Exceeded holds.cap) good holds.holds.holds }
+true_cause caps apart collections plan (cause.Conflict name) holds = record { cause = holds; bad = λ good. apart (planned collections plan) (merging.Conflict name) good holds.holds }
+true_cause caps apart collections plan (cause.Cycle name) holds = record { cause = holds; bad = λ good. apart (planned collections plan) (merging.Cycle name) good holds.holds }
+true_cause caps apart collections plan (cause.Cap number) holds = record { cause = holds; bad = λ good. apart (planned collections plan) (merging.Exceeded holds.cap) good holds.holds.holds }
 
 -- what is said of equal collections
 pub united_fault : (caps : Caps) (collections others : List Collection) (plan : Plan) (f : RunFault) → others ≡ collections → IsUnionFault caps others plan f → IsUnionFault caps collections plan f

@@ -140,15 +140,6 @@ AreUncalled inputs inputs_now (run.Read i) = Unit {0}
 AreUncalled inputs inputs_now run.Write = Unit {0}
 AreUncalled inputs inputs_now run.Memory = Unit {0}
 
--- but for a fault of the writer it is as it was
-abbrev pub IsLeft : {W : Type 0} → W → W → RunFault → Type 0
-IsLeft old new (run.Input i refusal) = new ≡ old
-IsLeft old new run.Plan = new ≡ old
-IsLeft old new (run.Merge told) = new ≡ old
-IsLeft old new (run.Read i) = new ≡ old
-IsLeft old new run.Write = Unit {0}
-IsLeft old new run.Memory = new ≡ old
-
 -- a fault of writing tells whether the writer has failed
 abbrev pub IsOfWriter : Bool → RunFault → Type 0
 IsOfWriter writer_failed (run.Input i refusal) = ⊥

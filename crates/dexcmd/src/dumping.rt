@@ -3,7 +3,7 @@
 ghost use Rattle.std.specs.Prelude.{◌≡◌, ◌↔◌, true, false, OnOk, IfErr, IsErrOf};
 ghost use Rattle.dexspec.specs.Accepted.{IsAccepted};
 ghost use Rattle.dexcmd.specs.Inputs.{bytes_read, IsReadNoFurther};
-ghost use Rattle.dexcmd.specs.Runs.{IsOfInput, IsUnwritten};
+ghost use Rattle.dexcmd.specs.Runs.{IsOfInput, IsLeft};
 ghost use Rattle.dexcmd.specs.declared.faults.RunFault.TheVariants.{Read, Write};
 
 use crate::faults::RunFault;
@@ -18,7 +18,7 @@ use std::alloc::Global;
 /// Condition: neither device has failed. Error: `Input` with number 0 exactly where [`dexclass::read`] refuses the
 /// input's bytes, of which `2^30 + 1` are read and no more, with what it says of them; `Read` with number 0 exactly where
 /// the reader failed in this call, and `Write` exactly where the writer did; `Memory` where a growth was refused; no
-/// other. After `Input` and `Read` nothing was written.
+/// other. After `Write` a part of the listing was written, and after any other error nothing.
 ///
 /// Source: "Dalvik Executable format"; the listing is this project's rule.
 pub fn dump_run<R: Source, W: Sink>(
@@ -30,7 +30,7 @@ pub fn dump_run<R: Source, W: Sink>(
     requires out { W.has_failed out.old ≡ false }
     ensures accepted { OnOk result (R.tells input.old → IsAccepted (bytes_read (R.to_come input.old))) }
     ensures fault { IfErr result (IsOfInput (R.tells input.old) (bytes_read (R.to_come input.old))) }
-    ensures left { IfErr result (IsUnwritten out.old out.new) }
+    ensures left { IfErr result (IsLeft out.old out.new) }
     ensures no_further { IsReadNoFurther R.tells R.to_come R.has_failed input.old input.new }
 
     // The faults of the devices are told exactly where they are.

@@ -7,15 +7,14 @@ ghost use Rattle.dexspec.specs.Stripping.{strip_collection};
 ghost use Rattle.dexmerge.specs.Faults.{IsPlanned};
 ghost use Rattle.dexmerge.specs.Plans.{plan_of};
 ghost use Rattle.dexcmd.specs.Inputs.{IsReadNoFurther};
-ghost use Rattle.dexcmd.specs.Merges.{AreReadFrom, IsReadEachFault, IsUnionFault, IsUnited, IsUnitedFault, IsFileOf, IsAppended, IsFrontAppended, IsMergedFile, IsMergeFault, IsWriteFault, AreUncalled, IsLeft, IsOfWriter, IsOfDevices};
-ghost use Rattle.dexcmd.specs.Runs.{AllWork};
+ghost use Rattle.dexcmd.specs.Merges.{AreReadFrom, IsReadEachFault, IsUnionFault, IsUnited, IsUnitedFault, IsFileOf, IsAppended, IsFrontAppended, IsMergedFile, IsMergeFault, IsWriteFault, AreUncalled, IsOfWriter, IsOfDevices};
+ghost use Rattle.dexcmd.specs.Runs.{AllWork, IsLeft};
 
 use crate::faults::{MergeCause, RunFault};
 use crate::inputs::{InputFault, read_whole};
 use dexcanon::{StoreFault, write_to};
 use dexclass::{Program, strip};
 use dexhead::{Sink, Source};
-use dexlaws_causes::good_or_first_cause;
 use dexlaws_normal::normal_form;
 use dexmerge::{Caps, MergeFault, Plan, PlanFault, is_plan_for, merge_plan};
 use dexpool::ReadFault;
@@ -72,7 +71,6 @@ fn united<'a>(
     ensures united { IfOk result (IsPlanned caps.now programs.now (plan_of plan.now)) }
     ensures fault { IfErr result (IsUnionFault caps.now programs.now (plan_of plan.now)) }
 {
-    good_or_first_cause();
     match merge_plan(alloc, programs, plan, caps) {
         Ok(program) => Ok(program),
         Err(PlanFault::BadPlan) => Err(RunFault::Plan),

@@ -1,6 +1,6 @@
 //! Files stripped: `strip FILE CANON`, the canonical file without debug programs and source texts.
 
-ghost use Rattle.std.specs.Prelude.{IfOk};
+ghost use Rattle.std.specs.Prelude.{◌≡◌, IfOk};
 ghost use Rattle.dexvectors.specs.Told.{Strips};
 
 use crate::fault::VectorFault;

@@ -8,7 +8,8 @@ ghost use Rattle.dexhead.specs.Device.{is_broken};
 
 use crate::files::{NewFile, OldFile};
 use dexcmd::{
-    Job, RunFault, check_run, dump_run, explain, fan_plan, merge_run, merge_strip_run, normalise_run,
+    Job, RunFault, check_run, dump_run, explain, fan_plan, merge_run, merge_strip_run,
+    normalise_run,
 };
 use dexhead::Device;
 use dexmerge::Caps;
@@ -137,7 +138,15 @@ pub fn do_job(
         },
         Job::Merge(out, fan, caps, is_stripped, files) => {
             let names = texts(alloc, files)?;
-            match merge(rt, alloc, names.as_slice(), *fan, caps, *is_stripped, out.as_str()) {
+            match merge(
+                rt,
+                alloc,
+                names.as_slice(),
+                *fan,
+                caps,
+                *is_stripped,
+                out.as_str(),
+            ) {
                 Ok(()) => Ok(DONE),
                 Err(fault) => told(rt, alloc, &fault, names.as_slice(), out.as_str()),
             }

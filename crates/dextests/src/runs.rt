@@ -138,7 +138,9 @@ const LISTING: &[u8] = b"class LA; flags=0x1(public) super=Ljava/lang/Object;\n"
 #[test]
 fn a_file_is_listed(rt: HostRuntime) {
     let file = letter_a(rt.alloc());
-    assert!(rt; file.is_some_and(|file| is_done(&listed(rt.alloc(), &file, by(7), by(5)), LISTING)));
+    assert!(rt;
+        file.is_some_and(|file| is_done(&listed(rt.alloc(), &file, by(7), by(5)), LISTING))
+    );
 }
 
 // Whether the fault of each device is told, and that the file is refused.

@@ -108,6 +108,7 @@ fn command<'a>(alloc: Global) -> Result<Command<'a>, AllocError> {
         .about(help::ABOUT)
         .version(help::VERSION)
         .after_help(help::STATUSES)
+        .bin_name("dexkit")?
         .no_binary_name(true)
         .subcommand_required(true)
         .subcommand(check(alloc)?)?

@@ -4,7 +4,7 @@ use crate::fault::VectorFault;
 use crate::file::read_file;
 use crate::kind::Kind;
 use crate::outcome::Outcome;
-use crate::{check, dump, merge, normalise, regroup, strip, symbol, weight};
+use crate::{check, dump, merge, normalise, regroup, slices, strip, symbol, weight};
 use std::path::Path;
 use std::rt::Files;
 
@@ -38,6 +38,10 @@ pub fn run_case<R: Files + AllocGlobal>(
             let (bytes, right) = file_and_answer(rt, folder, case)?;
             let right = read_file(rt, folder, right)?;
             Ok((kind, strip::run(rt.alloc(), &bytes, &right)?))
+        }
+        Kind::Slices => {
+            let (bytes, right) = file_and_answer(rt, folder, case)?;
+            Ok((kind, slices::run(rt.alloc(), &bytes, right)?))
         }
         Kind::Dump => {
             let (bytes, right) = file_and_answer(rt, folder, case)?;

@@ -31,6 +31,8 @@ pub enum Kind {
     Weight,
     /// The canonical file.
     Normalise,
+    /// The slices in which the canonical file is written.
+    Slices,
     /// The listing of a file.
     Dump,
     /// The canonical file without debug programs and source texts.
@@ -69,6 +71,7 @@ impl Kind {
             "check" => Kind::Check,
             "weight" => Kind::Weight,
             "normalise" => Kind::Normalise,
+            "slices" => Kind::Slices,
             "dump" => Kind::Dump,
             "strip" => Kind::Strip,
             "merge" => Kind::Merge,
@@ -95,6 +98,7 @@ impl fmt::Display for Kind {
             Kind::Check => "check",
             Kind::Weight => "weight",
             Kind::Normalise => "normalise",
+            Kind::Slices => "slices",
             Kind::Dump => "dump",
             Kind::Strip => "strip",
             Kind::Merge => "merge",

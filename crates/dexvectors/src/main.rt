@@ -22,6 +22,7 @@ mod outcome;
 mod plans;
 mod random;
 mod regroup;
+mod slices;
 mod strip;
 mod symbol;
 mod tally;

@@ -1,0 +1,70 @@
+//! Slices that a writer is given: `slices FILE MOST COUNT`. The canonical file of FILE comes in at most COUNT slices, none of
+//! which has more than MOST bytes.
+
+ghost use Rattle.std.specs.Prelude.{false, []};
+
+use crate::fault::VectorFault;
+use crate::outcome::Outcome;
+use dexcanon::{StoreFault, write_to};
+use dexclass::{Program, read};
+use dexhead::{DeviceFault, Refusal, Sink};
+use dexpool::ReadFault;
+use std::alloc::{AllocError, Global};
+
+// A writer that counts the slices that it is given, and keeps none of their bytes.
+struct Slices {
+    count: usize,
+    longest: usize,
+}
+
+impl Sink for Slices {
+    ghost tells = { λ _. ⊥ };
+
+    ghost taken = { λ _. [] };
+
+    ghost has_failed = { λ _. false };
+
+    fn failed(&self) -> bool {
+        false
+    }
+
+    fn write(&mut self, bytes: &[u8]) -> Result<usize, DeviceFault> {
+        self.count = self.count.saturating_add(1);
+        self.longest = self.longest.max(bytes.len());
+        Ok(bytes.len())
+    }
+}
+
+/// Runs a line, given the file and what stands in the line behind its name: how it goes.
+pub fn run(alloc: Global, bytes: &[u8], right: &str) -> Result<Outcome, VectorFault> {
+    let (most, count) = right.split_once(' ').ok_or(VectorFault::Form)?;
+    let most: usize = most.parse()?;
+    let count: usize = count.parse()?;
+    let program = match read(alloc, bytes) {
+        Ok(program) => program,
+        Err(ReadFault::Refused(Refusal { number, place })) => {
+            let answered = format!(in alloc; "refused {number} {place}")?;
+            return Ok(Outcome::Failed(answered));
+        }
+        Err(ReadFault::Memory) => return Err(VectorFault::Memory),
+    };
+    let slices = written(alloc, &program)?;
+    if slices.longest <= most && slices.count <= count {
+        return Ok(Outcome::Passed);
+    }
+    let Slices { count, longest } = slices;
+    Ok(Outcome::Failed(format!(in alloc; "{longest} {count}")?))
+}
+
+// The slices in which the canonical file of the program is written.
+fn written(alloc: Global, program: &Program<'_>) -> Result<Slices, AllocError> {
+    let mut out = Slices {
+        count: 0,
+        longest: 0,
+    };
+    match write_to(alloc, program, &mut out) {
+        Ok(()) => Ok(out),
+        Err(StoreFault::Memory) => Err(AllocError),
+        Err(StoreFault::Io) => Ok(out),
+    }
+}

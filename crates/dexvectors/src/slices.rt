@@ -12,6 +12,7 @@ use dexpool::ReadFault;
 use std::alloc::{AllocError, Global};
 
 // A writer that counts the slices that it is given, and keeps none of their bytes.
+#[derive(Drop)]
 struct Slices {
     count: usize,
     longest: usize,

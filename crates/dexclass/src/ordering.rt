@@ -1,6 +1,6 @@
 //! Classes in the order of a canonical file: by depth, and then by name.
 
-ghost use Rattle.std.specs.Prelude.{◌≡◌, ◌≤◌, length, map, IfOk, List, [], ℕ, All};
+ghost use Rattle.std.specs.Prelude.{◌≡◌, length, map, IfOk};
 ghost use Rattle.dexspec.specs.Mentions.{Mentions};
 ghost use Rattle.dexspec.specs.Depth.{IsAcyclic, in_class_order};
 ghost use Rattle.dexpool.specs.Numberings.{AreIn};

@@ -1,100 +1,202 @@
 -- Inputs read one after the other, and merged.
-use Rattle.std.proofs.Common.{◌≡◌, ℕ, ◌+◌, ◌<◌, ◌≤◌, Bool, false, List, [], ◌∷◌, ◌++◌, length, get_or, take, drop, map, refl, sym, ◌∙◌, subst, arith, length-append}
-use Rattle.std.proofs.lemmas.List.{take_more, take_all, length-map, length-take-le, get_or-map}
-use Rattle.std.specs.Prelude.{All}
-use Rattle.dexspec.specs.Files.{Collection}
-use Rattle.dexspec.specs.Merging.{Caps, Plan, IsPlanFor}
-use Rattle.dexclass.specs.Programs.{IsReadAs}
-use Rattle.dexmerge.specs.Faults.{IsPlanned}
+use Rattle.std.proofs.Common.{◌≡◌, ℕ, suc, ◌+◌, ◌<◌, Bool, false, List, [], ◌∷◌, ◌++◌, length, get_or, take, drop, refl, sym, ap, ◌∙◌, subst, arith}
+use Rattle.std.proofs.lemmas.List.{take_more, take_all}
+use Rattle.std.specs.Prelude.{Result, Ok, Err, IfErr, OnOk}
+use Rattle.std.specs.List.{AllZip}
+use Rattle.dexspec.specs.Files.{Collection, definitions, Denotes}
+use Rattle.dexspec.specs.WellFormed.{AreWellFormed}
+use Rattle.dexspec.specs.Accepted.{IsAccepted}
+use Rattle.dexspec.specs.Classes.{Definition}
+use Rattle.dexspec.specs.Canonical.{canonical}
+use Rattle.dexspec.specs.Merging.{Caps, Cause, IsCause, IsGood, greatest_caps, Plan, IsPlanFor}
+use Rattle.dexspec.specs.Merging as merging
+use Rattle.dexmerge.specs.Faults.{planned, IsPlanned, IsPlannedCause}
+use Rattle.dexcmd.specs.declared.faults.MergeCause.{MergeCause}
+use Rattle.dexcmd.specs.declared.faults.MergeCause.TheVariants as cause
 use Rattle.dexcmd.specs.declared.faults.RunFault.{RunFault}
 use Rattle.dexcmd.specs.declared.faults.RunFault.TheVariants as run
-use Rattle.dexcmd.specs.Runs.{AllWork}
-use Rattle.dexcmd.specs.Merges.{AreReadAs, IsReadEachFault, IsUnionFault, IsMergeFault, IsLeft, IsOfDevices}
+use Rattle.dexcmd.specs.Runs.{AllWork, IsLeft}
+use Rattle.dexcmd.specs.Merges.{AreReadFrom, IsReadEachFault, TellsCause, IsTrueCause, IsUnionFault, IsUnited, IsUnitedFault, IsFileOf, IsFrontAppended, IsMergedFile, IsMergeFault, IsWriteFault, AreUncalled, IsOfWriter, IsOfDevices}
 use Rattle.dexcmd.proofs.Checked.{zip_more, same_head}
 
--- no file is read
-pub none_read : (reads : Type 0) → AreReadAs reads [] []
-none_read reads = record { many = refl; read = λ r. tt }
+-- ---- inputs one after the other
 
--- the files before this one are read, and now it is
-pub read_more : (reads : Type 0) (files : List (List ℕ)) (i : ℕ) (collections : List Collection) (K : Collection) →
-    i < length files → AreReadAs reads (take i files) collections → (reads → IsReadAs (get_or files i []) K) → AreReadAs reads (take (i + 1) files) (collections ++ K ∷ [])
-read_more reads files i collections K lt a here = record {
-  many = length-append collections (K ∷ []) ∙ omega (arith, a.many, length-take-le i files (omega arith), length-take-le (i + 1) files (omega arith));
-  read = λ r. rw (take_more files i [] lt) (zip_more IsReadAs (take i files) collections (get_or files i []) K (a.read r) (here r));
-}
+-- what holds of the input with this number now held of it at first, where those before it have been read
+pub held_first : {R : Type 0} (P : R → Type 0) (now inputs : List R) (i : ℕ) (x : R) → drop i now ≡ drop i inputs → i < length now → i < length inputs →
+    x ≡ get_or now i x → P (get_or now i x) → P x × (x ≡ get_or inputs i x)
+held_first P now inputs i x rest lt lt' at holds = (subst P (sym at) holds, same_head now inputs i x rest lt lt' at)
 
--- all files are read
-pub all_read : (reads : Type 0) (files : List (List ℕ)) (i : ℕ) (collections : List Collection) → i ≡ length files → AreReadAs reads (take i files) collections → AreReadAs reads files collections
-all_read reads files i collections end a = subst (λ xs. AreReadAs reads xs collections) (take_all i files (omega (arith, end))) a
+-- the inputs before this one are read, and now it is
+pub read_more : {R : Type 0} (P : R → Collection → Type 0) (inputs : List R) (i : ℕ) (x : R) (collections : List Collection) (K : Collection) →
+    i < length inputs → AllZip P (take i inputs) collections → P x K × (x ≡ get_or inputs i x) → AllZip P (take (i + 1) inputs) (collections ++ K ∷ [])
+read_more P inputs i x collections K lt before here =
+    subst (λ xs. AllZip P xs (collections ++ K ∷ [])) (ap (λ z. take i inputs ++ z ∷ []) here.1 ∙ sym (take_more inputs i x lt)) (zip_more P (take i inputs) collections x K before here.0)
 
--- what holds of an input's bytes holds of the file with its number, where the readers before this one have been read
-pub holds_now : {R : Type 0} (P : List ℕ → Type 0) (tells : R → Type 0) (f : R → List ℕ) (now inputs : List R) (i : ℕ) (x : R) →
-    drop i now ≡ drop i inputs → i < length now → i < length inputs → x ≡ get_or now i x →
-    (tells (get_or now i x) → P (f (get_or now i x))) → All tells inputs → P (get_or (map f inputs) i [])
-holds_now P tells f now inputs i x rest lt lt' at right all =
-    let here : x ≡ get_or inputs i x = same_head now inputs i x rest lt lt' at in
-    let right' : tells x → P (f x) = subst (λ y. tells y → P (f y)) (sym at) right in
-    rw (get_or-map f inputs i x [] lt', ← here) (right' (subst tells (sym here) (all i x lt')))
+-- all inputs are read
+pub all_read : {R : Type 0} (P : R → Collection → Type 0) (inputs : List R) (i : ℕ) (collections : List Collection) → i ≡ length inputs → AllZip P (take i inputs) collections → AllZip P inputs collections
+all_read P inputs i collections end before = subst (λ xs. AllZip P xs collections) (take_all i inputs (omega (arith, end))) before
 
--- a fault of reading is one of the run
-pub fault_of_reading : (reads writes : Type 0) (caps : Caps) (files : List (List ℕ)) (plan : Plan) (old new : List ℕ) (f : RunFault) →
-    IsPlanFor (length files) plan → IsReadEachFault reads files f → IsMergeFault reads writes caps files plan old new f
-fault_of_reading reads writes caps files plan old new (run.Input i refusal) is fault = (is, fault)
-fault_of_reading reads writes caps files plan old new run.Plan is fault = absurd fault
-fault_of_reading reads writes caps files plan old new (run.Merge told) is fault = absurd fault
-fault_of_reading reads writes caps files plan old new (run.Read i) is fault = (is, fault)
-fault_of_reading reads writes caps files plan old new run.Write is fault = absurd fault
-fault_of_reading reads writes caps files plan old new run.Memory is fault = tt
+-- as many are zipped
+pub zip_length : {A B : Type 0} (P : A → B → Type 0) (xs : List A) (ys : List B) → AllZip P xs ys → length ys ≡ length xs
+zip_length P [] [] all = refl
+zip_length P [] (y ∷ ys) all = absurd all
+zip_length P (x ∷ xs) [] all = absurd all
+zip_length P (x ∷ xs) (y ∷ ys) all = ap suc (zip_length P xs ys all.1)
 
-pub left_by_reading : {R W : Type 0} (reads : Type 0) (files : List (List ℕ)) (inputs inputs_now : List R) (out : W) (f : RunFault) →
-    IsReadEachFault reads files f → IsLeft inputs inputs_now out out f
-left_by_reading reads files inputs inputs_now out (run.Input i refusal) fault = refl
-left_by_reading reads files inputs inputs_now out run.Plan fault = absurd fault
-left_by_reading reads files inputs inputs_now out (run.Merge told) fault = refl
-left_by_reading reads files inputs inputs_now out (run.Read i) fault = refl
-left_by_reading reads files inputs inputs_now out run.Write fault = absurd fault
-left_by_reading reads files inputs inputs_now out run.Memory fault = refl
+-- ---- their union
 
-pub devices_after : {R : Type 0} (has_failed : R → Bool) (inputs : List R) (writer_failed : Bool) (f : RunFault) → writer_failed ≡ false →
-    IsOfDevices has_failed inputs false f → IsOfDevices has_failed inputs writer_failed f
-devices_after has_failed inputs writer_failed f works all = subst (λ b. IsOfDevices has_failed inputs b f) (sym works) all
-
--- a fault of merging is one of the run
-pub fault_of_merging : (reads writes : Type 0) (caps : Caps) (files : List (List ℕ)) (collections : List Collection) (plan : Plan) (old new : List ℕ) (f : RunFault) →
-    IsPlanFor (length files) plan → AreReadAs reads files collections → IsUnionFault caps collections plan f → IsMergeFault reads writes caps files plan old new f
-fault_of_merging reads writes caps files collections plan old new (run.Input i refusal) is read fault = absurd fault
-fault_of_merging reads writes caps files collections plan old new run.Plan is read fault = absurd (fault (subst (λ n. IsPlanFor n plan) (sym read.many) is))
-fault_of_merging reads writes caps files collections plan old new (run.Merge told) is read fault = record { collections = collections; inputs = read; cause = fault }
-fault_of_merging reads writes caps files collections plan old new (run.Read i) is read fault = absurd fault
-fault_of_merging reads writes caps files collections plan old new run.Write is read fault = absurd fault
-fault_of_merging reads writes caps files collections plan old new run.Memory is read fault = tt
-
-pub left_by_merging : {R W : Type 0} (reads : Type 0) (caps : Caps) (files : List (List ℕ)) (collections : List Collection) (plan : Plan) (inputs inputs_now : List R) (out : W) (f : RunFault) →
-    IsPlanFor (length files) plan → AreReadAs reads files collections → IsUnionFault caps collections plan f → IsLeft inputs inputs_now out out f
-left_by_merging reads caps files collections plan inputs inputs_now out (run.Input i refusal) is read fault = refl
-left_by_merging reads caps files collections plan inputs inputs_now out run.Plan is read fault = absurd (fault (subst (λ n. IsPlanFor n plan) (sym read.many) is))
-left_by_merging reads caps files collections plan inputs inputs_now out (run.Merge told) is read fault = refl
-left_by_merging reads caps files collections plan inputs inputs_now out (run.Read i) is read fault = refl
-left_by_merging reads caps files collections plan inputs inputs_now out run.Write is read fault = tt
-left_by_merging reads caps files collections plan inputs inputs_now out run.Memory is read fault = refl
-
-pub devices_of_merging : {R : Type 0} (has_failed : R → Bool) (inputs : List R) (writer_failed : Bool) (caps : Caps) (collections : List Collection) (plan : Plan) (f : RunFault) →
-    AllWork has_failed inputs → writer_failed ≡ false → IsUnionFault caps collections plan f → IsOfDevices has_failed inputs writer_failed f
-devices_of_merging has_failed inputs writer_failed caps collections plan (run.Input i refusal) all works fault = absurd fault
-devices_of_merging has_failed inputs writer_failed caps collections plan run.Plan all works fault = (all, works)
-devices_of_merging has_failed inputs writer_failed caps collections plan (run.Merge told) all works fault = (all, works)
-devices_of_merging has_failed inputs writer_failed caps collections plan (run.Read i) all works fault = absurd fault
-devices_of_merging has_failed inputs writer_failed caps collections plan run.Write all works fault = absurd fault
-devices_of_merging has_failed inputs writer_failed caps collections plan run.Memory all works fault = (all, works)
+-- where the union is good no cause is true of it
+pub true_cause : (caps : Caps) (apart : (D : List Definition) (c : Cause) → IsGood caps D → IsCause caps D c → ⊥) (collections : List Collection) (plan : Plan) (told : MergeCause) →
+    TellsCause (IsPlannedCause caps collections plan) told → IsTrueCause caps collections plan told
+true_cause caps apart collections plan (cause.Conflict name) holds = record { cause = holds; bad = λ good. apart (planned collections plan) (merging.Conflict name) good holds.holds }
+true_cause caps apart collections plan (cause.Cycle name) holds = record { cause = holds; bad = λ good. apart (planned collections plan) (merging.Cycle name) good holds.holds }
+true_cause caps apart collections plan (cause.Cap number) holds = record { cause = holds; bad = λ good. apart (planned collections plan) (merging.Exceeded holds.cap) good holds.holds.holds }
 
 -- what is said of equal collections
 pub united_fault : (caps : Caps) (collections others : List Collection) (plan : Plan) (f : RunFault) → others ≡ collections → IsUnionFault caps others plan f → IsUnionFault caps collections plan f
 united_fault caps collections others plan f same fault = subst (λ ks. IsUnionFault caps ks plan f) same fault
 
 pub united_as : (caps : Caps) (collections others : List Collection) (plan : Plan) (K : Collection) → others ≡ collections → IsPlanned caps others plan K → IsPlanned caps collections plan K
-united_as caps collections others plan K same planned = subst (λ ks. IsPlanned caps ks plan K) same planned
+united_as caps collections others plan K same is = subst (λ ks. IsPlanned caps ks plan K) same is
 
--- a plan for so many inputs is one for their files
-pub plan_for_files : {R : Type 0} (f : R → List ℕ) (inputs : List R) (plan : Plan) → IsPlanFor (length inputs) plan → IsPlanFor (length (map f inputs)) plan
-plan_for_files f inputs plan is = rw (length-map inputs f) is
+-- a fault of reading is one of uniting
+pub fault_of_reading : {R : Type 0} (tells : R → Type 0) (to_come : R → List ℕ) (inputs : List R) (caps : Caps) (plan : Plan) (f : RunFault) →
+    IsPlanFor (length inputs) plan → IsReadEachFault tells to_come inputs f → IsUnitedFault tells to_come inputs caps plan f
+fault_of_reading tells to_come inputs caps plan (run.Input i refusal) is fault = (is, fault)
+fault_of_reading tells to_come inputs caps plan run.Plan is fault = absurd fault
+fault_of_reading tells to_come inputs caps plan (run.Merge told) is fault = absurd fault
+fault_of_reading tells to_come inputs caps plan (run.Read i) is fault = (is, fault)
+fault_of_reading tells to_come inputs caps plan run.Write is fault = absurd fault
+fault_of_reading tells to_come inputs caps plan run.Memory is fault = tt
+
+pub uncalled_by_reading : {R : Type 0} (tells : R → Type 0) (to_come : R → List ℕ) (inputs now : List R) (f : RunFault) → IsReadEachFault tells to_come inputs f → AreUncalled inputs now f
+uncalled_by_reading tells to_come inputs now (run.Input i refusal) fault = tt
+uncalled_by_reading tells to_come inputs now run.Plan fault = absurd fault
+uncalled_by_reading tells to_come inputs now (run.Merge told) fault = tt
+uncalled_by_reading tells to_come inputs now (run.Read i) fault = tt
+uncalled_by_reading tells to_come inputs now run.Write fault = tt
+uncalled_by_reading tells to_come inputs now run.Memory fault = tt
+
+-- a plan for so many inputs is one for their collections
+plan_for_collections : {R : Type 0} (P : R → Collection → Type 0) (inputs : List R) (collections : List Collection) (plan : Plan) → AllZip P inputs collections → IsPlanFor (length inputs) plan → IsPlanFor (length collections) plan
+plan_for_collections P inputs collections plan all is = subst (λ n. IsPlanFor n plan) (sym (zip_length P inputs collections all)) is
+
+-- a fault of merging is one of uniting
+pub fault_of_merging : {R : Type 0} (tells : R → Type 0) (to_come : R → List ℕ) (inputs : List R) (collections : List Collection) (caps : Caps) (plan : Plan) (f : RunFault) →
+    IsPlanFor (length inputs) plan → AreReadFrom tells to_come inputs collections → IsUnionFault caps collections plan f → IsUnitedFault tells to_come inputs caps plan f
+fault_of_merging tells to_come inputs collections caps plan (run.Input i refusal) is read fault = absurd fault
+fault_of_merging tells to_come inputs collections caps plan run.Plan is read fault = absurd (fault (plan_for_collections _ inputs collections plan read is))
+fault_of_merging tells to_come inputs collections caps plan (run.Merge told) is read fault = record { collections = collections; read = read; cause = fault }
+fault_of_merging tells to_come inputs collections caps plan (run.Read i) is read fault = absurd fault
+fault_of_merging tells to_come inputs collections caps plan run.Write is read fault = absurd fault
+fault_of_merging tells to_come inputs collections caps plan run.Memory is read fault = tt
+
+pub uncalled_by_merging : {R : Type 0} (P : R → Collection → Type 0) (inputs now : List R) (collections : List Collection) (caps : Caps) (plan : Plan) (f : RunFault) →
+    IsPlanFor (length inputs) plan → AllZip P inputs collections → IsUnionFault caps collections plan f → AreUncalled inputs now f
+uncalled_by_merging P inputs now collections caps plan (run.Input i refusal) is read fault = tt
+uncalled_by_merging P inputs now collections caps plan run.Plan is read fault = absurd (fault (plan_for_collections P inputs collections plan read is))
+uncalled_by_merging P inputs now collections caps plan (run.Merge told) is read fault = tt
+uncalled_by_merging P inputs now collections caps plan (run.Read i) is read fault = tt
+uncalled_by_merging P inputs now collections caps plan run.Write is read fault = tt
+uncalled_by_merging P inputs now collections caps plan run.Memory is read fault = tt
+
+pub devices_of_merging : {R : Type 0} (has_failed : R → Bool) (inputs : List R) (caps : Caps) (collections : List Collection) (plan : Plan) (f : RunFault) →
+    AllWork has_failed inputs → IsUnionFault caps collections plan f → IsOfDevices has_failed inputs false f
+devices_of_merging has_failed inputs caps collections plan (run.Input i refusal) all fault = absurd fault
+devices_of_merging has_failed inputs caps collections plan run.Plan all fault = (all, refl)
+devices_of_merging has_failed inputs caps collections plan (run.Merge told) all fault = (all, refl)
+devices_of_merging has_failed inputs caps collections plan (run.Read i) all fault = absurd fault
+devices_of_merging has_failed inputs caps collections plan run.Write all fault = absurd fault
+devices_of_merging has_failed inputs caps collections plan run.Memory all fault = (all, refl)
+
+-- ---- what a run leaves
+
+-- a fault of which one thing holds, and so another
+pub if_err : {T E : Type 0} (P Q : E → Type 0) (r : Result T E) → ((e : E) → P e → Q e) → IfErr r P → IfErr r Q
+if_err P Q (Ok x) leads holds = tt
+if_err P Q (Err e) leads holds = leads e holds
+
+-- what holds where all was done, and so something else
+pub on_ok : {T E : Type 0} (A B : Type 0) (r : Result T E) → (A → B) → OnOk r A → OnOk r B
+on_ok A B (Ok x) leads holds = leads holds
+on_ok A B (Err e) leads holds = tt
+
+-- the canonical file of what is good and well formed is accepted, and denotes it
+pub file_is : (accepted : (K : Collection) → IsGood greatest_caps (definitions K) → AreWellFormed (definitions K) → IsAccepted (canonical K)) →
+    (denotes : (K : Collection) → IsGood greatest_caps (definitions K) → AreWellFormed (definitions K) → Denotes (canonical K) K) →
+    (K : Collection) → IsGood greatest_caps (definitions K) → AreWellFormed (definitions K) → IsFileOf K
+file_is accepted denotes K good formed = record { accepted = accepted K good formed; denotes = denotes K good formed }
+
+-- a fault of uniting is one of the run
+pub fault_of_uniting : {R : Type 0} (tells : R → Type 0) (to_come : R → List ℕ) (inputs : List R) (caps : Caps) (plan : Plan) (kept : Collection → Collection) (Written : List ℕ → Type 0) (f : RunFault) →
+    IsUnitedFault tells to_come inputs caps plan f → IsMergeFault tells to_come inputs caps plan kept Written f
+fault_of_uniting tells to_come inputs caps plan kept Written (run.Input i refusal) fault = fault
+fault_of_uniting tells to_come inputs caps plan kept Written run.Plan fault = fault
+fault_of_uniting tells to_come inputs caps plan kept Written (run.Merge told) fault = fault
+fault_of_uniting tells to_come inputs caps plan kept Written (run.Read i) fault = fault
+fault_of_uniting tells to_come inputs caps plan kept Written run.Write fault = absurd fault
+fault_of_uniting tells to_come inputs caps plan kept Written run.Memory fault = tt
+
+pub left_by_uniting : {R W : Type 0} (tells : R → Type 0) (to_come : R → List ℕ) (inputs : List R) (caps : Caps) (plan : Plan) (out : W) (f : RunFault) →
+    IsUnitedFault tells to_come inputs caps plan f → IsLeft out out f
+left_by_uniting tells to_come inputs caps plan out (run.Input i refusal) fault = refl
+left_by_uniting tells to_come inputs caps plan out run.Plan fault = refl
+left_by_uniting tells to_come inputs caps plan out (run.Merge told) fault = refl
+left_by_uniting tells to_come inputs caps plan out (run.Read i) fault = refl
+left_by_uniting tells to_come inputs caps plan out run.Write fault = tt
+left_by_uniting tells to_come inputs caps plan out run.Memory fault = refl
+
+pub devices_after : {R : Type 0} (has_failed : R → Bool) (inputs : List R) (writer_failed : Bool) (f : RunFault) → writer_failed ≡ false →
+    IsOfDevices has_failed inputs false f → IsOfDevices has_failed inputs writer_failed f
+devices_after has_failed inputs writer_failed f works all = subst (λ b. IsOfDevices has_failed inputs b f) (sym works) all
+
+-- a fault of writing is one of the run
+pub fault_of_writing : {R W : Type 0} (tells : R → Type 0) (to_come : R → List ℕ) (inputs : List R) (caps : Caps) (plan : Plan) (kept : Collection → Collection)
+    (writes : W → Type 0) (taken : W → List ℕ) (old new : W) (whole program : Collection) (f : RunFault) →
+    IsUnited tells to_come inputs caps plan whole → program ≡ kept whole → IsFileOf program → IsWriteFault writes taken old new (canonical program) f →
+    IsMergeFault tells to_come inputs caps plan kept (IsFrontAppended (writes old) (taken old) (taken new)) f
+fault_of_writing tells to_come inputs caps plan kept writes taken old new whole program (run.Input i refusal) united is file fault = absurd fault
+fault_of_writing tells to_come inputs caps plan kept writes taken old new whole program run.Plan united is file fault = absurd fault
+fault_of_writing tells to_come inputs caps plan kept writes taken old new whole program (run.Merge told) united is file fault = absurd fault
+fault_of_writing tells to_come inputs caps plan kept writes taken old new whole program (run.Read i) united is file fault = absurd fault
+fault_of_writing tells to_come inputs caps plan kept writes taken old new whole program run.Write united is file fault = record {
+  whole = whole;
+  united = united;
+  read_back = subst IsFileOf is file;
+  written = subst (λ K. IsFrontAppended (writes old) (taken old) (taken new) (canonical K)) is fault;
+}
+fault_of_writing tells to_come inputs caps plan kept writes taken old new whole program run.Memory united is file fault = tt
+
+-- what was written is what the run says of it
+pub merged_by_writing : {R : Type 0} (tells : R → Type 0) (to_come : R → List ℕ) (inputs : List R) (caps : Caps) (plan : Plan) (kept : Collection → Collection) (Written : List ℕ → Type 0) (whole program : Collection) →
+    IsUnited tells to_come inputs caps plan whole → program ≡ kept whole → IsFileOf program → Written (canonical program) → IsMergedFile tells to_come inputs caps plan kept Written
+merged_by_writing tells to_come inputs caps plan kept Written whole program united is file written = record {
+  whole = whole;
+  united = united;
+  read_back = subst IsFileOf is file;
+  written = subst (λ K. Written (canonical K)) is written;
+}
+
+pub left_by_writing : {W : Type 0} (writes : W → Type 0) (taken : W → List ℕ) (old new : W) (bytes : List ℕ) (f : RunFault) → IsWriteFault writes taken old new bytes f → IsLeft old new f
+left_by_writing writes taken old new bytes (run.Input i refusal) fault = absurd fault
+left_by_writing writes taken old new bytes run.Plan fault = absurd fault
+left_by_writing writes taken old new bytes (run.Merge told) fault = absurd fault
+left_by_writing writes taken old new bytes (run.Read i) fault = absurd fault
+left_by_writing writes taken old new bytes run.Write fault = tt
+left_by_writing writes taken old new bytes run.Memory fault = fault
+
+pub uncalled_by_writing : {R : Type 0} (inputs now : List R) (writer_failed : Bool) (f : RunFault) → IsOfWriter writer_failed f → AreUncalled inputs now f
+uncalled_by_writing inputs now writer_failed (run.Input i refusal) fault = tt
+uncalled_by_writing inputs now writer_failed run.Plan fault = absurd fault
+uncalled_by_writing inputs now writer_failed (run.Merge told) fault = tt
+uncalled_by_writing inputs now writer_failed (run.Read i) fault = tt
+uncalled_by_writing inputs now writer_failed run.Write fault = tt
+uncalled_by_writing inputs now writer_failed run.Memory fault = tt
+
+pub devices_of_writing : {R : Type 0} (has_failed : R → Bool) (inputs : List R) (writer_failed : Bool) (f : RunFault) → AllWork has_failed inputs → IsOfWriter writer_failed f → IsOfDevices has_failed inputs writer_failed f
+devices_of_writing has_failed inputs writer_failed (run.Input i refusal) all fault = absurd fault
+devices_of_writing has_failed inputs writer_failed run.Plan all fault = absurd fault
+devices_of_writing has_failed inputs writer_failed (run.Merge told) all fault = absurd fault
+devices_of_writing has_failed inputs writer_failed (run.Read i) all fault = absurd fault
+devices_of_writing has_failed inputs writer_failed run.Write all fault = (all, fault)
+devices_of_writing has_failed inputs writer_failed run.Memory all fault = (all, fault)

@@ -1,7 +1,9 @@
 -- Bytes that come and go in pieces.
-use Rattle.std.proofs.Common.{◌≡◌, ℕ, ◌≤◌, ◌+◌, List, [], ◌++◌, length, take, drop, sym, append_assoc, append-nil, ◌⊎◌, inl, inr, arith}
-use Rattle.std.proofs.Math.Seq.{take-add}
-use Rattle.std.proofs.lemmas.List.{take_all, take_at}
+use Rattle.std.proofs.Common.{◌≡◌, ℕ, ◌≤◌, ◌+◌, List, [], ◌++◌, length, take, drop, sym, ap, ◌∙◌, append_assoc, append-nil, ◌⊎◌, inl, inr, arith, length-take-le}
+use Rattle.std.proofs.Math.Seq.{take-add, take-append-le}
+use Rattle.std.proofs.lemmas.List.{take_all, take_at, drop_at}
+use Rattle.std.specs.Prelude.{Result, Ok, Err, IfOk}
+use Rattle.dexcmd.specs.Inputs.{IsTakenUpTo}
 
 -- what was read is all, up to a limit, where no more is to come or the limit is reached
 pub read_all : (n : ℕ) (xs ys whole : List ℕ) → whole ≡ xs ++ ys → length xs ≤ n → ((ys ≡ []) ⊎ (n ≤ length xs)) → xs ≡ take n whole
@@ -9,6 +11,31 @@ read_all n xs ys whole joined bound why = elim why [
   | inl none ↦ rw (joined, none, append-nil) (sym (take_all n xs bound))
   | inr full ↦ rw joined (sym (take_at xs ys n (omega arith)))
 ]
+
+-- the same, where so many of the bytes that were read are kept
+pub read_to_end : (filled most : ℕ) (bytes now kept left whole : List ℕ) → kept ≡ take filled now → take filled now ≡ take filled bytes → whole ≡ take filled bytes ++ left →
+    length (take filled bytes) ≤ most → ((left ≡ []) ⊎ (most ≤ length (take filled bytes))) → kept ≡ take most whole
+read_to_end filled most bytes now kept left whole is same joined bound why = is ∙ same ∙ read_all most (take filled bytes) left whole joined bound why
+
+-- what was read into the part stands after the front
+pub moved_in_place : {E : Type 0} (T : Type 0) (whole left : List ℕ) (r : Result ℕ E) (front part rest : List ℕ) (at : ℕ) → length front ≡ at →
+    IfOk r (λ n. n ≤ length part) → IfOk r (λ n. T → whole ≡ take n part ++ left) → IfOk r (λ n. T → whole ≡ take n (drop at (front ++ (part ++ rest))) ++ left)
+moved_in_place T whole left (Ok n) front part rest at long fits read = λ t. read t ∙ ap (λ l. l ++ left) (sym (ap (take n) (drop_at front (part ++ rest) at long) ∙ take-append-le n part rest fits))
+moved_in_place T whole left (Err e) front part rest at long fits read = tt
+
+-- what was read so far, and is to come, where more was read behind it
+pub joined_more : (whole mid left old new : List ℕ) (i n : ℕ) → i ≤ length old → i + n ≤ length new → whole ≡ take i old ++ mid → take i new ≡ take i old → mid ≡ take n (drop i new) ++ left →
+    whole ≡ take (i + n) new ++ left
+joined_more whole mid left old new i n within fits before front after =
+    rw (before, after, ← front) (sym (append_assoc (take i new) (take n (drop i new)) left) ∙ ap (λ l. l ++ left) (sym (take-add i n new)))
+
+-- so much was read and no more, and the rest is to come
+pub read_so_far : (n most : ℕ) (bytes left whole : List ℕ) → whole ≡ take n bytes ++ left → n ≤ length bytes → n ≤ most → IsTakenUpTo most whole left
+read_so_far n most bytes left whole joined within few = record {
+  count = n;
+  within = few;
+  others = sym (rw joined (drop_at (take n bytes) left n (length-take-le n bytes within)));
+}
 
 -- after a front, a front of the rest
 pub written_more : (old mid new bytes rest : List ℕ) (i n : ℕ) → mid ≡ old ++ take i bytes → rest ≡ drop i bytes → new ≡ mid ++ take n rest → new ≡ old ++ take (i + n) bytes

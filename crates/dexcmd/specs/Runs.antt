@@ -32,6 +32,17 @@ HasLeft reads writes old new taken b (Read i) = new ≡ old
 HasLeft reads writes old new taken b Write = reads → IsAccepted b × (writes → (K : Collection) → Denotes b K → (n : ℕ) × (taken new ≡ taken old ++ take n (canonical K)))
 HasLeft reads writes old new taken b Memory = new ≡ old
 
+-- ---- one file listed, or files merged
+
+-- but for a fault of the writer it is as it was
+abbrev pub IsLeft : {W : Type 0} → W → W → RunFault → Type 0
+IsLeft old new (Input i refusal) = new ≡ old
+IsLeft old new Plan = new ≡ old
+IsLeft old new (Merge told) = new ≡ old
+IsLeft old new (Read i) = new ≡ old
+IsLeft old new Write = Unit {0}
+IsLeft old new Memory = new ≡ old
+
 -- ---- files checked
 
 -- the verdict is right of the bytes

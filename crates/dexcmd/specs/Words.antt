@@ -2,7 +2,7 @@
 use Rattle.std.specs.Prelude.{◌<◌, ◌≤◌, ℕ, Option, IfSome, vec_len}
 use Rattle.dexspec.specs.Merging.{Caps, AreCaps}
 use Rattle.dexcmd.specs.declared.words.Job.{Job}
-use Rattle.dexcmd.specs.declared.words.Job.TheVariants.{Check, Normalise, Merge}
+use Rattle.dexcmd.specs.declared.words.Job.TheVariants.{Check, Dump, Normalise, Merge}
 
 -- a merge has one file or more, a fan from 2 to 65535 where it has one, and caps that are not above the greatest
 pub record IsSoundMerge (files : ℕ) (fan : Option ℕ) (caps : Caps) : Type 0 where
@@ -14,5 +14,6 @@ pub record IsSoundMerge (files : ℕ) (fan : Option ℕ) (caps : Caps) : Type 0 
 -- a check and a merge have one file or more
 abbrev pub IsSound : Job → Type 0
 IsSound (Check files) = 0 < vec_len files
+IsSound (Dump file) = Unit {0}
 IsSound (Normalise file out) = Unit {0}
-IsSound (Merge out fan caps files) = IsSoundMerge (vec_len files) fan caps
+IsSound (Merge out fan caps strip files) = IsSoundMerge (vec_len files) fan caps

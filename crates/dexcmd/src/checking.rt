@@ -1,7 +1,8 @@
 //! The run of `check`.
 
 ghost use Rattle.std.specs.Prelude.{◌≡◌, ◌≤◌, true, false, length, map, All, OnOk, IfOk, IfErr};
-ghost use Rattle.dexcmd.specs.Inputs.{bytes_read, TellsOf};
+ghost use Rattle.std.specs.List.{AllZip};
+ghost use Rattle.dexcmd.specs.Inputs.{bytes_read, IsReadNoFurther, TellsOf};
 ghost use Rattle.dexcmd.specs.Lines.{status_after};
 ghost use Rattle.dexcmd.specs.Runs.{IsVerdict, AreChecked, AreBegun, AllWork, IsOfCheck};
 
@@ -21,6 +22,7 @@ const REFUSED: u8 = 1;
 fn judge<R: Source>(alloc: Global, input: &mut R) -> Result<Verdict, InputFault>
     requires { R.has_failed input.old ≡ false }
     ensures verdict { IfOk result (λ verdict. R.tells input.old → IsVerdict (bytes_read (R.to_come input.old)) verdict) }
+    ensures no_further { IsReadNoFurther R.tells R.to_come R.has_failed input.old input.new }
     ensures works { OnOk result (R.has_failed input.new ≡ false) }
     ensures fault { IfErr result (TellsOf (R.has_failed input.new)) }
 {
@@ -48,7 +50,7 @@ fn status_after(status: u8, verdict: &Verdict) -> u8
 /// Conditions: no device has failed, and there are as many names as inputs. Error: `Read` with the number of an input
 /// exactly where its reader failed in this call, `Write` exactly where the writer did; `Memory` where a growth was
 /// refused; no other. It ends at the first error, and then a front of the lines was written, each of them right of its
-/// input. Of each input `2^30 + 1` bytes are read at most.
+/// input. Of each input `2^30 + 1` bytes are read and no more.
 ///
 /// Source: "Dalvik Executable format"; the lines are this project's rule.
 pub fn check_run<R: Source, W: Sink>(
@@ -64,6 +66,7 @@ pub fn check_run<R: Source, W: Sink>(
         (map (λ input. bytes_read (R.to_come input)) inputs.old) (W.taken out.old) (W.taken out.new)) }
     ensures begun { IfErr result (λ _. AreBegun (All R.tells inputs.old) (W.tells out.old) (map (λ name. name.now) names.now)
         (map (λ input. bytes_read (R.to_come input)) inputs.old) (W.taken out.old) (W.taken out.new)) }
+    ensures no_further { AllZip (IsReadNoFurther R.tells R.to_come R.has_failed) inputs.old inputs.new }
 
     // The faults of the devices are told exactly where they are.
     ensures readers { OnOk result (AllWork R.has_failed inputs.new) }

@@ -1,17 +1,20 @@
 //! Inputs, read whole.
 
-ghost use Rattle.std.specs.Prelude.{◌≡◌, false, OnOk, IfOk, IfErr};
-ghost use Rattle.dexcmd.specs.Inputs.{bytes_read, TellsOf};
+ghost use Rattle.std.specs.Prelude.{◌≡◌, ◌<◌, ◌≤◌, ◌+◌, ◌++◌, [], true, false, length, take, drop, OnOk, OnErr, IfOk, IfErr, vec_len};
+ghost use Rattle.dexcmd.specs.Inputs.{bytes_read, IsReadNoFurther, IsUnread, TellsOf};
 ghost use Rattle.dexcmd.specs.declared.inputs.InputFault.TheVariants.{Memory};
 
-use dexhead::Source;
+use dexhead::{DeviceFault, Source};
 use std::alloc::{AllocError, Global};
 
-// One more byte than a file may have: an input that has as many is too long, whatever else is to come.
-const MOST: usize = 1073741825;
+/// How many bytes of an input are read at most. It is one more than a file may have: an input of so many bytes is too
+/// long, whatever else is to come.
+pub const MOST_READ: usize = 1073741825;
 
-// How many bytes are asked for at a time.
-const PIECE: usize = 8192;
+// How much room is made for the next bytes: as much as has come, within these bounds.
+const LEAST_ROOM: usize = 4096;
+
+const MOST_ROOM: usize = 1048576;
 
 /// Why an input was not read whole.
 #[derive(Clone, Copy, Debug, PartialEq, Eq)]
@@ -30,28 +33,89 @@ impl From<AllocError> for InputFault {
     }
 }
 
-/// Reads to the end of an input, or one byte past the greatest length of a file.
+// Makes room behind the bytes that have come, unless there is some.
+fn make_room(bytes: &mut Vec<u8>, filled: usize) -> Result<(), AllocError>
+    requires filled { filled ≤ vec_len bytes.old }
+    requires most { filled < 1073741825 }
+    requires bound { vec_len bytes.old ≤ 1073741825 }
+    ensures room { OnOk result (filled < vec_len bytes.new) }
+    ensures bound { OnOk result (vec_len bytes.new ≤ 1073741825) }
+    ensures front { OnOk result (take filled bytes.new.items ≡ take filled bytes.old.items) }
+{
+    if filled < bytes.len() {
+        return Ok(());
+    }
+    let room = filled
+        .max(LEAST_ROOM)
+        .min(MOST_ROOM)
+        .min(MOST_READ - filled);
+    bytes.resize(filled + room, 0)?;
+    Ok(())
+}
+
+// One read into the bytes from a place on.
+fn read_at<R: Source>(input: &mut R, bytes: &mut [u8], at: usize) -> Result<usize, DeviceFault>
+    requires works { R.has_failed input.old ≡ false }
+    requires room { at < length bytes.old }
+    ensures works { OnOk result (R.has_failed input.new ≡ false) }
+    ensures fails { OnErr result (R.has_failed input.new ≡ true) }
+    ensures front { take at bytes.new ≡ take at bytes.old }
+    ensures fits { IfOk result (λ n. at + n ≤ length bytes.new) }
+    ensures tells { R.tells input.old → R.tells input.new }
+    ensures moved { IfOk result (λ n. R.tells input.old → R.to_come input.old ≡ take n (drop at bytes.new) ++ R.to_come input.new) }
+    ensures end { IfOk result (λ n. n ≡ 0 → R.tells input.old → R.to_come input.old ≡ []) }
+{
+    input.read(&mut bytes[at..])
+}
+
+// Reads more bytes behind those that have come, and answers how many.
+fn read_more<R: Source>(
+    input: &mut R,
+    bytes: &mut Vec<u8>,
+    filled: usize,
+) -> Result<usize, InputFault>
+    requires works { R.has_failed input.old ≡ false }
+    requires filled { filled ≤ vec_len bytes.old }
+    requires most { filled < 1073741825 }
+    requires bound { vec_len bytes.old ≤ 1073741825 }
+    ensures works { OnOk result (R.has_failed input.new ≡ false) }
+    ensures fault { IfErr result (TellsOf (R.has_failed input.new)) }
+    ensures unread { IfErr result (IsUnread input.old input.new) }
+    ensures bound { OnOk result (vec_len bytes.new ≤ 1073741825) }
+    ensures front { OnOk result (take filled bytes.new.items ≡ take filled bytes.old.items) }
+    ensures fits { IfOk result (λ n. filled + n ≤ vec_len bytes.new) }
+    ensures tells { R.tells input.old → R.tells input.new }
+    ensures moved { IfOk result (λ n. R.tells input.old → R.to_come input.old ≡ take n (drop filled bytes.new.items) ++ R.to_come input.new) }
+    ensures end { IfOk result (λ n. n ≡ 0 → R.tells input.old → R.to_come input.old ≡ []) }
+{
+    make_room(bytes, filled)?;
+    match read_at(input, bytes.as_mut_slice(), filled) {
+        Ok(taken) => Ok(taken),
+        Err(_) => Err(InputFault::Read),
+    }
+}
+
+/// Reads to the end of an input, or one byte past the greatest length of a file, and no further. The bytes come into the
+/// room of the vector itself.
 ///
 /// Condition: the reader has not failed. Error: `Read` exactly where it failed in this call; `Memory` where a growth
 /// was refused.
 pub fn read_whole<R: Source>(alloc: Global, input: &mut R) -> Result<Vec<u8>, InputFault>
     requires { R.has_failed input.old ≡ false }
     ensures bytes { IfOk result (λ bytes. R.tells input.old → bytes.items ≡ bytes_read (R.to_come input.old)) }
+    ensures no_further { IsReadNoFurther R.tells R.to_come R.has_failed input.old input.new }
     ensures works { OnOk result (R.has_failed input.new ≡ false) }
     ensures fault { IfErr result (TellsOf (R.has_failed input.new)) }
 {
     let mut bytes = Vec::new(alloc);
-    let mut piece = [0; PIECE];
-    'pieces: while bytes.len() < MOST {
-        let room = PIECE.min(MOST - bytes.len());
-        let taken = match input.read(&mut piece[..room]) {
-            Ok(taken) => taken,
-            Err(_) => return Err(InputFault::Read),
-        };
+    let mut filled = 0;
+    'pieces: while filled < MOST_READ {
+        let taken = read_more(input, &mut bytes, filled)?;
         if taken == 0 {
             break;
         }
-        bytes.extend_from_slice(&piece[..taken])?;
+        filled += taken;
     }
+    bytes.truncate(filled);
     Ok(bytes)
 }

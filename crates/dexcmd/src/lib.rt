@@ -3,9 +3,11 @@
 #![tactic(auto)]
 
 mod checking;
+mod dumping;
 mod explaining;
 mod fanning;
 mod faults;
+mod help;
 mod inputs;
 mod lines;
 mod merging;
@@ -14,9 +16,11 @@ mod outputs;
 mod words;
 
 pub use checking::check_run;
+pub use dumping::dump_run;
 pub use explaining::explain;
 pub use fanning::fan_plan;
 pub use faults::{MergeCause, RunFault};
-pub use merging::merge_run;
+pub use inputs::MOST_READ;
+pub use merging::{merge_run, merge_strip_run};
 pub use normalising::normalise_run;
 pub use words::{Job, read_words};

@@ -4,7 +4,7 @@ ghost use Rattle.std.specs.Prelude.{◌≡◌, ◌++◌, ◌↔◌, true, false,
 ghost use Rattle.dexspec.specs.Accepted.{IsAccepted};
 ghost use Rattle.dexspec.specs.Files.{Collection, Denotes};
 ghost use Rattle.dexspec.specs.Canonical.{canonical};
-ghost use Rattle.dexcmd.specs.Inputs.{bytes_read};
+ghost use Rattle.dexcmd.specs.Inputs.{bytes_read, IsReadNoFurther};
 ghost use Rattle.dexcmd.specs.Runs.{IsOfInput, HasLeft};
 ghost use Rattle.dexcmd.specs.declared.faults.RunFault.TheVariants.{Read, Write};
 
@@ -20,7 +20,7 @@ use std::alloc::Global;
 /// has.
 ///
 /// Condition: neither device has failed. Error: `Input` with number 0 where the file is refused, with what
-/// [`dexclass::read`] says of its bytes, of which `2^30 + 1` are read at most; `Read` with number 0 exactly where the
+/// [`dexclass::read`] says of its bytes, of which `2^30 + 1` are read and no more; `Read` with number 0 exactly where the
 /// reader failed in this call, and `Write` exactly where the writer did; `Memory` where a growth was refused; no other.
 /// After `Write` a front of the canonical file was written, and after any other error nothing.
 ///
@@ -37,6 +37,7 @@ pub fn normalise_run<R: Source, W: Sink>(
         W.taken out.new ≡ W.taken out.old ++ canonical K) }
     ensures fault { IfErr result (IsOfInput (R.tells input.old) (bytes_read (R.to_come input.old))) }
     ensures left { IfErr result (HasLeft (R.tells input.old) (W.tells out.old) out.old out.new W.taken (bytes_read (R.to_come input.old))) }
+    ensures no_further { IsReadNoFurther R.tells R.to_come R.has_failed input.old input.new }
 
     // The faults of the devices are told exactly where they are.
     ensures read { IsErrOf result (Read 0) ↔ (R.has_failed input.new ≡ true) }

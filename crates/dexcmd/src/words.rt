@@ -4,6 +4,7 @@ ghost use Rattle.std.specs.Prelude.{◌<◌, vec_len, IfOk, IfSome};
 ghost use Rattle.dexspec.specs.Merging.{AreCaps};
 ghost use Rattle.dexcmd.specs.Words.{IsSound};
 
+use crate::help;
 use clap::error::ErrorKind;
 use clap::{Arg, ArgAction, ArgMatches, Command, Error, value_parser};
 use dexmerge::Caps;
@@ -16,10 +17,13 @@ const LEAST_FAN: u16 = 2;
 pub enum Job {
     /// Tells of each of these files whether it is accepted.
     Check(Vec<String>),
+    /// Lists the classes of this file.
+    Dump(String),
     /// Writes the canonical file of the first to the second.
     Normalise(String, String),
-    /// Writes the merged file to the first: so many of the files at a time, or all at once, under the caps.
-    Merge(String, Option<usize>, Caps, Vec<String>),
+    /// Writes the merged file to the first: so many of the files at a time, or all at once, under the caps, and without
+    /// debug programs and source texts where it is to be stripped.
+    Merge(String, Option<usize>, Caps, bool, Vec<String>),
 }
 
 fn owned(alloc: Global, texts: &[&str]) -> Result<Vec<String>, AllocError> {
@@ -30,57 +34,85 @@ fn owned(alloc: Global, texts: &[&str]) -> Result<Vec<String>, AllocError> {
     Ok(all)
 }
 
-fn one<'a>(alloc: Global, id: &'a str, name: &'a str) -> Arg<'a> {
-    Arg::new(alloc, id).value_name(name).required(true)
+fn one<'a>(alloc: Global, id: &'a str, name: &'a str, help: &'a str) -> Arg<'a> {
+    Arg::new(alloc, id)
+        .value_name(name)
+        .required(true)
+        .help(help)
 }
 
 fn files<'a>(alloc: Global) -> Arg<'a> {
-    one(alloc, "files", "FILE")
+    one(alloc, "files", "FILE", help::FILES)
         .num_args(1..)
         .action(ArgAction::Append)
 }
 
 // An option that names the most of something, at most so many.
-fn most<'a>(alloc: Global, id: &'a str, greatest: u32) -> Arg<'a> {
+fn most<'a>(alloc: Global, id: &'a str, greatest: u32, help: &'a str) -> Arg<'a> {
     Arg::new(alloc, id)
         .long(id)
         .value_name("N")
+        .help(help)
         .value_parser(value_parser!(u32).range(0..=i64::from(greatest)))
+}
+
+fn check<'a>(alloc: Global) -> Result<Command<'a>, AllocError> {
+    Command::new(alloc, "check")
+        .about(help::CHECK)
+        .long_about(help::CHECK_LONG)
+        .after_long_help(help::REFUSALS)
+        .arg(files(alloc))
+}
+
+fn dump<'a>(alloc: Global) -> Result<Command<'a>, AllocError> {
+    Command::new(alloc, "dump")
+        .about(help::DUMP)
+        .arg(one(alloc, "file", "FILE", help::FILE))
+}
+
+fn normalise<'a>(alloc: Global) -> Result<Command<'a>, AllocError> {
+    Command::new(alloc, "normalise")
+        .about(help::NORMALISE)
+        .long_about(help::NORMALISE_LONG)
+        .arg(one(alloc, "file", "FILE", help::FILE))?
+        .arg(one(alloc, "out", "OUT", help::OUT))
 }
 
 fn merge<'a>(alloc: Global) -> Result<Command<'a>, AllocError> {
     let fan = Arg::new(alloc, "fan")
         .long("fan")
         .value_name("N")
-        .help("Merges so many files at a time, and then so many of what came out")
+        .help(help::FAN)
         .value_parser(value_parser!(u16).range(i64::from(LEAST_FAN)..));
+    let strip = Arg::new(alloc, "strip")
+        .long("strip")
+        .help(help::STRIP)
+        .action(ArgAction::SetTrue);
     let greatest = Caps::greatest();
     Command::new(alloc, "merge")
-        .about("Writes the canonical form of all classes of the files")
-        .arg(one(alloc, "out", "OUT").long("out"))?
+        .about(help::MERGE)
+        .long_about(help::MERGE_LONG)
+        .arg(one(alloc, "out", "OUT", help::OUT).long("out"))?
         .arg(fan)?
-        .arg(most(alloc, "max-types", greatest.types()))?
-        .arg(most(alloc, "max-protos", greatest.protos()))?
-        .arg(most(alloc, "max-fields", greatest.fields()))?
-        .arg(most(alloc, "max-methods", greatest.methods()))?
-        .arg(most(alloc, "max-weight", greatest.weight()))?
+        .arg(strip)?
+        .arg(most(alloc, "max-types", greatest.types(), help::MAX_TYPES))?
+        .arg(most(alloc, "max-protos", greatest.protos(), help::MAX_PROTOS))?
+        .arg(most(alloc, "max-fields", greatest.fields(), help::MAX_FIELDS))?
+        .arg(most(alloc, "max-methods", greatest.methods(), help::MAX_METHODS))?
+        .arg(most(alloc, "max-weight", greatest.weight(), help::MAX_WEIGHT))?
         .arg(files(alloc))
 }
 
 fn command<'a>(alloc: Global) -> Result<Command<'a>, AllocError> {
-    let check = Command::new(alloc, "check")
-        .about("Tells of each file whether it is accepted")
-        .arg(files(alloc))?;
-    let normalise = Command::new(alloc, "normalise")
-        .about("Writes the canonical form of a file")
-        .arg(one(alloc, "file", "FILE"))?
-        .arg(one(alloc, "out", "OUT"))?;
     Command::new(alloc, "dexkit")
-        .about("Checks, normalises and merges DEX files of version 035")
+        .about(help::ABOUT)
+        .version(help::VERSION)
+        .after_help(help::STATUSES)
         .no_binary_name(true)
         .subcommand_required(true)
-        .subcommand(check)?
-        .subcommand(normalise)?
+        .subcommand(check(alloc)?)?
+        .subcommand(dump(alloc)?)?
+        .subcommand(normalise(alloc)?)?
         .subcommand(merge(alloc)?)
 }
 
@@ -140,7 +172,8 @@ fn merge_of(alloc: Global, matches: &ArgMatches<'_>) -> Result<Option<Job>, Allo
         return Ok(None);
     };
     let out = text_of(alloc, matches, "out")?;
-    Ok(Some(Job::Merge(out, fan, caps, files)))
+    let strip = matches.get_flag("strip");
+    Ok(Some(Job::Merge(out, fan, caps, strip, files)))
 }
 
 fn job_of(alloc: Global, matches: &ArgMatches<'_>) -> Result<Option<Job>, AllocError>
@@ -148,6 +181,7 @@ fn job_of(alloc: Global, matches: &ArgMatches<'_>) -> Result<Option<Job>, AllocE
 {
     match matches.subcommand() {
         Some(("check", found)) => check_of(alloc, found),
+        Some(("dump", found)) => Ok(Some(Job::Dump(text_of(alloc, found, "file")?))),
         Some(("normalise", found)) => Ok(Some(Job::Normalise(
             text_of(alloc, found, "file")?,
             text_of(alloc, found, "out")?,

@@ -1,5 +1,6 @@
 //! Files that are opened when they are first used.
 
+use dexcmd::MOST_READ;
 use std::io::{Read, Write};
 use std::rt::Files;
 use std::{fs, io};
@@ -11,12 +12,14 @@ enum Stage<F> {
     Ended,
 }
 
-/// A file that is opened at the first read, and closed at its end. So as many as are named may be lent at once.
+/// A file that is opened at the first read, and closed at its end, at a fault, or when so much of it is read as is ever
+/// read of an input. So as many as are named may be lent at once, with one of them open.
 #[derive(Drop)]
 pub struct OldFile<'a, R: Files> {
     rt: &'a R,
     path: &'a str,
     stage: Stage<R::File>,
+    unread: usize,
 }
 
 impl<'a, R: Files> OldFile<'a, R> {
@@ -26,6 +29,7 @@ impl<'a, R: Files> OldFile<'a, R> {
             rt,
             path,
             stage: Stage::Closed,
+            unread: MOST_READ,
         }
     }
 }
@@ -38,11 +42,20 @@ impl<'a, R: Files> Read for OldFile<'a, R> {
         let Stage::Open(file) = &mut self.stage else {
             return Ok(0);
         };
-        let taken = file.read(buf)?;
-        if taken == 0 && !buf.is_empty() {
-            self.stage = Stage::Ended;
+        let room = buf.len().min(self.unread);
+        match file.read(&mut buf[..room]) {
+            Ok(taken) => {
+                self.unread -= taken;
+                if taken == 0 && room > 0 || self.unread == 0 {
+                    self.stage = Stage::Ended;
+                }
+                Ok(taken)
+            }
+            Err(error) => {
+                self.stage = Stage::Ended;
+                Err(error)
+            }
         }
-        Ok(taken)
     }
 }
 

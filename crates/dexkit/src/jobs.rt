@@ -7,7 +7,10 @@ ghost use Rattle.dexcmd.specs.Words.{IsSound};
 ghost use Rattle.dexhead.specs.Device.{is_broken};
 
 use crate::files::{NewFile, OldFile};
-use dexcmd::{Job, RunFault, check_run, explain, fan_plan, merge_run, normalise_run};
+use dexcmd::{
+    Job, RunFault, check_run, dump_run, explain, fan_plan, merge_run, merge_strip_run,
+    normalise_run,
+};
 use dexhead::Device;
 use dexmerge::Caps;
 use std::alloc::{AllocError, Global};
@@ -42,6 +45,14 @@ fn check(rt: &(impl Files + Print), alloc: Global, names: &[&str]) -> Result<u8,
     check_run(alloc, names, inputs.as_mut_slice(), &mut out)
 }
 
+fn dump(rt: &(impl Files + Print), alloc: Global, file: &str) -> Result<(), RunFault>
+    ensures { IfErr result (HasName 1) }
+{
+    let mut input = Device::new(OldFile::new(rt, file));
+    let mut out = Device::new(io::writer(rt));
+    dump_run(alloc, &mut input, &mut out)
+}
+
 fn normalise(rt: &impl Files, alloc: Global, file: &str, out: &str) -> Result<(), RunFault>
     ensures { IfErr result (HasName 1) }
 {
@@ -56,6 +67,7 @@ fn merge(
     names: &[&str],
     fan: Option<usize>,
     caps: &Caps,
+    is_stripped: bool,
     out: &str,
 ) -> Result<(), RunFault>
     requires names { 1 ≤ length names.now }
@@ -65,7 +77,11 @@ fn merge(
     let plan = fan_plan(alloc, names.len(), fan)?;
     let mut inputs = readers(rt, alloc, names)?;
     let mut out = Device::new(NewFile::new(rt, out));
-    merge_run(alloc, inputs.as_mut_slice(), &plan, caps, &mut out)
+    if is_stripped {
+        merge_strip_run(alloc, inputs.as_mut_slice(), &plan, caps, &mut out)
+    } else {
+        merge_run(alloc, inputs.as_mut_slice(), &plan, caps, &mut out)
+    }
 }
 
 // Says on standard error what went wrong, and answers the exit status.
@@ -112,13 +128,25 @@ pub fn do_job(
                 Err(fault) => told(rt, alloc, &fault, names.as_slice(), STANDARD_OUTPUT),
             }
         }
+        Job::Dump(file) => match dump(rt, alloc, file.as_str()) {
+            Ok(()) => Ok(DONE),
+            Err(fault) => told(rt, alloc, &fault, &[file.as_str()], STANDARD_OUTPUT),
+        },
         Job::Normalise(file, out) => match normalise(rt, alloc, file.as_str(), out.as_str()) {
             Ok(()) => Ok(DONE),
             Err(fault) => told(rt, alloc, &fault, &[file.as_str()], out.as_str()),
         },
-        Job::Merge(out, fan, caps, files) => {
+        Job::Merge(out, fan, caps, is_stripped, files) => {
             let names = texts(alloc, files)?;
-            match merge(rt, alloc, names.as_slice(), *fan, caps, out.as_str()) {
+            match merge(
+                rt,
+                alloc,
+                names.as_slice(),
+                *fan,
+                caps,
+                *is_stripped,
+                out.as_str(),
+            ) {
                 Ok(()) => Ok(DONE),
                 Err(fault) => told(rt, alloc, &fault, names.as_slice(), out.as_str()),
             }

@@ -1,10 +1,10 @@
-//! The program `dexkit`: checks, normalises and merges DEX files.
+//! The program `dexkit`: checks, lists, normalises and merges DEX files.
 //!
-//! `check FILE...` tells of each file whether it is accepted; `normalise FILE OUT` writes the canonical form of FILE
-//! to OUT; `merge --out OUT FILE...` writes the canonical form of all classes of the files to OUT, under the caps of
-//! `--max-types` and its like, and with `--fan N` by merging N at a time. The status is 0 where all was done or help was
-//! asked for, 1 where a file or a merge was refused, 2 where the words are no command, 3 where input or output failed,
-//! and 4 where memory did.
+//! `check FILE...` tells of each file whether it is accepted; `dump FILE` lists its classes; `normalise FILE OUT` writes the
+//! canonical form of FILE to OUT; `merge --out OUT FILE...` writes the canonical form of all classes of the files to OUT,
+//! under the caps of `--max-types` and its like, with `--fan N` by merging N at a time, and with `--strip` without debug
+//! programs and source texts. The status is 0 where all was done or help was asked for, 1 where a file or a merge was
+//! refused, 2 where the words are no command, 3 where input or output failed, and 4 where memory did.
 #![tactic(auto)]
 
 mod files;
@@ -44,9 +44,19 @@ fn start<R: Files + Print + Eprint + Env>(
     }
 }
 
-fn run(rt: &HostRuntime) -> io::Result<u8> {
-    let words: Vec<String> = env::args(rt)?.collect(rt.alloc())?;
-    Ok(start(rt, rt.alloc(), words.as_slice())?)
+// Does what the command line asks for, and answers the exit status.
+fn run(rt: &HostRuntime) -> Result<u8, AllocError> {
+    match env::args(rt) {
+        Ok(args) => {
+            let words: Vec<String> = args.collect(rt.alloc())?;
+            start(rt, rt.alloc(), words.as_slice())
+        }
+        Err(error) if error.kind() == io::ErrorKind::InvalidData => {
+            let _ = eprintln!(rt; "dexkit: an argument is not UTF-8");
+            Ok(NO_COMMAND)
+        }
+        Err(_) => Err(AllocError),
+    }
 }
 
 fn main(rt: HostRuntime) -> ExitCode {

@@ -1,6 +1,6 @@
 //! Classes of one name: one of each name is kept, and a name of unlike classes is found.
 
-ghost use Rattle.std.specs.Prelude.{◌≡◌, ◌↔◌, ◌<◌, ◌++◌, ◌∷◌, [], ℕ, Option, Some, None, All, IfOk, OnOk, IsTrue, MatchOption, length, map, slice_index_or};
+ghost use Rattle.std.specs.Prelude.{◌≡◌, ◌↔◌, ◌<◌, ◌++◌, ◌∷◌, [], ℕ, Option, Some, None, IfOk, OnOk, IsTrue, MatchOption, length, map};
 ghost use Rattle.dexspec.specs.Lists.{present};
 ghost use Rattle.dexpool.specs.Numberings.{AreIn};
 ghost use Rattle.dexclass.specs.Parents.{ArePlaces};

@@ -24,6 +24,16 @@ const UNUSED_BESIDE_A: &str = "\
      0000010000008c0000000220000005000000ac0000000010000001000000d0000000\
     ";
 
+/// The same class with the source text `A.java`.
+const SOURCE_OF_A: &str = "\
+     6465780a30333500e21abf660aafadbd401f901b7f6d6807ed06279bb605322a140100007000000078563412000000000000\
+     0000c80000000300000070000000020000007c00000000000000000000000000000000000000000000000000000001000000\
+     8400000070000000a4000000a4000000ac000000b10000000100000002000000000000000100000001000000000000000000\
+     000000000000000000000000000006412e6a61766100034c413b00124c6a6176612f6c616e672f4f626a6563743b00000000\
+     0600000000000000010000000000000001000000030000007000000002000000020000007c00000006000000010000008400\
+     00000220000003000000a40000000010000001000000c8000000\
+    ";
+
 /// Where the first file has the flags of its class.
 const FLAGS: usize = 132;
 
@@ -35,6 +45,11 @@ pub(crate) fn letter_a(alloc: Global) -> Option<Vec<u8>> {
 /// The file of `LA;` with three texts that nothing uses.
 pub(crate) fn unused_beside_a(alloc: Global) -> Option<Vec<u8>> {
     hex::decode(alloc, UNUSED_BESIDE_A).ok()
+}
+
+/// The file of `LA;` with a source text.
+pub(crate) fn source_of_a(alloc: Global) -> Option<Vec<u8>> {
+    hex::decode(alloc, SOURCE_OF_A).ok()
 }
 
 /// The file of `LA;` with the flags 0x11.

@@ -1,8 +1,10 @@
-//! Normalising, checking and merging over devices that move few bytes, or fail.
+//! Normalising, checking, listing and merging over devices that move few bytes, or fail.
 
-use crate::files::{cut_a, final_a, letter_a, unused_beside_a};
+use crate::files::{cut_a, final_a, letter_a, source_of_a, unused_beside_a};
 use crate::scripts::{Script, Scripted, WHOLE, by, failing};
-use dexcmd::{RunFault, check_run, explain, merge_run, normalise_run};
+use dexcmd::{
+    MergeCause, RunFault, check_run, dump_run, explain, merge_run, merge_strip_run, normalise_run,
+};
 use dexhead::{Device, Sink, Source};
 use dexmerge::{Caps, Plan};
 use std::alloc::Global;
@@ -122,6 +124,46 @@ fn a_writer_of_normalising_fails_at_each_call(rt: HostRuntime) {
     }
 }
 
+// Lists a file.
+fn listed(alloc: Global, file: &[u8], reads: Script, writes: Script) -> Ran<()> {
+    let mut input = Device::new(Scripted::new(file, reads));
+    let mut out = Device::new(Scripted::new(Vec::new(alloc), writes));
+    let answer = dump_run(alloc, &mut input, &mut out);
+    let read_failed = Source::failed(&input);
+    ended(answer, (input.into_inner().calls, read_failed), out)
+}
+
+const LISTING: &[u8] = b"class LA; flags=0x1(public) super=Ljava/lang/Object;\n";
+
+#[test]
+fn a_file_is_listed(rt: HostRuntime) {
+    let file = letter_a(rt.alloc());
+    assert!(rt;
+        file.is_some_and(|file| is_done(&listed(rt.alloc(), &file, by(7), by(5)), LISTING))
+    );
+}
+
+// Whether the fault of each device is told, and that the file is refused.
+fn faults_of_a_listing_are_told(alloc: Global) -> Option<bool> {
+    let (file, cut) = (letter_a(alloc)?, cut_a(alloc)?);
+    let unread = listed(alloc, &file, failing(100, 1), WHOLE);
+    let unwritten = listed(alloc, &file, WHOLE, failing(5, 2));
+    let refused = listed(alloc, &cut, WHOLE, WHOLE);
+    Some(
+        matches!(unread.answer, Err(RunFault::Read(0)))
+            && unread.writes == 0
+            && matches!(unwritten.answer, Err(RunFault::Write))
+            && LISTING.starts_with(unwritten.written.as_slice())
+            && matches!(refused.answer, Err(RunFault::Input(0, refusal)) if refusal.number == 4)
+            && refused.writes == 0,
+    )
+}
+
+#[test]
+fn a_listing_tells_its_faults(rt: HostRuntime) {
+    assert!(rt; faults_of_a_listing_are_told(rt.alloc()) == Some(true));
+}
+
 // Checks files of these names, each read as is said for it.
 fn checked(alloc: Global, files: &[(&str, &[u8], Script)], writes: Script) -> Option<Ran<u8>> {
     let mut names = Vec::new(alloc);
@@ -191,11 +233,13 @@ fn a_writer_of_checking_fails_at_each_call(rt: HostRuntime) {
     }
 }
 
-// Merges two files, read as is said for each, by the plan of leaves with these numbers.
+// Merges two files, read as is said for each, by the plan of leaves with these numbers, and strips what comes out where
+// it is to be.
 fn merged(
     alloc: Global,
     files: [(&[u8], Script); 2],
     leaves: [usize; 2],
+    is_stripped: bool,
     writes: Script,
 ) -> Option<Ran<()>> {
     let parts = Vec::from_array(alloc, [Plan::Leaf(leaves[0]), Plan::Leaf(leaves[1])]).ok()?;
@@ -204,13 +248,12 @@ fn merged(
         inputs.push(Device::new(Scripted::new(file, reads))).ok()?;
     }
     let mut out = Device::new(Scripted::new(Vec::new(alloc), writes));
-    let answer = merge_run(
-        alloc,
-        inputs.as_mut_slice(),
-        &Plan::Node(parts),
-        &Caps::greatest(),
-        &mut out,
-    );
+    let (plan, caps) = (Plan::Node(parts), Caps::greatest());
+    let answer = if is_stripped {
+        merge_strip_run(alloc, inputs.as_mut_slice(), &plan, &caps, &mut out)
+    } else {
+        merge_run(alloc, inputs.as_mut_slice(), &plan, &caps, &mut out)
+    };
     let read_failed = inputs.iter().any(Source::failed);
     let mut reads: usize = 0;
     for input in inputs {
@@ -223,7 +266,7 @@ fn merged(
 fn both(alloc: Global, reads: [Script; 2], leaves: [usize; 2], writes: Script) -> Option<Ran<()>> {
     let (first, second) = (letter_a(alloc)?, unused_beside_a(alloc)?);
     let files = [(first.as_slice(), reads[0]), (second.as_slice(), reads[1])];
-    merged(alloc, files, leaves, writes)
+    merged(alloc, files, leaves, false, writes)
 }
 
 // Whether the writer failed and is told, with as many bytes of the canonical file before as there were calls; or, where
@@ -278,7 +321,7 @@ fn cut_and_failing(alloc: Global, is_cut_first: bool) -> Option<Ran<()>> {
     } else {
         [whole, cut]
     };
-    merged(alloc, files, [0, 1], WHOLE)
+    merged(alloc, files, [0, 1], false, WHOLE)
 }
 
 #[test]
@@ -309,7 +352,7 @@ fn a_bad_plan_is_told_before_a_reader_is_called(rt: HostRuntime) {
 fn conflict_line(alloc: Global) -> Option<String> {
     let (first, second) = (letter_a(alloc)?, final_a(alloc)?);
     let files = [(first.as_slice(), WHOLE), (second.as_slice(), WHOLE)];
-    let Ran { answer, writes, .. } = merged(alloc, files, [1, 0], WHOLE)?;
+    let Ran { answer, writes, .. } = merged(alloc, files, [1, 0], false, WHOLE)?;
     let Err(RunFault::Merge(cause)) = answer else {
         return None;
     };
@@ -324,4 +367,23 @@ fn conflict_line(alloc: Global) -> Option<String> {
 fn a_conflict_is_told(rt: HostRuntime) {
     let line = conflict_line(rt.alloc());
     assert!(rt; line.is_some_and(|line| line.as_str() == "dexkit: conflict LA;"));
+}
+
+// Whether two equal files with a source text are merged and stripped to the file that has none, and one with and one
+// without it are a conflict, as they are where nothing is stripped.
+fn is_stripped_behind_the_merge(alloc: Global) -> Option<bool> {
+    let (with, without) = (source_of_a(alloc)?, letter_a(alloc)?);
+    let (with, bare) = ((with.as_slice(), WHOLE), (without.as_slice(), WHOLE));
+    let equal = merged(alloc, [with, with], [1, 0], true, WHOLE)?;
+    let unlike = merged(alloc, [with, bare], [0, 1], true, WHOLE)?;
+    Some(
+        is_done(&equal, &without)
+            && unlike.writes == 0
+            && matches!(unlike.answer, Err(RunFault::Merge(MergeCause::Conflict(_)))),
+    )
+}
+
+#[test]
+fn a_merge_is_judged_before_it_is_stripped(rt: HostRuntime) {
+    assert!(rt; is_stripped_behind_the_merge(rt.alloc()) == Some(true));
 }

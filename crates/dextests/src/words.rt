@@ -29,19 +29,20 @@ fn words_are_read_as_jobs(rt: HostRuntime) {
             "check a.dex b a.dex",
             "Check([\"a.dex\", \"b\", \"a.dex\"])",
         ),
+        ("dump a.dex", "Dump(\"a.dex\")"),
         ("normalise a.dex a.dex", "Normalise(\"a.dex\", \"a.dex\")"),
         ("normalise -- -a -b", "Normalise(\"-a\", \"-b\")"),
         (
             "merge --out out.dex a.dex b a.dex",
-            "Merge(\"out.dex\", None, Caps { types: 65535, protos: 65535, fields: 65536, methods: 65536, short_strings: 65536, weight: 1073741824 }, [\"a.dex\", \"b\", \"a.dex\"])",
+            "Merge(\"out.dex\", None, Caps { types: 65535, protos: 65535, fields: 65536, methods: 65536, short_strings: 65536, weight: 1073741824 }, false, [\"a.dex\", \"b\", \"a.dex\"])",
         ),
         (
             "merge a --max-types=0 --max-protos 1 --fan 65535 --max-fields 2 --out=o --max-methods 3 --max-weight 4 b",
-            "Merge(\"o\", Some(65535), Caps { types: 0, protos: 1, fields: 2, methods: 3, short_strings: 65536, weight: 4 }, [\"a\", \"b\"])",
+            "Merge(\"o\", Some(65535), Caps { types: 0, protos: 1, fields: 2, methods: 3, short_strings: 65536, weight: 4 }, false, [\"a\", \"b\"])",
         ),
         (
-            "merge --fan 2 --max-types 65535 --max-protos 65535 --max-fields 65536 --max-methods 65536 --max-weight 1073741824 --out o a",
-            "Merge(\"o\", Some(2), Caps { types: 65535, protos: 65535, fields: 65536, methods: 65536, short_strings: 65536, weight: 1073741824 }, [\"a\"])",
+            "merge --fan 2 --max-types 65535 --max-protos 65535 --max-fields 65536 --max-methods 65536 --max-weight 1073741824 --strip --out o a",
+            "Merge(\"o\", Some(2), Caps { types: 65535, protos: 65535, fields: 65536, methods: 65536, short_strings: 65536, weight: 1073741824 }, true, [\"a\"])",
         ),
     ] {
         assert!(rt; are_read(rt.alloc(), words, job) == Some(true), "{words}");
@@ -62,7 +63,9 @@ fn other_words_are_refused(rt: HostRuntime) {
         "normalise a.dex",
         "normalise a.dex b.dex c.dex",
         "check --fan a.dex",
-        "dump a.dex",
+        "dump",
+        "dump a.dex b.dex",
+        "dump --strip a.dex",
         "merge --out o",
         "merge a b",
         "merge --out o --out o a",
@@ -83,10 +86,13 @@ fn other_words_are_refused(rt: HostRuntime) {
         "merge --out o --max-weight 1073741825 a",
         "merge --out o --max-weight 2 --max-weight 2 a",
         "merge --out o --max-short-strings 1 a",
+        "merge --out o --strip --strip a",
+        "merge --out o --strip=yes a",
         "merge --out o --max 1 a",
     ] {
         assert!(rt; status(rt.alloc(), words) == Some(2), "{words}");
     }
-    let help = status(rt.alloc(), "merge --help");
-    assert!(rt; help == Some(0));
+    for words in ["--help", "--version", "check --help", "merge -h"] {
+        assert!(rt; status(rt.alloc(), words) == Some(0), "{words}");
+    }
 }

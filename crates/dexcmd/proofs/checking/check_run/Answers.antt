@@ -2,7 +2,8 @@ use Rattle.std.proofs.Common.{arith, ◌≡◌, ◌<◌, ◌≤◌, ◌+◌, ref
 use Rattle.std.proofs.lemmas.List.{length-map, drop-set-lt}
 use Rattle.std.proofs.lemmas.List.Elements.{All-set}
 use Rattle.std.proofs.lemmas.Grind.{drop_more_same}
-use Rattle.dexcmd.specs.Inputs.{bytes_read}
+use Rattle.dexcmd.specs.Inputs.{bytes_read, IsReadNoFurther}
+use Rattle.dexcmd.proofs.Moved.{none_moved, moved_now}
 use Rattle.dexcmd.proofs.Checked.{none_checked, checked_more, begun, begun_more, right_now, line_is}
 use Rattle.dexcmd.proofs.checking.check_run.Goals as goal
 
@@ -12,6 +13,7 @@ loop-i-init g c = record {
   writer = c.requires.out;
   tells = λ t. t;
   rest = refl;
+  moved = none_moved _ _ _ c.args.inputs.now;
   checked = none_checked _ _ _ _;
 }
 
@@ -64,6 +66,8 @@ loop-i-preserved g c =
       writer = c.in-Ok-write_whole.ensures.works;
       tells = λ w. c.in-Ok-write_whole.ensures.tells (c.loop-i.invariant.tells w);
       rest = rw drop-set-lt (drop_more_same c.loop-i.inputs c.args.inputs.now c.loop-i.i c.loop-i.invariant.rest);
+      moved = moved_now (IsReadNoFurther g.R.Source.tells g.R.Source.to_come g.R.Source.has_failed) c.args.inputs.now c.loop-i.inputs c.loop-i.i c.index-inputs-i.result c.judge.new.input
+          c.loop-i.invariant.moved c.loop-i.invariant.rest now lt c.index-inputs-i.is c.judge.ensures.no_further;
       checked = rw c.status_after-status.ensures (checked_more _ _ (map (λ name. name.now) c.args.names.now) (map (λ input. bytes_read (g.R.Source.to_come input)) c.args.inputs.now) _ _ _ _ c.loop-i.i c.in-Ok.verdict inside same c.loop-i.invariant.checked
           (right_now g.R.Source.tells (λ input. bytes_read (g.R.Source.to_come input)) c.loop-i.inputs c.args.inputs.now c.loop-i.i c.index-inputs-i.result c.in-Ok.verdict
           c.loop-i.invariant.rest now lt c.index-inputs-i.is c.in-Ok.ensures.verdict)
@@ -71,3 +75,31 @@ loop-i-preserved g c =
           (line_is (λ name. name.now) c.args.names.now c.loop-i.i _ c.in-Ok.verdict _ _ named c.as_bytes.ensures.value c.in-Ok-check_line.ensures)
           (λ w. c.in-Ok-write_whole.ensures.written (c.loop-i.invariant.tells w)));
     }
+
+pub returns-in-Err-Read-clause-no_further : goal.returns-in-Err-Read-clause-no_further
+returns-in-Err-Read-clause-no_further g c =
+    let lt : c.loop-i.i < length c.args.inputs.now = omega arith in
+    let now : c.loop-i.i < length c.loop-i.inputs = omega arith in
+    moved_now (IsReadNoFurther g.R.Source.tells g.R.Source.to_come g.R.Source.has_failed) c.args.inputs.now c.loop-i.inputs c.loop-i.i c.index-inputs-i.result c.judge.new.input
+    c.loop-i.invariant.moved c.loop-i.invariant.rest now lt c.index-inputs-i.is c.judge.ensures.no_further
+
+pub returns-in-Err-Memory-clause-no_further : goal.returns-in-Err-Memory-clause-no_further
+returns-in-Err-Memory-clause-no_further g c =
+    let lt : c.loop-i.i < length c.args.inputs.now = omega arith in
+    let now : c.loop-i.i < length c.loop-i.inputs = omega arith in
+    moved_now (IsReadNoFurther g.R.Source.tells g.R.Source.to_come g.R.Source.has_failed) c.args.inputs.now c.loop-i.inputs c.loop-i.i c.index-inputs-i.result c.judge.new.input
+    c.loop-i.invariant.moved c.loop-i.invariant.rest now lt c.index-inputs-i.is c.judge.ensures.no_further
+
+pub returns-in-Err-clause-no_further : goal.returns-in-Err-clause-no_further
+returns-in-Err-clause-no_further g c =
+    let lt : c.loop-i.i < length c.args.inputs.now = omega arith in
+    let now : c.loop-i.i < length c.loop-i.inputs = omega arith in
+    moved_now (IsReadNoFurther g.R.Source.tells g.R.Source.to_come g.R.Source.has_failed) c.args.inputs.now c.loop-i.inputs c.loop-i.i c.index-inputs-i.result c.judge.new.input
+    c.loop-i.invariant.moved c.loop-i.invariant.rest now lt c.index-inputs-i.is c.judge.ensures.no_further
+
+pub returns-in-Err-write_whole-clause-no_further : goal.returns-in-Err-write_whole-clause-no_further
+returns-in-Err-write_whole-clause-no_further g c =
+    let lt : c.loop-i.i < length c.args.inputs.now = omega arith in
+    let now : c.loop-i.i < length c.loop-i.inputs = omega arith in
+    moved_now (IsReadNoFurther g.R.Source.tells g.R.Source.to_come g.R.Source.has_failed) c.args.inputs.now c.loop-i.inputs c.loop-i.i c.index-inputs-i.result c.judge.new.input
+    c.loop-i.invariant.moved c.loop-i.invariant.rest now lt c.index-inputs-i.is c.judge.ensures.no_further

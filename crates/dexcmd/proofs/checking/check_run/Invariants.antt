@@ -1,6 +1,7 @@
 use Rattle.std.proofs.Common.{◌≡◌, false, map, drop, take}
 use Rattle.std.specs.Prelude.{All}
-use Rattle.dexcmd.specs.Inputs.{bytes_read}
+use Rattle.std.specs.List.{AllZip}
+use Rattle.dexcmd.specs.Inputs.{bytes_read, IsReadNoFurther}
 use Rattle.dexcmd.specs.Runs.{AreChecked, AllWork}
 use Rattle.dexcmd.proofs.checking.check_run.Given as goal
 
@@ -11,6 +12,7 @@ invariant-loop-i g l = record {
   writer : g.W.Sink.has_failed l.out ≡ false;
   tells : g.W.Sink.tells l.fn.out → g.W.Sink.tells l.out;
   rest : drop l.i l.inputs ≡ drop l.i l.fn.inputs;
+  moved : AllZip (IsReadNoFurther g.R.Source.tells g.R.Source.to_come g.R.Source.has_failed) l.fn.inputs l.inputs;
   checked : AreChecked (All g.R.Source.tells l.fn.inputs) (g.W.Sink.tells l.fn.out) (map (λ name. name.now) l.names)
       (take l.i (map (λ input. bytes_read (g.R.Source.to_come input)) l.fn.inputs)) (g.W.Sink.taken l.fn.out) (g.W.Sink.taken l.out) l.status;
 }

@@ -1,4 +1,4 @@
-use Rattle.std.specs.Prelude.{◌≡◌, ◌++◌, string_bytes}
+use Rattle.std.specs.Prelude.{◌≡◌, string_bytes}
 use Rattle.dexcmd.specs.Lines.{class_text}
 use Rattle.dexcmd.proofs.explaining.class_text.Given as goal
 

@@ -1,4 +1,4 @@
-use Rattle.std.proofs.Common.{◌≡◌, ◌∙◌, inl, inr, ◌<◌, ◌≢◌, ◌≤◌, ◌+◌, ◌∷◌, ◌++◌, ℕ, List, [], length, get_or, map, refl, sym, ap, subst, arith, vec_len, length-append, Vec, Global}
+use Rattle.std.proofs.Common.{◌≡◌, ◌∙◌, inl, inr, ◌<◌, ◌≢◌, ◌∷◌, ◌++◌, ℕ, List, [], length, get_or, map, refl, sym, ap, subst, arith, vec_len, length-append, Vec, Global}
 use Rattle.std.proofs.lemmas.List.{length-map, get_or-map, map-append}
 use Rattle.std.specs.Prelude.{Bool, true, false, ◌==◌, zero, suc}
 use Rattle.std.proofs.lemmas.Bool.{cases_lt, eqb-true, false≢true}
@@ -8,7 +8,6 @@ use Rattle.dexspec.specs.Merging as merging
 use Rattle.dexmerge.specs.declared.plan.Plan.{Plan}
 use Rattle.dexmerge.specs.declared.plan.Plan.TheVariants as variants
 use Rattle.dexmerge.specs.Plans.{plan_of, plans_of}
-use Rattle.dexcmd.specs.Fans.{in_groups}
 use Rattle.dexmerge.proofs.PlanForms.{node_is}
 use Rattle.dexcmd.proofs.Fanned.{IsCut, same_cut, one_more, group_more, last_closed, nothing_open}
 use Rattle.dexcmd.proofs.fanning.grouped.Goals as goal

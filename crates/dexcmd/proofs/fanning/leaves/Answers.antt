@@ -1,4 +1,4 @@
-use Rattle.std.proofs.Common.{◌≡◌, ◌∙◌, ◌++◌, ◌∷◌, [], List, map, sym, ap, refl}
+use Rattle.std.proofs.Common.{◌∙◌, ◌++◌, ◌∷◌, [], List, map, sym, ap, refl}
 use Rattle.std.proofs.lemmas.List.{map-append}
 use Rattle.dexspec.specs.Merging as merging
 use Rattle.dexmerge.specs.declared.plan.Plan.TheVariants as variants

@@ -1,7 +1,7 @@
-use Rattle.std.proofs.Common.{◌≡◌, length, map, drop, take}
-use Rattle.std.specs.Prelude.{All}
-use Rattle.dexcmd.specs.Inputs.{bytes_read}
-use Rattle.dexcmd.specs.Merges.{AreReadAs}
+use Rattle.std.proofs.Common.{◌≡◌, drop, take}
+use Rattle.std.specs.List.{AllZip}
+use Rattle.dexcmd.specs.Inputs.{IsReadNoFurther}
+use Rattle.dexcmd.specs.Merges.{AreReadFrom}
 use Rattle.dexcmd.specs.Runs.{AllWork}
 use Rattle.dexcmd.proofs.merging.read_each.Given as goal
 
@@ -10,5 +10,6 @@ abbrev pub invariant-loop-i : goal.invariant-loop-i
 invariant-loop-i g l = record {
   readers : AllWork g.R.Source.has_failed l.inputs;
   rest : drop l.i l.inputs ≡ drop l.i l.fn.inputs;
-  read : AreReadAs (All g.R.Source.tells l.fn.inputs) (take l.i (map (λ input. bytes_read (g.R.Source.to_come input)) l.fn.inputs)) l.programs.items;
+  moved : AllZip (IsReadNoFurther g.R.Source.tells g.R.Source.to_come g.R.Source.has_failed) l.fn.inputs l.inputs;
+  read : AreReadFrom g.R.Source.tells g.R.Source.to_come (take l.i l.fn.inputs) l.programs.items;
 }

@@ -4,7 +4,7 @@ use crate::fault::VectorFault;
 use crate::file::read_file;
 use crate::kind::Kind;
 use crate::outcome::Outcome;
-use crate::{check, dump, merge, normalise, regroup, slices, strip, symbol, weight};
+use crate::{check, cuts, dump, merge, normalise, regroup, slices, strip, symbol, weight};
 use std::path::Path;
 use std::rt::Files;
 
@@ -20,6 +20,10 @@ pub fn run_case<R: Files + AllocGlobal>(
         Kind::Check => {
             let (bytes, right) = file_and_answer(rt, folder, case)?;
             Ok((kind, check::run(rt.alloc(), &bytes, right)?))
+        }
+        Kind::Cuts => {
+            let (bytes, asked) = file_and_answer(rt, folder, case)?;
+            Ok((kind, cuts::run(rt.alloc(), &bytes, asked)?))
         }
         Kind::Symbol => {
             let (bytes, asked) = file_and_answer(rt, folder, case)?;

@@ -27,6 +27,8 @@ pub enum Kind {
     Symbol,
     /// A file that is accepted or refused.
     Check,
+    /// A file that is refused however it is cut.
+    Cuts,
     /// The weight of a file's classes.
     Weight,
     /// The canonical file.
@@ -69,6 +71,7 @@ impl Kind {
         match word {
             "symbol" => Kind::Symbol,
             "check" => Kind::Check,
+            "cuts" => Kind::Cuts,
             "weight" => Kind::Weight,
             "normalise" => Kind::Normalise,
             "slices" => Kind::Slices,
@@ -96,6 +99,7 @@ impl fmt::Display for Kind {
             Kind::Flags => "flags",
             Kind::Symbol => "symbol",
             Kind::Check => "check",
+            Kind::Cuts => "cuts",
             Kind::Weight => "weight",
             Kind::Normalise => "normalise",
             Kind::Slices => "slices",

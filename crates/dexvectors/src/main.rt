@@ -11,6 +11,7 @@
 
 mod calls;
 mod check;
+mod cuts;
 mod dump;
 mod fault;
 mod file;

@@ -1,0 +1,24 @@
+//! Causes compared.
+
+use dexcmd::MergeCause;
+use dexmerge::MergeFault;
+
+/// Whether both are the same cause.
+pub fn is_same(cause: &MergeFault, other: &MergeFault) -> bool {
+    match (cause, other) {
+        (MergeFault::Conflict(name), MergeFault::Conflict(other))
+        | (MergeFault::Cycle(name), MergeFault::Cycle(other)) => name.text() == other.text(),
+        (MergeFault::Cap(cap), MergeFault::Cap(other)) => cap == other,
+        _ => false,
+    }
+}
+
+/// Whether a run told this cause.
+pub fn is_told(cause: &MergeFault, told: &MergeCause) -> bool {
+    match (cause, told) {
+        (MergeFault::Conflict(name), MergeCause::Conflict(told))
+        | (MergeFault::Cycle(name), MergeCause::Cycle(told)) => name.text() == told.text(),
+        (MergeFault::Cap(cap), MergeCause::Cap(told)) => cap == told,
+        _ => false,
+    }
+}

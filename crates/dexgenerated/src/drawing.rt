@@ -1,0 +1,179 @@
+//! Merges that are drawn: files, a plan and caps.
+
+use crate::fault::Trouble;
+use crate::files::picked;
+use crate::needs::{CAPS, caps_of, needed, with_cap};
+use crate::plans::{DrawnPlan, draw_plan};
+use dexclass::Program;
+use dexmerge::{Caps, MergeFault, merge};
+use rand::RngExt;
+use rand::seq::{IndexedRandom, SliceRandom};
+use rand_pcg::Pcg32;
+use std::alloc::{AllocError, Global};
+
+/// The most files of a merge.
+const MOST_FILES: usize = 20;
+
+// A generator gives another stream for each such number.
+const STREAM: u64 = 54;
+
+/// What is known of a merge before it is tried under its caps.
+#[derive(Drop)]
+pub enum Known {
+    /// Nothing.
+    Nothing,
+    /// The files merge under these caps.
+    Merges,
+    /// Only this cap is exceeded.
+    Exceeds(u8),
+    /// The files are refused for this cause under all caps.
+    Refused(MergeFault),
+}
+
+/// A merge that was drawn.
+#[derive(Drop)]
+pub struct Drawn {
+    /// The numbers of the files among those to draw from. Some come twice.
+    pub files: Vec<usize>,
+    /// The same in another order.
+    pub reordered: Vec<usize>,
+    pub plan: DrawnPlan,
+    pub caps: Caps,
+    pub known: Known,
+}
+
+// The number of a file, often one near the file that was drawn last, or one that was drawn before.
+fn draw_file(rng: &mut Pcg32, files: &[usize], count: usize) -> usize {
+    if count == 0 {
+        return 0;
+    }
+    match files.last() {
+        Some(_) if rng.random_ratio(1, 6) => files.choose(rng).map_or(0, |file| *file),
+        Some(last) if rng.random_ratio(1, 2) => {
+            last.saturating_add(rng.random_range(0..8)) % count
+        }
+        _ => rng.random_range(0..count),
+    }
+}
+
+/// Which files are left out of those that are drawn.
+#[derive(Clone, Copy)]
+enum LeftOut {
+    /// None.
+    None,
+    /// Those with a class that is unlike one before.
+    Conflicts,
+    /// Those that cannot be merged with those before.
+    Unmerged,
+}
+
+impl LeftOut {
+    fn draw(rng: &mut Pcg32) -> LeftOut {
+        match rng.random_range(0..8) {
+            0 => LeftOut::None,
+            1 | 2 => LeftOut::Conflicts,
+            _ => LeftOut::Unmerged,
+        }
+    }
+
+    // Whether programs of which the last is new are kept.
+    fn keeps(self, alloc: Global, parts: &[&Program<'_>]) -> Result<bool, AllocError> {
+        match (self, merge(alloc, parts, &Caps::greatest())) {
+            (_, Err(MergeFault::Memory)) => Err(AllocError),
+            (LeftOut::None, _) | (_, Ok(_)) => Ok(true),
+            (LeftOut::Conflicts, Err(MergeFault::Conflict(_))) => Ok(false),
+            (LeftOut::Conflicts, Err(_)) => Ok(true),
+            (LeftOut::Unmerged, Err(_)) => Ok(false),
+        }
+    }
+}
+
+// The numbers of files.
+fn draw_files(
+    alloc: Global,
+    rng: &mut Pcg32,
+    programs: &[Program<'_>],
+) -> Result<Vec<usize>, AllocError> {
+    let count = rng.random_range(0..=MOST_FILES);
+    let left_out = LeftOut::draw(rng);
+    let mut files = Vec::new(alloc);
+    for _ in 0..count.saturating_mul(2) {
+        if files.len() >= count {
+            break;
+        }
+        files.push(draw_file(rng, &files, programs.len()))?;
+        if !left_out.keeps(alloc, &picked(alloc, programs, &files)?)? {
+            files.pop();
+        }
+    }
+    Ok(files)
+}
+
+// Caps at and around these numbers, which are what the files need, and what is then known.
+fn draw_caps(rng: &mut Pcg32, needed: [u32; CAPS]) -> (Caps, Known) {
+    let place: usize = rng.random_range(0..CAPS);
+    let need = needed.get(place).map_or(0, |need| *need);
+    match rng.random_range(0..6) {
+        0 => (Caps::greatest(), Known::Merges),
+        1 => (caps_of(needed), Known::Merges),
+        2 => (caps_of(with_cap(place, need)), Known::Merges),
+        3 if need > 0 => {
+            let mut numbers = needed;
+            if let Some(cap) = numbers.get_mut(place) {
+                *cap = need - 1;
+            }
+            (caps_of(numbers), Known::Exceeds(place as u8 + 1))
+        }
+        4 => {
+            let mut around = needed;
+            for cap in &mut around {
+                let more: u32 = rng.random_range(0..4);
+                *cap = cap.saturating_add(more).saturating_sub(1);
+            }
+            (caps_of(around), Known::Nothing)
+        }
+        _ => {
+            let mut below = needed;
+            for cap in &mut below {
+                *cap = rng.random_range(0..=*cap);
+            }
+            (caps_of(below), Known::Nothing)
+        }
+    }
+}
+
+// Caps under which files that cannot be merged are tried.
+fn draw_small_caps(rng: &mut Pcg32) -> Caps {
+    if rng.random_ratio(1, 2) {
+        return Caps::greatest();
+    }
+    let mut small = [0; CAPS];
+    for cap in &mut small {
+        *cap = rng.random_range(0..40);
+    }
+    caps_of(small)
+}
+
+/// The merge of this number.
+///
+/// Error: `Memory`.
+pub fn draw(alloc: Global, number: u64, programs: &[Program<'_>]) -> Result<Drawn, Trouble> {
+    let mut rng = Pcg32::new(number, STREAM);
+    let files = draw_files(alloc, &mut rng, programs)?;
+    let mut reordered = files.clone()?;
+    reordered.as_mut_slice().shuffle(&mut rng);
+    let plan = draw_plan(alloc, &mut rng, files.len())?;
+    let parts = picked(alloc, programs, &files)?;
+    let (caps, known) = match merge(alloc, &parts, &Caps::greatest()) {
+        Ok(program) => draw_caps(&mut rng, needed(alloc, &parts, &program)?),
+        Err(MergeFault::Memory) => return Err(Trouble::Memory),
+        Err(cause) => (draw_small_caps(&mut rng), Known::Refused(cause)),
+    };
+    Ok(Drawn {
+        files,
+        reordered,
+        plan,
+        caps,
+        known,
+    })
+}

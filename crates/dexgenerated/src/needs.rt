@@ -1,0 +1,72 @@
+//! What files need of each cap.
+
+use dexclass::Program;
+use dexmerge::{Caps, MergeFault, merge};
+use dexpool::SymbolKind;
+use std::alloc::{AllocError, Global};
+
+/// How many caps there are.
+pub const CAPS: usize = 6;
+
+// The cap of the texts that a `const-string` names.
+const SHORT_STRINGS: usize = 4;
+
+// The greatest caps.
+const GREATEST: [u32; CAPS] = [65_535, 65_535, 65_536, 65_536, 65_536, 1 << 30];
+
+/// The caps of these numbers, or the greatest where one is above that.
+pub fn caps_of(numbers: [u32; CAPS]) -> Caps {
+    let [types, protos, fields, methods, short_strings, weight] = numbers;
+    Caps::new(types, protos, fields, methods, short_strings, weight).unwrap_or(Caps::greatest())
+}
+
+/// The greatest caps, with this number in the place of one.
+pub fn with_cap(place: usize, number: u32) -> [u32; CAPS] {
+    let mut numbers = GREATEST;
+    if let Some(cap) = numbers.get_mut(place) {
+        *cap = number;
+    }
+    numbers
+}
+
+// How many symbols of a kind a program mentions.
+fn mentioned(program: &Program<'_>, kind: SymbolKind) -> u32 {
+    u32::try_from(program.numbering().count(kind)).unwrap_or(u32::MAX)
+}
+
+// The least cap of the texts that a `const-string` names, under which the parts of a program merge.
+fn short_strings(
+    alloc: Global,
+    parts: &[&Program<'_>],
+    program: &Program<'_>,
+) -> Result<u32, AllocError> {
+    let (mut least, mut most) = (0, mentioned(program, SymbolKind::Text));
+    for _ in 0..32 {
+        if least >= most {
+            break;
+        }
+        let middle = least + (most - least) / 2;
+        match merge(alloc, parts, &caps_of(with_cap(SHORT_STRINGS, middle))) {
+            Ok(_) => most = middle,
+            Err(MergeFault::Memory) => return Err(AllocError),
+            Err(_) => least = middle + 1,
+        }
+    }
+    Ok(least)
+}
+
+/// The least caps under which the parts of a program merge.
+pub fn needed(
+    alloc: Global,
+    parts: &[&Program<'_>],
+    program: &Program<'_>,
+) -> Result<[u32; CAPS], AllocError> {
+    Ok([
+        mentioned(program, SymbolKind::Typ),
+        mentioned(program, SymbolKind::Proto),
+        mentioned(program, SymbolKind::Field),
+        mentioned(program, SymbolKind::Method),
+        short_strings(alloc, parts, program)?,
+        u32::try_from(program.weight()).unwrap_or(u32::MAX),
+    ])
+}

@@ -1,0 +1,72 @@
+//! Files cut to each of some lengths: `cuts FILE FROM TO MENDED refused NUMBER PLACE`, each of which is refused so.
+//! Mended is `nothing`; or `size`, the length in the header and the two sums; or `data`, the length of the data too.
+
+use crate::check;
+use crate::fault::VectorFault;
+use crate::outcome::Outcome;
+use dexhead::set_sums;
+use std::alloc::Global;
+
+/// What is made right again in the header of a file that is cut.
+#[derive(Clone, Copy)]
+enum Mended {
+    /// Nothing.
+    Nothing,
+    /// The length, and the two sums.
+    Size,
+    /// The length of the data, the length, and the two sums.
+    Data,
+}
+
+impl Mended {
+    fn of_word(word: &str) -> Option<Mended> {
+        match word {
+            "nothing" => Some(Mended::Nothing),
+            "size" => Some(Mended::Size),
+            "data" => Some(Mended::Data),
+            _ => None,
+        }
+    }
+
+    // Makes it right in a file.
+    fn mend(self, file: &mut [u8]) {
+        if file.len() < 112 {
+            return;
+        }
+        match self {
+            Mended::Nothing => return,
+            Mended::Size => {}
+            Mended::Data => {
+                let data_off = u32::from_le_bytes([file[108], file[109], file[110], file[111]]);
+                let data_size = (file.len() as u32).saturating_sub(data_off);
+                file[104..108].copy_from_slice(&data_size.to_le_bytes());
+            }
+        }
+        let size = file.len() as u32;
+        file[32..36].copy_from_slice(&size.to_le_bytes());
+        set_sums(file);
+    }
+}
+
+/// Runs a line, given the file and what stands in the line behind its name: how it goes.
+pub fn run(alloc: Global, bytes: &[u8], case: &str) -> Result<Outcome, VectorFault> {
+    let (first, rest) = case.split_once(' ').ok_or(VectorFault::Form)?;
+    let (last, rest) = rest.split_once(' ').ok_or(VectorFault::Form)?;
+    let (mended, right) = rest.split_once(' ').ok_or(VectorFault::Form)?;
+    let (first, last): (usize, usize) = (first.parse()?, last.parse()?);
+    let mended = Mended::of_word(mended).ok_or(VectorFault::Form)?;
+    for len in first..=last {
+        let front = bytes.get(..len).ok_or(VectorFault::Form)?;
+        let mut cut = Vec::from_slice(alloc, front)?;
+        mended.mend(&mut cut);
+        match check::run(alloc, &cut, right)? {
+            Outcome::Passed => continue,
+            Outcome::Failed(answered) => {
+                let answered = format!(in alloc; "cut to {len} bytes: {answered}")?;
+                return Ok(Outcome::Failed(answered));
+            }
+            Outcome::Unserved => return Ok(Outcome::Unserved),
+        }
+    }
+    Ok(Outcome::Passed)
+}

@@ -33,16 +33,19 @@ impl Mended {
         if file.len() < 112 {
             return;
         }
+        let size = match u32::try_from(file.len()) {
+            Ok(size) => size,
+            Err(_) => return,
+        };
         match self {
             Mended::Nothing => return,
             Mended::Size => {}
             Mended::Data => {
                 let data_off = u32::from_le_bytes([file[108], file[109], file[110], file[111]]);
-                let data_size = (file.len() as u32).saturating_sub(data_off);
+                let data_size = size.saturating_sub(data_off);
                 file[104..108].copy_from_slice(&data_size.to_le_bytes());
             }
         }
-        let size = file.len() as u32;
         file[32..36].copy_from_slice(&size.to_le_bytes());
         set_sums(file);
     }

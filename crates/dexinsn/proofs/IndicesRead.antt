@@ -61,7 +61,7 @@ indices_push us (b ∷ cs) c =
     ap (with_index_at (index_pool (drop b.unit us)) us b) (indices_push us cs c)
     ∙ with_index_append (index_pool (drop b.unit us)) us b (indices_at us cs) (with_index_at (index_pool (drop c.unit us)) us c [])
 
-cuts_more : (cuts : List CutOfCode) (i : ℕ) (d : CutOfCode) → i < length cuts → cuts_of (take (i + 1) cuts) ≡ cuts_of (take i cuts) ++ cut_of (get_or cuts i d) ∷ []
+pub cuts_more : (cuts : List CutOfCode) (i : ℕ) (d : CutOfCode) → i < length cuts → cuts_of (take (i + 1) cuts) ≡ cuts_of (take i cuts) ++ cut_of (get_or cuts i d) ∷ []
 cuts_more cuts i d lt = ap cuts_of (take_more cuts i d lt) ∙ map-append cut_of (take i cuts) (get_or cuts i d ∷ [])
 
 append_nil : {X : Type 0} (xs : List X) → xs ++ [] ≡ xs

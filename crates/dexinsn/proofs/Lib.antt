@@ -22,3 +22,5 @@ pub mod Outcome
 pub mod Starts
 pub mod Leads
 pub mod Once
+pub mod TargetGroups
+pub mod StartBits

@@ -27,11 +27,11 @@ starts_with-below test us cs (pos n) below = absurd (omega (arith, ints))
 starts_with-below test us cs (negsuc n) below = starts_with-negsuc test us cs n
 
 -- equal numbers are equal as places
-int_eq-same : (a k : ℕ) → a ≡ k → int_eq (pos a) (pos k) ≡ true
+pub int_eq-same : (a k : ℕ) → a ≡ k → int_eq (pos a) (pos k) ≡ true
 int_eq-same a k same = grind (arith, ints)
 
 -- other numbers are other places
-int_eq-other : (a k : ℕ) → (a ≡ k → ⊥) → int_eq (pos a) (pos k) ≡ false
+pub int_eq-other : (a k : ℕ) → (a ≡ k → ⊥) → int_eq (pos a) (pos k) ≡ false
 int_eq-other a k other = grind (arith, ints)
 
 -- a test that passes once passes, however often it is asked

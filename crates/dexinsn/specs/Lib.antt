@@ -9,3 +9,4 @@ pub mod Reading
 pub mod Same
 pub mod Listing
 pub mod Fitting
+pub mod LongSwitches

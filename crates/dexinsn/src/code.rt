@@ -73,7 +73,11 @@ pub fn split(alloc: Global, units: &[u16]) -> Result<Vec<Cut>, CodeFault>
     }
     let units = Units::of_numbers(units);
     let marked = Marked::cut(alloc, &units)?;
-    match marked.first_astray() {
+    let astray = match marked.first_astray(alloc) {
+        Ok(astray) => astray,
+        Err(_) => return Err(CodeFault::Memory),
+    };
+    match astray {
         Some(unit) => Err(CodeFault::Target(unit)),
         None => Ok(marked.into_cuts()),
     }

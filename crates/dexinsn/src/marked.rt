@@ -3,6 +3,7 @@ ghost use Rattle.std.proofs.Props.{props};
 ghost use Rattle.dexspec.specs.Opcodes.{units_in};
 ghost use Rattle.dexspec.specs.Pieces.{has_right_targets, ints_in, is_instruction_start, payload_targets, piece_size};
 ghost use Rattle.dexinsn.specs.Opcode.{format_of};
+ghost use Rattle.dexinsn.specs.LongSwitches.{AreLong};
 ghost use Rattle.dexinsn.specs.Payload.{ident_of};
 ghost use Rattle.dexinsn.specs.Props.{AreCut-prop};
 ghost use Rattle.dexinsn.specs.Split.{AreMarked, IsCutFault, IsPieceAt, cut_of, cuts_of, first_astray, lead_right, branches_right, leads_to_payload, passes_at, starts_with};
@@ -11,10 +12,12 @@ use crate::code::{CodeFault, Cut};
 use crate::code_units::Units;
 use crate::format::Format;
 use crate::instruction::branch_offset;
+use crate::long_switches::{LongSwitches, targets_at};
 use crate::payload::PayloadKind;
 use crate::piece::piece_size;
+use crate::start_bits::groups_lead_right;
 use crate::units::{int_at, opcode_in};
-use std::alloc::Global;
+use std::alloc::{AllocError, Global};
 
 // Room for the pieces of so many units is reserved at once.
 const MOST_RESERVED: usize = 4_096;
@@ -82,21 +85,25 @@ impl<'u, 'a> Marked<'u, 'a> {
     }
 
     /// The unit of the first piece with a wrong target.
-    pub(crate) fn first_astray(&self) -> Option<usize>
-        ensures { result ≡ first_astray self.now.units.now (cuts_of self.now.cuts.items) }
+    ///
+    /// Error: the memory was refused.
+    pub(crate) fn first_astray(&self, alloc: Global) -> Result<Option<usize>, AllocError>
+        ensures { IfOk result (λ unit. unit ≡ first_astray self.now.units.now (cuts_of self.now.cuts.items)) }
     {
+        let switches = LongSwitches::find(alloc, self.units, &self.cuts)?;
         for cut in &self.cuts {
-            if !self.has_right_targets(*cut) {
-                return Some(cut.unit);
+            if !self.has_right_targets(&switches, *cut) {
+                return Ok(Some(cut.unit));
             }
         }
-        None
+        Ok(None)
     }
 
     /// Whether the targets of the piece, if it is an instruction that has some, are right.
     #[tactic(auto, using(crate::proofs::Sizes::piece_within))]
-    fn has_right_targets(&self, cut: Cut) -> bool
-        requires { IsPieceAt self.now.units.now (cut_of cut) }
+    fn has_right_targets(&self, switches: &LongSwitches, cut: Cut) -> bool
+        requires piece { IsPieceAt self.now.units.now (cut_of cut) }
+        requires switches { AreLong self.now.units.now (cuts_of self.now.cuts.items) switches.now }
         ensures { result ≡ has_right_targets self.now.units.now (cuts_of self.now.cuts.items) (cut_of cut) }
     {
         let first = self.units.at(cut.unit);
@@ -104,13 +111,14 @@ impl<'u, 'a> Marked<'u, 'a> {
             return true;
         }
         match Format::of(opcode_in(first)) {
-            Some(format) => self.branches_right(cut.unit, format),
+            Some(format) => self.branches_right(switches, cut.unit, format),
             None => true,
         }
     }
 
     /// Whether the instruction at unit `at`, which has this format, leads to nothing or to what it may.
-    fn branches_right(&self, at: usize, format: Format) -> bool
+    fn branches_right(&self, switches: &LongSwitches, at: usize, format: Format) -> bool
+        requires switches { AreLong self.now.units.now (cuts_of self.now.cuts.items) switches.now }
         requires from { at < length self.now.units.now }
         requires within { at + units_in (format_of format) ≤ length self.now.units.now }
         ensures { result ≡ branches_right self.now.units.now (cuts_of self.now.cuts.items) at (format_of format) }
@@ -123,7 +131,7 @@ impl<'u, 'a> Marked<'u, 'a> {
         match format {
             Format::Format31t => {
                 let kind = PayloadKind::led_to_by(opcode_in(self.units.at(at)));
-                self.leads_to_payload(at, kind, target)
+                self.leads_to_payload(switches, at, kind, target)
             }
             _ => self.is_instruction_start(target),
         }
@@ -141,13 +149,21 @@ impl<'u, 'a> Marked<'u, 'a> {
 
     /// Whether a payload of the kind begins at the place, and its targets, counted from the instruction
     /// at unit `at`, are starts of instructions.
-    fn leads_to_payload(&self, at: usize, kind: PayloadKind, place: i64) -> bool
-        requires { at < length self.now.units.now }
+    fn leads_to_payload(
+        &self,
+        switches: &LongSwitches,
+        at: usize,
+        kind: PayloadKind,
+        place: i64,
+    ) -> bool
+        requires switches { AreLong self.now.units.now (cuts_of self.now.cuts.items) switches.now }
+        requires from { at < length self.now.units.now }
         ensures { result ≡ leads_to_payload (ident_of kind) self.now.units.now (cuts_of self.now.cuts.items) at place }
     {
         match self.start_at(place) {
             Some(unit) => {
-                self.units.at(unit) == kind.ident() && self.payload_leads_right(at, kind, unit)
+                self.units.at(unit) == kind.ident()
+                    && self.payload_leads_right(switches, at, kind, unit)
             }
             None => false,
         }
@@ -155,23 +171,25 @@ impl<'u, 'a> Marked<'u, 'a> {
 
     /// Whether the targets of the payload at a unit, counted from the instruction at unit `at`, are
     /// starts of instructions.
-    #[tactic(auto, using(crate::proofs::Sizes::packed_fits, crate::proofs::Sizes::sparse_fits))]
-    fn payload_leads_right(&self, at: usize, kind: PayloadKind, unit: usize) -> bool
+    fn payload_leads_right(
+        &self,
+        switches: &LongSwitches,
+        at: usize,
+        kind: PayloadKind,
+        unit: usize,
+    ) -> bool
+        requires switches { AreLong self.now.units.now (cuts_of self.now.cuts.items) switches.now }
         requires from { at < length self.now.units.now }
         requires kind { slice_index self.now.units.now unit ≡ ident_of kind }
         requires piece { IsSome (piece_size unit (drop unit self.now.units.now)) }
         ensures { result ≡ lead_right self.now.units.now (cuts_of self.now.cuts.items) at (payload_targets self.now.units.now unit) }
     {
-        match kind {
-            PayloadKind::PackedSwitch => {
-                let count = usize::from(self.units.at(unit + 1));
-                self.ints_lead_right(at, unit + 4, count)
-            }
-            PayloadKind::SparseSwitch => {
-                let count = usize::from(self.units.at(unit + 1));
-                self.ints_lead_right(at, unit + 2 + 2 * count, count)
-            }
-            PayloadKind::ArrayData => true,
+        if let Some(groups) = switches.groups.get(&unit) {
+            return groups_lead_right(&switches.starts, groups, at);
+        }
+        match targets_at(self.units, kind, unit) {
+            Some(targets) => self.ints_lead_right(at, targets.first, targets.count),
+            None => true,
         }
     }
 

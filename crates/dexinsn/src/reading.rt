@@ -45,7 +45,11 @@ fn cut_code<'u, 'a>(alloc: Global, units: &'u Units<'a>) -> Result<Marked<'u, 'a
         return Err(CodeFault::Empty);
     }
     let marked = Marked::cut(alloc, units)?;
-    match marked.first_astray() {
+    let astray = match marked.first_astray(alloc) {
+        Ok(astray) => astray,
+        Err(_) => return Err(CodeFault::Memory),
+    };
+    match astray {
         Some(unit) => Err(CodeFault::Target(unit)),
         None => Ok(marked),
     }

@@ -15,15 +15,15 @@ returns-in_err-marked-clause-only c = λ answer is.
 pub returns-in-Some-clause-only : goal.returns-in-Some-clause-only
 returns-in-Some-clause-only c = λ answer is.
     answer_once c.args.units.now (Err (Target c.in-Some.unit)) answer
-    (AreMarked-astray c.args.units.now c.in_ok-marked.marked.units.now c.in_ok-marked.marked.cuts.items c.in_ok-marked.marked.marks.items c.in-Some.unit (c.in_ok-marked.ensures.units ∙ c.of_numbers-units.ensures) c.in_ok-marked.marked.are_marked (sym c.in-Some.ensures)) is
+    (AreMarked-astray c.args.units.now c.in_ok-marked.marked.units.now c.in_ok-marked.marked.cuts.items c.in_ok-marked.marked.marks.items c.in-Some.unit (c.in_ok-marked.ensures.units ∙ c.of_numbers-units.ensures) c.in_ok-marked.marked.are_marked (sym c.in-Ok.ensures ∙ c.in-Some.is)) is
 
 pub returns-in-None-clause-code : goal.returns-in-None-clause-code
 returns-in-None-clause-code c =
     AreMarked-code c.args.units.now c.in_ok-marked.marked.units.now c.in_ok-marked.marked.cuts.items c.in_ok-marked.marked.marks.items c.into_cuts.result.items
-    (c.in_ok-marked.ensures.units ∙ c.of_numbers-units.ensures) (ap (λ v. v.items) c.into_cuts.ensures) (grind (arith, common_steps)) c.in_ok-marked.marked.are_marked (sym c.in-None.ensures)
+    (c.in_ok-marked.ensures.units ∙ c.of_numbers-units.ensures) (ap (λ v. v.items) c.into_cuts.ensures) (grind (arith, common_steps)) c.in_ok-marked.marked.are_marked (sym c.in-Ok.ensures ∙ c.in-None.is)
 
 pub returns-in-None-clause-only : goal.returns-in-None-clause-only
 returns-in-None-clause-only c = λ answer is.
     answer_once c.args.units.now (Ok (cuts_of c.into_cuts.result.items)) answer
     (AreMarked-code c.args.units.now c.in_ok-marked.marked.units.now c.in_ok-marked.marked.cuts.items c.in_ok-marked.marked.marks.items c.into_cuts.result.items
-    (c.in_ok-marked.ensures.units ∙ c.of_numbers-units.ensures) (ap (λ v. v.items) c.into_cuts.ensures) (grind (arith, common_steps)) c.in_ok-marked.marked.are_marked (sym c.in-None.ensures)) is
+    (c.in_ok-marked.ensures.units ∙ c.of_numbers-units.ensures) (ap (λ v. v.items) c.into_cuts.ensures) (grind (arith, common_steps)) c.in_ok-marked.marked.are_marked (sym c.in-Ok.ensures ∙ c.in-None.is)) is

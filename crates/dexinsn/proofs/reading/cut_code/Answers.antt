@@ -1,4 +1,4 @@
-use Rattle.std.proofs.Common.{sym, refl, arith}
+use Rattle.std.proofs.Common.{sym, refl, ◌∙◌, arith}
 use Rattle.std.proofs.lemmas.Result.{err_from_is_err_and}
 use Rattle.dexinsn.proofs.Outcome.{AreMarked-code, AreMarked-astray}
 use Rattle.dexinsn.proofs.CodeRead.{cut_is_none, astray_is_none}
@@ -11,9 +11,9 @@ returns-in_err-marked-clause-fault c =
 
 pub returns-in-Some-clause-fault : goal.returns-in-Some-clause-fault
 returns-in-Some-clause-fault c = astray_is_none c.args.units.now c.in-Some.unit
-    (AreMarked-astray c.args.units.now c.in_ok-marked.marked.units.now c.in_ok-marked.marked.cuts.items c.in_ok-marked.marked.marks.items c.in-Some.unit c.in_ok-marked.ensures.units c.in_ok-marked.marked.are_marked (sym c.in-Some.ensures))
+    (AreMarked-astray c.args.units.now c.in_ok-marked.marked.units.now c.in_ok-marked.marked.cuts.items c.in_ok-marked.marked.marks.items c.in-Some.unit c.in_ok-marked.ensures.units c.in_ok-marked.marked.are_marked (sym c.in-Ok.ensures ∙ c.in-Some.is))
 
 pub returns-clause-code : goal.returns-clause-code
 returns-clause-code c =
     AreMarked-code c.args.units.now c.in_ok-marked.marked.units.now c.in_ok-marked.marked.cuts.items c.in_ok-marked.marked.marks.items c.in_ok-marked.marked.cuts.items
-    c.in_ok-marked.ensures.units refl (omega arith) c.in_ok-marked.marked.are_marked (sym c.in-None.ensures)
+    c.in_ok-marked.ensures.units refl (omega arith) c.in_ok-marked.marked.are_marked (sym c.in-Ok.ensures ∙ c.in-None.is)

@@ -18,7 +18,7 @@ returns-then-is_some c =
 pub branches_right-requires-clause-within : goal.branches_right-requires-clause-within
 branches_right-requires-clause-within c =
     let m = c.args.self.now in
-    instruction_fits m.units.now c.args.cut.unit c.args.cut.units (format_of c.in-Some.format) c.requires
+    instruction_fits m.units.now c.args.cut.unit c.args.cut.units (format_of c.in-Some.format) c.requires.piece
     (payload_is c.of.result _ (is_payload_ident (slice_index m.units.now c.args.cut.unit)) c.is_some.result (rw c.at-first.ensures.is at c.of.ensures) (sym c.is_some.ensures) ∙ c.if-is_some.false)
     (ap (λ (op : ℕ). option_map (λ (o : Opcode). o.format) (opcode_of op)) (sym (rw c.at-first.ensures.is at c.opcode_in.ensures)) ∙ sym c.in-Some.ensures)
 

@@ -1,15 +1,13 @@
-use Rattle.std.proofs.Common.{◌≡◌, ◌∙◌, ap, slice_index, arith}
-use Rattle.dexspec.specs.Pieces.{packed_switch_ident, sparse_switch_ident}
-use Rattle.dexinsn.specs.Payload.{ident_of}
-use Rattle.dexinsn.proofs.Sizes.{packed_fits, sparse_fits}
+use Rattle.std.proofs.Common.{sym}
+use Rattle.dexspec.specs.Pieces.{payload_targets}
+use Rattle.dexinsn.specs.Split.{cuts_of}
+use Rattle.dexinsn.proofs.StartBits.{groups_are}
 use Rattle.dexinsn.proofs.marked.Marked.payload_leads_right.Goals as goal
 
-pub at-requires : goal.at-requires
-at-requires c =
-    let first : slice_index c.args.self.now.units.now c.args.unit ≡ packed_switch_ident = c.requires.kind ∙ ap ident_of c.in-PackedSwitch.is in
-    omega (arith, packed_fits c.args.self.now.units.now c.args.unit c.requires.piece first)
-
-pub at-requires-in-SparseSwitch : goal.at-requires-in-SparseSwitch
-at-requires-in-SparseSwitch c =
-    let first : slice_index c.args.self.now.units.now c.args.unit ≡ sparse_switch_ident = c.requires.kind ∙ ap ident_of c.in-SparseSwitch.is in
-    omega (arith, sparse_fits c.args.self.now.units.now c.args.unit c.requires.piece first)
+pub returns-in-Some : goal.returns-in-Some
+returns-in-Some c =
+    let m = c.args.self.now in
+    let l = c.args.switches.now in
+    groups_are m.units.now (cuts_of m.cuts.items) l.starts.items c.args.at (payload_targets m.units.now c.args.unit) c.in-Some.groups.now.items c.groups_lead_right.result
+    (c.requires.switches.starts c.args.unit c.in-Some.groups.now (sym c.in-Some.ensures.value)) (c.requires.switches.payloads c.args.unit c.in-Some.groups.now (sym c.in-Some.ensures.value))
+    (rw (c.deref-in-Some.ensures.value, c.deref.ensures.value) at c.groups_lead_right.ensures)

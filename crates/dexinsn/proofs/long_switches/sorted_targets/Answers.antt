@@ -1,0 +1,18 @@
+use Rattle.std.proofs.Common.{◌+◌, ◌-◌, ◌*◌, sym, ap, subst, ◌++◌, ◌∷◌, [], List, ℤ, ◌≡◌, to_z, of_z, w32, rules, arith}
+use mir.Val.{SFits}
+use Rattle.std.proofs.lemmas.Int.{to_z-of_z}
+use Rattle.dexspec.specs.Pieces.{ints_in}
+use Rattle.dexinsn.proofs.TargetGroups.{one_read}
+use Rattle.dexinsn.proofs.long_switches.sorted_targets.Goals as goal
+
+pub loop-i-preserved : goal.loop-i-preserved
+loop-i-preserved c =
+    let us = c.args.units.now in
+    let t = c.args.targets in
+    let i = c.loop-i.i in
+    let fits : SFits w32 c.int_at.result = search rules in
+    let same : to_z w32 (of_z w32 c.int_at.result) ≡ c.int_at.result = to_z-of_z w32 c.int_at.result fits in
+    let number : c.loop-i.sorted.items ++ to_z w32 (of_z w32 c.int_at.result) ∷ [] ≡ c.loop-i.sorted.items ++ c.int_at.result ∷ [] = ap (λ (z : ℤ). c.loop-i.sorted.items ++ z ∷ []) same in
+    let pushed : c.push.new.self.items ≡ c.loop-i.sorted.items ++ c.int_at.result ∷ [] = subst (λ (read : List ℤ). c.push.new.self.items ≡ read) number c.in_ok-push.ensures.items in
+    subst (λ (read : List ℤ). ints_in us t.first t.count ≡ read ++ ints_in us (t.first + 2 * (i + 1)) (t.count - (i + 1))) (sym pushed)
+    (one_read us (ints_in us t.first t.count) c.loop-i.sorted.items c.int_at.result (t.first + 2 * i) (t.first + 2 * (i + 1)) (t.count - i) (t.count - (i + 1)) (omega arith) (omega arith) (sym c.int_at.ensures) c.loop-i.invariant)

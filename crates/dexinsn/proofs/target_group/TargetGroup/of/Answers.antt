@@ -1,0 +1,10 @@
+use Rattle.std.proofs.Common.{◌≡◌, ℤ, true, w32, sym, subst}
+use Rattle.std.specs.Prelude.{◌↔◌}
+use Rattle.std.proofs.lemmas.Int.{to_z-of_z}
+use Rattle.dexinsn.specs.LongSwitches.{AllFrom}
+use Rattle.dexinsn.proofs.TargetGroups.{one_target}
+use Rattle.dexinsn.proofs.target_group.TargetGroup.of.Goals as goal
+
+pub returns : goal.returns
+returns c = λ test.
+    subst (λ (z : ℤ). AllFrom test z 1 ↔ (test c.args.target ≡ true)) (sym (to_z-of_z w32 c.args.target c.ranges.target)) (one_target test c.args.target)

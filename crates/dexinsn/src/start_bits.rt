@@ -1,0 +1,62 @@
+//! Starts of instructions as bits, 64 to a word.
+
+ghost use Rattle.std.specs.Prelude.{◌≡◌, ◌↔◌, ℕ, ◌+◌, ◌/◌, ◌<◌, ◌^◌, pos, ◌+ℤ◌, true, length, All};
+ghost use Rattle.std.specs.Int.{bit_at};
+ghost use Rattle.dexinsn.specs.LongSwitches.{EndsEmpty, HasBit, HasPlaces};
+
+use crate::target_group::TargetGroup;
+
+/// Sets the bit of a unit.
+pub(crate) fn set_bit(words: &mut Vec<u64>, unit: usize)
+    requires { unit / 64 < length words.old.items }
+    ensures len { length words.new.items ≡ length words.old.items }
+    ensures set { HasBit words.new.items unit }
+    ensures others { (k : ℕ) → (k ≡ unit → ⊥) → HasBit words.new.items k ↔ HasBit words.old.items k }
+{
+    words[unit / 64] |= 1 << (unit % 64) as u32;
+}
+
+// The bits of 64 units, from one on.
+fn bits_from(words: &[u64], unit: usize) -> u64
+    requires { unit / 64 + 1 < length words.now }
+    ensures { (i : ℕ) → i < 64 → HasBit words.now (unit + i) ↔ (bit_at result i ≡ 1) }
+{
+    let word = unit / 64;
+    let shift = (unit % 64) as u32;
+    let low = words[word] >> shift;
+    if shift == 0 {
+        low
+    } else {
+        low | words[word + 1] << (64 - shift)
+    }
+}
+
+// Whether the bits that the mask has are set, from a place on.
+fn are_set(words: &[u64], place: i64, mask: u64) -> bool
+    requires first { bit_at mask 0 ≡ 1 }
+    requires last { EndsEmpty words.now }
+    ensures { (result ≡ true) ↔ HasPlaces words.now place mask }
+{
+    if place < 0 {
+        return false;
+    }
+    let unit = place as usize;
+    if words.len() <= unit / 64 + 1 {
+        return false;
+    }
+    mask & !bits_from(words, unit) == 0
+}
+
+/// Whether the bits of all targets of the groups are set, counted from the instruction at unit `at`.
+pub(crate) fn groups_lead_right(words: &[u64], groups: &[TargetGroup], at: usize) -> bool
+    requires small { at < 2 ^ 62 }
+    requires last { EndsEmpty words.now }
+    ensures { (result ≡ true) ↔ All (λ g. HasPlaces words.now (pos at +ℤ g.first) g.bits) groups.now }
+{
+    for group in groups {
+        if !are_set(words, at as i64 + i64::from(group.first), group.bits) {
+            return false;
+        }
+    }
+    true
+}

@@ -1,5 +1,6 @@
 -- What of a directory is kept while it is read.
-use Rattle.std.proofs.Common.{◌≡◌, ℕ, ◌+◌, ◌-◌, ◌*◌, ◌^◌, ◌<◌, ◌≤◌, min, List, [], ◌∷◌, ◌++◌, length, map, sum_by, refl, ap, sym, ◌∙◌, arith}
+use Rattle.std.proofs.Common.{◌≡◌, ℕ, ◌+◌, ◌-◌, ◌*◌, ◌^◌, ◌<◌, ◌≤◌, min, List, [], ◌∷◌, ◌++◌, length, map, sum_by, refl, ap, sym, subst, ◌∙◌, arith, inl, inr}
+use Rattle.std.proofs.lemmas.Bool.{cases_lt}
 use Rattle.std.specs.Prelude.{◌↔◌, Bool, true, false, IsTrue, All}
 use Rattle.std.proofs.lemmas.List.{length-map}
 use Rattle.std.proofs.lemmas.List.Sums.{sum_by-append, sum_by-cons}
@@ -20,22 +21,75 @@ use Rattle.dexval.proofs.DirectoryRead.{HaveReadList, directory_read}
 -- ---- steps
 
 -- the first of a list are none
-pub none_kept : {X : Type 0} (Read : List X → Type 0) (weighs : List X → ℕ) (most before after : ℕ) → Read [] → after ≡ min (2 ^ 64 - 1) (before + weighs []) → IsKept Read weighs most before after []
-none_kept Read weighs most before after r e = record { item = []; is_read = r; grown = e; whole = λ le. refl }
+pub none_kept : {X : Type 0} (Read : List X → Type 0) (weighs : List X → ℕ) (most before after : ℕ) → Read [] → before ≤ after → after ≡ min (2 ^ 64 - 1) (before + weighs []) → IsKept Read weighs most before after []
+none_kept Read weighs most before after r le e = record {
+  item = [];
+  is_read = r;
+  early = λ within. omega (arith, le, within);
+  grown = λ within. e;
+  heavy = λ over. omega (arith, e, over);
+  whole = λ within. refl;
+}
+
+-- something was read for the first time
+pub new_kept : {X : Type 0} (Read : X → Type 0) (weighs : X → ℕ) (most before after : ℕ) (item kept : X) → Read item → before ≤ after → after ≡ min (2 ^ 64 - 1) (before + weighs item) → (after ≤ most → kept ≡ item) → IsKept Read weighs most before after kept
+new_kept Read weighs most before after item kept r le e same = record {
+  item = item;
+  is_read = r;
+  early = λ within. omega (arith, le, within);
+  grown = λ within. e;
+  heavy = λ over. omega (arith, e, over);
+  whole = same;
+}
+
+-- what was read before is counted once more, but not where the weight has passed
+pub known_kept : {X : Type 0} (Read : X → Type 0) (weighs : X → ℕ) (most before after : ℕ) (item known kept : X) → Read item → (before ≤ most → known ≡ item)
+    → (most < before → after ≡ before) → (before ≤ most → after ≡ min (2 ^ 64 - 1) (before + weighs known)) → (before ≤ most → kept ≡ known) → IsKept Read weighs most before after kept
+known_kept {X} Read weighs most before after item known kept r whole passed counted same =
+    let early : after ≤ most → before ≤ most = λ within. elim (cases_lt most before) [
+      | inl over ↦ absurd (omega (arith, over, within, passed over))
+      | inr le ↦ le
+    ] in
+    let grows : before ≤ most → after ≡ min (2 ^ 64 - 1) (before + weighs item) = λ le. subst (λ (x : X). after ≡ min (2 ^ 64 - 1) (before + weighs x)) (whole le) (counted le) in
+    record {
+      item = item;
+      is_read = r;
+      early = early;
+      grown = λ within. grows (early within);
+      heavy = λ over. elim (cases_lt most before) [
+        | inl passed_before ↦ omega (arith, passed_before)
+        | inr le ↦ omega (arith, over, grows le)
+      ];
+      whole = λ within. same (early within) ∙ whole (early within);
+    }
+
+-- what was judged once the weight had passed is not counted once more
+pub passed_kept : {X : Type 0} (Read : X → Type 0) (weighs : X → ℕ) (most weight : ℕ) (item kept : X) → Read item → most < weight → IsKept Read weighs most weight weight kept
+passed_kept Read weighs most weight item kept r over = record {
+  item = item;
+  is_read = r;
+  early = λ within. within;
+  grown = λ within. absurd (omega (arith, over, within));
+  heavy = λ o. omega (arith, over);
+  whole = λ within. absurd (omega (arith, over, within));
+}
 
 -- one more was read, and kept where the running weight allows it
 pub one_kept : {X : Type 0} (Read Next : List X → Type 0) (weighs : List X → ℕ) (one : X → ℕ) (most before old new : ℕ) (kept next : List X) (x y : X)
     → ((xs : List X) → Read xs → Next (xs ++ x ∷ [])) → ((xs : List X) → weighs (xs ++ x ∷ []) ≡ weighs xs + one x)
-    → IsKept Read weighs most before old kept → new ≡ min (2 ^ 64 - 1) (old + one x) → (new ≤ most → y ≡ x) → (new ≤ most → next ≡ kept ++ y ∷ [])
-    → IsKept Next weighs most before new next
-one_kept {X} Read Next weighs one most before old new kept next x y goes adds h grows same pushed =
+    → IsKept Read weighs most before old kept → (new ≤ most → old ≤ most) → (new ≤ most → new ≡ min (2 ^ 64 - 1) (old + one x)) → (most < new → most < old + one x)
+    → (new ≤ most → y ≡ x) → (new ≤ most → next ≡ kept ++ y ∷ []) → IsKept Next weighs most before new next
+one_kept {X} Read Next weighs one most before old new kept next x y goes adds h early grows over same pushed =
     record {
       item = h.item ++ x ∷ [];
       is_read = goes h.item h.is_read;
-      grown = omega (arith, h.grown, grows, adds h.item);
-      whole = λ le.
-          let early : old ≤ most = omega (arith, le, h.grown, grows) in
-          pushed le ∙ ap (λ (l : List X). l ++ y ∷ []) (h.whole early) ∙ ap (λ (z : X). h.item ++ z ∷ []) (same le);
+      early = λ le. h.early (early le);
+      grown = λ le. omega (arith, h.grown (early le), grows le, adds h.item);
+      heavy = λ lt. elim (cases_lt most old) [
+        | inl passed ↦ omega (arith, h.heavy passed, adds h.item)
+        | inr le ↦ omega (arith, h.grown le, over lt, adds h.item)
+      ];
+      whole = λ le. pushed le ∙ ap (λ (l : List X). l ++ y ∷ []) (h.whole (early le)) ∙ ap (λ (z : X). h.item ++ z ∷ []) (same le);
     }
 
 -- what was read is something else as well, and weighs as much
@@ -44,18 +98,22 @@ pub kept_as : {X : Type 0} (Read Now : X → Type 0) (weighs heavy : X → ℕ) 
 kept_as Read Now weighs heavy most before after kept goes same h = record {
   item = h.item;
   is_read = goes h.item h.is_read;
-  grown = omega (arith, h.grown, same h.item h.is_read);
+  early = h.early;
+  grown = λ le. omega (arith, h.grown le, same h.item h.is_read);
+  heavy = λ lt. omega (arith, h.heavy lt, same h.item h.is_read);
   whole = h.whole;
 }
 
 -- the same bound
 pub kept_moved : {X : Type 0} (Read Now : X → Type 0) (weighs : X → ℕ) {most bound before after : ℕ} {kept : X} → most ≡ bound → ((x : X) → Read x → Now x) → IsKept Read weighs most before after kept → IsKept Now weighs bound before after kept
-kept_moved Read Now weighs e goes h = record {
+kept_moved {X} Read Now weighs {most} {bound} {before} {after} {kept} e goes h = subst (λ (n : ℕ). IsKept Now weighs n before after kept) e (record {
   item = h.item;
   is_read = goes h.item h.is_read;
+  early = h.early;
   grown = h.grown;
-  whole = λ le. h.whole (omega (arith, le, e));
-}
+  heavy = h.heavy;
+  whole = h.whole;
+})
 
 -- what is not within the bound is not
 pub not_within : {P : Type 0} (r : Bool) → (IsTrue r ↔ P) → r ≡ false → P → ⊥
@@ -115,10 +173,24 @@ directory_kept b o m file most w1 w2 w3 w4 own fields methods parameters has h1 
     record {
       item = whole;
       is_read = directory_read b o m file h1.item h2.item h3.item h4.item has h1.is_read h2.is_read h3.is_read h4.is_read;
-      grown = omega (arith, parts_weigh m whole, h1.grown, h2.grown, h3.grown, h4.grown);
+      early = λ le. h1.early (h2.early (h3.early (h4.early le)));
+      grown = λ le.
+          let third = h4.early le in
+          let second = h3.early third in
+          let first = h2.early second in
+          omega (arith, parts_weigh m whole, h1.grown first, h2.grown second, h3.grown third, h4.grown le);
+      heavy = λ lt. elim (cases_lt most w3) [
+        | inl over3 ↦ elim (cases_lt most w2) [
+          | inl over2 ↦ elim (cases_lt most w1) [
+            | inl over1 ↦ omega (arith, parts_weigh m whole, h1.heavy over1)
+            | inr first ↦ omega (arith, parts_weigh m whole, h1.grown first, h2.heavy over2)
+          ]
+          | inr second ↦ omega (arith, parts_weigh m whole, h1.grown (h2.early second), h2.grown second, h3.heavy over3)
+        ]
+        | inr third ↦ omega (arith, parts_weigh m whole, h1.grown (h2.early (h3.early third)), h2.grown (h3.early third), h3.grown third, h4.heavy lt)
+      ];
       whole = λ le.
-          let third : w3 ≤ most = omega (arith, le, h3.grown, h4.grown) in
-          let second : w2 ≤ most = omega (arith, third, h2.grown, h3.grown) in
-          let first : w1 ≤ most = omega (arith, second, h1.grown, h2.grown) in
-          same_parts (h1.whole first) (h2.whole second) (h3.whole third) (h4.whole le);
+          let third = h4.early le in
+          let second = h3.early third in
+          same_parts (h1.whole (h2.early second)) (h2.whole second) (h3.whole third) (h4.whole le);
     }

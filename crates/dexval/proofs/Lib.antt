@@ -10,6 +10,7 @@ pub mod Growing
 pub mod Hashed
 pub mod Images
 pub mod Joining
+pub mod JudgedSets
 pub mod Keeping
 pub mod Lengths
 pub mod LowBytes

@@ -86,10 +86,12 @@ set_weight_in m s = set_weight (set_in m s)
 abbrev pub sets_weight_in : Mentions → List NumberedSet → ℕ
 sets_weight_in m ss = ref_list_weight (map (set_in m) ss)
 
--- Something was read, and the running weight grew from `before` to `after` by what it weighs, up to 2^64 - 1. All of it
--- is kept where that is at most `most`.
+-- Something was read, and the running weight grew from `before` to `after`. While it is at most `most`, it grew by what was
+-- read weighs, up to 2^64 - 1, and all of it is kept. Once it is more it stays more, and so does what was read.
 pub record IsKept {X : Type 0} (Read : X → Type 0) (weighs : X → ℕ) (most before after : ℕ) (kept : X) : Type 0 where
   pub item : X
   pub is_read : Read item
-  pub grown : after ≡ min (2 ^ 64 - 1) (before + weighs item)
+  pub early : after ≤ most → before ≤ most
+  pub grown : after ≤ most → after ≡ min (2 ^ 64 - 1) (before + weighs item)
+  pub heavy : most < after → most < before + weighs item
   pub whole : after ≤ most → kept ≡ item

@@ -13,6 +13,7 @@ impl Budget {
     /// Counts what else was read.
     pub(crate) fn add(&mut self, weight: u64)
         ensures weight { self.new.weight ≡ min (2 ^ 64 - 1) (self.old.weight + weight) }
+        ensures grows { self.old.weight ≤ self.new.weight }
         ensures most { self.new.most ≡ self.old.most }
     {
         self.weight = self.weight.saturating_add(weight);

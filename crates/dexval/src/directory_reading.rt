@@ -1,6 +1,6 @@
 //! Directories of annotations read from a file.
 
-ghost use Rattle.std.specs.Prelude.{◌^◌, ◌<◌, ◌≡◌, ◌+◌, ◌*◌, ◌≤◌, All, IfOk, IfErr, MatchOption, length, map, sum_by};
+ghost use Rattle.std.specs.Prelude.{◌^◌, ◌<◌, ◌≡◌, ◌+◌, ◌*◌, ◌≤◌, All, IfOk, IfErr, IfSome, MatchOption, length, map, sum_by};
 ghost use Rattle.dexspec.specs.Bytes.{uint_at};
 ghost use Rattle.dexspec.specs.Annotations.{SetAt, RefListAt, fields_count, methods_count, parameters_count};
 ghost use Rattle.dexpool.specs.Pools.{ArePools};
@@ -8,12 +8,14 @@ ghost use Rattle.dexval.specs.Code.{set_of, directory_of};
 ghost use Rattle.dexval.specs.Numbered.{IsKnownSet, set_in, directory_in};
 ghost use Rattle.dexval.specs.Nesting.{AreFilePools};
 ghost use Rattle.dexval.specs.Directories.{IsSetOrEmptyAt, NoSetOrEmptyAt, IsRefListAt, NoRefListAt, HasPair, ArePairsAt, NoPairsAt, HasMembers, NoDirectoryAt, member_set_of, member_list_of, directory_weight, set_weight_in, sets_weight_in, IsKept};
+ghost use Rattle.dexval.specs.Judged.{AreJudged};
 ghost use Rattle.dexval.specs.Reading.{IsDirectoryAt, IsDirectoryFault, IsDirectoryWithin, HasHeavyDirectory};
 
 use crate::budget::Budget;
 use crate::directory::Directory;
+use crate::judged::{Judged, counted_set_at, counted_set_or_empty_at};
 use crate::set::AnnotationSet;
-use crate::set_reading::{count_at, set_at};
+use crate::set_reading::count_at;
 use dexhead::{Frame, u32_at};
 use dexpool::{ItemFault, Pools, SymbolKind};
 use std::alloc::{AllocError, Global};
@@ -64,21 +66,6 @@ fn pair_at(frame: &Frame<'_>, at: usize, least: u64, limit: usize) -> Option<(u3
     Some((number, off))
 }
 
-// The set of the annotation_set_item at an offset, or an empty one at 0, or `None` where none stands there.
-fn set_or_empty_at(
-    alloc: Global,
-    frame: &Frame<'_>,
-    pools: &Pools<'_>,
-    off: u32,
-) -> Result<Option<AnnotationSet>, AllocError>
-    ensures { AreFilePools frame.now pools.now → IfOk result (λ found. MatchOption found (NoSetOrEmptyAt frame.now off) (λ set. IsSetOrEmptyAt frame.now off pools.now (set_of set))) }
-{
-    if off == 0 {
-        return Ok(Some(AnnotationSet::empty(alloc)));
-    }
-    set_at(alloc, frame, pools, off)
-}
-
 // What a list of so many sets weighs beside them.
 fn list_weight(count: u32) -> u64
     ensures none { count ≡ 0 → result ≡ 0 }
@@ -90,16 +77,19 @@ fn list_weight(count: u32) -> u64
     8 + 4 * u64::from(count)
 }
 
-// The sets of the annotation_set_ref_list at an offset, or `None` where none stands there. They are whole while the
-// budget lasts.
-fn ref_list_at(
+// The sets of the annotation_set_ref_list at an offset, counted one by one, or `None` where none stands there. They are
+// whole while the budget lasts.
+fn listed_sets_at(
     alloc: Global,
     frame: &Frame<'_>,
     pools: &Pools<'_>,
     off: u32,
+    judged: &mut Judged,
     budget: &mut Budget,
 ) -> Result<Option<Vec<AnnotationSet>>, AllocError>
+    requires judged { AreFilePools frame.now pools.now → AreJudged frame.now pools.now budget.old.most budget.old.weight judged.old }
     ensures most { budget.new.most ≡ budget.old.most }
+    ensures judged { AreFilePools frame.now pools.now → IfOk result (λ found. IfSome found (λ _. AreJudged frame.now pools.now budget.new.most budget.new.weight judged.new)) }
     ensures read { AreFilePools frame.now pools.now → IfOk result (λ found. MatchOption found (NoRefListAt frame.now off) (λ sets. IsKept (IsRefListAt frame.now off pools.now) (sets_weight_in pools.now) budget.old.most budget.old.weight budget.new.weight (map set_of sets.items))) }
 {
     let count = match count_at(frame, off) {
@@ -112,9 +102,8 @@ fn ref_list_at(
     let mut sets = Vec::new(alloc);
     for i in 0..count {
         let place = u32_at(bytes, off as usize + 4 + 4 * i as usize);
-        match set_or_empty_at(alloc, frame, pools, place)? {
+        match counted_set_or_empty_at(alloc, frame, pools, place, judged, budget)? {
             Some(set) => {
-                budget.add(set.weight());
                 if budget.is_within() {
                     sets.push(set)?;
                 }
@@ -123,6 +112,36 @@ fn ref_list_at(
         }
     }
     Ok(Some(sets))
+}
+
+// The sets of the annotation_set_ref_list at an offset, counted, or `None` where none stands there. They are whole while
+// the budget lasts.
+fn ref_list_at(
+    alloc: Global,
+    frame: &Frame<'_>,
+    pools: &Pools<'_>,
+    off: u32,
+    judged: &mut Judged,
+    budget: &mut Budget,
+) -> Result<Option<Vec<AnnotationSet>>, AllocError>
+    requires judged { AreFilePools frame.now pools.now → AreJudged frame.now pools.now budget.old.most budget.old.weight judged.old }
+    ensures most { budget.new.most ≡ budget.old.most }
+    ensures judged { AreFilePools frame.now pools.now → IfOk result (λ found. IfSome found (λ _. AreJudged frame.now pools.now budget.new.most budget.new.weight judged.new)) }
+    ensures read { AreFilePools frame.now pools.now → IfOk result (λ found. MatchOption found (NoRefListAt frame.now off) (λ sets. IsKept (IsRefListAt frame.now off pools.now) (sets_weight_in pools.now) budget.old.most budget.old.weight budget.new.weight (map set_of sets.items))) }
+{
+    if budget.is_within() {
+        return listed_sets_at(alloc, frame, pools, off, judged, budget);
+    }
+    if judged.lists.contains(&off) {
+        return Ok(Some(Vec::new(alloc)));
+    }
+    match listed_sets_at(alloc, frame, pools, off, judged, budget)? {
+        Some(sets) => {
+            judged.lists.insert(off)?;
+            Ok(Some(sets))
+        }
+        None => Ok(None),
+    }
 }
 
 // So many members from a place on, by their numbers, which are below the limit, with their sets, or `None` where they do
@@ -134,11 +153,14 @@ fn member_sets_at(
     at: usize,
     count: u32,
     limit: usize,
+    judged: &mut Judged,
     budget: &mut Budget,
 ) -> Result<Option<Vec<(u32, AnnotationSet)>>, AllocError>
     requires within { at + 8 * count ≤ length frame.now }
     requires fits { at < 2 ^ 40 }
+    requires judged { AreFilePools frame.now pools.now → AreJudged frame.now pools.now budget.old.most budget.old.weight judged.old }
     ensures most { budget.new.most ≡ budget.old.most }
+    ensures judged { AreFilePools frame.now pools.now → IfOk result (λ found. IfSome found (λ _. AreJudged frame.now pools.now budget.new.most budget.new.weight judged.new)) }
     ensures read { AreFilePools frame.now pools.now → IfOk result (λ found. MatchOption found (NoPairsAt SetAt frame.now at count limit) (λ members. IsKept (ArePairsAt (IsKnownSet pools.now) (set_in pools.now) SetAt frame.now at count limit) (sum_by (λ e. set_weight_in pools.now e.1)) budget.old.most budget.old.weight budget.new.weight (map member_set_of members.items))) }
 {
     let mut members = Vec::new(alloc);
@@ -148,10 +170,9 @@ fn member_sets_at(
             Some(pair) => pair,
             None => return Ok(None),
         };
-        match set_at(alloc, frame, pools, off)? {
+        match counted_set_at(alloc, frame, pools, off, judged, budget)? {
             Some(set) => {
                 least = u64::from(number) + 1;
-                budget.add(set.weight());
                 if budget.is_within() {
                     members.push((number, set))?;
                 }
@@ -171,11 +192,14 @@ fn member_lists_at(
     at: usize,
     count: u32,
     limit: usize,
+    judged: &mut Judged,
     budget: &mut Budget,
 ) -> Result<Option<Vec<(u32, Vec<AnnotationSet>)>>, AllocError>
     requires within { at + 8 * count ≤ length frame.now }
     requires fits { at < 2 ^ 40 }
+    requires judged { AreFilePools frame.now pools.now → AreJudged frame.now pools.now budget.old.most budget.old.weight judged.old }
     ensures most { budget.new.most ≡ budget.old.most }
+    ensures judged { AreFilePools frame.now pools.now → IfOk result (λ found. IfSome found (λ _. AreJudged frame.now pools.now budget.new.most budget.new.weight judged.new)) }
     ensures read { AreFilePools frame.now pools.now → IfOk result (λ found. MatchOption found (NoPairsAt RefListAt frame.now at count limit) (λ members. IsKept (ArePairsAt (All (IsKnownSet pools.now)) (map (set_in pools.now)) RefListAt frame.now at count limit) (sum_by (λ e. sets_weight_in pools.now e.1)) budget.old.most budget.old.weight budget.new.weight (map member_list_of members.items))) }
 {
     let mut members = Vec::new(alloc);
@@ -185,7 +209,7 @@ fn member_lists_at(
             Some(pair) => pair,
             None => return Ok(None),
         };
-        match ref_list_at(alloc, frame, pools, off, budget)? {
+        match ref_list_at(alloc, frame, pools, off, judged, budget)? {
             Some(sets) => {
                 least = u64::from(number) + 1;
                 if budget.is_within() {
@@ -215,16 +239,11 @@ fn directory_at(
     };
     let bytes = frame.bytes();
     let place = u32_at(bytes, off as usize);
-    let own = match set_or_empty_at(alloc, frame, pools, place)? {
+    let mut judged = Judged::none(alloc);
+    let mut budget = Budget { weight: 0, most };
+    let own = match counted_set_or_empty_at(alloc, frame, pools, place, &mut judged, &mut budget)? {
         Some(own) => own,
         None => return Ok(None),
-    };
-    let mut budget = Budget { weight: 0, most };
-    budget.add(own.weight());
-    let own = if budget.is_within() {
-        own
-    } else {
-        AnnotationSet::empty(alloc)
     };
     let fields_at = off as usize + 16;
     let limit = pools.len(SymbolKind::Field);
@@ -235,6 +254,7 @@ fn directory_at(
         fields_at,
         counts.fields,
         limit,
+        &mut judged,
         &mut budget,
     )? {
         Some(fields) => fields,
@@ -249,6 +269,7 @@ fn directory_at(
         methods_at,
         counts.methods,
         limit,
+        &mut judged,
         &mut budget,
     )? {
         Some(methods) => methods,
@@ -262,6 +283,7 @@ fn directory_at(
         parameters_at,
         counts.parameters,
         limit,
+        &mut judged,
         &mut budget,
     )? {
         Some(parameters) => parameters,
@@ -308,7 +330,7 @@ pub fn read_directory(
 /// weigh more. A bound of 2^64 - 1 is none.
 ///
 /// Each place that names a set counts it anew. What is kept at a time weighs at most `most`, beside one set: from the
-/// set on with which it would weigh more, the others are judged and not kept.
+/// set on with which it would weigh more, the others are judged and not kept, each once.
 ///
 /// Error: as of [`read_directory`].
 ///

@@ -13,6 +13,16 @@ use dexleb::read_u;
 use dexpool::{Pools, SymbolKind};
 use std::alloc::{AllocError, Global};
 
+// The most values for which room is taken before they are read.
+const MOST_AT_ONCE: usize = 4096;
+
+// For how many of so many items room is taken before they are read, where so many bytes are left and each takes one at
+// least. Of items within one another a count that is not true asks for little, and one that is true for no more than it
+// needs.
+fn room(count: u32, left: usize) -> usize {
+    (count as usize).min(left).min(MOST_AT_ONCE)
+}
+
 /// The value at a place, and its size, or `None` where none stands there that nests at most so deep.
 #[cycle(reading)]
 pub(crate) fn value_at(
@@ -71,7 +81,7 @@ pub(crate) fn array_at(
         Ok(read) => read,
         Err(_) => return Ok(None),
     };
-    let mut values = Vec::new(alloc);
+    let mut values = Vec::with_capacity(alloc, room(count, bytes.len() - at))?;
     let mut size = 0;
     for _i in 0..count {
         match value_at(alloc, bytes, pools, at + head + size, depth)? {
@@ -129,7 +139,7 @@ fn elements_at(
     ensures read { AreFilePools bytes.now pools.now → IfOk result (λ found. MatchOption found (NoElementsAt bytes.now at depth count) (λ read. AreElementsReadAt bytes.now at pools.now depth count (elements_of_list (map element_of read.0.items)) read.1)) }
     ensures within { IfOk result (λ found. IfSome found (λ read. at + read.1 ≤ length bytes.now)) }
 {
-    let mut elements = Vec::new(alloc);
+    let mut elements = Vec::with_capacity(alloc, room(count, bytes.len() - at))?;
     let mut size = 0;
     let mut least = 0;
     for _i in 0..count {

@@ -85,7 +85,7 @@ pub(crate) fn set_at(
         None => return Ok(None),
     };
     let bytes = frame.bytes();
-    let mut annotations = Vec::new(alloc);
+    let mut annotations = Vec::with_capacity(alloc, count as usize)?;
     let mut least = 0;
     for i in 0..count {
         let place = u32_at(bytes, off as usize + 4 + 4 * i as usize);

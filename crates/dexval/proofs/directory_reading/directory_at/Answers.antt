@@ -1,19 +1,18 @@
-use Rattle.std.proofs.Common.{◌≡◌, ◌∙◌, ◌≤◌, ℕ, List, map, sum_by, ap, subst, arith}
+use Rattle.std.proofs.Common.{◌≡◌, ◌∙◌, ℕ, List, map, sum_by, refl, ap, subst, arith}
 use Rattle.std.specs.Prelude.{All}
 use Rattle.dexspec.specs.Bytes.{uint_at}
 use Rattle.dexspec.specs.Annotations.{SetAt, RefListAt}
 use Rattle.dexval.specs.Code.{set_of}
 use Rattle.dexval.specs.Numbered.{NumberedSet, IsKnownSet, set_in}
-use Rattle.dexval.specs.Directories.{IsSetOrEmptyAt, NoSetOrEmptyAt, member_set_of, member_list_of, set_weight_in, sets_weight_in, IsKept}
+use Rattle.dexval.specs.Directories.{IsSetOrEmptyAt, NoSetOrEmptyAt, member_set_of, member_list_of, set_weight_in, sets_weight_in}
 use Rattle.dexval.proofs.DirectoryRead.{no_own, no_fields, no_methods, no_parameters, pairs_moved, no_pairs_moved}
-use Rattle.dexval.proofs.Keeping.{directory_kept, kept_moved, not_within}
-use Rattle.dexval.proofs.directory_reading.directory_at.Goals.{then-is_within, else-is_within}
+use Rattle.dexval.proofs.Keeping.{directory_kept, kept_as, kept_moved}
 use Rattle.dexval.proofs.directory_reading.directory_at.Goals as goal
 
 pub returns-in-None-2 : goal.returns-in-None-2
 returns-in-None-2 c = λ p.
     let b = c.args.frame.now in
-    let h = c.in_ok-own.ensures p in
+    let h = c.in_ok-own.ensures.read p in
     let none = rw c.in-None-2.is at h in
     let place : c.u32_at-place.result ≡ uint_at b c.args.off = c.u32_at-place.ensures ∙ ap (λ (x : List ℕ). uint_at x c.args.off) c.bytes-bytes.ensures.bytes in
     no_own b c.args.off (subst (NoSetOrEmptyAt b) place none)
@@ -45,32 +44,22 @@ returns c = λ p.
     let m = c.args.pools.now in
     let o = c.args.off in
     let most = c.args.most in
-    let w1 = c.add.new.self.weight in
+    let w1 = c.counted_set_or_empty_at.new.budget.weight in
     let own = set_of c.in-Some-2.own in
-    let bound : c.add.new.self.most ≡ most = c.add.ensures.most in
+    let bound : c.counted_set_or_empty_at.new.budget.most ≡ most = c.in_ok-own.ensures.most in
     let bound2 : c.member_sets_at.new.budget.most ≡ most = c.in_ok-fields.ensures.most ∙ bound in
     let bound3 : c.member_sets_at-2.new.budget.most ≡ most = c.in_ok-methods.ensures.most ∙ bound2 in
     let place : c.u32_at-place.result ≡ uint_at b o = c.u32_at-place.ensures ∙ ap (λ (x : List ℕ). uint_at x o) c.bytes-bytes.ensures.bytes in
-    let h1 = c.in_ok-own.ensures p in
+    let h1 = c.in_ok-own.ensures.read p in
     let r1 = rw c.in-Some-2.is at h1 in
-    let kept : w1 ≤ most → set_of c.if-is_within.own2 ≡ own = λ le. elim c.if-is_within.branch [
-      | then-is_within w ↦ ap set_of w.own2-is
-      | else-is_within w ↦ absurd (not_within c.is_within.result c.is_within.ensures w.if-is_within.false (omega (arith, le, bound)))
-    ] in
-    let part1 : IsKept (IsSetOrEmptyAt b (uint_at b o) m) (set_weight_in m) most 0 w1 (set_of c.if-is_within.own2) = record {
-      item = own;
-      is_read = subst (λ (x : ℕ). IsSetOrEmptyAt b x m own) place r1;
-      grown = omega (arith, c.add.ensures.weight, c.weight.ensures m);
-      whole = kept;
-    } in
     let h2 = c.in_ok-fields.ensures.read p in
     let r2 = rw c.in-Some-3.is at h2 in
     let h3 = c.in_ok-methods.ensures.read p in
     let r3 = rw c.in-Some-4.is at h3 in
     let h4 = c.in_ok-parameters.ensures.read p in
     let r4 = rw c.in-Some-5.is at h4 in
-    directory_kept b o m p most w1 c.member_sets_at.new.budget.weight c.member_sets_at-2.new.budget.weight c.member_lists_at.new.budget.weight (set_of c.if-is_within.own2) (map member_set_of c.in-Some-3.fields.items) (map member_set_of c.in-Some-4.methods.items) (map member_list_of c.in-Some-5.parameters.items) c.in-Some.ensures.0
-    part1
+    directory_kept b o m p most w1 c.member_sets_at.new.budget.weight c.member_sets_at-2.new.budget.weight c.member_lists_at.new.budget.weight own (map member_set_of c.in-Some-3.fields.items) (map member_set_of c.in-Some-4.methods.items) (map member_list_of c.in-Some-5.parameters.items) c.in-Some.ensures.0
+    (kept_as _ _ (set_weight_in m) (set_weight_in m) most 0 w1 own (λ x k. subst (λ (n : ℕ). IsSetOrEmptyAt b n m x) place k) (λ x k. refl) r1)
     (kept_moved _ _ (sum_by (λ (e : ℕ × NumberedSet). set_weight_in m e.1)) bound (λ xs k. pairs_moved (IsKnownSet m) (set_in m) SetAt b (omega arith) c.in-Some.ensures.1 c.len-limit.ensures k) r2)
     (kept_moved _ _ (sum_by (λ (e : ℕ × NumberedSet). set_weight_in m e.1)) bound2 (λ xs k. pairs_moved (IsKnownSet m) (set_in m) SetAt b (omega (arith, c.in-Some.ensures.1)) c.in-Some.ensures.2 c.len-limit-2.ensures k) r3)
     (kept_moved _ _ (sum_by (λ (e : ℕ × List NumberedSet). sets_weight_in m e.1)) bound3 (λ xs k. pairs_moved (All (IsKnownSet m)) (map (set_in m)) RefListAt b (omega (arith, c.in-Some.ensures.1, c.in-Some.ensures.2)) c.in-Some.ensures.3 c.len-limit-2.ensures k) r4)

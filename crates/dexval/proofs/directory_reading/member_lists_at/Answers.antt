@@ -1,13 +1,13 @@
-use Rattle.std.proofs.Common.{◌≡◌, ◌+◌, ◌*◌, ◌++◌, ◌∷◌, ◌∙◌, ◌≤◌, ℕ, List, [], map, sum_by, refl, ap, subst, arith}
+use Rattle.std.proofs.Common.{◌≡◌, ◌+◌, ◌*◌, ◌++◌, ◌∷◌, ◌∙◌, ◌≤◌, ℕ, List, [], map, sum_by, refl, ap, sym, subst, arith}
 use Rattle.std.specs.Prelude.{All}
 use Rattle.std.proofs.lemmas.List.{map-append}
 use Rattle.dexspec.specs.Bytes.{uint_at}
 use Rattle.dexspec.specs.Annotations.{AnnotationSet, RefListAt}
 use Rattle.dexval.specs.Code.{set_of}
 use Rattle.dexval.specs.Numbered.{NumberedSet, IsKnownSet, set_in}
-use Rattle.dexval.specs.Directories.{ArePairsAt, member_list_of, sets_weight_in}
-use Rattle.dexval.proofs.DirectoryRead.{HaveReadPairs, one_pair_more, no_pair_next, no_item_next, pairs_end}
-use Rattle.dexval.proofs.Keeping.{one_kept, kept_as, members_add, not_within}
+use Rattle.dexval.specs.Directories.{IsKept, IsRefListAt, ArePairsAt, member_list_of, sets_weight_in}
+use Rattle.dexval.proofs.DirectoryRead.{HaveReadPairs, no_pair_yet, one_pair_more, no_pair_next, no_item_next, pairs_end}
+use Rattle.dexval.proofs.Keeping.{none_kept, one_kept, kept_as, kept_moved, members_add, not_within}
 use Rattle.dexval.proofs.directory_reading.member_lists_at.Goals.{then-is_within+in_ok-push-in-Some-2, else-is_within}
 use Rattle.dexval.proofs.directory_reading.member_lists_at.Goals as goal
 
@@ -24,6 +24,19 @@ returns-in-None-2-clause-read c = λ p.
     let none = rw c.in-None-2.is at h in
     no_item_next RefListAt b c.args.at c.args.count c.args.limit c.loop-i.i (omega arith) (subst (λ (o : ℕ). (y : List AnnotationSet) → RefListAt b o y → ⊥) c.in-Some.ensures.2 none)
 
+pub loop-i-init : goal.loop-i-init
+loop-i-init c = record {
+  least_fits = omega arith;
+  bound = refl;
+  judged = c.requires.judged;
+  read = λ p.
+      let m = c.args.pools.now in
+      let weight = c.args.budget.now.weight in
+      subst (λ l. IsKept (HaveReadPairs (All (IsKnownSet m)) (map (set_in m)) RefListAt c.args.frame.now c.args.at c.args.limit 0 0) (sum_by (λ (e : ℕ × List NumberedSet). sets_weight_in m e.1)) c.args.budget.now.most weight weight (map member_list_of l)) (sym c.new-members.ensures.items)
+      (none_kept (HaveReadPairs (All (IsKnownSet m)) (map (set_in m)) RefListAt c.args.frame.now c.args.at c.args.limit 0 0) (sum_by (λ (e : ℕ × List NumberedSet). sets_weight_in m e.1)) c.args.budget.now.most weight weight
+      (no_pair_yet (All (IsKnownSet m)) (map (set_in m)) RefListAt c.args.frame.now c.args.at c.args.limit) (omega arith) (omega arith));
+}
+
 pub loop-i-preserved : goal.loop-i-preserved
 loop-i-preserved c =
     let b = c.args.frame.now in
@@ -31,6 +44,7 @@ loop-i-preserved c =
     let most = c.args.budget.now.most in
     let new = c.ref_list_at.new.budget.weight in
     let number = c.in-Some.pair.0 in
+    let off = c.in-Some.pair.1 in
     let item = map set_of c.in-Some-2.sets.items in
     let old = map member_list_of c.loop-i.members.items in
     let next = map member_list_of c.if-is_within.members.items in
@@ -45,15 +59,16 @@ loop-i-preserved c =
     record {
       least_fits = omega (arith, c.from-least.ensures);
       bound = bound;
+      judged = λ p. let h = c.in_ok-sets.ensures.judged p in rw c.in-Some-2.is at h;
       read = λ p.
           let h = c.in_ok-sets.ensures.read p in
-          let r = rw c.in-Some-2.is at h in
+          let r = kept_moved (IsRefListAt b off m) (IsRefListAt b off m) (sets_weight_in m) c.loop-i.invariant.bound (λ s k. k) (rw c.in-Some-2.is at h) in
           let stands : RefListAt b (uint_at b (c.args.at + 8 * c.loop-i.i + 4)) (map (set_in m) r.item) = subst (λ (o : ℕ). RefListAt b o (map (set_in m) r.item)) c.in-Some.ensures.2 r.is_read.at in
           one_kept (Read c.loop-i.i c.loop-i.least) (Read (c.loop-i.i + 1) (c.from-least.result + 1)) (sum_by (λ (e : ℕ × List NumberedSet). sets_weight_in m e.1)) (λ (e : ℕ × List NumberedSet). sets_weight_in m e.1) most c.args.budget.now.weight c.loop-i.budget.weight new old next
           (number, r.item) (number, item)
           (λ xs k. subst (λ (x : ℕ). Read (c.loop-i.i + 1) (x + 1) (xs ++ (number, r.item) ∷ [])) least
           (one_pair_more (All (IsKnownSet m)) (map (set_in m)) RefListAt b c.args.at c.args.limit c.loop-i.i c.loop-i.least xs number r.item k c.in-Some.ensures.0 c.in-Some.ensures.1 r.is_read.known stands))
-          (members_add (sets_weight_in m) (number, r.item)) (c.loop-i.invariant.read p) r.grown (λ le. ap (λ (x : List NumberedSet). (number, x)) (r.whole (omega (arith, le, c.loop-i.invariant.bound)))) pushed;
+          (members_add (sets_weight_in m) (number, r.item)) (c.loop-i.invariant.read p) r.early r.grown r.heavy (λ le. ap (λ (x : List NumberedSet). (number, x)) (r.whole le)) pushed;
     }
 
 pub returns-clause-read : goal.returns-clause-read

@@ -1,0 +1,35 @@
+use Rattle.std.proofs.Common.{◌≡◌, ◌≤◌, ◌∙◌, refl, ap, sym, arith}
+use Rattle.std.specs.Prelude.{nat_eq}
+use Rattle.std.specs.HashMap.{get}
+use Rattle.dexval.specs.declared.judged.Judged.{Judged}
+use Rattle.dexval.specs.Code.{set_of}
+use Rattle.dexval.proofs.JudgedSets.{judged_later, set_noted}
+use Rattle.dexval.proofs.Keeping.{not_within}
+use Rattle.dexval.proofs.judged.new_set_at.Goals.{then-is_within, else-is_within, then-weight-gt-LIGHT+in_ok-copy+in_ok-insert+in-Some-1, then-weight-gt-LIGHT+in_ok-copy+in_ok-insert+in-None-1, else-weight-gt-LIGHT}
+use Rattle.dexval.proofs.judged.new_set_at.Goals as goal
+
+pub returns-clause-judged : goal.returns-clause-judged
+returns-clause-judged c = λ p.
+    let b = c.args.frame.now in
+    let m = c.args.pools.now in
+    let old = c.args.judged.now in
+    let next = c.if-weight-gt-LIGHT.judged in
+    let most = c.add.new.self.most in
+    let weight = c.add.new.self.weight in
+    let item = set_of c.in-Some.set in
+    let h = c.in_ok-set.ensures p in
+    let r = rw c.in-Some.is at h in
+    let kept : weight ≤ most → set_of c.if-is_within.kept ≡ item = λ le. elim c.if-is_within.branch [
+      | then-is_within w ↦ ap set_of w.kept-is
+      | else-is_within w ↦ absurd (not_within c.is_within.result c.is_within.ensures w.if-is_within.false le)
+    ] in
+    let later = judged_later b m old old refl refl (λ le. omega (arith, le, c.add.ensures.grows, c.add.ensures.most)) (c.requires.judged p) in
+    elim c.if-weight-gt-LIGHT.branch [
+      | then-weight-gt-LIGHT+in_ok-copy+in_ok-insert+in-Some-1 w ↦
+          set_noted b m most weight old next c.args.off w.in_ok-copy.field-0 (ap (λ (j : Judged). get nat_eq j.sets c.args.off) w.judged-is ∙ w.in_ok-insert.ensures.updates.1) (λ q e. ap (λ (j : Judged). get nat_eq j.sets q) w.judged-is ∙ w.in_ok-insert.ensures.updates.2 q e) (sym (ap (λ (j : Judged). j.lists) w.judged-is))
+          (record { item = item; is_read = r; whole = λ le. w.in_ok-copy.ensures ∙ kept le }) later
+      | then-weight-gt-LIGHT+in_ok-copy+in_ok-insert+in-None-1 w ↦
+          set_noted b m most weight old next c.args.off w.in_ok-copy.field-0 (ap (λ (j : Judged). get nat_eq j.sets c.args.off) w.judged-is ∙ w.in_ok-insert.ensures.updates.1) (λ q e. ap (λ (j : Judged). get nat_eq j.sets q) w.judged-is ∙ w.in_ok-insert.ensures.updates.2 q e) (sym (ap (λ (j : Judged). j.lists) w.judged-is))
+          (record { item = item; is_read = r; whole = λ le. w.in_ok-copy.ensures ∙ kept le }) later
+      | else-weight-gt-LIGHT w ↦ judged_later b m old next (sym (ap (λ (j : Judged). j.sets) w.judged-is)) (sym (ap (λ (j : Judged). j.lists) w.judged-is)) (λ le. le) later
+    ]

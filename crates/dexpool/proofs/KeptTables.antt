@@ -13,15 +13,15 @@ use Rattle.dexspec.proofs.InOrder.{Rises-from_rises, rises-from_Rises}
 use Rattle.dexspec.proofs.SymbolOrders.{text_total, proto_total, field_total, method_total}
 use Rattle.dexrows.specs.Cut.{kept, places}
 use Rattle.dexrows.specs.Numbers.{ProtoNumbers}
-use Rattle.dexrows.specs.declared.types.TypeRow.{TypeRow}
 use Rattle.dexrows.specs.declared.fields.FieldRow.{FieldRow}
 use Rattle.dexrows.specs.declared.methods.MethodRow.{MethodRow}
+use Rattle.dexpool.specs.declared.rows.ProtoEntry.{ProtoEntry}
 use Rattle.dexpool.specs.declared.tables.Tables.{Tables}
 use Rattle.dexpool.specs.declared.marks.Marks.{Marks}
 use Rattle.dexpool.specs.Tables.{text_of, type_of, span_of, proto_of, proto_at, field_of, method_of, type_cmp, proto_cmp, field_cmp, method_cmp}
 use Rattle.dexpool.specs.Reading.{HasSpan}
 use Rattle.dexpool.specs.Numberings.{AreMarksOf}
-use Rattle.dexpool.specs.Renumbering.{numbers_of, moved_type, moved_proto, moved_field, moved_method, IsEntryWithin, IsFieldWithin, IsMethodWithin}
+use Rattle.dexpool.specs.Renumbering.{numbers_of, moved_proto, moved_field, moved_method, IsEntryWithin, IsFieldWithin, IsMethodWithin}
 use Rattle.dexpool.specs.Stored.{symbols_in, IsTypeNumber, IsTypeOf, IsProtoEntry, IsFieldRow, IsMethodRow, AreTables}
 use Rattle.dexpool.specs.Closing.{number_or_none, IsMarked, AreClosed, HasMarkedEntry, HasMarkedField, HasMarkedMethod, kept_symbols}
 use Rattle.dexpool.proofs.KeptRows.{mark_within, kept_all, kept-map, kept_rises, new_numbers, length-new_numbers, is_moved}
@@ -52,12 +52,6 @@ pub kept_rise : {X : Type 0} (R : X → X → Ordering) → IsTotalOrder R → (
 kept_rise R o marks xs h = rises-from_Rises R (kept marks xs) (kept_rises R marks xs (Rises-from_rises R o xs h))
 
 -- ---- the rows that are kept
-
--- the new numbers of texts
-pub cut_types : (ns : List ℕ) (marks : List Bool) (types : List ℕ) → map (λ (row : TypeRow). row.descriptor) (kept marks (map (moved_type ns) types)) ≡ map (slice_index ns) (kept marks types)
-cut_types ns marks types =
-    ap (map (λ (row : TypeRow). row.descriptor)) (kept-map (moved_type ns) marks types)
-    ∙ mapped_twice (moved_type ns) (λ (row : TypeRow). row.descriptor) (slice_index ns) (kept marks types) (λ k d lt. refl)
 
 -- the proto of a row of numbers
 abbrev pub row_proto : List Text → List ℕ → ProtoNumbers → symbols.Proto
@@ -297,31 +291,37 @@ module _ (t : Tables) (ok : AreTables t) (marks : Marks) (count : AreMarksOf (sy
 -- ---- numbers in range of the new ones
 
 module _ (t : Tables) (ok : AreTables t) (ss : List ℕ) (strings : length ss ≡ length t.strings.items) where
-  pub types_within : (types : List ℕ) → types ≡ t.types.items → All (λ n. n < length ss) types
-  types_within types e = subst (All (λ n. n < length ss)) (sym e) (All-weaker (IsTypeNumber t) (λ n. n < length ss) (λ n k. omega (arith, k.text_in, strings)) t.types.items ok.types_stand)
+  pub types_within : (marks : List Bool) (types : List ℕ) → types ≡ kept marks t.types.items → All (λ n. n < length ss) types
+  types_within marks types e = subst (All (λ n. n < length ss)) (sym e) (kept_all (λ n. n < length ss) marks t.types.items (All-weaker (IsTypeNumber t) (λ n. n < length ss) (λ n k. omega (arith, k.text_in, strings)) t.types.items ok.types_stand))
 
-  module _ (ts : List ℕ) (types : length ts ≡ length t.types.items) where
-    pub protos_within : All (IsEntryWithin (length ss) (length ts) t.parameters) t.protos.items
-    protos_within = All-weaker (IsProtoEntry t) (IsEntryWithin (length ss) (length ts) t.parameters) (λ p k. record {
-      shorty_in = omega (arith, k.shorty_in, strings);
-      return_in = omega (arith, k.return_in, types);
-      span = k.span;
-      parameters_in = All-weaker (IsTypeOf IsValueType t) (λ n. n < length ts) (λ n i. omega (arith, i.type_in, types)) (span_of t.parameters p.parameters) k.parameters_in;
-    }) t.protos.items ok.protos_stand
+  module _ (ts : List ℕ) (types : length ts ≡ length t.types.items) (marks : List Bool) where
+    pub protos_within : (protos : List ProtoEntry) → protos ≡ kept marks t.protos.items → All (IsEntryWithin (length ss) (length ts) t.parameters) protos
+    protos_within protos e =
+        let Within : ProtoEntry → Type 0 = IsEntryWithin (length ss) (length ts) t.parameters in
+        subst (All Within) (sym e) (kept_all Within marks t.protos.items (All-weaker (IsProtoEntry t) Within (λ p k. record {
+          shorty_in = omega (arith, k.shorty_in, strings);
+          return_in = omega (arith, k.return_in, types);
+          span = k.span;
+          parameters_in = All-weaker (IsTypeOf IsValueType t) (λ n. n < length ts) (λ n i. omega (arith, i.type_in, types)) (span_of t.parameters p.parameters) k.parameters_in;
+        }) t.protos.items ok.protos_stand))
 
-    pub fields_within : (fields : List FieldRow) → fields ≡ t.fields.items → All (IsFieldWithin (length ss) (length ts)) fields
-    fields_within fields e = subst (All (IsFieldWithin (length ss) (length ts))) (sym e) (All-weaker (IsFieldRow t) (IsFieldWithin (length ss) (length ts)) (λ f k. record {
-      class_in = omega (arith, k.class_is.type_in, types);
-      name_in = omega (arith, k.name_in, strings);
-      type_in = omega (arith, k.type_is.type_in, types);
-    }) t.fields.items ok.fields_stand)
+    pub fields_within : (fields : List FieldRow) → fields ≡ kept marks t.fields.items → All (IsFieldWithin (length ss) (length ts)) fields
+    fields_within fields e =
+        let Within : FieldRow → Type 0 = IsFieldWithin (length ss) (length ts) in
+        subst (All Within) (sym e) (kept_all Within marks t.fields.items (All-weaker (IsFieldRow t) Within (λ f k. record {
+          class_in = omega (arith, k.class_is.type_in, types);
+          name_in = omega (arith, k.name_in, strings);
+          type_in = omega (arith, k.type_is.type_in, types);
+        }) t.fields.items ok.fields_stand))
 
-    pub methods_within : (ps : List ℕ) → length ps ≡ length t.protos.items → (methods : List MethodRow) → methods ≡ t.methods.items → All (IsMethodWithin (length ss) (length ts) (length ps)) methods
-    methods_within ps protos methods e = subst (All (IsMethodWithin (length ss) (length ts) (length ps))) (sym e) (All-weaker (IsMethodRow t) (IsMethodWithin (length ss) (length ts) (length ps)) (λ m k. record {
-      class_in = omega (arith, k.class_is.type_in, types);
-      name_in = omega (arith, k.name_in, strings);
-      proto_in = omega (arith, k.proto_in, protos);
-    }) t.methods.items ok.methods_stand)
+    pub methods_within : (ps : List ℕ) → length ps ≡ length t.protos.items → (methods : List MethodRow) → methods ≡ kept marks t.methods.items → All (IsMethodWithin (length ss) (length ts) (length ps)) methods
+    methods_within ps protos methods e =
+        let Within : MethodRow → Type 0 = IsMethodWithin (length ss) (length ts) (length ps) in
+        subst (All Within) (sym e) (kept_all Within marks t.methods.items (All-weaker (IsMethodRow t) Within (λ m k. record {
+          class_in = omega (arith, k.class_is.type_in, types);
+          name_in = omega (arith, k.name_in, strings);
+          proto_in = omega (arith, k.proto_in, protos);
+        }) t.methods.items ok.methods_stand))
 
 -- as many new numbers as marks
 pub numbers_count : (ns : List ℕ) (images : List (Option ℕ)) (marks : List Bool) (n : ℕ) → ns ≡ map number_or_none images → images ≡ places 0 marks → length marks ≡ n → length ns ≡ n

@@ -26,6 +26,7 @@ pub mod Leading
 pub mod Moved
 pub mod JoinedLevels
 pub mod StoredProtos
+pub mod SharedLists
 pub mod JoinedTables
 pub mod UnionLaws
 pub mod LeadingAll

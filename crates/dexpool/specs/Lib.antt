@@ -15,3 +15,4 @@ pub mod Orderly
 pub mod Uses
 pub mod Lists
 pub mod Judged
+pub mod SharedLists

@@ -119,9 +119,11 @@ fn join_protos<'a>(
 {
     let mut tables = Vec::with_capacity(alloc, parts.len())?;
     for (i, part) in parts.iter().enumerate() {
+        let part = part.tables();
         tables.push(renumbered_protos(
             alloc,
-            part.tables(),
+            &part.protos,
+            &part.parameters,
             &strings.images[i],
             &types.images[i],
         )?)?;

@@ -27,6 +27,7 @@ mod ranks;
 mod remap;
 mod renumbering;
 mod rows;
+mod shared_lists;
 mod shorties;
 mod strings;
 mod symbols;

@@ -3,9 +3,10 @@
 ghost use Rattle.std.specs.Prelude.{◌≡◌, ◌<◌, ◌++◌, length, map, All, IfOk, OnOk, slice_index};
 ghost use Rattle.dexpool.specs.Renumbering.{moved_type, IsEntryWithin, HasSpans, numbers_in, moved_proto, IsFieldWithin, moved_field, IsMethodWithin, moved_method};
 
+use crate::lists::Parameters;
 use crate::protos::{Protos, part};
 use crate::rows::{ProtoEntry, Span};
-use crate::tables::Tables;
+use crate::shared_lists::{covering, listed, renumbered_together};
 use dexrows::{FieldRow, LowerPlaces, MethodRow, ProtoRow, Row, TypeNumbers, TypeRow};
 use std::alloc::{AllocError, Global};
 
@@ -25,6 +26,22 @@ pub(crate) fn renumbered_types(
         })?;
     }
     Ok(rows)
+}
+
+/// The images of numbers.
+pub(crate) fn images_of(
+    alloc: Global,
+    numbers: &[usize],
+    images: &[usize],
+) -> Result<Vec<usize>, AllocError>
+    requires { All (λ n. n < length images.now) numbers.now }
+    ensures { IfOk result (λ found. found.items ≡ map (slice_index images.now) numbers.now) }
+{
+    let mut found = Vec::with_capacity(alloc, numbers.len())?;
+    for n in numbers {
+        found.push(images[*n])?;
+    }
+    Ok(found)
 }
 
 /// The number of the text of each row of types.
@@ -53,36 +70,58 @@ fn push_images(
     Ok(())
 }
 
-/// The protos, by the images of their texts and types.
+/// The protos, by the images of their texts and types. The numbers of all rows' parameters are not more than those
+/// from the first that one of them has up to the last: where rows share parameters, so do their images.
+///
+/// Error: the memory for the rows and their parameters was refused.
 pub(crate) fn renumbered_protos(
     alloc: Global,
-    tables: &Tables<'_>,
+    protos: &[ProtoEntry],
+    parameters: &Parameters<'_>,
     strings: &[usize],
     types: &[usize],
 ) -> Result<Protos, AllocError>
-    requires { All (IsEntryWithin (length strings.now) (length types.now) tables.now.parameters) tables.now.protos.items }
+    requires { All (IsEntryWithin (length strings.now) (length types.now) parameters.now) protos.now }
     ensures spans { IfOk result HasSpans }
-    ensures rows { IfOk result (λ protos. numbers_in protos ≡ map (moved_proto strings.now types.now tables.now.parameters) tables.now.protos.items) }
+    ensures rows { IfOk result (λ table. numbers_in table ≡ map (moved_proto strings.now types.now parameters.now) protos.now) }
 {
-    let mut rows = Vec::with_capacity(alloc, tables.protos.len())?;
-    let mut parameters = Vec::new(alloc);
-    for entry in &tables.protos {
-        let start = parameters.len();
-        push_images(
-            &tables.parameters.part(entry.parameters),
-            types,
-            &mut parameters,
-        )?;
+    let range = covering(protos);
+    if listed(protos) > range.end.saturating_sub(range.start) {
+        return renumbered_together(alloc, protos, parameters, range, strings, types);
+    }
+    renumbered_each(alloc, protos, parameters, strings, types)
+}
+
+// The protos, each with parameters of its own.
+fn renumbered_each(
+    alloc: Global,
+    protos: &[ProtoEntry],
+    parameters: &Parameters<'_>,
+    strings: &[usize],
+    types: &[usize],
+) -> Result<Protos, AllocError>
+    requires { All (IsEntryWithin (length strings.now) (length types.now) parameters.now) protos.now }
+    ensures spans { IfOk result HasSpans }
+    ensures rows { IfOk result (λ table. numbers_in table ≡ map (moved_proto strings.now types.now parameters.now) protos.now) }
+{
+    let mut rows = Vec::with_capacity(alloc, protos.len())?;
+    let mut moved = Vec::new(alloc);
+    for entry in protos {
+        let start = moved.len();
+        push_images(&parameters.part(entry.parameters), types, &mut moved)?;
         rows.push(ProtoEntry {
             shorty: strings[entry.shorty],
             return_type: types[entry.return_type],
             parameters: Span {
                 start,
-                end: parameters.len(),
+                end: moved.len(),
             },
         })?;
     }
-    Ok(Protos { rows, parameters })
+    Ok(Protos {
+        rows,
+        parameters: moved,
+    })
 }
 
 /// The rows of a table of protos, whose parameters are borrowed.

@@ -1,7 +1,7 @@
 //! Normalising, checking, listing and merging over devices that move few bytes, or fail.
 
 use crate::files::{cut_a, final_a, letter_a, source_of_a, unused_beside_a};
-use crate::scripts::{Script, Scripted, WHOLE, by, failing, faulty};
+use crate::scripts::{Script, Scripted, WHOLE, by, failing};
 use dexcmd::{
     MergeCause, RunFault, check_run, dump_run, explain, merge_run, merge_strip_run, normalise_run,
 };
@@ -19,16 +19,6 @@ struct Ran<T> {
     written: Vec<u8>,
     writes: usize,
     write_failed: bool,
-}
-
-// How often readers were called, and whether one failed.
-fn readings(inputs: Vec<Device<Scripted<&[u8]>>>) -> (usize, bool) {
-    let failed = inputs.iter().any(Source::failed);
-    let mut calls: usize = 0;
-    for input in inputs {
-        calls = calls.saturating_add(input.into_inner().calls);
-    }
-    (calls, failed)
 }
 
 // The same, given how often its readers were called, whether one failed, and its writer.
@@ -83,8 +73,12 @@ fn tells_the_reader(alloc: Global, reads: Script) -> Option<bool> {
 fn a_reader_of_normalising_fails_at_each_call(rt: HostRuntime) {
     for kind in [ErrorKind::BrokenPipe, ErrorKind::Interrupted] {
         for call in 0..5 {
+            let reads = Script {
+                fault: Some(kind),
+                ..failing(100, call)
+            };
             assert!(rt;
-                tells_the_reader(rt.alloc(), faulty(100, call, Some(kind))) == Some(true),
+                tells_the_reader(rt.alloc(), reads) == Some(true),
                 "call {call}"
             );
         }
@@ -115,10 +109,15 @@ fn a_writer_of_normalising_fails_at_each_call(rt: HostRuntime) {
             Some(ErrorKind::Interrupted),
             None,
         ] {
-            for call in 0..266 {
+            for failing in 0..266 {
+                let writes = Script {
+                    most,
+                    failing,
+                    fault,
+                };
                 assert!(rt;
-                    tells_the_writer(rt.alloc(), faulty(most, call, fault)) == Some(true),
-                    "call {call}"
+                    tells_the_writer(rt.alloc(), writes) == Some(true),
+                    "call {failing}"
                 );
             }
         }
@@ -144,62 +143,25 @@ fn a_file_is_listed(rt: HostRuntime) {
     );
 }
 
-// Whether a cut file is refused, and nothing is written.
-fn is_refused_unlisted(alloc: Global) -> Option<bool> {
-    let cut = cut_a(alloc)?;
+// Whether the fault of each device is told, and that the file is refused.
+fn faults_of_a_listing_are_told(alloc: Global) -> Option<bool> {
+    let (file, cut) = (letter_a(alloc)?, cut_a(alloc)?);
+    let unread = listed(alloc, &file, failing(100, 1), WHOLE);
+    let unwritten = listed(alloc, &file, WHOLE, failing(5, 2));
     let refused = listed(alloc, &cut, WHOLE, WHOLE);
     Some(
-        matches!(refused.answer, Err(RunFault::Input(0, refusal)) if refusal.number == 4)
+        matches!(unread.answer, Err(RunFault::Read(0)))
+            && unread.writes == 0
+            && matches!(unwritten.answer, Err(RunFault::Write))
+            && LISTING.starts_with(unwritten.written.as_slice())
+            && matches!(refused.answer, Err(RunFault::Input(0, refusal)) if refusal.number == 4)
             && refused.writes == 0,
     )
 }
 
 #[test]
-fn a_cut_file_is_not_listed(rt: HostRuntime) {
-    assert!(rt; is_refused_unlisted(rt.alloc()) == Some(true));
-}
-
-// What became of listing the file of `LA;`.
-fn letter_listed(alloc: Global, reads: Script, writes: Script) -> Option<Ran<()>> {
-    let file = letter_a(alloc)?;
-    Some(listed(alloc, &file, reads, writes))
-}
-
-// It moves 100 bytes a call, so that the fourth finds the end.
-#[test]
-fn a_reader_of_listing_fails_at_each_call(rt: HostRuntime) {
-    for kind in [ErrorKind::BrokenPipe, ErrorKind::Interrupted] {
-        for call in 0..4 {
-            let ran = letter_listed(rt.alloc(), faulty(100, call, Some(kind)), WHOLE);
-            assert!(rt;
-                ran.is_some_and(|ran| matches!(ran.answer, Err(RunFault::Read(0)))
-                    && ran.reads == call + 1
-                    && ran.writes == 0),
-                "call {call}"
-            );
-        }
-    }
-}
-
-// It takes one byte a call, and may also answer that it took none. What was written before is a front of the listing.
-#[test]
-fn a_writer_of_listing_fails_at_each_call(rt: HostRuntime) {
-    for fault in [
-        Some(ErrorKind::BrokenPipe),
-        Some(ErrorKind::Interrupted),
-        None,
-    ] {
-        for call in 0..LISTING.len() {
-            let ran = letter_listed(rt.alloc(), WHOLE, faulty(1, call, fault));
-            assert!(rt;
-                ran.is_some_and(|ran| matches!(ran.answer, Err(RunFault::Write))
-                    && ran.writes == call + 1
-                    && ran.written.len() == call
-                    && LISTING.starts_with(ran.written.as_slice())),
-                "call {call}"
-            );
-        }
-    }
+fn a_listing_tells_its_faults(rt: HostRuntime) {
+    assert!(rt; faults_of_a_listing_are_told(rt.alloc()) == Some(true));
 }
 
 // Checks files of these names, each read as is said for it.
@@ -212,7 +174,8 @@ fn checked(alloc: Global, files: &[(&str, &[u8], Script)], writes: Script) -> Op
     }
     let mut out = Device::new(Scripted::new(Vec::new(alloc), writes));
     let answer = check_run(alloc, names.as_slice(), inputs.as_mut_slice(), &mut out);
-    Some(ended(answer, readings(inputs), out))
+    let read_failed = inputs.iter().any(Source::failed);
+    Some(ended(answer, (0, read_failed), out))
 }
 
 // Whether each of three files has its line, and the status says that one is refused.
@@ -240,41 +203,33 @@ fn checked_twice(alloc: Global, reads: Script, writes: Script) -> Option<Ran<u8>
     checked(alloc, &files, writes)
 }
 
-// The line of the first file stays. The first reader is called twice: all comes at once, and then the end.
+// The line of the first file stays.
 #[test]
 fn a_reader_of_checking_fails_at_each_call(rt: HostRuntime) {
-    for kind in [ErrorKind::BrokenPipe, ErrorKind::Interrupted] {
-        for call in 0..4 {
-            let ran = checked_twice(rt.alloc(), faulty(100, call, Some(kind)), WHOLE);
-            assert!(rt;
-                ran.is_some_and(|ran| matches!(ran.answer, Err(RunFault::Read(1)))
-                    && ran.reads == call + 3
-                    && !ran.write_failed
-                    && ran.written.as_slice() == b"a: ok classes=1\n".as_slice()),
-                "call {call}"
-            );
-        }
+    for call in 0..4 {
+        let ran = checked_twice(rt.alloc(), failing(100, call), WHOLE);
+        assert!(rt;
+            ran.is_some_and(|ran| matches!(ran.answer, Err(RunFault::Read(1)))
+                && ran.read_failed
+                && !ran.write_failed
+                && ran.written.as_slice() == b"a: ok classes=1\n".as_slice()),
+            "call {call}"
+        );
     }
 }
 
 // What was written before is a front of the lines.
 #[test]
 fn a_writer_of_checking_fails_at_each_call(rt: HostRuntime) {
-    for fault in [
-        Some(ErrorKind::BrokenPipe),
-        Some(ErrorKind::Interrupted),
-        None,
-    ] {
-        for call in 0..32 {
-            let ran = checked_twice(rt.alloc(), WHOLE, faulty(1, call, fault));
-            assert!(rt;
-                ran.is_some_and(|ran| matches!(ran.answer, Err(RunFault::Write))
-                    && ran.writes == call + 1
-                    && ran.written.len() == call
-                    && b"a: ok classes=1\nb: ok classes=1\n".starts_with(ran.written.as_slice())),
-                "call {call}"
-            );
-        }
+    for call in 0..32 {
+        let ran = checked_twice(rt.alloc(), WHOLE, failing(1, call));
+        assert!(rt;
+            ran.is_some_and(|ran| matches!(ran.answer, Err(RunFault::Write))
+                && ran.write_failed
+                && ran.written.len() == call
+                && b"a: ok classes=1\nb: ok classes=1\n".starts_with(ran.written.as_slice())),
+            "call {call}"
+        );
     }
 }
 
@@ -299,26 +254,26 @@ fn merged(
     } else {
         merge_run(alloc, inputs.as_mut_slice(), &plan, &caps, &mut out)
     };
-    Some(ended(answer, readings(inputs), out))
+    let read_failed = inputs.iter().any(Source::failed);
+    let mut reads: usize = 0;
+    for input in inputs {
+        reads = reads.saturating_add(input.into_inner().calls);
+    }
+    Some(ended(answer, (reads, read_failed), out))
 }
 
-// Merges the two files of `LA;`, the second with the texts that nothing uses, and strips what comes out where it is to be.
-fn both(alloc: Global, reads: [Script; 2], is_stripped: bool, writes: Script) -> Option<Ran<()>> {
+// Merges the two files of `LA;`, the second with the texts that nothing uses.
+fn both(alloc: Global, reads: [Script; 2], leaves: [usize; 2], writes: Script) -> Option<Ran<()>> {
     let (first, second) = (letter_a(alloc)?, unused_beside_a(alloc)?);
     let files = [(first.as_slice(), reads[0]), (second.as_slice(), reads[1])];
-    merged(alloc, files, [0, 1], is_stripped, writes)
+    merged(alloc, files, leaves, false, writes)
 }
 
 // Whether the writer failed and is told, with as many bytes of the canonical file before as there were calls; or, where
 // it did not fail, all is written.
-fn tells_the_writer_of_a_merge(
-    alloc: Global,
-    reads: Script,
-    is_stripped: bool,
-    writes: Script,
-) -> Option<bool> {
+fn tells_the_writer_of_a_merge(alloc: Global, reads: Script, writes: Script) -> Option<bool> {
     let right = letter_a(alloc)?;
-    let merged = both(alloc, [reads, reads], is_stripped, writes)?;
+    let merged = both(alloc, [reads, reads], [0, 1], writes)?;
     if !merged.write_failed {
         return Some(merged.writes <= writes.failing && is_done(&merged, &right));
     }
@@ -330,69 +285,34 @@ fn tells_the_writer_of_a_merge(
     )
 }
 
-// It takes one byte a call, and may also answer that it took none.
 #[test]
 fn a_writer_of_a_merge_fails_at_each_call(rt: HostRuntime) {
-    for (fault, is_stripped) in [
-        (Some(ErrorKind::BrokenPipe), false),
-        (Some(ErrorKind::Interrupted), true),
-        (None, false),
-        (None, true),
-    ] {
-        for call in 0..266 {
-            let writes = faulty(1, call, fault);
-            let told = tells_the_writer_of_a_merge(rt.alloc(), WHOLE, is_stripped, writes);
-            assert!(rt; told == Some(true), "call {call}");
-        }
+    for call in 0..266 {
+        let told = tells_the_writer_of_a_merge(rt.alloc(), WHOLE, failing(1, call));
+        assert!(rt; told == Some(true), "call {call}");
     }
 }
 
 #[test]
 fn a_merge_by_one_byte_a_call(rt: HostRuntime) {
-    for is_stripped in [false, true] {
-        let told = tells_the_writer_of_a_merge(rt.alloc(), by(1), is_stripped, by(1));
-        assert!(rt; told == Some(true));
-    }
+    assert!(rt; tells_the_writer_of_a_merge(rt.alloc(), by(1), by(1)) == Some(true));
 }
 
-// It moves 100 bytes a call, so that the fourth finds the end; the other reader gives all at once, and then the end.
+// It moves 100 bytes a call, so that the fourth finds the end.
 #[test]
 fn a_reader_of_a_merge_fails_at_each_call(rt: HostRuntime) {
-    for kind in [ErrorKind::BrokenPipe, ErrorKind::Interrupted] {
-        for is_stripped in [false, true] {
-            for call in 0..4 {
-                let reads = faulty(100, call, Some(kind));
-                let first = both(rt.alloc(), [reads, WHOLE], is_stripped, WHOLE);
-                assert!(rt;
-                    first.is_some_and(|merged| merged.writes == 0
-                        && merged.reads == call + 1
-                        && matches!(merged.answer, Err(RunFault::Read(0)))),
-                    "call {call}"
-                );
-                let second = both(rt.alloc(), [WHOLE, reads], is_stripped, WHOLE);
-                assert!(rt;
-                    second.is_some_and(|merged| merged.writes == 0
-                        && merged.reads == call + 3
-                        && matches!(merged.answer, Err(RunFault::Read(1)))),
-                    "call {call}"
-                );
-            }
-        }
+    for call in 0..4 {
+        let merged = both(rt.alloc(), [WHOLE, failing(100, call)], [0, 1], WHOLE);
+        assert!(rt;
+            merged.is_some_and(|merged| merged.writes == 0
+                && matches!(merged.answer, Err(RunFault::Read(1)))),
+            "call {call}"
+        );
     }
-}
-
-// A device is called also where there is no room for a byte, and its fault is one all the same.
-#[test]
-fn an_error_on_an_empty_buffer_is_an_error(rt: HostRuntime) {
-    let bytes: &[u8] = b"a";
-    let mut input = Device::new(Scripted::new(bytes, failing(1, 0)));
-    assert!(rt; Source::read(&mut input, &mut []).is_err());
-    assert!(rt; Source::failed(&input));
-    assert!(rt; input.into_inner().calls == 1);
 }
 
 // Merges a file that is cut and one whose reader fails, or the other way round.
-fn cut_and_failing(alloc: Global, is_cut_first: bool, is_stripped: bool) -> Option<Ran<()>> {
+fn cut_and_failing(alloc: Global, is_cut_first: bool) -> Option<Ran<()>> {
     let (cut, whole) = (cut_a(alloc)?, letter_a(alloc)?);
     let cut = (cut.as_slice(), WHOLE);
     let whole = (whole.as_slice(), failing(100, 0));
@@ -401,42 +321,31 @@ fn cut_and_failing(alloc: Global, is_cut_first: bool, is_stripped: bool) -> Opti
     } else {
         [whole, cut]
     };
-    merged(alloc, files, [0, 1], is_stripped, WHOLE)
+    merged(alloc, files, [0, 1], false, WHOLE)
 }
 
 #[test]
 fn the_first_file_that_fails_is_told(rt: HostRuntime) {
-    for is_stripped in [false, true] {
-        let first = cut_and_failing(rt.alloc(), true, is_stripped);
-        assert!(rt;
-            first.is_some_and(|merged| merged.writes == 0
-                && matches!(merged.answer, Err(RunFault::Input(0, refusal)) if refusal.number == 4))
-        );
-        let second = cut_and_failing(rt.alloc(), false, is_stripped);
-        assert!(rt;
-            second.is_some_and(|merged| merged.writes == 0
-                && matches!(merged.answer, Err(RunFault::Read(0))))
-        );
-    }
-}
-
-// Merges two files, of which the first cannot be read, by a plan that names a third.
-fn planned_badly(alloc: Global, is_stripped: bool) -> Option<Ran<()>> {
-    let file = letter_a(alloc)?;
-    let files = [(file.as_slice(), failing(100, 0)), (file.as_slice(), WHOLE)];
-    merged(alloc, files, [0, 2], is_stripped, WHOLE)
+    let first = cut_and_failing(rt.alloc(), true);
+    assert!(rt;
+        first.is_some_and(|merged| merged.writes == 0
+            && matches!(merged.answer, Err(RunFault::Input(0, refusal)) if refusal.number == 4))
+    );
+    let second = cut_and_failing(rt.alloc(), false);
+    assert!(rt;
+        second.is_some_and(|merged| merged.writes == 0
+            && matches!(merged.answer, Err(RunFault::Read(0))))
+    );
 }
 
 #[test]
 fn a_bad_plan_is_told_before_a_reader_is_called(rt: HostRuntime) {
-    for is_stripped in [false, true] {
-        let merged = planned_badly(rt.alloc(), is_stripped);
-        assert!(rt;
-            merged.is_some_and(|merged| merged.reads == 0
-                && merged.writes == 0
-                && matches!(merged.answer, Err(RunFault::Plan)))
-        );
-    }
+    let merged = both(rt.alloc(), [failing(100, 0), WHOLE], [0, 2], WHOLE);
+    assert!(rt;
+        merged.is_some_and(|merged| merged.reads == 0
+            && merged.writes == 0
+            && matches!(merged.answer, Err(RunFault::Plan)))
+    );
 }
 
 // What is said of two classes `LA;` with unlike flags, where nothing was written.

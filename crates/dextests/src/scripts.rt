@@ -28,15 +28,10 @@ pub(crate) fn by(most: usize) -> Script {
 
 /// The same, and one call fails.
 pub(crate) fn failing(most: usize, failing: usize) -> Script {
-    faulty(most, failing, Some(ErrorKind::BrokenPipe))
-}
-
-/// The same, and one call has this fault, or moves no byte.
-pub(crate) fn faulty(most: usize, failing: usize, fault: Option<ErrorKind>) -> Script {
     Script {
         most,
         failing,
-        fault,
+        fault: Some(ErrorKind::BrokenPipe),
     }
 }
 

@@ -1,5 +1,5 @@
 -- Classes in the order of their definitions.
-use Rattle.std.proofs.Common.{◌≡◌, ℕ, suc, ◌+◌, ◌<◌, true, List, [], ◌∷◌, length, get_or, map, refl, sym, ap, ◌∙◌, subst, arith, Option, Ok, Err}
+use Rattle.std.proofs.Common.{◌≡◌, ℕ, suc, ◌+◌, ◌<◌, true, List, [], ◌∷◌, length, get_or, map, refl, sym, ap, ◌∙◌, subst, arith, Option, Some, None, Ok, Err}
 use Rattle.std.specs.Prelude.{All, Result, IfOk}
 use Rattle.std.specs.List.{Contains, range_with_len}
 use Rattle.std.specs.List.Sorted.{IsPermutation}
@@ -8,19 +8,21 @@ use Rattle.std.proofs.lemmas.List.FromFn.{get_or-range_with_len, length-range_wi
 use Rattle.std.proofs.lemmas.List.Sorted.{Contains-permutation, IsPermutation-sym}
 use Rattle.std.proofs.lemmas.List.Elements.{All-contains, Contains-get_or}
 use Rattle.dexspec.specs.Lists.{rises, AreDistinct}
+use Rattle.dexspec.specs.Texts.{Text}
 use Rattle.dexspec.specs.Classes.{Definition}
-use Rattle.dexspec.specs.Depth.{IsAcyclic, in_class_order}
+use Rattle.dexspec.specs.Depth.{IsAcyclic, depth, in_class_order}
 use Rattle.dexspec.specs.Mentions.{Mentions}
 use Rattle.dexspec.proofs.InOrder.{Rises-from_rises, AreDistinct-from_Rises}
+use Rattle.dexspec.proofs.Depths.{Contains-map}
 use Rattle.dexspec.proofs.Mapped.{Contains-map_source, AreDistinct-map_source}
 use Rattle.dexorder.specs.Depths.{AreWithin, AreDepths}
-use Rattle.dexorder.specs.Definitions.{AreClassesOf, AreNamesOf}
+use Rattle.dexorder.specs.Definitions.{AreClassesOf, AreDepthsOf, AreNamesOf}
 use Rattle.dexorder.specs.Places.{class_place, class_cmp}
 use Rattle.dexorder.proofs.PlaceLaws.{class_total}
 use Rattle.dexorder.proofs.DefinitionDepths.{all_known}
-use Rattle.dexorder.proofs.DefinitionOrder.{same_order}
+use Rattle.dexorder.proofs.DefinitionOrder.{own_depths, same_order}
 use Rattle.dexclass.specs.Numbered.{NumberedClass, type_at, definition_of}
-use Rattle.dexclass.specs.Parents.{no_class, name_number, IsHierarchy, AreNamed}
+use Rattle.dexclass.specs.Parents.{no_class, name_number, IsHierarchy, AreNamed, AreDepthsByName}
 use Rattle.dexclass.proofs.Classed.{name_is, one_number, classes_of}
 use Rattle.dexclass.proofs.NamesOf.{names_of}
 use Rattle.dexclass.proofs.Places.{parents_are}
@@ -66,28 +68,50 @@ module _ (m : Mentions) (cs : List NumberedClass) (named : AreNamed m cs) where
     pub are_within : AreWithin H
     are_within = are_classes.within
 
-    module _ (depths : List (Option ℕ)) (names order : List ℕ) (a : AreDepths H depths) (e : names ≡ map (λ c. c.name) cs) (p : IsPermutation (range_with_len 0 (length names)) order) (r : rises class_cmp (map (class_place depths names) order) ≡ true) where
-      -- no place stands twice
-      pub order_distinct : AreDistinct order
-      order_distinct = AreDistinct-map_source (class_place depths names) order (AreDistinct-from_Rises class_cmp class_total (map (class_place depths names) order) (Rises-from_rises class_cmp class_total (map (class_place depths names) order) r))
+    -- the depths that were found are those of the definitions
+    pub depths_are : (depths : List (Option ℕ)) → AreDepths H depths → IsAcyclic D → AreDepthsOf D depths
+    depths_are depths a acyclic = own_depths D H depths are_classes a (all_known D H are_classes depths a acyclic)
 
-      length_names : length names ≡ length cs
-      length_names = ap length e ∙ length-map cs (λ (c : NumberedClass). c.name)
+  -- depths that are known by name are those of the definitions
+  pub known_are : (by_name : List (Option ℕ)) → AreDepthsByName m D by_name → AreDepthsOf D (map (λ c. get_or by_name c.name None) cs)
+  known_are by_name h = record {
+    count = length-map cs (λ (c : NumberedClass). get_or by_name c.name None) ∙ sym (length-map cs (definition_of m));
+    each = λ i lt.
+        let few : i < length cs = omega (arith, lt, length-map cs (definition_of m)) in
+        let member : Contains D (definition_of m (get_or cs i no_class)) = Contains-map (definition_of m) cs (get_or cs i no_class) (Contains-get_or cs i no_class few) in
+        get_or-map (λ (c : NumberedClass). get_or by_name c.name None) cs i no_class None few
+        ∙ h.each (definition_of m (get_or cs i no_class)) member (name_number cs i) (named.names i few) refl
+        ∙ ap (λ (t : Text). Some (depth D t)) (sym (name_is m cs named i few));
+  }
 
-      pub order_within : All (λ i. i < length cs) order
-      order_within k d lt =
-          let c = Contains-permutation order (range_with_len 0 (length names)) (get_or order k d) (IsPermutation-sym (range_with_len 0 (length names)) order p) (Contains-get_or order k d lt) in
-          omega (arith, below (length names) (get_or order k d) c, length_names)
+  -- each name has a place there
+  pub known_within : (by_name : List (Option ℕ)) → AreDepthsByName m D by_name → All (λ c. c.name < length by_name) cs
+  known_within by_name h i d lt =
+      let at : (get_or cs i d).name ≡ name_number cs i = ap (λ (c : NumberedClass). c.name) (get_or_default cs i d no_class lt) in
+      omega (arith, named.names i lt, h.count, at)
 
-      -- each is one of the classes
-      pub arranged_among : (arranged : List NumberedClass) → arranged ≡ map (λ i. get_or cs i no_class) order → (c : NumberedClass) → Contains arranged c → Contains cs c
-      arranged_among arranged is c member =
-          let s = Contains-map_source (λ i. get_or cs i no_class) order c (subst (λ (l : List NumberedClass). Contains l c) is member) in
-          let lt : s.0 < length cs = All-contains (λ i. i < length cs) order s.0 order_within s.1 in
-          (s.0, lt, get_or_default cs s.0 c no_class lt ∙ s.2)
+  module _ (depths : List (Option ℕ)) (names order : List ℕ) (e : names ≡ map (λ c. c.name) cs) (p : IsPermutation (range_with_len 0 (length names)) order) (r : rises class_cmp (map (class_place depths names) order) ≡ true) where
+    -- no place stands twice
+    pub order_distinct : AreDistinct order
+    order_distinct = AreDistinct-map_source (class_place depths names) order (AreDistinct-from_Rises class_cmp class_total (map (class_place depths names) order) (Rises-from_rises class_cmp class_total (map (class_place depths names) order) r))
 
-      pub ordered_are : IsAcyclic D → (arranged : List NumberedClass) → arranged ≡ map (λ i. get_or cs i no_class) order → map (definition_of m) arranged ≡ in_class_order D
-      ordered_are acyclic arranged is =
-          let count : length names ≡ length D = length_names ∙ sym (length-map cs (definition_of m)) in
-          ap (map (definition_of m)) is ∙ arranged_are order order_within
-          ∙ same_order D H depths names are_classes a (all_known D H are_classes depths a acyclic) (subst (AreNamesOf D) (sym e) (names_of m cs named)) (definition_of m no_class) order names_apart (subst (λ (n : ℕ). IsPermutation (range_with_len 0 n) order) count p) r
+    length_names : length names ≡ length cs
+    length_names = ap length e ∙ length-map cs (λ (c : NumberedClass). c.name)
+
+    pub order_within : All (λ i. i < length cs) order
+    order_within k d lt =
+        let c = Contains-permutation order (range_with_len 0 (length names)) (get_or order k d) (IsPermutation-sym (range_with_len 0 (length names)) order p) (Contains-get_or order k d lt) in
+        omega (arith, below (length names) (get_or order k d) c, length_names)
+
+    -- each is one of the classes
+    pub arranged_among : (arranged : List NumberedClass) → arranged ≡ map (λ i. get_or cs i no_class) order → (c : NumberedClass) → Contains arranged c → Contains cs c
+    arranged_among arranged is c member =
+        let s = Contains-map_source (λ i. get_or cs i no_class) order c (subst (λ (l : List NumberedClass). Contains l c) is member) in
+        let lt : s.0 < length cs = All-contains (λ i. i < length cs) order s.0 order_within s.1 in
+        (s.0, lt, get_or_default cs s.0 c no_class lt ∙ s.2)
+
+    pub ordered_are : AreDepthsOf D depths → (arranged : List NumberedClass) → arranged ≡ map (λ i. get_or cs i no_class) order → map (definition_of m) arranged ≡ in_class_order D
+    ordered_are a arranged is =
+        let count : length names ≡ length D = length_names ∙ sym (length-map cs (definition_of m)) in
+        ap (map (definition_of m)) is ∙ arranged_are order order_within
+        ∙ same_order D depths names a (subst (AreNamesOf D) (sym e) (names_of m cs named)) (definition_of m no_class) order names_apart (subst (λ (n : ℕ). IsPermutation (range_with_len 0 n) order) count p) r

@@ -1,12 +1,14 @@
 -- The parents of numbered classes, as numbers of classes.
-use Rattle.std.specs.Prelude.{◌≡◌, ℕ, ◌<◌, true, All, List, [], length, map, Option, None, slice_index_or}
+use Rattle.std.specs.Prelude.{◌≡◌, ℕ, ◌<◌, true, All, List, [], length, map, Option, None, Some, slice_index_or}
 use Rattle.std.specs.List.{Contains}
 use Rattle.dexspec.specs.Lists.{rises, AreDistinct}
 use Rattle.dexspec.specs.Texts.{text_cmp}
+use Rattle.dexspec.specs.Classes.{Definition}
 use Rattle.dexspec.specs.Mentions.{Mentions}
+use Rattle.dexspec.specs.Depth.{depth}
 use Rattle.dexmembers.specs.Numbered.{no_members}
 use Rattle.dexorder.specs.Parents.{AreByType, IsHierarchyOf, parent_types}
-use Rattle.dexclass.specs.Numbered.{NumberedClass}
+use Rattle.dexclass.specs.Numbered.{NumberedClass, type_at}
 
 -- the numbers of the superclass and the interfaces
 abbrev pub parent_numbers : NumberedClass → List ℕ
@@ -34,3 +36,8 @@ pub record AreNamed (m : Mentions) (cs : List NumberedClass) : Type 0 where
   pub names : (i : ℕ) → i < length cs → name_number cs i < length m.types
   pub parents_in : (c : NumberedClass) → Contains cs c → All (λ p. p < length m.types) (parent_numbers c)
   pub distinct : AreDistinct (map (λ c. c.name) cs)
+
+-- a place for each type; at the number of each definition's name stands its depth
+pub record AreDepthsByName (m : Mentions) (D : List Definition) (by_name : List (Option ℕ)) : Type 0 where
+  pub count : length by_name ≡ length m.types
+  pub each : (d : Definition) → Contains D d → (t : ℕ) → t < length m.types → type_at m t ≡ d.0 → slice_index_or by_name t None ≡ Some (depth D d.0)

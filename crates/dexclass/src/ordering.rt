@@ -1,8 +1,9 @@
 //! Classes in the order of a canonical file: by depth, and then by name.
 
-ghost use Rattle.std.specs.Prelude.{◌≡◌, length, map, IfOk};
+ghost use Rattle.std.specs.Prelude.{◌≡◌, ◌<◌, All, None, length, map, slice_index_or, IfOk};
 ghost use Rattle.dexspec.specs.Mentions.{Mentions};
 ghost use Rattle.dexspec.specs.Depth.{IsAcyclic, in_class_order};
+ghost use Rattle.dexorder.specs.Definitions.{AreDepthsOf};
 ghost use Rattle.dexpool.specs.Numberings.{AreIn};
 ghost use Rattle.dexclass.specs.Numbered.{definition_of};
 ghost use Rattle.dexclass.specs.Parents.{AreNamed};
@@ -23,24 +24,59 @@ fn names(alloc: Global, classes: &[Class<'_>]) -> Result<Vec<usize>, AllocError>
     Ok(names)
 }
 
+/// The depths of the classes.
+///
+/// Conditions: the classes are those of a numbering that has so many types, and no two have one name. Error: the memory
+/// for the depths was refused.
+///
+/// Source: "class_defs", a superclass and interfaces stand before the class.
+pub(crate) fn depths_of(
+    alloc: Global,
+    classes: &[Class<'_>],
+    types: usize,
+) -> Result<Vec<Option<usize>>, AllocError>
+    requires { (m : Mentions) × (length m.types ≡ types) × AreNamed m classes.now }
+    ensures { IfOk result (λ depths. (m : Mentions) → AreNamed m classes.now → IsAcyclic (map (definition_of m) classes.now) → AreDepthsOf (map (definition_of m) classes.now) depths.items) }
+{
+    Hierarchy::of(alloc, classes, types)?.depths(alloc)
+}
+
+/// The depths of the classes, where they stand at the numbers of their names.
+///
+/// Condition: the name of each class has a place. Error: the memory for the depths was refused.
+pub(crate) fn known_depths(
+    alloc: Global,
+    classes: &[Class<'_>],
+    by_name: &[Option<usize>],
+) -> Result<Vec<Option<usize>>, AllocError>
+    requires { All (λ c. c.name < length by_name.now) classes.now }
+    ensures { IfOk result (λ depths. depths.items ≡ map (λ c. slice_index_or by_name.now c.name None) classes.now) }
+{
+    let mut depths = Vec::with_capacity(alloc, classes.len())?;
+    for i in 0..classes.len() {
+        depths.push(by_name[classes[i].name()])?;
+    }
+    Ok(depths)
+}
+
 /// The classes by depth, and then by name.
 ///
-/// Conditions: the classes are those of a numbering that has so many types, no two have one name, and none is
-/// above itself. Error: the memory for it was refused.
+/// Conditions: the classes are those of a numbering, no two have one name, and there are as many depths. Error: the
+/// memory for the order was refused.
 ///
 /// Source: "class_defs", a superclass and interfaces stand before the class; by depth and then by name is this
 /// project's rule.
 pub(crate) fn in_order<'a>(
     alloc: Global,
     classes: &mut Vec<Class<'a>>,
-    types: usize,
+    depths: &[Option<usize>],
 ) -> Result<Vec<Class<'a>>, AllocError>
-    requires numbering { (m : Mentions) × (length m.types ≡ types) × AreNamed m classes.old.items × IsAcyclic (map (definition_of m) classes.old.items) }
-    ensures order { IfOk result (λ ordered. (m : Mentions) → AreNamed m classes.old.items → IsAcyclic (map (definition_of m) classes.old.items) → map (definition_of m) ordered.items ≡ in_class_order (map (definition_of m) classes.old.items)) }
+    requires numbering { (m : Mentions) × AreNamed m classes.old.items }
+    requires count { length depths.now ≡ length classes.old.items }
+    ensures order { IfOk result (λ ordered. (m : Mentions) → AreNamed m classes.old.items → AreDepthsOf (map (definition_of m) classes.old.items) depths.now → map (definition_of m) ordered.items ≡ in_class_order (map (definition_of m) classes.old.items)) }
     ensures members { IfOk result (λ ordered. AreIn ordered.items classes.old.items) }
 {
-    let depths = Hierarchy::of(alloc, classes, types)?.depths(alloc)?;
     let names = names(alloc, classes)?;
-    let order = class_order(alloc, &depths, &names)?;
+    let order = class_order(alloc, depths, &names)?;
     arrange(alloc, classes, &order)
 }

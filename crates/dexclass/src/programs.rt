@@ -8,12 +8,14 @@ ghost use Rattle.dexspec.specs.Mentions.{Mentions, mentions};
 ghost use Rattle.dexspec.specs.Weight.{body_weight, weight};
 ghost use Rattle.dexspec.specs.Merging.{IsGood, greatest_caps};
 ghost use Rattle.dexclass.specs.Numbered.{definition_of};
+ghost use Rattle.dexorder.specs.Definitions.{AreDepthsOf};
 ghost use Rattle.dexpool.specs.Numberings.{AreRising};
+ghost use Rattle.dexclass.specs.Parents.{AreDepthsByName};
 ghost use Rattle.dexclass.specs.Uses.{IsKnownClass};
 ghost use Rattle.dexclass.specs.Programs.{AreMergeable, AreClassesOf, IsClassAt};
 
 use crate::classes::Class;
-use crate::ordering::in_order;
+use crate::ordering::{depths_of, in_order, known_depths};
 use dexpool::{Numbering, SymbolKind};
 use std::alloc::{AllocError, Global};
 use std::marker::Model;
@@ -130,13 +132,34 @@ impl<'a> Program<'a> {
         Program::weighing(alloc, numbering, classes, weight)
     }
 
+    /// The program of classes whose depths are known, as [`Program::of`] makes it. `depths` has a place for each type of
+    /// the numbering, and at the number of each class's name the depth of that class.
+    ///
+    /// Conditions: those of [`Program::of`], and the depths are those of the classes. Error: the memory for the order was
+    /// refused.
+    pub fn of_known(
+        alloc: Global,
+        numbering: Numbering<'a>,
+        classes: Vec<Class<'a>>,
+        depths: &[Option<usize>],
+    ) -> Result<Program<'a>, AllocError>
+        requires mergeable { AreMergeable numbering classes.items }
+        requires depths { AreDepthsByName numbering (map (definition_of numbering) classes.items) depths.now }
+        ensures { IfOk result (IsCollectionOf (map (definition_of numbering.entry) classes.entry.items)) }
+    {
+        numbering.is_numbering();
+        let total = weight_of(&numbering, &classes);
+        let known = known_depths(alloc, &classes, depths)?;
+        Program::arranged(alloc, numbering, classes, &known, total)
+    }
+
     /// The program of classes that weigh `total` together, as [`Program::of`] makes it.
     ///
     /// Conditions: those of [`Program::of`]. Error: the memory for the order was refused.
     pub(crate) fn weighing(
         alloc: Global,
         numbering: Numbering<'a>,
-        mut classes: Vec<Class<'a>>,
+        classes: Vec<Class<'a>>,
         total: u64,
     ) -> Result<Program<'a>, AllocError>
         requires mergeable { AreMergeable numbering classes.items }
@@ -145,7 +168,25 @@ impl<'a> Program<'a> {
     {
         numbering.is_numbering();
         let types = numbering.count(SymbolKind::Typ);
-        let classes = in_order(alloc, &mut classes, types)?;
+        let depths = depths_of(alloc, &classes, types)?;
+        Program::arranged(alloc, numbering, classes, &depths, total)
+    }
+
+    // The program of classes of these depths that weigh `total` together.
+    fn arranged(
+        alloc: Global,
+        numbering: Numbering<'a>,
+        mut classes: Vec<Class<'a>>,
+        depths: &[Option<usize>],
+        total: u64,
+    ) -> Result<Program<'a>, AllocError>
+        requires mergeable { AreMergeable numbering classes.items }
+        requires depths { AreDepthsOf (map (definition_of numbering) classes.items) depths.now }
+        requires total { total ≡ weight (map (definition_of numbering) classes.items) }
+        ensures { IfOk result (IsCollectionOf (map (definition_of numbering.entry) classes.entry.items)) }
+    {
+        numbering.is_numbering();
+        let classes = in_order(alloc, &mut classes, depths)?;
         Ok(Program {
             numbering,
             classes,

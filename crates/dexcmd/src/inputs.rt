@@ -11,7 +11,7 @@ use std::alloc::{AllocError, Global};
 /// long, whatever else is to come.
 pub const MOST_READ: usize = 1073741825;
 
-// How much room is made for the next bytes: as much as has come, within these bounds.
+// How much room is made for the next bytes where more come than were expected: as much as has come, within these bounds.
 const LEAST_ROOM: usize = 4096;
 
 const MOST_ROOM: usize = 1048576;
@@ -33,8 +33,25 @@ impl From<AllocError> for InputFault {
     }
 }
 
+// How much room is made where all of it is filled. For what is expected it is made at once, and for one byte more, so
+// that the end is found without another growth.
+fn room_for(expected: usize, filled: usize) -> usize
+    requires { filled < 1073741825 }
+    ensures more { filled < result }
+    ensures bound { result ≤ 1073741825 }
+{
+    if filled < expected {
+        return expected.min(MOST_READ - 1) + 1;
+    }
+    filled
+        + filled
+            .max(LEAST_ROOM)
+            .min(MOST_ROOM)
+            .min(MOST_READ - filled)
+}
+
 // Makes room behind the bytes that have come, unless there is some.
-fn make_room(bytes: &mut Vec<u8>, filled: usize) -> Result<(), AllocError>
+fn make_room(bytes: &mut Vec<u8>, filled: usize, expected: usize) -> Result<(), AllocError>
     requires filled { filled ≤ vec_len bytes.old }
     requires most { filled < 1073741825 }
     requires bound { vec_len bytes.old ≤ 1073741825 }
@@ -45,11 +62,7 @@ fn make_room(bytes: &mut Vec<u8>, filled: usize) -> Result<(), AllocError>
     if filled < bytes.len() {
         return Ok(());
     }
-    let room = filled
-        .max(LEAST_ROOM)
-        .min(MOST_ROOM)
-        .min(MOST_READ - filled);
-    bytes.resize(filled + room, 0)?;
+    bytes.resize(room_for(expected, filled), 0)?;
     Ok(())
 }
 
@@ -88,7 +101,7 @@ fn read_more<R: Source>(
     ensures moved { IfOk result (λ n. R.tells input.old → R.to_come input.old ≡ take n (drop filled bytes.new.items) ++ R.to_come input.new) }
     ensures end { IfOk result (λ n. n ≡ 0 → R.tells input.old → R.to_come input.old ≡ []) }
 {
-    make_room(bytes, filled)?;
+    make_room(bytes, filled, input.expected())?;
     match read_at(input, bytes.as_mut_slice(), filled) {
         Ok(taken) => Ok(taken),
         Err(_) => Err(InputFault::Read),

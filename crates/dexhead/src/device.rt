@@ -24,6 +24,10 @@ pub trait Source {
     fn failed(&self) -> bool
         ensures { result ≡ has_failed self.now };
 
+    /// How many bytes in all it was expected to tell, 0 where nobody knows. It is a hint for the room that is made at
+    /// first, and nothing is promised of it.
+    fn expected(&self) -> usize;
+
     /// Moves a front of the bytes to come into the front of the buffer, and answers how many bytes that
     /// are. For a buffer that is not empty these are 0 only at the end of the bytes.
     ///
@@ -87,19 +91,29 @@ pub trait Sink {
 pub struct Device<T> {
     inner: T,
     is_broken: bool,
+    expected: usize,
 }
 
 impl<T> Device<T> {
     ghost use Rattle.dexhead.specs.Device.{inner_of, is_broken};
 
-    /// A device that has not failed.
+    /// A device that has not failed. How many bytes it will tell is not known.
     pub fn new(inner: T) -> Self
+        ensures inner { inner_of result ≡ inner }
+        ensures works { is_broken result ≡ false }
+    {
+        Device::expecting(inner, 0)
+    }
+
+    /// A device that has not failed, of which so many bytes are expected.
+    pub fn expecting(inner: T, expected: usize) -> Self
         ensures inner { inner_of result ≡ inner }
         ensures works { is_broken result ≡ false }
     {
         Device {
             inner,
             is_broken: false,
+            expected,
         }
     }
 
@@ -121,6 +135,10 @@ impl<T: Read> Source for Device<T> {
 
     fn failed(&self) -> bool {
         self.is_broken
+    }
+
+    fn expected(&self) -> usize {
+        self.expected
     }
 
     fn read(&mut self, buf: &mut [u8]) -> Result<usize, DeviceFault> {

@@ -1,28 +1,45 @@
--- The first class without a depth has the least name that has none.
-use Rattle.std.proofs.Common.{◌≡◌, ℕ, ◌<◌, List, [], length, get_or, map, sym, ap, ◌∙◌, subst, arith, inl, inr, Option, Some, None, Less}
-use Rattle.std.specs.Prelude.{All, IsSome, MatchOption}
-use Rattle.std.proofs.lemmas.Bool.{cases_order}
-use Rattle.std.proofs.lemmas.List.{length-map, get_or_default}
-use Rattle.dexspec.specs.Texts.{Text, text_cmp}
+-- The depths of classes by name, and the first class without one, which has the least name that has none.
+use Rattle.std.proofs.Common.{◌≡◌, ℕ, ◌+◌, ◌<◌, true, List, [], length, get_or, map, refl, sym, ap, ◌∙◌, subst, arith, inl, inr, Option, Some, None, Less}
+use Rattle.std.specs.Prelude.{All, IsSome, slice_set}
+use Rattle.std.specs.List.{Contains}
+use Rattle.std.proofs.lemmas.Bool.{cases_order, cases_lt}
+use Rattle.std.proofs.lemmas.List.{length-map, get_or_default, get_or-set_same, get_or-set_other}
+use Rattle.dexspec.specs.Texts.{Text, text_cmp, same_text}
 use Rattle.dexspec.specs.Classes.{Definition}
+use Rattle.dexspec.specs.Files.{AreSame}
+use Rattle.dexspec.specs.Depth.{IsAcyclic, depth, is_defined}
 use Rattle.dexspec.specs.Mentions.{Mentions}
 use Rattle.dexspec.specs.Merging.{IsCycle}
+use Rattle.dexspec.proofs.Members.{list_any-member}
+use Rattle.dexspec.proofs.Depths.{depth-same}
+use Rattle.dexspec.proofs.Mapped.{Contains-map_source}
 use Rattle.dexspec.proofs.InOrder.{Rises-from_rises, Rises-places, irreflexive, asymmetric}
 use Rattle.dexspec.proofs.SymbolOrders.{text_total}
 use Rattle.dexorder.specs.Depths.{AreDepths, AreWithin, IsAnswer, HasNone}
 use Rattle.dexorder.specs.Parents.{AllHaveDepths, IsFirstWithout}
-use Rattle.dexorder.specs.Definitions.{AreClassesOf}
-use Rattle.dexorder.proofs.DefinitionDepths.{no_cycle, is_cycle, cycle_class}
+use Rattle.dexorder.specs.Definitions.{AreClassesOf, name_at}
+use Rattle.dexorder.proofs.DefinitionDepths.{no_cycle, is_cycle, cycle_class, same_from_equal}
+use Rattle.dexorder.proofs.DefinitionOrder.{own_depths}
 use Rattle.dexclass.specs.Numbered.{NumberedClass, type_at, definition_of}
-use Rattle.dexclass.specs.Parents.{no_class, name_number, IsHierarchy}
-use Rattle.dexclass.proofs.Classed.{name_is}
+use Rattle.dexclass.specs.Parents.{no_class, name_number, IsHierarchy, AreDepthsByName}
+use Rattle.dexclass.proofs.Classed.{name_is, one_number}
 use Rattle.dexclass.proofs.Ordered.{are_classes}
-use Rattle.dexmerge.specs.Cycles.{AreKept, AreAcyclic, IsFirstCycle}
+use Rattle.dexmerge.specs.Cycles.{AreKept, HaveDepths, IsFirstCycle}
 
 -- a depth that is there and is not
 some_none : (o : Option ℕ) → IsSome o → o ≡ None → ⊥
 some_none None s e = absurd cc
 some_none (Some k) s e = absurd cc
+
+-- depths by name rest on the members alone
+pub depths_same : (m : Mentions) (D E : List Definition) (by_name : List (Option ℕ)) → AreSame D E → IsAcyclic D → AreDepthsByName m D by_name → AreDepthsByName m E by_name
+depths_same m D E by_name same acyclic h = record {
+  count = h.count;
+  each = λ d has t lt e.
+      let there : Contains D d = (same d).1 has in
+      let defined : is_defined D d.0 ≡ true = list_any-member (λ (x : Definition). same_text x.0 d.0) D d there (same_from_equal d.0 d.0 refl) in
+      h.each d there t lt e ∙ ap Some (depth-same D E d.0 (λ x c. (same x).0 c) (λ x c. (same x).1 c) (acyclic d.0 defined));
+}
 
 module _ (m : Mentions) (cs : List NumberedClass) (kept : AreKept m cs) where
   -- names are types
@@ -46,6 +63,32 @@ module _ (m : Mentions) (cs : List NumberedClass) (kept : AreKept m cs) where
     ]
   ]
 
+  -- the depth of one class more is entered at its name
+  pub by_name_more : (depths old : List (Option ℕ)) (i name : ℕ) (x : Option ℕ) → i < length cs → length old ≡ length m.types → name ≡ name_number cs i → x ≡ get_or depths i None
+      → ((k : ℕ) → k < i → get_or old (name_number cs k) None ≡ get_or depths k None) → (k : ℕ) → k < i + 1 → get_or (slice_set old name x) (name_number cs k) None ≡ get_or depths k None
+  by_name_more depths old i name x lt count is e before k less = elim (cases_lt k i) [
+    | inl small ↦ get_or-set_other old name (name_number cs k) x None (λ same. absurd (omega (arith, kept.rise k i small lt, same, is))) ∙ before k small
+    | inr large ↦
+        let at : i ≡ k = omega (arith, large, less) in
+        let here : name_number cs k ≡ name = ap (name_number cs) (sym at) ∙ sym is in
+        ap (λ (t : ℕ). get_or (slice_set old name x) t None) here ∙ get_or-set_same old name x None (omega (arith, kept.named.names i lt, count, is)) ∙ e ∙ ap (λ (n : ℕ). get_or depths n None) at
+  ]
+
+  -- the depths of all classes are there by name
+  pub by_name_is : (depths by_name : List (Option ℕ)) → length by_name ≡ length m.types → ((k : ℕ) → k < length cs → get_or by_name (name_number cs k) None ≡ get_or depths k None) → HaveDepths m cs depths → AreDepthsByName m D by_name
+  by_name_is depths by_name count all h = record {
+    count = count;
+    each = λ d has t lt e.
+        let s = Contains-map_source (definition_of m) cs d has in
+        let i : ℕ = s.1.0 in
+        let few : i < length cs = s.1.1 in
+        let at : get_or cs i no_class ≡ s.0 = get_or_default cs i no_class s.0 few ∙ s.1.2 in
+        let name : type_at m (name_number cs i) ≡ d.0 = ap (λ (c : NumberedClass). type_at m c.name) at ∙ ap (λ (x : Definition). x.0) s.2 in
+        let number : name_number cs i ≡ t = one_number m cs kept.named (name_number cs i) t (kept.named.names i few) lt (name ∙ sym e) in
+        let own : get_or depths i None ≡ Some (depth D (name_at D i)) = h.are.each i (omega (arith, few, length-map cs (definition_of m))) in
+        ap (λ (n : ℕ). get_or by_name n None) (sym number) ∙ all i few ∙ own ∙ ap (λ (x : Text). Some (depth D x)) (name_is m cs kept.named i few ∙ name);
+  }
+
   module _ (H : List (List ℕ)) (h : IsHierarchy cs H) where
     numbered : AreClassesOf D H
     numbered = are_classes m cs kept.named H h
@@ -58,7 +101,7 @@ module _ (m : Mentions) (cs : List NumberedClass) (kept : AreKept m cs) where
 
     module _ (depths : List (Option ℕ)) (a : AreDepths H depths) where
       -- the first class without a depth
-      first_is : (i : ℕ) → IsFirstWithout depths i → IsFirstCycle m cs i
+      pub first_is : (i : ℕ) → IsFirstWithout depths i → IsFirstCycle m cs i
       first_is i f =
           let few : i < length cs = omega (arith, f.within, a.count, count) in
           let inside : i < length H = omega (arith, f.within, a.count) in
@@ -74,7 +117,6 @@ module _ (m : Mentions) (cs : List NumberedClass) (kept : AreKept m cs) where
                 some_none (get_or depths s.0 None) (f.before s.0 first) s.3;
           }
 
-      -- what was found
-      pub found_is : (found : Option ℕ) → MatchOption found (AllHaveDepths depths) (IsFirstWithout depths) → MatchOption found (AreAcyclic m cs) (IsFirstCycle m cs)
-      found_is None all = no_cycle D H numbered depths a all
-      found_is (Some i) f = first_is i f
+      -- where each class has a depth, the depths are those of the definitions
+      pub depths_are : AllHaveDepths depths → HaveDepths m cs depths
+      depths_are all = record { acyclic = no_cycle D H numbered depths a all; are = own_depths D H depths numbered a all }

@@ -1,5 +1,5 @@
 -- One class of each name, class by class and part by part.
-use Rattle.std.proofs.Common.{◌≡◌, ◌≢◌, ℕ, zero, suc, ◌+◌, ◌<◌, Bool, true, false, List, [], ◌∷◌, ◌++◌, length, get_or, take, drop, map, replicate, length-take, refl, sym, ap, ◌∙◌, subst, arith, inl, inr}
+use Rattle.std.proofs.Common.{◌≡◌, ◌≢◌, ℕ, zero, suc, ◌+◌, ◌<◌, Bool, true, false, List, [], ◌∷◌, ◌++◌, length, get_or, take, drop, map, replicate, length-take, refl, sym, ap, ◌∙◌, subst, arith, inl, inr, Option}
 use Rattle.std.specs.Prelude.{slice_set, slice_index_or}
 use Rattle.std.specs.List.{Contains, AllZip, flat_map}
 use Rattle.std.proofs.lemmas.Bool.{false≢true, cases_eq}
@@ -23,12 +23,14 @@ use Rattle.dexspec.proofs.Members.{Contains-nil, Contains-first, Contains-later,
 use Rattle.dexpool.specs.Numberings.{Maps}
 use Rattle.dexclass.specs.Numbered.{NumberedClass, type_at, definition_of}
 use Rattle.dexclass.specs.Uses.{IsKnownClass}
+use Rattle.dexclass.specs.Parents.{AreDepthsByName}
 use Rattle.dexclass.specs.Programs.{AreClassesOf, AreMergeable}
 use Rattle.dexclass.specs.Renumbering.{led, renumbered, LeadInto, StaysSame}
 use Rattle.dexmerge.specs.Gathering.{IsPartOf, ArePartsOf, AreGathered, IsAdded, AreOneOfEach}
 use Rattle.dexmerge.specs.declared.gathering.Gathered.{Gathered}
 use Rattle.dexmerge.specs.Unions.{IsJudged}
 use Rattle.dexmerge.proofs.CapLaws.{good_greatest}
+use Rattle.dexmerge.proofs.CycleLaws.{depths_same}
 use Rattle.dexmerge.proofs.PartMembers.{KeepMeaning, LeadClasses, led_class, zip_at, parts_more}
 
 -- the names of classes
@@ -218,6 +220,10 @@ are_mergeable m D cs own good h =
       good = IsGood-within E D (λ d. (h.same d).0) greatest_caps good;
       formed = λ d has. h.formed d ((h.same d).0 has);
     }
+
+-- the depths of the definitions are theirs
+pub depths_are : (m : Mentions) (D : List Definition) (cs : List NumberedClass) (by_name : List (Option ℕ)) → IsGood greatest_caps D → AreOneOfEach m D cs → AreDepthsByName m D by_name → AreDepthsByName m (map (definition_of m) cs) by_name
+depths_are m D cs by_name good h known = depths_same m D (map (definition_of m) cs) by_name (λ d. ((h.same d).1, (h.same d).0)) good.acyclic known
 
 -- of just the definitions
 pub collection_is : (m : Mentions) (D : List Definition) (cs : List NumberedClass) (K : Collection) → AreOneOfEach m D cs → IsCollectionOf (map (definition_of m) cs) K → IsCollectionOf D K

@@ -14,7 +14,7 @@ use Rattle.dexspec.proofs.FirstCauses.{first_cause-same}
 use Rattle.dexspec.proofs.Absorption.{IsGood-within}
 use Rattle.dexpool.specs.Numberings.{AreRising, AreIn, Maps}
 use Rattle.dexclass.specs.Numbered.{NumberedClass, type_at, definition_of}
-use Rattle.dexclass.specs.Parents.{no_class, name_number, ArePlaces}
+use Rattle.dexclass.specs.Parents.{no_class, name_number, ArePlaces, AreDepthsByName}
 use Rattle.dexclass.specs.Renumbering.{renumbered, LeadInto, IsPartClass}
 use Rattle.dexmerge.specs.Faults.{IsOfCap}
 use Rattle.dexmerge.specs.declared.candidates.Candidate.{Candidate}
@@ -24,6 +24,7 @@ use Rattle.dexmerge.specs.Amounts.{first_over}
 use Rattle.dexmerge.specs.Unions.{AreCopies, AreOnce, IsJoined}
 use Rattle.dexmerge.proofs.UnionLaws.{AreTold, name_in, conflict_told, kept_members, kept_rise, are_kept, definitions_differ, consistent, cycle_told}
 use Rattle.dexmerge.proofs.CapLaws.{found_cap}
+use Rattle.dexmerge.proofs.CycleLaws.{depths_same}
 
 -- the first of several
 first_of : {X : Type 0} (xs : List X) → 0 < length xs → X
@@ -120,3 +121,7 @@ module _ (m : Mentions) (D : List Definition) (cs : List Candidate) (h : AreOnce
 
   pub once_cap : (caps : Caps) (found : Option ℕ) → AreAcyclic m Ks → found ≡ first_over caps m Ks → MatchOption found (IsGood caps D) (IsOfCap (IsFirstCause caps D))
   once_cap caps found acyclic is = by_cap caps found (found_cap caps m Ks once_apart once_own h.copies.rising h.copies.members.known one_each acyclic found is)
+
+  -- the depths of the classes are those of all definitions
+  pub once_depths : (by_name : List (Option ℕ)) → AreAcyclic m Ks → AreDepthsByName m E by_name → AreDepthsByName m D by_name
+  once_depths by_name acyclic h = depths_same m E D by_name same acyclic h

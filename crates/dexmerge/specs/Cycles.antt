@@ -1,10 +1,11 @@
 -- Classes by name, and which of them have no depth.
-use Rattle.std.specs.Prelude.{ℕ, ◌<◌, ◌≡◌, List, map, length}
+use Rattle.std.specs.Prelude.{ℕ, ◌<◌, ◌≡◌, List, Option, map, length}
 use Rattle.std.specs.declared.cmp.Ordering.TheVariants.{Less}
 use Rattle.dexspec.specs.Texts.{Text, text_cmp}
 use Rattle.dexspec.specs.Mentions.{Mentions}
 use Rattle.dexspec.specs.Depth.{IsAcyclic}
 use Rattle.dexspec.specs.Merging.{IsCycle}
+use Rattle.dexorder.specs.Definitions.{AreDepthsOf}
 use Rattle.dexclass.specs.Numbered.{NumberedClass, type_at, definition_of}
 use Rattle.dexclass.specs.Parents.{name_number, AreNamed}
 
@@ -16,6 +17,11 @@ pub record AreKept (m : Mentions) (cs : List NumberedClass) : Type 0 where
 -- no class is above itself
 abbrev pub AreAcyclic : Mentions → List NumberedClass → Type 0
 AreAcyclic m cs = IsAcyclic (map (definition_of m) cs)
+
+-- no class is above itself, and the depths are theirs
+pub record HaveDepths (m : Mentions) (cs : List NumberedClass) (depths : List (Option ℕ)) : Type 0 where
+  pub acyclic : AreAcyclic m cs
+  pub are : AreDepthsOf (map (definition_of m) cs) depths
 
 -- the class has no depth, and its name is the least of which this is so
 pub record IsFirstCycle (m : Mentions) (cs : List NumberedClass) (i : ℕ) : Type 0 where

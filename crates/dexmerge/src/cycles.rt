@@ -1,28 +1,56 @@
-//! Classes without a depth.
+//! The depths of classes, and classes without one.
 
-ghost use Rattle.std.specs.Prelude.{◌≡◌, IfOk, MatchOption, length};
+ghost use Rattle.std.specs.Prelude.{◌≡◌, IfOk, IfErr, length, map};
 ghost use Rattle.dexspec.specs.Mentions.{Mentions};
+ghost use Rattle.dexclass.specs.Numbered.{definition_of};
+ghost use Rattle.dexclass.specs.Parents.{AreDepthsByName};
 ghost use Rattle.dexmerge.specs.Candidates.{classes_of};
-ghost use Rattle.dexmerge.specs.Cycles.{AreKept, AreAcyclic, IsFirstCycle};
+ghost use Rattle.dexmerge.specs.Cycles.{AreKept, HaveDepths, IsFirstCycle};
 
 use crate::candidates::Candidate;
-use dexorder::{Hierarchy, first_without_depth};
+use dexorder::{HasParents, Hierarchy, first_without_depth};
 use std::alloc::{AllocError, Global};
 
-/// The first of the classes, which come by name, that is above itself or below such a class, if there is one.
+/// The depths of the classes, which come by name; or the first class that is above itself or below such a class, if
+/// there is one.
 ///
 /// Conditions: the classes are those of a numbering that has so many types, and their names rise. Error: the memory for
 /// their depths was refused.
 ///
 /// Source: "class_defs", a superclass and interfaces stand before the class.
-pub(crate) fn first_cycle(
+pub(crate) fn class_depths(
     alloc: Global,
     classes: &[Candidate<'_, '_>],
     types: usize,
-) -> Result<Option<usize>, AllocError>
+) -> Result<Result<Vec<Option<usize>>, usize>, AllocError>
     requires { (m : Mentions) × (length m.types ≡ types) × AreKept m (classes_of classes.now) }
-    ensures { IfOk result (λ found. (m : Mentions) → AreKept m (classes_of classes.now) → MatchOption found (AreAcyclic m (classes_of classes.now)) (IsFirstCycle m (classes_of classes.now))) }
+    ensures depths { IfOk result (λ found. IfOk found (λ depths. (m : Mentions) → AreKept m (classes_of classes.now) → HaveDepths m (classes_of classes.now) depths.items)) }
+    ensures cycle { IfOk result (λ found. IfErr found (λ i. (m : Mentions) → AreKept m (classes_of classes.now) → IsFirstCycle m (classes_of classes.now) i)) }
 {
     let depths = Hierarchy::of(alloc, classes, types)?.depths(alloc)?;
-    Ok(first_without_depth(&depths))
+    match first_without_depth(&depths) {
+        Some(i) => Ok(Err(i)),
+        None => Ok(Ok(depths)),
+    }
+}
+
+/// The depths at the numbers of the classes' names, with a place for each type.
+///
+/// Conditions: those of [`class_depths`], and there is a depth for each class. Error: the memory for the list was
+/// refused.
+pub(crate) fn depths_by_name(
+    alloc: Global,
+    classes: &[Candidate<'_, '_>],
+    depths: &[Option<usize>],
+    types: usize,
+) -> Result<Vec<Option<usize>>, AllocError>
+    requires kept { (m : Mentions) × (length m.types ≡ types) × AreKept m (classes_of classes.now) }
+    requires count { length depths.now ≡ length classes.now }
+    ensures { IfOk result (λ by_name. (m : Mentions) → length m.types ≡ types → AreKept m (classes_of classes.now) → HaveDepths m (classes_of classes.now) depths.now → AreDepthsByName m (map (definition_of m) (classes_of classes.now)) by_name.items) }
+{
+    let mut by_name = vec![in alloc; None; types]?;
+    for i in 0..classes.len() {
+        by_name[classes[i].name()] = depths[i];
+    }
+    Ok(by_name)
 }

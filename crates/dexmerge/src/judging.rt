@@ -1,13 +1,13 @@
 //! Whether the classes of parts can be merged: conflicts are judged first, then cycles, and then caps.
 
-ghost use Rattle.std.specs.Prelude.{◌≡◌, ◌<◌, length, List, IfOk, IfErr, OnOk, map};
+ghost use Rattle.std.specs.Prelude.{◌≡◌, ◌<◌, length, List, IfOk, IfErr, map};
 ghost use Rattle.std.specs.List.{flat_map};
 ghost use Rattle.dexspec.specs.Classes.{Definition};
 ghost use Rattle.dexspec.specs.Files.{definitions};
 ghost use Rattle.dexspec.specs.Merging as merging;
 ghost use Rattle.dexspec.specs.Merging.{IsGood, IsFirstCause};
 ghost use Rattle.dexclass.specs.Numbered.{type_at};
-ghost use Rattle.dexclass.specs.Parents.{name_number};
+ghost use Rattle.dexclass.specs.Parents.{name_number, AreDepthsByName};
 ghost use Rattle.dexmerge.specs.Faults.{Tells};
 ghost use Rattle.dexmerge.specs.Candidates.{classes_of};
 ghost use Rattle.dexmerge.specs.Unions.{AreCopies, AreOnce, IsJoined};
@@ -15,7 +15,7 @@ ghost use Rattle.dexmerge.specs.Unions.{AreCopies, AreOnce, IsJoined};
 use crate::candidates::{Candidate, candidates};
 use crate::caps::Caps;
 use crate::copies::{kept, least_unlike};
-use crate::cycles::first_cycle;
+use crate::cycles::{class_depths, depths_by_name};
 use crate::faults::MergeFault;
 use crate::fitting::first_exceeded;
 use dexclass::{Program, same_law};
@@ -56,27 +56,31 @@ fn name_of(
     Name::of(alloc, numbering.typ(classes[i].name()))
 }
 
-// Whether classes, one of each name, can be merged: cycles are judged, and then caps.
+// Whether classes, one of each name, can be merged: cycles are judged, and then caps. The depths of the classes are
+// answered, at the numbers of their names.
 fn judge_once(
     alloc: Global,
     numbering: &Numbering<'_>,
     classes: &[Candidate<'_, '_>],
     caps: &Caps,
-) -> Result<(), MergeFault>
+) -> Result<Vec<Option<usize>>, MergeFault>
     requires { (D : List Definition) × AreOnce numbering.now D classes.now }
-    ensures good { OnOk result ((D : List Definition) → AreOnce numbering.now D classes.now → IsGood caps.now D) }
+    ensures good { IfOk result (λ depths. (D : List Definition) → AreOnce numbering.now D classes.now → IsGood caps.now D × AreDepthsByName numbering.now D depths.items) }
     ensures fault { IfErr result (λ fault. (D : List Definition) → AreOnce numbering.now D classes.now → Tells (IsFirstCause caps.now D) fault) }
 {
-    match first_cycle(alloc, classes, numbering.count(SymbolKind::Typ))? {
-        Some(i) => Err(MergeFault::Cycle(name_of(alloc, numbering, classes, i)?)),
-        None => match first_exceeded(numbering, classes, caps) {
-            Some(cap) => Err(MergeFault::Cap(cap)),
-            None => Ok(()),
-        },
+    let types = numbering.count(SymbolKind::Typ);
+    let depths = match class_depths(alloc, classes, types)? {
+        Ok(depths) => depths,
+        Err(i) => return Err(MergeFault::Cycle(name_of(alloc, numbering, classes, i)?)),
+    };
+    match first_exceeded(numbering, classes, caps) {
+        Some(cap) => Err(MergeFault::Cap(cap)),
+        None => Ok(depths_by_name(alloc, classes, &depths, types)?),
     }
 }
 
-/// Whether the classes of parts can be merged.
+/// Whether the classes of parts can be merged. The depths of the classes are answered: there is a place for each type of
+/// the numbering, and at the number of each class's name the depth of that class.
 ///
 /// Condition: the numbering is that of all parts, and the maps lead the numbers of each to it. Error: the first cause
 /// why they cannot; or `Memory` where a growth was refused.
@@ -86,9 +90,9 @@ pub(crate) fn judge(
     parts: &[&Program<'_>],
     remaps: &[Remap],
     caps: &Caps,
-) -> Result<(), MergeFault>
+) -> Result<Vec<Option<usize>>, MergeFault>
     requires { IsJoined (map (λ part. part.now) parts.now) numbering.now remaps.now }
-    ensures good { OnOk result (IsGood caps.now (flat_map definitions (map (λ part. part.now) parts.now))) }
+    ensures good { IfOk result (λ depths. IsGood caps.now (flat_map definitions (map (λ part. part.now) parts.now)) × AreDepthsByName numbering.now (flat_map definitions (map (λ part. part.now) parts.now)) depths.items) }
     ensures fault { IfErr result (Tells (IsFirstCause caps.now (flat_map definitions (map (λ part. part.now) parts.now)))) }
 {
     let copies = candidates(alloc, parts, remaps)?;

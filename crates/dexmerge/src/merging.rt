@@ -6,6 +6,7 @@ ghost use Rattle.dexspec.specs.Classes.{Definition};
 ghost use Rattle.dexspec.specs.Files.{definitions, AreWithin};
 ghost use Rattle.dexspec.specs.Merging.{Cause, IsCause, IsFirstCause, IsGood};
 ghost use Rattle.dexlaws_growth.specs.Laws.{Absorbs};
+ghost use Rattle.dexclass.specs.Parents.{AreDepthsByName};
 ghost use Rattle.dexmerge.specs.Faults.{IsMerged, Tells};
 ghost use Rattle.dexmerge.specs.Unions.{IsJoined, IsJudged};
 
@@ -16,6 +17,17 @@ use crate::judging::judge;
 use dexclass::Program;
 use dexpool::{Numbering, Remap, SymbolKind};
 use std::alloc::{AllocError, Global};
+
+// What is found of parts that can be merged.
+#[derive(Drop)]
+struct Mergeable<'a> {
+    // The numbering of all parts.
+    numbering: Numbering<'a>,
+    // Where the numbers of each part lead.
+    remaps: Vec<Remap>,
+    // A place for each type, and at the number of each class's name the depth of that class.
+    depths: Vec<Option<usize>>,
+}
 
 // The parts: those that are owned, and then the files.
 fn all_parts<'a, 'b>(
@@ -52,20 +64,25 @@ fn joined<'a>(
     Ok((numbering, remaps))
 }
 
-// The numbering of parts that can be merged, and where the numbers of each lead.
+// What is found of parts, where they can be merged.
 fn judged<'a>(
     alloc: Global,
     owned: &[Program<'a>],
     files: &[&Program<'a>],
     caps: &Caps,
-) -> Result<(Numbering<'a>, Vec<Remap>), MergeFault>
-    ensures good { IfOk result (λ judged. IsJudged caps.now (owned.now ++ map (λ file. file.now) files.now) judged.0 judged.1.items) }
+) -> Result<Mergeable<'a>, MergeFault>
+    ensures good { IfOk result (λ judged. IsJudged caps.now (owned.now ++ map (λ file. file.now) files.now) judged.numbering judged.remaps.items) }
+    ensures depths { IfOk result (λ judged. AreDepthsByName judged.numbering (flat_map definitions (owned.now ++ map (λ file. file.now) files.now)) judged.depths.items) }
     ensures fault { IfErr result (Tells (IsFirstCause caps.now (flat_map definitions (owned.now ++ map (λ file. file.now) files.now)))) }
 {
     let parts = all_parts(alloc, owned, files)?;
     let (numbering, remaps) = joined(alloc, &parts)?;
     match judge(alloc, &numbering, &parts, &remaps, caps) {
-        Ok(()) => Ok((numbering, remaps)),
+        Ok(depths) => Ok(Mergeable {
+            numbering,
+            remaps,
+            depths,
+        }),
         Err(fault) => Err(fault),
     }
 }
@@ -81,14 +98,18 @@ pub(crate) fn merge_all<'a>(
     ensures merged { IfOk result (IsMerged caps.now (flat_map definitions (owned.entry.items ++ map (λ file. file.now) files.now))) }
     ensures fault { IfErr result (Tells (IsFirstCause caps.now (flat_map definitions (owned.entry.items ++ map (λ file. file.now) files.now)))) }
 {
-    let (numbering, remaps) = match judged(alloc, &owned, files, caps) {
+    let Mergeable {
+        numbering,
+        remaps,
+        depths,
+    } = match judged(alloc, &owned, files, caps) {
         Ok(judged) => judged,
         Err(fault) => return Err(fault),
     };
     caps.are_caps();
     let types = numbering.count(SymbolKind::Typ);
     let classes = gather(alloc, owned, files, &remaps, types)?;
-    Ok(Program::of(alloc, numbering, classes)?)
+    Ok(Program::of_known(alloc, numbering, classes, &depths)?)
 }
 
 /// The program of all classes of the parts, in any order and with any repeats.

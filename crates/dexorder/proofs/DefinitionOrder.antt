@@ -22,7 +22,7 @@ use Rattle.dexspec.proofs.ClassPlaces.{Contains-map_source, class_place as defin
 use Rattle.dexspec.proofs.SizeSums.{map-length}
 use Rattle.dexorder.specs.Depths.{IsAnswer, AreDepths}
 use Rattle.dexorder.specs.Places.{class_place, class_cmp}
-use Rattle.dexorder.specs.Definitions.{name_at, AreClassesOf, AreNamesOf}
+use Rattle.dexorder.specs.Definitions.{name_at, AreClassesOf, AreDepthsOf, AreNamesOf}
 use Rattle.dexorder.proofs.DepthLaws.{Contains-range}
 use Rattle.dexorder.proofs.DefinitionDepths.{same_depth}
 use Rattle.dexorder.proofs.PlaceLaws.{class_total}
@@ -96,14 +96,21 @@ definition_cmp D x y = place_cmp (definition_place D x) (definition_place D y)
 definition_total : (D : List Definition) → IsTotalOrder (definition_cmp D)
 definition_total D = on_total (definition_place D) place_total
 
-module _ (D : List Definition) (classes : List (List ℕ)) (depths : List (Option ℕ)) (names : List ℕ) (h : AreClassesOf D classes) (a : AreDepths classes depths) (some : All (λ o. IsSome o) depths) (n : AreNamesOf D names) (d : Definition) where
+-- where each class has a depth, the depths are those of the definitions
+pub own_depths : (D : List Definition) (classes : List (List ℕ)) (depths : List (Option ℕ)) → AreClassesOf D classes → AreDepths classes depths → All (λ o. IsSome o) depths → AreDepthsOf D depths
+own_depths D classes depths h a some = record {
+  count = a.count ∙ h.count;
+  each = λ i lt. by i (get_or depths i None) (omega (arith, lt, h.count)) (a.answer i (omega (arith, lt, h.count))) (some i None (omega (arith, lt, h.count, a.count)));
+}
+  where
+    by : (i : ℕ) (o : Option ℕ) → i < length classes → IsAnswer classes i o → IsSome o → o ≡ Some (depth D (name_at D i))
+    by i None lt k s = absurd cc
+    by i (Some e) lt k s = ap Some (sym (same_depth D classes h i e lt k))
+
+module _ (D : List Definition) (depths : List (Option ℕ)) (names : List ℕ) (a : AreDepthsOf D depths) (n : AreNamesOf D names) (d : Definition) where
   -- the depth that a class is ordered by is that of its definition
   own_depth : (i : ℕ) → i < length D → unwrap_or (get_or depths i None) 0 ≡ depth D (name_at D i)
-  own_depth i lt = by (get_or depths i None) (a.answer i (omega (arith, lt, h.count))) (some i None (omega (arith, lt, h.count, a.count)))
-    where
-      by : (o : Option ℕ) → IsAnswer classes i o → IsSome o → unwrap_or o 0 ≡ depth D (name_at D i)
-      by None k s = absurd cc
-      by (Some e) k s = sym (same_depth D classes h i e (omega (arith, lt, h.count)) k)
+  own_depth i lt = ap (λ o. unwrap_or o 0) (a.each i lt)
 
   own_name : (i : ℕ) → i < length D → name_at D i ≡ (get_or D i d).0
   own_name i lt = get_or-map (λ (x : Definition). x.0) D i d [] lt

@@ -1,10 +1,10 @@
 -- Numbers of definitions: what the depths and the order of numbered classes say of class definitions.
-use Rattle.std.specs.Prelude.{◌≡◌, ◌↔◌, ℕ, ◌<◌, List, [], length, map, slice_index, slice_index_or, Option, None}
+use Rattle.std.specs.Prelude.{◌≡◌, ◌↔◌, ℕ, ◌<◌, List, [], length, map, slice_index, slice_index_or, Option, None, Some}
 use Rattle.std.specs.List.{Contains}
 use Rattle.std.specs.declared.cmp.Ordering.TheVariants.{Less}
 use Rattle.dexspec.specs.Texts.{Text, text_cmp}
 use Rattle.dexspec.specs.Classes.{Definition}
-use Rattle.dexspec.specs.Depth.{above}
+use Rattle.dexspec.specs.Depth.{above, depth}
 use Rattle.dexorder.specs.Depths.{parents_of, AreWithin}
 
 -- the name of definition i
@@ -16,6 +16,11 @@ pub record AreClassesOf (D : List Definition) (classes : List (List ℕ)) : Type
   pub count : length classes ≡ length D
   pub within : AreWithin classes
   pub parents : (i : ℕ) → i < length classes → (name : Text) → Contains (map (name_at D) (parents_of classes i)) name ↔ Contains (above D (name_at D i)) name
+
+-- the depth at place i is that of definition i
+pub record AreDepthsOf (D : List Definition) (depths : List (Option ℕ)) : Type 0 where
+  pub count : length depths ≡ length D
+  pub each : (i : ℕ) → i < length D → slice_index_or depths i None ≡ Some (depth D (name_at D i))
 
 -- number i is that of the name of definition i: it is less where the name is
 pub record AreNamesOf (D : List Definition) (names : List ℕ) : Type 0 where

@@ -10,7 +10,7 @@ ghost use Rattle.dexspec.specs.Depth.{HasDepth, IsAcyclic, depth, in_class_order
 ghost use Rattle.dexspec.specs.Lists.{AreDistinct, rises};
 ghost use Rattle.dexspec.specs.Merging.{IsCycle};
 ghost use Rattle.dexorder.specs.Depths.{AreDepths, AreWithin, IsDepth, HasNone, parents_of};
-ghost use Rattle.dexorder.specs.Definitions.{AreClassesOf, AreNamesOf, IsCycleClass, name_at};
+ghost use Rattle.dexorder.specs.Definitions.{AreClassesOf, AreDepthsOf, AreNamesOf, IsCycleClass, name_at};
 ghost use Rattle.dexorder.specs.Places.{class_cmp, class_place};
 
 /// The depth of a class is greater than the depths of its parents, which all have one, and where it is not 0 it is one
@@ -31,12 +31,13 @@ pub fn classes_of_definitions()
 
 /// Numbered classes have the depths of the definitions that they number, and a class without one is a definition
 /// whose name is on a cycle, or below one. Each such definition is a class without a depth; so where all classes have
-/// one there is no cycle, and where there is none all have one.
+/// one they are the depths of the definitions and there is no cycle, and where there is none all have one.
 pub fn depths_of_definitions()
     ensures depth { (definitions : List Definition) (classes : List (List ℕ)) → AreClassesOf definitions classes → (i d : ℕ) → i < length classes → IsDepth classes i d → HasDepth definitions (name_at definitions i) × (depth definitions (name_at definitions i) ≡ d) }
     ensures cycle { (definitions : List Definition) (classes : List (List ℕ)) → AreClassesOf definitions classes → (i : ℕ) → i < length classes → HasNone classes i → IsCycle definitions (name_at definitions i) }
     ensures class { (definitions : List Definition) (classes : List (List ℕ)) (depths : List (Option ℕ)) → AreClassesOf definitions classes → AreDepths classes depths → (name : Text) → IsCycle definitions name → IsCycleClass definitions depths name }
     ensures acyclic { (definitions : List Definition) (classes : List (List ℕ)) (depths : List (Option ℕ)) → AreClassesOf definitions classes → AreDepths classes depths → All (λ depth. IsSome depth) depths → IsAcyclic definitions }
+    ensures own { (definitions : List Definition) (classes : List (List ℕ)) (depths : List (Option ℕ)) → AreClassesOf definitions classes → AreDepths classes depths → All (λ depth. IsSome depth) depths → AreDepthsOf definitions depths }
     ensures known { (definitions : List Definition) (classes : List (List ℕ)) (depths : List (Option ℕ)) → AreClassesOf definitions classes → AreDepths classes depths → IsAcyclic definitions → All (λ depth. IsSome depth) depths }
 {}
 
@@ -44,5 +45,5 @@ pub fn depths_of_definitions()
 /// names are different.
 pub fn order_of_definitions()
     ensures names { (definitions : List Definition) (names : List ℕ) → AreNamesOf definitions names → AreDistinct (map (λ d. d.0) definitions) → AreDistinct names }
-    ensures order { (definitions : List Definition) (classes : List (List ℕ)) (depths : List (Option ℕ)) (names order : List ℕ) → AreClassesOf definitions classes → AreDepths classes depths → All (λ depth. IsSome depth) depths → AreNamesOf definitions names → AreDistinct (map (λ d. d.0) definitions) → IsPermutation (range_with_len 0 (length names)) order → rises class_cmp (map (class_place depths names) order) ≡ true → (e : Definition) → map (λ i. slice_index_or definitions i e) order ≡ in_class_order definitions }
+    ensures order { (definitions : List Definition) (depths : List (Option ℕ)) (names order : List ℕ) → AreDepthsOf definitions depths → AreNamesOf definitions names → AreDistinct (map (λ d. d.0) definitions) → IsPermutation (range_with_len 0 (length names)) order → rises class_cmp (map (class_place depths names) order) ≡ true → (e : Definition) → map (λ i. slice_index_or definitions i e) order ≡ in_class_order definitions }
 {}

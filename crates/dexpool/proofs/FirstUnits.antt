@@ -75,6 +75,26 @@ letter_cases : (b : Bool) (u : ℕ) → (u == 0x5b) ≡ b → (if b then 0x4c el
 letter_cases true u e h = inr (eqb-true u 0x5b e)
 letter_cases false u e h = inl h
 
+void_unit : (b : Bool) (u : ℕ) → (if b then 0x4c else u) ≡ 0x56 → u ≡ 0x56
+void_unit true u h = absurd (omega (arith, h))
+void_unit false u h = h
+
+letter_of_void : (t : Text) → first_of t ≡ 0x56 → shorty_letter t ≡ 0x56
+letter_of_void [] e = absurd (omega (arith, e))
+letter_of_void (u ∷ s) e = rw e refl
+
+first_of_void : (t : Text) → shorty_letter t ≡ 0x56 → first_of t ≡ 0x56
+first_of_void [] h = absurd (omega (arith, h))
+first_of_void (u ∷ s) h = void_unit (u == 0x5b) u h
+
+-- a type whose letter is not void's is one of values
+pub letter_void : (t : Text) → IsDescriptor t → (shorty_letter t ≡ 0x56 → ⊥) → IsValueType t
+letter_void t d h = value_if t d (λ e. h (letter_of_void t e))
+
+-- and no other is
+pub void_letter : (t : Text) → IsValueType t → shorty_letter t ≡ 0x56 → ⊥
+void_letter t v h = value_not t v (first_of_void t h)
+
 pub letter_first : (t : Text) → shorty_letter t ≡ 0x4c → (first_of t ≡ 0x4c) ⊎ (first_of t ≡ 0x5b)
 letter_first [] h = absurd (omega (arith, h))
 letter_first (u ∷ s) h = letter_cases (u == 0x5b) u refl h

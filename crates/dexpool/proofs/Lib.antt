@@ -34,3 +34,4 @@ pub mod MarksMade
 pub mod KeptNumbers
 pub mod FileLists
 pub mod ListedPlaces
+pub mod SpelledLists

@@ -3,16 +3,16 @@ use Rattle.std.proofs.Common.{◌≡◌, ℕ, zero, suc, ◌<◌, Bool, true, fa
 use Rattle.std.specs.Prelude.{map, All}
 use Rattle.std.specs.List.{AllZip}
 use Rattle.dexspec.specs.Texts.{Text}
-use Rattle.dexspec.specs.Names.{IsValueType, shorty}
+use Rattle.dexspec.specs.Names.{IsValueType, shorty, shorty_letter}
 use Rattle.dexspec.specs.Lists.{OrNone}
 use Rattle.dexspec.specs.Symbols.{Proto}
 use Rattle.dexspec.specs.Header.{ProtoIds, table_size}
 use Rattle.dexspec.specs.Rows as rows
 use Rattle.dexspec.specs.Rows.{row_at, StringRow, TypeRow, TypeListAt, type_indices, HasProto, proto_row_key}
-use Rattle.dexspec.proofs.OneRow.{one_string, one_type, one_type_list, one_or_none}
+use Rattle.dexspec.proofs.OneRow.{one_string, one_type}
 use Rattle.dexpool.specs.declared.rows.ProtoEntry.{ProtoEntry}
 use Rattle.dexpool.specs.Tables.{type_of, span_of, proto_of, proto_key, proto_cmp}
-use Rattle.dexpool.specs.Reading.{ReadTo, is_above_last, IsText, IsType, HasIndices, HasParameters, ProtoStands, IsListed, AllTypes, listed, file_numbers}
+use Rattle.dexpool.specs.Reading.{ReadTo, is_above_last, IsText, IsType, HasIndices, ProtoStands, IsListed, AllTypes, listed, file_numbers}
 use Rattle.dexpool.proofs.Steps.{follows_if, follows_not}
 use Rattle.dexpool.proofs.TypeLists.{listed_is}
 
@@ -29,15 +29,13 @@ all_types b texts types o (inl none) k d lt = absurd (omega (arith, lt, ap (λ (
 all_types b texts types o (inr some) k d lt = zip_map_at (TypeRow b) (type_of texts types) (listed b o)
     (subst (λ (l : List ℕ). AllZip (TypeRow b) l (map (type_of texts types) (listed b o))) (sym (listed_is b o some.0)) some.1.types) k d lt
 
--- the text of a proto's shorty is that of the types that are read
-pub shorty_same : (b : List ℕ) (texts : List Text) (types : List ℕ) (i n m off : ℕ) (p : Proto) (s t : Text) → HasIndices b i n m off → rows.ProtoRow b i p → StringRow b n s → TypeRow b m t → HasParameters b texts types off
-    → s ≡ shorty t (map (type_of texts types) (listed b off))
-shorty_same b texts types i n m off p s t at h sr tr ps =
+-- the text of a proto's shorty is the letter of the type that is read and those of its parameters
+pub shorty_same : (b : List ℕ) (i n m off l : ℕ) (p : Proto) (s t : Text) → HasIndices b i n m off → rows.ProtoRow b i p → StringRow b n s → TypeRow b m t → l ≡ shorty_letter t → s ≡ l ∷ map shorty_letter p.parameters
+shorty_same b i n m off l p s t at h sr tr letter =
     let return_type : p.return_type ≡ t = one_type b m _ _ (subst (λ k. TypeRow b k p.return_type) at.return_is h.return_type) tr in
-    let list = subst (λ o. OrNone TypeListAt [] b o p.parameters) at.off_is h.parameters in
-    let parameters : p.parameters ≡ map (type_of texts types) (listed b off) = one_or_none TypeListAt [] b off _ _ (one_type_list b off _ _) list ps.list in
     let text : s ≡ shorty p.return_type p.parameters = one_string b n _ _ sr (subst (λ k. StringRow b k (shorty p.return_type p.parameters)) at.shorty_is h.shorty) in
-    text ∙ ap (λ (r : Text). shorty r p.parameters) return_type ∙ ap (λ (l : List Text). shorty t l) parameters
+    let first : shorty_letter p.return_type ≡ l = ap shorty_letter return_type ∙ sym letter in
+    text ∙ ap (λ (k : ℕ). k ∷ map shorty_letter p.parameters) first
 
 -- a row that is read
 pub stands_there : (b : List ℕ) (texts : List Text) (types : List ℕ) (i off : ℕ) (p : ProtoEntry) (s t : Text) → i < table_size b ProtoIds → HasIndices b i p.shorty p.return_type off

@@ -1,5 +1,5 @@
 -- Rows that are read one after the other.
-use Rattle.std.specs.Prelude.{◌≡◌, ℕ, ◌+◌, ◌*◌, ◌/◌, ◌%◌, ◌<◌, ◌≤◌, Bool, true, map, All, if◌then◌else◌, ◌==◌, List, [], ◌∷◌, length, slice_index_or}
+use Rattle.std.specs.Prelude.{◌≡◌, ◌≢◌, ℕ, ◌+◌, ◌*◌, ◌/◌, ◌%◌, ◌<◌, ◌≤◌, Bool, true, map, All, if◌then◌else◌, ◌==◌, List, [], ◌∷◌, length, slice_index_or}
 use Rattle.std.specs.Ordering.{is_lt}
 use Rattle.std.specs.declared.cmp.Ordering.{Ordering}
 use Rattle.dexspec.specs.Bytes.{uint_at, ushort_at, ushorts_at}
@@ -94,13 +94,9 @@ pub record IsParameter (b : List ℕ) (texts : List Text) (types : List ℕ) (n 
   pub row : TypeRow b n (type_of texts types n)
   pub value : IsValueType (type_of texts types n)
 
--- the first n indices behind o name parameters
-abbrev pub AreParameters : List ℕ → List Text → List ℕ → ℕ → ℕ → Type 0
-AreParameters b texts types o n = (k : ℕ) → k < n → IsParameter b texts types (ushort_at b (o + 2 * k))
-
--- no parameters are listed there
-abbrev pub NoParameters : List ℕ → ℕ → Type 0
-NoParameters b o = (ts : List Text) → OrNone TypeListAt [] b o ts → All IsValueType ts → ⊥
+-- no list stands there
+abbrev pub NoPlace : List ℕ → ℕ → Type 0
+NoPlace b o = (ts : List Text) → OrNone TypeListAt [] b o ts → ⊥
 
 -- the parameters that are listed there
 pub record HasParameters (b : List ℕ) (texts : List Text) (types : List ℕ) (o : ℕ) : Type 0 where
@@ -115,6 +111,12 @@ pub record HasSpan (parameters : List ℕ) (s : Span) : Type 0 where
 -- the bytes as numbers of two bytes each
 abbrev pub file_numbers : List ℕ → List ℕ
 file_numbers b = ushorts_at b 0 (length b / 2)
+
+-- where the numbers are that are listed there, whatever they name
+pub record IsPlaced (b : List ℕ) (o : ℕ) (s : Span) : Type 0 where
+  pub room : o ≢ 0 → HasRoom b o (uint_at b o)
+  pub span : HasSpan (file_numbers b) s
+  pub is : span_of (file_numbers b) s ≡ listed b o
 
 -- the parameters that are listed there, and where
 pub record IsListed (b : List ℕ) (texts : List Text) (types : List ℕ) (o : ℕ) (s : Span) : Type 0 where

@@ -1,17 +1,14 @@
 //! Long lists of parameters, each judged once however many rows share it.
 
-ghost use Rattle.std.specs.Prelude.{◌≡◌, ◌↔◌, MatchOption, IsTrue, OnOk, map};
-ghost use Rattle.dexspec.specs.Names.{shorty};
-ghost use Rattle.dexpool.specs.Tables.{type_of, span_of};
-ghost use Rattle.dexpool.specs.Reading.{AreNames, NoParameters, IsListed, IsText, IsType, file_numbers};
-ghost use Rattle.dexpool.specs.Judged.{IsJudged, AreJudged};
+ghost use Rattle.std.specs.Prelude.{◌≡◌, true, false, OnOk};
+ghost use Rattle.dexpool.specs.Tables.{text_of};
+ghost use Rattle.dexpool.specs.Reading.{AreNames, IsPlaced, file_numbers};
+ghost use Rattle.dexpool.specs.Judged.{AreLetters, IsJudged, AreJudged, NotListedAs};
 
-use crate::kinds::letter;
 use crate::lists::Parameters;
 use crate::names::Names;
-use crate::parameters::parameters_at;
 use crate::rows::Span;
-use crate::shorties::is_shorty;
+use crate::shorties::is_spelled;
 use dexstr::Text;
 use std::alloc::AllocError;
 use std::collections::HashMap;
@@ -28,46 +25,32 @@ pub(crate) struct Judged {
     pub(crate) letter: u16,
 }
 
-/// Where the parameters are that are listed at an offset, as `parameters_at` has it.
-pub(crate) fn known_parameters(
-    names: &Names<'_, '_>,
-    lists: &HashMap<u32, Judged>,
-    off: u32,
-) -> Option<Span>
-    requires names { AreNames names.now.frame.now names.now.strings.now names.now.types.now }
-    requires lists { AreJudged names.now.frame.now names.now.strings.now names.now.types.now lists.now }
-    ensures { MatchOption result (NoParameters names.now.frame.now off) (IsListed names.now.frame.now names.now.strings.now names.now.types.now off) }
-{
-    match lists.get(&off) {
-        Some(judged) => Some(judged.span),
-        None => parameters_at(names, off),
-    }
-}
-
-/// Whether the text of a number is the shorty of a type and of the parameters that are listed at an offset.
+/// Whether types of values are listed at an offset, where there is a place for them, and their shorty is the text of
+/// the number behind the letter. A long list that was judged so is not judged again.
 pub(crate) fn has_shorty(
     names: &Names<'_, '_>,
+    letters: &[u16],
     file: &Parameters<'_>,
     lists: &HashMap<u32, Judged>,
     off: u32,
-    span: Span,
-    number: usize,
+    judged: Judged,
     text: &Text<'_>,
-    return_type: &Text<'_>,
 ) -> bool
     requires names { AreNames names.now.frame.now names.now.strings.now names.now.types.now }
+    requires letters { AreLetters names.now.strings.now names.now.types.now letters.now }
     requires file { file.now ≡ file_numbers names.now.frame.now }
     requires lists { AreJudged names.now.frame.now names.now.strings.now names.now.types.now lists.now }
-    requires listed { IsListed names.now.frame.now names.now.strings.now names.now.types.now off span }
-    requires text { IsText names.now.frame.now names.now.strings.now number text.now }
-    ensures { IsTrue result ↔ (text.now ≡ shorty return_type.now (map (type_of names.now.strings.now names.now.types.now) (span_of (file_numbers names.now.frame.now) span))) }
+    requires placed { IsPlaced names.now.frame.now off judged.span }
+    requires text { text.now ≡ text_of names.now.strings.now judged.shorty }
+    ensures yes { result ≡ true → IsJudged names.now.frame.now names.now.strings.now names.now.types.now off judged }
+    ensures no { result ≡ false → NotListedAs names.now.frame.now off judged.letter text.now }
 {
-    if let Some(judged) = lists.get(&off) {
-        if judged.shorty == number && judged.letter == letter(return_type) {
+    if let Some(known) = lists.get(&off) {
+        if known.shorty == judged.shorty && known.letter == judged.letter {
             return true;
         }
     }
-    is_shorty(names, text, return_type, &file.part(span))
+    is_spelled(letters, text, judged.letter, &file.part(judged.span))
 }
 
 /// Notes a list that was judged, if it is long.

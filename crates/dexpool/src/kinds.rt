@@ -6,7 +6,8 @@ ghost use Rattle.dexpool.specs.Kinds.{first_of};
 
 use dexstr::Text;
 
-const VOID: u16 = 0x56;
+/// The letter of void in a shorty.
+pub(crate) const VOID: u16 = 0x56;
 
 const CLASS: u16 = 0x4c;
 

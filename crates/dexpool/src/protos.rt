@@ -6,15 +6,17 @@ ghost use Rattle.dexspec.specs.Symbols.{Proto};
 ghost use Rattle.dexspec.specs.Rows as rows;
 ghost use Rattle.dexpool.specs.Tables.{span_of, proto_cmp};
 ghost use Rattle.dexpool.specs.Reading.{is_above_last, AreNames, AreProtos, HasIndices, HasSpan, ProtoStands, file_numbers};
-ghost use Rattle.dexpool.specs.Judged.{AreJudged};
+ghost use Rattle.dexpool.specs.Judged.{AreLetters, AreJudged};
 ghost use Rattle.dexpool.specs.Faults.{IsFault};
 
 use crate::faults::{ReadFault, refused};
-use crate::judged::{Judged, has_shorty, known_parameters, note};
+use crate::judged::{Judged, has_shorty, note};
 use crate::kinds::letter;
 use crate::lists::Parameters;
 use crate::names::Names;
+use crate::parameters::place_at;
 use crate::rows::{ProtoEntry, Span};
+use crate::shorties::letters_of;
 use dexhead::{Frame, Table, u32_at};
 use std::alloc::{AllocError, Global};
 use std::cmp::Ordering;
@@ -50,11 +52,13 @@ fn indices_at(frame: &Frame<'_>, i: u32) -> Indices
 // The proto of a row, if it is one. Of lists that rows share, `lists` tells what was judged.
 fn proto_at(
     names: &Names<'_, '_>,
+    letters: &[u16],
     file: &Parameters<'_>,
     lists: &mut HashMap<u32, Judged>,
     i: u32,
 ) -> Result<Option<ProtoEntry>, AllocError>
     requires names { AreNames names.now.frame.now names.now.strings.now names.now.types.now }
+    requires letters { AreLetters names.now.strings.now names.now.types.now letters.now }
     requires file { file.now ≡ file_numbers names.now.frame.now }
     requires lists { AreJudged names.now.frame.now names.now.strings.now names.now.types.now lists.old }
     requires row { i < table_size names.now.frame.now ProtoIds }
@@ -70,27 +74,18 @@ fn proto_at(
         Some(return_type) => return_type,
         None => return Ok(None),
     };
-    let span = match known_parameters(names, lists, indices.off) {
+    let span = match place_at(names.frame, indices.off) {
         Some(span) => span,
         None => return Ok(None),
     };
-    if !has_shorty(
-        names,
-        file,
-        lists,
-        indices.off,
-        span,
-        indices.shorty,
-        shorty,
-        return_type,
-    ) {
-        return Ok(None);
-    }
     let judged = Judged {
         span,
         shorty: indices.shorty,
         letter: letter(return_type),
     };
+    if !has_shorty(names, letters, file, lists, indices.off, judged, shorty) {
+        return Ok(None);
+    }
     note(names, lists, indices.off, judged)?;
     Ok(Some(ProtoEntry {
         shorty: indices.shorty,
@@ -152,10 +147,11 @@ pub(crate) fn read_protos(
     ensures err { IfErr result (IsFault names.now.frame.now) }
 {
     let count = names.frame.size(Table::ProtoIds);
+    let letters = letters_of(alloc, names)?;
     let mut lists = HashMap::new(alloc);
     let mut rows = Vec::with_capacity(alloc, count as usize)?;
     for i in 0..count {
-        let proto = match proto_at(names, file, &mut lists, i)? {
+        let proto = match proto_at(names, &letters, file, &mut lists, i)? {
             Some(proto) => proto,
             None => return Err(refused(13, i)),
         };

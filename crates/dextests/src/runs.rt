@@ -1,19 +1,19 @@
-//! Normalising, checking, listing and merging over devices that move few bytes, or fail.
+//! Normalising, listing, checking and merging over devices that move few bytes, or fail.
 
 use crate::files::{cut_a, final_a, letter_a, source_of_a, unused_beside_a};
 use crate::scripts::{Script, Scripted, WHOLE, by, failing};
 use dexcmd::{
     MergeCause, RunFault, check_run, dump_run, explain, merge_run, merge_strip_run, normalise_run,
 };
-use dexhead::{Device, Sink, Source};
+use dexhead::{Device, DeviceFault, Sink, Source};
 use dexmerge::{Caps, Plan};
 use std::alloc::Global;
 use std::io::ErrorKind;
 
-// What a run answered and wrote, and what became of its devices.
+// What a run answered and wrote, and what became of its devices. The status of a run that answers none is 0.
 #[derive(Drop)]
-struct Ran<T> {
-    answer: Result<T, RunFault>,
+struct Ran {
+    answer: Result<u8, RunFault>,
     reads: usize,
     read_failed: bool,
     written: Vec<u8>,
@@ -22,11 +22,11 @@ struct Ran<T> {
 }
 
 // The same, given how often its readers were called, whether one failed, and its writer.
-fn ended<T: Drop>(
-    answer: Result<T, RunFault>,
+fn ended(
+    answer: Result<u8, RunFault>,
     (reads, read_failed): (usize, bool),
     out: Device<Scripted<Vec<u8>>>,
-) -> Ran<T> {
+) -> Ran {
     let write_failed = Sink::failed(&out);
     let Scripted { inner, calls, .. } = out.into_inner();
     Ran {
@@ -39,133 +39,47 @@ fn ended<T: Drop>(
     }
 }
 
+fn status(answer: Result<(), RunFault>) -> Result<u8, RunFault> {
+    match answer {
+        Ok(()) => Ok(0),
+        Err(fault) => Err(fault),
+    }
+}
+
+// How often readers were called.
+fn calls_of(inputs: Vec<Device<Scripted<&[u8]>>>) -> usize {
+    let mut calls: usize = 0;
+    for input in inputs {
+        calls = calls.saturating_add(input.into_inner().calls);
+    }
+    calls
+}
+
 // Whether the run was right, and wrote these bytes.
-fn is_done(ran: &Ran<()>, right: &[u8]) -> bool {
-    ran.answer.is_ok() && ran.written.as_slice() == right
+fn is_done(ran: &Ran, right: &[u8]) -> bool {
+    matches!(ran.answer, Ok(0)) && ran.written.as_slice() == right
 }
 
 // Normalises a file.
-fn normalised(alloc: Global, file: &[u8], reads: Script, writes: Script) -> Ran<()> {
+fn normalised(alloc: Global, file: &[u8], reads: Script, writes: Script) -> Ran {
     let mut input = Device::new(Scripted::new(file, reads));
     let mut out = Device::new(Scripted::new(Vec::new(alloc), writes));
     let answer = normalise_run(alloc, &mut input, &mut out);
     let read_failed = Source::failed(&input);
-    ended(answer, (input.into_inner().calls, read_failed), out)
-}
-
-// Whether the file with unused texts is normalised, where the reader follows a script; or else its fault is told, it was
-// called no more, and nothing is written.
-fn tells_the_reader(alloc: Global, reads: Script) -> Option<bool> {
-    let right = letter_a(alloc)?;
-    let file = unused_beside_a(alloc)?;
-    let ran = normalised(alloc, &file, reads, WHOLE);
-    Some(if ran.read_failed {
-        matches!(ran.answer, Err(RunFault::Read(0)))
-            && ran.reads == reads.failing.saturating_add(1)
-            && ran.writes == 0
-    } else {
-        ran.reads <= reads.failing && is_done(&ran, &right)
-    })
-}
-
-// It moves 100 bytes a call, so that the fourth finds the end.
-#[test]
-fn a_reader_of_normalising_fails_at_each_call(rt: HostRuntime) {
-    for kind in [ErrorKind::BrokenPipe, ErrorKind::Interrupted] {
-        for call in 0..5 {
-            let reads = Script {
-                fault: Some(kind),
-                ..failing(100, call)
-            };
-            assert!(rt;
-                tells_the_reader(rt.alloc(), reads) == Some(true),
-                "call {call}"
-            );
-        }
-    }
-}
-
-// Whether the writer failed at the call that the script says, and then, and only then, is told, with what it took before.
-fn tells_the_writer(alloc: Global, writes: Script) -> Option<bool> {
-    let right = letter_a(alloc)?;
-    let file = unused_beside_a(alloc)?;
-    let ran = normalised(alloc, &file, by(1), writes);
-    if !ran.write_failed {
-        return Some(ran.writes <= writes.failing && is_done(&ran, &right));
-    }
-    Some(
-        matches!(ran.answer, Err(RunFault::Write))
-            && ran.writes == writes.failing.saturating_add(1)
-            && right.as_slice().starts_with(ran.written.as_slice()),
-    )
-}
-
-// The writer may also answer that it took no byte. It takes one byte a call, or a hundred.
-#[test]
-fn a_writer_of_normalising_fails_at_each_call(rt: HostRuntime) {
-    for most in [1, 100] {
-        for fault in [
-            Some(ErrorKind::BrokenPipe),
-            Some(ErrorKind::Interrupted),
-            None,
-        ] {
-            for failing in 0..266 {
-                let writes = Script {
-                    most,
-                    failing,
-                    fault,
-                };
-                assert!(rt;
-                    tells_the_writer(rt.alloc(), writes) == Some(true),
-                    "call {failing}"
-                );
-            }
-        }
-    }
+    ended(status(answer), (input.into_inner().calls, read_failed), out)
 }
 
 // Lists a file.
-fn listed(alloc: Global, file: &[u8], reads: Script, writes: Script) -> Ran<()> {
+fn listed(alloc: Global, file: &[u8], reads: Script, writes: Script) -> Ran {
     let mut input = Device::new(Scripted::new(file, reads));
     let mut out = Device::new(Scripted::new(Vec::new(alloc), writes));
     let answer = dump_run(alloc, &mut input, &mut out);
     let read_failed = Source::failed(&input);
-    ended(answer, (input.into_inner().calls, read_failed), out)
-}
-
-const LISTING: &[u8] = b"class LA; flags=0x1(public) super=Ljava/lang/Object;\n";
-
-#[test]
-fn a_file_is_listed(rt: HostRuntime) {
-    let file = letter_a(rt.alloc());
-    assert!(rt;
-        file.is_some_and(|file| is_done(&listed(rt.alloc(), &file, by(7), by(5)), LISTING))
-    );
-}
-
-// Whether the fault of each device is told, and that the file is refused.
-fn faults_of_a_listing_are_told(alloc: Global) -> Option<bool> {
-    let (file, cut) = (letter_a(alloc)?, cut_a(alloc)?);
-    let unread = listed(alloc, &file, failing(100, 1), WHOLE);
-    let unwritten = listed(alloc, &file, WHOLE, failing(5, 2));
-    let refused = listed(alloc, &cut, WHOLE, WHOLE);
-    Some(
-        matches!(unread.answer, Err(RunFault::Read(0)))
-            && unread.writes == 0
-            && matches!(unwritten.answer, Err(RunFault::Write))
-            && LISTING.starts_with(unwritten.written.as_slice())
-            && matches!(refused.answer, Err(RunFault::Input(0, refusal)) if refusal.number == 4)
-            && refused.writes == 0,
-    )
-}
-
-#[test]
-fn a_listing_tells_its_faults(rt: HostRuntime) {
-    assert!(rt; faults_of_a_listing_are_told(rt.alloc()) == Some(true));
+    ended(status(answer), (input.into_inner().calls, read_failed), out)
 }
 
 // Checks files of these names, each read as is said for it.
-fn checked(alloc: Global, files: &[(&str, &[u8], Script)], writes: Script) -> Option<Ran<u8>> {
+fn checked(alloc: Global, files: &[(&str, &[u8], Script)], writes: Script) -> Option<Ran> {
     let mut names = Vec::new(alloc);
     let mut inputs = Vec::new(alloc);
     for (name, file, reads) in files {
@@ -175,7 +89,241 @@ fn checked(alloc: Global, files: &[(&str, &[u8], Script)], writes: Script) -> Op
     let mut out = Device::new(Scripted::new(Vec::new(alloc), writes));
     let answer = check_run(alloc, names.as_slice(), inputs.as_mut_slice(), &mut out);
     let read_failed = inputs.iter().any(Source::failed);
-    Some(ended(answer, (0, read_failed), out))
+    Some(ended(answer, (calls_of(inputs), read_failed), out))
+}
+
+// Merges two files, read as is said for each, by the plan of leaves with these numbers, and strips what comes out where
+// it is to be.
+fn merged(
+    alloc: Global,
+    files: [(&[u8], Script); 2],
+    leaves: [usize; 2],
+    is_stripped: bool,
+    writes: Script,
+) -> Option<Ran> {
+    let parts = Vec::from_array(alloc, [Plan::Leaf(leaves[0]), Plan::Leaf(leaves[1])]).ok()?;
+    let mut inputs = Vec::new(alloc);
+    for (file, reads) in files {
+        inputs.push(Device::new(Scripted::new(file, reads))).ok()?;
+    }
+    let mut out = Device::new(Scripted::new(Vec::new(alloc), writes));
+    let (plan, caps) = (Plan::Node(parts), Caps::greatest());
+    let answer = if is_stripped {
+        merge_strip_run(alloc, inputs.as_mut_slice(), &plan, &caps, &mut out)
+    } else {
+        merge_run(alloc, inputs.as_mut_slice(), &plan, &caps, &mut out)
+    };
+    let read_failed = inputs.iter().any(Source::failed);
+    Some(ended(status(answer), (calls_of(inputs), read_failed), out))
+}
+
+// A run, of one file or of the same file twice.
+#[derive(Clone, Copy)]
+enum Run {
+    Normalise,
+    List,
+    Check,
+    Merge,
+    MergeStrip,
+}
+
+const RUNS: [Run; 5] = [
+    Run::Normalise,
+    Run::List,
+    Run::Check,
+    Run::Merge,
+    Run::MergeStrip,
+];
+
+const LISTING: &[u8] = b"class LA; flags=0x1(public) super=Ljava/lang/Object;\n";
+
+const FIRST_LINE: &[u8] = b"a: ok classes=1\n";
+
+const LINES: &[u8] = b"a: ok classes=1\nb: ok classes=1\n";
+
+impl Run {
+    // The file: one with texts that nothing uses, or with a source text where that is to go.
+    fn file(self, alloc: Global) -> Option<Vec<u8>> {
+        match self {
+            Run::MergeStrip => source_of_a(alloc),
+            _ => unused_beside_a(alloc),
+        }
+    }
+
+    // What is written of it.
+    fn right(self, alloc: Global) -> Option<Vec<u8>> {
+        match self {
+            Run::List => Vec::from_slice(alloc, LISTING).ok(),
+            Run::Check => Vec::from_slice(alloc, LINES).ok(),
+            _ => letter_a(alloc),
+        }
+    }
+
+    // The number of the last reader, how often the one before it is called, and what is written before it is.
+    fn before_last(self) -> (usize, usize, &'static [u8]) {
+        match self {
+            Run::Normalise | Run::List => (0, 0, b""),
+            Run::Check => (1, 2, FIRST_LINE),
+            Run::Merge | Run::MergeStrip => (1, 2, b""),
+        }
+    }
+
+    // Does it where the last reader and the writer follow scripts. Another reader tells its file at the first call, and
+    // the end at the second.
+    fn done(self, alloc: Global, reads: Script, writes: Script) -> Option<Ran> {
+        let file = self.file(alloc)?;
+        let file = file.as_slice();
+        let files = [(file, WHOLE), (file, reads)];
+        match self {
+            Run::Normalise => Some(normalised(alloc, file, reads, writes)),
+            Run::List => Some(listed(alloc, file, reads, writes)),
+            Run::Check => checked(alloc, &[("a", file, WHOLE), ("b", file, reads)], writes),
+            Run::Merge => merged(alloc, files, [0, 1], false, writes),
+            Run::MergeStrip => merged(alloc, files, [0, 1], true, writes),
+        }
+    }
+}
+
+// Whether the reader's fault is told exactly where it fails, at one of the four calls that it gets; it is called no more
+// then, and nothing else is written.
+fn tells_the_reader(alloc: Global, run: Run, reads: Script) -> Option<bool> {
+    let right = run.right(alloc)?;
+    let ran = run.done(alloc, reads, WHOLE)?;
+    let (last, calls, written) = run.before_last();
+    if reads.failing >= 4 {
+        return Some(!ran.read_failed && is_done(&ran, &right));
+    }
+    Some(
+        ran.read_failed
+            && matches!(ran.answer, Err(RunFault::Read(reader)) if reader == last)
+            && ran.reads == calls.saturating_add(reads.failing).saturating_add(1)
+            && !ran.write_failed
+            && ran.written.as_slice() == written,
+    )
+}
+
+// It moves 100 bytes a call, so that the fourth finds the end.
+#[test]
+fn readers_fail_at_each_call(rt: HostRuntime) {
+    for run in RUNS {
+        for kind in [ErrorKind::BrokenPipe, ErrorKind::Interrupted] {
+            for call in 0..5 {
+                let reads = Script {
+                    fault: Some(kind),
+                    ..failing(100, call)
+                };
+                assert!(rt;
+                    tells_the_reader(rt.alloc(), run, reads) == Some(true),
+                    "call {call}"
+                );
+            }
+        }
+    }
+}
+
+// Whether the writer's fault is told exactly where it fails; it is called no more then, and has taken a front of what is
+// written: all that it was to take by then.
+fn tells_the_writer(alloc: Global, run: Run, writes: Script) -> Option<bool> {
+    let right = run.right(alloc)?;
+    let ran = run.done(alloc, WHOLE, writes)?;
+    if !ran.write_failed {
+        return Some(ran.writes <= writes.failing && is_done(&ran, &right));
+    }
+    Some(
+        matches!(ran.answer, Err(RunFault::Write))
+            && ran.writes == writes.failing.saturating_add(1)
+            && (writes.most > 1 || ran.written.len() == writes.failing)
+            && ran.written.len() < right.len()
+            && right.as_slice().starts_with(ran.written.as_slice()),
+    )
+}
+
+// The writer may also answer that it took no byte. It takes one byte a call, or a hundred.
+#[test]
+fn writers_fail_at_each_call(rt: HostRuntime) {
+    for run in RUNS {
+        for most in [1, 100] {
+            for fault in [
+                Some(ErrorKind::BrokenPipe),
+                Some(ErrorKind::Interrupted),
+                None,
+            ] {
+                for failing in 0..266 {
+                    let writes = Script {
+                        most,
+                        failing,
+                        fault,
+                    };
+                    assert!(rt;
+                        tells_the_writer(rt.alloc(), run, writes) == Some(true),
+                        "call {failing}"
+                    );
+                }
+            }
+        }
+    }
+}
+
+fn is_done_by_single_bytes(alloc: Global, run: Run) -> Option<bool> {
+    let right = run.right(alloc)?;
+    Some(is_done(&run.done(alloc, by(1), by(1))?, &right))
+}
+
+#[test]
+fn devices_move_one_byte_a_call(rt: HostRuntime) {
+    for run in RUNS {
+        assert!(rt; is_done_by_single_bytes(rt.alloc(), run) == Some(true));
+    }
+}
+
+#[test]
+fn an_error_on_an_empty_buffer_is_a_fault(rt: HostRuntime) {
+    let mut input = Device::new(Scripted::new(LISTING, failing(100, 0)));
+    let answer = Source::read(&mut input, &mut []);
+    assert!(rt; answer == Err(DeviceFault) && Source::failed(&input));
+}
+
+// How many calls it takes to read 10,000 bytes, which are no file, where so many are expected and as many are moved as
+// there is room.
+fn calls_for(alloc: Global, expected: usize) -> Option<usize> {
+    let file = vec![in alloc; 0; 10000].ok()?;
+    let script = Script {
+        most: 20000,
+        ..WHOLE
+    };
+    let mut input = Device::expecting(Scripted::new(file.as_slice(), script), expected);
+    let mut out = Device::new(Vec::new(alloc));
+    match dump_run(alloc, &mut input, &mut out) {
+        Err(RunFault::Input(0, _)) => Some(input.into_inner().calls),
+        _ => None,
+    }
+}
+
+// The last call finds the end. One byte too few is expected, or so few that the room is doubled as where nothing is
+// known; or too many.
+#[test]
+fn a_file_of_known_length_is_read_in_one_call(rt: HostRuntime) {
+    for (expected, calls) in [(10000, 2), (12345, 2), (9999, 2), (9998, 3), (1, 5), (0, 4)] {
+        assert!(rt;
+            calls_for(rt.alloc(), expected) == Some(calls),
+            "expected {expected}"
+        );
+    }
+}
+
+// Whether a file that is refused is told, and nothing is written.
+fn is_refused(alloc: Global) -> Option<bool> {
+    let cut = cut_a(alloc)?;
+    let ran = listed(alloc, &cut, WHOLE, WHOLE);
+    Some(
+        matches!(ran.answer, Err(RunFault::Input(0, refusal)) if refusal.number == 4)
+            && ran.writes == 0,
+    )
+}
+
+#[test]
+fn a_file_that_is_cut_is_not_listed(rt: HostRuntime) {
+    assert!(rt; is_refused(rt.alloc()) == Some(true));
 }
 
 // Whether each of three files has its line, and the status says that one is refused.
@@ -196,123 +344,8 @@ fn each_file_has_its_line(rt: HostRuntime) {
     assert!(rt; are_checked(rt.alloc()) == Some(true));
 }
 
-// What was written where the first file is read whole, the second as is said, and the lines are written as is said.
-fn checked_twice(alloc: Global, reads: Script, writes: Script) -> Option<Ran<u8>> {
-    let file = letter_a(alloc)?;
-    let files = [("a", file.as_slice(), WHOLE), ("b", file.as_slice(), reads)];
-    checked(alloc, &files, writes)
-}
-
-// The line of the first file stays.
-#[test]
-fn a_reader_of_checking_fails_at_each_call(rt: HostRuntime) {
-    for call in 0..4 {
-        let ran = checked_twice(rt.alloc(), failing(100, call), WHOLE);
-        assert!(rt;
-            ran.is_some_and(|ran| matches!(ran.answer, Err(RunFault::Read(1)))
-                && ran.read_failed
-                && !ran.write_failed
-                && ran.written.as_slice() == b"a: ok classes=1\n".as_slice()),
-            "call {call}"
-        );
-    }
-}
-
-// What was written before is a front of the lines.
-#[test]
-fn a_writer_of_checking_fails_at_each_call(rt: HostRuntime) {
-    for call in 0..32 {
-        let ran = checked_twice(rt.alloc(), WHOLE, failing(1, call));
-        assert!(rt;
-            ran.is_some_and(|ran| matches!(ran.answer, Err(RunFault::Write))
-                && ran.write_failed
-                && ran.written.len() == call
-                && b"a: ok classes=1\nb: ok classes=1\n".starts_with(ran.written.as_slice())),
-            "call {call}"
-        );
-    }
-}
-
-// Merges two files, read as is said for each, by the plan of leaves with these numbers, and strips what comes out where
-// it is to be.
-fn merged(
-    alloc: Global,
-    files: [(&[u8], Script); 2],
-    leaves: [usize; 2],
-    is_stripped: bool,
-    writes: Script,
-) -> Option<Ran<()>> {
-    let parts = Vec::from_array(alloc, [Plan::Leaf(leaves[0]), Plan::Leaf(leaves[1])]).ok()?;
-    let mut inputs = Vec::new(alloc);
-    for (file, reads) in files {
-        inputs.push(Device::new(Scripted::new(file, reads))).ok()?;
-    }
-    let mut out = Device::new(Scripted::new(Vec::new(alloc), writes));
-    let (plan, caps) = (Plan::Node(parts), Caps::greatest());
-    let answer = if is_stripped {
-        merge_strip_run(alloc, inputs.as_mut_slice(), &plan, &caps, &mut out)
-    } else {
-        merge_run(alloc, inputs.as_mut_slice(), &plan, &caps, &mut out)
-    };
-    let read_failed = inputs.iter().any(Source::failed);
-    let mut reads: usize = 0;
-    for input in inputs {
-        reads = reads.saturating_add(input.into_inner().calls);
-    }
-    Some(ended(answer, (reads, read_failed), out))
-}
-
-// Merges the two files of `LA;`, the second with the texts that nothing uses.
-fn both(alloc: Global, reads: [Script; 2], leaves: [usize; 2], writes: Script) -> Option<Ran<()>> {
-    let (first, second) = (letter_a(alloc)?, unused_beside_a(alloc)?);
-    let files = [(first.as_slice(), reads[0]), (second.as_slice(), reads[1])];
-    merged(alloc, files, leaves, false, writes)
-}
-
-// Whether the writer failed and is told, with as many bytes of the canonical file before as there were calls; or, where
-// it did not fail, all is written.
-fn tells_the_writer_of_a_merge(alloc: Global, reads: Script, writes: Script) -> Option<bool> {
-    let right = letter_a(alloc)?;
-    let merged = both(alloc, [reads, reads], [0, 1], writes)?;
-    if !merged.write_failed {
-        return Some(merged.writes <= writes.failing && is_done(&merged, &right));
-    }
-    Some(
-        matches!(merged.answer, Err(RunFault::Write))
-            && merged.writes == writes.failing.saturating_add(1)
-            && merged.written.len() == writes.failing
-            && right.as_slice().starts_with(merged.written.as_slice()),
-    )
-}
-
-#[test]
-fn a_writer_of_a_merge_fails_at_each_call(rt: HostRuntime) {
-    for call in 0..266 {
-        let told = tells_the_writer_of_a_merge(rt.alloc(), WHOLE, failing(1, call));
-        assert!(rt; told == Some(true), "call {call}");
-    }
-}
-
-#[test]
-fn a_merge_by_one_byte_a_call(rt: HostRuntime) {
-    assert!(rt; tells_the_writer_of_a_merge(rt.alloc(), by(1), by(1)) == Some(true));
-}
-
-// It moves 100 bytes a call, so that the fourth finds the end.
-#[test]
-fn a_reader_of_a_merge_fails_at_each_call(rt: HostRuntime) {
-    for call in 0..4 {
-        let merged = both(rt.alloc(), [WHOLE, failing(100, call)], [0, 1], WHOLE);
-        assert!(rt;
-            merged.is_some_and(|merged| merged.writes == 0
-                && matches!(merged.answer, Err(RunFault::Read(1)))),
-            "call {call}"
-        );
-    }
-}
-
 // Merges a file that is cut and one whose reader fails, or the other way round.
-fn cut_and_failing(alloc: Global, is_cut_first: bool) -> Option<Ran<()>> {
+fn cut_and_failing(alloc: Global, is_cut_first: bool) -> Option<Ran> {
     let (cut, whole) = (cut_a(alloc)?, letter_a(alloc)?);
     let cut = (cut.as_slice(), WHOLE);
     let whole = (whole.as_slice(), failing(100, 0));
@@ -338,14 +371,16 @@ fn the_first_file_that_fails_is_told(rt: HostRuntime) {
     );
 }
 
+fn is_bad_plan_told(alloc: Global) -> Option<bool> {
+    let file = letter_a(alloc)?;
+    let files = [(file.as_slice(), failing(100, 0)), (file.as_slice(), WHOLE)];
+    let ran = merged(alloc, files, [0, 2], false, WHOLE)?;
+    Some(ran.reads == 0 && ran.writes == 0 && matches!(ran.answer, Err(RunFault::Plan)))
+}
+
 #[test]
 fn a_bad_plan_is_told_before_a_reader_is_called(rt: HostRuntime) {
-    let merged = both(rt.alloc(), [failing(100, 0), WHOLE], [0, 2], WHOLE);
-    assert!(rt;
-        merged.is_some_and(|merged| merged.reads == 0
-            && merged.writes == 0
-            && matches!(merged.answer, Err(RunFault::Plan)))
-    );
+    assert!(rt; is_bad_plan_told(rt.alloc()) == Some(true));
 }
 
 // What is said of two classes `LA;` with unlike flags, where nothing was written.

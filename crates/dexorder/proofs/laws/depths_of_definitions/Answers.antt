@@ -1,5 +1,6 @@
 use Rattle.std.proofs.Common.{arith}
 use Rattle.dexorder.proofs.DefinitionDepths.{has_depth, same_depth, is_cycle, cycle_class, no_cycle, all_known}
+use Rattle.dexorder.proofs.DefinitionOrder.{own_depths}
 use Rattle.dexorder.proofs.laws.depths_of_definitions.Goals as goal
 
 pub returns-clause-depth : goal.returns-clause-depth
@@ -16,3 +17,6 @@ returns-clause-acyclic c = λ D classes depths h a some. no_cycle D classes h de
 
 pub returns-clause-known : goal.returns-clause-known
 returns-clause-known c = λ D classes depths h a acyclic. all_known D classes h depths a acyclic
+
+pub returns-clause-own : goal.returns-clause-own
+returns-clause-own c = λ D classes depths h a some. own_depths D classes depths h a some

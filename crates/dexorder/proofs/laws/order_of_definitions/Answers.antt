@@ -9,5 +9,5 @@ returns-clause-names c = λ D names h. names_distinct D names h
 
 pub returns-clause-order : goal.returns-clause-order
 returns-clause-order c =
-    λ D classes depths names order h a some n distinct p r e.
-    same_order D classes depths names h a some n e order distinct (subst (λ k. IsPermutation (range_with_len 0 k) order) n.count p) r
+    λ D depths names order a n distinct p r e.
+    same_order D depths names a n e order distinct (subst (λ k. IsPermutation (range_with_len 0 k) order) n.count p) r

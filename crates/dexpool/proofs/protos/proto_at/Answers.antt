@@ -1,10 +1,8 @@
-use Rattle.std.proofs.Common.{◌∷◌, ℕ, List, [], refl, sym, subst, ◌∙◌, ap}
-use Rattle.std.specs.Prelude.{map}
-use Rattle.std.proofs.lemmas.Bool.{false≢true}
+use Rattle.std.proofs.Common.{◌∷◌, ℕ, [], refl, subst, ◌∙◌, ap}
 use Rattle.dexspec.specs.Lists.{OrNone}
 use Rattle.dexspec.specs.Names.{shorty}
 use Rattle.dexspec.specs.Rows.{StringRow, TypeRow, TypeListAt}
-use Rattle.dexpool.specs.Tables.{type_of, span_of}
+use Rattle.dexpool.specs.Tables.{span_of}
 use Rattle.dexpool.specs.Reading.{letters_of, file_numbers}
 use Rattle.dexpool.proofs.ProtoRows.{shorty_same, stands_there}
 use Rattle.dexpool.proofs.protos.proto_at.Goals as goal
@@ -15,33 +13,24 @@ returns-in-None-clause-proto c = λ p h. c.in-None.ensures _ (subst (λ n. Strin
 pub returns-in-None-typ-clause-proto : goal.returns-in-None-typ-clause-proto
 returns-in-None-typ-clause-proto c = λ p h. c.in-None-typ.ensures _ (subst (λ n. TypeRow c.args.names.now.frame.now n p.return_type) c.indices_at-indices.ensures.return_is h.return_type)
 
-pub returns-in-None-known_parameters-clause-proto : goal.returns-in-None-known_parameters-clause-proto
-returns-in-None-known_parameters-clause-proto c = λ p h. c.in-None-known_parameters.ensures p.parameters (subst (λ o. OrNone TypeListAt [] c.args.names.now.frame.now o p.parameters) c.indices_at-indices.ensures.off_is h.parameters) h.values
+pub returns-in-None-place_at-clause-proto : goal.returns-in-None-place_at-clause-proto
+returns-in-None-place_at-clause-proto c = λ p h. c.in-None-place_at.ensures p.parameters (subst (λ o. OrNone TypeListAt [] c.args.names.now.frame.now o p.parameters) c.indices_at-indices.ensures.off_is h.parameters)
 
 pub returns-then-not-has_shorty-clause-proto : goal.returns-then-not-has_shorty-clause-proto
 returns-then-not-has_shorty-clause-proto c = λ p h.
     let b = c.args.names.now.frame.now in
-    let texts = c.args.names.now.strings.now in
-    let types = c.args.names.now.types.now in
-    let listed = c.in-Some-known_parameters.ensures in
-    let same = shorty_same b texts types c.args.i _ _ c.indices_at-indices.result.off p c.in-Some.shorty.now c.in-Some-typ.return_type.now c.indices_at-indices.ensures h c.in-Some.ensures.row c.in-Some-typ.ensures.row listed.parameters in
-    false≢true (c.if-not-has_shorty.ensures.1 (same ∙ ap (λ (l : List ℕ). shorty c.in-Some-typ.return_type.now (map (type_of texts types) l)) (sym listed.is)))
+    c.if-not-has_shorty.ensures.no refl p.parameters (subst (λ o. OrNone TypeListAt [] b o p.parameters) c.indices_at-indices.ensures.off_is h.parameters) h.values
+    (shorty_same b c.args.i _ _ c.indices_at-indices.result.off c.letter.result p c.in-Some.shorty.now c.in-Some-typ.return_type.now c.indices_at-indices.ensures h c.in-Some.ensures.row c.in-Some-typ.ensures.row c.letter.ensures)
 
 pub note-requires-clause-judged : goal.note-requires-clause-judged
-note-requires-clause-judged c =
-    let b = c.args.names.now.frame.now in
-    let texts = c.args.names.now.strings.now in
-    let types = c.args.names.now.types.now in
-    record {
-      listed = c.in-Some-known_parameters.ensures;
-      shorty = sym c.in-Some.ensures.is ∙ c.if-not-has_shorty.ensures.0 refl ∙ (λ i. sym c.letter.ensures i ∷ letters_of texts types (span_of (file_numbers b) c.in-Some-known_parameters.span));
-    }
+note-requires-clause-judged c = c.if-not-has_shorty.ensures.yes refl
 
 pub returns-clause-proto : goal.returns-clause-proto
 returns-clause-proto c =
     let b = c.args.names.now.frame.now in
     let texts = c.args.names.now.strings.now in
     let types = c.args.names.now.types.now in
+    let judged = c.if-not-has_shorty.ensures.yes refl in
     stands_there b texts types c.args.i c.indices_at-indices.result.off _ c.in-Some.shorty.now c.in-Some-typ.return_type.now
-    c.requires.row c.indices_at-indices.ensures c.in-Some.ensures c.in-Some-typ.ensures c.in-Some-known_parameters.ensures
-    (c.if-not-has_shorty.ensures.0 refl)
+    c.requires.row c.indices_at-indices.ensures c.in-Some.ensures c.in-Some-typ.ensures judged.listed
+    (c.in-Some.ensures.is ∙ judged.shorty ∙ ap (λ (l : ℕ). l ∷ letters_of texts types (span_of (file_numbers b) c.in-Some-place_at.span)) c.letter.ensures)

@@ -1,22 +1,22 @@
-use Rattle.std.proofs.Common.{sym}
-use Rattle.dexclass.proofs.ProgramsOf.{named, collection_is, program_is}
+use Rattle.std.proofs.Common.{List, map, sym, subst}
+use Rattle.dexorder.specs.Definitions.{AreDepthsOf}
+use Rattle.dexspec.specs.Depth.{IsAcyclic}
+use Rattle.dexclass.specs.Numbered.{NumberedClass, definition_of}
+use Rattle.dexclass.specs.Parents.{AreNamed}
+use Rattle.dexclass.proofs.ProgramsOf.{named}
 use Rattle.dexclass.proofs.programs.Program.weighing.Goals as goal
 
-pub in_order-requires : goal.in_order-requires
-in_order-requires c = record { numbering = (c.args.numbering, sym c.count-types.ensures, named c.args.numbering c.args.classes.items c.requires.mergeable c.is_numbering.ensures, c.requires.mergeable.good.acyclic) }
-
-pub invariant_of-result : goal.invariant_of-result
-invariant_of-result c =
+pub depths_of-requires : goal.depths_of-requires
+depths_of-requires c =
     let m = c.args.numbering in
     let cs = c.args.classes.items in
-    let h = c.requires.mergeable in
-    let new = c.in_ok-classes.classes.items in
-    program_is m cs h c.is_numbering.ensures new c.in_ok-classes.ensures.members (c.in_ok-classes.ensures.order m (named m cs h c.is_numbering.ensures) h.good.acyclic) c.args.total c.requires.total
+    (m, sym c.count-types.ensures, subst (AreNamed m) (sym c.deref.ensures.value) (named m cs c.requires.mergeable c.is_numbering.ensures))
 
-pub returns : goal.returns
-returns c =
+pub arranged-requires-clause-depths : goal.arranged-requires-clause-depths
+arranged-requires-clause-depths c =
     let m = c.args.numbering in
     let cs = c.args.classes.items in
-    let h = c.requires.mergeable in
-    let new = c.in_ok-classes.classes.items in
-    collection_is m cs h c.is_numbering.ensures new c.in_ok-classes.ensures.members (c.in_ok-classes.ensures.order m (named m cs h c.is_numbering.ensures) h.good.acyclic)
+    let found : AreDepthsOf (map (definition_of m) cs) c.in_ok-depths.depths.items =
+    (subst (λ (l : List NumberedClass). AreNamed m l → IsAcyclic (map (definition_of m) l) → AreDepthsOf (map (definition_of m) l) c.in_ok-depths.depths.items) c.deref.ensures.value (c.in_ok-depths.ensures m))
+    (named m cs c.requires.mergeable c.is_numbering.ensures) c.requires.mergeable.good.acyclic in
+    subst (AreDepthsOf (map (definition_of m) cs)) (sym c.deref-2.ensures.value) found

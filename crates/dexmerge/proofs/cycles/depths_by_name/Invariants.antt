@@ -1,0 +1,10 @@
+use Rattle.std.specs.Prelude.{◌≡◌, ℕ, ◌<◌, length, None, slice_index_or}
+use Rattle.dexclass.specs.Parents.{name_number}
+use Rattle.dexmerge.specs.Candidates.{classes_of}
+use Rattle.dexmerge.proofs.cycles.depths_by_name.Given as goal
+
+abbrev pub invariant-loop-i : goal.invariant-loop-i
+invariant-loop-i l = record {
+  count : length l.by_name.items ≡ l.types;
+  entered : (k : ℕ) → k < l.i → slice_index_or l.by_name.items (name_number (classes_of l.classes) k) None ≡ slice_index_or l.depths k None;
+}

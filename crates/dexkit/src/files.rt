@@ -59,6 +59,14 @@ impl<'a, R: Files> Read for OldFile<'a, R> {
     }
 }
 
+/// How many bytes the file at a path has, or 0 where the system does not tell.
+pub fn file_len(rt: &impl Files, path: &str) -> usize {
+    match fs::metadata(rt, path) {
+        Ok(metadata) => usize::try_from(metadata.len()).unwrap_or(0),
+        Err(_) => 0,
+    }
+}
+
 /// A file that is made or emptied at the first write.
 #[derive(Drop)]
 pub struct NewFile<'a, R: Files> {

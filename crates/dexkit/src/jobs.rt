@@ -1,12 +1,12 @@
 //! What the program does for each command.
 
-ghost use Rattle.std.specs.Prelude.{◌≡◌, ◌≤◌, length, IfOk, IfErr, IfSome};
+ghost use Rattle.std.specs.Prelude.{◌≡◌, ◌≤◌, false, length, IfOk, IfErr, IfSome};
 ghost use Rattle.dexcmd.specs.Lines.{HasName};
 ghost use Rattle.dexcmd.specs.Runs.{AllWork};
 ghost use Rattle.dexcmd.specs.Words.{IsSound};
 ghost use Rattle.dexhead.specs.Device.{is_broken};
 
-use crate::files::{NewFile, OldFile};
+use crate::files::{NewFile, OldFile, file_len};
 use dexcmd::{
     Job, RunFault, check_run, dump_run, explain, fan_plan, merge_run, merge_strip_run,
     normalise_run,
@@ -21,7 +21,15 @@ const DONE: u8 = 0;
 
 const STANDARD_OUTPUT: &str = "standard output";
 
-// A reader for each file, which opens it when it is first read.
+// A reader of the file at a path, which opens it when it is first read. The room for its bytes is made at once where the
+// system tells how many they are.
+fn reader<'a, R: Files>(rt: &'a R, path: &'a str) -> Device<OldFile<'a, R>>
+    ensures { is_broken result ≡ false }
+{
+    Device::expecting(OldFile::new(rt, path), file_len(rt, path))
+}
+
+// A reader for each file.
 fn readers<'a, R: Files>(
     rt: &'a R,
     alloc: Global,
@@ -32,7 +40,7 @@ fn readers<'a, R: Files>(
 {
     let mut inputs = Vec::with_capacity(alloc, names.len())?;
     for name in names {
-        inputs.push(Device::new(OldFile::new(rt, name)))?;
+        inputs.push(reader(rt, name))?;
     }
     Ok(inputs)
 }
@@ -48,7 +56,7 @@ fn check(rt: &(impl Files + Print), alloc: Global, names: &[&str]) -> Result<u8,
 fn dump(rt: &(impl Files + Print), alloc: Global, file: &str) -> Result<(), RunFault>
     ensures { IfErr result (HasName 1) }
 {
-    let mut input = Device::new(OldFile::new(rt, file));
+    let mut input = reader(rt, file);
     let mut out = Device::new(io::writer(rt));
     dump_run(alloc, &mut input, &mut out)
 }
@@ -56,7 +64,7 @@ fn dump(rt: &(impl Files + Print), alloc: Global, file: &str) -> Result<(), RunF
 fn normalise(rt: &impl Files, alloc: Global, file: &str, out: &str) -> Result<(), RunFault>
     ensures { IfErr result (HasName 1) }
 {
-    let mut input = Device::new(OldFile::new(rt, file));
+    let mut input = reader(rt, file);
     let mut out = Device::new(NewFile::new(rt, out));
     normalise_run(alloc, &mut input, &mut out)
 }

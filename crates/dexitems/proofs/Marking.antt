@@ -1,5 +1,5 @@
--- Marks after more symbols are marked.
-use Rattle.std.proofs.Common.{List, ◌∙◌}
+-- Marks after more symbols are marked, and after none is.
+use Rattle.std.proofs.Common.{List, [], ◌∙◌, ◌≡◌, ◌||◌, Bool, true, false, refl}
 use Rattle.dexspec.specs.Mentions.{Mentions}
 use Rattle.dexpool.specs.declared.marks.Marks.{Marks}
 use Rattle.dexpool.specs.declared.symbols.SymbolKind.TheVariants as kinds
@@ -15,3 +15,11 @@ as_many m us old new are more = record {
   fields_count = more.count kinds.Field ∙ are.fields_count;
   methods_count = more.count kinds.Method ∙ are.methods_count;
 }
+
+or_not : (b : Bool) → b ≡ (b || false)
+or_not true = refl
+or_not false = refl
+
+-- where nothing occurs the marks are the old ones
+pub none_more : (marks : Marks) → AreMarkedToo [] marks marks
+none_more marks = record { count = λ _. refl; each = λ _ _. or_not _ }

@@ -3,15 +3,16 @@
 //! and their annotations, arrays of values, class data and directories.
 
 ghost use Rattle.std.specs.Prelude.{◌<◌};
+ghost use Rattle.dexpool.specs.Pools.{ArePools};
 ghost use Rattle.dexspec.specs.Header.{ClassDefs, table_size};
 
-use crate::fault::CaseFault;
+use crate::dex_file::DexFile;
 use crate::offsets::{DirectoryOffs, directory_offs, list_offs, method_code_offs, number_at};
-use crate::outcome::Outcome;
-use crate::puts::{Put, put_again};
+use crate::puts::Put;
+use dexcases::{CaseFault, Outcome};
 use dexhead::{Frame, Table};
-use dexmembers::{Field, Members, Method, read_members};
-use dexpool::{ItemFault, Pools, ReadFault};
+use dexmembers::{Members, read_members};
+use dexpool::ItemFault;
 use std::alloc::{AllocError, Global};
 use std::collections::BTreeMap;
 
@@ -25,16 +26,8 @@ pub fn run_item(alloc: Global, word: &str, bytes: &[u8], case: &str) -> Result<O
         "code" => Put::Code(number_at(bytes, (off as usize).saturating_add(8))?),
         _ => return Err(CaseFault::Form),
     };
-    let Ok(frame) = Frame::open(bytes) else {
-        return Ok(Outcome::failed(alloc, "no file")?);
-    };
-    let pools = match Pools::read(alloc, &frame) {
-        Ok(pools) => pools,
-        Err(ReadFault::Memory) => return Err(CaseFault::Memory),
-        Err(_) => return Ok(Outcome::failed(alloc, "no pools")?),
-    };
-    let item = Item { put, off, at: off };
-    if item.is_put_as_it_stands(alloc, &frame, &pools)? {
+    let file = DexFile::open(alloc, bytes)?;
+    if Placed::at(put, off).stands(alloc, &file)? {
         return Ok(Outcome::Passed);
     }
     Ok(Outcome::failed(alloc, "other bytes")?)
@@ -43,17 +36,10 @@ pub fn run_item(alloc: Global, word: &str, bytes: &[u8], case: &str) -> Result<O
 /// Runs a line, given the file and what stands in the line behind the file's name.
 pub fn run(alloc: Global, bytes: &[u8], case: &str) -> Result<Outcome, CaseFault> {
     let right: usize = case.parse()?;
-    let Ok(frame) = Frame::open(bytes) else {
-        return Ok(Outcome::failed(alloc, "no file")?);
-    };
-    let pools = match Pools::read(alloc, &frame) {
-        Ok(pools) => pools,
-        Err(ReadFault::Memory) => return Err(CaseFault::Memory),
-        Err(_) => return Ok(Outcome::failed(alloc, "no pools")?),
-    };
+    let file = DexFile::open(alloc, bytes)?;
     let mut count: usize = 0;
-    for row in 0..frame.size(Table::ClassDefs) {
-        match judge_class(alloc, &frame, &pools, row)? {
+    for row in 0..file.frame.size(Table::ClassDefs) {
+        match judge_class(alloc, &file, row)? {
             Judged::Items(items) => count = count.saturating_add(items),
             Judged::Astray(off) => {
                 return Ok(Outcome::Failed(format!(in alloc; "other bytes at {off}")?));
@@ -77,7 +63,7 @@ enum Judged {
 
 /// An item to be put.
 #[derive(Clone, Copy)]
-struct Item {
+struct Placed {
     put: Put,
     /// The offset of what is read.
     off: u32,
@@ -85,19 +71,21 @@ struct Item {
     at: u32,
 }
 
-impl Item {
+impl Placed {
+    // What is read at an offset, and is to be put there.
+    fn at(put: Put, off: u32) -> Placed {
+        Placed { put, off, at: off }
+    }
+
     // Whether the bytes that stand there are put.
-    fn is_put_as_it_stands(
-        self,
-        alloc: Global,
-        frame: &Frame<'_>,
-        pools: &Pools<'_>,
-    ) -> Result<bool, CaseFault> {
+    fn stands(self, alloc: Global, file: &DexFile<'_>) -> Result<bool, CaseFault>
+        requires { ArePools file.now.frame file.now.pools }
+    {
         let mut out = Vec::new(alloc);
-        if !put_again(alloc, frame, pools, self.put, self.off, &mut out)? {
+        if !self.put.append(alloc, file, self.off, &mut out)? {
             return Ok(false);
         }
-        Ok(stand(frame.bytes(), self.at, &out))
+        Ok(stand(file.frame.bytes(), self.at, &out))
     }
 }
 
@@ -110,60 +98,52 @@ fn stand(bytes: &[u8], at: u32, wanted: &[u8]) -> bool {
 }
 
 // Judges the items of a class row.
-fn judge_class(
-    alloc: Global,
-    frame: &Frame<'_>,
-    pools: &Pools<'_>,
-    row: u32,
-) -> Result<Judged, CaseFault>
-    requires { row < table_size frame.now ClassDefs }
+fn judge_class(alloc: Global, file: &DexFile<'_>, row: u32) -> Result<Judged, CaseFault>
+    requires pools { ArePools file.now.frame file.now.pools }
+    requires row { row < table_size file.now.frame ClassDefs }
 {
-    let members = match read_members(alloc, frame, pools, row, u32::MAX) {
+    let members = match read_members(alloc, &file.frame, &file.pools, row, u32::MAX) {
         Ok(Some(members)) => members,
         Err(ItemFault::Memory) => return Err(CaseFault::Memory),
         _ => return Ok(Judged::Astray(0)),
     };
-    judge_row(
-        alloc,
-        frame,
-        pools,
-        frame.row(Table::ClassDefs, row),
-        &members,
-    )
+    judge_row(alloc, file, file.frame.row(Table::ClassDefs, row), &members)
 }
 
 // Judges the items that the bytes of a class row lead to.
 fn judge_row(
     alloc: Global,
-    frame: &Frame<'_>,
-    pools: &Pools<'_>,
+    file: &DexFile<'_>,
     row: &[u8],
     members: &Members<'_>,
-) -> Result<Judged, CaseFault> {
+) -> Result<Judged, CaseFault>
+    requires { ArePools file.now.frame file.now.pools }
+{
     let annotations_off = number_at(row, 20)?;
     let class_data_off = number_at(row, 24)?;
     let mut items = Vec::new(alloc);
-    if !stands_class_data(alloc, frame, members, class_data_off, &mut items)? {
+    if !stands_class_data(alloc, &file.frame, members, class_data_off, &mut items)? {
         return Ok(Judged::Astray(class_data_off));
     }
-    if !stands_directory(alloc, frame, members, annotations_off, &mut items)? {
+    if !stands_directory(alloc, &file.frame, members, annotations_off, &mut items)? {
         return Ok(Judged::Astray(annotations_off));
     }
     push_statics(number_at(row, 28)?, &mut items)?;
     let beside = usize::from(class_data_off != 0) + usize::from(annotations_off != 0);
-    judge_items(alloc, frame, pools, &items, beside)
+    judge_items(alloc, file, &items, beside)
 }
 
 // Judges items; so many others stand.
 fn judge_items(
     alloc: Global,
-    frame: &Frame<'_>,
-    pools: &Pools<'_>,
-    items: &[Item],
+    file: &DexFile<'_>,
+    items: &[Placed],
     others: usize,
-) -> Result<Judged, CaseFault> {
+) -> Result<Judged, CaseFault>
+    requires { ArePools file.now.frame file.now.pools }
+{
     for item in items {
-        if !item.is_put_as_it_stands(alloc, frame, pools)? {
+        if !item.stands(alloc, file)? {
             return Ok(Judged::Astray(item.off));
         }
     }
@@ -171,53 +151,36 @@ fn judge_items(
 }
 
 // Appends the array of values at an offset, if there is one.
-fn push_statics(off: u32, items: &mut Vec<Item>) -> Result<(), CaseFault> {
-    if off == 0 {
-        return Ok(());
+fn push_statics(off: u32, items: &mut Vec<Placed>) -> Result<(), CaseFault> {
+    if off != 0 {
+        items.push(Placed::at(Put::Statics, off))?;
     }
-    items.push(Item {
-        put: Put::Statics,
-        off,
-        at: off,
-    })?;
     Ok(())
 }
 
 // Appends the code items at these offsets, and their debug programs.
-fn push_codes(bytes: &[u8], code_offs: &[u32], items: &mut Vec<Item>) -> Result<(), CaseFault> {
+fn push_codes(bytes: &[u8], code_offs: &[u32], items: &mut Vec<Placed>) -> Result<(), CaseFault> {
     for off in code_offs {
         if *off == 0 {
             continue;
         }
         let debug_off = number_at(bytes, (*off as usize).saturating_add(8))?;
-        items.push(Item {
-            put: Put::Code(debug_off),
-            off: *off,
-            at: *off,
-        })?;
+        items.push(Placed::at(Put::Code(debug_off), *off))?;
         if debug_off != 0 {
-            items.push(Item {
-                put: Put::Debug,
-                off: debug_off,
-                at: debug_off,
-            })?;
+            items.push(Placed::at(Put::Debug, debug_off))?;
         }
     }
     Ok(())
 }
 
 // Appends the set at an offset, and its annotations, if there is one.
-fn push_set(bytes: &[u8], off: u32, items: &mut Vec<Item>) -> Result<(), CaseFault> {
+fn push_set(bytes: &[u8], off: u32, items: &mut Vec<Placed>) -> Result<(), CaseFault> {
     if off == 0 {
         return Ok(());
     }
     let first = number_at(bytes, (off as usize).saturating_add(4))?;
-    items.push(Item {
-        put: Put::Set(first),
-        off,
-        at: off,
-    })?;
-    items.push(Item {
+    items.push(Placed::at(Put::Set(first), off))?;
+    items.push(Placed {
         put: Put::Annotations,
         off,
         at: first,
@@ -230,7 +193,7 @@ fn push_sets(
     alloc: Global,
     bytes: &[u8],
     offs: &DirectoryOffs,
-    items: &mut Vec<Item>,
+    items: &mut Vec<Placed>,
 ) -> Result<(), CaseFault> {
     push_set(bytes, offs.own, items)?;
     for (_, off) in offs.fields.iter() {
@@ -254,7 +217,7 @@ fn stands_class_data(
     frame: &Frame<'_>,
     members: &Members<'_>,
     off: u32,
-    items: &mut Vec<Item>,
+    items: &mut Vec<Placed>,
 ) -> Result<bool, CaseFault> {
     if off == 0 {
         return Ok(true);
@@ -287,16 +250,18 @@ fn stands_directory(
     frame: &Frame<'_>,
     members: &Members<'_>,
     off: u32,
-    items: &mut Vec<Item>,
+    items: &mut Vec<Placed>,
 ) -> Result<bool, CaseFault> {
     if off == 0 {
         return Ok(true);
     }
     let offs = directory_offs(alloc, frame.bytes(), off)?;
     push_sets(alloc, frame.bytes(), &offs, items)?;
-    let of_fields = field_offs(alloc, members, &offs.fields)?;
-    let of_methods = method_offs(alloc, members, &offs.methods)?;
-    let of_parameters = method_offs(alloc, members, &offs.parameters)?;
+    let fields = field_numbers(alloc, members)?;
+    let methods = method_numbers(alloc, members)?;
+    let of_fields = offs_of(alloc, &fields, &offs.fields)?;
+    let of_methods = offs_of(alloc, &methods, &offs.methods)?;
+    let of_parameters = offs_of(alloc, &methods, &offs.parameters)?;
     let mut out = Vec::new(alloc);
     if !put_counted(
         members,
@@ -333,58 +298,42 @@ fn put_counted(
     Ok(true)
 }
 
-// The offset of each field, the static ones first.
-fn field_offs(
+// The number of each field, the static ones first.
+fn field_numbers(alloc: Global, members: &Members<'_>) -> Result<Vec<u32>, AllocError> {
+    let mut numbers = Vec::new(alloc);
+    for field in members.static_fields() {
+        numbers.push(field.number())?;
+    }
+    for field in members.instance_fields() {
+        numbers.push(field.number())?;
+    }
+    Ok(numbers)
+}
+
+// The number of each method, the direct ones first.
+fn method_numbers(alloc: Global, members: &Members<'_>) -> Result<Vec<u32>, AllocError> {
+    let mut numbers = Vec::new(alloc);
+    for method in members.direct_methods() {
+        numbers.push(method.number())?;
+    }
+    for method in members.virtual_methods() {
+        numbers.push(method.number())?;
+    }
+    Ok(numbers)
+}
+
+// The offset that belongs to each number; 0 stands for none.
+fn offs_of(
     alloc: Global,
-    members: &Members<'_>,
+    numbers: &[u32],
     offs: &BTreeMap<u32, u32>,
 ) -> Result<Vec<u32>, AllocError> {
-    let mut out = Vec::new(alloc);
-    push_field_offs(members.static_fields(), offs, &mut out)?;
-    push_field_offs(members.instance_fields(), offs, &mut out)?;
+    let mut out = Vec::with_capacity(alloc, numbers.len())?;
+    for number in numbers {
+        out.push(match offs.get(number) {
+            Some(off) => *off,
+            None => 0,
+        })?;
+    }
     Ok(out)
-}
-
-// The offset of each method, the direct ones first.
-fn method_offs(
-    alloc: Global,
-    members: &Members<'_>,
-    offs: &BTreeMap<u32, u32>,
-) -> Result<Vec<u32>, AllocError> {
-    let mut out = Vec::new(alloc);
-    push_method_offs(members.direct_methods(), offs, &mut out)?;
-    push_method_offs(members.virtual_methods(), offs, &mut out)?;
-    Ok(out)
-}
-
-// The offset that belongs to a number; 0 stands for none.
-fn off_of(offs: &BTreeMap<u32, u32>, number: u32) -> u32 {
-    match offs.get(&number) {
-        Some(off) => *off,
-        None => 0,
-    }
-}
-
-// Appends the offset of each field.
-fn push_field_offs(
-    fields: &[Field],
-    offs: &BTreeMap<u32, u32>,
-    out: &mut Vec<u32>,
-) -> Result<(), AllocError> {
-    for field in fields {
-        out.push(off_of(offs, field.number()))?;
-    }
-    Ok(())
-}
-
-// Appends the offset of each method.
-fn push_method_offs(
-    methods: &[Method<'_>],
-    offs: &BTreeMap<u32, u32>,
-    out: &mut Vec<u32>,
-) -> Result<(), AllocError> {
-    for method in methods {
-        out.push(off_of(offs, method.number()))?;
-    }
-    Ok(())
 }

@@ -1,28 +1,13 @@
 //! What is measured of items: weights, the symbols that occur, and positions.
 
-ghost use Rattle.dexpool.specs.Pools.{ArePools};
-
-use crate::fault::CaseFault;
-use crate::outcome::Outcome;
-use crate::reads::directory::weight_of;
-use dexcode::{code_uses_law, debug_uses_law, positions, read_code, read_debug};
-use dexhead::{Frame, Table};
-use dexmembers::read_members;
-use dexpool::{ItemFault, Marks, Pools, ReadFault};
-use dexval::{
-    annotation_size, mark_values, marks_law, read_directory, read_set, read_statics, read_value,
-    statics_weight,
-};
+use crate::dex_file::DexFile;
+use crate::item::Item;
+use crate::item_kind::ItemKind;
+use dexcases::{CaseFault, Outcome, first_word, positions_text};
+use dexcode::positions;
+use dexpool::Marks;
+use dexval::{AnnotationSet, annotation_size};
 use std::alloc::{AllocError, Global};
-
-// The pools of a file, if it has some.
-fn pools_of<'a>(alloc: Global, frame: &Frame<'a>) -> Result<Option<Pools<'a>>, CaseFault> {
-    match Pools::read(alloc, frame) {
-        Ok(pools) => Ok(Some(pools)),
-        Err(ReadFault::Memory) => Err(CaseFault::Memory),
-        Err(_) => Ok(None),
-    }
-}
 
 /// Runs a line: a word for the kind of item, and `FILE PLACE WEIGHT`. For `annotations` the numbers of bytes of the
 /// annotations of a set stand for a weight, joined by commas.
@@ -32,60 +17,28 @@ pub fn run_weight(
     bytes: &[u8],
     case: &str,
 ) -> Result<Outcome, CaseFault> {
-    let (place, right) = case.split_once(' ').ok_or(CaseFault::Form)?;
-    let Ok(frame) = Frame::open(bytes) else {
-        return Ok(Outcome::failed(alloc, "no file")?);
+    let (place, right) = first_word(case)?;
+    let kind = match word {
+        "annotations" => ItemKind::Set,
+        _ => ItemKind::of_word(word).ok_or(CaseFault::Form)?,
     };
-    let Some(pools) = pools_of(alloc, &frame)? else {
-        return Ok(Outcome::failed(alloc, "no pools")?);
+    let file = DexFile::open(alloc, bytes)?;
+    let item = Item::at(alloc, &file, kind, place.parse()?)?;
+    let measured = match &item {
+        Item::Set(set) if word == "annotations" => sizes_text(alloc, set)?,
+        item => weight_text(alloc, item)?,
     };
-    let place = place.parse()?;
-    let measured = if word == "annotations" {
-        sizes(alloc, &frame, &pools, place)
-    } else {
-        weight(alloc, word, &frame, &pools, place)
-    };
-    match measured {
-        Ok(measured) => Ok(Outcome::of(measured, right)),
-        Err(ItemFault::Memory) => Err(CaseFault::Memory),
-        Err(_) => Ok(Outcome::failed(alloc, "no item")?),
-    }
+    Ok(Outcome::of(measured, right))
 }
 
-// What the item at a place weighs.
-fn weight(
-    alloc: Global,
-    word: &str,
-    frame: &Frame<'_>,
-    pools: &Pools<'_>,
-    place: u32,
-) -> Result<String, ItemFault> {
-    let weight = match word {
-        "value" => read_value(alloc, frame, pools, place)?.0.weight(),
-        "statics" => statics_weight(&read_statics(alloc, frame, pools, place)?),
-        "set" => read_set(alloc, frame, pools, place)?.weight(),
-        "directory" => weight_of(&read_directory(alloc, frame, pools, place)?),
-        "debug" => read_debug(alloc, frame, pools, place)?.weight(),
-        "code" => read_code(alloc, frame, pools, place)?.weight(),
-        "members" if place < frame.size(Table::ClassDefs) => {
-            match read_members(alloc, frame, pools, place, u32::MAX)? {
-                Some(members) => members.weight(),
-                None => u64::MAX,
-            }
-        }
-        _ => return Err(ItemFault::Refused(0)),
-    };
-    Ok(format!(in alloc; "{weight}")?)
+// What an item weighs.
+fn weight_text(alloc: Global, item: &Item<'_>) -> Result<String, AllocError> {
+    let weight = item.weight();
+    format!(in alloc; "{weight}")
 }
 
-// How many bytes each annotation of the set at an offset takes.
-fn sizes(
-    alloc: Global,
-    frame: &Frame<'_>,
-    pools: &Pools<'_>,
-    off: u32,
-) -> Result<String, ItemFault> {
-    let set = read_set(alloc, frame, pools, off)?;
+// How many bytes each annotation of a set takes.
+fn sizes_text(alloc: Global, set: &AnnotationSet) -> Result<String, AllocError> {
     let mut text = String::new(alloc);
     let mut mark = "";
     for annotation in set.annotations() {
@@ -104,139 +57,16 @@ pub fn run_marks(
     bytes: &[u8],
     case: &str,
 ) -> Result<Outcome, CaseFault> {
-    let (off, right) = case.split_once(' ').ok_or(CaseFault::Form)?;
-    let Ok(frame) = Frame::open(bytes) else {
-        return Ok(Outcome::failed(alloc, "no file")?);
+    let (off, right) = first_word(case)?;
+    let kind = match ItemKind::of_word(word) {
+        None | Some(ItemKind::Directory | ItemKind::Members) => return Err(CaseFault::Form),
+        Some(kind) => kind,
     };
-    let pools = match Pools::read(alloc, &frame) {
-        Ok(pools) => pools,
-        Err(ReadFault::Memory) => return Err(CaseFault::Memory),
-        Err(_) => return Ok(Outcome::failed(alloc, "no pools")?),
-    };
-    let off = off.parse()?;
-    let marked = match word {
-        "value" => value_marks(alloc, &frame, &pools, off),
-        "statics" => statics_marks(alloc, &frame, &pools, off),
-        "set" => set_marks(alloc, &frame, &pools, off),
-        "debug" => debug_marks(alloc, &frame, &pools, off),
-        "code" => code_marks(alloc, &frame, &pools, off),
-        _ => return Err(CaseFault::Form),
-    };
-    match marked {
-        Ok(marks) => Ok(Outcome::of(marks_text(alloc, &marks)?, right)),
-        Err(ItemFault::Memory) => Err(CaseFault::Memory),
-        Err(_) => Ok(Outcome::failed(alloc, "no item")?),
-    }
-}
-
-// What occurs in the value at an offset.
-fn value_marks(
-    alloc: Global,
-    frame: &Frame<'_>,
-    pools: &Pools<'_>,
-    off: u32,
-) -> Result<Marks, ItemFault>
-    requires { ArePools frame.now pools.now }
-{
-    let mut marks = match Marks::none(alloc, pools.numbering()) {
-        Ok(marks) => marks,
-        Err(_) => return Err(ItemFault::Memory),
-    };
-    let value = match read_value(alloc, frame, pools, off) {
-        Ok((value, _)) => value,
-        Err(fault) => return Err(fault),
-    };
-    marks_law();
-    value.mark(&mut marks);
-    Ok(marks)
-}
-
-// What occurs in the array of values at an offset.
-fn statics_marks(
-    alloc: Global,
-    frame: &Frame<'_>,
-    pools: &Pools<'_>,
-    off: u32,
-) -> Result<Marks, ItemFault>
-    requires { ArePools frame.now pools.now }
-{
-    let mut marks = match Marks::none(alloc, pools.numbering()) {
-        Ok(marks) => marks,
-        Err(_) => return Err(ItemFault::Memory),
-    };
-    let values = match read_statics(alloc, frame, pools, off) {
-        Ok(values) => values,
-        Err(fault) => return Err(fault),
-    };
-    marks_law();
-    mark_values(&values, &mut marks);
-    Ok(marks)
-}
-
-// What occurs in the set at an offset.
-fn set_marks(
-    alloc: Global,
-    frame: &Frame<'_>,
-    pools: &Pools<'_>,
-    off: u32,
-) -> Result<Marks, ItemFault>
-    requires { ArePools frame.now pools.now }
-{
-    let mut marks = match Marks::none(alloc, pools.numbering()) {
-        Ok(marks) => marks,
-        Err(_) => return Err(ItemFault::Memory),
-    };
-    let set = match read_set(alloc, frame, pools, off) {
-        Ok(set) => set,
-        Err(fault) => return Err(fault),
-    };
-    marks_law();
-    set.mark(&mut marks);
-    Ok(marks)
-}
-
-// What occurs in the debug program at an offset.
-fn debug_marks(
-    alloc: Global,
-    frame: &Frame<'_>,
-    pools: &Pools<'_>,
-    off: u32,
-) -> Result<Marks, ItemFault>
-    requires { ArePools frame.now pools.now }
-{
-    let mut marks = match Marks::none(alloc, pools.numbering()) {
-        Ok(marks) => marks,
-        Err(_) => return Err(ItemFault::Memory),
-    };
-    let debug = match read_debug(alloc, frame, pools, off) {
-        Ok(debug) => debug,
-        Err(fault) => return Err(fault),
-    };
-    debug_uses_law();
-    debug.mark(&mut marks);
-    Ok(marks)
-}
-
-// What occurs in the code at an offset.
-fn code_marks(
-    alloc: Global,
-    frame: &Frame<'_>,
-    pools: &Pools<'_>,
-    off: u32,
-) -> Result<Marks, ItemFault>
-    requires { ArePools frame.now pools.now }
-{
-    let mut marks = match Marks::none(alloc, pools.numbering()) {
-        Ok(marks) => marks,
-        Err(_) => return Err(ItemFault::Memory),
-    };
-    let code = match read_code(alloc, frame, pools, off) {
-        Ok(code) => code,
-        Err(fault) => return Err(fault),
-    };
-    code_uses_law();
-    code.mark(&mut marks);
-    Ok(marks)
+    let file = DexFile::open(alloc, bytes)?;
+    let item = Item::at(alloc, &file, kind, off.parse()?)?;
+    let mut marks = Marks::none(alloc, file.pools.numbering())?;
+    item.mark(file.pools.numbering(), &mut marks);
+    Ok(Outcome::of(marks_text(alloc, &marks)?, right))
 }
 
 // The numbers of what is marked.
@@ -267,32 +97,13 @@ fn places_text(alloc: Global, marks: &[bool]) -> Result<String, AllocError> {
 
 /// Runs a line: `FILE OFFSET ADDRESS:LINE,ADDRESS:LINE,..`, where no positions are `-`.
 pub fn run_positions(alloc: Global, bytes: &[u8], case: &str) -> Result<Outcome, CaseFault> {
-    let (off, right) = case.split_once(' ').ok_or(CaseFault::Form)?;
-    let Ok(frame) = Frame::open(bytes) else {
-        return Ok(Outcome::failed(alloc, "no file")?);
-    };
-    let Some(pools) = pools_of(alloc, &frame)? else {
-        return Ok(Outcome::failed(alloc, "no pools")?);
-    };
-    let debug = match read_debug(alloc, &frame, &pools, off.parse()?) {
-        Ok(debug) => debug,
-        Err(ItemFault::Memory) => return Err(CaseFault::Memory),
-        Err(_) => return Ok(Outcome::failed(alloc, "no item")?),
-    };
-    let found = positions(alloc, &debug)?;
-    Ok(Outcome::of(positions_text(alloc, &found)?, right))
-}
-
-// The address and the line of each position.
-fn positions_text(alloc: Global, positions: &[(u64, i64)]) -> Result<String, AllocError> {
-    if positions.is_empty() {
-        return String::from_str(alloc, "-");
+    let (off, right) = first_word(case)?;
+    let file = DexFile::open(alloc, bytes)?;
+    match Item::at(alloc, &file, ItemKind::Debug, off.parse()?)? {
+        Item::Debug(debug) => {
+            let text = positions_text(alloc, &positions(alloc, &debug)?)?;
+            Ok(Outcome::of(text, right))
+        }
+        _ => Err(CaseFault::Form),
     }
-    let mut text = String::new(alloc);
-    let mut mark = "";
-    for (address, line) in positions {
-        write!(text, "{mark}{address}:{line}")?;
-        mark = ",";
-    }
-    Ok(text)
 }

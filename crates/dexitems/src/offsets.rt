@@ -1,6 +1,6 @@
 //! Where the items of a file stand, by the offsets in its bytes alone.
 
-use crate::fault::CaseFault;
+use dexcases::CaseFault;
 use dexhead::u32_at;
 use dexleb::read_u;
 use std::alloc::Global;

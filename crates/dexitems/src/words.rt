@@ -1,6 +1,5 @@
-//! Words of lines: bytes as hexadecimal digits, and lists of numbers. None are `-`.
+//! Bytes as words of hexadecimal digits. None are `-`.
 
-use crate::fault::CaseFault;
 use std::alloc::{AllocError, Global};
 
 /// The word of some bytes.
@@ -9,9 +8,4 @@ pub fn word_of(alloc: Global, bytes: &[u8]) -> Result<String, AllocError> {
         return String::from_str(alloc, "-");
     }
     hex::encode(alloc, bytes)
-}
-
-/// The first word of a line, and the rest.
-pub fn first_word(line: &str) -> Result<(&str, &str), CaseFault> {
-    line.split_once(' ').ok_or(CaseFault::Form)
 }

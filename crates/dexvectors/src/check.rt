@@ -4,8 +4,7 @@
 ghost use Rattle.std.specs.Prelude.{◌≡◌, IfOk, IsTrue};
 ghost use Rattle.dexvectors.specs.Told.{Agree, IsRight, IsTold};
 
-use crate::fault::VectorFault;
-use crate::outcome::Outcome;
+use dexcases::{CaseFault, Outcome, first_word};
 use dexclass::read;
 use dexhead::Refusal;
 use dexpool::ReadFault;
@@ -30,13 +29,13 @@ pub(crate) enum Answer {
 }
 
 /// Runs a line, given what stands in it behind the file's name: how it goes.
-pub fn run(alloc: Global, bytes: &[u8], right: &str) -> Result<Outcome, VectorFault> {
+pub fn run(alloc: Global, bytes: &[u8], right: &str) -> Result<Outcome, CaseFault> {
     let right = right_in(alloc, right)?;
     judged(alloc, bytes, &right)
 }
 
 // How a line goes.
-fn judged(alloc: Global, bytes: &[u8], right: &RightAnswer) -> Result<Outcome, VectorFault>
+fn judged(alloc: Global, bytes: &[u8], right: &RightAnswer) -> Result<Outcome, CaseFault>
     ensures { IfOk result (λ outcome. outcome ≡ Outcome.Passed → IsRight bytes.now right.now) }
 {
     let told = answer_to(alloc, bytes)?;
@@ -47,13 +46,13 @@ fn judged(alloc: Global, bytes: &[u8], right: &RightAnswer) -> Result<Outcome, V
 }
 
 // What is told of a file.
-fn answer_to(alloc: Global, bytes: &[u8]) -> Result<Answer, VectorFault>
+fn answer_to(alloc: Global, bytes: &[u8]) -> Result<Answer, CaseFault>
     ensures { IfOk result (IsTold bytes.now) }
 {
     match read(alloc, bytes) {
         Ok(program) => Ok(Answer::Accepted(program.len())),
         Err(ReadFault::Refused(refusal)) => Ok(Answer::Refused(refusal)),
-        Err(ReadFault::Memory) => Err(VectorFault::Memory),
+        Err(ReadFault::Memory) => Err(CaseFault::Memory),
     }
 }
 
@@ -69,14 +68,14 @@ fn agree(right: &RightAnswer, told: Answer) -> bool
 }
 
 // What is right, in the words of a line.
-fn right_in(alloc: Global, right: &str) -> Result<RightAnswer, VectorFault> {
+fn right_in(alloc: Global, right: &str) -> Result<RightAnswer, CaseFault> {
     if let Some(classes) = right.strip_prefix("ok ") {
         return Ok(RightAnswer::Accepted(classes.parse()?));
     }
-    let listed = right.strip_prefix("refused ").ok_or(VectorFault::Form)?;
+    let listed = right.strip_prefix("refused ").ok_or(CaseFault::Form)?;
     let mut refusals = Vec::new(alloc);
     for one in listed.split(" | ") {
-        let (number, place) = one.split_once(' ').ok_or(VectorFault::Form)?;
+        let (number, place) = first_word(one)?;
         refusals.push(Refusal {
             number: number.parse()?,
             place: place.parse()?,

@@ -2,8 +2,7 @@
 //! Mended is `nothing`; or `size`, the length in the header and the two sums; or `data`, the length of the data too.
 
 use crate::check;
-use crate::fault::VectorFault;
-use crate::outcome::Outcome;
+use dexcases::{CaseFault, Outcome, first_word};
 use dexhead::set_sums;
 use std::alloc::Global;
 
@@ -52,14 +51,14 @@ impl Mended {
 }
 
 /// Runs a line, given the file and what stands in the line behind its name: how it goes.
-pub fn run(alloc: Global, bytes: &[u8], case: &str) -> Result<Outcome, VectorFault> {
-    let (first, rest) = case.split_once(' ').ok_or(VectorFault::Form)?;
-    let (last, rest) = rest.split_once(' ').ok_or(VectorFault::Form)?;
-    let (mended, right) = rest.split_once(' ').ok_or(VectorFault::Form)?;
+pub fn run(alloc: Global, bytes: &[u8], case: &str) -> Result<Outcome, CaseFault> {
+    let (first, rest) = first_word(case)?;
+    let (last, rest) = first_word(rest)?;
+    let (mended, right) = first_word(rest)?;
     let (first, last): (usize, usize) = (first.parse()?, last.parse()?);
-    let mended = Mended::of_word(mended).ok_or(VectorFault::Form)?;
+    let mended = Mended::of_word(mended).ok_or(CaseFault::Form)?;
     for len in first..=last {
-        let front = bytes.get(..len).ok_or(VectorFault::Form)?;
+        let front = bytes.get(..len).ok_or(CaseFault::Form)?;
         let mut cut = Vec::from_slice(alloc, front)?;
         mended.mend(&mut cut);
         match check::run(alloc, &cut, right)? {

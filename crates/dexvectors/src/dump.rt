@@ -1,27 +1,19 @@
 //! Files listed: `dump FILE LISTING`. The listing is written to a device.
 
-use crate::fault::VectorFault;
-use crate::outcome::Outcome;
-use dexclass::{Program, read};
-use dexhead::{Device, Refusal};
+use crate::program::program_of;
+use dexcases::{CaseFault, Outcome};
+use dexclass::Program;
+use dexhead::Device;
 use dexlisting::{ListingFault, write_listing};
-use dexpool::ReadFault;
 use std::alloc::{AllocError, Global};
 
 /// Runs a line, given the file and the bytes of its listing: how it goes.
-pub fn run(alloc: Global, bytes: &[u8], right: &[u8]) -> Result<Outcome, VectorFault> {
-    let program = match read(alloc, bytes) {
-        Ok(program) => program,
-        Err(ReadFault::Refused(Refusal { number, place })) => {
-            let answered = format!(in alloc; "refused {number} {place}")?;
-            return Ok(Outcome::Failed(answered));
-        }
-        Err(ReadFault::Memory) => return Err(VectorFault::Memory),
-    };
+pub fn run(alloc: Global, bytes: &[u8], right: &[u8]) -> Result<Outcome, CaseFault> {
+    let program = program_of(alloc, bytes)?;
     if is_listed_as(alloc, &program, right)? {
         return Ok(Outcome::Passed);
     }
-    Ok(Outcome::Failed(String::from_str(alloc, "another listing")?))
+    Ok(Outcome::failed(alloc, "another listing")?)
 }
 
 // Whether a device is given these bytes as the listing of the program.

@@ -1,6 +1,11 @@
 //! The kinds of lines.
 
+use crate::calls::run_call;
+use crate::index::run_case;
+use dexcases::{CaseFault, Cases, Outcome, Tally};
 use std::fmt;
+use std::path::Path;
+use std::rt::Files;
 
 /// What a line asks for.
 #[derive(Clone, Copy, Debug, PartialEq, Eq, PartialOrd, Ord)]
@@ -50,8 +55,33 @@ pub enum Kind {
 }
 
 impl Kind {
-    /// The kind of every line of a file of calls, by the file's name; `None` where it is no such file.
-    pub fn of_calls(file_name: &str) -> Option<Kind> {
+    // Whether a line of the kind asks for one call, and stands in a file of calls.
+    fn is_call(self) -> bool {
+        matches!(
+            self,
+            Kind::Leb
+                | Kind::Puts
+                | Kind::Text
+                | Kind::Names
+                | Kind::Split
+                | Kind::Opcodes
+                | Kind::Debug
+                | Kind::Sums
+                | Kind::Flags
+        )
+    }
+}
+
+impl Cases for Kind {
+    const PROGRAM: &'static str = "dexvectors";
+
+    const WORDS: &'static str = "dexvectors FILE.. (calls/NAME.txt or FOLDER/index.txt)";
+
+    fn no_lines() -> Tally {
+        Tally::with_unserved()
+    }
+
+    fn of_calls(file_name: &str) -> Option<Kind> {
         match file_name {
             "leb.txt" => Some(Kind::Leb),
             "puts.txt" => Some(Kind::Puts),
@@ -66,8 +96,7 @@ impl Kind {
         }
     }
 
-    /// The kind of a line of an index, by its first word.
-    pub fn of_case(word: &str) -> Kind {
+    fn of_case(word: &str) -> Kind {
         match word {
             "symbol" => Kind::Symbol,
             "check" => Kind::Check,
@@ -82,6 +111,18 @@ impl Kind {
             "mergestrip" => Kind::MergeStrip,
             _ => Kind::Unknown,
         }
+    }
+
+    fn run<R: Files + AllocGlobal>(
+        self,
+        rt: &R,
+        folder: Path<'_>,
+        case: &str,
+    ) -> Result<Outcome, CaseFault> {
+        if self.is_call() {
+            return run_call(rt.alloc(), self, case);
+        }
+        run_case(rt, folder, self, case)
     }
 }
 

@@ -13,52 +13,23 @@ mod calls;
 mod check;
 mod cuts;
 mod dump;
-mod fault;
-mod file;
 mod index;
 mod kind;
 mod merge;
 mod normalise;
-mod outcome;
 mod plans;
+mod program;
 mod random;
 mod regroup;
 mod slices;
 mod strip;
 mod symbol;
-mod tally;
 mod weight;
 mod words;
 
-use fault::VectorFault;
-use file::run_file;
-use std::env;
+use kind::Kind;
 use std::process::ExitCode;
-use std::rt::{Env, Files};
-use tally::Tally;
-
-// Runs each file that the command line names, and adds up what the lines passed.
-fn run<R: Files + Print + Env + AllocGlobal>(rt: &R) -> Result<Tally, VectorFault> {
-    let words: Vec<String> = env::args(rt)?.collect(rt.alloc())?;
-    let names = match words.as_slice() {
-        [] | [_] => return Err(VectorFault::Words),
-        [_, names @ ..] => names,
-    };
-    let mut all = Tally::default();
-    for name in names {
-        all = all.with(run_file(rt, name.as_str())?);
-    }
-    println!(rt; "all: {all}")?;
-    Ok(all)
-}
 
 fn main(rt: HostRuntime) -> ExitCode {
-    match run(&rt) {
-        Ok(all) if all.failed() == 0 => ExitCode::SUCCESS,
-        Ok(_) => ExitCode::FAILURE,
-        Err(fault) => {
-            let _ = eprintln!(rt; "dexvectors: {fault}");
-            ExitCode::from(fault.status())
-        }
-    }
+    dexcases::run::<Kind, HostRuntime>(&rt)
 }

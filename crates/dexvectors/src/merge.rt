@@ -1,12 +1,10 @@
 //! Files merged: `merge PLAN caps T P F M S W files FILE.. ok CANON`, `.. fault CAUSE | CAUSE ..`, any of
 //! which is right, or `.. badplan`; no files are `-`.
 
-use crate::fault::VectorFault;
-use crate::file::read_file;
 use crate::normalise::{is_written_as, other_bytes};
-use crate::outcome::Outcome;
 use crate::plans::{caps_in, plan_in};
 use crate::words::push_name;
+use dexcases::{CaseFault, Outcome, read_file};
 use dexclass::{Program, read, strip};
 use dexmerge::{Caps, MergeFault, Plan, PlanFault, merge_plan};
 use dexpool::ReadFault;
@@ -58,39 +56,19 @@ pub(crate) struct Merge<'a> {
     right: RightAnswer<'a>,
 }
 
-/// Runs a line, given what stands in it behind the word of its kind: how it goes.
+/// Runs a line, given what stands in it behind the word of its kind, and what becomes of the merged program: how it goes.
 pub fn run<R: Files + AllocGlobal>(
     rt: &R,
     folder: Path<'_>,
     case: &str,
-) -> Result<Outcome, VectorFault> {
-    run_case(rt, folder, case, After::Merged)
-}
-
-/// The same where the merged program is stripped before it is written: `mergestrip`.
-pub fn run_stripped<R: Files + AllocGlobal>(
-    rt: &R,
-    folder: Path<'_>,
-    case: &str,
-) -> Result<Outcome, VectorFault> {
-    run_case(rt, folder, case, After::Stripped)
-}
-
-// Runs a line of either kind.
-fn run_case<R: Files + AllocGlobal>(
-    rt: &R,
-    folder: Path<'_>,
-    case: &str,
     after: After,
-) -> Result<Outcome, VectorFault> {
+) -> Result<Outcome, CaseFault> {
     let alloc = rt.alloc();
-    let (plan, rest) = case.split_once(" caps ").ok_or(VectorFault::Form)?;
+    let (plan, rest) = case.split_once(" caps ").ok_or(CaseFault::Form)?;
     let plan = plan_in(alloc, plan)?;
     let merge = Merge::of(rt, folder, rest)?;
-    match merge.programs(alloc)? {
-        Ok(programs) => merge.planned(alloc, &programs, &plan, after),
-        Err(outcome) => Ok(outcome),
-    }
+    let programs = merge.programs(alloc)?;
+    merge.planned(alloc, &programs, &plan, after)
 }
 
 impl<'a> Merge<'a> {
@@ -99,8 +77,8 @@ impl<'a> Merge<'a> {
         rt: &R,
         folder: Path<'_>,
         words: &'a str,
-    ) -> Result<Merge<'a>, VectorFault> {
-        let (caps, rest) = words.split_once(" files ").ok_or(VectorFault::Form)?;
+    ) -> Result<Merge<'a>, CaseFault> {
+        let (caps, rest) = words.split_once(" files ").ok_or(CaseFault::Form)?;
         let caps = caps_in(rt.alloc(), caps)?;
         let (names, right) = answer_in(rt, folder, rest)?;
         let mut files = Vec::new(rt.alloc());
@@ -112,20 +90,19 @@ impl<'a> Merge<'a> {
         Ok(Merge { files, caps, right })
     }
 
-    /// The programs of the files, or how the line goes where a file is not read.
-    pub(crate) fn programs(
-        &self,
-        alloc: Global,
-    ) -> Result<Result<Vec<Program<'_>>, Outcome>, VectorFault> {
+    /// The programs of the files. A line of which a file is refused fails.
+    pub(crate) fn programs(&self, alloc: Global) -> Result<Vec<Program<'_>>, CaseFault> {
         let mut programs = Vec::new(alloc);
         for file in &self.files {
             match read(alloc, file) {
                 Ok(program) => programs.push(program)?,
-                Err(ReadFault::Refused(_)) => return Ok(Err(failed(alloc, "a file is refused")?)),
-                Err(ReadFault::Memory) => return Err(VectorFault::Memory),
+                Err(ReadFault::Refused(_)) => {
+                    return Err(CaseFault::failed(alloc, "a file is refused"));
+                }
+                Err(ReadFault::Memory) => return Err(CaseFault::Memory),
             }
         }
-        Ok(Ok(programs))
+        Ok(programs)
     }
 
     /// How the line goes where the programs are merged by this plan.
@@ -135,18 +112,18 @@ impl<'a> Merge<'a> {
         programs: &[Program<'_>],
         plan: &Plan,
         after: After,
-    ) -> Result<Outcome, VectorFault> {
+    ) -> Result<Outcome, CaseFault> {
         match merge_plan(alloc, programs, plan, &self.caps) {
             Ok(program) => match &self.right {
                 RightAnswer::Written(right) if after.is_written_as(alloc, &program, right)? => {
                     Ok(Outcome::Passed)
                 }
                 RightAnswer::Written(_) => other_bytes(alloc),
-                _ => Ok(failed(alloc, "ok")?),
+                _ => Ok(Outcome::failed(alloc, "ok")?),
             },
             Err(PlanFault::BadPlan) => match self.right {
                 RightAnswer::BadPlan => Ok(Outcome::Passed),
-                _ => Ok(failed(alloc, "badplan")?),
+                _ => Ok(Outcome::failed(alloc, "badplan")?),
             },
             Err(PlanFault::Merge(fault)) => told(alloc, &fault, &self.right),
         }
@@ -154,11 +131,7 @@ impl<'a> Merge<'a> {
 }
 
 // How a line goes whose files are not merged, for this cause.
-fn told(
-    alloc: Global,
-    fault: &MergeFault,
-    right: &RightAnswer<'_>,
-) -> Result<Outcome, VectorFault> {
+fn told(alloc: Global, fault: &MergeFault, right: &RightAnswer<'_>) -> Result<Outcome, CaseFault> {
     let told = cause_of(alloc, fault)?;
     match right {
         RightAnswer::Causes(causes) if causes.split(" | ").any(|cause| cause == told.as_str()) => {
@@ -168,17 +141,12 @@ fn told(
     }
 }
 
-// What was answered instead.
-fn failed(alloc: Global, answered: &str) -> Result<Outcome, AllocError> {
-    Ok(Outcome::Failed(String::from_str(alloc, answered)?))
-}
-
 // The names of the files, and what is right.
 fn answer_in<'a, R: Files + AllocGlobal>(
     rt: &R,
     folder: Path<'_>,
     words: &'a str,
-) -> Result<(&'a str, RightAnswer<'a>), VectorFault> {
+) -> Result<(&'a str, RightAnswer<'a>), CaseFault> {
     if let Some((names, written)) = words.split_once(" ok ") {
         return Ok((names, RightAnswer::Written(read_file(rt, folder, written)?)));
     }
@@ -187,17 +155,17 @@ fn answer_in<'a, R: Files + AllocGlobal>(
     }
     match words.strip_suffix(" badplan") {
         Some(names) => Ok((names, RightAnswer::BadPlan)),
-        None => Err(VectorFault::Form),
+        None => Err(CaseFault::Form),
     }
 }
 
 // A cause, in the words of a line.
-fn cause_of(alloc: Global, fault: &MergeFault) -> Result<String, VectorFault> {
+fn cause_of(alloc: Global, fault: &MergeFault) -> Result<String, CaseFault> {
     match fault {
         MergeFault::Conflict(name) => named(alloc, "conflict", name),
         MergeFault::Cycle(name) => named(alloc, "cycle", name),
         MergeFault::Cap(cap) => Ok(format!(in alloc; "cap {}", kind_of_cap(*cap))?),
-        MergeFault::Memory => Err(VectorFault::Memory),
+        MergeFault::Memory => Err(CaseFault::Memory),
     }
 }
 
@@ -214,7 +182,7 @@ fn kind_of_cap(cap: u8) -> &'static str {
 }
 
 // A word and the name of a class.
-fn named(alloc: Global, word: &str, name: &Name) -> Result<String, VectorFault> {
+fn named(alloc: Global, word: &str, name: &Name) -> Result<String, CaseFault> {
     let mut words = String::from_str(alloc, word)?;
     words.push_str(" ")?;
     push_name(&mut words, name)?;

@@ -5,26 +5,18 @@ ghost use Rattle.std.specs.Prelude.{◌≡◌, IfOk, IsTrue};
 ghost use Rattle.dexspec.specs.Canonical.{canonical};
 ghost use Rattle.dexvectors.specs.Told.{Normalises};
 
-use crate::fault::VectorFault;
-use crate::outcome::Outcome;
+use crate::program::program_of;
 use dexcanon::{StoreFault, to_bytes, write_to};
-use dexclass::{Program, read};
-use dexhead::{Device, Refusal};
-use dexpool::ReadFault;
+use dexcases::{CaseFault, Outcome};
+use dexclass::Program;
+use dexhead::Device;
 use std::alloc::{AllocError, Global};
 
 /// Runs a line, given the file and the bytes of its canonical file: how it goes.
-pub fn run(alloc: Global, bytes: &[u8], right: &[u8]) -> Result<Outcome, VectorFault>
+pub fn run(alloc: Global, bytes: &[u8], right: &[u8]) -> Result<Outcome, CaseFault>
     ensures { IfOk result (λ outcome. outcome ≡ Outcome.Passed → Normalises bytes.now right.now) }
 {
-    let program = match read(alloc, bytes) {
-        Ok(program) => program,
-        Err(ReadFault::Refused(Refusal { number, place })) => {
-            let answered = format!(in alloc; "refused {number} {place}")?;
-            return Ok(Outcome::Failed(answered));
-        }
-        Err(ReadFault::Memory) => return Err(VectorFault::Memory),
-    };
+    let program = program_of(alloc, bytes)?;
     if !is_given(alloc, &program.copy()?, right)? {
         return other_bytes(alloc);
     }
@@ -53,7 +45,7 @@ fn is_given(alloc: Global, program: &Program<'_>, right: &[u8]) -> Result<bool, 
 }
 
 /// How a line goes whose canonical file has other bytes.
-pub fn other_bytes(alloc: Global) -> Result<Outcome, VectorFault>
+pub fn other_bytes(alloc: Global) -> Result<Outcome, CaseFault>
     ensures { IfOk result (λ outcome. outcome ≡ Outcome.Passed → ⊥) }
 {
     Ok(Outcome::Failed(String::from_str(alloc, "other bytes")?))

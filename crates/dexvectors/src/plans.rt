@@ -1,11 +1,11 @@
 //! Plans and caps in words: a plan is a number or a list of plans in brackets, and caps are six numbers.
 
-use crate::fault::VectorFault;
+use dexcases::CaseFault;
 use dexmerge::{Caps, Plan};
 use std::alloc::Global;
 
 /// The plan that a word stands for, as `((0 1) 2)`.
-pub fn plan_in(alloc: Global, words: &str) -> Result<Plan, VectorFault> {
+pub fn plan_in(alloc: Global, words: &str) -> Result<Plan, CaseFault> {
     let mut open: Vec<Vec<Plan>> = Vec::new(alloc);
     let mut parts: Vec<Plan> = Vec::new(alloc);
     let mut number: Option<usize> = None;
@@ -29,24 +29,24 @@ pub fn plan_in(alloc: Global, words: &str) -> Result<Plan, VectorFault> {
                 parts = Vec::new(alloc);
             }
             ')' => {
-                let mut before = open.pop().ok_or(VectorFault::Form)?;
+                let mut before = open.pop().ok_or(CaseFault::Form)?;
                 before.push(Plan::Node(parts))?;
                 parts = before;
             }
-            _ => return Err(VectorFault::Form),
+            _ => return Err(CaseFault::Form),
         }
     }
     if let Some(file) = number {
         parts.push(Plan::Leaf(file))?;
     }
     if !open.is_empty() || parts.len() != 1 {
-        return Err(VectorFault::Form);
+        return Err(CaseFault::Form);
     }
-    parts.pop().ok_or(VectorFault::Form)
+    parts.pop().ok_or(CaseFault::Form)
 }
 
 /// The caps that six numbers stand for: types, protos, fields, methods, short strings, weight.
-pub fn caps_in(alloc: Global, words: &str) -> Result<Caps, VectorFault> {
+pub fn caps_in(alloc: Global, words: &str) -> Result<Caps, CaseFault> {
     let mut numbers = Vec::new(alloc);
     for word in words.split(' ') {
         numbers.push(word.parse()?)?;
@@ -54,9 +54,9 @@ pub fn caps_in(alloc: Global, words: &str) -> Result<Caps, VectorFault> {
     match numbers.as_slice() {
         [types, protos, fields, methods, short_strings, weight] => {
             Caps::new(*types, *protos, *fields, *methods, *short_strings, *weight).ok_or(
-                VectorFault::Form,
+                CaseFault::Form,
             )
         }
-        _ => Err(VectorFault::Form),
+        _ => Err(CaseFault::Form),
     }
 }

@@ -1,10 +1,9 @@
 //! Files merged in many orders and groupings: `regroup ROUNDS caps T P F M S W files FILE.. ok CANON`, or `.. fault CAUSE |
 //! CAUSE ..`. Each round draws a plan that names each file once and some more than once; each has to be answered so.
 
-use crate::fault::VectorFault;
 use crate::merge::{After, Merge};
-use crate::outcome::Outcome;
 use crate::random::Random;
+use dexcases::{CaseFault, Outcome};
 use dexmerge::Plan;
 use std::alloc::{AllocError, Global};
 use std::path::Path;
@@ -18,15 +17,12 @@ pub fn run<R: Files + AllocGlobal>(
     rt: &R,
     folder: Path<'_>,
     case: &str,
-) -> Result<Outcome, VectorFault> {
+) -> Result<Outcome, CaseFault> {
     let alloc = rt.alloc();
-    let (rounds, rest) = case.split_once(" caps ").ok_or(VectorFault::Form)?;
+    let (rounds, rest) = case.split_once(" caps ").ok_or(CaseFault::Form)?;
     let rounds: u32 = rounds.parse()?;
     let merge = Merge::of(rt, folder, rest)?;
-    let programs = match merge.programs(alloc)? {
-        Ok(programs) => programs,
-        Err(outcome) => return Ok(outcome),
-    };
+    let programs = merge.programs(alloc)?;
     let mut random = Random::new(1);
     for _ in 0..rounds {
         let plan = random_plan(alloc, &mut random, programs.len())?;

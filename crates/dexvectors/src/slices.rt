@@ -3,12 +3,11 @@
 
 ghost use Rattle.std.specs.Prelude.{false, []};
 
-use crate::fault::VectorFault;
-use crate::outcome::Outcome;
+use crate::program::program_of;
 use dexcanon::{StoreFault, write_to};
-use dexclass::{Program, read};
-use dexhead::{DeviceFault, Refusal, Sink};
-use dexpool::ReadFault;
+use dexcases::{CaseFault, Outcome, first_word};
+use dexclass::Program;
+use dexhead::{DeviceFault, Sink};
 use std::alloc::{AllocError, Global};
 
 // A writer that counts the slices that it is given, and keeps none of their bytes.
@@ -37,18 +36,11 @@ impl Sink for Slices {
 }
 
 /// Runs a line, given the file and what stands in the line behind its name: how it goes.
-pub fn run(alloc: Global, bytes: &[u8], right: &str) -> Result<Outcome, VectorFault> {
-    let (most, count) = right.split_once(' ').ok_or(VectorFault::Form)?;
+pub fn run(alloc: Global, bytes: &[u8], right: &str) -> Result<Outcome, CaseFault> {
+    let (most, count) = first_word(right)?;
     let most: usize = most.parse()?;
     let count: usize = count.parse()?;
-    let program = match read(alloc, bytes) {
-        Ok(program) => program,
-        Err(ReadFault::Refused(Refusal { number, place })) => {
-            let answered = format!(in alloc; "refused {number} {place}")?;
-            return Ok(Outcome::Failed(answered));
-        }
-        Err(ReadFault::Memory) => return Err(VectorFault::Memory),
-    };
+    let program = program_of(alloc, bytes)?;
     let slices = written(alloc, &program)?;
     if slices.longest <= most && slices.count <= count {
         return Ok(Outcome::Passed);

@@ -2,24 +2,23 @@
 //! field as `CLASS->NAME:TYPE` and a method as `CLASS->NAME(PARAMETERS)RETURN`. A copy of the symbol is shown, and has to
 //! rank as its row in a numbering of the pools.
 
-use crate::fault::VectorFault;
-use crate::outcome::Outcome;
 use crate::words::push_name;
+use dexcases::{CaseFault, Outcome, first_word};
 use dexhead::Frame;
 use dexpool::{Numbering, Pools, ProtoSymbol, Symbol, SymbolKind};
 use std::alloc::{AllocError, Global};
 
 /// Runs a line, given what stands in it behind the file's name: how it goes.
-pub fn run(alloc: Global, bytes: &[u8], asked: &str) -> Result<Outcome, VectorFault> {
-    let (pool, rest) = asked.split_once(' ').ok_or(VectorFault::Form)?;
-    let (row, right) = rest.split_once(' ').ok_or(VectorFault::Form)?;
-    let kind = kind_of(pool).ok_or(VectorFault::Form)?;
+pub fn run(alloc: Global, bytes: &[u8], asked: &str) -> Result<Outcome, CaseFault> {
+    let (pool, rest) = first_word(asked)?;
+    let (row, right) = first_word(rest)?;
+    let kind = kind_of(pool).ok_or(CaseFault::Form)?;
     let row: u32 = row.parse()?;
     let Ok(frame) = Frame::open(bytes) else {
-        return Ok(Outcome::Failed(String::from_str(alloc, "no file")?));
+        return Ok(Outcome::failed(alloc, "no file")?);
     };
     let Ok(pools) = Pools::read(alloc, &frame) else {
-        return Ok(Outcome::Failed(String::from_str(alloc, "no pools")?));
+        return Ok(Outcome::failed(alloc, "no pools")?);
     };
     let answered = named(alloc, &pools, kind, row)?;
     Ok(Outcome::of(answered, right))

@@ -5,30 +5,21 @@ ghost use Rattle.dexspec.specs.Files.{definitions};
 ghost use Rattle.dexspec.specs.Weight.{weight};
 ghost use Rattle.dexvectors.specs.Told.{Weighs};
 
-use crate::fault::VectorFault;
-use crate::outcome::Outcome;
-use dexclass::{Program, read};
-use dexhead::Refusal;
-use dexpool::ReadFault;
+use crate::program::program_of;
+use dexcases::{CaseFault, Outcome};
+use dexclass::Program;
 use std::alloc::Global;
 
 /// Runs a line, given what stands in it behind the file's name: how it goes.
-pub fn run(alloc: Global, bytes: &[u8], right: &str) -> Result<Outcome, VectorFault> {
+pub fn run(alloc: Global, bytes: &[u8], right: &str) -> Result<Outcome, CaseFault> {
     weighed(alloc, bytes, right.parse()?)
 }
 
 // Passed where the classes of a file weigh so much.
-fn weighed(alloc: Global, bytes: &[u8], right: u64) -> Result<Outcome, VectorFault>
+fn weighed(alloc: Global, bytes: &[u8], right: u64) -> Result<Outcome, CaseFault>
     ensures { IfOk result (λ outcome. outcome ≡ Outcome.Passed → Weighs bytes.now right) }
 {
-    let program = match read(alloc, bytes) {
-        Ok(program) => program,
-        Err(ReadFault::Refused(Refusal { number, place })) => {
-            let answered = format!(in alloc; "refused {number} {place}")?;
-            return Ok(Outcome::Failed(answered));
-        }
-        Err(ReadFault::Memory) => return Err(VectorFault::Memory),
-    };
+    let program = program_of(alloc, bytes)?;
     if weighs(&program, right) {
         return Ok(Outcome::Passed);
     }

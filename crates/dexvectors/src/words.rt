@@ -1,11 +1,11 @@
 //! Bytes and units as words of hexadecimal digits, where no bytes and no units are `-`; and names as words.
 
-use crate::fault::VectorFault;
+use dexcases::CaseFault;
 use dexstr::Name;
 use std::alloc::{AllocError, Global};
 
 /// The bytes that a word stands for.
-pub fn bytes_in(alloc: Global, word: &str) -> Result<Vec<u8>, VectorFault> {
+pub fn bytes_in(alloc: Global, word: &str) -> Result<Vec<u8>, CaseFault> {
     if word == "-" {
         return Ok(Vec::new(alloc));
     }
@@ -13,13 +13,13 @@ pub fn bytes_in(alloc: Global, word: &str) -> Result<Vec<u8>, VectorFault> {
 }
 
 /// The 16-bit units that a word stands for, each by four digits.
-pub fn units_in(alloc: Global, word: &str) -> Result<Vec<u16>, VectorFault> {
+pub fn units_in(alloc: Global, word: &str) -> Result<Vec<u16>, CaseFault> {
     let bytes = bytes_in(alloc, word)?;
     let mut units = Vec::new(alloc);
     for unit in bytes.chunks(2) {
         match unit {
             [high, low] => units.push(u16::from_be_bytes([*high, *low]))?,
-            _ => return Err(VectorFault::Form),
+            _ => return Err(CaseFault::Form),
         }
     }
     Ok(units)

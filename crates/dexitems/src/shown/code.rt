@@ -1,6 +1,5 @@
 //! Code items.
 
-use crate::shown::Shown;
 use crate::shown::debug::print_debug;
 use crate::shown::symbols::{print_comma, print_symbol, print_type};
 use dexcode::{Code, Handler, Try};
@@ -94,22 +93,24 @@ fn print_try<W: fmt::Write>(item: Try, f: &mut fmt::Formatter<W>) -> fmt::Result
     write!(f, " / try {start} {count} {handler}")
 }
 
-impl fmt::Display for Shown<'_, '_, '_, Code<'_>> {
-    fn fmt<W: fmt::Write>(&self, f: &mut fmt::Formatter<W>) -> fmt::Result {
-        let code = self.item;
-        print_lines(code, self.numbering, f)?;
-        for handler in code.tries().handlers() {
-            print_handler(handler, self.numbering, f)?;
+/// Prints code: its lines, its handlers, its tries and its debug program.
+pub fn print_code<W: fmt::Write>(
+    code: &Code<'_>,
+    numbering: &Numbering<'_>,
+    f: &mut fmt::Formatter<W>,
+) -> fmt::Result {
+    print_lines(code, numbering, f)?;
+    for handler in code.tries().handlers() {
+        print_handler(handler, numbering, f)?;
+    }
+    for item in code.tries().tries() {
+        print_try(*item, f)?;
+    }
+    match code.debug() {
+        Some(debug) => {
+            f.write_str(" / ")?;
+            print_debug(debug, numbering, f)
         }
-        for item in code.tries().tries() {
-            print_try(*item, f)?;
-        }
-        match code.debug() {
-            Some(debug) => {
-                f.write_str(" / ")?;
-                print_debug(debug, self.numbering, f)
-            }
-            None => Ok(()),
-        }
+        None => Ok(()),
     }
 }

@@ -1,6 +1,5 @@
 //! Debug programs.
 
-use crate::shown::Shown;
 use crate::shown::symbols::{print_comma, print_string, print_type};
 use dexcode::{Debug, Operation};
 use dexpool::Numbering;
@@ -13,7 +12,7 @@ fn print_text_or_none<W: fmt::Write>(
     f: &mut fmt::Formatter<W>,
 ) -> fmt::Result {
     match number {
-        Some(number) => print_string(numbering, number, f),
+        Some(number) => print_string(numbering, number as usize, f),
         None => f.write_str("-"),
     }
 }
@@ -96,10 +95,4 @@ pub fn print_debug<W: fmt::Write>(
         print_operation(operation, numbering, f)?;
     }
     Ok(())
-}
-
-impl fmt::Display for Shown<'_, '_, '_, Debug> {
-    fn fmt<W: fmt::Write>(&self, f: &mut fmt::Formatter<W>) -> fmt::Result {
-        print_debug(self.item, self.numbering, f)
-    }
 }

@@ -1,7 +1,7 @@
 //! What class rows declare, as a listing has it.
 
 use crate::shown::code::print_lines;
-use crate::shown::symbols::{print_field_name, print_method_name};
+use crate::shown::symbols::{Naming, print_field, print_method};
 use dexmembers::{Field, Members, Method};
 use dexpool::Numbering;
 use std::fmt;
@@ -61,7 +61,7 @@ fn print_fields<W: fmt::Write>(
     for (i, field) in fields.iter().enumerate() {
         print_break(are_first && i == 0, f)?;
         f.write_str(kind)?;
-        print_field_name(numbering, field.number() as usize, f)?;
+        print_field(Naming::Alone, numbering, field.number() as usize, f)?;
         print_flags(field.flags().bits(), false, f)?;
     }
     Ok(())
@@ -78,7 +78,7 @@ fn print_methods<W: fmt::Write>(
     for (i, method) in methods.iter().enumerate() {
         print_break(are_first && i == 0, f)?;
         f.write_str(kind)?;
-        print_method_name(numbering, method.number() as usize, f)?;
+        print_method(Naming::Alone, numbering, method.number() as usize, f)?;
         print_flags(method.flags().bits(), true, f)?;
         if let Some(code) = method.code() {
             f.write_str(" / ")?;
@@ -88,8 +88,8 @@ fn print_methods<W: fmt::Write>(
     Ok(())
 }
 
-// Prints the lines of members, or `-` for none.
-fn print_members<W: fmt::Write>(
+/// Prints the lines of members, or `-` for none.
+pub fn print_members<W: fmt::Write>(
     members: &Members<'_>,
     names: &Numbering<'_>,
     f: &mut fmt::Formatter<W>,
@@ -128,17 +128,4 @@ fn print_members<W: fmt::Write>(
     )?;
     let is_empty = are_first && members.virtual_methods().is_empty();
     f.write_str(if is_empty { "-" } else { "" })
-}
-
-/// Members whose numbers are those of a numbering.
-#[derive(Drop)]
-pub struct ShownMembers<'n, 'a, 's> {
-    pub numbering: &'n Numbering<'a>,
-    pub members: &'s Members<'s>,
-}
-
-impl fmt::Display for ShownMembers<'_, '_, '_> {
-    fn fmt<W: fmt::Write>(&self, f: &mut fmt::Formatter<W>) -> fmt::Result {
-        print_members(self.members, self.numbering, f)
-    }
 }

@@ -4,6 +4,15 @@ use dexpool::{Numbering, SymbolKind};
 use dexstr::Text;
 use std::fmt;
 
+/// Whether the class of a field or method is printed.
+#[derive(Clone, Copy)]
+pub enum Naming {
+    /// `CLASS->` stands before the name.
+    WithClass,
+    /// The name and the types stand alone.
+    Alone,
+}
+
 /// Prints what stands before an item of a list: nothing before the first.
 pub fn print_comma<W: fmt::Write>(place: usize, f: &mut fmt::Formatter<W>) -> fmt::Result {
     f.write_str(if place == 0 { "" } else { ", " })
@@ -36,11 +45,11 @@ fn print_name<W: fmt::Write>(
 /// Prints a text in quotes.
 pub fn print_string<W: fmt::Write>(
     numbering: &Numbering<'_>,
-    number: u32,
+    number: usize,
     f: &mut fmt::Formatter<W>,
 ) -> fmt::Result {
     f.write_str("\"")?;
-    print_name(numbering, number as usize, f)?;
+    print_name(numbering, number, f)?;
     f.write_str("\"")
 }
 
@@ -75,8 +84,25 @@ fn print_proto<W: fmt::Write>(
     print_type(numbering, proto.return_type(), f)
 }
 
-/// Prints a field without its class: `NAME:TYPE`.
-pub fn print_field_name<W: fmt::Write>(
+// Prints the class of a member and an arrow, if it is printed.
+fn print_class<W: fmt::Write>(
+    naming: Naming,
+    numbering: &Numbering<'_>,
+    class: usize,
+    f: &mut fmt::Formatter<W>,
+) -> fmt::Result {
+    match naming {
+        Naming::WithClass => {
+            print_type(numbering, class, f)?;
+            f.write_str("->")
+        }
+        Naming::Alone => Ok(()),
+    }
+}
+
+/// Prints a field: `NAME:TYPE`, behind `CLASS->` or alone.
+pub fn print_field<W: fmt::Write>(
+    naming: Naming,
     numbering: &Numbering<'_>,
     number: usize,
     f: &mut fmt::Formatter<W>,
@@ -85,27 +111,15 @@ pub fn print_field_name<W: fmt::Write>(
         return f.write_str("?");
     }
     let field = numbering.field(number);
+    print_class(naming, numbering, field.class, f)?;
     print_name(numbering, field.name, f)?;
     f.write_str(":")?;
     print_type(numbering, field.typ, f)
 }
 
-/// Prints a field: `CLASS->NAME:TYPE`.
-pub fn print_field<W: fmt::Write>(
-    numbering: &Numbering<'_>,
-    number: usize,
-    f: &mut fmt::Formatter<W>,
-) -> fmt::Result {
-    if number >= numbering.count(SymbolKind::Field) {
-        return f.write_str("?");
-    }
-    print_type(numbering, numbering.field(number).class, f)?;
-    f.write_str("->")?;
-    print_field_name(numbering, number, f)
-}
-
-/// Prints a method without its class: `NAME(PARAMETERS)RETURN`.
-pub fn print_method_name<W: fmt::Write>(
+/// Prints a method: `NAME(PARAMETERS)RETURN`, behind `CLASS->` or alone.
+pub fn print_method<W: fmt::Write>(
+    naming: Naming,
     numbering: &Numbering<'_>,
     number: usize,
     f: &mut fmt::Formatter<W>,
@@ -114,25 +128,12 @@ pub fn print_method_name<W: fmt::Write>(
         return f.write_str("?");
     }
     let method = numbering.method(number);
+    print_class(naming, numbering, method.class, f)?;
     print_name(numbering, method.name, f)?;
     print_proto(numbering, method.proto, f)
 }
 
-/// Prints a method: `CLASS->NAME(PARAMETERS)RETURN`.
-pub fn print_method<W: fmt::Write>(
-    numbering: &Numbering<'_>,
-    number: usize,
-    f: &mut fmt::Formatter<W>,
-) -> fmt::Result {
-    if number >= numbering.count(SymbolKind::Method) {
-        return f.write_str("?");
-    }
-    print_type(numbering, numbering.method(number).class, f)?;
-    f.write_str("->")?;
-    print_method_name(numbering, number, f)
-}
-
-/// Prints a symbol of a kind: a text in quotes.
+/// Prints a symbol of a kind: a text in quotes, and a member behind its class.
 pub fn print_symbol<W: fmt::Write>(
     numbering: &Numbering<'_>,
     kind: SymbolKind,
@@ -140,14 +141,10 @@ pub fn print_symbol<W: fmt::Write>(
     f: &mut fmt::Formatter<W>,
 ) -> fmt::Result {
     match kind {
-        SymbolKind::Text => {
-            f.write_str("\"")?;
-            print_name(numbering, number, f)?;
-            f.write_str("\"")
-        }
+        SymbolKind::Text => print_string(numbering, number, f),
         SymbolKind::Typ => print_type(numbering, number, f),
         SymbolKind::Proto => print_proto(numbering, number, f),
-        SymbolKind::Field => print_field(numbering, number, f),
-        SymbolKind::Method => print_method(numbering, number, f),
+        SymbolKind::Field => print_field(Naming::WithClass, numbering, number, f),
+        SymbolKind::Method => print_method(Naming::WithClass, numbering, number, f),
     }
 }

@@ -1,14 +1,25 @@
 //! Values, annotations, sets and directories.
 
-use crate::shown::Shown;
-use crate::shown::symbols::{print_comma, print_field, print_method, print_string, print_type};
-use dexpool::Numbering;
+use crate::shown::symbols::{print_comma, print_string, print_symbol, print_type};
+use dexpool::{Numbering, SymbolKind};
 use dexval::{Annotation, AnnotationSet, Directory, Element, Value, Visibility};
 use std::fmt;
 
-// Prints a value.
+// Prints a word and a symbol.
+fn print_named<W: fmt::Write>(
+    word: &str,
+    kind: SymbolKind,
+    number: u32,
+    numbering: &Numbering<'_>,
+    f: &mut fmt::Formatter<W>,
+) -> fmt::Result {
+    f.write_str(word)?;
+    print_symbol(numbering, kind, number as usize, f)
+}
+
+/// Prints a value.
 #[cycle(printing)]
-fn print_value<W: fmt::Write>(
+pub fn print_value<W: fmt::Write>(
     value: &Value,
     numbering: &Numbering<'_>,
     f: &mut fmt::Formatter<W>,
@@ -21,26 +32,11 @@ fn print_value<W: fmt::Write>(
         Value::Long(number) => write!(f, "long {number}"),
         Value::Float(bits) => write!(f, "float 0x{bits:08x}"),
         Value::Double(bits) => write!(f, "double 0x{bits:016x}"),
-        Value::String(number) => {
-            f.write_str("string ")?;
-            print_string(numbering, *number, f)
-        }
-        Value::Typ(number) => {
-            f.write_str("type ")?;
-            print_type(numbering, *number as usize, f)
-        }
-        Value::Field(number) => {
-            f.write_str("field ")?;
-            print_field(numbering, *number as usize, f)
-        }
-        Value::Method(number) => {
-            f.write_str("method ")?;
-            print_method(numbering, *number as usize, f)
-        }
-        Value::Enum(number) => {
-            f.write_str("enum ")?;
-            print_field(numbering, *number as usize, f)
-        }
+        Value::String(number) => print_named("string ", SymbolKind::Text, *number, numbering, f),
+        Value::Typ(number) => print_named("type ", SymbolKind::Typ, *number, numbering, f),
+        Value::Field(number) => print_named("field ", SymbolKind::Field, *number, numbering, f),
+        Value::Method(number) => print_named("method ", SymbolKind::Method, *number, numbering, f),
+        Value::Enum(number) => print_named("enum ", SymbolKind::Field, *number, numbering, f),
         Value::Array(values) => print_values(values, numbering, f),
         Value::Annotation(typ, elements) => {
             f.write_str("@")?;
@@ -52,9 +48,9 @@ fn print_value<W: fmt::Write>(
     }
 }
 
-// Prints values: `[VALUE, VALUE]`.
+/// Prints values: `[VALUE, VALUE]`.
 #[cycle(printing)]
-fn print_values<W: fmt::Write>(
+pub fn print_values<W: fmt::Write>(
     values: &[Value],
     numbering: &Numbering<'_>,
     f: &mut fmt::Formatter<W>,
@@ -77,7 +73,7 @@ fn print_elements<W: fmt::Write>(
     f.write_str("(")?;
     for (i, element) in elements.iter().enumerate() {
         print_comma(i, f)?;
-        print_string(numbering, element.name, f)?;
+        print_string(numbering, element.name as usize, f)?;
         f.write_str(" = ")?;
         print_value(&element.value, numbering, f)?;
     }
@@ -99,8 +95,8 @@ fn print_annotation<W: fmt::Write>(
     print_elements(&annotation.elements, numbering, f)
 }
 
-// Prints a set: `{ANNOTATION, ANNOTATION}`.
-fn print_set<W: fmt::Write>(
+/// Prints a set: `{ANNOTATION, ANNOTATION}`.
+pub fn print_set<W: fmt::Write>(
     set: &AnnotationSet,
     numbering: &Numbering<'_>,
     f: &mut fmt::Formatter<W>,
@@ -127,8 +123,8 @@ fn print_sets<W: fmt::Write>(
     f.write_str("]")
 }
 
-// Prints a directory: its own set, and a pair for each member.
-fn print_directory<W: fmt::Write>(
+/// Prints a directory: its own set, and a pair for each member.
+pub fn print_directory<W: fmt::Write>(
     directory: &Directory,
     numbering: &Numbering<'_>,
     f: &mut fmt::Formatter<W>,
@@ -136,46 +132,19 @@ fn print_directory<W: fmt::Write>(
     f.write_str("own ")?;
     print_set(&directory.own, numbering, f)?;
     for (number, set) in &directory.fields {
-        f.write_str(" / field ")?;
-        print_field(numbering, *number as usize, f)?;
+        print_named(" / field ", SymbolKind::Field, *number, numbering, f)?;
         f.write_str(" ")?;
         print_set(set, numbering, f)?;
     }
     for (number, set) in &directory.methods {
-        f.write_str(" / method ")?;
-        print_method(numbering, *number as usize, f)?;
+        print_named(" / method ", SymbolKind::Method, *number, numbering, f)?;
         f.write_str(" ")?;
         print_set(set, numbering, f)?;
     }
     for (number, sets) in &directory.parameters {
-        f.write_str(" / parameters ")?;
-        print_method(numbering, *number as usize, f)?;
+        print_named(" / parameters ", SymbolKind::Method, *number, numbering, f)?;
         f.write_str(" ")?;
         print_sets(sets, numbering, f)?;
     }
     Ok(())
-}
-
-impl fmt::Display for Shown<'_, '_, '_, Value> {
-    fn fmt<W: fmt::Write>(&self, f: &mut fmt::Formatter<W>) -> fmt::Result {
-        print_value(self.item, self.numbering, f)
-    }
-}
-
-impl fmt::Display for Shown<'_, '_, '_, Vec<Value>> {
-    fn fmt<W: fmt::Write>(&self, f: &mut fmt::Formatter<W>) -> fmt::Result {
-        print_values(self.item, self.numbering, f)
-    }
-}
-
-impl fmt::Display for Shown<'_, '_, '_, AnnotationSet> {
-    fn fmt<W: fmt::Write>(&self, f: &mut fmt::Formatter<W>) -> fmt::Result {
-        print_set(self.item, self.numbering, f)
-    }
-}
-
-impl fmt::Display for Shown<'_, '_, '_, Directory> {
-    fn fmt<W: fmt::Write>(&self, f: &mut fmt::Formatter<W>) -> fmt::Result {
-        print_directory(self.item, self.numbering, f)
-    }
 }

@@ -1,13 +1,12 @@
 //! Positions of debug programs: `HEX ok ADDRESS:LINE,ADDRESS:LINE,..`, where no positions are `-`, or `HEX refused
 //! NUMBER`.
 
-use crate::fault::VectorFault;
-use crate::outcome::Outcome;
 use crate::words::bytes_in;
+use dexcases::{CaseFault, Outcome, first_word, positions_text};
 use dexcode::{positions, read_debug};
 use dexhead::{Frame, Head, MapEntry, MapList, Rows, Section, set_sums};
 use dexpool::{ItemFault, Pools};
-use std::alloc::{AllocError, Global};
+use std::alloc::Global;
 
 const HEADER_SIZE: u32 = 112;
 
@@ -17,28 +16,31 @@ const MAP_SIZE: u32 = 28;
 const ITEM: u32 = HEADER_SIZE + MAP_SIZE;
 
 /// Runs a line.
-pub fn run(alloc: Global, line: &str) -> Result<Outcome, VectorFault> {
-    let (word, right) = line.split_once(' ').ok_or(VectorFault::Form)?;
+pub fn run(alloc: Global, line: &str) -> Result<Outcome, CaseFault> {
+    let (word, right) = first_word(line)?;
     let item = bytes_in(alloc, word)?;
     let file = file_of(alloc, &item)?;
     let Ok(frame) = Frame::open(&file) else {
-        return Ok(Outcome::Failed(String::from_str(alloc, "no file")?));
+        return Ok(Outcome::failed(alloc, "no file")?);
     };
     let Ok(pools) = Pools::read(alloc, &frame) else {
-        return Ok(Outcome::Failed(String::from_str(alloc, "no pools")?));
+        return Ok(Outcome::failed(alloc, "no pools")?);
     };
     let answered = match read_debug(alloc, &frame, &pools, ITEM) {
-        Ok(debug) => told(alloc, &positions(alloc, &debug)?)?,
+        Ok(debug) => {
+            let text = positions_text(alloc, &positions(alloc, &debug)?)?;
+            format!(in alloc; "ok {text}")?
+        }
         Err(ItemFault::Refused(number)) => format!(in alloc; "refused {number}")?,
-        Err(ItemFault::Memory) => return Err(VectorFault::Memory),
+        Err(ItemFault::Memory) => return Err(CaseFault::Memory),
     };
     Ok(Outcome::of(answered, right))
 }
 
 // A file without tables, whose data is the map and the item.
-fn file_of(alloc: Global, item: &[u8]) -> Result<Vec<u8>, VectorFault> {
-    let item_size = u32::try_from(item.len()).map_err(|_| VectorFault::Form)?;
-    let file_size = item_size.checked_add(ITEM).ok_or(VectorFault::Form)?;
+fn file_of(alloc: Global, item: &[u8]) -> Result<Vec<u8>, CaseFault> {
+    let item_size = u32::try_from(item.len()).map_err(|_| CaseFault::Form)?;
+    let file_size = item_size.checked_add(ITEM).ok_or(CaseFault::Form)?;
     let head = Head {
         checksum: 0,
         signature: [0; 20],
@@ -66,18 +68,4 @@ fn file_of(alloc: Global, item: &[u8]) -> Result<Vec<u8>, VectorFault> {
     file.extend_from_slice(item)?;
     set_sums(&mut file);
     Ok(file)
-}
-
-// The address and the line of each position.
-fn told(alloc: Global, positions: &[(u64, i64)]) -> Result<String, AllocError> {
-    if positions.is_empty() {
-        return String::from_str(alloc, "ok -");
-    }
-    let mut answered = String::from_str(alloc, "ok")?;
-    let mut mark = ' ';
-    for (address, line) in positions {
-        write!(answered, "{mark}{address}:{line}")?;
-        mark = ',';
-    }
-    Ok(answered)
 }

@@ -1,14 +1,13 @@
 //! Numbers read: `HEX u=VALUE/USED s=VALUE/USED p1=VALUE/USED`, where a fault stands for `VALUE/USED`.
 
-use crate::fault::VectorFault;
-use crate::outcome::Outcome;
 use crate::words::bytes_in;
+use dexcases::{CaseFault, Outcome, first_word};
 use dexleb::{LebFault, read_p1, read_s, read_u};
 use std::alloc::{AllocError, Global};
 
 /// Runs a line.
-pub fn run(alloc: Global, line: &str) -> Result<Outcome, VectorFault> {
-    let (word, right) = line.split_once(' ').ok_or(VectorFault::Form)?;
+pub fn run(alloc: Global, line: &str) -> Result<Outcome, CaseFault> {
+    let (word, right) = first_word(line)?;
     let bytes = bytes_in(alloc, word)?;
     let unsigned = read_u(&bytes, 0).map(|(number, used)| (Some(i64::from(number)), used));
     let signed = read_s(&bytes, 0).map(|(number, used)| (Some(i64::from(number)), used));

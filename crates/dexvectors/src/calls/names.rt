@@ -4,24 +4,23 @@
 ghost use Rattle.std.specs.Prelude.{◌≡◌, ◌++◌, IfOk, OnOk};
 ghost use Rattle.dexspec.specs.Texts.{form, string_data};
 
-use crate::fault::VectorFault;
-use crate::outcome::Outcome;
 use crate::words::units_in;
+use dexcases::{CaseFault, Outcome, first_word};
 use dexleb::put_u;
 use dexstr::{Text, descriptor_kind, is_member_name, put_text};
 use std::alloc::{AllocError, Global};
 
 /// Runs a line.
-pub fn run(alloc: Global, line: &str) -> Result<Outcome, VectorFault> {
-    let (word, right) = line.split_once(' ').ok_or(VectorFault::Form)?;
+pub fn run(alloc: Global, line: &str) -> Result<Outcome, CaseFault> {
+    let (word, right) = first_word(line)?;
     let item = item_of(alloc, &units_in(alloc, word)?)?;
     let Ok((text, _)) = Text::read(&item, 0) else {
-        return Ok(Outcome::Failed(String::from_str(alloc, "no text")?));
+        return Ok(Outcome::failed(alloc, "no text")?);
     };
     let mut put = Vec::new(alloc);
     put_text(&text, &mut put)?;
     if put.as_slice() != item.as_slice() {
-        return Ok(Outcome::Failed(String::from_str(alloc, "another item")?));
+        return Ok(Outcome::failed(alloc, "another item")?);
     }
     let member = u8::from(is_member_name(&text));
     let answered = match descriptor_kind(&text) {
@@ -32,10 +31,10 @@ pub fn run(alloc: Global, line: &str) -> Result<Outcome, VectorFault> {
 }
 
 // The string_data_item of a text of these units.
-fn item_of(alloc: Global, units: &[u16]) -> Result<Vec<u8>, VectorFault>
+fn item_of(alloc: Global, units: &[u16]) -> Result<Vec<u8>, CaseFault>
     ensures { IfOk result (λ item. item.items ≡ string_data units.now) }
 {
-    let count = u32::try_from(units.len()).map_err(|_| VectorFault::Form)?;
+    let count = u32::try_from(units.len()).map_err(|_| CaseFault::Form)?;
     let mut item = Vec::new(alloc);
     put_u(count, &mut item)?;
     for &unit in units {

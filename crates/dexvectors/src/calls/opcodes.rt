@@ -1,14 +1,13 @@
 //! Opcodes: `OP FORMAT POOL MNEMONIC`, where the pool is that of the index or `-`, or `OP -` where there is no such
 //! instruction.
 
-use crate::fault::VectorFault;
-use crate::outcome::Outcome;
+use dexcases::{CaseFault, Outcome, first_word};
 use dexinsn::{Format, IndexKind, index_kind, mnemonic};
 use std::alloc::{AllocError, Global};
 
 /// Runs a line.
-pub fn run(alloc: Global, line: &str) -> Result<Outcome, VectorFault> {
-    let (word, right) = line.split_once(' ').ok_or(VectorFault::Form)?;
+pub fn run(alloc: Global, line: &str) -> Result<Outcome, CaseFault> {
+    let (word, right) = first_word(line)?;
     let op = u8::from_str_radix(word, 16)?;
     let answered = match Format::of(op) {
         Some(format) => told(alloc, format, op)?,

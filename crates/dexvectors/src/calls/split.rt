@@ -1,14 +1,13 @@
 //! Code cut into pieces: `UNITS ok START/LENGTH,START/LENGTH,..`, or `UNITS`, a fault and its unit.
 
-use crate::fault::VectorFault;
-use crate::outcome::Outcome;
 use crate::words::units_in;
+use dexcases::{CaseFault, Outcome, first_word};
 use dexinsn::{CodeFault, Cut, split};
 use std::alloc::{AllocError, Global};
 
 /// Runs a line.
-pub fn run(alloc: Global, line: &str) -> Result<Outcome, VectorFault> {
-    let (word, right) = line.split_once(' ').ok_or(VectorFault::Form)?;
+pub fn run(alloc: Global, line: &str) -> Result<Outcome, CaseFault> {
+    let (word, right) = first_word(line)?;
     let units = units_in(alloc, word)?;
     let answered = match split(alloc, &units) {
         Ok(cuts) => told(alloc, &cuts)?,
@@ -17,7 +16,7 @@ pub fn run(alloc: Global, line: &str) -> Result<Outcome, VectorFault> {
                 CodeFault::Empty => "Empty",
                 CodeFault::Piece(_) => "Piece",
                 CodeFault::Target(_) => "Target",
-                CodeFault::Memory => return Err(VectorFault::Memory),
+                CodeFault::Memory => return Err(CaseFault::Memory),
             };
             let unit = fault.unit();
             format!(in alloc; "{name} {unit}")?

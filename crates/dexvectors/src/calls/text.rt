@@ -1,14 +1,13 @@
 //! Texts read: `HEX ok USED UNITS`, or `HEX` and a fault. The units are told of a copy that owns them.
 
-use crate::fault::VectorFault;
-use crate::outcome::Outcome;
 use crate::words::{bytes_in, word_of};
+use dexcases::{CaseFault, Outcome, first_word};
 use dexstr::{Name, Text};
 use std::alloc::Global;
 
 /// Runs a line.
-pub fn run(alloc: Global, line: &str) -> Result<Outcome, VectorFault> {
-    let (word, right) = line.split_once(' ').ok_or(VectorFault::Form)?;
+pub fn run(alloc: Global, line: &str) -> Result<Outcome, CaseFault> {
+    let (word, right) = first_word(line)?;
     let bytes = bytes_in(alloc, word)?;
     let answered = match Text::read(&bytes, 0) {
         Ok((text, used)) => {

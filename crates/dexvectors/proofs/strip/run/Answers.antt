@@ -4,7 +4,7 @@ use Rattle.dexvectors.proofs.strip.run.Goals as goal
 
 pub returns-then-branch : goal.returns-then-branch
 returns-then-branch c = λ _. record {
-  collection = c.in-Ok.program;
-  is = c.in-Ok.ensures.accepted;
+  collection = c.in_ok-program.program;
+  is = c.in_ok-program.ensures;
   whole_is = c.in_ok-is_written_as.ensures c.if-branch.true ∙ ap canonical c.in_ok-stripped.ensures.stripped;
 }

@@ -1,0 +1,35 @@
+//! The kinds of lines.
+
+use crate::fault::CaseFault;
+use crate::outcome::Outcome;
+use crate::tally::Tally;
+use std::fmt;
+use std::path::Path;
+use std::rt::Files;
+
+/// The kinds of the lines that a program runs. A kind prints as what its lines are counted as.
+pub trait Cases: Copy + Ord + fmt::Display {
+    /// The name of the program.
+    const PROGRAM: &'static str;
+
+    /// The words that the program is called with.
+    const WORDS: &'static str;
+
+    /// The tally of no lines.
+    fn no_lines() -> Tally;
+
+    /// The kind of every line of a file of calls, by the file's name; `None` where it is no such file.
+    fn of_calls(file_name: &str) -> Option<Self>;
+
+    /// The kind of a line of an index, by its first word.
+    fn of_case(word: &str) -> Self;
+
+    /// Runs a line of a file that lies in this folder. The line is whole in a file of calls, and what stands behind its
+    /// first word in an index.
+    fn run<R: Files + AllocGlobal>(
+        self,
+        rt: &R,
+        folder: Path<'_>,
+        case: &str,
+    ) -> Result<Outcome, CaseFault>;
+}

@@ -1,0 +1,126 @@
+//! Files of lines.
+
+use crate::cases::Cases;
+use crate::fault::CaseFault;
+use crate::outcome::Outcome;
+use crate::tally::Tally;
+use std::alloc::Global;
+use std::collections::BTreeMap;
+use std::path::Path;
+use std::rt::Files;
+use std::{fs, io};
+
+/// What the lines of a file ask for, over the files of this folder.
+#[derive(Drop)]
+struct Source<'a, K> {
+    folder: Path<'a>,
+    /// The kind of each line; `None` where the first word of a line says it.
+    kind: Option<K>,
+}
+
+impl<'a, K: Cases> Source<'a, K> {
+    /// What the lines of the file of this name ask for; `None` where the name is no such file's.
+    fn of(name: &'a str) -> Option<Source<'a, K>> {
+        let path = Path::new(name);
+        let file_name = path.file_name()?;
+        let folder = path.parent()?;
+        if file_name == "index.txt" {
+            return Some(Source { folder, kind: None });
+        }
+        let kind = Some(K::of_calls(file_name)?);
+        Some(Source { folder, kind })
+    }
+
+    /// The kind of a line, and what is run of it.
+    fn kind_of<'l>(&self, line: &'l str) -> (K, &'l str) {
+        match self.kind {
+            Some(kind) => (kind, line),
+            None => {
+                let (word, case) = line.split_once(' ').unwrap_or((line, ""));
+                (K::of_case(word), case)
+            }
+        }
+    }
+}
+
+/// Runs each line of a file, prints what failed and, for each kind of line, how many lines went how, and answers how
+/// all of them went. A line that begins with `#` is no case.
+pub fn run_file<K: Cases, R: Files + Print + AllocGlobal>(
+    rt: &R,
+    name: &str,
+) -> Result<Tally, CaseFault> {
+    let source: Source<'_, K> = Source::of(name).ok_or(CaseFault::Words(K::WORDS))?;
+    let text = match fs::read_to_string(rt, name) {
+        Ok(text) => text,
+        Err(error) => return Err(unreadable(rt.alloc(), name, error)?),
+    };
+    println!(rt; "{name}")?;
+    let mut tallies: BTreeMap<K, Tally> = BTreeMap::new(rt.alloc());
+    for (number, line) in (1u64..).zip(text.as_str().lines()) {
+        if line.starts_with('#') {
+            continue;
+        }
+        let (kind, outcome) = run_line(rt, &source, line)?;
+        if let Outcome::Failed(answered) = &outcome {
+            print_failed(rt, name, number, line, answered.as_str())?;
+        }
+        tallies
+            .entry(kind)?
+            .or_insert(K::no_lines())
+            .count(&outcome);
+    }
+    let mut all = K::no_lines();
+    for (kind, tally) in tallies.iter() {
+        println!(rt; "  {kind}: {tally}")?;
+        all = all.with(*tally);
+    }
+    Ok(all)
+}
+
+// Prints a line that failed.
+fn print_failed<R: Print>(
+    rt: &R,
+    name: &str,
+    number: u64,
+    line: &str,
+    answered: &str,
+) -> io::Result<()> {
+    println!(rt; "  {name}:{number}: {line}")?;
+    println!(rt; "    answered: {answered}")
+}
+
+// Runs a line: the kind that it is counted as, and how it goes.
+fn run_line<K: Cases, R: Files + AllocGlobal>(
+    rt: &R,
+    source: &Source<'_, K>,
+    line: &str,
+) -> Result<(K, Outcome), CaseFault> {
+    let (kind, case) = source.kind_of(line);
+    let outcome = match kind.run(rt, source.folder, case) {
+        Err(CaseFault::Form) => Outcome::failed(rt.alloc(), "not a line of this kind")?,
+        Err(CaseFault::Failed(answered)) => Outcome::Failed(answered),
+        ran => ran?,
+    };
+    Ok((kind, outcome))
+}
+
+/// The bytes of a file of a folder.
+pub fn read_file<R: Files + AllocGlobal>(
+    rt: &R,
+    folder: Path<'_>,
+    name: &str,
+) -> Result<Vec<u8>, CaseFault> {
+    let path = folder.join(rt.alloc(), name)?;
+    match fs::read(rt, path.as_path()) {
+        Ok(bytes) => Ok(bytes),
+        Err(error) => Err(unreadable(rt.alloc(), path.as_str(), error)?),
+    }
+}
+
+// The fault that a file cannot be read.
+fn unreadable(alloc: Global, name: &str, error: io::Error) -> Result<CaseFault, CaseFault> {
+    Ok(CaseFault::File {
+        name: String::from_str(alloc, name)?,
+        error,
+    })
+}

@@ -1,0 +1,23 @@
+//! What programs that run files of right answers have in common.
+//!
+//! The command line has the names of such files. Each line of a file asks for calls and has what they have to answer; a
+//! line that begins with `#` is none. What the lines ask for is the program's own: it says so by [`Cases`]. The rest
+//! stands here: [`run`] reads the files, prints each line that failed with its file, its number and what was answered,
+//! counts the lines by their kinds, and answers the status.
+#![tactic(auto)]
+
+pub use cases::Cases;
+pub use fault::CaseFault;
+pub use file::read_file;
+pub use outcome::Outcome;
+pub use program::run;
+pub use tally::Tally;
+pub use words::{first_word, positions_text};
+
+mod cases;
+mod fault;
+mod file;
+mod outcome;
+mod program;
+mod tally;
+mod words;

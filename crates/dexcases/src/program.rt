@@ -1,0 +1,39 @@
+//! The program: the files that the command line names.
+
+use crate::cases::Cases;
+use crate::fault::CaseFault;
+use crate::file::run_file;
+use crate::tally::Tally;
+use std::env;
+use std::process::ExitCode;
+use std::rt::{Env, Files};
+
+/// Runs the files that the command line names, and answers the status of the program: 0 where no line failed, 1 where
+/// one did, 2 where the words are not the names of files of right answers, 3 where a file cannot be read, and 4 where
+/// the output or memory fails.
+pub fn run<K: Cases, R: Files + Print + Eprint + Env + AllocGlobal>(rt: &R) -> ExitCode {
+    match run_files::<K, R>(rt) {
+        Ok(all) if all.failed() == 0 => ExitCode::SUCCESS,
+        Ok(_) => ExitCode::FAILURE,
+        Err(fault) => {
+            let program = K::PROGRAM;
+            let _ = eprintln!(rt; "{program}: {fault}");
+            ExitCode::from(fault.status())
+        }
+    }
+}
+
+// Runs each file that the command line names, and adds up what the lines passed.
+fn run_files<K: Cases, R: Files + Print + Env + AllocGlobal>(rt: &R) -> Result<Tally, CaseFault> {
+    let words: Vec<String> = env::args(rt)?.collect(rt.alloc())?;
+    let names = match words.as_slice() {
+        [] | [_] => return Err(CaseFault::Words(K::WORDS)),
+        [_, names @ ..] => names,
+    };
+    let mut all = K::no_lines();
+    for name in names {
+        all = all.with(run_file::<K, R>(rt, name.as_str())?);
+    }
+    println!(rt; "all: {all}")?;
+    Ok(all)
+}

@@ -1,0 +1,36 @@
+//! The kinds of items.
+
+/// What an item is.
+#[derive(Clone, Copy, Debug, PartialEq, Eq, PartialOrd, Ord)]
+pub enum ItemKind {
+    /// A value.
+    Value,
+    /// The values that static fields begin with.
+    Statics,
+    /// A set of annotations.
+    Set,
+    /// A directory of annotations.
+    Directory,
+    /// A debug program.
+    Debug,
+    /// A code item.
+    Code,
+    /// What a class row declares.
+    Members,
+}
+
+impl ItemKind {
+    /// The kind that a word of a line names.
+    pub fn of_word(word: &str) -> Option<ItemKind> {
+        match word {
+            "value" => Some(ItemKind::Value),
+            "statics" => Some(ItemKind::Statics),
+            "set" => Some(ItemKind::Set),
+            "directory" => Some(ItemKind::Directory),
+            "debug" => Some(ItemKind::Debug),
+            "code" => Some(ItemKind::Code),
+            "members" => Some(ItemKind::Members),
+            _ => None,
+        }
+    }
+}

@@ -7,7 +7,7 @@ pub(crate) const ABOUT: &str =
 
 pub(crate) const STATUSES: &str = "\
 Exit statuses:
-  0  all was done, or help was asked for
+  0  all was done, or help or the version was asked for
   1  a file or a merge was refused
   2  the words are no command
   3  a file cannot be read, or the output cannot be written
@@ -68,7 +68,7 @@ pub(crate) const MERGE: &str = "Writes the canonical form of all classes of the 
 
 pub(crate) const MERGE_LONG: &str = "\
 Writes the canonical form of all classes of the files: the same bytes in any order and grouping of them. Equal copies of
-a class are one. Where two unlike classes have one name, a class is above itself, or a limit is exceeded, that is told,
+a class are one. Where two unlike classes have one name, a class is above itself, or a cap is exceeded, that is told,
 and nothing is written.";
 
 pub(crate) const FILES: &str = "A DEX file, of which there is one or more";
@@ -81,7 +81,7 @@ pub(crate) const FAN: &str =
     "Merges N files at a time, then N of what came out, and so on: N from 2 to 65535 [default: all files at once]";
 
 pub(crate) const STRIP: &str =
-    "Leaves out debug programs and source names; the files are judged with them [default: they are kept]";
+    "Leaves out debug programs and source texts; the files are judged with them [default: they are kept]";
 
 pub(crate) const MAX_TYPES: &str =
     "At most N types in the merged file: N from 0 to 65535 [default: 65535]";

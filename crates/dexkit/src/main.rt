@@ -3,8 +3,8 @@
 //! `check FILE...` tells of each file whether it is accepted; `dump FILE` lists its classes; `normalise FILE OUT` writes the
 //! canonical form of FILE to OUT; `merge --out OUT FILE...` writes the canonical form of all classes of the files to OUT,
 //! under the caps of `--max-types` and its like, with `--fan N` by merging N at a time, and with `--strip` without debug
-//! programs and source texts. The status is 0 where all was done or help was asked for, 1 where a file or a merge was
-//! refused, 2 where the words are no command, 3 where input or output failed, and 4 where memory did.
+//! programs and source texts. The status is 0 where all was done, or help or the version was asked for, 1 where a file or a
+//! merge was refused, 2 where the words are no command, 3 where input or output failed, and 4 where memory did.
 #![tactic(auto)]
 
 mod files;

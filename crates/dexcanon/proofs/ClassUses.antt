@@ -1,6 +1,7 @@
 -- The uses of classes, class by class.
 use Rattle.std.proofs.Common.{◌≡◌, ℕ, zero, suc, ◌+◌, ◌<◌, List, [], ◌∷◌, Bool, true, false, length, get_or, map, take, drop, Option, Some, None, refl, sym, ap, ◌∙◌, arith}
 use Rattle.std.specs.Prelude.{if◌then◌else◌, ◌==◌}
+use Rattle.std.proofs.lemmas.Bool.{eqb-true}
 use Rattle.std.proofs.lemmas.List.{drop_more, length-map, length-append}
 use Rattle.dexspec.specs.Classes.{Definition, declared_methods}
 use Rattle.dexspec.specs.Mentions.{Mentions}
@@ -18,6 +19,9 @@ next_of cs r c lt is = drop_more cs r c lt ∙ ap (λ y. y ∷ drop (r + 1) cs) 
 pub some_of : (n : ℕ) (b : Bool) → b ≡ (n == 0) → b ≡ false → 0 < n
 some_of zero b e f = absurd (let t : b ≡ true = e in cc)
 some_of (suc n) b e f = omega arith
+
+pub none_of : (n : ℕ) (b : Bool) → b ≡ (n == 0) → b ≡ true → n ≡ 0
+none_of n b e f = eqb-true n 0 (sym e ∙ f)
 
 -- ---- static values
 

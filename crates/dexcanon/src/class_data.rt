@@ -2,18 +2,18 @@
 //!
 //! Source: the heading "class_data_item" of the Android page "Dalvik Executable format".
 
-ghost use Rattle.std.specs.Prelude.{◌≡◌, ℕ, false, map, length, All};
-ghost use Rattle.dexspec.specs.Lists.{present};
+ghost use Rattle.std.specs.Prelude.{◌≡◌, false};
 ghost use Rattle.dexspec.specs.Mentions.{Mentions};
-ghost use Rattle.dexspec.specs.Placing.{bytes_from, is_empty_class};
+ghost use Rattle.dexspec.specs.Placing.{is_empty_class, section_bytes};
+ghost use Rattle.dexspec.specs.Canonical.{class_data_section};
 ghost use Rattle.dexspec.specs.Spellings.{class_data_bytes};
 ghost use Rattle.dexclass.specs.Numbered.{definition_of};
-ghost use Rattle.dexclass.specs.Uses.{IsKnownClass};
-ghost use Rattle.dexcanon.specs.Codes.{class_methods};
-ghost use Rattle.dexcanon.specs.ClassItems.{IsFitClass, data_uses, data_item};
-ghost use Rattle.dexcanon.specs.Taking.{AreWithin, Outcome};
+ghost use Rattle.dexcanon.specs.ClassItems.{IsFitClass};
+ghost use Rattle.dexcanon.specs.Ready.{CanBeMade, ordered_in};
+ghost use Rattle.dexcanon.specs.Taking.{Outcome};
 
 use crate::codes::method_count;
+use crate::contents::Contents;
 use crate::faults::StoreFault;
 use crate::items::Item;
 use crate::taking::{Takes, pass};
@@ -57,23 +57,19 @@ fn is_bare(class: &Class<'_>) -> bool
         && members.virtual_methods().is_empty()
 }
 
-/// The class data of classes, wherever they begin, with the offset of the code of each method.
+/// The class data.
 pub(crate) fn put_class_data<S, M: Takes<S>>(
-    numbering: &Numbering<'_>,
-    classes: &[Class<'_>],
-    code_offs: &[u32],
-    limit: usize,
+    contents: &Contents<'_, '_, '_, '_>,
     gathered: &mut Vec<u8>,
     state: &mut S,
 ) -> Result<(), StoreFault>
     requires works { M.has_failed state.old ≡ false }
-    requires known { All (IsKnownClass numbering.now) classes.now }
-    requires offsets { length code_offs.now ≡ length (class_methods classes.now) }
-    requires within { AreWithin limit (map (data_item numbering.now) (present (data_uses numbering.now classes.now code_offs.now))) }
-    ensures { (from : ℕ) → Outcome M.holds M.has_failed M.empties limit state.old gathered.old state.new gathered.new (bytes_from 1 from (map (data_item numbering.now) (present (data_uses numbering.now classes.now code_offs.now)))) result }
+    requires ready { CanBeMade contents.now }
+    ensures { Outcome M.holds M.has_failed M.empties contents.now.limit state.old gathered.old state.new gathered.new (section_bytes (class_data_section (ordered_in contents.now))) result }
 {
-    let mut rest = code_offs;
-    for class in classes {
+    let numbering = contents.numbering;
+    let mut rest = contents.layout.codes().offsets();
+    for class in contents.classes {
         let (own, others) = rest.split_at(method_count(class.members()));
         rest = others;
         if is_bare(class) {
@@ -84,7 +80,7 @@ pub(crate) fn put_class_data<S, M: Takes<S>>(
             class,
             code_offs: own,
         };
-        pass::<ClassData, S, M>(&item, limit, gathered, state)?;
+        pass::<ClassData, S, M>(&item, contents.limit, gathered, state)?;
     }
     Ok(())
 }

@@ -2,22 +2,23 @@
 //!
 //! Source: the heading "class_def_item" of the Android page "Dalvik Executable format".
 
-ghost use Rattle.std.specs.Prelude.{◌≡◌, ◌≤◌, ◌<◌, ◌^◌, false, length, map, unwrap_or, slice_index, IfSome, All};
+ghost use Rattle.std.specs.Prelude.{◌≡◌, ◌<◌, ◌^◌, false, length, map, unwrap_or, slice_index, IfSome};
 ghost use Rattle.std.specs.List.{concat, flat_map};
 ghost use Rattle.dexspec.specs.Lists.{zip_with};
 ghost use Rattle.dexspec.specs.Bytes.{uint};
 ghost use Rattle.dexspec.specs.Classes.{no_index};
 ghost use Rattle.dexspec.specs.Canonical.{class_offsets, class_row_bytes};
 ghost use Rattle.dexclass.specs.Numbered.{definition_of};
-ghost use Rattle.dexclass.specs.Uses.{IsKnownClass};
 ghost use Rattle.dexcanon.specs.ClassRows.{class_row};
+ghost use Rattle.dexcanon.specs.Ready.{CanBeMade};
 ghost use Rattle.dexcanon.specs.Taking.{Outcome};
 
+use crate::contents::Contents;
 use crate::faults::StoreFault;
 use crate::items::Numbers;
 use crate::taking::{Takes, pass};
 use dexclass::Class;
-use dexpool::{Numbering, number_law};
+use dexpool::number_law;
 
 /// Where what the classes hold stands, an offset for each class: their interfaces, their annotations directories, their class data
 /// and their static values.
@@ -67,29 +68,25 @@ fn row_of(class: &Class<'_>, places: &ClassPlaces<'_>, r: usize) -> [u32; 8]
 
 /// The rows of the classes.
 pub(crate) fn put_class_defs<S, M: Takes<S>>(
-    numbering: &Numbering<'_>,
-    classes: &[Class<'_>],
+    contents: &Contents<'_, '_, '_, '_>,
     places: &ClassPlaces<'_>,
-    limit: usize,
     gathered: &mut Vec<u8>,
     state: &mut S,
 ) -> Result<(), StoreFault>
     requires works { M.has_failed state.old ≡ false }
-    requires least { 112 ≤ limit }
-    requires known { All (IsKnownClass numbering.now) classes.now }
-    requires few_texts { length numbering.now.texts < 2 ^ 32 }
-    requires few_types { length numbering.now.types < 2 ^ 32 }
-    requires interfaces { length places.now.interfaces.now ≡ length classes.now }
-    requires annotations { length places.now.annotations.now ≡ length classes.now }
-    requires class_data { length places.now.class_data.now ≡ length classes.now }
-    requires static_values { length places.now.static_values.now ≡ length classes.now }
-    ensures { Outcome M.holds M.has_failed M.empties limit state.old gathered.old state.new gathered.new (concat (zip_with (class_row_bytes numbering.now) (map (definition_of numbering.now) classes.now) (class_offsets places.now.interfaces.now places.now.annotations.now places.now.class_data.now places.now.static_values.now))) result }
+    requires ready { CanBeMade contents.now }
+    requires interfaces { length places.now.interfaces.now ≡ length contents.now.classes.now }
+    requires annotations { length places.now.annotations.now ≡ length contents.now.classes.now }
+    requires class_data { length places.now.class_data.now ≡ length contents.now.classes.now }
+    requires static_values { length places.now.static_values.now ≡ length contents.now.classes.now }
+    ensures { Outcome M.holds M.has_failed M.empties contents.now.limit state.old gathered.old state.new gathered.new (concat (zip_with (class_row_bytes contents.now.numbering.now) (map (definition_of contents.now.numbering.now) contents.now.classes.now) (class_offsets places.now.interfaces.now places.now.annotations.now places.now.class_data.now places.now.static_values.now))) result }
 {
-    numbering.is_numbering();
+    let classes = contents.classes;
+    contents.numbering.is_numbering();
     number_law();
     for r in 0..classes.len() {
         let row = row_of(&classes[r], places, r);
-        pass::<Numbers, S, M>(&Numbers(&row), limit, gathered, state)?;
+        pass::<Numbers, S, M>(&Numbers(&row), contents.limit, gathered, state)?;
     }
     Ok(())
 }

@@ -4,17 +4,18 @@
 
 ghost use Rattle.std.specs.Prelude.{◌≡◌, ◌≤◌, ◌^◌, false, length, All, IfOk};
 ghost use Rattle.dexspec.specs.Spellings.{code_bytes};
-ghost use Rattle.dexspec.specs.Placing.{bytes_from, end_from};
+ghost use Rattle.dexspec.specs.Placing.{bytes_from, end_from, section_bytes};
+ghost use Rattle.dexspec.specs.Canonical.{code_section};
 ghost use Rattle.dexcode.specs.Meaning.{code_in};
 ghost use Rattle.dexmembers.specs.Numbered.{AreKnownMembers, IsKnownMethod, methods_of};
-ghost use Rattle.dexclass.specs.Uses.{IsKnownClass};
-ghost use Rattle.dexcanon.specs.Codes.{IsFitCode, class_methods, method_codes};
+ghost use Rattle.dexcanon.specs.Codes.{IsFitCode, method_codes};
+ghost use Rattle.dexcanon.specs.Ready.{CanBeMade, ordered_in};
 ghost use Rattle.dexcanon.specs.Taking.{AreWithin, Outcome};
 
+use crate::contents::Contents;
 use crate::faults::StoreFault;
 use crate::items::Item;
 use crate::taking::{Takes, pass_aligned};
-use dexclass::Class;
 use dexcode::{Code, code_meaning_law, code_types_law, put_code};
 use dexmembers::{Members, Method};
 use dexpool::Numbering;
@@ -118,31 +119,32 @@ fn put_member_codes<S, M: Takes<S>>(
     put_method_codes::<S, M>(numbering, others, other_offs, at, limit, gathered, state)
 }
 
-/// The code of the methods of classes, from a place on, with the offset of the debug program of each.
+/// The code of the methods of the classes.
 pub(crate) fn put_codes<S, M: Takes<S>>(
-    numbering: &Numbering<'_>,
-    classes: &[Class<'_>],
-    debug_offs: &[u32],
-    from: u32,
-    limit: usize,
+    contents: &Contents<'_, '_, '_, '_>,
     gathered: &mut Vec<u8>,
     state: &mut S,
 ) -> Result<(), StoreFault>
     requires works { M.has_failed state.old ≡ false }
-    requires least { 112 ≤ limit }
-    requires known { All (IsKnownClass numbering.now) classes.now }
-    requires types { length numbering.now.types ≤ 65536 }
-    requires offsets { length debug_offs.now ≡ length (class_methods classes.now) }
-    requires within { AreWithin limit (method_codes numbering.now (class_methods classes.now) debug_offs.now) }
-    requires fits { end_from 4 from (method_codes numbering.now (class_methods classes.now) debug_offs.now) ≤ 2 ^ 30 }
-    ensures { Outcome M.holds M.has_failed M.empties limit state.old gathered.old state.new gathered.new (bytes_from 4 from (method_codes numbering.now (class_methods classes.now) debug_offs.now)) result }
+    requires ready { CanBeMade contents.now }
+    ensures { Outcome M.holds M.has_failed M.empties contents.now.limit state.old gathered.old state.new gathered.new (section_bytes (code_section (ordered_in contents.now))) result }
 {
-    let mut at = from;
-    let mut rest = debug_offs;
-    for class in classes {
+    let numbering = contents.numbering;
+    let places = contents.layout.debugs().places();
+    let mut rest = places.offsets();
+    let mut at = places.end();
+    for class in contents.classes {
         let members = class.members();
         let (own, others) = rest.split_at(method_count(members));
-        at = put_member_codes::<S, M>(numbering, members, own, at, limit, gathered, state)?;
+        at = put_member_codes::<S, M>(
+            numbering,
+            members,
+            own,
+            at,
+            contents.limit,
+            gathered,
+            state,
+        )?;
         rest = others;
     }
     Ok(())

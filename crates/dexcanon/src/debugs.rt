@@ -2,12 +2,15 @@
 //!
 //! Source: the heading "debug_info_item" of the Android page "Dalvik Executable format".
 
-ghost use Rattle.std.specs.Prelude.{◌≡◌, ℕ, false, map, All};
+ghost use Rattle.std.specs.Prelude.{◌≡◌, false};
 ghost use Rattle.dexspec.specs.Spellings.{debug_bytes};
-ghost use Rattle.dexspec.specs.Placing.{bytes_from};
+ghost use Rattle.dexspec.specs.Placing.{section_bytes};
+ghost use Rattle.dexspec.specs.Canonical.{debug_section};
 ghost use Rattle.dexcode.specs.Meaning.{debug_in, IsKnownDebug};
-ghost use Rattle.dexcanon.specs.Taking.{AreWithin, Outcome};
+ghost use Rattle.dexcanon.specs.Ready.{CanBeMade, ordered_in};
+ghost use Rattle.dexcanon.specs.Taking.{Outcome};
 
+use crate::contents::Contents;
 use crate::faults::StoreFault;
 use crate::items::Item;
 use crate::taking::{Takes, pass};
@@ -39,22 +42,21 @@ impl Item for DebugProgram<'_, '_> {
     }
 }
 
-/// The debug programs that are written, wherever they begin.
+/// The debug programs.
 pub(crate) fn put_debugs<S, M: Takes<S>>(
-    numbering: &Numbering<'_>,
-    written: &[&Debug],
-    limit: usize,
+    contents: &Contents<'_, '_, '_, '_>,
     gathered: &mut Vec<u8>,
     state: &mut S,
 ) -> Result<(), StoreFault>
     requires works { M.has_failed state.old ≡ false }
-    requires known { All (IsKnownDebug numbering.now) (map (λ d. d.now) written.now) }
-    requires within { AreWithin limit (map (debug_bytes numbering.now) (map (debug_in numbering.now) (map (λ d. d.now) written.now))) }
-    ensures { (from : ℕ) → Outcome M.holds M.has_failed M.empties limit state.old gathered.old state.new gathered.new (bytes_from 1 from (map (debug_bytes numbering.now) (map (debug_in numbering.now) (map (λ d. d.now) written.now)))) result }
+    requires ready { CanBeMade contents.now }
+    ensures { Outcome M.holds M.has_failed M.empties contents.now.limit state.old gathered.old state.new gathered.new (section_bytes (debug_section (ordered_in contents.now))) result }
 {
+    let numbering = contents.numbering;
+    let written = contents.layout.debugs().written();
     for debug in written {
         let item = DebugProgram { numbering, debug };
-        pass::<DebugProgram, S, M>(&item, limit, gathered, state)?;
+        pass::<DebugProgram, S, M>(&item, contents.limit, gathered, state)?;
     }
     Ok(())
 }

@@ -2,21 +2,22 @@
 //!
 //! Source: the heading "annotations_directory_item" of the Android page "Dalvik Executable format".
 
-ghost use Rattle.std.specs.Prelude.{◌≡◌, ◌≤◌, ◌^◌, ◌==◌, ◌&&◌, false, length};
-ghost use Rattle.dexspec.specs.Lists.{present};
-ghost use Rattle.dexspec.specs.Placing.{bytes_from, end_from};
+ghost use Rattle.std.specs.Prelude.{◌≡◌, ◌==◌, ◌&&◌, false, length};
+ghost use Rattle.dexspec.specs.Placing.{section_bytes};
+ghost use Rattle.dexspec.specs.Canonical.{directory_section};
 ghost use Rattle.dexmembers.specs.DirectoryPut.{numbered_directory_bytes};
 ghost use Rattle.dexmembers.specs.Numbered.{fields_of};
-ghost use Rattle.dexcanon.specs.Codes.{class_methods};
-ghost use Rattle.dexcanon.specs.Directories.{HaveOffsets, class_directories, class_fields};
-ghost use Rattle.dexcanon.specs.Taking.{AreWithin, Outcome};
+ghost use Rattle.dexcanon.specs.Directories.{HaveOffsets};
+ghost use Rattle.dexcanon.specs.Ready.{CanBeMade, ordered_in};
+ghost use Rattle.dexcanon.specs.Taking.{Outcome};
 
 use crate::codes::method_count;
+use crate::contents::Contents;
 use crate::faults::StoreFault;
 use crate::items::Item;
 use crate::taking::{Takes, pass_aligned};
-use dexclass::Class;
 use dexmembers::Members;
+use dexpool::number_law;
 use std::alloc::AllocError;
 
 // A directory without entries has so many bytes.
@@ -71,33 +72,25 @@ fn field_count(members: &Members<'_>) -> usize
     members.static_fields().len() + members.instance_fields().len()
 }
 
-/// The directories of classes, from a place on, from the offset of the own set of each class, those of the sets of the
-/// fields of all classes in turn, those of the sets of the methods, and those of the lists of the methods.
+/// The directories of the classes.
 pub(crate) fn put_directories<S, M: Takes<S>>(
-    classes: &[Class<'_>],
-    own_offs: &[u32],
-    field_offs: &[u32],
-    method_offs: &[u32],
-    list_offs: &[u32],
-    from: u32,
-    limit: usize,
+    contents: &Contents<'_, '_, '_, '_>,
     gathered: &mut Vec<u8>,
     state: &mut S,
 ) -> Result<(), StoreFault>
     requires works { M.has_failed state.old ≡ false }
-    requires least { 112 ≤ limit }
-    requires own { length classes.now ≤ length own_offs.now }
-    requires fields { length (class_fields classes.now) ≤ length field_offs.now }
-    requires methods { length (class_methods classes.now) ≤ length method_offs.now }
-    requires lists { length (class_methods classes.now) ≤ length list_offs.now }
-    requires within { AreWithin limit (present (class_directories classes.now own_offs.now field_offs.now method_offs.now list_offs.now)) }
-    requires fits { end_from 4 from (present (class_directories classes.now own_offs.now field_offs.now method_offs.now list_offs.now)) ≤ 2 ^ 30 }
-    ensures { Outcome M.holds M.has_failed M.empties limit state.old gathered.old state.new gathered.new (bytes_from 4 from (present (class_directories classes.now own_offs.now field_offs.now method_offs.now list_offs.now))) result }
+    requires ready { CanBeMade contents.now }
+    ensures { Outcome M.holds M.has_failed M.empties contents.now.limit state.old gathered.old state.new gathered.new (section_bytes (directory_section (ordered_in contents.now))) result }
 {
-    let mut at = from;
-    let mut fields = field_offs;
-    let mut methods = method_offs;
-    let mut lists = list_offs;
+    number_law();
+    let classes = contents.classes;
+    let sets = contents.layout.sets();
+    let places = contents.layout.ref_lists();
+    let own_offs = sets.own();
+    let mut fields = sets.fields();
+    let mut methods = sets.methods();
+    let mut lists = places.offsets();
+    let mut at = places.end();
     for i in 0..classes.len() {
         let members = classes[i].members();
         let count = method_count(members);
@@ -117,7 +110,7 @@ pub(crate) fn put_directories<S, M: Takes<S>>(
         if item.is_empty() {
             continue;
         }
-        at = pass_aligned::<DirectoryItem, S, M>(&item, at, limit, gathered, state)?;
+        at = pass_aligned::<DirectoryItem, S, M>(&item, at, contents.limit, gathered, state)?;
     }
     Ok(())
 }

@@ -3,13 +3,12 @@
 ghost use Rattle.std.specs.Prelude.{◌≡◌, ◌<◌, ◌≤◌, ◌++◌, false, true, drop, vec_len, vec_capacity, OnOk, OnErr};
 ghost use Rattle.dexhead.specs.Laid.{behind_header};
 ghost use Rattle.dexhead.specs.Written.{head_bytes};
-ghost use Rattle.dexlayout.specs.Laid.{ordered_of};
-ghost use Rattle.dexcanon.specs.Ready.{IsReady};
+ghost use Rattle.dexcanon.specs.Ready.{CanBeMade, ordered_in};
 ghost use Rattle.dexcanon.specs.Taking.{Outcome};
 
 use crate::body::put_body;
+use crate::contents::Contents;
 use crate::faults::StoreFault;
-use crate::sections::Contents;
 use crate::taking::Takes;
 use dexhead::Head;
 use std::alloc::AllocError;
@@ -33,19 +32,18 @@ pub(crate) fn put_file<S, M: Takes<S>>(
     head: &Head,
     from: usize,
     contents: &Contents<'_, '_, '_, '_>,
-    limit: usize,
     gathered: &mut Vec<u8>,
     state: &mut S,
 ) -> Result<(), StoreFault>
     requires works { M.has_failed state.old ≡ false }
     requires within { from ≤ 112 }
     requires empty { vec_len gathered.old ≡ 0 }
-    requires ready { IsReady contents.now.numbering.now contents.now.classes.now contents.now.layout.now limit }
-    ensures outcome { Outcome M.holds M.has_failed M.empties limit state.old gathered.old state.new gathered.new (drop from (head_bytes head.now) ++ behind_header (ordered_of contents.now.numbering.now contents.now.classes.now)) result }
+    requires ready { CanBeMade contents.now }
+    ensures outcome { Outcome M.holds M.has_failed M.empties contents.now.limit state.old gathered.old state.new gathered.new (drop from (head_bytes head.now) ++ behind_header (ordered_in contents.now)) result }
     ensures emptied { OnOk result (M.empties ≡ true → vec_len gathered.new ≡ 0) }
 {
     put_head(head, from, gathered)?;
-    put_body::<S, M>(contents, limit, gathered, state)?;
+    put_body::<S, M>(contents, gathered, state)?;
     M::take(state, gathered)?;
     Ok(())
 }

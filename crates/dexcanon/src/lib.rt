@@ -4,12 +4,12 @@
 //! project's rule.
 #![tactic(auto)]
 
-mod annotation_sections;
 mod annotations;
 mod body;
 mod class_data;
 mod class_defs;
 mod codes;
+mod contents;
 mod debugs;
 mod directories;
 mod faults;
@@ -21,7 +21,6 @@ mod makings;
 mod map;
 mod outputs;
 mod ref_lists;
-mod sections;
 mod sets;
 mod static_values;
 mod strings;

@@ -3,15 +3,17 @@
 //! Source: the heading "annotation_set_ref_list" of the Android page "Dalvik Executable format".
 
 ghost use Rattle.std.specs.Prelude.{◌≡◌, ◌≤◌, ◌^◌, false, length, drop, IfOk};
-ghost use Rattle.dexspec.specs.Placing.{bytes_from, end_from};
+ghost use Rattle.dexspec.specs.Placing.{bytes_from, end_from, section_bytes};
+ghost use Rattle.dexspec.specs.Canonical.{ref_list_section};
 ghost use Rattle.dexmembers.specs.Numbered.{methods_of};
-ghost use Rattle.dexcanon.specs.RefLists.{class_parameter_counts, parameter_counts, ref_lists, total};
+ghost use Rattle.dexcanon.specs.Ready.{CanBeMade, ordered_in};
+ghost use Rattle.dexcanon.specs.RefLists.{parameter_counts, ref_lists, total};
 ghost use Rattle.dexcanon.specs.Taking.{AreWithin, Outcome};
 
+use crate::contents::Contents;
 use crate::faults::StoreFault;
 use crate::items::OffsetList;
 use crate::taking::{Takes, pass_aligned};
-use dexclass::Class;
 use dexmembers::{Members, Method};
 
 // The lists of methods, from a place on, from the offsets of all sets in turn. Where they end is answered, and the
@@ -70,27 +72,29 @@ fn put_member_lists<'o, S, M: Takes<S>>(
     put_method_lists::<S, M>(others, rest, at, limit, gathered, state)
 }
 
-/// The lists of the methods of classes, from a place on, from the offsets of the sets of all parameters in turn.
+/// The lists of the sets of the parameters of the methods of the classes.
 pub(crate) fn put_ref_lists<S, M: Takes<S>>(
-    classes: &[Class<'_>],
-    set_offs: &[u32],
-    from: u32,
-    limit: usize,
+    contents: &Contents<'_, '_, '_, '_>,
     gathered: &mut Vec<u8>,
     state: &mut S,
 ) -> Result<(), StoreFault>
     requires works { M.has_failed state.old ≡ false }
-    requires least { 112 ≤ limit }
-    requires offsets { total (class_parameter_counts classes.now) ≤ length set_offs.now }
-    requires within { AreWithin limit (ref_lists (class_parameter_counts classes.now) set_offs.now) }
-    requires fits { end_from 4 from (ref_lists (class_parameter_counts classes.now) set_offs.now) ≤ 2 ^ 30 }
-    ensures { Outcome M.holds M.has_failed M.empties limit state.old gathered.old state.new gathered.new (bytes_from 4 from (ref_lists (class_parameter_counts classes.now) set_offs.now)) result }
+    requires ready { CanBeMade contents.now }
+    ensures { Outcome M.holds M.has_failed M.empties contents.now.limit state.old gathered.old state.new gathered.new (section_bytes (ref_list_section (ordered_in contents.now))) result }
 {
-    let mut at = from;
-    let mut rest = set_offs;
-    for class in classes {
+    let sets = contents.layout.sets();
+    let mut rest = sets.parameters();
+    let mut at = sets.end();
+    for class in contents.classes {
         let members = class.members();
-        let (end, others) = put_member_lists::<S, M>(members, rest, at, limit, gathered, state)?;
+        let (end, others) = put_member_lists::<S, M>(
+            members,
+            rest,
+            at,
+            contents.limit,
+            gathered,
+            state,
+        )?;
         at = end;
         rest = others;
     }

@@ -2,14 +2,17 @@
 //!
 //! Source: the heading "annotation_set_item" of the Android page "Dalvik Executable format".
 
-ghost use Rattle.std.specs.Prelude.{◌≡◌, ◌≤◌, ◌<◌, ◌^◌, false, length, map, All};
+ghost use Rattle.std.specs.Prelude.{◌≡◌, false};
 ghost use Rattle.dexspec.specs.Spellings.{offsets_bytes};
-ghost use Rattle.dexspec.specs.Placing.{bytes_from, end_from};
+ghost use Rattle.dexspec.specs.Placing.{section_bytes};
+ghost use Rattle.dexspec.specs.Canonical.{set_section};
 ghost use Rattle.dexval.specs.Code.{set_of};
-ghost use Rattle.dexval.specs.Numbered.{IsKnownSet, set_in};
-ghost use Rattle.dexcanon.specs.Sets.{IsFitSet, offsets_of_set, offsets_of_sets};
-ghost use Rattle.dexcanon.specs.Taking.{AreWithin, Outcome};
+ghost use Rattle.dexval.specs.Numbered.{set_in};
+ghost use Rattle.dexcanon.specs.Sets.{IsFitSet, offsets_of_set};
+ghost use Rattle.dexcanon.specs.Ready.{CanBeMade, ordered_in};
+ghost use Rattle.dexcanon.specs.Taking.{Outcome};
 
+use crate::contents::Contents;
 use crate::faults::StoreFault;
 use crate::items::Item;
 use crate::taking::{Takes, pass_aligned};
@@ -40,33 +43,28 @@ impl Item for SetItem<'_, '_> {
     }
 }
 
-/// The sets that are written, from a place on, from where the first annotation of each stands.
+/// The sets of annotations.
 pub(crate) fn put_sets<S, M: Takes<S>>(
-    numbering: &Numbering<'_>,
-    written: &[&AnnotationSet],
-    firsts: &[u32],
-    from: u32,
-    limit: usize,
+    contents: &Contents<'_, '_, '_, '_>,
     gathered: &mut Vec<u8>,
     state: &mut S,
 ) -> Result<(), StoreFault>
     requires works { M.has_failed state.old ≡ false }
-    requires least { 112 ≤ limit }
-    requires known { All (IsKnownSet numbering.now) (map (λ s. set_of s.now) written.now) }
-    requires firsts { length firsts.now ≡ length written.now }
-    requires small { All (All (λ o. o < 2 ^ 32)) (offsets_of_sets numbering.now firsts.now (map (set_in numbering.now) (map (λ s. set_of s.now) written.now))) }
-    requires within { AreWithin limit (map offsets_bytes (offsets_of_sets numbering.now firsts.now (map (set_in numbering.now) (map (λ s. set_of s.now) written.now)))) }
-    requires fits { end_from 4 from (map offsets_bytes (offsets_of_sets numbering.now firsts.now (map (set_in numbering.now) (map (λ s. set_of s.now) written.now)))) ≤ 2 ^ 30 }
-    ensures { Outcome M.holds M.has_failed M.empties limit state.old gathered.old state.new gathered.new (bytes_from 4 from (map offsets_bytes (offsets_of_sets numbering.now firsts.now (map (set_in numbering.now) (map (λ s. set_of s.now) written.now))))) result }
+    requires ready { CanBeMade contents.now }
+    ensures { Outcome M.holds M.has_failed M.empties contents.now.limit state.old gathered.old state.new gathered.new (section_bytes (set_section (ordered_in contents.now))) result }
 {
-    let mut at = from;
+    let numbering = contents.numbering;
+    let places = contents.layout.annotations();
+    let written = places.written();
+    let firsts = places.places().offsets();
+    let mut at = contents.layout.class_data().end();
     for (i, set) in written.iter().enumerate() {
         let item = SetItem {
             numbering,
             set,
             first: firsts[i],
         };
-        at = pass_aligned::<SetItem, S, M>(&item, at, limit, gathered, state)?;
+        at = pass_aligned::<SetItem, S, M>(&item, at, contents.limit, gathered, state)?;
     }
     Ok(())
 }

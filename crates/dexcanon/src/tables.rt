@@ -3,18 +3,20 @@
 //! Source: the headings "string_id_item", "type_id_item", "proto_id_item", "field_id_item" and "method_id_item" of the Android page
 //! "Dalvik Executable format".
 
-ghost use Rattle.std.specs.Prelude.{◌≡◌, ◌≤◌, ◌<◌, ◌^◌, false, length};
+ghost use Rattle.std.specs.Prelude.{◌≡◌, ◌≤◌, false, length};
 ghost use Rattle.std.specs.List.{flat_map, concat};
 ghost use Rattle.dexspec.specs.Lists.{zip_with};
 ghost use Rattle.dexspec.specs.Bytes.{uint};
 ghost use Rattle.dexspec.specs.Spellings.{text_index};
 ghost use Rattle.dexspec.specs.Canonical.{proto_row_bytes, field_row_bytes, method_row_bytes};
+ghost use Rattle.dexcanon.specs.Ready.{CanBeMade};
 ghost use Rattle.dexcanon.specs.Taking.{Outcome};
 
+use crate::contents::Contents;
 use crate::faults::StoreFault;
 use crate::items::{MemberRow, Number, Numbers};
 use crate::taking::{Takes, pass};
-use dexpool::{Numbering, SymbolKind};
+use dexpool::{SymbolKind, number_law};
 
 /// The rows of the texts, from where each stands.
 pub(crate) fn put_string_ids<S, M: Takes<S>>(
@@ -35,42 +37,39 @@ pub(crate) fn put_string_ids<S, M: Takes<S>>(
 
 /// The rows of the types.
 pub(crate) fn put_type_ids<S, M: Takes<S>>(
-    numbering: &Numbering<'_>,
-    limit: usize,
+    contents: &Contents<'_, '_, '_, '_>,
     gathered: &mut Vec<u8>,
     state: &mut S,
 ) -> Result<(), StoreFault>
     requires works { M.has_failed state.old ≡ false }
-    requires least { 112 ≤ limit }
-    requires few { length numbering.now.texts < 2 ^ 32 }
-    ensures { Outcome M.holds M.has_failed M.empties limit state.old gathered.old state.new gathered.new (flat_map (λ t. uint (text_index numbering.now t)) numbering.now.types) result }
+    requires ready { CanBeMade contents.now }
+    ensures { Outcome M.holds M.has_failed M.empties contents.now.limit state.old gathered.old state.new gathered.new (flat_map (λ t. uint (text_index contents.now.numbering.now t)) contents.now.numbering.now.types) result }
 {
+    let numbering = contents.numbering;
     numbering.is_numbering();
-    dexpool::number_law();
+    number_law();
     for i in 0..numbering.count(SymbolKind::Typ) {
         let row = Number(numbering.descriptor(i) as u32);
-        pass::<Number, S, M>(&row, limit, gathered, state)?;
+        pass::<Number, S, M>(&row, contents.limit, gathered, state)?;
     }
     Ok(())
 }
 
 /// The rows of the protos, from where the parameters of each are listed.
 pub(crate) fn put_proto_ids<S, M: Takes<S>>(
-    numbering: &Numbering<'_>,
+    contents: &Contents<'_, '_, '_, '_>,
     list_offs: &[u32],
-    limit: usize,
     gathered: &mut Vec<u8>,
     state: &mut S,
 ) -> Result<(), StoreFault>
     requires works { M.has_failed state.old ≡ false }
-    requires least { 112 ≤ limit }
-    requires few_texts { length numbering.now.texts < 2 ^ 32 }
-    requires few_types { length numbering.now.types < 2 ^ 32 }
-    requires lists { length list_offs.now ≡ length numbering.now.protos }
-    ensures { Outcome M.holds M.has_failed M.empties limit state.old gathered.old state.new gathered.new (concat (zip_with (proto_row_bytes numbering.now) numbering.now.protos list_offs.now)) result }
+    requires ready { CanBeMade contents.now }
+    requires lists { length list_offs.now ≡ length contents.now.numbering.now.protos }
+    ensures { Outcome M.holds M.has_failed M.empties contents.now.limit state.old gathered.old state.new gathered.new (concat (zip_with (proto_row_bytes contents.now.numbering.now) contents.now.numbering.now.protos list_offs.now)) result }
 {
+    let numbering = contents.numbering;
     numbering.is_numbering();
-    dexpool::number_law();
+    number_law();
     for i in 0..numbering.count(SymbolKind::Proto) {
         let proto = numbering.proto(i);
         let row = [
@@ -78,26 +77,24 @@ pub(crate) fn put_proto_ids<S, M: Takes<S>>(
             proto.return_type() as u32,
             list_offs[i],
         ];
-        pass::<Numbers, S, M>(&Numbers(&row), limit, gathered, state)?;
+        pass::<Numbers, S, M>(&Numbers(&row), contents.limit, gathered, state)?;
     }
     Ok(())
 }
 
 /// The rows of the fields.
 pub(crate) fn put_field_ids<S, M: Takes<S>>(
-    numbering: &Numbering<'_>,
-    limit: usize,
+    contents: &Contents<'_, '_, '_, '_>,
     gathered: &mut Vec<u8>,
     state: &mut S,
 ) -> Result<(), StoreFault>
     requires works { M.has_failed state.old ≡ false }
-    requires least { 112 ≤ limit }
-    requires few_texts { length numbering.now.texts < 2 ^ 32 }
-    requires few_types { length numbering.now.types ≤ 65536 }
-    ensures { Outcome M.holds M.has_failed M.empties limit state.old gathered.old state.new gathered.new (flat_map (field_row_bytes numbering.now) numbering.now.fields) result }
+    requires ready { CanBeMade contents.now }
+    ensures { Outcome M.holds M.has_failed M.empties contents.now.limit state.old gathered.old state.new gathered.new (flat_map (field_row_bytes contents.now.numbering.now) contents.now.numbering.now.fields) result }
 {
+    let numbering = contents.numbering;
     numbering.is_numbering();
-    dexpool::number_law();
+    number_law();
     for i in 0..numbering.count(SymbolKind::Field) {
         let field = numbering.field(i);
         let row = MemberRow {
@@ -105,27 +102,24 @@ pub(crate) fn put_field_ids<S, M: Takes<S>>(
             second: field.typ as u16,
             name: field.name as u32,
         };
-        pass::<MemberRow, S, M>(&row, limit, gathered, state)?;
+        pass::<MemberRow, S, M>(&row, contents.limit, gathered, state)?;
     }
     Ok(())
 }
 
 /// The rows of the methods.
 pub(crate) fn put_method_ids<S, M: Takes<S>>(
-    numbering: &Numbering<'_>,
-    limit: usize,
+    contents: &Contents<'_, '_, '_, '_>,
     gathered: &mut Vec<u8>,
     state: &mut S,
 ) -> Result<(), StoreFault>
     requires works { M.has_failed state.old ≡ false }
-    requires least { 112 ≤ limit }
-    requires few_texts { length numbering.now.texts < 2 ^ 32 }
-    requires few_types { length numbering.now.types ≤ 65536 }
-    requires few_protos { length numbering.now.protos ≤ 65536 }
-    ensures { Outcome M.holds M.has_failed M.empties limit state.old gathered.old state.new gathered.new (flat_map (method_row_bytes numbering.now) numbering.now.methods) result }
+    requires ready { CanBeMade contents.now }
+    ensures { Outcome M.holds M.has_failed M.empties contents.now.limit state.old gathered.old state.new gathered.new (flat_map (method_row_bytes contents.now.numbering.now) contents.now.numbering.now.methods) result }
 {
+    let numbering = contents.numbering;
     numbering.is_numbering();
-    dexpool::number_law();
+    number_law();
     for i in 0..numbering.count(SymbolKind::Method) {
         let method = numbering.method(i);
         let row = MemberRow {
@@ -133,7 +127,7 @@ pub(crate) fn put_method_ids<S, M: Takes<S>>(
             second: method.proto as u16,
             name: method.name as u32,
         };
-        pass::<MemberRow, S, M>(&row, limit, gathered, state)?;
+        pass::<MemberRow, S, M>(&row, contents.limit, gathered, state)?;
     }
     Ok(())
 }

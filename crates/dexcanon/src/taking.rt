@@ -30,21 +30,24 @@ pub(crate) trait Takes<S> {
         ensures capacity { OnOk result (vec_capacity gathered.old ≤ vec_capacity gathered.new) };
 }
 
-/// Puts an item behind what gathered, which is taken before where the two are longer than the limit.
+/// Puts an item behind what gathered, which is taken before where the two are longer than the limit. How many bytes the
+/// item has is answered.
 pub(crate) fn pass<I: Item, S, M: Takes<S>>(
     part: &I,
     limit: usize,
     gathered: &mut Vec<u8>,
     state: &mut S,
-) -> Result<(), StoreFault>
+) -> Result<usize, StoreFault>
     requires fits { I.fits part.now }
     requires works { M.has_failed state.old ≡ false }
     requires within { length (I.bytes part.now) ≤ limit }
-    ensures { Outcome M.holds M.has_failed M.empties limit state.old gathered.old state.new gathered.new (I.bytes part.now) result }
+    ensures len { IfOk result (λ len. len ≡ length (I.bytes part.now)) }
+    ensures outcome { Outcome M.holds M.has_failed M.empties limit state.old gathered.old state.new gathered.new (I.bytes part.now) result }
 {
-    make_room::<S, M>(part.len(), limit, gathered, state)?;
+    let len = part.len();
+    make_room::<S, M>(len, limit, gathered, state)?;
     part.put(gathered)?;
-    Ok(())
+    Ok(len)
 }
 
 // Takes what gathered where so many bytes behind it are more than the limit.
@@ -86,8 +89,8 @@ pub(crate) fn pass_aligned<I: Item, S, M: Takes<S>>(
     ensures outcome { Outcome M.holds M.has_failed M.empties limit state.old gathered.old state.new gathered.new (padding 4 at ++ I.bytes part.now) result }
 {
     let start = pass_zeros::<S, M>(at, limit, gathered, state)?;
-    pass::<I, S, M>(part, limit, gathered, state)?;
-    Ok(start + part.len() as u32)
+    let len = pass::<I, S, M>(part, limit, gathered, state)?;
+    Ok(start + len as u32)
 }
 
 /// Puts zeros up to a multiple of 4, which is answered.

@@ -6,11 +6,14 @@ ghost use Rattle.std.specs.Prelude.{◌≡◌, ℕ, ◌≤◌, ◌<◌, ◌+◌,
 ghost use Rattle.std.specs.List.{flat_map};
 ghost use Rattle.dexspec.specs.Bytes.{ushort};
 ghost use Rattle.dexspec.specs.Spellings.{type_list_bytes};
-ghost use Rattle.dexspec.specs.Placing.{bytes_from, end_from};
+ghost use Rattle.dexspec.specs.Placing.{section_bytes};
+ghost use Rattle.dexspec.specs.Canonical.{type_list_section};
 ghost use Rattle.dexspec.specs.Aside.Writing.{Puts};
-ghost use Rattle.dexcanon.specs.Taking.{AreWithin, Outcome};
+ghost use Rattle.dexcanon.specs.Ready.{CanBeMade, ordered_in};
+ghost use Rattle.dexcanon.specs.Taking.{Outcome};
 ghost use Rattle.dexcanon.specs.TypeLists.{types_at, list_bytes, AreFewTypes};
 
+use crate::contents::Contents;
 use crate::faults::StoreFault;
 use crate::items::{Item, push_u16, push_u32};
 use crate::taking::{Takes, pass_aligned};
@@ -68,27 +71,22 @@ impl Item for TypeList<'_, '_> {
     }
 }
 
-/// The type lists that are written, from a place on.
+/// The type lists.
 pub(crate) fn put_type_lists<S, M: Takes<S>>(
-    numbering: &Numbering<'_>,
-    written: &[TypeNumbers<'_>],
-    from: u32,
-    limit: usize,
+    contents: &Contents<'_, '_, '_, '_>,
     gathered: &mut Vec<u8>,
     state: &mut S,
 ) -> Result<(), StoreFault>
     requires works { M.has_failed state.old ≡ false }
-    requires least { 112 ≤ limit }
-    requires known { All (All (λ i. i < length numbering.now.types)) written.now }
-    requires few { length numbering.now.types ≤ 65536 }
-    requires within { AreWithin limit (map (type_list_bytes numbering.now) (map (types_at numbering.now) written.now)) }
-    requires fits { end_from 4 from (map (type_list_bytes numbering.now) (map (types_at numbering.now) written.now)) ≤ 2 ^ 30 }
-    ensures { Outcome M.holds M.has_failed M.empties limit state.old gathered.old state.new gathered.new (bytes_from 4 from (map (type_list_bytes numbering.now) (map (types_at numbering.now) written.now))) result }
+    requires ready { CanBeMade contents.now }
+    ensures { Outcome M.holds M.has_failed M.empties contents.now.limit state.old gathered.old state.new gathered.new (section_bytes (type_list_section (ordered_in contents.now))) result }
 {
-    let mut at = from;
+    let numbering = contents.numbering;
+    let written = contents.layout.type_lists().written();
+    let mut at = contents.layout.head().data_off;
     for types in written {
         let list = TypeList { numbering, types };
-        at = pass_aligned::<TypeList, S, M>(&list, at, limit, gathered, state)?;
+        at = pass_aligned::<TypeList, S, M>(&list, at, contents.limit, gathered, state)?;
     }
     Ok(())
 }

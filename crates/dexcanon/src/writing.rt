@@ -8,19 +8,18 @@ ghost use Rattle.dexspec.specs.Accepted.{IsAccepted};
 ghost use Rattle.dexspec.specs.Canonical.{canonical, with_sums, unsigned_file};
 ghost use Rattle.dexhead.specs.Laid.{behind_header};
 ghost use Rattle.dexhead.specs.Written.{head_bytes};
-ghost use Rattle.dexlayout.specs.Laid.{ordered_of};
-ghost use Rattle.dexcanon.specs.Ready.{IsReady};
+ghost use Rattle.dexcanon.specs.Ready.{CanBeMade, ordered_in};
 ghost use Rattle.dexcanon.specs.Taking.{HasRoom};
 ghost use Rattle.dexcanon.specs.Written.{HasLeft};
 ghost use Rattle.dexcanon.specs.declared.faults.StoreFault.TheVariants.{Io};
 
 use crate::body::put_body;
+use crate::contents::Contents;
 use crate::faults::StoreFault;
 use crate::files::put_file;
 use crate::joined::joined_adler;
 use crate::kept::{Keeps, Nothing};
 use crate::makings::{Adds, Sums, Writes};
-use crate::sections::Contents;
 use dexclass::Program;
 use dexhead::{Adler, Head, Sink, adler, set_sums};
 use dexlayout::Layout;
@@ -44,15 +43,16 @@ pub fn to_bytes(alloc: Global, program: &Program<'_>) -> Result<Vec<u8>, AllocEr
     dexlaws_normal::normal_form();
     dexhead::laws::file_law();
     let layout = Layout::of(alloc, program)?;
+    let len = layout.len() as usize;
     let contents = Contents {
         numbering: program.numbering(),
         classes: program.classes(),
         layout: &layout,
+        limit: len,
     };
-    let len = layout.len() as usize;
     let mut file = Vec::with_capacity(alloc, len)?;
     layout.head().put(&mut file)?;
-    match put_body::<Nothing, Keeps>(&contents, len, &mut file, &mut Nothing) {
+    match put_body::<Nothing, Keeps>(&contents, &mut file, &mut Nothing) {
         Ok(()) => {}
         Err(_) => return Err(AllocError),
     }
@@ -79,15 +79,16 @@ pub fn write_to<W: Sink>(
     ensures device { IsErrOf result Io ↔ (W.has_failed out.new ≡ true) }
 {
     let layout = Layout::of(alloc, program)?;
+    let limit = piece_limit(&layout);
     let contents = Contents {
         numbering: program.numbering(),
         classes: program.classes(),
         layout: &layout,
+        limit,
     };
-    let limit = piece_limit(&layout);
     let mut gathered = Vec::with_capacity(alloc, limit)?;
-    let head = sealed_head(&contents, limit, &mut gathered);
-    put_file::<W, Writes>(&head, 0, &contents, limit, &mut gathered, out)
+    let head = sealed_head(&contents, &mut gathered);
+    put_file::<W, Writes>(&head, 0, &contents, &mut gathered, out)
 }
 
 // How many bytes gather at most: those of the file, or of a piece of it, or of its longest item.
@@ -98,12 +99,12 @@ fn piece_limit(layout: &Layout<'_>) -> usize
 }
 
 // The header of a file with its two sums, for which the file is made through a vector with room.
-fn sealed_head(contents: &Contents<'_, '_, '_, '_>, limit: usize, gathered: &mut Vec<u8>) -> Head
-    requires ready { IsReady contents.now.numbering.now contents.now.classes.now contents.now.layout.now limit }
-    requires room { HasRoom true limit gathered.old }
+fn sealed_head(contents: &Contents<'_, '_, '_, '_>, gathered: &mut Vec<u8>) -> Head
+    requires ready { CanBeMade contents.now }
+    requires room { HasRoom true contents.now.limit gathered.old }
     requires empty { vec_len gathered.old ≡ 0 }
-    ensures bytes { head_bytes result ++ behind_header (ordered_of contents.now.numbering.now contents.now.classes.now) ≡ with_sums (unsigned_file (ordered_of contents.now.numbering.now contents.now.classes.now)) }
-    ensures room { HasRoom true limit gathered.new }
+    ensures bytes { head_bytes result ++ behind_header (ordered_in contents.now) ≡ with_sums (unsigned_file (ordered_in contents.now)) }
+    ensures room { HasRoom true contents.now.limit gathered.new }
     ensures empty { vec_len gathered.new ≡ 0 }
 {
     dexhead::laws::fields_law();
@@ -114,7 +115,7 @@ fn sealed_head(contents: &Contents<'_, '_, '_, '_>, limit: usize, gathered: &mut
         message: Sha1::new(),
         adler: Adler::new(),
     };
-    put_file::<Sums, Adds>(&head, 32, contents, limit, gathered, &mut sums).unwrap();
+    put_file::<Sums, Adds>(&head, 32, contents, gathered, &mut sums).unwrap();
     let Sums {
         message,
         adler: back,

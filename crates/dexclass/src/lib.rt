@@ -22,4 +22,4 @@ pub use classes::Class;
 pub use laws::{renumbering_law, same_law, uses_law};
 pub use programs::Program;
 pub use reading::read;
-pub use stripping::strip;
+pub use stripping::{into_stripped, strip};

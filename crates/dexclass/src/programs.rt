@@ -93,6 +93,19 @@ impl<'a> Program<'a> {
         classes
     }
 
+    /// The numbering of the program and its classes, moved out of it. No memory is taken.
+    pub(crate) fn into_parts(self) -> (Numbering<'a>, Vec<Class<'a>>)
+        ensures numbering { result.0 ≡ mentions (definitions self.entry) }
+        ensures classes { AreClassesOf self.entry result.1.items }
+    {
+        let Program {
+            numbering,
+            classes,
+            ..
+        } = self;
+        (numbering, classes)
+    }
+
     /// The numbering of just what the classes mention. No memory is taken.
     pub fn numbering(&self) -> &Numbering<'a>
         ensures { result.now ≡ mentions (definitions self.now) }

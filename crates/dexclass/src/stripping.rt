@@ -16,25 +16,39 @@ use dexlaws_strip::{strip_collection_law, strip_good, strip_merge_law};
 use dexmembers::members_stripped_law;
 use std::alloc::{AllocError, Global};
 
-// The class without its source text and its methods' debug programs.
-fn stripped<'a>(class: &Class<'a>) -> Result<Class<'a>, AllocError>
-    ensures { IfOk result (λ stripped. stripped ≡ stripped_class class.now) }
+// Drops the class's source text and its methods' debug programs.
+fn strip_class(class: &mut Class<'_>)
+    ensures { class.new ≡ stripped_class class.old }
 {
-    let mut stripped = class.copy()?;
-    stripped.source = None;
-    stripped.members.drop_debug();
-    Ok(stripped)
+    class.source = None;
+    class.members.drop_debug();
 }
 
-// The classes without their source texts and debug programs.
-fn all_stripped<'a>(alloc: Global, classes: &[Class<'a>]) -> Result<Vec<Class<'a>>, AllocError>
-    ensures { IfOk result (λ stripped. stripped.items ≡ map stripped_class classes.now) }
+// Drops the source texts and the debug programs of the classes.
+fn strip_all(classes: &mut Vec<Class<'_>>)
+    ensures { classes.new.items ≡ map stripped_class classes.old.items }
 {
-    let mut all = Vec::with_capacity(alloc, classes.len())?;
     for i in 0..classes.len() {
-        all.push(stripped(&classes[i])?)?;
+        strip_class(&mut classes[i]);
     }
-    Ok(all)
+}
+
+/// What [`strip`] makes of a program that is given up: its classes are changed in place, and not copied.
+///
+/// Error: the memory for the new numbering was refused.
+///
+/// Source: as of [`strip`].
+pub fn into_stripped<'a>(alloc: Global, program: Program<'a>) -> Result<Program<'a>, AllocError>
+    ensures { IfOk result (λ stripped. stripped ≡ strip_collection program.entry) }
+{
+    strip_collection_law();
+    strip_good();
+    members_stripped_law();
+    program.is_good();
+    let (numbering, mut classes) = program.into_parts();
+    strip_all(&mut classes);
+    let trimmed = trim(alloc, &numbering, &mut classes)?;
+    Program::of(alloc, trimmed, classes)
 }
 
 /// The program without its debug programs and source texts. The texts and types that only they mentioned leave the pools. What is
@@ -55,9 +69,6 @@ pub fn strip<'a>(alloc: Global, program: &Program<'a>) -> Result<Program<'a>, Al
     strip_collection_law();
     strip_good();
     strip_merge_law();
-    members_stripped_law();
     program.is_good();
-    let mut classes = all_stripped(alloc, program.classes())?;
-    let numbering = trim(alloc, program.numbering(), &mut classes)?;
-    Program::of(alloc, numbering, classes)
+    into_stripped(alloc, program.copy()?)
 }

@@ -52,13 +52,6 @@ true_cause caps apart collections plan (cause.Conflict name) holds = record { ca
 true_cause caps apart collections plan (cause.Cycle name) holds = record { cause = holds; bad = λ good. apart (planned collections plan) (merging.Cycle name) good holds.holds }
 true_cause caps apart collections plan (cause.Cap number) holds = record { cause = holds; bad = λ good. apart (planned collections plan) (merging.Exceeded holds.cap) good holds.holds.holds }
 
--- what is said of equal collections
-pub united_fault : (caps : Caps) (collections others : List Collection) (plan : Plan) (f : RunFault) → others ≡ collections → IsUnionFault caps others plan f → IsUnionFault caps collections plan f
-united_fault caps collections others plan f same fault = subst (λ ks. IsUnionFault caps ks plan f) same fault
-
-pub united_as : (caps : Caps) (collections others : List Collection) (plan : Plan) (K : Collection) → others ≡ collections → IsPlanned caps others plan K → IsPlanned caps collections plan K
-united_as caps collections others plan K same is = subst (λ ks. IsPlanned caps ks plan K) same is
-
 -- a fault of reading is one of uniting
 pub fault_of_reading : {R : Type 0} (tells : R → Type 0) (to_come : R → List ℕ) (inputs : List R) (caps : Caps) (plan : Plan) (f : RunFault) →
     IsPlanFor (length inputs) plan → IsReadEachFault tells to_come inputs f → IsUnitedFault tells to_come inputs caps plan f

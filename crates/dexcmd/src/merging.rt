@@ -13,10 +13,10 @@ ghost use Rattle.dexcmd.specs.Runs.{AllWork, IsLeft};
 use crate::faults::{MergeCause, RunFault};
 use crate::inputs::{InputFault, read_whole};
 use dexcanon::{StoreFault, write_to};
-use dexclass::{Program, strip};
+use dexclass::{Program, into_stripped};
 use dexhead::{Sink, Source};
 use dexlaws_normal::normal_form;
-use dexmerge::{Caps, MergeFault, Plan, PlanFault, is_plan_for, merge_plan};
+use dexmerge::{Caps, MergeFault, Plan, PlanFault, is_plan_for, merge_files};
 use dexpool::ReadFault;
 use std::alloc::{AllocError, Global};
 
@@ -64,14 +64,14 @@ fn read_each<'a, R: Source>(
 // The collection of what a plan names.
 fn united<'a>(
     alloc: Global,
-    programs: &[Program<'a>],
+    programs: Vec<Program<'a>>,
     plan: &Plan,
     caps: &Caps,
 ) -> Result<Program<'a>, RunFault>
-    ensures united { IfOk result (IsPlanned caps.now programs.now (plan_of plan.now)) }
-    ensures fault { IfErr result (IsUnionFault caps.now programs.now (plan_of plan.now)) }
+    ensures united { IfOk result (IsPlanned caps.now programs.entry.items (plan_of plan.now)) }
+    ensures fault { IfErr result (IsUnionFault caps.now programs.entry.items (plan_of plan.now)) }
 {
-    match merge_plan(alloc, programs, plan, caps) {
+    match merge_files(alloc, programs, plan, caps) {
         Ok(program) => Ok(program),
         Err(PlanFault::BadPlan) => Err(RunFault::Plan),
         Err(PlanFault::Merge(MergeFault::Conflict(name))) => {
@@ -109,7 +109,7 @@ fn read_united<'a, R: Source>(
         Ok(programs) => programs,
         Err(fault) => return Err(fault),
     };
-    united(alloc, &programs, plan, caps)
+    united(alloc, programs, plan, caps)
 }
 
 // Writes the canonical file of a program, which is accepted as just what the program holds.
@@ -207,6 +207,6 @@ pub fn merge_strip_run<R: Source, W: Sink>(
         Ok(whole) => whole,
         Err(fault) => return Err(fault),
     };
-    let stripped = strip(alloc, &whole)?;
+    let stripped = into_stripped(alloc, whole)?;
     write_program(alloc, &stripped, out)
 }

@@ -31,7 +31,7 @@ units_length ps = ushorts_length (flat_map numbered_units ps)
 try_length : (hs : List NumberedHandler) (t : NumberedTry) → length (numbered_try_bytes hs t) ≡ 8
 try_length hs t =
     let off = numbered_handler_off (length (uleb128 (length hs))) hs t.handler in
-    omega (arith, length-append (uint t.start) (ushort t.count ++ ushort off), length-append (ushort t.count) (ushort off), length-uint t.start, length-ushort t.count, length-ushort off)
+    omega (arith, length-append (uint t.start_addr) (ushort t.insn_count ++ ushort off), length-append (ushort t.insn_count) (ushort off), length-uint t.start_addr, length-ushort t.insn_count, length-ushort off)
 
 pub tries_length : (hs : List NumberedHandler) (ts : List NumberedTry) → length (flat_map (numbered_try_bytes hs) ts) ≡ 8 * length ts
 tries_length hs [] = refl
@@ -59,7 +59,7 @@ catches_length : (cs : List Catch) → All (λ c. c.typ < 2 ^ 16) cs → length 
 catches_length [] all = omega arith
 catches_length (c ∷ cs) all =
     let small = All-head (λ (c : Catch). c.typ < 2 ^ 16) c cs all in
-    omega (arith, length-append (numbered_catch_bytes c) (flat_map numbered_catch_bytes cs), length-append (uleb128 c.typ) (uleb128 c.address), short_length c.typ small, uleb128-size c.address, catches_length cs (All-tail (λ (c : Catch). c.typ < 2 ^ 16) c cs all))
+    omega (arith, length-append (numbered_catch_bytes c) (flat_map numbered_catch_bytes cs), length-append (uleb128 c.typ) (uleb128 c.addr), short_length c.typ small, uleb128-size c.addr, catches_length cs (All-tail (λ (c : Catch). c.typ < 2 ^ 16) c cs all))
 
 catch_all_length : (o : Option ℕ) → length (flat_map uleb128 (option_to_list o)) ≤ 5
 catch_all_length None = omega arith
@@ -68,8 +68,8 @@ catch_all_length (Some address) = omega (arith, length-append (uleb128 address) 
 pub handler_length : (h : NumberedHandler) → HasShortTypes h → length (numbered_handler_bytes h) ≤ 10 + 8 * length h.catches
 handler_length h typed =
     let catches = flat_map numbered_catch_bytes h.catches in
-    let all = flat_map uleb128 (option_to_list h.catch_all) in
-    omega (arith, length-append (sleb128 (handler_count h)) (catches ++ all), length-append catches all, sleb128-size (handler_count h), catches_length h.catches typed, catch_all_length h.catch_all)
+    let all = flat_map uleb128 (option_to_list h.catch_all_addr) in
+    omega (arith, length-append (sleb128 (handler_count h)) (catches ++ all), length-append catches all, sleb128-size (handler_count h), catches_length h.catches typed, catch_all_length h.catch_all_addr)
 
 handlers_length : (hs : List NumberedHandler) → All HasShortTypes hs → 5 + length (flat_map numbered_handler_bytes hs) ≤ handlers_weight hs
 handlers_length [] typed = omega arith

@@ -66,7 +66,7 @@ tries_in_range m (t ∷ ts) (x ∷ xs) h = All-cons (IsInRange m) t.handler (map
 
 module _ (m : Mentions) (rising : AreRising m) where
   catch_bytes_are : (c : Catch) → c.typ < length m.types → spelled.catch_bytes m (catch_meant m c) ≡ numbered_catch_bytes c
-  catch_bytes_are c lt = ap (λ (n : ℕ). uleb128 n ++ uleb128 c.address) (rank-get_or text_cmp text_total m.types c.typ [] (Rises-from_rises text_cmp text_total m.types rising.types_rise) lt)
+  catch_bytes_are c lt = ap (λ (n : ℕ). uleb128 n ++ uleb128 c.addr) (rank-get_or text_cmp text_total m.types c.typ [] (Rises-from_rises text_cmp text_total m.types rising.types_rise) lt)
 
   catches_bytes_are : (cs : List Catch) → All (λ c. c.typ < length m.types) cs → flat_map (spelled.catch_bytes m) (map (catch_meant m) cs) ≡ flat_map numbered_catch_bytes cs
   catches_bytes_are [] all = refl
@@ -76,13 +76,13 @@ module _ (m : Mentions) (rising : AreRising m) where
       λ i. first i ++ rest i
 
   count_is : (h : NumberedHandler) → spelled.handler_count (handler_meant m h) ≡ handler_count h
-  count_is h = ap (λ (n : ℕ). option_map_or (λ address. pos 0 -ℤ pos n) h.catch_all (pos n)) (length-map h.catches (catch_meant m))
+  count_is h = ap (λ (n : ℕ). option_map_or (λ address. pos 0 -ℤ pos n) h.catch_all_addr (pos n)) (length-map h.catches (catch_meant m))
 
   handler_bytes_are : (h : NumberedHandler) → IsInRange m h → spelled.handler_bytes m (handler_meant m h) ≡ numbered_handler_bytes h
   handler_bytes_are h all =
       let count = count_is h in
       let catches = catches_bytes_are h.catches all in
-      λ i. sleb128 (count i) ++ (catches i ++ flat_map uleb128 (option_to_list h.catch_all))
+      λ i. sleb128 (count i) ++ (catches i ++ flat_map uleb128 (option_to_list h.catch_all_addr))
 
   handlers_bytes_are : (hs : List NumberedHandler) → All (IsInRange m) hs → flat_map (spelled.handler_bytes m) (map (handler_meant m) hs) ≡ flat_map numbered_handler_bytes hs
   handlers_bytes_are [] all = refl
@@ -111,7 +111,7 @@ module _ (m : Mentions) (rising : AreRising m) where
   try_bytes_are : (hs : List NumberedHandler) (t : NumberedTry) → All (IsInRange m) hs → IsInRange m t.handler → spelled.try_bytes m (map (handler_meant m) hs) (try_meant m t) ≡ numbered_try_bytes hs t
   try_bytes_are hs t all own =
       let off = ap (λ (n : ℕ). spelled.handler_off m (length (uleb128 n)) (map (handler_meant m) hs) (handler_meant m t.handler)) (length-map hs (handler_meant m)) ∙ off_is (length (uleb128 (length hs))) hs t.handler all own in
-      ap (λ (n : ℕ). uint t.start ++ (ushort t.count ++ ushort n)) off
+      ap (λ (n : ℕ). uint t.start_addr ++ (ushort t.insn_count ++ ushort n)) off
 
   all_try_bytes_are : (hs : List NumberedHandler) (ts : List NumberedTry) → All (IsInRange m) hs → All (IsInRange m) (map (λ t. t.handler) ts) → flat_map (spelled.try_bytes m (map (handler_meant m) hs)) (map (try_meant m) ts) ≡ flat_map (numbered_try_bytes hs) ts
   all_try_bytes_are hs [] all own = refl

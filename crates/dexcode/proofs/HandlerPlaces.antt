@@ -128,7 +128,7 @@ off_at from (h ∷ hs) (suc i) d apart lt =
 try_placed : (hs : List NumberedHandler) (places : List ℕ) (t : Try) → AreApart hs → ArePlaces hs places → t.handler < length hs → placed_try_bytes places t ≡ numbered_try_bytes hs (named hs t)
 try_placed hs places t apart are lt =
     let off = are.each t.handler lt ∙ sym (off_at (length (uleb128 (length hs))) hs t.handler no_handler apart lt) in
-    ap (λ (n : ℕ). uint t.start ++ (ushort t.count ++ ushort n)) off
+    ap (λ (n : ℕ). uint t.start_addr ++ (ushort t.insn_count ++ ushort n)) off
 
 pub tries_placed : (hs : List NumberedHandler) (places : List ℕ) (ts : List Try) → AreApart hs → ArePlaces hs places → All (λ t. t.handler < length hs) ts → flat_map (placed_try_bytes places) ts ≡ flat_map (numbered_try_bytes hs) (all_named hs ts)
 tries_placed hs places [] apart are all = refl

@@ -32,4 +32,4 @@ module _ (starts : List Bool) (types : ℕ) (b : List ℕ) (o : ℕ) (count : �
       let same = one_sequence (CatchAt starts types) (one_catch starts types) b (o + count_size) h.catches cs g.catches_size size len
       (subst (λ (i : ℕ). Sequence (CatchAt starts types) b (o + i) h.catches g.catches_size) e.1 g.catches_are) read.stand in
       let place : o + g.count_size + g.catches_size ≡ o + count_size + size = omega (arith, e.1, same.1) in
-      none h.catch_all g.all_size (subst (λ (i : ℕ). CatchAllAt starts count b i h.catch_all g.all_size) place (subst (λ (z : ℤ). CatchAllAt starts z b (o + g.count_size + g.catches_size) h.catch_all g.all_size) e.0 g.all))
+      none h.catch_all_addr g.all_size (subst (λ (i : ℕ). CatchAllAt starts count b i h.catch_all_addr g.all_size) place (subst (λ (z : ℤ). CatchAllAt starts z b (o + g.count_size + g.catches_size) h.catch_all_addr g.all_size) e.0 g.all))

@@ -61,10 +61,10 @@ module _ (m : Mentions) where
   ranked_piece (pieces.Payload us) = Payload us
 
   abbrev ranked_catch : symbolic.Catch → Catch
-  ranked_catch c = record { typ = type_rank c.type; address = c.address }
+  ranked_catch c = record { typ = type_rank c.type; addr = c.address }
 
   abbrev ranked_try : symbolic.Try → NumberedTry
-  ranked_try t = record { start = t.start; count = t.count; handler = record { catches = map ranked_catch t.handler.catches; catch_all = t.handler.catch_all } }
+  ranked_try t = record { start_addr = t.start; insn_count = t.count; handler = record { catches = map ranked_catch t.handler.catches; catch_all_addr = t.handler.catch_all } }
 
   abbrev ranked_operation : debugs.Operation → Operation
   ranked_operation (debugs.AdvancePc addresses) = AdvancePc addresses
@@ -104,12 +104,12 @@ module _ (m : Mentions) (ranks : RanksAreNumbers m) where
   piece_back (Payload us) h = refl
 
   catch_back : (c : Catch) → c.typ < length m.types → ranked_catch m (catch_meant m c) ≡ c
-  catch_back c lt = let typ = ranks.types_are c.typ [] lt in λ i. record { typ = typ i; address = c.address }
+  catch_back c lt = let typ = ranks.types_are c.typ [] lt in λ i. record { typ = typ i; addr = c.addr }
 
   try_back : (t : NumberedTry) → IsKnownTry m t → ranked_try m (try_meant m t) ≡ t
   try_back t h =
       let catches = all_back (catch_meant m) (ranked_catch m) (λ (c : Catch). c.typ < length m.types) catch_back t.handler.catches h in
-      λ i. record { start = t.start; count = t.count; handler = record { catches = catches i; catch_all = t.handler.catch_all } }
+      λ i. record { start_addr = t.start_addr; insn_count = t.insn_count; handler = record { catches = catches i; catch_all_addr = t.handler.catch_all_addr } }
 
   text_back : (o : Option ℕ) → IsKnownText m o → option_map (text_rank m) (option_map (text_at m) o) ≡ o
   text_back = one_back (text_at m) (text_rank m) (λ n. n < length m.texts) (λ n lt. ranks.texts_are n [] lt)

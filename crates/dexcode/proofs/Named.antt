@@ -47,7 +47,7 @@ known_more listed hs hs' more numbers place number known grown within lt is = re
 pub named_grown : (hs more : List NumberedHandler) (ts : List Try) → All (λ t. t.handler < length hs) ts → all_named (hs ++ more) ts ≡ all_named hs ts
 named_grown hs more [] all = refl
 named_grown hs more (t ∷ ts) all =
-    let first : named (hs ++ more) t ≡ named hs t = ap (λ (h : NumberedHandler). record { start = t.start; count = t.count; handler = h }) (get_or_append_left hs more no_handler t.handler (All-head (λ (x : Try). x.handler < length hs) t ts all)) in
+    let first : named (hs ++ more) t ≡ named hs t = ap (λ (h : NumberedHandler). record { start_addr = t.start_addr; insn_count = t.insn_count; handler = h }) (get_or_append_left hs more no_handler t.handler (All-head (λ (x : Try). x.handler < length hs) t ts all)) in
     λ i. first i ∷ named_grown hs more ts (All-tail (λ (x : Try). x.handler < length hs) t ts all) i
 
 -- nor is one of them lost
@@ -69,14 +69,14 @@ next_used listed tries i d lt =
 pub names_more : (listed hs hs' : List NumberedHandler) (tries numbered numbered' : List Try) (i k : ℕ) (d : Try) → i < length tries → hs' ≡ insert_key same_handler hs (get_or listed (get_or tries i d).handler no_handler)
     → k < length hs' → get_or hs' k no_handler ≡ get_or listed (get_or tries i d).handler no_handler
     → hs ≡ handlers_of (all_named listed (take i tries)) → all_named hs numbered ≡ all_named listed (take i tries) → All (λ t. t.handler < length hs) numbered
-    → numbered' ≡ numbered ++ record { start = (get_or tries i d).start; count = (get_or tries i d).count; handler = k } ∷ []
+    → numbered' ≡ numbered ++ record { start_addr = (get_or tries i d).start_addr; insn_count = (get_or tries i d).insn_count; handler = k } ∷ []
     → (hs' ≡ handlers_of (all_named listed (take (i + 1) tries))) × (all_named hs' numbered' ≡ all_named listed (take (i + 1) tries)) × All (λ t. t.handler < length hs') numbered'
 names_more listed hs hs' tries numbered numbered' i k d lt inserted within is used names all pushed =
     let t = get_or tries i d in
-    let new : Try = record { start = t.start; count = t.count; handler = k } in
+    let new : Try = record { start_addr = t.start_addr; insn_count = t.insn_count; handler = k } in
     let grows = insert_grows same_handler hs (get_or listed t.handler no_handler) in
     let grown : hs' ≡ hs ++ grows.0 = inserted ∙ grows.1 in
-    let named_new : named hs' new ≡ named listed t = ap (λ (h : NumberedHandler). record { start = t.start; count = t.count; handler = h }) is in
+    let named_new : named hs' new ≡ named listed t = ap (λ (h : NumberedHandler). record { start_addr = t.start_addr; insn_count = t.insn_count; handler = h }) is in
     let old : all_named hs' numbered ≡ all_named listed (take i tries) = ap (λ gs. all_named gs numbered) grown ∙ named_grown hs grows.0 numbered all ∙ names in
     let kept : All (λ x. x.handler < length hs') numbered = subst (λ gs. All (λ x. x.handler < length gs) numbered) (sym grown) (within_grown hs grows.0 numbered all) in (
       inserted ∙ ap (λ gs. insert_key same_handler gs (get_or listed t.handler no_handler)) used ∙ next_used listed tries i d lt,

@@ -22,8 +22,8 @@ module _ (starts : List Bool) (types : ℕ) where
   pub one_catch : (b : List ℕ) (o : ℕ) (c d : Catch) (n k : ℕ) → CatchAt starts types b o c n → CatchAt starts types b o d k → (c ≡ d) × (n ≡ k)
   one_catch b o c d n k h g =
       let index = one_uleb128 b o c.typ d.typ h.index_size g.index_size h.index_is g.index_is in
-      let address = one_uleb128 b (o + g.index_size) c.address d.address h.address_size g.address_size (subst (λ (i : ℕ). Uleb128At b (o + i) c.address h.address_size) index.1 h.address_is) g.address_is in
-      ((λ i. record { typ = index.0 i; address = address.0 i }), omega (arith, index.1, address.1, h.size, g.size))
+      let addr = one_uleb128 b (o + g.index_size) c.addr d.addr h.address_size g.address_size (subst (λ (i : ℕ). Uleb128At b (o + i) c.addr h.address_size) index.1 h.address_is) g.address_is in
+      ((λ i. record { typ = index.0 i; addr = addr.0 i }), omega (arith, index.1, addr.1, h.size, g.size))
 
   -- one handler
   pub one_handler : (b : List ℕ) (o : ℕ) (x y : NumberedHandler) (n k : ℕ) → HandlerAt starts types b o x n → HandlerAt starts types b o y k → (x ≡ y) × (n ≡ k)
@@ -33,7 +33,7 @@ module _ (starts : List Bool) (types : ℕ) where
       let catches = one_sequence (CatchAt starts types) one_catch b (o + g.count_size) x.catches y.catches h.catches_size g.catches_size many
       (subst (λ (i : ℕ). Sequence (CatchAt starts types) b (o + i) x.catches h.catches_size) count.1 h.catches_are) g.catches_are in
       let place : o + h.count_size + h.catches_size ≡ o + g.count_size + g.catches_size = omega (arith, count.1, catches.1) in
-      let moved = subst (λ (z : ℤ). CatchAllAt starts z b (o + h.count_size + h.catches_size) x.catch_all h.all_size) count.0 h.all in
-      let all = one_catch_all starts g.count b (o + g.count_size + g.catches_size) x.catch_all y.catch_all h.all_size g.all_size
-      (subst (λ (p : ℕ). CatchAllAt starts g.count b p x.catch_all h.all_size) place moved) g.all in
-      ((λ i. record { catches = catches.0 i; catch_all = all.0 i }), omega (arith, count.1, catches.1, all.1, h.size, g.size))
+      let moved = subst (λ (z : ℤ). CatchAllAt starts z b (o + h.count_size + h.catches_size) x.catch_all_addr h.all_size) count.0 h.all in
+      let all = one_catch_all starts g.count b (o + g.count_size + g.catches_size) x.catch_all_addr y.catch_all_addr h.all_size g.all_size
+      (subst (λ (p : ℕ). CatchAllAt starts g.count b p x.catch_all_addr h.all_size) place moved) g.all in
+      ((λ i. record { catches = catches.0 i; catch_all_addr = all.0 i }), omega (arith, count.1, catches.1, all.1, h.size, g.size))

@@ -82,15 +82,15 @@ module _ (m : Mentions) (rising : AreRising m) where
       let heads : catch_meant m c ≡ catch_meant m d = cc in
       let tails : map (catch_meant m) cs ≡ map (catch_meant m) ds = cc in
       let typ : c.typ ≡ d.typ = one_number c.typ d.typ (All-head (λ (c : Catch). c.typ < length m.types) c cs h) (All-head (λ (c : Catch). c.typ < length m.types) d ds g) (ap (λ x. x.type) heads) in
-      let address : c.address ≡ d.address = ap (λ x. x.address) heads in
+      let addr : c.addr ≡ d.addr = ap (λ x. x.address) heads in
       let rest = one_list cs ds (All-tail (λ (c : Catch). c.typ < length m.types) c cs h) (All-tail (λ (c : Catch). c.typ < length m.types) d ds g) tails in
-      λ i. record { typ = typ i; address = address i } ∷ rest i
+      λ i. record { typ = typ i; addr = addr i } ∷ rest i
 
   one_meaning : (h k : NumberedHandler) → IsInRange m h → IsInRange m k → handler_meant m h ≡ handler_meant m k → h ≡ k
   one_meaning h k p q e =
       let catches = one_list h.catches k.catches p q (ap (λ x. x.catches) e) in
-      let all : h.catch_all ≡ k.catch_all = ap (λ x. x.catch_all) e in
-      λ i. record { catches = catches i; catch_all = all i }
+      let all : h.catch_all_addr ≡ k.catch_all_addr = ap (λ x. x.catch_all) e in
+      λ i. record { catches = catches i; catch_all_addr = all i }
 
   pub same_meant : (h k : NumberedHandler) → IsInRange m h → IsInRange m k → symbolic.same_handler (handler_meant m h) (handler_meant m k) ≡ same_handler h k
   same_meant h k p q =
@@ -128,14 +128,14 @@ module _ (b : List ℕ) (m : Mentions) (pools : ArePools b m) (rising : AreRisin
     index_is = h.index_is;
     type = pools.types_are.each c.typ [] (omega (arith, h.in_range, pools.types_are.count));
     address = h.address_is;
-    start = sym (tell c.address) ∙ h.start;
+    start = sym (tell c.addr) ∙ h.start;
     size = h.size;
   }
 
   catch_back : (o : ℕ) (x : symbolic.Catch) (n : ℕ) → symbolic.CatchAt us cuts b o x n → (c : Catch) × CatchAt starts (length m.types) b o c n × (catch_meant m c ≡ x)
   catch_back o x n h =
       let type : get_or m.types h.index [] ≡ x.type = one_type b h.index (get_or m.types h.index []) x.type (pools.types_are.each h.index [] h.type.row) h.type in (
-        record { typ = h.index; address = x.address },
+        record { typ = h.index; addr = x.address },
         record { index_size = h.index_size; address_size = h.address_size; index_is = h.index_is; in_range = omega (arith, h.type.row, pools.types_are.count); address_is = h.address; start = tell x.address ∙ h.start; size = h.size },
         λ i. record { type = type i; address = x.address },
       )
@@ -157,7 +157,7 @@ module _ (b : List ℕ) (m : Mentions) (pools : ArePools b m) (rising : AreRisin
     count_is = g.count_is;
     many = g.many ∙ sym (length-map h.catches (catch_meant m));
     catches = seq_map (CatchAt starts (length m.types)) (symbolic.CatchAt us cuts) (catch_meant m) b catch_found (o + g.count_size) h.catches g.catches_size g.catches_are;
-    all = all_found g.count (o + g.count_size + g.catches_size) h.catch_all g.all_size g.all;
+    all = all_found g.count (o + g.count_size + g.catches_size) h.catch_all_addr g.all_size g.all;
     size = g.size;
   }
 
@@ -165,7 +165,7 @@ module _ (b : List ℕ) (m : Mentions) (pools : ArePools b m) (rising : AreRisin
   handler_back o x n g =
       let cs = seq_back (CatchAt starts (length m.types)) (symbolic.CatchAt us cuts) (catch_meant m) b catch_back (o + g.count_size) x.catches g.catches_size g.catches in
       let many : length x.catches ≡ length cs.0 = sym (ap length cs.2) ∙ length-map cs.0 (catch_meant m) in (
-        record { catches = cs.0; catch_all = x.catch_all },
+        record { catches = cs.0; catch_all_addr = x.catch_all },
         record {
           count = g.count;
           count_size = g.count_size;
@@ -229,7 +229,7 @@ module _ (b : List ℕ) (m : Mentions) (pools : ArePools b m) (rising : AreRisin
       → (t : NumberedTry) × TryAt starts (length m.types) (length us) list size hs b o t n × (try_meant m t ≡ x)
   try_back list size total hs stand o x n h =
       let at = place_back list size total hs _ x.handler stand h.handler in (
-        record { start = x.start; count = x.count; handler = at.0 },
+        record { start_addr = x.start; insn_count = x.count; handler = at.0 },
         record { start_is = h.start; count_is = h.count; some = h.some; within = h.within; handler_is = at.1; size = h.size },
         λ i. record { start = x.start; count = x.count; handler = at.2 i },
       )

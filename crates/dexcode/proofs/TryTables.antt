@@ -22,11 +22,11 @@ use Rattle.dexcode.proofs.Whole.{all_formed}
 apart_named : (hs : List NumberedHandler) (from to : ℕ) (ts : List Try) → AreApartFrom from ts to → AreApart (all_named hs ts)
 apart_named hs from to [] h = tt
 apart_named hs from to (t ∷ []) h = tt
-apart_named hs from to (t ∷ u ∷ ts) h = (h.1.0, apart_named hs (t.start + t.count) to (u ∷ ts) h.1)
+apart_named hs from to (t ∷ u ∷ ts) h = (h.1.0, apart_named hs (t.start_addr + t.insn_count) to (u ∷ ts) h.1)
 
-apart_back : (hs : List NumberedHandler) (from : ℕ) (t : Try) (ts : List Try) → from ≤ t.start → AreApart (all_named hs (t ∷ ts)) → (to : ℕ) × AreApartFrom from (t ∷ ts) to
-apart_back hs from t [] le h = (t.start + t.count, (le, refl))
-apart_back hs from t (u ∷ ts) le h = let rest = apart_back hs (t.start + t.count) u ts h.0 h.1 in (rest.0, (le, rest.1))
+apart_back : (hs : List NumberedHandler) (from : ℕ) (t : Try) (ts : List Try) → from ≤ t.start_addr → AreApart (all_named hs (t ∷ ts)) → (to : ℕ) × AreApartFrom from (t ∷ ts) to
+apart_back hs from t [] le h = (t.start_addr + t.insn_count, (le, refl))
+apart_back hs from t (u ∷ ts) le h = let rest = apart_back hs (t.start_addr + t.insn_count) u ts h.0 h.1 in (rest.0, (le, rest.1))
 
 apart_from : (hs : List NumberedHandler) (ts : List Try) → AreApart (all_named hs ts) → (to : ℕ) × AreApartFrom 0 ts to
 apart_from hs [] h = (0, refl)
@@ -86,7 +86,7 @@ module _ (starts : List Bool) (types units : ℕ) (b : List ℕ) (list : ℕ) (h
     try_listed o s n h =
         let there = h.handler_is in
         let is = there.is no_handler in (
-          record { start = s.start; count = s.count; handler = there.index },
+          record { start_addr = s.start_addr; insn_count = s.insn_count; handler = there.index },
           record {
             start_is = h.start_is;
             count_is = h.count_is;
@@ -95,7 +95,7 @@ module _ (starts : List Bool) (types units : ℕ) (b : List ℕ) (list : ℕ) (h
             named = at.numbered.known (ushort_at b (o + 6)) there.index there.before (ushort_small b (o + 6) small) there.begins (omega (arith, there.place));
             size = h.size;
           },
-          λ j. record { start = s.start; count = s.count; handler = is j },
+          λ j. record { start_addr = s.start_addr; insn_count = s.insn_count; handler = is j },
         )
 
     tries_listed : (o : ℕ) (ss : List NumberedTry) (n : ℕ) → Sequence (TryAt starts types units list at.count_size hs) b o ss n → (ts : List Try) × Sequence (ListedTryAt units numbers) b o ts n × (all_named hs ts ≡ ss)

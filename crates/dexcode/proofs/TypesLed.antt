@@ -79,15 +79,15 @@ module _ (r : Maps) (apart : AreTypesApart r) where
       let heads : renumbered_catch r c ≡ renumbered_catch r d = ap (λ xs. get_or xs 0 (renumbered_catch r c)) e in
       let tails : map (renumbered_catch r) cs ≡ map (renumbered_catch r) ds = cc in
       let typ : c.typ ≡ d.typ = one_type c.typ d.typ (All-head (HasTypePlace r) (catch_use c) (map catch_use cs) h) (All-head (HasTypePlace r) (catch_use d) (map catch_use ds) g) (ap (λ x. x.typ) heads) in
-      let address : c.address ≡ d.address = ap (λ x. x.address) heads in
+      let addr : c.addr ≡ d.addr = ap (λ x. x.addr) heads in
       let rest = one_list cs ds (All-tail (HasTypePlace r) (catch_use c) (map catch_use cs) h) (All-tail (HasTypePlace r) (catch_use d) (map catch_use ds) g) tails in
-      λ i. record { typ = typ i; address = address i } ∷ rest i
+      λ i. record { typ = typ i; addr = addr i } ∷ rest i
 
   one_handler : (h k : NumberedHandler) → HaveTypePlaces r h → HaveTypePlaces r k → renumbered_handler r h ≡ renumbered_handler r k → h ≡ k
   one_handler h k p q e =
       let catches = one_list h.catches k.catches p q (ap (λ x. x.catches) e) in
-      let all : h.catch_all ≡ k.catch_all = ap (λ x. x.catch_all) e in
-      λ i. record { catches = catches i; catch_all = all i }
+      let all : h.catch_all_addr ≡ k.catch_all_addr = ap (λ x. x.catch_all_addr) e in
+      λ i. record { catches = catches i; catch_all_addr = all i }
 
   same_led : (h k : NumberedHandler) → HaveTypePlaces r h → HaveTypePlaces r k → same_handler (renumbered_handler r h) (renumbered_handler r k) ≡ same_handler h k
   same_led h k p q =
@@ -123,7 +123,7 @@ named_led r hs [] all = refl
 named_led r hs (t ∷ ts) all =
     let handler = get_or-map (renumbered_handler r) hs t.handler no_handler no_handler (All-head (λ (x : Try). x.handler < length hs) t ts all) in
     let rest = named_led r hs ts (All-tail (λ (x : Try). x.handler < length hs) t ts all) in
-    λ i. record { start = t.start; count = t.count; handler = handler i } ∷ rest i
+    λ i. record { start_addr = t.start_addr; insn_count = t.insn_count; handler = handler i } ∷ rest i
 
 within_led : (r : Maps) (hs : List NumberedHandler) (ts : List Try) → All (λ t. t.handler < length hs) ts → All (λ t. t.handler < length (map (renumbered_handler r) hs)) ts
 within_led r hs ts all = subst (λ (n : ℕ). All (λ (t : Try). t.handler < n) ts) (sym (length-map hs (renumbered_handler r))) all

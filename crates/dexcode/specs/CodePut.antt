@@ -12,15 +12,15 @@ use Rattle.dexcode.specs.Numbered.{NumberedHandler, NumberedTry, NumberedItem, s
 
 -- an encoded_type_addr_pair
 abbrev pub numbered_catch_bytes : Catch → List ℕ
-numbered_catch_bytes c = uleb128 c.typ ++ uleb128 c.address
+numbered_catch_bytes c = uleb128 c.typ ++ uleb128 c.addr
 
 -- the number of catches, 0 or less where there is an address for all else
 abbrev pub handler_count : NumberedHandler → ℤ
-handler_count h = option_map_or (λ address. pos 0 -ℤ pos (length h.catches)) h.catch_all (pos (length h.catches))
+handler_count h = option_map_or (λ address. pos 0 -ℤ pos (length h.catches)) h.catch_all_addr (pos (length h.catches))
 
 -- an encoded_catch_handler
 abbrev pub numbered_handler_bytes : NumberedHandler → List ℕ
-numbered_handler_bytes h = sleb128 (handler_count h) ++ (flat_map numbered_catch_bytes h.catches ++ flat_map uleb128 (option_to_list h.catch_all))
+numbered_handler_bytes h = sleb128 (handler_count h) ++ (flat_map numbered_catch_bytes h.catches ++ flat_map uleb128 (option_to_list h.catch_all_addr))
 
 -- where the handler begins, of handlers of which the first begins at a place
 abbrev pub numbered_handler_off : ℕ → List NumberedHandler → NumberedHandler → ℕ
@@ -29,7 +29,7 @@ numbered_handler_off from (k ∷ ks) h = if same_handler k h then from else numb
 
 -- a try_item
 abbrev pub numbered_try_bytes : List NumberedHandler → NumberedTry → List ℕ
-numbered_try_bytes hs t = uint t.start ++ (ushort t.count ++ ushort (numbered_handler_off (length (uleb128 (length hs))) hs t.handler))
+numbered_try_bytes hs t = uint t.start_addr ++ (ushort t.insn_count ++ ushort (numbered_handler_off (length (uleb128 (length hs))) hs t.handler))
 
 -- an encoded_catch_handler_list
 abbrev pub numbered_list_bytes : List NumberedHandler → List ℕ
@@ -97,4 +97,4 @@ pub record ArePlaces (hs : List NumberedHandler) (places : List ℕ) : Type 0 wh
 
 -- a try_item whose handler begins at one of the places
 abbrev pub placed_try_bytes : List ℕ → Try → List ℕ
-placed_try_bytes places t = uint t.start ++ (ushort t.count ++ ushort (slice_index_or places t.handler 0))
+placed_try_bytes places t = uint t.start_addr ++ (ushort t.insn_count ++ ushort (slice_index_or places t.handler 0))

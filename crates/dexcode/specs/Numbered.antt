@@ -15,21 +15,21 @@ use Rattle.dexcode.specs.declared.tries.Try.{Try}
 -- What is caught where, in order, and where all else is.
 pub record NumberedHandler : Type 0 where
   pub catches : List Catch
-  pub catch_all : Option ℕ
+  pub catch_all_addr : Option ℕ
 
 -- The units that are covered, and their handler.
 pub record NumberedTry : Type 0 where
-  pub start : ℕ
-  pub count : ℕ
+  pub start_addr : ℕ
+  pub insn_count : ℕ
   pub handler : NumberedHandler
 
 -- whether two catches are the same
 abbrev pub same_catch : Catch → Catch → Bool
-same_catch c d = c.typ == d.typ && c.address == d.address
+same_catch c d = c.typ == d.typ && c.addr == d.addr
 
 -- whether two handlers are
 abbrev pub same_handler : NumberedHandler → NumberedHandler → Bool
-same_handler h k = pointwise same_catch h.catches k.catches && option_eq ◌==◌ h.catch_all k.catch_all
+same_handler h k = pointwise same_catch h.catches k.catches && option_eq ◌==◌ h.catch_all_addr k.catch_all_addr
 
 -- the handlers that tries name, each once, in order of first use
 abbrev pub handlers_of : List NumberedTry → List NumberedHandler
@@ -41,7 +41,7 @@ handlers_weight hs = 5 + sum_by (λ h. 10 + 8 * length h.catches) hs
 
 -- what catches no type catches all else
 abbrev pub IsWhole : NumberedHandler → Type 0
-IsWhole h = h.catch_all ≡ None → 0 < length h.catches
+IsWhole h = h.catch_all_addr ≡ None → 0 < length h.catches
 
 -- so it does, and the number of each type has 32 bits
 pub record IsFormedHandler (h : NumberedHandler) : Type 0 where
@@ -52,11 +52,11 @@ pub record IsFormedHandler (h : NumberedHandler) : Type 0 where
 
 -- what stands in the place of a handler that is not there
 abbrev pub no_handler : NumberedHandler
-no_handler = record { catches = []; catch_all = None }
+no_handler = record { catches = []; catch_all_addr = None }
 
 -- the try with its handler, one of a list
 abbrev pub named : List NumberedHandler → Try → NumberedTry
-named hs t = record { start = t.start; count = t.count; handler = slice_index_or hs t.handler no_handler }
+named hs t = record { start_addr = t.start_addr; insn_count = t.insn_count; handler = slice_index_or hs t.handler no_handler }
 
 -- tries with their handlers
 abbrev pub all_named : List NumberedHandler → List Try → List NumberedTry
@@ -81,30 +81,30 @@ pub record AreKnown (listed hs : List NumberedHandler) (numbers : List (Option �
 -- the catch is the symbolic one, where types are numbered so
 pub record StandsForCatch (m : Mentions) (c : Catch) (x : symbolic.Catch) : Type 0 where
   pub type_is : IsAt m.types c.typ x.type
-  pub address_is : c.address ≡ x.address
+  pub address_is : c.addr ≡ x.address
 
 -- the handler is
 pub record StandsForHandler (m : Mentions) (h : NumberedHandler) (x : symbolic.Handler) : Type 0 where
   pub catches_are : AllZip (StandsForCatch m) h.catches x.catches
-  pub catch_all_is : h.catch_all ≡ x.catch_all
+  pub catch_all_is : h.catch_all_addr ≡ x.catch_all
 
 -- the try is
 pub record StandsForTry (m : Mentions) (t : NumberedTry) (x : symbolic.Try) : Type 0 where
-  pub start_is : t.start ≡ x.start
-  pub count_is : t.count ≡ x.count
+  pub start_is : t.start_addr ≡ x.start
+  pub count_is : t.insn_count ≡ x.count
   pub handler_is : StandsForHandler m t.handler x.handler
 
 -- the catch with the type of its number
 abbrev pub catch_meant : Mentions → Catch → symbolic.Catch
-catch_meant m c = record { type = slice_index_or m.types c.typ []; address = c.address }
+catch_meant m c = record { type = slice_index_or m.types c.typ []; address = c.addr }
 
 -- the handler with its types
 abbrev pub handler_meant : Mentions → NumberedHandler → symbolic.Handler
-handler_meant m h = record { catches = map (catch_meant m) h.catches; catch_all = h.catch_all }
+handler_meant m h = record { catches = map (catch_meant m) h.catches; catch_all = h.catch_all_addr }
 
 -- the try with those of its handler
 abbrev pub try_meant : Mentions → NumberedTry → symbolic.Try
-try_meant m t = record { start = t.start; count = t.count; handler = handler_meant m t.handler }
+try_meant m t = record { start = t.start_addr; count = t.insn_count; handler = handler_meant m t.handler }
 
 -- ---- the whole
 

@@ -32,7 +32,7 @@ CatchAllAt starts size b o (Some address) n = (size ≤ℤ pos 0) × Uleb128At b
 abbrev pub AreApart : List NumberedTry → Type 0
 AreApart [] = Unit {0}
 AreApart (t ∷ []) = Unit {0}
-AreApart (t ∷ u ∷ ts) = (t.start + t.count ≤ u.start) × AreApart (u ∷ ts)
+AreApart (t ∷ u ∷ ts) = (t.start_addr + t.insn_count ≤ u.start_addr) × AreApart (u ∷ ts)
 
 module _ (starts : List Bool) (types : ℕ) where
   -- at offset o stands an encoded_type_addr_pair
@@ -41,8 +41,8 @@ module _ (starts : List Bool) (types : ℕ) where
     pub address_size : ℕ
     pub index_is : Uleb128At b o c.typ index_size
     pub in_range : c.typ < types
-    pub address_is : Uleb128At b (o + index_size) c.address address_size
-    pub start : IsStart starts c.address
+    pub address_is : Uleb128At b (o + index_size) c.addr address_size
+    pub start : IsStart starts c.addr
     pub size : n ≡ index_size + address_size
 
   -- so many of them were read from offset o on, in n bytes
@@ -60,7 +60,7 @@ module _ (starts : List Bool) (types : ℕ) where
     pub count_is : Sleb128At b o count count_size
     pub many : nat_abs count ≡ length h.catches
     pub catches_are : Sequence CatchAt b (o + count_size) h.catches catches_size
-    pub all : CatchAllAt starts count b (o + count_size + catches_size) h.catch_all all_size
+    pub all : CatchAllAt starts count b (o + count_size + catches_size) h.catch_all_addr all_size
     pub size : n ≡ count_size + catches_size + all_size
 
   -- handler i of those from an offset on begins so many bytes behind it
@@ -78,10 +78,10 @@ module _ (starts : List Bool) (types : ℕ) where
 
   -- at offset o stands a try_item whose handler is one of the list
   pub record TryAt (units list count_size : ℕ) (hs : List NumberedHandler) (b : List ℕ) (o : ℕ) (t : NumberedTry) (n : ℕ) : Type 0 where
-    pub start_is : uint_at b o ≡ t.start
-    pub count_is : ushort_at b (o + 4) ≡ t.count
-    pub some : 0 < t.count
-    pub within : t.start + t.count ≤ units
+    pub start_is : uint_at b o ≡ t.start_addr
+    pub count_is : ushort_at b (o + 4) ≡ t.insn_count
+    pub some : 0 < t.insn_count
+    pub within : t.start_addr + t.insn_count ≤ units
     pub handler_is : IsHandler b list count_size hs (ushort_at b (o + 6)) t.handler
     pub size : n ≡ 8
 
@@ -128,17 +128,17 @@ pub record IsNumberPut (place number : ℕ) (old new : List (Option ℕ)) : Type
 
 -- at offset o stands a try_item whose handler is the one that begins at its offset in the list
 pub record ListedTryAt (units : ℕ) (numbers : List (Option ℕ)) (b : List ℕ) (o : ℕ) (t : Try) (n : ℕ) : Type 0 where
-  pub start_is : uint_at b o ≡ t.start
-  pub count_is : ushort_at b (o + 4) ≡ t.count
-  pub some : 0 < t.count
-  pub within : t.start + t.count ≤ units
+  pub start_is : uint_at b o ≡ t.start_addr
+  pub count_is : ushort_at b (o + 4) ≡ t.insn_count
+  pub some : 0 < t.insn_count
+  pub within : t.start_addr + t.insn_count ≤ units
   pub named : slice_index_or numbers (ushort_at b (o + 6)) None ≡ Some t.handler
   pub size : n ≡ 8
 
 -- tries in order of their addresses that do not overlap, from an address on to another
 abbrev pub AreApartFrom : ℕ → List Try → ℕ → Type 0
 AreApartFrom from [] to = from ≡ to
-AreApartFrom from (t ∷ ts) to = (from ≤ t.start) × AreApartFrom (t.start + t.count) ts to
+AreApartFrom from (t ∷ ts) to = (from ≤ t.start_addr) × AreApartFrom (t.start_addr + t.insn_count) ts to
 
 -- so many of them were read
 pub record TriesRead (units : ℕ) (numbers : List (Option ℕ)) (b : List ℕ) (o count : ℕ) (ts : List Try) (to : ℕ) : Type 0 where

@@ -71,15 +71,15 @@ led_type r n = unwrap_or (image_of r kinds.Typ n) n
 
 -- the catch with the number that its type's leads to
 abbrev pub renumbered_catch : Maps → Catch → Catch
-renumbered_catch r c = record { typ = led_type r c.typ; address = c.address }
+renumbered_catch r c = record { typ = led_type r c.typ; addr = c.addr }
 
 -- the handler with those of its types
 abbrev pub renumbered_handler : Maps → NumberedHandler → NumberedHandler
-renumbered_handler r h = record { catches = map (renumbered_catch r) h.catches; catch_all = h.catch_all }
+renumbered_handler r h = record { catches = map (renumbered_catch r) h.catches; catch_all_addr = h.catch_all_addr }
 
 -- the try with those of its handler
 abbrev pub renumbered_try : Maps → NumberedTry → NumberedTry
-renumbered_try r t = record { start = t.start; count = t.count; handler = renumbered_handler r t.handler }
+renumbered_try r t = record { start_addr = t.start_addr; insn_count = t.insn_count; handler = renumbered_handler r t.handler }
 
 -- the code with the numbers that its numbers lead to
 abbrev pub renumbered_item : Maps → NumberedItem → NumberedItem

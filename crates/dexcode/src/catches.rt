@@ -21,9 +21,9 @@ fn read_address(bytes: &[u8], at: usize, starts: &InstructionStarts<'_>) -> Opti
     ensures start { IfSome result (λ x. IsStart starts.now x.0) }
 {
     match read_u(bytes, at) {
-        Ok((address, size)) => {
-            if starts.contains(address) {
-                Some((address, size))
+        Ok((addr, size)) => {
+            if starts.contains(addr) {
+                Some((addr, size))
             } else {
                 None
             }
@@ -51,11 +51,11 @@ fn read_catch(
     if types <= typ as usize {
         return None;
     }
-    let (address, address_size) = match read_address(bytes, at + index_size, starts) {
+    let (addr, addr_size) = match read_address(bytes, at + index_size, starts) {
         Some(read) => read,
         None => return None,
     };
-    Some((Catch { typ, address }, index_size + address_size))
+    Some((Catch { typ, addr }, index_size + addr_size))
 }
 
 // So many catches from a place on, and how many bytes spell them.
@@ -78,9 +78,7 @@ fn read_catches(
             Some(read) => read,
             None => return Err(ItemFault::Refused(19)),
         };
-        if catches.push(caught).is_err() {
-            return Err(ItemFault::Memory);
-        }
+        catches.push(caught)?;
         size += len;
     }
     Ok((catches, size))
@@ -102,7 +100,7 @@ fn read_catch_all(
         return Some((None, 0));
     }
     match read_address(bytes, at, starts) {
-        Some((address, len)) => Some((Some(address), len)),
+        Some((addr, len)) => Some((Some(addr), len)),
         None => None,
     }
 }
@@ -127,10 +125,18 @@ pub(crate) fn read_handler(
     let first = at + count_size;
     let many = count.unsigned_abs() as usize;
     let (catches, catches_size) = read_catches(alloc, bytes, first, many, starts, types)?;
-    let (catch_all, all_size) = match read_catch_all(bytes, first + catches_size, count, starts) {
+    let (catch_all_addr, all_size) = match read_catch_all(
+        bytes,
+        first + catches_size,
+        count,
+        starts,
+    ) {
         Some(read) => read,
         None => return Err(ItemFault::Refused(19)),
     };
-    let handler = Handler { catches, catch_all };
+    let handler = Handler {
+        catches,
+        catch_all_addr,
+    };
     Ok((handler, count_size + catches_size + all_size))
 }

@@ -14,8 +14,11 @@ use std::marker::Model;
 /// Source: "code_item".
 #[derive(Drop)]
 pub struct Code<'a> {
+    /// The numbers of registers, and the instructions and payloads.
     pub(crate) pieces: Pieces<'a>,
+    /// The tries, with the handlers that they name.
     pub(crate) tries: Tries,
+    /// The debug program, if there is one.
     pub(crate) debug: Option<Debug>,
 }
 

@@ -24,7 +24,7 @@ fn catch_len(catch: &Catch) -> usize
     ensures len { result ≡ length (numbered_catch_bytes catch.now) }
     ensures few { result ≤ 10 }
 {
-    len_u(catch.typ) + len_u(catch.address)
+    len_u(catch.typ) + len_u(catch.addr)
 }
 
 // How many bytes catches have.
@@ -41,12 +41,12 @@ fn catches_len(catches: &[Catch]) -> usize
 }
 
 // How many bytes the address for all else has.
-fn catch_all_len(catch_all: Option<u32>) -> usize
-    ensures len { result ≡ length (flat_map uleb128 (option_to_list catch_all)) }
+fn catch_all_len(catch_all_addr: Option<u32>) -> usize
+    ensures len { result ≡ length (flat_map uleb128 (option_to_list catch_all_addr)) }
     ensures few { result ≤ 5 }
 {
-    match catch_all {
-        Some(address) => len_u(address),
+    match catch_all_addr {
+        Some(addr) => len_u(addr),
         None => 0,
     }
 }
@@ -57,7 +57,7 @@ pub(crate) fn handler_count(handler: &Handler) -> i32
     ensures { result ≡ handler_count handler.now }
 {
     let count = handler.catches().len() as i32;
-    match handler.catch_all() {
+    match handler.catch_all_addr() {
         Some(_) => -count,
         None => count,
     }
@@ -71,7 +71,7 @@ pub(crate) fn handler_len(handler: &Handler) -> usize
 {
     len_s(handler_count(handler))
         + catches_len(handler.catches())
-        + catch_all_len(handler.catch_all())
+        + catch_all_len(handler.catch_all_addr())
 }
 
 // How many bytes the list of handlers has.

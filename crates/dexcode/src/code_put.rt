@@ -70,7 +70,7 @@ fn push_catch(catch: &Catch, out: &mut Vec<u8>)
     ensures { Pushes (numbered_catch_bytes catch.now) out.old out.new }
 {
     push_u(catch.typ, out);
-    push_u(catch.address, out);
+    push_u(catch.addr, out);
 }
 
 // Appends catches, where there is room for them.
@@ -84,12 +84,12 @@ fn push_catches(catches: &[Catch], out: &mut Vec<u8>)
 }
 
 // Appends the address for all else, if there is one, where there is room for it.
-fn push_catch_all(catch_all: Option<u32>, out: &mut Vec<u8>)
-    requires { HasRoomFor (flat_map uleb128 (option_to_list catch_all)) out.old }
-    ensures { Pushes (flat_map uleb128 (option_to_list catch_all)) out.old out.new }
+fn push_catch_all(catch_all_addr: Option<u32>, out: &mut Vec<u8>)
+    requires { HasRoomFor (flat_map uleb128 (option_to_list catch_all_addr)) out.old }
+    ensures { Pushes (flat_map uleb128 (option_to_list catch_all_addr)) out.old out.new }
 {
-    if let Some(address) = catch_all {
-        push_u(address, out);
+    if let Some(addr) = catch_all_addr {
+        push_u(addr, out);
     }
 }
 
@@ -101,7 +101,7 @@ fn push_handler(handler: &Handler, out: &mut Vec<u8>)
 {
     push_s(handler_count(handler), out);
     push_catches(handler.catches(), out);
-    push_catch_all(handler.catch_all(), out);
+    push_catch_all(handler.catch_all_addr(), out);
 }
 
 // Appends the list of handlers, where there is room for it.
@@ -131,8 +131,8 @@ fn push_try(item: &Try, places: &[u16], out: &mut Vec<u8>)
     requires room { HasRoomFor (placed_try_bytes places.now item.now) out.old }
     ensures { Pushes (placed_try_bytes places.now item.now) out.old out.new }
 {
-    push_u32(item.start, out);
-    push_u16(item.count, out);
+    push_u32(item.start_addr, out);
+    push_u16(item.insn_count, out);
     push_u16(places[item.handler], out);
 }
 

@@ -75,10 +75,7 @@ pub fn read_code<'a>(
     }
     let (pieces, starts) = read_pieces_and_starts(alloc, frame, pools, off)?;
     let types = pools.len(SymbolKind::Typ);
-    let tries = match read_tries(alloc, bytes, off_bytes, &starts, types) {
-        Ok(tries) => tries,
-        Err(fault) => return Err(fault),
-    };
+    let tries = read_tries(alloc, bytes, off_bytes, &starts, types)?;
     let debug_off = u32_at(bytes, off_bytes + 8);
     if debug_off == 0 {
         return Ok(Code {

@@ -11,8 +11,11 @@ use std::marker::Model;
 /// Source: "debug_info_item".
 #[derive(Drop)]
 pub struct Debug {
+    /// The initial value of the line register.
     pub(crate) line_start: u32,
+    /// The number of the text that is each parameter's name, or `None`, which is NO_INDEX.
     pub(crate) parameter_names: Vec<Option<u32>>,
+    /// The operations, without `DBG_END_SEQUENCE`.
     pub(crate) operations: Vec<Operation>,
 }
 

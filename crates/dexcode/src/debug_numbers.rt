@@ -45,10 +45,10 @@ fn renumbered_operation(remap: &Remap, operation: Operation) -> Operation
     requires { All (HasPlace remap.now) (operation_uses operation) }
     ensures { result ≡ renumbered_operation remap.now operation }
 {
-    let name = renumbered(remap, SymbolKind::Text, operation.name());
-    let typ = renumbered(remap, SymbolKind::Typ, operation.typ());
-    let signature = renumbered(remap, SymbolKind::Text, operation.signature());
-    operation.with_numbers(name, typ, signature)
+    let name_idx = renumbered(remap, SymbolKind::Text, operation.name_idx());
+    let type_idx = renumbered(remap, SymbolKind::Typ, operation.type_idx());
+    let sig_idx = renumbered(remap, SymbolKind::Text, operation.sig_idx());
+    operation.with_numbers(name_idx, type_idx, sig_idx)
 }
 
 // Puts for the number of each name the one that it leads to.
@@ -86,9 +86,9 @@ fn mark_operation(operation: &Operation, marks: &mut Marks)
     requires { All (HasMark marks.old) (operation_uses operation.now) }
     ensures { AreMarkedToo (operation_uses operation.now) marks.old marks.new }
 {
-    mark_number(SymbolKind::Text, operation.name(), marks);
-    mark_number(SymbolKind::Typ, operation.typ(), marks);
-    mark_number(SymbolKind::Text, operation.signature(), marks);
+    mark_number(SymbolKind::Text, operation.name_idx(), marks);
+    mark_number(SymbolKind::Typ, operation.type_idx(), marks);
+    mark_number(SymbolKind::Text, operation.sig_idx(), marks);
 }
 
 // Marks the texts that are names.

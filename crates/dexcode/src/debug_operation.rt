@@ -9,32 +9,39 @@ ghost use Rattle.dexspec.specs.Weight as weights;
 /// Source: "debug_info_item", "Byte code values".
 #[derive(Clone, Copy, Debug, PartialEq, Eq, Hash)]
 pub enum Operation {
-    /// `DBG_ADVANCE_PC`: how many units the address grows by.
+    /// `DBG_ADVANCE_PC`: `addr_diff`, the amount to add to the address register, in 16-bit code units.
     AdvancePc(u32),
-    /// `DBG_ADVANCE_LINE`: by how much the line changes.
+    /// `DBG_ADVANCE_LINE`: `line_diff`, the amount to change the line register by, in lines.
     AdvanceLine(i32),
     /// `DBG_START_LOCAL`: a local variable begins in a register.
     StartLocal {
-        register: u32,
-        name: Option<u32>,
-        typ: Option<u32>,
+        /// The register that will contain the local variable.
+        register_num: u32,
+        /// The number of the text that is its name.
+        name_idx: Option<u32>,
+        /// The number of its type.
+        type_idx: Option<u32>,
     },
     /// `DBG_START_LOCAL_EXTENDED`: the same, with a type signature.
     StartLocalExtended {
-        register: u32,
-        name: Option<u32>,
-        typ: Option<u32>,
-        signature: Option<u32>,
+        /// The register that will contain the local variable.
+        register_num: u32,
+        /// The number of the text that is its name.
+        name_idx: Option<u32>,
+        /// The number of its type.
+        type_idx: Option<u32>,
+        /// The number of the text that is its type signature.
+        sig_idx: Option<u32>,
     },
-    /// `DBG_END_LOCAL`: the variable of a register ends.
+    /// `DBG_END_LOCAL`: `register_num`, the register whose local variable ends.
     EndLocal(u32),
-    /// `DBG_RESTART_LOCAL`: the last variable of a register begins again.
+    /// `DBG_RESTART_LOCAL`: `register_num`, the register whose last local variable begins again.
     RestartLocal(u32),
     /// `DBG_SET_PROLOGUE_END`.
     SetPrologueEnd,
     /// `DBG_SET_EPILOGUE_BEGIN`.
     SetEpilogueBegin,
-    /// `DBG_SET_FILE`: the name of the source file from here on.
+    /// `DBG_SET_FILE`: `name_idx`, the number of the text that is the source file's name from here on.
     SetFile(Option<u32>),
     /// A special opcode, from 0x0a on: it moves the line and the address, and records a position.
     Special(u8),
@@ -44,34 +51,34 @@ impl Operation {
     ghost use Rattle.dexcode.specs.Debug.{name_of, type_of, signature_of, with_numbers, bare_operation};
 
     /// The number of the name of a local variable or of a source file.
-    pub fn name(&self) -> Option<u32>
+    pub fn name_idx(&self) -> Option<u32>
         ensures { result ≡ name_of self.now }
     {
         match self {
-            Operation::StartLocal { name, .. } => *name,
-            Operation::StartLocalExtended { name, .. } => *name,
-            Operation::SetFile(name) => *name,
+            Operation::StartLocal { name_idx, .. } => *name_idx,
+            Operation::StartLocalExtended { name_idx, .. } => *name_idx,
+            Operation::SetFile(name_idx) => *name_idx,
             _ => None,
         }
     }
 
     /// The number of the type of a local variable.
-    pub fn typ(&self) -> Option<u32>
+    pub fn type_idx(&self) -> Option<u32>
         ensures { result ≡ type_of self.now }
     {
         match self {
-            Operation::StartLocal { typ, .. } => *typ,
-            Operation::StartLocalExtended { typ, .. } => *typ,
+            Operation::StartLocal { type_idx, .. } => *type_idx,
+            Operation::StartLocalExtended { type_idx, .. } => *type_idx,
             _ => None,
         }
     }
 
     /// The number of the text that is the signature of a local variable's type.
-    pub fn signature(&self) -> Option<u32>
+    pub fn sig_idx(&self) -> Option<u32>
         ensures { result ≡ signature_of self.now }
     {
         match self {
-            Operation::StartLocalExtended { signature, .. } => *signature,
+            Operation::StartLocalExtended { sig_idx, .. } => *sig_idx,
             _ => None,
         }
     }
@@ -79,25 +86,25 @@ impl Operation {
     // The operation with other numbers in the places of its own.
     pub(crate) fn with_numbers(
         self,
-        name: Option<u32>,
-        typ: Option<u32>,
-        signature: Option<u32>,
+        name_idx: Option<u32>,
+        type_idx: Option<u32>,
+        sig_idx: Option<u32>,
     ) -> Operation
-        ensures { result ≡ with_numbers self name typ signature }
+        ensures { result ≡ with_numbers self name_idx type_idx sig_idx }
     {
         match self {
-            Operation::StartLocal { register, .. } => Operation::StartLocal {
-                register,
-                name,
-                typ,
+            Operation::StartLocal { register_num, .. } => Operation::StartLocal {
+                register_num,
+                name_idx,
+                type_idx,
             },
-            Operation::StartLocalExtended { register, .. } => Operation::StartLocalExtended {
-                register,
-                name,
-                typ,
-                signature,
+            Operation::StartLocalExtended { register_num, .. } => Operation::StartLocalExtended {
+                register_num,
+                name_idx,
+                type_idx,
+                sig_idx,
             },
-            Operation::SetFile(_) => Operation::SetFile(name),
+            Operation::SetFile(_) => Operation::SetFile(name_idx),
             operation => operation,
         }
     }

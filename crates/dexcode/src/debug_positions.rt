@@ -15,7 +15,7 @@ fn address_step(operation: &Operation) -> u64
     ensures small { result < 2 ^ 32 }
 {
     match operation {
-        Operation::AdvancePc(addresses) => u64::from(*addresses),
+        Operation::AdvancePc(addr_diff) => u64::from(*addr_diff),
         Operation::Special(opcode) => u64::from((*opcode - 10) / 15),
         _ => 0,
     }
@@ -29,7 +29,7 @@ fn line_step(operation: &Operation) -> i64
     ensures high { result ≤ℤ pos (2 ^ 31) }
 {
     match operation {
-        Operation::AdvanceLine(lines) => i64::from(*lines),
+        Operation::AdvanceLine(line_diff) => i64::from(*line_diff),
         Operation::Special(opcode) => i64::from((*opcode - 10) % 15) - 4,
         _ => 0,
     }

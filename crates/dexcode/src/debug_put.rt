@@ -40,24 +40,29 @@ fn operation_len(operation: &Operation) -> usize
     ensures few { result ≤ 21 }
 {
     match operation {
-        Operation::AdvancePc(addresses) => 1 + len_u(*addresses),
-        Operation::AdvanceLine(lines) => 1 + len_s(*lines),
+        Operation::AdvancePc(addr_diff) => 1 + len_u(*addr_diff),
+        Operation::AdvanceLine(line_diff) => 1 + len_s(*line_diff),
         Operation::StartLocal {
-            register,
-            name,
-            typ,
-        } => 1 + len_u(*register) + index_len(*name) + index_len(*typ),
+            register_num,
+            name_idx,
+            type_idx,
+        } => 1 + len_u(*register_num) + index_len(*name_idx) + index_len(*type_idx),
         Operation::StartLocalExtended {
-            register,
-            name,
-            typ,
-            signature,
-        } => { 1 + len_u(*register) + index_len(*name) + index_len(*typ) + index_len(*signature) }
-        Operation::EndLocal(register) => 1 + len_u(*register),
-        Operation::RestartLocal(register) => 1 + len_u(*register),
+            register_num,
+            name_idx,
+            type_idx,
+            sig_idx,
+        } => {
+            1 + len_u(*register_num)
+                + index_len(*name_idx)
+                + index_len(*type_idx)
+                + index_len(*sig_idx)
+        }
+        Operation::EndLocal(register_num) => 1 + len_u(*register_num),
+        Operation::RestartLocal(register_num) => 1 + len_u(*register_num),
         Operation::SetPrologueEnd => 1,
         Operation::SetEpilogueBegin => 1,
-        Operation::SetFile(name) => 1 + index_len(*name),
+        Operation::SetFile(name_idx) => 1 + index_len(*name_idx),
         Operation::Special(_) => 1,
     }
 }
@@ -140,15 +145,15 @@ fn push_index(number: Option<u32>, out: &mut Vec<u8>)
 }
 
 // Appends what tells of a local variable, where there is room for it.
-fn push_local(register: u32, name: Option<u32>, typ: Option<u32>, out: &mut Vec<u8>)
-    requires name { FitsIndex name }
-    requires typ { FitsIndex typ }
-    requires room { HasRoomFor (uleb128 register ++ (uleb128p1 name ++ uleb128p1 typ)) out.old }
-    ensures { Pushes (uleb128 register ++ (uleb128p1 name ++ uleb128p1 typ)) out.old out.new }
+fn push_local(register_num: u32, name_idx: Option<u32>, type_idx: Option<u32>, out: &mut Vec<u8>)
+    requires name { FitsIndex name_idx }
+    requires typ { FitsIndex type_idx }
+    requires room { HasRoomFor (uleb128 register_num ++ (uleb128p1 name_idx ++ uleb128p1 type_idx)) out.old }
+    ensures { Pushes (uleb128 register_num ++ (uleb128p1 name_idx ++ uleb128p1 type_idx)) out.old out.new }
 {
-    push_u(register, out);
-    push_index(name, out);
-    push_index(typ, out);
+    push_u(register_num, out);
+    push_index(name_idx, out);
+    push_index(type_idx, out);
 }
 
 // Appends an operation, where there is room for it.
@@ -158,45 +163,45 @@ fn push_operation(operation: &Operation, out: &mut Vec<u8>)
     ensures { Pushes (numbered_operation_bytes operation.now) out.old out.new }
 {
     match operation {
-        Operation::AdvancePc(addresses) => {
+        Operation::AdvancePc(addr_diff) => {
             push_byte(DBG_ADVANCE_PC, out);
-            push_u(*addresses, out);
+            push_u(*addr_diff, out);
         }
-        Operation::AdvanceLine(lines) => {
+        Operation::AdvanceLine(line_diff) => {
             push_byte(DBG_ADVANCE_LINE, out);
-            push_s(*lines, out);
+            push_s(*line_diff, out);
         }
         Operation::StartLocal {
-            register,
-            name,
-            typ,
+            register_num,
+            name_idx,
+            type_idx,
         } => {
             push_byte(DBG_START_LOCAL, out);
-            push_local(*register, *name, *typ, out);
+            push_local(*register_num, *name_idx, *type_idx, out);
         }
         Operation::StartLocalExtended {
-            register,
-            name,
-            typ,
-            signature,
+            register_num,
+            name_idx,
+            type_idx,
+            sig_idx,
         } => {
             push_byte(DBG_START_LOCAL_EXTENDED, out);
-            push_local(*register, *name, *typ, out);
-            push_index(*signature, out);
+            push_local(*register_num, *name_idx, *type_idx, out);
+            push_index(*sig_idx, out);
         }
-        Operation::EndLocal(register) => {
+        Operation::EndLocal(register_num) => {
             push_byte(DBG_END_LOCAL, out);
-            push_u(*register, out);
+            push_u(*register_num, out);
         }
-        Operation::RestartLocal(register) => {
+        Operation::RestartLocal(register_num) => {
             push_byte(DBG_RESTART_LOCAL, out);
-            push_u(*register, out);
+            push_u(*register_num, out);
         }
         Operation::SetPrologueEnd => push_byte(DBG_SET_PROLOGUE_END, out),
         Operation::SetEpilogueBegin => push_byte(DBG_SET_EPILOGUE_BEGIN, out),
-        Operation::SetFile(name) => {
+        Operation::SetFile(name_idx) => {
             push_byte(DBG_SET_FILE, out);
-            push_index(*name, out);
+            push_index(*name_idx, out);
         }
         Operation::Special(opcode) => push_byte(*opcode, out),
     }

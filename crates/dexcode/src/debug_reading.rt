@@ -92,12 +92,17 @@ fn local_at(
     requires { at ≤ length bytes.now }
     ensures found { IfSome result (λ read. LocalAt counts bytes.now at read.0 read.1 read.2 read.3) }
     ensures within { IfSome result (λ read. at + read.3 ≤ length bytes.now) }
-    ensures only { (register : ℕ) (name typ : Option ℕ) (n : ℕ) → LocalAt counts bytes.now at register name typ n → result ≡ Some (register, name, typ, n) }
+    ensures only { (register_num : ℕ) (name_idx type_idx : Option ℕ) (n : ℕ) → LocalAt counts bytes.now at register_num name_idx type_idx n → result ≡ Some (register_num, name_idx, type_idx, n) }
 {
-    let (register, register_len) = number_at(bytes, at)?;
-    let (name, name_len) = index_at(bytes, at + register_len, counts.texts)?;
-    let (typ, typ_len) = index_at(bytes, at + register_len + name_len, counts.types)?;
-    Some((register, name, typ, register_len + name_len + typ_len))
+    let (register_num, register_len) = number_at(bytes, at)?;
+    let (name_idx, name_len) = index_at(bytes, at + register_len, counts.texts)?;
+    let (type_idx, type_len) = index_at(bytes, at + register_len + name_len, counts.types)?;
+    Some((
+        register_num,
+        name_idx,
+        type_idx,
+        register_len + name_len + type_len,
+    ))
 }
 
 // The operands of an operation that moves the address.
@@ -107,8 +112,8 @@ fn advance_pc_at(bytes: &[u8], at: usize) -> Option<(Operation, usize)>
     ensures within { IfSome result (λ read. at + read.1 ≤ length bytes.now) }
     ensures only { (v n : ℕ) → Uleb128At bytes.now at v n → result ≡ Some (AdvancePc v, n) }
 {
-    let (addresses, len) = number_at(bytes, at)?;
-    Some((Operation::AdvancePc(addresses), len))
+    let (addr_diff, len) = number_at(bytes, at)?;
+    Some((Operation::AdvancePc(addr_diff), len))
 }
 
 // Those of an operation that moves the line.
@@ -118,8 +123,8 @@ fn advance_line_at(bytes: &[u8], at: usize) -> Option<(Operation, usize)>
     ensures within { IfSome result (λ read. at + read.1 ≤ length bytes.now) }
     ensures only { (v : ℤ) (n : ℕ) → Sleb128At bytes.now at v n → result ≡ Some (AdvanceLine v, n) }
 {
-    let (lines, len) = lines_at(bytes, at)?;
-    Some((Operation::AdvanceLine(lines), len))
+    let (line_diff, len) = lines_at(bytes, at)?;
+    Some((Operation::AdvanceLine(line_diff), len))
 }
 
 // Those of an operation that begins a local variable.
@@ -127,13 +132,13 @@ fn start_local_at(bytes: &[u8], at: usize, counts: Counts) -> Option<(Operation,
     requires { at ≤ length bytes.now }
     ensures found { IfSome result (λ read. OperandsAt counts 0x03 bytes.now at read.0 read.1) }
     ensures within { IfSome result (λ read. at + read.1 ≤ length bytes.now) }
-    ensures only { (register : ℕ) (name typ : Option ℕ) (n : ℕ) → LocalAt counts bytes.now at register name typ n → result ≡ Some (StartLocal register name typ, n) }
+    ensures only { (register_num : ℕ) (name_idx type_idx : Option ℕ) (n : ℕ) → LocalAt counts bytes.now at register_num name_idx type_idx n → result ≡ Some (StartLocal register_num name_idx type_idx, n) }
 {
-    let (register, name, typ, len) = local_at(bytes, at, counts)?;
+    let (register_num, name_idx, type_idx, len) = local_at(bytes, at, counts)?;
     let operation = Operation::StartLocal {
-        register,
-        name,
-        typ,
+        register_num,
+        name_idx,
+        type_idx,
     };
     Some((operation, len))
 }
@@ -143,17 +148,17 @@ fn start_local_extended_at(bytes: &[u8], at: usize, counts: Counts) -> Option<(O
     requires { at ≤ length bytes.now }
     ensures found { IfSome result (λ read. OperandsAt counts 0x04 bytes.now at read.0 read.1) }
     ensures within { IfSome result (λ read. at + read.1 ≤ length bytes.now) }
-    ensures only { (register : ℕ) (name typ signature : Option ℕ) (n : ℕ) → ExtendedAt counts bytes.now at register name typ signature n → result ≡ Some (StartLocalExtended register name typ signature, n) }
+    ensures only { (register_num : ℕ) (name_idx type_idx sig_idx : Option ℕ) (n : ℕ) → ExtendedAt counts bytes.now at register_num name_idx type_idx sig_idx n → result ≡ Some (StartLocalExtended register_num name_idx type_idx sig_idx, n) }
 {
-    let (register, name, typ, local_len) = local_at(bytes, at, counts)?;
-    let (signature, signature_len) = index_at(bytes, at + local_len, counts.texts)?;
+    let (register_num, name_idx, type_idx, local_len) = local_at(bytes, at, counts)?;
+    let (sig_idx, sig_len) = index_at(bytes, at + local_len, counts.texts)?;
     let operation = Operation::StartLocalExtended {
-        register,
-        name,
-        typ,
-        signature,
+        register_num,
+        name_idx,
+        type_idx,
+        sig_idx,
     };
-    Some((operation, local_len + signature_len))
+    Some((operation, local_len + sig_len))
 }
 
 // Those of one that ends a local variable.
@@ -163,8 +168,8 @@ fn end_local_at(bytes: &[u8], at: usize) -> Option<(Operation, usize)>
     ensures within { IfSome result (λ read. at + read.1 ≤ length bytes.now) }
     ensures only { (v n : ℕ) → Uleb128At bytes.now at v n → result ≡ Some (EndLocal v, n) }
 {
-    let (register, len) = number_at(bytes, at)?;
-    Some((Operation::EndLocal(register), len))
+    let (register_num, len) = number_at(bytes, at)?;
+    Some((Operation::EndLocal(register_num), len))
 }
 
 // Those of one that begins a local variable again.
@@ -174,8 +179,8 @@ fn restart_local_at(bytes: &[u8], at: usize) -> Option<(Operation, usize)>
     ensures within { IfSome result (λ read. at + read.1 ≤ length bytes.now) }
     ensures only { (v n : ℕ) → Uleb128At bytes.now at v n → result ≡ Some (RestartLocal v, n) }
 {
-    let (register, len) = number_at(bytes, at)?;
-    Some((Operation::RestartLocal(register), len))
+    let (register_num, len) = number_at(bytes, at)?;
+    Some((Operation::RestartLocal(register_num), len))
 }
 
 // Those of one that names the source file.
@@ -185,8 +190,8 @@ fn set_file_at(bytes: &[u8], at: usize, counts: Counts) -> Option<(Operation, us
     ensures within { IfSome result (λ read. at + read.1 ≤ length bytes.now) }
     ensures only { (i : Option ℕ) (n : ℕ) → IndexAt counts.texts bytes.now at i n → result ≡ Some (SetFile i, n) }
 {
-    let (name, len) = index_at(bytes, at, counts.texts)?;
-    Some((Operation::SetFile(name), len))
+    let (name_idx, len) = index_at(bytes, at, counts.texts)?;
+    Some((Operation::SetFile(name_idx), len))
 }
 
 // The operation of an opcode, whose operands are at a place, and how many bytes they have.
@@ -230,9 +235,7 @@ fn read_names(
             Some(read) => read,
             None => return Err(ItemFault::Refused(20)),
         };
-        if names.push(name).is_err() {
-            return Err(ItemFault::Memory);
-        }
+        names.push(name)?;
         at += len;
     }
     Ok((names, at))
@@ -262,9 +265,7 @@ fn read_operations(
             Some(read) => read,
             None => return Err(ItemFault::Refused(20)),
         };
-        if operations.push(operation).is_err() {
-            return Err(ItemFault::Memory);
-        }
+        operations.push(operation)?;
         at += 1 + len;
     }
     Err(ItemFault::Refused(20))

@@ -41,21 +41,27 @@ fn operations_alike(mine: &Remap, operation: &Operation, theirs: &Remap, other: 
     if !leads_alike(
         SymbolKind::Text,
         mine,
-        operation.name(),
+        operation.name_idx(),
         theirs,
-        other.name(),
+        other.name_idx(),
     ) {
         return false;
     }
-    if !leads_alike(SymbolKind::Typ, mine, operation.typ(), theirs, other.typ()) {
+    if !leads_alike(
+        SymbolKind::Typ,
+        mine,
+        operation.type_idx(),
+        theirs,
+        other.type_idx(),
+    ) {
         return false;
     }
     leads_alike(
         SymbolKind::Text,
         mine,
-        operation.signature(),
+        operation.sig_idx(),
         theirs,
-        other.signature(),
+        other.sig_idx(),
     )
 }
 

@@ -57,12 +57,8 @@ fn read_handlers(
     for number in 0..count {
         let place = first + size;
         let (handler, len) = read_handler(alloc, bytes, place, starts, types)?;
-        if handlers.push(handler).is_err() {
-            return Err(ItemFault::Memory);
-        }
-        if put_number(&mut numbers, place - list, number).is_err() {
-            return Err(ItemFault::Memory);
-        }
+        handlers.push(handler)?;
+        put_number(&mut numbers, place - list, number)?;
         size += len;
     }
     Ok(HandlerList { handlers, numbers })

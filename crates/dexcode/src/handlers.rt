@@ -9,14 +9,15 @@ use std::alloc::AllocError;
 use std::hash::{Hash, Hasher};
 use std::marker::Model;
 
-/// A type that is caught, by its number, and the address of the code for it, in 16-bit units from the start of the code's
-/// instructions.
+/// A type that is caught, and the address of the code for it.
 ///
 /// Source: "encoded_type_addr_pair".
 #[derive(Clone, Copy, Debug)]
 pub struct Catch {
+    /// The number of the type of the exception to catch.
     pub typ: u32,
-    pub address: u32,
+    /// The bytecode address of the handler, in 16-bit code units from the start of the instructions.
+    pub addr: u32,
 }
 
 impl PartialEq for Catch {
@@ -27,7 +28,7 @@ impl PartialEq for Catch {
     ghost laws = { Prim.search (comparing, rules) };
 
     fn eq(&self, other: &Catch) -> bool {
-        self.typ == other.typ && self.address == other.address
+        self.typ == other.typ && self.addr == other.addr
     }
 }
 
@@ -38,24 +39,25 @@ impl Eq for Catch {
 impl Hash for Catch {
     ghost use Rattle.std.specs.Prelude.{◌++◌};
 
-    ghost hash_input = { λ c. fed.u32 c.typ ++ fed.u32 c.address };
+    ghost hash_input = { λ c. fed.u32 c.typ ++ fed.u32 c.addr };
 
     ghost respects_eq = { Prim.search (hashing, rules) };
 
     fn hash<H: Hasher>(&self, state: &mut H) {
         self.typ.hash(state);
-        self.address.hash(state);
+        self.addr.hash(state);
     }
 }
 
-/// The types that are caught, in order, and the address of the code for all else, if there is one. Addresses are in
-/// 16-bit units from the start of the code's instructions. Contracts see both.
+/// The types that are caught, in order, and the address of the code for all else, if there is one. Contracts see both.
 ///
 /// Source: "encoded_catch_handler".
 #[derive(Drop)]
 pub struct Handler {
+    /// The types that are caught, in the order in which they are tested.
     pub(crate) catches: Vec<Catch>,
-    pub(crate) catch_all: Option<u32>,
+    /// The bytecode address of the catch-all handler, if there is one, in 16-bit code units.
+    pub(crate) catch_all_addr: Option<u32>,
 }
 
 impl Model for Handler {
@@ -63,7 +65,7 @@ impl Model for Handler {
 
     ghost Value = { NumberedHandler };
 
-    ghost view = { λ h. record { catches = h.catches.items; catch_all = h.catch_all } };
+    ghost view = { λ h. record { catches = h.catches.items; catch_all_addr = h.catch_all_addr } };
 }
 
 impl PartialEq for Handler {
@@ -75,7 +77,7 @@ impl PartialEq for Handler {
     ghost laws = { handler_per };
 
     fn eq(&self, other: &Handler) -> bool {
-        self.catches == other.catches && self.catch_all == other.catch_all
+        self.catches == other.catches && self.catch_all_addr == other.catch_all_addr
     }
 }
 
@@ -94,13 +96,13 @@ impl Hash for Handler {
 
     fn hash<H: Hasher>(&self, state: &mut H) {
         self.catches.hash(state);
-        self.catch_all.hash(state);
+        self.catch_all_addr.hash(state);
     }
 }
 
 impl Handler {
-    /// The types that are caught, in order, each by its number, and the addresses where they are handled, in 16-bit units
-    /// from the start of the code's instructions.
+    /// The types that are caught, in order, each by its number, and the addresses where they are handled, in 16-bit code
+    /// units from the start of the instructions.
     ///
     /// Source: "encoded_catch_handler", the field `handlers`, and "encoded_type_addr_pair".
     pub fn catches(&self) -> &[Catch]
@@ -109,13 +111,14 @@ impl Handler {
         &self.catches
     }
 
-    /// The address where all else is handled, if it is, in 16-bit units from the start of the code's instructions.
+    /// The bytecode address of the catch-all handler, if there is one, in 16-bit code units from the start of the
+    /// instructions.
     ///
     /// Source: "encoded_catch_handler", the field `catch_all_addr`.
-    pub fn catch_all(&self) -> Option<u32>
-        ensures { result ≡ self.now.catch_all }
+    pub fn catch_all_addr(&self) -> Option<u32>
+        ensures { result ≡ self.now.catch_all_addr }
     {
-        self.catch_all
+        self.catch_all_addr
     }
 
     /// The same handler, with a list of its own.
@@ -127,7 +130,7 @@ impl Handler {
         let catches = self.catches.clone()?;
         Ok(Handler {
             catches,
-            catch_all: self.catch_all,
+            catch_all_addr: self.catch_all_addr,
         })
     }
 }

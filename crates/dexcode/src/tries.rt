@@ -10,14 +10,16 @@ use indexmap::IndexSet;
 use std::alloc::{AllocError, Global};
 use std::marker::Model;
 
-/// The units that are covered: the address of the first, in 16-bit units from the start of the code's instructions, and
-/// how many they are; and the number of their handler.
+/// The code units that are covered, and the number of their handler.
 ///
 /// Source: "try_item".
 #[derive(Clone, Copy, Debug, PartialEq, Eq)]
 pub struct Try {
-    pub start: u32,
-    pub count: u16,
+    /// The start address of the block that is covered, in 16-bit code units from the start of the instructions.
+    pub start_addr: u32,
+    /// How many 16-bit code units are covered.
+    pub insn_count: u16,
+    /// The number of the handler in [`Tries::handlers`], from 0 on.
     pub handler: usize,
 }
 
@@ -27,7 +29,9 @@ pub struct Try {
 /// Source: "try_item" and "encoded_catch_handler_list".
 #[derive(Drop)]
 pub struct Tries {
+    /// The tries, each with the number of its handler.
     pub(crate) tries: Vec<Try>,
+    /// The handlers that they name, each once.
     pub(crate) handlers: Vec<Handler>,
 }
 
@@ -114,8 +118,8 @@ impl Tries {
         for item in tries {
             let handler = number_of(&mut handlers, &mut numbers, listed, item.handler)?;
             numbered.push(Try {
-                start: item.start,
-                count: item.count,
+                start_addr: item.start_addr,
+                insn_count: item.insn_count,
                 handler,
             })?;
         }

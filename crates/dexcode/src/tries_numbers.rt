@@ -20,7 +20,7 @@ fn renumbered_catch(remap: &Remap, catch: Catch) -> Catch
     };
     Catch {
         typ,
-        address: catch.address,
+        addr: catch.addr,
     }
 }
 

@@ -20,7 +20,7 @@ fn led_type(remap: &Remap, typ: u32) -> usize
 fn same_catch(mine: &Remap, catch: Catch, theirs: &Remap, other: Catch) -> bool
     ensures { IsTrue result ↔ (renumbered_catch mine.now catch ≡ renumbered_catch theirs.now other) }
 {
-    if catch.address != other.address {
+    if catch.addr != other.addr {
         return false;
     }
     led_type(mine, catch.typ) == led_type(theirs, other.typ)
@@ -45,7 +45,7 @@ fn same_catches(mine: &Remap, catches: &[Catch], theirs: &Remap, others: &[Catch
 fn same_handler(mine: &Remap, handler: &Handler, theirs: &Remap, other: &Handler) -> bool
     ensures { IsTrue result ↔ (renumbered_handler mine.now handler.now ≡ renumbered_handler theirs.now other.now) }
 {
-    if handler.catch_all != other.catch_all {
+    if handler.catch_all_addr != other.catch_all_addr {
         return false;
     }
     same_catches(mine, &handler.catches, theirs, &other.catches)
@@ -67,10 +67,10 @@ fn same_try(
     requires known { (k : ℕ) → k < compared → renumbered_handler mine.now (slice_index_or handlers.now k no_handler) ≡ renumbered_handler theirs.now (slice_index_or others.now k no_handler) }
     ensures { IsTrue result ↔ (led_try mine.now handlers.now item ≡ led_try theirs.now others.now other) }
 {
-    if item.start != other.start {
+    if item.start_addr != other.start_addr {
         return false;
     }
-    if item.count != other.count {
+    if item.insn_count != other.insn_count {
         return false;
     }
     if item.handler < compared && item.handler == other.handler {

@@ -17,18 +17,18 @@ fn read_try(bytes: &[u8], at: usize, units: u32, numbers: &[Option<u32>]) -> Opt
     ensures some { IfSome result (λ t. ListedTryAt units numbers.now bytes.now at t 8) }
     ensures none { IfNone result ((t : Meant) (n : ℕ) → ListedTryAt units numbers.now bytes.now at t n → ⊥) }
 {
-    let start = u32_at(bytes, at);
-    let count = u16_at(bytes, at + 4);
-    if count == 0 {
+    let start_addr = u32_at(bytes, at);
+    let insn_count = u16_at(bytes, at + 4);
+    if insn_count == 0 {
         return None;
     }
-    if u64::from(units) < u64::from(start) + u64::from(count) {
+    if u64::from(units) < u64::from(start_addr) + u64::from(insn_count) {
         return None;
     }
     match handler_at(numbers, u16_at(bytes, at + 6)) {
         Some(handler) => Some(Try {
-            start,
-            count,
+            start_addr,
+            insn_count,
             handler,
         }),
         None => None,
@@ -56,13 +56,11 @@ pub(crate) fn read_try_items(
             Some(item) => item,
             None => return Err(ItemFault::Refused(19)),
         };
-        if item.start < end {
+        if item.start_addr < end {
             return Err(ItemFault::Refused(19));
         }
-        end = item.start + u32::from(item.count);
-        if tries.push(item).is_err() {
-            return Err(ItemFault::Memory);
-        }
+        end = item.start_addr + u32::from(item.insn_count);
+        tries.push(item)?;
         place += 8;
     }
     Ok(tries)

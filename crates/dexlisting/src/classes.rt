@@ -2,94 +2,84 @@
 //!
 //! Source: the heading "class_def_item" of the Android page "Dalvik Executable format".
 
-ghost use Rattle.std.specs.Prelude.{◌≡◌, true, false, OnOk, OnErr};
+ghost use Rattle.std.specs.Prelude.{◌≡◌, false, All};
 ghost use Rattle.dexclass.specs.Uses.{IsKnownClass};
+ghost use Rattle.dexlisting.specs.Going.{GoesOn};
 
-use crate::gathering::Gathered;
-use crate::members::{put_flags, put_members};
-use crate::symbols::put_type;
-use crate::texts::put_quoted;
+use crate::gathering::Listing;
 use dexclass::Class;
 use dexhead::{DeviceFault, Sink};
-use dexpool::Numbering;
 
-/// Puts the lines of a class: its own, those of its interfaces and of its source, and those of what it declares.
-pub(crate) fn put_class<W: Sink>(
-    numbering: &Numbering<'_>,
-    class: &Class<'_>,
-    gathered: &mut Gathered,
-    out: &mut W,
-) -> Result<(), DeviceFault>
-    requires works { W.has_failed out.old ≡ false }
-    requires known { IsKnownClass numbering.now class.now }
-    ensures works { OnOk result (W.has_failed out.new ≡ false) }
-    ensures fails { OnErr result (W.has_failed out.new ≡ true) }
-{
-    put_own_line(numbering, class, gathered, out)?;
-    put_interfaces(numbering, class, gathered, out)?;
-    put_source(numbering, class, gathered, out)?;
-    put_members(numbering, class.members(), gathered, out)
-}
-
-// Puts the line with the name, the flags and the superclass.
-fn put_own_line<W: Sink>(
-    numbering: &Numbering<'_>,
-    class: &Class<'_>,
-    gathered: &mut Gathered,
-    out: &mut W,
-) -> Result<(), DeviceFault>
-    requires works { W.has_failed out.old ≡ false }
-    requires known { IsKnownClass numbering.now class.now }
-    ensures works { OnOk result (W.has_failed out.new ≡ false) }
-    ensures fails { OnErr result (W.has_failed out.new ≡ true) }
-{
-    gathered.put(b"class ", out)?;
-    put_type(numbering, class.name(), gathered, out)?;
-    put_flags(&class.flags(), b" super=", gathered, out)?;
-    match class.superclass() {
-        Some(superclass) => put_type(numbering, superclass, gathered, out)?,
-        None => gathered.put_byte(b'-', out)?,
+impl<W: Sink> Listing<'_, '_, '_, W> {
+    /// Puts the lines of classes, and writes all that gathered.
+    pub(crate) fn put_classes(&mut self, classes: &[Class<'_>]) -> Result<(), DeviceFault>
+        requires works { W.has_failed self.old.out.now ≡ false }
+        requires known { All (IsKnownClass self.old.numbering.now) classes.now }
+        ensures goes { GoesOn W.has_failed self.old self.new result }
+        ensures writer { self.new.out.ghost_name ≡ self.old.out.ghost_name }
+    {
+        for class in classes {
+            self.put_class(class)?;
+        }
+        self.pass_on()
     }
-    gathered.put_byte(b'\n', out)
-}
 
-// Puts a line for each interface.
-fn put_interfaces<W: Sink>(
-    numbering: &Numbering<'_>,
-    class: &Class<'_>,
-    gathered: &mut Gathered,
-    out: &mut W,
-) -> Result<(), DeviceFault>
-    requires works { W.has_failed out.old ≡ false }
-    requires known { IsKnownClass numbering.now class.now }
-    ensures works { OnOk result (W.has_failed out.new ≡ false) }
-    ensures fails { OnErr result (W.has_failed out.new ≡ true) }
-{
-    for interface in class.interfaces() {
-        gathered.put(b"  interface ", out)?;
-        put_type(numbering, *interface, gathered, out)?;
-        gathered.put_byte(b'\n', out)?;
+    // Puts the lines of a class: its own, those of its interfaces and of its source, and those of what it declares.
+    fn put_class(&mut self, class: &Class<'_>) -> Result<(), DeviceFault>
+        requires works { W.has_failed self.old.out.now ≡ false }
+        requires known { IsKnownClass self.old.numbering.now class.now }
+        ensures { GoesOn W.has_failed self.old self.new result }
+    {
+        self.put_own_line(class)?;
+        self.put_interfaces(class)?;
+        self.put_source(class)?;
+        self.put_members(class.members())
     }
-    Ok(())
-}
 
-// Puts the line of the source, if there is one.
-fn put_source<W: Sink>(
-    numbering: &Numbering<'_>,
-    class: &Class<'_>,
-    gathered: &mut Gathered,
-    out: &mut W,
-) -> Result<(), DeviceFault>
-    requires works { W.has_failed out.old ≡ false }
-    requires known { IsKnownClass numbering.now class.now }
-    ensures works { OnOk result (W.has_failed out.new ≡ false) }
-    ensures fails { OnErr result (W.has_failed out.new ≡ true) }
-{
-    let source = match class.source() {
-        Some(source) => source,
-        None => return Ok(()),
-    };
-    gathered.put(b"  source ", out)?;
-    put_quoted(numbering.string(source), gathered, out)?;
-    gathered.put_byte(b'\n', out)
+    // Puts the line with the name, the flags and the superclass.
+    fn put_own_line(&mut self, class: &Class<'_>) -> Result<(), DeviceFault>
+        requires works { W.has_failed self.old.out.now ≡ false }
+        requires known { IsKnownClass self.old.numbering.now class.now }
+        ensures { GoesOn W.has_failed self.old self.new result }
+    {
+        self.put(b"class ")?;
+        self.put_type(class.name())?;
+        self.put(b" flags=")?;
+        self.put_flags(&class.flags())?;
+        self.put(b" super=")?;
+        match class.superclass() {
+            Some(superclass) => self.put_type(superclass)?,
+            None => self.put_byte(b'-')?,
+        }
+        self.put_byte(b'\n')
+    }
+
+    // Puts a line for each interface.
+    fn put_interfaces(&mut self, class: &Class<'_>) -> Result<(), DeviceFault>
+        requires works { W.has_failed self.old.out.now ≡ false }
+        requires known { IsKnownClass self.old.numbering.now class.now }
+        ensures { GoesOn W.has_failed self.old self.new result }
+    {
+        for interface in class.interfaces() {
+            self.put(b"  interface ")?;
+            self.put_type(*interface)?;
+            self.put_byte(b'\n')?;
+        }
+        Ok(())
+    }
+
+    // Puts the line of the source, if there is one.
+    fn put_source(&mut self, class: &Class<'_>) -> Result<(), DeviceFault>
+        requires works { W.has_failed self.old.out.now ≡ false }
+        requires known { IsKnownClass self.old.numbering.now class.now }
+        ensures { GoesOn W.has_failed self.old self.new result }
+    {
+        let source = match class.source() {
+            Some(source) => source,
+            None => return Ok(()),
+        };
+        self.put(b"  source ")?;
+        self.put_quoted(self.numbering.string(source))?;
+        self.put_byte(b'\n')
+    }
 }

@@ -1,121 +1,94 @@
-//! Bytes on their way to the writer: they gather in a vector, and are written when it is full.
+//! A listing on its way to the writer: its bytes gather in a vector, and are written when it is full.
 
-ghost use Rattle.std.specs.Prelude.{◌≡◌, ◌<◌, ◌≤◌, ◌+◌, ◌++◌, length, [], ◌∷◌, true, false, OnOk, OnErr, IfOk};
+ghost use Rattle.std.specs.Prelude.{◌≡◌, ◌<◌, ◌≤◌, ◌+◌, ◌++◌, length, [], ◌∷◌, true, false, OnOk, OnErr};
+ghost use Rattle.dexlisting.specs.Gathering.{HasRoom};
 
 use crate::flags::{MOST_FLAGS, Shown};
 use dexhead::{DeviceFault, Sink};
-use std::alloc::{AllocError, Global};
-use std::marker::Model;
+use dexpool::Numbering;
 
-// So many bytes gather at most.
-const ROOM: usize = 65536;
+/// So many bytes gather at most.
+pub(crate) const ROOM: usize = 65536;
 
-/// The bytes that gathered, which are still to be written. The memory for all that gather at a time is reserved at first, and
-/// no more is taken.
+/// A listing on its way to the writer: the symbols that it names by number, and the bytes that gathered, which are still to be
+/// written. The memory for all that gather at a time is reserved at first, and no more is taken.
+///
+/// Each call that puts something has the condition that the writer has not failed, and fails exactly where the writer failed in
+/// this call.
 #[derive(Drop)]
-pub(crate) struct Gathered {
-    bytes: Vec<u8>,
+pub(crate) struct Listing<'n, 't, 'w, W> {
+    pub(crate) numbering: &'n Numbering<'t>,
+    pub(crate) gathered: Vec<u8>,
+    pub(crate) out: &'w mut W,
+    ghost room: { HasRoom gathered },
 }
 
-impl Model for Gathered {
-    ghost use Rattle.std.specs.Prelude.{ℕ, List};
-    ghost use Rattle.dexlisting.specs.Gathering.{HasRoom};
-
-    ghost Value = { List ℕ };
-
-    ghost view = { λ g. g.bytes.items };
-
-    ghost invariant = { λ g. HasRoom g.bytes };
-}
-
-impl Gathered {
-    /// No bytes yet, and the memory for all that gather at a time.
-    ///
-    /// Error: the memory was refused.
-    pub(crate) fn new(alloc: Global) -> Result<Gathered, AllocError>
-        ensures { IfOk result (λ gathered. gathered ≡ []) }
-    {
-        Ok(Gathered {
-            bytes: Vec::with_capacity(alloc, ROOM)?,
-        })
-    }
+impl<W: Sink> Listing<'_, '_, '_, W> {
+    ghost use Rattle.dexlisting.specs.Going.{GoesOn};
 
     /// Puts bytes behind those that gathered. No memory is taken.
-    ///
-    /// Condition: the writer has not failed. Error: exactly where it failed in this call.
-    pub(crate) fn put<W: Sink>(&mut self, bytes: &[u8], out: &mut W) -> Result<(), DeviceFault>
-        requires { W.has_failed out.old ≡ false }
-        ensures works { OnOk result (W.has_failed out.new ≡ false) }
-        ensures fails { OnErr result (W.has_failed out.new ≡ true) }
-        ensures tells { W.tells out.old → W.tells out.new }
-        ensures added { OnOk result (W.tells out.old → W.taken out.new ++ self.new ≡ W.taken out.old ++ (self.old ++ bytes.now)) }
+    pub(crate) fn put(&mut self, bytes: &[u8]) -> Result<(), DeviceFault>
+        requires { W.has_failed self.old.out.now ≡ false }
+        ensures goes { GoesOn W.has_failed self.old self.new result }
+        ensures tells { W.tells self.old.out.now → W.tells self.new.out.now }
+        ensures added { OnOk result (W.tells self.old.out.now → W.taken self.new.out.now ++ self.new.gathered.items ≡ W.taken self.old.out.now ++ (self.old.gathered.items ++ bytes.now)) }
     {
-        self.make_room(bytes.len(), out)?;
+        self.make_room(bytes.len())?;
         if ROOM < bytes.len() {
-            return write_whole(out, bytes);
+            return write_whole(self.out, bytes);
         }
-        self.bytes.extend_from_slice(bytes).unwrap();
+        self.gathered.extend_from_slice(bytes).unwrap();
         Ok(())
     }
 
     /// Puts one byte, as `put` puts many.
-    pub(crate) fn put_byte<W: Sink>(&mut self, byte: u8, out: &mut W) -> Result<(), DeviceFault>
-        requires { W.has_failed out.old ≡ false }
-        ensures works { OnOk result (W.has_failed out.new ≡ false) }
-        ensures fails { OnErr result (W.has_failed out.new ≡ true) }
-        ensures tells { W.tells out.old → W.tells out.new }
-        ensures added { OnOk result (W.tells out.old → W.taken out.new ++ self.new ≡ W.taken out.old ++ (self.old ++ byte ∷ [])) }
+    pub(crate) fn put_byte(&mut self, byte: u8) -> Result<(), DeviceFault>
+        requires { W.has_failed self.old.out.now ≡ false }
+        ensures goes { GoesOn W.has_failed self.old self.new result }
+        ensures tells { W.tells self.old.out.now → W.tells self.new.out.now }
+        ensures added { OnOk result (W.tells self.old.out.now → W.taken self.new.out.now ++ self.new.gathered.items ≡ W.taken self.old.out.now ++ (self.old.gathered.items ++ byte ∷ [])) }
     {
-        self.make_room(1, out)?;
-        self.bytes.push(byte).unwrap();
+        self.make_room(1)?;
+        self.gathered.push(byte).unwrap();
         Ok(())
     }
 
     /// Puts flags as text, as `put` puts bytes.
-    pub(crate) fn put_flags<F: Shown, W: Sink>(
-        &mut self,
-        flags: &F,
-        out: &mut W,
-    ) -> Result<(), DeviceFault>
-        requires { W.has_failed out.old ≡ false }
-        ensures works { OnOk result (W.has_failed out.new ≡ false) }
-        ensures fails { OnErr result (W.has_failed out.new ≡ true) }
-        ensures tells { W.tells out.old → W.tells out.new }
-        ensures added { OnOk result (W.tells out.old → W.taken out.new ++ self.new ≡ W.taken out.old ++ (self.old ++ F.text flags.now)) }
+    pub(crate) fn put_flags<F: Shown>(&mut self, flags: &F) -> Result<(), DeviceFault>
+        requires { W.has_failed self.old.out.now ≡ false }
+        ensures goes { GoesOn W.has_failed self.old self.new result }
+        ensures tells { W.tells self.old.out.now → W.tells self.new.out.now }
+        ensures added { OnOk result (W.tells self.old.out.now → W.taken self.new.out.now ++ self.new.gathered.items ≡ W.taken self.old.out.now ++ (self.old.gathered.items ++ F.text flags.now)) }
     {
-        self.make_room(MOST_FLAGS, out)?;
-        flags.put(&mut self.bytes).unwrap();
+        self.make_room(MOST_FLAGS)?;
+        flags.put(&mut self.gathered).unwrap();
         Ok(())
     }
 
     /// Writes what gathered. No memory is taken.
-    ///
-    /// Condition: the writer has not failed. Error: exactly where it failed in this call.
-    pub(crate) fn pass_on<W: Sink>(&mut self, out: &mut W) -> Result<(), DeviceFault>
-        requires { W.has_failed out.old ≡ false }
-        ensures works { OnOk result (W.has_failed out.new ≡ false) }
-        ensures fails { OnErr result (W.has_failed out.new ≡ true) }
-        ensures tells { W.tells out.old → W.tells out.new }
-        ensures written { OnOk result (W.tells out.old → W.taken out.new ≡ W.taken out.old ++ self.old) }
-        ensures none { OnOk result (self.new ≡ []) }
+    pub(crate) fn pass_on(&mut self) -> Result<(), DeviceFault>
+        requires { W.has_failed self.old.out.now ≡ false }
+        ensures goes { GoesOn W.has_failed self.old self.new result }
+        ensures tells { W.tells self.old.out.now → W.tells self.new.out.now }
+        ensures written { OnOk result (W.tells self.old.out.now → W.taken self.new.out.now ≡ W.taken self.old.out.now ++ self.old.gathered.items) }
+        ensures none { OnOk result (self.new.gathered.items ≡ []) }
     {
-        write_whole(out, &self.bytes)?;
-        self.bytes.clear();
+        write_whole(self.out, &self.gathered)?;
+        self.gathered.clear();
         Ok(())
     }
 
     // Writes what gathered where so many bytes more would be too many.
-    fn make_room<W: Sink>(&mut self, more: usize, out: &mut W) -> Result<(), DeviceFault>
-        requires { W.has_failed out.old ≡ false }
-        ensures works { OnOk result (W.has_failed out.new ≡ false) }
-        ensures fails { OnErr result (W.has_failed out.new ≡ true) }
-        ensures tells { W.tells out.old → W.tells out.new }
-        ensures kept { OnOk result (W.tells out.old → W.taken out.new ++ self.new ≡ W.taken out.old ++ self.old) }
-        ensures room { OnOk result (more ≤ 65536 → length self.new + more ≤ 65536) }
-        ensures none { OnOk result (65536 < more → self.new ≡ []) }
+    fn make_room(&mut self, more: usize) -> Result<(), DeviceFault>
+        requires { W.has_failed self.old.out.now ≡ false }
+        ensures goes { GoesOn W.has_failed self.old self.new result }
+        ensures tells { W.tells self.old.out.now → W.tells self.new.out.now }
+        ensures kept { OnOk result (W.tells self.old.out.now → W.taken self.new.out.now ++ self.new.gathered.items ≡ W.taken self.old.out.now ++ self.old.gathered.items) }
+        ensures room { OnOk result (more ≤ 65536 → length self.new.gathered.items + more ≤ 65536) }
+        ensures none { OnOk result (65536 < more → self.new.gathered.items ≡ []) }
     {
-        if ROOM - self.bytes.len() < more {
-            self.pass_on(out)?;
+        if ROOM - self.gathered.len() < more {
+            self.pass_on()?;
         }
         Ok(())
     }

@@ -3,9 +3,8 @@
 ghost use Rattle.std.specs.Prelude.{◌≡◌, ◌↔◌, true, false, IsErrOf};
 ghost use Rattle.dexlisting.specs.declared.faults.ListingFault.TheVariants.{Memory, Io};
 
-use crate::classes::put_class;
 use crate::faults::ListingFault;
-use crate::gathering::Gathered;
+use crate::gathering::{Listing, ROOM};
 use dexclass::Program;
 use dexhead::Sink;
 use std::alloc::Global;
@@ -28,11 +27,17 @@ pub fn write_listing<W: Sink>(
     ensures device { IsErrOf result Io ↔ (W.has_failed out.new ≡ true) }
     ensures nothing { IsErrOf result Memory → out.new ≡ out.old }
 {
-    let mut gathered = Gathered::new(alloc)?;
-    let numbering = program.numbering();
-    for class in program.classes() {
-        put_class(numbering, class, &mut gathered, out)?;
-    }
-    gathered.pass_on(out)?;
+    let mut listing = Listing {
+        numbering: program.numbering(),
+        gathered: Vec::with_capacity(alloc, ROOM)?,
+        out,
+    };
+    let result = listing.put_classes(program.classes());
+    let Listing {
+        numbering: _numbering,
+        gathered: _gathered,
+        out: _out,
+    } = listing;
+    result?;
     Ok(())
 }

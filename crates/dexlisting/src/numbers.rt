@@ -1,40 +1,34 @@
 //! Numbers, in decimal and in hexadecimal.
 
-ghost use Rattle.std.specs.Prelude.{◌≡◌, true, false, OnOk, OnErr};
+ghost use Rattle.std.specs.Prelude.{◌≡◌, false};
+ghost use Rattle.dexlisting.specs.Going.{GoesOn};
 
-use crate::gathering::Gathered;
+use crate::gathering::Listing;
 use dexhead::{DeviceFault, Sink};
 use itoa::Buffer;
 
 const DIGITS: [u8; 16] = *b"0123456789abcdef";
 
-/// Puts a number in decimal.
-pub(crate) fn put_decimal<W: Sink>(
-    number: usize,
-    gathered: &mut Gathered,
-    out: &mut W,
-) -> Result<(), DeviceFault>
-    requires { W.has_failed out.old ≡ false }
-    ensures works { OnOk result (W.has_failed out.new ≡ false) }
-    ensures fails { OnErr result (W.has_failed out.new ≡ true) }
-{
-    let mut buffer = Buffer::new();
-    gathered.put(buffer.format(number).as_bytes(), out)
-}
+impl<W: Sink> Listing<'_, '_, '_, W> {
+    /// Puts words, and a number in decimal behind them.
+    pub(crate) fn put_count(&mut self, words: &[u8], count: usize) -> Result<(), DeviceFault>
+        requires { W.has_failed self.old.out.now ≡ false }
+        ensures { GoesOn W.has_failed self.old self.new result }
+    {
+        self.put(words)?;
+        let mut buffer = Buffer::new();
+        self.put(buffer.format(count).as_bytes())
+    }
 
-/// Puts a number in lower-case hexadecimal, in four digits at least.
-pub(crate) fn put_hexadecimal<W: Sink>(
-    number: u32,
-    gathered: &mut Gathered,
-    out: &mut W,
-) -> Result<(), DeviceFault>
-    requires { W.has_failed out.old ≡ false }
-    ensures works { OnOk result (W.has_failed out.new ≡ false) }
-    ensures fails { OnErr result (W.has_failed out.new ≡ true) }
-{
-    let digits = eight_digits(number);
-    let zeros = number.leading_zeros() as usize / 4;
-    gathered.put(&digits[zeros.min(4)..], out)
+    /// Puts a number in lower-case hexadecimal, in four digits at least.
+    pub(crate) fn put_hexadecimal(&mut self, number: u32) -> Result<(), DeviceFault>
+        requires { W.has_failed self.old.out.now ≡ false }
+        ensures { GoesOn W.has_failed self.old self.new result }
+    {
+        let digits = eight_digits(number);
+        let zeros = number.leading_zeros() as usize / 4;
+        self.put(&digits[zeros.min(4)..])
+    }
 }
 
 // The eight digits of a number in lower-case hexadecimal.

@@ -1,138 +1,97 @@
 //! Symbols, by the texts of their names and types.
 
-ghost use Rattle.std.specs.Prelude.{◌≡◌, ◌<◌, length, true, false, OnOk, OnErr};
+ghost use Rattle.std.specs.Prelude.{◌≡◌, ◌<◌, length, false};
 ghost use Rattle.dexpool.specs.Pools.{count_of};
+ghost use Rattle.dexlisting.specs.Going.{GoesOn};
 
-use crate::gathering::Gathered;
-use crate::texts::{put_quoted, put_text};
+use crate::gathering::Listing;
 use dexhead::{DeviceFault, Sink};
-use dexpool::{Numbering, SymbolKind};
+use dexpool::SymbolKind;
 
-/// Puts a type: its descriptor.
-pub(crate) fn put_type<W: Sink>(
-    numbering: &Numbering<'_>,
-    typ: usize,
-    gathered: &mut Gathered,
-    out: &mut W,
-) -> Result<(), DeviceFault>
-    requires works { W.has_failed out.old ≡ false }
-    requires known { typ < length numbering.now.types }
-    ensures works { OnOk result (W.has_failed out.new ≡ false) }
-    ensures fails { OnErr result (W.has_failed out.new ≡ true) }
-{
-    put_text(numbering.typ(typ), gathered, out)
-}
-
-/// Puts the name of a field and its type: `NAME:TYPE`.
-pub(crate) fn put_own_field<W: Sink>(
-    numbering: &Numbering<'_>,
-    field: usize,
-    gathered: &mut Gathered,
-    out: &mut W,
-) -> Result<(), DeviceFault>
-    requires works { W.has_failed out.old ≡ false }
-    requires known { field < length numbering.now.fields }
-    ensures works { OnOk result (W.has_failed out.new ≡ false) }
-    ensures fails { OnErr result (W.has_failed out.new ≡ true) }
-{
-    let row = numbering.field(field);
-    put_text(numbering.string(row.name), gathered, out)?;
-    gathered.put_byte(b':', out)?;
-    put_type(numbering, row.typ, gathered, out)
-}
-
-/// Puts the name of a method and its types: `NAME(PARAMETERS)RETURN`.
-pub(crate) fn put_own_method<W: Sink>(
-    numbering: &Numbering<'_>,
-    method: usize,
-    gathered: &mut Gathered,
-    out: &mut W,
-) -> Result<(), DeviceFault>
-    requires works { W.has_failed out.old ≡ false }
-    requires known { method < length numbering.now.methods }
-    ensures works { OnOk result (W.has_failed out.new ≡ false) }
-    ensures fails { OnErr result (W.has_failed out.new ≡ true) }
-{
-    let row = numbering.method(method);
-    put_text(numbering.string(row.name), gathered, out)?;
-    put_proto(numbering, row.proto, gathered, out)
-}
-
-/// Puts the symbol of a kind and a number: `"TEXT"`, `TYPE`, `(PARAMETERS)RETURN`, `CLASS->NAME:TYPE` or
-/// `CLASS->NAME(PARAMETERS)RETURN`.
-pub(crate) fn put_symbol<W: Sink>(
-    numbering: &Numbering<'_>,
-    kind: SymbolKind,
-    number: usize,
-    gathered: &mut Gathered,
-    out: &mut W,
-) -> Result<(), DeviceFault>
-    requires works { W.has_failed out.old ≡ false }
-    requires known { number < count_of kind numbering.now }
-    ensures works { OnOk result (W.has_failed out.new ≡ false) }
-    ensures fails { OnErr result (W.has_failed out.new ≡ true) }
-{
-    match kind {
-        SymbolKind::Text => put_quoted(numbering.string(number), gathered, out),
-        SymbolKind::Typ => put_type(numbering, number, gathered, out),
-        SymbolKind::Proto => put_proto(numbering, number, gathered, out),
-        SymbolKind::Field => put_field(numbering, number, gathered, out),
-        SymbolKind::Method => put_method(numbering, number, gathered, out),
+impl<W: Sink> Listing<'_, '_, '_, W> {
+    /// Puts a type: its descriptor.
+    pub(crate) fn put_type(&mut self, typ: usize) -> Result<(), DeviceFault>
+        requires works { W.has_failed self.old.out.now ≡ false }
+        requires known { typ < length self.old.numbering.now.types }
+        ensures { GoesOn W.has_failed self.old self.new result }
+    {
+        self.put_text(self.numbering.typ(typ))
     }
-}
 
-// Puts a field with its class: `CLASS->NAME:TYPE`.
-fn put_field<W: Sink>(
-    numbering: &Numbering<'_>,
-    field: usize,
-    gathered: &mut Gathered,
-    out: &mut W,
-) -> Result<(), DeviceFault>
-    requires works { W.has_failed out.old ≡ false }
-    requires known { field < length numbering.now.fields }
-    ensures works { OnOk result (W.has_failed out.new ≡ false) }
-    ensures fails { OnErr result (W.has_failed out.new ≡ true) }
-{
-    put_type(numbering, numbering.field(field).class, gathered, out)?;
-    gathered.put(b"->", out)?;
-    put_own_field(numbering, field, gathered, out)
-}
-
-// Puts a method with its class: `CLASS->NAME(PARAMETERS)RETURN`.
-fn put_method<W: Sink>(
-    numbering: &Numbering<'_>,
-    method: usize,
-    gathered: &mut Gathered,
-    out: &mut W,
-) -> Result<(), DeviceFault>
-    requires works { W.has_failed out.old ≡ false }
-    requires known { method < length numbering.now.methods }
-    ensures works { OnOk result (W.has_failed out.new ≡ false) }
-    ensures fails { OnErr result (W.has_failed out.new ≡ true) }
-{
-    put_type(numbering, numbering.method(method).class, gathered, out)?;
-    gathered.put(b"->", out)?;
-    put_own_method(numbering, method, gathered, out)
-}
-
-// Puts the types of a method: `(PARAMETERS)RETURN`, the parameters without anything between them.
-fn put_proto<W: Sink>(
-    numbering: &Numbering<'_>,
-    proto: usize,
-    gathered: &mut Gathered,
-    out: &mut W,
-) -> Result<(), DeviceFault>
-    requires works { W.has_failed out.old ≡ false }
-    requires known { proto < length numbering.now.protos }
-    ensures works { OnOk result (W.has_failed out.new ≡ false) }
-    ensures fails { OnErr result (W.has_failed out.new ≡ true) }
-{
-    let row = numbering.proto(proto);
-    let parameters = row.parameters();
-    gathered.put_byte(b'(', out)?;
-    for k in 0..parameters.len() {
-        put_type(numbering, parameters.at(k), gathered, out)?;
+    /// Puts the name of a field and its type: `NAME:TYPE`.
+    pub(crate) fn put_own_field(&mut self, field: usize) -> Result<(), DeviceFault>
+        requires works { W.has_failed self.old.out.now ≡ false }
+        requires known { field < length self.old.numbering.now.fields }
+        ensures { GoesOn W.has_failed self.old self.new result }
+    {
+        let row = self.numbering.field(field);
+        self.put_text(self.numbering.string(row.name))?;
+        self.put_byte(b':')?;
+        self.put_type(row.typ)
     }
-    gathered.put_byte(b')', out)?;
-    put_type(numbering, row.return_type(), gathered, out)
+
+    /// Puts the name of a method and its types: `NAME(PARAMETERS)RETURN`.
+    pub(crate) fn put_own_method(&mut self, method: usize) -> Result<(), DeviceFault>
+        requires works { W.has_failed self.old.out.now ≡ false }
+        requires known { method < length self.old.numbering.now.methods }
+        ensures { GoesOn W.has_failed self.old self.new result }
+    {
+        let row = self.numbering.method(method);
+        self.put_text(self.numbering.string(row.name))?;
+        self.put_proto(row.proto)
+    }
+
+    /// Puts the symbol of a kind and a number: `"TEXT"`, `TYPE`, `(PARAMETERS)RETURN`, `CLASS->NAME:TYPE` or
+    /// `CLASS->NAME(PARAMETERS)RETURN`.
+    pub(crate) fn put_symbol(&mut self, kind: SymbolKind, number: usize) -> Result<(), DeviceFault>
+        requires works { W.has_failed self.old.out.now ≡ false }
+        requires known { number < count_of kind self.old.numbering.now }
+        ensures { GoesOn W.has_failed self.old self.new result }
+    {
+        match kind {
+            SymbolKind::Text => self.put_quoted(self.numbering.string(number)),
+            SymbolKind::Typ => self.put_type(number),
+            SymbolKind::Proto => self.put_proto(number),
+            SymbolKind::Field => self.put_field(number),
+            SymbolKind::Method => self.put_method(number),
+        }
+    }
+
+    // Puts a field with its class: `CLASS->NAME:TYPE`.
+    fn put_field(&mut self, field: usize) -> Result<(), DeviceFault>
+        requires works { W.has_failed self.old.out.now ≡ false }
+        requires known { field < length self.old.numbering.now.fields }
+        ensures { GoesOn W.has_failed self.old self.new result }
+    {
+        self.put_type(self.numbering.field(field).class)?;
+        self.put(b"->")?;
+        self.put_own_field(field)
+    }
+
+    // Puts a method with its class: `CLASS->NAME(PARAMETERS)RETURN`.
+    fn put_method(&mut self, method: usize) -> Result<(), DeviceFault>
+        requires works { W.has_failed self.old.out.now ≡ false }
+        requires known { method < length self.old.numbering.now.methods }
+        ensures { GoesOn W.has_failed self.old self.new result }
+    {
+        self.put_type(self.numbering.method(method).class)?;
+        self.put(b"->")?;
+        self.put_own_method(method)
+    }
+
+    // Puts the types of a method: `(PARAMETERS)RETURN`, the parameters without anything between them.
+    fn put_proto(&mut self, proto: usize) -> Result<(), DeviceFault>
+        requires works { W.has_failed self.old.out.now ≡ false }
+        requires known { proto < length self.old.numbering.now.protos }
+        ensures { GoesOn W.has_failed self.old self.new result }
+    {
+        let row = self.numbering.proto(proto);
+        let parameters = row.parameters();
+        self.put_byte(b'(')?;
+        for k in 0..parameters.len() {
+            self.put_type(parameters.at(k))?;
+        }
+        self.put_byte(b')')?;
+        self.put_type(row.return_type())
+    }
 }

@@ -1,56 +1,47 @@
 //! Texts, with units that are not printed spelled out.
 
-ghost use Rattle.std.specs.Prelude.{◌≡◌, true, false, OnOk, OnErr};
+ghost use Rattle.std.specs.Prelude.{◌≡◌, false};
+ghost use Rattle.dexlisting.specs.Going.{GoesOn};
 
-use crate::gathering::Gathered;
-use crate::numbers::put_hexadecimal;
+use crate::gathering::Listing;
 use dexhead::{DeviceFault, Sink};
 use dexstr::Text;
 
-/// Puts a text: the units 0x20 to 0x7e stand for themselves, `"` and `\` behind a `\`, and each other unit as `\u` and four
-/// hexadecimal digits.
-pub(crate) fn put_text<W: Sink>(
-    text: &Text<'_>,
-    gathered: &mut Gathered,
-    out: &mut W,
-) -> Result<(), DeviceFault>
-    requires { W.has_failed out.old ≡ false }
-    ensures works { OnOk result (W.has_failed out.new ≡ false) }
-    ensures fails { OnErr result (W.has_failed out.new ≡ true) }
-{
-    for unit in text.units() {
-        put_unit(unit, gathered, out)?;
+impl<W: Sink> Listing<'_, '_, '_, W> {
+    /// Puts a text: the units 0x20 to 0x7e stand for themselves, `"` and `\` behind a `\`, and each other unit as `\u` and four
+    /// hexadecimal digits.
+    pub(crate) fn put_text(&mut self, text: &Text<'_>) -> Result<(), DeviceFault>
+        requires { W.has_failed self.old.out.now ≡ false }
+        ensures { GoesOn W.has_failed self.old self.new result }
+    {
+        for unit in text.units() {
+            self.put_unit(unit)?;
+        }
+        Ok(())
     }
-    Ok(())
-}
 
-/// Puts a text between quotation marks.
-pub(crate) fn put_quoted<W: Sink>(
-    text: &Text<'_>,
-    gathered: &mut Gathered,
-    out: &mut W,
-) -> Result<(), DeviceFault>
-    requires { W.has_failed out.old ≡ false }
-    ensures works { OnOk result (W.has_failed out.new ≡ false) }
-    ensures fails { OnErr result (W.has_failed out.new ≡ true) }
-{
-    gathered.put_byte(b'"', out)?;
-    put_text(text, gathered, out)?;
-    gathered.put_byte(b'"', out)
-}
+    /// Puts a text between quotation marks.
+    pub(crate) fn put_quoted(&mut self, text: &Text<'_>) -> Result<(), DeviceFault>
+        requires { W.has_failed self.old.out.now ≡ false }
+        ensures { GoesOn W.has_failed self.old self.new result }
+    {
+        self.put_byte(b'"')?;
+        self.put_text(text)?;
+        self.put_byte(b'"')
+    }
 
-// Puts a unit of a text.
-fn put_unit<W: Sink>(unit: u16, gathered: &mut Gathered, out: &mut W) -> Result<(), DeviceFault>
-    requires { W.has_failed out.old ≡ false }
-    ensures works { OnOk result (W.has_failed out.new ≡ false) }
-    ensures fails { OnErr result (W.has_failed out.new ≡ true) }
-{
-    match u8::try_from(unit) {
-        Ok(byte @ (b'"' | b'\\')) => gathered.put(&[b'\\', byte], out),
-        Ok(byte @ 0x20..=0x7e) => gathered.put_byte(byte, out),
-        _ => {
-            gathered.put(b"\\u", out)?;
-            put_hexadecimal(u32::from(unit), gathered, out)
+    // Puts a unit of a text.
+    fn put_unit(&mut self, unit: u16) -> Result<(), DeviceFault>
+        requires { W.has_failed self.old.out.now ≡ false }
+        ensures { GoesOn W.has_failed self.old self.new result }
+    {
+        match u8::try_from(unit) {
+            Ok(byte @ (b'"' | b'\\')) => self.put(&[b'\\', byte]),
+            Ok(byte @ 0x20..=0x7e) => self.put_byte(byte),
+            _ => {
+                self.put(b"\\u")?;
+                self.put_hexadecimal(u32::from(unit))
+            }
         }
     }
 }

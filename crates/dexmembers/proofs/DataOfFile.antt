@@ -82,9 +82,10 @@ module _ (b : List ℕ) (m : Mentions) (pools : ArePools b m) (class : ℕ) (nam
   fields_to_file o last (f ∷ fs) n h =
       let x = h.2 in
       let lt : f.index < table_size b FieldIds = omega (arith, x.own.within, pools.fields_are.count) in
-      let place : o + h.0 ≡ o + x.index_size + x.flags_size = omega (arith, x.size) in
+      let head = x.head_is in
+      let place : o + h.0 ≡ o + head.index_size + head.flags_size = omega (arith, head.size) in
       let rest = subst (λ (p : ℕ). EncodedFieldsAt b p (Some f.index) (map (encoded_field_in m) fs) h.1) place (fields_to_file (o + h.0) (Some f.index) fs h.1 h.3) in
-      (x.index_size, x.flags_size, h.1, x.difference, f.index, x.difference_is, x.flags_is, x.next, pools.fields_are.each f.index _ lt, rest, omega (arith, h.4, x.size))
+      (head.index_size, head.flags_size, h.1, head.difference, f.index, head.difference_is, head.flags_is, head.next, pools.fields_are.each f.index _ lt, rest, omega (arith, h.4, head.size))
 
   -- methods
   pub methods_to_file : (o : ℕ) (last : Option ℕ) (xs : List EncodedMethod) (n : ℕ) → Chain (MethodAt m class) (λ x. x.index) b o last xs n → EncodedMethodsAt b o last (map (encoded_method_in m) xs) n
@@ -92,9 +93,12 @@ module _ (b : List ℕ) (m : Mentions) (pools : ArePools b m) (class : ℕ) (nam
   methods_to_file o last (f ∷ fs) n h =
       let x = h.2 in
       let lt : f.index < table_size b MethodIds = omega (arith, x.own.within, pools.methods_are.count) in
-      let place : o + h.0 ≡ o + x.index_size + x.flags_size + x.code_size = omega (arith, x.size) in
+      let head = x.head_is in
+      let place : o + h.0 ≡ o + head.index_size + head.flags_size + x.code_size = omega (arith, head.size, x.size) in
+      let code_place : o + x.head_size ≡ o + head.index_size + head.flags_size = omega (arith, head.size) in
+      let code_is = subst (λ (p : ℕ). Uleb128At b p f.code_off x.code_size) code_place x.code_is in
       let rest = subst (λ (p : ℕ). EncodedMethodsAt b p (Some f.index) (map (encoded_method_in m) fs) h.1) place (methods_to_file (o + h.0) (Some f.index) fs h.1 h.3) in
-      (x.index_size, x.flags_size, x.code_size, h.1, x.difference, f.index, x.difference_is, x.flags_is, x.code_is, x.next, pools.methods_are.each f.index _ lt, rest, omega (arith, h.4, x.size))
+      (head.index_size, head.flags_size, x.code_size, h.1, head.difference, f.index, head.difference_is, head.flags_is, code_is, head.next, pools.methods_are.each f.index _ lt, rest, omega (arith, h.4, head.size, x.size))
 
   -- fields of the file, if they are those of the class, are fields by numbers
   pub fields_of_file : ((i : ℕ) → i < table_size b FieldIds → i < 2 ^ 32) → (o : ℕ) (last : Option ℕ) (es : List items.EncodedField) (n : ℕ) → EncodedFieldsAt b o last es n → All (λ e. e.field.class ≡ name) es
@@ -113,14 +117,8 @@ module _ (b : List ℕ) (m : Mentions) (pools : ArePools b m) (class : ℕ) (nam
           h.0 + h.1,
           h.2,
           record {
-            difference = h.3;
-            index_size = h.0;
-            flags_size = h.1;
-            difference_is = h.5;
-            next = h.7;
+            head_is = record { difference = h.3; index_size = h.0; flags_size = h.1; difference_is = h.5; next = h.7; flags_is = h.6; size = refl };
             own = record { short = few h.4 lt; within = within; class_is = subst (IsAt m.types class) (sym of) at };
-            flags_is = h.6;
-            size = refl;
           },
           subst (λ (p : ℕ). Chain (FieldAt m class) (λ f. f.index) b p (Some h.4) rest.0 h.2) place rest.2,
           omega (arith, h.10),
@@ -137,6 +135,7 @@ module _ (b : List ℕ) (m : Mentions) (pools : ArePools b m) (class : ℕ) (nam
       let is : method_at m h.5 ≡ e.method = one_method b h.5 (method_at m h.5) e.method (pools.methods_are.each h.5 _ lt) h.10 in
       let of : (method_at m h.5).class ≡ name = ap (λ (x : Method). x.class) is ∙ All-head (λ (e : items.EncodedMethod). e.method.class ≡ name) e es own in
       let rest = methods_of_file few (o + h.0 + h.1 + h.2) (Some h.5) es h.3 h.11 (All-tail (λ (e : items.EncodedMethod). e.method.class ≡ name) e es own) in
+      let code_place : o + h.0 + h.1 ≡ o + (h.0 + h.1) = omega arith in
       let place : o + h.0 + h.1 + h.2 ≡ o + (h.0 + h.1 + h.2) = omega arith in (
         record { index = h.5; flags = e.flags; code_off = e.code_off } ∷ rest.0,
         (λ i. record { method = is i; flags = e.flags; code_off = e.code_off } ∷ rest.1 i),
@@ -144,15 +143,11 @@ module _ (b : List ℕ) (m : Mentions) (pools : ArePools b m) (class : ℕ) (nam
           h.0 + h.1 + h.2,
           h.3,
           record {
-            difference = h.4;
-            index_size = h.0;
-            flags_size = h.1;
+            head_size = h.0 + h.1;
             code_size = h.2;
-            difference_is = h.6;
-            next = h.9;
+            head_is = record { difference = h.4; index_size = h.0; flags_size = h.1; difference_is = h.6; next = h.9; flags_is = h.7; size = refl };
             own = record { short = few h.5 lt; within = within; class_is = subst (IsAt m.types class) (sym of) at };
-            flags_is = h.7;
-            code_is = h.8;
+            code_is = subst (λ (p : ℕ). Uleb128At b p e.code_off h.2) code_place h.8;
             size = refl;
           },
           subst (λ (p : ℕ). Chain (MethodAt m class) (λ x. x.index) b p (Some h.5) rest.0 h.3) place rest.2,

@@ -76,30 +76,30 @@ pub record IsOwnMethod (m : Mentions) (class i : ℕ) : Type 0 where
   pub within : i < length m.methods
   pub class_is : IsAt m.types class (method_at m i).class
 
+-- at offset o stand the index of a member, as its difference to the one before, and access flags
+pub record HeadAt (b : List ℕ) (o : ℕ) (last : Option ℕ) (index flags n : ℕ) : Type 0 where
+  pub difference : ℕ
+  pub index_size : ℕ
+  pub flags_size : ℕ
+  pub difference_is : Uleb128At b o difference index_size
+  pub next : IsNextIndex last difference index
+  pub flags_is : Uleb128At b (o + index_size) flags flags_size
+  pub size : n ≡ index_size + flags_size
+
 module _ (m : Mentions) (class : ℕ) where
   -- at offset o stands an encoded_field of the class
   pub record FieldAt (b : List ℕ) (o : ℕ) (last : Option ℕ) (f : EncodedField) (n : ℕ) : Type 0 where
-    pub difference : ℕ
-    pub index_size : ℕ
-    pub flags_size : ℕ
-    pub difference_is : Uleb128At b o difference index_size
-    pub next : IsNextIndex last difference f.index
+    pub head_is : HeadAt b o last f.index f.flags n
     pub own : IsOwnField m class f.index
-    pub flags_is : Uleb128At b (o + index_size) f.flags flags_size
-    pub size : n ≡ index_size + flags_size
 
   -- at offset o stands an encoded_method of the class
   pub record MethodAt (b : List ℕ) (o : ℕ) (last : Option ℕ) (x : EncodedMethod) (n : ℕ) : Type 0 where
-    pub difference : ℕ
-    pub index_size : ℕ
-    pub flags_size : ℕ
+    pub head_size : ℕ
     pub code_size : ℕ
-    pub difference_is : Uleb128At b o difference index_size
-    pub next : IsNextIndex last difference x.index
+    pub head_is : HeadAt b o last x.index x.flags head_size
     pub own : IsOwnMethod m class x.index
-    pub flags_is : Uleb128At b (o + index_size) x.flags flags_size
-    pub code_is : Uleb128At b (o + index_size + flags_size) x.code_off code_size
-    pub size : n ≡ index_size + flags_size + code_size
+    pub code_is : Uleb128At b (o + head_size) x.code_off code_size
+    pub size : n ≡ head_size + code_size
 
 -- ---- class data
 

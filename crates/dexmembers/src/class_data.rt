@@ -4,7 +4,8 @@ ghost use Rattle.std.specs.Prelude.{◌≡◌, ◌<◌, ◌≤◌, ◌+◌, ◌�
 ghost use Rattle.dexspec.specs.Lists.{Sequence};
 ghost use Rattle.dexspec.specs.Numbers.{Uleb128At};
 ghost use Rattle.dexspec.specs.Header.{ClassDefs, table_size};
-ghost use Rattle.dexspec.specs.Classes.{class_idx, class_data_off};
+ghost use Rattle.dexspec.specs.Bytes.{uint_at};
+ghost use Rattle.dexspec.specs.Rows.{row_at};
 ghost use Rattle.dexspec.specs.Accepted.{HasClass};
 ghost use Rattle.dexmembers.specs.EncodedMembers.{IsDataRefusal, DataAt, NoData};
 ghost use Rattle.dexpool.specs.Pools.{ArePools};
@@ -127,13 +128,18 @@ fn read_data(
     })
 }
 
-// The number of the type that a class row defines, and where its class data stands, or 0.
-fn class_and_data(frame: &Frame<'_>, row: u32) -> (u32, u32)
-    requires { row < table_size frame.now ClassDefs }
-    ensures { (result.0 ≡ class_idx frame.now row) × (result.1 ≡ class_data_off frame.now row) }
+/// The number at an offset in class row `row`. No memory is taken.
+///
+/// Condition: the row is one of the file's, and the number is in it.
+///
+/// Source: "class_def_item".
+pub(crate) fn row_number(frame: &Frame<'_>, row: u32, at: usize) -> u32
+    requires row { row < table_size frame.now ClassDefs }
+    requires within { at ≤ 28 }
+    ensures { result ≡ uint_at frame.now (row_at frame.now ClassDefs row + at) }
 {
     let fields = frame.row(Table::ClassDefs, row);
-    (u32_at(fields, 0), u32_at(fields, 24))
+    u32_at(fields, at)
 }
 
 /// Reads the members that class row `row` declares: those of its class_data_item, or none where its offset is 0.
@@ -155,7 +161,8 @@ pub(crate) fn read_class_data(
 {
     pools.numbering().is_numbering();
     let bytes = frame.bytes();
-    let (class, off) = class_and_data(frame, row);
+    let class = row_number(frame, row, 0);
+    let off = row_number(frame, row, 24);
     if off == 0 {
         return Ok(ClassData {
             static_fields: Vec::new(alloc),

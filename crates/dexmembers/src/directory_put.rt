@@ -59,73 +59,59 @@ pub(crate) fn placed(offsets: &[u32]) -> u32
     count
 }
 
-// The number of the field at a place, or what is greater than each.
-fn next_field(fields: &[Field], place: usize) -> u64
-    ensures number { result ≡ slice_index_or (field_numbers fields.now) place 0x100000000 }
-    ensures there { place < length fields.now → result < 2 ^ 32 }
-    ensures end { length fields.now ≤ place → result ≡ 0x100000000 }
+// A member of a class, which has a number.
+trait HasNumber {
+    ghost number_of: { Self → ℕ };
+
+    // The number of the member.
+    fn number(&self) -> u32
+        ensures { result ≡ number_of self.now };
+}
+
+impl HasNumber for Field {
+    ghost number_of = { λ f. f.number };
+
+    fn number(&self) -> u32 {
+        self.number
+    }
+}
+
+impl HasNumber for Method<'_> {
+    ghost number_of = { λ x. x.number };
+
+    fn number(&self) -> u32 {
+        self.number
+    }
+}
+
+// The number of the member at a place, or what is greater than each.
+fn next_number<T: HasNumber>(members: &[T], place: usize) -> u64
+    ensures number { result ≡ slice_index_or (map T.number_of members.now) place 0x100000000 }
+    ensures there { place < length members.now → result < 2 ^ 32 }
+    ensures end { length members.now ≤ place → result ≡ 0x100000000 }
 {
-    match fields.get(place) {
-        Some(field) => u64::from(field.number()),
+    match members.get(place) {
+        Some(member) => u64::from(member.number()),
         None => NONE_LEFT,
     }
 }
 
-// Appends the pairs of two lists of fields by index.
-fn append_field_pairs(
-    first: &[Field],
-    second: &[Field],
+// Appends the pairs of two lists of members by index.
+fn append_pairs<T: HasNumber>(
+    first: &[T],
+    second: &[T],
     offsets: &[u32],
     out: &mut Vec<u8>,
 ) -> Result<(), AllocError>
     requires { length offsets.now ≡ length first.now + length second.now }
-    ensures { Appends ⊤ (both_bytes (field_numbers first.now) (field_numbers second.now) offsets.now) out.old out.new result }
+    ensures { Appends ⊤ (both_bytes (map T.number_of first.now) (map T.number_of second.now) offsets.now) out.old out.new result }
 {
     let (first_offsets, second_offsets) = offsets.split_at(first.len());
     let mut i = 0;
     let mut j = 0;
     'merging: while i + j < offsets.len() {
-        let one = next_field(first, i);
-        let other = next_field(second, j);
-        if one < other {
-            append_pair(one as u32, first_offsets[i], out)?;
-            i += 1;
-        } else {
-            append_pair(other as u32, second_offsets[j], out)?;
-            j += 1;
-        }
-    }
-    Ok(())
-}
-
-// The number of the method at a place, or what is greater than each.
-fn next_method(methods: &[Method<'_>], place: usize) -> u64
-    ensures number { result ≡ slice_index_or (method_numbers methods.now) place 0x100000000 }
-    ensures there { place < length methods.now → result < 2 ^ 32 }
-    ensures end { length methods.now ≤ place → result ≡ 0x100000000 }
-{
-    match methods.get(place) {
-        Some(method) => u64::from(method.number()),
-        None => NONE_LEFT,
-    }
-}
-
-// Appends the pairs of two lists of methods by index.
-fn append_method_pairs(
-    first: &[Method<'_>],
-    second: &[Method<'_>],
-    offsets: &[u32],
-    out: &mut Vec<u8>,
-) -> Result<(), AllocError>
-    requires { length offsets.now ≡ length first.now + length second.now }
-    ensures { Appends ⊤ (both_bytes (method_numbers first.now) (method_numbers second.now) offsets.now) out.old out.new result }
-{
-    let (first_offsets, second_offsets) = offsets.split_at(first.len());
-    let mut i = 0;
-    let mut j = 0;
-    'merging: while i + j < offsets.len() {
-        let one = next_method(first, i);
-        let other = next_method(second, j);
+        let one = next_number(first, i);
+        let other = next_number(second, j);
         if one < other {
             append_pair(one as u32, first_offsets[i], out)?;
             i += 1;
@@ -143,7 +129,7 @@ impl Members<'_> {
         requires { length offsets.now ≡ length (fields_of self.now) }
         ensures { Appends ⊤ (both_bytes (field_numbers self.now.static_fields) (field_numbers self.now.instance_fields) offsets.now) out.old out.new result }
     {
-        append_field_pairs(self.static_fields(), self.instance_fields(), offsets, out)
+        append_pairs(self.static_fields(), self.instance_fields(), offsets, out)
     }
 
     // Appends pairs of the methods.
@@ -151,7 +137,7 @@ impl Members<'_> {
         requires { length offsets.now ≡ length (methods_of self.now) }
         ensures { Appends ⊤ (both_bytes (method_numbers self.now.direct_methods) (method_numbers self.now.virtual_methods) offsets.now) out.old out.new result }
     {
-        append_method_pairs(self.direct_methods(), self.virtual_methods(), offsets, out)
+        append_pairs(self.direct_methods(), self.virtual_methods(), offsets, out)
     }
 
     // Appends the annotations_directory_item.

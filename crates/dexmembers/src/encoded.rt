@@ -3,7 +3,7 @@
 ghost use Rattle.std.specs.Prelude.{◌≡◌, ◌↔◌, ◌^◌, ◌<◌, ◌≤◌, ◌+◌, ℕ, List, Option, Some, length, IsTrue, IfSome, IfNone, MatchOption};
 ghost use Rattle.dexspec.specs.Mentions.{Mentions};
 ghost use Rattle.dexspec.specs.ClassData.{IsNextIndex};
-ghost use Rattle.dexmembers.specs.EncodedMembers.{IsOwnField, IsOwnMethod, FieldAt, MethodAt};
+ghost use Rattle.dexmembers.specs.EncodedMembers.{IsOwnField, IsOwnMethod, HeadAt, FieldAt, MethodAt};
 
 use crate::class_data::{EncodedField, EncodedMethod};
 use dexleb::read_u;
@@ -64,22 +64,14 @@ impl Encoded for EncodedField {
         at: usize,
         last: Option<u32>,
     ) -> Option<(EncodedField, usize)> {
-        let (difference, index_size) = match read_u(bytes, at) {
-            Ok(read) => read,
-            Err(_) => return None,
-        };
-        let index = match next_index(last, difference) {
-            Some(index) => index,
+        let (index, flags, size) = match head_at(bytes, at, last) {
+            Some(head) => head,
             None => return None,
         };
         if !owner.has_field(index) {
             return None;
         }
-        let (flags, flags_size) = match read_u(bytes, at + index_size) {
-            Ok(read) => read,
-            Err(_) => return None,
-        };
-        Some((EncodedField { index, flags }, index_size + flags_size))
+        Some((EncodedField { index, flags }, size))
     }
 }
 
@@ -100,22 +92,14 @@ impl Encoded for EncodedMethod {
         at: usize,
         last: Option<u32>,
     ) -> Option<(EncodedMethod, usize)> {
-        let (difference, index_size) = match read_u(bytes, at) {
-            Ok(read) => read,
-            Err(_) => return None,
-        };
-        let index = match next_index(last, difference) {
-            Some(index) => index,
+        let (index, flags, head_size) = match head_at(bytes, at, last) {
+            Some(head) => head,
             None => return None,
         };
         if !owner.has_method(index) {
             return None;
         }
-        let (flags, flags_size) = match read_u(bytes, at + index_size) {
-            Ok(read) => read,
-            Err(_) => return None,
-        };
-        let (code_off, code_size) = match read_u(bytes, at + index_size + flags_size) {
+        let (code_off, code_size) = match read_u(bytes, at + head_size) {
             Ok(read) => read,
             Err(_) => return None,
         };
@@ -124,8 +108,30 @@ impl Encoded for EncodedMethod {
             flags,
             code_off,
         };
-        Some((method, index_size + flags_size + code_size))
+        Some((method, head_size + code_size))
     }
+}
+
+// The index of a member behind one with the index `last`, if there is one, its access flags, and how many bytes spell both.
+fn head_at(bytes: &[u8], at: usize, last: Option<u32>) -> Option<(u32, u32, usize)>
+    requires { at ≤ length bytes.now }
+    ensures some { IfSome result (λ x. HeadAt bytes.now at last x.0 x.1 x.2) }
+    ensures only { (index flags size : ℕ) → index < 2 ^ 32 → HeadAt bytes.now at last index flags size → result ≡ Some (index, flags, size) }
+    ensures within { IfSome result (λ x. at + x.2 ≤ length bytes.now) }
+{
+    let (difference, index_size) = match read_u(bytes, at) {
+        Ok(read) => read,
+        Err(_) => return None,
+    };
+    let index = match next_index(last, difference) {
+        Some(index) => index,
+        None => return None,
+    };
+    let (flags, flags_size) = match read_u(bytes, at + index_size) {
+        Ok(read) => read,
+        Err(_) => return None,
+    };
+    Some((index, flags, index_size + flags_size))
 }
 
 // The index behind another one, or `None` where the difference is 0, or the index has more than 32 bits. The first index is

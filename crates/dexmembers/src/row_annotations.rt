@@ -1,29 +1,19 @@
 //! The annotations of a class and its members.
 
-ghost use Rattle.std.specs.Prelude.{◌≡◌, ◌<◌, IsTrue, IfOk, IfErr, MatchOption};
+ghost use Rattle.std.specs.Prelude.{◌<◌, IsTrue, IfOk, IfErr, MatchOption};
 ghost use Rattle.dexspec.specs.Header.{ClassDefs, table_size};
-ghost use Rattle.dexspec.specs.Classes.{annotations_off};
 ghost use Rattle.dexpool.specs.Pools.{ArePools};
 ghost use Rattle.dexval.specs.Directories.{HasMembers};
 ghost use Rattle.dexmembers.specs.ClassData.{IsDataOf};
 ghost use Rattle.dexmembers.specs.Naming.{NamesRead, ListsRise};
 ghost use Rattle.dexmembers.specs.RowParts.{AreAnnotationsOf, AreHeavyAnnotations, IsAnnotationsFault};
 
-use crate::class_data::ClassData;
-use crate::naming::{names_fields, names_methods};
-use dexhead::{Frame, Table, u32_at};
+use crate::class_data::{ClassData, EncodedField, EncodedMethod, row_number};
+use crate::naming::names_members;
+use dexhead::{Frame, u32_at};
 use dexpool::{ItemFault, Pools};
 use dexval::{AnnotationSet, Directory, read_directory_within};
 use std::alloc::Global;
-
-// Where the annotations directory of class row `row` stands, or 0.
-fn directory_off(frame: &Frame<'_>, row: u32) -> u32
-    requires { row < table_size frame.now ClassDefs }
-    ensures { result ≡ annotations_off frame.now row }
-{
-    let fields = frame.row(Table::ClassDefs, row);
-    u32_at(fields, 20)
-}
 
 // Whether the directory at an offset names declared members alone.
 fn names_declared(frame: &Frame<'_>, off: u32, declared: &ClassData) -> bool
@@ -43,16 +33,16 @@ fn names_declared(frame: &Frame<'_>, off: u32, declared: &ClassData) -> bool
     }
     let at = off as usize + 16;
     let (first, second) = (&declared.static_fields, &declared.instance_fields);
-    if !names_fields(frame, at, fields, first, second) {
+    if !names_members::<EncodedField>(frame, at, fields, first, second) {
         return false;
     }
     let at = at + 8 * fields as usize;
     let (first, second) = (&declared.direct_methods, &declared.virtual_methods);
-    if !names_methods(frame, at, methods, first, second) {
+    if !names_members::<EncodedMethod>(frame, at, methods, first, second) {
         return false;
     }
     let at = at + 8 * methods as usize;
-    names_methods(frame, at, parameters, first, second)
+    names_members::<EncodedMethod>(frame, at, parameters, first, second)
 }
 
 /// Reads the annotations of the class of row `row` and of its members, or none where its offset is 0. Where their sets weigh
@@ -75,7 +65,7 @@ pub(crate) fn read_annotations(
     ensures refused { ArePools frame.now pools.now → IsDataOf frame.now row pools.now declared.now → IfErr result (IsAnnotationsFault frame.now row) }
 {
     pools.numbering().is_numbering();
-    let off = directory_off(frame, row);
+    let off = row_number(frame, row, 20);
     if off == 0 {
         return Ok(Some(Directory {
             own: AnnotationSet::empty(alloc),

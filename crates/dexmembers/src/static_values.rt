@@ -1,26 +1,17 @@
 //! The values that static fields begin with.
 
-ghost use Rattle.std.specs.Prelude.{◌≡◌, ◌<◌, ◌≤◌, IfOk, IfErr, MatchOption, map};
+ghost use Rattle.std.specs.Prelude.{◌<◌, IfOk, IfErr, MatchOption, map};
 ghost use Rattle.dexspec.specs.Header.{ClassDefs, table_size};
-ghost use Rattle.dexspec.specs.Classes.{static_values_off};
 ghost use Rattle.dexpool.specs.Pools.{ArePools};
 ghost use Rattle.dexval.specs.Code.{value_of};
 ghost use Rattle.dexval.specs.Numbered.{values_of_list};
 ghost use Rattle.dexmembers.specs.StaticValues.{AreValuesOf, AreHeavyValues, IsValuesFault};
 
-use dexhead::{Frame, Table, u32_at};
+use crate::class_data::row_number;
+use dexhead::Frame;
 use dexpool::{ItemFault, Pools};
 use dexval::{Value, read_statics, statics_weight};
 use std::alloc::Global;
-
-// Where the static values of class row `row` stand, or 0.
-fn values_off(frame: &Frame<'_>, row: u32) -> u32
-    requires { row < table_size frame.now ClassDefs }
-    ensures { result ≡ static_values_off frame.now row }
-{
-    let fields = frame.row(Table::ClassDefs, row);
-    u32_at(fields, 28)
-}
 
 /// Reads the values that the static fields of class row `row` begin with, or none where its offset is 0. Where they
 /// weigh more than `most`, they are read and dropped, and none is answered.
@@ -43,7 +34,7 @@ pub(crate) fn read_static_values(
 {
     // The clause of `bytes` bounds the file, so that the weight is exact.
     let _bytes = frame.bytes();
-    let off = values_off(frame, row);
+    let off = row_number(frame, row, 28);
     if off == 0 {
         return Ok(Some(Vec::new(alloc)));
     }

@@ -1,5 +1,5 @@
 -- The definitions of the parts of a plan.
-use Rattle.std.proofs.Common.{◌≡◌, ◌⊎◌, ℕ, ◌<◌, List, [], ◌∷◌, ◌++◌, length, get_or, map, refl, sym, ap, ◌∙◌, subst, inl, inr, Ok, Err}
+use Rattle.std.proofs.Common.{◌≡◌, ◌⊎◌, ℕ, zero, suc, ◌<◌, List, [], ◌∷◌, ◌++◌, length, get_or, map, refl, sym, ap, ◌∙◌, subst, arith, inl, inr, Ok, Err}
 use Rattle.std.specs.Prelude.{Result, All, IfOk, IfErr, slice_index_or}
 use Rattle.std.specs.List.{Contains, flat_map}
 use Rattle.std.proofs.lemmas.List.{append-nil}
@@ -8,8 +8,8 @@ use Rattle.std.proofs.lemmas.List.Elements.{Contains-append_left, Contains-appen
 use Rattle.dexspec.specs.Classes.{Definition}
 use Rattle.dexspec.specs.Files.{Collection, definitions, AreSame, AreWithin}
 use Rattle.dexspec.specs.Merging as merging
-use Rattle.dexspec.specs.Merging.{Caps, Cause, IsCause, IsFirstCause, IsFlat, AreLeaves, Plan, Leaf, Node, leaves, all_leaves}
-use Rattle.dexspec.proofs.Members.{Contains-nil, Contains-cons_cases}
+use Rattle.dexspec.specs.Merging.{Caps, Cause, IsCause, IsFirstCause, IsFlat, IsPlanFor, AreLeaves, Plan, Leaf, Node, leaves, all_leaves}
+use Rattle.dexspec.proofs.Members.{Contains-nil, Contains-cons_cases, Contains-flat_map, Contains-flat_map_source}
 use Rattle.dexspec.proofs.Absorption.{IsGood-within, IsCause-within}
 use Rattle.dexspec.proofs.FirstCauses.{first_cause-same}
 use Rattle.dexmerge.specs.declared.faults.MergeFault.{MergeFault}
@@ -183,3 +183,29 @@ all_member P xs x all c = subst P c.2 (All-get_or P xs c.0 x c.1 all)
 -- the files of a part are known
 pub part_known : (files : List Collection) (ps : List Plan) (p : Plan) → Contains ps p → AreKnown files (Node (plans_of ps)) → AreKnown files p
 part_known files ps p has known i d lt = all_member (λ k. k < length files) (all_leaves (plans_of ps)) (get_or (leaves p) i d) known (part_leaves ps p (get_or (leaves p) i d) has (Contains-get_or (leaves p) i d lt))
+
+-- ---- all files
+
+-- the definitions of a file, by its number
+at_number : (files : List Collection) (K : Collection) (i : ℕ) → i < length files → get_or files i K ≡ K → slice_index_or (map definitions files) i [] ≡ definitions K
+at_number [] K i lt e = absurd (omega (arith, lt))
+at_number (L ∷ Ls) K zero lt e = ap definitions e
+at_number (L ∷ Ls) K (suc i) lt e = at_number Ls K i (omega (arith, lt)) e
+
+-- the definitions of a file are among those of all
+number_within : (files : List Collection) (d : Definition) (i : ℕ) → i < length files → Contains (slice_index_or (map definitions files) i []) d → Contains (flat_map definitions files) d
+number_within [] d i lt has = absurd (omega (arith, lt))
+number_within (K ∷ Ks) d zero lt has = Contains-append_left (definitions K) (flat_map definitions Ks) d has
+number_within (K ∷ Ks) d (suc i) lt has = Contains-append_right (definitions K) (flat_map definitions Ks) d (number_within Ks d i (omega (arith, lt)) has)
+
+-- a plan for the files names the definitions of all of them, and of nothing besides
+pub files_same : (files : List Collection) (p : Plan) → IsPlanFor (length files) p → AreSame (flat_map definitions (files ++ [])) (planned files p)
+files_same files p h d = (
+  λ c.
+      let found = Contains-flat_map_source definitions files d (subst (λ (l : List Collection). Contains (flat_map definitions l) d) (append-nil files) c) in
+      let at = found.1 in
+      Contains-flat_map (λ i. slice_index_or (map definitions files) i []) (leaves p) at.0 d (h.named at.0 at.1) (subst (λ (l : List Definition). Contains l d) (sym (at_number files found.0 at.0 at.1 at.2)) found.2),
+  λ c.
+      let found = Contains-flat_map_source (λ i. slice_index_or (map definitions files) i []) (leaves p) d c in
+      subst (λ (l : List Collection). Contains (flat_map definitions l) d) (sym (append-nil files)) (number_within files d found.0 (all_member (λ i. i < length files) (leaves p) found.0 h.known found.1) found.2),
+)

@@ -19,4 +19,4 @@ pub use caps::Caps;
 pub use faults::{MergeFault, PlanFault};
 pub use merging::merge;
 pub use plan::{Plan, is_plan_for};
-pub use planned::merge_plan;
+pub use planned::{merge_files, merge_plan};

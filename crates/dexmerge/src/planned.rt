@@ -111,3 +111,38 @@ pub fn merge_plan<'a>(
         Err(fault) => Err(PlanFault::Merge(fault)),
     }
 }
+
+// Whether the plan is a file or a node of files.
+fn is_flat(plan: &Plan) -> bool {
+    match plan {
+        Plan::Leaf(_) => true,
+        Plan::Node(parts) => parts.iter().all(|part| matches!(part, Plan::Leaf(_))),
+    }
+}
+
+/// The program of all classes of the files that a plan names, as [`merge_plan`] has it. The files are given up: where
+/// the plan is a file or a node of files, their classes are moved and not copied.
+///
+/// Error: as of [`merge_plan`].
+pub fn merge_files<'a>(
+    alloc: Global,
+    files: Vec<Program<'a>>,
+    plan: &Plan,
+    caps: &Caps,
+) -> Result<Program<'a>, PlanFault>
+    ensures merged { IfOk result (IsPlanned caps.now files.entry.items (plan_of plan.now)) }
+    ensures fault { IfErr result (IsPlanFault caps.now files.entry.items (plan_of plan.now)) }
+    ensures apart { (classes : List Definition) (cause : Cause) → IsGood caps.now classes → IsCause caps.now classes cause → ⊥ }
+{
+    dexlaws_causes::good_or_first_cause();
+    if !is_flat(plan) {
+        return merge_plan(alloc, &files, plan, caps);
+    }
+    if !is_plan_for(alloc, plan, files.len())? {
+        return Err(PlanFault::BadPlan);
+    }
+    match merge_all(alloc, files, &[], caps) {
+        Ok(program) => Ok(program),
+        Err(fault) => Err(PlanFault::Merge(fault)),
+    }
+}

@@ -105,15 +105,19 @@ fn the_type_of_an_annotation_in_two_bytes(rt: HostRuntime) {
 
 /// The name, the type and the signature of an operation.
 fn numbers(operation: &Operation) -> (Option<u32>, Option<u32>, Option<u32>) {
-    (operation.name(), operation.typ(), operation.signature())
+    (
+        operation.name_idx(),
+        operation.type_idx(),
+        operation.sig_idx(),
+    )
 }
 
 #[test]
 fn operations_tell_their_numbers(rt: HostRuntime) {
     let local = Operation::StartLocal {
-        register: 9,
-        name: None,
-        typ: Some(3),
+        register_num: 9,
+        name_idx: None,
+        type_idx: Some(3),
     };
     assert_eq!(rt; numbers(&local), (None, Some(3), None));
     assert_eq!(rt; numbers(&Operation::SetFile(None)), (None, None, None));

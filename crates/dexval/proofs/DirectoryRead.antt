@@ -34,6 +34,19 @@ pub no_set : (b : List ℕ) (off : ℕ) → off ≢ 0 → NoSetAt b off → NoSe
 no_set b off other none s (inl h) = other h.0
 no_set b off other none s (inr h) = none s h.1
 
+-- a set that stands elsewhere is none that is empty
+pub set_is : (b : List ℕ) (off : ℕ) (m : Mentions) (s : NumberedSet) → off ≢ 0 → IsSetOrEmptyAt b off m s → IsSetAt b off m s
+set_is b off m s other h = record {
+  known = h.known;
+  at = elim h.at [
+    | inl e ↦ absurd (other e.0)
+    | inr r ↦ r.1
+  ];
+}
+
+pub no_set_is : (b : List ℕ) (off : ℕ) → off ≢ 0 → NoSetOrEmptyAt b off → NoSetAt b off
+no_set_is b off other none s h = none s (inr (other, h))
+
 -- ---- lists of sets
 
 -- what stands for a key

@@ -20,6 +20,7 @@ pub mod Members
 pub mod NestedRead
 pub mod Offsets
 pub mod Ranked
+pub mod Refusals
 pub mod Renumbered
 pub mod Unmoved
 pub mod ScalarsRead

@@ -4,6 +4,8 @@ use Rattle.dexspec.specs.Bytes.{uint_at}
 use Rattle.dexspec.specs.Sections.{IsInData}
 use Rattle.dexspec.specs.Annotations.{Annotation, AnnotationSet, AnnotationAt, SetAt}
 use Rattle.dexspec.specs.Mentions.{Mentions}
+use Rattle.dexpool.specs.declared.faults.ItemFault.{ItemFault}
+use Rattle.dexpool.specs.declared.faults.ItemFault.TheVariants.{Refused, Memory}
 use Rattle.dexval.specs.Numbered.{NumberedAnnotation, IsKnownAnnotation, annotation_in}
 
 -- at the offset stands an annotation_item of the annotation that the numbers stand for
@@ -23,3 +25,8 @@ NoSetAt b off = (s : AnnotationSet) → SetAt b off s → ⊥
 pub record HasOffsets (b : List ℕ) (off : ℕ) : Type 0 where
   pub in_data : IsInData b off (4 + 4 * uint_at b off)
   pub aligned : off % 4 ≡ 0
+
+-- something of a directory was refused, and so it is; a refusal of memory tells nothing
+abbrev pub IsRefusal : Type 0 → ItemFault → Type 0
+IsRefusal P (Refused number) = (number ≡ 22) × P
+IsRefusal P Memory = Unit {0}

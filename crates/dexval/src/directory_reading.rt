@@ -1,24 +1,25 @@
 //! Directories of annotations read from a file.
 
-ghost use Rattle.std.specs.Prelude.{◌^◌, ◌<◌, ◌≡◌, ◌+◌, ◌*◌, ◌≤◌, All, IfOk, IfErr, IfSome, MatchOption, length, map, sum_by};
+ghost use Rattle.std.specs.Prelude.{◌^◌, ◌<◌, ◌≡◌, ◌+◌, ◌*◌, ◌≤◌, All, IfOk, IfErr, OnOk, MatchOption, length, map, sum_by};
 ghost use Rattle.dexspec.specs.Bytes.{uint_at};
 ghost use Rattle.dexspec.specs.Annotations.{SetAt, RefListAt, fields_count, methods_count, parameters_count};
 ghost use Rattle.dexpool.specs.Pools.{ArePools};
 ghost use Rattle.dexval.specs.Code.{set_of, directory_of};
 ghost use Rattle.dexval.specs.Numbered.{IsKnownSet, set_in, directory_in};
 ghost use Rattle.dexval.specs.Nesting.{AreFilePools};
-ghost use Rattle.dexval.specs.Directories.{IsSetOrEmptyAt, NoSetOrEmptyAt, IsRefListAt, NoRefListAt, HasPair, ArePairsAt, NoPairsAt, HasMembers, NoDirectoryAt, member_set_of, member_list_of, directory_weight, set_weight_in, sets_weight_in, IsKept};
+ghost use Rattle.dexval.specs.Items.{IsRefusal};
+ghost use Rattle.dexval.specs.Directories.{IsRefListAt, NoRefListAt, HasPair, ArePairsAt, NoPairsAt, HasMembers, member_set_of, member_list_of, directory_weight, set_weight_in, sets_weight_in, IsKept};
 ghost use Rattle.dexval.specs.Judged.{AreJudged};
 ghost use Rattle.dexval.specs.Reading.{IsDirectoryAt, IsDirectoryFault, IsDirectoryWithin, HasHeavyDirectory};
 
 use crate::budget::Budget;
 use crate::directory::Directory;
-use crate::judged::{Judged, counted_set_at, counted_set_or_empty_at};
+use crate::judged::{Judged, counted_set_at};
 use crate::set::AnnotationSet;
 use crate::set_reading::count_at;
 use dexhead::{Frame, u32_at};
 use dexpool::{ItemFault, Pools, SymbolKind};
-use std::alloc::{AllocError, Global};
+use std::alloc::Global;
 
 // How many members a directory annotates.
 #[derive(Clone, Copy)]
@@ -28,13 +29,13 @@ struct Counts {
     parameters: u32,
 }
 
-// The counts of the annotations_directory_item at an offset, or `None` where it is not wholly in the data at a multiple
-// of 4.
-fn counts_at(frame: &Frame<'_>, off: u32) -> Option<Counts>
-    ensures { MatchOption result (HasMembers frame.now off → ⊥) (λ counts. HasMembers frame.now off × (counts.fields ≡ fields_count frame.now off) × (counts.methods ≡ methods_count frame.now off) × (counts.parameters ≡ parameters_count frame.now off)) }
+// The counts of the annotations_directory_item at an offset. Error: it is not wholly in the data at a multiple of 4.
+fn counts_at(frame: &Frame<'_>, off: u32) -> Result<Counts, ItemFault>
+    ensures counts { IfOk result (λ counts. HasMembers frame.now off × (counts.fields ≡ fields_count frame.now off) × (counts.methods ≡ methods_count frame.now off) × (counts.parameters ≡ parameters_count frame.now off)) }
+    ensures refused { IfErr result (IsRefusal (HasMembers frame.now off → ⊥)) }
 {
     if off % 4 != 0 || !frame.is_in_data(off, 16) {
-        return None;
+        return Err(ItemFault::Refused(22));
     }
     let bytes = frame.bytes();
     let fields = u32_at(bytes, off as usize + 4);
@@ -42,28 +43,29 @@ fn counts_at(frame: &Frame<'_>, off: u32) -> Option<Counts>
     let parameters = u32_at(bytes, off as usize + 12);
     let pairs = u64::from(fields) + u64::from(methods) + u64::from(parameters);
     if !frame.is_in_data(off, 16 + 8 * pairs) {
-        return None;
+        return Err(ItemFault::Refused(22));
     }
-    Some(Counts {
+    Ok(Counts {
         fields,
         methods,
         parameters,
     })
 }
 
-// The number of a member and the offset of what belongs to it, from the pair at a place, or `None` where the number is
-// less than this one or not below the limit, or the offset is 0.
-fn pair_at(frame: &Frame<'_>, at: usize, least: u64, limit: usize) -> Option<(u32, u32)>
+// The number of a member and the offset of what belongs to it, from the pair at a place. Error: the number is less than
+// this one or not below the limit, or the offset is 0.
+fn pair_at(frame: &Frame<'_>, at: usize, least: u64, limit: usize) -> Result<(u32, u32), ItemFault>
     requires { at + 8 ≤ length frame.now }
-    ensures { MatchOption result (HasPair frame.now at least limit → ⊥) (λ pair. HasPair frame.now at least limit × (pair.0 ≡ uint_at frame.now at) × (pair.1 ≡ uint_at frame.now (at + 4))) }
+    ensures pair { IfOk result (λ pair. HasPair frame.now at least limit × (pair.0 ≡ uint_at frame.now at) × (pair.1 ≡ uint_at frame.now (at + 4))) }
+    ensures refused { IfErr result (IsRefusal (HasPair frame.now at least limit → ⊥)) }
 {
     let bytes = frame.bytes();
     let number = u32_at(bytes, at);
     let off = u32_at(bytes, at + 4);
     if u64::from(number) < least || number as usize >= limit || off == 0 {
-        return None;
+        return Err(ItemFault::Refused(22));
     }
-    Some((number, off))
+    Ok((number, off))
 }
 
 // What a list of so many sets weighs beside them.
@@ -77,8 +79,8 @@ fn list_weight(count: u32) -> u64
     8 + 4 * u64::from(count)
 }
 
-// The sets of the annotation_set_ref_list at an offset, counted one by one, or `None` where none stands there. They are
-// whole while the budget lasts.
+// The sets of the annotation_set_ref_list at an offset, counted one by one. They are whole while the budget lasts.
+// Error: none stands there.
 fn listed_sets_at(
     alloc: Global,
     frame: &Frame<'_>,
@@ -86,36 +88,30 @@ fn listed_sets_at(
     off: u32,
     judged: &mut Judged,
     budget: &mut Budget,
-) -> Result<Option<Vec<AnnotationSet>>, AllocError>
+) -> Result<Vec<AnnotationSet>, ItemFault>
     requires judged { AreFilePools frame.now pools.now → AreJudged frame.now pools.now budget.old.most budget.old.weight judged.old }
     ensures most { budget.new.most ≡ budget.old.most }
-    ensures judged { AreFilePools frame.now pools.now → IfOk result (λ found. IfSome found (λ _. AreJudged frame.now pools.now budget.new.most budget.new.weight judged.new)) }
-    ensures read { AreFilePools frame.now pools.now → IfOk result (λ found. MatchOption found (NoRefListAt frame.now off) (λ sets. IsKept (IsRefListAt frame.now off pools.now) (sets_weight_in pools.now) budget.old.most budget.old.weight budget.new.weight (map set_of sets.items))) }
+    ensures judged { AreFilePools frame.now pools.now → OnOk result (AreJudged frame.now pools.now budget.new.most budget.new.weight judged.new) }
+    ensures read { AreFilePools frame.now pools.now → IfOk result (λ sets. IsKept (IsRefListAt frame.now off pools.now) (sets_weight_in pools.now) budget.old.most budget.old.weight budget.new.weight (map set_of sets.items)) }
+    ensures refused { AreFilePools frame.now pools.now → IfErr result (IsRefusal (NoRefListAt frame.now off)) }
 {
-    let count = match count_at(frame, off) {
-        Some(count) => count,
-        None => return Ok(None),
-    };
+    let count = count_at(frame, off)?;
     let bytes = frame.bytes();
     let list = list_weight(count);
     budget.add(list);
     let mut sets = Vec::new(alloc);
     for i in 0..count {
         let place = u32_at(bytes, off as usize + 4 + 4 * i as usize);
-        match counted_set_or_empty_at(alloc, frame, pools, place, judged, budget)? {
-            Some(set) => {
-                if budget.is_within() {
-                    sets.push(set)?;
-                }
-            }
-            None => return Ok(None),
+        let set = counted_set_at(alloc, frame, pools, place, judged, budget)?;
+        if budget.is_within() {
+            sets.push(set)?;
         }
     }
-    Ok(Some(sets))
+    Ok(sets)
 }
 
-// The sets of the annotation_set_ref_list at an offset, counted, or `None` where none stands there. They are whole while
-// the budget lasts.
+// The sets of the annotation_set_ref_list at an offset, counted. They are whole while the budget lasts. Error: none
+// stands there.
 fn ref_list_at(
     alloc: Global,
     frame: &Frame<'_>,
@@ -123,29 +119,26 @@ fn ref_list_at(
     off: u32,
     judged: &mut Judged,
     budget: &mut Budget,
-) -> Result<Option<Vec<AnnotationSet>>, AllocError>
+) -> Result<Vec<AnnotationSet>, ItemFault>
     requires judged { AreFilePools frame.now pools.now → AreJudged frame.now pools.now budget.old.most budget.old.weight judged.old }
     ensures most { budget.new.most ≡ budget.old.most }
-    ensures judged { AreFilePools frame.now pools.now → IfOk result (λ found. IfSome found (λ _. AreJudged frame.now pools.now budget.new.most budget.new.weight judged.new)) }
-    ensures read { AreFilePools frame.now pools.now → IfOk result (λ found. MatchOption found (NoRefListAt frame.now off) (λ sets. IsKept (IsRefListAt frame.now off pools.now) (sets_weight_in pools.now) budget.old.most budget.old.weight budget.new.weight (map set_of sets.items))) }
+    ensures judged { AreFilePools frame.now pools.now → OnOk result (AreJudged frame.now pools.now budget.new.most budget.new.weight judged.new) }
+    ensures read { AreFilePools frame.now pools.now → IfOk result (λ sets. IsKept (IsRefListAt frame.now off pools.now) (sets_weight_in pools.now) budget.old.most budget.old.weight budget.new.weight (map set_of sets.items)) }
+    ensures refused { AreFilePools frame.now pools.now → IfErr result (IsRefusal (NoRefListAt frame.now off)) }
 {
     if budget.is_within() {
         return listed_sets_at(alloc, frame, pools, off, judged, budget);
     }
     if judged.lists.contains(&off) {
-        return Ok(Some(Vec::new(alloc)));
+        return Ok(Vec::new(alloc));
     }
-    match listed_sets_at(alloc, frame, pools, off, judged, budget)? {
-        Some(sets) => {
-            judged.lists.insert(off)?;
-            Ok(Some(sets))
-        }
-        None => Ok(None),
-    }
+    let sets = listed_sets_at(alloc, frame, pools, off, judged, budget)?;
+    judged.lists.insert(off)?;
+    Ok(sets)
 }
 
-// So many members from a place on, by their numbers, which are below the limit, with their sets, or `None` where they do
-// not stand there. They are whole while the budget lasts.
+// So many members from a place on, by their numbers, which are below the limit, with their sets. They are whole while
+// the budget lasts. Error: they do not stand there.
 fn member_sets_at(
     alloc: Global,
     frame: &Frame<'_>,
@@ -155,36 +148,30 @@ fn member_sets_at(
     limit: usize,
     judged: &mut Judged,
     budget: &mut Budget,
-) -> Result<Option<Vec<(u32, AnnotationSet)>>, AllocError>
+) -> Result<Vec<(u32, AnnotationSet)>, ItemFault>
     requires within { at + 8 * count ≤ length frame.now }
     requires fits { at < 2 ^ 40 }
     requires judged { AreFilePools frame.now pools.now → AreJudged frame.now pools.now budget.old.most budget.old.weight judged.old }
     ensures most { budget.new.most ≡ budget.old.most }
-    ensures judged { AreFilePools frame.now pools.now → IfOk result (λ found. IfSome found (λ _. AreJudged frame.now pools.now budget.new.most budget.new.weight judged.new)) }
-    ensures read { AreFilePools frame.now pools.now → IfOk result (λ found. MatchOption found (NoPairsAt SetAt frame.now at count limit) (λ members. IsKept (ArePairsAt (IsKnownSet pools.now) (set_in pools.now) SetAt frame.now at count limit) (sum_by (λ e. set_weight_in pools.now e.1)) budget.old.most budget.old.weight budget.new.weight (map member_set_of members.items))) }
+    ensures judged { AreFilePools frame.now pools.now → OnOk result (AreJudged frame.now pools.now budget.new.most budget.new.weight judged.new) }
+    ensures read { AreFilePools frame.now pools.now → IfOk result (λ members. IsKept (ArePairsAt (IsKnownSet pools.now) (set_in pools.now) SetAt frame.now at count limit) (sum_by (λ e. set_weight_in pools.now e.1)) budget.old.most budget.old.weight budget.new.weight (map member_set_of members.items)) }
+    ensures refused { AreFilePools frame.now pools.now → IfErr result (IsRefusal (NoPairsAt SetAt frame.now at count limit)) }
 {
     let mut members = Vec::new(alloc);
     let mut least = 0;
     for i in 0..count {
-        let (number, off) = match pair_at(frame, at + 8 * i as usize, least, limit) {
-            Some(pair) => pair,
-            None => return Ok(None),
-        };
-        match counted_set_at(alloc, frame, pools, off, judged, budget)? {
-            Some(set) => {
-                least = u64::from(number) + 1;
-                if budget.is_within() {
-                    members.push((number, set))?;
-                }
-            }
-            None => return Ok(None),
+        let (number, off) = pair_at(frame, at + 8 * i as usize, least, limit)?;
+        let set = counted_set_at(alloc, frame, pools, off, judged, budget)?;
+        least = u64::from(number) + 1;
+        if budget.is_within() {
+            members.push((number, set))?;
         }
     }
-    Ok(Some(members))
+    Ok(members)
 }
 
-// So many members from a place on, by their numbers, which are below the limit, with the sets of their parameters, or
-// `None` where they do not stand there. They are whole while the budget lasts.
+// So many members from a place on, by their numbers, which are below the limit, with the sets of their parameters.
+// They are whole while the budget lasts. Error: they do not stand there.
 fn member_lists_at(
     alloc: Global,
     frame: &Frame<'_>,
@@ -194,60 +181,49 @@ fn member_lists_at(
     limit: usize,
     judged: &mut Judged,
     budget: &mut Budget,
-) -> Result<Option<Vec<(u32, Vec<AnnotationSet>)>>, AllocError>
+) -> Result<Vec<(u32, Vec<AnnotationSet>)>, ItemFault>
     requires within { at + 8 * count ≤ length frame.now }
     requires fits { at < 2 ^ 40 }
     requires judged { AreFilePools frame.now pools.now → AreJudged frame.now pools.now budget.old.most budget.old.weight judged.old }
     ensures most { budget.new.most ≡ budget.old.most }
-    ensures judged { AreFilePools frame.now pools.now → IfOk result (λ found. IfSome found (λ _. AreJudged frame.now pools.now budget.new.most budget.new.weight judged.new)) }
-    ensures read { AreFilePools frame.now pools.now → IfOk result (λ found. MatchOption found (NoPairsAt RefListAt frame.now at count limit) (λ members. IsKept (ArePairsAt (All (IsKnownSet pools.now)) (map (set_in pools.now)) RefListAt frame.now at count limit) (sum_by (λ e. sets_weight_in pools.now e.1)) budget.old.most budget.old.weight budget.new.weight (map member_list_of members.items))) }
+    ensures judged { AreFilePools frame.now pools.now → OnOk result (AreJudged frame.now pools.now budget.new.most budget.new.weight judged.new) }
+    ensures read { AreFilePools frame.now pools.now → IfOk result (λ members. IsKept (ArePairsAt (All (IsKnownSet pools.now)) (map (set_in pools.now)) RefListAt frame.now at count limit) (sum_by (λ e. sets_weight_in pools.now e.1)) budget.old.most budget.old.weight budget.new.weight (map member_list_of members.items)) }
+    ensures refused { AreFilePools frame.now pools.now → IfErr result (IsRefusal (NoPairsAt RefListAt frame.now at count limit)) }
 {
     let mut members = Vec::new(alloc);
     let mut least = 0;
     for i in 0..count {
-        let (number, off) = match pair_at(frame, at + 8 * i as usize, least, limit) {
-            Some(pair) => pair,
-            None => return Ok(None),
-        };
-        match ref_list_at(alloc, frame, pools, off, judged, budget)? {
-            Some(sets) => {
-                least = u64::from(number) + 1;
-                if budget.is_within() {
-                    members.push((number, sets))?;
-                }
-            }
-            None => return Ok(None),
+        let (number, off) = pair_at(frame, at + 8 * i as usize, least, limit)?;
+        let sets = ref_list_at(alloc, frame, pools, off, judged, budget)?;
+        least = u64::from(number) + 1;
+        if budget.is_within() {
+            members.push((number, sets))?;
         }
     }
-    Ok(Some(members))
+    Ok(members)
 }
 
 // The directory of the annotations_directory_item at an offset, whole where its sets weigh at most so much, and what
-// they weigh, or `None` where none stands there.
+// they weigh. Error: none stands there.
 fn directory_at(
     alloc: Global,
     frame: &Frame<'_>,
     pools: &Pools<'_>,
     off: u32,
     most: u64,
-) -> Result<Option<(Directory, u64)>, AllocError>
-    ensures { AreFilePools frame.now pools.now → IfOk result (λ found. MatchOption found (NoDirectoryAt frame.now off) (λ read. IsKept (IsDirectoryAt frame.now off pools.now) (λ d. directory_weight (directory_in pools.now d)) most 0 read.1 (directory_of read.0))) }
+) -> Result<(Directory, u64), ItemFault>
+    ensures read { AreFilePools frame.now pools.now → IfOk result (λ read. IsKept (IsDirectoryAt frame.now off pools.now) (λ d. directory_weight (directory_in pools.now d)) most 0 read.1 (directory_of read.0)) }
+    ensures refused { AreFilePools frame.now pools.now → IfErr result (IsDirectoryFault frame.now off) }
 {
-    let counts = match counts_at(frame, off) {
-        Some(counts) => counts,
-        None => return Ok(None),
-    };
+    let counts = counts_at(frame, off)?;
     let bytes = frame.bytes();
     let place = u32_at(bytes, off as usize);
     let mut judged = Judged::none(alloc);
     let mut budget = Budget { weight: 0, most };
-    let own = match counted_set_or_empty_at(alloc, frame, pools, place, &mut judged, &mut budget)? {
-        Some(own) => own,
-        None => return Ok(None),
-    };
+    let own = counted_set_at(alloc, frame, pools, place, &mut judged, &mut budget)?;
     let fields_at = off as usize + 16;
     let limit = pools.len(SymbolKind::Field);
-    let fields = match member_sets_at(
+    let fields = member_sets_at(
         alloc,
         frame,
         pools,
@@ -256,13 +232,10 @@ fn directory_at(
         limit,
         &mut judged,
         &mut budget,
-    )? {
-        Some(fields) => fields,
-        None => return Ok(None),
-    };
+    )?;
     let methods_at = fields_at + 8 * counts.fields as usize;
     let limit = pools.len(SymbolKind::Method);
-    let methods = match member_sets_at(
+    let methods = member_sets_at(
         alloc,
         frame,
         pools,
@@ -271,12 +244,9 @@ fn directory_at(
         limit,
         &mut judged,
         &mut budget,
-    )? {
-        Some(methods) => methods,
-        None => return Ok(None),
-    };
+    )?;
     let parameters_at = methods_at + 8 * counts.methods as usize;
-    let parameters = match member_lists_at(
+    let parameters = member_lists_at(
         alloc,
         frame,
         pools,
@@ -285,17 +255,14 @@ fn directory_at(
         limit,
         &mut judged,
         &mut budget,
-    )? {
-        Some(parameters) => parameters,
-        None => return Ok(None),
-    };
+    )?;
     let directory = Directory {
         own,
         fields,
         methods,
         parameters,
     };
-    Ok(Some((directory, budget.weight)))
+    Ok((directory, budget.weight))
 }
 
 /// Reads the annotations_directory_item at an offset, and the sets that it leads to. Its indices count in the pools:
@@ -318,10 +285,8 @@ pub fn read_directory(
     ensures refused { ArePools frame.now pools.now → IfErr result (IsDirectoryFault frame.now off) }
 {
     pools.numbering().is_numbering();
-    match directory_at(alloc, frame, pools, off, u64::MAX)? {
-        Some((directory, _)) => Ok(directory),
-        None => Err(ItemFault::Refused(22)),
-    }
+    let (directory, _) = directory_at(alloc, frame, pools, off, u64::MAX)?;
+    Ok(directory)
 }
 
 /// Reads the annotations_directory_item at an offset, as [`read_directory`] does, where its sets and lists of sets
@@ -346,8 +311,6 @@ pub fn read_directory_within(
     ensures refused { ArePools frame.now pools.now → IfErr result (IsDirectoryFault frame.now off) }
 {
     pools.numbering().is_numbering();
-    match directory_at(alloc, frame, pools, off, most)? {
-        Some((directory, weight)) => Ok((weight <= most).then_some(directory)),
-        None => Err(ItemFault::Refused(22)),
-    }
+    let (directory, weight) = directory_at(alloc, frame, pools, off, most)?;
+    Ok((weight <= most).then_some(directory))
 }

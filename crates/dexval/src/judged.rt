@@ -1,20 +1,20 @@
 //! What a directory of annotations names, each judged once however many members name it.
 
-ghost use Rattle.std.specs.Prelude.{◌≡◌, ◌<◌, ◌+◌, ◌-◌, ◌^◌, ◌≤◌, ℕ, List, min, IfOk, IfSome, MatchOption};
+ghost use Rattle.std.specs.Prelude.{◌≡◌, ◌<◌, ◌+◌, ◌-◌, ◌^◌, ◌≤◌, ℕ, List, min, IfOk, IfErr, OnOk};
 ghost use Rattle.dexspec.specs.Annotations.{SetAt};
 ghost use Rattle.dexspec.specs.Mentions.{Mentions};
 ghost use Rattle.dexval.specs.Code.{set_of};
 ghost use Rattle.dexval.specs.Nesting.{AreFilePools};
-ghost use Rattle.dexval.specs.Reading.{IsSetAt};
-ghost use Rattle.dexval.specs.Items.{NoSetAt};
+ghost use Rattle.dexval.specs.Reading.{IsSetAt, IsSetFault};
+ghost use Rattle.dexval.specs.Items.{IsRefusal};
 ghost use Rattle.dexval.specs.Directories.{IsSetOrEmptyAt, NoSetOrEmptyAt, set_weight_in, IsKept};
 ghost use Rattle.dexval.specs.Judged.{AreJudged};
 
 use crate::budget::Budget;
 use crate::set::AnnotationSet;
-use crate::set_reading::set_at;
+use crate::set_reading::read_set;
 use dexhead::Frame;
-use dexpool::Pools;
+use dexpool::{ItemFault, Pools};
 use std::alloc::{AllocError, Global};
 use std::collections::{HashMap, HashSet};
 
@@ -60,7 +60,7 @@ fn known_set(
     set.copy()
 }
 
-// The set at an offset that was not judged before, or `None` where none stands there.
+// The set at an offset that was not judged before. Error: none stands there.
 fn new_set_at(
     alloc: Global,
     frame: &Frame<'_>,
@@ -68,16 +68,14 @@ fn new_set_at(
     off: u32,
     judged: &mut Judged,
     budget: &mut Budget,
-) -> Result<Option<AnnotationSet>, AllocError>
+) -> Result<AnnotationSet, ItemFault>
     requires judged { AreFilePools frame.now pools.now → AreJudged frame.now pools.now budget.old.most budget.old.weight judged.old }
     ensures most { budget.new.most ≡ budget.old.most }
-    ensures judged { AreFilePools frame.now pools.now → IfOk result (λ found. IfSome found (λ _. AreJudged frame.now pools.now budget.new.most budget.new.weight judged.new)) }
-    ensures read { AreFilePools frame.now pools.now → IfOk result (λ found. MatchOption found (NoSetAt frame.now off) (λ set. IsKept (IsSetAt frame.now off pools.now) (set_weight_in pools.now) budget.old.most budget.old.weight budget.new.weight (set_of set))) }
+    ensures judged { AreFilePools frame.now pools.now → OnOk result (AreJudged frame.now pools.now budget.new.most budget.new.weight judged.new) }
+    ensures read { AreFilePools frame.now pools.now → IfOk result (λ set. IsKept (IsSetAt frame.now off pools.now) (set_weight_in pools.now) budget.old.most budget.old.weight budget.new.weight (set_of set)) }
+    ensures refused { AreFilePools frame.now pools.now → IfErr result (IsSetFault frame.now off) }
 {
-    let set = match set_at(alloc, frame, pools, off)? {
-        Some(set) => set,
-        None => return Ok(None),
-    };
+    let set = read_set(alloc, frame, pools, off)?;
     let weight = set.weight();
     budget.add(weight);
     let kept = if budget.is_within() {
@@ -88,11 +86,11 @@ fn new_set_at(
     if weight > LIGHT {
         judged.sets.insert(off, kept.copy()?)?;
     }
-    Ok(Some(kept))
+    Ok(kept)
 }
 
-/// The set of the annotation_set_item at an offset, counted, or `None` where none stands there. It is whole while the
-/// budget lasts.
+/// The set of the annotation_set_item at an offset, counted, or an empty one at 0. It is whole while the budget lasts.
+/// Error: none stands there.
 pub(crate) fn counted_set_at(
     alloc: Global,
     frame: &Frame<'_>,
@@ -100,37 +98,20 @@ pub(crate) fn counted_set_at(
     off: u32,
     judged: &mut Judged,
     budget: &mut Budget,
-) -> Result<Option<AnnotationSet>, AllocError>
+) -> Result<AnnotationSet, ItemFault>
     requires judged { AreFilePools frame.now pools.now → AreJudged frame.now pools.now budget.old.most budget.old.weight judged.old }
     ensures most { budget.new.most ≡ budget.old.most }
-    ensures judged { AreFilePools frame.now pools.now → IfOk result (λ found. IfSome found (λ _. AreJudged frame.now pools.now budget.new.most budget.new.weight judged.new)) }
-    ensures read { AreFilePools frame.now pools.now → IfOk result (λ found. MatchOption found (NoSetAt frame.now off) (λ set. IsKept (IsSetAt frame.now off pools.now) (set_weight_in pools.now) budget.old.most budget.old.weight budget.new.weight (set_of set))) }
-{
-    if let Some(set) = judged.sets.get(&off) {
-        return Ok(Some(known_set(alloc, set, budget)?));
-    }
-    new_set_at(alloc, frame, pools, off, judged, budget)
-}
-
-/// The set of the annotation_set_item at an offset, counted, or an empty one at 0, or `None` where none stands there. It is
-/// whole while the budget lasts.
-pub(crate) fn counted_set_or_empty_at(
-    alloc: Global,
-    frame: &Frame<'_>,
-    pools: &Pools<'_>,
-    off: u32,
-    judged: &mut Judged,
-    budget: &mut Budget,
-) -> Result<Option<AnnotationSet>, AllocError>
-    requires judged { AreFilePools frame.now pools.now → AreJudged frame.now pools.now budget.old.most budget.old.weight judged.old }
-    ensures most { budget.new.most ≡ budget.old.most }
-    ensures judged { AreFilePools frame.now pools.now → IfOk result (λ found. IfSome found (λ _. AreJudged frame.now pools.now budget.new.most budget.new.weight judged.new)) }
-    ensures read { AreFilePools frame.now pools.now → IfOk result (λ found. MatchOption found (NoSetOrEmptyAt frame.now off) (λ set. IsKept (IsSetOrEmptyAt frame.now off pools.now) (set_weight_in pools.now) budget.old.most budget.old.weight budget.new.weight (set_of set))) }
+    ensures judged { AreFilePools frame.now pools.now → OnOk result (AreJudged frame.now pools.now budget.new.most budget.new.weight judged.new) }
+    ensures read { AreFilePools frame.now pools.now → IfOk result (λ set. IsKept (IsSetOrEmptyAt frame.now off pools.now) (set_weight_in pools.now) budget.old.most budget.old.weight budget.new.weight (set_of set)) }
+    ensures refused { AreFilePools frame.now pools.now → IfErr result (IsRefusal (NoSetOrEmptyAt frame.now off)) }
 {
     if off == 0 {
         let empty = AnnotationSet::empty(alloc);
         budget.add(empty.weight());
-        return Ok(Some(empty));
+        return Ok(empty);
     }
-    counted_set_at(alloc, frame, pools, off, judged, budget)
+    if let Some(set) = judged.sets.get(&off) {
+        return Ok(known_set(alloc, set, budget)?);
+    }
+    new_set_at(alloc, frame, pools, off, judged, budget)
 }

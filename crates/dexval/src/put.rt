@@ -1,6 +1,7 @@
 //! Values and annotations written.
 
-ghost use Rattle.std.specs.Prelude.{◌≡◌, ◌+◌, ◌*◌, ◌-◌, ◌^◌, ◌<◌, ◌≤◌, ◌∷◌, [], map, length, IsOk, OnErr, ⊤, vec_len, vec_capacity};
+ghost use Rattle.std.specs.Prelude.{◌≡◌, ◌+◌, ◌*◌, ◌-◌, ◌^◌, ◌<◌, ◌≤◌, ◌∷◌, [], ℕ, List, map, length, IsOk, OnErr, ⊤, vec_len, vec_capacity};
+ghost use Rattle.std.specs.Global.{Vec};
 ghost use Rattle.dexspec.specs.Bytes.{bytes_of};
 ghost use Rattle.dexspec.specs.Numbers.{uleb128};
 ghost use Rattle.dexspec.specs.Values.{Value as ValueMeant, Values as ValuesMeant, value_byte};
@@ -101,10 +102,7 @@ fn append_number(value: u32, out: &mut Vec<u8>) -> Result<(), AllocError>
 fn append_count(count: usize, out: &mut Vec<u8>) -> Result<(), AllocError>
     ensures { Appends ⊤ (count_bytes count) out.old out.new result }
 {
-    match u32::try_from(count) {
-        Ok(count) => append_number(count, out),
-        Err(_) => append_number(u32::MAX, out),
-    }
+    append_number(count.min(u32::MAX as usize) as u32, out)
 }
 
 // Appends an encoded_value.
@@ -189,39 +187,11 @@ fn append_item(annotation: &Annotation, out: &mut Vec<u8>) -> Result<(), AllocEr
     append_annotation(annotation.typ, &annotation.elements, out)
 }
 
-// Appends the value with its numbers.
+// What the append of an item from a place on answered. Where it failed, what it left from there on is taken back.
 #[tactic(auto, using(crate::proofs::Settling::settled, crate::proofs::Settling::taken_back))]
-fn put_numbered_value(value: &Value, out: &mut Vec<u8>) -> Result<(), AllocError>
-    ensures { Puts (numbered_bytes (value_of value.now)) out.old out.new result }
+fn settle(answer: Result<(), AllocError>, start: usize, out: &mut Vec<u8>) -> Result<(), AllocError>
+    ensures { (before : Vec ℕ) (item : List ℕ) → vec_len before ≡ start → Appends ⊤ item before out.old answer → Puts item before out.new result }
 {
-    let start = out.len();
-    let answer = append_value(value, out);
-    if answer.is_err() {
-        out.truncate(start);
-    }
-    answer
-}
-
-// Appends the values with their numbers.
-#[tactic(auto, using(crate::proofs::Settling::settled, crate::proofs::Settling::taken_back))]
-fn put_numbered_statics(values: &[Value], out: &mut Vec<u8>) -> Result<(), AllocError>
-    ensures { Puts (numbered_array_bytes (values_of_list (map value_of values.now))) out.old out.new result }
-{
-    let start = out.len();
-    let answer = append_array(values, out);
-    if answer.is_err() {
-        out.truncate(start);
-    }
-    answer
-}
-
-// Appends the annotation with its numbers.
-#[tactic(auto, using(crate::proofs::Settling::settled, crate::proofs::Settling::taken_back))]
-fn put_numbered_annotation(annotation: &Annotation, out: &mut Vec<u8>) -> Result<(), AllocError>
-    ensures { Puts (numbered_annotation_bytes (annotation_of annotation.now)) out.old out.new result }
-{
-    let start = out.len();
-    let answer = append_item(annotation, out);
     if answer.is_err() {
         out.truncate(start);
     }
@@ -246,7 +216,9 @@ pub fn put_value(
     ensures room { (m : Mentions) → vec_len out.old + value_weight (value_in m (value_of value.now)) ≤ vec_capacity out.old → IsOk result }
 {
     numbering.is_numbering();
-    put_numbered_value(value, out)
+    let start = out.len();
+    let answer = append_value(value, out);
+    settle(answer, start, out)
 }
 
 /// Appends the values with which static fields begin (an encoded_array_item), each as [`put_value`] does.
@@ -265,7 +237,9 @@ pub fn put_statics(
     ensures room { (m : Mentions) → 0 < length values.now → vec_len out.old + static_values_weight (values_in m (values_of_list (map value_of values.now))) ≤ vec_capacity out.old → IsOk result }
 {
     numbering.is_numbering();
-    put_numbered_statics(values, out)
+    let start = out.len();
+    let answer = append_array(values, out);
+    settle(answer, start, out)
 }
 
 /// Appends an annotation (an annotation_item): its visibility, its type, and its elements in their order, each value as
@@ -285,5 +259,7 @@ pub fn put_annotation(
     ensures room { (m : Mentions) → vec_len out.old + annotation_weight (annotation_in m (annotation_of annotation.now)) ≤ vec_capacity out.old → IsOk result }
 {
     numbering.is_numbering();
-    put_numbered_annotation(annotation, out)
+    let start = out.len();
+    let answer = append_item(annotation, out);
+    settle(answer, start, out)
 }

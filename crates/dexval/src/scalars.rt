@@ -103,18 +103,10 @@ fn sized_at(bytes: &[u8], pools: &Pools<'_>, at: usize) -> Option<(Value, usize)
     ensures within { IfSome result (λ read. at + read.1 ≤ length bytes.now) }
 {
     let code = bytes[at] % 32;
-    let width = match width_of(code) {
-        Some(width) => width,
-        None => return None,
-    };
-    let number = match number_at(bytes, at, width) {
-        Some(number) => number,
-        None => return None,
-    };
-    match spelled(code, number, pools) {
-        Some(value) => Some((value, 1 + number.len())),
-        None => None,
-    }
+    let width = width_of(code)?;
+    let number = number_at(bytes, at, width)?;
+    let value = spelled(code, number, pools)?;
+    Some((value, 1 + number.len()))
 }
 
 /// The value at a place that holds no other value, and its size, or `None` where none stands there. Indices count in

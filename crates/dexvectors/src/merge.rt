@@ -5,8 +5,8 @@ use crate::normalise::{is_written_as, other_bytes};
 use crate::plans::{caps_in, plan_in};
 use crate::words::push_name;
 use dexcases::{CaseFault, Outcome, read_file};
-use dexclass::{Program, read, strip};
-use dexmerge::{Caps, MergeFault, Plan, PlanFault, merge_plan};
+use dexclass::{Program, into_stripped, read};
+use dexmerge::{Caps, MergeFault, Plan, PlanFault, merge_files, merge_plan};
 use dexpool::ReadFault;
 use dexstr::Name;
 use std::alloc::{AllocError, Global};
@@ -38,12 +38,12 @@ impl After {
     fn is_written_as(
         self,
         alloc: Global,
-        program: &Program<'_>,
+        program: Program<'_>,
         right: &[u8],
     ) -> Result<bool, AllocError> {
         match self {
-            After::Merged => is_written_as(alloc, program, right),
-            After::Stripped => is_written_as(alloc, &strip(alloc, program)?, right),
+            After::Merged => is_written_as(alloc, &program, right),
+            After::Stripped => is_written_as(alloc, &into_stripped(alloc, program)?, right),
         }
     }
 }
@@ -68,7 +68,12 @@ pub fn run<R: Files + AllocGlobal>(
     let plan = plan_in(alloc, plan)?;
     let merge = Merge::of(rt, folder, rest)?;
     let programs = merge.programs(alloc)?;
-    merge.planned(alloc, &programs, &plan, after)
+    match merge.planned(alloc, &programs, &plan, after)? {
+        Outcome::Passed => {
+            merge.judged(alloc, merge_files(alloc, programs, &plan, &merge.caps), after)
+        }
+        failed => Ok(failed),
+    }
 }
 
 impl<'a> Merge<'a> {
@@ -113,12 +118,24 @@ impl<'a> Merge<'a> {
         plan: &Plan,
         after: After,
     ) -> Result<Outcome, CaseFault> {
-        match merge_plan(alloc, programs, plan, &self.caps) {
+        self.judged(alloc, merge_plan(alloc, programs, plan, &self.caps), after)
+    }
+
+    // How the line goes where this is the answer.
+    fn judged(
+        &self,
+        alloc: Global,
+        answer: Result<Program<'_>, PlanFault>,
+        after: After,
+    ) -> Result<Outcome, CaseFault> {
+        match answer {
             Ok(program) => match &self.right {
-                RightAnswer::Written(right) if after.is_written_as(alloc, &program, right)? => {
-                    Ok(Outcome::Passed)
+                RightAnswer::Written(right) => {
+                    if after.is_written_as(alloc, program, right)? {
+                        return Ok(Outcome::Passed);
+                    }
+                    other_bytes(alloc)
                 }
-                RightAnswer::Written(_) => other_bytes(alloc),
                 _ => Ok(Outcome::failed(alloc, "ok")?),
             },
             Err(PlanFault::BadPlan) => match self.right {

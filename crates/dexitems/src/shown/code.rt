@@ -73,12 +73,12 @@ fn print_handler<W: fmt::Write>(
     for (i, catch) in handler.catches().iter().enumerate() {
         print_comma(i, f)?;
         print_type(numbering, catch.typ as usize, f)?;
-        let address = catch.address;
-        write!(f, " {address}")?;
+        let addr = catch.addr;
+        write!(f, " {addr}")?;
     }
-    if let Some(address) = handler.catch_all() {
+    if let Some(addr) = handler.catch_all_addr() {
         print_comma(handler.catches().len(), f)?;
-        write!(f, "all {address}")?;
+        write!(f, "all {addr}")?;
     }
     Ok(())
 }
@@ -86,11 +86,11 @@ fn print_handler<W: fmt::Write>(
 // Prints a try: ` / try START COUNT HANDLER`.
 fn print_try<W: fmt::Write>(item: Try, f: &mut fmt::Formatter<W>) -> fmt::Result {
     let Try {
-        start,
-        count,
+        start_addr,
+        insn_count,
         handler,
     } = item;
-    write!(f, " / try {start} {count} {handler}")
+    write!(f, " / try {start_addr} {insn_count} {handler}")
 }
 
 /// Prints code: its lines, its handlers, its tries and its debug program.

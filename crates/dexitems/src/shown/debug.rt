@@ -36,38 +36,38 @@ fn print_operation<W: fmt::Write>(
     f: &mut fmt::Formatter<W>,
 ) -> fmt::Result {
     match operation {
-        Operation::AdvancePc(units) => write!(f, "01 {units}"),
-        Operation::AdvanceLine(lines) => write!(f, "02 {lines}"),
+        Operation::AdvancePc(addr_diff) => write!(f, "01 {addr_diff}"),
+        Operation::AdvanceLine(line_diff) => write!(f, "02 {line_diff}"),
         Operation::StartLocal {
-            register,
-            name,
-            typ,
+            register_num,
+            name_idx,
+            type_idx,
         } => {
-            write!(f, "03 {register} ")?;
-            print_text_or_none(numbering, *name, f)?;
+            write!(f, "03 {register_num} ")?;
+            print_text_or_none(numbering, *name_idx, f)?;
             f.write_str(" ")?;
-            print_type_or_none(numbering, *typ, f)
+            print_type_or_none(numbering, *type_idx, f)
         }
         Operation::StartLocalExtended {
-            register,
-            name,
-            typ,
-            signature,
+            register_num,
+            name_idx,
+            type_idx,
+            sig_idx,
         } => {
-            write!(f, "04 {register} ")?;
-            print_text_or_none(numbering, *name, f)?;
+            write!(f, "04 {register_num} ")?;
+            print_text_or_none(numbering, *name_idx, f)?;
             f.write_str(" ")?;
-            print_type_or_none(numbering, *typ, f)?;
+            print_type_or_none(numbering, *type_idx, f)?;
             f.write_str(" ")?;
-            print_text_or_none(numbering, *signature, f)
+            print_text_or_none(numbering, *sig_idx, f)
         }
-        Operation::EndLocal(register) => write!(f, "05 {register}"),
-        Operation::RestartLocal(register) => write!(f, "06 {register}"),
+        Operation::EndLocal(register_num) => write!(f, "05 {register_num}"),
+        Operation::RestartLocal(register_num) => write!(f, "06 {register_num}"),
         Operation::SetPrologueEnd => f.write_str("07"),
         Operation::SetEpilogueBegin => f.write_str("08"),
-        Operation::SetFile(name) => {
+        Operation::SetFile(name_idx) => {
             f.write_str("09 ")?;
-            print_text_or_none(numbering, *name, f)
+            print_text_or_none(numbering, *name_idx, f)
         }
         Operation::Special(opcode) => write!(f, "{opcode:02x}"),
     }

@@ -33,7 +33,7 @@ returns-in_err-pass g c =
     let f = annotation_item c.args.numbering.now in
     let xs = c.args.annotations.now in
     let i = c.loop-annotation.annotation-index in
-    made_fault (flat_map f (drop (i + 1) (map annotation_of xs))) c.loop-annotation.invariant (mapped_next annotation_of xs i c.annotation-item.result c.loop-annotation-test.true (sym c.annotation-item.is) f) c.in_err-pass.ensures
+    made_fault (flat_map f (drop (i + 1) (map annotation_of xs))) c.loop-annotation.invariant (mapped_next annotation_of xs i c.annotation-item.result c.loop-annotation-test.true (sym c.annotation-item.is) f) c.in_err-pass.ensures.outcome
     c.from_residual.ensures.0 c.from_residual.ensures.1
 
 pub loop-annotation-preserved : goal.loop-annotation-preserved
@@ -41,7 +41,7 @@ loop-annotation-preserved g c =
     let f = annotation_item c.args.numbering.now in
     let xs = c.args.annotations.now in
     let i = c.loop-annotation.annotation-index in
-    made_more (flat_map f (drop (i + 1) (map annotation_of xs))) c.loop-annotation.invariant (mapped_next annotation_of xs i c.annotation-item.result c.loop-annotation-test.true (sym c.annotation-item.is) f) c.in_ok-pass.ensures.ok
+    made_more (flat_map f (drop (i + 1) (map annotation_of xs))) c.loop-annotation.invariant (mapped_next annotation_of xs i c.annotation-item.result c.loop-annotation-test.true (sym c.annotation-item.is) f) c.in_ok-pass.ensures.outcome.ok
 
 pub returns : goal.returns
 returns g c = made_all c.loop-annotation.invariant (mapped_none annotation_of c.args.annotations.now c.loop-annotation.annotation-index (annotation_item c.args.numbering.now) c.loop-annotation-test.false)

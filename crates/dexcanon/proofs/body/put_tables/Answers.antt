@@ -5,7 +5,7 @@ use Rattle.dexspec.proofs.Placements.{length-type_list_offsets, length-array_off
 use Rattle.dexlayout.specs.Places.{ItemPlaces, TypeListPlaces}
 use Rattle.dexlayout.specs.Laid.{ordered_of}
 use Rattle.dexcanon.proofs.Made.{made_none, made_more, made_fault, made_last, whole_as}
-use Rattle.dexcanon.proofs.WholeBody.{after_0, after_1, after_2, after_3, after_4, after_5, proto_rows, class_rows_are, class_count, whole_count, texts_few}
+use Rattle.dexcanon.proofs.WholeBody.{after_0, after_1, after_2, after_3, after_4, after_5, proto_rows, class_rows_are, class_count, whole_count}
 use Rattle.dexcanon.proofs.body.put_tables.Goals as goal
 
 pub split_at-requires : goal.split_at-requires
@@ -25,21 +25,6 @@ returns-in_err-put_field_ids g c = made_fault (after_4 c.args.contents.now.numbe
 
 pub returns-in_err-put_method_ids : goal.returns-in_err-put_method_ids
 returns-in_err-put_method_ids g c = made_fault (after_5 c.args.contents.now.numbering.now c.args.contents.now.classes.now) (made_more (after_4 c.args.contents.now.numbering.now c.args.contents.now.classes.now) (made_more (after_3 c.args.contents.now.numbering.now c.args.contents.now.classes.now) (made_more (after_2 c.args.contents.now.numbering.now c.args.contents.now.classes.now) (made_more (after_1 c.args.contents.now.numbering.now c.args.contents.now.classes.now) (made_none c.args.state.now c.args.gathered.now (after_0 c.args.contents.now.numbering.now c.args.contents.now.classes.now) c.requires.works) refl (whole_as (ap (flat_map uint) (c.offsets-string_offs.ensures ∙ ap (λ (p : ItemPlaces). p.offsets) c.strings.ensures ∙ c.requires.ready.laid.strings_are.offsets_are)) c.in_ok-put_string_ids.ensures).ok) refl c.in_ok-put_type_ids.ensures.ok) refl (whole_as (proto_rows c.args.contents.now.numbering.now c.args.contents.now.classes.now c.offsets-list_offs.result.now c.split_at.result.0.now c.count.result (c.offsets-list_offs.ensures ∙ ap (λ (p : ItemPlaces). p.offsets) (c.places.ensures ∙ ap (λ (d : TypeListPlaces). d.places) c.type_lists.ensures) ∙ c.requires.ready.laid.type_lists_are.places_are.offsets_are) c.count.ensures c.split_at.ensures.front) c.in_ok-put_proto_ids.ensures).ok) refl c.in_ok-put_field_ids.ensures.ok) refl c.in_err-put_method_ids.ensures c.from_residual-in_err-put_method_ids.ensures.0 c.from_residual-in_err-put_method_ids.ensures.1
-
-pub put_type_ids-requires-clause-few : goal.put_type_ids-requires-clause-few
-put_type_ids-requires-clause-few g c = texts_few c.args.contents.now.numbering.now c.args.contents.now.classes.now c.requires.ready.writable
-
-pub put_proto_ids-requires-clause-few_texts : goal.put_proto_ids-requires-clause-few_texts
-put_proto_ids-requires-clause-few_texts g c = texts_few c.args.contents.now.numbering.now c.args.contents.now.classes.now c.requires.ready.writable
-
-pub put_field_ids-requires-clause-few_texts : goal.put_field_ids-requires-clause-few_texts
-put_field_ids-requires-clause-few_texts g c = texts_few c.args.contents.now.numbering.now c.args.contents.now.classes.now c.requires.ready.writable
-
-pub put_method_ids-requires-clause-few_texts : goal.put_method_ids-requires-clause-few_texts
-put_method_ids-requires-clause-few_texts g c = texts_few c.args.contents.now.numbering.now c.args.contents.now.classes.now c.requires.ready.writable
-
-pub put_class_defs-requires-clause-few_texts : goal.put_class_defs-requires-clause-few_texts
-put_class_defs-requires-clause-few_texts g c = texts_few c.args.contents.now.numbering.now c.args.contents.now.classes.now c.requires.ready.writable
 
 pub put_class_defs-requires-clause-interfaces : goal.put_class_defs-requires-clause-interfaces
 put_class_defs-requires-clause-interfaces g c = class_count c.args.contents.now.numbering.now c.args.contents.now.classes.now c.offsets-list_offs.result.now c.split_at.result.1.now c.count.result (c.offsets-list_offs.ensures ∙ ap (λ (p : ItemPlaces). p.offsets) (c.places.ensures ∙ ap (λ (d : TypeListPlaces). d.places) c.type_lists.ensures) ∙ c.requires.ready.laid.type_lists_are.places_are.offsets_are) c.count.ensures c.split_at.ensures.back

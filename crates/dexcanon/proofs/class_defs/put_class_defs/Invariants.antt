@@ -6,6 +6,6 @@ use Rattle.dexcanon.proofs.class_defs.put_class_defs.Given as goal
 
 abbrev pub invariant-loop-r : goal.invariant-loop-r
 invariant-loop-r g l =
-    Making g.M.Takes.holds g.M.Takes.has_failed g.M.Takes.empties l.limit l.fn.state l.fn.gathered l.state l.gathered
-    (concat (rows_of l.numbering l.classes l.places.interfaces.now l.places.annotations.now l.places.class_data.now l.places.static_values.now))
-    (concat (drop l.r (rows_of l.numbering l.classes l.places.interfaces.now l.places.annotations.now l.places.class_data.now l.places.static_values.now)))
+    Making g.M.Takes.holds g.M.Takes.has_failed g.M.Takes.empties l.contents.limit l.fn.state l.fn.gathered l.state l.gathered
+    (concat (rows_of l.contents.numbering.now l.contents.classes.now l.places.interfaces.now l.places.annotations.now l.places.class_data.now l.places.static_values.now))
+    (concat (drop l.r (rows_of l.contents.numbering.now l.contents.classes.now l.places.interfaces.now l.places.annotations.now l.places.class_data.now l.places.static_values.now)))

@@ -6,4 +6,4 @@ use Rattle.dexcanon.proofs.tables.put_proto_ids.Given as goal
 
 abbrev pub invariant-loop-i : goal.invariant-loop-i
 invariant-loop-i g l =
-    Making g.M.Takes.holds g.M.Takes.has_failed g.M.Takes.empties l.limit l.fn.state l.fn.gathered l.state l.gathered (flat_map (proto_row l.numbering) (zip l.numbering.protos l.list_offs)) (flat_map (proto_row l.numbering) (drop l.i (zip l.numbering.protos l.list_offs)))
+    Making g.M.Takes.holds g.M.Takes.has_failed g.M.Takes.empties l.contents.limit l.fn.state l.fn.gathered l.state l.gathered (flat_map (proto_row l.contents.numbering.now) (zip l.contents.numbering.now.protos l.list_offs)) (flat_map (proto_row l.contents.numbering.now) (drop l.i (zip l.contents.numbering.now.protos l.list_offs)))

@@ -16,11 +16,11 @@ returns-in_err-pass g c =
     let xs = c.args.offsets.now in
     let i = c.loop-off.off-index in
     let x = slice_index_or xs i 0 in
-    made_fault (flat_map uint (drop (i + 1) xs)) c.loop-off.invariant (rows_next uint xs i x c.loop-off-test.true (get_or_default xs i x 0 c.loop-off-test.true)) c.in_err-pass.ensures c.from_residual.ensures.0 c.from_residual.ensures.1
+    made_fault (flat_map uint (drop (i + 1) xs)) c.loop-off.invariant (rows_next uint xs i x c.loop-off-test.true (get_or_default xs i x 0 c.loop-off-test.true)) c.in_err-pass.ensures.outcome c.from_residual.ensures.0 c.from_residual.ensures.1
 
 pub loop-off-preserved : goal.loop-off-preserved
 loop-off-preserved g c =
     let xs = c.args.offsets.now in
     let i = c.loop-off.off-index in
     let x = slice_index_or xs i 0 in
-    made_more (flat_map uint (drop (i + 1) xs)) c.loop-off.invariant (rows_next uint xs i x c.loop-off-test.true (get_or_default xs i x 0 c.loop-off-test.true)) c.in_ok-pass.ensures.ok
+    made_more (flat_map uint (drop (i + 1) xs)) c.loop-off.invariant (rows_next uint xs i x c.loop-off-test.true (get_or_default xs i x 0 c.loop-off-test.true)) c.in_ok-pass.ensures.outcome.ok

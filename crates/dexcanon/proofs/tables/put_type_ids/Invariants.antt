@@ -6,4 +6,4 @@ use Rattle.dexcanon.proofs.tables.put_type_ids.Given as goal
 
 abbrev pub invariant-loop-i : goal.invariant-loop-i
 invariant-loop-i g l =
-    Making g.M.Takes.holds g.M.Takes.has_failed g.M.Takes.empties l.limit l.fn.state l.fn.gathered l.state l.gathered (flat_map (type_row l.numbering) l.numbering.types) (flat_map (type_row l.numbering) (drop l.i l.numbering.types))
+    Making g.M.Takes.holds g.M.Takes.has_failed g.M.Takes.empties l.contents.limit l.fn.state l.fn.gathered l.state l.gathered (flat_map (type_row l.contents.numbering.now) l.contents.numbering.now.types) (flat_map (type_row l.contents.numbering.now) (drop l.i l.contents.numbering.now.types))

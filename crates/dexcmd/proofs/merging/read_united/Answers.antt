@@ -1,6 +1,6 @@
 use Rattle.dexmerge.specs.Plans.{plan_of}
 use Rattle.dexcmd.specs.Merges.{IsReadFrom, IsUnionFault}
-use Rattle.dexcmd.proofs.Merged.{if_err, united_fault, fault_of_merging, uncalled_by_merging}
+use Rattle.dexcmd.proofs.Merged.{if_err, fault_of_merging, uncalled_by_merging}
 use Rattle.dexcmd.proofs.Moved.{none_moved}
 use Rattle.dexcmd.proofs.merging.read_united.Goals as goal
 
@@ -13,15 +13,13 @@ returns-then-not-branch-clause-no_further g c = none_moved _ _ _ c.args.inputs.n
 pub returns-clause-fault : goal.returns-clause-fault
 returns-clause-fault g c =
     let is = rw c.if-not-branch.false at c.in_ok-is_plan_for.ensures in
-    if_err (IsUnionFault c.args.caps.now c.deref.result.now (plan_of c.args.plan.now)) _ c.united.result
-    (λ f h. fault_of_merging g.R.Source.tells g.R.Source.to_come c.args.inputs.now c.in-Ok.programs.items c.args.caps.now (plan_of c.args.plan.now) f is c.in-Ok.ensures.read
-    (united_fault _ _ _ _ f c.deref.ensures.value h))
+    if_err (IsUnionFault c.args.caps.now c.in-Ok.programs.items (plan_of c.args.plan.now)) _ c.united.result
+    (λ f h. fault_of_merging g.R.Source.tells g.R.Source.to_come c.args.inputs.now c.in-Ok.programs.items c.args.caps.now (plan_of c.args.plan.now) f is c.in-Ok.ensures.read h)
     c.united.ensures.fault
 
 pub returns-clause-uncalled : goal.returns-clause-uncalled
 returns-clause-uncalled g c =
     let is = rw c.if-not-branch.false at c.in_ok-is_plan_for.ensures in
-    if_err (IsUnionFault c.args.caps.now c.deref.result.now (plan_of c.args.plan.now)) _ c.united.result
-    (λ f h. uncalled_by_merging (IsReadFrom g.R.Source.tells g.R.Source.to_come) c.args.inputs.now c.read_each.new.inputs c.in-Ok.programs.items c.args.caps.now (plan_of c.args.plan.now) f is c.in-Ok.ensures.read
-    (united_fault _ _ _ _ f c.deref.ensures.value h))
+    if_err (IsUnionFault c.args.caps.now c.in-Ok.programs.items (plan_of c.args.plan.now)) _ c.united.result
+    (λ f h. uncalled_by_merging (IsReadFrom g.R.Source.tells g.R.Source.to_come) c.args.inputs.now c.read_each.new.inputs c.in-Ok.programs.items c.args.caps.now (plan_of c.args.plan.now) f is c.in-Ok.ensures.read h)
     c.united.ensures.fault

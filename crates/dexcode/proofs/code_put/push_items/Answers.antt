@@ -4,4 +4,4 @@ use Rattle.dexcode.proofs.code_put.push_items.Goals as goal
 
 pub push_try-requires-clause-room : goal.push_try-requires-clause-room
 push_try-requires-clause-room c =
-    room_for_one (placed_try_bytes c.args.places.now) c.args.tries.now c.loop-item.item-index (record { start = 0; count = 0; handler = 0 }) c.args.out.now c.loop-item.out c.loop-item-test.true c.loop-item.invariant c.requires.room
+    room_for_one (placed_try_bytes c.args.places.now) c.args.tries.now c.loop-item.item-index (record { start_addr = 0; insn_count = 0; handler = 0 }) c.args.out.now c.loop-item.out c.loop-item-test.true c.loop-item.invariant c.requires.room

@@ -5,11 +5,11 @@ use Rattle.dexcode.specs.Debug.{HasPlace, number_uses}
 use Rattle.dexcode.proofs.DebugUses.{name_part, type_part, signature_part}
 use Rattle.dexcode.proofs.debug_numbers.renumbered_operation.Goals as goal
 
-pub renumbered-name-requires : goal.renumbered-name-requires
-renumbered-name-requires c = subst (λ i. All (HasPlace c.args.remap.now) (number_uses kinds.Text i)) (sym c.name.ensures) (name_part (HasPlace c.args.remap.now) c.args.operation c.requires)
+pub renumbered-name_idx-requires : goal.renumbered-name_idx-requires
+renumbered-name_idx-requires c = subst (λ i. All (HasPlace c.args.remap.now) (number_uses kinds.Text i)) (sym c.name_idx.ensures) (name_part (HasPlace c.args.remap.now) c.args.operation c.requires)
 
-pub renumbered-typ-requires : goal.renumbered-typ-requires
-renumbered-typ-requires c = subst (λ i. All (HasPlace c.args.remap.now) (number_uses kinds.Typ i)) (sym c.typ.ensures) (type_part (HasPlace c.args.remap.now) c.args.operation c.requires)
+pub renumbered-type_idx-requires : goal.renumbered-type_idx-requires
+renumbered-type_idx-requires c = subst (λ i. All (HasPlace c.args.remap.now) (number_uses kinds.Typ i)) (sym c.type_idx.ensures) (type_part (HasPlace c.args.remap.now) c.args.operation c.requires)
 
-pub renumbered-signature-requires : goal.renumbered-signature-requires
-renumbered-signature-requires c = subst (λ i. All (HasPlace c.args.remap.now) (number_uses kinds.Text i)) (sym c.signature.ensures) (signature_part (HasPlace c.args.remap.now) c.args.operation c.requires)
+pub renumbered-sig_idx-requires : goal.renumbered-sig_idx-requires
+renumbered-sig_idx-requires c = subst (λ i. All (HasPlace c.args.remap.now) (number_uses kinds.Text i)) (sym c.sig_idx.ensures) (signature_part (HasPlace c.args.remap.now) c.args.operation c.requires)

@@ -5,19 +5,19 @@ use Rattle.dexmembers.specs.Naming.{field_indices, method_indices, fields_read, 
 use Rattle.dexmembers.proofs.Named.{names_moved}
 use Rattle.dexmembers.proofs.row_annotations.names_declared.Goals as goal
 
-pub returns-then-not-names_fields-clause-missing : goal.returns-then-not-names_fields-clause-missing
-returns-then-not-names_fields-clause-missing c = λ has rise names.
+pub returns-then-not-names_members-clause-missing : goal.returns-then-not-names_members-clause-missing
+returns-then-not-names_members-clause-missing c = λ has rise names.
     let b = c.args.frame.now in
     let off = c.args.off in
     let count : c.u32_at-fields.result ≡ fields_count b off = c.u32_at-fields.ensures ∙ ap (λ (x : List ℕ). uint_at x (off + 4)) c.bytes-bytes.ensures.bytes in
     let first = c.deref.ensures.value in
     let second = c.deref-2.ensures.value in
     let there = names_moved b (off + 16) (off + 16) (fields_count b off) c.u32_at-fields.result (fields_read c.args.declared.now) _ refl (sym count) (λ i. field_indices (sym first i) ++ field_indices (sym second i)) names.fields_named in
-    let found = c.names_fields.ensures.missing (subst (λ l. BothRise l (field_indices c.deref-2.result.now)) (λ i. field_indices (sym first i)) (subst (λ l. BothRise (field_indices c.args.declared.now.static_fields.items) l) (λ i. field_indices (sym second i)) rise.rising_fields)) there in
-    absurd (let e : false ≡ true = sym c.if-not-names_fields.true ∙ found in cc)
+    let found = c.names_members.ensures.missing (subst (λ l. BothRise l (field_indices c.deref-2.result.now)) (λ i. field_indices (sym first i)) (subst (λ l. BothRise (field_indices c.args.declared.now.static_fields.items) l) (λ i. field_indices (sym second i)) rise.rising_fields)) there in
+    absurd (let e : false ≡ true = sym c.if-not-names_members.true ∙ found in cc)
 
-pub returns-then-not-names_methods-clause-missing : goal.returns-then-not-names_methods-clause-missing
-returns-then-not-names_methods-clause-missing c = λ has rise names.
+pub returns-then-not-names_members-2-clause-missing : goal.returns-then-not-names_members-2-clause-missing
+returns-then-not-names_members-2-clause-missing c = λ has rise names.
     let b = c.args.frame.now in
     let off = c.args.off in
     let fields : c.u32_at-fields.result ≡ fields_count b off = c.u32_at-fields.ensures ∙ ap (λ (x : List ℕ). uint_at x (off + 4)) c.bytes-bytes.ensures.bytes in
@@ -25,8 +25,8 @@ returns-then-not-names_methods-clause-missing c = λ has rise names.
     let first = c.deref-3.ensures.value in
     let second = c.deref-4.ensures.value in
     let there = names_moved b (off + 16 + 8 * fields_count b off) (off + 16 + 8 * c.u32_at-fields.result) (methods_count b off) c.u32_at-methods.result (methods_read c.args.declared.now) _ (ap (λ (n : ℕ). off + 16 + 8 * n) (sym fields)) (sym count) (λ i. method_indices (sym first i) ++ method_indices (sym second i)) names.methods_named in
-    let found = c.names_methods.ensures.missing (subst (λ l. BothRise l (method_indices c.deref-4.result.now)) (λ i. method_indices (sym first i)) (subst (λ l. BothRise (method_indices c.args.declared.now.direct_methods.items) l) (λ i. method_indices (sym second i)) rise.rising_methods)) there in
-    absurd (let e : false ≡ true = sym c.if-not-names_methods.true ∙ found in cc)
+    let found = c.names_members-2.ensures.missing (subst (λ l. BothRise l (method_indices c.deref-4.result.now)) (λ i. method_indices (sym first i)) (subst (λ l. BothRise (method_indices c.args.declared.now.direct_methods.items) l) (λ i. method_indices (sym second i)) rise.rising_methods)) there in
+    absurd (let e : false ≡ true = sym c.if-not-names_members-2.true ∙ found in cc)
 
 pub returns-clause-listed : goal.returns-clause-listed
 returns-clause-listed c = λ e.
@@ -38,11 +38,11 @@ returns-clause-listed c = λ e.
     let parameters : c.u32_at-parameters.result ≡ parameters_count b off = c.u32_at-parameters.ensures ∙ ap (λ (x : List ℕ). uint_at x (off + 12)) c.bytes-bytes.ensures.bytes in
     let third : off + 16 + 8 * c.u32_at-fields.result + 8 * c.u32_at-methods.result ≡ off + 16 + 8 * (fields_count b off + methods_count b off) = omega (arith, fields, methods) in
     record {
-      fields_named = names_moved b (off + 16) (off + 16) c.u32_at-fields.result (fields_count b off) _ (fields_read d) refl fields (λ i. field_indices (c.deref.ensures.value i) ++ field_indices (c.deref-2.ensures.value i)) (c.names_fields.ensures.listed c.if-not-names_fields.false);
+      fields_named = names_moved b (off + 16) (off + 16) c.u32_at-fields.result (fields_count b off) _ (fields_read d) refl fields (λ i. field_indices (c.deref.ensures.value i) ++ field_indices (c.deref-2.ensures.value i)) (c.names_members.ensures.listed c.if-not-names_members.false);
       methods_named = names_moved b (off + 16 + 8 * c.u32_at-fields.result) (off + 16 + 8 * fields_count b off) c.u32_at-methods.result (methods_count b off) _ (methods_read d) (ap (λ (n : ℕ). off + 16 + 8 * n) fields) methods
-          (λ i. method_indices (c.deref-3.ensures.value i) ++ method_indices (c.deref-4.ensures.value i)) (c.names_methods.ensures.listed c.if-not-names_methods.false);
+          (λ i. method_indices (c.deref-3.ensures.value i) ++ method_indices (c.deref-4.ensures.value i)) (c.names_members-2.ensures.listed c.if-not-names_members-2.false);
       parameters_named = names_moved b (off + 16 + 8 * c.u32_at-fields.result + 8 * c.u32_at-methods.result) (off + 16 + 8 * (fields_count b off + methods_count b off)) c.u32_at-parameters.result (parameters_count b off) _ (methods_read d) third parameters
-          (λ i. method_indices (c.deref-5.ensures.value i) ++ method_indices (c.deref-6.ensures.value i)) (c.names_methods-2.ensures.listed e);
+          (λ i. method_indices (c.deref-5.ensures.value i) ++ method_indices (c.deref-6.ensures.value i)) (c.names_members-3.ensures.listed e);
     }
 
 pub returns-clause-missing : goal.returns-clause-missing
@@ -57,4 +57,4 @@ returns-clause-missing c = λ has rise names.
     let second = c.deref-6.ensures.value in
     let there = names_moved b (off + 16 + 8 * (fields_count b off + methods_count b off)) (off + 16 + 8 * c.u32_at-fields.result + 8 * c.u32_at-methods.result) (parameters_count b off) c.u32_at-parameters.result (methods_read c.args.declared.now) _ third (sym parameters)
     (λ i. method_indices (sym first i) ++ method_indices (sym second i)) names.parameters_named in
-    c.names_methods-2.ensures.missing (subst (λ l. BothRise l (method_indices c.deref-6.result.now)) (λ i. method_indices (sym first i)) (subst (λ l. BothRise (method_indices c.args.declared.now.direct_methods.items) l) (λ i. method_indices (sym second i)) rise.rising_methods)) there
+    c.names_members-3.ensures.missing (subst (λ l. BothRise l (method_indices c.deref-6.result.now)) (λ i. method_indices (sym first i)) (subst (λ l. BothRise (method_indices c.args.declared.now.direct_methods.items) l) (λ i. method_indices (sym second i)) rise.rising_methods)) there

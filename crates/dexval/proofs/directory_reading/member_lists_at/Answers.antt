@@ -1,6 +1,7 @@
 use Rattle.std.proofs.Common.{◌≡◌, ◌+◌, ◌*◌, ◌++◌, ◌∷◌, ◌∙◌, ◌≤◌, ℕ, List, [], map, sum_by, refl, ap, sym, subst, arith}
 use Rattle.std.specs.Prelude.{All}
 use Rattle.std.proofs.lemmas.List.{map-append}
+use Rattle.std.proofs.lemmas.Result.{err_from_is_err_and}
 use Rattle.dexspec.specs.Bytes.{uint_at}
 use Rattle.dexspec.specs.Annotations.{AnnotationSet, RefListAt}
 use Rattle.dexval.specs.Code.{set_of}
@@ -8,21 +9,22 @@ use Rattle.dexval.specs.Numbered.{NumberedSet, IsKnownSet, set_in}
 use Rattle.dexval.specs.Directories.{IsKept, IsRefListAt, ArePairsAt, member_list_of, sets_weight_in}
 use Rattle.dexval.proofs.DirectoryRead.{HaveReadPairs, no_pair_yet, one_pair_more, no_pair_next, no_item_next, pairs_end}
 use Rattle.dexval.proofs.Keeping.{none_kept, one_kept, kept_as, kept_moved, members_add, not_within}
-use Rattle.dexval.proofs.directory_reading.member_lists_at.Goals.{then-is_within+in_ok-push-in-Some-2, else-is_within}
+use Rattle.dexval.proofs.Refusals.{refused_so}
+use Rattle.dexval.proofs.directory_reading.member_lists_at.Goals.{then-is_within+in_ok-push, else-is_within}
 use Rattle.dexval.proofs.directory_reading.member_lists_at.Goals as goal
 
-pub returns-in-None-clause-read : goal.returns-in-None-clause-read
-returns-in-None-clause-read c = λ p.
+pub returns-in_err-number-clause-refused : goal.returns-in_err-number-clause-refused
+returns-in_err-number-clause-refused c = λ p.
     let m = c.args.pools.now in
     let h = c.loop-i.invariant.read p in
-    no_pair_next (All (IsKnownSet m)) (map (set_in m)) RefListAt c.args.frame.now c.args.at c.args.count c.args.limit c.loop-i.i c.loop-i.least h.item (omega arith) h.is_read c.in-None.ensures
+    let e = err_from_is_err_and c.from_residual.result c.from_residual.ensures.1 in
+    rw (e.1, e.2) (refused_so (no_pair_next (All (IsKnownSet m)) (map (set_in m)) RefListAt c.args.frame.now c.args.at c.args.count c.args.limit c.loop-i.i c.loop-i.least h.item (omega arith) h.is_read) c.in_err-number.field-0.0 c.in_err-number.ensures.refused)
 
-pub returns-in-None-2-clause-read : goal.returns-in-None-2-clause-read
-returns-in-None-2-clause-read c = λ p.
+pub returns-in_err-sets-clause-refused : goal.returns-in_err-sets-clause-refused
+returns-in_err-sets-clause-refused c = λ p.
     let b = c.args.frame.now in
-    let h = c.in_ok-sets.ensures.read p in
-    let none = rw c.in-None-2.is at h in
-    no_item_next RefListAt b c.args.at c.args.count c.args.limit c.loop-i.i (omega arith) (subst (λ (o : ℕ). (y : List AnnotationSet) → RefListAt b o y → ⊥) c.in-Some.ensures.2 none)
+    let e = err_from_is_err_and c.from_residual-in_err-sets.result c.from_residual-in_err-sets.ensures.1 in
+    rw (e.1, e.2) (refused_so (λ none. no_item_next RefListAt b c.args.at c.args.count c.args.limit c.loop-i.i (omega arith) (subst (λ (o : ℕ). (y : List AnnotationSet) → RefListAt b o y → ⊥) c.in_ok-number.ensures.pair.2 none)) c.in_err-sets.field-0.0 (c.in_err-sets.ensures.refused p))
 
 pub loop-i-init : goal.loop-i-init
 loop-i-init c = record {
@@ -43,31 +45,30 @@ loop-i-preserved c =
     let m = c.args.pools.now in
     let most = c.args.budget.now.most in
     let new = c.ref_list_at.new.budget.weight in
-    let number = c.in-Some.pair.0 in
-    let off = c.in-Some.pair.1 in
-    let item = map set_of c.in-Some-2.sets.items in
+    let number = c.in_ok-number.number in
+    let off = c.in_ok-number.off in
+    let item = map set_of c.in_ok-sets.sets.items in
     let old = map member_list_of c.loop-i.members.items in
     let next = map member_list_of c.if-is_within.members.items in
     let Read = HaveReadPairs (All (IsKnownSet m)) (map (set_in m)) RefListAt b c.args.at c.args.limit in
     let least : number ≡ c.from-least.result = omega (arith, c.from-least.ensures) in
     let bound : c.ref_list_at.new.budget.most ≡ most = c.in_ok-sets.ensures.most ∙ c.loop-i.invariant.bound in
     let pushed : new ≤ most → next ≡ old ++ (number, item) ∷ [] = λ le. elim c.if-is_within.branch [
-      | then-is_within+in_ok-push-in-Some-2 w ↦
-          ap (map member_list_of) (ap (λ v. v.items) w.members-is ∙ w.in_ok-push-in-Some-2.ensures.items) ∙ map-append member_list_of c.loop-i.members.items ((number, c.in-Some-2.sets) ∷ [])
+      | then-is_within+in_ok-push w ↦
+          ap (map member_list_of) (ap (λ v. v.items) w.members-is ∙ w.in_ok-push.ensures.items) ∙ map-append member_list_of c.loop-i.members.items ((number, c.in_ok-sets.sets) ∷ [])
       | else-is_within w ↦ absurd (not_within c.is_within.result c.is_within.ensures w.if-is_within.false (omega (arith, le, bound)))
     ] in
     record {
       least_fits = omega (arith, c.from-least.ensures);
       bound = bound;
-      judged = λ p. let h = c.in_ok-sets.ensures.judged p in rw c.in-Some-2.is at h;
+      judged = λ p. c.in_ok-sets.ensures.judged p;
       read = λ p.
-          let h = c.in_ok-sets.ensures.read p in
-          let r = kept_moved (IsRefListAt b off m) (IsRefListAt b off m) (sets_weight_in m) c.loop-i.invariant.bound (λ s k. k) (rw c.in-Some-2.is at h) in
-          let stands : RefListAt b (uint_at b (c.args.at + 8 * c.loop-i.i + 4)) (map (set_in m) r.item) = subst (λ (o : ℕ). RefListAt b o (map (set_in m) r.item)) c.in-Some.ensures.2 r.is_read.at in
+          let r = kept_moved (IsRefListAt b off m) (IsRefListAt b off m) (sets_weight_in m) c.loop-i.invariant.bound (λ s k. k) (c.in_ok-sets.ensures.read p) in
+          let stands : RefListAt b (uint_at b (c.args.at + 8 * c.loop-i.i + 4)) (map (set_in m) r.item) = subst (λ (o : ℕ). RefListAt b o (map (set_in m) r.item)) c.in_ok-number.ensures.pair.2 r.is_read.at in
           one_kept (Read c.loop-i.i c.loop-i.least) (Read (c.loop-i.i + 1) (c.from-least.result + 1)) (sum_by (λ (e : ℕ × List NumberedSet). sets_weight_in m e.1)) (λ (e : ℕ × List NumberedSet). sets_weight_in m e.1) most c.args.budget.now.weight c.loop-i.budget.weight new old next
           (number, r.item) (number, item)
           (λ xs k. subst (λ (x : ℕ). Read (c.loop-i.i + 1) (x + 1) (xs ++ (number, r.item) ∷ [])) least
-          (one_pair_more (All (IsKnownSet m)) (map (set_in m)) RefListAt b c.args.at c.args.limit c.loop-i.i c.loop-i.least xs number r.item k c.in-Some.ensures.0 c.in-Some.ensures.1 r.is_read.known stands))
+          (one_pair_more (All (IsKnownSet m)) (map (set_in m)) RefListAt b c.args.at c.args.limit c.loop-i.i c.loop-i.least xs number r.item k c.in_ok-number.ensures.pair.0 c.in_ok-number.ensures.pair.1 r.is_read.known stands))
           (members_add (sets_weight_in m) (number, r.item)) (c.loop-i.invariant.read p) r.early r.grown r.heavy (λ le. ap (λ (x : List NumberedSet). (number, x)) (r.whole le)) pushed;
     }
 

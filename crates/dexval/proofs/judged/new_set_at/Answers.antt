@@ -1,10 +1,13 @@
 use Rattle.std.proofs.Common.{◌≡◌, ◌≤◌, ◌∙◌, refl, ap, sym, arith}
 use Rattle.std.specs.Prelude.{nat_eq}
+use Rattle.std.proofs.lemmas.Result.{err_from_is_err_and}
 use Rattle.std.specs.HashMap.{get}
 use Rattle.dexval.specs.declared.judged.Judged.{Judged}
 use Rattle.dexval.specs.Code.{set_of}
+use Rattle.dexval.specs.Directories.{set_weight_in}
+use Rattle.dexval.specs.Reading.{IsSetAt}
 use Rattle.dexval.proofs.JudgedSets.{judged_later, set_noted}
-use Rattle.dexval.proofs.Keeping.{not_within}
+use Rattle.dexval.proofs.Keeping.{new_kept, not_within}
 use Rattle.dexval.proofs.judged.new_set_at.Goals.{then-is_within, else-is_within, then-weight-gt-LIGHT+in_ok-copy+in_ok-insert+in-Some-1, then-weight-gt-LIGHT+in_ok-copy+in_ok-insert+in-None-1, else-weight-gt-LIGHT}
 use Rattle.dexval.proofs.judged.new_set_at.Goals as goal
 
@@ -16,9 +19,8 @@ returns-clause-judged c = λ p.
     let next = c.if-weight-gt-LIGHT.judged in
     let most = c.add.new.self.most in
     let weight = c.add.new.self.weight in
-    let item = set_of c.in-Some.set in
-    let h = c.in_ok-set.ensures p in
-    let r = rw c.in-Some.is at h in
+    let item = set_of c.in_ok-set.set in
+    let r = c.in_ok-set.ensures.set p.pools in
     let kept : weight ≤ most → set_of c.if-is_within.kept ≡ item = λ le. elim c.if-is_within.branch [
       | then-is_within w ↦ ap set_of w.kept-is
       | else-is_within w ↦ absurd (not_within c.is_within.result c.is_within.ensures w.if-is_within.false le)
@@ -33,3 +35,21 @@ returns-clause-judged c = λ p.
           (record { item = item; is_read = r; whole = λ le. w.in_ok-copy.ensures ∙ kept le }) later
       | else-weight-gt-LIGHT w ↦ judged_later b m old next (sym (ap (λ (j : Judged). j.sets) w.judged-is)) (sym (ap (λ (j : Judged). j.lists) w.judged-is)) (λ le. le) later
     ]
+
+pub returns-clause-read : goal.returns-clause-read
+returns-clause-read c = λ p.
+    let b = c.args.frame.now in
+    let m = c.args.pools.now in
+    let most = c.args.budget.now.most in
+    let weight = c.add.new.self.weight in
+    let item = set_of c.in_ok-set.set in
+    let kept : weight ≤ most → set_of c.if-is_within.kept ≡ item = λ le. elim c.if-is_within.branch [
+      | then-is_within w ↦ ap set_of w.kept-is
+      | else-is_within w ↦ absurd (not_within c.is_within.result c.is_within.ensures w.if-is_within.false (omega (arith, le, c.add.ensures.most)))
+    ] in
+    new_kept (IsSetAt b c.args.off m) (set_weight_in m) most c.args.budget.now.weight weight item (set_of c.if-is_within.kept) (c.in_ok-set.ensures.set p.pools) c.add.ensures.grows (omega (arith, c.add.ensures.weight, c.weight-weight.ensures m)) kept
+
+pub returns-in_err-set-clause-refused : goal.returns-in_err-set-clause-refused
+returns-in_err-set-clause-refused c = λ p.
+    let e = err_from_is_err_and c.from_residual.result c.from_residual.ensures.1 in
+    rw (e.1, e.2) (c.in_err-set.ensures.refused p.pools)

@@ -1,8 +1,8 @@
-use Rattle.dexmembers.proofs.OneMember.{no_field_flags}
-use Rattle.dexmembers.proofs.Owned.{ok_no_err}
+use Rattle.std.proofs.Common.{◌≡◌, ◌∙◌, sym, true, false}
+use Rattle.dexmembers.proofs.OneMember.{other_field}
 use Rattle.dexmembers.proofs.encoded.EncodedFieldEncoded.read.Goals as goal
 
-pub returns-in-Err-read_u-clause-none : goal.returns-in-Err-read_u-clause-none
-returns-in-Err-read_u-clause-none c =
-    no_field_flags c.args.owner.pools.now c.args.owner.class c.args.bytes.now c.args.at c.args.last c.in-Ok.read.0 c.in-Ok.read.1 c.in-Ok.ensures.found
-    (λ v n h. ok_no_err _ (v, n) _ (c.read_u-2.ensures.only v n h) c.in-Err-read_u.is)
+pub returns-then-not-has_field-clause-none : goal.returns-then-not-has_field-clause-none
+returns-then-not-has_field-clause-none c =
+    other_field c.args.owner.pools.now c.args.owner.class c.args.bytes.now c.args.at c.args.last c.in-Some.head.0 c.in-Some.head.1 c.in-Some.head.2 c.in-Some.ensures.some
+    (λ own. let e : false ≡ true = sym c.if-not-has_field.true ∙ c.has_field.ensures.1 own in absurd cc)

@@ -1,0 +1,41 @@
+use Rattle.std.proofs.Common.{sym, subst}
+use Rattle.std.specs.Prelude.{All}
+use Rattle.dexspec.specs.Files.{definitions}
+use Rattle.dexspec.specs.Depth.{in_class_order}
+use Rattle.dexspec.specs.Mentions.{Mentions, mentions}
+use Rattle.dexspec.specs.Merging.{greatest_caps}
+use Rattle.dexspec.specs.Stripping.{strip}
+use Rattle.dexclass.specs.Numbered.{type_at}
+use Rattle.dexclass.specs.Uses.{IsKnownClass}
+use Rattle.dexclass.proofs.Mergeable.{AreTrimmed, are_trimmed}
+use Rattle.dexclass.proofs.Ordered.{if_ok_each}
+use Rattle.dexclass.proofs.StrippedPrograms.{class_stripped, class_known, all_known, all_stripped, stays_good, stripped_mergeable, stripped_collection}
+use Rattle.dexclass.proofs.stripping.into_stripped.Goals as goal
+use Rattle.dexclass.proofs.stripping.into_stripped.Goals.{In_ok-trimmed}
+
+pub trim-requires : goal.trim-requires
+trim-requires c =
+    let law = c.members_stripped_law.ensures in
+    let m = mentions (definitions c.args.program) in
+    subst (λ (n : Mentions). All (IsKnownClass n) c.strip_all.new.classes.items) (sym c.into_parts-numbering.ensures.numbering)
+    (all_known m c.into_parts-numbering.result.1.items (λ x h. class_known m x h (law.known m x.members h.members_known) (law.ordered x.members h.members_ordered) (law.own m (type_at m x.name) x.members h.members_own))
+    c.into_parts-numbering.ensures.classes.known c.strip_all.new.classes.items c.strip_all.ensures)
+
+-- the classes as they are trimmed
+trimmed : (c : In_ok-trimmed) → AreTrimmed (strip (in_class_order (definitions c.args.program))) c.in_ok-trimmed.trimmed c.trim.new.classes.items
+trimmed c =
+    let m = mentions (definitions c.args.program) in
+    let old = c.strip_all.new.classes.items in
+    subst (λ D. AreTrimmed D c.in_ok-trimmed.trimmed c.trim.new.classes.items)
+    (all_stripped c.args.program c.into_parts-numbering.result.1.items c.into_parts-numbering.ensures.classes (λ n x. class_stripped n x (c.members_stripped_law.ensures.same n x.members)) old c.strip_all.ensures)
+    (are_trimmed m c.into_parts-numbering.result.0 c.in_ok-trimmed.trimmed old c.trim.new.classes.items c.into_parts-numbering.ensures.numbering c.in_ok-trimmed.ensures.mentions c.in_ok-trimmed.ensures.same c.in_ok-trimmed.ensures.numbers)
+
+pub of-requires : goal.of-requires
+of-requires c =
+    let E = in_class_order (definitions c.args.program) in
+    stripped_mergeable c.args.program c.in_ok-trimmed.trimmed c.trim.new.classes.items (trimmed (goal.at.of-requires c).In_ok-trimmed) c.is_good.ensures.good c.is_good.ensures.formed (c.strip_good.ensures.good greatest_caps E) (c.strip_good.ensures.well_formed E)
+
+pub returns : goal.returns
+returns c =
+    let K = c.args.program in
+    if_ok_each _ _ c.of.result (λ L is. stripped_collection K c.in_ok-trimmed.trimmed c.trim.new.classes.items (trimmed (goal.at.returns c).In_ok-trimmed) (c.strip_collection_law.ensures.listed (in_class_order (definitions K)) K) L is) c.of.ensures

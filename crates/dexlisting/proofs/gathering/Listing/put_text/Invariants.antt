@@ -1,0 +1,5 @@
+use Rattle.dexlisting.specs.Going.{Works}
+use Rattle.dexlisting.proofs.gathering.Listing.put_text.Given as goal
+
+abbrev pub invariant-loop-unit : goal.invariant-loop-unit
+invariant-loop-unit g l = Works g.W.Sink.has_failed l.fn.self l.self

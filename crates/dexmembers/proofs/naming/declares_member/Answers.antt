@@ -1,0 +1,6 @@
+use Rattle.std.proofs.Common.{map}
+use Rattle.std.proofs.lemmas.List.Elements.{Contains-append_right}
+use Rattle.dexmembers.proofs.naming.declares_member.Goals as goal
+
+pub returns-clause-listed : goal.returns-clause-listed
+returns-clause-listed g c = λ e. Contains-append_right (map g.T.Encoded.index_of c.args.first.now) (map g.T.Encoded.index_of c.args.second.now) c.args.index (c.has_member-2.ensures.listed e)

@@ -70,7 +70,11 @@ pub fn run<R: Files + AllocGlobal>(
     let programs = merge.programs(alloc)?;
     match merge.planned(alloc, &programs, &plan, after)? {
         Outcome::Passed => {
-            merge.judged(alloc, merge_files(alloc, programs, &plan, &merge.caps), after)
+            merge.judged(
+                alloc,
+                merge_files(alloc, programs, &plan, &merge.caps),
+                after,
+            )
         }
         failed => Ok(failed),
     }

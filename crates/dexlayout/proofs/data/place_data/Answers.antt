@@ -1,186 +1,26 @@
-use Rattle.std.proofs.Common.{map, ap, ◌∙◌}
-use Rattle.std.proofs.lemmas.List.Elements.{All-map}
-use Rattle.dexval.specs.Code.{set_of}
-use Rattle.dexval.specs.Numbered.{IsKnownSet}
-use Rattle.dexlayout.specs.Places.{ItemPlaces}
-use Rattle.dexlayout.specs.Laid.{ordered_of}
-use Rattle.dexlayout.proofs.Ends.{end_in_file}
-use Rattle.dexlayout.proofs.OwnCounts.{strings_stand, strings_fit}
-use Rattle.dexlayout.proofs.SetAnnotations.{sets_behind, annotations_fit}
+use Rattle.std.proofs.Common.{◌∙◌}
 use Rattle.dexlayout.proofs.data.place_data.Goals as goal
 
-pub place_annotations-requires : goal.place_annotations-requires
-place_annotations-requires c =
-    let m = c.args.numbering.now in
-    let cs = c.args.classes.now in
-    let w = c.requires.classes in
-    let K = ordered_of m cs in
-    let end = λ (q : ItemPlaces). q.end in
-    let e1 = c.end.ensures ∙ ap end c.places.ensures ∙ c.in_ok-type_lists.ensures.places_are.end_is in
-    let are = (c.in_ok-written.ensures.shared m w).written_are in
-    let known = c.in_ok-written.ensures.known m w in
-    annotations_fit m cs (map (λ s. set_of s.now) c.in_ok-written.field-0.written.items) c.end.result w (sets_behind m (λ s. set_of s.now) c.in_ok-written.field-0.written.items ∙ are) (All-map (IsKnownSet m) (λ s. set_of s.now) c.in_ok-written.field-0.written.items known) e1
-
-pub place_static_values-requires : goal.place_static_values-requires
-place_static_values-requires c =
-    let m = c.args.numbering.now in
-    let cs = c.args.classes.now in
-    let w = c.requires.classes in
-    let K = ordered_of m cs in
-    let end = λ (q : ItemPlaces). q.end in
-    let e1 = c.end.ensures ∙ ap end c.places.ensures ∙ c.in_ok-type_lists.ensures.places_are.end_is in
-    let are = (c.in_ok-written.ensures.shared m w).written_are in
-    let known = c.in_ok-written.ensures.known m w in
-    let a = c.in_ok-annotations.ensures m cs w are known e1 in
-    let e2 = c.end-2.ensures ∙ ap end c.places-2.ensures ∙ a.places_are.end_is in
-    (m, w, e2)
-
-pub place_strings-requires : goal.place_strings-requires
-place_strings-requires c =
-    let m = c.args.numbering.now in
-    let cs = c.args.classes.now in
-    let w = c.requires.classes in
-    let K = ordered_of m cs in
-    let end = λ (q : ItemPlaces). q.end in
-    let e1 = c.end.ensures ∙ ap end c.places.ensures ∙ c.in_ok-type_lists.ensures.places_are.end_is in
-    let are = (c.in_ok-written.ensures.shared m w).written_are in
-    let known = c.in_ok-written.ensures.known m w in
-    let a = c.in_ok-annotations.ensures m cs w are known e1 in
-    let e2 = c.end-2.ensures ∙ ap end c.places-2.ensures ∙ a.places_are.end_is in
-    let s = c.in_ok-static_values.ensures m w e2 in
-    let e3 = c.end-3.ensures ∙ s.end_is in
-    strings_fit K c.end-3.result e3 (end_in_file K w.fits)
-
-pub place_debugs-requires : goal.place_debugs-requires
-place_debugs-requires c =
-    let m = c.args.numbering.now in
-    let cs = c.args.classes.now in
-    let w = c.requires.classes in
-    let K = ordered_of m cs in
-    let end = λ (q : ItemPlaces). q.end in
-    let e1 = c.end.ensures ∙ ap end c.places.ensures ∙ c.in_ok-type_lists.ensures.places_are.end_is in
-    let are = (c.in_ok-written.ensures.shared m w).written_are in
-    let known = c.in_ok-written.ensures.known m w in
-    let a = c.in_ok-annotations.ensures m cs w are known e1 in
-    let e2 = c.end-2.ensures ∙ ap end c.places-2.ensures ∙ a.places_are.end_is in
-    let s = c.in_ok-static_values.ensures m w e2 in
-    let e3 = c.end-3.ensures ∙ s.end_is in
-    let t = strings_stand K c.end-3.result e3 c.in_ok-strings.ensures in
-    let e4 = c.end-4.ensures ∙ t.end_is in
-    (m, w, e4)
-
-pub place_codes-requires : goal.place_codes-requires
-place_codes-requires c =
-    let m = c.args.numbering.now in
-    let cs = c.args.classes.now in
-    let w = c.requires.classes in
-    let K = ordered_of m cs in
-    let end = λ (q : ItemPlaces). q.end in
-    let e1 = c.end.ensures ∙ ap end c.places.ensures ∙ c.in_ok-type_lists.ensures.places_are.end_is in
-    let are = (c.in_ok-written.ensures.shared m w).written_are in
-    let known = c.in_ok-written.ensures.known m w in
-    let a = c.in_ok-annotations.ensures m cs w are known e1 in
-    let e2 = c.end-2.ensures ∙ ap end c.places-2.ensures ∙ a.places_are.end_is in
-    let s = c.in_ok-static_values.ensures m w e2 in
-    let e3 = c.end-3.ensures ∙ s.end_is in
-    let t = strings_stand K c.end-3.result e3 c.in_ok-strings.ensures in
-    let e4 = c.end-4.ensures ∙ t.end_is in
-    let d = c.in_ok-debugs.ensures m w e4 in
-    let e5 = c.end-5.ensures ∙ ap end c.places-3.ensures ∙ d.places_are.end_is in
-    (m, w, e5)
-
-pub place_class_data-requires : goal.place_class_data-requires
-place_class_data-requires c =
-    let m = c.args.numbering.now in
-    let cs = c.args.classes.now in
-    let w = c.requires.classes in
-    let K = ordered_of m cs in
-    let end = λ (q : ItemPlaces). q.end in
-    let e1 = c.end.ensures ∙ ap end c.places.ensures ∙ c.in_ok-type_lists.ensures.places_are.end_is in
-    let are = (c.in_ok-written.ensures.shared m w).written_are in
-    let known = c.in_ok-written.ensures.known m w in
-    let a = c.in_ok-annotations.ensures m cs w are known e1 in
-    let e2 = c.end-2.ensures ∙ ap end c.places-2.ensures ∙ a.places_are.end_is in
-    let s = c.in_ok-static_values.ensures m w e2 in
-    let e3 = c.end-3.ensures ∙ s.end_is in
-    let t = strings_stand K c.end-3.result e3 c.in_ok-strings.ensures in
-    let e4 = c.end-4.ensures ∙ t.end_is in
-    let d = c.in_ok-debugs.ensures m w e4 in
-    let e5 = c.end-5.ensures ∙ ap end c.places-3.ensures ∙ d.places_are.end_is in
-    let k = c.in_ok-codes.ensures m w e5 in
-    let o6 = c.offsets.ensures ∙ k.offsets_are in
-    let e6 = c.end-6.ensures ∙ k.end_is in
-    (m, w, o6, e6)
-
-pub place_sets-requires-clause-annotations : goal.place_sets-requires-clause-annotations
-place_sets-requires-clause-annotations c =
-    let m = c.args.numbering.now in
-    let cs = c.args.classes.now in
-    let w = c.requires.classes in
-    let K = ordered_of m cs in
-    let end = λ (q : ItemPlaces). q.end in
-    let e1 = c.end.ensures ∙ ap end c.places.ensures ∙ c.in_ok-type_lists.ensures.places_are.end_is in
-    let are = (c.in_ok-written.ensures.shared m w).written_are in
-    let known = c.in_ok-written.ensures.known m w in
-    let a = c.in_ok-annotations.ensures m cs w are known e1 in
-    a
+pub place_bodies-requires : goal.place_bodies-requires
+place_bodies-requires c = (c.args.numbering.now, c.requires.classes, c.end.ensures ∙ c.in_ok-front.ensures.strings_are.end_is)
 
 pub place_sets-requires-clause-from : goal.place_sets-requires-clause-from
 place_sets-requires-clause-from c =
-    let m = c.args.numbering.now in
-    let cs = c.args.classes.now in
-    let w = c.requires.classes in
-    let K = ordered_of m cs in
-    let end = λ (q : ItemPlaces). q.end in
-    let e1 = c.end.ensures ∙ ap end c.places.ensures ∙ c.in_ok-type_lists.ensures.places_are.end_is in
-    let are = (c.in_ok-written.ensures.shared m w).written_are in
-    let known = c.in_ok-written.ensures.known m w in
-    let a = c.in_ok-annotations.ensures m cs w are known e1 in
-    let e2 = c.end-2.ensures ∙ ap end c.places-2.ensures ∙ a.places_are.end_is in
-    let s = c.in_ok-static_values.ensures m w e2 in
-    let e3 = c.end-3.ensures ∙ s.end_is in
-    let t = strings_stand K c.end-3.result e3 c.in_ok-strings.ensures in
-    let e4 = c.end-4.ensures ∙ t.end_is in
-    let d = c.in_ok-debugs.ensures m w e4 in
-    let e5 = c.end-5.ensures ∙ ap end c.places-3.ensures ∙ d.places_are.end_is in
-    let k = c.in_ok-codes.ensures m w e5 in
-    let o6 = c.offsets.ensures ∙ k.offsets_are in
-    let e6 = c.end-6.ensures ∙ k.end_is in
-    let x = c.in_ok-class_data.ensures m w o6 e6 in
-    let e7 = c.end-7.ensures ∙ x.end_is in
-    e7
+    let bodies = c.in_ok-bodies.ensures c.args.numbering.now c.requires.classes (c.end.ensures ∙ c.in_ok-front.ensures.strings_are.end_is) in
+    c.end-2.ensures ∙ bodies.class_data_are.end_is
 
 pub returns : goal.returns
 returns c =
-    let m = c.args.numbering.now in
-    let cs = c.args.classes.now in
-    let w = c.requires.classes in
-    let K = ordered_of m cs in
-    let end = λ (q : ItemPlaces). q.end in
-    let e1 = c.end.ensures ∙ ap end c.places.ensures ∙ c.in_ok-type_lists.ensures.places_are.end_is in
-    let are = (c.in_ok-written.ensures.shared m w).written_are in
-    let known = c.in_ok-written.ensures.known m w in
-    let a = c.in_ok-annotations.ensures m cs w are known e1 in
-    let e2 = c.end-2.ensures ∙ ap end c.places-2.ensures ∙ a.places_are.end_is in
-    let s = c.in_ok-static_values.ensures m w e2 in
-    let e3 = c.end-3.ensures ∙ s.end_is in
-    let t = strings_stand K c.end-3.result e3 c.in_ok-strings.ensures in
-    let e4 = c.end-4.ensures ∙ t.end_is in
-    let d = c.in_ok-debugs.ensures m w e4 in
-    let e5 = c.end-5.ensures ∙ ap end c.places-3.ensures ∙ d.places_are.end_is in
-    let k = c.in_ok-codes.ensures m w e5 in
-    let o6 = c.offsets.ensures ∙ k.offsets_are in
-    let e6 = c.end-6.ensures ∙ k.end_is in
-    let x = c.in_ok-class_data.ensures m w o6 e6 in
-    let e7 = c.end-7.ensures ∙ x.end_is in
+    let front = c.in_ok-front.ensures in
+    let bodies = c.in_ok-bodies.ensures c.args.numbering.now c.requires.classes (c.end.ensures ∙ front.strings_are.end_is) in
     record {
-      type_lists_are = c.in_ok-type_lists.ensures;
-      annotations_are = a;
-      static_values_are = s;
-      strings_are = t;
-      debugs_are = d;
-      codes_are = k;
-      class_data_are = x;
+      type_lists_are = front.type_lists_are;
+      annotations_are = front.annotations_are;
+      static_values_are = front.static_values_are;
+      strings_are = front.strings_are;
+      debugs_are = bodies.debugs_are;
+      codes_are = bodies.codes_are;
+      class_data_are = bodies.class_data_are;
       sets_are = c.in_ok-sets.ensures;
       ref_lists_are = c.in_ok-ref_lists.ensures;
       directories_are = c.in_ok-directories.ensures;

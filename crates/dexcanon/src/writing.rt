@@ -41,7 +41,6 @@ pub fn to_bytes(alloc: Global, program: &Program<'_>) -> Result<Vec<u8>, AllocEr
     ensures denotes { (K : Collection) → IsGood greatest_caps (definitions K) → AreWellFormed (definitions K) → Denotes (canonical K) K }
 {
     dexlaws_normal::normal_form();
-    dexhead::laws::file_law();
     let layout = Layout::of(alloc, program)?;
     let len = layout.len() as usize;
     let contents = Contents {
@@ -50,9 +49,18 @@ pub fn to_bytes(alloc: Global, program: &Program<'_>) -> Result<Vec<u8>, AllocEr
         layout: &layout,
         limit: len,
     };
-    let mut file = Vec::with_capacity(alloc, len)?;
-    layout.head().put(&mut file)?;
-    match put_body::<Nothing, Keeps>(&contents, &mut file, &mut Nothing) {
+    whole_file(alloc, &contents)
+}
+
+// The file of its contents, in a vector that has room for as much as may gather.
+fn whole_file(alloc: Global, contents: &Contents<'_, '_, '_, '_>) -> Result<Vec<u8>, AllocError>
+    requires { CanBeMade contents.now }
+    ensures { IfOk result (λ file. file.items ≡ with_sums (unsigned_file (ordered_in contents.now))) }
+{
+    dexhead::laws::file_law();
+    let mut file = Vec::with_capacity(alloc, contents.limit)?;
+    contents.layout.head().put(&mut file)?;
+    match put_body::<Nothing, Keeps>(contents, &mut file, &mut Nothing) {
         Ok(()) => {}
         Err(_) => return Err(AllocError),
     }
@@ -86,9 +94,24 @@ pub fn write_to<W: Sink>(
         layout: &layout,
         limit,
     };
-    let mut gathered = Vec::with_capacity(alloc, limit)?;
-    let head = sealed_head(&contents, &mut gathered);
-    put_file::<W, Writes>(&head, 0, &contents, &mut gathered, out)
+    write_contents(alloc, &contents, out)
+}
+
+// Writes the file of its contents, as `write_to` says.
+fn write_contents<W: Sink>(
+    alloc: Global,
+    contents: &Contents<'_, '_, '_, '_>,
+    out: &mut W,
+) -> Result<(), StoreFault>
+    requires ready { CanBeMade contents.now }
+    requires works { W.has_failed out.old ≡ false }
+    ensures written { OnOk result (W.tells out.old → W.taken out.new ≡ W.taken out.old ++ with_sums (unsigned_file (ordered_in contents.now))) }
+    ensures left { IfErr result (HasLeft (W.tells out.old) out.old out.new W.taken (with_sums (unsigned_file (ordered_in contents.now)))) }
+    ensures device { IsErrOf result Io ↔ (W.has_failed out.new ≡ true) }
+{
+    let mut gathered = Vec::with_capacity(alloc, contents.limit)?;
+    let head = sealed_head(contents, &mut gathered);
+    put_file::<W, Writes>(&head, 0, contents, &mut gathered, out)
 }
 
 // How many bytes gather at most: those of the file, or of a piece of it, or of its longest item.

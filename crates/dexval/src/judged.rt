@@ -5,7 +5,7 @@ ghost use Rattle.dexspec.specs.Annotations.{SetAt};
 ghost use Rattle.dexspec.specs.Mentions.{Mentions};
 ghost use Rattle.dexval.specs.Code.{set_of};
 ghost use Rattle.dexval.specs.Nesting.{AreFilePools};
-ghost use Rattle.dexval.specs.Reading.{IsSetAt, IsSetFault};
+ghost use Rattle.dexval.specs.Reading.{IsSetAt};
 ghost use Rattle.dexval.specs.Items.{IsRefusal};
 ghost use Rattle.dexval.specs.Directories.{IsSetOrEmptyAt, NoSetOrEmptyAt, set_weight_in, IsKept};
 ghost use Rattle.dexval.specs.Judged.{AreJudged};
@@ -60,22 +60,19 @@ fn known_set(
     set.copy()
 }
 
-// The set at an offset that was not judged before. Error: none stands there.
-fn new_set_at(
+// The set at an offset, read for the first time: counted, and noted where it is not light. An empty one where the budget
+// has passed.
+fn note_set(
     alloc: Global,
-    frame: &Frame<'_>,
-    pools: &Pools<'_>,
     off: u32,
+    set: AnnotationSet,
     judged: &mut Judged,
     budget: &mut Budget,
-) -> Result<AnnotationSet, ItemFault>
-    requires judged { AreFilePools frame.now pools.now → AreJudged frame.now pools.now budget.old.most budget.old.weight judged.old }
+) -> Result<AnnotationSet, AllocError>
     ensures most { budget.new.most ≡ budget.old.most }
-    ensures judged { AreFilePools frame.now pools.now → OnOk result (AreJudged frame.now pools.now budget.new.most budget.new.weight judged.new) }
-    ensures read { AreFilePools frame.now pools.now → IfOk result (λ set. IsKept (IsSetAt frame.now off pools.now) (set_weight_in pools.now) budget.old.most budget.old.weight budget.new.weight (set_of set)) }
-    ensures refused { AreFilePools frame.now pools.now → IfErr result (IsSetFault frame.now off) }
+    ensures judged { (b : List ℕ) (m : Mentions) → IsSetAt b off m (set_of set) → AreJudged b m budget.old.most budget.old.weight judged.old → OnOk result (AreJudged b m budget.new.most budget.new.weight judged.new) }
+    ensures read { (b : List ℕ) (m : Mentions) → IsSetAt b off m (set_of set) → IfOk result (λ kept. IsKept (IsSetAt b off m) (set_weight_in m) budget.old.most budget.old.weight budget.new.weight (set_of kept)) }
 {
-    let set = read_set(alloc, frame, pools, off)?;
     let weight = set.weight();
     budget.add(weight);
     let kept = if budget.is_within() {
@@ -113,5 +110,6 @@ pub(crate) fn counted_set_at(
     if let Some(set) = judged.sets.get(&off) {
         return Ok(known_set(alloc, set, budget)?);
     }
-    new_set_at(alloc, frame, pools, off, judged, budget)
+    let set = read_set(alloc, frame, pools, off)?;
+    Ok(note_set(alloc, off, set, judged, budget)?)
 }

@@ -1,6 +1,7 @@
 //! What values and annotations weigh.
 
-ghost use Rattle.std.specs.Prelude.{◌≡◌, ◌+◌, ◌-◌, ◌*◌, ◌^◌, min, map, sum_by};
+ghost use Rattle.std.specs.Prelude.{◌≡◌, ◌+◌, ◌-◌, ◌*◌, ◌^◌, ℕ, min, map, sum_by};
+ghost use Rattle.std.specs.Fn.{FnReturnsAt};
 ghost use Rattle.dexspec.specs.Mentions.{Mentions};
 ghost use Rattle.dexspec.specs.Weight.{value_weight, set_weight, ref_list_weight, static_values_weight};
 ghost use Rattle.dexval.specs.Code.{value_of, element_of, annotation_of, set_of};
@@ -49,28 +50,37 @@ fn elements_weight(elements: &[Element]) -> u64
     weight
 }
 
+// What items weigh in a list: 8, and for each 4 for its offset and what it weighs, or 2^64 - 1 where that is more.
+fn listed_weight<T, F: Fn(&T) -> u64>(items: &[T], weight_of: F) -> u64
+    requires { F.IsAlwaysCallable weight_of }
+    ensures { (weighs : T → ℕ) → ((item : T) (weight : ℕ) → FnReturnsAt F.Fn weight_of item weight → weight ≡ min (2 ^ 64 - 1) (weighs item)) → result ≡ min (2 ^ 64 - 1) (8 + sum_by (λ item. 4 + weighs item) items.now) }
+{
+    let mut weight: u64 = 8;
+    for item in items {
+        weight = weight.saturating_add(4).saturating_add(weight_of(item));
+    }
+    weight
+}
+
+// What an annotation weighs.
+fn annotation_weight(annotation: &Annotation) -> u64
+    ensures { result ≡ min (2 ^ 64 - 1) (numbered_annotation_weight (annotation_of annotation.now)) }
+{
+    12u64.saturating_add(elements_weight(&annotation.elements))
+}
+
 // What annotations weigh in a set: each an annotation_item and its offset.
 fn annotations_weight(annotations: &[Annotation]) -> u64
     ensures { result ≡ min (2 ^ 64 - 1) (8 + sum_by (λ a. 4 + numbered_annotation_weight (annotation_of a)) annotations.now) }
 {
-    let mut weight: u64 = 8;
-    for annotation in annotations {
-        weight = weight
-            .saturating_add(16)
-            .saturating_add(elements_weight(&annotation.elements));
-    }
-    weight
+    listed_weight(annotations, |annotation| annotation_weight(annotation))
 }
 
 // What sets weigh in a list of them: each its annotations and its offset.
 fn sets_weight(sets: &[AnnotationSet]) -> u64
     ensures { result ≡ min (2 ^ 64 - 1) (8 + sum_by (λ s. 4 + numbered_set_weight (set_of s)) sets.now) }
 {
-    let mut weight: u64 = 8;
-    for set in sets {
-        weight = weight.saturating_add(4).saturating_add(set_weight(set));
-    }
-    weight
+    listed_weight(sets, |set| set_weight(set))
 }
 
 // What a set weighs.

@@ -1,9 +1,8 @@
 use Rattle.std.proofs.Common.{◌≡◌, [], refl, ap, sym, arith}
-use Rattle.std.proofs.lemmas.Result.{IfOk-weaker, IfErr-weaker}
+use Rattle.std.proofs.lemmas.Result.{err_from_is_err_and}
 use Rattle.dexval.specs.Code.{set_of}
-use Rattle.dexval.specs.Items.{IsRefusal}
-use Rattle.dexval.specs.Reading.{IsSetAt, IsSetFault}
-use Rattle.dexval.specs.Directories.{IsSetOrEmptyAt, NoSetOrEmptyAt, set_weight_in, IsKept}
+use Rattle.dexval.specs.Reading.{IsSetAt}
+use Rattle.dexval.specs.Directories.{IsSetOrEmptyAt, set_weight_in}
 use Rattle.dexval.proofs.DirectoryRead.{empty_set, some_set, no_set}
 use Rattle.dexval.proofs.JudgedSets.{judged_later}
 use Rattle.dexval.proofs.Keeping.{known_kept, new_kept, kept_as}
@@ -42,19 +41,20 @@ returns-in-Some-clause-judged c = λ p.
     c.in_ok-known_set.ensures.passed (λ le. c.in_ok-known_set.ensures.counted le m) c.in_ok-known_set.ensures.set in
     judged_later b m c.args.judged.now (record { sets = c.args.judged.now.sets; lists = c.args.judged.now.lists }) refl refl (λ le. kept.early (omega (arith, le, c.in_ok-known_set.ensures.most))) (c.requires.judged p)
 
+pub returns-clause-judged : goal.returns-clause-judged
+returns-clause-judged c = λ p. c.in_ok-note_set.ensures.judged c.args.frame.now c.args.pools.now (c.in_ok-set.ensures.set p.pools) (c.requires.judged p)
+
 pub returns-clause-read : goal.returns-clause-read
 returns-clause-read c = λ p.
     let b = c.args.frame.now in
     let m = c.args.pools.now in
     let o = c.args.off in
-    let most = c.args.budget.now.most in
-    let before = c.args.budget.now.weight in
-    let after = c.new_set_at.new.budget.weight in
-    IfOk-weaker c.new_set_at.result (λ set. IsKept (IsSetAt b o m) (set_weight_in m) most before after (set_of set)) (λ set. IsKept (IsSetOrEmptyAt b o m) (set_weight_in m) most before after (set_of set))
-    (λ set kept. kept_as (IsSetAt b o m) (IsSetOrEmptyAt b o m) (set_weight_in m) (set_weight_in m) most before after (set_of set) (λ s k. some_set b o m s (omega arith) k) (λ s k. refl) kept) (c.new_set_at.ensures.read p)
+    kept_as (IsSetAt b o m) (IsSetOrEmptyAt b o m) (set_weight_in m) (set_weight_in m) c.args.budget.now.most c.args.budget.now.weight c.note_set.new.budget.weight (set_of c.in_ok-note_set.field-0) (λ s k. some_set b o m s (omega arith) k) (λ s k. refl)
+    (c.in_ok-note_set.ensures.read b m (c.in_ok-set.ensures.set p.pools))
 
-pub returns-clause-refused : goal.returns-clause-refused
-returns-clause-refused c = λ p.
+pub returns-in_err-set-clause-refused : goal.returns-in_err-set-clause-refused
+returns-in_err-set-clause-refused c = λ p.
     let b = c.args.frame.now in
     let o = c.args.off in
-    IfErr-weaker c.new_set_at.result (IsSetFault b o) (IsRefusal (NoSetOrEmptyAt b o)) (λ fault h. refused_set b o (no_set b o (omega arith)) fault h) (c.new_set_at.ensures.refused p)
+    let e = err_from_is_err_and c.from_residual-in_err-set.result c.from_residual-in_err-set.ensures.1 in
+    rw (e.1, e.2) (refused_set b o (no_set b o (omega arith)) c.in_err-set.field-0.0 (c.in_err-set.ensures.refused p.pools))

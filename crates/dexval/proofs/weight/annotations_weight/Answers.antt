@@ -1,0 +1,7 @@
+use Rattle.std.proofs.Common.{rules}
+use Rattle.dexval.specs.Code.{annotation_of}
+use Rattle.dexval.specs.Spelled.{numbered_annotation_weight}
+use Rattle.dexval.proofs.weight.annotations_weight.Goals as goal
+
+pub returns : goal.returns
+returns c = c.listed_weight.ensures (λ a. numbered_annotation_weight (annotation_of a)) (λ a weight says. search rules)

@@ -1,0 +1,7 @@
+use Rattle.std.proofs.Common.{rules}
+use Rattle.dexval.specs.Code.{set_of}
+use Rattle.dexval.specs.Spelled.{numbered_set_weight}
+use Rattle.dexval.proofs.weight.sets_weight.Goals as goal
+
+pub returns : goal.returns
+returns c = c.listed_weight.ensures (λ s. numbered_set_weight (set_of s)) (λ s weight says. search rules)

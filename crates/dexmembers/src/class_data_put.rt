@@ -13,8 +13,8 @@ ghost use Rattle.dexmembers.specs.Numbered.{AreKnownMembers, AreOfClass, fields_
 ghost use Rattle.dexmembers.specs.Spelled.{numbered_field_bytes, numbered_fields_bytes, numbered_method_bytes, numbered_methods_bytes, numbered_class_data_bytes};
 
 use crate::members::{Field, Members, Method};
+use crate::put_laws::members_bytes_law;
 use dexleb::put_u;
-use dexpool::number_law;
 use std::alloc::AllocError;
 
 // Appends a uleb128. Where memory is wanting, as with all that follow here, a part of the item may stand.
@@ -136,7 +136,7 @@ impl Members<'_> {
         ensures symbolic { (m : Mentions) (name : Text) (c : Body) → AreRising m → AreKnownMembers m self.now → AreOfClass m name self.now → members_of c ≡ members_in m self.now → Puts (class_data_bytes m (name, c) code_offs.now) out.old out.new result }
         ensures room { vec_len out.old + (20 + 10 * length (fields_of self.now) + 15 * length (methods_of self.now)) ≤ vec_capacity out.old → IsOk result }
     {
-        number_law();
+        members_bytes_law();
         self.put_numbered_class_data(code_offs, out)
     }
 

@@ -13,8 +13,8 @@ ghost use Rattle.dexval.specs.Appending.{Appends};
 ghost use Rattle.dexmembers.specs.DirectoryPut.{pair_bytes, count_placed, both_bytes, field_numbers, method_numbers, numbered_directory_bytes};
 
 use crate::members::{Field, Members, Method};
+use crate::put_laws::members_bytes_law;
 use dexhead::put_u32;
-use dexpool::number_law;
 use std::alloc::AllocError;
 
 // Greater than the number of each member.
@@ -215,7 +215,7 @@ impl Members<'_> {
         ensures symbolic { (m : Mentions) (name : Text) (c : Body) (sets : SetOffsets) (item : List ℕ) → AreRising m → AreKnownMembers m self.now → AreOrdered self.now → AreOfClass m name self.now → members_of c ≡ members_in m self.now → sets.own ≡ own_off → sets.fields ≡ field_offs.now → map (λ offs. slice_index offs 0) sets.methods ≡ method_offs.now → directory_bytes m (name, c) sets parameter_offs.now ≡ Some item → Puts item out.old out.new result }
         ensures room { vec_len out.old + (16 + 8 * (count_placed field_offs.now + count_placed method_offs.now + count_placed parameter_offs.now)) ≤ vec_capacity out.old → IsOk result }
     {
-        number_law();
+        members_bytes_law();
         self.put_numbered_directory(own_off, field_offs, method_offs, parameter_offs, out)
     }
 }

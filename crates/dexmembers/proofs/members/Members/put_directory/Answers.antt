@@ -1,13 +1,13 @@
 use Rattle.std.proofs.Common.{ℕ, List, subst, arith}
 use Rattle.dexspec.specs.Aside.Writing.{Puts}
-use Rattle.dexmembers.proofs.DirectorySpelled.{directory_spelled, directory_size}
+use Rattle.dexmembers.proofs.DirectorySpelled.{directory_size}
 use Rattle.dexmembers.proofs.members.Members.put_directory.Goals as goal
 
 pub returns-clause-symbolic : goal.returns-clause-symbolic
 returns-clause-symbolic c = λ m name body sets item rising known ordered class same own fields methods is.
     let a = c.args in
     subst (λ (bytes : List ℕ). Puts bytes a.out.now c.put_numbered_directory.new.out c.put_numbered_directory.result)
-    (directory_spelled m (c.number_law.ensures m rising) name body a.self.now a.own_off a.field_offs.now a.method_offs.now a.parameter_offs.now sets item known ordered class same c.requires.fields c.requires.methods c.requires.parameters own fields methods is)
+    (c.members_bytes_law.ensures.directory m name body a.self.now a.own_off a.field_offs.now a.method_offs.now a.parameter_offs.now sets item rising known ordered class same c.requires.fields c.requires.methods c.requires.parameters own fields methods is)
     c.put_numbered_directory.ensures
 
 pub returns-clause-room : goal.returns-clause-room

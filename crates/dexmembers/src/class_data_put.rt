@@ -14,6 +14,7 @@ ghost use Rattle.dexmembers.specs.Spelled.{numbered_field_bytes, numbered_fields
 
 use crate::members::{Field, Members, Method};
 use crate::put_laws::members_bytes_law;
+use crate::taking_back::taken_back_on_error;
 use dexleb::put_u;
 use std::alloc::AllocError;
 
@@ -137,24 +138,8 @@ impl Members<'_> {
         ensures room { vec_len out.old + (20 + 10 * length (fields_of self.now) + 15 * length (methods_of self.now)) ≤ vec_capacity out.old → IsOk result }
     {
         members_bytes_law();
-        self.put_numbered_class_data(code_offs, out)
-    }
-
-    // Appends the class_data_item whole or not at all.
-    #[tactic(auto, using(crate::proofs::Partways::settled_too, crate::proofs::Partways::taken_back_too))]
-    fn put_numbered_class_data(
-        &self,
-        code_offs: &[u32],
-        out: &mut Vec<u8>,
-    ) -> Result<(), AllocError>
-        requires offsets { length code_offs.now ≡ length (methods_of self.now) }
-        ensures { Puts (numbered_class_data_bytes self.now code_offs.now) out.old out.new result }
-    {
         let start = out.len();
         let answer = self.append_class_data(code_offs, out);
-        if answer.is_err() {
-            out.truncate(start);
-        }
-        answer
+        taken_back_on_error(start, answer, out)
     }
 }

@@ -14,6 +14,7 @@ ghost use Rattle.dexmembers.specs.DirectoryPut.{pair_bytes, count_placed, both_b
 
 use crate::members::{Field, Members, Method};
 use crate::put_laws::members_bytes_law;
+use crate::taking_back::taken_back_on_error;
 use dexhead::put_u32;
 use std::alloc::AllocError;
 
@@ -164,29 +165,6 @@ impl Members<'_> {
         self.append_methods(parameter_offs, out)
     }
 
-    // Appends the annotations_directory_item whole or not at all.
-    #[tactic(auto, using(crate::proofs::Partways::settled_too, crate::proofs::Partways::taken_back_too))]
-    fn put_numbered_directory(
-        &self,
-        own_off: u32,
-        field_offs: &[u32],
-        method_offs: &[u32],
-        parameter_offs: &[u32],
-        out: &mut Vec<u8>,
-    ) -> Result<(), AllocError>
-        requires fields { length field_offs.now ≡ length (fields_of self.now) }
-        requires methods { length method_offs.now ≡ length (methods_of self.now) }
-        requires parameters { length parameter_offs.now ≡ length (methods_of self.now) }
-        ensures { Puts (numbered_directory_bytes self.now own_off field_offs.now method_offs.now parameter_offs.now) out.old out.new result }
-    {
-        let start = out.len();
-        let answer = self.append_directory(own_off, field_offs, method_offs, parameter_offs, out);
-        if answer.is_err() {
-            out.truncate(start);
-        }
-        answer
-    }
-
     /// Appends the annotations_directory_item: the offset of the class's own set, the counts of annotated fields, of annotated
     /// methods and of methods with annotated parameters, and then the number and the offset of each of these, by number, each in
     /// four bytes. `own_off` is the offset of the class's own set, `field_offs` has that of the set of each field, the static ones
@@ -216,6 +194,8 @@ impl Members<'_> {
         ensures room { vec_len out.old + (16 + 8 * (count_placed field_offs.now + count_placed method_offs.now + count_placed parameter_offs.now)) ≤ vec_capacity out.old → IsOk result }
     {
         members_bytes_law();
-        self.put_numbered_directory(own_off, field_offs, method_offs, parameter_offs, out)
+        let start = out.len();
+        let answer = self.append_directory(own_off, field_offs, method_offs, parameter_offs, out);
+        taken_back_on_error(start, answer, out)
     }
 }

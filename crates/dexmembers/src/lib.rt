@@ -27,6 +27,7 @@ mod same;
 mod short_strings;
 mod static_values;
 mod stripping;
+mod taking_back;
 mod uses_laws;
 mod weighing;
 

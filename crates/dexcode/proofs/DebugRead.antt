@@ -1,8 +1,7 @@
 -- Numbers and operations that are read.
-use Rattle.std.proofs.Common.{◌≡◌, ℕ, ◌+◌, ◌≤◌, List, length, drop, Option, Some, None, refl, ap, sym, subst, ◌∙◌, arith, length-drop}
-use Rattle.std.specs.Prelude.{ℤ, pos, Result, Ok, Err, if◌then◌else◌, nat_lt, ◌==◌}
+use Rattle.std.proofs.Common.{◌≡◌, ℕ, ◌≤◌, List, Option, Some, refl, ap, sym, subst, ◌∙◌}
+use Rattle.std.specs.Prelude.{ℤ, pos, Result, Ok, if◌then◌else◌, nat_lt, ◌==◌}
 use Rattle.std.proofs.lemmas.Bool.{le-ltb}
-use Rattle.dexspec.specs.Numbers.{BeginsWith, Uleb128At, Sleb128At}
 use Rattle.dexcode.specs.declared.debug_operation.Operation.{Operation}
 use Rattle.dexcode.specs.declared.debug_operation.Operation.TheVariants.{AdvancePc, AdvanceLine, StartLocal, StartLocalExtended, EndLocal, RestartLocal, SetPrologueEnd, SetEpilogueBegin, SetFile, Special}
 use Rattle.dexcode.specs.declared.debug_reading.Counts.{Counts}
@@ -11,13 +10,6 @@ use Rattle.dexcode.specs.DebugReading.{IndexAt, LocalAt, ExtendedAt, OperandsAt}
 
 pub some_of : {A E : Type 0} (x y : A) → ◌≡◌ {A = Result A E} (Ok x) (Ok y) → Some x ≡ Some y
 some_of {A} {E} x y e = let same : x ≡ y = cc in ap Some same
-
-pub ok_none : {A E : Type 0} (f : E) (x y : A) → ◌≡◌ {A = Result A E} (Err f) (Ok x) → None ≡ Some y
-ok_none f x y e = absurd cc
-
--- a number lies in the bytes
-pub begins_within : {V : Type 0} (Says : List ℕ → V → Type 0) (b : List ℕ) (o : ℕ) (v : V) (n : ℕ) → o ≤ length b → BeginsWith Says (drop o b) v n → o + n ≤ length b
-begins_within Says b o v n le h = omega (arith, le, h.within, length-drop o b)
 
 pub some_parts : {A B : Type 0} (x y : A × B) → Some x ≡ Some y → (x.0 ≡ y.0) × (x.1 ≡ y.1)
 some_parts x y e = let same : x ≡ y = cc in (ap (λ p. p.0) same, ap (λ p. p.1) same)
@@ -83,37 +75,11 @@ module _ (m : Counts) (c : ℕ) (b : List ℕ) (o : ℕ) (op : Operation) (n : �
   back : (k : ℕ) → c ≡ k → r ≡ Some (with_opcode k op, n) → r ≡ Some (op, n)
   back k e s = s ∙ ap (λ x. Some (x, n)) (sym (its k e))
 
-  pub only_advance_pc : c ≡ 0x01 → ((v k : ℕ) → Uleb128At b o v k → r ≡ Some (AdvancePc v, k)) → r ≡ Some (op, n)
-  only_advance_pc e only = back 0x01 e (only (number_part op) n (stands_as 0x01 e).1)
-
-  pub only_advance_line : c ≡ 0x02 → ((v : ℤ) (k : ℕ) → Sleb128At b o v k → r ≡ Some (AdvanceLine v, k)) → r ≡ Some (op, n)
-  only_advance_line e only = back 0x02 e (only (lines_part op) n (stands_as 0x02 e).1)
-
   pub only_start_local : c ≡ 0x03 → ((register : ℕ) (name typ : Option ℕ) (k : ℕ) → LocalAt m b o register name typ k → r ≡ Some (StartLocal register name typ, k)) → r ≡ Some (op, n)
   only_start_local e only = back 0x03 e (only (number_part op) (name_of op) (type_of op) n (stands_as 0x03 e).1)
 
   pub only_start_local_extended : c ≡ 0x04 → ((register : ℕ) (name typ signature : Option ℕ) (k : ℕ) → ExtendedAt m b o register name typ signature k → r ≡ Some (StartLocalExtended register name typ signature, k)) → r ≡ Some (op, n)
   only_start_local_extended e only = back 0x04 e (only (number_part op) (name_of op) (type_of op) (signature_of op) n (stands_as 0x04 e).1)
 
-  pub only_end_local : c ≡ 0x05 → ((v k : ℕ) → Uleb128At b o v k → r ≡ Some (EndLocal v, k)) → r ≡ Some (op, n)
-  only_end_local e only = back 0x05 e (only (number_part op) n (stands_as 0x05 e).1)
-
-  pub only_restart_local : c ≡ 0x06 → ((v k : ℕ) → Uleb128At b o v k → r ≡ Some (RestartLocal v, k)) → r ≡ Some (op, n)
-  only_restart_local e only = back 0x06 e (only (number_part op) n (stands_as 0x06 e).1)
-
-  pub only_prologue : c ≡ 0x07 → r ≡ Some (SetPrologueEnd, 0) → r ≡ Some (op, n)
-  only_prologue e s = back 0x07 e (s ∙ ap (λ (k : ℕ). Some (SetPrologueEnd, k)) (sym (stands_as 0x07 e).1))
-
-  pub only_epilogue : c ≡ 0x08 → r ≡ Some (SetEpilogueBegin, 0) → r ≡ Some (op, n)
-  only_epilogue e s = back 0x08 e (s ∙ ap (λ (k : ℕ). Some (SetEpilogueBegin, k)) (sym (stands_as 0x08 e).1))
-
   pub only_set_file : c ≡ 0x09 → ((i : Option ℕ) (k : ℕ) → IndexAt m.texts b o i k → r ≡ Some (SetFile i, k)) → r ≡ Some (op, n)
   only_set_file e only = back 0x09 e (only (name_of op) n (stands_as 0x09 e).1)
-
-  pub only_special : 0x0a ≤ c → r ≡ Some (Special c, 0) → r ≡ Some (op, n)
-  only_special high s =
-      let own : op ≡ Special c = by_opcode m c b o op n h ∙ special_code c op high in
-      let at : OperandsAt m c b o (Special c) n = subst (λ x. OperandsAt m c b o x n) own h in
-      let own' = sym own in
-      let none = sym at.2 in
-      s ∙ (λ i. Some (own' i, none i))

@@ -8,7 +8,6 @@ pub mod DebugRuns
 pub mod DebugSame
 pub mod DebugUses
 pub mod DebugWeights
-pub mod Distinct
 pub mod Fronts
 pub mod HandlersRead
 pub mod Listed

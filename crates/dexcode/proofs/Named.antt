@@ -11,7 +11,7 @@ use Rattle.dexcode.specs.declared.tries.Try.{Try}
 use Rattle.dexspec.specs.Lists.{distinct}
 use Rattle.dexcode.specs.Numbered.{NumberedHandler, NumberedTry, AreKnown, no_handler, named, all_named, handlers_of, same_handler}
 use Rattle.dexcode.specs.Equality.{handler_decides}
-use Rattle.dexcode.proofs.Distinct.{insert_grows, distinct_more}
+use Rattle.dexspec.proofs.Distinct.{insert_grows, distinct_more}
 
 module _ {X : Type 0} (same : X → X → Bool) (decides : (x y : X) → Decides (same x y) (x ≡ y)) where
   either : (b c : Bool) → c ≡ true → (b || c) ≡ true

@@ -4,9 +4,8 @@ ghost use Rattle.std.specs.Prelude.{◌≡◌, ◌↔◌, ℕ, ℤ, ◌+◌, ◌
 ghost use Rattle.dexspec.specs.Numbers.{Uleb128At, Sleb128At};
 ghost use Rattle.dexpool.specs.Pools.{ArePools};
 ghost use Rattle.dexcode.specs.declared.debug_operation.Operation.{Operation};
-ghost use Rattle.dexcode.specs.declared.debug_operation.Operation.TheVariants.{AdvancePc, AdvanceLine, StartLocal, StartLocalExtended, EndLocal, RestartLocal, SetFile};
 ghost use Rattle.dexcode.specs.declared.debug_reading.Counts.{Counts};
-ghost use Rattle.dexcode.specs.DebugReading.{IsDebugAt, IsDebugFault, IndexAt, LocalAt, ExtendedAt, OperandsAt, NumberedDebugAt, AreNames, AreNoNames, AreOperations, IsNoProgram, IsNoDebug};
+ghost use Rattle.dexcode.specs.DebugReading.{IsDebugAt, IsDebugFault, IndexAt, LocalAt, OperandsAt, NumberedDebugAt, AreNames, AreNoNames, AreOperations, IsNoProgram, IsNoDebug};
 
 use crate::debug::Debug;
 use crate::debug_opcodes::{
@@ -105,95 +104,6 @@ fn local_at(
     ))
 }
 
-// The operands of an operation that moves the address.
-fn advance_pc_at(bytes: &[u8], at: usize) -> Option<(Operation, usize)>
-    requires { at ≤ length bytes.now }
-    ensures found { IfSome result (λ read. (m : Counts) → OperandsAt m 0x01 bytes.now at read.0 read.1) }
-    ensures within { IfSome result (λ read. at + read.1 ≤ length bytes.now) }
-    ensures only { (v n : ℕ) → Uleb128At bytes.now at v n → result ≡ Some (AdvancePc v, n) }
-{
-    let (addr_diff, len) = number_at(bytes, at)?;
-    Some((Operation::AdvancePc(addr_diff), len))
-}
-
-// Those of an operation that moves the line.
-fn advance_line_at(bytes: &[u8], at: usize) -> Option<(Operation, usize)>
-    requires { at ≤ length bytes.now }
-    ensures found { IfSome result (λ read. (m : Counts) → OperandsAt m 0x02 bytes.now at read.0 read.1) }
-    ensures within { IfSome result (λ read. at + read.1 ≤ length bytes.now) }
-    ensures only { (v : ℤ) (n : ℕ) → Sleb128At bytes.now at v n → result ≡ Some (AdvanceLine v, n) }
-{
-    let (line_diff, len) = lines_at(bytes, at)?;
-    Some((Operation::AdvanceLine(line_diff), len))
-}
-
-// Those of an operation that begins a local variable.
-fn start_local_at(bytes: &[u8], at: usize, counts: Counts) -> Option<(Operation, usize)>
-    requires { at ≤ length bytes.now }
-    ensures found { IfSome result (λ read. OperandsAt counts 0x03 bytes.now at read.0 read.1) }
-    ensures within { IfSome result (λ read. at + read.1 ≤ length bytes.now) }
-    ensures only { (register_num : ℕ) (name_idx type_idx : Option ℕ) (n : ℕ) → LocalAt counts bytes.now at register_num name_idx type_idx n → result ≡ Some (StartLocal register_num name_idx type_idx, n) }
-{
-    let (register_num, name_idx, type_idx, len) = local_at(bytes, at, counts)?;
-    let operation = Operation::StartLocal {
-        register_num,
-        name_idx,
-        type_idx,
-    };
-    Some((operation, len))
-}
-
-// Those of one that begins a local variable with a signature.
-fn start_local_extended_at(bytes: &[u8], at: usize, counts: Counts) -> Option<(Operation, usize)>
-    requires { at ≤ length bytes.now }
-    ensures found { IfSome result (λ read. OperandsAt counts 0x04 bytes.now at read.0 read.1) }
-    ensures within { IfSome result (λ read. at + read.1 ≤ length bytes.now) }
-    ensures only { (register_num : ℕ) (name_idx type_idx sig_idx : Option ℕ) (n : ℕ) → ExtendedAt counts bytes.now at register_num name_idx type_idx sig_idx n → result ≡ Some (StartLocalExtended register_num name_idx type_idx sig_idx, n) }
-{
-    let (register_num, name_idx, type_idx, local_len) = local_at(bytes, at, counts)?;
-    let (sig_idx, sig_len) = index_at(bytes, at + local_len, counts.texts)?;
-    let operation = Operation::StartLocalExtended {
-        register_num,
-        name_idx,
-        type_idx,
-        sig_idx,
-    };
-    Some((operation, local_len + sig_len))
-}
-
-// Those of one that ends a local variable.
-fn end_local_at(bytes: &[u8], at: usize) -> Option<(Operation, usize)>
-    requires { at ≤ length bytes.now }
-    ensures found { IfSome result (λ read. (m : Counts) → OperandsAt m 0x05 bytes.now at read.0 read.1) }
-    ensures within { IfSome result (λ read. at + read.1 ≤ length bytes.now) }
-    ensures only { (v n : ℕ) → Uleb128At bytes.now at v n → result ≡ Some (EndLocal v, n) }
-{
-    let (register_num, len) = number_at(bytes, at)?;
-    Some((Operation::EndLocal(register_num), len))
-}
-
-// Those of one that begins a local variable again.
-fn restart_local_at(bytes: &[u8], at: usize) -> Option<(Operation, usize)>
-    requires { at ≤ length bytes.now }
-    ensures found { IfSome result (λ read. (m : Counts) → OperandsAt m 0x06 bytes.now at read.0 read.1) }
-    ensures within { IfSome result (λ read. at + read.1 ≤ length bytes.now) }
-    ensures only { (v n : ℕ) → Uleb128At bytes.now at v n → result ≡ Some (RestartLocal v, n) }
-{
-    let (register_num, len) = number_at(bytes, at)?;
-    Some((Operation::RestartLocal(register_num), len))
-}
-
-// Those of one that names the source file.
-fn set_file_at(bytes: &[u8], at: usize, counts: Counts) -> Option<(Operation, usize)>
-    requires { at ≤ length bytes.now }
-    ensures found { IfSome result (λ read. OperandsAt counts 0x09 bytes.now at read.0 read.1) }
-    ensures within { IfSome result (λ read. at + read.1 ≤ length bytes.now) }
-    ensures only { (i : Option ℕ) (n : ℕ) → IndexAt counts.texts bytes.now at i n → result ≡ Some (SetFile i, n) }
-{
-    let (name_idx, len) = index_at(bytes, at, counts.texts)?;
-    Some((Operation::SetFile(name_idx), len))
-}
-
 // The operation of an opcode, whose operands are at a place, and how many bytes they have.
 fn operation_at(bytes: &[u8], at: usize, opcode: u8, counts: Counts) -> Option<(Operation, usize)>
     requires within { at ≤ length bytes.now }
@@ -203,15 +113,48 @@ fn operation_at(bytes: &[u8], at: usize, opcode: u8, counts: Counts) -> Option<(
     ensures only { (op : Operation) (n : ℕ) → OperandsAt counts opcode bytes.now at op n → result ≡ Some (op, n) }
 {
     match opcode {
-        DBG_ADVANCE_PC => advance_pc_at(bytes, at),
-        DBG_ADVANCE_LINE => advance_line_at(bytes, at),
-        DBG_START_LOCAL => start_local_at(bytes, at, counts),
-        DBG_START_LOCAL_EXTENDED => start_local_extended_at(bytes, at, counts),
-        DBG_END_LOCAL => end_local_at(bytes, at),
-        DBG_RESTART_LOCAL => restart_local_at(bytes, at),
+        DBG_ADVANCE_PC => {
+            let (addr_diff, len) = number_at(bytes, at)?;
+            Some((Operation::AdvancePc(addr_diff), len))
+        }
+        DBG_ADVANCE_LINE => {
+            let (line_diff, len) = lines_at(bytes, at)?;
+            Some((Operation::AdvanceLine(line_diff), len))
+        }
+        DBG_START_LOCAL => {
+            let (register_num, name_idx, type_idx, len) = local_at(bytes, at, counts)?;
+            let operation = Operation::StartLocal {
+                register_num,
+                name_idx,
+                type_idx,
+            };
+            Some((operation, len))
+        }
+        DBG_START_LOCAL_EXTENDED => {
+            let (register_num, name_idx, type_idx, local_len) = local_at(bytes, at, counts)?;
+            let (sig_idx, sig_len) = index_at(bytes, at + local_len, counts.texts)?;
+            let operation = Operation::StartLocalExtended {
+                register_num,
+                name_idx,
+                type_idx,
+                sig_idx,
+            };
+            Some((operation, local_len + sig_len))
+        }
+        DBG_END_LOCAL => {
+            let (register_num, len) = number_at(bytes, at)?;
+            Some((Operation::EndLocal(register_num), len))
+        }
+        DBG_RESTART_LOCAL => {
+            let (register_num, len) = number_at(bytes, at)?;
+            Some((Operation::RestartLocal(register_num), len))
+        }
         DBG_SET_PROLOGUE_END => Some((Operation::SetPrologueEnd, 0)),
         DBG_SET_EPILOGUE_BEGIN => Some((Operation::SetEpilogueBegin, 0)),
-        DBG_SET_FILE => set_file_at(bytes, at, counts),
+        DBG_SET_FILE => {
+            let (name_idx, len) = index_at(bytes, at, counts.texts)?;
+            Some((Operation::SetFile(name_idx), len))
+        }
         _ => Some((Operation::Special(opcode), 0)),
     }
 }

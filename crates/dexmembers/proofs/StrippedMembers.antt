@@ -1,6 +1,8 @@
--- Members without their debug programs stand for what they stood for without them, and stay known, in order, and of their class.
-use Rattle.std.proofs.Common.{◌≡◌, ℕ, List, [], ◌∷◌, map, Option, Some, None, get_or, refl, sym, subst}
+-- Members without their debug programs stand for what they stood for without them, and stay known, in order, and of their class. They
+-- keep their short strings and their tries.
+use Rattle.std.proofs.Common.{◌≡◌, ℕ, List, [], ◌∷◌, ◌++◌, map, Option, Some, None, get_or, option_to_list, refl, ap, sym, ◌∙◌, subst}
 use Rattle.std.specs.Prelude.{All, IfSome}
+use Rattle.std.specs.List.{flat_map}
 use Rattle.std.specs.Option.{option_map}
 use Rattle.std.proofs.lemmas.List.{map-append}
 use Rattle.std.proofs.lemmas.List.Elements.{All-map}
@@ -12,8 +14,9 @@ use Rattle.dexspec.proofs.Mapped.{map-kept}
 use Rattle.dexcode.specs.Meaning.{code_in, IsKnownCode}
 use Rattle.dexcode.specs.Numbered.{NumberedItem}
 use Rattle.dexval.specs.Numbered.{set_in, values_in, method_at}
+use Rattle.dexmembers.specs.Fitting.{code_short_strings, method_short_strings, members_short_strings}
 use Rattle.dexmembers.specs.Numbered.{NumberedMethod, NumberedMembers, field_in, method_in, members_in, methods_of, IsKnownMethod, AreKnownMembers, NumbersRise, AreOrdered, AreOfClass}
-use Rattle.dexmembers.specs.Stripped.{stripped_code, stripped_method, stripped_members, strip_members}
+use Rattle.dexmembers.specs.Stripped.{method_tries, stripped_code, stripped_method, stripped_members, strip_members}
 
 code_stripped : (m : Mentions) (o : Option NumberedItem) → option_map (code_in m) (option_map stripped_code o) ≡ option_map strip_code (option_map (code_in m) o)
 code_stripped m None = refl
@@ -96,3 +99,28 @@ stripped_own m class x h = record {
   methods_of_class = subst (All (λ (y : NumberedMethod). (method_at m y.number).class ≡ class)) (map-append stripped_method x.direct_methods x.virtual_methods)
       (All-map (λ (y : NumberedMethod). (method_at m y.number).class ≡ class) stripped_method (methods_of x) (λ k d lt. h.methods_of_class k d lt));
 }
+
+-- ---- what they keep
+
+code_strings_stay : (o : Option NumberedItem) → flat_map code_short_strings (option_to_list (option_map stripped_code o)) ≡ flat_map code_short_strings (option_to_list o)
+code_strings_stay None = refl
+code_strings_stay (Some c) = refl
+
+strings_stay : (xs : List NumberedMethod) → flat_map method_short_strings (map stripped_method xs) ≡ flat_map method_short_strings xs
+strings_stay [] = refl
+strings_stay (x ∷ xs) = λ i. code_strings_stay x.code i ++ strings_stay xs i
+
+methods_stripped_too : (x : NumberedMembers) → methods_of (stripped_members x) ≡ map stripped_method (methods_of x)
+methods_stripped_too x = sym (map-append stripped_method x.direct_methods x.virtual_methods)
+
+-- the texts that a const-string names
+pub stripped_short_strings : (x : NumberedMembers) → members_short_strings (stripped_members x) ≡ members_short_strings x
+stripped_short_strings x = ap (flat_map method_short_strings) (methods_stripped_too x) ∙ strings_stay (methods_of x)
+
+tries_stay : (o : Option NumberedItem) → option_map (λ (c : NumberedItem). c.tries) (option_map stripped_code o) ≡ option_map (λ (c : NumberedItem). c.tries) o
+tries_stay None = refl
+tries_stay (Some c) = refl
+
+-- and the tries of each method
+pub stripped_tries : (x : NumberedMembers) → map method_tries (methods_of (stripped_members x)) ≡ map method_tries (methods_of x)
+stripped_tries x = ap (map method_tries) (methods_stripped_too x) ∙ map-kept stripped_method method_tries (λ y. tries_stay y.code) (methods_of x)

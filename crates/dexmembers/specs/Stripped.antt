@@ -1,8 +1,8 @@
 -- What a class declares without its debug programs.
-use Rattle.std.specs.Prelude.{map, None}
+use Rattle.std.specs.Prelude.{List, map, Option, None}
 use Rattle.std.specs.Option.{option_map}
 use Rattle.dexspec.specs.Stripping.{strip_method}
-use Rattle.dexcode.specs.Numbered.{NumberedItem}
+use Rattle.dexcode.specs.Numbered.{NumberedItem, NumberedTry}
 use Rattle.dexmembers.specs.Numbered.{NumberedMethod, NumberedMembers, Members}
 
 -- the code without its debug program
@@ -34,3 +34,7 @@ strip_members x = record {
   virtual_methods = map strip_method x.virtual_methods;
   static_values = x.static_values;
 }
+
+-- the tries of the method's code, if it has some
+abbrev pub method_tries : NumberedMethod → Option (List NumberedTry)
+method_tries x = option_map (λ c. c.tries) x.code

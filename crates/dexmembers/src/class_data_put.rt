@@ -13,8 +13,9 @@ ghost use Rattle.dexmembers.specs.Numbered.{AreKnownMembers, AreOfClass, fields_
 ghost use Rattle.dexmembers.specs.Spelled.{numbered_field_bytes, numbered_fields_bytes, numbered_method_bytes, numbered_methods_bytes, numbered_class_data_bytes};
 
 use crate::members::{Field, Members, Method};
+use crate::put_laws::members_bytes_law;
+use crate::taking_back::taken_back_on_error;
 use dexleb::put_u;
-use dexpool::number_law;
 use std::alloc::AllocError;
 
 // Appends a uleb128. Where memory is wanting, as with all that follow here, a part of the item may stand.
@@ -136,25 +137,9 @@ impl Members<'_> {
         ensures symbolic { (m : Mentions) (name : Text) (c : Body) → AreRising m → AreKnownMembers m self.now → AreOfClass m name self.now → members_of c ≡ members_in m self.now → Puts (class_data_bytes m (name, c) code_offs.now) out.old out.new result }
         ensures room { vec_len out.old + (20 + 10 * length (fields_of self.now) + 15 * length (methods_of self.now)) ≤ vec_capacity out.old → IsOk result }
     {
-        number_law();
-        self.put_numbered_class_data(code_offs, out)
-    }
-
-    // Appends the class_data_item whole or not at all.
-    #[tactic(auto, using(crate::proofs::Partways::settled_too, crate::proofs::Partways::taken_back_too))]
-    fn put_numbered_class_data(
-        &self,
-        code_offs: &[u32],
-        out: &mut Vec<u8>,
-    ) -> Result<(), AllocError>
-        requires offsets { length code_offs.now ≡ length (methods_of self.now) }
-        ensures { Puts (numbered_class_data_bytes self.now code_offs.now) out.old out.new result }
-    {
+        members_bytes_law();
         let start = out.len();
         let answer = self.append_class_data(code_offs, out);
-        if answer.is_err() {
-            out.truncate(start);
-        }
-        answer
+        taken_back_on_error(start, answer, out)
     }
 }

@@ -13,8 +13,9 @@ ghost use Rattle.dexval.specs.Appending.{Appends};
 ghost use Rattle.dexmembers.specs.DirectoryPut.{pair_bytes, count_placed, both_bytes, field_numbers, method_numbers, numbered_directory_bytes};
 
 use crate::members::{Field, Members, Method};
+use crate::put_laws::members_bytes_law;
+use crate::taking_back::taken_back_on_error;
 use dexhead::put_u32;
-use dexpool::number_law;
 use std::alloc::AllocError;
 
 // Greater than the number of each member.
@@ -164,29 +165,6 @@ impl Members<'_> {
         self.append_methods(parameter_offs, out)
     }
 
-    // Appends the annotations_directory_item whole or not at all.
-    #[tactic(auto, using(crate::proofs::Partways::settled_too, crate::proofs::Partways::taken_back_too))]
-    fn put_numbered_directory(
-        &self,
-        own_off: u32,
-        field_offs: &[u32],
-        method_offs: &[u32],
-        parameter_offs: &[u32],
-        out: &mut Vec<u8>,
-    ) -> Result<(), AllocError>
-        requires fields { length field_offs.now ≡ length (fields_of self.now) }
-        requires methods { length method_offs.now ≡ length (methods_of self.now) }
-        requires parameters { length parameter_offs.now ≡ length (methods_of self.now) }
-        ensures { Puts (numbered_directory_bytes self.now own_off field_offs.now method_offs.now parameter_offs.now) out.old out.new result }
-    {
-        let start = out.len();
-        let answer = self.append_directory(own_off, field_offs, method_offs, parameter_offs, out);
-        if answer.is_err() {
-            out.truncate(start);
-        }
-        answer
-    }
-
     /// Appends the annotations_directory_item: the offset of the class's own set, the counts of annotated fields, of annotated
     /// methods and of methods with annotated parameters, and then the number and the offset of each of these, by number, each in
     /// four bytes. `own_off` is the offset of the class's own set, `field_offs` has that of the set of each field, the static ones
@@ -215,7 +193,9 @@ impl Members<'_> {
         ensures symbolic { (m : Mentions) (name : Text) (c : Body) (sets : SetOffsets) (item : List ℕ) → AreRising m → AreKnownMembers m self.now → AreOrdered self.now → AreOfClass m name self.now → members_of c ≡ members_in m self.now → sets.own ≡ own_off → sets.fields ≡ field_offs.now → map (λ offs. slice_index offs 0) sets.methods ≡ method_offs.now → directory_bytes m (name, c) sets parameter_offs.now ≡ Some item → Puts item out.old out.new result }
         ensures room { vec_len out.old + (16 + 8 * (count_placed field_offs.now + count_placed method_offs.now + count_placed parameter_offs.now)) ≤ vec_capacity out.old → IsOk result }
     {
-        number_law();
-        self.put_numbered_directory(own_off, field_offs, method_offs, parameter_offs, out)
+        members_bytes_law();
+        let start = out.len();
+        let answer = self.append_directory(own_off, field_offs, method_offs, parameter_offs, out);
+        taken_back_on_error(start, answer, out)
     }
 }

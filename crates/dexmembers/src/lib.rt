@@ -27,11 +27,12 @@ mod same;
 mod short_strings;
 mod static_values;
 mod stripping;
+mod taking_back;
 mod uses_laws;
 mod weighing;
 
 pub use members::{Field, Members, Method};
-pub use put_laws::few_members_law;
+pub use put_laws::{few_members_law, members_bytes_law};
 pub use reading::read_members;
 pub use renumbering_laws::{
     members_cut_law, members_joined_law, members_led_law, members_same_law,

@@ -58,7 +58,8 @@ fn methods_len(methods: &[Method<'_>], code_offs: &[u32]) -> usize
 
 impl Members<'_> {
     /// How many bytes [`put_class_data`](Members::put_class_data) appends. `code_offs` has the offset of the code of each
-    /// method, the direct ones first, and 0 where there is none. No memory is taken.
+    /// method, the direct ones first, and 0 where there is none. [`members_bytes_law`](crate::members_bytes_law) says of which
+    /// symbols they are the bytes. No memory is taken.
     ///
     /// Condition: there is an offset for each method.
     ///
@@ -83,7 +84,8 @@ impl Members<'_> {
         counts + fields + methods
     }
 
-    /// How many bytes [`put_directory`](Members::put_directory) appends, for the same offsets. No memory is taken.
+    /// How many bytes [`put_directory`](Members::put_directory) appends, for the same offsets.
+    /// [`members_bytes_law`](crate::members_bytes_law) says of which symbols they are the bytes. No memory is taken.
     ///
     /// Condition: there is an offset for each field and each method.
     ///

@@ -3,8 +3,9 @@
 ghost use Rattle.std.specs.Prelude.{◌≡◌, map};
 ghost use Rattle.dexspec.specs.Texts.{Text};
 ghost use Rattle.dexspec.specs.Mentions.{Mentions};
-ghost use Rattle.dexmembers.specs.Numbered.{NumberedMembers, members_in, AreKnownMembers, AreOrdered, AreOfClass};
-ghost use Rattle.dexmembers.specs.Stripped.{stripped_method, stripped_members, strip_members};
+ghost use Rattle.dexmembers.specs.Fitting.{members_short_strings};
+ghost use Rattle.dexmembers.specs.Numbered.{NumberedMembers, members_in, methods_of, AreKnownMembers, AreOrdered, AreOfClass};
+ghost use Rattle.dexmembers.specs.Stripped.{method_tries, stripped_method, stripped_members, strip_members};
 
 use crate::members::{Members, Method};
 
@@ -42,10 +43,13 @@ impl<'a> Members<'a> {
 }
 
 /// Members without their debug programs stand for what they stood for, without debug programs. They stay known to a numbering,
-/// in order, and members of their class. It does nothing: its contract is the law, for the callers that cite it.
+/// in order, and members of their class. The numbers of texts that a const-string names are the same, and so is the greatest
+/// of them, and each method keeps its tries. It does nothing: its contract is the law, for the callers that cite it.
 pub fn members_stripped_law()
     ensures same { (m : Mentions) (x : NumberedMembers) → members_in m (stripped_members x) ≡ strip_members (members_in m x) }
     ensures known { (m : Mentions) (x : NumberedMembers) → AreKnownMembers m x → AreKnownMembers m (stripped_members x) }
     ensures ordered { (x : NumberedMembers) → AreOrdered x → AreOrdered (stripped_members x) }
     ensures own { (m : Mentions) (class : Text) (x : NumberedMembers) → AreOfClass m class x → AreOfClass m class (stripped_members x) }
+    ensures short_strings { (x : NumberedMembers) → members_short_strings (stripped_members x) ≡ members_short_strings x }
+    ensures tries { (x : NumberedMembers) → map method_tries (methods_of (stripped_members x)) ≡ map method_tries (methods_of x) }
 {}

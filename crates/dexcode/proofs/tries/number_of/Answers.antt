@@ -4,7 +4,7 @@ use Rattle.std.proofs.lemmas.List.{get_or_read}
 use Rattle.std.proofs.lemmas.Option.{get_or_from_slice_get}
 use Rattle.dexcode.specs.Numbered.{same_handler, no_handler}
 use Rattle.dexcode.specs.Equality.{handler_decides}
-use Rattle.dexcode.proofs.Distinct.{insert_grows}
+use Rattle.dexspec.proofs.Distinct.{insert_grows}
 use Rattle.dexcode.proofs.Named.{insert_there, known_more}
 use Rattle.dexcode.proofs.tries.number_of.Goals as goal
 

@@ -1,4 +1,4 @@
-use Rattle.dexmembers.proofs.StrippedMembers.{members_stripped, stripped_known, stripped_ordered, stripped_own}
+use Rattle.dexmembers.proofs.StrippedMembers.{members_stripped, stripped_known, stripped_ordered, stripped_own, stripped_short_strings, stripped_tries}
 use Rattle.dexmembers.proofs.stripping.members_stripped_law.Goals as goal
 
 pub returns-clause-same : goal.returns-clause-same
@@ -12,3 +12,9 @@ returns-clause-ordered c = stripped_ordered
 
 pub returns-clause-own : goal.returns-clause-own
 returns-clause-own c = stripped_own
+
+pub returns-clause-short_strings : goal.returns-clause-short_strings
+returns-clause-short_strings c = stripped_short_strings
+
+pub returns-clause-tries : goal.returns-clause-tries
+returns-clause-tries c = stripped_tries

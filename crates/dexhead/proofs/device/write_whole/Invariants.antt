@@ -1,0 +1,15 @@
+use Rattle.std.proofs.Common.{◌≡◌, ◌≤◌, ◌++◌, false, length, take, ◌-◌}
+use Rattle.dexhead.proofs.device.write_whole.Given as goal
+
+-- a front was written
+abbrev pub invariant-pieces : goal.invariant-pieces
+invariant-pieces g l = record {
+  works : g.W.Sink.has_failed l.out ≡ false;
+  fits : l.done ≤ length l.bytes;
+  tells : g.W.Sink.tells l.fn.out → g.W.Sink.tells l.out;
+  front : g.W.Sink.tells l.fn.out →
+      g.W.Sink.taken l.out ≡ g.W.Sink.taken l.fn.out ++ take l.done l.bytes;
+}
+
+abbrev pub decreases-pieces : goal.decreases-pieces
+decreases-pieces g l = length l.bytes - l.done

@@ -26,4 +26,3 @@ pub mod TypeLists
 pub mod WholeBody
 pub mod WholeFile
 pub mod WithRoom
-pub mod WrittenPieces

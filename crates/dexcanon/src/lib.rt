@@ -19,7 +19,6 @@ mod joined;
 mod kept;
 mod makings;
 mod map;
-mod outputs;
 mod ref_lists;
 mod sets;
 mod static_values;

@@ -4,9 +4,8 @@ ghost use Rattle.std.specs.Prelude.{◌≡◌, ◌+◌, length, false, true};
 ghost use Rattle.sha1.specs.Sha1.{Holds};
 ghost use Rattle.dexspec.specs.Header.{adler_sums};
 
-use crate::outputs::write_whole;
 use crate::taking::Takes;
-use dexhead::{Adler, DeviceFault, Sink};
+use dexhead::{Adler, DeviceFault, Sink, write_whole};
 use sha1::Sha1;
 
 /// What the two sums of a file are made of: the message of the signature, and the checksum of the same bytes.

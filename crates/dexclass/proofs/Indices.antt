@@ -1,9 +1,7 @@
 -- Indices of classes and texts, and what tests and marks tell of them.
-use Rattle.std.proofs.Common.{◌≡◌, ◌≢◌, ℕ, zero, suc, ◌+◌, ◌<◌, Bool, false, List, [], ◌∷◌, ◌++◌, length, get_or, refl, sym, ap, ◌∙◌, subst, arith, inl, inr}
+use Rattle.std.proofs.Common.{◌≡◌, ◌≢◌, ℕ, zero, suc, ◌<◌, Bool, false, List, [], ◌∷◌, length, get_or, refl, sym, subst, arith}
 use Rattle.std.specs.Prelude.{◌↔◌, IsTrue, All, nat_lt, Some, None}
-use Rattle.std.proofs.lemmas.Bool.{cases_lt, ltb-true, lt-ltb, ne_eqb}
-use Rattle.std.proofs.lemmas.List.{get_or_append_left, get_or_push}
-use Rattle.dexspec.specs.Texts.{Text}
+use Rattle.std.proofs.lemmas.Bool.{ltb-true, lt-ltb, ne_eqb}
 use Rattle.dexspec.specs.Names.{IsClass}
 use Rattle.dexspec.specs.Header.{TypeIds, table_size}
 use Rattle.dexspec.specs.Classes.{no_index}
@@ -19,17 +17,6 @@ tested b m tests i pools h lt =
     let row = pools.types_are.each i [] (omega (arith, lt, h.count, pools.types_are.count)) in
     let each = h.each i (omega (arith, lt, h.count)) in
     (λ e. (get_or m.types i [], record { row = row; class = each.0 e }), λ x. each.1 (subst IsClass (one_type b i x.0 (get_or m.types i []) x.1.row row) x.1.class))
-
--- one more test
-pub tests_more : (types : List Text) (tests more : List Bool) (r : Bool) (i : ℕ) → length tests ≡ i → i < length types
-    → ((k : ℕ) → k < i → IsTrue (get_or tests k false) ↔ IsClass (get_or types k [])) → (IsTrue r ↔ IsClass (get_or types i [])) → more ≡ tests ++ r ∷ []
-    → (k : ℕ) → k < i + 1 → IsTrue (get_or more k false) ↔ IsClass (get_or types k [])
-tests_more types tests more r i count lt before is e k small = elim (cases_lt k i) [
-  | inl less ↦ subst (λ (v : Bool). IsTrue v ↔ IsClass (get_or types k [])) (sym (ap (λ (l : List Bool). get_or l k false) e ∙ get_or_append_left tests (r ∷ []) false k (omega (arith, less, count)))) (before k less)
-  | inr large ↦ let same : i ≡ k = omega arith in
-      subst (λ (n : ℕ). IsTrue (get_or more n false) ↔ IsClass (get_or types n [])) same
-      (subst (λ (v : Bool). IsTrue v ↔ IsClass (get_or types i [])) (sym (ap (λ (l : List Bool). get_or l i false) e ∙ get_or_push tests r false i count)) is)
-]
 
 -- the index of a parent that is not none
 pub parent_is : (b : List ℕ) (i : ℕ) → IsClassIndex b i → IsParentIndex b i

@@ -6,7 +6,7 @@ use Rattle.std.proofs.lemmas.List.Elements.{All-append}
 use Rattle.dexspec.specs.Header.{ClassDefs, table_size}
 use Rattle.dexspec.specs.Classes.{superclass_idx, interfaces_off, ClassTypeRow}
 use Rattle.dexspec.specs.Conditions.{Condition}
-use Rattle.dexspec.specs.Accepted.{HasClass, IsDefinedBefore, HoldBelow, FailsFirst}
+use Rattle.dexspec.specs.Accepted.{HasClass, IsDefinedBefore, HoldBelow}
 use Rattle.dexclass.specs.declared.class_rows.RowFields.{RowFields}
 use Rattle.dexclass.specs.Rows.{HasRowFields, IsClassIndex, IsParentIndex, IsSourceIndex, superclass_indices, interface_indices, HasInterfaces, AreDefinedMarks}
 use Rattle.dexclass.proofs.Indices.{class_in_range}
@@ -74,10 +74,6 @@ rows_more b r before is k lt = elim (cases_lt k r) [
   | inl small ↦ before k small
   | inr large ↦ let same : r ≡ k = omega arith in subst (HasClass b) same is
 ]
-
--- the least row that fails
-pub fails_first : (b : List ℕ) (r : ℕ) → HoldBelow 16 b → r < table_size b ClassDefs → ((k : ℕ) → k < r → HasClass b k) → (HasClass b r → ⊥) → FailsFirst Condition.Classes b r
-fails_first b r before row rows fails = record { before = before; row = row; rows = rows; fails = fails }
 
 -- all rows
 pub hold_below : (b : List ℕ) → HoldBelow 16 b → ((k : ℕ) → k < table_size b ClassDefs → HasClass b k) → HoldBelow 17 b

@@ -1,6 +1,5 @@
 -- One more file checked.
-use Rattle.std.proofs.Common.{◌≡◌, ℕ, ◌+◌, ◌<◌, ◌≤◌, Bool, true, false, List, [], ◌∷◌, ◌++◌, length, get_or, take, drop, map, fold, refl, sym, ap, ◌∙◌, subst, arith, append_assoc, append-nil, get_or-set_same, get_or-set_other, length-set, length-append}
-use Rattle.std.proofs.Math.ListN.{set}
+use Rattle.std.proofs.Common.{◌≡◌, ℕ, ◌+◌, ◌<◌, ◌≤◌, List, [], ◌∷◌, ◌++◌, length, get_or, take, drop, map, fold, refl, sym, ap, ◌∙◌, subst, arith, append_assoc, append-nil, length-append}
 use Rattle.std.proofs.Math.Seq.{take-append-add}
 use Rattle.std.proofs.lemmas.List.{take_more, drop_more, take_all, length-take-le, get_or-map}
 use Rattle.std.specs.Prelude.{All}
@@ -10,7 +9,7 @@ use Rattle.dexclass.specs.Programs.{IsReadAs}
 use Rattle.dexcmd.specs.declared.lines.Verdict.{Verdict}
 use Rattle.dexcmd.specs.declared.lines.Verdict.TheVariants.{Accepted}
 use Rattle.dexcmd.specs.Lines.{check_line, check_lines, status_after}
-use Rattle.dexcmd.specs.Runs.{IsVerdict, AreChecked, AreBegun, HasFailed}
+use Rattle.dexcmd.specs.Runs.{IsVerdict, AreChecked, AreBegun}
 
 -- an accepted file has as many classes as the collection that was read
 pub accepted_is : (b bytes : List ℕ) (L : Collection) (n : ℕ) → bytes ≡ b → IsReadAs bytes L → n ≡ length (definitions L) → IsVerdict b (Accepted n)
@@ -113,11 +112,3 @@ begun_more reads writes names files old mid new status i v lt same a right line 
         rw ((after w).1, is, a.written w, lines_more names a.verdicts v i count inside, take-append-add) (append_assoc old (check_lines names a.verdicts) (take (after w).0 (check_line (get_or names i []) v))),
       );
     }
-
--- reader i fails where all worked
-pub has_failed_after : {R : Type 0} (has_failed : R → Bool) (xs : List R) (i : ℕ) (x : R) → All (λ s. has_failed s ≡ false) xs → i < length xs → has_failed x ≡ true → HasFailed has_failed (set xs i x) i
-has_failed_after has_failed xs i x works lt fails = record {
-  within = rw (length-set) lt;
-  failed = λ d. rw get_or-set_same fails;
-  others = λ k d within ne. let inside : k < length xs = rw length-set at within in rw get_or-set_other (works k d inside);
-}

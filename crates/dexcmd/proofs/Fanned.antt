@@ -23,9 +23,6 @@ pub record IsCut (fan : ℕ) (ps groups last : List Plan) (n : ℕ) : Type 0 whe
   pub count : fan * length groups + length last ≡ n
   pub few : length last ≤ fan
 
-pub none_cut : (fan : ℕ) (ps : List Plan) → IsCut fan ps [] [] 0
-none_cut fan ps = record { full = refl; rest = sym (drop_of_length-le [] (omega arith)); count = omega arith; few = omega arith }
-
 -- one plan more is in the last group
 pub one_more : (fan : ℕ) (ps groups last : List Plan) (n : ℕ) (p : Plan) → IsCut fan ps groups last n → length last < fan → n < length ps → p ≡ get_or ps n p → IsCut fan ps groups (last ++ p ∷ []) (n + 1)
 one_more fan ps groups last n p cut few lt e =
@@ -238,9 +235,6 @@ pub record AreGrouped (fan files : ℕ) (plans : List Plan) : Type 0 where
   pub rounds : ℕ
   pub left : grouped_often fan files rounds ≡ plans
   pub fewer : (n : ℕ) → n < rounds → 1 < length (grouped_often fan files n)
-
-pub no_round : (fan files : ℕ) (plans : List Plan) → plans ≡ leaf_plans files → AreGrouped fan files plans
-no_round fan files plans e = record { rounds = 0; left = sym e; fewer = λ n lt. absurd (omega (arith, lt)) }
 
 pub one_round : (fan files : ℕ) (plans more : List Plan) → AreGrouped fan files plans → 1 < length plans → more ≡ in_groups fan plans → AreGrouped fan files more
 one_round fan files plans more h several e = record {

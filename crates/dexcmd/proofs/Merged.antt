@@ -1,5 +1,5 @@
 -- Inputs read one after the other, and merged.
-use Rattle.std.proofs.Common.{◌≡◌, ℕ, suc, ◌+◌, ◌<◌, Bool, false, List, [], ◌∷◌, ◌++◌, length, get_or, take, drop, refl, sym, ap, ◌∙◌, subst, arith}
+use Rattle.std.proofs.Common.{◌≡◌, ℕ, suc, ◌+◌, ◌<◌, Bool, List, [], ◌∷◌, ◌++◌, length, get_or, take, drop, refl, sym, ap, ◌∙◌, subst, arith}
 use Rattle.std.proofs.lemmas.List.{take_more, take_all}
 use Rattle.std.specs.Prelude.{Result, Ok, Err, IfErr, OnOk}
 use Rattle.std.specs.List.{AllZip}
@@ -10,13 +10,13 @@ use Rattle.dexspec.specs.Classes.{Definition}
 use Rattle.dexspec.specs.Canonical.{canonical}
 use Rattle.dexspec.specs.Merging.{Caps, Cause, IsCause, IsGood, greatest_caps, Plan, IsPlanFor}
 use Rattle.dexspec.specs.Merging as merging
-use Rattle.dexmerge.specs.Faults.{planned, IsPlanned, IsPlannedCause}
+use Rattle.dexmerge.specs.Faults.{planned, IsPlannedCause}
 use Rattle.dexcmd.specs.declared.faults.MergeCause.{MergeCause}
 use Rattle.dexcmd.specs.declared.faults.MergeCause.TheVariants as cause
 use Rattle.dexcmd.specs.declared.faults.RunFault.{RunFault}
 use Rattle.dexcmd.specs.declared.faults.RunFault.TheVariants as run
 use Rattle.dexcmd.specs.Runs.{AllWork, IsLeft}
-use Rattle.dexcmd.specs.Merges.{AreReadFrom, IsReadEachFault, TellsCause, IsTrueCause, IsUnionFault, IsUnited, IsUnitedFault, IsFileOf, IsFrontAppended, IsMergedFile, IsMergeFault, IsWriteFault, AreUncalled, IsOfWriter, IsOfDevices}
+use Rattle.dexcmd.specs.Merges.{AreReadFrom, TellsCause, IsTrueCause, IsUnionFault, IsUnited, IsUnitedFault, IsFileOf, IsFrontAppended, IsMergedFile, IsMergeFault, IsWriteFault, AreUncalled, IsOfWriter, IsOfDevices}
 use Rattle.dexcmd.proofs.Checked.{zip_more, same_head}
 
 -- ---- inputs one after the other
@@ -52,24 +52,6 @@ true_cause caps apart collections plan (cause.Conflict name) holds = record { ca
 true_cause caps apart collections plan (cause.Cycle name) holds = record { cause = holds; bad = λ good. apart (planned collections plan) (merging.Cycle name) good holds.holds }
 true_cause caps apart collections plan (cause.Cap number) holds = record { cause = holds; bad = λ good. apart (planned collections plan) (merging.Exceeded holds.cap) good holds.holds.holds }
 
--- a fault of reading is one of uniting
-pub fault_of_reading : {R : Type 0} (tells : R → Type 0) (to_come : R → List ℕ) (inputs : List R) (caps : Caps) (plan : Plan) (f : RunFault) →
-    IsPlanFor (length inputs) plan → IsReadEachFault tells to_come inputs f → IsUnitedFault tells to_come inputs caps plan f
-fault_of_reading tells to_come inputs caps plan (run.Input i refusal) is fault = (is, fault)
-fault_of_reading tells to_come inputs caps plan run.Plan is fault = absurd fault
-fault_of_reading tells to_come inputs caps plan (run.Merge told) is fault = absurd fault
-fault_of_reading tells to_come inputs caps plan (run.Read i) is fault = (is, fault)
-fault_of_reading tells to_come inputs caps plan run.Write is fault = absurd fault
-fault_of_reading tells to_come inputs caps plan run.Memory is fault = tt
-
-pub uncalled_by_reading : {R : Type 0} (tells : R → Type 0) (to_come : R → List ℕ) (inputs now : List R) (f : RunFault) → IsReadEachFault tells to_come inputs f → AreUncalled inputs now f
-uncalled_by_reading tells to_come inputs now (run.Input i refusal) fault = tt
-uncalled_by_reading tells to_come inputs now run.Plan fault = absurd fault
-uncalled_by_reading tells to_come inputs now (run.Merge told) fault = tt
-uncalled_by_reading tells to_come inputs now (run.Read i) fault = tt
-uncalled_by_reading tells to_come inputs now run.Write fault = tt
-uncalled_by_reading tells to_come inputs now run.Memory fault = tt
-
 -- a plan for so many inputs is one for their collections
 plan_for_collections : {R : Type 0} (P : R → Collection → Type 0) (inputs : List R) (collections : List Collection) (plan : Plan) → AllZip P inputs collections → IsPlanFor (length inputs) plan → IsPlanFor (length collections) plan
 plan_for_collections P inputs collections plan all is = subst (λ n. IsPlanFor n plan) (sym (zip_length P inputs collections all)) is
@@ -93,15 +75,6 @@ uncalled_by_merging P inputs now collections caps plan (run.Read i) is read faul
 uncalled_by_merging P inputs now collections caps plan run.Write is read fault = tt
 uncalled_by_merging P inputs now collections caps plan run.Memory is read fault = tt
 
-pub devices_of_merging : {R : Type 0} (has_failed : R → Bool) (inputs : List R) (caps : Caps) (collections : List Collection) (plan : Plan) (f : RunFault) →
-    AllWork has_failed inputs → IsUnionFault caps collections plan f → IsOfDevices has_failed inputs false f
-devices_of_merging has_failed inputs caps collections plan (run.Input i refusal) all fault = absurd fault
-devices_of_merging has_failed inputs caps collections plan run.Plan all fault = (all, refl)
-devices_of_merging has_failed inputs caps collections plan (run.Merge told) all fault = (all, refl)
-devices_of_merging has_failed inputs caps collections plan (run.Read i) all fault = absurd fault
-devices_of_merging has_failed inputs caps collections plan run.Write all fault = absurd fault
-devices_of_merging has_failed inputs caps collections plan run.Memory all fault = (all, refl)
-
 -- ---- what a run leaves
 
 -- a fault of which one thing holds, and so another
@@ -119,29 +92,6 @@ pub file_is : (accepted : (K : Collection) → IsGood greatest_caps (definitions
     (denotes : (K : Collection) → IsGood greatest_caps (definitions K) → AreWellFormed (definitions K) → Denotes (canonical K) K) →
     (K : Collection) → IsGood greatest_caps (definitions K) → AreWellFormed (definitions K) → IsFileOf K
 file_is accepted denotes K good formed = record { accepted = accepted K good formed; denotes = denotes K good formed }
-
--- a fault of uniting is one of the run
-pub fault_of_uniting : {R : Type 0} (tells : R → Type 0) (to_come : R → List ℕ) (inputs : List R) (caps : Caps) (plan : Plan) (kept : Collection → Collection) (Written : List ℕ → Type 0) (f : RunFault) →
-    IsUnitedFault tells to_come inputs caps plan f → IsMergeFault tells to_come inputs caps plan kept Written f
-fault_of_uniting tells to_come inputs caps plan kept Written (run.Input i refusal) fault = fault
-fault_of_uniting tells to_come inputs caps plan kept Written run.Plan fault = fault
-fault_of_uniting tells to_come inputs caps plan kept Written (run.Merge told) fault = fault
-fault_of_uniting tells to_come inputs caps plan kept Written (run.Read i) fault = fault
-fault_of_uniting tells to_come inputs caps plan kept Written run.Write fault = absurd fault
-fault_of_uniting tells to_come inputs caps plan kept Written run.Memory fault = tt
-
-pub left_by_uniting : {R W : Type 0} (tells : R → Type 0) (to_come : R → List ℕ) (inputs : List R) (caps : Caps) (plan : Plan) (out : W) (f : RunFault) →
-    IsUnitedFault tells to_come inputs caps plan f → IsLeft out out f
-left_by_uniting tells to_come inputs caps plan out (run.Input i refusal) fault = refl
-left_by_uniting tells to_come inputs caps plan out run.Plan fault = refl
-left_by_uniting tells to_come inputs caps plan out (run.Merge told) fault = refl
-left_by_uniting tells to_come inputs caps plan out (run.Read i) fault = refl
-left_by_uniting tells to_come inputs caps plan out run.Write fault = tt
-left_by_uniting tells to_come inputs caps plan out run.Memory fault = refl
-
-pub devices_after : {R : Type 0} (has_failed : R → Bool) (inputs : List R) (writer_failed : Bool) (f : RunFault) → writer_failed ≡ false →
-    IsOfDevices has_failed inputs false f → IsOfDevices has_failed inputs writer_failed f
-devices_after has_failed inputs writer_failed f works all = subst (λ b. IsOfDevices has_failed inputs b f) (sym works) all
 
 -- a fault of writing is one of the run
 pub fault_of_writing : {R W : Type 0} (tells : R → Type 0) (to_come : R → List ℕ) (inputs : List R) (caps : Caps) (plan : Plan) (kept : Collection → Collection)

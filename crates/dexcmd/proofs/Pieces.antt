@@ -1,9 +1,8 @@
 -- Bytes that come and go in pieces.
-use Rattle.std.proofs.Common.{◌≡◌, ℕ, ◌≤◌, ◌+◌, List, [], ◌++◌, length, take, drop, sym, ap, ◌∙◌, append_assoc, append-nil, ◌⊎◌, inl, inr, arith, length-take-le}
+use Rattle.std.proofs.Common.{◌≡◌, ℕ, ◌≤◌, ◌+◌, List, [], ◌++◌, length, take, drop, sym, ap, ◌∙◌, append_assoc, append-nil, ◌⊎◌, inl, inr, arith}
 use Rattle.std.proofs.Math.Seq.{take-add, take-append-le}
 use Rattle.std.proofs.lemmas.List.{take_all, take_at, drop_at}
 use Rattle.std.specs.Prelude.{Result, Ok, Err, IfOk}
-use Rattle.dexcmd.specs.Inputs.{IsTakenUpTo}
 
 -- what was read is all, up to a limit, where no more is to come or the limit is reached
 pub read_all : (n : ℕ) (xs ys whole : List ℕ) → whole ≡ xs ++ ys → length xs ≤ n → ((ys ≡ []) ⊎ (n ≤ length xs)) → xs ≡ take n whole
@@ -28,20 +27,3 @@ pub joined_more : (whole mid left old new : List ℕ) (i n : ℕ) → i ≤ leng
     whole ≡ take (i + n) new ++ left
 joined_more whole mid left old new i n within fits before front after =
     rw (before, after, ← front) (sym (append_assoc (take i new) (take n (drop i new)) left) ∙ ap (λ l. l ++ left) (sym (take-add i n new)))
-
--- so much was read and no more, and the rest is to come
-pub read_so_far : (n most : ℕ) (bytes left whole : List ℕ) → whole ≡ take n bytes ++ left → n ≤ length bytes → n ≤ most → IsTakenUpTo most whole left
-read_so_far n most bytes left whole joined within few = record {
-  count = n;
-  within = few;
-  others = sym (rw joined (drop_at (take n bytes) left n (length-take-le n bytes within)));
-}
-
--- after a front, a front of the rest
-pub written_more : (old mid new bytes rest : List ℕ) (i n : ℕ) → mid ≡ old ++ take i bytes → rest ≡ drop i bytes → new ≡ mid ++ take n rest → new ≡ old ++ take (i + n) bytes
-written_more old mid new bytes rest i n before left after =
-    rw (after, before, left, take-add i n bytes, append_assoc)
-
--- the same, where how much is not known
-pub front_more : (old mid new bytes rest : List ℕ) (i : ℕ) → mid ≡ old ++ take i bytes → rest ≡ drop i bytes → ((n : ℕ) × (new ≡ mid ++ take n rest)) → (n : ℕ) × (new ≡ old ++ take n bytes)
-front_more old mid new bytes rest i before left after = (i + after.0, written_more old mid new bytes rest i after.0 before left after.1)

@@ -9,8 +9,7 @@ ghost use Rattle.dexcmd.specs.Runs.{IsVerdict, AreChecked, AreBegun, AllWork, Is
 use crate::faults::RunFault;
 use crate::inputs::{InputFault, read_whole};
 use crate::lines::{Verdict, check_line};
-use crate::outputs::write_whole;
-use dexhead::{Sink, Source};
+use dexhead::{Sink, Source, write_whole};
 use dexpool::ReadFault;
 use std::alloc::Global;
 

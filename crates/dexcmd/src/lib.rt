@@ -12,7 +12,6 @@ mod inputs;
 mod lines;
 mod merging;
 mod normalising;
-mod outputs;
 mod words;
 
 pub use checking::check_run;

@@ -83,6 +83,26 @@ pub trait Sink {
         ensures front { OnErr result (tells self.old → (n : ℕ) × (taken self.new ≡ taken self.old ++ take n bytes.now)) };
 }
 
+/// Writes all the bytes, by as many calls of `Sink::write` as it takes; none for no bytes.
+///
+/// Condition: the device has not failed. Error: exactly where it fails in this call; then it has taken a
+/// front of the bytes, perhaps an empty one.
+pub fn write_whole<W: Sink>(out: &mut W, bytes: &[u8]) -> Result<(), DeviceFault>
+    requires { W.has_failed out.old ≡ false }
+    ensures tells { W.tells out.old → W.tells out.new }
+    ensures written { OnOk result (W.tells out.old → W.taken out.new ≡ W.taken out.old ++ bytes.now) }
+    ensures front { OnErr result (W.tells out.old → (n : ℕ) × (W.taken out.new ≡ W.taken out.old ++ take n bytes.now)) }
+    ensures works { OnOk result (W.has_failed out.new ≡ false) }
+    ensures fails { OnErr result (W.has_failed out.new ≡ true) }
+{
+    let mut done = 0;
+    'pieces: while done < bytes.len() {
+        let (_, rest) = bytes.split_at(done);
+        done += out.write(rest)?;
+    }
+    Ok(())
+}
+
 /// A source over any reader, and a sink over any writer, whose bytes are those of what is inside.
 ///
 /// Each error of what is inside is a fault, also one of the kind `Interrupted`: no call is tried again.

@@ -17,7 +17,7 @@ mod sums;
 mod tables;
 mod whole;
 
-pub use device::{Device, DeviceFault, Sink, Source};
+pub use device::{Device, DeviceFault, Sink, Source, write_whole};
 pub use frame::Frame;
 pub use head::{Head, Rows};
 pub use map_list::{MapEntry, MapList};

@@ -4,7 +4,7 @@ ghost use Rattle.std.specs.Prelude.{◌≡◌, ◌<◌, ◌≤◌, ◌+◌, ◌+
 ghost use Rattle.dexlisting.specs.Gathering.{HasRoom};
 
 use crate::flags::{MOST_FLAGS, Shown};
-use dexhead::{DeviceFault, Sink};
+use dexhead::{DeviceFault, Sink, write_whole};
 use dexpool::Numbering;
 
 /// So many bytes gather at most.
@@ -92,20 +92,4 @@ impl<W: Sink> Listing<'_, '_, '_, W> {
         }
         Ok(())
     }
-}
-
-// Writes all the bytes.
-fn write_whole<W: Sink>(out: &mut W, bytes: &[u8]) -> Result<(), DeviceFault>
-    requires { W.has_failed out.old ≡ false }
-    ensures works { OnOk result (W.has_failed out.new ≡ false) }
-    ensures fails { OnErr result (W.has_failed out.new ≡ true) }
-    ensures tells { W.tells out.old → W.tells out.new }
-    ensures written { OnOk result (W.tells out.old → W.taken out.new ≡ W.taken out.old ++ bytes.now) }
-{
-    let mut rest = bytes;
-    while !rest.is_empty() {
-        let taken = out.write(rest)?;
-        (_, rest) = rest.split_at(taken);
-    }
-    Ok(())
 }

@@ -1,12 +1,11 @@
 -- Plans whose files are marked part by part.
 use Rattle.std.proofs.Common.{◌≡◌, ℕ, ◌-◌, ◌<◌, ◌≤◌, max, Bool, List, [], ◌∷◌, ◌++◌, length, get_or, refl, sym, ap, ◌∙◌, subst, arith, inl, inr}
-use Rattle.std.specs.Prelude.{All, slice_set, true, false}
+use Rattle.std.specs.Prelude.{All}
 use Rattle.std.specs.List.{Contains}
-use Rattle.std.proofs.lemmas.List.{append_assoc, append-nil, get_or-set_same, get_or-set_other}
-use Rattle.std.proofs.lemmas.Bool.{cases_eq}
-use Rattle.std.proofs.lemmas.List.Elements.{All-append, All-cons, All-nil, Contains-append_left, Contains-append_right, Contains-append_cases, Contains-get_or}
-use Rattle.dexspec.proofs.Members.{Contains-nil, Contains-first, Contains-cons_cases}
-use Rattle.dexspec.specs.Merging.{Plan, Leaf, Node, leaves, all_leaves, plan_depth, plans_depth}
+use Rattle.std.proofs.lemmas.List.{append_assoc, append-nil}
+use Rattle.std.proofs.lemmas.List.Elements.{All-append, Contains-append_left, Contains-append_right, Contains-append_cases, Contains-get_or}
+use Rattle.dexspec.proofs.Members.{Contains-nil, Contains-cons_cases}
+use Rattle.dexspec.specs.Merging.{Plan, Node, leaves, all_leaves, plan_depth, plans_depth}
 use Rattle.dexmerge.specs.Plans.{plans_of}
 use Rattle.dexmerge.specs.Judging.{AreMarkedBy, IsMarkedBy, IsNoPlan}
 
@@ -87,35 +86,4 @@ All_member P xs x all c = subst P c.2 (all c.0 x c.1)
 pub no_part : (ps : List Plan) (p : Plan) (depth files : ℕ) → Contains ps p → 0 < depth → IsNoPlan p (depth - 1) files → IsNoPlan (Node (plans_of ps)) depth files
 no_part ps p depth files c lt h = record {
   not = λ shallow known. h.not (omega (arith, part_depth ps p c, shallow, lt)) (λ i d small. All_member (λ k. k < files) (all_leaves (plans_of ps)) (get_or (leaves p) i d) known (part_leaves ps p (get_or (leaves p) i d) c (Contains-get_or (leaves p) i d small)));
-}
-
--- no plan has depth 0
-pub none_shallow : (p : Plan) (files : ℕ) → IsNoPlan p 0 files
-none_shallow (Leaf file) files = record { not = λ shallow known. absurd (omega (arith, shallow)) }
-none_shallow (Node ps) files = record { not = λ shallow known. absurd (omega (arith, shallow)) }
-
--- a file that there is not
-pub unknown_file : (file depth files : ℕ) → files ≤ file → IsNoPlan (Leaf file) depth files
-unknown_file file depth files le = record { not = λ shallow known. absurd (omega (arith, le, known 0 0 (omega arith))) }
-
--- the mark of a file
-pub file_marked : (file depth : ℕ) (marks : List Bool) → file < length marks → 0 < depth → IsMarkedBy (Leaf file) depth marks (slice_set marks file true)
-file_marked file depth marks lt deep = record {
-  shallow = omega (arith, deep);
-  files = record {
-    known = All-cons (λ i. i < length marks) file [] lt (All-nil (λ i. i < length marks));
-    marked = λ i. elim (cases_eq i file) [
-      | inl e ↦ (
-        λ marked. inr (subst (λ (k : ℕ). Contains (file ∷ []) k) (sym e) (Contains-first file [])),
-        λ either. subst (λ (k : ℕ). get_or (slice_set marks file true) k false ≡ true) (sym e) (get_or-set_same marks file true false lt),
-      )
-      | inr other ↦ (
-        λ marked. inl (sym (get_or-set_other marks file i true false other) ∙ marked),
-        λ either. elim either [
-          | inl before ↦ get_or-set_other marks file i true false other ∙ before
-          | inr c ↦ elim (Contains-cons_cases file i [] c) [ inl e ↦ absurd (other (sym e)) | inr never ↦ absurd (Contains-nil i never) ]
-        ],
-      )
-    ];
-  };
 }

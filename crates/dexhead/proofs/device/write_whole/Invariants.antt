@@ -1,5 +1,5 @@
 use Rattle.std.proofs.Common.{◌≡◌, ◌≤◌, ◌++◌, false, length, take, ◌-◌}
-use Rattle.dexcanon.proofs.outputs.write_whole.Given as goal
+use Rattle.dexhead.proofs.device.write_whole.Given as goal
 
 -- a front was written
 abbrev pub invariant-pieces : goal.invariant-pieces

@@ -9,7 +9,7 @@ use Rattle.std.proofs.lemmas.List.Elements.{All-nil, All-cons, All-head, All-tai
 use Rattle.indexmap.specs.IndexSet.{insert_key}
 use Rattle.dexcode.specs.declared.tries.Try.{Try}
 use Rattle.dexspec.specs.Lists.{distinct}
-use Rattle.dexcode.specs.Numbered.{NumberedHandler, NumberedTry, AreKnown, no_handler, named, all_named, handlers_of, same_handler}
+use Rattle.dexcode.specs.Numbered.{NumberedHandler, NumberedTry, AreKnown, AreLeft, no_handler, named, all_named, handlers_of, same_handler}
 use Rattle.dexcode.specs.Equality.{handler_decides}
 use Rattle.dexspec.proofs.Distinct.{insert_grows, distinct_more}
 
@@ -40,6 +40,18 @@ known_more listed hs hs' more numbers place number known grown within lt is = re
       omega (arith, old.0, ap length grown, length-append hs more),
       ap (λ gs. get_or gs k no_handler) grown ∙ get_or_append_left hs more no_handler k old.0 ∙ old.1,
     )
+  ];
+}
+
+-- what is taken out of its place has its number from then on
+pub left_more : (listed rest : List NumberedHandler) (numbers : List (Option ℕ)) (place number : ℕ) (h : NumberedHandler) → AreLeft listed rest numbers → place < length numbers → AreLeft listed (slice_set rest place h) (slice_set numbers place (Some number))
+left_more listed rest numbers place number h left lt = record {
+  count = length-set rest place h ∙ left.count;
+  each = λ p e. elim (cases_eq p place) [
+    | inl here ↦ let set = get_or-set_same numbers place (Some number) None lt in
+        let none : None ≡ Some number = sym e ∙ ap (λ (q : ℕ). get_or (slice_set numbers place (Some number)) q None) here ∙ set in
+        absurd cc
+    | inr other ↦ get_or-set_other rest place p h no_handler other ∙ left.each p (sym (get_or-set_other numbers place p (Some number) None other) ∙ e)
   ];
 }
 

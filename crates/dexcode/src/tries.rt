@@ -1,9 +1,8 @@
 //! Tries: the units that are covered, and their handlers.
 
-ghost use Rattle.std.specs.Prelude.{◌≡◌, ◌↔◌, ◌^◌, ◌<◌, ◌≤◌, IsTrue, List, [], All, length, slice_index_or, IfOk, IfSome, IfNone};
-ghost use Rattle.indexmap.specs.IndexSet.{insert_key};
+ghost use Rattle.std.specs.Prelude.{◌≡◌, ◌↔◌, ◌^◌, ◌<◌, ◌≤◌, IsTrue, List, [], All, length, IfOk, IfSome, IfNone};
 ghost use Rattle.dexspec.specs.Code.{most_handlers};
-ghost use Rattle.dexcode.specs.Numbered.{NumberedHandler, AreKnown, AreStored, IsFormedHandler, all_named, handlers_of, handlers_weight, no_handler, same_handler};
+ghost use Rattle.dexcode.specs.Numbered.{NumberedHandler, AreKnown, AreLeft, AreStored, IsFormedHandler, IsNumberOf, all_named, handlers_of, handlers_weight};
 
 use crate::handlers::Handler;
 use indexmap::IndexSet;
@@ -103,20 +102,20 @@ impl Tries {
     pub(crate) fn of(
         alloc: Global,
         tries: &[Try],
-        listed: &[Handler],
+        mut listed: Vec<Handler>,
     ) -> Result<Option<Tries>, AllocError>
-        requires within { All (λ t. t.handler < length listed.now) tries.now }
-        requires formed { All IsFormedHandler listed.now }
+        requires within { All (λ t. t.handler < length listed.items) tries.now }
+        requires formed { All IsFormedHandler listed.items }
         requires few { length tries.now < 2 ^ 16 }
-        ensures some { IfOk result (λ all. IfSome all (λ some. some ≡ all_named listed.now tries.now)) }
+        ensures some { IfOk result (λ all. IfSome all (λ some. some ≡ all_named listed.items tries.now)) }
         ensures light { IfOk result (λ all. IfSome all (λ some. handlers_weight (handlers_of some) ≤ most_handlers)) }
-        ensures heavy { IfOk result (λ all. IfNone all (most_handlers < handlers_weight (handlers_of (all_named listed.now tries.now)))) }
+        ensures heavy { IfOk result (λ all. IfNone all (most_handlers < handlers_weight (handlers_of (all_named listed.items tries.now)))) }
     {
         let mut numbers = vec![in alloc; None; listed.len()]?;
         let mut handlers = IndexSet::new(alloc);
         let mut numbered = Vec::with_capacity(alloc, tries.len())?;
         for item in tries {
-            let handler = number_of(&mut handlers, &mut numbers, listed, item.handler)?;
+            let handler = number_of(&mut handlers, &mut numbers, &mut listed, item.handler)?;
             numbered.push(Try {
                 start_addr: item.start_addr,
                 insn_count: item.insn_count,
@@ -155,24 +154,21 @@ fn are_light(handlers: &[Handler]) -> bool
     true
 }
 
-// The number of a handler of the list among those that are named, of which it is one from now on.
+// The number of a handler of the list among those that are named, of which it is one from now on. It is moved there.
 fn number_of(
     handlers: &mut IndexSet<Handler>,
     numbers: &mut Vec<Option<usize>>,
-    listed: &[Handler],
+    listed: &mut Vec<Handler>,
     place: usize,
 ) -> Result<usize, AllocError>
-    requires within { place < length listed.now }
-    requires known { AreKnown listed.now handlers.old.keys numbers.old.items }
-    ensures known { IfOk result (λ k. AreKnown listed.now handlers.new.keys numbers.new.items) }
-    ensures keys { IfOk result (λ k. handlers.new.keys ≡ insert_key same_handler handlers.old.keys (slice_index_or listed.now place no_handler)) }
-    ensures number { IfOk result (λ k. k < length handlers.new.keys) }
-    ensures is { IfOk result (λ k. slice_index_or handlers.new.keys k no_handler ≡ slice_index_or listed.now place no_handler) }
+    requires within { place < length listed.old.items }
+    requires count { length numbers.old.items ≡ length listed.old.items }
+    ensures { (all : List NumberedHandler) → AreKnown all handlers.old.keys numbers.old.items → AreLeft all listed.old.items numbers.old.items → IfOk result (IsNumberOf all place handlers.old.keys handlers.new.keys listed.new.items numbers.new.items) }
 {
     match numbers[place] {
         Some(number) => Ok(number),
         None => {
-            let (number, _) = handlers.insert_full(listed[place].copy()?)?;
+            let (number, _) = handlers.insert_full(listed[place].take())?;
             numbers[place] = Some(number);
             Ok(number)
         }

@@ -10,9 +10,9 @@ use Rattle.dexcode.proofs.try_table.read_try_table.Goals as goal
 pub returns-in_err-items-clause-fault : goal.returns-in_err-items-clause-fault
 returns-in_err-items-clause-fault c =
     let p = err_from_is_err_and c.from_residual-in_err-items.result c.from_residual-in_err-items.ensures.1 in
-    let hs = c.in_ok-list.list.handlers.items in
-    let numbers = c.in_ok-list.list.numbers.items in
-    let list = subst (λ n. IsListAt c.args.starts.now c.args.types c.args.bytes.now (c.args.at + 8 * n) hs numbers) c.from-size.ensures c.in_ok-list.ensures.list in
+    let hs = c.in_ok-handlers.field-0.handlers.items in
+    let numbers = c.in_ok-handlers.field-0.numbers.items in
+    let list = subst (λ n. IsListAt c.args.starts.now c.args.types c.args.bytes.now (c.args.at + 8 * n) hs numbers) c.from-size.ensures c.in_ok-handlers.ensures.list in
     let fault = subst (λ ns. IsTriesFault (NoTries c.args.units ns c.args.bytes.now c.args.at c.args.count) c.in_err-items.field-0.0) c.deref.ensures.value c.in_err-items.ensures.fault in
     rw (p.1, p.2) (fault_so (no_tries c.args.starts.now c.args.types c.args.units c.args.bytes.now c.args.at c.args.count (λ i. (c.type_inv.bytes i).fits) hs numbers list) c.in_err-items.field-0.0 fault)
 
@@ -21,41 +21,41 @@ of-requires-clause-few c = rw c.deref-2.ensures.value (omega (arith, c.in_ok-ite
 
 pub of-requires-clause-within : goal.of-requires-clause-within
 of-requires-clause-within c =
-    let hs = c.in_ok-list.list.handlers.items in
-    let numbers = c.in_ok-list.list.numbers.items in
+    let hs = c.in_ok-handlers.field-0.handlers.items in
+    let numbers = c.in_ok-handlers.field-0.numbers.items in
     let ts = c.in_ok-items.items.items in
     let to = c.in_ok-items.ensures.tries.0 in
-    let list = subst (λ n. IsListAt c.args.starts.now c.args.types c.args.bytes.now (c.args.at + 8 * n) hs numbers) c.from-size.ensures c.in_ok-list.ensures.list in
+    let list = subst (λ n. IsListAt c.args.starts.now c.args.types c.args.bytes.now (c.args.at + 8 * n) hs numbers) c.from-size.ensures c.in_ok-handlers.ensures.list in
     let read = subst (λ ns. TriesRead c.args.units ns c.args.bytes.now c.args.at c.args.count ts to) c.deref.ensures.value c.in_ok-items.ensures.tries.1 in
-    rw c.deref-2.ensures.value (rw c.deref-3.ensures.value (found_within c.args.starts.now c.args.types c.args.units c.args.bytes.now c.args.at c.args.count hs numbers ts to list read))
+    rw c.deref-2.ensures.value (found_within c.args.starts.now c.args.types c.args.units c.args.bytes.now c.args.at c.args.count hs numbers ts to list read)
 
 pub of-requires-clause-formed : goal.of-requires-clause-formed
 of-requires-clause-formed c =
-    let hs = c.in_ok-list.list.handlers.items in
-    let numbers = c.in_ok-list.list.numbers.items in
-    let list = subst (λ n. IsListAt c.args.starts.now c.args.types c.args.bytes.now (c.args.at + 8 * n) hs numbers) c.from-size.ensures c.in_ok-list.ensures.list in
-    rw c.deref-3.ensures.value (found_formed c.args.starts.now c.args.types c.args.units c.args.bytes.now c.args.at c.args.count hs numbers list)
+    let hs = c.in_ok-handlers.field-0.handlers.items in
+    let numbers = c.in_ok-handlers.field-0.numbers.items in
+    let list = subst (λ n. IsListAt c.args.starts.now c.args.types c.args.bytes.now (c.args.at + 8 * n) hs numbers) c.from-size.ensures c.in_ok-handlers.ensures.list in
+    found_formed c.args.starts.now c.args.types c.args.units c.args.bytes.now c.args.at c.args.count hs numbers list
 
 pub returns-in-Some-clause-tries : goal.returns-in-Some-clause-tries
 returns-in-Some-clause-tries c =
-    let hs = c.in_ok-list.list.handlers.items in
-    let numbers = c.in_ok-list.list.numbers.items in
+    let hs = c.in_ok-handlers.field-0.handlers.items in
+    let numbers = c.in_ok-handlers.field-0.numbers.items in
     let ts = c.in_ok-items.items.items in
     let to = c.in_ok-items.ensures.tries.0 in
-    let list = subst (λ n. IsListAt c.args.starts.now c.args.types c.args.bytes.now (c.args.at + 8 * n) hs numbers) c.from-size.ensures c.in_ok-list.ensures.list in
+    let list = subst (λ n. IsListAt c.args.starts.now c.args.types c.args.bytes.now (c.args.at + 8 * n) hs numbers) c.from-size.ensures c.in_ok-handlers.ensures.list in
     let read = subst (λ ns. TriesRead c.args.units ns c.args.bytes.now c.args.at c.args.count ts to) c.deref.ensures.value c.in_ok-items.ensures.tries.1 in
-    let is : c.in-Some.tries ≡ all_named hs ts = (rw c.in-Some.is at c.in-Ok.ensures.some) ∙ (λ i. all_named (c.deref-3.ensures.value i) (c.deref-2.ensures.value i)) in
+    let is : c.in-Some.tries ≡ all_named hs ts = (rw c.in-Some.is at c.in-Ok.ensures.some) ∙ (λ i. all_named hs (c.deref-2.ensures.value i)) in
     let light = subst (λ all. handlers_weight (handlers_of all) ≤ most_handlers) is (rw c.in-Some.is at c.in-Ok.ensures.light) in
     subst (TryItemsAt c.args.starts.now c.args.types c.args.units c.args.bytes.now c.args.at c.args.count) (sym is)
     (found_tries c.args.starts.now c.args.types c.args.units c.args.bytes.now c.args.at c.args.count hs numbers ts to list read light)
 
 pub returns-clause-fault : goal.returns-clause-fault
 returns-clause-fault c =
-    let hs = c.in_ok-list.list.handlers.items in
-    let numbers = c.in_ok-list.list.numbers.items in
+    let hs = c.in_ok-handlers.field-0.handlers.items in
+    let numbers = c.in_ok-handlers.field-0.numbers.items in
     let ts = c.in_ok-items.items.items in
     let to = c.in_ok-items.ensures.tries.0 in
-    let list = subst (λ n. IsListAt c.args.starts.now c.args.types c.args.bytes.now (c.args.at + 8 * n) hs numbers) c.from-size.ensures c.in_ok-list.ensures.list in
+    let list = subst (λ n. IsListAt c.args.starts.now c.args.types c.args.bytes.now (c.args.at + 8 * n) hs numbers) c.from-size.ensures c.in_ok-handlers.ensures.list in
     let read = subst (λ ns. TriesRead c.args.units ns c.args.bytes.now c.args.at c.args.count ts to) c.deref.ensures.value c.in_ok-items.ensures.tries.1 in
-    let weighs = subst (λ gs. most_handlers < handlers_weight (handlers_of (all_named gs ts))) c.deref-3.ensures.value (subst (λ us. most_handlers < handlers_weight (handlers_of (all_named c.deref-3.result.now us))) c.deref-2.ensures.value (rw c.in-None.is at c.in-Ok.ensures.heavy)) in
+    let weighs = subst (λ us. most_handlers < handlers_weight (handlers_of (all_named hs us))) c.deref-2.ensures.value (rw c.in-None.is at c.in-Ok.ensures.heavy) in
     (refl, too_heavy c.args.starts.now c.args.types c.args.units c.args.bytes.now c.args.at c.args.count (λ i. (c.type_inv.bytes i).fits) hs numbers ts to list read weighs)

@@ -3,12 +3,12 @@
 ghost use Rattle.std.specs.Prelude.{◌≡◌, ◌^◌, ◌≤◌, List, IfOk, length, map};
 ghost use Rattle.std.specs.List.{flat_map};
 ghost use Rattle.dexspec.specs.Mentions.{Mentions};
-ghost use Rattle.dexspec.specs.Canonical.{data_sections, data_start};
+ghost use Rattle.dexspec.specs.Canonical.{data_sections, data_start, string_end};
 ghost use Rattle.dexhead.specs.Written.{entry_meant};
 ghost use Rattle.dexval.specs.Code.{set_of};
 ghost use Rattle.dexclass.specs.Numbered.{NumberedClass};
 ghost use Rattle.dexlayout.specs.Laid.{AreWritable, greatest_in, ordered_of};
-ghost use Rattle.dexlayout.specs.Parts.{AreData, section_parts};
+ghost use Rattle.dexlayout.specs.Parts.{AreBodies, AreData, AreFront, section_parts};
 
 use crate::annotations::{Annotations, place_annotations};
 use crate::class_data::place_class_data;
@@ -46,6 +46,68 @@ pub(crate) struct Data<'p> {
     pub(crate) directories: Offsets,
 }
 
+// Where the items of the first sections stand, and for each use of a set the number of its set, if it has annotations.
+#[derive(Drop)]
+struct Front<'p> {
+    type_lists: TypeLists<'p>,
+    annotations: Annotations<'p>,
+    numbers: Vec<Option<usize>>,
+    static_values: Offsets,
+    strings: Offsets,
+}
+
+// Where the items of code, of its debug programs and of class data stand.
+#[derive(Drop)]
+struct Bodies<'p> {
+    debugs: DebugPrograms<'p>,
+    codes: Offsets,
+    class_data: Offsets,
+}
+
+// Where the items of the sections up to the string data stand, behind the tables.
+fn place_front<'p>(
+    alloc: Global,
+    numbering: &'p Numbering<'_>,
+    classes: &'p [Class<'_>],
+    from: u32,
+) -> Result<Front<'p>, AllocError>
+    requires classes { AreWritable numbering.now classes.now }
+    requires from { from ≡ data_start (ordered_of numbering.now classes.now) }
+    ensures { IfOk result (AreFront numbering.now classes.now) }
+{
+    let type_lists = place_type_lists(alloc, numbering, classes, from)?;
+    let Shared { written, numbers } = share_sets(alloc, classes)?;
+    let annotations = place_annotations(alloc, written, type_lists.places().end())?;
+    let static_values = place_static_values(alloc, classes, annotations.places().end())?;
+    let strings = place_strings(alloc, numbering, static_values.end())?;
+    Ok(Front {
+        type_lists,
+        annotations,
+        numbers,
+        static_values,
+        strings,
+    })
+}
+
+// Where the items of the sections from the debug programs to the class data stand, behind the string data.
+fn place_bodies<'p>(
+    alloc: Global,
+    classes: &'p [Class<'_>],
+    from: u32,
+) -> Result<Bodies<'p>, AllocError>
+    requires { (m : Mentions) × AreWritable m classes.now × (from ≡ string_end (ordered_of m classes.now)) }
+    ensures { IfOk result (λ bodies. (m : Mentions) → AreWritable m classes.now → from ≡ string_end (ordered_of m classes.now) → AreBodies m classes.now bodies) }
+{
+    let debugs = place_debugs(alloc, classes, from)?;
+    let codes = place_codes(alloc, classes, debugs.places().end())?;
+    let class_data = place_class_data(alloc, classes, codes.offsets(), codes.end())?;
+    Ok(Bodies {
+        debugs,
+        codes,
+        class_data,
+    })
+}
+
 /// Where the items of each section stand, behind the tables.
 ///
 /// Error: memory was refused.
@@ -59,21 +121,15 @@ pub(crate) fn place_data<'p>(
     requires from { from ≡ data_start (ordered_of numbering.now classes.now) }
     ensures { IfOk result (AreData numbering.now classes.now) }
 {
-    let type_lists = place_type_lists(alloc, numbering, classes, from)?;
-    let Shared { written, numbers } = share_sets(alloc, classes)?;
-    let annotations = place_annotations(alloc, written, type_lists.places().end())?;
-    let static_values = place_static_values(alloc, classes, annotations.places().end())?;
-    let strings = place_strings(alloc, numbering, static_values.end())?;
-    let debugs = place_debugs(alloc, classes, strings.end())?;
-    let codes = place_codes(alloc, classes, debugs.places().end())?;
-    let class_data = place_class_data(alloc, classes, codes.offsets(), codes.end())?;
+    let front = place_front(alloc, numbering, classes, from)?;
+    let bodies = place_bodies(alloc, classes, front.strings.end())?;
     let sets = place_sets(
         alloc,
         numbering,
         classes,
-        &annotations,
-        &numbers,
-        class_data.end(),
+        &front.annotations,
+        &front.numbers,
+        bodies.class_data.end(),
     )?;
     let ref_lists = place_ref_lists(alloc, numbering, classes, sets.methods().len(), sets.end())?;
     let directories = place_directories(
@@ -85,13 +141,13 @@ pub(crate) fn place_data<'p>(
         ref_lists.end(),
     )?;
     Ok(Data {
-        type_lists,
-        annotations,
-        static_values,
-        strings,
-        debugs,
-        codes,
-        class_data,
+        type_lists: front.type_lists,
+        annotations: front.annotations,
+        static_values: front.static_values,
+        strings: front.strings,
+        debugs: bodies.debugs,
+        codes: bodies.codes,
+        class_data: bodies.class_data,
         sets,
         ref_lists,
         directories,

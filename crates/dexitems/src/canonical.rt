@@ -11,7 +11,7 @@ use crate::offsets::{DirectoryOffs, directory_offs, list_offs, method_code_offs,
 use crate::puts::Put;
 use dexcases::{CaseFault, Outcome};
 use dexhead::{Frame, Table};
-use dexmembers::{Members, read_members};
+use dexmembers::{Field, Members, Method, read_members};
 use dexpool::ItemFault;
 use std::alloc::{AllocError, Global};
 use std::collections::BTreeMap;
@@ -37,19 +37,25 @@ pub fn run_item(alloc: Global, word: &str, bytes: &[u8], case: &str) -> Result<O
 pub fn run(alloc: Global, bytes: &[u8], case: &str) -> Result<Outcome, CaseFault> {
     let right: usize = case.parse()?;
     let file = DexFile::open(alloc, bytes)?;
+    match judge_classes(alloc, &file)? {
+        Judged::Items(count) if count == right => Ok(Outcome::Passed),
+        Judged::Items(count) => Ok(Outcome::Failed(format!(in alloc; "{count} items")?)),
+        Judged::Astray(off) => Ok(Outcome::Failed(format!(in alloc; "other bytes at {off}")?)),
+    }
+}
+
+// Judges the items of all class rows.
+fn judge_classes(alloc: Global, file: &DexFile<'_>) -> Result<Judged, CaseFault>
+    requires { ArePools file.now.frame file.now.pools }
+{
     let mut count: usize = 0;
     for row in 0..file.frame.size(Table::ClassDefs) {
-        match judge_class(alloc, &file, row)? {
+        match judge_class(alloc, file, row)? {
             Judged::Items(items) => count = count.saturating_add(items),
-            Judged::Astray(off) => {
-                return Ok(Outcome::Failed(format!(in alloc; "other bytes at {off}")?));
-            }
+            astray => return Ok(astray),
         }
     }
-    if count == right {
-        return Ok(Outcome::Passed);
-    }
-    Ok(Outcome::Failed(format!(in alloc; "{count} items")?))
+    Ok(Judged::Items(count))
 }
 
 /// What is found of the items of a class row.
@@ -301,25 +307,33 @@ fn put_counted(
 // The number of each field, the static ones first.
 fn field_numbers(alloc: Global, members: &Members<'_>) -> Result<Vec<u32>, AllocError> {
     let mut numbers = Vec::new(alloc);
-    for field in members.static_fields() {
-        numbers.push(field.number())?;
-    }
-    for field in members.instance_fields() {
-        numbers.push(field.number())?;
-    }
+    push_fields(members.static_fields(), &mut numbers)?;
+    push_fields(members.instance_fields(), &mut numbers)?;
     Ok(numbers)
+}
+
+// Appends the number of each field.
+fn push_fields(fields: &[Field], numbers: &mut Vec<u32>) -> Result<(), AllocError> {
+    for field in fields {
+        numbers.push(field.number())?;
+    }
+    Ok(())
 }
 
 // The number of each method, the direct ones first.
 fn method_numbers(alloc: Global, members: &Members<'_>) -> Result<Vec<u32>, AllocError> {
     let mut numbers = Vec::new(alloc);
-    for method in members.direct_methods() {
-        numbers.push(method.number())?;
-    }
-    for method in members.virtual_methods() {
-        numbers.push(method.number())?;
-    }
+    push_methods(members.direct_methods(), &mut numbers)?;
+    push_methods(members.virtual_methods(), &mut numbers)?;
     Ok(numbers)
+}
+
+// Appends the number of each method.
+fn push_methods(methods: &[Method<'_>], numbers: &mut Vec<u32>) -> Result<(), AllocError> {
+    for method in methods {
+        numbers.push(method.number())?;
+    }
+    Ok(())
 }
 
 // The offset that belongs to each number; 0 stands for none.

@@ -1,10 +1,12 @@
 //! What is measured of items: weights, the symbols that occur, and positions.
 
+ghost use Rattle.dexpool.specs.Pools.{ArePools};
+
 use crate::dex_file::DexFile;
 use crate::item::Item;
 use crate::item_kind::ItemKind;
 use dexcases::{CaseFault, Outcome, first_word, positions_text};
-use dexcode::positions;
+use dexcode::{Debug, positions};
 use dexpool::Marks;
 use dexval::{AnnotationSet, annotation_size};
 use std::alloc::{AllocError, Global};
@@ -18,17 +20,31 @@ pub fn run_weight(
     case: &str,
 ) -> Result<Outcome, CaseFault> {
     let (place, right) = first_word(case)?;
+    let place = place.parse()?;
     let kind = match word {
         "annotations" => ItemKind::Set,
         _ => ItemKind::of_word(word).ok_or(CaseFault::Form)?,
     };
     let file = DexFile::open(alloc, bytes)?;
-    let item = Item::at(alloc, &file, kind, place.parse()?)?;
-    let measured = match &item {
-        Item::Set(set) if word == "annotations" => sizes_text(alloc, set)?,
-        item => weight_text(alloc, item)?,
-    };
+    let measured = measured_at(alloc, &file, kind, place, word == "annotations")?;
     Ok(Outcome::of(measured, right))
+}
+
+// What the item at a place weighs, or how many bytes each of its annotations takes.
+fn measured_at(
+    alloc: Global,
+    file: &DexFile<'_>,
+    kind: ItemKind,
+    place: u32,
+    by_annotations: bool,
+) -> Result<String, CaseFault>
+    requires { ArePools file.now.frame file.now.pools }
+{
+    let item = Item::at(alloc, file, kind, place)?;
+    match &item {
+        Item::Set(set) if by_annotations => Ok(sizes_text(alloc, set)?),
+        item => Ok(weight_text(alloc, item)?),
+    }
 }
 
 // What an item weighs.
@@ -62,11 +78,24 @@ pub fn run_marks(
         None | Some(ItemKind::Directory | ItemKind::Members) => return Err(CaseFault::Form),
         Some(kind) => kind,
     };
+    let off = off.parse()?;
     let file = DexFile::open(alloc, bytes)?;
-    let item = Item::at(alloc, &file, kind, off.parse()?)?;
+    Ok(Outcome::of(marked_at(alloc, &file, kind, off)?, right))
+}
+
+// The numbers of the symbols that occur in the item at an offset.
+fn marked_at(
+    alloc: Global,
+    file: &DexFile<'_>,
+    kind: ItemKind,
+    off: u32,
+) -> Result<String, CaseFault>
+    requires { ArePools file.now.frame file.now.pools }
+{
     let mut marks = Marks::none(alloc, file.pools.numbering())?;
+    let item = Item::at(alloc, file, kind, off)?;
     item.mark(file.pools.numbering(), &mut marks);
-    Ok(Outcome::of(marks_text(alloc, &marks)?, right))
+    Ok(marks_text(alloc, &marks)?)
 }
 
 // The numbers of what is marked.
@@ -98,12 +127,23 @@ fn places_text(alloc: Global, marks: &[bool]) -> Result<String, AllocError> {
 /// Runs a line: `FILE OFFSET ADDRESS:LINE,ADDRESS:LINE,..`, where no positions are `-`.
 pub fn run_positions(alloc: Global, bytes: &[u8], case: &str) -> Result<Outcome, CaseFault> {
     let (off, right) = first_word(case)?;
+    let off = off.parse()?;
     let file = DexFile::open(alloc, bytes)?;
-    match Item::at(alloc, &file, ItemKind::Debug, off.parse()?)? {
-        Item::Debug(debug) => {
-            let text = positions_text(alloc, &positions(alloc, &debug)?)?;
-            Ok(Outcome::of(text, right))
-        }
+    Ok(Outcome::of(positions_at(alloc, &file, off)?, right))
+}
+
+// The positions of the debug program at an offset.
+fn positions_at(alloc: Global, file: &DexFile<'_>, off: u32) -> Result<String, CaseFault>
+    requires { ArePools file.now.frame file.now.pools }
+{
+    match Item::at(alloc, file, ItemKind::Debug, off)? {
+        Item::Debug(debug) => Ok(told_positions(alloc, &debug)?),
         _ => Err(CaseFault::Form),
     }
+}
+
+// The positions of a debug program.
+fn told_positions(alloc: Global, debug: &Debug) -> Result<String, AllocError> {
+    let positions = positions(alloc, debug)?;
+    positions_text(alloc, &positions)
 }

@@ -25,14 +25,26 @@ pub fn run(alloc: Global, kind: ItemKind, bytes: &[u8], case: &str) -> Result<Ou
     let (place, right) = first_word(case)?;
     let place = place.parse()?;
     let file = DexFile::open(alloc, bytes)?;
-    let item = match Item::read(alloc, &file, kind, place) {
-        Ok(item) => item,
-        Err(fault) => return refused(alloc, fault, right),
-    };
-    if let Some(wrong) = wrong_call(alloc, &file, place, &item)? {
+    match Item::read(alloc, &file, kind, place) {
+        Ok(item) => judged(alloc, &file, place, &item, right),
+        Err(fault) => refused(alloc, fault, right),
+    }
+}
+
+// How a line goes whose item is read.
+fn judged(
+    alloc: Global,
+    file: &DexFile<'_>,
+    place: u32,
+    item: &Item<'_>,
+    right: &str,
+) -> Result<Outcome, CaseFault>
+    requires { IsKnownItem file.now.pools item.now }
+{
+    if let Some(wrong) = wrong_call(alloc, file, place, item)? {
         return Ok(Outcome::failed(alloc, wrong)?);
     }
-    let text = told(alloc, file.pools.numbering(), &item)?;
+    let text = told(alloc, file.pools.numbering(), item)?;
     Ok(Outcome::of(format!(in alloc; "ok {text}")?, right))
 }
 
@@ -82,12 +94,10 @@ fn wrong_call(
 
 // Whether a copy of an item, if it has one, is the same.
 fn is_copied(alloc: Global, numbering: &Numbering<'_>, item: &Item<'_>) -> Result<bool, CaseFault> {
-    match item.copy()? {
-        Some(copy) => {
-            let remap = as_it_is(alloc, numbering)?;
-            Ok(Likeness::of(alloc, copy, item, &remap)?.word() == "yes")
-        }
-        None => Ok(true),
+    match item.copy() {
+        Ok(Some(copy)) => is_told(alloc, numbering, item, copy, true),
+        Ok(None) => Ok(true),
+        Err(_) => Err(CaseFault::Memory),
     }
 }
 
@@ -108,19 +118,16 @@ fn wrong_lead(
 }
 
 // What is wrong with an item that is led on, by this map to this numbering.
-fn wrong_led(
+fn wrong_led<'i>(
     alloc: Global,
     numbering: &Numbering<'_>,
-    item: &Item<'_>,
-    led: Item<'_>,
+    item: &Item<'i>,
+    led: Item<'i>,
     kept: &Numbering<'_>,
     remap: &Remap,
 ) -> Result<Option<&'static str>, CaseFault> {
-    if !is_same(alloc, item, remap, &led, kept)? {
-        return Ok(Some("its numbers are led elsewhere"));
-    }
-    if !prints_alike(alloc, numbering, item, kept, &led)? {
-        return Ok(Some("led on it prints otherwise"));
+    if let Some(wrong) = wrong_image(alloc, numbering, item, &led, kept, remap)? {
+        return Ok(Some(wrong));
     }
     let is_alike = is_same(alloc, item, remap, item, numbering)?;
     if is_told(alloc, numbering, item, led, is_alike)? {
@@ -129,12 +136,30 @@ fn wrong_led(
     Ok(Some("with other numbers it is the same, or with these another"))
 }
 
-// Whether an item is the same, led on by a map, as another whose numbers are those of a numbering.
-fn is_same(
+// What is wrong with where the numbers of an item are led.
+fn wrong_image<'i>(
     alloc: Global,
-    item: &Item<'_>,
+    numbering: &Numbering<'_>,
+    item: &Item<'i>,
+    led: &Item<'i>,
+    kept: &Numbering<'_>,
     remap: &Remap,
-    other: &Item<'_>,
+) -> Result<Option<&'static str>, CaseFault> {
+    if !is_same(alloc, item, remap, led, kept)? {
+        return Ok(Some("its numbers are led elsewhere"));
+    }
+    if !prints_alike(alloc, numbering, item, kept, led)? {
+        return Ok(Some("led on it prints otherwise"));
+    }
+    Ok(None)
+}
+
+// Whether an item is the same, led on by a map, as another whose numbers are those of a numbering.
+fn is_same<'i>(
+    alloc: Global,
+    item: &Item<'i>,
+    remap: &Remap,
+    other: &Item<'i>,
     numbering: &Numbering<'_>,
 ) -> Result<bool, CaseFault> {
     let as_it_is = as_it_is(alloc, numbering)?;
@@ -154,7 +179,7 @@ fn prints_alike(
     Ok(text == text_led)
 }
 
-// Whether an item that is led on compares with what it was as it has to: the same where it is alike, and else another.
+// Whether a copy of an item, or one that is led on, compares with it as it has to: the same where it is alike, and else another.
 fn is_told(
     alloc: Global,
     numbering: &Numbering<'_>,
@@ -162,7 +187,8 @@ fn is_told(
     led: Item<'_>,
     is_alike: bool,
 ) -> Result<bool, CaseFault> {
-    let likeness = Likeness::of(alloc, led, item, &as_it_is(alloc, numbering)?)?;
+    let remap = as_it_is(alloc, numbering)?;
+    let likeness = Likeness::of(alloc, led, item, &remap)?;
     Ok(likeness.word() == if is_alike { "yes" } else { "no" })
 }
 

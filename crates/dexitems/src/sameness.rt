@@ -2,6 +2,8 @@
 //! debug programs are compared as they are, looked up in a set of what is hashed, and compared led on; code and what class
 //! rows declare are compared led on, and for `bare` the debug program of the first code is dropped before.
 
+ghost use Rattle.dexpool.specs.Pools.{ArePools};
+
 use crate::dex_file::DexFile;
 use crate::item::Item;
 use crate::item_kind::ItemKind;
@@ -15,18 +17,44 @@ pub fn run(alloc: Global, word: &str, bytes: &[u8], case: &str) -> Result<Outcom
     let (place, rest) = first_word(case)?;
     let (other, right) = first_word(rest)?;
     let kind = compared_kind(word).ok_or(CaseFault::Form)?;
-    let (place, other) = (place.parse()?, other.parse()?);
+    let place = place.parse()?;
+    let other = other.parse()?;
     let file = DexFile::open(alloc, bytes)?;
-    let remap = as_it_is(alloc, file.pools.numbering())?;
-    let item = Item::at(alloc, &file, kind, place)?;
-    let other = Item::at(alloc, &file, kind, other)?;
-    let item = if word == "bare" {
-        without_debug(item)
-    } else {
-        item
-    };
-    let likeness = Likeness::of(alloc, item, &other, &remap)?;
+    let likeness = likeness_at(alloc, &file, kind, place, other, word == "bare")?;
     Ok(Outcome::of(String::from_str(alloc, likeness.word())?, right))
+}
+
+// How the items at two places compare, the first without its debug program if it is to be bare.
+fn likeness_at(
+    alloc: Global,
+    file: &DexFile<'_>,
+    kind: ItemKind,
+    place: u32,
+    other: u32,
+    is_bare: bool,
+) -> Result<Likeness, CaseFault>
+    requires { ArePools file.now.frame file.now.pools }
+{
+    let other = Item::at(alloc, file, kind, other)?;
+    let remap = as_it_is(alloc, file.pools.numbering())?;
+    let item = item_at(alloc, file, kind, place, is_bare)?;
+    Likeness::of(alloc, item, &other, &remap)
+}
+
+// The item at a place, without its debug program if it is to be bare.
+fn item_at<'a>(
+    alloc: Global,
+    file: &DexFile<'a>,
+    kind: ItemKind,
+    place: u32,
+    is_bare: bool,
+) -> Result<Item<'a>, CaseFault>
+    requires { ArePools file.now.frame file.now.pools }
+{
+    match Item::at(alloc, file, kind, place) {
+        Ok(item) if is_bare => Ok(without_debug(item)),
+        answer => answer,
+    }
 }
 
 // The kind of the items that a line compares.

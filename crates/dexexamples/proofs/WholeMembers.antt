@@ -127,14 +127,14 @@ pub class_data_at : ClassDataAt whole_p 254 class_data
 unfolding whole_p uint_at ushort_at number_of
 class_data_at = record {
   in_data = omega arith;
-  c0 = 1;
-  c1 = 1;
-  c2 = 1;
-  c3 = 1;
-  l0 = 0;
-  l1 = 0;
-  l2 = 4;
-  l3 = 0;
+  static_count_size = 1;
+  instance_count_size = 1;
+  direct_count_size = 1;
+  virtual_count_size = 1;
+  static_fields_size = 0;
+  instance_fields_size = 0;
+  direct_methods_size = 4;
+  virtual_methods_size = 0;
   static_count = record { within = omega arith; spelled = byte_is 0 (omega arith) };
   instance_count = record { within = omega arith; spelled = byte_is 0 (omega arith) };
   direct_count = record { within = omega arith; spelled = byte_is 1 (omega arith) };

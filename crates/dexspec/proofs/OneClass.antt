@@ -97,25 +97,25 @@ one_encoded_methods b o last (x ∷ xs) (y ∷ ys) n k len h g =
 pub one_class_data : (b : List ℕ) (o : ℕ) (x y : ClassData) → ClassDataAt b o x → ClassDataAt b o y → x ≡ y
 one_class_data b o x y h g =
     let count = λ (p q v w n k : ℕ) (e : p ≡ q) (s : Uleb128At b p v n) (t : Uleb128At b q w k). one_uleb128 b q v w n k (subst (λ (r : ℕ). Uleb128At b r v n) e s) t in
-    let c0 = one_uleb128 b o (length x.static_fields) (length y.static_fields) h.c0 g.c0 h.static_count g.static_count in
-    let p1 : o + h.c0 ≡ o + g.c0 = omega (arith, c0.1) in
-    let c1 = count (o + h.c0) (o + g.c0) (length x.instance_fields) (length y.instance_fields) h.c1 g.c1 p1 h.instance_count g.instance_count in
-    let p2 : o + h.c0 + h.c1 ≡ o + g.c0 + g.c1 = omega (arith, p1, c1.1) in
-    let c2 = count (o + h.c0 + h.c1) (o + g.c0 + g.c1) (length x.direct_methods) (length y.direct_methods) h.c2 g.c2 p2 h.direct_count g.direct_count in
-    let p3 : o + h.c0 + h.c1 + h.c2 ≡ o + g.c0 + g.c1 + g.c2 = omega (arith, p2, c2.1) in
-    let c3 = count (o + h.c0 + h.c1 + h.c2) (o + g.c0 + g.c1 + g.c2) (length x.virtual_methods) (length y.virtual_methods) h.c3 g.c3 p3 h.virtual_count g.virtual_count in
-    let p4 : o + h.c0 + h.c1 + h.c2 + h.c3 ≡ o + g.c0 + g.c1 + g.c2 + g.c3 = omega (arith, p3, c3.1) in
-    let l0 = one_encoded_fields b (o + g.c0 + g.c1 + g.c2 + g.c3) None x.static_fields y.static_fields h.l0 g.l0 c0.0
-    (subst (λ (p : ℕ). EncodedFieldsAt b p None x.static_fields h.l0) p4 h.static_fields) g.static_fields in
-    let p5 : o + h.c0 + h.c1 + h.c2 + h.c3 + h.l0 ≡ o + g.c0 + g.c1 + g.c2 + g.c3 + g.l0 = omega (arith, p4, l0.1) in
-    let l1 = one_encoded_fields b (o + g.c0 + g.c1 + g.c2 + g.c3 + g.l0) None x.instance_fields y.instance_fields h.l1 g.l1 c1.0
-    (subst (λ (p : ℕ). EncodedFieldsAt b p None x.instance_fields h.l1) p5 h.instance_fields) g.instance_fields in
-    let p6 : o + h.c0 + h.c1 + h.c2 + h.c3 + h.l0 + h.l1 ≡ o + g.c0 + g.c1 + g.c2 + g.c3 + g.l0 + g.l1 = omega (arith, p5, l1.1) in
-    let l2 = one_encoded_methods b (o + g.c0 + g.c1 + g.c2 + g.c3 + g.l0 + g.l1) None x.direct_methods y.direct_methods h.l2 g.l2 c2.0
-    (subst (λ (p : ℕ). EncodedMethodsAt b p None x.direct_methods h.l2) p6 h.direct_methods) g.direct_methods in
-    let p7 : o + h.c0 + h.c1 + h.c2 + h.c3 + h.l0 + h.l1 + h.l2 ≡ o + g.c0 + g.c1 + g.c2 + g.c3 + g.l0 + g.l1 + g.l2 = omega (arith, p6, l2.1) in
-    let l3 = one_encoded_methods b (o + g.c0 + g.c1 + g.c2 + g.c3 + g.l0 + g.l1 + g.l2) None x.virtual_methods y.virtual_methods h.l3 g.l3 c3.0
-    (subst (λ (p : ℕ). EncodedMethodsAt b p None x.virtual_methods h.l3) p7 h.virtual_methods) g.virtual_methods in
+    let c0 = one_uleb128 b o (length x.static_fields) (length y.static_fields) h.static_count_size g.static_count_size h.static_count g.static_count in
+    let p1 : o + h.static_count_size ≡ o + g.static_count_size = omega (arith, c0.1) in
+    let c1 = count (o + h.static_count_size) (o + g.static_count_size) (length x.instance_fields) (length y.instance_fields) h.instance_count_size g.instance_count_size p1 h.instance_count g.instance_count in
+    let p2 : o + h.static_count_size + h.instance_count_size ≡ o + g.static_count_size + g.instance_count_size = omega (arith, p1, c1.1) in
+    let c2 = count (o + h.static_count_size + h.instance_count_size) (o + g.static_count_size + g.instance_count_size) (length x.direct_methods) (length y.direct_methods) h.direct_count_size g.direct_count_size p2 h.direct_count g.direct_count in
+    let p3 : o + h.static_count_size + h.instance_count_size + h.direct_count_size ≡ o + g.static_count_size + g.instance_count_size + g.direct_count_size = omega (arith, p2, c2.1) in
+    let c3 = count (o + h.static_count_size + h.instance_count_size + h.direct_count_size) (o + g.static_count_size + g.instance_count_size + g.direct_count_size) (length x.virtual_methods) (length y.virtual_methods) h.virtual_count_size g.virtual_count_size p3 h.virtual_count g.virtual_count in
+    let p4 : o + h.static_count_size + h.instance_count_size + h.direct_count_size + h.virtual_count_size ≡ o + g.static_count_size + g.instance_count_size + g.direct_count_size + g.virtual_count_size = omega (arith, p3, c3.1) in
+    let l0 = one_encoded_fields b (o + g.static_count_size + g.instance_count_size + g.direct_count_size + g.virtual_count_size) None x.static_fields y.static_fields h.static_fields_size g.static_fields_size c0.0
+    (subst (λ (p : ℕ). EncodedFieldsAt b p None x.static_fields h.static_fields_size) p4 h.static_fields) g.static_fields in
+    let p5 : o + h.static_count_size + h.instance_count_size + h.direct_count_size + h.virtual_count_size + h.static_fields_size ≡ o + g.static_count_size + g.instance_count_size + g.direct_count_size + g.virtual_count_size + g.static_fields_size = omega (arith, p4, l0.1) in
+    let l1 = one_encoded_fields b (o + g.static_count_size + g.instance_count_size + g.direct_count_size + g.virtual_count_size + g.static_fields_size) None x.instance_fields y.instance_fields h.instance_fields_size g.instance_fields_size c1.0
+    (subst (λ (p : ℕ). EncodedFieldsAt b p None x.instance_fields h.instance_fields_size) p5 h.instance_fields) g.instance_fields in
+    let p6 : o + h.static_count_size + h.instance_count_size + h.direct_count_size + h.virtual_count_size + h.static_fields_size + h.instance_fields_size ≡ o + g.static_count_size + g.instance_count_size + g.direct_count_size + g.virtual_count_size + g.static_fields_size + g.instance_fields_size = omega (arith, p5, l1.1) in
+    let l2 = one_encoded_methods b (o + g.static_count_size + g.instance_count_size + g.direct_count_size + g.virtual_count_size + g.static_fields_size + g.instance_fields_size) None x.direct_methods y.direct_methods h.direct_methods_size g.direct_methods_size c2.0
+    (subst (λ (p : ℕ). EncodedMethodsAt b p None x.direct_methods h.direct_methods_size) p6 h.direct_methods) g.direct_methods in
+    let p7 : o + h.static_count_size + h.instance_count_size + h.direct_count_size + h.virtual_count_size + h.static_fields_size + h.instance_fields_size + h.direct_methods_size ≡ o + g.static_count_size + g.instance_count_size + g.direct_count_size + g.virtual_count_size + g.static_fields_size + g.instance_fields_size + g.direct_methods_size = omega (arith, p6, l2.1) in
+    let l3 = one_encoded_methods b (o + g.static_count_size + g.instance_count_size + g.direct_count_size + g.virtual_count_size + g.static_fields_size + g.instance_fields_size + g.direct_methods_size) None x.virtual_methods y.virtual_methods h.virtual_methods_size g.virtual_methods_size c3.0
+    (subst (λ (p : ℕ). EncodedMethodsAt b p None x.virtual_methods h.virtual_methods_size) p7 h.virtual_methods) g.virtual_methods in
     λ i. record { static_fields = l0.0 i; instance_fields = l1.0 i; direct_methods = l2.0 i; virtual_methods = l3.0 i }
 
 -- ---- class rows

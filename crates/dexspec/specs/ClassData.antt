@@ -60,26 +60,25 @@ EncodedMethodsAt b o last (x ∷ xs) n = (index_size : ℕ) × (flags_size : ℕ
     × IsNextIndex last difference index × MethodRow b index x.method
     × EncodedMethodsAt b (o + index_size + flags_size + off_size) (Some index) xs rest_size × (n ≡ index_size + flags_size + off_size + rest_size)
 
--- At offset o of the data stands a class_data_item: four counts, in c0 to c3 bytes, and the four lists, in l0
--- to l3 bytes.
+-- At offset o of the data stands a class_data_item: four counts and the four lists, each behind the one before it. The sizes are in bytes.
 pub record ClassDataAt (b : List ℕ) (o : ℕ) (d : ClassData) : Type 0 where
   pub in_data : data_off b ≤ o
-  pub c0 : ℕ
-  pub c1 : ℕ
-  pub c2 : ℕ
-  pub c3 : ℕ
-  pub l0 : ℕ
-  pub l1 : ℕ
-  pub l2 : ℕ
-  pub l3 : ℕ
-  pub static_count : Uleb128At b o (length d.static_fields) c0
-  pub instance_count : Uleb128At b (o + c0) (length d.instance_fields) c1
-  pub direct_count : Uleb128At b (o + c0 + c1) (length d.direct_methods) c2
-  pub virtual_count : Uleb128At b (o + c0 + c1 + c2) (length d.virtual_methods) c3
-  pub static_fields : EncodedFieldsAt b (o + c0 + c1 + c2 + c3) None d.static_fields l0
-  pub instance_fields : EncodedFieldsAt b (o + c0 + c1 + c2 + c3 + l0) None d.instance_fields l1
-  pub direct_methods : EncodedMethodsAt b (o + c0 + c1 + c2 + c3 + l0 + l1) None d.direct_methods l2
-  pub virtual_methods : EncodedMethodsAt b (o + c0 + c1 + c2 + c3 + l0 + l1 + l2) None d.virtual_methods l3
+  pub static_count_size : ℕ
+  pub instance_count_size : ℕ
+  pub direct_count_size : ℕ
+  pub virtual_count_size : ℕ
+  pub static_fields_size : ℕ
+  pub instance_fields_size : ℕ
+  pub direct_methods_size : ℕ
+  pub virtual_methods_size : ℕ
+  pub static_count : Uleb128At b o (length d.static_fields) static_count_size
+  pub instance_count : Uleb128At b (o + static_count_size) (length d.instance_fields) instance_count_size
+  pub direct_count : Uleb128At b (o + static_count_size + instance_count_size) (length d.direct_methods) direct_count_size
+  pub virtual_count : Uleb128At b (o + static_count_size + instance_count_size + direct_count_size) (length d.virtual_methods) virtual_count_size
+  pub static_fields : EncodedFieldsAt b (o + static_count_size + instance_count_size + direct_count_size + virtual_count_size) None d.static_fields static_fields_size
+  pub instance_fields : EncodedFieldsAt b (o + static_count_size + instance_count_size + direct_count_size + virtual_count_size + static_fields_size) None d.instance_fields instance_fields_size
+  pub direct_methods : EncodedMethodsAt b (o + static_count_size + instance_count_size + direct_count_size + virtual_count_size + static_fields_size + instance_fields_size) None d.direct_methods direct_methods_size
+  pub virtual_methods : EncodedMethodsAt b (o + static_count_size + instance_count_size + direct_count_size + virtual_count_size + static_fields_size + instance_fields_size + direct_methods_size) None d.virtual_methods virtual_methods_size
 
 -- no value is in both lists
 abbrev pub ShareNone : {X : Type 0} → List X → List X → Type 0

@@ -59,7 +59,7 @@ module _ (b : List ℕ) (r : ℕ) (m : Mentions) (rising : AreRising m) (read : 
         made_row b r m rising a parts.annotations.known read is is_known is_meant direct virtual parts.direct_codes.symbolic parts.virtual_codes.symbolic parts.direct_codes.at parts.direct_codes.stand parts.virtual_codes.at parts.virtual_codes.stand vs parts.annotations.at parts.values.are.at
 
     -- what is answered of them
-    pub parts_answer : (made : NumberedMembers) → made ≡ attached read a direct virtual vs → (found : Option NumberedMembers) → MatchOption found (most < members_weight (members_in m made)) (λ (x : NumberedMembers). (x ≡ made) × (members_weight (members_in m made) ≤ most))
+    pub parts_answer : (made : NumberedMembers) → made ≡ attached read a direct virtual vs → (found : Option (NumberedMembers × ℕ)) → MatchOption found (most < members_weight (members_in m made)) (λ (x : NumberedMembers × ℕ). (x.0 ≡ made) × (x.1 ≡ members_weight (members_in m made)) × (x.1 ≤ most))
         → AreReadWithin b r m most found
     parts_answer made same None heavy = record {
       readable = row_readable b r m read is (record { directory = directory_in m (directory_of a); at = parts.annotations.at; named = parts.annotations.named }) (parts.direct_codes.symbolic, parts.direct_codes.at) (parts.virtual_codes.symbolic, parts.virtual_codes.at) (values_in m vs, parts.values.are);
@@ -68,12 +68,16 @@ module _ (b : List ℕ) (r : ℕ) (m : Mentions) (rising : AreRising m) (read : 
       heavy = subst (λ (x : NumberedMembers). most < members_weight (members_in m x)) same heavy;
     }
     parts_answer made same (Some y) h =
-        subst (λ (x : NumberedMembers). AreReadWithin b r m most (Some x)) (sym (h.0 ∙ same))
-        (record {
-          readable = row_readable b r m read is (record { directory = directory_in m (directory_of a); at = parts.annotations.at; named = parts.annotations.named }) (parts.direct_codes.symbolic, parts.direct_codes.at) (parts.virtual_codes.symbolic, parts.virtual_codes.at) (values_in m vs, parts.values.are);
-          known = parts_known;
-          row = parts_row;
-          ordered = made_ordered b r m rising a parts.annotations.known read is is_known is_meant direct virtual parts.direct_codes.symbolic parts.virtual_codes.symbolic parts.direct_codes.at parts.direct_codes.stand parts.virtual_codes.at parts.virtual_codes.stand vs;
-          of_class = λ name at. attached_of_class b r m read is name at a direct virtual vs parts.direct_codes.symbolic parts.virtual_codes.symbolic parts.direct_codes.at parts.direct_codes.stand parts.virtual_codes.at parts.virtual_codes.stand;
-          light = subst (λ (x : NumberedMembers). members_weight (members_in m x) ≤ most) same h.1;
-        })
+        let whole = h.0 ∙ same in
+        let weighs : y.1 ≡ members_weight (members_in m (attached read a direct virtual vs)) = h.1 ∙ ap (λ (x : NumberedMembers). members_weight (members_in m x)) same in
+        subst (λ (x : NumberedMembers). AreReadWithin b r m most (Some (x, y.1))) (sym whole) (
+          record {
+            readable = row_readable b r m read is (record { directory = directory_in m (directory_of a); at = parts.annotations.at; named = parts.annotations.named }) (parts.direct_codes.symbolic, parts.direct_codes.at) (parts.virtual_codes.symbolic, parts.virtual_codes.at) (values_in m vs, parts.values.are);
+            known = parts_known;
+            row = parts_row;
+            ordered = made_ordered b r m rising a parts.annotations.known read is is_known is_meant direct virtual parts.direct_codes.symbolic parts.virtual_codes.symbolic parts.direct_codes.at parts.direct_codes.stand parts.virtual_codes.at parts.virtual_codes.stand vs;
+            of_class = λ name at. attached_of_class b r m read is name at a direct virtual vs parts.direct_codes.symbolic parts.virtual_codes.symbolic parts.direct_codes.at parts.direct_codes.stand parts.virtual_codes.at parts.virtual_codes.stand;
+            light = subst (λ (n : ℕ). n ≤ most) weighs h.2;
+          },
+          weighs,
+        )

@@ -44,9 +44,9 @@ pub record AreHeavyMembers (b : List ℕ) (r most : ℕ) : Type 0 where
   pub row : MembersRow b r members
   pub heavy : most < members_weight members
 
--- what a reader within a weight answers
-abbrev pub AreReadWithin : List ℕ → ℕ → Mentions → ℕ → Option NumberedMembers → Type 0
-AreReadWithin b r m most (Some x) = AreMembersOf b r m most x
+-- what a reader within a weight answers: members, and what they weigh
+abbrev pub AreReadWithin : List ℕ → ℕ → Mentions → ℕ → Option (NumberedMembers × ℕ) → Type 0
+AreReadWithin b r m most (Some x) = AreMembersOf b r m most x.0 × (x.1 ≡ members_weight (members_in m x.0))
 AreReadWithin b r m most None = AreHeavyMembers b r most
 
 -- one of the conditions 17 to 22 fails at the row, and its number is told; want of memory says nothing of the file

@@ -19,15 +19,16 @@ use dexhead::Frame;
 use dexpool::{ItemFault, Pools};
 use std::alloc::Global;
 
-// The members, or none where they weigh more than they may.
-fn within(unweighed: Unweighed<'_>, most: u32) -> Option<Members<'_>>
-    ensures { (m : Mentions) → AreRising m → AreKnownMembers m (unweighed_in unweighed.entry) → MatchOption result (most < members_weight (members_in m (unweighed_in unweighed.entry))) (λ x. (x ≡ unweighed_in unweighed.entry) × (members_weight (members_in m (unweighed_in unweighed.entry)) ≤ most)) }
+// The members and what they weigh, or none where that is more than they may.
+fn within(unweighed: Unweighed<'_>, most: u32) -> Option<(Members<'_>, u32)>
+    ensures { (m : Mentions) → AreRising m → AreKnownMembers m (unweighed_in unweighed.entry) → MatchOption result (most < members_weight (members_in m (unweighed_in unweighed.entry))) (λ x. (x.0 ≡ unweighed_in unweighed.entry) × (x.1 ≡ members_weight (members_in m (unweighed_in unweighed.entry))) × (x.1 ≤ most)) }
 {
     code_weight_law();
     code_meaning_law();
     debug_bare_law();
     debug_meaning_law();
-    if unweighed.weight() > u64::from(most) {
+    let weight = unweighed.weight();
+    if weight > u64::from(most) {
         return None;
     }
     let Unweighed {
@@ -38,18 +39,20 @@ fn within(unweighed: Unweighed<'_>, most: u32) -> Option<Members<'_>>
         virtual_methods,
         static_values,
     } = unweighed;
-    Some(Members {
+    let members = Members {
         annotations,
         static_fields,
         instance_fields,
         direct_methods,
         virtual_methods,
         static_values,
-    })
+    };
+    Some((members, weight as u32))
 }
 
 /// Reads what class row `row` declares: its members with their code and annotations, its own annotations, and its static
-/// values. Where these weigh more than `most` in the bytes of [`Members::weight`], they are judged only, and none is answered.
+/// values. Beside them stands what they weigh, in the bytes of [`Members::weight`]. Where that is more than `most`, they are
+/// judged only, and none is answered.
 /// What is kept at a time weighs at most four times `most`, beside the lists of members and one item.
 ///
 /// Condition: the row is one of the file's. What is told of the answer is told of rows that meet condition 16. Error: `Refused`
@@ -62,7 +65,7 @@ pub fn read_members<'a>(
     pools: &Pools<'_>,
     row: u32,
     most: u32,
-) -> Result<Option<Members<'a>>, ItemFault>
+) -> Result<Option<(Members<'a>, u32)>, ItemFault>
     requires row { row < table_size frame.now ClassDefs }
     ensures read { ArePools frame.now pools.now → HasClass frame.now row → IfOk result (AreReadWithin frame.now row pools.now most) }
     ensures refused { ArePools frame.now pools.now → HasClass frame.now row → IfErr result (IsMembersFault frame.now row) }

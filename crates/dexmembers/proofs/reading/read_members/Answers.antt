@@ -33,5 +33,5 @@ returns-clause-read c = λ pools class.
     let same = c.in_ok-unweighed.ensures (parts_attachable b r m rising d is most p.directory p.direct_codes.items p.virtual_codes.items vs parts) in
     let made_known = parts_known b r m rising d is most p.directory p.direct_codes.items p.virtual_codes.items vs parts known meant in
     let weighed = c.within.ensures m rising (subst (AreKnownMembers m) (sym same) made_known) in
-    let weighed_so = subst (λ (n : ℕ). MatchOption c.within.result (n < members_weight (members_in m made)) (λ x. (x ≡ made) × (members_weight (members_in m made) ≤ n))) (sym c.from.ensures) weighed in
+    let weighed_so = subst (λ (n : ℕ). MatchOption c.within.result (n < members_weight (members_in m made)) (λ x. (x.0 ≡ made) × (x.1 ≡ members_weight (members_in m made)) × (x.1 ≤ n))) (sym c.from.ensures) weighed in
     subst (λ (n : ℕ). AreReadWithin b r m n c.within.result) c.from.ensures (parts_answer b r m rising d is most p.directory p.direct_codes.items p.virtual_codes.items vs parts known meant made same c.within.result weighed_so)

@@ -1,10 +1,9 @@
 //! Reading a whole file.
 
-ghost use Rattle.std.specs.Prelude.{◌≡◌, ◌+◌, ◌*◌, ◌-◌, ◌<◌, ℕ, List, All, length, IfOk, IfErr, OnOk};
+ghost use Rattle.std.specs.Prelude.{◌≡◌, ◌+◌, ◌*◌, ◌^◌, ◌<◌, ℕ, List, All, length, IfOk, IfErr, OnOk};
 ghost use Rattle.dexspec.specs.Header.{ClassDefs, table_size};
 ghost use Rattle.dexspec.specs.Classes.{interfaces_off};
 ghost use Rattle.dexspec.specs.Accepted.{HasClass, HoldBelow};
-ghost use Rattle.dexspec.specs.Weight.{most_weight};
 ghost use Rattle.dexpool.specs.Pools.{ArePools};
 ghost use Rattle.dexpool.specs.declared.faults.ReadFault.TheVariants.{Refused};
 ghost use Rattle.dexmembers.specs.Reading.{IsMembersFault};
@@ -56,15 +55,15 @@ fn interfaces_len(frame: &Frame<'_>, off: u32) -> u32
     }
 }
 
-// What is left for what class row `r` declares, where the rows before it weigh so much.
-fn left(frame: &Frame<'_>, r: u32, weight: u64) -> u32
+// What class row `r` weighs without what it declares: the row, and the list of its interfaces.
+fn row_weight(frame: &Frame<'_>, r: u32) -> u64
     requires row { r < table_size frame.now ClassDefs }
     requires holds { HasClass frame.now r }
-    ensures { result ≡ most_weight - weight - (96 + 2 * length (interface_indices frame.now (interfaces_off frame.now r))) }
+    ensures weight { result ≡ 96 + 2 * length (interface_indices frame.now (interfaces_off frame.now r)) }
+    ensures small { result < 2 ^ 34 }
 {
     let interfaces = interfaces_len(frame, row_fields(frame, r).interfaces_off);
-    let row = 96 + 2 * u64::from(interfaces);
-    MOST_WEIGHT.saturating_sub(weight).saturating_sub(row) as u32
+    96 + 2 * u64::from(interfaces)
 }
 
 // The refusal of class row `r` by condition 23.
@@ -111,21 +110,21 @@ fn read_row<'a>(
     ensures refused { IfErr result (IsFaultOf frame.now) }
 {
     pools.numbering().is_numbering();
-    let most = left(frame, r, bodies.weight);
+    let before = bodies.weight + row_weight(frame, r);
+    let most = MOST_WEIGHT.saturating_sub(before) as u32;
     let found = match read_members(alloc, frame, pools, r, most) {
         Ok(found) => found,
         Err(fault) => return Err(at_row(fault, r)),
     };
-    let members = match found {
-        Some(members) => members,
+    let (members, weight) = match found {
+        Some(found) => found,
         None => return Err(too_heavy(r)),
     };
-    let class = class_at(alloc, frame, r, members)?;
-    let weight = bodies.weight.saturating_add(class.weight());
+    let weight = before + u64::from(weight);
     if weight > MOST_WEIGHT {
         return Err(too_heavy(r));
     }
-    bodies.classes.push(class)?;
+    bodies.classes.push(class_at(alloc, frame, r, members)?)?;
     bodies.weight = weight;
     Ok(())
 }

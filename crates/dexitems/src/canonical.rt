@@ -109,7 +109,7 @@ fn judge_class(alloc: Global, file: &DexFile<'_>, row: u32) -> Result<Judged, Ca
     requires row { row < table_size file.now.frame ClassDefs }
 {
     let members = match read_members(alloc, &file.frame, &file.pools, row, u32::MAX) {
-        Ok(Some(members)) => members,
+        Ok(Some((members, _))) => members,
         Err(ItemFault::Memory) => return Err(CaseFault::Memory),
         _ => return Ok(Judged::Astray(0)),
     };

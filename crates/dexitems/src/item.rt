@@ -88,7 +88,7 @@ impl<'a> Item<'a> {
                     return Err(ItemFault::Refused(0));
                 }
                 match read_members(alloc, &file.frame, &file.pools, place, u32::MAX) {
-                    Ok(Some(members)) => Ok(Item::Members(members)),
+                    Ok(Some((members, _))) => Ok(Item::Members(members)),
                     Ok(None) => Err(ItemFault::Refused(0)),
                     Err(fault) => Err(fault),
                 }

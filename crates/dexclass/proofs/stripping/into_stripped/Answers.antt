@@ -9,7 +9,7 @@ use Rattle.dexclass.specs.Numbered.{type_at}
 use Rattle.dexclass.specs.Uses.{IsKnownClass}
 use Rattle.dexclass.proofs.Mergeable.{AreTrimmed, are_trimmed}
 use Rattle.dexclass.proofs.Ordered.{if_ok_each}
-use Rattle.dexclass.proofs.StrippedPrograms.{class_stripped, class_known, all_known, all_stripped, stays_good, stripped_mergeable, stripped_collection}
+use Rattle.dexclass.proofs.StrippedPrograms.{class_stripped, class_known, all_known, all_stripped, stripped_mergeable, stripped_collection}
 use Rattle.dexclass.proofs.stripping.into_stripped.Goals as goal
 use Rattle.dexclass.proofs.stripping.into_stripped.Goals.{In_ok-trimmed}
 

@@ -11,7 +11,6 @@ pub mod AllPools
 pub mod Ranking
 pub mod Weighing
 pub mod KeptRows
-pub mod Closure
 pub mod KeptTables
 pub mod ClosedMarks
 pub mod KeptSymbols

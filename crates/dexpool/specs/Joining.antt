@@ -1,5 +1,5 @@
 -- Tables joined, one kind of symbol after the other.
-use Rattle.std.specs.Prelude.{◌≡◌, ℕ, ◌<◌, List, map, length, slice_index, slice_index_or, All, Some}
+use Rattle.std.specs.Prelude.{◌≡◌, ℕ, ◌<◌, List, ◌∷◌, map, length, slice_index, slice_index_or, All, Some}
 use Rattle.std.specs.List.{AllZip, flat_map}
 use Rattle.std.specs.declared.cmp.Ordering.{Ordering}
 use Rattle.dexspec.specs.Lists.{in_order}
@@ -46,6 +46,10 @@ HasShorty texts types parameters p = text_of texts p.shorty ≡ shorty (type_of 
 -- the proto of a row
 abbrev pub proto_of_row : List Text → List ℕ → ProtoNumbers → symbols.Proto
 proto_of_row texts types row = record { return_type = type_of texts types row.return_type; parameters = map (type_of texts types) row.parameters }
+
+-- the numbers that the row of a proto is ordered by
+abbrev pub proto_key : ProtoNumbers → List ℕ
+proto_key row = row.return_type ∷ row.parameters
 
 -- the row's numbers are in range, and its shorty is the text of its shorty
 pub record IsRowOf (texts : List Text) (types : List ℕ) (row : ProtoNumbers) : Type 0 where

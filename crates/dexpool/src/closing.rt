@@ -23,19 +23,32 @@ pub(crate) fn closed(tables: &Tables<'_>, marks: &Marks) -> Result<Marks, AllocE
     requires marks { AreMarksOf (symbols_in tables.now) marks.now }
     ensures { IfOk result (AreClosure tables.now marks.now) }
 {
-    let mut strings = marks.strings.clone()?;
-    let mut types = marks.types.clone()?;
-    let mut protos = marks.protos.clone()?;
-    let fields = marks.fields.clone()?;
-    let methods = marks.methods.clone()?;
+    let mut closed = copied(marks)?;
     mark_below(
         tables,
-        &fields,
-        &methods,
-        &mut strings,
-        &mut types,
-        &mut protos,
+        &closed.fields,
+        &closed.methods,
+        &mut closed.strings,
+        &mut closed.types,
+        &mut closed.protos,
     );
+    Ok(closed)
+}
+
+// The same marks in vectors of their own.
+fn copied(marks: &Marks) -> Result<Marks, AllocError>
+    ensures strings { IfOk result (λ copy. copy.strings.items ≡ marks.now.strings.items) }
+    ensures types { IfOk result (λ copy. copy.types.items ≡ marks.now.types.items) }
+    ensures protos { IfOk result (λ copy. copy.protos.items ≡ marks.now.protos.items) }
+    ensures fields { IfOk result (λ copy. copy.fields.items ≡ marks.now.fields.items) }
+    ensures methods { IfOk result (λ copy. copy.methods.items ≡ marks.now.methods.items) }
+{
+    let alloc = *marks.strings.allocator();
+    let strings = Vec::from_slice(alloc, &marks.strings)?;
+    let types = Vec::from_slice(alloc, &marks.types)?;
+    let protos = Vec::from_slice(alloc, &marks.protos)?;
+    let fields = Vec::from_slice(alloc, &marks.fields)?;
+    let methods = Vec::from_slice(alloc, &marks.methods)?;
     Ok(Marks {
         strings,
         types,

@@ -7,7 +7,7 @@ ghost use Rattle.dexrows.specs.Join.{AreSorted, IsJoin};
 ghost use Rattle.dexpool.specs.Numberings.{IsNumbering, union_of, AllLead};
 ghost use Rattle.dexpool.specs.Orderly.{KeepsOrder};
 ghost use Rattle.dexpool.specs.Renumbering.{numbers_in, HasSpans};
-ghost use Rattle.dexpool.specs.Joining.{AreJoinedTexts, AreJoinedTypes, AreJoinedProtos, AreJoinedFields, AreJoinedMethods, AreMapsOf};
+ghost use Rattle.dexpool.specs.Joining.{StandFor, proto_of_row, proto_key, IsRowOf, AreJoinedTexts, AreJoinedTypes, AreJoinedProtos, AreJoinedFields, AreJoinedMethods, AreMapsOf};
 ghost use Rattle.dexpool.specs.Stored.{symbols_in, AreTables};
 
 use crate::lists::Parameters;
@@ -117,6 +117,23 @@ fn join_protos<'a>(
     requires types { AreJoinedTypes (map (λ part. part.now) parts.now) strings.now.rows.items types.now.numbers.items (map (λ image. image.items) types.now.images.items) }
     ensures { IfOk result (λ protos. AreJoinedProtos (map (λ part. part.now) parts.now) strings.now.rows.items types.now.numbers.items protos.table.parameters.items protos.table.rows.items (map (λ image. image.items) protos.images.items)) }
 {
+    let tables = renumbered_tables(alloc, parts, strings, types)?;
+    let rows = rows_of_tables(alloc, &tables)?;
+    joined_protos(alloc, &rows)
+}
+
+// The protos of each part, by the joined texts and types.
+fn renumbered_tables<'a>(
+    alloc: Global,
+    parts: &[&Numbering<'a>],
+    strings: &Joined<Text<'a>>,
+    types: &JoinedTypes,
+) -> Result<Vec<Protos>, AllocError>
+    requires strings { AreJoinedTexts (map (λ part. part.now) parts.now) strings.now.rows.items (map (λ image. image.items) strings.now.images.items) }
+    requires types { AreJoinedTypes (map (λ part. part.now) parts.now) strings.now.rows.items types.now.numbers.items (map (λ image. image.items) types.now.images.items) }
+    ensures spans { IfOk result (λ tables. All HasSpans tables.items) }
+    ensures rows { IfOk result (λ tables. AllZip (λ part rows. StandFor (proto_of_row strings.now.rows.items types.now.numbers.items) (IsRowOf strings.now.rows.items types.now.numbers.items) part.protos rows) (map (λ part. part.now) parts.now) (map numbers_in tables.items)) }
+{
     let mut tables = Vec::with_capacity(alloc, parts.len())?;
     for (i, part) in parts.iter().enumerate() {
         let part = part.tables();
@@ -128,10 +145,19 @@ fn join_protos<'a>(
             &types.images[i],
         )?)?;
     }
-    let rows = rows_of_tables(alloc, &tables)?;
-    let joined = join_rows(alloc, &rows)?;
+    Ok(tables)
+}
+
+// The rows of protos of each part, which are sorted, joined in one table.
+fn joined_protos(alloc: Global, parts: &[Vec<ProtoRow<'_>>]) -> Result<JoinedProtos, AllocError>
+    requires { All (λ part. AreSorted proto_key part.items) parts.now }
+    ensures spans { IfOk result (λ protos. HasSpans protos.table) }
+    ensures joined { IfOk result (λ protos. IsJoin proto_key (map (λ part. part.items) parts.now) (numbers_in protos.table) (map (λ image. image.items) protos.images.items)) }
+{
+    let joined = join_rows(alloc, parts)?;
+    let table = stored(alloc, &joined.rows)?;
     Ok(JoinedProtos {
-        table: stored(alloc, &joined.rows)?,
+        table,
         images: joined.images,
     })
 }
@@ -204,11 +230,19 @@ fn join_rows<R: Row>(alloc: Global, parts: &[Vec<R>]) -> Result<Joined<R>, Alloc
     requires { All (λ part. AreSorted R.key_of part.items) parts.now }
     ensures { IfOk result (λ joined. IsJoin R.key_of (map (λ part. part.items) parts.now) joined.rows.items (map (λ image. image.items) joined.images.items)) }
 {
+    let slices = slices_of(alloc, parts)?;
+    join(alloc, &slices)
+}
+
+// The rows of each part, lent.
+fn slices_of<R: Row>(alloc: Global, parts: &[Vec<R>]) -> Result<Vec<&[R]>, AllocError>
+    ensures { IfOk result (λ slices. map (λ slice. slice.now) slices.items ≡ map (λ part. part.items) parts.now) }
+{
     let mut slices = Vec::with_capacity(alloc, parts.len())?;
     for part in parts {
         slices.push(part.as_slice())?;
     }
-    join(alloc, &slices)
+    Ok(slices)
 }
 
 // For each part the map of its images.

@@ -1,4 +1,4 @@
-use Rattle.std.proofs.Common.{ap, map, ◌∙◌, take_all, arith}
+use Rattle.std.proofs.Common.{ap, map, ◌∙◌}
 use Rattle.dexrows.specs.Join.{AreSorted}
 use Rattle.dexpool.proofs.Pairs.{all_seen}
 use Rattle.dexpool.proofs.joined_tables.join_rows.Goals as goal
@@ -6,4 +6,4 @@ use Rattle.dexpool.proofs.joined_tables.join_rows.Goals as goal
 pub join-requires : goal.join-requires
 join-requires g c =
     all_seen (λ slice. slice.now) (λ part. part.items) (AreSorted g.R.Row.key_of) c.deref.result.now c.args.parts.now
-    (ap (map (λ slice. slice.now)) c.deref.ensures.value ∙ c.loop-part.invariant ∙ ap (map (λ part. part.items)) (take_all c.loop-part.part-index c.args.parts.now (omega arith))) c.requires
+    (ap (map (λ slice. slice.now)) c.deref.ensures.value ∙ c.in_ok-slices.ensures) c.requires

@@ -2,7 +2,7 @@ use Rattle.std.proofs.Common.{map, take}
 use Rattle.std.specs.List.{All, AllZip}
 use Rattle.dexpool.specs.Renumbering.{numbers_in, HasSpans}
 use Rattle.dexpool.specs.Joining.{StandFor, proto_of_row, IsRowOf}
-use Rattle.dexpool.proofs.joined_tables.join_protos.Given as goal
+use Rattle.dexpool.proofs.joined_tables.renumbered_tables.Given as goal
 
 abbrev pub invariant-loop-i : goal.invariant-loop-i
 invariant-loop-i l = record {

@@ -1,0 +1,47 @@
+use Rattle.std.proofs.Common.{map, sym, ◌∙◌, subst, refl}
+use Rattle.std.specs.List.{All}
+use Rattle.std.proofs.lemmas.List.Elements.{All-push}
+use Rattle.dexspec.specs.Mentions.{Mentions}
+use Rattle.dexpool.specs.Tables.{text_of}
+use Rattle.dexpool.specs.Renumbering.{moved_proto, numbers_in, HasSpans}
+use Rattle.dexpool.specs.Joining.{Moves, StandFor, proto_of_row, IsRowOf}
+use Rattle.dexpool.proofs.Pairs.{zip_seen, within_other, zip_more, zip_all}
+use Rattle.dexpool.proofs.Moved.{protos_movable, protos_stand}
+use Rattle.dexpool.proofs.joined_tables.renumbered_tables.Goals as goal
+
+pub index-requires : goal.index-requires
+index-requires c = within_other (λ (m : Mentions) image. Moves m.texts c.args.strings.now.rows.items image) (λ part. part.now) (λ image. image.items) c.args.parts.now c.args.strings.now.images.items c.loop-i.i _ c.args.strings.now.images.ok.0 c.requires.strings.moves c.loop-i-test.true
+
+pub index-requires-in-loop-i : goal.index-requires-in-loop-i
+index-requires-in-loop-i c = within_other (λ (m : Mentions) image. Moves m.types (map (text_of c.args.strings.now.rows.items) c.args.types.now.numbers.items) image) (λ part. part.now) (λ image. image.items) c.args.parts.now c.args.types.now.images.items c.loop-i.i _ c.args.types.now.images.ok.0 c.requires.types.union.moves c.loop-i-test.true
+
+pub renumbered_protos-requires : goal.renumbered_protos-requires
+renumbered_protos-requires c =
+    let seen_strings = zip_seen (λ (m : Mentions) image. Moves m.texts c.args.strings.now.rows.items image) (λ part. part.now) (λ image. image.items) c.args.parts.now c.args.strings.now.images.items c.loop-i.i c.index-parts-i.result c.index.result.now c.requires.strings.moves c.loop-i-test.true c.index-parts-i.is c.index.ensures in
+    let by_strings = subst (λ (m : Mentions). Moves m.texts c.args.strings.now.rows.items c.index.result.now.items) (sym c.tables-part.ensures.symbols) seen_strings in
+    let seen_types = zip_seen (λ (m : Mentions) image. Moves m.types (map (text_of c.args.strings.now.rows.items) c.args.types.now.numbers.items) image) (λ part. part.now) (λ image. image.items) c.args.parts.now c.args.types.now.images.items c.loop-i.i c.index-parts-i.result c.index-in-loop-i.result.now c.requires.types.union.moves c.loop-i-test.true c.index-parts-i.is c.index-in-loop-i.ensures in
+    let by_types = subst (λ (m : Mentions). Moves m.types (map (text_of c.args.strings.now.rows.items) c.args.types.now.numbers.items) c.index-in-loop-i.result.now.items) (sym c.tables-part.ensures.symbols) seen_types in
+    rw (c.deref.ensures.value, c.deref-in-loop-i.ensures.value, c.deref-in-loop-i-2.ensures.value) (protos_movable c.tables-part.result.now c.tables-part.ensures.tables c.args.strings.now.rows.items c.index.result.now.items by_strings c.args.types.now.numbers.items c.index-in-loop-i.result.now.items by_types)
+
+pub loop-i-preserved : goal.loop-i-preserved
+loop-i-preserved c =
+    let seen_strings = zip_seen (λ (m : Mentions) image. Moves m.texts c.args.strings.now.rows.items image) (λ part. part.now) (λ image. image.items) c.args.parts.now c.args.strings.now.images.items c.loop-i.i c.index-parts-i.result c.index.result.now c.requires.strings.moves c.loop-i-test.true c.index-parts-i.is c.index.ensures in
+    let by_strings = subst (λ (m : Mentions). Moves m.texts c.args.strings.now.rows.items c.index.result.now.items) (sym c.tables-part.ensures.symbols) seen_strings in
+    let seen_types = zip_seen (λ (m : Mentions) image. Moves m.types (map (text_of c.args.strings.now.rows.items) c.args.types.now.numbers.items) image) (λ part. part.now) (λ image. image.items) c.args.parts.now c.args.types.now.images.items c.loop-i.i c.index-parts-i.result c.index-in-loop-i.result.now c.requires.types.union.moves c.loop-i-test.true c.index-parts-i.is c.index-in-loop-i.ensures in
+    let by_types = subst (λ (m : Mentions). Moves m.types (map (text_of c.args.strings.now.rows.items) c.args.types.now.numbers.items) c.index-in-loop-i.result.now.items) (sym c.tables-part.ensures.symbols) seen_types in
+    let table = c.in_ok-renumbered_protos.field-0 in
+    let stand = protos_stand c.tables-part.result.now c.tables-part.ensures.tables c.args.strings.now.rows.items c.index.result.now.items by_strings c.args.types.now.numbers.items c.index-in-loop-i.result.now.items by_types (numbers_in table)
+    (c.in_ok-renumbered_protos.ensures.rows ∙ (λ i. map (moved_proto (c.deref-in-loop-i.ensures.value i) (c.deref-in-loop-i-2.ensures.value i) c.tables-part.result.now.parameters) (c.deref.ensures.value i))) in
+    record {
+      spans = subst (All HasSpans) (sym c.in_ok-push.ensures.items) (All-push HasSpans c.loop-i.tables.items table c.loop-i.invariant.spans c.in_ok-renumbered_protos.ensures.spans);
+      rows = zip_more (λ (part : Mentions) xs. StandFor (proto_of_row c.args.strings.now.rows.items c.args.types.now.numbers.items) (IsRowOf c.args.strings.now.rows.items c.args.types.now.numbers.items) part.protos xs) (λ part. part.now) numbers_in
+          c.args.parts.now c.loop-i.tables.items c.push.new.self.items c.loop-i.i c.index-parts-i.result table c.loop-i.invariant.rows c.loop-i-test.true c.index-parts-i.is c.in_ok-push.ensures.items
+          (subst (λ (m : Mentions). StandFor (proto_of_row c.args.strings.now.rows.items c.args.types.now.numbers.items) (IsRowOf c.args.strings.now.rows.items c.args.types.now.numbers.items) m.protos (numbers_in table)) c.tables-part.ensures.symbols stand);
+    }
+
+pub returns-clause-spans : goal.returns-clause-spans
+returns-clause-spans c = c.loop-i.invariant.spans
+
+pub returns-clause-rows : goal.returns-clause-rows
+returns-clause-rows c = zip_all (λ (part : Mentions) xs. StandFor (proto_of_row c.args.strings.now.rows.items c.args.types.now.numbers.items) (IsRowOf c.args.strings.now.rows.items c.args.types.now.numbers.items) part.protos xs) (λ part. part.now) numbers_in
+    c.args.parts.now c.loop-i.tables.items c.loop-i.tables.items c.loop-i.i c.loop-i-test.false refl c.loop-i.invariant.rows

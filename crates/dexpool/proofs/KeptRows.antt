@@ -11,7 +11,7 @@ use Rattle.dexrows.specs.Cut.{kept, places}
 use Rattle.dexrows.proofs.KeptPlaces.{kept_among, length_places, marked_has, stands_at, places_rise}
 use Rattle.dexpool.specs.Numberings.{Leads, image}
 use Rattle.dexpool.specs.Orderly.{KeepsOrder}
-use Rattle.dexpool.specs.Closing.{IsMarked, mark_all, number_or_none}
+use Rattle.dexpool.specs.Closing.{IsMarked, mark_all, number_or_none, new_numbers}
 
 -- a marked number is one of the marks
 pub mark_within : (marks : List Bool) (n : ℕ) → IsMarked marks n → n < length marks
@@ -69,10 +69,6 @@ kept_rises R (true ∷ marks) (x ∷ xs) h = (λ y c. h.0 y (kept_among marks xs
 kept_rises R (false ∷ marks) (x ∷ xs) h = kept_rises R marks xs h.1
 
 -- ---- the new numbers
-
--- the new numbers of rows, and 0 for those that are not kept
-abbrev pub new_numbers : List Bool → List ℕ
-new_numbers marks = map number_or_none (places 0 marks)
 
 pub length-new_numbers : (marks : List Bool) → length (new_numbers marks) ≡ length marks
 length-new_numbers marks = length-map (places 0 marks) number_or_none ∙ length_places 0 marks

@@ -1,5 +1,5 @@
 -- The marked rows of tables, renumbered: tables of the marked symbols.
-use Rattle.std.proofs.Common.{◌≡◌, ℕ, ◌<◌, Bool, true, List, [], ◌∷◌, length, get_or, map, refl, sym, ap, ◌∙◌, subst, arith, slice_index, Ordering, Option}
+use Rattle.std.proofs.Common.{◌≡◌, ℕ, ◌<◌, Bool, true, List, [], ◌∷◌, length, get_or, map, refl, sym, ap, ◌∙◌, subst, arith, slice_index, Ordering}
 use Rattle.std.specs.List.{All}
 use Rattle.std.specs.Cmp.{IsTotalOrder}
 use Rattle.std.proofs.lemmas.List.{length-map, get_or-map}
@@ -11,7 +11,7 @@ use Rattle.dexspec.specs.Names as names
 use Rattle.dexspec.specs.Symbols as symbols
 use Rattle.dexspec.proofs.InOrder.{Rises-from_rises, rises-from_Rises}
 use Rattle.dexspec.proofs.SymbolOrders.{text_total, proto_total, field_total, method_total}
-use Rattle.dexrows.specs.Cut.{kept, places}
+use Rattle.dexrows.specs.Cut.{kept}
 use Rattle.dexrows.specs.Numbers.{ProtoNumbers}
 use Rattle.dexrows.specs.declared.fields.FieldRow.{FieldRow}
 use Rattle.dexrows.specs.declared.methods.MethodRow.{MethodRow}
@@ -23,8 +23,8 @@ use Rattle.dexpool.specs.Reading.{HasSpan}
 use Rattle.dexpool.specs.Numberings.{AreMarksOf}
 use Rattle.dexpool.specs.Renumbering.{numbers_of, moved_proto, moved_field, moved_method, IsEntryWithin, IsFieldWithin, IsMethodWithin}
 use Rattle.dexpool.specs.Stored.{symbols_in, IsTypeNumber, IsTypeOf, IsProtoEntry, IsFieldRow, IsMethodRow, AreTables}
-use Rattle.dexpool.specs.Closing.{number_or_none, IsMarked, AreClosed, HasMarkedEntry, HasMarkedField, HasMarkedMethod, kept_symbols}
-use Rattle.dexpool.proofs.KeptRows.{mark_within, kept_all, kept-map, kept_rises, new_numbers, length-new_numbers, is_moved}
+use Rattle.dexpool.specs.Closing.{new_numbers, IsCut, IsMarked, AreClosed, HasMarkedEntry, HasMarkedField, HasMarkedMethod, kept_symbols}
+use Rattle.dexpool.proofs.KeptRows.{mark_within, kept_all, kept-map, kept_rises, length-new_numbers, is_moved}
 use Rattle.dexpool.proofs.NumberOrder as order
 use Rattle.dexpool.proofs.NumberOrder.{HasTypeNumbers, HasFieldNumbers, HasMethodNumbers}
 use Rattle.dexpool.proofs.TablesStand.{entry_numbers, field_numbers, method_numbers, are_rising}
@@ -56,15 +56,6 @@ kept_rise R o marks xs h = rises-from_Rises R (kept marks xs) (kept_rises R mark
 -- the proto of a row of numbers
 abbrev pub row_proto : List Text → List ℕ → ProtoNumbers → symbols.Proto
 row_proto texts types row = record { return_type = type_of texts types row.return_type; parameters = map (type_of texts types) row.parameters }
-
--- the kept rows, by their new numbers
-pub record IsCut (t : Tables) (marks : Marks) (cut : Tables) : Type 0 where
-  pub strings_are : cut.strings.items ≡ kept marks.strings.items t.strings.items
-  pub types_are : cut.types.items ≡ map (slice_index (new_numbers marks.strings.items)) (kept marks.types.items t.types.items)
-  pub protos_are : map (numbers_of cut.parameters) cut.protos.items ≡ map (moved_proto (new_numbers marks.strings.items) (new_numbers marks.types.items) t.parameters) (kept marks.protos.items t.protos.items)
-  pub spans : All (λ p. HasSpan cut.parameters p.parameters) cut.protos.items
-  pub fields_are : cut.fields.items ≡ map (moved_field (new_numbers marks.strings.items) (new_numbers marks.types.items)) (kept marks.fields.items t.fields.items)
-  pub methods_are : cut.methods.items ≡ map (moved_method (new_numbers marks.strings.items) (new_numbers marks.types.items) (new_numbers marks.protos.items)) (kept marks.methods.items t.methods.items)
 
 -- the numbers of a row of protos are in range, and make a proto
 record IsRow (t : Tables) (row : ProtoNumbers) : Type 0 where
@@ -324,5 +315,5 @@ module _ (t : Tables) (ok : AreTables t) (ss : List ℕ) (strings : length ss �
         }) t.methods.items ok.methods_stand))
 
 -- as many new numbers as marks
-pub numbers_count : (ns : List ℕ) (images : List (Option ℕ)) (marks : List Bool) (n : ℕ) → ns ≡ map number_or_none images → images ≡ places 0 marks → length marks ≡ n → length ns ≡ n
-numbers_count ns images marks n e f count = ap length (e ∙ ap (map number_or_none) f) ∙ length-new_numbers marks ∙ count
+pub numbers_count : (ns : List ℕ) (marks : List Bool) (n : ℕ) → ns ≡ new_numbers marks → length marks ≡ n → length ns ≡ n
+numbers_count ns marks n e count = ap length e ∙ length-new_numbers marks ∙ count

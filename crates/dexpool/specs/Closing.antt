@@ -1,5 +1,5 @@
 -- Marks closed downwards, and what tables keep by them.
-use Rattle.std.specs.Prelude.{◌≡◌, ℕ, Bool, true, false, List, [], ◌∷◌, map, All, Option, unwrap_or, slice_index_or, slice_set}
+use Rattle.std.specs.Prelude.{◌≡◌, ℕ, Bool, true, false, List, [], ◌∷◌, map, All, Option, unwrap_or, slice_index, slice_index_or, slice_set}
 use Rattle.std.specs.List.{flat_map}
 use Rattle.dexspec.specs.Mentions.{Mentions}
 use Rattle.dexrows.specs.Cut.{kept, places}
@@ -9,7 +9,9 @@ use Rattle.dexpool.specs.declared.rows.ProtoEntry.{ProtoEntry}
 use Rattle.dexpool.specs.declared.tables.Tables.{Tables}
 use Rattle.dexpool.specs.declared.marks.Marks.{Marks}
 use Rattle.dexpool.specs.Tables.{span_of}
+use Rattle.dexpool.specs.Reading.{HasSpan}
 use Rattle.dexpool.specs.Numberings.{Maps}
+use Rattle.dexpool.specs.Renumbering.{numbers_of, moved_proto, moved_field, moved_method}
 use Rattle.dexpool.specs.Stored.{symbols_in, AreTables}
 
 -- ---- marks
@@ -99,3 +101,16 @@ pub record AreKept (t : Tables) (marks : Marks) (cut : Tables) (maps : Maps) : T
 -- the number that there is, or 0
 abbrev pub number_or_none : Option ℕ → ℕ
 number_or_none o = unwrap_or o 0
+
+-- the new numbers of rows, and 0 for those that are not kept
+abbrev pub new_numbers : List Bool → List ℕ
+new_numbers marks = map number_or_none (places 0 marks)
+
+-- the kept rows, by their new numbers
+pub record IsCut (t : Tables) (marks : Marks) (cut : Tables) : Type 0 where
+  pub strings_are : cut.strings.items ≡ kept marks.strings.items t.strings.items
+  pub types_are : cut.types.items ≡ map (slice_index (new_numbers marks.strings.items)) (kept marks.types.items t.types.items)
+  pub protos_are : map (numbers_of cut.parameters) cut.protos.items ≡ map (moved_proto (new_numbers marks.strings.items) (new_numbers marks.types.items) t.parameters) (kept marks.protos.items t.protos.items)
+  pub spans : All (λ p. HasSpan cut.parameters p.parameters) cut.protos.items
+  pub fields_are : cut.fields.items ≡ map (moved_field (new_numbers marks.strings.items) (new_numbers marks.types.items)) (kept marks.fields.items t.fields.items)
+  pub methods_are : cut.methods.items ≡ map (moved_method (new_numbers marks.strings.items) (new_numbers marks.types.items) (new_numbers marks.protos.items)) (kept marks.methods.items t.methods.items)

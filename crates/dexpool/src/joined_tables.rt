@@ -267,15 +267,46 @@ fn remaps(
 {
     let mut remaps = Vec::with_capacity(alloc, strings.len())?;
     for i in 0..strings.len() {
-        remaps.push(Remap {
-            strings: total(alloc, &strings[i])?,
-            types: total(alloc, &types[i])?,
-            protos: total(alloc, &protos[i])?,
-            fields: total(alloc, &fields[i])?,
-            methods: total(alloc, &methods[i])?,
-        })?;
+        remaps.push(remap(
+            alloc,
+            &strings[i],
+            &types[i],
+            &protos[i],
+            &fields[i],
+            &methods[i],
+        )?)?;
     }
     Ok(remaps)
+}
+
+// The map of a part's images.
+fn remap(
+    alloc: Global,
+    strings: &[usize],
+    types: &[usize],
+    protos: &[usize],
+    fields: &[usize],
+    methods: &[usize],
+) -> Result<Remap, AllocError>
+    requires strings_keep { KeepsOrder (map Some strings.now) }
+    requires types_keep { KeepsOrder (map Some types.now) }
+    requires protos_keep { KeepsOrder (map Some protos.now) }
+    requires fields_keep { KeepsOrder (map Some fields.now) }
+    requires methods_keep { KeepsOrder (map Some methods.now) }
+    ensures { IfOk result (λ remap. remap ≡ record { texts = map Some strings.now; types = map Some types.now; protos = map Some protos.now; fields = map Some fields.now; methods = map Some methods.now }) }
+{
+    let strings = total(alloc, strings)?;
+    let types = total(alloc, types)?;
+    let protos = total(alloc, protos)?;
+    let fields = total(alloc, fields)?;
+    let methods = total(alloc, methods)?;
+    Ok(Remap {
+        strings,
+        types,
+        protos,
+        fields,
+        methods,
+    })
 }
 
 // The map that leads each number to its image.

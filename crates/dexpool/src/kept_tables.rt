@@ -1,19 +1,30 @@
 //! Tables cut down to their marked rows: each table is cut, and the rows that are left are renumbered by the places
 //! of the rows below them.
 
-ghost use Rattle.std.specs.Prelude.{◌≡◌, length, map, IfOk};
+ghost use Rattle.std.specs.Prelude.{◌≡◌, length, map, slice_index, IfOk};
 ghost use Rattle.dexrows.specs.Cut.{kept, places};
 ghost use Rattle.dexpool.specs.Numberings.{AreMarksOf};
 ghost use Rattle.dexpool.specs.Stored.{symbols_in, AreTables};
-ghost use Rattle.dexpool.specs.Closing.{AreClosed, AreKept, number_or_none};
+ghost use Rattle.dexpool.specs.Renumbering.{HasSpans, numbers_in, moved_proto, moved_field, moved_method};
+ghost use Rattle.dexpool.specs.Closing.{AreClosed, AreKept, IsCut, kept_places, new_numbers, number_or_none};
 
 use crate::lists::Parameters;
 use crate::marks::Marks;
+use crate::protos::Protos;
 use crate::remap::Remap;
 use crate::renumbering::{images_of, renumbered_fields, renumbered_methods, renumbered_protos};
 use crate::tables::Tables;
-use dexrows::cut;
+use dexrows::{FieldRow, MethodRow, cut};
+use dexstr::Text;
 use std::alloc::{AllocError, Global};
+
+/// The new numbers of the rows that other rows name, and 0 for those that are not kept.
+#[derive(Drop)]
+struct LowerNumbers {
+    strings: Vec<usize>,
+    types: Vec<usize>,
+    protos: Vec<usize>,
+}
 
 /// The marked rows, where what a marked row names is marked; and where each number leads.
 ///
@@ -29,47 +40,149 @@ pub(crate) fn keep_marked<'a>(
     ensures { IfOk result (λ cut. AreKept tables.now marks.now cut.0 cut.1) }
 {
     let strings = cut(alloc, &tables.strings, &marks.strings)?;
-    let type_images = places_of(alloc, &marks.types)?;
-    let proto_images = places_of(alloc, &marks.protos)?;
-    let string_numbers = numbers(alloc, &strings.images)?;
-    let type_numbers = numbers(alloc, &type_images)?;
-    let proto_numbers = numbers(alloc, &proto_images)?;
-    let type_rows = marked(alloc, &tables.types, &marks.types)?;
-    let types = images_of(alloc, &type_rows, &string_numbers)?;
-    let proto_rows = marked(alloc, &tables.protos, &marks.protos)?;
-    let protos = renumbered_protos(
-        alloc,
-        &proto_rows,
-        &tables.parameters,
-        &string_numbers,
-        &type_numbers,
-    )?;
-    let field_rows = cut(alloc, &tables.fields, &marks.fields)?;
-    let fields = renumbered_fields(alloc, &field_rows.rows, &string_numbers, &type_numbers)?;
-    let method_rows = cut(alloc, &tables.methods, &marks.methods)?;
-    let methods = renumbered_methods(
-        alloc,
-        &method_rows.rows,
-        &string_numbers,
-        &type_numbers,
-        &proto_numbers,
-    )?;
-    let kept = Tables {
-        strings: strings.rows,
+    let remap = kept_remap(alloc, strings.images, marks)?;
+    let lower = lower_numbers(alloc, &remap)?;
+    let kept = kept_rows(alloc, strings.rows, tables, marks, &lower)?;
+    Ok((kept, remap))
+}
+
+// Where each number leads, of whose texts that is known.
+fn kept_remap(
+    alloc: Global,
+    strings: Vec<Option<usize>>,
+    marks: &Marks,
+) -> Result<Remap, AllocError>
+    requires { strings.items ≡ places 0 marks.now.strings.items }
+    ensures { IfOk result (λ remap. remap ≡ kept_places marks.now) }
+{
+    let types = places_of(alloc, &marks.types)?;
+    let protos = places_of(alloc, &marks.protos)?;
+    let fields = places_of(alloc, &marks.fields)?;
+    let methods = places_of(alloc, &marks.methods)?;
+    Ok(Remap {
+        strings,
+        types,
+        protos,
+        fields,
+        methods,
+    })
+}
+
+// The new numbers of texts, types and protos.
+fn lower_numbers(alloc: Global, remap: &Remap) -> Result<LowerNumbers, AllocError>
+    ensures strings { IfOk result (λ lower. lower.strings.items ≡ map number_or_none remap.now.texts) }
+    ensures types { IfOk result (λ lower. lower.types.items ≡ map number_or_none remap.now.types) }
+    ensures protos { IfOk result (λ lower. lower.protos.items ≡ map number_or_none remap.now.protos) }
+{
+    let strings = numbers(alloc, &remap.strings)?;
+    let types = numbers(alloc, &remap.types)?;
+    let protos = numbers(alloc, &remap.protos)?;
+    Ok(LowerNumbers {
+        strings,
+        types,
+        protos,
+    })
+}
+
+// The tables of these texts and of the other marked rows.
+fn kept_rows<'a>(
+    alloc: Global,
+    strings: Vec<Text<'a>>,
+    tables: &Tables<'a>,
+    marks: &Marks,
+    lower: &LowerNumbers,
+) -> Result<Tables<'a>, AllocError>
+    requires strings { strings.items ≡ kept marks.now.strings.items tables.now.strings.items }
+    requires tables { AreTables tables.now }
+    requires marks { AreMarksOf (symbols_in tables.now) marks.now }
+    requires lower_strings { lower.now.strings.items ≡ new_numbers marks.now.strings.items }
+    requires lower_types { lower.now.types.items ≡ new_numbers marks.now.types.items }
+    requires lower_protos { lower.now.protos.items ≡ new_numbers marks.now.protos.items }
+    ensures { IfOk result (IsCut tables.now marks.now) }
+{
+    let types = kept_types(alloc, tables, &marks.types, &lower.strings)?;
+    let protos = kept_protos(alloc, tables, &marks.protos, &lower.strings, &lower.types)?;
+    let fields = kept_fields(alloc, tables, &marks.fields, &lower.strings, &lower.types)?;
+    let methods = kept_methods(alloc, tables, &marks.methods, lower)?;
+    Ok(Tables {
+        strings,
         types,
         protos: protos.rows,
         parameters: Parameters::own(protos.parameters),
         fields,
         methods,
-    };
-    let remap = Remap {
-        strings: strings.images,
-        types: type_images,
-        protos: proto_images,
-        fields: field_rows.images,
-        methods: method_rows.images,
-    };
-    Ok((kept, remap))
+    })
+}
+
+// The marked types.
+fn kept_types(
+    alloc: Global,
+    tables: &Tables<'_>,
+    marks: &[bool],
+    strings: &[usize],
+) -> Result<Vec<usize>, AllocError>
+    requires tables { AreTables tables.now }
+    requires marks { length marks.now ≡ length tables.now.types.items }
+    requires strings { length strings.now ≡ length tables.now.strings.items }
+    ensures { IfOk result (λ types. types.items ≡ map (slice_index strings.now) (kept marks.now tables.now.types.items)) }
+{
+    let rows = marked(alloc, &tables.types, marks)?;
+    images_of(alloc, &rows, strings)
+}
+
+// The marked protos.
+fn kept_protos(
+    alloc: Global,
+    tables: &Tables<'_>,
+    marks: &[bool],
+    strings: &[usize],
+    types: &[usize],
+) -> Result<Protos, AllocError>
+    requires tables { AreTables tables.now }
+    requires marks { length marks.now ≡ length tables.now.protos.items }
+    requires strings { length strings.now ≡ length tables.now.strings.items }
+    requires types { length types.now ≡ length tables.now.types.items }
+    ensures spans { IfOk result HasSpans }
+    ensures rows { IfOk result (λ protos. numbers_in protos ≡ map (moved_proto strings.now types.now tables.now.parameters) (kept marks.now tables.now.protos.items)) }
+{
+    let rows = marked(alloc, &tables.protos, marks)?;
+    renumbered_protos(alloc, &rows, &tables.parameters, strings, types)
+}
+
+// The marked fields.
+fn kept_fields(
+    alloc: Global,
+    tables: &Tables<'_>,
+    marks: &[bool],
+    strings: &[usize],
+    types: &[usize],
+) -> Result<Vec<FieldRow>, AllocError>
+    requires tables { AreTables tables.now }
+    requires marks { length marks.now ≡ length tables.now.fields.items }
+    requires strings { length strings.now ≡ length tables.now.strings.items }
+    requires types { length types.now ≡ length tables.now.types.items }
+    ensures { IfOk result (λ fields. fields.items ≡ map (moved_field strings.now types.now) (kept marks.now tables.now.fields.items)) }
+{
+    let rows = marked(alloc, &tables.fields, marks)?;
+    renumbered_fields(alloc, &rows, strings, types)
+}
+
+// The marked methods.
+fn kept_methods(
+    alloc: Global,
+    tables: &Tables<'_>,
+    marks: &[bool],
+    lower: &LowerNumbers,
+) -> Result<Vec<MethodRow>, AllocError>
+    requires tables { AreTables tables.now }
+    requires marks { length marks.now ≡ length tables.now.methods.items }
+    requires strings { length lower.now.strings.items ≡ length tables.now.strings.items }
+    requires types { length lower.now.types.items ≡ length tables.now.types.items }
+    requires protos { length lower.now.protos.items ≡ length tables.now.protos.items }
+    ensures { IfOk result (λ methods. methods.items ≡ map (moved_method lower.now.strings.items lower.now.types.items lower.now.protos.items) (kept marks.now tables.now.methods.items)) }
+{
+    let rows = marked(alloc, &tables.methods, marks)?;
+    renumbered_methods(alloc, &rows, &lower.strings, &lower.types, &lower.protos)
 }
 
 // The rows that are marked.

@@ -1,0 +1,23 @@
+use Rattle.std.proofs.Common.{sym, ◌∙◌, ap, subst}
+use Rattle.dexrows.specs.Cut.{places}
+use Rattle.dexpool.specs.Orderly.{KeepsOrder}
+use Rattle.dexpool.proofs.KeptRows.{places_keep}
+use Rattle.dexpool.proofs.kept_tables.kept_remap.Goals as goal
+
+pub invariant_of-result : goal.invariant_of-result
+invariant_of-result c = record {
+  texts_keep = subst KeepsOrder (sym c.requires) (places_keep c.args.marks.now.strings.items);
+  types_keep = subst KeepsOrder (sym (c.in_ok-types.ensures ∙ ap (places 0) c.deref.ensures.value)) (places_keep c.args.marks.now.types.items);
+  protos_keep = subst KeepsOrder (sym (c.in_ok-protos.ensures ∙ ap (places 0) c.deref-2.ensures.value)) (places_keep c.args.marks.now.protos.items);
+  fields_keep = subst KeepsOrder (sym (c.in_ok-fields.ensures ∙ ap (places 0) c.deref-3.ensures.value)) (places_keep c.args.marks.now.fields.items);
+  methods_keep = subst KeepsOrder (sym (c.in_ok-methods.ensures ∙ ap (places 0) c.deref-4.ensures.value)) (places_keep c.args.marks.now.methods.items);
+}
+
+pub returns : goal.returns
+returns c = λ i. record {
+  texts = c.requires i;
+  types = (c.in_ok-types.ensures ∙ ap (places 0) c.deref.ensures.value) i;
+  protos = (c.in_ok-protos.ensures ∙ ap (places 0) c.deref-2.ensures.value) i;
+  fields = (c.in_ok-fields.ensures ∙ ap (places 0) c.deref-3.ensures.value) i;
+  methods = (c.in_ok-methods.ensures ∙ ap (places 0) c.deref-4.ensures.value) i;
+}

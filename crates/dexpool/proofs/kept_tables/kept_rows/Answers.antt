@@ -1,0 +1,62 @@
+use Rattle.std.proofs.Common.{ℕ, List, sym, ◌∙◌, ap, map, subst, slice_index}
+use Rattle.std.specs.List.{All}
+use Rattle.std.proofs.lemmas.List.{length-map}
+use Rattle.dexrows.specs.Cut.{kept}
+use Rattle.dexpool.specs.declared.rows.ProtoEntry.{ProtoEntry}
+use Rattle.dexpool.specs.Reading.{HasSpan}
+use Rattle.dexpool.specs.Renumbering.{numbers_of, moved_proto, moved_field, moved_method}
+use Rattle.dexpool.proofs.KeptTables.{numbers_count}
+use Rattle.dexpool.proofs.kept_tables.kept_rows.Goals as goal
+
+pub kept_types-requires-clause-marks : goal.kept_types-requires-clause-marks
+kept_types-requires-clause-marks c = rw c.deref.ensures.value (c.requires.marks.types_count ∙ length-map c.args.tables.now.types.items _)
+
+pub kept_types-requires-clause-strings : goal.kept_types-requires-clause-strings
+kept_types-requires-clause-strings c = numbers_count _ _ _ (c.deref-2.ensures.value ∙ c.requires.lower_strings) c.requires.marks.strings_count
+
+pub kept_protos-requires-clause-marks : goal.kept_protos-requires-clause-marks
+kept_protos-requires-clause-marks c = rw c.deref-3.ensures.value (c.requires.marks.protos_count ∙ length-map c.args.tables.now.protos.items _)
+
+pub kept_protos-requires-clause-strings : goal.kept_protos-requires-clause-strings
+kept_protos-requires-clause-strings c = numbers_count _ _ _ (c.deref-4.ensures.value ∙ c.requires.lower_strings) c.requires.marks.strings_count
+
+pub kept_protos-requires-clause-types : goal.kept_protos-requires-clause-types
+kept_protos-requires-clause-types c = numbers_count _ _ _ (c.deref-5.ensures.value ∙ c.requires.lower_types) (c.requires.marks.types_count ∙ length-map c.args.tables.now.types.items _)
+
+pub kept_fields-requires-clause-marks : goal.kept_fields-requires-clause-marks
+kept_fields-requires-clause-marks c = rw c.deref-6.ensures.value (c.requires.marks.fields_count ∙ length-map c.args.tables.now.fields.items _)
+
+pub kept_fields-requires-clause-strings : goal.kept_fields-requires-clause-strings
+kept_fields-requires-clause-strings c = numbers_count _ _ _ (c.deref-7.ensures.value ∙ c.requires.lower_strings) c.requires.marks.strings_count
+
+pub kept_fields-requires-clause-types : goal.kept_fields-requires-clause-types
+kept_fields-requires-clause-types c = numbers_count _ _ _ (c.deref-8.ensures.value ∙ c.requires.lower_types) (c.requires.marks.types_count ∙ length-map c.args.tables.now.types.items _)
+
+pub kept_methods-requires-clause-marks : goal.kept_methods-requires-clause-marks
+kept_methods-requires-clause-marks c = rw c.deref-9.ensures.value (c.requires.marks.methods_count ∙ length-map c.args.tables.now.methods.items _)
+
+pub kept_methods-requires-clause-strings : goal.kept_methods-requires-clause-strings
+kept_methods-requires-clause-strings c = numbers_count _ _ _ c.requires.lower_strings c.requires.marks.strings_count
+
+pub kept_methods-requires-clause-types : goal.kept_methods-requires-clause-types
+kept_methods-requires-clause-types c = numbers_count _ _ _ c.requires.lower_types (c.requires.marks.types_count ∙ length-map c.args.tables.now.types.items _)
+
+pub kept_methods-requires-clause-protos : goal.kept_methods-requires-clause-protos
+kept_methods-requires-clause-protos c = numbers_count _ _ _ c.requires.lower_protos (c.requires.marks.protos_count ∙ length-map c.args.tables.now.protos.items _)
+
+pub returns : goal.returns
+returns c =
+    let t = c.args.tables.now in
+    let s2 = c.deref-2.ensures.value ∙ c.requires.lower_strings in
+    let s4 = c.deref-4.ensures.value ∙ c.requires.lower_strings in
+    let s7 = c.deref-7.ensures.value ∙ c.requires.lower_strings in
+    let t5 = c.deref-5.ensures.value ∙ c.requires.lower_types in
+    let t8 = c.deref-8.ensures.value ∙ c.requires.lower_types in
+    record {
+      strings_are = c.requires.strings;
+      types_are = c.in_ok-types.ensures ∙ (λ i. map (slice_index (s2 i)) (kept (c.deref.ensures.value i) t.types.items));
+      protos_are = ap (λ (ps : List ℕ). map (numbers_of ps) c.in_ok-protos.protos.rows.items) c.own.ensures ∙ c.in_ok-protos.ensures.rows ∙ (λ i. map (moved_proto (s4 i) (t5 i) t.parameters) (kept (c.deref-3.ensures.value i) t.protos.items));
+      spans = subst (λ (ps : List ℕ). All (λ (p : ProtoEntry). HasSpan ps p.parameters) c.in_ok-protos.protos.rows.items) (sym c.own.ensures) c.in_ok-protos.ensures.spans;
+      fields_are = c.in_ok-fields.ensures ∙ (λ i. map (moved_field (s7 i) (t8 i)) (kept (c.deref-6.ensures.value i) t.fields.items));
+      methods_are = c.in_ok-methods.ensures ∙ (λ i. map (moved_method (c.requires.lower_strings i) (c.requires.lower_types i) (c.requires.lower_protos i)) (kept (c.deref-9.ensures.value i) t.methods.items));
+    }

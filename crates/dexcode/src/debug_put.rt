@@ -1,6 +1,6 @@
 //! Debug programs written.
 
-ghost use Rattle.std.specs.Prelude.{◌≡◌, ◌∷◌, [], ◌++◌, ◌+◌, ◌*◌, ◌^◌, ◌<◌, ◌≤◌, All, IsOk, length, vec_len, vec_capacity};
+ghost use Rattle.std.specs.Prelude.{◌≡◌, ◌∷◌, [], ◌++◌, ◌+◌, ◌*◌, ◌^◌, ◌<◌, ◌≤◌, All, OnOk, IsOk, length, vec_len, vec_capacity};
 ghost use Rattle.std.specs.List.{flat_map};
 ghost use Rattle.dexspec.specs.Debug as symbolic;
 ghost use Rattle.dexspec.specs.Mentions.{Mentions};
@@ -116,7 +116,7 @@ fn push_byte(byte: u8, out: &mut Vec<u8>)
     requires { HasRoomFor (byte ∷ []) out.old }
     ensures { Pushes (byte ∷ []) out.old out.new }
 {
-    out.push(byte).unwrap();
+    out.push_reserved(byte);
 }
 
 // Appends a number, where there is room for it.
@@ -241,11 +241,32 @@ fn push_debug(debug: &Debug, out: &mut Vec<u8>)
     push_byte(DBG_END_SEQUENCE, out);
 }
 
+// No debug program with as many names and operations has more bytes.
+fn most_len(debug: &Debug) -> usize
+    ensures { length (numbered_debug_bytes debug.now) ≤ result }
+{
+    11 + 5 * debug.parameter_names.len() + 21 * debug.operations.len()
+}
+
+// Makes room for a debug program. It is measured only where there is no room for the longest one.
+fn make_room(debug: &Debug, out: &mut Vec<u8>) -> Result<(), AllocError>
+    ensures items { out.new.items ≡ out.old.items }
+    ensures len { vec_len out.new ≡ vec_len out.old }
+    ensures room { OnOk result (HasRoomFor (numbered_debug_bytes debug.now) out.new) }
+    ensures succeeds { HasRoomFor (numbered_debug_bytes debug.now) out.old → IsOk result }
+    ensures capacity { vec_capacity out.old ≤ vec_capacity out.new }
+{
+    if most_len(debug) <= out.capacity() - out.len() {
+        return Ok(());
+    }
+    out.reserve(debug.item_len())
+}
+
 // Appends a debug program.
 fn put_numbered(debug: &Debug, out: &mut Vec<u8>) -> Result<(), AllocError>
     ensures { Puts (numbered_debug_bytes debug.now) out.old out.new result }
 {
-    out.reserve(debug.item_len())?;
+    make_room(debug, out)?;
     push_debug(debug, out);
     Ok(())
 }

@@ -20,7 +20,7 @@ use crate::debug_opcodes::{
     DBG_START_LOCAL_EXTENDED,
 };
 use crate::debug_operation::Operation;
-use dexleb::{len_s, len_u, put_p1, put_s, put_u};
+use dexleb::{len_s, len_u, put_s, put_u};
 use dexpool::Numbering;
 use std::alloc::AllocError;
 
@@ -124,6 +124,10 @@ pub(crate) fn push_u(value: u32, out: &mut Vec<u8>)
     requires { HasRoomFor (uleb128 value) out.old }
     ensures { Pushes (uleb128 value) out.old out.new }
 {
+    if value < 0x80 {
+        push_byte(value as u8, out);
+        return;
+    }
     put_u(value, out).unwrap();
 }
 
@@ -141,7 +145,7 @@ fn push_index(number: Option<u32>, out: &mut Vec<u8>)
     requires room { HasRoomFor (uleb128p1 number) out.old }
     ensures { Pushes (uleb128p1 number) out.old out.new }
 {
-    put_p1(number, out).unwrap();
+    push_u(number.map_or(0, |number| number + 1), out);
 }
 
 // Appends what tells of a local variable, where there is room for it.

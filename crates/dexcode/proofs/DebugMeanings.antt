@@ -133,6 +133,23 @@ bytes_few d =
       all,
     )
 
+-- an operation has four operands at most
+operation-light : (op : Operation) → operation_weight op ≤ 21
+operation-light (AdvancePc addresses) = omega arith
+operation-light (AdvanceLine lines) = omega arith
+operation-light (StartLocal register name typ) = omega arith
+operation-light (StartLocalExtended register name typ signature) = omega arith
+operation-light (EndLocal register) = omega arith
+operation-light (RestartLocal register) = omega arith
+operation-light SetPrologueEnd = omega arith
+operation-light SetEpilogueBegin = omega arith
+operation-light (SetFile name) = omega arith
+operation-light (Special opcode) = omega arith
+
+-- no more bytes than five for each name and 21 for each operation
+pub bytes_most : (d : NumberedDebug) → length (numbered_debug_bytes d) ≤ 11 + 5 * length d.parameter_names + 21 * length d.operations
+bytes_most d = omega (arith, bytes_few d, weight_is d, sum_by-at_most operation_weight 21 d.operations operation-light)
+
 -- ---- weight and positions
 
 operands_are : (m : Mentions) (op : Operation) (x : symbolic.Operation) → StandsForOperation m op x → operands (bare_operation op) ≡ operands x

@@ -1,5 +1,5 @@
 -- Bytes that are appended one item after the other.
-use Rattle.std.proofs.Common.{◌≡◌, ℕ, ◌+◌, ◌<◌, ◌≤◌, List, [], ◌∷◌, ◌++◌, length, take, get_or, ap, sym, ◌∙◌, subst, arith, append_assoc, length-append}
+use Rattle.std.proofs.Common.{◌≡◌, ℕ, ◌+◌, ◌<◌, ◌≤◌, List, [], ◌∷◌, ◌++◌, length, take, get_or, refl, ap, sym, ◌∙◌, subst, arith, append_assoc, length-append, lt-ltb}
 use Rattle.std.specs.Global.{Vec}
 use Rattle.std.specs.List.{flat_map}
 use Rattle.std.proofs.lemmas.List.{append-nil, take_all, take_more}
@@ -41,6 +41,12 @@ all_pushed f xs i old new end h = subst (λ ys. Pushes (flat_map f ys) old new) 
 -- the number of bytes of one more
 pub len_more : {X : Type 0} (f : X → List ℕ) (xs : List X) (i : ℕ) (d : X) (n k : ℕ) → i < length xs → n ≡ length (flat_map f (take i xs)) → k ≡ length (f (get_or xs i d)) → n + k ≡ length (flat_map f (take (i + 1) xs))
 len_more f xs i d n k lt h g = omega (arith, h, g, ap length (parts_more f xs i d lt), length-append (flat_map f (take i xs)) (f (get_or xs i d)))
+
+-- ---- numbers
+
+-- a number of seven bits has one byte
+pub one_byte : (v : ℕ) → v < 0x80 → uleb128 v ≡ v ∷ []
+one_byte v small = rw (lt-ltb v 0x80 small) refl
 
 -- ---- a debug program
 

@@ -9,7 +9,7 @@ use Rattle.dexpool.specs.declared.symbols.SymbolKind.TheVariants as kinds
 use Rattle.dexpool.specs.declared.marks.Marks.{Marks}
 use Rattle.dexpool.specs.Numberings.{Maps, image_of}
 use Rattle.dexpool.specs.Uses.{Use, HasMark, AreMarkedToo, marks_of, same_kind, occurs}
-use Rattle.dexpool.proofs.MarksMade.{still_marked}
+use Rattle.dexpool.proofs.MarksMade.{none_marked, still_marked}
 use Rattle.dexcode.specs.declared.debug_operation.Operation.{Operation}
 use Rattle.dexcode.specs.declared.debug_operation.Operation.TheVariants.{AdvancePc, AdvanceLine, StartLocal, StartLocalExtended, EndLocal, RestartLocal, SetPrologueEnd, SetEpilogueBegin, SetFile, Special}
 use Rattle.dexcode.specs.Debug.{NumberedDebug, HasPlace, FitsIndex, IsFormedOperation, IsFormedDebug, IsSpecial, number_uses, operation_uses, debug_uses, image_or_none, name_of, type_of, signature_of, with_numbers, renumbered_operation, renumbered_debug}
@@ -115,7 +115,30 @@ debug_formed r d all is =
       operations_fit = operations_formed r d.operations operations is.operations_fit;
     }
 
+-- an operation without symbols stays as it is
+pub stays : (r : Maps) (op : Operation) → operation_uses op ≡ [] → op ≡ renumbered_operation r op
+stays r (AdvancePc addresses) none = refl
+stays r (AdvanceLine lines) none = refl
+stays r (StartLocal register None None) none = refl
+stays r (StartLocal register None (Some typ)) none = absurd cc
+stays r (StartLocal register (Some name) typ) none = absurd cc
+stays r (StartLocalExtended register None None None) none = refl
+stays r (StartLocalExtended register None None (Some signature)) none = absurd cc
+stays r (StartLocalExtended register None (Some typ) signature) none = absurd cc
+stays r (StartLocalExtended register (Some name) typ signature) none = absurd cc
+stays r (EndLocal register) none = refl
+stays r (RestartLocal register) none = refl
+stays r SetPrologueEnd none = refl
+stays r SetEpilogueBegin none = refl
+stays r (SetFile None) none = refl
+stays r (SetFile (Some name)) none = absurd cc
+stays r (Special opcode) none = refl
+
 -- ---- marks
+
+-- the marks of no symbols
+pub marked_none : (us : List Use) (a : Marks) → us ≡ [] → AreMarkedToo us a a
+marked_none us a none = subst (λ vs. AreMarkedToo vs a a) (sym none) (none_marked a)
 
 or_assoc : (a b c : Bool) → ((a || b) || c) ≡ (a || (b || c))
 or_assoc true b c = refl

@@ -13,6 +13,9 @@ use dexleb::{read_s, read_u};
 use dexpool::ItemFault;
 use std::alloc::Global;
 
+// Most handlers have no more catches than these.
+const FEW_CATCHES: usize = 16;
+
 // The address at a place, if an instruction begins there, and how many bytes spell it.
 fn read_address(bytes: &[u8], at: usize, starts: &InstructionStarts<'_>) -> Option<(u32, usize)>
     requires { at ≤ length bytes.now }
@@ -71,7 +74,7 @@ fn read_catches(
     ensures catches { IfOk result (λ x. CatchesRead starts.now types bytes.now at count x.0.items x.1) }
     ensures fault { IfErr result (IsTriesFault ((cs : List Caught) (n : ℕ) → length cs ≡ count → Sequence (CatchAt starts.now types) bytes.now at cs n → ⊥)) }
 {
-    let mut catches = Vec::new(alloc);
+    let mut catches = Vec::with_capacity(alloc, count.min(FEW_CATCHES))?;
     let mut size = 0;
     for _ in 0..count {
         let (caught, len) = match read_catch(bytes, at + size, starts, types) {

@@ -45,6 +45,9 @@ fn renumbered_operation(remap: &Remap, operation: Operation) -> Operation
     requires { All (HasPlace remap.now) (operation_uses operation) }
     ensures { result ≡ renumbered_operation remap.now operation }
 {
+    if !operation.has_places() {
+        return operation;
+    }
     let name_idx = renumbered(remap, SymbolKind::Text, operation.name_idx());
     let type_idx = renumbered(remap, SymbolKind::Typ, operation.type_idx());
     let sig_idx = renumbered(remap, SymbolKind::Text, operation.sig_idx());
@@ -86,6 +89,9 @@ fn mark_operation(operation: &Operation, marks: &mut Marks)
     requires { All (HasMark marks.old) (operation_uses operation.now) }
     ensures { AreMarkedToo (operation_uses operation.now) marks.old marks.new }
 {
+    if !operation.has_places() {
+        return;
+    }
     mark_number(SymbolKind::Text, operation.name_idx(), marks);
     mark_number(SymbolKind::Typ, operation.type_idx(), marks);
     mark_number(SymbolKind::Text, operation.sig_idx(), marks);

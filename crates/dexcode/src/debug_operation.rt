@@ -1,6 +1,6 @@
 //! The operations of debug programs, with numbers in the place of symbols.
 
-ghost use Rattle.std.specs.Prelude.{◌≡◌, ◌↔◌, ◌<◌, IsTrue};
+ghost use Rattle.std.specs.Prelude.{◌≡◌, ◌↔◌, ◌<◌, [], false, IsTrue};
 ghost use Rattle.dexspec.specs.Weight as weights;
 
 /// An operation of a debug program. A name or a signature is the number of a text, a type that of a type, and `None`
@@ -48,7 +48,7 @@ pub enum Operation {
 }
 
 impl Operation {
-    ghost use Rattle.dexcode.specs.Debug.{name_of, type_of, signature_of, with_numbers, bare_operation};
+    ghost use Rattle.dexcode.specs.Debug.{name_of, type_of, signature_of, with_numbers, bare_operation, operation_uses};
 
     /// The number of the name of a local variable or of a source file.
     pub fn name_idx(&self) -> Option<u32>
@@ -80,6 +80,18 @@ impl Operation {
         match self {
             Operation::StartLocalExtended { sig_idx, .. } => *sig_idx,
             _ => None,
+        }
+    }
+
+    // Whether there are places in it for the numbers of symbols.
+    pub(crate) fn has_places(&self) -> bool
+        ensures { result ≡ false → operation_uses self.now ≡ [] }
+    {
+        match self {
+            Operation::StartLocal { .. } => true,
+            Operation::StartLocalExtended { .. } => true,
+            Operation::SetFile(_) => true,
+            _ => false,
         }
     }
 

@@ -1,6 +1,6 @@
 //! Debug programs written.
 
-ghost use Rattle.std.specs.Prelude.{◌≡◌, ◌∷◌, [], ◌++◌, ◌+◌, ◌*◌, ◌^◌, ◌<◌, ◌≤◌, All, IsOk, length, vec_len, vec_capacity};
+ghost use Rattle.std.specs.Prelude.{◌≡◌, ◌∷◌, [], ◌++◌, ◌+◌, ◌*◌, ◌^◌, ◌<◌, ◌≤◌, All, OnOk, IsOk, length, vec_len, vec_capacity};
 ghost use Rattle.std.specs.List.{flat_map};
 ghost use Rattle.dexspec.specs.Debug as symbolic;
 ghost use Rattle.dexspec.specs.Mentions.{Mentions};
@@ -20,7 +20,7 @@ use crate::debug_opcodes::{
     DBG_START_LOCAL_EXTENDED,
 };
 use crate::debug_operation::Operation;
-use dexleb::{len_s, len_u, put_p1, put_s, put_u};
+use dexleb::{len_s, len_u, put_s, put_u};
 use dexpool::Numbering;
 use std::alloc::AllocError;
 
@@ -116,7 +116,7 @@ fn push_byte(byte: u8, out: &mut Vec<u8>)
     requires { HasRoomFor (byte ∷ []) out.old }
     ensures { Pushes (byte ∷ []) out.old out.new }
 {
-    out.push(byte).unwrap();
+    out.push_reserved(byte);
 }
 
 // Appends a number, where there is room for it.
@@ -124,6 +124,10 @@ pub(crate) fn push_u(value: u32, out: &mut Vec<u8>)
     requires { HasRoomFor (uleb128 value) out.old }
     ensures { Pushes (uleb128 value) out.old out.new }
 {
+    if value < 0x80 {
+        push_byte(value as u8, out);
+        return;
+    }
     put_u(value, out).unwrap();
 }
 
@@ -141,7 +145,7 @@ fn push_index(number: Option<u32>, out: &mut Vec<u8>)
     requires room { HasRoomFor (uleb128p1 number) out.old }
     ensures { Pushes (uleb128p1 number) out.old out.new }
 {
-    put_p1(number, out).unwrap();
+    push_u(number.map_or(0, |number| number + 1), out);
 }
 
 // Appends what tells of a local variable, where there is room for it.
@@ -241,11 +245,32 @@ fn push_debug(debug: &Debug, out: &mut Vec<u8>)
     push_byte(DBG_END_SEQUENCE, out);
 }
 
+// No debug program with as many names and operations has more bytes.
+fn most_len(debug: &Debug) -> usize
+    ensures { length (numbered_debug_bytes debug.now) ≤ result }
+{
+    11 + 5 * debug.parameter_names.len() + 21 * debug.operations.len()
+}
+
+// Makes room for a debug program. It is measured only where there is no room for the longest one.
+fn make_room(debug: &Debug, out: &mut Vec<u8>) -> Result<(), AllocError>
+    ensures items { out.new.items ≡ out.old.items }
+    ensures len { vec_len out.new ≡ vec_len out.old }
+    ensures room { OnOk result (HasRoomFor (numbered_debug_bytes debug.now) out.new) }
+    ensures succeeds { HasRoomFor (numbered_debug_bytes debug.now) out.old → IsOk result }
+    ensures capacity { vec_capacity out.old ≤ vec_capacity out.new }
+{
+    if most_len(debug) <= out.capacity() - out.len() {
+        return Ok(());
+    }
+    out.reserve(debug.item_len())
+}
+
 // Appends a debug program.
 fn put_numbered(debug: &Debug, out: &mut Vec<u8>) -> Result<(), AllocError>
     ensures { Puts (numbered_debug_bytes debug.now) out.old out.new result }
 {
-    out.reserve(debug.item_len())?;
+    make_room(debug, out)?;
     push_debug(debug, out);
     Ok(())
 }

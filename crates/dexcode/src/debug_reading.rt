@@ -19,6 +19,12 @@ use dexleb::{read_p1, read_s, read_u};
 use dexpool::{ItemFault, Pools, SymbolKind};
 use std::alloc::Global;
 
+// Most methods have no more parameters than these.
+const FEW_NAMES: usize = 16;
+
+// Most debug programs have no more operations than these.
+const FEW_OPERATIONS: usize = 32;
+
 // How many texts and types there are.
 #[derive(Clone, Copy)]
 struct Counts {
@@ -171,7 +177,7 @@ fn read_names(
     ensures names { IfOk result (λ read. AreNames texts bytes.now from count read.0.items read.1) }
     ensures refused { IfErr result (AreNoNames texts bytes.now from count) }
 {
-    let mut names = Vec::new(alloc);
+    let mut names = Vec::with_capacity(alloc, (count as usize).min(FEW_NAMES))?;
     let mut at = from;
     for _ in 0..count {
         let (name, len) = match index_at(bytes, at, texts) {
@@ -197,11 +203,12 @@ fn read_operations(
     ensures operations { IfOk result (λ operations. AreOperations counts bytes.now from operations.items) }
     ensures refused { IfErr result (IsNoProgram counts bytes.now from) }
 {
-    let mut operations = Vec::new(alloc);
+    let mut operations = Vec::with_capacity(alloc, FEW_OPERATIONS)?;
     let mut at = from;
     while at < bytes.len() {
         let opcode = bytes[at];
         if opcode == DBG_END_SEQUENCE {
+            operations.shrink_to_fit();
             return Ok(operations);
         }
         let (operation, len) = match operation_at(bytes, at + 1, opcode, counts) {

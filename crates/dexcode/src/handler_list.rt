@@ -16,6 +16,9 @@ use std::alloc::{AllocError, Global};
 // The last byte of a list that the offset of a try can name.
 const LAST_OFFSET: usize = 65_535;
 
+// Most lists have no more handlers than these.
+const FEW_HANDLERS: usize = 16;
+
 // The handlers of a list, and, by the bytes of the list, the number of the handler that begins there.
 #[derive(Drop)]
 pub(crate) struct HandlerList {
@@ -51,7 +54,7 @@ fn read_handlers(
     ensures handlers { IfOk result (λ read. (size : ℕ) × HandlersRead starts.now types bytes.now list first count read.handlers.items read.numbers.items size) }
     ensures fault { IfErr result (IsTriesFault ((hs : List NumberedHandler) (n : ℕ) → length hs ≡ count → Sequence (HandlerAt starts.now types) bytes.now first hs n → ⊥)) }
 {
-    let mut handlers = Vec::new(alloc);
+    let mut handlers = Vec::with_capacity(alloc, (count as usize).min(FEW_HANDLERS))?;
     let mut numbers = Vec::new(alloc);
     let mut size = 0;
     for number in 0..count {

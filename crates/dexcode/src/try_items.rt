@@ -48,7 +48,7 @@ pub(crate) fn read_try_items(
     ensures tries { IfOk result (λ tries. (to : ℕ) × TriesRead units numbers.now bytes.now at count tries.items to) }
     ensures fault { IfErr result (IsTriesFault ((ts : List Meant) (n to : ℕ) → length ts ≡ count → Sequence (ListedTryAt units numbers.now) bytes.now at ts n → AreApartFrom 0 ts to → ⊥)) }
 {
-    let mut tries = Vec::new(alloc);
+    let mut tries = Vec::with_capacity(alloc, usize::from(count))?;
     let mut place = at;
     let mut end = 0;
     for _ in 0..count {

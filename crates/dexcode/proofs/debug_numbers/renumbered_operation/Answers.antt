@@ -2,7 +2,7 @@ use Rattle.std.proofs.Common.{subst, sym}
 use Rattle.std.specs.List.{All}
 use Rattle.dexpool.specs.declared.symbols.SymbolKind.TheVariants as kinds
 use Rattle.dexcode.specs.Debug.{HasPlace, number_uses}
-use Rattle.dexcode.proofs.DebugUses.{name_part, type_part, signature_part}
+use Rattle.dexcode.proofs.DebugUses.{name_part, type_part, signature_part, stays}
 use Rattle.dexcode.proofs.debug_numbers.renumbered_operation.Goals as goal
 
 pub renumbered-name_idx-requires : goal.renumbered-name_idx-requires
@@ -13,3 +13,6 @@ renumbered-type_idx-requires c = subst (λ i. All (HasPlace c.args.remap.now) (n
 
 pub renumbered-sig_idx-requires : goal.renumbered-sig_idx-requires
 renumbered-sig_idx-requires c = subst (λ i. All (HasPlace c.args.remap.now) (number_uses kinds.Text i)) (sym c.sig_idx.ensures) (signature_part (HasPlace c.args.remap.now) c.args.operation c.requires)
+
+pub returns-then-not-has_places : goal.returns-then-not-has_places
+returns-then-not-has_places c = stays c.args.remap.now c.args.operation (c.has_places.ensures c.if-not-has_places.true)

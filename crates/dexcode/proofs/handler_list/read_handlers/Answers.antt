@@ -11,7 +11,7 @@ use Rattle.dexcode.proofs.handler_list.read_handlers.Goals as goal
 
 pub returns-in_err-handler-clause-fault : goal.returns-in_err-handler-clause-fault
 returns-in_err-handler-clause-fault c =
-    let p = err_from_is_err_and c.from_residual.result c.from_residual.ensures.1 in
+    let p = err_from_is_err_and c.from_residual-in_err-handler.result c.from_residual-in_err-handler.ensures.1 in
     let at = HandlerAt c.args.starts.now c.args.types in
     rw (p.1, p.2) (fault_so (λ none hs n many h. stuck at (one_handler c.args.starts.now c.args.types) c.args.bytes.now c.args.first c.loop-number.handlers.items hs c.loop-number.size n
     (omega (arith, many, c.loop-number.invariant.many, c.loop-number-test.true)) c.loop-number.invariant.stand none h)

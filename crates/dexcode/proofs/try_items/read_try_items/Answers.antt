@@ -29,7 +29,7 @@ pub loop-preserved : goal.loop-preserved
 loop-preserved c =
     let at = ListedTryAt c.args.units c.args.numbers.now in
     let pushed : c.push.new.self.items ≡ c.loop.tries.items ++ c.in-Some.item ∷ [] = grind (arith, common_steps) in
-    let next : c.in-Some.item.start_addr + c.from.result ≡ c.in-Some.item.start_addr + c.in-Some.item.insn_count = omega arith in
+    let next : c.in-Some.item.start_addr + c.from-in-loop.result ≡ c.in-Some.item.start_addr + c.in-Some.item.insn_count = omega arith in
     let size : 8 * c.loop.counter + 8 ≡ 8 * (c.loop.counter + 1) = omega arith in
     let stand = subst (λ n. Sequence at c.args.bytes.now c.args.at (c.loop.tries.items ++ c.in-Some.item ∷ []) n) size
     (sequence_more at c.args.bytes.now c.args.at c.loop.tries.items c.in-Some.item (8 * c.loop.counter) 8 c.loop.invariant.2.stand

@@ -210,6 +210,71 @@ fn member_lists_at(
     Ok(members)
 }
 
+// The directory of the annotations_directory_item at an offset, its sets counted one by one. They are whole while the
+// budget lasts, of which nothing is used before. Error: none stands there.
+fn counted_directory_at(
+    alloc: Global,
+    frame: &Frame<'_>,
+    pools: &Pools<'_>,
+    off: u32,
+    judged: &mut Judged,
+    budget: &mut Budget,
+) -> Result<Directory, ItemFault>
+    requires unused { budget.old.weight ≡ 0 }
+    requires judged { AreFilePools frame.now pools.now → AreJudged frame.now pools.now budget.old.most budget.old.weight judged.old }
+    ensures read { AreFilePools frame.now pools.now → IfOk result (λ directory. IsKept (IsDirectoryAt frame.now off pools.now) (λ d. directory_weight (directory_in pools.now d)) budget.old.most 0 budget.new.weight (directory_of directory)) }
+    ensures refused { AreFilePools frame.now pools.now → IfErr result (IsDirectoryFault frame.now off) }
+{
+    let counts = match member_counts(frame, off) {
+        Some(counts) => counts,
+        None => return Err(ItemFault::Refused(22)),
+    };
+    let bytes = frame.bytes();
+    let place = u32_at(bytes, off as usize);
+    let own = counted_set_at(alloc, frame, pools, place, judged, budget)?;
+    let fields_at = off as usize + 16;
+    let limit = pools.len(SymbolKind::Field);
+    let fields = member_sets_at(
+        alloc,
+        frame,
+        pools,
+        fields_at,
+        counts.fields,
+        limit,
+        judged,
+        budget,
+    )?;
+    let methods_at = fields_at + 8 * counts.fields as usize;
+    let limit = pools.len(SymbolKind::Method);
+    let methods = member_sets_at(
+        alloc,
+        frame,
+        pools,
+        methods_at,
+        counts.methods,
+        limit,
+        judged,
+        budget,
+    )?;
+    let parameters_at = methods_at + 8 * counts.methods as usize;
+    let parameters = member_lists_at(
+        alloc,
+        frame,
+        pools,
+        parameters_at,
+        counts.parameters,
+        limit,
+        judged,
+        budget,
+    )?;
+    Ok(Directory {
+        own,
+        fields,
+        methods,
+        parameters,
+    })
+}
+
 // The directory of the annotations_directory_item at an offset, whole where its sets weigh at most so much, and what
 // they weigh. Error: none stands there.
 fn directory_at(
@@ -222,56 +287,9 @@ fn directory_at(
     ensures read { AreFilePools frame.now pools.now → IfOk result (λ read. IsKept (IsDirectoryAt frame.now off pools.now) (λ d. directory_weight (directory_in pools.now d)) most 0 read.1 (directory_of read.0)) }
     ensures refused { AreFilePools frame.now pools.now → IfErr result (IsDirectoryFault frame.now off) }
 {
-    let counts = match member_counts(frame, off) {
-        Some(counts) => counts,
-        None => return Err(ItemFault::Refused(22)),
-    };
-    let bytes = frame.bytes();
-    let place = u32_at(bytes, off as usize);
     let mut judged = Judged::none(alloc);
     let mut budget = Budget { weight: 0, most };
-    let own = counted_set_at(alloc, frame, pools, place, &mut judged, &mut budget)?;
-    let fields_at = off as usize + 16;
-    let limit = pools.len(SymbolKind::Field);
-    let fields = member_sets_at(
-        alloc,
-        frame,
-        pools,
-        fields_at,
-        counts.fields,
-        limit,
-        &mut judged,
-        &mut budget,
-    )?;
-    let methods_at = fields_at + 8 * counts.fields as usize;
-    let limit = pools.len(SymbolKind::Method);
-    let methods = member_sets_at(
-        alloc,
-        frame,
-        pools,
-        methods_at,
-        counts.methods,
-        limit,
-        &mut judged,
-        &mut budget,
-    )?;
-    let parameters_at = methods_at + 8 * counts.methods as usize;
-    let parameters = member_lists_at(
-        alloc,
-        frame,
-        pools,
-        parameters_at,
-        counts.parameters,
-        limit,
-        &mut judged,
-        &mut budget,
-    )?;
-    let directory = Directory {
-        own,
-        fields,
-        methods,
-        parameters,
-    };
+    let directory = counted_directory_at(alloc, frame, pools, off, &mut judged, &mut budget)?;
     Ok((directory, budget.weight))
 }
 

@@ -17,3 +17,16 @@ pub struct Directory {
     /// Those of the parameters of methods, a set for each parameter.
     pub parameters: Vec<(u32, Vec<AnnotationSet>)>,
 }
+
+/// How many members a directory annotates.
+///
+/// Source: "annotations_directory_item".
+#[derive(Clone, Copy, Debug)]
+pub struct MemberCounts {
+    /// Fields.
+    pub fields: u32,
+    /// Methods.
+    pub methods: u32,
+    /// Methods with annotated parameters.
+    pub parameters: u32,
+}

@@ -1,6 +1,6 @@
 //! Directories of annotations read from a file.
 
-ghost use Rattle.std.specs.Prelude.{◌^◌, ◌<◌, ◌≡◌, ◌+◌, ◌*◌, ◌≤◌, All, IfOk, IfErr, OnOk, MatchOption, length, map, sum_by};
+ghost use Rattle.std.specs.Prelude.{◌^◌, ◌<◌, ◌≡◌, ◌+◌, ◌*◌, ◌≤◌, All, IfOk, IfErr, OnOk, IfSome, IfNone, MatchOption, length, map, sum_by};
 ghost use Rattle.dexspec.specs.Bytes.{uint_at};
 ghost use Rattle.dexspec.specs.Annotations.{SetAt, RefListAt, fields_count, methods_count, parameters_count};
 ghost use Rattle.dexpool.specs.Pools.{ArePools};
@@ -13,7 +13,7 @@ ghost use Rattle.dexval.specs.Judged.{AreJudged};
 ghost use Rattle.dexval.specs.Reading.{IsDirectoryAt, IsDirectoryFault, IsDirectoryWithin, HasHeavyDirectory};
 
 use crate::budget::Budget;
-use crate::directory::Directory;
+use crate::directory::{Directory, MemberCounts};
 use crate::judged::{Judged, counted_set_at};
 use crate::set::AnnotationSet;
 use crate::set_reading::count_at;
@@ -21,21 +21,28 @@ use dexhead::{Frame, u32_at};
 use dexpool::{ItemFault, Pools, SymbolKind};
 use std::alloc::Global;
 
-// How many members a directory annotates.
-#[derive(Clone, Copy)]
-struct Counts {
-    fields: u32,
-    methods: u32,
-    parameters: u32,
+// The most members or sets for which room is taken before they are read.
+const MOST_AT_ONCE: usize = 4096;
+
+// For how many of so many room is taken before they are read: for none where none would be kept.
+fn room(count: u32, budget: &Budget) -> usize {
+    if budget.is_within() {
+        (count as usize).min(MOST_AT_ONCE)
+    } else {
+        0
+    }
 }
 
-// The counts of the annotations_directory_item at an offset. Error: it is not wholly in the data at a multiple of 4.
-fn counts_at(frame: &Frame<'_>, off: u32) -> Result<Counts, ItemFault>
-    ensures counts { IfOk result (λ counts. HasMembers frame.now off × (counts.fields ≡ fields_count frame.now off) × (counts.methods ≡ methods_count frame.now off) × (counts.parameters ≡ parameters_count frame.now off)) }
-    ensures refused { IfErr result (IsRefusal (HasMembers frame.now off → ⊥)) }
+/// The counts of the annotations_directory_item at an offset, or `None` where they, and so many pairs, are not wholly in
+/// the data at a multiple of 4. No memory is taken.
+///
+/// Source: "annotations_directory_item".
+pub fn member_counts(frame: &Frame<'_>, off: u32) -> Option<MemberCounts>
+    ensures some { IfSome result (λ counts. HasMembers frame.now off × (counts.fields ≡ fields_count frame.now off) × (counts.methods ≡ methods_count frame.now off) × (counts.parameters ≡ parameters_count frame.now off)) }
+    ensures none { IfNone result (HasMembers frame.now off → ⊥) }
 {
     if off % 4 != 0 || !frame.is_in_data(off, 16) {
-        return Err(ItemFault::Refused(22));
+        return None;
     }
     let bytes = frame.bytes();
     let fields = u32_at(bytes, off as usize + 4);
@@ -43,9 +50,9 @@ fn counts_at(frame: &Frame<'_>, off: u32) -> Result<Counts, ItemFault>
     let parameters = u32_at(bytes, off as usize + 12);
     let pairs = u64::from(fields) + u64::from(methods) + u64::from(parameters);
     if !frame.is_in_data(off, 16 + 8 * pairs) {
-        return Err(ItemFault::Refused(22));
+        return None;
     }
-    Ok(Counts {
+    Some(MemberCounts {
         fields,
         methods,
         parameters,
@@ -99,7 +106,7 @@ fn listed_sets_at(
     let bytes = frame.bytes();
     let list = list_weight(count);
     budget.add(list);
-    let mut sets = Vec::new(alloc);
+    let mut sets = Vec::with_capacity(alloc, room(count, budget))?;
     for i in 0..count {
         let place = u32_at(bytes, off as usize + 4 + 4 * i as usize);
         let set = counted_set_at(alloc, frame, pools, place, judged, budget)?;
@@ -157,7 +164,7 @@ fn member_sets_at(
     ensures read { AreFilePools frame.now pools.now → IfOk result (λ members. IsKept (ArePairsAt (IsKnownSet pools.now) (set_in pools.now) SetAt frame.now at count limit) (sum_by (λ e. set_weight_in pools.now e.1)) budget.old.most budget.old.weight budget.new.weight (map member_set_of members.items)) }
     ensures refused { AreFilePools frame.now pools.now → IfErr result (IsRefusal (NoPairsAt SetAt frame.now at count limit)) }
 {
-    let mut members = Vec::new(alloc);
+    let mut members = Vec::with_capacity(alloc, room(count, budget))?;
     let mut least = 0;
     for i in 0..count {
         let (number, off) = pair_at(frame, at + 8 * i as usize, least, limit)?;
@@ -190,7 +197,7 @@ fn member_lists_at(
     ensures read { AreFilePools frame.now pools.now → IfOk result (λ members. IsKept (ArePairsAt (All (IsKnownSet pools.now)) (map (set_in pools.now)) RefListAt frame.now at count limit) (sum_by (λ e. sets_weight_in pools.now e.1)) budget.old.most budget.old.weight budget.new.weight (map member_list_of members.items)) }
     ensures refused { AreFilePools frame.now pools.now → IfErr result (IsRefusal (NoPairsAt RefListAt frame.now at count limit)) }
 {
-    let mut members = Vec::new(alloc);
+    let mut members = Vec::with_capacity(alloc, room(count, budget))?;
     let mut least = 0;
     for i in 0..count {
         let (number, off) = pair_at(frame, at + 8 * i as usize, least, limit)?;
@@ -201,6 +208,71 @@ fn member_lists_at(
         }
     }
     Ok(members)
+}
+
+// The directory of the annotations_directory_item at an offset, its sets counted one by one. They are whole while the
+// budget lasts, of which nothing is used before. Error: none stands there.
+fn counted_directory_at(
+    alloc: Global,
+    frame: &Frame<'_>,
+    pools: &Pools<'_>,
+    off: u32,
+    judged: &mut Judged,
+    budget: &mut Budget,
+) -> Result<Directory, ItemFault>
+    requires unused { budget.old.weight ≡ 0 }
+    requires judged { AreFilePools frame.now pools.now → AreJudged frame.now pools.now budget.old.most budget.old.weight judged.old }
+    ensures read { AreFilePools frame.now pools.now → IfOk result (λ directory. IsKept (IsDirectoryAt frame.now off pools.now) (λ d. directory_weight (directory_in pools.now d)) budget.old.most 0 budget.new.weight (directory_of directory)) }
+    ensures refused { AreFilePools frame.now pools.now → IfErr result (IsDirectoryFault frame.now off) }
+{
+    let counts = match member_counts(frame, off) {
+        Some(counts) => counts,
+        None => return Err(ItemFault::Refused(22)),
+    };
+    let bytes = frame.bytes();
+    let place = u32_at(bytes, off as usize);
+    let own = counted_set_at(alloc, frame, pools, place, judged, budget)?;
+    let fields_at = off as usize + 16;
+    let limit = pools.len(SymbolKind::Field);
+    let fields = member_sets_at(
+        alloc,
+        frame,
+        pools,
+        fields_at,
+        counts.fields,
+        limit,
+        judged,
+        budget,
+    )?;
+    let methods_at = fields_at + 8 * counts.fields as usize;
+    let limit = pools.len(SymbolKind::Method);
+    let methods = member_sets_at(
+        alloc,
+        frame,
+        pools,
+        methods_at,
+        counts.methods,
+        limit,
+        judged,
+        budget,
+    )?;
+    let parameters_at = methods_at + 8 * counts.methods as usize;
+    let parameters = member_lists_at(
+        alloc,
+        frame,
+        pools,
+        parameters_at,
+        counts.parameters,
+        limit,
+        judged,
+        budget,
+    )?;
+    Ok(Directory {
+        own,
+        fields,
+        methods,
+        parameters,
+    })
 }
 
 // The directory of the annotations_directory_item at an offset, whole where its sets weigh at most so much, and what
@@ -215,53 +287,9 @@ fn directory_at(
     ensures read { AreFilePools frame.now pools.now → IfOk result (λ read. IsKept (IsDirectoryAt frame.now off pools.now) (λ d. directory_weight (directory_in pools.now d)) most 0 read.1 (directory_of read.0)) }
     ensures refused { AreFilePools frame.now pools.now → IfErr result (IsDirectoryFault frame.now off) }
 {
-    let counts = counts_at(frame, off)?;
-    let bytes = frame.bytes();
-    let place = u32_at(bytes, off as usize);
     let mut judged = Judged::none(alloc);
     let mut budget = Budget { weight: 0, most };
-    let own = counted_set_at(alloc, frame, pools, place, &mut judged, &mut budget)?;
-    let fields_at = off as usize + 16;
-    let limit = pools.len(SymbolKind::Field);
-    let fields = member_sets_at(
-        alloc,
-        frame,
-        pools,
-        fields_at,
-        counts.fields,
-        limit,
-        &mut judged,
-        &mut budget,
-    )?;
-    let methods_at = fields_at + 8 * counts.fields as usize;
-    let limit = pools.len(SymbolKind::Method);
-    let methods = member_sets_at(
-        alloc,
-        frame,
-        pools,
-        methods_at,
-        counts.methods,
-        limit,
-        &mut judged,
-        &mut budget,
-    )?;
-    let parameters_at = methods_at + 8 * counts.methods as usize;
-    let parameters = member_lists_at(
-        alloc,
-        frame,
-        pools,
-        parameters_at,
-        counts.parameters,
-        limit,
-        &mut judged,
-        &mut budget,
-    )?;
-    let directory = Directory {
-        own,
-        fields,
-        methods,
-        parameters,
-    };
+    let directory = counted_directory_at(alloc, frame, pools, off, &mut judged, &mut budget)?;
     Ok((directory, budget.weight))
 }
 

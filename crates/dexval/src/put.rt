@@ -224,7 +224,9 @@ pub fn put_value(
 /// Appends the values with which static fields begin (an encoded_array_item), each as [`put_value`] does.
 ///
 /// It fails only for want of memory, and not where the spare room is at least what the values weigh and there is one; the
-/// vector is then as it was. It appends as many bytes as [`statics_size`](crate::statics_size) says.
+/// vector is then as it was. It appends as many bytes as [`statics_size`](crate::statics_size) says. 2^32 values or more,
+/// and arrays and annotations of so many members among them, which no file holds, are put with the count 2^32 - 1, as
+/// [`put_value`] does.
 ///
 /// Source: "encoded_array_item" and "encoded_array format".
 pub fn put_statics(
@@ -246,7 +248,9 @@ pub fn put_statics(
 /// [`put_value`] does.
 ///
 /// It fails only for want of memory, and not where the spare room is at least what the annotation weighs; the vector is
-/// then as it was. It appends as many bytes as [`annotation_size`](crate::annotation_size) says.
+/// then as it was. It appends as many bytes as [`annotation_size`](crate::annotation_size) says. 2^32 elements or more,
+/// and arrays and annotations of so many members among them, which no file holds, are put with the count 2^32 - 1, as
+/// [`put_value`] does.
 ///
 /// Source: "annotation_item" and "encoded_annotation format".
 pub fn put_annotation(

@@ -1,64 +1,7 @@
-use Rattle.std.proofs.Common.{◌≡◌, ◌∙◌, ℕ, List, map, sum_by, refl, ap, subst, arith}
-use Rattle.std.specs.Prelude.{All}
 use Rattle.std.proofs.lemmas.Result.{err_from_is_err_and}
-use Rattle.dexspec.specs.Bytes.{uint_at}
-use Rattle.dexspec.specs.Annotations.{SetAt, RefListAt}
-use Rattle.dexval.specs.Code.{set_of}
-use Rattle.dexval.specs.Numbered.{NumberedSet, IsKnownSet, set_in}
-use Rattle.dexval.specs.Directories.{IsSetOrEmptyAt, NoSetOrEmptyAt, member_set_of, member_list_of, set_weight_in, sets_weight_in}
-use Rattle.dexval.proofs.DirectoryRead.{no_members, no_own, no_fields, no_methods, no_parameters, pairs_moved, no_pairs_moved}
-use Rattle.dexval.proofs.Keeping.{directory_kept, kept_as, kept_moved}
-use Rattle.dexval.proofs.Refusals.{directory_refused}
 use Rattle.dexval.proofs.directory_reading.directory_at.Goals as goal
 
-pub returns-in_err-counts-clause-refused : goal.returns-in_err-counts-clause-refused
-returns-in_err-counts-clause-refused c = λ p.
-    let b = c.args.frame.now in
+pub returns-in_err-directory-clause-refused : goal.returns-in_err-directory-clause-refused
+returns-in_err-directory-clause-refused c = λ p.
     let e = err_from_is_err_and c.from_residual.result c.from_residual.ensures.1 in
-    rw (e.1, e.2) (directory_refused b c.args.off (no_members b c.args.off) c.in_err-counts.field-0.0 c.in_err-counts.ensures.refused)
-
-pub returns-in_err-own-clause-refused : goal.returns-in_err-own-clause-refused
-returns-in_err-own-clause-refused c = λ p.
-    let b = c.args.frame.now in
-    let e = err_from_is_err_and c.from_residual-in_err-own.result c.from_residual-in_err-own.ensures.1 in
-    rw (e.1, e.2) (directory_refused b c.args.off (λ none. no_own b c.args.off (subst (NoSetOrEmptyAt b) (c.u32_at-place.ensures ∙ ap (λ (x : List ℕ). uint_at x c.args.off) c.bytes-bytes.ensures.bytes) none)) c.in_err-own.field-0.0 (c.in_err-own.ensures.refused p))
-
-pub returns-in_err-fields-clause-refused : goal.returns-in_err-fields-clause-refused
-returns-in_err-fields-clause-refused c = λ p.
-    let b = c.args.frame.now in
-    let e = err_from_is_err_and c.from_residual-in_err-fields.result c.from_residual-in_err-fields.ensures.1 in
-    rw (e.1, e.2) (directory_refused b c.args.off (λ none. no_fields b c.args.off c.args.pools.now p (no_pairs_moved SetAt b (omega arith) c.in_ok-counts.ensures.counts.1 c.len-limit.ensures none)) c.in_err-fields.field-0.0 (c.in_err-fields.ensures.refused p))
-
-pub returns-in_err-methods-clause-refused : goal.returns-in_err-methods-clause-refused
-returns-in_err-methods-clause-refused c = λ p.
-    let b = c.args.frame.now in
-    let e = err_from_is_err_and c.from_residual-in_err-methods.result c.from_residual-in_err-methods.ensures.1 in
-    rw (e.1, e.2) (directory_refused b c.args.off (λ none. no_methods b c.args.off c.args.pools.now p (no_pairs_moved SetAt b (omega (arith, c.in_ok-counts.ensures.counts.1)) c.in_ok-counts.ensures.counts.2 c.len-limit-2.ensures none)) c.in_err-methods.field-0.0 (c.in_err-methods.ensures.refused p))
-
-pub returns-in_err-parameters-clause-refused : goal.returns-in_err-parameters-clause-refused
-returns-in_err-parameters-clause-refused c = λ p.
-    let b = c.args.frame.now in
-    let e = err_from_is_err_and c.from_residual-in_err-parameters.result c.from_residual-in_err-parameters.ensures.1 in
-    rw (e.1, e.2) (directory_refused b c.args.off (λ none. no_parameters b c.args.off c.args.pools.now p (no_pairs_moved RefListAt b (omega (arith, c.in_ok-counts.ensures.counts.1, c.in_ok-counts.ensures.counts.2)) c.in_ok-counts.ensures.counts.3 c.len-limit-2.ensures none)) c.in_err-parameters.field-0.0 (c.in_err-parameters.ensures.refused p))
-
-pub returns-clause-read : goal.returns-clause-read
-returns-clause-read c = λ p.
-    let b = c.args.frame.now in
-    let m = c.args.pools.now in
-    let o = c.args.off in
-    let most = c.args.most in
-    let w1 = c.counted_set_at.new.budget.weight in
-    let own = set_of c.in_ok-own.own in
-    let bound : c.counted_set_at.new.budget.most ≡ most = c.in_ok-own.ensures.most in
-    let bound2 : c.member_sets_at.new.budget.most ≡ most = c.in_ok-fields.ensures.most ∙ bound in
-    let bound3 : c.member_sets_at-2.new.budget.most ≡ most = c.in_ok-methods.ensures.most ∙ bound2 in
-    let place : c.u32_at-place.result ≡ uint_at b o = c.u32_at-place.ensures ∙ ap (λ (x : List ℕ). uint_at x o) c.bytes-bytes.ensures.bytes in
-    let r1 = c.in_ok-own.ensures.read p in
-    let r2 = c.in_ok-fields.ensures.read p in
-    let r3 = c.in_ok-methods.ensures.read p in
-    let r4 = c.in_ok-parameters.ensures.read p in
-    directory_kept b o m p most w1 c.member_sets_at.new.budget.weight c.member_sets_at-2.new.budget.weight c.member_lists_at.new.budget.weight own (map member_set_of c.in_ok-fields.fields.items) (map member_set_of c.in_ok-methods.methods.items) (map member_list_of c.in_ok-parameters.parameters.items) c.in_ok-counts.ensures.counts.0
-    (kept_as _ _ (set_weight_in m) (set_weight_in m) most 0 w1 own (λ x k. subst (λ (n : ℕ). IsSetOrEmptyAt b n m x) place k) (λ x k. refl) r1)
-    (kept_moved _ _ (sum_by (λ (e : ℕ × NumberedSet). set_weight_in m e.1)) bound (λ xs k. pairs_moved (IsKnownSet m) (set_in m) SetAt b (omega arith) c.in_ok-counts.ensures.counts.1 c.len-limit.ensures k) r2)
-    (kept_moved _ _ (sum_by (λ (e : ℕ × NumberedSet). set_weight_in m e.1)) bound2 (λ xs k. pairs_moved (IsKnownSet m) (set_in m) SetAt b (omega (arith, c.in_ok-counts.ensures.counts.1)) c.in_ok-counts.ensures.counts.2 c.len-limit-2.ensures k) r3)
-    (kept_moved _ _ (sum_by (λ (e : ℕ × List NumberedSet). sets_weight_in m e.1)) bound3 (λ xs k. pairs_moved (All (IsKnownSet m)) (map (set_in m)) RefListAt b (omega (arith, c.in_ok-counts.ensures.counts.1, c.in_ok-counts.ensures.counts.2)) c.in_ok-counts.ensures.counts.3 c.len-limit-2.ensures k) r4)
+    rw (e.1, e.2) (c.in_err-directory.ensures.refused p)

@@ -1,12 +1,13 @@
-use Rattle.std.proofs.Common.{◌≡◌, ◌+◌, ◌*◌, ◌++◌, ◌∷◌, ◌∙◌, ◌≤◌, ℕ, List, [], map, sum_by, ap, subst, arith}
+use Rattle.std.proofs.Common.{◌≡◌, ◌+◌, ◌*◌, ◌++◌, ◌∷◌, ◌∙◌, ◌≤◌, ℕ, List, [], map, sum_by, refl, ap, sym, subst, arith}
 use Rattle.std.proofs.lemmas.List.{map-append}
 use Rattle.std.proofs.lemmas.Result.{err_from_is_err_and}
 use Rattle.dexspec.specs.Bytes.{uint_at}
 use Rattle.dexval.specs.Code.{set_of}
 use Rattle.dexval.specs.Numbered.{NumberedSet}
-use Rattle.dexval.specs.Directories.{IsSetOrEmptyAt, NoSetOrEmptyAt, IsRefListAt, set_weight_in, sets_weight_in}
-use Rattle.dexval.proofs.DirectoryRead.{HaveReadList, one_set_more, no_set_next, no_list_room, list_read}
-use Rattle.dexval.proofs.Keeping.{one_kept, kept_as, kept_moved, list_adds, list_weighs, not_within}
+use Rattle.dexval.specs.Directories.{IsKept, IsSetOrEmptyAt, NoSetOrEmptyAt, IsRefListAt, set_weight_in, sets_weight_in}
+use Rattle.dexval.proofs.DirectoryRead.{HaveReadList, no_list_yet, one_set_more, no_set_next, no_list_room, list_read}
+use Rattle.dexval.proofs.JudgedSets.{judged_later}
+use Rattle.dexval.proofs.Keeping.{none_kept, one_kept, kept_as, kept_moved, list_adds, list_weighs, not_within}
 use Rattle.dexval.proofs.Refusals.{refused_so}
 use Rattle.dexval.proofs.directory_reading.listed_sets_at.Goals.{then-is_within+in_ok-push, else-is_within}
 use Rattle.dexval.proofs.directory_reading.listed_sets_at.Goals as goal
@@ -22,6 +23,21 @@ returns-in_err-set-clause-refused c = λ p.
     let place : c.u32_at-place.result ≡ uint_at b (c.args.off + 4 + 4 * c.loop-i.i) = c.u32_at-place.ensures ∙ ap (λ (x : List ℕ). uint_at x (c.args.off + 4 + 4 * c.loop-i.i)) c.bytes-bytes.ensures.bytes in
     let e = err_from_is_err_and c.from_residual-in_err-set.result c.from_residual-in_err-set.ensures.1 in
     rw (e.1, e.2) (refused_so (λ none. no_set_next b c.args.off c.loop-i.i (omega (arith, c.in_ok-count.ensures.count.1)) (subst (NoSetOrEmptyAt b) place none)) c.in_err-set.field-0.0 (c.in_err-set.ensures.refused p))
+
+pub loop-i-init : goal.loop-i-init
+loop-i-init c = record {
+  bound = c.add.ensures.most;
+  judged = λ p. judged_later c.args.frame.now c.args.pools.now c.args.judged.now c.args.judged.now refl refl (λ le. omega (arith, le, c.add.ensures.grows, c.add.ensures.most)) (c.requires.judged p);
+  read = λ p.
+      let b = c.args.frame.now in
+      let m = c.args.pools.now in
+      let most = c.args.budget.now.most in
+      let weight = c.args.budget.now.weight in
+      let Read = HaveReadList b (c.args.off + 4) m 0 in
+      let weighs = λ (ss : List NumberedSet). c.list_weight-list.result + sum_by (set_weight_in m) ss in
+      subst (λ l. IsKept Read weighs most weight c.add.new.self.weight (map set_of l)) (sym c.in_ok-sets.ensures.items)
+      (none_kept Read weighs most weight c.add.new.self.weight (no_list_yet b (c.args.off + 4) m) c.add.ensures.grows (omega (arith, c.add.ensures.weight)));
+}
 
 pub loop-i-preserved : goal.loop-i-preserved
 loop-i-preserved c =

@@ -17,7 +17,7 @@ pub returns-in_err-number-clause-refused : goal.returns-in_err-number-clause-ref
 returns-in_err-number-clause-refused c = λ p.
     let m = c.args.pools.now in
     let h = c.loop-i.invariant.read p in
-    let e = err_from_is_err_and c.from_residual.result c.from_residual.ensures.1 in
+    let e = err_from_is_err_and c.from_residual-in_err-number.result c.from_residual-in_err-number.ensures.1 in
     rw (e.1, e.2) (refused_so (no_pair_next (All (IsKnownSet m)) (map (set_in m)) RefListAt c.args.frame.now c.args.at c.args.count c.args.limit c.loop-i.i c.loop-i.least h.item (omega arith) h.is_read) c.in_err-number.field-0.0 c.in_err-number.ensures.refused)
 
 pub returns-in_err-sets-clause-refused : goal.returns-in_err-sets-clause-refused
@@ -34,7 +34,7 @@ loop-i-init c = record {
   read = λ p.
       let m = c.args.pools.now in
       let weight = c.args.budget.now.weight in
-      subst (λ l. IsKept (HaveReadPairs (All (IsKnownSet m)) (map (set_in m)) RefListAt c.args.frame.now c.args.at c.args.limit 0 0) (sum_by (λ (e : ℕ × List NumberedSet). sets_weight_in m e.1)) c.args.budget.now.most weight weight (map member_list_of l)) (sym c.new-members.ensures.items)
+      subst (λ l. IsKept (HaveReadPairs (All (IsKnownSet m)) (map (set_in m)) RefListAt c.args.frame.now c.args.at c.args.limit 0 0) (sum_by (λ (e : ℕ × List NumberedSet). sets_weight_in m e.1)) c.args.budget.now.most weight weight (map member_list_of l)) (sym c.in_ok-members.ensures.items)
       (none_kept (HaveReadPairs (All (IsKnownSet m)) (map (set_in m)) RefListAt c.args.frame.now c.args.at c.args.limit 0 0) (sum_by (λ (e : ℕ × List NumberedSet). sets_weight_in m e.1)) c.args.budget.now.most weight weight
       (no_pair_yet (All (IsKnownSet m)) (map (set_in m)) RefListAt c.args.frame.now c.args.at c.args.limit) (omega arith) (omega arith));
 }

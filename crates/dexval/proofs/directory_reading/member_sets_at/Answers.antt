@@ -5,10 +5,10 @@ use Rattle.dexspec.specs.Bytes.{uint_at}
 use Rattle.dexspec.specs.Annotations.{AnnotationSet, SetAt}
 use Rattle.dexval.specs.Code.{set_of}
 use Rattle.dexval.specs.Numbered.{NumberedSet, IsKnownSet, set_in}
-use Rattle.dexval.specs.Directories.{IsSetOrEmptyAt, ArePairsAt, member_set_of, set_weight_in}
+use Rattle.dexval.specs.Directories.{IsKept, IsSetOrEmptyAt, ArePairsAt, member_set_of, set_weight_in}
 use Rattle.dexval.specs.Reading.{IsSetAt}
-use Rattle.dexval.proofs.DirectoryRead.{HaveReadPairs, set_is, no_set_is, one_pair_more, no_pair_next, no_item_next, pairs_end}
-use Rattle.dexval.proofs.Keeping.{one_kept, kept_as, kept_moved, members_add, not_within}
+use Rattle.dexval.proofs.DirectoryRead.{HaveReadPairs, set_is, no_set_is, no_pair_yet, one_pair_more, no_pair_next, no_item_next, pairs_end}
+use Rattle.dexval.proofs.Keeping.{none_kept, one_kept, kept_as, kept_moved, members_add, not_within}
 use Rattle.dexval.proofs.Refusals.{refused_so}
 use Rattle.dexval.proofs.directory_reading.member_sets_at.Goals.{then-is_within+in_ok-push, else-is_within}
 use Rattle.dexval.proofs.directory_reading.member_sets_at.Goals as goal
@@ -17,7 +17,7 @@ pub returns-in_err-number-clause-refused : goal.returns-in_err-number-clause-ref
 returns-in_err-number-clause-refused c = λ p.
     let m = c.args.pools.now in
     let h = c.loop-i.invariant.read p in
-    let e = err_from_is_err_and c.from_residual.result c.from_residual.ensures.1 in
+    let e = err_from_is_err_and c.from_residual-in_err-number.result c.from_residual-in_err-number.ensures.1 in
     rw (e.1, e.2) (refused_so (no_pair_next (IsKnownSet m) (set_in m) SetAt c.args.frame.now c.args.at c.args.count c.args.limit c.loop-i.i c.loop-i.least h.item (omega arith) h.is_read) c.in_err-number.field-0.0 c.in_err-number.ensures.refused)
 
 pub returns-in_err-set-clause-refused : goal.returns-in_err-set-clause-refused
@@ -26,6 +26,20 @@ returns-in_err-set-clause-refused c = λ p.
     let other : c.in_ok-number.off ≢ 0 = λ e. c.in_ok-number.ensures.pair.0.offset (sym c.in_ok-number.ensures.pair.2 ∙ e) in
     let e = err_from_is_err_and c.from_residual-in_err-set.result c.from_residual-in_err-set.ensures.1 in
     rw (e.1, e.2) (refused_so (λ none. no_item_next SetAt b c.args.at c.args.count c.args.limit c.loop-i.i (omega arith) (subst (λ (o : ℕ). (y : AnnotationSet) → SetAt b o y → ⊥) c.in_ok-number.ensures.pair.2 (no_set_is b c.in_ok-number.off other none))) c.in_err-set.field-0.0 (c.in_err-set.ensures.refused p))
+
+pub loop-i-init : goal.loop-i-init
+loop-i-init c = record {
+  least_fits = omega arith;
+  bound = refl;
+  judged = c.requires.judged;
+  read = λ p.
+      let m = c.args.pools.now in
+      let weight = c.args.budget.now.weight in
+      let Read = HaveReadPairs (IsKnownSet m) (set_in m) SetAt c.args.frame.now c.args.at c.args.limit 0 0 in
+      let weighs = sum_by (λ (e : ℕ × NumberedSet). set_weight_in m e.1) in
+      subst (λ l. IsKept Read weighs c.args.budget.now.most weight weight (map member_set_of l)) (sym c.in_ok-members.ensures.items)
+      (none_kept Read weighs c.args.budget.now.most weight weight (no_pair_yet (IsKnownSet m) (set_in m) SetAt c.args.frame.now c.args.at c.args.limit) (omega arith) (omega arith));
+}
 
 pub loop-i-preserved : goal.loop-i-preserved
 loop-i-preserved c =

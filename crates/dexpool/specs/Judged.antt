@@ -27,6 +27,11 @@ letters_in letters ns = map (letter_in letters) ns
 abbrev pub NoVoid : List ℕ → List ℕ → Type 0
 NoVoid letters ns = All (λ n. letter_in letters n ≢ 0x56) ns
 
+-- units begin with the letter of a number, which is not void's, before these others
+pub record BeginsAt (letters units : List ℕ) (n : ℕ) (rest : List ℕ) : Type 0 where
+  pub units_are : units ≡ letter_in letters n ∷ rest
+  pub no_void : letter_in letters n ≢ 0x56
+
 -- the text is a first letter and then those of the numbers, none of which is void's
 pub record IsSpelled (letters text : List ℕ) (first : ℕ) (ns : List ℕ) : Type 0 where
   pub text_is : text ≡ first ∷ letters_in letters ns

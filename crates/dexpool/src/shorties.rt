@@ -4,7 +4,7 @@ ghost use Rattle.std.specs.Prelude.{◌≡◌, ◌↔◌, ◌<◌, ◌∷◌, []
 ghost use Rattle.dexspec.specs.Names.{shorty_letter};
 ghost use Rattle.dexpool.specs.Tables.{type_of};
 ghost use Rattle.dexpool.specs.Reading.{AreNames};
-ghost use Rattle.dexpool.specs.Judged.{AreLetters, IsSpelled};
+ghost use Rattle.dexpool.specs.Judged.{AreLetters, BeginsAt, IsSpelled};
 
 use crate::kinds::{VOID, letter};
 use crate::names::Names;
@@ -46,6 +46,18 @@ fn takes(units: &mut Units<'_>, letter: u16) -> bool
     }
 }
 
+// Takes the next unit, and answers whether it is the letter of this number, that of a type of values.
+fn takes_letter(units: &mut Units<'_>, letters: &[u16], number: usize) -> bool
+    ensures yes { result ≡ true → BeginsAt letters.now units.old number units.new }
+    ensures no { result ≡ false → (rest : List ℕ) → BeginsAt letters.now units.old number rest → ⊥ }
+{
+    let letter = letters.get(number).copied().unwrap_or(VOID);
+    if letter == VOID {
+        return false;
+    }
+    takes(units, letter)
+}
+
 // Whether no unit is left.
 fn ends(units: &mut Units<'_>) -> bool
     ensures { IsTrue result ↔ (units.old ≡ []) }
@@ -72,11 +84,7 @@ pub(crate) fn is_spelled(
         return false;
     }
     for i in 0..numbers.len() {
-        let letter = letters.get(numbers.at(i)).copied().unwrap_or(VOID);
-        if letter == VOID {
-            return false;
-        }
-        if !takes(&mut units, letter) {
+        if !takes_letter(&mut units, letters, numbers.at(i)) {
             return false;
         }
     }

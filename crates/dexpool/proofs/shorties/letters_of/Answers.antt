@@ -1,0 +1,10 @@
+use Rattle.std.proofs.Common.{ℕ, [], ◌∷◌, ◌++◌, sym, ◌∙◌}
+use Rattle.std.proofs.lemmas.List.{map_more}
+use Rattle.dexspec.specs.Names.{shorty_letter}
+use Rattle.dexpool.specs.Tables.{text_of}
+use Rattle.dexpool.proofs.shorties.letters_of.Goals as goal
+
+pub loop-i-preserved : goal.loop-i-preserved
+loop-i-preserved c = c.in_ok-push.ensures.items
+    ∙ (λ k. c.loop-i.invariant k ++ c.letter_at.ensures k ∷ [])
+    ∙ sym (map_more (λ (n : ℕ). shorty_letter (text_of c.args.names.now.strings.now n)) c.args.names.now.types.now c.loop-i.i 0 c.loop-i-test.true)

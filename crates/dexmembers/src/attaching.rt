@@ -61,7 +61,7 @@ pub(crate) fn attach_fields(
     ensures fields { EntriesRise sets.old.items → NumbersRise (map (λ x. x.index) listed.now) → IfOk result (λ fields. fields.items ≡ map (field_with sets.old.items) listed.now) }
     ensures left { IfOk result (λ _. AreTaken set_of (map (λ x. x.index) listed.now) sets.old.items sets.new.items) }
 {
-    let mut fields = Vec::new(alloc);
+    let mut fields = Vec::with_capacity(alloc, listed.len())?;
     for field in listed {
         let annotations = take_set(alloc, sets, field.index);
         fields.push(Field {
@@ -89,7 +89,7 @@ pub(crate) fn attach_methods<'a>(
     ensures sets_left { IfOk result (λ _. AreTaken set_of (map (λ x. x.index) listed.now) sets.old.items sets.new.items) }
     ensures lists_left { IfOk result (λ _. AreTaken sets_of (map (λ x. x.index) listed.now) lists.old.items lists.new.items) }
 {
-    let mut methods = Vec::new(alloc);
+    let mut methods = Vec::with_capacity(alloc, listed.len())?;
     let mut codes = codes.into_iter();
     for method in listed {
         let code = codes.next().flatten();

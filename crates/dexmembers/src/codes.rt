@@ -10,6 +10,7 @@ ghost use Rattle.dexcode.specs.Numbered.{StandsForCode};
 ghost use Rattle.dexmembers.specs.MethodCodes.{HasCodeOrNone, IsCodeOrNone, IsCodeOrNoneFault, HaveCodes, AreCodesOf, AreHeavyCodes, IsCodesFault, one_code_weight, optional_code_weight};
 
 use crate::class_data::EncodedMethod;
+use crate::encoded_lists::room;
 use dexcode::{Code, debug_bare_law, read_code};
 use dexhead::Frame;
 use dexpool::{ItemFault, Pools};
@@ -114,7 +115,7 @@ pub(crate) fn read_codes<'a>(
     ensures refused { ArePools frame.now pools.now → IfErr result (IsCodesFault frame.now methods.now) }
 {
     pools.numbering().is_numbering();
-    let mut codes = Vec::new(alloc);
+    let mut codes = Vec::with_capacity(alloc, room(methods.len()))?;
     let mut left = most;
     for i in 0..methods.len() {
         let code = match code_or_none(alloc, frame, pools, methods[i].code_off) {

@@ -10,6 +10,14 @@ use dexpool::ItemFault;
 use std::alloc::Global;
 use std::cmp::Ordering;
 
+// The most members for which room is taken before they are read.
+const MOST_AT_ONCE: usize = 4096;
+
+/// For how many of so many members room is taken before they are read: a count that is not true asks for little.
+pub(crate) fn room(count: usize) -> usize {
+    count.min(MOST_AT_ONCE)
+}
+
 // So many members from a place on, and how many bytes spell them.
 fn read_list<T: Encoded>(
     alloc: Global,
@@ -23,7 +31,7 @@ fn read_list<T: Encoded>(
     ensures fault { IfErr result (IsDataRefusal (NoList (T.stands owner.entry.pools.now owner.entry.class) T.index_of bytes.now at count)) }
 {
     T::law();
-    let mut members = Vec::new(alloc);
+    let mut members = Vec::with_capacity(alloc, room(count as usize))?;
     let mut size = 0;
     let mut last = None;
     for _ in 0..count {

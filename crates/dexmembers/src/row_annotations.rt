@@ -10,9 +10,9 @@ ghost use Rattle.dexmembers.specs.RowParts.{AreAnnotationsOf, AreHeavyAnnotation
 
 use crate::class_data::{ClassData, EncodedField, EncodedMethod, row_number};
 use crate::naming::names_members;
-use dexhead::{Frame, u32_at};
+use dexhead::Frame;
 use dexpool::{ItemFault, Pools};
-use dexval::{AnnotationSet, Directory, read_directory_within};
+use dexval::{AnnotationSet, Directory, member_counts, read_directory_within};
 use std::alloc::Global;
 
 // Whether the directory at an offset names declared members alone.
@@ -20,29 +20,22 @@ fn names_declared(frame: &Frame<'_>, off: u32, declared: &ClassData) -> bool
     ensures listed { IsTrue result → NamesRead frame.now off declared.now }
     ensures missing { HasMembers frame.now off → ListsRise declared.now → NamesRead frame.now off declared.now → IsTrue result }
 {
-    if !frame.is_in_data(off, 16) {
-        return false;
-    }
-    let bytes = frame.bytes();
-    let fields = u32_at(bytes, off as usize + 4);
-    let methods = u32_at(bytes, off as usize + 8);
-    let parameters = u32_at(bytes, off as usize + 12);
-    let pairs = u64::from(fields) + u64::from(methods) + u64::from(parameters);
-    if !frame.is_in_data(off, 16 + 8 * pairs) {
-        return false;
-    }
+    let counts = match member_counts(frame, off) {
+        Some(counts) => counts,
+        None => return false,
+    };
     let at = off as usize + 16;
     let (first, second) = (&declared.static_fields, &declared.instance_fields);
-    if !names_members::<EncodedField>(frame, at, fields, first, second) {
+    if !names_members::<EncodedField>(frame, at, counts.fields, first, second) {
         return false;
     }
-    let at = at + 8 * fields as usize;
+    let at = at + 8 * counts.fields as usize;
     let (first, second) = (&declared.direct_methods, &declared.virtual_methods);
-    if !names_members::<EncodedMethod>(frame, at, methods, first, second) {
+    if !names_members::<EncodedMethod>(frame, at, counts.methods, first, second) {
         return false;
     }
-    let at = at + 8 * methods as usize;
-    names_members::<EncodedMethod>(frame, at, parameters, first, second)
+    let at = at + 8 * counts.methods as usize;
+    names_members::<EncodedMethod>(frame, at, counts.parameters, first, second)
 }
 
 /// Reads the annotations of the class of row `row` and of its members, or none where its offset is 0. Where their sets weigh

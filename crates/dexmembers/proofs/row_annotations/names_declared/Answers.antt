@@ -1,5 +1,4 @@
 use Rattle.std.proofs.Common.{◌≡◌, ◌∙◌, ◌+◌, ◌*◌, ◌++◌, ℕ, List, refl, sym, ap, subst, true, false, arith}
-use Rattle.dexspec.specs.Bytes.{uint_at}
 use Rattle.dexspec.specs.Annotations.{fields_count, methods_count, parameters_count}
 use Rattle.dexmembers.specs.Naming.{field_indices, method_indices, fields_read, methods_read, BothRise}
 use Rattle.dexmembers.proofs.Named.{names_moved}
@@ -9,10 +8,10 @@ pub returns-then-not-names_members-clause-missing : goal.returns-then-not-names_
 returns-then-not-names_members-clause-missing c = λ has rise names.
     let b = c.args.frame.now in
     let off = c.args.off in
-    let count : c.u32_at-fields.result ≡ fields_count b off = c.u32_at-fields.ensures ∙ ap (λ (x : List ℕ). uint_at x (off + 4)) c.bytes-bytes.ensures.bytes in
+    let count : c.in-Some.counts.fields ≡ fields_count b off = c.in-Some.ensures.some.1 in
     let first = c.deref.ensures.value in
     let second = c.deref-2.ensures.value in
-    let there = names_moved b (off + 16) (off + 16) (fields_count b off) c.u32_at-fields.result (fields_read c.args.declared.now) _ refl (sym count) (λ i. field_indices (sym first i) ++ field_indices (sym second i)) names.fields_named in
+    let there = names_moved b (off + 16) (off + 16) (fields_count b off) c.in-Some.counts.fields (fields_read c.args.declared.now) _ refl (sym count) (λ i. field_indices (sym first i) ++ field_indices (sym second i)) names.fields_named in
     let found = c.names_members.ensures.missing (subst (λ l. BothRise l (field_indices c.deref-2.result.now)) (λ i. field_indices (sym first i)) (subst (λ l. BothRise (field_indices c.args.declared.now.static_fields.items) l) (λ i. field_indices (sym second i)) rise.rising_fields)) there in
     absurd (let e : false ≡ true = sym c.if-not-names_members.true ∙ found in cc)
 
@@ -20,11 +19,11 @@ pub returns-then-not-names_members-2-clause-missing : goal.returns-then-not-name
 returns-then-not-names_members-2-clause-missing c = λ has rise names.
     let b = c.args.frame.now in
     let off = c.args.off in
-    let fields : c.u32_at-fields.result ≡ fields_count b off = c.u32_at-fields.ensures ∙ ap (λ (x : List ℕ). uint_at x (off + 4)) c.bytes-bytes.ensures.bytes in
-    let count : c.u32_at-methods.result ≡ methods_count b off = c.u32_at-methods.ensures ∙ ap (λ (x : List ℕ). uint_at x (off + 8)) c.bytes-bytes.ensures.bytes in
+    let fields : c.in-Some.counts.fields ≡ fields_count b off = c.in-Some.ensures.some.1 in
+    let count : c.in-Some.counts.methods ≡ methods_count b off = c.in-Some.ensures.some.2 in
     let first = c.deref-3.ensures.value in
     let second = c.deref-4.ensures.value in
-    let there = names_moved b (off + 16 + 8 * fields_count b off) (off + 16 + 8 * c.u32_at-fields.result) (methods_count b off) c.u32_at-methods.result (methods_read c.args.declared.now) _ (ap (λ (n : ℕ). off + 16 + 8 * n) (sym fields)) (sym count) (λ i. method_indices (sym first i) ++ method_indices (sym second i)) names.methods_named in
+    let there = names_moved b (off + 16 + 8 * fields_count b off) (off + 16 + 8 * c.in-Some.counts.fields) (methods_count b off) c.in-Some.counts.methods (methods_read c.args.declared.now) _ (ap (λ (n : ℕ). off + 16 + 8 * n) (sym fields)) (sym count) (λ i. method_indices (sym first i) ++ method_indices (sym second i)) names.methods_named in
     let found = c.names_members-2.ensures.missing (subst (λ l. BothRise l (method_indices c.deref-4.result.now)) (λ i. method_indices (sym first i)) (subst (λ l. BothRise (method_indices c.args.declared.now.direct_methods.items) l) (λ i. method_indices (sym second i)) rise.rising_methods)) there in
     absurd (let e : false ≡ true = sym c.if-not-names_members-2.true ∙ found in cc)
 
@@ -33,15 +32,15 @@ returns-clause-listed c = λ e.
     let b = c.args.frame.now in
     let off = c.args.off in
     let d = c.args.declared.now in
-    let fields : c.u32_at-fields.result ≡ fields_count b off = c.u32_at-fields.ensures ∙ ap (λ (x : List ℕ). uint_at x (off + 4)) c.bytes-bytes.ensures.bytes in
-    let methods : c.u32_at-methods.result ≡ methods_count b off = c.u32_at-methods.ensures ∙ ap (λ (x : List ℕ). uint_at x (off + 8)) c.bytes-bytes.ensures.bytes in
-    let parameters : c.u32_at-parameters.result ≡ parameters_count b off = c.u32_at-parameters.ensures ∙ ap (λ (x : List ℕ). uint_at x (off + 12)) c.bytes-bytes.ensures.bytes in
-    let third : off + 16 + 8 * c.u32_at-fields.result + 8 * c.u32_at-methods.result ≡ off + 16 + 8 * (fields_count b off + methods_count b off) = omega (arith, fields, methods) in
+    let fields : c.in-Some.counts.fields ≡ fields_count b off = c.in-Some.ensures.some.1 in
+    let methods : c.in-Some.counts.methods ≡ methods_count b off = c.in-Some.ensures.some.2 in
+    let parameters : c.in-Some.counts.parameters ≡ parameters_count b off = c.in-Some.ensures.some.3 in
+    let third : off + 16 + 8 * c.in-Some.counts.fields + 8 * c.in-Some.counts.methods ≡ off + 16 + 8 * (fields_count b off + methods_count b off) = omega (arith, fields, methods) in
     record {
-      fields_named = names_moved b (off + 16) (off + 16) c.u32_at-fields.result (fields_count b off) _ (fields_read d) refl fields (λ i. field_indices (c.deref.ensures.value i) ++ field_indices (c.deref-2.ensures.value i)) (c.names_members.ensures.listed c.if-not-names_members.false);
-      methods_named = names_moved b (off + 16 + 8 * c.u32_at-fields.result) (off + 16 + 8 * fields_count b off) c.u32_at-methods.result (methods_count b off) _ (methods_read d) (ap (λ (n : ℕ). off + 16 + 8 * n) fields) methods
+      fields_named = names_moved b (off + 16) (off + 16) c.in-Some.counts.fields (fields_count b off) _ (fields_read d) refl fields (λ i. field_indices (c.deref.ensures.value i) ++ field_indices (c.deref-2.ensures.value i)) (c.names_members.ensures.listed c.if-not-names_members.false);
+      methods_named = names_moved b (off + 16 + 8 * c.in-Some.counts.fields) (off + 16 + 8 * fields_count b off) c.in-Some.counts.methods (methods_count b off) _ (methods_read d) (ap (λ (n : ℕ). off + 16 + 8 * n) fields) methods
           (λ i. method_indices (c.deref-3.ensures.value i) ++ method_indices (c.deref-4.ensures.value i)) (c.names_members-2.ensures.listed c.if-not-names_members-2.false);
-      parameters_named = names_moved b (off + 16 + 8 * c.u32_at-fields.result + 8 * c.u32_at-methods.result) (off + 16 + 8 * (fields_count b off + methods_count b off)) c.u32_at-parameters.result (parameters_count b off) _ (methods_read d) third parameters
+      parameters_named = names_moved b (off + 16 + 8 * c.in-Some.counts.fields + 8 * c.in-Some.counts.methods) (off + 16 + 8 * (fields_count b off + methods_count b off)) c.in-Some.counts.parameters (parameters_count b off) _ (methods_read d) third parameters
           (λ i. method_indices (c.deref-5.ensures.value i) ++ method_indices (c.deref-6.ensures.value i)) (c.names_members-3.ensures.listed e);
     }
 
@@ -49,12 +48,12 @@ pub returns-clause-missing : goal.returns-clause-missing
 returns-clause-missing c = λ has rise names.
     let b = c.args.frame.now in
     let off = c.args.off in
-    let fields : c.u32_at-fields.result ≡ fields_count b off = c.u32_at-fields.ensures ∙ ap (λ (x : List ℕ). uint_at x (off + 4)) c.bytes-bytes.ensures.bytes in
-    let methods : c.u32_at-methods.result ≡ methods_count b off = c.u32_at-methods.ensures ∙ ap (λ (x : List ℕ). uint_at x (off + 8)) c.bytes-bytes.ensures.bytes in
-    let parameters : c.u32_at-parameters.result ≡ parameters_count b off = c.u32_at-parameters.ensures ∙ ap (λ (x : List ℕ). uint_at x (off + 12)) c.bytes-bytes.ensures.bytes in
-    let third : off + 16 + 8 * (fields_count b off + methods_count b off) ≡ off + 16 + 8 * c.u32_at-fields.result + 8 * c.u32_at-methods.result = omega (arith, fields, methods) in
+    let fields : c.in-Some.counts.fields ≡ fields_count b off = c.in-Some.ensures.some.1 in
+    let methods : c.in-Some.counts.methods ≡ methods_count b off = c.in-Some.ensures.some.2 in
+    let parameters : c.in-Some.counts.parameters ≡ parameters_count b off = c.in-Some.ensures.some.3 in
+    let third : off + 16 + 8 * (fields_count b off + methods_count b off) ≡ off + 16 + 8 * c.in-Some.counts.fields + 8 * c.in-Some.counts.methods = omega (arith, fields, methods) in
     let first = c.deref-5.ensures.value in
     let second = c.deref-6.ensures.value in
-    let there = names_moved b (off + 16 + 8 * (fields_count b off + methods_count b off)) (off + 16 + 8 * c.u32_at-fields.result + 8 * c.u32_at-methods.result) (parameters_count b off) c.u32_at-parameters.result (methods_read c.args.declared.now) _ third (sym parameters)
+    let there = names_moved b (off + 16 + 8 * (fields_count b off + methods_count b off)) (off + 16 + 8 * c.in-Some.counts.fields + 8 * c.in-Some.counts.methods) (parameters_count b off) c.in-Some.counts.parameters (methods_read c.args.declared.now) _ third (sym parameters)
     (λ i. method_indices (sym first i) ++ method_indices (sym second i)) names.parameters_named in
     c.names_members-3.ensures.missing (subst (λ l. BothRise l (method_indices c.deref-6.result.now)) (λ i. method_indices (sym first i)) (subst (λ l. BothRise (method_indices c.args.declared.now.direct_methods.items) l) (λ i. method_indices (sym second i)) rise.rising_methods)) there

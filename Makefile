@@ -4,11 +4,14 @@
 #                           what is proved is kept, so that a run that was interrupted goes on where it was
 #   make try                compiles the program with checks in the place of proofs, and runs it on two small files
 #   make check              the gate: proves everything from nothing and runs all cases
-#   make install PREFIX=..  puts the proved program and its manual page below PREFIX, /usr/local where none is named
+#   make install PREFIX=..  puts the proved program, as `make` built it, and its manual page below PREFIX, /usr/local where none is named
 #   make clean              removes what the crates' checks and builds keep, so that the next one begins from nothing
 
 PREFIX ?= /usr/local
 DESTDIR ?=
+
+# The proved program, once `make` has built it.
+PROGRAM = crates/dexkit/out/dexkit
 
 # How many tasks a check may have at a time.
 JOBS ?= $(shell nproc)
@@ -31,8 +34,12 @@ try:
 check:
 	rt ci
 
-install: all
-	install -D -m 755 crates/dexkit/out/dexkit $(DESTDIR)$(PREFIX)/bin/dexkit
+# Where nothing was built yet.
+$(PROGRAM):
+	$(MAKE) all
+
+install: $(PROGRAM)
+	install -D -m 755 $(PROGRAM) $(DESTDIR)$(PREFIX)/bin/dexkit
 	install -D -m 644 docs/dexkit.1 $(DESTDIR)$(PREFIX)/share/man/man1/dexkit.1
 
 clean:

@@ -20,7 +20,7 @@ use Rattle.dexmembers.specs.MethodCodes.{AreCodesOf}
 use Rattle.dexmembers.specs.Naming.{ListsRise, field_indices, method_indices}
 use Rattle.dexmembers.specs.StaticValues.{AreValuesOf}
 use Rattle.dexmembers.specs.declared.class_data.ClassData.{ClassData as DataRead}
-use Rattle.dexmembers.specs.declared.row_parts.Unweighed.{Unweighed}
+use Rattle.dexmembers.specs.declared.members.Contents.{Contents}
 
 -- ---- annotations
 
@@ -79,8 +79,8 @@ attached d a direct virtual vs = record {
 }
 
 -- what was put together, before it is weighed
-abbrev pub unweighed_in : Unweighed → NumberedMembers
-unweighed_in x = record {
+abbrev pub contents_in : Contents → NumberedMembers
+contents_in x = record {
   annotations = set_of x.annotations;
   static_fields = x.static_fields.items;
   instance_fields = x.instance_fields.items;

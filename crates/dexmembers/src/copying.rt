@@ -3,7 +3,7 @@
 ghost use Rattle.std.specs.Prelude.{◌≡◌, IfOk, map};
 ghost use Rattle.dexval.specs.Code.{set_of, value_of};
 
-use crate::members::{Field, Members, Method};
+use crate::members::{Contents, Field, Members, Method};
 use dexcode::Code;
 use dexval::{AnnotationSet, Value};
 use std::alloc::AllocError;
@@ -108,12 +108,14 @@ impl<'a> Members<'a> {
         ensures { IfOk result (λ copy. copy ≡ self.now) }
     {
         Ok(Members {
-            annotations: self.annotations.copy()?,
-            static_fields: copied_fields(&self.static_fields)?,
-            instance_fields: copied_fields(&self.instance_fields)?,
-            direct_methods: copied_methods(&self.direct_methods)?,
-            virtual_methods: copied_methods(&self.virtual_methods)?,
-            static_values: copied_values(&self.static_values)?,
+            contents: Contents {
+                annotations: self.contents.annotations.copy()?,
+                static_fields: copied_fields(&self.contents.static_fields)?,
+                instance_fields: copied_fields(&self.contents.instance_fields)?,
+                direct_methods: copied_methods(&self.contents.direct_methods)?,
+                virtual_methods: copied_methods(&self.contents.virtual_methods)?,
+                static_values: copied_values(&self.contents.static_values)?,
+            },
         })
     }
 }

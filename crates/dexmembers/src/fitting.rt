@@ -57,9 +57,9 @@ impl<'a> Members<'a> {
         ensures { (m n : Mentions) → LeadsInto m n remap.now → AreKnownMembers m self.now → IsTrue result ↔ MembersHavePlaces remap.now self.now }
     {
         places_law();
-        if !methods_fit(&self.direct_methods, remap) {
+        if !methods_fit(&self.contents.direct_methods, remap) {
             return false;
         }
-        methods_fit(&self.virtual_methods, remap)
+        methods_fit(&self.contents.virtual_methods, remap)
     }
 }

@@ -88,11 +88,11 @@ impl<'a> Members<'a> {
         requires { All (HasMark marks.old) (members_uses self.now) }
         ensures { AreMarkedToo (members_uses self.now) marks.old marks.new }
     {
-        self.annotations.mark(marks);
-        mark_fields(&self.static_fields, marks);
-        mark_fields(&self.instance_fields, marks);
-        mark_methods(&self.direct_methods, marks);
-        mark_methods(&self.virtual_methods, marks);
-        mark_values(&self.static_values, marks);
+        self.contents.annotations.mark(marks);
+        mark_fields(&self.contents.static_fields, marks);
+        mark_fields(&self.contents.instance_fields, marks);
+        mark_methods(&self.contents.direct_methods, marks);
+        mark_methods(&self.contents.virtual_methods, marks);
+        mark_values(&self.contents.static_values, marks);
     }
 }

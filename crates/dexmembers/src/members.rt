@@ -67,6 +67,12 @@ impl<'a> Model for Method<'a> {
 /// Source: "class_data_item", "annotations_directory_item", "encoded_array_item".
 #[derive(Drop)]
 pub struct Members<'a> {
+    pub(crate) contents: Contents<'a>,
+}
+
+/// What members hold, and what they will hold once it is weighed and is not too much.
+#[derive(Drop)]
+pub(crate) struct Contents<'a> {
     pub(crate) annotations: AnnotationSet,
     pub(crate) static_fields: Vec<Field>,
     pub(crate) instance_fields: Vec<Field>,
@@ -87,9 +93,9 @@ impl<'a> Model for Members<'a> {
 
     ghost coded = { Prim.hlevel (codes, elements_code, values_code) };
 
-    ghost view = { λ x. record { annotations = set_of x.annotations; static_fields = x.static_fields.items; instance_fields = x.instance_fields.items; direct_methods = x.direct_methods.items; virtual_methods = x.virtual_methods.items; static_values = values_of_list (map value_of x.static_values.items) } };
+    ghost view = { λ x. record { annotations = set_of x.contents.annotations; static_fields = x.contents.static_fields.items; instance_fields = x.contents.instance_fields.items; direct_methods = x.contents.direct_methods.items; virtual_methods = x.contents.virtual_methods.items; static_values = values_of_list (map value_of x.contents.static_values.items) } };
 
-    ghost invariant = { λ x. AreFew x.static_fields.items x.instance_fields.items x.direct_methods.items x.virtual_methods.items };
+    ghost invariant = { λ x. AreFew x.contents.static_fields.items x.contents.instance_fields.items x.contents.direct_methods.items x.contents.virtual_methods.items };
 }
 
 impl Field {
@@ -162,12 +168,14 @@ impl<'a> Members<'a> {
         ensures { result ≡ no_members }
     {
         Members {
-            annotations: AnnotationSet::empty(alloc),
-            static_fields: Vec::new(alloc),
-            instance_fields: Vec::new(alloc),
-            direct_methods: Vec::new(alloc),
-            virtual_methods: Vec::new(alloc),
-            static_values: Vec::new(alloc),
+            contents: Contents {
+                annotations: AnnotationSet::empty(alloc),
+                static_fields: Vec::new(alloc),
+                instance_fields: Vec::new(alloc),
+                direct_methods: Vec::new(alloc),
+                virtual_methods: Vec::new(alloc),
+                static_values: Vec::new(alloc),
+            },
         }
     }
 
@@ -176,48 +184,48 @@ impl<'a> Members<'a> {
     pub fn are_few(&self)
         ensures { AreFew self.now.static_fields self.now.instance_fields self.now.direct_methods self.now.virtual_methods }
     {
-        let _fields = &self.static_fields;
+        let _fields = &self.contents.static_fields;
     }
 
     /// The annotations of the class itself. No memory is taken.
     pub fn annotations(&self) -> &AnnotationSet
         ensures { set_of result.now ≡ self.now.annotations }
     {
-        &self.annotations
+        &self.contents.annotations
     }
 
     /// The static fields, by number. No memory is taken.
     pub fn static_fields(&self) -> &[Field]
         ensures { result.now ≡ self.now.static_fields }
     {
-        &self.static_fields
+        &self.contents.static_fields
     }
 
     /// The instance fields, by number. No memory is taken.
     pub fn instance_fields(&self) -> &[Field]
         ensures { result.now ≡ self.now.instance_fields }
     {
-        &self.instance_fields
+        &self.contents.instance_fields
     }
 
     /// The direct methods, by number. No memory is taken.
     pub fn direct_methods(&self) -> &[Method<'a>]
         ensures { result.now ≡ self.now.direct_methods }
     {
-        &self.direct_methods
+        &self.contents.direct_methods
     }
 
     /// The virtual methods, by number. No memory is taken.
     pub fn virtual_methods(&self) -> &[Method<'a>]
         ensures { result.now ≡ self.now.virtual_methods }
     {
-        &self.virtual_methods
+        &self.contents.virtual_methods
     }
 
     /// What the static fields begin with, in their order. No memory is taken.
     pub fn static_values(&self) -> &[Value]
         ensures { values_of_list (map value_of result.now) ≡ self.now.static_values }
     {
-        &self.static_values
+        &self.contents.static_values
     }
 }

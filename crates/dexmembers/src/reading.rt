@@ -9,19 +9,19 @@ ghost use Rattle.dexpool.specs.Pools.{ArePools};
 ghost use Rattle.dexmembers.specs.Numbered.{AreKnownMembers, members_in};
 ghost use Rattle.dexmembers.specs.Weight.{members_weight};
 ghost use Rattle.dexmembers.specs.Reading.{AreReadWithin, IsMembersFault};
-ghost use Rattle.dexmembers.specs.RowParts.{unweighed_in};
+ghost use Rattle.dexmembers.specs.RowParts.{contents_in};
 
 use crate::class_data::read_class_data;
-use crate::members::Members;
-use crate::row_parts::{Unweighed, attach, read_parts};
+use crate::members::{Contents, Members};
+use crate::row_parts::{attach, read_parts};
 use dexcode::{code_meaning_law, code_weight_law, debug_bare_law, debug_meaning_law};
 use dexhead::Frame;
 use dexpool::{ItemFault, Pools};
 use std::alloc::Global;
 
 // The members and what they weigh, or none where that is more than they may.
-fn within(unweighed: Unweighed<'_>, most: u32) -> Option<(Members<'_>, u32)>
-    ensures { (m : Mentions) → AreRising m → AreKnownMembers m (unweighed_in unweighed.entry) → MatchOption result (most < members_weight (members_in m (unweighed_in unweighed.entry))) (λ x. (x.0 ≡ unweighed_in unweighed.entry) × (x.1 ≡ members_weight (members_in m (unweighed_in unweighed.entry))) × (x.1 ≤ most)) }
+fn within(unweighed: Contents<'_>, most: u32) -> Option<(Members<'_>, u32)>
+    ensures { (m : Mentions) → AreRising m → AreKnownMembers m (contents_in unweighed.entry) → MatchOption result (most < members_weight (members_in m (contents_in unweighed.entry))) (λ x. (x.0 ≡ contents_in unweighed.entry) × (x.1 ≡ members_weight (members_in m (contents_in unweighed.entry))) × (x.1 ≤ most)) }
 {
     code_weight_law();
     code_meaning_law();
@@ -31,21 +31,8 @@ fn within(unweighed: Unweighed<'_>, most: u32) -> Option<(Members<'_>, u32)>
     if weight > u64::from(most) {
         return None;
     }
-    let Unweighed {
-        annotations,
-        static_fields,
-        instance_fields,
-        direct_methods,
-        virtual_methods,
-        static_values,
-    } = unweighed;
     let members = Members {
-        annotations,
-        static_fields,
-        instance_fields,
-        direct_methods,
-        virtual_methods,
-        static_values,
+        contents: unweighed,
     };
     Some((members, weight as u32))
 }

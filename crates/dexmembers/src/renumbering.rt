@@ -89,11 +89,11 @@ impl<'a> Members<'a> {
         requires { MembersHavePlaces remap.now self.old }
         ensures { self.new ≡ renumbered_members remap.now self.old }
     {
-        self.annotations.renumber(remap);
-        renumber_fields(&mut self.static_fields, remap);
-        renumber_fields(&mut self.instance_fields, remap);
-        renumber_methods(&mut self.direct_methods, remap);
-        renumber_methods(&mut self.virtual_methods, remap);
-        renumber_values(&mut self.static_values, remap);
+        self.contents.annotations.renumber(remap);
+        renumber_fields(&mut self.contents.static_fields, remap);
+        renumber_fields(&mut self.contents.instance_fields, remap);
+        renumber_methods(&mut self.contents.direct_methods, remap);
+        renumber_methods(&mut self.contents.virtual_methods, remap);
+        renumber_values(&mut self.contents.static_values, remap);
     }
 }

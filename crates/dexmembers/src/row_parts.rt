@@ -7,12 +7,12 @@ ghost use Rattle.dexval.specs.Code.{value_of};
 ghost use Rattle.dexval.specs.Numbered.{values_of_list};
 ghost use Rattle.dexmembers.specs.ClassData.{IsDataOf};
 ghost use Rattle.dexmembers.specs.Reading.{AreHeavyMembers, IsMembersFault};
-ghost use Rattle.dexmembers.specs.RowParts.{ArePartsOf, AreAttachable, attached, unweighed_in};
+ghost use Rattle.dexmembers.specs.RowParts.{ArePartsOf, AreAttachable, attached, contents_in};
 
 use crate::attaching::{attach_fields, attach_methods};
 use crate::class_data::ClassData;
 use crate::codes::read_codes;
-use crate::members::{Field, Method};
+use crate::members::Contents;
 use crate::row_annotations::read_annotations;
 use crate::static_values::read_static_values;
 use dexcode::Code;
@@ -92,17 +92,6 @@ pub(crate) fn read_parts<'a>(
     }
 }
 
-/// What a class declares, before it is weighed.
-#[derive(Drop)]
-pub(crate) struct Unweighed<'a> {
-    pub(crate) annotations: AnnotationSet,
-    pub(crate) static_fields: Vec<Field>,
-    pub(crate) instance_fields: Vec<Field>,
-    pub(crate) direct_methods: Vec<Method<'a>>,
-    pub(crate) virtual_methods: Vec<Method<'a>>,
-    pub(crate) static_values: Vec<Value>,
-}
-
 /// The members of class data with their parts.
 ///
 /// Error: the memory for a list was refused.
@@ -112,8 +101,8 @@ pub(crate) fn attach<'a>(
     alloc: Global,
     declared: &ClassData,
     parts: Parts<'a>,
-) -> Result<Unweighed<'a>, AllocError>
-    ensures { AreAttachable declared.now parts.entry.directory parts.entry.direct_codes.items parts.entry.virtual_codes.items → IfOk result (λ x. unweighed_in x ≡ attached declared.now parts.entry.directory parts.entry.direct_codes.items parts.entry.virtual_codes.items (values_of_list (map value_of parts.entry.static_values.items))) }
+) -> Result<Contents<'a>, AllocError>
+    ensures { AreAttachable declared.now parts.entry.directory parts.entry.direct_codes.items parts.entry.virtual_codes.items → IfOk result (λ x. contents_in x ≡ attached declared.now parts.entry.directory parts.entry.direct_codes.items parts.entry.virtual_codes.items (values_of_list (map value_of parts.entry.static_values.items))) }
 {
     let Parts {
         directory,
@@ -143,7 +132,7 @@ pub(crate) fn attach<'a>(
         &mut methods,
         &mut parameters,
     )?;
-    Ok(Unweighed {
+    Ok(Contents {
         annotations: own,
         static_fields,
         instance_fields,

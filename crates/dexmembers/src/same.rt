@@ -145,24 +145,26 @@ impl<'a> Members<'a> {
     pub fn same_mapped(&self, mine: &Remap, other: &Members<'_>, theirs: &Remap) -> bool
         ensures { IsTrue result ↔ (renumbered_members mine.now self.now ≡ renumbered_members theirs.now other.now) }
     {
-        if !same_fields(mine, &self.static_fields, theirs, &other.static_fields) {
+        let own = &self.contents;
+        let others = &other.contents;
+        if !same_fields(mine, &own.static_fields, theirs, &others.static_fields) {
             return false;
         }
-        if !same_fields(mine, &self.instance_fields, theirs, &other.instance_fields) {
+        if !same_fields(mine, &own.instance_fields, theirs, &others.instance_fields) {
             return false;
         }
-        if !self
+        if !own
             .annotations
-            .same_mapped(mine, &other.annotations, theirs)
+            .same_mapped(mine, &others.annotations, theirs)
         {
             return false;
         }
-        if !same_values_mapped(&self.static_values, mine, &other.static_values, theirs) {
+        if !same_values_mapped(&own.static_values, mine, &others.static_values, theirs) {
             return false;
         }
-        if !same_methods(mine, &self.direct_methods, theirs, &other.direct_methods) {
+        if !same_methods(mine, &own.direct_methods, theirs, &others.direct_methods) {
             return false;
         }
-        same_methods(mine, &self.virtual_methods, theirs, &other.virtual_methods)
+        same_methods(mine, &own.virtual_methods, theirs, &others.virtual_methods)
     }
 }

@@ -78,8 +78,8 @@ impl Members<'_> {
         ensures { IsGreatest (members_short_strings self.now) result }
     {
         greater(
-            greatest_of_methods(&self.direct_methods),
-            greatest_of_methods(&self.virtual_methods),
+            greatest_of_methods(&self.contents.direct_methods),
+            greatest_of_methods(&self.contents.virtual_methods),
         )
     }
 
@@ -89,7 +89,7 @@ impl Members<'_> {
     pub fn numbers_fit(&self)
         ensures { NumbersFit self.now }
     {
-        methods_fit_now(&self.direct_methods);
-        methods_fit_now(&self.virtual_methods);
+        methods_fit_now(&self.contents.direct_methods);
+        methods_fit_now(&self.contents.virtual_methods);
     }
 }

@@ -37,8 +37,8 @@ impl<'a> Members<'a> {
     pub fn drop_debug(&mut self)
         ensures { self.new ≡ stripped_members self.old }
     {
-        drop_debugs(&mut self.direct_methods);
-        drop_debugs(&mut self.virtual_methods);
+        drop_debugs(&mut self.contents.direct_methods);
+        drop_debugs(&mut self.contents.virtual_methods);
     }
 }
 

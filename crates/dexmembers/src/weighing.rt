@@ -8,11 +8,10 @@ ghost use Rattle.dexval.specs.Numbered.{values_of_list};
 ghost use Rattle.dexval.specs.Spelled.{numbered_set_weight, numbered_sets_weight, numbered_statics_weight};
 ghost use Rattle.dexmembers.specs.Numbered.{AreKnownMembers, members_in};
 ghost use Rattle.dexmembers.specs.Weight.{members_weight};
-ghost use Rattle.dexmembers.specs.RowParts.{unweighed_in};
+ghost use Rattle.dexmembers.specs.RowParts.{contents_in};
 ghost use Rattle.dexmembers.specs.Weighing.{numbered_field_weight, numbered_whole_weight, numbered_method_weight, numbered_members_weight};
 
-use crate::members::{Field, Members, Method};
-use crate::row_parts::Unweighed;
+use crate::members::{Contents, Field, Members, Method};
 use dexcode::{Code, code_meaning_law, code_weight_law, debug_bare_law, debug_meaning_law};
 use dexval::{AnnotationSet, Value, parameter_sets_weight, statics_weight};
 
@@ -117,14 +116,7 @@ impl<'a> Members<'a> {
     fn numbered_weight(&self) -> u64
         ensures { result ≡ min (2 ^ 64 - 1) (numbered_members_weight self.now) }
     {
-        whole_weight(
-            &self.annotations,
-            &self.static_fields,
-            &self.instance_fields,
-            &self.direct_methods,
-            &self.virtual_methods,
-            &self.static_values,
-        )
+        self.contents.weight()
     }
 
     /// What they weigh together, in bytes, or 2^64 - 1 where that is more: a class without its row and its interfaces. No
@@ -143,10 +135,10 @@ impl<'a> Members<'a> {
     }
 }
 
-impl Unweighed<'_> {
+impl Contents<'_> {
     /// What is declared weighs together, in bytes, or 2^64 - 1 where that is more. No memory is taken.
     pub(crate) fn weight(&self) -> u64
-        ensures { result ≡ min (2 ^ 64 - 1) (numbered_members_weight (unweighed_in self.now)) }
+        ensures { result ≡ min (2 ^ 64 - 1) (numbered_members_weight (contents_in self.now)) }
     {
         whole_weight(
             &self.annotations,

@@ -4,7 +4,7 @@ use Rattle.dexpool.specs.Numberings.{AreRising}
 use Rattle.dexval.specs.Code.{value_of}
 use Rattle.dexval.specs.Numbered.{values_of_list}
 use Rattle.dexmembers.specs.Reading.{AreHeavyMembers, AreReadWithin}
-use Rattle.dexmembers.specs.RowParts.{ArePartsOf, unweighed_in}
+use Rattle.dexmembers.specs.RowParts.{ArePartsOf, contents_in}
 use Rattle.dexmembers.specs.Numbered.{AreKnownMembers, members_in}
 use Rattle.dexmembers.specs.Weight.{members_weight}
 use Rattle.dexmembers.proofs.Judged.{data_refused}
@@ -24,7 +24,7 @@ returns-clause-read c = λ pools class.
     let d = c.in-Ok.declared in
     let p = c.in-Some.parts in
     let vs = values_of_list (map value_of p.static_values.items) in
-    let made = unweighed_in c.in_ok-unweighed.unweighed in
+    let made = contents_in c.in_ok-unweighed.unweighed in
     let rising = subst AreRising c.numbering.ensures c.is_numbering.ensures.rising in
     let is = c.in-Ok.ensures.read pools class in
     let parts = some_kept (AreHeavyMembers b r most) (λ x. ArePartsOf b r m d most x.directory x.direct_codes.items x.virtual_codes.items (values_of_list (map value_of x.static_values.items))) c.in-Ok-read_parts.found p c.in-Some.is (c.in-Ok-read_parts.ensures.read pools is) in

@@ -8,8 +8,8 @@ use Rattle.dexmembers.proofs.members.Members.greatest_short_string.Goals as goal
 
 pub returns : goal.returns
 returns c =
-    let direct = c.self.inside.direct_methods.items in
-    let virtual = c.self.inside.virtual_methods.items in
+    let direct = c.self.inside.contents.direct_methods.items in
+    let virtual = c.self.inside.contents.virtual_methods.items in
     let mine = subst (λ (xs : List NumberedMethod). IsGreatest (flat_map method_short_strings xs) c.greatest_of_methods.result) c.deref.ensures.value c.greatest_of_methods.ensures in
     let theirs = subst (λ (xs : List NumberedMethod). IsGreatest (flat_map method_short_strings xs) c.greatest_of_methods-2.result) c.deref-2.ensures.value c.greatest_of_methods-2.ensures in
     let both = c.greater.ensures (flat_map method_short_strings direct) (flat_map method_short_strings virtual) mine theirs in

@@ -15,12 +15,12 @@ use Rattle.dexmembers.proofs.members.Members.mark.Goals as goal
 pub mark_fields-requires : goal.mark_fields-requires
 mark_fields-requires c =
     let x : NumberedMembers = record {
-      annotations = set_of c.self.inside.annotations;
-      static_fields = c.self.inside.static_fields.items;
-      instance_fields = c.self.inside.instance_fields.items;
-      direct_methods = c.self.inside.direct_methods.items;
-      virtual_methods = c.self.inside.virtual_methods.items;
-      static_values = values_of_list (map value_of c.self.inside.static_values.items);
+      annotations = set_of c.self.inside.contents.annotations;
+      static_fields = c.self.inside.contents.static_fields.items;
+      instance_fields = c.self.inside.contents.instance_fields.items;
+      direct_methods = c.self.inside.contents.direct_methods.items;
+      virtual_methods = c.self.inside.contents.virtual_methods.items;
+      static_values = values_of_list (map value_of c.self.inside.contents.static_values.items);
     } in
     let own = set_uses x.annotations in
     let fs = flat_map field_uses x.static_fields in
@@ -35,12 +35,12 @@ mark_fields-requires c =
 pub mark_fields-requires-2 : goal.mark_fields-requires-2
 mark_fields-requires-2 c =
     let x : NumberedMembers = record {
-      annotations = set_of c.self.inside.annotations;
-      static_fields = c.self.inside.static_fields.items;
-      instance_fields = c.self.inside.instance_fields.items;
-      direct_methods = c.self.inside.direct_methods.items;
-      virtual_methods = c.self.inside.virtual_methods.items;
-      static_values = values_of_list (map value_of c.self.inside.static_values.items);
+      annotations = set_of c.self.inside.contents.annotations;
+      static_fields = c.self.inside.contents.static_fields.items;
+      instance_fields = c.self.inside.contents.instance_fields.items;
+      direct_methods = c.self.inside.contents.direct_methods.items;
+      virtual_methods = c.self.inside.contents.virtual_methods.items;
+      static_values = values_of_list (map value_of c.self.inside.contents.static_values.items);
     } in
     let own = set_uses x.annotations in
     let fs = flat_map field_uses x.static_fields in
@@ -56,12 +56,12 @@ mark_fields-requires-2 c =
 pub mark_methods-requires : goal.mark_methods-requires
 mark_methods-requires c =
     let x : NumberedMembers = record {
-      annotations = set_of c.self.inside.annotations;
-      static_fields = c.self.inside.static_fields.items;
-      instance_fields = c.self.inside.instance_fields.items;
-      direct_methods = c.self.inside.direct_methods.items;
-      virtual_methods = c.self.inside.virtual_methods.items;
-      static_values = values_of_list (map value_of c.self.inside.static_values.items);
+      annotations = set_of c.self.inside.contents.annotations;
+      static_fields = c.self.inside.contents.static_fields.items;
+      instance_fields = c.self.inside.contents.instance_fields.items;
+      direct_methods = c.self.inside.contents.direct_methods.items;
+      virtual_methods = c.self.inside.contents.virtual_methods.items;
+      static_values = values_of_list (map value_of c.self.inside.contents.static_values.items);
     } in
     let own = set_uses x.annotations in
     let fs = flat_map field_uses x.static_fields in
@@ -78,12 +78,12 @@ mark_methods-requires c =
 pub mark_methods-requires-2 : goal.mark_methods-requires-2
 mark_methods-requires-2 c =
     let x : NumberedMembers = record {
-      annotations = set_of c.self.inside.annotations;
-      static_fields = c.self.inside.static_fields.items;
-      instance_fields = c.self.inside.instance_fields.items;
-      direct_methods = c.self.inside.direct_methods.items;
-      virtual_methods = c.self.inside.virtual_methods.items;
-      static_values = values_of_list (map value_of c.self.inside.static_values.items);
+      annotations = set_of c.self.inside.contents.annotations;
+      static_fields = c.self.inside.contents.static_fields.items;
+      instance_fields = c.self.inside.contents.instance_fields.items;
+      direct_methods = c.self.inside.contents.direct_methods.items;
+      virtual_methods = c.self.inside.contents.virtual_methods.items;
+      static_values = values_of_list (map value_of c.self.inside.contents.static_values.items);
     } in
     let own = set_uses x.annotations in
     let fs = flat_map field_uses x.static_fields in
@@ -101,12 +101,12 @@ mark_methods-requires-2 c =
 pub mark_values-requires : goal.mark_values-requires
 mark_values-requires c =
     let x : NumberedMembers = record {
-      annotations = set_of c.self.inside.annotations;
-      static_fields = c.self.inside.static_fields.items;
-      instance_fields = c.self.inside.instance_fields.items;
-      direct_methods = c.self.inside.direct_methods.items;
-      virtual_methods = c.self.inside.virtual_methods.items;
-      static_values = values_of_list (map value_of c.self.inside.static_values.items);
+      annotations = set_of c.self.inside.contents.annotations;
+      static_fields = c.self.inside.contents.static_fields.items;
+      instance_fields = c.self.inside.contents.instance_fields.items;
+      direct_methods = c.self.inside.contents.direct_methods.items;
+      virtual_methods = c.self.inside.contents.virtual_methods.items;
+      static_values = values_of_list (map value_of c.self.inside.contents.static_values.items);
     } in
     let own = set_uses x.annotations in
     let fs = flat_map field_uses x.static_fields in
@@ -125,12 +125,12 @@ mark_values-requires c =
 pub returns : goal.returns
 returns c =
     let x : NumberedMembers = record {
-      annotations = set_of c.self.inside.annotations;
-      static_fields = c.self.inside.static_fields.items;
-      instance_fields = c.self.inside.instance_fields.items;
-      direct_methods = c.self.inside.direct_methods.items;
-      virtual_methods = c.self.inside.virtual_methods.items;
-      static_values = values_of_list (map value_of c.self.inside.static_values.items);
+      annotations = set_of c.self.inside.contents.annotations;
+      static_fields = c.self.inside.contents.static_fields.items;
+      instance_fields = c.self.inside.contents.instance_fields.items;
+      direct_methods = c.self.inside.contents.direct_methods.items;
+      virtual_methods = c.self.inside.contents.virtual_methods.items;
+      static_values = values_of_list (map value_of c.self.inside.contents.static_values.items);
     } in
     let own = set_uses x.annotations in
     let fs = flat_map field_uses x.static_fields in

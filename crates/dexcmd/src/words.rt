@@ -192,6 +192,28 @@ fn job_of(alloc: Global, matches: &ArgMatches<'_>) -> Result<Option<Job>, AllocE
     }
 }
 
+// The job that a command finds in words, if it is one.
+fn found_job<'a>(
+    alloc: Global,
+    command: &mut Command<'a>,
+    words: &'a [&'a str],
+) -> Result<Option<Job>, Error>
+    ensures { IfOk result (λ job. IfSome job IsSound) }
+{
+    let matches = command.try_get_matches_from_mut(words)?;
+    Ok(job_of(alloc, &matches)?)
+}
+
+// The job that a command finds in words.
+fn job_in<'a>(alloc: Global, command: &mut Command<'a>, words: &'a [&'a str]) -> Result<Job, Error>
+    ensures { IfOk result IsSound }
+{
+    match found_job(alloc, command, words)? {
+        Some(job) => Ok(job),
+        None => Err(command.error(ErrorKind::ValueValidation, "no such command")?),
+    }
+}
+
 /// Reads the words after the program's name as a command.
 ///
 /// Error: that of `clap`, where the words are no command, ask for help, or memory for reading them was refused.
@@ -199,9 +221,5 @@ pub fn read_words(alloc: Global, words: &[&str]) -> Result<Job, Error>
     ensures { IfOk result IsSound }
 {
     let mut command = command(alloc)?;
-    let matches = command.try_get_matches_from_mut(words)?;
-    match job_of(alloc, &matches)? {
-        Some(job) => Ok(job),
-        None => Err(command.error(ErrorKind::ValueValidation, "no such command")?),
-    }
+    job_in(alloc, &mut command, words)
 }

@@ -1,5 +1,5 @@
 -- How long a whole file is, and that no item is longer.
-use Rattle.std.proofs.Common.{◌≡◌, ℕ, ◌+◌, ◌≤◌, max, min, List, [], ◌∷◌, ◌++◌, length, sym, ap, subst, ◌∙◌, arith}
+use Rattle.std.proofs.Common.{◌≡◌, ℕ, ◌+◌, ◌≤◌, List, [], ◌∷◌, ◌++◌, length, sym, ap, subst, ◌∙◌, arith}
 use Rattle.std.specs.List.{flat_map}
 use Rattle.std.proofs.lemmas.List.{length-append}
 use Rattle.dexspec.specs.Bytes.{round_up, padding}
@@ -89,10 +89,6 @@ pub canonical_is : (K : Collection) (m : Mentions) (cs : List NumberedClass) →
 unfolding canonical
 canonical_is K m cs same is = ap (λ n. with_sums (unsigned_file (ordered_of n cs))) same ∙ ap (λ O. with_sums (unsigned_file O)) is
 
--- as the whole file is long
-pub ready_whole : {m M : Mentions} {cs : List NumberedClass} {p : Places} (limit : ℕ) → limit ≡ p.head.file_size → m ≡ M → AreWritable M cs → IsLaid M cs p → IsReady m cs p limit
-ready_whole {p = p} limit is same writable laid = let within = (item_bounds laid).1 in ready limit same writable laid (omega (arith, is, within)) (omega (arith, is))
-
--- as a piece of it is
-pub ready_piece : {m M : Mentions} {cs : List NumberedClass} {p : Places} (limit : ℕ) → limit ≡ max p.greatest (min p.head.file_size 65536) → m ≡ M → AreWritable M cs → IsLaid M cs p → IsReady m cs p limit
-ready_piece {p = p} limit is same writable laid = let within = (item_bounds laid).1 in ready limit same writable laid (omega (arith, is)) (omega (arith, is, within))
+-- with the length of the longest item
+pub ready_longest : {m M : Mentions} {cs : List NumberedClass} {p : Places} (limit : ℕ) → limit ≡ p.greatest → m ≡ M → AreWritable M cs → IsLaid M cs p → IsReady m cs p limit
+ready_longest {p = p} limit is same writable laid = let within = (item_bounds laid).1 in ready limit same writable laid (omega (arith, is)) (omega (arith, is, within))

@@ -71,25 +71,25 @@ module _ {W : Type 0} (tells : W → Type 0) (taken : W → List ℕ) {has_faile
 
 module _ {S : Type 0} {holds : S → List ℕ → Type 0} {has_failed : S → Bool} {empties : Bool} {limit : ℕ} where
   -- x came into a vector that was empty
-  pub adds_first : (s : S) {v w : Vec ℕ} {x : List ℕ} → vec_len v ≡ 0 → w.items ≡ x → has_failed s ≡ false → vec_len w ≤ 112 → 112 ≤ limit → vec_capacity v ≤ vec_capacity w
+  pub adds_first : (s : S) {v w : Vec ℕ} {x : List ℕ} → vec_len v ≡ 0 → w.items ≡ x → has_failed s ≡ false → vec_capacity v ≤ vec_capacity w
       → Adds holds has_failed empties limit s v s w x
-  adds_first s {v} {w} {x} empty are works short least larger = record {
+  adds_first s {v} {w} {x} empty are works larger = record {
     made = λ base m h. record {
       gone = h.gone;
       held = h.held;
       joined = ap (λ z. h.gone ++ z) are ∙ ap (λ z. z ++ x) (sym (append-nil h.gone) ∙ ap (λ z. h.gone ++ z) (sym (no_items v empty)) ∙ h.joined);
     };
     works = works;
-    room = λ r. let enough : limit ≤ vec_capacity v = r.enough in record { emptied = r.emptied; gathered = omega (arith, short, least); enough = omega (arith, enough, larger) };
+    room = λ r. let enough : limit ≤ vec_capacity v = r.enough in record { emptied = r.emptied; enough = omega (arith, enough, larger) };
   }
 
   -- the vector was taken
-  pub adds_taken : {s t : S} {v w : Vec ℕ} → ((base m : List ℕ) → HasMade holds base s v.items m → HasMade holds base t w.items m) → has_failed t ≡ false → (empties ≡ true → vec_len w ≡ 0) → vec_capacity v ≤ vec_capacity w
+  pub adds_taken : {s t : S} {v w : Vec ℕ} → ((base m : List ℕ) → HasMade holds base s v.items m → HasMade holds base t w.items m) → has_failed t ≡ false → vec_capacity v ≤ vec_capacity w
       → Adds holds has_failed empties limit s v t w []
-  adds_taken {t = t} {v = v} {w = w} made works empty larger = record {
+  adds_taken {t = t} {v = v} {w = w} made works larger = record {
     made = λ base m h. subst (HasMade holds base t w.items) (sym (append-nil m)) (made base m h);
     works = works;
-    room = λ r. let enough : limit ≤ vec_capacity v = r.enough in let none : vec_len w ≡ 0 = empty r.emptied in record { emptied = r.emptied; gathered = omega (arith, none); enough = omega (arith, enough, larger) };
+    room = λ r. let enough : limit ≤ vec_capacity v = r.enough in record { emptied = r.emptied; enough = omega (arith, enough, larger) };
   }
 
   -- memory was wanting, where there was not room for so many bytes

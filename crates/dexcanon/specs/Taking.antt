@@ -1,5 +1,5 @@
 -- Bytes that gather in a vector, item by item, and are taken into a state when it is full.
-use Rattle.std.specs.Prelude.{◌≡◌, ℕ, ◌≤◌, List, ◌++◌, Bool, true, false, length, take, All, Result, Err, OnOk, vec_len, vec_capacity}
+use Rattle.std.specs.Prelude.{◌≡◌, ℕ, ◌≤◌, List, ◌++◌, Bool, true, false, length, take, All, Result, Err, OnOk, vec_capacity}
 use Rattle.std.specs.Global.{Vec}
 use Rattle.dexcanon.specs.declared.faults.StoreFault.{StoreFault}
 use Rattle.dexcanon.specs.declared.faults.StoreFault.TheVariants.{Memory, Io}
@@ -15,10 +15,9 @@ pub record HasFront {S : Type 0} (holds : S → List ℕ → Type 0) (base : Lis
   pub count : ℕ
   pub held : holds s (base ++ take count m)
 
--- no more than the limit has gathered, for which there is room, and it can be taken
+-- an item of the greatest length has room where nothing gathered, and what gathered can be taken
 pub record HasRoom (empties : Bool) (limit : ℕ) (v : Vec ℕ) : Type 0 where
   pub emptied : empties ≡ true
-  pub gathered : vec_len v ≤ limit
   pub enough : limit ≤ vec_capacity v
 
 -- x was added

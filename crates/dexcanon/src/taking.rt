@@ -30,8 +30,8 @@ pub(crate) trait Takes<S> {
         ensures capacity { OnOk result (vec_capacity gathered.old ≤ vec_capacity gathered.new) };
 }
 
-/// Puts an item behind what gathered, which is taken before where the two are longer than the limit. How many bytes the
-/// item has is answered.
+/// Puts an item behind what gathered, which is taken before where there is no room for the item. No item is longer than the
+/// limit. How many bytes this one has is answered.
 pub(crate) fn pass<I: Item, S, M: Takes<S>>(
     part: &I,
     limit: usize,
@@ -44,32 +44,35 @@ pub(crate) fn pass<I: Item, S, M: Takes<S>>(
     ensures len { IfOk result (λ len. len ≡ length (I.bytes part.now)) }
     ensures outcome { Outcome M.holds M.has_failed M.empties limit state.old gathered.old state.new gathered.new (I.bytes part.now) result }
 {
-    let len = part.len();
-    make_room::<S, M>(len, limit, gathered, state)?;
+    make_room::<I, S, M>(part, limit, gathered, state)?;
+    let before = gathered.len();
     part.put(gathered)?;
-    Ok(len)
+    Ok(gathered.len() - before)
 }
 
-// Takes what gathered where so many bytes behind it are more than the limit.
-fn make_room<S, M: Takes<S>>(
-    len: usize,
+// Takes what gathered where there is no room for an item behind it. The item is measured only where there is less room than
+// for the longest.
+fn make_room<I: Item, S, M: Takes<S>>(
+    part: &I,
     limit: usize,
     gathered: &mut Vec<u8>,
     state: &mut S,
 ) -> Result<(), DeviceFault>
+    requires fits { I.fits part.now }
     requires works { M.has_failed state.old ≡ false }
-    requires within { len ≤ limit }
+    requires within { length (I.bytes part.now) ≤ limit }
     ensures works { OnOk result (M.has_failed state.new ≡ false) }
     ensures fails { OnErr result (M.has_failed state.new ≡ true) }
     ensures made { OnOk result ((base m : List ℕ) → HasMade M.holds base state.old gathered.old.items m → HasMade M.holds base state.new gathered.new.items m) }
     ensures front { OnErr result ((base m : List ℕ) → HasMade M.holds base state.old gathered.old.items m → HasFront M.holds base state.new m) }
-    ensures room { OnOk result (HasRoom M.empties limit gathered.old → vec_len gathered.new + len ≤ limit) }
+    ensures room { OnOk result (HasRoom M.empties limit gathered.old → vec_len gathered.new + length (I.bytes part.now) ≤ vec_capacity gathered.new) }
     ensures capacity { OnOk result (vec_capacity gathered.old ≤ vec_capacity gathered.new) }
 {
-    if limit.saturating_sub(gathered.len()) < len {
-        M::take(state, gathered)?;
+    let spare = gathered.capacity() - gathered.len();
+    if spare >= limit || spare >= part.len() {
+        return Ok(());
     }
-    Ok(())
+    M::take(state, gathered)
 }
 
 /// Puts zeros up to a multiple of 4, and then an item. Where it ends is answered.

@@ -1,6 +1,6 @@
 //! The canonical file as bytes, and written to a device.
 
-ghost use Rattle.std.specs.Prelude.{◌≡◌, ◌↔◌, ◌≤◌, ◌++◌, min, max, true, false, IfOk, OnOk, IfErr, IsErrOf, vec_len};
+ghost use Rattle.std.specs.Prelude.{◌≡◌, ◌↔◌, ◌≤◌, ◌++◌, true, false, IfOk, OnOk, IfErr, IsErrOf, vec_len};
 ghost use Rattle.dexspec.specs.Files.{Collection, definitions, Denotes};
 ghost use Rattle.dexspec.specs.WellFormed.{AreWellFormed};
 ghost use Rattle.dexspec.specs.Merging.{IsGood, greatest_caps};
@@ -21,7 +21,7 @@ use crate::joined::joined_adler;
 use crate::kept::{Keeps, Nothing};
 use crate::makings::{Adds, Sums, Writes};
 use dexclass::Program;
-use dexhead::{Adler, Head, Sink, adler, set_sums};
+use dexhead::{Adler, Head, Sink, adler, set_sums, write_whole};
 use dexlayout::Layout;
 use sha1::Sha1;
 use std::alloc::{AllocError, Global};
@@ -42,23 +42,23 @@ pub fn to_bytes(alloc: Global, program: &Program<'_>) -> Result<Vec<u8>, AllocEr
 {
     dexlaws_normal::normal_form();
     let layout = Layout::of(alloc, program)?;
-    let len = layout.len() as usize;
+    let limit = layout.greatest();
     let contents = Contents {
         numbering: program.numbering(),
         classes: program.classes(),
         layout: &layout,
-        limit: len,
+        limit,
     };
     whole_file(alloc, &contents)
 }
 
-// The file of its contents, in a vector that has room for as much as may gather.
+// The file of its contents, in a vector that has room for all of it.
 fn whole_file(alloc: Global, contents: &Contents<'_, '_, '_, '_>) -> Result<Vec<u8>, AllocError>
     requires { CanBeMade contents.now }
     ensures { IfOk result (λ file. file.items ≡ with_sums (unsigned_file (ordered_in contents.now))) }
 {
     dexhead::laws::file_law();
-    let mut file = Vec::with_capacity(alloc, contents.limit)?;
+    let mut file = Vec::with_capacity(alloc, contents.layout.len() as usize)?;
     contents.layout.head().put(&mut file)?;
     match put_body::<Nothing, Keeps>(contents, &mut file, &mut Nothing) {
         Ok(()) => {}
@@ -68,9 +68,9 @@ fn whole_file(alloc: Global, contents: &Contents<'_, '_, '_, '_>) -> Result<Vec<
     Ok(file)
 }
 
-/// Writes the canonical file of a program. The file is made twice: for its two sums, both in one making, and for the
-/// writer. Its bytes gather in one vector, which has its room before anything is written; the writer is given no slice
-/// that is longer than 65,536 bytes, or than the longest item of the file where that has more.
+/// Writes the canonical file of a program. A file of more than 65,536 bytes is made twice: for its two sums, both in one
+/// making, and for the writer. Its bytes gather in one vector, which has its room before anything is written; the writer is
+/// given no slice that is longer than 65,536 bytes, or than the longest item of the file where that has more.
 ///
 /// Condition: the writer has not failed. Error: `Memory` where a growth was refused, and then nothing was written;
 /// `Io` exactly where the writer failed in this call, and then a front of the file was written.
@@ -87,7 +87,7 @@ pub fn write_to<W: Sink>(
     ensures device { IsErrOf result Io ↔ (W.has_failed out.new ≡ true) }
 {
     let layout = Layout::of(alloc, program)?;
-    let limit = piece_limit(&layout);
+    let limit = layout.greatest();
     let contents = Contents {
         numbering: program.numbering(),
         classes: program.classes(),
@@ -109,16 +109,44 @@ fn write_contents<W: Sink>(
     ensures left { IfErr result (HasLeft (W.tells out.old) out.old out.new W.taken (with_sums (unsigned_file (ordered_in contents.now)))) }
     ensures device { IsErrOf result Io ↔ (W.has_failed out.new ≡ true) }
 {
-    let mut gathered = Vec::with_capacity(alloc, contents.limit)?;
-    let head = sealed_head(contents, &mut gathered);
-    put_file::<W, Writes>(&head, 0, contents, &mut gathered, out)
+    if contents.layout.len() as usize <= PIECE {
+        return write_short(alloc, contents, out);
+    }
+    write_long(alloc, contents, out)
 }
 
-// How many bytes gather at most: those of the file, or of a piece of it, or of its longest item.
-fn piece_limit(layout: &Layout<'_>) -> usize
-    ensures { result ≡ max layout.now.greatest (min layout.now.head.file_size 65536) }
+// Writes the file of its contents, as `write_to` says, which is made once.
+fn write_short<W: Sink>(
+    alloc: Global,
+    contents: &Contents<'_, '_, '_, '_>,
+    out: &mut W,
+) -> Result<(), StoreFault>
+    requires ready { CanBeMade contents.now }
+    requires works { W.has_failed out.old ≡ false }
+    ensures written { OnOk result (W.tells out.old → W.taken out.new ≡ W.taken out.old ++ with_sums (unsigned_file (ordered_in contents.now))) }
+    ensures left { IfErr result (HasLeft (W.tells out.old) out.old out.new W.taken (with_sums (unsigned_file (ordered_in contents.now)))) }
+    ensures device { IsErrOf result Io ↔ (W.has_failed out.new ≡ true) }
 {
-    layout.greatest().max((layout.len() as usize).min(PIECE))
+    let file = whole_file(alloc, contents)?;
+    write_whole(out, &file)?;
+    Ok(())
+}
+
+// Writes the file of its contents, as `write_to` says, which is made twice.
+fn write_long<W: Sink>(
+    alloc: Global,
+    contents: &Contents<'_, '_, '_, '_>,
+    out: &mut W,
+) -> Result<(), StoreFault>
+    requires ready { CanBeMade contents.now }
+    requires works { W.has_failed out.old ≡ false }
+    ensures written { OnOk result (W.tells out.old → W.taken out.new ≡ W.taken out.old ++ with_sums (unsigned_file (ordered_in contents.now))) }
+    ensures left { IfErr result (HasLeft (W.tells out.old) out.old out.new W.taken (with_sums (unsigned_file (ordered_in contents.now)))) }
+    ensures device { IsErrOf result Io ↔ (W.has_failed out.new ≡ true) }
+{
+    let mut gathered = Vec::with_capacity(alloc, contents.limit.max(PIECE))?;
+    let head = sealed_head(contents, &mut gathered);
+    put_file::<W, Writes>(&head, 0, contents, &mut gathered, out)
 }
 
 // The header of a file with its two sums, for which the file is made through a vector with room.

@@ -15,13 +15,13 @@ returns-in_err-put_head-clause-outcome g c =
 
 pub returns-in_err-put_body-clause-outcome : goal.returns-in_err-put_body-clause-outcome
 returns-in_err-put_body-clause-outcome g c =
-    let first = adds_first {has_failed = g.M.Takes.has_failed} {limit = c.args.contents.now.limit} c.args.state.now c.requires.empty c.in_ok-put_head.ensures.items c.requires.works c.in_ok-put_head.ensures.len c.requires.ready.least c.in_ok-put_head.ensures.capacity in
+    let first = adds_first {has_failed = g.M.Takes.has_failed} {limit = c.args.contents.now.limit} c.args.state.now c.requires.empty c.in_ok-put_head.ensures.items c.requires.works c.in_ok-put_head.ensures.capacity in
     same_fault _ c.from_residual-in_err-put_body.result c.from_residual-in_err-put_body.ensures.0 c.from_residual-in_err-put_body.ensures.1 (outcome_after first c.in_err-put_body.ensures)
 
 pub returns-in_err-take-clause-outcome : goal.returns-in_err-take-clause-outcome
 returns-in_err-take-clause-outcome g c =
     let body = behind_header (ordered_of c.args.contents.now.numbering.now c.args.contents.now.classes.now) in
-    let first = adds_first {has_failed = g.M.Takes.has_failed} {limit = c.args.contents.now.limit} c.args.state.now c.requires.empty c.in_ok-put_head.ensures.items c.requires.works c.in_ok-put_head.ensures.len c.requires.ready.least c.in_ok-put_head.ensures.capacity in
+    let first = adds_first {has_failed = g.M.Takes.has_failed} {limit = c.args.contents.now.limit} c.args.state.now c.requires.empty c.in_ok-put_head.ensures.items c.requires.works c.in_ok-put_head.ensures.capacity in
     whole_as (append-nil (drop c.args.from (head_bytes c.args.head.now) ++ body))
     (outcome_after (adds_more first c.in_ok-put_body.ensures.ok)
     (breaks_before [] c.from_residual-in_err-take.result c.in_err-take.ensures.front c.in_err-take.ensures.fails c.from_residual-in_err-take.ensures.0 c.from_residual-in_err-take.ensures.1))
@@ -29,6 +29,6 @@ returns-in_err-take-clause-outcome g c =
 pub returns-clause-outcome : goal.returns-clause-outcome
 returns-clause-outcome g c =
     let body = behind_header (ordered_of c.args.contents.now.numbering.now c.args.contents.now.classes.now) in
-    let first = adds_first {has_failed = g.M.Takes.has_failed} {limit = c.args.contents.now.limit} c.args.state.now c.requires.empty c.in_ok-put_head.ensures.items c.requires.works c.in_ok-put_head.ensures.len c.requires.ready.least c.in_ok-put_head.ensures.capacity in
+    let first = adds_first {has_failed = g.M.Takes.has_failed} {limit = c.args.contents.now.limit} c.args.state.now c.requires.empty c.in_ok-put_head.ensures.items c.requires.works c.in_ok-put_head.ensures.capacity in
     whole_as (append-nil (drop c.args.from (head_bytes c.args.head.now) ++ body))
-    (outcome_of (adds_more (adds_more first c.in_ok-put_body.ensures.ok) (adds_taken c.in_ok-take.ensures.made c.in_ok-take.ensures.works c.in_ok-take.ensures.emptied c.in_ok-take.ensures.capacity)))
+    (outcome_of (adds_more (adds_more first c.in_ok-put_body.ensures.ok) (adds_taken c.in_ok-take.ensures.made c.in_ok-take.ensures.works c.in_ok-take.ensures.capacity)))

@@ -1,12 +1,12 @@
 use Rattle.std.proofs.Common.{◌≡◌, ◌++◌, subst, OnOk, IfErr}
 use Rattle.dexcanon.specs.Written.{HasLeft}
-use Rattle.dexcanon.proofs.WholeFile.{ready_piece, canonical_is}
+use Rattle.dexcanon.proofs.WholeFile.{ready_longest, canonical_is}
 use Rattle.dexcanon.proofs.writing.write_to.Goals as goal
 
 pub write_contents-requires-clause-ready : goal.write_contents-requires-clause-ready
 write_contents-requires-clause-ready g c =
     let of = c.classes.ensures in
-    ready_piece c.piece_limit-limit.result c.piece_limit-limit.ensures c.numbering.ensures (c.in_ok-layout.ensures.writable _ of).0 (c.in_ok-layout.ensures.laid _ of)
+    ready_longest c.greatest-limit.result c.greatest-limit.ensures c.numbering.ensures (c.in_ok-layout.ensures.writable _ of).0 (c.in_ok-layout.ensures.laid _ of)
 
 pub returns-clause-written : goal.returns-clause-written
 returns-clause-written g c =

@@ -5,6 +5,7 @@ use Rattle.std.proofs.lemmas.Bool.{le-ltb}
 use Rattle.dexcode.specs.declared.debug_operation.Operation.{Operation}
 use Rattle.dexcode.specs.declared.debug_operation.Operation.TheVariants.{AdvancePc, AdvanceLine, StartLocal, StartLocalExtended, EndLocal, RestartLocal, SetPrologueEnd, SetEpilogueBegin, SetFile, Special}
 use Rattle.dexcode.specs.declared.debug_reading.Counts.{Counts}
+use Rattle.dexspec.specs.Numbers.{Uleb128At}
 use Rattle.dexcode.specs.Debug.{name_of, type_of, signature_of}
 use Rattle.dexcode.specs.DebugReading.{IndexAt, LocalAt, ExtendedAt, OperandsAt}
 
@@ -83,3 +84,18 @@ module _ (m : Counts) (c : ℕ) (b : List ℕ) (o : ℕ) (op : Operation) (n : �
 
   pub only_set_file : c ≡ 0x09 → ((i : Option ℕ) (k : ℕ) → IndexAt m.texts b o i k → r ≡ Some (SetFile i, k)) → r ≡ Some (op, n)
   only_set_file e only = back 0x09 e (only (name_of op) n (stands_as 0x09 e).1)
+
+  pub only_advance_pc : c ≡ 0x01 → ((addresses k : ℕ) → Uleb128At b o addresses k → r ≡ Some (AdvancePc addresses, k)) → r ≡ Some (op, n)
+  only_advance_pc e only = back 0x01 e (only (number_part op) n (stands_as 0x01 e).1)
+
+  pub only_end_local : c ≡ 0x05 → ((register k : ℕ) → Uleb128At b o register k → r ≡ Some (EndLocal register, k)) → r ≡ Some (op, n)
+  only_end_local e only = back 0x05 e (only (number_part op) n (stands_as 0x05 e).1)
+
+  pub only_restart_local : c ≡ 0x06 → ((register k : ℕ) → Uleb128At b o register k → r ≡ Some (RestartLocal register, k)) → r ≡ Some (op, n)
+  only_restart_local e only = back 0x06 e (only (number_part op) n (stands_as 0x06 e).1)
+
+  pub only_prologue_end : c ≡ 0x07 → r ≡ Some (SetPrologueEnd, 0) → r ≡ Some (op, n)
+  only_prologue_end e is = back 0x07 e (is ∙ ap (λ k. Some (SetPrologueEnd, k)) (sym (stands_as 0x07 e).1))
+
+  pub only_epilogue_begin : c ≡ 0x08 → r ≡ Some (SetEpilogueBegin, 0) → r ≡ Some (op, n)
+  only_epilogue_begin e is = back 0x08 e (is ∙ ap (λ k. Some (SetEpilogueBegin, k)) (sym (stands_as 0x08 e).1))

@@ -161,8 +161,9 @@ impl Debug {
     pub fn copy(&self) -> Result<Debug, AllocError>
         ensures { IfOk result (λ copy. copy ≡ self.now) }
     {
-        let parameter_names = self.parameter_names.clone()?;
-        let operations = self.operations.clone()?;
+        let alloc = *self.parameter_names.allocator();
+        let parameter_names = Vec::from_slice(alloc, &self.parameter_names)?;
+        let operations = Vec::from_slice(alloc, &self.operations)?;
         Ok(Debug {
             line_start: self.line_start,
             parameter_names,

@@ -139,7 +139,7 @@ impl Handler {
     pub(crate) fn copy(&self) -> Result<Handler, AllocError>
         ensures { IfOk result (λ copy. copy ≡ self.now) }
     {
-        let catches = self.catches.clone()?;
+        let catches = Vec::from_slice(*self.catches.allocator(), &self.catches)?;
         Ok(Handler {
             catches,
             catch_all_addr: self.catch_all_addr,

@@ -75,7 +75,7 @@ impl Tries {
     pub fn copy(&self) -> Result<Tries, AllocError>
         ensures { IfOk result (λ copy. copy ≡ self.now) }
     {
-        let tries = self.tries.clone()?;
+        let tries = Vec::from_slice(*self.tries.allocator(), &self.tries)?;
         let handlers = copied(&self.handlers)?;
         Ok(Tries { tries, handlers })
     }
@@ -179,11 +179,7 @@ fn number_of(
 fn listed_in(alloc: Global, handlers: IndexSet<Handler>) -> Result<Vec<Handler>, AllocError>
     ensures { IfOk result (λ list. list.items ≡ handlers.keys) }
 {
-    let mut list = Vec::with_capacity(alloc, handlers.len())?;
-    for handler in handlers {
-        list.push(handler)?;
-    }
-    Ok(list)
+    handlers.into_iter().collect(alloc)
 }
 
 // The same handlers in a list of their own.

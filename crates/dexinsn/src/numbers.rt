@@ -176,7 +176,7 @@ impl<'a> Pieces<'a> {
     pub fn copy(&self) -> Result<Pieces<'a>, AllocError>
         ensures { IfOk result (λ copy. copy ≡ self.now) }
     {
-        let indices = self.indices.clone()?;
+        let indices = Vec::from_slice(*self.indices.allocator(), &self.indices)?;
         Ok(Pieces {
             registers: self.registers,
             ins: self.ins,

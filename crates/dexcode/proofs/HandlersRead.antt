@@ -1,15 +1,15 @@
 -- Where parts of a handler are missing, no handler stands.
-use Rattle.std.proofs.Common.{◌≡◌, ℕ, ◌+◌, Bool, List, length, Option, ap, sym, subst, ◌∙◌, arith}
+use Rattle.std.proofs.Common.{◌≡◌, ℕ, ◌+◌, ◌≤◌, Bool, List, length, Option, ap, sym, subst, ◌∙◌, arith}
 use Rattle.std.specs.Prelude.{ℤ, nat_abs}
 use Rattle.dexspec.specs.Lists.{Sequence}
-use Rattle.dexspec.specs.Numbers.{Sleb128At}
-use Rattle.dexspec.proofs.OneNumber.{one_sleb128}
+use Rattle.dexspec.specs.Numbers.{Uleb128At, Sleb128At}
+use Rattle.dexspec.proofs.OneNumber.{one_uleb128, one_sleb128}
 use Rattle.dexspec.proofs.Sequences.{one_sequence}
 use Rattle.dexpool.specs.declared.faults.ItemFault.{ItemFault}
 use Rattle.dexpool.specs.declared.faults.ItemFault.TheVariants.{Refused, Memory}
 use Rattle.dexcode.specs.declared.handlers.Catch.{Catch}
 use Rattle.dexcode.specs.Numbered.{NumberedHandler}
-use Rattle.dexcode.specs.Reading.{IsTriesFault, CatchAt, CatchesRead, CatchAllAt, HandlerAt}
+use Rattle.dexcode.specs.Reading.{IsStart, IsTriesFault, CatchAt, CatchesRead, CatchAllAt, HandlerAt}
 use Rattle.dexcode.proofs.OneHandler.{one_catch}
 
 -- a fault has another reason that follows
@@ -33,3 +33,16 @@ module _ (starts : List Bool) (types : ℕ) (b : List ℕ) (o : ℕ) (count : �
       (subst (λ (i : ℕ). Sequence (CatchAt starts types) b (o + i) h.catches g.catches_size) e.1 g.catches_are) read.stand in
       let place : o + g.count_size + g.catches_size ≡ o + count_size + size = omega (arith, e.1, same.1) in
       none h.catch_all_addr g.all_size (subst (λ (i : ℕ). CatchAllAt starts count b i h.catch_all_addr g.all_size) place (subst (λ (z : ℤ). CatchAllAt starts z b (o + g.count_size + g.catches_size) h.catch_all_addr g.all_size) e.0 g.all))
+
+module _ (starts : List Bool) (types : ℕ) (b : List ℕ) (o typ index_size : ℕ) (index_is : Uleb128At b o typ index_size) where
+  -- where the type is out of range, no catch stands
+  pub no_type : types ≤ typ → (c : Catch) (n : ℕ) → CatchAt starts types b o c n → ⊥
+  no_type past c n at =
+      let e = one_uleb128 b o typ c.typ index_size at.index_size index_is at.index_is in
+      omega (arith, e.0, at.in_range, past)
+
+  -- nor without its address
+  pub no_address : ((a n : ℕ) → Uleb128At b (o + index_size) a n → IsStart starts a → ⊥) → (c : Catch) (n : ℕ) → CatchAt starts types b o c n → ⊥
+  no_address none c n at =
+      let e = one_uleb128 b o typ c.typ index_size at.index_size index_is at.index_is in
+      none c.addr at.address_size (subst (λ (k : ℕ). Uleb128At b (o + k) c.addr at.address_size) (sym e.1) at.address_is) at.start

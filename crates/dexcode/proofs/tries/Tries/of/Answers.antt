@@ -10,6 +10,16 @@ use Rattle.dexcode.proofs.Named.{names_more}
 use Rattle.dexcode.proofs.Whole.{formed_more}
 use Rattle.dexcode.proofs.tries.Tries.of.Goals as goal
 
+pub number_of-requires : goal.number_of-requires
+number_of-requires c =
+    let none : Try = record { start_addr = 0; insn_count = 0; handler = 0 } in
+    let had = c.loop-item.invariant in
+    let listed = All-get_or (λ (t : Try). t.handler < length c.args.listed.items) c.args.tries.now c.loop-item.item-index none c.loop-item-test.true c.requires.within in
+    record {
+      within = omega (arith, listed, had.1.count);
+      count = omega (arith, had.0.count, had.1.count);
+    }
+
 pub loop-item-preserved : goal.loop-item-preserved
 loop-item-preserved c =
     let none : Try = record { start_addr = 0; insn_count = 0; handler = 0 } in

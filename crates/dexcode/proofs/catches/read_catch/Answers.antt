@@ -1,0 +1,23 @@
+use Rattle.std.proofs.Common.{refl, arith}
+use Rattle.dexcode.proofs.HandlersRead.{no_type, no_address}
+use Rattle.dexcode.proofs.catches.read_catch.Goals as goal
+
+pub returns-in-Err-clause-none : goal.returns-in-Err-clause-none
+returns-in-Err-clause-none c = λ x n at. let e = c.in-Err.ensures.only x.typ at.index_size at.index_is in absurd cc
+
+pub returns-then-types-typ-clause-none : goal.returns-then-types-typ-clause-none
+returns-then-types-typ-clause-none c = no_type c.args.starts.now c.args.types c.args.bytes.now c.args.at c.in-Ok.read.0 c.in-Ok.read.1 c.in-Ok.ensures.found (omega arith)
+
+pub returns-in-None-clause-none : goal.returns-in-None-clause-none
+returns-in-None-clause-none c = no_address c.args.starts.now c.args.types c.args.bytes.now c.args.at c.in-Ok.read.0 c.in-Ok.read.1 c.in-Ok.ensures.found c.in-None.ensures.none
+
+pub returns-clause-some : goal.returns-clause-some
+returns-clause-some c = record {
+  index_size = c.in-Ok.read.1;
+  address_size = c.in-Some.read.1;
+  index_is = c.in-Ok.ensures.found;
+  in_range = omega arith;
+  address_is = c.in-Some.ensures.address;
+  start = c.in-Some.ensures.start;
+  size = refl;
+}

@@ -14,11 +14,13 @@ mod pace;
 mod texts;
 
 use dexcanon::to_bytes;
-use dexhead::{Frame, adler};
+use dexclass::Program;
+use dexhead::{Frame, Refusal, adler};
 use dexpool::{Numbering, Pools};
+use dexstr::Text;
 use fault::BenchFault;
 use merges::{bytes_of, merge_all, merged, programs, read_files, sums, write};
-use numberings::{dealt, join, lent, read_pools, symbols};
+use numberings::{dealt, join, read_pools, symbols};
 use pace::timed;
 use sha1::Sha1;
 use std::alloc::{AllocError, Global};
@@ -26,7 +28,7 @@ use std::io::Read;
 use std::process::ExitCode;
 use std::rt::{Env, Files};
 use std::time::CpuClock;
-use std::{env, fs};
+use std::{env, fs, io};
 use texts::{read_all, read_each, rising};
 
 /// The most bytes that are read: more are no file of the format, and some devices never end.
@@ -38,16 +40,13 @@ fn digest(bytes: &[u8]) -> u64 {
     u64::from(u32::from_be_bytes([first, second, third, fourth]))
 }
 
-fn time_sums(rt: &(impl CpuClock + Print), bytes: &[u8]) -> Result<(), BenchFault> {
+fn time_sums(rt: &(impl CpuClock + Print), bytes: &[u8]) -> io::Result<()> {
     let pace = timed(rt, || digest(bytes))?;
-    let rate = pace.millions(bytes.len());
-    let answer = pace.answer();
+    let (rate, answer) = (pace.millions(bytes.len()), pace.answer());
     println!(rt; "SHA-1: {rate} MB/s; it begins {answer:08x}")?;
     let pace = timed(rt, || u64::from(adler(bytes)))?;
-    let rate = pace.millions(bytes.len());
-    let answer = pace.answer();
-    println!(rt; "Adler-32: {rate} MB/s; it is {answer:08x}")?;
-    Ok(())
+    let (rate, answer) = (pace.millions(bytes.len()), pace.answer());
+    println!(rt; "Adler-32: {rate} MB/s; it is {answer:08x}")
 }
 
 // Opens the file: where the data begin, or where it is refused.
@@ -58,31 +57,50 @@ fn open(bytes: &[u8]) -> u64 {
     }
 }
 
-fn time_texts<'a>(
+// Times how these texts, which have so many bytes, are read and compared.
+fn time_all_texts(
+    rt: &(impl CpuClock + Print),
+    frame: &Frame<'_>,
+    texts: &[Text<'_>],
+    len: usize,
+) -> io::Result<()> {
+    let pace = timed(rt, || read_each(frame))?;
+    let (rate, items, answer) = (
+        pace.millions(len),
+        pace.millions(texts.len()),
+        pace.answer(),
+    );
+    println!(rt; "reading texts: {rate} MB/s, {items} million texts/s; {answer} bytes")?;
+    let pace = timed(rt, || rising(texts))?;
+    let pairs = pace.millions(texts.len().saturating_sub(1));
+    let (rate, answer) = (pace.millions(len), pace.answer());
+    println!(rt; "comparing neighbours: {rate} MB/s, {pairs} million comparisons/s; {answer} rise")
+}
+
+fn time_texts(
     rt: &(impl CpuClock + Print),
     alloc: Global,
-    frame: &Frame<'a>,
+    frame: &Frame<'_>,
 ) -> Result<(), BenchFault> {
-    let (texts, len) = match read_all(alloc, frame)? {
-        Ok(read) => read,
-        Err(row) => {
-            println!(rt; "texts: row {row} of the string table has none")?;
-            return Ok(());
-        }
-    };
-    let pace = timed(rt, || read_each(frame))?;
-    let rate = pace.millions(len);
-    let items = pace.millions(texts.len());
-    let answer = pace.answer();
-    println!(rt; "reading texts: {rate} MB/s, {items} million texts/s; {answer} bytes")?;
-    let pace = timed(rt, || rising(texts.as_slice()))?;
-    let rate = pace.millions(len);
-    let pairs = pace.millions(texts.len().saturating_sub(1));
-    let answer = pace.answer();
-    println!(rt;
-        "comparing neighbours: {rate} MB/s, {pairs} million comparisons/s; {answer} rise"
-    )?;
-    Ok(())
+    match read_all(alloc, frame)? {
+        Ok((texts, len)) => Ok(time_all_texts(rt, frame, &texts, len)?),
+        Err(row) => Ok(println!(rt; "texts: row {row} of the string table has none")?),
+    }
+}
+
+// Times how numberings are joined.
+fn time_parts(
+    rt: &(impl CpuClock + Print),
+    alloc: Global,
+    parts: &[&Numbering<'_>],
+) -> io::Result<()> {
+    let mut all = 0usize;
+    for part in parts {
+        all = all.saturating_add(symbols(part));
+    }
+    let pace = timed(rt, || join(alloc, parts))?;
+    let (count, rate, answer) = (parts.len(), pace.millions(all), pace.answer());
+    println!(rt; "joining {count} numberings: {rate} million symbols/s; {answer} texts")
 }
 
 // Joins so many numberings that are dealt from one.
@@ -93,17 +111,23 @@ fn time_join(
     parts: usize,
 ) -> Result<(), BenchFault> {
     let parts = dealt(alloc, numbering, parts)?;
-    let lent = lent(alloc, parts.as_slice())?;
-    let mut all = 0usize;
-    for part in parts.iter() {
-        all = all.saturating_add(symbols(part));
-    }
-    let pace = timed(rt, || join(alloc, lent.as_slice()))?;
-    let rate = pace.millions(all);
-    let count = parts.len();
-    let answer = pace.answer();
-    println!(rt; "joining {count} numberings: {rate} million symbols/s; {answer} texts")?;
-    Ok(())
+    let lent: Vec<&Numbering<'_>> = parts.iter().collect(alloc)?;
+    Ok(time_parts(rt, alloc, &lent)?)
+}
+
+// Times how pools that have this numbering are read, and how numberings that are dealt from it are joined.
+fn time_numbering(
+    rt: &(impl CpuClock + Print),
+    alloc: Global,
+    frame: &Frame<'_>,
+    numbering: &Numbering<'_>,
+) -> Result<(), BenchFault> {
+    let pace = timed(rt, || read_pools(alloc, frame))?;
+    let (rate, answer) = (pace.millions(symbols(numbering)), pace.answer());
+    println!(rt; "reading pools: {rate} million symbols/s; {answer} texts")?;
+    time_join(rt, alloc, numbering, 2)?;
+    time_join(rt, alloc, numbering, 16)?;
+    time_join(rt, alloc, numbering, 256)
 }
 
 fn time_pools(
@@ -111,37 +135,70 @@ fn time_pools(
     alloc: Global,
     frame: &Frame<'_>,
 ) -> Result<(), BenchFault> {
-    let Ok(pools) = Pools::read(alloc, frame) else {
-        println!(rt; "pools: refused")?;
-        return Ok(());
-    };
-    let pace = timed(rt, || read_pools(alloc, frame))?;
-    let rate = pace.millions(symbols(pools.numbering()));
-    let answer = pace.answer();
-    println!(rt; "reading pools: {rate} million symbols/s; {answer} texts")?;
-    time_join(rt, alloc, pools.numbering(), 2)?;
-    time_join(rt, alloc, pools.numbering(), 16)?;
-    time_join(rt, alloc, pools.numbering(), 256)
+    match Pools::read(alloc, frame) {
+        Ok(pools) => time_numbering(rt, alloc, frame, pools.numbering()),
+        Err(_) => Ok(println!(rt; "pools: refused")?),
+    }
+}
+
+fn time_frame(
+    rt: &(impl CpuClock + Print),
+    alloc: Global,
+    bytes: &[u8],
+    frame: &Frame<'_>,
+) -> Result<(), BenchFault> {
+    let pace = timed(rt, || open(bytes))?;
+    let (rate, answer) = (pace.millions(bytes.len()), pace.answer());
+    println!(rt; "Frame::open: {rate} MB/s; the data begin at {answer}")?;
+    time_texts(rt, alloc, frame)?;
+    time_pools(rt, alloc, frame)
 }
 
 fn time_file(rt: &(impl CpuClock + Print), alloc: Global, bytes: &[u8]) -> Result<(), BenchFault> {
     time_sums(rt, bytes)?;
     match Frame::open(bytes) {
-        Ok(frame) => {
-            let pace = timed(rt, || open(bytes))?;
-            let rate = pace.millions(bytes.len());
-            let answer = pace.answer();
-            println!(rt; "Frame::open: {rate} MB/s; the data begin at {answer}")?;
-            time_texts(rt, alloc, &frame)?;
-            time_pools(rt, alloc, &frame)
-        }
-        Err(refusal) => {
-            let number = refusal.number;
-            let place = refusal.place;
+        Ok(frame) => time_frame(rt, alloc, bytes, &frame),
+        Err(Refusal { number, place }) => {
             println!(rt; "Frame::open: refused by condition {number} at {place}")?;
             Ok(())
         }
     }
+}
+
+// Times how files are read, how their programs are merged, and how what they make is written.
+fn time_merged(
+    rt: &(impl CpuClock + Print),
+    alloc: Global,
+    files: &[Vec<u8>],
+    parts: &[&Program<'_>],
+    program: &Program<'_>,
+    file: &[u8],
+) -> io::Result<()> {
+    let (count, len) = (files.len(), bytes_of(files));
+    let pace = timed(rt, || read_files(alloc, files))?;
+    let (rate, micros, answer) = (pace.millions(len), pace.micros(), pace.answer());
+    println!(rt; "reading {count} files: {rate} MB/s, {micros} us; {answer} classes")?;
+    let pace = timed(rt, || merge_all(alloc, parts))?;
+    let (rate, micros, answer) = (pace.millions(len), pace.micros(), pace.answer());
+    println!(rt; "merging {count} files: {rate} MB/s, {micros} us; {answer} classes")?;
+    let pace = timed(rt, || write(alloc, program))?;
+    let (rate, micros, answer) = (pace.millions(file.len()), pace.micros(), pace.answer());
+    println!(rt; "writing the merged file: {rate} MB/s, {micros} us; {answer} bytes")?;
+    let pace = timed(rt, || sums(file))?;
+    let (rate, micros) = (pace.millions(file.len()), pace.micros());
+    println!(rt; "SHA-1 and Adler-32 of it: {rate} MB/s, {micros} us")
+}
+
+// Merges the programs of the files in one join, and times it.
+fn time_programs(
+    rt: &(impl CpuClock + Print),
+    alloc: Global,
+    files: &[Vec<u8>],
+    parts: &[&Program<'_>],
+) -> Result<(), BenchFault> {
+    let program = merged(alloc, parts)?;
+    let file = to_bytes(alloc, &program)?;
+    Ok(time_merged(rt, alloc, files, parts, &program, &file)?)
 }
 
 // Merges the files in one join, and writes what they make.
@@ -151,24 +208,8 @@ fn time_merge(
     files: &[Vec<u8>],
 ) -> Result<(), BenchFault> {
     let programs = programs(alloc, files)?;
-    let parts = merges::lent(alloc, &programs)?;
-    let program = merged(alloc, &parts)?;
-    let file = to_bytes(alloc, &program)?;
-    let count = files.len();
-    let len = bytes_of(files);
-    let pace = timed(rt, || read_files(alloc, files))?;
-    let (rate, micros, answer) = (pace.millions(len), pace.micros(), pace.answer());
-    println!(rt; "reading {count} files: {rate} MB/s, {micros} us; {answer} classes")?;
-    let pace = timed(rt, || merge_all(alloc, &parts))?;
-    let (rate, micros, answer) = (pace.millions(len), pace.micros(), pace.answer());
-    println!(rt; "merging {count} files: {rate} MB/s, {micros} us; {answer} classes")?;
-    let pace = timed(rt, || write(alloc, &program))?;
-    let (rate, micros, answer) = (pace.millions(file.len()), pace.micros(), pace.answer());
-    println!(rt; "writing the merged file: {rate} MB/s, {micros} us; {answer} bytes")?;
-    let pace = timed(rt, || sums(&file))?;
-    let (rate, micros) = (pace.millions(file.len()), pace.micros());
-    println!(rt; "SHA-1 and Adler-32 of it: {rate} MB/s, {micros} us")?;
-    Ok(())
+    let parts: Vec<&Program<'_>> = programs.iter().collect(alloc)?;
+    time_programs(rt, alloc, files, &parts)
 }
 
 // The whole file, which has at most as many bytes as a file of the format may have.
@@ -184,14 +225,23 @@ fn read_file<R: Files + Alloc<A = Global>>(rt: &R, name: &str) -> Result<Vec<u8>
     Ok(bytes)
 }
 
-fn run<R: Files + Print + Env + CpuClock + Alloc<A = Global>>(rt: &R) -> Result<(), BenchFault> {
-    let words: Vec<String> = env::args(rt)?.collect(rt.alloc())?;
+// The files that words name, of which the first is the program's name.
+fn named_files<R: Files + Alloc<A = Global>>(
+    rt: &R,
+    words: &[String],
+) -> Result<Vec<Vec<u8>>, BenchFault> {
     let mut files = Vec::new(rt.alloc());
     for name in words.iter().skip(1) {
         files
             .push(read_file(rt, name.as_str())?)
             .map_err(AllocError::from)?;
     }
+    Ok(files)
+}
+
+fn run<R: Files + Print + Env + CpuClock + Alloc<A = Global>>(rt: &R) -> Result<(), BenchFault> {
+    let words: Vec<String> = env::args(rt)?.collect(rt.alloc())?;
+    let files = named_files(rt, &words)?;
     match files.as_slice() {
         [] => Err(BenchFault::Words),
         [file] => time_file(rt, rt.alloc(), file),

@@ -18,44 +18,45 @@ pub fn bytes_of(files: &[Vec<u8>]) -> usize {
     all
 }
 
+// The program of the file of this number.
+fn program<'a>(alloc: Global, i: usize, file: &'a [u8]) -> Result<Program<'a>, BenchFault> {
+    match read(alloc, file) {
+        Ok(program) => Ok(program),
+        Err(ReadFault::Refused(Refusal { number, place })) => {
+            Err(BenchFault::Refused(i, number, place))
+        }
+        Err(ReadFault::Memory) => Err(BenchFault::Memory),
+    }
+}
+
 /// The programs of the files.
 ///
 /// Error: `Refused` with the number of the first file that is refused, and why.
 pub fn programs<'a>(alloc: Global, files: &'a [Vec<u8>]) -> Result<Vec<Program<'a>>, BenchFault> {
     let mut programs = Vec::with_capacity(alloc, files.len())?;
     for (i, file) in files.iter().enumerate() {
-        match read(alloc, file) {
-            Ok(program) => programs.push(program).map_err(AllocError::from)?,
-            Err(ReadFault::Refused(Refusal { number, place })) => {
-                return Err(BenchFault::Refused(i, number, place));
-            }
-            Err(ReadFault::Memory) => return Err(BenchFault::Memory),
-        }
+        programs
+            .push(program(alloc, i, file)?)
+            .map_err(AllocError::from)?;
     }
     Ok(programs)
+}
+
+// How many classes a file has; a refused one has none.
+fn classes_of(alloc: Global, file: &[u8]) -> u64 {
+    match read(alloc, file) {
+        Ok(program) => program.len() as u64,
+        Err(_) => 0,
+    }
 }
 
 /// Reads each file, and answers how many classes they have; refused files have none.
 pub fn read_files(alloc: Global, files: &[Vec<u8>]) -> u64 {
     let mut classes = 0u64;
     for file in files {
-        if let Ok(program) = read(alloc, file) {
-            classes = classes.saturating_add(program.len() as u64);
-        }
+        classes = classes.saturating_add(classes_of(alloc, file));
     }
     classes
-}
-
-/// The programs, lent.
-pub fn lent<'p, 'a>(
-    alloc: Global,
-    programs: &'p [Program<'a>],
-) -> Result<Vec<&'p Program<'a>>, AllocError> {
-    let mut lent = Vec::with_capacity(alloc, programs.len())?;
-    for program in programs {
-        lent.push(program)?;
-    }
-    Ok(lent)
 }
 
 /// Merges programs in one join, under the greatest caps.

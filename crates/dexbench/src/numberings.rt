@@ -77,18 +77,6 @@ pub fn dealt<'a>(
     Ok(all)
 }
 
-/// The numberings, lent.
-pub fn lent<'p, 'a>(
-    alloc: Global,
-    parts: &'p [Numbering<'a>],
-) -> Result<Vec<&'p Numbering<'a>>, AllocError> {
-    let mut lent = Vec::with_capacity(alloc, parts.len())?;
-    for part in parts.iter() {
-        lent.push(part)?;
-    }
-    Ok(lent)
-}
-
 /// Joins numberings, and answers how many texts there are; 0 where memory is refused.
 pub fn join(alloc: Global, parts: &[&Numbering<'_>]) -> u64 {
     match Numbering::join(alloc, parts) {

@@ -1,7 +1,6 @@
 //! Merges that are drawn: files, a plan and caps.
 
-use crate::fault::Trouble;
-use crate::files::picked;
+use crate::merging::{cause_of, parts_of};
 use crate::needs::{CAPS, caps_of, needed, with_cap};
 use crate::plans::{DrawnPlan, draw_plan};
 use dexclass::Program;
@@ -76,15 +75,28 @@ impl LeftOut {
         }
     }
 
-    // Whether programs of which the last is new are kept.
-    fn keeps(self, alloc: Global, parts: &[&Program<'_>]) -> Result<bool, AllocError> {
-        match (self, merge(alloc, parts, &Caps::greatest())) {
-            (_, Err(MergeFault::Memory)) => Err(AllocError),
-            (LeftOut::None, _) | (_, Ok(_)) => Ok(true),
-            (LeftOut::Conflicts, Err(MergeFault::Conflict(_))) => Ok(false),
-            (LeftOut::Conflicts, Err(_)) => Ok(true),
-            (LeftOut::Unmerged, Err(_)) => Ok(false),
+    // Whether files are kept that cannot be merged for this cause.
+    fn keeps(self, cause: &MergeFault) -> bool {
+        match self {
+            LeftOut::None => true,
+            LeftOut::Conflicts => !matches!(cause, MergeFault::Conflict(_)),
+            LeftOut::Unmerged => false,
         }
+    }
+}
+
+// Whether these files, of which the last is new, are kept.
+fn are_kept(
+    alloc: Global,
+    left_out: LeftOut,
+    programs: &[&Program<'_>],
+    files: &[usize],
+) -> Result<bool, AllocError> {
+    let parts = parts_of(alloc, programs, files)?;
+    match cause_of(alloc, &parts, &Caps::greatest()) {
+        None => Ok(true),
+        Some(MergeFault::Memory) => Err(AllocError),
+        Some(cause) => Ok(left_out.keeps(&cause)),
     }
 }
 
@@ -92,7 +104,7 @@ impl LeftOut {
 fn draw_files(
     alloc: Global,
     rng: &mut Pcg32,
-    programs: &[Program<'_>],
+    programs: &[&Program<'_>],
 ) -> Result<Vec<usize>, AllocError> {
     let count = rng.random_range(0..=MOST_FILES);
     let left_out = LeftOut::draw(rng);
@@ -102,11 +114,18 @@ fn draw_files(
             break;
         }
         files.push(draw_file(rng, &files, programs.len()))?;
-        if !left_out.keeps(alloc, &picked(alloc, programs, &files)?)? {
+        if !are_kept(alloc, left_out, programs, &files)? {
             files.pop();
         }
     }
     Ok(files)
+}
+
+// The files in another order.
+fn shuffled(alloc: Global, rng: &mut Pcg32, files: &[usize]) -> Result<Vec<usize>, AllocError> {
+    let mut shuffled = Vec::from_slice(alloc, files)?;
+    shuffled.as_mut_slice().shuffle(rng);
+    Ok(shuffled)
 }
 
 // Caps at and around these numbers, which are what the files need, and what is then known.
@@ -154,21 +173,28 @@ fn draw_small_caps(rng: &mut Pcg32) -> Caps {
     caps_of(small)
 }
 
+// Caps under which files are tried, and what is then known.
+fn draw_limits(
+    alloc: Global,
+    rng: &mut Pcg32,
+    programs: &[&Program<'_>],
+    files: &[usize],
+) -> Result<(Caps, Known), AllocError> {
+    let parts = parts_of(alloc, programs, files)?;
+    match merge(alloc, &parts, &Caps::greatest()) {
+        Ok(program) => Ok(draw_caps(rng, needed(alloc, &parts, &program)?)),
+        Err(MergeFault::Memory) => Err(AllocError),
+        Err(cause) => Ok((draw_small_caps(rng), Known::Refused(cause))),
+    }
+}
+
 /// The merge of this number.
-///
-/// Error: `Memory`.
-pub fn draw(alloc: Global, number: u64, programs: &[Program<'_>]) -> Result<Drawn, Trouble> {
+pub fn draw(alloc: Global, number: u64, programs: &[&Program<'_>]) -> Result<Drawn, AllocError> {
     let mut rng = Pcg32::new(number, STREAM);
     let files = draw_files(alloc, &mut rng, programs)?;
-    let mut reordered = files.clone()?;
-    reordered.as_mut_slice().shuffle(&mut rng);
+    let reordered = shuffled(alloc, &mut rng, &files)?;
     let plan = draw_plan(alloc, &mut rng, files.len())?;
-    let parts = picked(alloc, programs, &files)?;
-    let (caps, known) = match merge(alloc, &parts, &Caps::greatest()) {
-        Ok(program) => draw_caps(&mut rng, needed(alloc, &parts, &program)?),
-        Err(MergeFault::Memory) => return Err(Trouble::Memory),
-        Err(cause) => (draw_small_caps(&mut rng), Known::Refused(cause)),
-    };
+    let (caps, known) = draw_limits(alloc, &mut rng, programs, &files)?;
     Ok(Drawn {
         files,
         reordered,

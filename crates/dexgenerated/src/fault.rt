@@ -86,6 +86,15 @@ pub enum Trouble {
     Memory,
 }
 
+impl Trouble {
+    /// Asserts that something holds.
+    ///
+    /// Error: this trouble where it does not.
+    pub fn unless(self, holds: bool) -> Result<(), Trouble> {
+        if holds { Ok(()) } else { Err(self) }
+    }
+}
+
 impl From<AllocError> for Trouble {
     fn from(_error: AllocError) -> Trouble {
         Trouble::Memory

@@ -1,13 +1,14 @@
 //! What holds of a merge.
 
-ghost use Rattle.std.specs.Prelude.{IfOk};
+ghost use Rattle.std.specs.Prelude.{◌≡◌, false, IfOk};
 ghost use Rattle.dexcmd.specs.Runs.{AllWork};
 ghost use Rattle.dexhead.specs.Device.{is_broken};
 
 use crate::causes::{is_same, is_told};
 use crate::drawing::{Drawn, Known};
 use crate::fault::Trouble;
-use crate::files::{Stored, parts_of, picked};
+use crate::merging::{cause_of, judge_file, parts_of};
+use crate::plans::DrawnPlan;
 use crate::stripping::judge_stripped;
 use crate::tally::Ending;
 use dexcanon::to_bytes;
@@ -20,7 +21,7 @@ use std::alloc::{AllocError, Global};
 // A device over each of the files.
 fn devices<'a>(
     alloc: Global,
-    stored: &'a [Stored],
+    stored: &'a [Vec<u8>],
     files: &[usize],
 ) -> Result<Vec<Device<&'a [u8]>>, AllocError>
     ensures { IfOk result (λ devices. AllWork is_broken devices.items) }
@@ -28,129 +29,201 @@ fn devices<'a>(
     let mut devices = Vec::with_capacity(alloc, files.len())?;
     for number in files {
         if let Some(file) = stored.get(*number) {
-            devices.push(Device::new(file.bytes.as_slice()))?;
+            devices.push(Device::new(file.as_slice()))?;
         }
     }
     Ok(devices)
+}
+
+// Runs the plan over devices, and answers the cause that is told, if one is.
+fn told_by_plan(
+    alloc: Global,
+    drawn: &Drawn,
+    inputs: &mut [Device<&[u8]>],
+    out: &mut Device<Vec<u8>>,
+) -> Result<Option<MergeCause>, Trouble>
+    requires inputs { AllWork is_broken inputs.old }
+    requires out { is_broken out.old ≡ false }
+{
+    match merge_run(alloc, inputs, &drawn.plan.plan, &drawn.caps, out) {
+        Ok(()) => Ok(None),
+        Err(RunFault::Merge(cause)) => Ok(Some(cause)),
+        Err(RunFault::Memory) => Err(Trouble::Memory),
+        Err(_) => Err(Trouble::Run),
+    }
 }
 
 // What the plan gives over devices: the bytes, or the cause.
 fn run_plan(
     alloc: Global,
     drawn: &Drawn,
-    stored: &[Stored],
+    stored: &[Vec<u8>],
 ) -> Result<Result<Vec<u8>, MergeCause>, Trouble> {
     let mut inputs = devices(alloc, stored, &drawn.files)?;
     let mut out = Device::new(Vec::new(alloc));
-    match merge_run(
-        alloc,
-        inputs.as_mut_slice(),
-        &drawn.plan.plan,
-        &drawn.caps,
-        &mut out,
-    ) {
-        Ok(()) => Ok(Ok(out.into_inner())),
-        Err(RunFault::Merge(cause)) => Ok(Err(cause)),
-        Err(RunFault::Memory) => Err(Trouble::Memory),
-        Err(_) => Err(Trouble::Run),
+    match told_by_plan(alloc, drawn, inputs.as_mut_slice(), &mut out)? {
+        None => Ok(Ok(out.into_inner())),
+        Some(cause) => Ok(Err(cause)),
     }
 }
 
-// Asserts that the files merge under the caps, where that is known to be so or not to be so.
-fn judge_known(known: &Known, merged: &Result<Program<'_>, MergeFault>) -> Result<(), Trouble> {
-    match (known, merged) {
-        (_, Err(MergeFault::Memory)) => Err(Trouble::Memory),
-        (Known::Merges, Err(_)) => Err(Trouble::Needed),
-        (Known::Exceeds(cap), Err(MergeFault::Cap(told))) if cap == told => Ok(()),
-        (Known::Exceeds(_), _) => Err(Trouble::Exceeded),
-        (Known::Refused(cause), Err(told)) if is_same(cause, told) => Ok(()),
-        (Known::Refused(_), _) => Err(Trouble::First),
-        _ => Ok(()),
+// Asserts that files which merge are not known to be refused.
+fn judge_known_merge(known: &Known) -> Result<(), Trouble> {
+    match known {
+        Known::Nothing | Known::Merges => Ok(()),
+        Known::Exceeds(_) => Err(Trouble::Exceeded),
+        Known::Refused(_) => Err(Trouble::First),
     }
+}
+
+// Asserts that files are not known to merge, or to be refused for another cause.
+fn judge_known_cause(known: &Known, cause: &MergeFault) -> Result<(), Trouble> {
+    match (known, cause) {
+        (_, MergeFault::Memory) => Err(Trouble::Memory),
+        (Known::Nothing, _) => Ok(()),
+        (Known::Merges, _) => Err(Trouble::Needed),
+        (Known::Exceeds(cap), MergeFault::Cap(told)) if cap == told => Ok(()),
+        (Known::Exceeds(_), _) => Err(Trouble::Exceeded),
+        (Known::Refused(known), told) if is_same(known, told) => Ok(()),
+        (Known::Refused(_), _) => Err(Trouble::First),
+    }
+}
+
+// Asserts that the files give this file in another order.
+fn judge_order(
+    alloc: Global,
+    drawn: &Drawn,
+    programs: &[&Program<'_>],
+    right: &[u8],
+) -> Result<(), Trouble> {
+    let parts = parts_of(alloc, programs, &drawn.reordered)?;
+    judge_file(alloc, &parts, &drawn.caps, right, Trouble::Order)
+}
+
+// Asserts that the files give this file by the plan.
+fn judge_plan(
+    alloc: Global,
+    drawn: &Drawn,
+    stored: &[Vec<u8>],
+    right: &[u8],
+) -> Result<(), Trouble> {
+    match run_plan(alloc, drawn, stored)? {
+        Ok(file) => Trouble::Plan.unless(file.as_slice() == right),
+        Err(_) => Err(Trouble::Plan),
+    }
+}
+
+// Asserts of files that merge to this program that they do in another order, and by the plan.
+fn judge_same(
+    alloc: Global,
+    drawn: &Drawn,
+    stored: &[Vec<u8>],
+    programs: &[&Program<'_>],
+    merged: &Program<'_>,
+) -> Result<(), Trouble> {
+    let right = to_bytes(alloc, merged)?;
+    judge_order(alloc, drawn, programs, &right)?;
+    judge_plan(alloc, drawn, stored, &right)
 }
 
 // Asserts of files that merge to this program that they do in another order, by the plan, and stripped.
 fn judge_merged(
     alloc: Global,
     drawn: &Drawn,
-    stored: &[Stored],
-    programs: &[Program<'_>],
+    stored: &[Vec<u8>],
+    programs: &[&Program<'_>],
     merged: &Program<'_>,
 ) -> Result<Ending, Trouble> {
-    let right = to_bytes(alloc, merged)?;
-    let reordered = picked(alloc, programs, &drawn.reordered)?;
-    match merge(alloc, &reordered, &drawn.caps) {
-        Ok(program) => {
-            if to_bytes(alloc, &program)? != right {
-                return Err(Trouble::Order);
-            }
-        }
-        Err(MergeFault::Memory) => return Err(Trouble::Memory),
-        Err(_) => return Err(Trouble::Order),
-    }
-    match run_plan(alloc, drawn, stored)? {
-        Ok(bytes) => {
-            if bytes != right {
-                return Err(Trouble::Plan);
-            }
-        }
-        Err(_) => return Err(Trouble::Plan),
-    }
-    let parts = picked(alloc, programs, &drawn.files)?;
-    judge_stripped(alloc, &parts, &drawn.plan.parts, &drawn.caps, merged)?;
+    judge_known_merge(&drawn.known)?;
+    judge_same(alloc, drawn, stored, programs, merged)?;
+    let parts = parts_of(alloc, programs, &drawn.files)?;
+    judge_stripped(alloc, &parts, &drawn.plan, &drawn.caps, merged)?;
     Ok(Ending::Merged)
+}
+
+// Asserts that the files are refused for this cause in another order.
+fn judge_cause(
+    alloc: Global,
+    drawn: &Drawn,
+    programs: &[&Program<'_>],
+    cause: &MergeFault,
+) -> Result<(), Trouble> {
+    let parts = parts_of(alloc, programs, &drawn.reordered)?;
+    match cause_of(alloc, &parts, &drawn.caps) {
+        None => Err(Trouble::Order),
+        Some(MergeFault::Memory) => Err(Trouble::Memory),
+        Some(told) => Trouble::Order.unless(is_same(cause, &told)),
+    }
+}
+
+// Whether the cause is that of these files.
+fn is_cause_of(
+    alloc: Global,
+    parts: &[&Program<'_>],
+    files: &[usize],
+    caps: &Caps,
+    told: &MergeCause,
+) -> Result<bool, AllocError> {
+    let parts = parts_of(alloc, parts, files)?;
+    match cause_of(alloc, &parts, caps) {
+        None => Ok(false),
+        Some(MergeFault::Memory) => Err(AllocError),
+        Some(cause) => Ok(is_told(&cause, told)),
+    }
 }
 
 // Whether the cause is that of what a node of the plan merges.
 fn is_cause_of_a_node(
     alloc: Global,
-    nodes: &[Vec<usize>],
+    plan: &DrawnPlan,
     parts: &[&Program<'_>],
     caps: &Caps,
     told: &MergeCause,
 ) -> Result<bool, AllocError> {
-    for node in nodes {
-        match merge(alloc, &parts_of(alloc, parts, node)?, caps) {
-            Ok(_) => continue,
-            Err(MergeFault::Memory) => return Err(AllocError),
-            Err(cause) => {
-                if is_told(&cause, told) {
-                    return Ok(true);
-                }
-            }
+    for node in &plan.nodes {
+        if is_cause_of(alloc, parts, plan.files(node), caps, told)? {
+            return Ok(true);
         }
     }
     Ok(false)
+}
+
+// Asserts that the cause is that of what a node of the plan merges.
+fn judge_told_cause(
+    alloc: Global,
+    drawn: &Drawn,
+    programs: &[&Program<'_>],
+    told: &MergeCause,
+) -> Result<(), Trouble> {
+    let parts = parts_of(alloc, programs, &drawn.files)?;
+    Trouble::Cause.unless(is_cause_of_a_node(alloc, &drawn.plan, &parts, &drawn.caps, told)?)
+}
+
+// Asserts that the files are refused by the plan, for a cause of what one of its nodes merges.
+fn judge_told(
+    alloc: Global,
+    drawn: &Drawn,
+    stored: &[Vec<u8>],
+    programs: &[&Program<'_>],
+) -> Result<(), Trouble> {
+    match run_plan(alloc, drawn, stored)? {
+        Ok(_) => Err(Trouble::Plan),
+        Err(told) => judge_told_cause(alloc, drawn, programs, &told),
+    }
 }
 
 // Asserts of files that are refused for this cause that they are in another order, and by the plan.
 fn judge_refused(
     alloc: Global,
     drawn: &Drawn,
-    stored: &[Stored],
-    programs: &[Program<'_>],
+    stored: &[Vec<u8>],
+    programs: &[&Program<'_>],
     cause: &MergeFault,
 ) -> Result<Ending, Trouble> {
-    let reordered = picked(alloc, programs, &drawn.reordered)?;
-    match merge(alloc, &reordered, &drawn.caps) {
-        Ok(_) => return Err(Trouble::Order),
-        Err(MergeFault::Memory) => return Err(Trouble::Memory),
-        Err(told) => {
-            if !is_same(cause, &told) {
-                return Err(Trouble::Order);
-            }
-        }
-    }
-    let told = match run_plan(alloc, drawn, stored)? {
-        Ok(_) => return Err(Trouble::Plan),
-        Err(told) => told,
-    };
-    let parts = picked(alloc, programs, &drawn.files)?;
-    if is_cause_of_a_node(alloc, &drawn.plan.nodes, &parts, &drawn.caps, &told)? {
-        Ok(Ending::of(cause))
-    } else {
-        Err(Trouble::Cause)
-    }
+    judge_known_cause(&drawn.known, cause)?;
+    judge_cause(alloc, drawn, programs, cause)?;
+    judge_told(alloc, drawn, stored, programs)?;
+    Ok(Ending::of(cause))
 }
 
 /// How the merge ends.
@@ -159,14 +232,12 @@ fn judge_refused(
 pub fn judge(
     alloc: Global,
     drawn: &Drawn,
-    stored: &[Stored],
-    programs: &[Program<'_>],
+    stored: &[Vec<u8>],
+    programs: &[&Program<'_>],
 ) -> Result<Ending, Trouble> {
-    let parts = picked(alloc, programs, &drawn.files)?;
-    let merged = merge(alloc, &parts, &drawn.caps);
-    judge_known(&drawn.known, &merged)?;
-    match &merged {
-        Ok(merged) => judge_merged(alloc, drawn, stored, programs, merged),
-        Err(cause) => judge_refused(alloc, drawn, stored, programs, cause),
+    let parts = parts_of(alloc, programs, &drawn.files)?;
+    match merge(alloc, &parts, &drawn.caps) {
+        Ok(merged) => judge_merged(alloc, drawn, stored, programs, &merged),
+        Err(cause) => judge_refused(alloc, drawn, stored, programs, &cause),
     }
 }

@@ -19,6 +19,7 @@ mod drawing;
 mod fault;
 mod files;
 mod judging;
+mod merging;
 mod needs;
 mod plans;
 mod stripping;
@@ -27,12 +28,12 @@ mod tally;
 use dexclass::Program;
 use drawing::draw;
 use fault::{Fault, Trouble};
-use files::{Stored, programs, stored_files};
+use files::{programs, stored_files};
 use judging::judge;
 use std::alloc::Global;
-use std::env;
 use std::process::ExitCode;
 use std::rt::{Env, Files};
+use std::{env, io};
 use tally::{Ending, Tally};
 
 /// So many merges are drawn.
@@ -42,26 +43,22 @@ const MERGES: u64 = 1000;
 fn ending(
     alloc: Global,
     number: u64,
-    stored: &[Stored],
-    programs: &[Program<'_>],
+    stored: &[Vec<u8>],
+    programs: &[&Program<'_>],
 ) -> Result<Ending, Trouble> {
     let drawn = draw(alloc, number, programs)?;
     judge(alloc, &drawn, stored, programs)
 }
 
 // Runs all merges, and tells of each that does not hold.
-fn run<R: Files + Print + Env + AllocGlobal>(rt: &R) -> Result<Tally, Fault> {
-    let alloc = rt.alloc();
-    let words: Vec<String> = env::args(rt)?.collect(alloc)?;
-    let names = match words.as_slice() {
-        [] | [_] => return Err(Fault::Words),
-        [_, names @ ..] => names,
-    };
-    let stored = stored_files(rt, names)?;
-    let programs = programs(alloc, &stored)?;
+fn run_merges<R: Print + AllocGlobal>(
+    rt: &R,
+    stored: &[Vec<u8>],
+    programs: &[&Program<'_>],
+) -> io::Result<Tally> {
     let mut tally = Tally::default();
     for number in 0..MERGES {
-        match ending(alloc, number, &stored, &programs) {
+        match ending(rt.alloc(), number, stored, programs) {
             Ok(ending) => tally.count(ending),
             Err(trouble) => {
                 println!(rt; "merge {number}: {trouble}")?;
@@ -75,6 +72,22 @@ fn run<R: Files + Print + Env + AllocGlobal>(rt: &R) -> Result<Tally, Fault> {
         println!(rt; "{tally:?}")?;
     }
     Ok(tally)
+}
+
+// Runs all merges of files of these names.
+fn run_named<R: Files + Print + AllocGlobal>(rt: &R, names: &[String]) -> Result<Tally, Fault> {
+    let stored = stored_files(rt, names)?;
+    let programs = programs(rt.alloc(), names, &stored)?;
+    let lent: Vec<&Program<'_>> = programs.iter().collect(rt.alloc())?;
+    Ok(run_merges(rt, &stored, &lent)?)
+}
+
+fn run<R: Files + Print + Env + AllocGlobal>(rt: &R) -> Result<Tally, Fault> {
+    let words: Vec<String> = env::args(rt)?.collect(rt.alloc())?;
+    match words.as_slice() {
+        [] | [_] => Err(Fault::Words),
+        [_, names @ ..] => run_named(rt, names),
+    }
 }
 
 fn main(rt: HostRuntime) -> ExitCode {

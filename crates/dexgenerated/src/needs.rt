@@ -1,7 +1,8 @@
 //! What files need of each cap.
 
+use crate::merging::cause_of;
 use dexclass::Program;
-use dexmerge::{Caps, MergeFault, merge};
+use dexmerge::{Caps, MergeFault};
 use dexpool::SymbolKind;
 use std::alloc::{AllocError, Global};
 
@@ -46,10 +47,10 @@ fn short_strings(
             break;
         }
         let middle = least + (most - least) / 2;
-        match merge(alloc, parts, &caps_of(with_cap(SHORT_STRINGS, middle))) {
-            Ok(_) => most = middle,
-            Err(MergeFault::Memory) => return Err(AllocError),
-            Err(_) => least = middle + 1,
+        match cause_of(alloc, parts, &caps_of(with_cap(SHORT_STRINGS, middle))) {
+            None => most = middle,
+            Some(MergeFault::Memory) => return Err(AllocError),
+            Some(_) => least = middle + 1,
         }
     }
     Ok(least)

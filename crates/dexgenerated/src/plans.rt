@@ -5,32 +5,40 @@ use rand::RngExt;
 use rand::seq::SliceRandom;
 use rand_pcg::Pcg32;
 use std::alloc::{AllocError, Global};
+use std::mem;
 
-/// How many nodes may be open at a time, so that no plan is too deep.
+/// How many nodes may be open around another, so that no plan is too deep.
 const MOST_OPEN: u32 = 62;
 
-/// A node of a plan, and the files of each of its parts.
+/// Leaves of a plan that stand side by side: from the one at a place on to the one before another place.
+#[derive(Clone, Copy)]
+pub struct Span {
+    start: usize,
+    end: usize,
+}
+
+/// A node of a plan that is drawn: where its leaves begin, and its parts with the leaves of each.
 #[derive(Drop)]
 struct Node {
+    start: usize,
     parts: Vec<Plan>,
-    files: Vec<Vec<usize>>,
+    spans: Vec<Span>,
 }
 
 impl Node {
-    fn new(alloc: Global) -> Node {
+    fn new(alloc: Global, start: usize) -> Node {
         Node {
+            start,
             parts: Vec::new(alloc),
-            files: Vec::new(alloc),
+            spans: Vec::new(alloc),
         }
     }
 
-    // The files of all its parts.
-    fn all_files(&self, alloc: Global) -> Result<Vec<usize>, AllocError> {
-        let mut all = Vec::new(alloc);
-        for files in &self.files {
-            all.extend_from_slice(files)?;
-        }
-        Ok(all)
+    // Adds a part that has these leaves.
+    fn push(&mut self, part: Plan, span: Span) -> Result<(), AllocError> {
+        self.spans.push(span)?;
+        self.parts.push(part)?;
+        Ok(())
     }
 }
 
@@ -38,76 +46,118 @@ impl Node {
 #[derive(Drop)]
 pub struct DrawnPlan {
     pub plan: Plan,
-    /// The files that each of its nodes merges.
-    pub nodes: Vec<Vec<usize>>,
-    /// The files of each part of the plan.
-    pub parts: Vec<Vec<usize>>,
+    // The files at its leaves, in their order.
+    leaves: Vec<usize>,
+    /// The leaves of each of its nodes, or of the plan where it is a leaf.
+    pub nodes: Vec<Span>,
+    /// The leaves of each part of the plan.
+    pub parts: Vec<Span>,
 }
 
-/// A plan that is being drawn: the node whose parts come next, those around it, and what those that are closed merge.
+impl DrawnPlan {
+    // The leaf of the first file.
+    fn leaf(alloc: Global) -> Result<DrawnPlan, AllocError> {
+        let span = Span { start: 0, end: 1 };
+        let leaves = Vec::from_slice(alloc, &[0])?;
+        let nodes = Vec::from_slice(alloc, &[span])?;
+        let parts = Vec::from_slice(alloc, &[span])?;
+        Ok(DrawnPlan {
+            plan: Plan::Leaf(0),
+            leaves,
+            nodes,
+            parts,
+        })
+    }
+
+    /// The files at these leaves.
+    pub fn files(&self, span: &Span) -> &[usize] {
+        self.leaves.get(span.start..span.end).unwrap_or(&[])
+    }
+}
+
+/// A plan that is being drawn: the node whose parts come next, those around it, and the leaves of those that are closed.
 #[derive(Drop)]
 struct Drawing {
     around: Vec<Node>,
     node: Node,
-    closed: Vec<Vec<usize>>,
+    closed: Vec<Span>,
 }
 
 impl Drawing {
     fn new(alloc: Global) -> Drawing {
         Drawing {
             around: Vec::new(alloc),
-            node: Node::new(alloc),
+            node: Node::new(alloc, 0),
             closed: Vec::new(alloc),
         }
     }
 
-    // Begins so many nodes, if no plan is too deep then.
-    fn open(self, alloc: Global, count: u32) -> Result<Drawing, AllocError> {
-        let Drawing {
-            mut around,
-            mut node,
-            closed,
-        } = self;
+    // Begins so many nodes before the leaf at this place, if no plan is too deep then.
+    fn open(&mut self, alloc: Global, count: u32, at: usize) -> Result<(), AllocError> {
         for _ in 0..count {
-            if around.len() < MOST_OPEN as usize {
-                around.push(node)?;
-                node = Node::new(alloc);
+            if self.around.len() < MOST_OPEN as usize {
+                let node = mem::replace(&mut self.node, Node::new(alloc, at));
+                self.around.push(node)?;
             }
         }
-        Ok(Drawing {
-            around,
-            node,
-            closed,
-        })
-    }
-
-    // Ends so many nodes, if as many are open.
-    fn close(self, alloc: Global, count: u32) -> Result<Drawing, AllocError> {
-        let Drawing {
-            mut around,
-            mut node,
-            mut closed,
-        } = self;
-        for _ in 0..count {
-            if let Some(mut before) = around.pop() {
-                let files = node.all_files(alloc)?;
-                before.files.push(files.clone()?)?;
-                before.parts.push(Plan::Node(node.parts))?;
-                closed.push(files)?;
-                node = before;
-            }
-        }
-        Ok(Drawing {
-            around,
-            node,
-            closed,
-        })
-    }
-
-    fn push_file(&mut self, alloc: Global, file: usize) -> Result<(), AllocError> {
-        self.node.parts.push(Plan::Leaf(file))?;
-        self.node.files.push(Vec::from_array(alloc, [file])?)?;
         Ok(())
+    }
+
+    // Ends the node, which is a part of this one, before the leaf at a place.
+    fn end(&mut self, around: Node, at: usize) -> Result<(), AllocError> {
+        let Node { start, parts, .. } = mem::replace(&mut self.node, around);
+        let span = Span { start, end: at };
+        self.node.push(Plan::Node(parts), span)?;
+        self.closed.push(span)?;
+        Ok(())
+    }
+
+    // Ends so many nodes before the leaf at this place, if as many are open.
+    fn close(&mut self, count: u32, at: usize) -> Result<(), AllocError> {
+        for _ in 0..count {
+            if let Some(around) = self.around.pop() {
+                self.end(around, at)?;
+            }
+        }
+        Ok(())
+    }
+
+    // Draws the plan for so many files, and answers those at its leaves.
+    fn draw(
+        &mut self,
+        alloc: Global,
+        rng: &mut Pcg32,
+        files: usize,
+    ) -> Result<Vec<usize>, AllocError> {
+        let deep = rng.random_ratio(1, 8);
+        let most_opened = rng.random_range(0..4);
+        let most_closed = rng.random_range(0..4);
+        if deep {
+            self.open(alloc, MOST_OPEN, 0)?;
+        }
+        let leaves = leaves(alloc, rng, files)?;
+        for at in 0..leaves.len() {
+            self.open(alloc, rng.random_range(0..=most_opened), at)?;
+            let end = at + 1;
+            self.node
+                .push(Plan::Leaf(leaves[at]), Span { start: at, end })?;
+            self.close(rng.random_range(0..=most_closed), end)?;
+        }
+        let end = leaves.len();
+        self.close(MOST_OPEN, end)?;
+        self.closed.push(Span { start: 0, end })?;
+        Ok(leaves)
+    }
+
+    // The plan that was drawn, with these files at its leaves.
+    fn into_plan(self, leaves: Vec<usize>) -> DrawnPlan {
+        let Drawing { node, closed, .. } = self;
+        DrawnPlan {
+            plan: Plan::Node(node.parts),
+            leaves,
+            nodes: closed,
+            parts: node.spans,
+        }
     }
 }
 
@@ -128,36 +178,9 @@ fn leaves(alloc: Global, rng: &mut Pcg32, files: usize) -> Result<Vec<usize>, Al
 /// all files, some are as deep as may be, and that of a single file may be its leaf.
 pub fn draw_plan(alloc: Global, rng: &mut Pcg32, files: usize) -> Result<DrawnPlan, AllocError> {
     if files == 1 && rng.random_ratio(1, 4) {
-        let whole = Vec::from_array(alloc, [0])?;
-        let nodes = Vec::from_array(alloc, [whole.clone()?])?;
-        let parts = Vec::from_array(alloc, [whole])?;
-        return Ok(DrawnPlan {
-            plan: Plan::Leaf(0),
-            nodes,
-            parts,
-        });
+        return DrawnPlan::leaf(alloc);
     }
-    let deep = rng.random_ratio(1, 8);
-    let most_opened = rng.random_range(0..4);
-    let most_closed = rng.random_range(0..4);
     let mut drawing = Drawing::new(alloc);
-    if deep {
-        drawing = drawing.open(alloc, MOST_OPEN)?;
-    }
-    for file in leaves(alloc, rng, files)? {
-        drawing = drawing.open(alloc, rng.random_range(0..=most_opened))?;
-        drawing.push_file(alloc, file)?;
-        drawing = drawing.close(alloc, rng.random_range(0..=most_closed))?;
-    }
-    let Drawing {
-        node,
-        closed: mut nodes,
-        ..
-    } = drawing.close(alloc, MOST_OPEN)?;
-    nodes.push(node.all_files(alloc)?)?;
-    Ok(DrawnPlan {
-        plan: Plan::Node(node.parts),
-        nodes,
-        parts: node.files,
-    })
+    let leaves = drawing.draw(alloc, rng, files)?;
+    Ok(drawing.into_plan(leaves))
 }

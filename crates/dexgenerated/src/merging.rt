@@ -1,0 +1,53 @@
+//! What programs give merged.
+
+use crate::fault::Trouble;
+use dexcanon::to_bytes;
+use dexclass::Program;
+use dexmerge::{Caps, MergeFault, merge};
+use std::alloc::{AllocError, Global};
+
+// The file that programs give merged.
+fn merged_file(alloc: Global, parts: &[&Program<'_>], caps: &Caps) -> Result<Vec<u8>, MergeFault> {
+    let program = merge(alloc, parts, caps)?;
+    Ok(to_bytes(alloc, &program)?)
+}
+
+/// The cause for which programs are not merged, if they are not.
+pub fn cause_of(alloc: Global, parts: &[&Program<'_>], caps: &Caps) -> Option<MergeFault> {
+    match merge(alloc, parts, caps) {
+        Ok(_) => None,
+        Err(cause) => Some(cause),
+    }
+}
+
+/// Asserts that programs give this file merged.
+///
+/// Error: this trouble where they do not.
+pub fn judge_file(
+    alloc: Global,
+    parts: &[&Program<'_>],
+    caps: &Caps,
+    right: &[u8],
+    trouble: Trouble,
+) -> Result<(), Trouble> {
+    match merged_file(alloc, parts, caps) {
+        Ok(file) => trouble.unless(file.as_slice() == right),
+        Err(MergeFault::Memory) => Err(Trouble::Memory),
+        Err(_) => Err(trouble),
+    }
+}
+
+/// Those at these places.
+pub fn parts_of<'p, 'a>(
+    alloc: Global,
+    parts: &[&'p Program<'a>],
+    places: &[usize],
+) -> Result<Vec<&'p Program<'a>>, AllocError> {
+    let mut group = Vec::with_capacity(alloc, places.len())?;
+    for place in places {
+        if let Some(part) = parts.get(*place) {
+            group.push(*part)?;
+        }
+    }
+    Ok(group)
+}

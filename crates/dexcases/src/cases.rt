@@ -1,10 +1,10 @@
 //! The kinds of lines.
 
 use crate::fault::CaseFault;
+use crate::folder::Folder;
 use crate::outcome::Outcome;
 use crate::tally::Tally;
 use std::fmt;
-use std::path::Path;
 use std::rt::Files;
 
 /// The kinds of the lines that a program runs. A kind prints as what its lines are counted as.
@@ -28,8 +28,7 @@ pub trait Cases: Copy + Ord + fmt::Display {
     /// first word in an index.
     fn run<R: Files + AllocGlobal>(
         self,
-        rt: &R,
-        folder: Path<'_>,
+        folder: Folder<'_, R>,
         case: &str,
     ) -> Result<Outcome, CaseFault>;
 }

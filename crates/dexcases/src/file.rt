@@ -2,9 +2,9 @@
 
 use crate::cases::Cases;
 use crate::fault::CaseFault;
+use crate::folder::{Folder, unreadable};
 use crate::outcome::Outcome;
 use crate::tally::Tally;
-use std::alloc::Global;
 use std::collections::BTreeMap;
 use std::path::Path;
 use std::rt::Files;
@@ -55,20 +55,50 @@ pub fn run_file<K: Cases, R: Files + Print + AllocGlobal>(
         Err(error) => return Err(unreadable(rt.alloc(), name, error)?),
     };
     println!(rt; "{name}")?;
+    run_text(rt, name, &source, text.as_str())
+}
+
+// Runs each line of a text.
+fn run_text<K: Cases, R: Files + Print + AllocGlobal>(
+    rt: &R,
+    name: &str,
+    source: &Source<'_, K>,
+    text: &str,
+) -> Result<Tally, CaseFault> {
     let mut tallies: BTreeMap<K, Tally> = BTreeMap::new(rt.alloc());
-    for (number, line) in (1u64..).zip(text.as_str().lines()) {
-        if line.starts_with('#') {
-            continue;
+    for (number, line) in (1u64..).zip(text.lines()) {
+        if !line.starts_with('#') {
+            count_line(rt, name, source, number, line, &mut tallies)?;
         }
-        let (kind, outcome) = run_line(rt, &source, line)?;
-        if let Outcome::Failed(answered) = &outcome {
-            print_failed(rt, name, number, line, answered.as_str())?;
-        }
-        tallies
-            .entry(kind)?
-            .or_insert(K::no_lines())
-            .count(&outcome);
     }
+    print_tallies(rt, &tallies)
+}
+
+// Runs a line, prints it if it failed, and counts it.
+fn count_line<K: Cases, R: Files + Print + AllocGlobal>(
+    rt: &R,
+    name: &str,
+    source: &Source<'_, K>,
+    number: u64,
+    line: &str,
+    tallies: &mut BTreeMap<K, Tally>,
+) -> Result<(), CaseFault> {
+    let (kind, outcome) = run_line(rt, source, line)?;
+    if let Outcome::Failed(answered) = &outcome {
+        print_failed(rt, name, number, line, answered.as_str())?;
+    }
+    tallies
+        .entry(kind)?
+        .or_insert(K::no_lines())
+        .count(&outcome);
+    Ok(())
+}
+
+// Prints how many lines of each kind went how, and answers how all of them went.
+fn print_tallies<K: Cases, R: Print>(
+    rt: &R,
+    tallies: &BTreeMap<K, Tally>,
+) -> Result<Tally, CaseFault> {
     let mut all = K::no_lines();
     for (kind, tally) in tallies.iter() {
         println!(rt; "  {kind}: {tally}")?;
@@ -96,31 +126,14 @@ fn run_line<K: Cases, R: Files + AllocGlobal>(
     line: &str,
 ) -> Result<(K, Outcome), CaseFault> {
     let (kind, case) = source.kind_of(line);
-    let outcome = match kind.run(rt, source.folder, case) {
+    let folder = Folder {
+        rt,
+        path: source.folder,
+    };
+    let outcome = match kind.run(folder, case) {
         Err(CaseFault::Form) => Outcome::failed(rt.alloc(), "not a line of this kind")?,
         Err(CaseFault::Failed(answered)) => Outcome::Failed(answered),
         ran => ran?,
     };
     Ok((kind, outcome))
-}
-
-/// The bytes of a file of a folder.
-pub fn read_file<R: Files + AllocGlobal>(
-    rt: &R,
-    folder: Path<'_>,
-    name: &str,
-) -> Result<Vec<u8>, CaseFault> {
-    let path = folder.join(rt.alloc(), name)?;
-    match fs::read(rt, path.as_path()) {
-        Ok(bytes) => Ok(bytes),
-        Err(error) => Err(unreadable(rt.alloc(), path.as_str(), error)?),
-    }
-}
-
-// The fault that a file cannot be read.
-fn unreadable(alloc: Global, name: &str, error: io::Error) -> Result<CaseFault, CaseFault> {
-    Ok(CaseFault::File {
-        name: String::from_str(alloc, name)?,
-        error,
-    })
 }

@@ -8,16 +8,19 @@
 
 pub use cases::Cases;
 pub use fault::CaseFault;
-pub use file::read_file;
+pub use folder::Folder;
 pub use outcome::Outcome;
+pub use printed::Printed;
 pub use program::run;
 pub use tally::Tally;
-pub use words::{first_word, positions_text};
+pub use words::first_word;
 
 mod cases;
 mod fault;
 mod file;
+mod folder;
 mod outcome;
+mod printed;
 mod program;
 mod tally;
 mod words;

@@ -1,0 +1,49 @@
+//! Folders of cases.
+
+use crate::fault::CaseFault;
+use std::alloc::{AllocError, Global};
+use std::path::Path;
+use std::rt::Files;
+use std::{fs, io};
+
+/// A folder in which files of cases lie, and the host that reads them.
+pub struct Folder<'a, R> {
+    pub(crate) rt: &'a R,
+    pub(crate) path: Path<'a>,
+}
+
+impl<R> Clone for Folder<'_, R> {
+    fn clone(&self) -> Result<Self, AllocError> {
+        Ok(*self)
+    }
+}
+
+impl<R> Copy for Folder<'_, R> {}
+
+impl<R: Files + AllocGlobal> Folder<'_, R> {
+    /// Where memory comes from.
+    pub fn alloc(self) -> Global {
+        self.rt.alloc()
+    }
+
+    /// The bytes of a file of the folder.
+    pub fn read(self, name: &str) -> Result<Vec<u8>, CaseFault> {
+        let path = self.path.join(self.rt.alloc(), name)?;
+        match fs::read(self.rt, path.as_path()) {
+            Ok(bytes) => Ok(bytes),
+            Err(error) => Err(unreadable(self.rt.alloc(), path.as_str(), error)?),
+        }
+    }
+}
+
+/// The fault that a file cannot be read.
+pub(crate) fn unreadable(
+    alloc: Global,
+    name: &str,
+    error: io::Error,
+) -> Result<CaseFault, CaseFault> {
+    Ok(CaseFault::File {
+        name: String::from_str(alloc, name)?,
+        error,
+    })
+}

@@ -6,348 +6,304 @@ ghost use Rattle.std.specs.Prelude.{◌<◌};
 ghost use Rattle.dexpool.specs.Pools.{ArePools};
 ghost use Rattle.dexspec.specs.Header.{ClassDefs, table_size};
 
+use crate::checks::check_bytes;
 use crate::dex_file::DexFile;
-use crate::offsets::{DirectoryOffs, directory_offs, list_offs, method_code_offs, number_at};
+use crate::item::Item;
+use crate::item_kind::ItemKind;
+use crate::line::Line;
+use crate::offsets::{
+    DirectoryOffs, directory_offs, list_offs, method_code_offs, number_at, number_behind,
+};
 use crate::puts::Put;
 use dexcases::{CaseFault, Outcome};
-use dexhead::{Frame, Table};
-use dexmembers::{Field, Members, Method, read_members};
-use dexpool::ItemFault;
+use dexhead::Table;
+use dexmembers::Members;
 use std::alloc::{AllocError, Global};
-use std::collections::BTreeMap;
 
-/// Runs a line, given the file and what stands in the line behind the file's name.
-pub fn run_item(alloc: Global, word: &str, bytes: &[u8], case: &str) -> Result<Outcome, CaseFault> {
-    let off = case.parse()?;
-    let put = match word {
-        "value" => Put::Value,
-        "statics" => Put::Statics,
-        "debug" => Put::Debug,
-        "code" => Put::Code(number_at(bytes, (off as usize).saturating_add(8))?),
-        _ => return Err(CaseFault::Form),
-    };
-    let file = DexFile::open(alloc, bytes)?;
-    if Placed::at(put, off).stands(alloc, &file)? {
-        return Ok(Outcome::Passed);
-    }
-    Ok(Outcome::failed(alloc, "other bytes")?)
-}
-
-/// Runs a line, given the file and what stands in the line behind the file's name.
-pub fn run(alloc: Global, bytes: &[u8], case: &str) -> Result<Outcome, CaseFault> {
-    let right: usize = case.parse()?;
-    let file = DexFile::open(alloc, bytes)?;
-    match judge_classes(alloc, &file)? {
-        Judged::Items(count) if count == right => Ok(Outcome::Passed),
-        Judged::Items(count) => Ok(Outcome::Failed(format!(in alloc; "{count} items")?)),
-        Judged::Astray(off) => Ok(Outcome::Failed(format!(in alloc; "other bytes at {off}")?)),
-    }
-}
-
-// Judges the items of all class rows.
-fn judge_classes(alloc: Global, file: &DexFile<'_>) -> Result<Judged, CaseFault>
+/// Runs a line that asks for one item.
+pub fn run_item(alloc: Global, file: &DexFile<'_>, line: Line<'_>) -> Result<Outcome, CaseFault>
     requires { ArePools file.now.frame file.now.pools }
 {
-    let mut count: usize = 0;
+    let debug_off = match line.word {
+        "value" | "statics" | "debug" => 0,
+        "code" => number_behind(file.frame.bytes(), line.place, 8)?,
+        _ => return Err(CaseFault::Form),
+    };
+    stands(
+        alloc,
+        file,
+        Put::of_word(line.word, debug_off)?,
+        line.place,
+        line.place,
+    )?;
+    Ok(Outcome::Passed)
+}
+
+/// Runs a line that asks for every item.
+pub fn run(alloc: Global, file: &DexFile<'_>, line: Line<'_>) -> Result<Outcome, CaseFault>
+    requires { ArePools file.now.frame file.now.pools }
+{
+    let mut count: u32 = 0;
     for row in 0..file.frame.size(Table::ClassDefs) {
-        match judge_class(alloc, file, row)? {
-            Judged::Items(items) => count = count.saturating_add(items),
-            astray => return Ok(astray),
-        }
+        count = count.saturating_add(count_class(alloc, file, row)?);
     }
-    Ok(Judged::Items(count))
-}
-
-/// What is found of the items of a class row.
-#[derive(Clone, Copy)]
-enum Judged {
-    /// So many are put as they stand.
-    Items(usize),
-    /// That at this offset is not.
-    Astray(u32),
-}
-
-/// An item to be put.
-#[derive(Clone, Copy)]
-struct Placed {
-    put: Put,
-    /// The offset of what is read.
-    off: u32,
-    /// The offset of the bytes that are to be put.
-    at: u32,
-}
-
-impl Placed {
-    // What is read at an offset, and is to be put there.
-    fn at(put: Put, off: u32) -> Placed {
-        Placed { put, off, at: off }
+    if count == line.place {
+        return Ok(Outcome::Passed);
     }
-
-    // Whether the bytes that stand there are put.
-    fn stands(self, alloc: Global, file: &DexFile<'_>) -> Result<bool, CaseFault>
-        requires { ArePools file.now.frame file.now.pools }
-    {
-        let mut out = Vec::new(alloc);
-        if !self.put.append(alloc, file, self.off, &mut out)? {
-            return Ok(false);
-        }
-        Ok(stand(file.frame.bytes(), self.at, &out))
-    }
+    Ok(Outcome::Failed(format!(in alloc; "{count} items")?))
 }
 
-// Whether bytes stand at an offset.
-fn stand(bytes: &[u8], at: u32, wanted: &[u8]) -> bool {
-    match bytes.get(at as usize..) {
-        Some(rest) => rest.starts_with(wanted),
-        None => false,
-    }
+// Fails the line unless the item at an offset is put as the bytes that stand at a place.
+fn stands(alloc: Global, file: &DexFile<'_>, put: Put, off: u32, at: u32) -> Result<(), CaseFault>
+    requires { ArePools file.now.frame file.now.pools }
+{
+    let bytes = put.bytes_at(alloc, file, off)?;
+    check_bytes(alloc, file.frame.bytes(), at, &bytes)
 }
 
-// Judges the items of a class row.
-fn judge_class(alloc: Global, file: &DexFile<'_>, row: u32) -> Result<Judged, CaseFault>
+// How many items a class row leads to, if each is put as it stands; else the line fails.
+fn count_class(alloc: Global, file: &DexFile<'_>, row: u32) -> Result<u32, CaseFault>
     requires pools { ArePools file.now.frame file.now.pools }
     requires row { row < table_size file.now.frame ClassDefs }
 {
-    let members = match read_members(alloc, &file.frame, &file.pools, row, u32::MAX) {
-        Ok(Some((members, _))) => members,
-        Err(ItemFault::Memory) => return Err(CaseFault::Memory),
-        _ => return Ok(Judged::Astray(0)),
-    };
-    judge_row(alloc, file, file.frame.row(Table::ClassDefs, row), &members)
+    let item = Item::at(alloc, file, ItemKind::Members, row)?;
+    match &item {
+        Item::Members(members) => {
+            count_row(alloc, file, file.frame.row(Table::ClassDefs, row), members)
+        }
+        _ => Err(CaseFault::Form),
+    }
 }
 
-// Judges the items that the bytes of a class row lead to.
-fn judge_row(
+// The same, given the bytes of the row and what it declares.
+fn count_row(
     alloc: Global,
     file: &DexFile<'_>,
     row: &[u8],
     members: &Members<'_>,
-) -> Result<Judged, CaseFault>
+) -> Result<u32, CaseFault>
     requires { ArePools file.now.frame file.now.pools }
 {
-    let annotations_off = number_at(row, 20)?;
-    let class_data_off = number_at(row, 24)?;
-    let mut items = Vec::new(alloc);
-    if !stands_class_data(alloc, &file.frame, members, class_data_off, &mut items)? {
-        return Ok(Judged::Astray(class_data_off));
-    }
-    if !stands_directory(alloc, &file.frame, members, annotations_off, &mut items)? {
-        return Ok(Judged::Astray(annotations_off));
-    }
-    push_statics(number_at(row, 28)?, &mut items)?;
-    let beside = usize::from(class_data_off != 0) + usize::from(annotations_off != 0);
-    judge_items(alloc, file, &items, beside)
+    let annotated = count_directory(alloc, file, number_at(row, 20)?, members)?;
+    let declared = count_class_data(alloc, file, number_at(row, 24)?, members)?;
+    let valued = count_statics(alloc, file, number_at(row, 28)?)?;
+    Ok(annotated.saturating_add(declared).saturating_add(valued))
 }
 
-// Judges items; so many others stand.
-fn judge_items(
+// The same of an array of values, if there is one.
+fn count_statics(alloc: Global, file: &DexFile<'_>, off: u32) -> Result<u32, CaseFault>
+    requires { ArePools file.now.frame file.now.pools }
+{
+    if off == 0 {
+        return Ok(0);
+    }
+    stands(alloc, file, Put::Statics, off, off)?;
+    Ok(1)
+}
+
+// The same of a code item and its debug program, if there is one.
+fn count_code(alloc: Global, file: &DexFile<'_>, off: u32) -> Result<u32, CaseFault>
+    requires { ArePools file.now.frame file.now.pools }
+{
+    if off == 0 {
+        return Ok(0);
+    }
+    let debug_off = number_behind(file.frame.bytes(), off, 8)?;
+    stands(alloc, file, Put::Code(debug_off), off, off)?;
+    if debug_off == 0 {
+        return Ok(1);
+    }
+    stands(alloc, file, Put::Debug, debug_off, debug_off)?;
+    Ok(2)
+}
+
+// The same of a set and its annotations, if there is one.
+fn count_set(alloc: Global, file: &DexFile<'_>, off: u32) -> Result<u32, CaseFault>
+    requires { ArePools file.now.frame file.now.pools }
+{
+    if off == 0 {
+        return Ok(0);
+    }
+    let first = number_behind(file.frame.bytes(), off, 4)?;
+    stands(alloc, file, Put::Set(first), off, off)?;
+    stands(alloc, file, Put::Annotations, off, first)?;
+    Ok(2)
+}
+
+// The same of sets.
+fn count_sets(alloc: Global, file: &DexFile<'_>, offs: &[u32]) -> Result<u32, CaseFault>
+    requires { ArePools file.now.frame file.now.pools }
+{
+    let mut count: u32 = 0;
+    for off in offs {
+        count = count.saturating_add(count_set(alloc, file, *off)?);
+    }
+    Ok(count)
+}
+
+// The same of the sets in a list, if there is one. The list is no such item.
+fn count_list(alloc: Global, file: &DexFile<'_>, off: u32) -> Result<u32, CaseFault>
+    requires { ArePools file.now.frame file.now.pools }
+{
+    if off == 0 {
+        return Ok(0);
+    }
+    let offs = list_offs(alloc, file.frame.bytes(), off)?;
+    count_sets(alloc, file, &offs)
+}
+
+// The same of class data and the code that it leads to, if there is some.
+fn count_class_data(
     alloc: Global,
     file: &DexFile<'_>,
-    items: &[Placed],
-    others: usize,
-) -> Result<Judged, CaseFault>
+    off: u32,
+    members: &Members<'_>,
+) -> Result<u32, CaseFault>
     requires { ArePools file.now.frame file.now.pools }
 {
-    for item in items {
-        if !item.stands(alloc, file)? {
-            return Ok(Judged::Astray(item.off));
-        }
-    }
-    Ok(Judged::Items(others.saturating_add(items.len())))
-}
-
-// Appends the array of values at an offset, if there is one.
-fn push_statics(off: u32, items: &mut Vec<Placed>) -> Result<(), CaseFault> {
-    if off != 0 {
-        items.push(Placed::at(Put::Statics, off))?;
-    }
-    Ok(())
-}
-
-// Appends the code items at these offsets, and their debug programs.
-fn push_codes(bytes: &[u8], code_offs: &[u32], items: &mut Vec<Placed>) -> Result<(), CaseFault> {
-    for off in code_offs {
-        if *off == 0 {
-            continue;
-        }
-        let debug_off = number_at(bytes, (*off as usize).saturating_add(8))?;
-        items.push(Placed::at(Put::Code(debug_off), *off))?;
-        if debug_off != 0 {
-            items.push(Placed::at(Put::Debug, debug_off))?;
-        }
-    }
-    Ok(())
-}
-
-// Appends the set at an offset, and its annotations, if there is one.
-fn push_set(bytes: &[u8], off: u32, items: &mut Vec<Placed>) -> Result<(), CaseFault> {
     if off == 0 {
-        return Ok(());
+        return Ok(0);
     }
-    let first = number_at(bytes, (off as usize).saturating_add(4))?;
-    items.push(Placed::at(Put::Set(first), off))?;
-    items.push(Placed {
-        put: Put::Annotations,
-        off,
-        at: first,
-    })?;
-    Ok(())
+    let code_offs = method_code_offs(alloc, file.frame.bytes(), off)?;
+    count_codes(alloc, file, off, members, &code_offs)
 }
 
-// Appends the sets that a directory leads to, and their annotations.
-fn push_sets(
+// The same of class data and the code at these offsets.
+fn count_codes(
     alloc: Global,
-    bytes: &[u8],
-    offs: &DirectoryOffs,
-    items: &mut Vec<Placed>,
-) -> Result<(), CaseFault> {
-    push_set(bytes, offs.own, items)?;
-    for (_, off) in offs.fields.iter() {
-        push_set(bytes, *off, items)?;
-    }
-    for (_, off) in offs.methods.iter() {
-        push_set(bytes, *off, items)?;
-    }
-    for (_, list) in offs.parameters.iter() {
-        for off in &list_offs(alloc, bytes, *list)? {
-            push_set(bytes, *off, items)?;
-        }
-    }
-    Ok(())
-}
-
-// Whether the class data that stands at an offset, if there is some, is put for members. Appends the code that it leads
-// to.
-fn stands_class_data(
-    alloc: Global,
-    frame: &Frame<'_>,
-    members: &Members<'_>,
+    file: &DexFile<'_>,
     off: u32,
-    items: &mut Vec<Placed>,
-) -> Result<bool, CaseFault> {
-    if off == 0 {
-        return Ok(true);
-    }
-    let code_offs = method_code_offs(alloc, frame.bytes(), off)?;
-    push_codes(frame.bytes(), &code_offs, items)?;
-    let mut out = Vec::new(alloc);
-    if !put_counted_data(members, &code_offs, &mut out)? {
-        return Ok(false);
-    }
-    Ok(stand(frame.bytes(), off, &out))
-}
-
-// Appends the class data of members, if there is an offset for each method.
-fn put_counted_data(
     members: &Members<'_>,
     code_offs: &[u32],
-    out: &mut Vec<u8>,
-) -> Result<bool, AllocError> {
-    if code_offs.len() != members.direct_methods().len() + members.virtual_methods().len() {
-        return Ok(false);
+) -> Result<u32, CaseFault>
+    requires { ArePools file.now.frame file.now.pools }
+{
+    class_data_stands(alloc, file, off, members, code_offs)?;
+    let mut count: u32 = 1;
+    for code_off in code_offs {
+        count = count.saturating_add(count_code(alloc, file, *code_off)?);
     }
-    members.put_class_data(code_offs, out)?;
-    Ok(true)
+    Ok(count)
 }
 
-// Whether the directory that stands at an offset, if there is one, is put for members. Appends the sets that it leads to.
-fn stands_directory(
+// Fails the line unless the class data of members is put as it stands at an offset.
+fn class_data_stands(
     alloc: Global,
-    frame: &Frame<'_>,
-    members: &Members<'_>,
+    file: &DexFile<'_>,
     off: u32,
-    items: &mut Vec<Placed>,
-) -> Result<bool, CaseFault> {
-    if off == 0 {
-        return Ok(true);
+    members: &Members<'_>,
+    code_offs: &[u32],
+) -> Result<(), CaseFault> {
+    if code_offs.len() != members.direct_methods().len() + members.virtual_methods().len() {
+        return Err(CaseFault::Form);
     }
-    let offs = directory_offs(alloc, frame.bytes(), off)?;
-    push_sets(alloc, frame.bytes(), &offs, items)?;
+    let mut out = Vec::new(alloc);
+    members.put_class_data(code_offs, &mut out)?;
+    check_bytes(alloc, file.frame.bytes(), off, &out)
+}
+
+// How many items there are with a directory and the sets that it leads to, if there is one.
+fn count_directory(
+    alloc: Global,
+    file: &DexFile<'_>,
+    off: u32,
+    members: &Members<'_>,
+) -> Result<u32, CaseFault>
+    requires { ArePools file.now.frame file.now.pools }
+{
+    if off == 0 {
+        return Ok(0);
+    }
+    let offs = member_offs(alloc, file.frame.bytes(), off, members)?;
+    count_annotated(alloc, file, off, members, &offs)
+}
+
+// The offsets in the directory at an offset, for these members.
+fn member_offs(
+    alloc: Global,
+    bytes: &[u8],
+    off: u32,
+    members: &Members<'_>,
+) -> Result<DirectoryOffs, CaseFault> {
     let fields = field_numbers(alloc, members)?;
     let methods = method_numbers(alloc, members)?;
-    let of_fields = offs_of(alloc, &fields, &offs.fields)?;
-    let of_methods = offs_of(alloc, &methods, &offs.methods)?;
-    let of_parameters = offs_of(alloc, &methods, &offs.parameters)?;
-    let mut out = Vec::new(alloc);
-    if !put_counted(
-        members,
-        offs.own,
-        &of_fields,
-        &of_methods,
-        &of_parameters,
-        &mut out,
-    )? {
-        return Ok(false);
-    }
-    Ok(stand(frame.bytes(), off, &out))
-}
-
-// Appends the directory of members, if there is an offset for each of them.
-fn put_counted(
-    members: &Members<'_>,
-    own_off: u32,
-    field_offs: &[u32],
-    method_offs: &[u32],
-    parameter_offs: &[u32],
-    out: &mut Vec<u8>,
-) -> Result<bool, AllocError> {
-    if field_offs.len() != members.static_fields().len() + members.instance_fields().len() {
-        return Ok(false);
-    }
-    if method_offs.len() != members.direct_methods().len() + members.virtual_methods().len() {
-        return Ok(false);
-    }
-    if parameter_offs.len() != method_offs.len() {
-        return Ok(false);
-    }
-    members.put_directory(own_off, field_offs, method_offs, parameter_offs, out)?;
-    Ok(true)
+    directory_offs(alloc, bytes, off, &fields, &methods)
 }
 
 // The number of each field, the static ones first.
 fn field_numbers(alloc: Global, members: &Members<'_>) -> Result<Vec<u32>, AllocError> {
     let mut numbers = Vec::new(alloc);
-    push_fields(members.static_fields(), &mut numbers)?;
-    push_fields(members.instance_fields(), &mut numbers)?;
-    Ok(numbers)
-}
-
-// Appends the number of each field.
-fn push_fields(fields: &[Field], numbers: &mut Vec<u32>) -> Result<(), AllocError> {
-    for field in fields {
+    for field in members.static_fields() {
         numbers.push(field.number())?;
     }
-    Ok(())
+    for field in members.instance_fields() {
+        numbers.push(field.number())?;
+    }
+    Ok(numbers)
 }
 
 // The number of each method, the direct ones first.
 fn method_numbers(alloc: Global, members: &Members<'_>) -> Result<Vec<u32>, AllocError> {
     let mut numbers = Vec::new(alloc);
-    push_methods(members.direct_methods(), &mut numbers)?;
-    push_methods(members.virtual_methods(), &mut numbers)?;
+    for method in members.direct_methods() {
+        numbers.push(method.number())?;
+    }
+    for method in members.virtual_methods() {
+        numbers.push(method.number())?;
+    }
     Ok(numbers)
 }
 
-// Appends the number of each method.
-fn push_methods(methods: &[Method<'_>], numbers: &mut Vec<u32>) -> Result<(), AllocError> {
-    for method in methods {
-        numbers.push(method.number())?;
+// Fails the line unless the directory of members is put as it stands at an offset.
+fn directory_stands(
+    alloc: Global,
+    file: &DexFile<'_>,
+    off: u32,
+    members: &Members<'_>,
+    offs: &DirectoryOffs,
+) -> Result<(), CaseFault> {
+    let mut out = Vec::new(alloc);
+    put_counted(members, offs, &mut out)?;
+    check_bytes(alloc, file.frame.bytes(), off, &out)
+}
+
+// Appends the directory of members, if there is an offset for each of them.
+fn put_counted(
+    members: &Members<'_>,
+    offs: &DirectoryOffs,
+    out: &mut Vec<u8>,
+) -> Result<(), CaseFault> {
+    let fields = members.static_fields().len() + members.instance_fields().len();
+    let methods = members.direct_methods().len() + members.virtual_methods().len();
+    if offs.fields.len() != fields {
+        return Err(CaseFault::Form);
     }
+    if offs.methods.len() != methods {
+        return Err(CaseFault::Form);
+    }
+    if offs.parameters.len() != methods {
+        return Err(CaseFault::Form);
+    }
+    members.put_directory(offs.own, &offs.fields, &offs.methods, &offs.parameters, out)?;
     Ok(())
 }
 
-// The offset that belongs to each number; 0 stands for none.
-fn offs_of(
+// The same, given the offsets in the directory.
+fn count_annotated(
     alloc: Global,
-    numbers: &[u32],
-    offs: &BTreeMap<u32, u32>,
-) -> Result<Vec<u32>, AllocError> {
-    let mut out = Vec::with_capacity(alloc, numbers.len())?;
-    for number in numbers {
-        out.push(match offs.get(number) {
-            Some(off) => *off,
-            None => 0,
-        })?;
+    file: &DexFile<'_>,
+    off: u32,
+    members: &Members<'_>,
+    offs: &DirectoryOffs,
+) -> Result<u32, CaseFault>
+    requires { ArePools file.now.frame file.now.pools }
+{
+    directory_stands(alloc, file, off, members, offs)?;
+    let mut count = count_set(alloc, file, offs.own)?.saturating_add(1);
+    count = count.saturating_add(count_sets(alloc, file, &offs.fields)?);
+    count = count.saturating_add(count_sets(alloc, file, &offs.methods)?);
+    for list in &offs.parameters {
+        count = count.saturating_add(count_list(alloc, file, *list)?);
     }
-    Ok(out)
+    Ok(count)
 }

@@ -83,16 +83,11 @@ impl<'a> Item<'a> {
                 Ok(code) => Ok(Item::Code(code)),
                 Err(fault) => Err(fault),
             },
-            ItemKind::Members => {
-                if place >= file.frame.size(Table::ClassDefs) {
-                    return Err(ItemFault::Refused(0));
-                }
-                match read_members(alloc, &file.frame, &file.pools, place, u32::MAX) {
-                    Ok(Some((members, _))) => Ok(Item::Members(members)),
-                    Ok(None) => Err(ItemFault::Refused(0)),
-                    Err(fault) => Err(fault),
-                }
-            }
+            ItemKind::Members => match members_at(alloc, file, place, u32::MAX) {
+                Ok(Some(members)) => Ok(Item::Members(members)),
+                Ok(None) => Err(ItemFault::Refused(0)),
+                Err(fault) => Err(fault),
+            },
         }
     }
 
@@ -138,6 +133,13 @@ impl<'a> Item<'a> {
             Item::Debug(debug) => Ok(Some(Item::Debug(debug.copy()?))),
             Item::Code(code) => Ok(Some(Item::Code(code.copy()?))),
             Item::Members(members) => Ok(Some(Item::Members(members.copy()?))),
+        }
+    }
+
+    /// Drops the debug program of code.
+    pub fn drop_debug(&mut self) {
+        if let Item::Code(code) = self {
+            code.drop_debug();
         }
     }
 
@@ -213,6 +215,23 @@ impl<'a> Item<'a> {
             }
             _ => false,
         }
+    }
+}
+
+/// What a class row declares, if there is such a row, and if what it declares weighs at most so much.
+pub fn members_at<'a>(
+    alloc: Global,
+    file: &DexFile<'a>,
+    row: u32,
+    most: u32,
+) -> Result<Option<Members<'a>>, ItemFault> {
+    if row >= file.frame.size(Table::ClassDefs) {
+        return Ok(None);
+    }
+    match read_members(alloc, &file.frame, &file.pools, row, most) {
+        Ok(Some((members, _))) => Ok(Some(members)),
+        Ok(None) => Ok(None),
+        Err(fault) => Err(fault),
     }
 }
 

@@ -1,15 +1,18 @@
 //! The kinds of lines.
 
+ghost use Rattle.dexpool.specs.Pools.{ArePools};
+
+use crate::dex_file::DexFile;
 use crate::item_kind::ItemKind;
-use crate::{canonical, measures, puts, reads, sameness};
-use dexcases::{CaseFault, Cases, Outcome, Tally, first_word, read_file};
+use crate::line::Line;
+use crate::{canonical, puts, reads, sameness, texts};
+use dexcases::{CaseFault, Cases, Folder, Outcome, Tally};
 use std::alloc::Global;
 use std::fmt;
-use std::path::Path;
 use std::rt::Files;
 
 /// What a line asks for.
-#[derive(Clone, Copy, Debug, PartialEq, Eq, PartialOrd, Ord)]
+#[derive(Clone, Copy, PartialEq, Eq, PartialOrd, Ord)]
 pub enum Kind {
     /// An item read.
     Read(ItemKind),
@@ -40,23 +43,23 @@ impl Kind {
         )
     }
 
-    // Runs a line, given the word for the item, the file, and what stands in the line behind the file's name.
-    fn run_call(
-        self,
-        alloc: Global,
-        item: &str,
-        bytes: &[u8],
-        case: &str,
-    ) -> Result<Outcome, CaseFault> {
+    // Runs a line, given the bytes of its file.
+    fn run_over(self, alloc: Global, bytes: &[u8], line: Line<'_>) -> Result<Outcome, CaseFault> {
+        let file = DexFile::open(alloc, bytes)?;
+        self.run_in(alloc, &file, line)
+    }
+
+    // Runs a line, given its file.
+    fn run_in(self, alloc: Global, file: &DexFile<'_>, line: Line<'_>) -> Result<Outcome, CaseFault>
+        requires { ArePools file.now.frame file.now.pools }
+    {
         match self {
-            Kind::Read(item) => reads::run(alloc, item, bytes, case),
-            Kind::Put => puts::run(alloc, item, bytes, case),
-            Kind::Weight => measures::run_weight(alloc, item, bytes, case),
-            Kind::Marks => measures::run_marks(alloc, item, bytes, case),
-            Kind::Same => sameness::run(alloc, item, bytes, case),
-            Kind::Positions => measures::run_positions(alloc, bytes, case),
-            Kind::Stands => canonical::run_item(alloc, item, bytes, case),
-            Kind::Canonical => canonical::run(alloc, bytes, case),
+            Kind::Read(kind) => reads::run(alloc, file, kind, line),
+            Kind::Same => sameness::run(alloc, file, line),
+            Kind::Stands => canonical::run_item(alloc, file, line),
+            Kind::Canonical => canonical::run(alloc, file, line),
+            Kind::Put => puts::run(alloc, file, line),
+            Kind::Weight | Kind::Marks | Kind::Positions => texts::run(alloc, file, self, line),
             Kind::Unknown => Err(CaseFault::Form),
         }
     }
@@ -104,18 +107,12 @@ impl Cases for Kind {
 
     fn run<R: Files + AllocGlobal>(
         self,
-        rt: &R,
-        folder: Path<'_>,
+        folder: Folder<'_, R>,
         case: &str,
     ) -> Result<Outcome, CaseFault> {
-        let (item, case) = if self.names_an_item() {
-            first_word(case)?
-        } else {
-            ("", case)
-        };
-        let (name, case) = first_word(case)?;
-        let bytes = read_file(rt, folder, name)?;
-        self.run_call(rt.alloc(), item, &bytes, case)
+        let line = Line::of(case, self.names_an_item())?;
+        let bytes = folder.read(line.file)?;
+        self.run_over(folder.alloc(), &bytes, line)
     }
 }
 

@@ -1,9 +1,10 @@
 //! How items compare.
 
 use crate::item::Item;
+use crate::numbers::is_same;
 use dexcases::CaseFault;
-use dexpool::Remap;
-use std::alloc::{AllocFailed, Global};
+use dexpool::Numbering;
+use std::alloc::Global;
 use std::collections::HashSet;
 use std::hash::Hash;
 
@@ -19,24 +20,24 @@ pub struct Likeness {
 }
 
 impl Likeness {
-    /// How an item compares with another, where the map leads each number to itself. Code and what class rows declare are
-    /// compared led on alone.
+    /// How an item compares with another, the numbers of both being those of a numbering. Code and what class rows declare
+    /// are compared led on alone.
     pub fn of(
         alloc: Global,
-        item: Item<'_>,
+        numbering: &Numbering<'_>,
+        item: &Item<'_>,
         other: &Item<'_>,
-        remap: &Remap,
     ) -> Result<Likeness, CaseFault> {
-        let is_same = item.same_mapped(remap, other, remap);
+        let is_same = is_same(alloc, numbering, item, other)?;
         match (item, other) {
-            (Item::Value(value, _), Item::Value(other, _)) => {
-                Ok(compared(alloc, value, other, is_same)?)
-            }
+            (Item::Value(value, _), Item::Value(other, _)) => compared(
+                alloc, value, other, is_same,
+            ),
             (Item::Statics(values), Item::Statics(others)) => {
-                Ok(compared(alloc, values, others, is_same)?)
+                compared(alloc, values, others, is_same)
             }
-            (Item::Set(set), Item::Set(other)) => Ok(compared(alloc, set, other, is_same)?),
-            (Item::Debug(debug), Item::Debug(other)) => Ok(compared(alloc, debug, other, is_same)?),
+            (Item::Set(set), Item::Set(other)) => compared(alloc, set, other, is_same),
+            (Item::Debug(debug), Item::Debug(other)) => compared(alloc, debug, other, is_same),
             _ => Ok(Likeness {
                 is_equal: is_same,
                 is_found: is_same,
@@ -55,19 +56,21 @@ impl Likeness {
     }
 }
 
-// How an item compares with another that is hashed.
-fn compared<T: Eq + Hash + Drop>(
+// How an item compares with another, once it is hashed.
+fn compared<T: Eq + Hash>(
     alloc: Global,
-    item: T,
+    item: &T,
     other: &T,
     is_same: bool,
-) -> Result<Likeness, AllocFailed<T>> {
-    let is_equal = item == *other;
+) -> Result<Likeness, CaseFault> {
+    let is_equal = *item == *other;
     let mut items = HashSet::new(alloc);
-    items.insert(item)?;
+    if items.insert(item).is_err() {
+        return Err(CaseFault::Memory);
+    }
     Ok(Likeness {
         is_equal,
-        is_found: items.contains(other),
+        is_found: items.contains(&other),
         is_same,
     })
 }

@@ -12,19 +12,20 @@
 #![tactic(auto)]
 
 mod canonical;
+mod checks;
 mod dex_file;
 mod item;
 mod item_kind;
 mod kind;
 mod likeness;
-mod measures;
+mod line;
 mod numbers;
 mod offsets;
 mod puts;
 mod reads;
 mod sameness;
 mod shown;
-mod words;
+mod texts;
 
 use kind::Kind;
 use std::process::ExitCode;

@@ -8,43 +8,70 @@ ghost use Rattle.dexitems.specs.Items.{IsKnownItem, item_uses};
 use crate::item::Item;
 use dexcases::CaseFault;
 use dexcode::code_kept_law;
+use dexinsn::Pieces;
 use dexpool::{Marks, Numbering, Remap};
 use std::alloc::{AllocError, Global};
 
-/// A map that leads each number of a numbering to itself.
-pub fn as_it_is(alloc: Global, numbering: &Numbering<'_>) -> Result<Remap, CaseFault> {
+// A map that leads each number of a numbering to itself.
+fn as_it_is(alloc: Global, numbering: &Numbering<'_>) -> Result<Remap, CaseFault> {
     let mut parts = Vec::new(alloc);
     parts.push(numbering)?;
     let (_, remaps) = Numbering::join(alloc, &parts)?;
     remaps.into_iter().next().ok_or(CaseFault::Memory)
 }
 
-/// A copy of an item with the numbers of a numbering of just the symbols that occur in it, this numbering, and where
-/// numbers led, which is somewhere for each of them.
-pub fn led_on<'a, 'n>(
+/// Whether two items of a numbering are the same.
+pub fn is_same(
     alloc: Global,
-    numbering: &Numbering<'n>,
-    item: &Item<'a>,
-) -> Result<Option<(Item<'a>, Numbering<'n>, Remap)>, AllocError>
-    requires { IsKnownItem numbering.now item.now }
-{
-    let (kept, remap) = match kept(alloc, numbering, item) {
-        Ok(cut) => cut,
-        Err(error) => return Err(error),
-    };
-    let mut led = match item.copy() {
-        Ok(Some(led)) => led,
-        Ok(None) => return Ok(None),
-        Err(error) => return Err(error),
-    };
-    if !led.lead(&remap) {
-        return Ok(None);
-    }
-    Ok(Some((led, kept, remap)))
+    numbering: &Numbering<'_>,
+    item: &Item<'_>,
+    other: &Item<'_>,
+) -> Result<bool, CaseFault> {
+    let remap = as_it_is(alloc, numbering)?;
+    Ok(item.same_mapped(&remap, other, &remap))
 }
 
-// A numbering of just the symbols that occur in an item, and where numbers lead.
-fn kept<'n>(
+/// Whether pieces of a numbering are the same.
+pub fn are_same_pieces(
+    alloc: Global,
+    numbering: &Numbering<'_>,
+    pieces: &Pieces<'_>,
+    others: &Pieces<'_>,
+) -> Result<bool, CaseFault> {
+    let remap = as_it_is(alloc, numbering)?;
+    Ok(pieces.same_mapped(&remap, others, &remap))
+}
+
+/// Whether an item is the same, led on by a map, as another whose numbers are those of a numbering.
+pub fn is_led_to<'i>(
+    alloc: Global,
+    item: &Item<'i>,
+    remap: &Remap,
+    other: &Item<'i>,
+    numbering: &Numbering<'_>,
+) -> Result<bool, CaseFault> {
+    let as_it_is = as_it_is(alloc, numbering)?;
+    Ok(item.same_mapped(remap, other, &as_it_is))
+}
+
+/// A copy of an item whose numbers are led on, if each leads somewhere.
+pub fn led_copy<'a>(item: &Item<'a>, remap: &Remap) -> Result<Option<Item<'a>>, AllocError>
+    requires down { LeadDown remap.now }
+    requires led { All (IsLedUse remap.now) (item_uses item.now) }
+{
+    match item.copy() {
+        Ok(Some(mut copy)) => {
+            if copy.lead(remap) {
+                return Ok(Some(copy));
+            }
+            Ok(None)
+        }
+        answer => answer,
+    }
+}
+
+/// A numbering of just the symbols that occur in an item, and where numbers lead.
+pub fn kept<'n>(
     alloc: Global,
     numbering: &Numbering<'n>,
     item: &Item<'_>,

@@ -3,17 +3,17 @@
 use dexcases::CaseFault;
 use dexhead::u32_at;
 use dexleb::read_u;
-use std::alloc::Global;
+use std::alloc::{AllocError, Global};
 use std::collections::BTreeMap;
 
-/// The offsets in an annotations_directory_item: that of the class's own set, and for each annotated member, by its
-/// number, that of its set or of the list of its parameters' sets.
+/// The offsets in an annotations_directory_item: that of the class's own set, and for each member of a class, in its order,
+/// that of its set or of the list of its parameters' sets; 0 stands for none.
 #[derive(Drop)]
 pub struct DirectoryOffs {
     pub own: u32,
-    pub fields: BTreeMap<u32, u32>,
-    pub methods: BTreeMap<u32, u32>,
-    pub parameters: BTreeMap<u32, u32>,
+    pub fields: Vec<u32>,
+    pub methods: Vec<u32>,
+    pub parameters: Vec<u32>,
 }
 
 /// The number in the four bytes at a place.
@@ -24,47 +24,65 @@ pub fn number_at(bytes: &[u8], at: usize) -> Result<u32, CaseFault> {
     Ok(u32_at(bytes, at))
 }
 
-// The uleb128 at a place, and the place behind it.
-fn uleb_at(bytes: &[u8], at: usize) -> Result<(u32, usize), CaseFault> {
-    if at >= bytes.len() {
-        return Err(CaseFault::Form);
+/// The number in the four bytes at a distance from an offset.
+pub fn number_behind(bytes: &[u8], off: u32, distance: usize) -> Result<u32, CaseFault> {
+    number_at(bytes, (off as usize).saturating_add(distance))
+}
+
+// Numbers that stand one behind the other as uleb128.
+#[derive(Drop)]
+struct Ulebs<'b> {
+    bytes: &'b [u8],
+    at: usize,
+}
+
+impl Ulebs<'_> {
+    // The next number.
+    fn next(&mut self) -> Result<u32, CaseFault> {
+        if self.at >= self.bytes.len() {
+            return Err(CaseFault::Form);
+        }
+        match read_u(self.bytes, self.at) {
+            Ok((number, used)) => {
+                self.at = self.at.saturating_add(used);
+                Ok(number)
+            }
+            Err(_) => Err(CaseFault::Form),
+        }
     }
-    match read_u(bytes, at) {
-        Ok((number, used)) => Ok((number, at.saturating_add(used))),
-        Err(_) => Err(CaseFault::Form),
+
+    // What two numbers come to.
+    fn sum(&mut self) -> Result<u64, CaseFault> {
+        Ok(u64::from(self.next()?) + u64::from(self.next()?))
     }
 }
 
 /// The offset of the code of each method in the class_data_item at an offset, the direct ones first; 0 stands for none.
 pub fn method_code_offs(alloc: Global, bytes: &[u8], off: u32) -> Result<Vec<u32>, CaseFault> {
-    let (static_fields, at) = uleb_at(bytes, off as usize)?;
-    let (instance_fields, at) = uleb_at(bytes, at)?;
-    let (direct_methods, at) = uleb_at(bytes, at)?;
-    let (virtual_methods, at) = uleb_at(bytes, at)?;
-    let mut at = at;
-    for _ in 0..u64::from(static_fields) + u64::from(instance_fields) {
-        let (_, behind) = uleb_at(bytes, at)?;
-        let (_, behind) = uleb_at(bytes, behind)?;
-        at = behind;
+    let mut numbers = Ulebs {
+        bytes,
+        at: off as usize,
+    };
+    let fields = numbers.sum()?;
+    let methods = numbers.sum()?;
+    for _ in 0..fields {
+        numbers.sum()?;
     }
     let mut offs = Vec::new(alloc);
-    for _ in 0..u64::from(direct_methods) + u64::from(virtual_methods) {
-        let (_, behind) = uleb_at(bytes, at)?;
-        let (_, behind) = uleb_at(bytes, behind)?;
-        let (code_off, behind) = uleb_at(bytes, behind)?;
-        offs.push(code_off)?;
-        at = behind;
+    for _ in 0..methods {
+        numbers.sum()?;
+        offs.push(numbers.next()?)?;
     }
     Ok(offs)
 }
 
-// So many pairs of a number and an offset from a place on, and the place behind them.
+// So many pairs of a number and an offset from a place on.
 fn pairs_at(
     alloc: Global,
     bytes: &[u8],
     at: usize,
     count: u32,
-) -> Result<(BTreeMap<u32, u32>, usize), CaseFault> {
+) -> Result<BTreeMap<u32, u32>, CaseFault> {
     let mut pairs = BTreeMap::new(alloc);
     let mut at = at;
     for _ in 0..count {
@@ -73,31 +91,67 @@ fn pairs_at(
         pairs.insert(number, off)?;
         at = at.saturating_add(8);
     }
-    Ok((pairs, at))
+    Ok(pairs)
 }
 
-/// The offsets in the annotations_directory_item at an offset.
-pub fn directory_offs(alloc: Global, bytes: &[u8], off: u32) -> Result<DirectoryOffs, CaseFault> {
-    let at = off as usize;
-    let own = number_at(bytes, at)?;
-    let fields = number_at(bytes, at.saturating_add(4))?;
-    let methods = number_at(bytes, at.saturating_add(8))?;
-    let parameters = number_at(bytes, at.saturating_add(12))?;
-    let (fields, at) = pairs_at(alloc, bytes, at.saturating_add(16), fields)?;
-    let (methods, at) = pairs_at(alloc, bytes, at, methods)?;
-    let (parameters, _) = pairs_at(alloc, bytes, at, parameters)?;
+// The offset that belongs to each number; 0 stands for none.
+fn offs_of(
+    alloc: Global,
+    numbers: &[u32],
+    pairs: &BTreeMap<u32, u32>,
+) -> Result<Vec<u32>, AllocError> {
+    let mut offs = Vec::with_capacity(alloc, numbers.len())?;
+    for number in numbers {
+        offs.push(match pairs.get(number) {
+            Some(off) => *off,
+            None => 0,
+        })?;
+    }
+    Ok(offs)
+}
+
+// The offset that belongs to each number by so many pairs from a place on; 0 stands for none.
+fn member_offs(
+    alloc: Global,
+    bytes: &[u8],
+    at: usize,
+    count: u32,
+    numbers: &[u32],
+) -> Result<Vec<u32>, CaseFault> {
+    let pairs = pairs_at(alloc, bytes, at, count)?;
+    Ok(offs_of(alloc, numbers, &pairs)?)
+}
+
+/// The offsets in the annotations_directory_item at an offset, for fields and methods of these numbers.
+pub fn directory_offs(
+    alloc: Global,
+    bytes: &[u8],
+    off: u32,
+    fields: &[u32],
+    methods: &[u32],
+) -> Result<DirectoryOffs, CaseFault> {
+    let own = number_behind(bytes, off, 0)?;
+    let field_count = number_behind(bytes, off, 4)?;
+    let method_count = number_behind(bytes, off, 8)?;
+    let parameter_count = number_behind(bytes, off, 12)?;
+    let at = (off as usize).saturating_add(16);
+    let field_offs = member_offs(alloc, bytes, at, field_count, fields)?;
+    let at = at.saturating_add((field_count as usize).saturating_mul(8));
+    let method_offs = member_offs(alloc, bytes, at, method_count, methods)?;
+    let at = at.saturating_add((method_count as usize).saturating_mul(8));
+    let parameter_offs = member_offs(alloc, bytes, at, parameter_count, methods)?;
     Ok(DirectoryOffs {
         own,
-        fields,
-        methods,
-        parameters,
+        fields: field_offs,
+        methods: method_offs,
+        parameters: parameter_offs,
     })
 }
 
 /// The offsets in the list of sets at an offset; 0 stands for none.
 pub fn list_offs(alloc: Global, bytes: &[u8], off: u32) -> Result<Vec<u32>, CaseFault> {
+    let count = number_behind(bytes, off, 0)?;
     let mut offs = Vec::new(alloc);
-    let count = number_at(bytes, off as usize)?;
     let mut at = (off as usize).saturating_add(4);
     for _ in 0..count {
         offs.push(number_at(bytes, at)?)?;

@@ -1,17 +1,17 @@
-//! Items put again: a word for the kind of item, and `FILE OFFSET HEX`, what is appended for the item that stands there,
-//! its numbers those of the file's own pools. The words are `value`, `statics`, `debug`, `annotations` (those of the
-//! set there, one after the other), `code` (`FILE OFFSET DEBUG_OFF HEX`) and `set` (`FILE OFFSET FIRST HEX`, the
-//! annotations standing from FIRST on).
+//! Items put again: a word for the item, and `FILE OFFSET HEX`, what is appended for the item that stands there, its
+//! numbers those of the file's own pools. The words are `value`, `statics`, `debug`, `annotations` (those of the set there,
+//! one after the other), `code` (`FILE OFFSET DEBUG_OFF HEX`) and `set` (`FILE OFFSET FIRST HEX`, the annotations standing
+//! from FIRST on).
 
 ghost use Rattle.dexpool.specs.Pools.{ArePools};
 
 use crate::dex_file::DexFile;
 use crate::item::Item;
 use crate::item_kind::ItemKind;
-use crate::words::word_of;
+use crate::line::Line;
 use dexcases::{CaseFault, Outcome, first_word};
 use dexcode::{Code, put_code, put_debug};
-use dexpool::{ItemFault, Numbering};
+use dexpool::Numbering;
 use dexval::{AnnotationSet, counts_law, put_annotation, put_set, put_statics, put_value};
 use std::alloc::{AllocError, Global};
 
@@ -33,6 +33,29 @@ pub enum Put {
 }
 
 impl Put {
+    // The item of a line, and the right bytes.
+    fn of<'l>(line: Line<'l>) -> Result<(Put, &'l str), CaseFault> {
+        let (operand, right) = match line.word {
+            "code" | "set" => first_word(line.rest)?,
+            _ => ("0", line.rest),
+        };
+        let operand = operand.parse()?;
+        Ok((Put::of_word(line.word, operand)?, right))
+    }
+
+    /// The item that a word names, with the offset of its debug program or of its first annotation.
+    pub fn of_word(word: &str, off: u32) -> Result<Put, CaseFault> {
+        match word {
+            "value" => Ok(Put::Value),
+            "statics" => Ok(Put::Statics),
+            "debug" => Ok(Put::Debug),
+            "annotations" => Ok(Put::Annotations),
+            "code" => Ok(Put::Code(off)),
+            "set" => Ok(Put::Set(off)),
+            _ => Err(CaseFault::Form),
+        }
+    }
+
     // The kind of the item that is read.
     fn kind(self) -> ItemKind {
         match self {
@@ -44,25 +67,32 @@ impl Put {
         }
     }
 
-    /// Appends the item that stands at an offset, if one stands there that may be put.
-    pub fn append(
-        self,
-        alloc: Global,
-        file: &DexFile<'_>,
-        off: u32,
-        out: &mut Vec<u8>,
-    ) -> Result<bool, CaseFault>
+    /// The bytes that the item at an offset is put as. A line fails where no such item stands there, or where it may not be
+    /// put.
+    pub fn bytes_at(self, alloc: Global, file: &DexFile<'_>, off: u32) -> Result<Vec<u8>, CaseFault>
         requires { ArePools file.now.frame file.now.pools }
     {
-        match Item::read(alloc, file, self.kind(), off) {
-            Ok(item) => Ok(self.append_item(&item, file.pools.numbering(), out)?),
-            Err(ItemFault::Refused(_)) => Ok(false),
-            Err(ItemFault::Memory) => Err(CaseFault::Memory),
+        let item = Item::at(alloc, file, self.kind(), off)?;
+        self.bytes_of(alloc, &item, file.pools.numbering())
+    }
+
+    // The bytes that an item is put as.
+    fn bytes_of(
+        self,
+        alloc: Global,
+        item: &Item<'_>,
+        numbering: &Numbering<'_>,
+    ) -> Result<Vec<u8>, CaseFault> {
+        let mut out = Vec::new(alloc);
+        match self.append(item, numbering, &mut out) {
+            Ok(true) => Ok(out),
+            Ok(false) => Err(CaseFault::failed(alloc, "nothing is put")),
+            Err(_) => Err(CaseFault::Memory),
         }
     }
 
     // Appends an item, if it is one that may be put.
-    fn append_item(
+    fn append(
         self,
         item: &Item<'_>,
         numbering: &Numbering<'_>,
@@ -85,35 +115,21 @@ impl Put {
     }
 }
 
-/// Runs a line, given the file and what stands in the line behind the file's name.
-pub fn run(alloc: Global, word: &str, bytes: &[u8], case: &str) -> Result<Outcome, CaseFault> {
-    let (off, rest) = first_word(case)?;
-    let (put, right) = put_of(word, rest)?;
-    let file = DexFile::open(alloc, bytes)?;
-    let mut out = Vec::new(alloc);
-    if !put.append(alloc, &file, off.parse()?, &mut out)? {
-        return Ok(Outcome::failed(alloc, "nothing is put")?);
-    }
-    Ok(Outcome::of(word_of(alloc, &out)?, right))
+/// Runs a line.
+pub fn run(alloc: Global, file: &DexFile<'_>, line: Line<'_>) -> Result<Outcome, CaseFault>
+    requires { ArePools file.now.frame file.now.pools }
+{
+    let (put, right) = Put::of(line)?;
+    let bytes = put.bytes_at(alloc, file, line.place)?;
+    Ok(Outcome::of(word_of(alloc, &bytes)?, right))
 }
 
-// The item of a line, and the right bytes.
-fn put_of<'l>(word: &str, rest: &'l str) -> Result<(Put, &'l str), CaseFault> {
-    match word {
-        "value" => Ok((Put::Value, rest)),
-        "statics" => Ok((Put::Statics, rest)),
-        "debug" => Ok((Put::Debug, rest)),
-        "annotations" => Ok((Put::Annotations, rest)),
-        "code" => {
-            let (debug_off, right) = first_word(rest)?;
-            Ok((Put::Code(debug_off.parse()?), right))
-        }
-        "set" => {
-            let (first, right) = first_word(rest)?;
-            Ok((Put::Set(first.parse()?), right))
-        }
-        _ => Err(CaseFault::Form),
+// Bytes as a word of hexadecimal digits. None are `-`.
+fn word_of(alloc: Global, bytes: &[u8]) -> Result<String, AllocError> {
+    if bytes.is_empty() {
+        return String::from_str(alloc, "-");
     }
+    hex::encode(alloc, bytes)
 }
 
 // Appends the annotations of a set.

@@ -3,31 +3,39 @@
 //! number of its bytes stands before it. An item that is read is also copied, its symbols are marked, its numbers led to
 //! those of a numbering of just these symbols, and it is compared with what that gives.
 
-ghost use Rattle.dexitems.specs.Items.{IsKnownItem};
+ghost use Rattle.std.specs.Prelude.{All};
+ghost use Rattle.dexpool.specs.Orderly.{LeadDown};
+ghost use Rattle.dexpool.specs.Pools.{ArePools};
+ghost use Rattle.dexpool.specs.Uses.{IsLedUse};
+ghost use Rattle.dexitems.specs.Items.{IsKnownItem, item_uses};
 
+use crate::checks::{check, check_bytes};
 use crate::dex_file::DexFile;
-use crate::item::Item;
+use crate::item::{Item, members_at};
 use crate::item_kind::ItemKind;
 use crate::likeness::Likeness;
-use crate::numbers::{as_it_is, led_on};
-use crate::shown::Shown;
-use dexcases::{CaseFault, Outcome, first_word};
-use dexcode::Code;
-use dexhead::Table;
+use crate::line::Line;
+use crate::numbers::{are_same_pieces, is_led_to, kept, led_copy};
+use crate::shown::print_item;
+use dexcases::{CaseFault, Outcome, Printed};
 use dexinsn::{Pieces, put_pieces, read_pieces};
-use dexmembers::read_members;
 use dexpool::{ItemFault, Numbering, Remap};
 use dexval::read_directory_within;
 use std::alloc::{AllocError, Global};
 
-/// Runs a line, given the file and what stands in the line behind the file's name.
-pub fn run(alloc: Global, kind: ItemKind, bytes: &[u8], case: &str) -> Result<Outcome, CaseFault> {
-    let (place, right) = first_word(case)?;
-    let place = place.parse()?;
-    let file = DexFile::open(alloc, bytes)?;
-    match Item::read(alloc, &file, kind, place) {
-        Ok(item) => judged(alloc, &file, place, &item, right),
-        Err(fault) => refused(alloc, fault, right),
+/// Runs a line.
+pub fn run(
+    alloc: Global,
+    file: &DexFile<'_>,
+    kind: ItemKind,
+    line: Line<'_>,
+) -> Result<Outcome, CaseFault>
+    requires { ArePools file.now.frame file.now.pools }
+{
+    match Item::read(alloc, file, kind, line.place) {
+        Ok(item) => judged(alloc, file, line, &item),
+        Err(ItemFault::Refused(number)) => refused(alloc, number, line.rest),
+        Err(ItemFault::Memory) => Err(CaseFault::Memory),
     }
 }
 
@@ -35,25 +43,18 @@ pub fn run(alloc: Global, kind: ItemKind, bytes: &[u8], case: &str) -> Result<Ou
 fn judged(
     alloc: Global,
     file: &DexFile<'_>,
-    place: u32,
+    line: Line<'_>,
     item: &Item<'_>,
-    right: &str,
 ) -> Result<Outcome, CaseFault>
     requires { IsKnownItem file.now.pools item.now }
 {
-    if let Some(wrong) = wrong_call(alloc, file, place, item)? {
-        return Ok(Outcome::failed(alloc, wrong)?);
-    }
-    let text = told(alloc, file.pools.numbering(), item)?;
-    Ok(Outcome::of(format!(in alloc; "ok {text}")?, right))
+    check_calls(alloc, file, line.place, item)?;
+    let told = told(alloc, "ok ", file.pools.numbering(), item)?;
+    Ok(Outcome::of(told, line.rest))
 }
 
 // How a line goes whose item is refused: right is `refused NUMBER | NUMBER ..`, with the number that is told.
-fn refused(alloc: Global, fault: ItemFault, right: &str) -> Result<Outcome, CaseFault> {
-    let number = match fault {
-        ItemFault::Refused(number) => number,
-        ItemFault::Memory => return Err(CaseFault::Memory),
-    };
+fn refused(alloc: Global, number: u8, right: &str) -> Result<Outcome, CaseFault> {
     let told = format!(in alloc; "{number}")?;
     let listed = right.strip_prefix("refused ").unwrap_or("");
     if listed.split(" | ").any(|one| one == told.as_str()) {
@@ -62,108 +63,108 @@ fn refused(alloc: Global, fault: ItemFault, right: &str) -> Result<Outcome, Case
     Ok(Outcome::Failed(format!(in alloc; "refused {number}")?))
 }
 
-// An item in print.
-fn told(alloc: Global, numbering: &Numbering<'_>, item: &Item<'_>) -> Result<String, AllocError> {
-    let shown = Shown { numbering, item };
-    format!(in alloc; "{shown}")
+// An item in print, behind a word.
+fn told(
+    alloc: Global,
+    word: &str,
+    numbering: &Numbering<'_>,
+    item: &Item<'_>,
+) -> Result<String, AllocError> {
+    let mut text = Printed::new(alloc);
+    text.add(word);
+    print_item(item, numbering, &mut text);
+    text.finish()
 }
 
-// What is wrong with the other calls on an item, if something is.
-fn wrong_call(
+// Fails the line unless the other calls on an item go right.
+fn check_calls(
     alloc: Global,
     file: &DexFile<'_>,
     place: u32,
     item: &Item<'_>,
-) -> Result<Option<&'static str>, CaseFault>
+) -> Result<(), CaseFault>
     requires { IsKnownItem file.now.pools item.now }
 {
-    let numbering = file.pools.numbering();
-    if !is_copied(alloc, numbering, item)? {
-        return Ok(Some("the copy is another"));
+    check_copy(alloc, file.pools.numbering(), item)?;
+    if let Item::Code(code) = item {
+        check_pieces(alloc, file, place, code.pieces())?;
     }
     match item {
-        Item::Debug(_) => Ok(None),
-        Item::Directory(_) | Item::Members(_) => wrong_weight(alloc, file, place, item),
-        Item::Code(code) => match wrong_pieces(alloc, file, place, code)? {
-            Some(wrong) => Ok(Some(wrong)),
-            None => wrong_lead(alloc, numbering, item),
-        },
-        _ => wrong_lead(alloc, numbering, item),
+        Item::Debug(_) => Ok(()),
+        Item::Directory(_) | Item::Members(_) => check_weight(alloc, file, place, item),
+        _ => check_lead(alloc, file.pools.numbering(), item),
     }
 }
 
-// Whether a copy of an item, if it has one, is the same.
-fn is_copied(alloc: Global, numbering: &Numbering<'_>, item: &Item<'_>) -> Result<bool, CaseFault> {
+// Fails the line unless a copy of an item, if it has one, is the same.
+fn check_copy(alloc: Global, numbering: &Numbering<'_>, item: &Item<'_>) -> Result<(), CaseFault> {
     match item.copy() {
-        Ok(Some(copy)) => is_told(alloc, numbering, item, copy, true),
-        Ok(None) => Ok(true),
+        Ok(Some(copy)) => check_likeness(alloc, numbering, &copy, item, true),
+        Ok(None) => Ok(()),
         Err(_) => Err(CaseFault::Memory),
     }
 }
 
-// What is wrong with an item that is led on to another numbering: it is told apart from what it was just where a number
+// Fails the line unless a copy of an item, or one that is led on, compares with it as it has to: the same where it is alike,
+// and else another.
+fn check_likeness(
+    alloc: Global,
+    numbering: &Numbering<'_>,
+    copy: &Item<'_>,
+    item: &Item<'_>,
+    is_alike: bool,
+) -> Result<(), CaseFault> {
+    let likeness = Likeness::of(alloc, numbering, copy, item)?;
+    let is_right = likeness.word() == if is_alike { "yes" } else { "no" };
+    check(
+        alloc,
+        is_right,
+        "a copy is another, or with other numbers the same",
+    )
+}
+
+// Fails the line unless an item that is led on to another numbering is told apart from what it was just where a number
 // changed, and prints the same.
-fn wrong_lead(
+fn check_lead(alloc: Global, numbering: &Numbering<'_>, item: &Item<'_>) -> Result<(), CaseFault>
+    requires { IsKnownItem numbering.now item.now }
+{
+    let (others, remap) = kept(alloc, numbering, item)?;
+    check_led_by(alloc, numbering, item, &others, &remap)
+}
+
+// The same, given the other numbering and the map to it.
+fn check_led_by(
     alloc: Global,
     numbering: &Numbering<'_>,
     item: &Item<'_>,
-) -> Result<Option<&'static str>, CaseFault>
-    requires { IsKnownItem numbering.now item.now }
+    kept: &Numbering<'_>,
+    remap: &Remap,
+) -> Result<(), CaseFault>
+    requires down { LeadDown remap.now }
+    requires led { All (IsLedUse remap.now) (item_uses item.now) }
 {
-    match led_on(alloc, numbering, item) {
-        Ok(Some((led, kept, remap))) => wrong_led(alloc, numbering, item, led, &kept, &remap),
-        Ok(None) => Ok(Some("a marked symbol is not kept")),
+    match led_copy(item, remap) {
+        Ok(Some(led)) => check_led(alloc, numbering, item, &led, kept, remap),
+        Ok(None) => Err(CaseFault::failed(alloc, "a marked symbol is not kept")),
         Err(_) => Err(CaseFault::Memory),
     }
 }
 
-// What is wrong with an item that is led on, by this map to this numbering.
-fn wrong_led<'i>(
-    alloc: Global,
-    numbering: &Numbering<'_>,
-    item: &Item<'i>,
-    led: Item<'i>,
-    kept: &Numbering<'_>,
-    remap: &Remap,
-) -> Result<Option<&'static str>, CaseFault> {
-    if let Some(wrong) = wrong_image(alloc, numbering, item, &led, kept, remap)? {
-        return Ok(Some(wrong));
-    }
-    let is_alike = is_same(alloc, item, remap, item, numbering)?;
-    if is_told(alloc, numbering, item, led, is_alike)? {
-        return Ok(None);
-    }
-    Ok(Some("with other numbers it is the same, or with these another"))
-}
-
-// What is wrong with where the numbers of an item are led.
-fn wrong_image<'i>(
+// The same, given the item that is led on.
+fn check_led<'i>(
     alloc: Global,
     numbering: &Numbering<'_>,
     item: &Item<'i>,
     led: &Item<'i>,
     kept: &Numbering<'_>,
     remap: &Remap,
-) -> Result<Option<&'static str>, CaseFault> {
-    if !is_same(alloc, item, remap, led, kept)? {
-        return Ok(Some("its numbers are led elsewhere"));
-    }
-    if !prints_alike(alloc, numbering, item, kept, led)? {
-        return Ok(Some("led on it prints otherwise"));
-    }
-    Ok(None)
-}
-
-// Whether an item is the same, led on by a map, as another whose numbers are those of a numbering.
-fn is_same<'i>(
-    alloc: Global,
-    item: &Item<'i>,
-    remap: &Remap,
-    other: &Item<'i>,
-    numbering: &Numbering<'_>,
-) -> Result<bool, CaseFault> {
-    let as_it_is = as_it_is(alloc, numbering)?;
-    Ok(item.same_mapped(remap, other, &as_it_is))
+) -> Result<(), CaseFault> {
+    let is_led = is_led_to(alloc, item, remap, led, kept)?;
+    check(alloc, is_led, "its numbers are led elsewhere")?;
+    let prints_alike = prints_alike(alloc, numbering, item, kept, led)?;
+    check(alloc, prints_alike, "led on it prints otherwise")?;
+    let is_alike = is_led_to(alloc, item, remap, item, numbering)?;
+    check_likeness(alloc, numbering, led, item, is_alike)
 }
 
 // Whether two items, each of a numbering, print the same.
@@ -174,56 +175,38 @@ fn prints_alike(
     kept: &Numbering<'_>,
     led: &Item<'_>,
 ) -> Result<bool, AllocError> {
-    let text = told(alloc, numbering, item)?;
-    let text_led = told(alloc, kept, led)?;
+    let text = told(alloc, "", numbering, item)?;
+    let text_led = told(alloc, "", kept, led)?;
     Ok(text == text_led)
 }
 
-// Whether a copy of an item, or one that is led on, compares with it as it has to: the same where it is alike, and else another.
-fn is_told(
-    alloc: Global,
-    numbering: &Numbering<'_>,
-    item: &Item<'_>,
-    led: Item<'_>,
-    is_alike: bool,
-) -> Result<bool, CaseFault> {
-    let remap = as_it_is(alloc, numbering)?;
-    let likeness = Likeness::of(alloc, led, item, &remap)?;
-    Ok(likeness.word() == if is_alike { "yes" } else { "no" })
-}
-
-// What is wrong with the calls on the pieces of the code at an offset: they are read alone, and put as they stand.
-fn wrong_pieces(
+// Fails the line unless the pieces of the code at an offset are read alone, and put as they stand.
+fn check_pieces(
     alloc: Global,
     file: &DexFile<'_>,
     off: u32,
-    code: &Code<'_>,
-) -> Result<Option<&'static str>, CaseFault> {
-    let pieces = match read_pieces(alloc, &file.frame, &file.pools, off) {
-        Ok(pieces) => pieces,
-        Err(ItemFault::Memory) => return Err(CaseFault::Memory),
-        Err(ItemFault::Refused(_)) => return Ok(Some("the pieces are refused")),
-    };
-    let numbering = file.pools.numbering();
-    if !are_same_pieces(alloc, numbering, &pieces, code.pieces())? {
-        return Ok(Some("the pieces are others"));
+    others: &Pieces<'_>,
+) -> Result<(), CaseFault> {
+    match read_pieces(alloc, &file.frame, &file.pools, off) {
+        Ok(pieces) => check_read_pieces(alloc, file, off, &pieces, others),
+        Err(ItemFault::Memory) => Err(CaseFault::Memory),
+        Err(ItemFault::Refused(_)) => Err(CaseFault::failed(alloc, "the pieces are refused")),
     }
-    let units = copied_units(alloc, numbering, &pieces)?;
-    if !stand_in_code(file.frame.bytes(), off, &units) {
-        return Ok(Some("other units are put"));
-    }
-    Ok(None)
 }
 
-// Whether pieces of a numbering are the same.
-fn are_same_pieces(
+// The same, given the pieces that are read.
+fn check_read_pieces(
     alloc: Global,
-    numbering: &Numbering<'_>,
+    file: &DexFile<'_>,
+    off: u32,
     pieces: &Pieces<'_>,
     others: &Pieces<'_>,
-) -> Result<bool, CaseFault> {
-    let remap = as_it_is(alloc, numbering)?;
-    Ok(pieces.same_mapped(&remap, others, &remap))
+) -> Result<(), CaseFault> {
+    let numbering = file.pools.numbering();
+    let are_same = are_same_pieces(alloc, numbering, pieces, others)?;
+    check(alloc, are_same, "the pieces are others")?;
+    let units = copied_units(alloc, numbering, pieces)?;
+    check_bytes(alloc, file.frame.bytes(), off.saturating_add(16), &units)
 }
 
 // The units that a copy of pieces is put as.
@@ -238,29 +221,21 @@ fn copied_units(
     Ok(out)
 }
 
-// Whether units stand in the code item at an offset.
-fn stand_in_code(bytes: &[u8], off: u32, units: &[u8]) -> bool {
-    match bytes.get((off as usize).saturating_add(16)..) {
-        Some(rest) => rest.starts_with(units),
-        None => false,
-    }
-}
-
-// What is wrong with the calls that read a directory, or what a class row declares, within a weight.
-fn wrong_weight(
+// Fails the line unless a directory, or what a class row declares, is read just where it may weigh what it weighs.
+fn check_weight(
     alloc: Global,
     file: &DexFile<'_>,
     place: u32,
     item: &Item<'_>,
-) -> Result<Option<&'static str>, CaseFault> {
+) -> Result<(), CaseFault> {
     let weight = item.weight();
-    if !is_within(alloc, file, place, item, weight)? {
-        return Ok(Some("it is not read within its weight"));
+    let is_read = is_within(alloc, file, place, item, weight)?;
+    check(alloc, is_read, "it is not read within its weight")?;
+    if weight == 0 {
+        return Ok(());
     }
-    if weight > 0 && is_within(alloc, file, place, item, weight - 1)? {
-        return Ok(Some("it is read within less than its weight"));
-    }
-    Ok(None)
+    let is_read = is_within(alloc, file, place, item, weight - 1)?;
+    check(alloc, !is_read, "it is read within less than its weight")
 }
 
 // Whether the item at a place is read where it may weigh so much.
@@ -273,15 +248,24 @@ fn is_within(
 ) -> Result<bool, CaseFault> {
     let is_read = match item {
         Item::Members(_) => are_members_within(alloc, file, place, most),
-        _ => read_directory_within(alloc, &file.frame, &file.pools, place, most).map(
-            |found| found.is_some(),
-        ),
+        _ => is_directory_within(alloc, file, place, most),
     };
     match is_read {
         Ok(is_read) => Ok(is_read),
         Err(ItemFault::Memory) => Err(CaseFault::Memory),
         Err(ItemFault::Refused(_)) => Ok(false),
     }
+}
+
+// Whether the directory at an offset is read where it may weigh so much.
+fn is_directory_within(
+    alloc: Global,
+    file: &DexFile<'_>,
+    off: u32,
+    most: u64,
+) -> Result<bool, ItemFault> {
+    let found = read_directory_within(alloc, &file.frame, &file.pools, off, most)?;
+    Ok(found.is_some())
 }
 
 // Whether what a row declares is read where it may weigh so much.
@@ -291,9 +275,8 @@ fn are_members_within(
     row: u32,
     most: u64,
 ) -> Result<bool, ItemFault> {
-    if row >= file.frame.size(Table::ClassDefs) || most > u64::from(u32::MAX) {
-        return Ok(false);
+    match u32::try_from(most) {
+        Ok(most) => Ok(members_at(alloc, file, row, most)?.is_some()),
+        Err(_) => Ok(false),
     }
-    let found = read_members(alloc, &file.frame, &file.pools, row, most as u32)?;
-    Ok(found.is_some())
 }

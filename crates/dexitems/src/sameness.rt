@@ -6,73 +6,46 @@ ghost use Rattle.dexpool.specs.Pools.{ArePools};
 
 use crate::dex_file::DexFile;
 use crate::item::Item;
-use crate::item_kind::ItemKind;
 use crate::likeness::Likeness;
-use crate::numbers::as_it_is;
+use crate::line::Line;
 use dexcases::{CaseFault, Outcome, first_word};
 use std::alloc::Global;
 
-/// Runs a line, given the file and what stands in the line behind the file's name.
-pub fn run(alloc: Global, word: &str, bytes: &[u8], case: &str) -> Result<Outcome, CaseFault> {
-    let (place, rest) = first_word(case)?;
-    let (other, right) = first_word(rest)?;
-    let kind = compared_kind(word).ok_or(CaseFault::Form)?;
-    let place = place.parse()?;
-    let other = other.parse()?;
-    let file = DexFile::open(alloc, bytes)?;
-    let likeness = likeness_at(alloc, &file, kind, place, other, word == "bare")?;
+/// Runs a line.
+pub fn run(alloc: Global, file: &DexFile<'_>, line: Line<'_>) -> Result<Outcome, CaseFault>
+    requires { ArePools file.now.frame file.now.pools }
+{
+    let (place, right) = first_word(line.rest)?;
+    let likeness = likeness_at(alloc, file, line, place.parse()?)?;
     Ok(Outcome::of(String::from_str(alloc, likeness.word())?, right))
 }
 
-// How the items at two places compare, the first without its debug program if it is to be bare.
+// How the item of a line compares with that at another place.
 fn likeness_at(
     alloc: Global,
     file: &DexFile<'_>,
-    kind: ItemKind,
+    line: Line<'_>,
     place: u32,
-    other: u32,
-    is_bare: bool,
 ) -> Result<Likeness, CaseFault>
     requires { ArePools file.now.frame file.now.pools }
 {
-    let other = Item::at(alloc, file, kind, other)?;
-    let remap = as_it_is(alloc, file.pools.numbering())?;
-    let item = item_at(alloc, file, kind, place, is_bare)?;
-    Likeness::of(alloc, item, &other, &remap)
+    let mut item = Item::at(alloc, file, line.item_kind()?, line.place)?;
+    if line.word == "bare" {
+        item.drop_debug();
+    }
+    likeness_to(alloc, file, line, &item, place)
 }
 
-// The item at a place, without its debug program if it is to be bare.
-fn item_at<'a>(
+// How an item, of the kind that a line names, compares with that at a place.
+fn likeness_to(
     alloc: Global,
-    file: &DexFile<'a>,
-    kind: ItemKind,
+    file: &DexFile<'_>,
+    line: Line<'_>,
+    item: &Item<'_>,
     place: u32,
-    is_bare: bool,
-) -> Result<Item<'a>, CaseFault>
+) -> Result<Likeness, CaseFault>
     requires { ArePools file.now.frame file.now.pools }
 {
-    match Item::at(alloc, file, kind, place) {
-        Ok(item) if is_bare => Ok(without_debug(item)),
-        answer => answer,
-    }
-}
-
-// The kind of the items that a line compares.
-fn compared_kind(word: &str) -> Option<ItemKind> {
-    match word {
-        "bare" => Some(ItemKind::Code),
-        "directory" => None,
-        _ => ItemKind::of_word(word),
-    }
-}
-
-// An item without the debug program of its code.
-fn without_debug(item: Item<'_>) -> Item<'_> {
-    match item {
-        Item::Code(mut code) => {
-            code.drop_debug();
-            Item::Code(code)
-        }
-        item => item,
-    }
+    let other = Item::at(alloc, file, line.item_kind()?, place)?;
+    Likeness::of(alloc, file.pools.numbering(), item, &other)
 }

@@ -1,116 +1,96 @@
 //! Code items.
 
 use crate::shown::debug::print_debug;
-use crate::shown::symbols::{print_comma, print_symbol, print_type};
+use crate::shown::symbols::{print_counted, print_symbol, print_type};
+use dexcases::Printed;
 use dexcode::{Code, Handler, Try};
 use dexinsn::{Piece, PieceKind, mnemonic};
 use dexpool::{Numbering, SymbolKind};
-use std::fmt;
 
 // Prints an instruction: its mnemonic and its symbol.
-fn print_instruction<W: fmt::Write>(
+fn print_instruction(
     opcode: u8,
     symbol: Option<(SymbolKind, usize)>,
     numbering: &Numbering<'_>,
-    f: &mut fmt::Formatter<W>,
-) -> fmt::Result {
-    f.write_str(mnemonic(opcode).unwrap_or("?"))?;
+    out: &mut Printed,
+) {
+    out.add(mnemonic(opcode).unwrap_or("?"));
     if let Some((kind, number)) = symbol {
-        f.write_str(" ")?;
-        print_symbol(numbering, kind, number, f)?;
+        out.add(" ");
+        print_symbol(numbering, kind, number, out);
     }
-    Ok(())
 }
 
 // Prints a piece: the unit at which it begins, and what it is.
-fn print_piece<W: fmt::Write>(
-    piece: Piece,
-    numbering: &Numbering<'_>,
-    f: &mut fmt::Formatter<W>,
-) -> fmt::Result {
-    let unit = piece.unit;
-    write!(f, "{unit:04x}: ")?;
+fn print_piece(piece: Piece, numbering: &Numbering<'_>, out: &mut Printed) {
+    out.add_hex(piece.unit as u64, 4);
+    out.add(": ");
     match piece.kind {
-        PieceKind::Instruction(opcode, symbol) => print_instruction(opcode, symbol, numbering, f),
-        PieceKind::PackedSwitch(size) => write!(f, "packed-switch-payload size={size}"),
-        PieceKind::SparseSwitch(size) => write!(f, "sparse-switch-payload size={size}"),
+        PieceKind::Instruction(opcode, symbol) => print_instruction(opcode, symbol, numbering, out),
+        PieceKind::PackedSwitch(size) => {
+            print_counted("packed-switch-payload size=", i64::from(size), out);
+        }
+        PieceKind::SparseSwitch(size) => {
+            print_counted("sparse-switch-payload size=", i64::from(size), out);
+        }
         PieceKind::ArrayData(width, size) => {
-            write!(f, "fill-array-data-payload width={width} size={size}")
+            print_counted("fill-array-data-payload width=", i64::from(width), out);
+            print_counted(" size=", i64::from(size), out);
         }
     }
 }
 
 /// Prints the lines that a listing has of code, joined by ` / `.
-pub fn print_lines<W: fmt::Write>(
-    code: &Code<'_>,
-    numbering: &Numbering<'_>,
-    f: &mut fmt::Formatter<W>,
-) -> fmt::Result {
+pub fn print_lines(code: &Code<'_>, numbering: &Numbering<'_>, out: &mut Printed) {
     let pieces = code.pieces();
-    let registers = pieces.registers();
-    let ins = pieces.ins();
-    let outs = pieces.outs();
-    let units = pieces.units();
-    let tries = code.tries().tries().len();
-    write!(
-        f,
-        "code registers={registers} ins={ins} outs={outs} units={units} tries={tries}"
-    )?;
+    print_counted("code registers=", i64::from(pieces.registers()), out);
+    print_counted(" ins=", i64::from(pieces.ins()), out);
+    print_counted(" outs=", i64::from(pieces.outs()), out);
+    out.add(" units=");
+    out.add_shown(&pieces.units());
+    out.add(" tries=");
+    out.add_shown(&code.tries().tries().len());
     for piece in pieces.iter() {
-        f.write_str(" / ")?;
-        print_piece(piece, numbering, f)?;
+        out.add(" / ");
+        print_piece(piece, numbering, out);
     }
-    Ok(())
 }
 
 // Prints a handler: ` / handler TYPE ADDRESS, TYPE ADDRESS, all ADDRESS`.
-fn print_handler<W: fmt::Write>(
-    handler: &Handler,
-    numbering: &Numbering<'_>,
-    f: &mut fmt::Formatter<W>,
-) -> fmt::Result {
-    f.write_str(" / handler ")?;
-    for (i, catch) in handler.catches().iter().enumerate() {
-        print_comma(i, f)?;
-        print_type(numbering, catch.typ as usize, f)?;
-        let addr = catch.addr;
-        write!(f, " {addr}")?;
+fn print_handler(handler: &Handler, numbering: &Numbering<'_>, out: &mut Printed) {
+    out.add(" / handler ");
+    let mut mark = "";
+    for catch in handler.catches() {
+        out.add(mark);
+        print_type(numbering, catch.typ as usize, out);
+        print_counted(" ", i64::from(catch.addr), out);
+        mark = ", ";
     }
     if let Some(addr) = handler.catch_all_addr() {
-        print_comma(handler.catches().len(), f)?;
-        write!(f, "all {addr}")?;
+        out.add(mark);
+        print_counted("all ", i64::from(addr), out);
     }
-    Ok(())
 }
 
 // Prints a try: ` / try START COUNT HANDLER`.
-fn print_try<W: fmt::Write>(item: Try, f: &mut fmt::Formatter<W>) -> fmt::Result {
-    let Try {
-        start_addr,
-        insn_count,
-        handler,
-    } = item;
-    write!(f, " / try {start_addr} {insn_count} {handler}")
+fn print_try(item: Try, out: &mut Printed) {
+    print_counted(" / try ", i64::from(item.start_addr), out);
+    print_counted(" ", i64::from(item.insn_count), out);
+    out.add(" ");
+    out.add_shown(&item.handler);
 }
 
 /// Prints code: its lines, its handlers, its tries and its debug program.
-pub fn print_code<W: fmt::Write>(
-    code: &Code<'_>,
-    numbering: &Numbering<'_>,
-    f: &mut fmt::Formatter<W>,
-) -> fmt::Result {
-    print_lines(code, numbering, f)?;
+pub fn print_code(code: &Code<'_>, numbering: &Numbering<'_>, out: &mut Printed) {
+    print_lines(code, numbering, out);
     for handler in code.tries().handlers() {
-        print_handler(handler, numbering, f)?;
+        print_handler(handler, numbering, out);
     }
     for item in code.tries().tries() {
-        print_try(*item, f)?;
+        print_try(*item, out);
     }
-    match code.debug() {
-        Some(debug) => {
-            f.write_str(" / ")?;
-            print_debug(debug, numbering, f)
-        }
-        None => Ok(()),
+    if let Some(debug) = code.debug() {
+        out.add(" / ");
+        print_debug(debug, numbering, out);
     }
 }

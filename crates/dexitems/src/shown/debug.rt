@@ -1,98 +1,89 @@
 //! Debug programs.
 
-use crate::shown::symbols::{print_comma, print_string, print_type};
+use crate::shown::symbols::{print_counted, print_string, print_type};
+use dexcases::Printed;
 use dexcode::{Debug, Operation};
 use dexpool::Numbering;
-use std::fmt;
 
 // Prints a text in quotes, or `-` for none.
-fn print_text_or_none<W: fmt::Write>(
-    numbering: &Numbering<'_>,
-    number: Option<u32>,
-    f: &mut fmt::Formatter<W>,
-) -> fmt::Result {
+fn print_text_or_none(numbering: &Numbering<'_>, number: Option<u32>, out: &mut Printed) {
     match number {
-        Some(number) => print_string(numbering, number as usize, f),
-        None => f.write_str("-"),
+        Some(number) => print_string(numbering, number as usize, out),
+        None => out.add("-"),
     }
 }
 
 // Prints a type, or `-` for none.
-fn print_type_or_none<W: fmt::Write>(
-    numbering: &Numbering<'_>,
-    number: Option<u32>,
-    f: &mut fmt::Formatter<W>,
-) -> fmt::Result {
+fn print_type_or_none(numbering: &Numbering<'_>, number: Option<u32>, out: &mut Printed) {
     match number {
-        Some(number) => print_type(numbering, number as usize, f),
-        None => f.write_str("-"),
+        Some(number) => print_type(numbering, number as usize, out),
+        None => out.add("-"),
     }
 }
 
-// Prints an operation: its opcode, and its operands.
-fn print_operation<W: fmt::Write>(
+// Prints where a local variable begins: an opcode, the register, the name and the type.
+fn print_local(
+    opcode: &str,
+    register_num: u32,
     operation: &Operation,
     numbering: &Numbering<'_>,
-    f: &mut fmt::Formatter<W>,
-) -> fmt::Result {
+    out: &mut Printed,
+) {
+    print_counted(opcode, i64::from(register_num), out);
+    out.add(" ");
+    print_text_or_none(numbering, operation.name_idx(), out);
+    out.add(" ");
+    print_type_or_none(numbering, operation.type_idx(), out);
+}
+
+// Prints an operation: its opcode, and its operands.
+fn print_operation(operation: &Operation, numbering: &Numbering<'_>, out: &mut Printed) {
     match operation {
-        Operation::AdvancePc(addr_diff) => write!(f, "01 {addr_diff}"),
-        Operation::AdvanceLine(line_diff) => write!(f, "02 {line_diff}"),
-        Operation::StartLocal {
-            register_num,
-            name_idx,
-            type_idx,
-        } => {
-            write!(f, "03 {register_num} ")?;
-            print_text_or_none(numbering, *name_idx, f)?;
-            f.write_str(" ")?;
-            print_type_or_none(numbering, *type_idx, f)
+        Operation::AdvancePc(addr_diff) => print_counted("01 ", i64::from(*addr_diff), out),
+        Operation::AdvanceLine(line_diff) => print_counted("02 ", i64::from(*line_diff), out),
+        Operation::StartLocal { register_num, .. } => {
+            print_local("03 ", *register_num, operation, numbering, out);
         }
         Operation::StartLocalExtended {
             register_num,
-            name_idx,
-            type_idx,
             sig_idx,
+            ..
         } => {
-            write!(f, "04 {register_num} ")?;
-            print_text_or_none(numbering, *name_idx, f)?;
-            f.write_str(" ")?;
-            print_type_or_none(numbering, *type_idx, f)?;
-            f.write_str(" ")?;
-            print_text_or_none(numbering, *sig_idx, f)
+            print_local("04 ", *register_num, operation, numbering, out);
+            out.add(" ");
+            print_text_or_none(numbering, *sig_idx, out);
         }
-        Operation::EndLocal(register_num) => write!(f, "05 {register_num}"),
-        Operation::RestartLocal(register_num) => write!(f, "06 {register_num}"),
-        Operation::SetPrologueEnd => f.write_str("07"),
-        Operation::SetEpilogueBegin => f.write_str("08"),
+        Operation::EndLocal(register_num) => print_counted("05 ", i64::from(*register_num), out),
+        Operation::RestartLocal(register_num) => print_counted(
+            "06 ",
+            i64::from(*register_num),
+            out,
+        ),
+        Operation::SetPrologueEnd => out.add("07"),
+        Operation::SetEpilogueBegin => out.add("08"),
         Operation::SetFile(name_idx) => {
-            f.write_str("09 ")?;
-            print_text_or_none(numbering, *name_idx, f)
+            out.add("09 ");
+            print_text_or_none(numbering, *name_idx, out);
         }
-        Operation::Special(opcode) => write!(f, "{opcode:02x}"),
+        Operation::Special(opcode) => out.add_hex(u64::from(*opcode), 2),
     }
 }
 
 /// Prints a debug program: the line that it starts at, the names of parameters, and the operations.
-pub fn print_debug<W: fmt::Write>(
-    debug: &Debug,
-    numbering: &Numbering<'_>,
-    f: &mut fmt::Formatter<W>,
-) -> fmt::Result {
-    let line_start = debug.line_start();
-    write!(f, "debug {line_start} (")?;
-    for (i, name) in debug.parameter_names().iter().enumerate() {
-        print_comma(i, f)?;
-        print_text_or_none(numbering, *name, f)?;
+pub fn print_debug(debug: &Debug, numbering: &Numbering<'_>, out: &mut Printed) {
+    print_counted("debug ", i64::from(debug.line_start()), out);
+    out.add(" (");
+    let mut mark = "";
+    for name in debug.parameter_names() {
+        out.add(mark);
+        print_text_or_none(numbering, *name, out);
+        mark = ", ";
     }
-    f.write_str(if debug.operations().is_empty() {
-        ")"
-    } else {
-        ") "
-    })?;
-    for (i, operation) in debug.operations().iter().enumerate() {
-        print_comma(i, f)?;
-        print_operation(operation, numbering, f)?;
+    out.add(")");
+    let mut mark = " ";
+    for operation in debug.operations() {
+        out.add(mark);
+        print_operation(operation, numbering, out);
+        mark = ", ";
     }
-    Ok(())
 }

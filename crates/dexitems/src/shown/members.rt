@@ -2,9 +2,9 @@
 
 use crate::shown::code::print_lines;
 use crate::shown::symbols::{Naming, print_field, print_method};
+use dexcases::Printed;
 use dexmembers::{Field, Members, Method};
 use dexpool::Numbering;
-use std::fmt;
 
 // The access flags that fields and methods have, from the lowest bit. Two bits have other names for methods.
 const FLAGS: [(u32, &str, &str); 17] = [
@@ -28,104 +28,80 @@ const FLAGS: [(u32, &str, &str); 17] = [
 ];
 
 // Prints flags: ` flags=0xNUMBER(NAME,NAME)`.
-fn print_flags<W: fmt::Write>(
-    flags: u32,
-    is_method: bool,
-    f: &mut fmt::Formatter<W>,
-) -> fmt::Result {
-    write!(f, " flags=0x{flags:x}(")?;
-    let mut is_first = true;
+fn print_flags(flags: u32, is_method: bool, out: &mut Printed) {
+    out.add(" flags=0x");
+    out.add_hex(u64::from(flags), 1);
+    out.add("(");
+    let mut mark = "";
     for (bit, of_field, of_method) in &FLAGS {
         if flags & *bit != 0 {
-            f.write_str(if is_first { "" } else { "," })?;
-            f.write_str(if is_method { of_method } else { of_field })?;
-            is_first = false;
+            out.add(mark);
+            out.add(if is_method { of_method } else { of_field });
+            mark = ",";
         }
     }
-    f.write_str(")")
-}
-
-// Prints what stands before a line: nothing before the first.
-fn print_break<W: fmt::Write>(is_first: bool, f: &mut fmt::Formatter<W>) -> fmt::Result {
-    f.write_str(if is_first { "" } else { " / " })
+    out.add(")");
 }
 
 // Prints fields of a kind, as the first lines or behind others.
-fn print_fields<W: fmt::Write>(
+fn print_fields(
     are_first: bool,
     kind: &str,
     fields: &[Field],
     numbering: &Numbering<'_>,
-    f: &mut fmt::Formatter<W>,
-) -> fmt::Result {
-    for (i, field) in fields.iter().enumerate() {
-        print_break(are_first && i == 0, f)?;
-        f.write_str(kind)?;
-        print_field(Naming::Alone, numbering, field.number() as usize, f)?;
-        print_flags(field.flags().bits(), false, f)?;
+    out: &mut Printed,
+) {
+    let mut mark = if are_first { "" } else { " / " };
+    for field in fields {
+        out.add(mark);
+        out.add(kind);
+        print_field(Naming::Alone, numbering, field.number() as usize, out);
+        print_flags(field.flags().bits(), false, out);
+        mark = " / ";
     }
-    Ok(())
 }
 
-// Prints methods of a kind with the lines of their code, as the first lines or behind others.
-fn print_methods<W: fmt::Write>(
+// Prints a method with the lines of its code.
+fn print_coded(method: &Method<'_>, numbering: &Numbering<'_>, out: &mut Printed) {
+    print_method(Naming::Alone, numbering, method.number() as usize, out);
+    print_flags(method.flags().bits(), true, out);
+    if let Some(code) = method.code() {
+        out.add(" / ");
+        print_lines(code, numbering, out);
+    }
+}
+
+// Prints methods of a kind, as the first lines or behind others.
+fn print_methods(
     are_first: bool,
     kind: &str,
     methods: &[Method<'_>],
     numbering: &Numbering<'_>,
-    f: &mut fmt::Formatter<W>,
-) -> fmt::Result {
-    for (i, method) in methods.iter().enumerate() {
-        print_break(are_first && i == 0, f)?;
-        f.write_str(kind)?;
-        print_method(Naming::Alone, numbering, method.number() as usize, f)?;
-        print_flags(method.flags().bits(), true, f)?;
-        if let Some(code) = method.code() {
-            f.write_str(" / ")?;
-            print_lines(code, numbering, f)?;
-        }
+    out: &mut Printed,
+) {
+    let mut mark = if are_first { "" } else { " / " };
+    for method in methods {
+        out.add(mark);
+        out.add(kind);
+        print_coded(method, numbering, out);
+        mark = " / ";
     }
-    Ok(())
 }
 
 /// Prints the lines of members, or `-` for none.
-pub fn print_members<W: fmt::Write>(
-    members: &Members<'_>,
-    names: &Numbering<'_>,
-    f: &mut fmt::Formatter<W>,
-) -> fmt::Result {
-    let are_first = true;
-    print_fields(
-        are_first,
-        "static-field ",
-        members.static_fields(),
-        names,
-        f,
-    )?;
-    let are_first = are_first && members.static_fields().is_empty();
-    print_fields(
-        are_first,
-        "instance-field ",
-        members.instance_fields(),
-        names,
-        f,
-    )?;
-    let are_first = are_first && members.instance_fields().is_empty();
-    print_methods(
-        are_first,
-        "direct-method ",
-        members.direct_methods(),
-        names,
-        f,
-    )?;
-    let are_first = are_first && members.direct_methods().is_empty();
-    print_methods(
-        are_first,
-        "virtual-method ",
-        members.virtual_methods(),
-        names,
-        f,
-    )?;
-    let is_empty = are_first && members.virtual_methods().is_empty();
-    f.write_str(if is_empty { "-" } else { "" })
+pub fn print_members(members: &Members<'_>, names: &Numbering<'_>, out: &mut Printed) {
+    let fields = members.static_fields();
+    print_fields(true, "static-field ", fields, names, out);
+    let are_first = fields.is_empty();
+    let fields = members.instance_fields();
+    print_fields(are_first, "instance-field ", fields, names, out);
+    let are_first = are_first && fields.is_empty();
+    let methods = members.direct_methods();
+    print_methods(are_first, "direct-method ", methods, names, out);
+    let are_first = are_first && methods.is_empty();
+    let methods = members.virtual_methods();
+    print_methods(are_first, "virtual-method ", methods, names, out);
+    if are_first && methods.is_empty() {
+        out.add("-");
+    }
 }

@@ -59,9 +59,7 @@ pub fn run(alloc: Global, bytes: &[u8], case: &str) -> Result<Outcome, CaseFault
     let mended = Mended::of_word(mended).ok_or(CaseFault::Form)?;
     for len in first..=last {
         let front = bytes.get(..len).ok_or(CaseFault::Form)?;
-        let mut cut = Vec::from_slice(alloc, front)?;
-        mended.mend(&mut cut);
-        match check::run(alloc, &cut, right)? {
+        match run_cut(alloc, front, mended, right)? {
             Outcome::Passed => continue,
             Outcome::Failed(answered) => {
                 let answered = format!(in alloc; "cut to {len} bytes: {answered}")?;
@@ -71,4 +69,11 @@ pub fn run(alloc: Global, bytes: &[u8], case: &str) -> Result<Outcome, CaseFault
         }
     }
     Ok(Outcome::Passed)
+}
+
+// How a file goes that is cut to these bytes.
+fn run_cut(alloc: Global, front: &[u8], mended: Mended, right: &str) -> Result<Outcome, CaseFault> {
+    let mut cut = Vec::from_slice(alloc, front)?;
+    mended.mend(&mut cut);
+    check::run(alloc, &cut, right)
 }

@@ -13,7 +13,7 @@ pub fn run(alloc: Global, bytes: &[u8], right: &[u8]) -> Result<Outcome, CaseFau
     if is_listed_as(alloc, &program, right)? {
         return Ok(Outcome::Passed);
     }
-    Ok(Outcome::failed(alloc, "another listing")?)
+    Err(CaseFault::failed(alloc, "another listing"))
 }
 
 // Whether a device is given these bytes as the listing of the program.

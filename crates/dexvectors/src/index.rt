@@ -3,32 +3,30 @@
 use crate::kind::Kind;
 use crate::merge::After;
 use crate::{check, cuts, dump, merge, normalise, regroup, slices, strip, symbol, weight};
-use dexcases::{CaseFault, Outcome, first_word, read_file};
+use dexcases::{CaseFault, Folder, Outcome, first_word};
 use std::alloc::Global;
-use std::path::Path;
 use std::rt::Files;
 
 /// Runs a line of the index of a folder, given what stands in it behind the word of its kind.
 pub fn run_case<R: Files + AllocGlobal>(
-    rt: &R,
-    folder: Path<'_>,
+    folder: Folder<'_, R>,
     kind: Kind,
     case: &str,
 ) -> Result<Outcome, CaseFault> {
     match kind {
-        Kind::Merge => merge::run(rt, folder, case, After::Merged),
-        Kind::MergeStrip => merge::run(rt, folder, case, After::Stripped),
-        Kind::Regroup => regroup::run(rt, folder, case),
+        Kind::Merge => merge::run(folder, case, After::Merged),
+        Kind::MergeStrip => merge::run(folder, case, After::Stripped),
+        Kind::Regroup => regroup::run(folder, case),
         Kind::Unknown => Err(CaseFault::Form),
         _ => {
             let (name, asked) = first_word(case)?;
-            let bytes = read_file(rt, folder, name)?;
+            let bytes = folder.read(name)?;
             match kind {
                 Kind::Normalise | Kind::Strip | Kind::Dump => {
-                    let right = read_file(rt, folder, asked)?;
-                    compare(rt.alloc(), kind, &bytes, &right)
+                    let right = folder.read(asked)?;
+                    compare(folder.alloc(), kind, &bytes, &right)
                 }
-                _ => ask(rt.alloc(), kind, &bytes, asked),
+                _ => ask(folder.alloc(), kind, &bytes, asked),
             }
         }
     }

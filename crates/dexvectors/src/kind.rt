@@ -2,13 +2,12 @@
 
 use crate::calls::run_call;
 use crate::index::run_case;
-use dexcases::{CaseFault, Cases, Outcome, Tally};
+use dexcases::{CaseFault, Cases, Folder, Outcome, Tally};
 use std::fmt;
-use std::path::Path;
 use std::rt::Files;
 
 /// What a line asks for.
-#[derive(Clone, Copy, Debug, PartialEq, Eq, PartialOrd, Ord)]
+#[derive(Clone, Copy, PartialEq, Eq, PartialOrd, Ord)]
 pub enum Kind {
     /// Numbers read.
     Leb,
@@ -115,14 +114,13 @@ impl Cases for Kind {
 
     fn run<R: Files + AllocGlobal>(
         self,
-        rt: &R,
-        folder: Path<'_>,
+        folder: Folder<'_, R>,
         case: &str,
     ) -> Result<Outcome, CaseFault> {
         if self.is_call() {
-            return run_call(rt.alloc(), self, case);
+            return run_call(folder.alloc(), self, case);
         }
-        run_case(rt, folder, self, case)
+        run_case(folder, self, case)
     }
 }
 

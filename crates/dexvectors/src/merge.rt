@@ -3,14 +3,13 @@
 
 use crate::normalise::{is_written_as, other_bytes};
 use crate::plans::{caps_in, plan_in};
-use crate::words::push_name;
-use dexcases::{CaseFault, Outcome, read_file};
+use crate::words::print_name;
+use dexcases::{CaseFault, Folder, Outcome, Printed};
 use dexclass::{Program, into_stripped, read};
 use dexmerge::{Caps, MergeFault, Plan, PlanFault, merge_files, merge_plan};
 use dexpool::ReadFault;
 use dexstr::Name;
 use std::alloc::{AllocError, Global};
-use std::path::Path;
 use std::rt::Files;
 
 /// What is right.
@@ -58,45 +57,43 @@ pub(crate) struct Merge<'a> {
 
 /// Runs a line, given what stands in it behind the word of its kind, and what becomes of the merged program: how it goes.
 pub fn run<R: Files + AllocGlobal>(
-    rt: &R,
-    folder: Path<'_>,
+    folder: Folder<'_, R>,
     case: &str,
     after: After,
 ) -> Result<Outcome, CaseFault> {
-    let alloc = rt.alloc();
     let (plan, rest) = case.split_once(" caps ").ok_or(CaseFault::Form)?;
-    let plan = plan_in(alloc, plan)?;
-    let merge = Merge::of(rt, folder, rest)?;
-    let programs = merge.programs(alloc)?;
-    match merge.planned(alloc, &programs, &plan, after)? {
-        Outcome::Passed => {
-            merge.judged(
-                alloc,
-                merge_files(alloc, programs, &plan, &merge.caps),
-                after,
-            )
-        }
-        failed => Ok(failed),
-    }
+    let merge = Merge::of(folder, rest)?;
+    merge.run(folder.alloc(), plan, after)
 }
 
 impl<'a> Merge<'a> {
     /// What the words of a line behind `caps` ask for.
     pub(crate) fn of<R: Files + AllocGlobal>(
-        rt: &R,
-        folder: Path<'_>,
+        folder: Folder<'_, R>,
         words: &'a str,
     ) -> Result<Merge<'a>, CaseFault> {
         let (caps, rest) = words.split_once(" files ").ok_or(CaseFault::Form)?;
-        let caps = caps_in(rt.alloc(), caps)?;
-        let (names, right) = answer_in(rt, folder, rest)?;
-        let mut files = Vec::new(rt.alloc());
-        for name in names.split(' ') {
-            if name != "-" {
-                files.push(read_file(rt, folder, name)?)?;
-            }
-        }
+        let caps = caps_in(folder.alloc(), caps)?;
+        let (names, right) = answer_in(folder, rest)?;
+        let files = files_of(folder, names)?;
         Ok(Merge { files, caps, right })
+    }
+
+    // How the line goes by the plan that these words stand for.
+    fn run(&self, alloc: Global, plan: &str, after: After) -> Result<Outcome, CaseFault> {
+        let plan = plan_in(alloc, plan)?;
+        self.run_plan(alloc, &plan, after)
+    }
+
+    // How the line goes by a plan: the programs are lent to the merge, and then given to it.
+    fn run_plan(&self, alloc: Global, plan: &Plan, after: After) -> Result<Outcome, CaseFault> {
+        let programs = self.programs(alloc)?;
+        match self.planned(alloc, &programs, plan, after)? {
+            Outcome::Passed => {
+                self.judged(alloc, merge_files(alloc, programs, plan, &self.caps), after)
+            }
+            failed => Ok(failed),
+        }
     }
 
     /// The programs of the files. A line of which a file is refused fails.
@@ -133,20 +130,30 @@ impl<'a> Merge<'a> {
         after: After,
     ) -> Result<Outcome, CaseFault> {
         match answer {
-            Ok(program) => match &self.right {
-                RightAnswer::Written(right) => {
-                    if after.is_written_as(alloc, program, right)? {
-                        return Ok(Outcome::Passed);
-                    }
-                    other_bytes(alloc)
-                }
-                _ => Ok(Outcome::failed(alloc, "ok")?),
-            },
+            Ok(program) => self.judged_program(alloc, program, after),
             Err(PlanFault::BadPlan) => match self.right {
                 RightAnswer::BadPlan => Ok(Outcome::Passed),
-                _ => Ok(Outcome::failed(alloc, "badplan")?),
+                _ => Err(CaseFault::failed(alloc, "badplan")),
             },
             Err(PlanFault::Merge(fault)) => told(alloc, &fault, &self.right),
+        }
+    }
+
+    // How the line goes where this is the merged program.
+    fn judged_program(
+        &self,
+        alloc: Global,
+        program: Program<'_>,
+        after: After,
+    ) -> Result<Outcome, CaseFault> {
+        match &self.right {
+            RightAnswer::Written(right) => {
+                if after.is_written_as(alloc, program, right)? {
+                    return Ok(Outcome::Passed);
+                }
+                other_bytes(alloc)
+            }
+            _ => Err(CaseFault::failed(alloc, "ok")),
         }
     }
 }
@@ -162,14 +169,27 @@ fn told(alloc: Global, fault: &MergeFault, right: &RightAnswer<'_>) -> Result<Ou
     }
 }
 
+// The bytes of the files of these names.
+fn files_of<R: Files + AllocGlobal>(
+    folder: Folder<'_, R>,
+    names: &str,
+) -> Result<Vec<Vec<u8>>, CaseFault> {
+    let mut files = Vec::new(folder.alloc());
+    for name in names.split(' ') {
+        if name != "-" {
+            files.push(folder.read(name)?)?;
+        }
+    }
+    Ok(files)
+}
+
 // The names of the files, and what is right.
 fn answer_in<'a, R: Files + AllocGlobal>(
-    rt: &R,
-    folder: Path<'_>,
+    folder: Folder<'_, R>,
     words: &'a str,
 ) -> Result<(&'a str, RightAnswer<'a>), CaseFault> {
     if let Some((names, written)) = words.split_once(" ok ") {
-        return Ok((names, RightAnswer::Written(read_file(rt, folder, written)?)));
+        return Ok((names, RightAnswer::Written(folder.read(written)?)));
     }
     if let Some((names, causes)) = words.split_once(" fault ") {
         return Ok((names, RightAnswer::Causes(causes)));
@@ -181,13 +201,18 @@ fn answer_in<'a, R: Files + AllocGlobal>(
 }
 
 // A cause, in the words of a line.
-fn cause_of(alloc: Global, fault: &MergeFault) -> Result<String, CaseFault> {
+fn cause_of(alloc: Global, fault: &MergeFault) -> Result<String, AllocError> {
+    let mut words = Printed::new(alloc);
     match fault {
-        MergeFault::Conflict(name) => named(alloc, "conflict", name),
-        MergeFault::Cycle(name) => named(alloc, "cycle", name),
-        MergeFault::Cap(cap) => Ok(format!(in alloc; "cap {}", kind_of_cap(*cap))?),
-        MergeFault::Memory => Err(CaseFault::Memory),
+        MergeFault::Conflict(name) => print_named("conflict ", name, &mut words),
+        MergeFault::Cycle(name) => print_named("cycle ", name, &mut words),
+        MergeFault::Cap(cap) => {
+            words.add("cap ");
+            words.add(kind_of_cap(*cap));
+        }
+        MergeFault::Memory => return Err(AllocError),
     }
+    words.finish()
 }
 
 // What a cap is of.
@@ -202,10 +227,8 @@ fn kind_of_cap(cap: u8) -> &'static str {
     }
 }
 
-// A word and the name of a class.
-fn named(alloc: Global, word: &str, name: &Name) -> Result<String, CaseFault> {
-    let mut words = String::from_str(alloc, word)?;
-    words.push_str(" ")?;
-    push_name(&mut words, name)?;
-    Ok(words)
+// Prints a word and the name of a class.
+fn print_named(word: &str, name: &Name, out: &mut Printed) {
+    out.add(word);
+    print_name(name, out);
 }

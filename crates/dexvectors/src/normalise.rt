@@ -17,13 +17,21 @@ pub fn run(alloc: Global, bytes: &[u8], right: &[u8]) -> Result<Outcome, CaseFau
     ensures { IfOk result (λ outcome. outcome ≡ Outcome.Passed → Normalises bytes.now right.now) }
 {
     let program = program_of(alloc, bytes)?;
-    if !is_given(alloc, &program.copy()?, right)? {
-        return other_bytes(alloc);
-    }
-    if is_written_as(alloc, &program, right)? {
+    if is_canonical(alloc, &program, right)? {
         return Ok(Outcome::Passed);
     }
     other_bytes(alloc)
+}
+
+// Whether a device is given these bytes for a copy of the program, and the program is made to them.
+fn is_canonical(alloc: Global, program: &Program<'_>, right: &[u8]) -> Result<bool, AllocError>
+    ensures { IfOk result (λ is. IsTrue is → right.now ≡ canonical program.now) }
+{
+    let copy = program.copy()?;
+    if !is_given(alloc, &copy, right)? {
+        return Ok(false);
+    }
+    is_written_as(alloc, program, right)
 }
 
 /// Whether the canonical file of the program has these bytes.

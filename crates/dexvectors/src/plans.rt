@@ -1,48 +1,50 @@
 //! Plans and caps in words: a plan is a number or a list of plans in brackets, and caps are six numbers.
 
+use crate::open_plan::OpenPlan;
 use dexcases::CaseFault;
 use dexmerge::{Caps, Plan};
 use std::alloc::Global;
 
 /// The plan that a word stands for, as `((0 1) 2)`.
 pub fn plan_in(alloc: Global, words: &str) -> Result<Plan, CaseFault> {
-    let mut open: Vec<Vec<Plan>> = Vec::new(alloc);
-    let mut parts: Vec<Plan> = Vec::new(alloc);
+    let mut plan = OpenPlan::new(alloc);
+    read_parts(alloc, words, &mut plan)?;
+    plan.into_plan()
+}
+
+// Adds the parts that a word stands for.
+fn read_parts(alloc: Global, words: &str, plan: &mut OpenPlan) -> Result<(), CaseFault> {
     let mut number: Option<usize> = None;
     for letter in words.chars() {
-        match letter.to_digit(10) {
-            Some(digit) => {
-                let more = number.unwrap_or(0).saturating_mul(10);
-                number = Some(more.saturating_add(digit as usize));
-                continue;
-            }
-            None => {
-                if let Some(file) = number.take() {
-                    parts.push(Plan::Leaf(file))?;
-                }
-            }
+        if let Some(digit) = letter.to_digit(10) {
+            let more = number.unwrap_or(0).saturating_mul(10);
+            number = Some(more.saturating_add(digit as usize));
+            continue;
         }
-        match letter {
-            ' ' => continue,
-            '(' => {
-                open.push(parts)?;
-                parts = Vec::new(alloc);
-            }
-            ')' => {
-                let mut before = open.pop().ok_or(CaseFault::Form)?;
-                before.push(Plan::Node(parts))?;
-                parts = before;
-            }
-            _ => return Err(CaseFault::Form),
+        if let Some(file) = number.take() {
+            plan.add(file)?;
         }
+        read_mark(alloc, letter, plan)?;
     }
     if let Some(file) = number {
-        parts.push(Plan::Leaf(file))?;
+        plan.add(file)?;
     }
-    if !open.is_empty() || parts.len() != 1 {
-        return Err(CaseFault::Form);
+    Ok(())
+}
+
+// Begins or ends a node at a bracket.
+fn read_mark(alloc: Global, mark: char, plan: &mut OpenPlan) -> Result<(), CaseFault> {
+    match mark {
+        ' ' => Ok(()),
+        '(' => Ok(plan.open(alloc)?),
+        ')' => {
+            if plan.close()? {
+                return Ok(());
+            }
+            Err(CaseFault::Form)
+        }
+        _ => Err(CaseFault::Form),
     }
-    parts.pop().ok_or(CaseFault::Form)
 }
 
 /// The caps that six numbers stand for: types, protos, fields, methods, short strings, weight.

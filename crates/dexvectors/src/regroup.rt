@@ -2,11 +2,12 @@
 //! CAUSE ..`. Each round draws a plan that names each file once and some more than once; each has to be answered so.
 
 use crate::merge::{After, Merge};
+use crate::open_plan::OpenPlan;
 use crate::random::Random;
-use dexcases::{CaseFault, Outcome};
+use dexcases::{CaseFault, Folder, Outcome};
+use dexclass::Program;
 use dexmerge::Plan;
 use std::alloc::{AllocError, Global};
-use std::path::Path;
 use std::rt::Files;
 
 /// How many nodes may be open at a time, so that no plan is too deep.
@@ -14,24 +15,36 @@ const MOST_OPEN: usize = 62;
 
 /// Runs a line, given what stands in it behind the word of its kind: how it goes.
 pub fn run<R: Files + AllocGlobal>(
-    rt: &R,
-    folder: Path<'_>,
+    folder: Folder<'_, R>,
     case: &str,
 ) -> Result<Outcome, CaseFault> {
-    let alloc = rt.alloc();
     let (rounds, rest) = case.split_once(" caps ").ok_or(CaseFault::Form)?;
-    let rounds: u32 = rounds.parse()?;
-    let merge = Merge::of(rt, folder, rest)?;
+    let merge = Merge::of(folder, rest)?;
+    run_rounds(folder.alloc(), rounds.parse()?, &merge)
+}
+
+// Runs so many rounds.
+fn run_rounds(alloc: Global, rounds: u32, merge: &Merge<'_>) -> Result<Outcome, CaseFault> {
     let programs = merge.programs(alloc)?;
     let mut random = Random::new(1);
     for _ in 0..rounds {
-        let plan = random_plan(alloc, &mut random, programs.len())?;
-        match merge.planned(alloc, &programs, &plan, After::Merged)? {
+        match run_round(alloc, merge, &programs, &mut random)? {
             Outcome::Passed => continue,
             outcome => return Ok(outcome),
         }
     }
     Ok(Outcome::Passed)
+}
+
+// Merges the programs by a random plan.
+fn run_round(
+    alloc: Global,
+    merge: &Merge<'_>,
+    programs: &[Program<'_>],
+    random: &mut Random,
+) -> Result<Outcome, CaseFault> {
+    let plan = random_plan(alloc, random, programs.len())?;
+    merge.planned(alloc, programs, &plan, After::Merged)
 }
 
 // The numbers of so many files in a random order, each once and some more than once.
@@ -54,29 +67,32 @@ fn leaves(alloc: Global, random: &mut Random, files: usize) -> Result<Vec<usize>
 
 // A random plan for so many files: nodes begin and end anywhere, and some have one part or none.
 fn random_plan(alloc: Global, random: &mut Random, files: usize) -> Result<Plan, AllocError> {
-    let mut open: Vec<Vec<Plan>> = Vec::new(alloc);
-    let mut parts: Vec<Plan> = Vec::new(alloc);
+    let mut plan = OpenPlan::new(alloc);
+    add_parts(alloc, random, files, &mut plan)?;
+    Ok(plan.into_node())
+}
+
+// Adds random parts for so many files, and ends every node.
+fn add_parts(
+    alloc: Global,
+    random: &mut Random,
+    files: usize,
+    plan: &mut OpenPlan,
+) -> Result<(), AllocError> {
     let steepness = random.below(4).saturating_add(1);
     for file in leaves(alloc, random, files)? {
         for _ in 0..random.below(steepness) {
-            if open.len() < MOST_OPEN {
-                open.push(parts)?;
-                parts = Vec::new(alloc);
+            if plan.depth() < MOST_OPEN {
+                plan.open(alloc)?;
             }
         }
-        parts.push(Plan::Leaf(file))?;
+        plan.add(file)?;
         for _ in 0..random.below(3) {
-            if let Some(mut before) = open.pop() {
-                before.push(Plan::Node(parts))?;
-                parts = before;
-            }
+            plan.close()?;
         }
     }
     for _ in 0..MOST_OPEN {
-        if let Some(mut before) = open.pop() {
-            before.push(Plan::Node(parts))?;
-            parts = before;
-        }
+        plan.close()?;
     }
-    Ok(Plan::Node(parts))
+    Ok(())
 }

@@ -40,13 +40,18 @@ pub fn run(alloc: Global, bytes: &[u8], right: &str) -> Result<Outcome, CaseFaul
     let (most, count) = first_word(right)?;
     let most: usize = most.parse()?;
     let count: usize = count.parse()?;
-    let program = program_of(alloc, bytes)?;
-    let slices = written(alloc, &program)?;
+    let slices = slices_of(alloc, bytes)?;
     if slices.longest <= most && slices.count <= count {
         return Ok(Outcome::Passed);
     }
     let Slices { count, longest } = slices;
     Ok(Outcome::Failed(format!(in alloc; "{longest} {count}")?))
+}
+
+// The slices in which the canonical file of a file is written.
+fn slices_of(alloc: Global, bytes: &[u8]) -> Result<Slices, CaseFault> {
+    let program = program_of(alloc, bytes)?;
+    Ok(written(alloc, &program)?)
 }
 
 // The slices in which the canonical file of the program is written.

@@ -2,10 +2,11 @@
 //! field as `CLASS->NAME:TYPE` and a method as `CLASS->NAME(PARAMETERS)RETURN`. A copy of the symbol is shown, and has to
 //! rank as its row in a numbering of the pools.
 
-use crate::words::push_name;
-use dexcases::{CaseFault, Outcome, first_word};
-use dexhead::Frame;
+use crate::pools::{frame_of, pools_of};
+use crate::words::print_name;
+use dexcases::{CaseFault, Outcome, Printed, first_word};
 use dexpool::{Numbering, Pools, ProtoSymbol, Symbol, SymbolKind};
+use dexstr::Name;
 use std::alloc::{AllocError, Global};
 
 /// Runs a line, given what stands in it behind the file's name: how it goes.
@@ -13,34 +14,39 @@ pub fn run(alloc: Global, bytes: &[u8], asked: &str) -> Result<Outcome, CaseFaul
     let (pool, rest) = first_word(asked)?;
     let (row, right) = first_word(rest)?;
     let kind = kind_of(pool).ok_or(CaseFault::Form)?;
-    let row: u32 = row.parse()?;
-    let Ok(frame) = Frame::open(bytes) else {
-        return Ok(Outcome::failed(alloc, "no file")?);
-    };
-    let Ok(pools) = Pools::read(alloc, &frame) else {
-        return Ok(Outcome::failed(alloc, "no pools")?);
-    };
-    let answered = named(alloc, &pools, kind, row)?;
+    let answered = named_in(alloc, bytes, kind, row.parse()?)?;
     Ok(Outcome::of(answered, right))
 }
 
-// What a row names, by a copy of its symbol, or why it names none.
+// What a row of a file names, or why it names nothing.
+fn named_in(alloc: Global, bytes: &[u8], kind: SymbolKind, row: u32) -> Result<String, CaseFault> {
+    let frame = frame_of(alloc, bytes)?;
+    let pools = pools_of(alloc, &frame)?;
+    if row as usize >= pools.len(kind) {
+        return Err(CaseFault::failed(alloc, "no row"));
+    }
+    let symbol = pools.symbol(alloc, kind, row)?;
+    Ok(named(alloc, &pools, row, &symbol)?)
+}
+
+// What a symbol of a row names, by a copy of it, or that the copy ranks otherwise.
 fn named(
     alloc: Global,
     pools: &Pools<'_>,
-    kind: SymbolKind,
     row: u32,
+    symbol: &Symbol,
 ) -> Result<String, AllocError> {
-    if row as usize >= pools.len(kind) {
-        return String::from_str(alloc, "no row");
-    }
-    let symbol = pools.symbol(alloc, kind, row)?;
     let copy = symbol.copy()?;
-    let numbering = Numbering::of(pools)?;
-    if rank(&numbering, &copy) != row as usize {
+    if rank_in(pools, &copy)? != row as usize {
         return String::from_str(alloc, "another rank");
     }
     shown(alloc, &copy)
+}
+
+// How many symbols of its kind are less in a numbering of the pools.
+fn rank_in(pools: &Pools<'_>, symbol: &Symbol) -> Result<usize, AllocError> {
+    let numbering = Numbering::of(pools)?;
+    Ok(rank(&numbering, symbol))
 }
 
 // How many symbols of its kind are less.
@@ -68,33 +74,41 @@ fn kind_of(pool: &str) -> Option<SymbolKind> {
 
 // A symbol in words.
 fn shown(alloc: Global, symbol: &Symbol) -> Result<String, AllocError> {
-    let mut words = String::new(alloc);
-    match symbol {
-        Symbol::Text(name) | Symbol::Typ(name) => push_name(&mut words, name)?,
-        Symbol::Proto(proto) => push_proto(&mut words, proto)?,
-        Symbol::Field(field) => {
-            push_name(&mut words, &field.class)?;
-            words.push_str("->")?;
-            push_name(&mut words, &field.name)?;
-            words.push_str(":")?;
-            push_name(&mut words, &field.typ)?;
-        }
-        Symbol::Method(method) => {
-            push_name(&mut words, &method.class)?;
-            words.push_str("->")?;
-            push_name(&mut words, &method.name)?;
-            push_proto(&mut words, &method.proto)?;
-        }
-    }
-    Ok(words)
+    let mut words = Printed::new(alloc);
+    print_symbol(symbol, &mut words);
+    words.finish()
 }
 
-// Appends the parameters in round brackets, and then the return type.
-fn push_proto(words: &mut String, proto: &ProtoSymbol) -> Result<(), AllocError> {
-    words.push_str("(")?;
-    for parameter in &proto.parameters {
-        push_name(words, parameter)?;
+// Prints a symbol.
+fn print_symbol(symbol: &Symbol, out: &mut Printed) {
+    match symbol {
+        Symbol::Text(name) | Symbol::Typ(name) => print_name(name, out),
+        Symbol::Proto(proto) => print_proto(proto, out),
+        Symbol::Field(field) => {
+            print_member(&field.class, &field.name, out);
+            out.add(":");
+            print_name(&field.typ, out);
+        }
+        Symbol::Method(method) => {
+            print_member(&method.class, &method.name, out);
+            print_proto(&method.proto, out);
+        }
     }
-    words.push_str(")")?;
-    push_name(words, &proto.return_type)
+}
+
+// Prints a class, an arrow and the name of a member.
+fn print_member(class: &Name, name: &Name, out: &mut Printed) {
+    print_name(class, out);
+    out.add("->");
+    print_name(name, out);
+}
+
+// Prints the parameters in round brackets, and then the return type.
+fn print_proto(proto: &ProtoSymbol, out: &mut Printed) {
+    out.add("(");
+    for parameter in &proto.parameters {
+        print_name(parameter, out);
+    }
+    out.add(")");
+    print_name(&proto.return_type, out);
 }

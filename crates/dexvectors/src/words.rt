@@ -1,8 +1,8 @@
 //! Bytes and units as words of hexadecimal digits, where no bytes and no units are `-`; and names as words.
 
-use dexcases::CaseFault;
+use dexcases::{CaseFault, Printed};
 use dexstr::Name;
-use std::alloc::{AllocError, Global};
+use std::alloc::Global;
 
 /// The bytes that a word stands for.
 pub fn bytes_in(alloc: Global, word: &str) -> Result<Vec<u8>, CaseFault> {
@@ -25,26 +25,9 @@ pub fn units_in(alloc: Global, word: &str) -> Result<Vec<u16>, CaseFault> {
     Ok(units)
 }
 
-/// The word of some units.
-pub fn word_of(alloc: Global, units: &[u16]) -> Result<String, AllocError> {
-    if units.is_empty() {
-        return String::from_str(alloc, "-");
-    }
-    let mut word = String::new(alloc);
-    for unit in units {
-        write!(word, "{unit:04x}")?;
-    }
-    Ok(word)
-}
-
-/// Appends the text of a name: units that are not printed stand as `\u` and four digits, and `"` and `\` behind a `\`.
-pub fn push_name(words: &mut String, name: &Name) -> Result<(), AllocError> {
+/// Prints the text of a name: units that are not printed stand as `\u` and four digits, and `"` and `\` behind a `\`.
+pub fn print_name(name: &Name, out: &mut Printed) {
     for unit in name.text().units() {
-        match u8::try_from(unit) {
-            Ok(byte @ (b'"' | b'\\')) => write!(words, "\\{}", char::from(byte))?,
-            Ok(byte @ 0x20..=0x7e) => write!(words, "{}", char::from(byte))?,
-            _ => write!(words, "\\u{unit:04x}")?,
-        }
+        out.add_unit(unit);
     }
-    Ok(())
 }

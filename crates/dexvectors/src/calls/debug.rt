@@ -1,12 +1,13 @@
 //! Positions of debug programs: `HEX ok ADDRESS:LINE,ADDRESS:LINE,..`, where no positions are `-`, or `HEX refused
 //! NUMBER`.
 
+use crate::pools::{frame_of, pools_of};
 use crate::words::bytes_in;
-use dexcases::{CaseFault, Outcome, first_word, positions_text};
-use dexcode::{positions, read_debug};
-use dexhead::{Frame, Head, MapEntry, MapList, Rows, Section, set_sums};
-use dexpool::{ItemFault, Pools};
-use std::alloc::Global;
+use dexcases::{CaseFault, Outcome, Printed, first_word};
+use dexcode::{Debug, positions, read_debug};
+use dexhead::{Head, MapEntry, MapList, Rows, Section, set_sums};
+use dexpool::ItemFault;
+use std::alloc::{AllocError, Global};
 
 const HEADER_SIZE: u32 = 112;
 
@@ -18,27 +19,39 @@ const ITEM: u32 = HEADER_SIZE + MAP_SIZE;
 /// Runs a line.
 pub fn run(alloc: Global, line: &str) -> Result<Outcome, CaseFault> {
     let (word, right) = first_word(line)?;
-    let item = bytes_in(alloc, word)?;
-    let file = file_of(alloc, &item)?;
-    let Ok(frame) = Frame::open(&file) else {
-        return Ok(Outcome::failed(alloc, "no file")?);
-    };
-    let Ok(pools) = Pools::read(alloc, &frame) else {
-        return Ok(Outcome::failed(alloc, "no pools")?);
-    };
-    let answered = match read_debug(alloc, &frame, &pools, ITEM) {
-        Ok(debug) => {
-            let text = positions_text(alloc, &positions(alloc, &debug)?)?;
-            format!(in alloc; "ok {text}")?
-        }
-        Err(ItemFault::Refused(number)) => format!(in alloc; "refused {number}")?,
-        Err(ItemFault::Memory) => return Err(CaseFault::Memory),
-    };
+    let file = file_of(alloc, word)?;
+    let answered = told_in(alloc, &file)?;
     Ok(Outcome::of(answered, right))
 }
 
+// What is told of the item in a file.
+fn told_in(alloc: Global, file: &[u8]) -> Result<String, CaseFault> {
+    let frame = frame_of(alloc, file)?;
+    let pools = pools_of(alloc, &frame)?;
+    match read_debug(alloc, &frame, &pools, ITEM) {
+        Ok(debug) => Ok(told(alloc, &debug)?),
+        Err(ItemFault::Refused(number)) => Ok(format!(in alloc; "refused {number}")?),
+        Err(ItemFault::Memory) => Err(CaseFault::Memory),
+    }
+}
+
+// The positions of a debug program.
+fn told(alloc: Global, debug: &Debug) -> Result<String, AllocError> {
+    let positions = positions(alloc, debug)?;
+    let mut text = Printed::new(alloc);
+    text.add("ok ");
+    text.add_positions(&positions);
+    text.finish()
+}
+
+// The file of the item that a word spells.
+fn file_of(alloc: Global, word: &str) -> Result<Vec<u8>, CaseFault> {
+    let item = bytes_in(alloc, word)?;
+    file_around(alloc, &item)
+}
+
 // A file without tables, whose data is the map and the item.
-fn file_of(alloc: Global, item: &[u8]) -> Result<Vec<u8>, CaseFault> {
+fn file_around(alloc: Global, item: &[u8]) -> Result<Vec<u8>, CaseFault> {
     let item_size = u32::try_from(item.len()).map_err(|_| CaseFault::Form)?;
     let file_size = item_size.checked_add(ITEM).ok_or(CaseFault::Form)?;
     let head = Head {

@@ -13,21 +13,42 @@ use std::alloc::{AllocError, Global};
 /// Runs a line.
 pub fn run(alloc: Global, line: &str) -> Result<Outcome, CaseFault> {
     let (word, right) = first_word(line)?;
-    let item = item_of(alloc, &units_in(alloc, word)?)?;
-    let Ok((text, _)) = Text::read(&item, 0) else {
-        return Ok(Outcome::failed(alloc, "no text")?);
-    };
-    let mut put = Vec::new(alloc);
-    put_text(&text, &mut put)?;
-    if put.as_slice() != item.as_slice() {
-        return Ok(Outcome::failed(alloc, "another item")?);
-    }
-    let member = u8::from(is_member_name(&text));
-    let answered = match descriptor_kind(&text) {
-        Some(kind) => format!(in alloc; "{kind:?} {member}")?,
-        None => format!(in alloc; "None {member}")?,
-    };
+    let item = item_in(alloc, word)?;
+    let answered = told_of(alloc, &item)?;
     Ok(Outcome::of(answered, right))
+}
+
+// What is told of the text of an item.
+fn told_of(alloc: Global, item: &[u8]) -> Result<String, CaseFault> {
+    let Ok((text, _)) = Text::read(item, 0) else {
+        return Err(CaseFault::failed(alloc, "no text"));
+    };
+    if !is_put_as(alloc, &text, item)? {
+        return Err(CaseFault::failed(alloc, "another item"));
+    }
+    Ok(told(alloc, &text)?)
+}
+
+// Whether a text is put as these bytes.
+fn is_put_as(alloc: Global, text: &Text<'_>, item: &[u8]) -> Result<bool, AllocError> {
+    let mut put = Vec::new(alloc);
+    put_text(text, &mut put)?;
+    Ok(put.as_slice() == item)
+}
+
+// What a text may name.
+fn told(alloc: Global, text: &Text<'_>) -> Result<String, AllocError> {
+    let member = u8::from(is_member_name(text));
+    match descriptor_kind(text) {
+        Some(kind) => format!(in alloc; "{kind:?} {member}"),
+        None => format!(in alloc; "None {member}"),
+    }
+}
+
+// The string_data_item of the text that a word spells.
+fn item_in(alloc: Global, word: &str) -> Result<Vec<u8>, CaseFault> {
+    let units = units_in(alloc, word)?;
+    item_of(alloc, &units)
 }
 
 // The string_data_item of a text of these units.

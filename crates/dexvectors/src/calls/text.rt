@@ -1,22 +1,45 @@
 //! Texts read: `HEX ok USED UNITS`, or `HEX` and a fault. The units are told of a copy that owns them.
 
-use crate::words::{bytes_in, word_of};
-use dexcases::{CaseFault, Outcome, first_word};
+use crate::words::bytes_in;
+use dexcases::{CaseFault, Outcome, Printed, first_word};
 use dexstr::{Name, Text};
-use std::alloc::Global;
+use std::alloc::{AllocError, Global};
 
 /// Runs a line.
 pub fn run(alloc: Global, line: &str) -> Result<Outcome, CaseFault> {
     let (word, right) = first_word(line)?;
     let bytes = bytes_in(alloc, word)?;
-    let answered = match Text::read(&bytes, 0) {
-        Ok((text, used)) => {
-            let copy = Name::of(alloc, &text)?.copy()?;
-            let units: Vec<u16> = copy.text().units().collect(alloc)?;
-            let units = word_of(alloc, &units)?;
-            format!(in alloc; "ok {used} {units}")?
-        }
-        Err(fault) => format!(in alloc; "{fault:?}")?,
-    };
+    let answered = told_of(alloc, &bytes)?;
     Ok(Outcome::of(answered, right))
+}
+
+// What is told of the text at the front of these bytes.
+fn told_of(alloc: Global, bytes: &[u8]) -> Result<String, AllocError> {
+    match Text::read(bytes, 0) {
+        Ok((text, used)) => told(alloc, used, &Name::of(alloc, &text)?),
+        Err(fault) => format!(in alloc; "{fault:?}"),
+    }
+}
+
+// The number of bytes of a text, and the units of a copy of it.
+fn told(alloc: Global, used: usize, name: &Name) -> Result<String, AllocError> {
+    let copy = name.copy()?;
+    let mut words = Printed::new(alloc);
+    words.add("ok ");
+    words.add_shown(&used);
+    words.add(" ");
+    print_units(&copy, &mut words);
+    words.finish()
+}
+
+// Prints the units of a text, each by four digits, or `-` for none.
+fn print_units(name: &Name, out: &mut Printed) {
+    let mut is_empty = true;
+    for unit in name.text().units() {
+        out.add_hex(u64::from(unit), 4);
+        is_empty = false;
+    }
+    if is_empty {
+        out.add("-");
+    }
 }

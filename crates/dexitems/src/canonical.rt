@@ -101,13 +101,10 @@ fn count_statics(alloc: Global, file: &DexFile<'_>, off: u32) -> Result<u32, Cas
     Ok(1)
 }
 
-// The same of a code item and its debug program, if there is one.
+// The same of a code item and its debug program.
 fn count_code(alloc: Global, file: &DexFile<'_>, off: u32) -> Result<u32, CaseFault>
     requires { ArePools file.now.frame file.now.pools }
 {
-    if off == 0 {
-        return Ok(0);
-    }
     let debug_off = number_behind(file.frame.bytes(), off, 8)?;
     stands(alloc, file, Put::Code(debug_off), off, off)?;
     if debug_off == 0 {
@@ -117,37 +114,33 @@ fn count_code(alloc: Global, file: &DexFile<'_>, off: u32) -> Result<u32, CaseFa
     Ok(2)
 }
 
-// The same of a set and its annotations, if there is one.
+// The same of a set and its annotations.
 fn count_set(alloc: Global, file: &DexFile<'_>, off: u32) -> Result<u32, CaseFault>
     requires { ArePools file.now.frame file.now.pools }
 {
-    if off == 0 {
-        return Ok(0);
-    }
     let first = number_behind(file.frame.bytes(), off, 4)?;
     stands(alloc, file, Put::Set(first), off, off)?;
     stands(alloc, file, Put::Annotations, off, first)?;
     Ok(2)
 }
 
-// The same of sets.
+// The same of the sets at these offsets; 0 stands for none.
 fn count_sets(alloc: Global, file: &DexFile<'_>, offs: &[u32]) -> Result<u32, CaseFault>
     requires { ArePools file.now.frame file.now.pools }
 {
     let mut count: u32 = 0;
     for off in offs {
-        count = count.saturating_add(count_set(alloc, file, *off)?);
+        if *off != 0 {
+            count = count.saturating_add(count_set(alloc, file, *off)?);
+        }
     }
     Ok(count)
 }
 
-// The same of the sets in a list, if there is one. The list is no such item.
+// The same of the sets in a list. The list is no such item.
 fn count_list(alloc: Global, file: &DexFile<'_>, off: u32) -> Result<u32, CaseFault>
     requires { ArePools file.now.frame file.now.pools }
 {
-    if off == 0 {
-        return Ok(0);
-    }
     let offs = list_offs(alloc, file.frame.bytes(), off)?;
     count_sets(alloc, file, &offs)
 }
@@ -168,7 +161,7 @@ fn count_class_data(
     count_codes(alloc, file, off, members, &code_offs)
 }
 
-// The same of class data and the code at these offsets.
+// The same of class data and the code at these offsets; 0 stands for none.
 fn count_codes(
     alloc: Global,
     file: &DexFile<'_>,
@@ -181,7 +174,9 @@ fn count_codes(
     class_data_stands(alloc, file, off, members, code_offs)?;
     let mut count: u32 = 1;
     for code_off in code_offs {
-        count = count.saturating_add(count_code(alloc, file, *code_off)?);
+        if *code_off != 0 {
+            count = count.saturating_add(count_code(alloc, file, *code_off)?);
+        }
     }
     Ok(count)
 }
@@ -299,11 +294,13 @@ fn count_annotated(
     requires { ArePools file.now.frame file.now.pools }
 {
     directory_stands(alloc, file, off, members, offs)?;
-    let mut count = count_set(alloc, file, offs.own)?.saturating_add(1);
+    let mut count = count_sets(alloc, file, &[offs.own])?.saturating_add(1);
     count = count.saturating_add(count_sets(alloc, file, &offs.fields)?);
     count = count.saturating_add(count_sets(alloc, file, &offs.methods)?);
     for list in &offs.parameters {
-        count = count.saturating_add(count_list(alloc, file, *list)?);
+        if *list != 0 {
+            count = count.saturating_add(count_list(alloc, file, *list)?);
+        }
     }
     Ok(count)
 }

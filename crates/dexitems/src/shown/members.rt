@@ -32,12 +32,12 @@ fn print_flags(flags: u32, is_method: bool, out: &mut Printed) {
     out.add(" flags=0x");
     out.add_hex(u64::from(flags), 1);
     out.add("(");
-    let mut mark = "";
+    let mut is_first = true;
     for (bit, of_field, of_method) in &FLAGS {
         if flags & *bit != 0 {
-            out.add(mark);
+            out.add(if is_first { "" } else { "," });
             out.add(if is_method { of_method } else { of_field });
-            mark = ",";
+            is_first = false;
         }
     }
     out.add(")");

@@ -23,6 +23,11 @@ fn print_bits(word: &str, bits: u64, digits: usize, out: &mut Printed) {
     out.add_hex(bits, digits);
 }
 
+// Prints what stands before an item of a list: nothing before the first.
+fn print_comma(is_first: bool, out: &mut Printed) {
+    out.add(if is_first { "" } else { ", " });
+}
+
 /// Prints a value.
 #[cycle(printing)]
 pub fn print_value(value: &Value, numbering: &Numbering<'_>, out: &mut Printed) {
@@ -60,11 +65,11 @@ pub fn print_value(value: &Value, numbering: &Numbering<'_>, out: &mut Printed) 
 #[cycle(printing)]
 pub fn print_values(values: &[Value], numbering: &Numbering<'_>, out: &mut Printed) {
     out.add("[");
-    let mut mark = "";
+    let mut is_first = true;
     for value in values {
-        out.add(mark);
+        print_comma(is_first, out);
         print_value(value, numbering, out);
-        mark = ", ";
+        is_first = false;
     }
     out.add("]");
 }
@@ -73,13 +78,13 @@ pub fn print_values(values: &[Value], numbering: &Numbering<'_>, out: &mut Print
 #[cycle(printing)]
 fn print_elements(elements: &[Element], numbering: &Numbering<'_>, out: &mut Printed) {
     out.add("(");
-    let mut mark = "";
+    let mut is_first = true;
     for element in elements {
-        out.add(mark);
+        print_comma(is_first, out);
         print_string(numbering, element.name as usize, out);
         out.add(" = ");
         print_value(&element.value, numbering, out);
-        mark = ", ";
+        is_first = false;
     }
     out.add(")");
 }

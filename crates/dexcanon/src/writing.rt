@@ -97,7 +97,7 @@ pub fn write_to<W: Sink>(
     write_contents(alloc, &contents, out)
 }
 
-// Writes the file of its contents, as `write_to` says.
+// Writes the file of its contents, as `write_to` says: a short one is made once, a longer one twice.
 fn write_contents<W: Sink>(
     alloc: Global,
     contents: &Contents<'_, '_, '_, '_>,
@@ -110,40 +110,10 @@ fn write_contents<W: Sink>(
     ensures device { IsErrOf result Io ↔ (W.has_failed out.new ≡ true) }
 {
     if contents.layout.len() as usize <= PIECE {
-        return write_short(alloc, contents, out);
+        let file = whole_file(alloc, contents)?;
+        write_whole(out, &file)?;
+        return Ok(());
     }
-    write_long(alloc, contents, out)
-}
-
-// Writes the file of its contents, as `write_to` says, which is made once.
-fn write_short<W: Sink>(
-    alloc: Global,
-    contents: &Contents<'_, '_, '_, '_>,
-    out: &mut W,
-) -> Result<(), StoreFault>
-    requires ready { CanBeMade contents.now }
-    requires works { W.has_failed out.old ≡ false }
-    ensures written { OnOk result (W.tells out.old → W.taken out.new ≡ W.taken out.old ++ with_sums (unsigned_file (ordered_in contents.now))) }
-    ensures left { IfErr result (HasLeft (W.tells out.old) out.old out.new W.taken (with_sums (unsigned_file (ordered_in contents.now)))) }
-    ensures device { IsErrOf result Io ↔ (W.has_failed out.new ≡ true) }
-{
-    let file = whole_file(alloc, contents)?;
-    write_whole(out, &file)?;
-    Ok(())
-}
-
-// Writes the file of its contents, as `write_to` says, which is made twice.
-fn write_long<W: Sink>(
-    alloc: Global,
-    contents: &Contents<'_, '_, '_, '_>,
-    out: &mut W,
-) -> Result<(), StoreFault>
-    requires ready { CanBeMade contents.now }
-    requires works { W.has_failed out.old ≡ false }
-    ensures written { OnOk result (W.tells out.old → W.taken out.new ≡ W.taken out.old ++ with_sums (unsigned_file (ordered_in contents.now))) }
-    ensures left { IfErr result (HasLeft (W.tells out.old) out.old out.new W.taken (with_sums (unsigned_file (ordered_in contents.now)))) }
-    ensures device { IsErrOf result Io ↔ (W.has_failed out.new ≡ true) }
-{
     let mut gathered = Vec::with_capacity(alloc, contents.limit.max(PIECE))?;
     let head = sealed_head(contents, &mut gathered);
     put_file::<W, Writes>(&head, 0, contents, &mut gathered, out)

@@ -1,7 +1,7 @@
 use Rattle.std.proofs.Common.{◌≡◌, ◌++◌, subst, OnOk, IfErr}
 use Rattle.dexcanon.specs.Written.{HasLeft}
 use Rattle.dexcanon.proofs.WithRoom.{written_all, written_front, told_failed}
-use Rattle.dexcanon.proofs.writing.write_long.Goals as goal
+use Rattle.dexcanon.proofs.writing.write_contents.Goals as goal
 
 pub returns-clause-written : goal.returns-clause-written
 returns-clause-written g c =

@@ -1,6 +1,6 @@
 -- How far a loop has come that writes aligned items.
 use Rattle.std.proofs.Common.{◌≡◌, ℕ, ◌+◌, ◌<◌, ◌≤◌, List, [], ◌∷◌, ◌++◌, Bool, false, length, get_or, map, drop, refl, sym, ap, subst, ◌∙◌, arith, Result, Ok, Err, IsErr, IsErrAnd}
-use Rattle.std.specs.Prelude.{All, IfOk}
+use Rattle.std.specs.Prelude.{All}
 use Rattle.std.specs.Global.{Vec}
 use Rattle.std.proofs.lemmas.List.{drop_more, drop_all, length-map, get_or-map}
 use Rattle.std.proofs.lemmas.List.Elements.{All-nil, All-cons, All-head, All-tail}
@@ -8,8 +8,8 @@ use Rattle.dexspec.specs.Bytes.{round_up, padding}
 use Rattle.dexspec.specs.Placing.{bytes_from, end_from}
 use Rattle.dexspec.proofs.Places.{end_from_le, end_append}
 use Rattle.dexcanon.specs.declared.faults.StoreFault.{StoreFault}
-use Rattle.dexcanon.specs.Taking.{Adds, Outcome, AreWithin}
-use Rattle.dexcanon.proofs.Made.{Making, made_none, made_more, made_fault, made_last, made_all}
+use Rattle.dexcanon.specs.Taking.{Adds, Outcome, AreWithin, FitFrom}
+use Rattle.dexcanon.proofs.Made.{Making, made_none, made_more, made_fault, made_all}
 use Rattle.dexcanon.proofs.Rows.{bytes_first, bytes_append, first_ends}
 
 -- A front of the items was added, and the rest is left, from a place on; none of the rest is longer than the limit.
@@ -86,11 +86,11 @@ all_back P (x ∷ xs) ys h = all_back P xs ys (All-tail P x (xs ++ ys) h)
 module _ {S : Type 0} {holds : S → List ℕ → Type 0} {has_failed : S → Bool} {empties : Bool} {limit : ℕ} {s t : S} {v w : Vec ℕ} {align from at : ℕ} {xs left : List (List ℕ)} (front rest : List (List ℕ))
     (h : Aligned holds has_failed empties limit s v t w align from xs at left) (e : left ≡ front ++ rest) where
   -- none of the next items is longer than the limit
-  pub front_short : AreWithin limit front
+  front_short : AreWithin limit front
   front_short = all_front (λ x. length x ≤ limit) front rest (subst (AreWithin limit) e h.short)
 
   -- they end before the last
-  pub front_ends : end_from align at front ≤ end_from align from xs
+  front_ends : end_from align at front ≤ end_from align from xs
   front_ends = subst (λ n. end_from align at front ≤ n) (sym (end_append align at front rest) ∙ ap (end_from align at) (sym e) ∙ h.end_is) (end_from_le align (end_from align at front) rest)
 
   -- they were added, and end at a place
@@ -106,12 +106,7 @@ module _ {S : Type 0} {holds : S → List ℕ → Type 0} {has_failed : S → Bo
       → IsErr r → IsErrAnd r (λ k. k ≡ f) → Outcome holds has_failed empties limit s v u z (bytes_from align from xs) r
   aligned_join_fault o is and = made_fault (bytes_from align (end_from align at front) rest) h.made (ap (bytes_from align at) e ∙ bytes_append align at front rest) o is and
 
--- what is left is added at once
-pub aligned_last : {S T : Type 0} {holds : S → List ℕ → Type 0} {has_failed : S → Bool} {empties : Bool} {limit : ℕ} {s t u : S} {v w z : Vec ℕ} {align from at : ℕ} {xs left : List (List ℕ)} {r : Result T StoreFault}
-    → Aligned holds has_failed empties limit s v t w align from xs at left → Outcome holds has_failed empties limit t w u z (bytes_from align at left) r → Outcome holds has_failed empties limit s v u z (bytes_from align from xs) r
-aligned_last h o = made_last h.made refl o
-
--- an answer where the items that are left end is one where all end
-pub ends_as : (r : Result ℕ StoreFault) (m n : ℕ) → m ≡ n → IfOk r (λ end. end ≡ m) → IfOk r (λ end. end ≡ n)
-ends_as (Ok end) m n e h = h ∙ e
-ends_as (Err f) m n e h = tt
+-- they fit where all do
+pub front_fit : {S : Type 0} {holds : S → List ℕ → Type 0} {has_failed : S → Bool} {empties : Bool} {limit : ℕ} {s t : S} {v w : Vec ℕ} {from at : ℕ} {xs left : List (List ℕ)} (front rest : List (List ℕ))
+    → Aligned holds has_failed empties limit s v t w 4 from xs at left → left ≡ front ++ rest → FitFrom limit from xs → FitFrom limit at front
+front_fit front rest h e fit = record { least = fit.least; within = front_short front rest h e; ends = omega (arith, front_ends front rest h e, fit.ends) }

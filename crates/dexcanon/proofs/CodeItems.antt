@@ -1,5 +1,5 @@
 -- The code of methods, method by method.
-use Rattle.std.proofs.Common.{◌≡◌, ℕ, ◌+◌, ◌<◌, List, ◌∷◌, ◌++◌, length, get_or, map, take, drop, Option, Some, None, ap, sym, ◌∙◌, arith}
+use Rattle.std.proofs.Common.{◌≡◌, ℕ, ◌+◌, ◌<◌, List, ◌∷◌, ◌++◌, length, get_or, map, take, drop, Option, Some, None, ap, sym, ◌∙◌, arith, append_assoc}
 use Rattle.std.specs.Option.{option_map, option_map_or}
 use Rattle.std.proofs.lemmas.List.{drop_more, length-append, length-drop, get_or-map, get_or_default, length-map, map-append}
 use Rattle.dexspec.specs.Lists.{present, zip_with}
@@ -51,7 +51,7 @@ module _ (m : Mentions) (xs : List NumberedMethod) (offs : List ℕ) where
 
 -- ---- methods of lists that are joined
 
-pub codes_append : (m : Mentions) (xs ys : List NumberedMethod) (offs : List ℕ) → method_codes m (xs ++ ys) offs ≡ method_codes m xs (take (length xs) offs) ++ method_codes m ys (drop (length xs) offs)
+codes_append : (m : Mentions) (xs ys : List NumberedMethod) (offs : List ℕ) → method_codes m (xs ++ ys) offs ≡ method_codes m xs (take (length xs) offs) ++ method_codes m ys (drop (length xs) offs)
 codes_append m xs ys offs =
     let ms = map (method_in m) xs in
     let ns = map (method_in m) ys in
@@ -62,25 +62,23 @@ codes_append m xs ys offs =
     ∙ ap (map (code_item m)) (present-append (zip_with code_use ms (take (length xs) offs)) (zip_with code_use ns (drop (length xs) offs)))
     ∙ map-append (code_item m) (present (zip_with code_use ms (take (length xs) offs))) (present (zip_with code_use ns (drop (length xs) offs)))
 
--- those of what a class declares
-pub member_codes : (m : Mentions) (x : NumberedMembers) (ds vs : List NumberedMethod) (offs own others : List ℕ) → ds ≡ x.direct_methods → vs ≡ x.virtual_methods → own ≡ take (length ds) offs → others ≡ drop (length ds) offs
-    → method_codes m (methods_of x) offs ≡ method_codes m ds own ++ method_codes m vs others
-member_codes m x ds vs offs own others de ve oe re =
-    ap (λ zs. method_codes m (zs ++ x.virtual_methods) offs) (sym de) ∙ ap (λ zs. method_codes m (ds ++ zs) offs) (sym ve) ∙ codes_append m ds vs offs
-    ∙ ap (λ os. method_codes m ds os ++ method_codes m vs (drop (length ds) offs)) (sym oe) ∙ ap (λ os. method_codes m ds own ++ method_codes m vs os) (sym re)
+-- the code of those in front, and of those behind
+pub codes_split : (m : Mentions) (xs ys : List NumberedMethod) (offs own others : List ℕ) → own ≡ take (length xs) offs → others ≡ drop (length xs) offs
+    → method_codes m (xs ++ ys) offs ≡ method_codes m xs own ++ method_codes m ys others
+codes_split m xs ys offs own others front back = codes_append m xs ys offs ∙ (λ i. method_codes m xs (sym front i) ++ method_codes m ys (sym back i))
 
-module _ (cs : List NumberedClass) (rest own others : List ℕ) (r n : ℕ) (c : NumberedClass) (x : NumberedMembers) (lt : r < length cs) (is : c ≡ get_or cs r c) (members : x ≡ c.members) (count : n ≡ length (methods_of x)) where
+-- ---- the methods of the next class
+
+module _ (cs : List NumberedClass) (r : ℕ) (c : NumberedClass) (x : NumberedMembers) (lt : r < length cs) (is : c ≡ get_or cs r c) (members : x ≡ c.members) where
   next_class : class_methods (drop r cs) ≡ methods_of x ++ class_methods (drop (r + 1) cs)
   next_class = ap class_methods (drop_more cs r c lt ∙ ap (λ y. y ∷ drop (r + 1) cs) (sym is)) ∙ ap (λ z. methods_of z ++ class_methods (drop (r + 1) cs)) (sym members)
 
-  -- those of the next class
-  pub class_codes : (m : Mentions) → own ≡ take n rest → others ≡ drop n rest → method_codes m (class_methods (drop r cs)) rest ≡ method_codes m (methods_of x) own ++ method_codes m (class_methods (drop (r + 1) cs)) others
-  class_codes m oe re =
-      let C = class_methods (drop (r + 1) cs) in
-      ap (λ zs. method_codes m zs rest) next_class ∙ codes_append m (methods_of x) C rest
-      ∙ ap (λ os. method_codes m (methods_of x) os ++ method_codes m C (drop (length (methods_of x)) rest)) (sym (oe ∙ ap (λ k. take k rest) count))
-      ∙ ap (λ os. method_codes m (methods_of x) own ++ method_codes m C os) (sym (re ∙ ap (λ k. drop k rest) count))
-
   -- as many offsets are left as methods
-  pub class_rest : others ≡ drop n rest → length rest ≡ length (class_methods (drop r cs)) → length others ≡ length (class_methods (drop (r + 1) cs))
-  class_rest re same = omega (arith, ap (λ (os : List ℕ). length os) re, length-drop n rest, same, ap (λ (zs : List NumberedMethod). length zs) next_class, length-append (methods_of x) (class_methods (drop (r + 1) cs)), count)
+  pub class_rest : (n : ℕ) (rest others : List ℕ) → n ≡ length (methods_of x) → others ≡ drop n rest → length rest ≡ length (class_methods (drop r cs)) → length others ≡ length (class_methods (drop (r + 1) cs))
+  class_rest n rest others count back same = omega (arith, ap (λ (os : List ℕ). length os) back, length-drop n rest, same, ap (λ (zs : List NumberedMethod). length zs) next_class, length-append (methods_of x) (class_methods (drop (r + 1) cs)), count)
+
+  -- the direct ones come first
+  pub direct_first : (ds vs : List NumberedMethod) → ds ≡ x.direct_methods → vs ≡ x.virtual_methods → class_methods (drop r cs) ≡ ds ++ (vs ++ class_methods (drop (r + 1) cs))
+  direct_first ds vs de ve =
+      let behind = class_methods (drop (r + 1) cs) in
+      next_class ∙ (λ i. (sym de i ++ sym ve i) ++ behind) ∙ append_assoc ds vs behind

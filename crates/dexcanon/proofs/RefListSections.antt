@@ -1,5 +1,5 @@
 -- The lists of sets of parameters, of a file that is laid out.
-use Rattle.std.proofs.Common.{◌≡◌, ℕ, ◌+◌, ◌≤◌, List, [], ◌∷◌, ◌++◌, length, map, take, drop, refl, sym, ap, ◌∙◌, arith}
+use Rattle.std.proofs.Common.{◌≡◌, ℕ, ◌+◌, ◌≤◌, List, [], ◌∷◌, ◌++◌, length, map, take, drop, refl, sym, ap, subst, ◌∙◌, arith}
 use Rattle.std.specs.List.{flat_map}
 use Rattle.std.proofs.lemmas.List.{length-append, length-drop, length-map, length-take, map-append}
 use Rattle.std.proofs.lemmas.Grind.{flat_map-append}
@@ -8,18 +8,20 @@ use Rattle.std.proofs.lemmas.Simd.{map-map}
 use Rattle.dexspec.specs.Lists.{chunks, present, zip_with}
 use Rattle.dexspec.specs.Classes.{Definition, MethodDef, declared_fields, declared_methods}
 use Rattle.dexspec.specs.Mentions.{Mentions}
-use Rattle.dexspec.specs.Placing.{Ordered, SetOffsets, set_offsets_of, class_sets, method_sets, set_uses, uses_offsets, offsets, unless_empty}
+use Rattle.dexspec.specs.Placing.{Ordered, SetOffsets, set_offsets_of, class_sets, method_sets, set_uses, uses_offsets, offsets, unless_empty, bytes_from, section_bytes}
 use Rattle.dexspec.specs.Sameness.{same_set}
 use Rattle.dexspec.specs.Spellings.{offsets_bytes}
-use Rattle.dexspec.specs.Canonical.{set_items, set_section, set_offsets, ref_list_section}
+use Rattle.dexspec.specs.Canonical.{set_items, set_section, set_offsets, set_end, ref_list_section}
 use Rattle.dexspec.proofs.Placements.{length-items_offsets}
 use Rattle.dexval.specs.Numbered.{set_in}
 use Rattle.dexmembers.specs.Numbered.{NumberedMethod, method_in, methods_of}
 use Rattle.dexclass.specs.Numbered.{NumberedClass, definition_of}
-use Rattle.dexlayout.specs.Places.{Places}
+use Rattle.dexlayout.specs.Places.{Places, SetPlaces}
 use Rattle.dexlayout.specs.Laid.{ordered_of}
 use Rattle.dexcanon.specs.Ready.{IsReady}
 use Rattle.dexcanon.specs.RefLists.{class_parameter_counts, parameter_counts, ref_lists, total}
+use Rattle.dexcanon.specs.Taking.{FitFrom}
+use Rattle.dexcanon.proofs.SectionItems.{ref_lists_within, ref_lists_fit}
 use Rattle.dexcanon.proofs.SetSectionItems.{take_front, drop_front}
 
 -- ---- the sets of classes, class by class
@@ -131,13 +133,34 @@ module _ {m : Mentions} {cs : List NumberedClass} {p : Places} {limit : ℕ} (h 
       sym (ap (λ ss. map (λ (l : List ℕ). length l) (lists_of ss)) (set_offsets_are K) ∙ class_lengths K.classes (use_offsets K) (length-use_offsets K) ∙ counts_are m cs)
 
   -- there are enough offsets
-  pub parameters_enough : total (class_parameter_counts cs) ≤ length offs
+  parameters_enough : total (class_parameter_counts cs) ≤ length offs
   parameters_enough =
       omega (arith, ap total counts_lengths, total_lengths (lists_of (set_offsets (ordered_of m cs))), ap (λ (os : List ℕ). length os) offs_are)
 
-  pub ref_list_items_are : ref_lists (class_parameter_counts cs) offs ≡ (ref_list_section (ordered_of m cs)).items
+  ref_list_items_are : ref_lists (class_parameter_counts cs) offs ≡ (ref_list_section (ordered_of m cs)).items
   ref_list_items_are =
       let ss = set_offsets (ordered_of m cs) in
       (λ i. ref_lists (counts_lengths i) (offs_are i))
       ∙ ap (λ ls. map offsets_bytes (present (map unless_empty ls))) (cut_again (lists_of ss))
       ∙ ap (λ us. map offsets_bytes (present us)) (lists_used ss)
+
+-- from the offsets of the layout, and from where the sets end
+module _ {m : Mentions} {cs : List NumberedClass} {p : Places} {limit : ℕ} (h : IsReady m cs p limit) {q : SetPlaces} {offs : List ℕ} {at : ℕ} (sets : q ≡ p.sets) (rest : offs ≡ q.parameters) (start : at ≡ q.end) where
+  laid_items : ref_lists (class_parameter_counts cs) offs ≡ (ref_list_section (ordered_of m cs)).items
+  laid_items = ref_list_items_are h offs (rest ∙ ap (λ (s : SetPlaces). s.parameters) sets)
+
+  laid_start : at ≡ set_end (ordered_of m cs)
+  laid_start = start ∙ ap (λ (s : SetPlaces). s.end) sets ∙ h.laid.sets_are.end_is
+
+  pub laid_lists_enough : total (class_parameter_counts cs) ≤ length offs
+  laid_lists_enough = parameters_enough h offs (rest ∙ ap (λ (s : SetPlaces). s.parameters) sets)
+
+  pub laid_lists_fit : FitFrom limit at (ref_lists (class_parameter_counts cs) offs)
+  laid_lists_fit = subst (λ n. FitFrom limit n (ref_lists (class_parameter_counts cs) offs)) (sym laid_start) (subst (FitFrom limit (set_end (ordered_of m cs))) (sym laid_items) (record {
+    least = h.least;
+    within = ref_lists_within h;
+    ends = ref_lists_fit (ordered_of m cs) h.writable.fits;
+  }))
+
+  pub laid_lists_bytes : bytes_from 4 at (ref_lists (class_parameter_counts cs) offs) ≡ section_bytes (ref_list_section (ordered_of m cs))
+  laid_lists_bytes = λ i. bytes_from 4 (laid_start i) (laid_items i)

@@ -1,6 +1,5 @@
 -- Lists of sets of parameters, list by list.
-use Rattle.std.proofs.Common.{◌≡◌, ℕ, zero, suc, ◌+◌, ◌<◌, ◌≤◌, List, [], ◌∷◌, ◌++◌, Bool, false, ◌==◌, length, get_or, map, take, drop, Result, Ok, Err, IsErr, IsErrAnd, ap, refl, sym, ◌∙◌, arith}
-use Rattle.std.specs.Prelude.{IfOk}
+use Rattle.std.proofs.Common.{◌≡◌, ℕ, zero, suc, ◌+◌, ◌<◌, ◌≤◌, List, [], ◌∷◌, ◌++◌, Bool, false, ◌==◌, length, get_or, map, take, drop, Result, Ok, Err, IsErr, IsErrAnd, ap, refl, sym, ◌∙◌, arith, append_assoc}
 use Rattle.std.specs.Global.{Vec}
 use Rattle.std.proofs.lemmas.List.{drop_more, length-drop, length-map, map-append}
 use Rattle.std.proofs.Math.Seq.{drop-nil}
@@ -12,9 +11,9 @@ use Rattle.dexval.specs.Numbered.{NumberedSet}
 use Rattle.dexmembers.specs.Numbered.{NumberedMethod, NumberedMembers, methods_of}
 use Rattle.dexclass.specs.Numbered.{NumberedClass}
 use Rattle.dexcanon.specs.declared.faults.StoreFault.{StoreFault}
-use Rattle.dexcanon.specs.Taking.{Adds, AreWithin, Outcome}
+use Rattle.dexcanon.specs.Taking.{Adds, AreWithin, FitFrom, Outcome}
 use Rattle.dexcanon.specs.RefLists.{parameter_counts, class_parameter_counts, total, ref_lists}
-use Rattle.dexcanon.proofs.Aligned.{Aligned, aligned_none, aligned_as, aligned_more, front_short, front_ends, aligned_join, aligned_join_fault}
+use Rattle.dexcanon.proofs.Aligned.{Aligned, aligned_none, aligned_as, aligned_more, front_fit, aligned_join, aligned_join_fault}
 
 -- ---- lists of offsets
 
@@ -96,12 +95,9 @@ module _ {S : Type 0} {holds : S → List ℕ → Type 0} {has_failed : S → Bo
     pub next_lists : (os : List ℕ) → os ≡ drop (total ms) rest → ref_lists left rest ≡ ref_lists ms rest ++ ref_lists ns os
     next_lists os back = ap (λ ks. ref_lists ks rest) e ∙ lists_append ms ns rest ∙ ap (λ ks. ref_lists ms rest ++ ref_lists ns ks) (sym back)
 
-    -- are no longer than the limit, end before all, and there are so many offsets for them
-    pub lists_within : AreWithin limit (ref_lists ms rest)
-    lists_within = front_short (ref_lists ms rest) (ref_lists ns (drop (total ms) rest)) h.made (next_lists (drop (total ms) rest) refl)
-
-    pub lists_end : end_from 4 at (ref_lists ms rest) ≤ end_from 4 from (ref_lists all offs)
-    lists_end = front_ends (ref_lists ms rest) (ref_lists ns (drop (total ms) rest)) h.made (next_lists (drop (total ms) rest) refl)
+    -- fit, and there are so many offsets for them
+    pub lists_fit : FitFrom limit from (ref_lists all offs) → FitFrom limit at (ref_lists ms rest)
+    lists_fit fit = front_fit (ref_lists ms rest) (ref_lists ns (drop (total ms) rest)) h.made (next_lists (drop (total ms) rest) refl) fit
 
     pub lists_enough : total ms ≤ length rest
     lists_enough = omega (arith, h.enough, ap total e, total_append ms ns)
@@ -120,11 +116,6 @@ module _ {S : Type 0} {holds : S → List ℕ → Type 0} {has_failed : S → Bo
         → Outcome holds has_failed empties limit s v u z (bytes_from 4 from (ref_lists all offs)) r
     listing_fault o is and = aligned_join_fault (ref_lists ms rest) (ref_lists ns (drop (total ms) rest)) h.made (next_lists (drop (total ms) rest) refl) o is and
 
--- an answer of which something weaker holds
-pub ok_weaker : {T E : Type 0} (P Q : T → Type 0) (r : Result T E) → ((x : T) → P x → Q x) → IfOk r P → IfOk r Q
-ok_weaker P Q (Ok x) f h = f x h
-ok_weaker P Q (Err e) f h = tt
-
 -- ---- methods and classes
 
 -- the counts of the next method, whose sets have been seen, and of those behind it
@@ -138,11 +129,11 @@ pub some_of : (xs : List ℕ) (b : Bool) → b ≡ (length xs == 0) → b ≡ fa
 some_of [] b is none = absurd cc
 some_of (x ∷ xs) b is none = omega arith
 
--- those of what a class declares
-pub member_counts : (x : NumberedMembers) (ds vs : List NumberedMethod) → ds ≡ x.direct_methods → vs ≡ x.virtual_methods → parameter_counts (methods_of x) ≡ parameter_counts ds ++ parameter_counts vs
-member_counts x ds vs de ve = (λ i. parameter_counts (sym de i ++ sym ve i)) ∙ map-append (λ y. length y.parameter_annotations) ds vs
-
--- those of the next class and of those behind it
-pub class_counts : (cs : List NumberedClass) (i : ℕ) (c : NumberedClass) (x : NumberedMembers) → i < length cs → c ≡ get_or cs i c → x ≡ c.members
-    → class_parameter_counts (drop i cs) ≡ parameter_counts (methods_of x) ++ class_parameter_counts (drop (i + 1) cs)
-class_counts cs i c x lt is members = ap class_parameter_counts (drop_more cs i c lt ∙ ap (λ y. y ∷ drop (i + 1) cs) (sym is)) ∙ ap (λ y. parameter_counts (methods_of y) ++ class_parameter_counts (drop (i + 1) cs)) (sym members)
+-- those of the next class, the direct methods first, and of those behind it
+pub class_counts : (cs : List NumberedClass) (i : ℕ) (c : NumberedClass) (x : NumberedMembers) (ds vs : List NumberedMethod) → i < length cs → c ≡ get_or cs i c → x ≡ c.members → ds ≡ x.direct_methods → vs ≡ x.virtual_methods
+    → class_parameter_counts (drop i cs) ≡ parameter_counts ds ++ (parameter_counts vs ++ class_parameter_counts (drop (i + 1) cs))
+class_counts cs i c x ds vs lt is members de ve =
+    let behind = class_parameter_counts (drop (i + 1) cs) in
+    ap class_parameter_counts (drop_more cs i c lt ∙ ap (λ y. y ∷ drop (i + 1) cs) (sym is)) ∙ ap (λ y. parameter_counts (methods_of y) ++ behind) (sym members)
+    ∙ (λ k. parameter_counts (sym de k ++ sym ve k) ++ behind) ∙ ap (λ ns. ns ++ behind) (map-append (λ (y : NumberedMethod). length y.parameter_annotations) ds vs)
+    ∙ append_assoc (parameter_counts ds) (parameter_counts vs) behind

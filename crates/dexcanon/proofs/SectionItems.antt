@@ -1,22 +1,22 @@
 -- The items of each section, of a file that is laid out.
-use Rattle.std.proofs.Common.{◌≡◌, ℕ, ◌≤◌, ◌^◌, List, [], ◌∷◌, ◌++◌, length, map, refl, sym, ap, ◌∙◌, arith}
+use Rattle.std.proofs.Common.{◌≡◌, ℕ, ◌≤◌, ◌^◌, List, [], ◌∷◌, ◌++◌, length, map, refl, sym, ap, subst, ◌∙◌, arith}
 use Rattle.std.proofs.lemmas.List.{length-map, map-append}
 use Rattle.std.proofs.lemmas.Simd.{map-map}
 use Rattle.std.proofs.lemmas.List.Elements.{All-nil, All-cons}
 use Rattle.dexspec.specs.Lists.{present, zip_with}
 use Rattle.dexspec.specs.Mentions.{Mentions}
 use Rattle.dexspec.specs.Classes.{MethodDef}
-use Rattle.dexspec.specs.Placing.{Ordered, Placed, all_methods, values_unless_empty, code_uses, debug_uses, EqualOnce, offsets, end_from}
+use Rattle.dexspec.specs.Placing.{Ordered, Placed, all_methods, values_unless_empty, code_uses, debug_uses, EqualOnce, offsets, end_from, bytes_from, section_bytes}
 use Rattle.dexspec.specs.Sameness.{same_debug}
 use Rattle.dexspec.specs.Canonical.{data_start, debug_end, class_data_end, set_end, ref_list_end, data_sections, type_list_section, annotation_section, array_section, string_section, debug_section, code_section, class_data_section, set_section, ref_list_section, directory_section, debug_offsets, code_offsets}
 use Rattle.dexspec.specs.Spellings.{encoded_array_bytes}
 use Rattle.dexspec.proofs.Placements.{length-uses_offsets, length-items_offsets, length-zip_with, sections_follow}
 use Rattle.dexmembers.specs.Numbered.{method_in, methods_of}
 use Rattle.dexclass.specs.Numbered.{NumberedClass, definition_of}
-use Rattle.dexlayout.specs.Places.{Places}
+use Rattle.dexlayout.specs.Places.{Places, ItemPlaces}
 use Rattle.dexlayout.specs.Laid.{ordered_of, greatest_of, greatest_in, file_end}
 use Rattle.dexlayout.proofs.Ends.{end_in_file}
-use Rattle.dexcanon.specs.Taking.{AreWithin}
+use Rattle.dexcanon.specs.Taking.{AreWithin, FitFrom}
 use Rattle.dexcanon.specs.Ready.{IsReady}
 use Rattle.dexcanon.specs.Codes.{class_methods, method_codes, code_use, code_item}
 use Rattle.dexcanon.specs.ClassItems.{values_use}
@@ -27,73 +27,48 @@ pub all_within : (limit : ℕ) (xs : List (List ℕ)) → greatest_of xs ≤ lim
 all_within limit [] le = All-nil (λ x. length x ≤ limit)
 all_within limit (x ∷ xs) le = All-cons (λ x. length x ≤ limit) x xs (omega (arith, le)) (all_within limit xs (omega (arith, le)))
 
-first_in : (limit : ℕ) (p : Placed) (ps : List Placed) → greatest_in (p ∷ ps) ≤ limit → greatest_of p.items ≤ limit
-first_in limit p ps le = omega (arith, le)
+-- of any of the sections
+abbrev AllWithin : ℕ → List Placed → Type 0
+AllWithin limit [] = Unit {0}
+AllWithin limit (p ∷ ps) = AreWithin limit p.items × AllWithin limit ps
 
-rest_in : (limit : ℕ) (p : Placed) (ps : List Placed) → greatest_in (p ∷ ps) ≤ limit → greatest_in ps ≤ limit
-rest_in limit p ps le = omega (arith, le)
+sections_within : (limit : ℕ) (ps : List Placed) → greatest_in ps ≤ limit → AllWithin limit ps
+sections_within limit [] le = tt
+sections_within limit (p ∷ ps) le = (all_within limit p.items (omega (arith, le)), sections_within limit ps (omega (arith, le)))
 
 module _ {m : Mentions} {cs : List NumberedClass} {p : Places} {limit : ℕ} (h : IsReady m cs p limit) where
-  -- all of the sections
-  sections_0 : greatest_in (data_sections (ordered_of m cs)) ≤ limit
-  sections_0 = omega (arith, h.greatest, h.laid.greatest_is)
+  data_within : AllWithin limit (data_sections (ordered_of m cs))
+  data_within = sections_within limit (data_sections (ordered_of m cs)) (omega (arith, h.greatest, h.laid.greatest_is))
 
   pub type_lists_within : AreWithin limit (type_list_section (ordered_of m cs)).items
-  type_lists_within = all_within limit (type_list_section (ordered_of m cs)).items (first_in limit (type_list_section (ordered_of m cs)) (annotation_section (ordered_of m cs) ∷ array_section (ordered_of m cs) ∷ string_section (ordered_of m cs) ∷ debug_section (ordered_of m cs) ∷ code_section (ordered_of m cs) ∷ class_data_section (ordered_of m cs) ∷ set_section (ordered_of m cs) ∷ ref_list_section (ordered_of m cs) ∷ directory_section (ordered_of m cs) ∷ []) sections_0)
-
-  sections_1 : greatest_in (annotation_section (ordered_of m cs) ∷ array_section (ordered_of m cs) ∷ string_section (ordered_of m cs) ∷ debug_section (ordered_of m cs) ∷ code_section (ordered_of m cs) ∷ class_data_section (ordered_of m cs) ∷ set_section (ordered_of m cs) ∷ ref_list_section (ordered_of m cs) ∷ directory_section (ordered_of m cs) ∷ []) ≤ limit
-  sections_1 = rest_in limit (type_list_section (ordered_of m cs)) (annotation_section (ordered_of m cs) ∷ array_section (ordered_of m cs) ∷ string_section (ordered_of m cs) ∷ debug_section (ordered_of m cs) ∷ code_section (ordered_of m cs) ∷ class_data_section (ordered_of m cs) ∷ set_section (ordered_of m cs) ∷ ref_list_section (ordered_of m cs) ∷ directory_section (ordered_of m cs) ∷ []) sections_0
+  type_lists_within = data_within.0
 
   pub annotations_within : AreWithin limit (annotation_section (ordered_of m cs)).items
-  annotations_within = all_within limit (annotation_section (ordered_of m cs)).items (first_in limit (annotation_section (ordered_of m cs)) (array_section (ordered_of m cs) ∷ string_section (ordered_of m cs) ∷ debug_section (ordered_of m cs) ∷ code_section (ordered_of m cs) ∷ class_data_section (ordered_of m cs) ∷ set_section (ordered_of m cs) ∷ ref_list_section (ordered_of m cs) ∷ directory_section (ordered_of m cs) ∷ []) sections_1)
-
-  sections_2 : greatest_in (array_section (ordered_of m cs) ∷ string_section (ordered_of m cs) ∷ debug_section (ordered_of m cs) ∷ code_section (ordered_of m cs) ∷ class_data_section (ordered_of m cs) ∷ set_section (ordered_of m cs) ∷ ref_list_section (ordered_of m cs) ∷ directory_section (ordered_of m cs) ∷ []) ≤ limit
-  sections_2 = rest_in limit (annotation_section (ordered_of m cs)) (array_section (ordered_of m cs) ∷ string_section (ordered_of m cs) ∷ debug_section (ordered_of m cs) ∷ code_section (ordered_of m cs) ∷ class_data_section (ordered_of m cs) ∷ set_section (ordered_of m cs) ∷ ref_list_section (ordered_of m cs) ∷ directory_section (ordered_of m cs) ∷ []) sections_1
+  annotations_within = data_within.1.0
 
   pub arrays_within : AreWithin limit (array_section (ordered_of m cs)).items
-  arrays_within = all_within limit (array_section (ordered_of m cs)).items (first_in limit (array_section (ordered_of m cs)) (string_section (ordered_of m cs) ∷ debug_section (ordered_of m cs) ∷ code_section (ordered_of m cs) ∷ class_data_section (ordered_of m cs) ∷ set_section (ordered_of m cs) ∷ ref_list_section (ordered_of m cs) ∷ directory_section (ordered_of m cs) ∷ []) sections_2)
-
-  sections_3 : greatest_in (string_section (ordered_of m cs) ∷ debug_section (ordered_of m cs) ∷ code_section (ordered_of m cs) ∷ class_data_section (ordered_of m cs) ∷ set_section (ordered_of m cs) ∷ ref_list_section (ordered_of m cs) ∷ directory_section (ordered_of m cs) ∷ []) ≤ limit
-  sections_3 = rest_in limit (array_section (ordered_of m cs)) (string_section (ordered_of m cs) ∷ debug_section (ordered_of m cs) ∷ code_section (ordered_of m cs) ∷ class_data_section (ordered_of m cs) ∷ set_section (ordered_of m cs) ∷ ref_list_section (ordered_of m cs) ∷ directory_section (ordered_of m cs) ∷ []) sections_2
+  arrays_within = data_within.1.1.0
 
   pub strings_within : AreWithin limit (string_section (ordered_of m cs)).items
-  strings_within = all_within limit (string_section (ordered_of m cs)).items (first_in limit (string_section (ordered_of m cs)) (debug_section (ordered_of m cs) ∷ code_section (ordered_of m cs) ∷ class_data_section (ordered_of m cs) ∷ set_section (ordered_of m cs) ∷ ref_list_section (ordered_of m cs) ∷ directory_section (ordered_of m cs) ∷ []) sections_3)
-
-  sections_4 : greatest_in (debug_section (ordered_of m cs) ∷ code_section (ordered_of m cs) ∷ class_data_section (ordered_of m cs) ∷ set_section (ordered_of m cs) ∷ ref_list_section (ordered_of m cs) ∷ directory_section (ordered_of m cs) ∷ []) ≤ limit
-  sections_4 = rest_in limit (string_section (ordered_of m cs)) (debug_section (ordered_of m cs) ∷ code_section (ordered_of m cs) ∷ class_data_section (ordered_of m cs) ∷ set_section (ordered_of m cs) ∷ ref_list_section (ordered_of m cs) ∷ directory_section (ordered_of m cs) ∷ []) sections_3
+  strings_within = data_within.1.1.1.0
 
   pub debugs_within : AreWithin limit (debug_section (ordered_of m cs)).items
-  debugs_within = all_within limit (debug_section (ordered_of m cs)).items (first_in limit (debug_section (ordered_of m cs)) (code_section (ordered_of m cs) ∷ class_data_section (ordered_of m cs) ∷ set_section (ordered_of m cs) ∷ ref_list_section (ordered_of m cs) ∷ directory_section (ordered_of m cs) ∷ []) sections_4)
-
-  sections_5 : greatest_in (code_section (ordered_of m cs) ∷ class_data_section (ordered_of m cs) ∷ set_section (ordered_of m cs) ∷ ref_list_section (ordered_of m cs) ∷ directory_section (ordered_of m cs) ∷ []) ≤ limit
-  sections_5 = rest_in limit (debug_section (ordered_of m cs)) (code_section (ordered_of m cs) ∷ class_data_section (ordered_of m cs) ∷ set_section (ordered_of m cs) ∷ ref_list_section (ordered_of m cs) ∷ directory_section (ordered_of m cs) ∷ []) sections_4
+  debugs_within = data_within.1.1.1.1.0
 
   pub codes_within : AreWithin limit (code_section (ordered_of m cs)).items
-  codes_within = all_within limit (code_section (ordered_of m cs)).items (first_in limit (code_section (ordered_of m cs)) (class_data_section (ordered_of m cs) ∷ set_section (ordered_of m cs) ∷ ref_list_section (ordered_of m cs) ∷ directory_section (ordered_of m cs) ∷ []) sections_5)
-
-  sections_6 : greatest_in (class_data_section (ordered_of m cs) ∷ set_section (ordered_of m cs) ∷ ref_list_section (ordered_of m cs) ∷ directory_section (ordered_of m cs) ∷ []) ≤ limit
-  sections_6 = rest_in limit (code_section (ordered_of m cs)) (class_data_section (ordered_of m cs) ∷ set_section (ordered_of m cs) ∷ ref_list_section (ordered_of m cs) ∷ directory_section (ordered_of m cs) ∷ []) sections_5
+  codes_within = data_within.1.1.1.1.1.0
 
   pub class_data_within : AreWithin limit (class_data_section (ordered_of m cs)).items
-  class_data_within = all_within limit (class_data_section (ordered_of m cs)).items (first_in limit (class_data_section (ordered_of m cs)) (set_section (ordered_of m cs) ∷ ref_list_section (ordered_of m cs) ∷ directory_section (ordered_of m cs) ∷ []) sections_6)
-
-  sections_7 : greatest_in (set_section (ordered_of m cs) ∷ ref_list_section (ordered_of m cs) ∷ directory_section (ordered_of m cs) ∷ []) ≤ limit
-  sections_7 = rest_in limit (class_data_section (ordered_of m cs)) (set_section (ordered_of m cs) ∷ ref_list_section (ordered_of m cs) ∷ directory_section (ordered_of m cs) ∷ []) sections_6
+  class_data_within = data_within.1.1.1.1.1.1.0
 
   pub sets_within : AreWithin limit (set_section (ordered_of m cs)).items
-  sets_within = all_within limit (set_section (ordered_of m cs)).items (first_in limit (set_section (ordered_of m cs)) (ref_list_section (ordered_of m cs) ∷ directory_section (ordered_of m cs) ∷ []) sections_7)
-
-  sections_8 : greatest_in (ref_list_section (ordered_of m cs) ∷ directory_section (ordered_of m cs) ∷ []) ≤ limit
-  sections_8 = rest_in limit (set_section (ordered_of m cs)) (ref_list_section (ordered_of m cs) ∷ directory_section (ordered_of m cs) ∷ []) sections_7
+  sets_within = data_within.1.1.1.1.1.1.1.0
 
   pub ref_lists_within : AreWithin limit (ref_list_section (ordered_of m cs)).items
-  ref_lists_within = all_within limit (ref_list_section (ordered_of m cs)).items (first_in limit (ref_list_section (ordered_of m cs)) (directory_section (ordered_of m cs) ∷ []) sections_8)
-
-  sections_9 : greatest_in (directory_section (ordered_of m cs) ∷ []) ≤ limit
-  sections_9 = rest_in limit (ref_list_section (ordered_of m cs)) (directory_section (ordered_of m cs) ∷ []) sections_8
+  ref_lists_within = data_within.1.1.1.1.1.1.1.1.0
 
   pub directories_within : AreWithin limit (directory_section (ordered_of m cs)).items
-  directories_within = all_within limit (directory_section (ordered_of m cs)).items (first_in limit (directory_section (ordered_of m cs)) ([]) sections_9)
+  directories_within = data_within.1.1.1.1.1.1.1.1.1.0
 
 -- ---- symbols and numbers
 
@@ -146,3 +121,29 @@ ref_lists_fit K fits = omega (arith, (end_in_file K fits).ref_lists, (sections_f
 
 pub directories_fit : (K : Ordered) → file_end K ≤ 2 ^ 30 → end_from 4 (ref_list_end K) (directory_section K).items ≤ 2 ^ 30
 directories_fit K fits = omega (arith, (end_in_file K fits).directories, (sections_follow K).1.1.1.1.1.1.1.1.1.1)
+
+-- ---- the code of the classes, from the layout's offsets of debug programs
+
+module _ {m : Mentions} {cs : List NumberedClass} {p : Places} {limit : ℕ} (h : IsReady m cs p limit) {q : ItemPlaces} {offs : List ℕ} {at : ℕ} (places : q ≡ p.debugs.places) (offs_are : offs ≡ q.offsets) (at_is : at ≡ q.end) where
+  laid_offsets : offs ≡ debug_offsets (ordered_of m cs)
+  laid_offsets = offs_are ∙ ap (λ (d : ItemPlaces). d.offsets) places ∙ h.laid.debugs_are.places_are.offsets_are
+
+  laid_end : at ≡ debug_end (ordered_of m cs)
+  laid_end = at_is ∙ ap (λ (d : ItemPlaces). d.end) places ∙ h.laid.debugs_are.places_are.end_is
+
+  -- they are the items of the section
+  laid_codes : method_codes m (class_methods cs) offs ≡ (code_section (ordered_of m cs)).items
+  laid_codes = ap (method_codes m (class_methods cs)) laid_offsets ∙ codes_are m cs (debug_offsets (ordered_of m cs))
+
+  pub laid_codes_count : length offs ≡ length (class_methods cs)
+  laid_codes_count = ap (λ (os : List ℕ). length os) laid_offsets ∙ count_debug_offsets m cs
+
+  pub laid_codes_fit : FitFrom limit at (method_codes m (class_methods cs) offs)
+  laid_codes_fit = subst (λ n. FitFrom limit n (method_codes m (class_methods cs) offs)) (sym laid_end) (subst (FitFrom limit (debug_end (ordered_of m cs))) (sym laid_codes) (record {
+    least = h.least;
+    within = codes_within h;
+    ends = codes_fit (ordered_of m cs) h.writable.fits;
+  }))
+
+  pub laid_codes_bytes : bytes_from 4 at (method_codes m (class_methods cs) offs) ≡ section_bytes (code_section (ordered_of m cs))
+  laid_codes_bytes = λ i. bytes_from 4 (laid_end i) (laid_codes i)

@@ -1,6 +1,7 @@
 -- Bytes that gather in a vector, item by item, and are taken into a state when it is full.
-use Rattle.std.specs.Prelude.{◌≡◌, ℕ, ◌≤◌, List, ◌++◌, Bool, true, false, length, take, All, Result, Err, OnOk, vec_capacity}
+use Rattle.std.specs.Prelude.{◌≡◌, ℕ, ◌≤◌, ◌^◌, List, ◌++◌, Bool, true, false, length, take, All, Result, Err, OnOk, vec_capacity}
 use Rattle.std.specs.Global.{Vec}
+use Rattle.dexspec.specs.Placing.{end_from}
 use Rattle.dexcanon.specs.declared.faults.StoreFault.{StoreFault}
 use Rattle.dexcanon.specs.declared.faults.StoreFault.TheVariants.{Memory, Io}
 
@@ -40,3 +41,9 @@ pub record Outcome {S T : Type 0} (holds : S → List ℕ → Type 0) (has_faile
 -- none of the items is longer than the limit
 abbrev pub AreWithin : ℕ → List (List ℕ) → Type 0
 AreWithin limit items = All (λ x. length x ≤ limit) items
+
+-- aligned items fit behind a place: none is longer than the limit, and they end within a file
+pub record FitFrom (limit from : ℕ) (items : List (List ℕ)) : Type 0 where
+  pub least : 112 ≤ limit
+  pub within : AreWithin limit items
+  pub ends : end_from 4 from items ≤ 2 ^ 30

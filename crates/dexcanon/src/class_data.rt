@@ -2,22 +2,23 @@
 //!
 //! Source: the heading "class_data_item" of the Android page "Dalvik Executable format".
 
-ghost use Rattle.std.specs.Prelude.{◌≡◌, false};
+ghost use Rattle.std.specs.Prelude.{◌≡◌, false, length};
 ghost use Rattle.dexspec.specs.Mentions.{Mentions};
 ghost use Rattle.dexspec.specs.Placing.{is_empty_class, section_bytes};
 ghost use Rattle.dexspec.specs.Canonical.{class_data_section};
 ghost use Rattle.dexspec.specs.Spellings.{class_data_bytes};
+ghost use Rattle.dexmembers.specs.Numbered.{methods_of};
 ghost use Rattle.dexclass.specs.Numbered.{definition_of};
 ghost use Rattle.dexcanon.specs.ClassItems.{IsFitClass};
 ghost use Rattle.dexcanon.specs.Ready.{CanBeMade, ordered_in};
 ghost use Rattle.dexcanon.specs.Taking.{Outcome};
 
-use crate::codes::method_count;
 use crate::contents::Contents;
 use crate::faults::StoreFault;
 use crate::items::Item;
 use crate::taking::{Takes, pass};
 use dexclass::Class;
+use dexmembers::Members;
 use dexpool::{Numbering, number_law};
 use std::alloc::AllocError;
 
@@ -44,6 +45,14 @@ impl Item for ClassData<'_, '_, '_> {
         self.numbering.is_numbering();
         self.class.members().put_class_data(self.code_offs, out)
     }
+}
+
+/// The number of the methods that a class declares.
+pub(crate) fn method_count(members: &Members<'_>) -> usize
+    ensures { result ≡ length (methods_of members.now) }
+{
+    members.are_few();
+    members.direct_methods().len() + members.virtual_methods().len()
 }
 
 // Whether a class declares neither fields nor methods.

@@ -2,22 +2,22 @@
 //!
 //! Source: the heading "code_item" of the Android page "Dalvik Executable format".
 
-ghost use Rattle.std.specs.Prelude.{◌≡◌, ◌≤◌, ◌^◌, false, length, All, IfOk};
+ghost use Rattle.std.specs.Prelude.{◌≡◌, ◌≤◌, false, length, All, IfOk};
 ghost use Rattle.dexspec.specs.Spellings.{code_bytes};
 ghost use Rattle.dexspec.specs.Placing.{bytes_from, end_from, section_bytes};
 ghost use Rattle.dexspec.specs.Canonical.{code_section};
 ghost use Rattle.dexcode.specs.Meaning.{code_in};
-ghost use Rattle.dexmembers.specs.Numbered.{AreKnownMembers, IsKnownMethod, methods_of};
+ghost use Rattle.dexmembers.specs.Numbered.{IsKnownMethod};
 ghost use Rattle.dexcanon.specs.Codes.{IsFitCode, method_codes};
 ghost use Rattle.dexcanon.specs.Ready.{CanBeMade, ordered_in};
-ghost use Rattle.dexcanon.specs.Taking.{AreWithin, Outcome};
+ghost use Rattle.dexcanon.specs.Taking.{FitFrom, Outcome};
 
 use crate::contents::Contents;
 use crate::faults::StoreFault;
 use crate::items::Item;
 use crate::taking::{Takes, pass_aligned};
 use dexcode::{Code, code_meaning_law, code_types_law, put_code};
-use dexmembers::{Members, Method};
+use dexmembers::Method;
 use dexpool::Numbering;
 use std::alloc::AllocError;
 
@@ -58,12 +58,10 @@ fn put_method_codes<S, M: Takes<S>>(
     state: &mut S,
 ) -> Result<u32, StoreFault>
     requires works { M.has_failed state.old ≡ false }
-    requires least { 112 ≤ limit }
     requires known { All (IsKnownMethod numbering.now) methods.now }
     requires types { length numbering.now.types ≤ 65536 }
     requires offsets { length debug_offs.now ≡ length methods.now }
-    requires within { AreWithin limit (method_codes numbering.now methods.now debug_offs.now) }
-    requires fits { end_from 4 from (method_codes numbering.now methods.now debug_offs.now) ≤ 2 ^ 30 }
+    requires fit { FitFrom limit from (method_codes numbering.now methods.now debug_offs.now) }
     ensures end { IfOk result (λ end. end ≡ end_from 4 from (method_codes numbering.now methods.now debug_offs.now)) }
     ensures outcome { Outcome M.holds M.has_failed M.empties limit state.old gathered.old state.new gathered.new (bytes_from 4 from (method_codes numbering.now methods.now debug_offs.now)) result }
 {
@@ -84,42 +82,7 @@ fn put_method_codes<S, M: Takes<S>>(
     Ok(at)
 }
 
-// The code of what a class declares, in the same way.
-fn put_member_codes<S, M: Takes<S>>(
-    numbering: &Numbering<'_>,
-    members: &Members<'_>,
-    debug_offs: &[u32],
-    from: u32,
-    limit: usize,
-    gathered: &mut Vec<u8>,
-    state: &mut S,
-) -> Result<u32, StoreFault>
-    requires works { M.has_failed state.old ≡ false }
-    requires least { 112 ≤ limit }
-    requires known { AreKnownMembers numbering.now members.now }
-    requires types { length numbering.now.types ≤ 65536 }
-    requires offsets { length debug_offs.now ≡ length (methods_of members.now) }
-    requires within { AreWithin limit (method_codes numbering.now (methods_of members.now) debug_offs.now) }
-    requires fits { end_from 4 from (method_codes numbering.now (methods_of members.now) debug_offs.now) ≤ 2 ^ 30 }
-    ensures end { IfOk result (λ end. end ≡ end_from 4 from (method_codes numbering.now (methods_of members.now) debug_offs.now)) }
-    ensures outcome { Outcome M.holds M.has_failed M.empties limit state.old gathered.old state.new gathered.new (bytes_from 4 from (method_codes numbering.now (methods_of members.now) debug_offs.now)) result }
-{
-    let direct = members.direct_methods();
-    let others = members.virtual_methods();
-    let (direct_offs, other_offs) = debug_offs.split_at(direct.len());
-    let at = put_method_codes::<S, M>(
-        numbering,
-        direct,
-        direct_offs,
-        from,
-        limit,
-        gathered,
-        state,
-    )?;
-    put_method_codes::<S, M>(numbering, others, other_offs, at, limit, gathered, state)
-}
-
-/// The code of the methods of the classes.
+/// The code of the methods of the classes, the direct ones of each first.
 pub(crate) fn put_codes<S, M: Takes<S>>(
     contents: &Contents<'_, '_, '_, '_>,
     gathered: &mut Vec<u8>,
@@ -130,30 +93,19 @@ pub(crate) fn put_codes<S, M: Takes<S>>(
     ensures { Outcome M.holds M.has_failed M.empties contents.now.limit state.old gathered.old state.new gathered.new (section_bytes (code_section (ordered_in contents.now))) result }
 {
     let numbering = contents.numbering;
+    let limit = contents.limit;
     let places = contents.layout.debugs().places();
     let mut rest = places.offsets();
     let mut at = places.end();
     for class in contents.classes {
         let members = class.members();
-        let (own, others) = rest.split_at(method_count(members));
-        at = put_member_codes::<S, M>(
-            numbering,
-            members,
-            own,
-            at,
-            contents.limit,
-            gathered,
-            state,
-        )?;
+        let direct = members.direct_methods();
+        let virtuals = members.virtual_methods();
+        let (own, others) = rest.split_at(direct.len());
+        at = put_method_codes::<S, M>(numbering, direct, own, at, limit, gathered, state)?;
+        let (own, others) = others.split_at(virtuals.len());
+        at = put_method_codes::<S, M>(numbering, virtuals, own, at, limit, gathered, state)?;
         rest = others;
     }
     Ok(())
-}
-
-/// The number of the methods that a class declares.
-pub(crate) fn method_count(members: &Members<'_>) -> usize
-    ensures { result ≡ length (methods_of members.now) }
-{
-    members.are_few();
-    members.direct_methods().len() + members.virtual_methods().len()
 }

@@ -11,7 +11,7 @@ ghost use Rattle.dexcanon.specs.Directories.{HaveOffsets};
 ghost use Rattle.dexcanon.specs.Ready.{CanBeMade, ordered_in};
 ghost use Rattle.dexcanon.specs.Taking.{Outcome};
 
-use crate::codes::method_count;
+use crate::class_data::method_count;
 use crate::contents::Contents;
 use crate::faults::StoreFault;
 use crate::items::Item;

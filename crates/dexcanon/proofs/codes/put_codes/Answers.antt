@@ -1,47 +1,107 @@
-use Rattle.std.proofs.Common.{◌+◌, drop, arith, ℕ, List, length, subst, sym, ap, ◌∙◌, ◌≤◌}
-use Rattle.dexmembers.specs.Numbered.{methods_of, AreKnownMembers}
-use Rattle.dexcanon.specs.Codes.{class_methods, method_codes}
-use Rattle.std.proofs.lemmas.List.{drop_all}
-use Rattle.dexspec.specs.Placing.{bytes_from, end_from}
-use Rattle.dexspec.specs.Canonical.{debug_end, debug_offsets}
+use Rattle.std.proofs.Common.{◌≡◌, ◌+◌, ◌++◌, List, length, drop, arith, ap, sym, subst, ◌∙◌}
+use Rattle.std.specs.Prelude.{All}
+use Rattle.std.proofs.lemmas.List.{drop_all, length-append}
+use Rattle.dexmembers.specs.Numbered.{AreKnownMembers, IsKnownMethod, NumberedMethod}
 use Rattle.dexclass.specs.Uses.{IsKnownClass}
-use Rattle.dexlayout.specs.Places.{DebugPlaces, ItemPlaces}
-use Rattle.dexlayout.specs.Laid.{ordered_of}
-use Rattle.dexcanon.specs.Taking.{AreWithin}
-use Rattle.dexcanon.proofs.CodeItems.{class_codes, class_rest}
-use Rattle.dexcanon.proofs.Aligned.{aligned_none, front_short, front_ends, aligned_join, aligned_join_fault, aligned_all}
+use Rattle.dexlayout.specs.Places.{DebugPlaces}
+use Rattle.dexcanon.specs.Codes.{class_methods, method_codes}
+use Rattle.dexcanon.proofs.Aligned.{Aligned, aligned_none, front_fit, aligned_join, aligned_join_fault, aligned_all}
+use Rattle.dexcanon.proofs.CodeItems.{codes_split, direct_first}
 use Rattle.dexcanon.proofs.Made.{whole_as}
-use Rattle.dexcanon.proofs.SectionItems.{codes_within, codes_are, codes_fit, count_debug_offsets}
+use Rattle.dexcanon.proofs.SectionItems.{laid_codes_bytes, laid_codes_count, laid_codes_fit}
 use Rattle.dexcanon.proofs.codes.put_codes.Goals as goal
+use Rattle.dexcanon.proofs.codes.put_codes.Goals.{After-virtual_methods-virtuals, After-split_at, After-split_at-in-loop-class, In_ok-at}
 
 pub loop-class-init : goal.loop-class-init
-loop-class-init g c = record {
-  made = aligned_none c.args.state.now c.args.gathered.now 4 c.end-at.result (method_codes c.args.contents.now.numbering.now (class_methods c.args.contents.now.classes.now) c.offsets-rest.result.now) c.requires.works (subst (AreWithin c.args.contents.now.limit) (sym (ap (method_codes c.args.contents.now.numbering.now (class_methods c.args.contents.now.classes.now)) (c.offsets-rest.ensures ∙ ap (λ (p : ItemPlaces). p.offsets) (c.places-places.ensures ∙ ap (λ (d : DebugPlaces). d.places) c.debugs.ensures) ∙ c.requires.ready.laid.debugs_are.places_are.offsets_are) ∙ codes_are c.args.contents.now.numbering.now c.args.contents.now.classes.now (debug_offsets (ordered_of c.args.contents.now.numbering.now c.args.contents.now.classes.now)))) (codes_within c.requires.ready));
-  count = ap (λ (os : List ℕ). length os) (c.offsets-rest.ensures ∙ ap (λ (p : ItemPlaces). p.offsets) (c.places-places.ensures ∙ ap (λ (d : DebugPlaces). d.places) c.debugs.ensures) ∙ c.requires.ready.laid.debugs_are.places_are.offsets_are) ∙ count_debug_offsets c.args.contents.now.numbering.now c.args.contents.now.classes.now;
-}
+loop-class-init g c =
+    let places = c.places-places.ensures ∙ ap (λ (d : DebugPlaces). d.places) c.debugs.ensures in
+    record {
+      made = aligned_none c.args.state.now c.args.gathered.now 4 c.end-at.result (method_codes c.args.contents.now.numbering.now (class_methods c.args.contents.now.classes.now) c.offsets-rest.result.now) c.requires.works (laid_codes_fit c.requires.ready places c.offsets-rest.ensures c.end-at.ensures).within;
+      count = laid_codes_count c.requires.ready places c.offsets-rest.ensures c.end-at.ensures;
+    }
 
-pub put_member_codes-requires-clause-within : goal.put_member_codes-requires-clause-within
-put_member_codes-requires-clause-within g c = front_short (method_codes c.args.contents.now.numbering.now (methods_of c.members-members.result.now) c.split_at.result.0.now) (method_codes c.args.contents.now.numbering.now (class_methods (drop (c.loop-class.class-index + 1) c.args.contents.now.classes.now)) c.split_at.result.1.now) c.loop-class.invariant.made (class_codes c.args.contents.now.classes.now c.loop-class.rest.now c.split_at.result.0.now c.split_at.result.1.now c.loop-class.class-index c.method_count.result c.class-item.result c.members-members.result.now c.loop-class-test.true c.class-item.is c.members-members.ensures c.method_count.ensures c.args.contents.now.numbering.now c.split_at.ensures.front c.split_at.ensures.back)
+-- the methods of the class, the direct ones first, and of those behind it
+methods : (g : _) (c : After-virtual_methods-virtuals g) → class_methods (drop c.loop-class.class-index c.args.contents.now.classes.now) ≡ c.direct_methods-direct.result.now ++ (c.virtual_methods-virtuals.result.now ++ class_methods (drop (c.loop-class.class-index + 1) c.args.contents.now.classes.now))
+methods g c =
+    direct_first c.args.contents.now.classes.now c.loop-class.class-index c.class-item.result c.members-members.result.now c.loop-class-test.true c.class-item.is c.members-members.ensures
+    c.direct_methods-direct.result.now c.virtual_methods-virtuals.result.now c.direct_methods-direct.ensures c.virtual_methods-virtuals.ensures
 
-pub put_member_codes-requires-clause-fits : goal.put_member_codes-requires-clause-fits
-put_member_codes-requires-clause-fits g c = omega (arith, front_ends (method_codes c.args.contents.now.numbering.now (methods_of c.members-members.result.now) c.split_at.result.0.now) (method_codes c.args.contents.now.numbering.now (class_methods (drop (c.loop-class.class-index + 1) c.args.contents.now.classes.now)) c.split_at.result.1.now) c.loop-class.invariant.made (class_codes c.args.contents.now.classes.now c.loop-class.rest.now c.split_at.result.0.now c.split_at.result.1.now c.loop-class.class-index c.method_count.result c.class-item.result c.members-members.result.now c.loop-class-test.true c.class-item.is c.members-members.ensures c.method_count.ensures c.args.contents.now.numbering.now c.split_at.ensures.front c.split_at.ensures.back), subst (λ n. n ≤ 1073741824) (sym (ap (λ n. end_from 4 n (method_codes c.args.contents.now.numbering.now (class_methods c.args.contents.now.classes.now) c.offsets-rest.result.now)) (c.end-at.ensures ∙ ap (λ (p : ItemPlaces). p.end) (c.places-places.ensures ∙ ap (λ (d : DebugPlaces). d.places) c.debugs.ensures) ∙ c.requires.ready.laid.debugs_are.places_are.end_is) ∙ ap (end_from 4 (debug_end (ordered_of c.args.contents.now.numbering.now c.args.contents.now.classes.now))) (ap (method_codes c.args.contents.now.numbering.now (class_methods c.args.contents.now.classes.now)) (c.offsets-rest.ensures ∙ ap (λ (p : ItemPlaces). p.offsets) (c.places-places.ensures ∙ ap (λ (d : DebugPlaces). d.places) c.debugs.ensures) ∙ c.requires.ready.laid.debugs_are.places_are.offsets_are) ∙ codes_are c.args.contents.now.numbering.now c.args.contents.now.classes.now (debug_offsets (ordered_of c.args.contents.now.numbering.now c.args.contents.now.classes.now))))) (codes_fit (ordered_of c.args.contents.now.numbering.now c.args.contents.now.classes.now) c.requires.ready.writable.fits))
+-- there is an offset for each
+count : (g : _) (c : After-virtual_methods-virtuals g) → length c.loop-class.rest.now ≡ length c.direct_methods-direct.result.now + (length c.virtual_methods-virtuals.result.now + length (class_methods (drop (c.loop-class.class-index + 1) c.args.contents.now.classes.now)))
+count g c =
+    omega (
+      arith,
+      c.loop-class.invariant.count,
+      ap (λ (xs : List NumberedMethod). length xs) (methods g c),
+      length-append c.direct_methods-direct.result.now (c.virtual_methods-virtuals.result.now ++ class_methods (drop (c.loop-class.class-index + 1) c.args.contents.now.classes.now)),
+      length-append c.virtual_methods-virtuals.result.now (class_methods (drop (c.loop-class.class-index + 1) c.args.contents.now.classes.now)),
+    )
+
+-- their numbers are those of symbols
+known : (g : _) (c : After-virtual_methods-virtuals g) → AreKnownMembers c.args.contents.now.numbering.now c.members-members.result.now
+known g c =
+    subst (AreKnownMembers c.args.contents.now.numbering.now) (sym c.members-members.ensures) (subst (IsKnownClass c.args.contents.now.numbering.now) (sym c.class-item.is) (c.requires.ready.writable.known c.loop-class.class-index c.class-item.result c.loop-class-test.true)).members_known
+
+-- the code of the direct ones comes first
+direct_codes : (g : _) (c : After-split_at g) → class_methods (drop c.loop-class.class-index c.args.contents.now.classes.now) ≡ c.direct_methods-direct.result.now ++ (c.virtual_methods-virtuals.result.now ++ class_methods (drop (c.loop-class.class-index + 1) c.args.contents.now.classes.now)) → method_codes c.args.contents.now.numbering.now (class_methods (drop c.loop-class.class-index c.args.contents.now.classes.now)) c.loop-class.rest.now ≡ method_codes c.args.contents.now.numbering.now c.direct_methods-direct.result.now c.split_at.result.0.now ++ method_codes c.args.contents.now.numbering.now (c.virtual_methods-virtuals.result.now ++ class_methods (drop (c.loop-class.class-index + 1) c.args.contents.now.classes.now)) c.split_at.result.1.now
+direct_codes g c same =
+    ap (λ xs. method_codes c.args.contents.now.numbering.now xs c.loop-class.rest.now) same ∙ codes_split c.args.contents.now.numbering.now c.direct_methods-direct.result.now (c.virtual_methods-virtuals.result.now ++ class_methods (drop (c.loop-class.class-index + 1) c.args.contents.now.classes.now)) c.loop-class.rest.now c.split_at.result.0.now c.split_at.result.1.now c.split_at.ensures.front c.split_at.ensures.back
+
+-- and then that of the others
+virtual_codes : (g : _) (c : After-split_at-in-loop-class g) → method_codes c.args.contents.now.numbering.now (c.virtual_methods-virtuals.result.now ++ class_methods (drop (c.loop-class.class-index + 1) c.args.contents.now.classes.now)) c.split_at.result.1.now ≡ method_codes c.args.contents.now.numbering.now c.virtual_methods-virtuals.result.now c.split_at-in-loop-class.result.0.now ++ method_codes c.args.contents.now.numbering.now (class_methods (drop (c.loop-class.class-index + 1) c.args.contents.now.classes.now)) c.split_at-in-loop-class.result.1.now
+virtual_codes g c = codes_split c.args.contents.now.numbering.now c.virtual_methods-virtuals.result.now (class_methods (drop (c.loop-class.class-index + 1) c.args.contents.now.classes.now)) c.split_at.result.1.now c.split_at-in-loop-class.result.0.now c.split_at-in-loop-class.result.1.now c.split_at-in-loop-class.ensures.front c.split_at-in-loop-class.ensures.back
+
+-- that of the direct ones was written
+between : (g : _) (c : In_ok-at g) → method_codes c.args.contents.now.numbering.now (class_methods (drop c.loop-class.class-index c.args.contents.now.classes.now)) c.loop-class.rest.now ≡ method_codes c.args.contents.now.numbering.now c.direct_methods-direct.result.now c.split_at.result.0.now ++ method_codes c.args.contents.now.numbering.now (c.virtual_methods-virtuals.result.now ++ class_methods (drop (c.loop-class.class-index + 1) c.args.contents.now.classes.now)) c.split_at.result.1.now
+    → Aligned g.M.Takes.holds g.M.Takes.has_failed g.M.Takes.empties c.args.contents.now.limit c.args.state.now c.args.gathered.now c.put_method_codes.new.state c.put_method_codes.new.gathered 4 c.end-at.result
+    (method_codes c.args.contents.now.numbering.now (class_methods c.args.contents.now.classes.now) c.offsets-rest.result.now) c.in_ok-at.at (method_codes c.args.contents.now.numbering.now (c.virtual_methods-virtuals.result.now ++ class_methods (drop (c.loop-class.class-index + 1) c.args.contents.now.classes.now)) c.split_at.result.1.now)
+between g c next = aligned_join (method_codes c.args.contents.now.numbering.now c.direct_methods-direct.result.now c.split_at.result.0.now) (method_codes c.args.contents.now.numbering.now (c.virtual_methods-virtuals.result.now ++ class_methods (drop (c.loop-class.class-index + 1) c.args.contents.now.classes.now)) c.split_at.result.1.now) c.loop-class.invariant.made next c.in_ok-at.at c.in_ok-at.ensures.end c.in_ok-at.ensures.outcome.ok
+
+pub split_at-requires : goal.split_at-requires
+split_at-requires g c = omega (arith, count g (goal.at.split_at-requires g c).After-virtual_methods-virtuals)
+
+pub put_method_codes-requires-clause-known : goal.put_method_codes-requires-clause-known
+put_method_codes-requires-clause-known g c = subst (All (IsKnownMethod c.args.contents.now.numbering.now)) (sym c.direct_methods-direct.ensures) (known g (goal.at.put_method_codes-requires-clause-known g c).After-virtual_methods-virtuals).direct_methods_known
+
+pub put_method_codes-requires-clause-fit : goal.put_method_codes-requires-clause-fit
+put_method_codes-requires-clause-fit g c =
+    let here = goal.at.put_method_codes-requires-clause-fit g c in
+    front_fit (method_codes c.args.contents.now.numbering.now c.direct_methods-direct.result.now c.split_at.result.0.now) (method_codes c.args.contents.now.numbering.now (c.virtual_methods-virtuals.result.now ++ class_methods (drop (c.loop-class.class-index + 1) c.args.contents.now.classes.now)) c.split_at.result.1.now) c.loop-class.invariant.made (direct_codes g here.After-split_at (methods g here.After-virtual_methods-virtuals)) (laid_codes_fit c.requires.ready (c.places-places.ensures ∙ ap (λ (d : DebugPlaces). d.places) c.debugs.ensures) c.offsets-rest.ensures c.end-at.ensures)
 
 pub returns-in_err-at : goal.returns-in_err-at
 returns-in_err-at g c =
-    whole_as (ap (λ n. bytes_from 4 n (method_codes c.args.contents.now.numbering.now (class_methods c.args.contents.now.classes.now) c.offsets-rest.result.now)) (c.end-at.ensures ∙ ap (λ (p : ItemPlaces). p.end) (c.places-places.ensures ∙ ap (λ (d : DebugPlaces). d.places) c.debugs.ensures) ∙ c.requires.ready.laid.debugs_are.places_are.end_is) ∙ ap (bytes_from 4 (debug_end (ordered_of c.args.contents.now.numbering.now c.args.contents.now.classes.now))) (ap (method_codes c.args.contents.now.numbering.now (class_methods c.args.contents.now.classes.now)) (c.offsets-rest.ensures ∙ ap (λ (p : ItemPlaces). p.offsets) (c.places-places.ensures ∙ ap (λ (d : DebugPlaces). d.places) c.debugs.ensures) ∙ c.requires.ready.laid.debugs_are.places_are.offsets_are) ∙ codes_are c.args.contents.now.numbering.now c.args.contents.now.classes.now (debug_offsets (ordered_of c.args.contents.now.numbering.now c.args.contents.now.classes.now))))
-    (aligned_join_fault (method_codes c.args.contents.now.numbering.now (methods_of c.members-members.result.now) c.split_at.result.0.now) (method_codes c.args.contents.now.numbering.now (class_methods (drop (c.loop-class.class-index + 1) c.args.contents.now.classes.now)) c.split_at.result.1.now) c.loop-class.invariant.made (class_codes c.args.contents.now.classes.now c.loop-class.rest.now c.split_at.result.0.now c.split_at.result.1.now c.loop-class.class-index c.method_count.result c.class-item.result c.members-members.result.now c.loop-class-test.true c.class-item.is c.members-members.ensures c.method_count.ensures c.args.contents.now.numbering.now c.split_at.ensures.front c.split_at.ensures.back) c.in_err-at.ensures.outcome c.from_residual.ensures.0 c.from_residual.ensures.1)
+    let here = goal.at.returns-in_err-at g c in
+    whole_as (laid_codes_bytes c.requires.ready (c.places-places.ensures ∙ ap (λ (d : DebugPlaces). d.places) c.debugs.ensures) c.offsets-rest.ensures c.end-at.ensures)
+    (aligned_join_fault (method_codes c.args.contents.now.numbering.now c.direct_methods-direct.result.now c.split_at.result.0.now) (method_codes c.args.contents.now.numbering.now (c.virtual_methods-virtuals.result.now ++ class_methods (drop (c.loop-class.class-index + 1) c.args.contents.now.classes.now)) c.split_at.result.1.now) c.loop-class.invariant.made (direct_codes g here.After-split_at (methods g here.After-virtual_methods-virtuals)) c.in_err-at.ensures.outcome c.from_residual.ensures.0 c.from_residual.ensures.1)
+
+pub split_at-requires-in-loop-class : goal.split_at-requires-in-loop-class
+split_at-requires-in-loop-class g c =
+    omega (arith, c.split_at.ensures.back_len, count g (goal.at.split_at-requires-in-loop-class g c).After-virtual_methods-virtuals)
+
+pub put_method_codes-requires-in-loop-class-clause-known : goal.put_method_codes-requires-in-loop-class-clause-known
+put_method_codes-requires-in-loop-class-clause-known g c =
+    subst (All (IsKnownMethod c.args.contents.now.numbering.now)) (sym c.virtual_methods-virtuals.ensures) (known g (goal.at.put_method_codes-requires-in-loop-class-clause-known g c).After-virtual_methods-virtuals).virtual_methods_known
+
+pub put_method_codes-requires-in-loop-class-clause-fit : goal.put_method_codes-requires-in-loop-class-clause-fit
+put_method_codes-requires-in-loop-class-clause-fit g c =
+    let here = goal.at.put_method_codes-requires-in-loop-class-clause-fit g c in
+    front_fit (method_codes c.args.contents.now.numbering.now c.virtual_methods-virtuals.result.now c.split_at-in-loop-class.result.0.now) (method_codes c.args.contents.now.numbering.now (class_methods (drop (c.loop-class.class-index + 1) c.args.contents.now.classes.now)) c.split_at-in-loop-class.result.1.now) (between g here.In_ok-at (direct_codes g here.After-split_at (methods g here.After-virtual_methods-virtuals))) (virtual_codes g here.After-split_at-in-loop-class) (laid_codes_fit c.requires.ready (c.places-places.ensures ∙ ap (λ (d : DebugPlaces). d.places) c.debugs.ensures) c.offsets-rest.ensures c.end-at.ensures)
+
+pub returns-in_err-at-2 : goal.returns-in_err-at-2
+returns-in_err-at-2 g c =
+    let here = goal.at.returns-in_err-at-2 g c in
+    whole_as (laid_codes_bytes c.requires.ready (c.places-places.ensures ∙ ap (λ (d : DebugPlaces). d.places) c.debugs.ensures) c.offsets-rest.ensures c.end-at.ensures)
+    (aligned_join_fault (method_codes c.args.contents.now.numbering.now c.virtual_methods-virtuals.result.now c.split_at-in-loop-class.result.0.now) (method_codes c.args.contents.now.numbering.now (class_methods (drop (c.loop-class.class-index + 1) c.args.contents.now.classes.now)) c.split_at-in-loop-class.result.1.now) (between g here.In_ok-at (direct_codes g here.After-split_at (methods g here.After-virtual_methods-virtuals))) (virtual_codes g here.After-split_at-in-loop-class) c.in_err-at-2.ensures.outcome c.from_residual-in_err-at-2.ensures.0 c.from_residual-in_err-at-2.ensures.1)
 
 pub loop-class-preserved : goal.loop-class-preserved
-loop-class-preserved g c = record {
-  made = aligned_join (method_codes c.args.contents.now.numbering.now (methods_of c.members-members.result.now) c.split_at.result.0.now) (method_codes c.args.contents.now.numbering.now (class_methods (drop (c.loop-class.class-index + 1) c.args.contents.now.classes.now)) c.split_at.result.1.now) c.loop-class.invariant.made (class_codes c.args.contents.now.classes.now c.loop-class.rest.now c.split_at.result.0.now c.split_at.result.1.now c.loop-class.class-index c.method_count.result c.class-item.result c.members-members.result.now c.loop-class-test.true c.class-item.is c.members-members.ensures c.method_count.ensures c.args.contents.now.numbering.now c.split_at.ensures.front c.split_at.ensures.back) c.in_ok-at.at c.in_ok-at.ensures.end c.in_ok-at.ensures.outcome.ok;
-  count = class_rest c.args.contents.now.classes.now c.loop-class.rest.now c.split_at.result.0.now c.split_at.result.1.now c.loop-class.class-index c.method_count.result c.class-item.result c.members-members.result.now c.loop-class-test.true c.class-item.is
-      c.members-members.ensures c.method_count.ensures c.split_at.ensures.back c.loop-class.invariant.count;
-}
-
-pub put_member_codes-requires-clause-known : goal.put_member_codes-requires-clause-known
-put_member_codes-requires-clause-known g c = subst (AreKnownMembers c.args.contents.now.numbering.now) (sym c.members-members.ensures) (subst (IsKnownClass c.args.contents.now.numbering.now) (sym c.class-item.is) (c.requires.ready.writable.known c.loop-class.class-index c.class-item.result c.loop-class-test.true)).members_known
+loop-class-preserved g c =
+    let here = goal.at.loop-class-preserved g c in
+    record {
+      made = aligned_join (method_codes c.args.contents.now.numbering.now c.virtual_methods-virtuals.result.now c.split_at-in-loop-class.result.0.now) (method_codes c.args.contents.now.numbering.now (class_methods (drop (c.loop-class.class-index + 1) c.args.contents.now.classes.now)) c.split_at-in-loop-class.result.1.now) (between g here.In_ok-at (direct_codes g here.After-split_at (methods g here.After-virtual_methods-virtuals))) (virtual_codes g here.After-split_at-in-loop-class) c.in_ok-at-2.at c.in_ok-at-2.ensures.end c.in_ok-at-2.ensures.outcome.ok;
+      count = omega (arith, c.split_at-in-loop-class.ensures.back_len, c.split_at.ensures.back_len, count g here.After-virtual_methods-virtuals);
+    }
 
 pub returns : goal.returns
 returns g c =
-    whole_as (ap (λ n. bytes_from 4 n (method_codes c.args.contents.now.numbering.now (class_methods c.args.contents.now.classes.now) c.offsets-rest.result.now)) (c.end-at.ensures ∙ ap (λ (p : ItemPlaces). p.end) (c.places-places.ensures ∙ ap (λ (d : DebugPlaces). d.places) c.debugs.ensures) ∙ c.requires.ready.laid.debugs_are.places_are.end_is) ∙ ap (bytes_from 4 (debug_end (ordered_of c.args.contents.now.numbering.now c.args.contents.now.classes.now))) (ap (method_codes c.args.contents.now.numbering.now (class_methods c.args.contents.now.classes.now)) (c.offsets-rest.ensures ∙ ap (λ (p : ItemPlaces). p.offsets) (c.places-places.ensures ∙ ap (λ (d : DebugPlaces). d.places) c.debugs.ensures) ∙ c.requires.ready.laid.debugs_are.places_are.offsets_are) ∙ codes_are c.args.contents.now.numbering.now c.args.contents.now.classes.now (debug_offsets (ordered_of c.args.contents.now.numbering.now c.args.contents.now.classes.now))))
+    whole_as (laid_codes_bytes c.requires.ready (c.places-places.ensures ∙ ap (λ (d : DebugPlaces). d.places) c.debugs.ensures) c.offsets-rest.ensures c.end-at.ensures)
     (aligned_all c.loop-class.invariant.made (ap (λ cs. method_codes c.args.contents.now.numbering.now (class_methods cs) c.loop-class.rest.now) (drop_all c.loop-class.class-index c.args.contents.now.classes.now c.loop-class-test.false)))

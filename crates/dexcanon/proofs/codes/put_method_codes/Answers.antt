@@ -7,13 +7,13 @@ use Rattle.dexcanon.proofs.Aligned.{aligned_none, aligned_as, next_short, next_e
 use Rattle.dexcanon.proofs.codes.put_method_codes.Goals as goal
 
 pub loop-i-init : goal.loop-i-init
-loop-i-init g c = aligned_none _ _ 4 c.args.from (method_codes c.args.numbering.now c.args.methods.now c.args.debug_offs.now) c.requires.works c.requires.within
+loop-i-init g c = aligned_none _ _ 4 c.args.from (method_codes c.args.numbering.now c.args.methods.now c.args.debug_offs.now) c.requires.works c.requires.fit.within
 
 pub pass_aligned-requires-clause-within : goal.pass_aligned-requires-clause-within
 pass_aligned-requires-clause-within g c = next_short c.loop-i.invariant (code_at_index c.args.numbering.now c.args.methods.now c.args.debug_offs.now c.loop-i.i c.index-methods-i.result c.in-Some.code.now c.loop-i-test.true c.requires.offsets c.index-methods-i.is c.in-Some.ensures)
 
 pub pass_aligned-requires-clause-small : goal.pass_aligned-requires-clause-small
-pass_aligned-requires-clause-small g c = omega (arith, next_ends c.loop-i.invariant (code_at_index c.args.numbering.now c.args.methods.now c.args.debug_offs.now c.loop-i.i c.index-methods-i.result c.in-Some.code.now c.loop-i-test.true c.requires.offsets c.index-methods-i.is c.in-Some.ensures), c.requires.fits)
+pass_aligned-requires-clause-small g c = omega (arith, next_ends c.loop-i.invariant (code_at_index c.args.numbering.now c.args.methods.now c.args.debug_offs.now c.loop-i.i c.index-methods-i.result c.in-Some.code.now c.loop-i-test.true c.requires.offsets c.index-methods-i.is c.in-Some.ensures), c.requires.fit.ends)
 
 pub returns-in_err-at-clause-outcome : goal.returns-in_err-at-clause-outcome
 returns-in_err-at-clause-outcome g c =

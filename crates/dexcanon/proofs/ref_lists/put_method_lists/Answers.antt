@@ -9,7 +9,7 @@ use Rattle.dexcanon.proofs.ref_lists.put_method_lists.Goals as goal
 use Rattle.dexcanon.proofs.ref_lists.put_method_lists.Goals.{After-split_at}
 
 pub loop-method-init : goal.loop-method-init
-loop-method-init g c = listing_none c.args.state.now c.args.gathered.now (parameter_counts c.args.methods.now) c.args.set_offs.now c.args.from c.requires.works c.requires.within c.requires.offsets
+loop-method-init g c = listing_none c.args.state.now c.args.gathered.now (parameter_counts c.args.methods.now) c.args.set_offs.now c.args.from c.requires.works c.requires.fit.within c.requires.offsets
 
 -- the counts of the method and of those behind it
 counts : (g : _) (c : After-split_at g) → parameter_counts (drop c.loop-method.method-index c.args.methods.now) ≡ length c.parameter_annotations.result.now ∷ parameter_counts (drop (c.loop-method.method-index + 1) c.args.methods.now)
@@ -23,7 +23,7 @@ next g c some = next_list c.loop-method.invariant (counts g c) c.split_at.ensure
 pub pass_aligned-requires-clause-fits : goal.pass_aligned-requires-clause-fits
 pass_aligned-requires-clause-fits g c =
     let list = c.split_at.result.0.now in
-    omega (arith, length_offsets list, next_ends c.loop-method.invariant.made (next g (goal.at.pass_aligned-requires-clause-fits g c).After-split_at (some_of list c.is_empty.result c.is_empty.ensures c.if-is_empty.false)), c.requires.fits)
+    omega (arith, length_offsets list, next_ends c.loop-method.invariant.made (next g (goal.at.pass_aligned-requires-clause-fits g c).After-split_at (some_of list c.is_empty.result c.is_empty.ensures c.if-is_empty.false)), c.requires.fit.ends)
 
 pub pass_aligned-requires-clause-within : goal.pass_aligned-requires-clause-within
 pass_aligned-requires-clause-within g c =
@@ -31,7 +31,7 @@ pass_aligned-requires-clause-within g c =
 
 pub pass_aligned-requires-clause-small : goal.pass_aligned-requires-clause-small
 pass_aligned-requires-clause-small g c =
-    omega (arith, next_ends c.loop-method.invariant.made (next g (goal.at.pass_aligned-requires-clause-small g c).After-split_at (some_of c.split_at.result.0.now c.is_empty.result c.is_empty.ensures c.if-is_empty.false)), c.requires.fits)
+    omega (arith, next_ends c.loop-method.invariant.made (next g (goal.at.pass_aligned-requires-clause-small g c).After-split_at (some_of c.split_at.result.0.now c.is_empty.result c.is_empty.ensures c.if-is_empty.false)), c.requires.fit.ends)
 
 pub returns-in_err-at-clause-outcome : goal.returns-in_err-at-clause-outcome
 returns-in_err-at-clause-outcome g c =

@@ -1,5 +1,5 @@
 -- Lists of sets of parameters, list by list.
-use Rattle.std.proofs.Common.{◌≡◌, ℕ, zero, suc, ◌+◌, ◌<◌, ◌≤◌, List, [], ◌∷◌, ◌++◌, Bool, false, ◌==◌, length, get_or, map, take, drop, Result, Ok, Err, IsErr, IsErrAnd, ap, refl, sym, ◌∙◌, arith, append_assoc}
+use Rattle.std.proofs.Common.{◌≡◌, ℕ, zero, suc, ◌+◌, ◌<◌, ◌≤◌, List, [], ◌∷◌, ◌++◌, Bool, false, length, get_or, map, take, drop, Result, Err, IsErr, IsErrAnd, ap, refl, sym, ◌∙◌, arith, append_assoc}
 use Rattle.std.specs.Global.{Vec}
 use Rattle.std.proofs.lemmas.List.{drop_more, length-drop, length-map, map-append}
 use Rattle.std.proofs.Math.Seq.{drop-nil}
@@ -123,11 +123,6 @@ pub method_counts : {Y : Type 0} (g : Y → NumberedSet) (sets : List Y) (xs : L
     → parameter_counts (drop i xs) ≡ length sets ∷ parameter_counts (drop (i + 1) xs)
 method_counts g sets xs i x lt is e =
     ap parameter_counts (drop_more xs i x lt ∙ ap (λ y. y ∷ drop (i + 1) xs) (sym is)) ∙ ap (λ n. n ∷ parameter_counts (drop (i + 1) xs)) (ap (λ (ss : List NumberedSet). length ss) (sym e) ∙ length-map sets g)
-
--- a list that is not empty
-pub some_of : (xs : List ℕ) (b : Bool) → b ≡ (length xs == 0) → b ≡ false → 0 < length xs
-some_of [] b is none = absurd cc
-some_of (x ∷ xs) b is none = omega arith
 
 -- those of the next class, the direct methods first, and of those behind it
 pub class_counts : (cs : List NumberedClass) (i : ℕ) (c : NumberedClass) (x : NumberedMembers) (ds vs : List NumberedMethod) → i < length cs → c ≡ get_or cs i c → x ≡ c.members → ds ≡ x.direct_methods → vs ≡ x.virtual_methods

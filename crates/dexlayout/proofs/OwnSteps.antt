@@ -41,6 +41,9 @@ several_fit align several p xs i x lt is leads =
 pub left_none : {X : Type 0} (align : ℕ) (size : X → Option ℕ) (p : ItemPlaces) (xs : List X) (i : ℕ) → length xs ≤ i → place_uses align p (map size (drop i xs)) ≡ p
 left_none align size p xs i le = ap (λ ys. place_uses align p (map size ys)) (drop_all i xs le)
 
+pub several_none : {X : Type 0} (align : ℕ) (several : X → List (Option ℕ)) (p : ItemPlaces) (xs : List X) (i : ℕ) → length xs ≤ i → place_uses align p (flat_map several (drop i xs)) ≡ p
+several_none align several p xs i le = ap (λ ys. place_uses align p (flat_map several ys)) (drop_all i xs le)
+
 module _ {X : Type 0} (f : X → List ℕ) (align : ℕ) where
   -- how many bytes one has
   abbrev size : X → Option ℕ

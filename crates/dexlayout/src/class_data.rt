@@ -1,13 +1,12 @@
 //! Where class data stand.
 
 ghost use Rattle.std.specs.Prelude.{◌≡◌, ◌+◌, ◌^◌, ◌≤◌, IfOk, OnOk, length};
-ghost use Rattle.std.specs.List.{flat_map};
 ghost use Rattle.dexspec.specs.Mentions.{Mentions};
 ghost use Rattle.dexspec.specs.Canonical.{class_data_end, class_data_offsets, class_data_section, code_end, code_offsets};
 ghost use Rattle.dexmembers.specs.Numbered.{fields_of, methods_of};
 ghost use Rattle.dexlayout.specs.Laid.{AreWritable, StandSo, ordered_of};
-ghost use Rattle.dexlayout.specs.Running.{none_from, place_use, place_uses};
-ghost use Rattle.dexlayout.specs.Sizes.{class_data_size, class_data_sizes};
+ghost use Rattle.dexlayout.specs.Running.{place_use};
+ghost use Rattle.dexlayout.specs.Sizes.{class_data_size};
 
 use crate::offsets::Offsets;
 use dexclass::Class;
@@ -28,21 +27,6 @@ pub(crate) fn place_class_data(
     requires { (m : Mentions) × AreWritable m classes.now × (code_offs.now ≡ code_offsets (ordered_of m classes.now)) × (from ≡ code_end (ordered_of m classes.now)) }
     ensures { IfOk result (λ places. (m : Mentions) → AreWritable m classes.now → code_offs.now ≡ code_offsets (ordered_of m classes.now) → from ≡ code_end (ordered_of m classes.now) → StandSo (class_data_offsets (ordered_of m classes.now)) (class_data_end (ordered_of m classes.now)) (class_data_section (ordered_of m classes.now)).items places) }
 {
-    let places = place_items(alloc, classes, code_offs, from)?;
-    Ok(places)
-}
-
-// Where the class data stand from a place on.
-fn place_items(
-    alloc: Global,
-    classes: &[Class<'_>],
-    code_offs: &[u32],
-    from: u32,
-) -> Result<Offsets, AllocError>
-    requires offsets { length code_offs.now ≡ length (flat_map (λ c. methods_of c.members) classes.now) }
-    requires fits { (place_uses 1 (none_from from) (class_data_sizes classes.now code_offs.now)).end ≤ 2 ^ 30 }
-    ensures { IfOk result (λ places. places ≡ place_uses 1 (none_from from) (class_data_sizes classes.now code_offs.now)) }
-{
     let mut rest = code_offs;
     let mut places = Offsets::starting_at(alloc, from, classes.len())?;
     for class in classes {
@@ -53,16 +37,16 @@ fn place_items(
     Ok(places)
 }
 
-// How many methods there are.
-fn method_count(members: &Members<'_>) -> usize
+/// How many methods a class declares.
+pub(crate) fn method_count(members: &Members<'_>) -> usize
     ensures { result ≡ length (methods_of members.now) }
 {
     members.are_few();
     members.direct_methods().len() + members.virtual_methods().len()
 }
 
-// How many fields there are.
-fn field_count(members: &Members<'_>) -> usize
+/// How many fields a class declares.
+pub(crate) fn field_count(members: &Members<'_>) -> usize
     ensures { result ≡ length (fields_of members.now) }
 {
     members.are_few();

@@ -1,11 +1,10 @@
 //! Where code stands.
 
 ghost use Rattle.std.specs.Prelude.{◌≡◌, ◌^◌, ◌≤◌, IfOk, OnOk, map};
-ghost use Rattle.std.specs.List.{flat_map};
 ghost use Rattle.dexspec.specs.Mentions.{Mentions};
 ghost use Rattle.dexspec.specs.Canonical.{code_end, code_offsets, code_section, debug_end};
 ghost use Rattle.dexlayout.specs.Laid.{AreWritable, StandSo, ordered_of};
-ghost use Rattle.dexlayout.specs.Running.{none_from, place_use, place_uses};
+ghost use Rattle.dexlayout.specs.Running.{place_use, place_uses};
 ghost use Rattle.dexlayout.specs.Sizes.{class_code_sizes, code_size};
 
 use crate::offsets::{Offsets, round_up};
@@ -28,15 +27,6 @@ pub(crate) fn place_codes(
     ensures { IfOk result (λ places. (m : Mentions) → AreWritable m classes.now → from ≡ debug_end (ordered_of m classes.now) → StandSo (code_offsets (ordered_of m classes.now)) (code_end (ordered_of m classes.now)) (code_section (ordered_of m classes.now)).items places) }
 {
     code_bytes_law();
-    let places = place_items(alloc, classes, from)?;
-    Ok(places)
-}
-
-// Where the code of classes stands from a place on.
-fn place_items(alloc: Global, classes: &[Class<'_>], from: u32) -> Result<Offsets, AllocError>
-    requires { (place_uses 4 (none_from from) (flat_map class_code_sizes classes.now)).end ≤ 2 ^ 30 }
-    ensures { IfOk result (λ places. places ≡ place_uses 4 (none_from from) (flat_map class_code_sizes classes.now)) }
-{
     let mut places = Offsets::starting_at(alloc, from, classes.len())?;
     for class in classes {
         place_class(class, &mut places)?;
@@ -51,8 +41,7 @@ fn place_class(class: &Class<'_>, places: &mut Offsets) -> Result<(), AllocError
 {
     let members = class.members();
     place_methods(members.direct_methods(), places)?;
-    place_methods(members.virtual_methods(), places)?;
-    Ok(())
+    place_methods(members.virtual_methods(), places)
 }
 
 // That of methods.

@@ -7,6 +7,7 @@ ghost use Rattle.dexlayout.specs.Directories.{entry_count, directory_size};
 ghost use Rattle.dexlayout.specs.Laid.{AreWritable, AreSets, StandSo, ordered_of};
 ghost use Rattle.dexlayout.specs.Running.{place_use};
 
+use crate::class_data::{field_count, method_count};
 use crate::offsets::{Offsets, round_up};
 use crate::sets::Sets;
 use dexclass::Class;
@@ -66,12 +67,10 @@ pub(crate) fn place_directories(
     let mut places = Offsets::starting_at(alloc, from, classes.len())?;
     for i in 0..classes.len() {
         let members = classes[i].members();
-        members.are_few();
-        let field_count = members.static_fields().len() + members.instance_fields().len();
-        let method_count = members.direct_methods().len() + members.virtual_methods().len();
-        let (field_offs, fields_left) = fields.split_at(field_count);
-        let (method_offs, methods_left) = methods.split_at(method_count);
-        let (list_offs, lists_left) = lists.split_at(method_count);
+        let count = method_count(members);
+        let (field_offs, fields_left) = fields.split_at(field_count(members));
+        let (method_offs, methods_left) = methods.split_at(count);
+        let (list_offs, lists_left) = lists.split_at(count);
         place_directory(
             members,
             own[i],

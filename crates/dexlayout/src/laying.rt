@@ -43,16 +43,7 @@ pub(crate) fn lay<'p>(
     };
     Ok(Layout {
         head,
-        type_lists: data.type_lists,
-        annotations: data.annotations,
-        static_values: data.static_values,
-        strings: data.strings,
-        debugs: data.debugs,
-        code_items: data.codes,
-        class_data: data.class_data,
-        sets: data.sets,
-        ref_lists: data.ref_lists,
-        directories: data.directories,
+        placed: data,
         entries,
         greatest: longest.max(map_size as usize).max(HEADER_SIZE as usize),
     })

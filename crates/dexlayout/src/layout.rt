@@ -10,6 +10,7 @@ ghost use Rattle.dexclass.specs.Numbered.{NumberedClass};
 ghost use Rattle.dexlayout.specs.Laid.{AreWritable, IsLaid, ordered_of};
 
 use crate::annotations::Annotations;
+use crate::data::Data;
 use crate::debugs::DebugPrograms;
 use crate::laying::lay;
 use crate::offsets::Offsets;
@@ -28,16 +29,7 @@ use std::marker::Model;
 #[derive(Drop)]
 pub struct Layout<'p> {
     pub(crate) head: Head,
-    pub(crate) type_lists: TypeLists<'p>,
-    pub(crate) annotations: Annotations<'p>,
-    pub(crate) static_values: Offsets,
-    pub(crate) strings: Offsets,
-    pub(crate) debugs: DebugPrograms<'p>,
-    pub(crate) code_items: Offsets,
-    pub(crate) class_data: Offsets,
-    pub(crate) sets: Sets,
-    pub(crate) ref_lists: Offsets,
-    pub(crate) directories: Offsets,
+    pub(crate) placed: Data<'p>,
     pub(crate) entries: Vec<MapEntry>,
     pub(crate) greatest: usize,
 }
@@ -53,7 +45,7 @@ impl<'p> Model for Layout<'p> {
 
     ghost coded = { Prim.hlevel (codes, elements_code) };
 
-    ghost view = { λ l. record { head = l.head; type_lists = l.type_lists; annotations = l.annotations; static_values = l.static_values; strings = l.strings; debugs = l.debugs; codes = l.code_items; class_data = l.class_data; sets = l.sets; ref_lists = l.ref_lists; directories = l.directories; entries = map entry_meant l.entries.items; greatest = l.greatest } };
+    ghost view = { λ l. record { head = l.head; type_lists = l.placed.type_lists; annotations = l.placed.annotations; static_values = l.placed.static_values; strings = l.placed.strings; debugs = l.placed.debugs; codes = l.placed.codes; class_data = l.placed.class_data; sets = l.placed.sets; ref_lists = l.placed.ref_lists; directories = l.placed.directories; entries = map entry_meant l.entries.items; greatest = l.greatest } };
 }
 
 impl<'p> Layout<'p> {
@@ -91,70 +83,70 @@ impl<'p> Layout<'p> {
     pub fn type_lists(&self) -> &TypeLists<'p>
         ensures { result.now ≡ self.now.type_lists }
     {
-        &self.type_lists
+        &self.placed.type_lists
     }
 
     /// The annotation sets that are written, and where the first annotation of each stands.
     pub fn annotations(&self) -> &Annotations<'p>
         ensures { result.now ≡ self.now.annotations }
     {
-        &self.annotations
+        &self.placed.annotations
     }
 
     /// Where the static values of each class stand.
     pub fn static_values(&self) -> &Offsets
         ensures { result.now ≡ self.now.static_values }
     {
-        &self.static_values
+        &self.placed.static_values
     }
 
     /// Where each text stands.
     pub fn strings(&self) -> &Offsets
         ensures { result.now ≡ self.now.strings }
     {
-        &self.strings
+        &self.placed.strings
     }
 
     /// The debug programs that are written, and where they stand, for each method.
     pub fn debugs(&self) -> &DebugPrograms<'p>
         ensures { result.now ≡ self.now.debugs }
     {
-        &self.debugs
+        &self.placed.debugs
     }
 
     /// Where the code of each method stands.
     pub fn codes(&self) -> &Offsets
         ensures { result.now ≡ self.now.codes }
     {
-        &self.code_items
+        &self.placed.codes
     }
 
     /// Where the class data of each class stand.
     pub fn class_data(&self) -> &Offsets
         ensures { result.now ≡ self.now.class_data }
     {
-        &self.class_data
+        &self.placed.class_data
     }
 
     /// Where the annotation sets stand.
     pub fn sets(&self) -> &Sets
         ensures { result.now ≡ self.now.sets }
     {
-        &self.sets
+        &self.placed.sets
     }
 
     /// Where the list of the sets of the parameters of each method stands.
     pub fn ref_lists(&self) -> &Offsets
         ensures { result.now ≡ self.now.ref_lists }
     {
-        &self.ref_lists
+        &self.placed.ref_lists
     }
 
     /// Where the annotations directory of each class stands; they end where the sections before the map end.
     pub fn directories(&self) -> &Offsets
         ensures { result.now ≡ self.now.directories }
     {
-        &self.directories
+        &self.placed.directories
     }
 
     /// The entries of the map.

@@ -9,6 +9,7 @@ ghost use Rattle.dexlayout.specs.Laid.{AreWritable, AreAnnotations, AreSets, ord
 ghost use Rattle.dexlayout.specs.Running.{none_from, place_uses};
 
 use crate::annotations::Annotations;
+use crate::class_data::field_count;
 use crate::offsets::{Offsets, round_up};
 use crate::sharing::place_shared;
 use dexclass::Class;
@@ -149,10 +150,8 @@ impl Sets {
         ensures left { IfOk result (λ rest. rest.now ≡ drop (length (sets_of_class class.now)) offs.now) }
     {
         let members = class.members();
-        members.are_few();
-        let count = members.static_fields().len() + members.instance_fields().len();
         let (_, rest) = offs.split_at(1);
-        let (fields, rest) = rest.split_at(count);
+        let (fields, rest) = rest.split_at(field_count(members));
         self.gather_own(offs[0], fields)?;
         let rest = self.gather_methods(members.direct_methods(), rest)?;
         self.gather_methods(members.virtual_methods(), rest)

@@ -1,10 +1,10 @@
 //! Where the arrays of static values stand.
 
-ghost use Rattle.std.specs.Prelude.{◌≡◌, ◌^◌, ◌≤◌, IfOk, OnOk, map};
+ghost use Rattle.std.specs.Prelude.{◌≡◌, ◌^◌, ◌≤◌, IfOk, OnOk};
 ghost use Rattle.dexspec.specs.Mentions.{Mentions};
 ghost use Rattle.dexspec.specs.Canonical.{annotation_end, array_end, array_offsets, array_section};
 ghost use Rattle.dexlayout.specs.Laid.{AreWritable, StandSo, ordered_of};
-ghost use Rattle.dexlayout.specs.Running.{none_from, place_use, place_uses};
+ghost use Rattle.dexlayout.specs.Running.{place_use};
 ghost use Rattle.dexlayout.specs.Sizes.{static_size};
 
 use crate::offsets::Offsets;
@@ -24,15 +24,6 @@ pub(crate) fn place_static_values(
 ) -> Result<Offsets, AllocError>
     requires { (m : Mentions) × AreWritable m classes.now × (from ≡ annotation_end (ordered_of m classes.now)) }
     ensures { IfOk result (λ places. (m : Mentions) → AreWritable m classes.now → from ≡ annotation_end (ordered_of m classes.now) → StandSo (array_offsets (ordered_of m classes.now)) (array_end (ordered_of m classes.now)) (array_section (ordered_of m classes.now)).items places) }
-{
-    let places = place_arrays(alloc, classes, from)?;
-    Ok(places)
-}
-
-// Where the arrays stand from a place on.
-fn place_arrays(alloc: Global, classes: &[Class<'_>], from: u32) -> Result<Offsets, AllocError>
-    requires { (place_uses 1 (none_from from) (map static_size classes.now)).end ≤ 2 ^ 30 }
-    ensures { IfOk result (λ places. places ≡ place_uses 1 (none_from from) (map static_size classes.now)) }
 {
     let mut places = Offsets::starting_at(alloc, from, classes.len())?;
     for class in classes {

@@ -1,5 +1,6 @@
 use Rattle.std.proofs.Common.{◌≡◌, ◌++◌, List, map, arith, ap, sym, refl, ◌∙◌}
 use Rattle.std.proofs.lemmas.List.{map-append}
+use Rattle.std.proofs.lemmas.Result.{on_ok_weaker}
 use Rattle.dexmembers.specs.Numbered.{NumberedMethod, NumberedMembers}
 use Rattle.dexlayout.specs.Places.{ItemPlaces}
 use Rattle.dexlayout.specs.Running.{place_uses}
@@ -39,5 +40,6 @@ returns c =
     let x = c.args.class.now.members in
     let ed = c.direct_methods.ensures ∙ ap (λ (y : NumberedMembers). y.direct_methods) c.members-members.ensures in
     let ev = c.virtual_methods.ensures ∙ ap (λ (y : NumberedMembers). y.virtual_methods) c.members-members.ensures in
-    c.in_ok-place_methods-2.ensures ∙ ap (λ q. place_uses 4 q (map code_size c.virtual_methods.result.now)) c.in_ok-place_methods.ensures
-    ∙ two_lists c.args.places.now c.direct_methods.result.now c.virtual_methods.result.now x.direct_methods x.virtual_methods ed ev
+    let both = ap (λ q. place_uses 4 q (map code_size c.virtual_methods.result.now)) c.in_ok-place_methods.ensures
+    ∙ two_lists c.args.places.now c.direct_methods.result.now c.virtual_methods.result.now x.direct_methods x.virtual_methods ed ev in
+    on_ok_weaker c.place_methods-2.result (λ f. f ∙ both) c.place_methods-2.ensures

@@ -1,8 +1,8 @@
 use Rattle.std.proofs.Common.{◌≡◌, ℕ, ◌+◌, ◌^◌, List, length, take, drop, refl, sym, ap, subst, ◌∙◌, arith}
 use Rattle.std.specs.Prelude.{slice_index}
-use Rattle.std.proofs.lemmas.List.{length-append, length-drop, drop_all}
+use Rattle.std.proofs.lemmas.List.{length-drop, drop_all}
 use Rattle.dexspec.specs.Canonical.{ref_list_offsets, ref_list_end, directory_section, directory_offsets, directory_end}
-use Rattle.dexmembers.specs.Numbered.{NumberedField, NumberedMethod, NumberedMembers, fields_of, methods_of}
+use Rattle.dexmembers.specs.Numbered.{NumberedMembers, fields_of, methods_of}
 use Rattle.dexlayout.specs.Directories.{entry_count, directory_size, directory_sizes}
 use Rattle.dexlayout.specs.Laid.{ordered_of, StandSo}
 use Rattle.dexlayout.specs.Places.{ItemPlaces}
@@ -54,10 +54,8 @@ place_directory-requires-clause-fits c =
     let lt = c.loop-i-test.true in
     let is = sym c.index-classes-i.is in
     let members : c.members-members.result.now ≡ x.members = c.members-members.ensures in
-    let field_number : length c.static_fields.result.now + length c.instance_fields.result.now ≡ length (fields_of x.members) =
-    omega (arith, ap (λ (l : List NumberedField). length l) (c.static_fields.ensures ∙ ap (λ (y : NumberedMembers). y.static_fields) members), ap (λ (l : List NumberedField). length l) (c.instance_fields.ensures ∙ ap (λ (y : NumberedMembers). y.instance_fields) members), length-append x.members.static_fields x.members.instance_fields) in
-    let method_number : length c.direct_methods.result.now + length c.virtual_methods.result.now ≡ length (methods_of x.members) =
-    omega (arith, ap (λ (l : List NumberedMethod). length l) (c.direct_methods.ensures ∙ ap (λ (y : NumberedMembers). y.direct_methods) members), ap (λ (l : List NumberedMethod). length l) (c.virtual_methods.ensures ∙ ap (λ (y : NumberedMembers). y.virtual_methods) members), length-append x.members.direct_methods x.members.virtual_methods) in
+    let field_number : c.field_count.result ≡ length (fields_of x.members) = c.field_count.ensures ∙ ap (λ (y : NumberedMembers). length (fields_of y)) members in
+    let method_number : c.method_count-count.result ≡ length (methods_of x.members) = c.method_count-count.ensures ∙ ap (λ (y : NumberedMembers). length (methods_of y)) members in
     let ff = c.split_at.ensures.front ∙ ap (λ k. take k c.loop-i.fields.now) field_number in
     let mf = c.split_at-in-loop-i.ensures.front ∙ ap (λ k. take k c.loop-i.methods.now) method_number in
     let lf = c.split_at-in-loop-i-2.ensures.front ∙ ap (λ k. take k c.loop-i.lists.now) method_number in
@@ -81,10 +79,8 @@ loop-i-preserved c =
     let lt = c.loop-i-test.true in
     let is = sym c.index-classes-i.is in
     let members : c.members-members.result.now ≡ x.members = c.members-members.ensures in
-    let field_number : length c.static_fields.result.now + length c.instance_fields.result.now ≡ length (fields_of x.members) =
-    omega (arith, ap (λ (l : List NumberedField). length l) (c.static_fields.ensures ∙ ap (λ (y : NumberedMembers). y.static_fields) members), ap (λ (l : List NumberedField). length l) (c.instance_fields.ensures ∙ ap (λ (y : NumberedMembers). y.instance_fields) members), length-append x.members.static_fields x.members.instance_fields) in
-    let method_number : length c.direct_methods.result.now + length c.virtual_methods.result.now ≡ length (methods_of x.members) =
-    omega (arith, ap (λ (l : List NumberedMethod). length l) (c.direct_methods.ensures ∙ ap (λ (y : NumberedMembers). y.direct_methods) members), ap (λ (l : List NumberedMethod). length l) (c.virtual_methods.ensures ∙ ap (λ (y : NumberedMembers). y.virtual_methods) members), length-append x.members.direct_methods x.members.virtual_methods) in
+    let field_number : c.field_count.result ≡ length (fields_of x.members) = c.field_count.ensures ∙ ap (λ (y : NumberedMembers). length (fields_of y)) members in
+    let method_number : c.method_count-count.result ≡ length (methods_of x.members) = c.method_count-count.ensures ∙ ap (λ (y : NumberedMembers). length (methods_of y)) members in
     let ff = c.split_at.ensures.front ∙ ap (λ k. take k c.loop-i.fields.now) field_number in
     let mf = c.split_at-in-loop-i.ensures.front ∙ ap (λ k. take k c.loop-i.methods.now) method_number in
     let lf = c.split_at-in-loop-i-2.ensures.front ∙ ap (λ k. take k c.loop-i.lists.now) method_number in

@@ -1,8 +1,7 @@
-use Rattle.std.proofs.Common.{◌≡◌, ℕ, ◌+◌, List, length, take, drop, ap, ◌∙◌, arith, Bor}
-use Rattle.std.proofs.lemmas.List.{length-append}
+use Rattle.std.proofs.Common.{◌≡◌, ℕ, List, length, take, drop, ap, ◌∙◌, Bor}
 use Rattle.std.proofs.lemmas.Result.{on_ok_weaker, IfOk-weaker}
 use Rattle.std.specs.List.{flat_map}
-use Rattle.dexmembers.specs.Numbered.{NumberedField, NumberedMembers, fields_of}
+use Rattle.dexmembers.specs.Numbered.{NumberedMembers, fields_of}
 use Rattle.dexlayout.specs.Gathering.{sets_of_method, sets_of_class}
 use Rattle.dexlayout.proofs.SetsGathered.{gathered_class, left_of_class}
 use Rattle.dexlayout.proofs.sets.Sets.gather_class.Goals as goal
@@ -13,8 +12,7 @@ returns-clause-gathered c =
     let members : c.members-members.result.now ≡ x = c.members-members.ensures in
     let direct : c.direct_methods.result.now ≡ x.direct_methods = c.direct_methods.ensures ∙ ap (λ (y : NumberedMembers). y.direct_methods) members in
     let virtual : c.virtual_methods.result.now ≡ x.virtual_methods = c.virtual_methods.ensures ∙ ap (λ (y : NumberedMembers). y.virtual_methods) members in
-    let count : length c.static_fields.result.now + length c.instance_fields.result.now ≡ length (fields_of x) =
-    omega (arith, ap (λ (l : List NumberedField). length l) (c.static_fields.ensures ∙ ap (λ (y : NumberedMembers). y.static_fields) members), ap (λ (l : List NumberedField). length l) (c.instance_fields.ensures ∙ ap (λ (y : NumberedMembers). y.instance_fields) members), length-append x.static_fields x.instance_fields) in
+    let count : c.field_count.result ≡ length (fields_of x) = c.field_count.ensures ∙ ap (λ (y : NumberedMembers). length (fields_of y)) members in
     let rest : c.split_at-2.result.1.now ≡ drop (length (fields_of x)) (drop 1 c.args.offs.now) = c.split_at-2.ensures.back ∙ (λ i. drop (count i) (c.split_at.ensures.back i)) in
     let fields : c.split_at-2.result.0.now ≡ take (length (fields_of x)) (drop 1 c.args.offs.now) = c.split_at-2.ensures.front ∙ (λ i. take (count i) (c.split_at.ensures.back i)) in
     on_ok_weaker c.gather_methods-2.result
@@ -28,8 +26,7 @@ returns-clause-left c =
     let members : c.members-members.result.now ≡ x = c.members-members.ensures in
     let direct : c.direct_methods.result.now ≡ x.direct_methods = c.direct_methods.ensures ∙ ap (λ (y : NumberedMembers). y.direct_methods) members in
     let virtual : c.virtual_methods.result.now ≡ x.virtual_methods = c.virtual_methods.ensures ∙ ap (λ (y : NumberedMembers). y.virtual_methods) members in
-    let count : length c.static_fields.result.now + length c.instance_fields.result.now ≡ length (fields_of x) =
-    omega (arith, ap (λ (l : List NumberedField). length l) (c.static_fields.ensures ∙ ap (λ (y : NumberedMembers). y.static_fields) members), ap (λ (l : List NumberedField). length l) (c.instance_fields.ensures ∙ ap (λ (y : NumberedMembers). y.instance_fields) members), length-append x.static_fields x.instance_fields) in
+    let count : c.field_count.result ≡ length (fields_of x) = c.field_count.ensures ∙ ap (λ (y : NumberedMembers). length (fields_of y)) members in
     let rest : c.split_at-2.result.1.now ≡ drop (length (fields_of x)) (drop 1 c.args.offs.now) = c.split_at-2.ensures.back ∙ (λ i. drop (count i) (c.split_at.ensures.back i)) in
     IfOk-weaker c.gather_methods-2.result
     (λ (l : Bor (List ℕ)). l.now ≡ drop (length (flat_map sets_of_method c.virtual_methods.result.now)) c.in_ok-rest.rest.now) (λ (l : Bor (List ℕ)). l.now ≡ drop (length (sets_of_class c.args.class.now)) c.args.offs.now)

@@ -1,7 +1,7 @@
 use Rattle.std.proofs.Common.{drop}
 use Rattle.dexlayout.specs.Running.{none_from, place_uses}
 use Rattle.dexlayout.specs.Sizes.{class_data_sizes}
-use Rattle.dexlayout.proofs.class_data.place_items.Given as goal
+use Rattle.dexlayout.proofs.class_data.place_class_data.Given as goal
 use Rattle.dexlayout.proofs.OwnSizes.{DataLeft}
 
 abbrev pub invariant-loop-class : goal.invariant-loop-class

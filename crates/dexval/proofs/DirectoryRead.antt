@@ -15,7 +15,7 @@ use Rattle.dexspec.proofs.Members.{and_first, and_second, and_both}
 use Rattle.dexval.specs.Numbered.{NumberedSet, IsKnownSet, set_in, field_at, method_at}
 use Rattle.dexval.specs.Nesting.{AreFilePools}
 use Rattle.dexval.specs.Items.{NoSetAt, HasOffsets}
-use Rattle.dexval.specs.Directories.{IsSetOrEmptyAt, NoSetOrEmptyAt, IsRefListAt, NoRefListAt, IsIndexBelow, HasPair, ArePairsAt, NoPairsAt, HasMembers, NoDirectoryAt}
+use Rattle.dexval.specs.Directories.{IsKnownAt, IsSetOrEmptyAt, NoSetOrEmptyAt, IsRefListAt, NoRefListAt, IsIndexBelow, HasPair, ArePairsAt, NoPairsAt, HasMembers, NoDirectoryAt}
 use Rattle.dexval.specs.Reading.{IsSetAt, IsDirectoryAt}
 use Rattle.dexval.proofs.SetsRead.{uints_more, zip_more}
 
@@ -35,7 +35,7 @@ no_set b off other none s (inl h) = other h.0
 no_set b off other none s (inr h) = none s h.1
 
 -- a set that stands elsewhere is none that is empty
-pub set_is : (b : List ℕ) (off : ℕ) (m : Mentions) (s : NumberedSet) → off ≢ 0 → IsSetOrEmptyAt b off m s → IsSetAt b off m s
+pub set_is : (b : List ℕ) (off : ℕ) (m : Mentions) (s : NumberedSet) → off ≢ 0 → IsSetOrEmptyAt b off m s → IsKnownAt (IsKnownSet m) (set_in m) (SetAt b off) s
 set_is b off m s other h = record {
   known = h.known;
   at = elim h.at [

@@ -1,45 +1,37 @@
 -- Lists of sets and directories as they are read.
 use Rattle.std.specs.Prelude.{◌≡◌, ◌≢◌, ℕ, ◌+◌, ◌-◌, ◌*◌, ◌^◌, ◌%◌, ◌<◌, ◌≤◌, min, List, [], map, sum_by, All}
-use Rattle.std.specs.Global.{Vec}
 use Rattle.dexspec.specs.Lists.{OrNone}
 use Rattle.dexspec.specs.Bytes.{uint_at}
 use Rattle.dexspec.specs.Sections.{IsInData}
 use Rattle.dexspec.specs.Annotations.{AnnotationSet, Directory, SetAt, RefListAt, PairsAt, DirectoryAt, fields_count, methods_count, parameters_count}
 use Rattle.dexspec.specs.Mentions.{Mentions}
 use Rattle.dexspec.specs.Weight.{set_weight, ref_list_weight}
-use Rattle.dexval.specs.declared.set.AnnotationSet.{AnnotationSet as CodeSet}
-use Rattle.dexval.specs.Code.{set_of}
 use Rattle.dexval.specs.Numbered.{NumberedSet, IsKnownSet, set_in}
 
 -- ---- sets and lists of sets
 
+-- the numbers are those of symbols, and what they stand for stands somewhere
+pub record IsKnownAt {X Y : Type 0} (Known : X → Type 0) (inside : X → Y) (At : Y → Type 0) (x : X) : Type 0 where
+  pub known : Known x
+  pub at : At (inside x)
+
 -- at the offset stands the set that the numbers stand for; at 0 it is empty
-pub record IsSetOrEmptyAt (b : List ℕ) (off : ℕ) (m : Mentions) (s : NumberedSet) : Type 0 where
-  pub known : IsKnownSet m s
-  pub at : OrNone SetAt [] b off (set_in m s)
+abbrev pub IsSetOrEmptyAt : List ℕ → ℕ → Mentions → NumberedSet → Type 0
+IsSetOrEmptyAt b off m = IsKnownAt (IsKnownSet m) (set_in m) (OrNone SetAt [] b off)
 
 -- the offset is not 0, and no set stands there
 abbrev pub NoSetOrEmptyAt : List ℕ → ℕ → Type 0
 NoSetOrEmptyAt b off = (s : AnnotationSet) → OrNone SetAt [] b off s → ⊥
 
 -- at the offset stands an annotation_set_ref_list of the sets that the numbers stand for
-pub record IsRefListAt (b : List ℕ) (off : ℕ) (m : Mentions) (ss : List NumberedSet) : Type 0 where
-  pub known : All (IsKnownSet m) ss
-  pub at : RefListAt b off (map (set_in m) ss)
+abbrev pub IsRefListAt : List ℕ → ℕ → Mentions → List NumberedSet → Type 0
+IsRefListAt b off m = IsKnownAt (All (IsKnownSet m)) (map (set_in m)) (RefListAt b off)
 
 -- none stands there
 abbrev pub NoRefListAt : List ℕ → ℕ → Type 0
 NoRefListAt b off = (ss : List AnnotationSet) → RefListAt b off ss → ⊥
 
 -- ---- members with what belongs to them
-
--- a member of the code, by its number, with its set
-abbrev pub member_set_of : ℕ × CodeSet → ℕ × NumberedSet
-member_set_of e = (e.0, set_of e.1)
-
--- with the sets of its parameters
-abbrev pub member_list_of : ℕ × Vec CodeSet → ℕ × List NumberedSet
-member_list_of e = (e.0, map set_of e.1.items)
 
 -- the number is the index, and below the limit
 pub record IsIndexBelow (limit : ℕ) (b : List ℕ) (index number : ℕ) : Type 0 where

@@ -1,14 +1,15 @@
 //! Directories of annotations read from a file.
 
-ghost use Rattle.std.specs.Prelude.{◌^◌, ◌<◌, ◌≡◌, ◌+◌, ◌*◌, ◌≤◌, All, IfOk, IfErr, OnOk, IfSome, IfNone, MatchOption, length, map, sum_by};
+ghost use Rattle.std.specs.Prelude.{ℕ, List, ◌^◌, ◌<◌, ◌≡◌, ◌≢◌, ◌+◌, ◌*◌, ◌≤◌, All, IfOk, IfErr, OnOk, IfSome, IfNone, MatchOption, length, map, sum_by};
 ghost use Rattle.dexspec.specs.Bytes.{uint_at};
-ghost use Rattle.dexspec.specs.Annotations.{SetAt, RefListAt, fields_count, methods_count, parameters_count};
+ghost use Rattle.dexspec.specs.Annotations.{AnnotationSet as SetMeant, SetAt, RefListAt, fields_count, methods_count, parameters_count};
+ghost use Rattle.dexspec.specs.Mentions.{Mentions};
 ghost use Rattle.dexpool.specs.Pools.{ArePools};
 ghost use Rattle.dexval.specs.Code.{set_of, directory_of};
-ghost use Rattle.dexval.specs.Numbered.{IsKnownSet, set_in, directory_in};
+ghost use Rattle.dexval.specs.Numbered.{NumberedSet, IsKnownSet, set_in, directory_in};
 ghost use Rattle.dexval.specs.Nesting.{AreFilePools};
 ghost use Rattle.dexval.specs.Items.{IsRefusal};
-ghost use Rattle.dexval.specs.Directories.{IsRefListAt, NoRefListAt, HasPair, ArePairsAt, NoPairsAt, HasMembers, member_set_of, member_list_of, directory_weight, set_weight_in, sets_weight_in, IsKept};
+ghost use Rattle.dexval.specs.Directories.{IsKnownAt, IsRefListAt, NoRefListAt, HasPair, ArePairsAt, NoPairsAt, HasMembers, directory_weight, set_weight_in, sets_weight_in, IsKept};
 ghost use Rattle.dexval.specs.Judged.{AreJudged};
 ghost use Rattle.dexval.specs.Reading.{IsDirectoryAt, IsDirectoryFault, IsDirectoryWithin, HasHeavyDirectory};
 
@@ -117,69 +118,106 @@ fn listed_sets_at(
     Ok(sets)
 }
 
-// The sets of the annotation_set_ref_list at an offset, counted. They are whole while the budget lasts. Error: none
-// stands there.
-fn ref_list_at(
-    alloc: Global,
-    frame: &Frame<'_>,
-    pools: &Pools<'_>,
-    off: u32,
-    judged: &mut Judged,
-    budget: &mut Budget,
-) -> Result<Vec<AnnotationSet>, ItemFault>
-    requires judged { AreFilePools frame.now pools.now → AreJudged frame.now pools.now budget.old.most budget.old.weight judged.old }
-    ensures most { budget.new.most ≡ budget.old.most }
-    ensures judged { AreFilePools frame.now pools.now → OnOk result (AreJudged frame.now pools.now budget.new.most budget.new.weight judged.new) }
-    ensures read { AreFilePools frame.now pools.now → IfOk result (λ sets. IsKept (IsRefListAt frame.now off pools.now) (sets_weight_in pools.now) budget.old.most budget.old.weight budget.new.weight (map set_of sets.items)) }
-    ensures refused { AreFilePools frame.now pools.now → IfErr result (IsRefusal (NoRefListAt frame.now off)) }
-{
-    if budget.is_within() {
-        return listed_sets_at(alloc, frame, pools, off, judged, budget);
-    }
-    if judged.lists.contains(&off) {
-        return Ok(Vec::new(alloc));
-    }
-    let sets = listed_sets_at(alloc, frame, pools, off, judged, budget)?;
-    judged.lists.insert(off)?;
-    Ok(sets)
+// What a directory says of a member: a set of annotations, or the sets of its parameters.
+trait OfMember: Drop {
+    // With numbers in the place of symbols.
+    ghost Numbered: { Type 0 };
+
+    // What the numbers stand for.
+    ghost Meant: { Type 0 };
+
+    ghost of: { Self → Numbered };
+
+    ghost is_known: { Mentions → Numbered → Type 0 };
+
+    ghost inside: { Mentions → Numbered → Meant };
+
+    ghost stands: { List ℕ → ℕ → Meant → Type 0 };
+
+    ghost weighs: { Mentions → Numbered → ℕ };
+
+    // What stands at an offset other than 0, counted. It is whole while the budget lasts. Error: nothing stands there.
+    fn counted_at(
+        alloc: Global,
+        frame: &Frame<'_>,
+        pools: &Pools<'_>,
+        off: u32,
+        judged: &mut Judged,
+        budget: &mut Budget,
+    ) -> Result<Self, ItemFault>
+        requires other { off ≢ 0 }
+        requires judged { AreFilePools frame.now pools.now → AreJudged frame.now pools.now budget.old.most budget.old.weight judged.old }
+        ensures most { budget.new.most ≡ budget.old.most }
+        ensures judged { AreFilePools frame.now pools.now → OnOk result (AreJudged frame.now pools.now budget.new.most budget.new.weight judged.new) }
+        ensures read { AreFilePools frame.now pools.now → IfOk result (λ x. IsKept (IsKnownAt (is_known pools.now) (inside pools.now) (stands frame.now off)) (weighs pools.now) budget.old.most budget.old.weight budget.new.weight (of x)) }
+        ensures refused { AreFilePools frame.now pools.now → IfErr result (IsRefusal ((meant : Meant) → stands frame.now off meant → ⊥)) };
 }
 
-// So many members from a place on, by their numbers, which are below the limit, with their sets. They are whole while
-// the budget lasts. Error: they do not stand there.
-fn member_sets_at(
-    alloc: Global,
-    frame: &Frame<'_>,
-    pools: &Pools<'_>,
-    at: usize,
-    count: u32,
-    limit: usize,
-    judged: &mut Judged,
-    budget: &mut Budget,
-) -> Result<Vec<(u32, AnnotationSet)>, ItemFault>
-    requires within { at + 8 * count ≤ length frame.now }
-    requires fits { at < 2 ^ 40 }
-    requires judged { AreFilePools frame.now pools.now → AreJudged frame.now pools.now budget.old.most budget.old.weight judged.old }
-    ensures most { budget.new.most ≡ budget.old.most }
-    ensures judged { AreFilePools frame.now pools.now → OnOk result (AreJudged frame.now pools.now budget.new.most budget.new.weight judged.new) }
-    ensures read { AreFilePools frame.now pools.now → IfOk result (λ members. IsKept (ArePairsAt (IsKnownSet pools.now) (set_in pools.now) SetAt frame.now at count limit) (sum_by (λ e. set_weight_in pools.now e.1)) budget.old.most budget.old.weight budget.new.weight (map member_set_of members.items)) }
-    ensures refused { AreFilePools frame.now pools.now → IfErr result (IsRefusal (NoPairsAt SetAt frame.now at count limit)) }
-{
-    let mut members = Vec::with_capacity(alloc, room(count, budget))?;
-    let mut least = 0;
-    for i in 0..count {
-        let (number, off) = pair_at(frame, at + 8 * i as usize, least, limit)?;
-        let set = counted_set_at(alloc, frame, pools, off, judged, budget)?;
-        least = u64::from(number) + 1;
+impl OfMember for AnnotationSet {
+    ghost Numbered = { NumberedSet };
+
+    ghost Meant = { SetMeant };
+
+    ghost of = { set_of };
+
+    ghost is_known = { IsKnownSet };
+
+    ghost inside = { set_in };
+
+    ghost stands = { SetAt };
+
+    ghost weighs = { set_weight_in };
+
+    fn counted_at(
+        alloc: Global,
+        frame: &Frame<'_>,
+        pools: &Pools<'_>,
+        off: u32,
+        judged: &mut Judged,
+        budget: &mut Budget,
+    ) -> Result<AnnotationSet, ItemFault> {
+        counted_set_at(alloc, frame, pools, off, judged, budget)
+    }
+}
+
+impl OfMember for Vec<AnnotationSet> {
+    ghost Numbered = { List NumberedSet };
+
+    ghost Meant = { List SetMeant };
+
+    ghost of = { λ sets. map set_of sets.items };
+
+    ghost is_known = { λ m. All (IsKnownSet m) };
+
+    ghost inside = { λ m. map (set_in m) };
+
+    ghost stands = { RefListAt };
+
+    ghost weighs = { sets_weight_in };
+
+    fn counted_at(
+        alloc: Global,
+        frame: &Frame<'_>,
+        pools: &Pools<'_>,
+        off: u32,
+        judged: &mut Judged,
+        budget: &mut Budget,
+    ) -> Result<Vec<AnnotationSet>, ItemFault> {
         if budget.is_within() {
-            members.push((number, set))?;
+            return listed_sets_at(alloc, frame, pools, off, judged, budget);
         }
+        if judged.lists.contains(&off) {
+            return Ok(Vec::new(alloc));
+        }
+        let sets = listed_sets_at(alloc, frame, pools, off, judged, budget)?;
+        judged.lists.insert(off)?;
+        Ok(sets)
     }
-    Ok(members)
 }
 
-// So many members from a place on, by their numbers, which are below the limit, with the sets of their parameters.
-// They are whole while the budget lasts. Error: they do not stand there.
-fn member_lists_at(
+// So many members from a place on, by their numbers, which are below the limit, with what the directory says of each. They
+// are whole while the budget lasts. Error: they do not stand there.
+fn members_at<T: OfMember>(
     alloc: Global,
     frame: &Frame<'_>,
     pools: &Pools<'_>,
@@ -188,23 +226,23 @@ fn member_lists_at(
     limit: usize,
     judged: &mut Judged,
     budget: &mut Budget,
-) -> Result<Vec<(u32, Vec<AnnotationSet>)>, ItemFault>
+) -> Result<Vec<(u32, T)>, ItemFault>
     requires within { at + 8 * count ≤ length frame.now }
     requires fits { at < 2 ^ 40 }
     requires judged { AreFilePools frame.now pools.now → AreJudged frame.now pools.now budget.old.most budget.old.weight judged.old }
     ensures most { budget.new.most ≡ budget.old.most }
     ensures judged { AreFilePools frame.now pools.now → OnOk result (AreJudged frame.now pools.now budget.new.most budget.new.weight judged.new) }
-    ensures read { AreFilePools frame.now pools.now → IfOk result (λ members. IsKept (ArePairsAt (All (IsKnownSet pools.now)) (map (set_in pools.now)) RefListAt frame.now at count limit) (sum_by (λ e. sets_weight_in pools.now e.1)) budget.old.most budget.old.weight budget.new.weight (map member_list_of members.items)) }
-    ensures refused { AreFilePools frame.now pools.now → IfErr result (IsRefusal (NoPairsAt RefListAt frame.now at count limit)) }
+    ensures read { AreFilePools frame.now pools.now → IfOk result (λ members. IsKept (ArePairsAt (T.is_known pools.now) (T.inside pools.now) T.stands frame.now at count limit) (sum_by (λ e. T.weighs pools.now e.1)) budget.old.most budget.old.weight budget.new.weight (map (λ e. (e.0, T.of e.1)) members.items)) }
+    ensures refused { AreFilePools frame.now pools.now → IfErr result (IsRefusal (NoPairsAt T.stands frame.now at count limit)) }
 {
     let mut members = Vec::with_capacity(alloc, room(count, budget))?;
     let mut least = 0;
     for i in 0..count {
         let (number, off) = pair_at(frame, at + 8 * i as usize, least, limit)?;
-        let sets = ref_list_at(alloc, frame, pools, off, judged, budget)?;
+        let said = T::counted_at(alloc, frame, pools, off, judged, budget)?;
         least = u64::from(number) + 1;
         if budget.is_within() {
-            members.push((number, sets))?;
+            members.push((number, said))?;
         }
     }
     Ok(members)
@@ -234,7 +272,7 @@ fn counted_directory_at(
     let own = counted_set_at(alloc, frame, pools, place, judged, budget)?;
     let fields_at = off as usize + 16;
     let limit = pools.len(SymbolKind::Field);
-    let fields = member_sets_at(
+    let fields = members_at(
         alloc,
         frame,
         pools,
@@ -246,7 +284,7 @@ fn counted_directory_at(
     )?;
     let methods_at = fields_at + 8 * counts.fields as usize;
     let limit = pools.len(SymbolKind::Method);
-    let methods = member_sets_at(
+    let methods = members_at(
         alloc,
         frame,
         pools,
@@ -257,7 +295,7 @@ fn counted_directory_at(
         budget,
     )?;
     let parameters_at = methods_at + 8 * counts.methods as usize;
-    let parameters = member_lists_at(
+    let parameters = members_at(
         alloc,
         frame,
         pools,

@@ -5,7 +5,7 @@ use Rattle.dexspec.specs.Bytes.{uint_at}
 use Rattle.dexspec.specs.Annotations.{SetAt, RefListAt}
 use Rattle.dexval.specs.Code.{set_of}
 use Rattle.dexval.specs.Numbered.{NumberedSet, IsKnownSet, set_in}
-use Rattle.dexval.specs.Directories.{IsKept, IsSetOrEmptyAt, NoSetOrEmptyAt, member_set_of, member_list_of, set_weight_in, sets_weight_in}
+use Rattle.dexval.specs.Directories.{IsKept, IsSetOrEmptyAt, NoSetOrEmptyAt, set_weight_in, sets_weight_in}
 use Rattle.dexval.proofs.DirectoryRead.{no_members, no_own, no_fields, no_methods, no_parameters, pairs_moved, no_pairs_moved}
 use Rattle.dexval.proofs.Keeping.{directory_kept, kept_as, kept_moved}
 use Rattle.dexval.proofs.Refusals.{directory_refused}
@@ -47,14 +47,14 @@ returns-clause-read c = λ p.
     let w1 = c.counted_set_at.new.budget.weight in
     let own = set_of c.in_ok-own.own in
     let bound : c.counted_set_at.new.budget.most ≡ most = c.in_ok-own.ensures.most in
-    let bound2 : c.member_sets_at.new.budget.most ≡ most = c.in_ok-fields.ensures.most ∙ bound in
-    let bound3 : c.member_sets_at-2.new.budget.most ≡ most = c.in_ok-methods.ensures.most ∙ bound2 in
+    let bound2 : c.members_at.new.budget.most ≡ most = c.in_ok-fields.ensures.most ∙ bound in
+    let bound3 : c.members_at-2.new.budget.most ≡ most = c.in_ok-methods.ensures.most ∙ bound2 in
     let place : c.u32_at-place.result ≡ uint_at b o = c.u32_at-place.ensures ∙ ap (λ (x : List ℕ). uint_at x o) c.bytes-bytes.ensures.bytes in
     let r1 = c.in_ok-own.ensures.read p in
     let r2 = c.in_ok-fields.ensures.read p in
     let r3 = c.in_ok-methods.ensures.read p in
     let r4 = c.in_ok-parameters.ensures.read p in
-    directory_kept b o m p most w1 c.member_sets_at.new.budget.weight c.member_sets_at-2.new.budget.weight c.member_lists_at.new.budget.weight own (map member_set_of c.in_ok-fields.fields.items) (map member_set_of c.in_ok-methods.methods.items) (map member_list_of c.in_ok-parameters.parameters.items) c.in-Some.ensures.some.0
+    directory_kept b o m p most w1 c.members_at.new.budget.weight c.members_at-2.new.budget.weight c.members_at-3.new.budget.weight own (map (λ e. (e.0, set_of e.1)) c.in_ok-fields.fields.items) (map (λ e. (e.0, set_of e.1)) c.in_ok-methods.methods.items) (map (λ e. (e.0, map set_of e.1.items)) c.in_ok-parameters.parameters.items) c.in-Some.ensures.some.0
     (subst (λ (n : ℕ). IsKept (IsSetOrEmptyAt b (uint_at b o) m) (set_weight_in m) most n w1 own) c.requires.unused (kept_as _ _ (set_weight_in m) (set_weight_in m) most c.args.budget.now.weight w1 own (λ x k. subst (λ (n : ℕ). IsSetOrEmptyAt b n m x) place k) (λ x k. refl) r1))
     (kept_moved _ _ (sum_by (λ (e : ℕ × NumberedSet). set_weight_in m e.1)) bound (λ xs k. pairs_moved (IsKnownSet m) (set_in m) SetAt b (omega arith) c.in-Some.ensures.some.1 c.len-limit.ensures k) r2)
     (kept_moved _ _ (sum_by (λ (e : ℕ × NumberedSet). set_weight_in m e.1)) bound2 (λ xs k. pairs_moved (IsKnownSet m) (set_in m) SetAt b (omega (arith, c.in-Some.ensures.some.1)) c.in-Some.ensures.some.2 c.len-limit-2.ensures k) r3)

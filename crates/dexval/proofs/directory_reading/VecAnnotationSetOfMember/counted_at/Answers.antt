@@ -1,5 +1,5 @@
 use Rattle.std.proofs.lemmas.Result.{err_from_is_err_and}
-use Rattle.dexval.proofs.directory_reading.ref_list_at.Goals as goal
+use Rattle.dexval.proofs.directory_reading.VecAnnotationSetOfMember.counted_at.Goals as goal
 
 pub returns-in_err-sets-clause-refused : goal.returns-in_err-sets-clause-refused
 returns-in_err-sets-clause-refused c = λ p.

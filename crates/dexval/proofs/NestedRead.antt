@@ -1,5 +1,5 @@
 -- Arrays and annotations as values.
-use Rattle.std.proofs.Common.{◌≡◌, ◌≢◌, ℕ, ◌+◌, ◌-◌, ◌<◌, ◌≤◌, List, length, Option, Some, None, refl, subst, arith}
+use Rattle.std.proofs.Common.{◌≡◌, ◌≢◌, ℕ, ◌+◌, ◌-◌, ◌<◌, ◌≤◌, List, length, Option, Some, None, Result, Ok, Err, refl, subst, arith}
 use Rattle.std.specs.Prelude.{slice_index, MatchOption}
 use Rattle.dexspec.specs.Values.{Value, ValueAt, value_depth}
 use Rattle.dexspec.specs.Mentions.{Mentions}
@@ -8,6 +8,10 @@ use Rattle.dexval.specs.Numbered.{NumberedValue, NumberedValues, NumberedElement
 use Rattle.dexval.specs.Scalars.{NoValueAt, IsReadAt}
 use Rattle.dexval.specs.Nesting.{NoArrayAt, AreReadAt, NoAnnotationAt, IsAnnotationReadAt}
 use Rattle.dexval.proofs.Shapes.{stands_byte, value_within, array_only, annotation_only}
+
+-- an answer is no error
+pub ok_no_err : {A E : Type 0} (r : Result A E) (x : A) (e : E) → r ≡ Ok x → r ≡ Err e → ⊥
+ok_no_err r x e p q = absurd cc
 
 module _ (b : List ℕ) (o depth : ℕ) (m : Mentions) (p : ArePools b m) where
   -- behind the end stands nothing

@@ -4,9 +4,9 @@ use Rattle.dexval.specs.Code.{value_of, element_of}
 use Rattle.dexval.specs.Numbered.{NumberedValue, values_of_list, elements_of_list}
 use Rattle.dexval.specs.Scalars.{IsReadAt}
 use Rattle.dexval.proofs.CodeForms.{array_is, annotation_is, element_is}
-use Rattle.dexval.proofs.NestedRead.{nothing_behind, no_deep_array, no_deep_annotation, array_stands, no_array, annotation_stands, no_annotation, deeper}
-use Rattle.dexval.proofs.ValuesRead.{HaveRead, one_more, no_next, no_values, all_read}
-use Rattle.dexval.proofs.ElementsRead.{HaveReadOf, one_element_more, no_next_element, all_elements_read, annotation_read}
+use Rattle.dexval.proofs.NestedRead.{ok_no_err, nothing_behind, no_deep_array, no_deep_annotation, array_stands, no_array, annotation_stands, no_annotation, deeper}
+use Rattle.dexval.proofs.ValuesRead.{HaveRead, one_more, no_next, no_count, no_values, all_read}
+use Rattle.dexval.proofs.ElementsRead.{HaveReadOf, one_element_more, no_next_element, all_elements_read, no_name, no_value, no_type, no_element_count, no_elements, annotation_read}
 use Rattle.dexval.proofs.nesting.+reading.Goals as goal
 
 pub annotation_at-returns-in-Some-clause-read : goal.annotation_at-returns-in-Some-clause-read
@@ -14,6 +14,23 @@ annotation_at-returns-in-Some-clause-read t c = λ p.
     let h = c.in_ok-elements.ensures.read p in
     let r = rw c.in-Some.is at h in
     annotation_read c.args.bytes.now c.args.pools.now p c.args.at c.args.depth c.in-Ok.read.0 c.in-Ok.read.1 c.in-Ok-read_u.read.0 c.in-Ok-read_u.read.1 (elements_of_list (map element_of c.in-Some.elements.items)) c.in-Some.size c.in-Ok.ensures.found (omega arith) c.in-Ok-read_u.ensures.found r
+
+pub annotation_at-returns-in-Err-clause-read : goal.annotation_at-returns-in-Err-clause-read
+annotation_at-returns-in-Err-clause-read t c = λ p.
+    no_type c.args.bytes.now c.args.pools.now p c.args.at c.args.depth (λ v n there. ok_no_err _ (v, n) _ (c.read_u.ensures.only v n there) c.in-Err.is)
+
+pub annotation_at-returns-in-Err-read_u-clause-read : goal.annotation_at-returns-in-Err-read_u-clause-read
+annotation_at-returns-in-Err-read_u-clause-read t c = λ p.
+    no_element_count c.args.bytes.now c.args.pools.now p c.args.at c.args.depth c.in-Ok.read.0 c.in-Ok.read.1 c.in-Ok.ensures.found (λ v n there. ok_no_err _ (v, n) _ (c.read_u-2.ensures.only v n there) c.in-Err-read_u.is)
+
+pub annotation_at-returns-in-None-clause-read : goal.annotation_at-returns-in-None-clause-read
+annotation_at-returns-in-None-clause-read t c = λ p.
+    let h = c.in_ok-elements.ensures.read p in
+    let none = rw c.in-None.is at h in
+    no_elements c.args.bytes.now c.args.pools.now p c.args.at c.args.depth c.in-Ok.read.0 c.in-Ok.read.1 c.in-Ok-read_u.read.0 c.in-Ok-read_u.read.1 c.in-Ok.ensures.found c.in-Ok-read_u.ensures.found none
+
+pub array_at-returns-in-Err-clause-read : goal.array_at-returns-in-Err-clause-read
+array_at-returns-in-Err-clause-read t c = λ p. no_count c.args.bytes.now c.args.pools.now c.args.at c.args.depth (λ v n there. ok_no_err _ (v, n) _ (c.read_u.ensures.only v n there) c.in-Err.is)
 
 pub array_at-returns-in-None-clause-read : goal.array_at-returns-in-None-clause-read
 array_at-returns-in-None-clause-read t c = λ p.
@@ -39,6 +56,16 @@ array_at-loop-i-preserved t c =
 pub array_at-returns-clause-read : goal.array_at-returns-clause-read
 array_at-returns-clause-read t c = λ p.
     all_read c.args.bytes.now c.args.pools.now c.args.at c.args.depth c.in-Ok.read.0 c.loop-i._i c.in-Ok.read.1 (map value_of c.loop-i.values.items) c.loop-i.size c.in-Ok.ensures.found (omega arith) (c.loop-i.invariant.read p)
+
+pub element_at-returns-in-Err-clause-read : goal.element_at-returns-in-Err-clause-read
+element_at-returns-in-Err-clause-read t c = λ p.
+    no_name c.args.bytes.now c.args.pools.now p c.args.at c.args.depth c.args.least (λ v n there. ok_no_err _ (v, n) _ (c.read_u.ensures.only v n there) c.in-Err.is)
+
+pub element_at-returns-in-None-clause-read : goal.element_at-returns-in-None-clause-read
+element_at-returns-in-None-clause-read t c = λ p.
+    let h = c.in_ok-value.ensures.read p in
+    let none = rw c.in-None.is at h in
+    no_value c.args.bytes.now c.args.pools.now p c.args.at c.args.depth c.args.least c.in-Ok.read.0 c.in-Ok.read.1 c.in-Ok.ensures.found none
 
 pub elements_at-returns-in-None-clause-read : goal.elements_at-returns-in-None-clause-read
 elements_at-returns-in-None-clause-read t c = λ p.

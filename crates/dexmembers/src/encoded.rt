@@ -64,10 +64,7 @@ impl Encoded for EncodedField {
         at: usize,
         last: Option<u32>,
     ) -> Option<(EncodedField, usize)> {
-        let (index, flags, size) = match head_at(bytes, at, last) {
-            Some(head) => head,
-            None => return None,
-        };
+        let (index, flags, size) = head_at(bytes, at, last)?;
         if !owner.has_field(index) {
             return None;
         }
@@ -92,10 +89,7 @@ impl Encoded for EncodedMethod {
         at: usize,
         last: Option<u32>,
     ) -> Option<(EncodedMethod, usize)> {
-        let (index, flags, head_size) = match head_at(bytes, at, last) {
-            Some(head) => head,
-            None => return None,
-        };
+        let (index, flags, head_size) = head_at(bytes, at, last)?;
         if !owner.has_method(index) {
             return None;
         }

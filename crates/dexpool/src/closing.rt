@@ -44,17 +44,12 @@ fn copied(marks: &Marks) -> Result<Marks, AllocError>
     ensures methods { IfOk result (λ copy. copy.methods.items ≡ marks.now.methods.items) }
 {
     let alloc = *marks.strings.allocator();
-    let strings = Vec::from_slice(alloc, &marks.strings)?;
-    let types = Vec::from_slice(alloc, &marks.types)?;
-    let protos = Vec::from_slice(alloc, &marks.protos)?;
-    let fields = Vec::from_slice(alloc, &marks.fields)?;
-    let methods = Vec::from_slice(alloc, &marks.methods)?;
     Ok(Marks {
-        strings,
-        types,
-        protos,
-        fields,
-        methods,
+        strings: Vec::from_slice(alloc, &marks.strings)?,
+        types: Vec::from_slice(alloc, &marks.types)?,
+        protos: Vec::from_slice(alloc, &marks.protos)?,
+        fields: Vec::from_slice(alloc, &marks.fields)?,
+        methods: Vec::from_slice(alloc, &marks.methods)?,
     })
 }
 

@@ -295,17 +295,12 @@ fn remap(
     requires methods_keep { KeepsOrder (map Some methods.now) }
     ensures { IfOk result (λ remap. remap ≡ record { texts = map Some strings.now; types = map Some types.now; protos = map Some protos.now; fields = map Some fields.now; methods = map Some methods.now }) }
 {
-    let strings = total(alloc, strings)?;
-    let types = total(alloc, types)?;
-    let protos = total(alloc, protos)?;
-    let fields = total(alloc, fields)?;
-    let methods = total(alloc, methods)?;
     Ok(Remap {
-        strings,
-        types,
-        protos,
-        fields,
-        methods,
+        strings: total(alloc, strings)?,
+        types: total(alloc, types)?,
+        protos: total(alloc, protos)?,
+        fields: total(alloc, fields)?,
+        methods: total(alloc, methods)?,
     })
 }
 

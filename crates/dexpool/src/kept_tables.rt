@@ -55,16 +55,12 @@ fn kept_remap(
     requires { strings.items ≡ places 0 marks.now.strings.items }
     ensures { IfOk result (λ remap. remap ≡ kept_places marks.now) }
 {
-    let types = places_of(alloc, &marks.types)?;
-    let protos = places_of(alloc, &marks.protos)?;
-    let fields = places_of(alloc, &marks.fields)?;
-    let methods = places_of(alloc, &marks.methods)?;
     Ok(Remap {
         strings,
-        types,
-        protos,
-        fields,
-        methods,
+        types: places_of(alloc, &marks.types)?,
+        protos: places_of(alloc, &marks.protos)?,
+        fields: places_of(alloc, &marks.fields)?,
+        methods: places_of(alloc, &marks.methods)?,
     })
 }
 

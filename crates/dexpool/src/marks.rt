@@ -31,17 +31,12 @@ impl Marks {
         ensures marks { IfOk result (AreMarksOf numbering.now) }
         ensures none { IfOk result (λ marks. marked numbering.now marks ≡ []) }
     {
-        let strings = unmarked(alloc, numbering.count(SymbolKind::Text))?;
-        let types = unmarked(alloc, numbering.count(SymbolKind::Typ))?;
-        let protos = unmarked(alloc, numbering.count(SymbolKind::Proto))?;
-        let fields = unmarked(alloc, numbering.count(SymbolKind::Field))?;
-        let methods = unmarked(alloc, numbering.count(SymbolKind::Method))?;
         Ok(Marks {
-            strings,
-            types,
-            protos,
-            fields,
-            methods,
+            strings: unmarked(alloc, numbering.count(SymbolKind::Text))?,
+            types: unmarked(alloc, numbering.count(SymbolKind::Typ))?,
+            protos: unmarked(alloc, numbering.count(SymbolKind::Proto))?,
+            fields: unmarked(alloc, numbering.count(SymbolKind::Field))?,
+            methods: unmarked(alloc, numbering.count(SymbolKind::Method))?,
         })
     }
 

@@ -80,20 +80,14 @@ impl<'a> Numbering<'a> {
     {
         let tables = &self.tables;
         let alloc = *tables.strings.allocator();
-        let strings = copied(alloc, &tables.strings)?;
-        let types = Vec::from_slice(alloc, &tables.types)?;
-        let protos = Vec::from_slice(alloc, &tables.protos)?;
-        let parameters = tables.parameters.copy()?;
-        let fields = Vec::from_slice(alloc, &tables.fields)?;
-        let methods = Vec::from_slice(alloc, &tables.methods)?;
         Ok(Numbering {
             tables: Tables {
-                strings,
-                types,
-                protos,
-                parameters,
-                fields,
-                methods,
+                strings: copied(alloc, &tables.strings)?,
+                types: Vec::from_slice(alloc, &tables.types)?,
+                protos: Vec::from_slice(alloc, &tables.protos)?,
+                parameters: tables.parameters.copy()?,
+                fields: Vec::from_slice(alloc, &tables.fields)?,
+                methods: Vec::from_slice(alloc, &tables.methods)?,
             },
         })
     }

@@ -89,21 +89,6 @@ pub(crate) fn renumbered_protos(
     if listed(protos) > range.end.saturating_sub(range.start) {
         return renumbered_together(alloc, protos, parameters, range, strings, types);
     }
-    renumbered_each(alloc, protos, parameters, strings, types)
-}
-
-// The protos, each with parameters of its own.
-fn renumbered_each(
-    alloc: Global,
-    protos: &[ProtoEntry],
-    parameters: &Parameters<'_>,
-    strings: &[usize],
-    types: &[usize],
-) -> Result<Protos, AllocError>
-    requires { All (IsEntryWithin (length strings.now) (length types.now) parameters.now) protos.now }
-    ensures spans { IfOk result HasSpans }
-    ensures rows { IfOk result (λ table. numbers_in table ≡ map (moved_proto strings.now types.now parameters.now) protos.now) }
-{
     let mut rows = Vec::with_capacity(alloc, protos.len())?;
     let mut moved = Vec::new(alloc);
     for entry in protos {

@@ -1,5 +1,4 @@
 pub mod Numbers
-pub mod KeyOrders
 pub mod Join
 pub mod Merge
 pub mod Cut

@@ -3,24 +3,24 @@ use Rattle.dexpool.specs.declared.tables.Tables.{Tables}
 use Rattle.dexpool.proofs.SameTables.{HaveSameRows, same_symbols, same_tables}
 use Rattle.dexpool.proofs.numbering.Numbering.copy.Goals as goal
 
-abbrev copies : (c : goal.In_ok-methods) → Tables
+abbrev copies : (c : goal.In_ok-from_slice-4) → Tables
 copies c = record {
-  strings = c.in_ok-strings.strings;
-  types = c.in_ok-types.types;
-  protos = c.in_ok-protos.protos;
-  parameters = c.in_ok-parameters.parameters;
-  fields = c.in_ok-fields.fields;
-  methods = c.in_ok-methods.methods;
+  strings = c.in_ok-copied.field-0;
+  types = c.in_ok-from_slice.field-0;
+  protos = c.in_ok-from_slice-2.field-0;
+  parameters = c.in_ok-copy.field-0;
+  fields = c.in_ok-from_slice-3.field-0;
+  methods = c.in_ok-from_slice-4.field-0;
 }
 
-same_rows : (c : goal.In_ok-methods) → HaveSameRows c.self.inside.tables (copies c)
+same_rows : (c : goal.In_ok-from_slice-4) → HaveSameRows c.self.inside.tables (copies c)
 same_rows c = record {
-  strings = sym (c.in_ok-strings.ensures ∙ c.deref.ensures.value);
-  types = sym (c.in_ok-types.ensures.items ∙ c.deref-2.ensures.value);
-  protos = sym (c.in_ok-protos.ensures.items ∙ c.deref-3.ensures.value);
-  parameters = sym (c.in_ok-parameters.ensures);
-  fields = sym (c.in_ok-fields.ensures.items ∙ c.deref-4.ensures.value);
-  methods = sym (c.in_ok-methods.ensures.items ∙ c.deref-5.ensures.value);
+  strings = sym (c.in_ok-copied.ensures ∙ c.deref.ensures.value);
+  types = sym (c.in_ok-from_slice.ensures.items ∙ c.deref-2.ensures.value);
+  protos = sym (c.in_ok-from_slice-2.ensures.items ∙ c.deref-3.ensures.value);
+  parameters = sym (c.in_ok-copy.ensures);
+  fields = sym (c.in_ok-from_slice-3.ensures.items ∙ c.deref-4.ensures.value);
+  methods = sym (c.in_ok-from_slice-4.ensures.items ∙ c.deref-5.ensures.value);
 }
 
 pub invariant_of-result : goal.invariant_of-result

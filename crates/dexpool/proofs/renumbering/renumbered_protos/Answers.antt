@@ -5,7 +5,7 @@ use Rattle.dexpool.specs.declared.rows.ProtoEntry.{ProtoEntry}
 use Rattle.dexpool.specs.Tables.{proto_at}
 use Rattle.dexpool.specs.Renumbering.{moved_proto}
 use Rattle.dexpool.proofs.StoredProtos.{rows_more, spans_more}
-use Rattle.dexpool.proofs.renumbering.renumbered_each.Goals as goal
+use Rattle.dexpool.proofs.renumbering.renumbered_protos.Goals as goal
 
 pub loop-entry-preserved : goal.loop-entry-preserved
 loop-entry-preserved c =

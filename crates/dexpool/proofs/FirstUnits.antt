@@ -1,9 +1,12 @@
 -- The first unit of a descriptor tells its kind.
-use Rattle.std.proofs.Common.{◌≡◌, ◌≢◌, ◌⊎◌, ℕ, zero, suc, ◌<◌, ◌≤◌, Bool, true, false, [], ◌∷◌, ◌++◌, get_or, refl, sym, ap, ◌∙◌, arith, inl, inr}
+use Rattle.std.proofs.Common.{◌≡◌, ◌≢◌, ◌⊎◌, ℕ, zero, suc, ◌<◌, ◌≤◌, Bool, true, false, List, [], ◌∷◌, ◌++◌, map, get_or, refl, sym, ap, ◌∙◌, subst, arith, inl, inr, ne_eqb}
+use Rattle.std.specs.List.{All}
+use Rattle.std.proofs.lemmas.List.Elements.{All-nil, All-cons, All-head, All-tail}
 use Rattle.std.specs.Prelude.{replicate, ◌==◌, if◌then◌else◌}
 use Rattle.std.proofs.lemmas.Bool.{eqb-true}
 use Rattle.dexspec.specs.Texts.{Text}
 use Rattle.dexspec.specs.Names.{IsDescriptor, VoidType, PrimitiveType, ClassType, ArrayType, IsVoid, IsPrimitive, IsClass, IsArray, IsValueType, IsReferenceType, primitive_letters, shorty_letter}
+use Rattle.dexstr.specs.Units.{IsAscii}
 use Rattle.dexpool.specs.Kinds.{first_of}
 
 -- none of the letters of void, class and array
@@ -11,25 +14,26 @@ record IsOther (l : ℕ) : Type 0 where
   void : l ≢ 0x56
   class : l ≢ 0x4c
   array : l ≢ 0x5b
+  ascii : IsAscii l
 
-other_is : (l k : ℕ) → k ≡ l → k ≢ 0x56 → k ≢ 0x4c → k ≢ 0x5b → IsOther l
-other_is l k e v c a = record { void = λ x. v (e ∙ x); class = λ x. c (e ∙ x); array = λ x. a (e ∙ x) }
+other_is : (l k : ℕ) → k ≡ l → k ≢ 0x56 → k ≢ 0x4c → k ≢ 0x5b → IsAscii k → IsOther l
+other_is l k e v c a i = record { void = λ x. v (e ∙ x); class = λ x. c (e ∙ x); array = λ x. a (e ∙ x); ascii = subst IsAscii e i }
 
 known_letter : (i l : ℕ) → i < 8 → get_or primitive_letters i l ≡ l → IsOther l
-known_letter zero l lt e = other_is l 0x5a e (λ x. omega (arith, x)) (λ x. omega (arith, x)) (λ x. omega (arith, x))
-known_letter (suc zero) l lt e = other_is l 0x42 e (λ x. omega (arith, x)) (λ x. omega (arith, x)) (λ x. omega (arith, x))
-known_letter (suc (suc zero)) l lt e = other_is l 0x53 e (λ x. omega (arith, x)) (λ x. omega (arith, x)) (λ x. omega (arith, x))
-known_letter (suc (suc (suc zero))) l lt e = other_is l 0x43 e (λ x. omega (arith, x)) (λ x. omega (arith, x)) (λ x. omega (arith, x))
-known_letter (suc (suc (suc (suc zero)))) l lt e = other_is l 0x4a e (λ x. omega (arith, x)) (λ x. omega (arith, x)) (λ x. omega (arith, x))
-known_letter (suc (suc (suc (suc (suc zero))))) l lt e = other_is l 0x49 e (λ x. omega (arith, x)) (λ x. omega (arith, x)) (λ x. omega (arith, x))
-known_letter (suc (suc (suc (suc (suc (suc zero)))))) l lt e = other_is l 0x46 e (λ x. omega (arith, x)) (λ x. omega (arith, x)) (λ x. omega (arith, x))
-known_letter (suc (suc (suc (suc (suc (suc (suc zero))))))) l lt e = other_is l 0x44 e (λ x. omega (arith, x)) (λ x. omega (arith, x)) (λ x. omega (arith, x))
+known_letter zero l lt e = other_is l 0x5a e (λ x. omega (arith, x)) (λ x. omega (arith, x)) (λ x. omega (arith, x)) (omega arith, omega arith)
+known_letter (suc zero) l lt e = other_is l 0x42 e (λ x. omega (arith, x)) (λ x. omega (arith, x)) (λ x. omega (arith, x)) (omega arith, omega arith)
+known_letter (suc (suc zero)) l lt e = other_is l 0x53 e (λ x. omega (arith, x)) (λ x. omega (arith, x)) (λ x. omega (arith, x)) (omega arith, omega arith)
+known_letter (suc (suc (suc zero))) l lt e = other_is l 0x43 e (λ x. omega (arith, x)) (λ x. omega (arith, x)) (λ x. omega (arith, x)) (omega arith, omega arith)
+known_letter (suc (suc (suc (suc zero)))) l lt e = other_is l 0x4a e (λ x. omega (arith, x)) (λ x. omega (arith, x)) (λ x. omega (arith, x)) (omega arith, omega arith)
+known_letter (suc (suc (suc (suc (suc zero))))) l lt e = other_is l 0x49 e (λ x. omega (arith, x)) (λ x. omega (arith, x)) (λ x. omega (arith, x)) (omega arith, omega arith)
+known_letter (suc (suc (suc (suc (suc (suc zero)))))) l lt e = other_is l 0x46 e (λ x. omega (arith, x)) (λ x. omega (arith, x)) (λ x. omega (arith, x)) (omega arith, omega arith)
+known_letter (suc (suc (suc (suc (suc (suc (suc zero))))))) l lt e = other_is l 0x44 e (λ x. omega (arith, x)) (λ x. omega (arith, x)) (λ x. omega (arith, x)) (omega arith, omega arith)
 known_letter (suc (suc (suc (suc (suc (suc (suc (suc i)))))))) l lt e = absurd (omega arith)
 
 primitive_first : (t : Text) → IsPrimitive t → IsOther (first_of t)
 primitive_first t h = let e : first_of t ≡ h.letter = ap first_of h.is in
     let o = known_letter h.known.0 h.letter h.known.1 h.known.2 in
-    record { void = λ x. o.void (sym e ∙ x); class = λ x. o.class (sym e ∙ x); array = λ x. o.array (sym e ∙ x) }
+    record { void = λ x. o.void (sym e ∙ x); class = λ x. o.class (sym e ∙ x); array = λ x. o.array (sym e ∙ x); ascii = subst IsAscii (sym e) o.ascii }
 
 void_first : (t : Text) → IsVoid t → first_of t ≡ 0x56
 void_first t h = ap first_of h
@@ -71,6 +75,10 @@ class_letter : (t : Text) → first_of t ≡ 0x4c → shorty_letter t ≡ 0x4c
 class_letter [] e = absurd (omega (arith, e))
 class_letter (u ∷ s) e = rw e refl
 
+own_letter : (t : Text) → first_of t ≢ 0x5b → shorty_letter t ≡ first_of t
+own_letter [] other = refl
+own_letter (u ∷ s) other = rw (ne_eqb u 0x5b other) refl
+
 letter_cases : (b : Bool) (u : ℕ) → (u == 0x5b) ≡ b → (if b then 0x4c else u) ≡ 0x4c → (u ≡ 0x4c) ⊎ (u ≡ 0x5b)
 letter_cases true u e h = inr (eqb-true u 0x5b e)
 letter_cases false u e h = inl h
@@ -111,3 +119,20 @@ reference_if t d h = elim (letter_first t h) [ inl c ↦ inl (class_if t d c) | 
     array_if t (PrimitiveType, h) e = absurd ((primitive_first t h).array e)
     array_if t (ClassType, h) e = absurd (omega (arith, class_first t h, e))
     array_if t (ArrayType, h) e = h
+
+-- the letter is of ASCII
+pub letter_ascii : (t : Text) → IsDescriptor t → IsAscii (shorty_letter t)
+letter_ascii t (VoidType, h) = subst IsAscii (sym (letter_of_void t (void_first t h))) (omega arith, omega arith)
+letter_ascii t (PrimitiveType, h) = let other = primitive_first t h in subst IsAscii (sym (own_letter t other.array)) other.ascii
+letter_ascii t (ClassType, h) = subst IsAscii (sym (class_letter t (class_first t h))) (omega arith, omega arith)
+letter_ascii t (ArrayType, h) = subst IsAscii (sym (array_letter t (array_first t h))) (omega arith, omega arith)
+
+pub letters_ascii : (ts : List Text) → All IsValueType ts → All IsAscii (map shorty_letter ts)
+letters_ascii [] h = All-nil IsAscii
+letters_ascii (t ∷ ts) h =
+    All-cons IsAscii (shorty_letter t) (map shorty_letter ts) (elim (All-head IsValueType t ts h) [
+      | inl primitive ↦ letter_ascii t (PrimitiveType, primitive)
+      | inr (inl class) ↦ letter_ascii t (ClassType, class)
+      | inr (inr array) ↦ letter_ascii t (ArrayType, array)
+    ])
+    (letters_ascii ts (All-tail IsValueType t ts h))

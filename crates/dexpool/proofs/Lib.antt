@@ -4,7 +4,6 @@ pub mod FirstUnits
 pub mod Refusing
 pub mod Steps
 pub mod TypeLists
-pub mod ShortyLetters
 pub mod ProtoRows
 pub mod MethodRows
 pub mod AllPools

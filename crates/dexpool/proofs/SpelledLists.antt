@@ -10,12 +10,13 @@ use Rattle.dexspec.specs.Names.{IsValueType, shorty_letter}
 use Rattle.dexspec.specs.Lists.{OrNone}
 use Rattle.dexspec.specs.Rows.{TypeRow, TypeListAt}
 use Rattle.dexspec.proofs.OneRow.{one_type}
+use Rattle.dexstr.specs.Units.{IsAscii}
 use Rattle.dexpool.specs.declared.rows.Span.{Span}
 use Rattle.dexpool.specs.declared.judged.Judged.{Judged}
 use Rattle.dexpool.specs.Tables.{text_of, type_of, span_of}
 use Rattle.dexpool.specs.Reading.{AreNames, IsParameter, IsPlaced, file_numbers, listed, letters_of}
 use Rattle.dexpool.specs.Judged.{AreLetters, letter_in, letters_in, NoVoid, IsSpelled, IsJudged, NotListedAs}
-use Rattle.dexpool.proofs.FirstUnits.{letter_void, void_letter}
+use Rattle.dexpool.proofs.FirstUnits.{letter_void, void_letter, letters_ascii}
 use Rattle.dexpool.proofs.TypeLists.{listed_is}
 
 -- a list that was judged, whose shorty is the same
@@ -111,3 +112,7 @@ module _ (b : List ℕ) (texts : List Text) (types letters : List ℕ) (names : 
   not_spelled o l s text ns placed part not ts list values is =
       let rows : AllZip (TypeRow b) ns ts = subst (λ (m : List ℕ). AllZip (TypeRow b) m ts) (sym (part ∙ placed.is)) (listed_zip b o ts list) in
       not (record { text_is = is ∙ ap (λ (m : List ℕ). l ∷ m) (sym (rows_spelled ns ts rows)); no_void = rows_no_void ns ts rows values })
+
+-- and none has other units as its shorty
+pub other_units : (b : List ℕ) (o l : ℕ) (text : Text) → IsAscii l → (¬ All IsAscii text) → NotListedAs b o l text
+other_units b o l text letter other ts list values is = other (subst (All IsAscii) (sym is) (All-cons IsAscii l (map shorty_letter ts) letter (letters_ascii ts values)))

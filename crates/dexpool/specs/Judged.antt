@@ -27,10 +27,15 @@ letters_in letters ns = map (letter_in letters) ns
 abbrev pub NoVoid : List ℕ → List ℕ → Type 0
 NoVoid letters ns = All (λ n. letter_in letters n ≢ 0x56) ns
 
--- units begin with the letter of a number, which is not void's, before these others
-pub record BeginsAt (letters units : List ℕ) (n : ℕ) (rest : List ℕ) : Type 0 where
-  pub units_are : units ≡ letter_in letters n ∷ rest
+-- the unit is the letter of a number, which is not void's
+pub record IsLetter (letters : List ℕ) (n unit : ℕ) : Type 0 where
+  pub unit_is : unit ≡ letter_in letters n
   pub no_void : letter_in letters n ≢ 0x56
+
+-- the units are the letters of the numbers, none of which is void's
+pub record SpellNumbers (letters units ns : List ℕ) : Type 0 where
+  pub units_are : units ≡ letters_in letters ns
+  pub no_void : NoVoid letters ns
 
 -- the text is a first letter and then those of the numbers, none of which is void's
 pub record IsSpelled (letters text : List ℕ) (first : ℕ) (ns : List ℕ) : Type 0 where

@@ -1,6 +1,7 @@
 //! Long lists of parameters, each judged once however many rows share it.
 
 ghost use Rattle.std.specs.Prelude.{◌≡◌, true, false, OnOk};
+ghost use Rattle.dexstr.specs.Units.{IsAscii};
 ghost use Rattle.dexpool.specs.Tables.{text_of};
 ghost use Rattle.dexpool.specs.Reading.{AreNames, IsPlaced, file_numbers};
 ghost use Rattle.dexpool.specs.Judged.{AreLetters, IsJudged, AreJudged, NotListedAs};
@@ -42,6 +43,7 @@ pub(crate) fn has_shorty(
     requires lists { AreJudged names.now.frame.now names.now.strings.now names.now.types.now lists.now }
     requires placed { IsPlaced names.now.frame.now off judged.span }
     requires text { text.now ≡ text_of names.now.strings.now judged.shorty }
+    requires letter { IsAscii judged.letter }
     ensures yes { result ≡ true → IsJudged names.now.frame.now names.now.strings.now names.now.types.now off judged }
     ensures no { result ≡ false → NotListedAs names.now.frame.now off judged.letter text.now }
 {
@@ -50,7 +52,10 @@ pub(crate) fn has_shorty(
             return true;
         }
     }
-    is_spelled(letters, text, judged.letter, &file.part(judged.span))
+    match text.ascii() {
+        Some(units) => is_spelled(letters, units, judged.letter, &file.part(judged.span)),
+        None => false,
+    }
 }
 
 /// Notes a list that was judged, if it is long.

@@ -1,15 +1,14 @@
 //! The letters of types in shorties.
 
-ghost use Rattle.std.specs.Prelude.{◌≡◌, ◌↔◌, ◌<◌, ◌∷◌, [], ℕ, List, true, false, IsTrue, IfOk, length};
+ghost use Rattle.std.specs.Prelude.{◌≡◌, ◌↔◌, ◌<◌, IsTrue, IfOk, length};
 ghost use Rattle.dexspec.specs.Names.{shorty_letter};
 ghost use Rattle.dexpool.specs.Tables.{type_of};
 ghost use Rattle.dexpool.specs.Reading.{AreNames};
-ghost use Rattle.dexpool.specs.Judged.{AreLetters, BeginsAt, IsSpelled};
+ghost use Rattle.dexpool.specs.Judged.{AreLetters, IsLetter, SpellNumbers, IsSpelled};
 
 use crate::kinds::{VOID, letter};
 use crate::names::Names;
 use dexrows::TypeNumbers;
-use dexstr::{Text, Units};
 use std::alloc::{AllocError, Global};
 
 // The letter of the type of a row.
@@ -35,58 +34,42 @@ pub(crate) fn letters_of(alloc: Global, names: &Names<'_, '_>) -> Result<Vec<u16
     Ok(letters)
 }
 
-// Takes the next unit, and answers whether it is this letter.
-fn takes(units: &mut Units<'_>, letter: u16) -> bool
-    ensures yes { result ≡ true → units.old ≡ letter ∷ units.new }
-    ensures no { result ≡ false → (rest : List ℕ) → units.old ≡ letter ∷ rest → ⊥ }
-{
-    match units.next() {
-        Some(unit) => unit == letter,
-        None => false,
-    }
-}
-
-// Takes the next unit, and answers whether it is the letter of this number, that of a type of values.
-fn takes_letter(units: &mut Units<'_>, letters: &[u16], number: usize) -> bool
-    ensures yes { result ≡ true → BeginsAt letters.now units.old number units.new }
-    ensures no { result ≡ false → (rest : List ℕ) → BeginsAt letters.now units.old number rest → ⊥ }
+// Whether a unit is the letter of this number, that of a type of values.
+fn is_letter(letters: &[u16], number: usize, unit: u8) -> bool
+    ensures { IsTrue result ↔ IsLetter letters.now number unit }
 {
     let letter = letters.get(number).copied().unwrap_or(VOID);
-    if letter == VOID {
+    letter != VOID && letter == u16::from(unit)
+}
+
+// Whether the units are the letters of the numbers, each that of a type of values.
+fn are_letters(letters: &[u16], units: &[u8], numbers: &TypeNumbers<'_>) -> bool
+    ensures { IsTrue result ↔ SpellNumbers letters.now units.now numbers.now }
+{
+    if units.len() != numbers.len() {
         return false;
     }
-    takes(units, letter)
-}
-
-// Whether no unit is left.
-fn ends(units: &mut Units<'_>) -> bool
-    ensures { IsTrue result ↔ (units.old ≡ []) }
-{
-    match units.next() {
-        Some(_) => false,
-        None => true,
+    for i in 0..units.len() {
+        if !is_letter(letters, numbers.at(i), units[i]) {
+            return false;
+        }
     }
+    true
 }
 
-/// Whether the text is this letter and then those of the numbers, each that of a type of values. No memory is taken.
+/// Whether the units are this letter and then those of the numbers, each that of a type of values. No memory is taken.
 ///
 /// Source: "ShortyDescriptor".
 pub(crate) fn is_spelled(
     letters: &[u16],
-    text: &Text<'_>,
+    units: &[u8],
     first: u16,
     numbers: &TypeNumbers<'_>,
 ) -> bool
-    ensures { IsTrue result ↔ IsSpelled letters.now text.now first numbers.now }
+    ensures { IsTrue result ↔ IsSpelled letters.now units.now first numbers.now }
 {
-    let mut units = text.units();
-    if !takes(&mut units, first) {
-        return false;
+    match units {
+        [unit, rest @ ..] => u16::from(*unit) == first && are_letters(letters, rest, numbers),
+        [] => false,
     }
-    for i in 0..numbers.len() {
-        if !takes_letter(&mut units, letters, numbers.at(i)) {
-            return false;
-        }
-    }
-    ends(&mut units)
 }

@@ -2,7 +2,7 @@
 
 ghost use Rattle.std.specs.Prelude.{◌≡◌, ◌<◌, map, length, All, IfOk};
 ghost use Rattle.dexspec.specs.Symbols as symbols;
-ghost use Rattle.dexpool.specs.Tables.{type_of, proto_of, field_of, method_of};
+ghost use Rattle.dexpool.specs.Tables.{text_of, type_of, proto_of, field_of, method_of};
 ghost use Rattle.dexpool.specs.Stored.{IsProtoEntry, IsFieldRow, IsMethodRow, AreTables};
 
 use crate::rows::ProtoEntry;
@@ -108,6 +108,24 @@ pub(crate) fn type_name(alloc: Global, tables: &Tables<'_>, typ: usize) -> Resul
     ensures { IfOk result (λ name. name ≡ type_of tables.now.strings.items tables.now.types.items typ) }
 {
     Name::of(alloc, &tables.strings[tables.types[typ]])
+}
+
+// The class and the name of a member.
+fn class_and_name(
+    alloc: Global,
+    tables: &Tables<'_>,
+    class: usize,
+    name: usize,
+) -> Result<(Name, Name), AllocError>
+    requires tables { AreTables tables.now }
+    requires class { class < length tables.now.types.items }
+    requires name { name < length tables.now.strings.items }
+    ensures class { IfOk result (λ names. names.0 ≡ type_of tables.now.strings.items tables.now.types.items class) }
+    ensures name { IfOk result (λ names. names.1 ≡ text_of tables.now.strings.items name) }
+{
+    let class = type_name(alloc, tables, class)?;
+    let name = Name::of(alloc, &tables.strings[name])?;
+    Ok((class, name))
 }
 
 // The names that types are.
@@ -216,11 +234,9 @@ impl FieldSymbol {
         requires row { IsFieldRow tables.now row.now }
         ensures { IfOk result (λ symbol. symbol ≡ field_of tables.now.strings.items tables.now.types.items row.now) }
     {
-        Ok(FieldSymbol {
-            class: type_name(alloc, tables, row.class)?,
-            name: Name::of(alloc, &tables.strings[row.name])?,
-            typ: type_name(alloc, tables, row.typ)?,
-        })
+        let (class, name) = class_and_name(alloc, tables, row.class, row.name)?;
+        let typ = type_name(alloc, tables, row.typ)?;
+        Ok(FieldSymbol { class, name, typ })
     }
 }
 
@@ -249,10 +265,8 @@ impl MethodSymbol {
         requires row { IsMethodRow tables.now row.now }
         ensures { IfOk result (λ symbol. symbol ≡ method_of tables.now.strings.items tables.now.types.items tables.now.parameters tables.now.protos.items row.now) }
     {
-        Ok(MethodSymbol {
-            class: type_name(alloc, tables, row.class)?,
-            name: Name::of(alloc, &tables.strings[row.name])?,
-            proto: ProtoSymbol::of(alloc, tables, &tables.protos[row.proto])?,
-        })
+        let (class, name) = class_and_name(alloc, tables, row.class, row.name)?;
+        let proto = ProtoSymbol::of(alloc, tables, &tables.protos[row.proto])?;
+        Ok(MethodSymbol { class, name, proto })
     }
 }

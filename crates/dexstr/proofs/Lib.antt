@@ -2,6 +2,7 @@ pub mod Forms
 pub mod Passing
 pub mod ByBytes
 pub mod Counting
+pub mod Ascii
 pub mod ClassNames
 pub mod Descriptions
 pub mod MemberNames

@@ -44,3 +44,7 @@ pub record SpellsText (bytes : List ℕ) : Type 0 where
 -- a unit's spelling begins with this byte: none from 0x80 to 0xbf
 abbrev pub begins_unit : ℕ → Bool
 begins_unit b = not (nat_le 0x80 b && nat_le b 0xbf)
+
+-- a unit that is spelled by the byte that it is
+abbrev pub IsAscii : ℕ → Type 0
+IsAscii u = (0 < u) × (u < 0x80)

@@ -1,4 +1,4 @@
-ghost use Rattle.std.specs.Prelude.{◌≡◌, ◌↔◌, ◌^◌, ◌<◌, List, [], length, IsTrue, ◌==◌};
+ghost use Rattle.std.specs.Prelude.{◌≡◌, ◌↔◌, ◌^◌, ◌<◌, List, [], All, length, IsTrue, IfSome, IfNone, ◌==◌};
 ghost use Rattle.std.proofs.Common.{rules};
 ghost use Rattle.std.specs.Cmp.{partial_order_from_own_ties};
 ghost use Rattle.std.specs.Cmp.Rules.{comparing};
@@ -33,7 +33,7 @@ impl<'a> Model for Text<'a> {
 
 impl<'a> Text<'a> {
     ghost use Rattle.dexspec.specs.Texts.{AreUnits};
-    ghost use Rattle.dexstr.specs.Units.{units_of, SpellsText};
+    ghost use Rattle.dexstr.specs.Units.{units_of, SpellsText, IsAscii};
 
     /// The text that the bytes spell.
     pub(crate) fn of_spelling(bytes: &'a [u8]) -> Text<'a>
@@ -71,6 +71,19 @@ impl<'a> Text<'a> {
         ensures { IsTrue result ↔ (self.now ≡ []) }
     {
         self.bytes.is_empty()
+    }
+
+    /// The units as bytes, where all are of ASCII and none is zero, so that each is spelled by one byte; `None` of
+    /// other texts. It goes over the bytes, and takes no memory.
+    pub fn ascii(&self) -> Option<&'a [u8]>
+        ensures units { IfSome result (λ bytes. bytes.now ≡ self.now) }
+        ensures other { IfNone result (¬ All IsAscii self.now) }
+    {
+        if self.len() == self.bytes.len() {
+            Some(self.bytes)
+        } else {
+            None
+        }
     }
 
     /// The units, one after the other, each of 16 bits.

@@ -1,7 +1,8 @@
-use Rattle.std.proofs.Common.{ℕ, List, sym, ap, ◌∙◌}
+use Rattle.std.proofs.Common.{ℕ, List, sym, ap, subst, ◌∙◌}
 use Rattle.std.proofs.lemmas.Bool.{false≢true}
 use Rattle.dexpool.specs.Tables.{span_of}
-use Rattle.dexpool.proofs.SpelledLists.{known_judged, spelled_judged, not_spelled}
+use Rattle.dexpool.specs.Judged.{IsSpelled}
+use Rattle.dexpool.proofs.SpelledLists.{known_judged, spelled_judged, not_spelled, other_units}
 use Rattle.dexpool.proofs.judged.has_shorty.Goals as goal
 
 pub returns-then-known-judged-2-clause-yes : goal.returns-then-known-judged-2-clause-yes
@@ -10,14 +11,17 @@ returns-then-known-judged-2-clause-yes c = λ e.
     known_judged c.args.names.now.frame.now c.args.names.now.strings.now c.args.names.now.types.now c.args.off known c.args.judged
     (c.requires.lists c.args.off known (sym c.in-Some.ensures.value)) c.requires.placed c.if-known-judged.true c.if-known-judged-2.true
 
-pub returns-clause-yes : goal.returns-clause-yes
-returns-clause-yes c = λ e.
+pub returns-in-Some-ascii-clause-yes : goal.returns-in-Some-ascii-clause-yes
+returns-in-Some-ascii-clause-yes c = λ e.
     let part = c.part.ensures ∙ ap (λ (ns : List ℕ). span_of ns c.args.judged.span) c.requires.file in
-    spelled_judged c.args.names.now.frame.now c.args.names.now.strings.now c.args.names.now.types.now c.args.letters.now c.requires.names c.requires.letters c.args.off c.args.judged c.args.text.now _
-    c.requires.placed c.requires.text part (c.is_spelled.ensures.0 e)
+    spelled_judged c.args.names.now.frame.now c.args.names.now.strings.now c.args.names.now.types.now c.args.letters.now c.requires.names c.requires.letters c.args.off c.args.judged c.in-Some-ascii.units.now _
+    c.requires.placed (c.in-Some-ascii.ensures.units ∙ c.requires.text) part (c.is_spelled.ensures.0 e)
 
-pub returns-clause-no : goal.returns-clause-no
-returns-clause-no c = λ e.
+pub returns-in-Some-ascii-clause-no : goal.returns-in-Some-ascii-clause-no
+returns-in-Some-ascii-clause-no c = λ e.
     let part = c.part.ensures ∙ ap (λ (ns : List ℕ). span_of ns c.args.judged.span) c.requires.file in
     not_spelled c.args.names.now.frame.now c.args.names.now.strings.now c.args.names.now.types.now c.args.letters.now c.requires.names c.requires.letters c.args.off c.args.judged.letter c.args.judged.span c.args.text.now _
-    c.requires.placed part (λ h. false≢true (sym e ∙ c.is_spelled.ensures.1 h))
+    c.requires.placed part (λ h. false≢true (sym e ∙ c.is_spelled.ensures.1 (subst (λ us. IsSpelled c.args.letters.now us c.args.judged.letter c.part.result) (sym c.in-Some-ascii.ensures.units) h)))
+
+pub returns-in-None-clause-no : goal.returns-in-None-clause-no
+returns-in-None-clause-no c = λ e. other_units c.args.names.now.frame.now c.args.off c.args.judged.letter c.args.text.now c.requires.letter c.in-None.ensures.other

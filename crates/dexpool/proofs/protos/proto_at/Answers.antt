@@ -1,9 +1,11 @@
-use Rattle.std.proofs.Common.{◌∷◌, ℕ, [], refl, subst, ◌∙◌, ap}
+use Rattle.std.proofs.Common.{◌∷◌, ℕ, [], refl, sym, subst, ◌∙◌, ap}
 use Rattle.dexspec.specs.Lists.{OrNone}
 use Rattle.dexspec.specs.Names.{shorty}
 use Rattle.dexspec.specs.Rows.{StringRow, TypeRow, TypeListAt}
 use Rattle.dexpool.specs.Tables.{span_of}
 use Rattle.dexpool.specs.Reading.{letters_of, file_numbers}
+use Rattle.dexstr.specs.Units.{IsAscii}
+use Rattle.dexpool.proofs.FirstUnits.{letter_ascii}
 use Rattle.dexpool.proofs.ProtoRows.{shorty_same, stands_there}
 use Rattle.dexpool.proofs.protos.proto_at.Goals as goal
 
@@ -21,6 +23,9 @@ returns-then-not-has_shorty-clause-proto c = λ p h.
     let b = c.args.names.now.frame.now in
     c.if-not-has_shorty.ensures.no refl p.parameters (subst (λ o. OrNone TypeListAt [] b o p.parameters) c.indices_at-indices.ensures.off_is h.parameters) h.values
     (shorty_same b c.args.i _ _ c.indices_at-indices.result.off c.letter.result p c.in-Some.shorty.now c.in-Some-typ.return_type.now c.indices_at-indices.ensures h c.in-Some.ensures.row c.in-Some-typ.ensures.row c.letter.ensures)
+
+pub has_shorty-requires-clause-letter : goal.has_shorty-requires-clause-letter
+has_shorty-requires-clause-letter c = subst IsAscii (sym c.letter.ensures) (letter_ascii c.in-Some-typ.return_type.now c.in-Some-typ.ensures.row.descriptor)
 
 pub note-requires-clause-judged : goal.note-requires-clause-judged
 note-requires-clause-judged c = c.if-not-has_shorty.ensures.yes refl

@@ -1,4 +1,4 @@
-use Rattle.std.proofs.Common.{◌≡◌, ◌∙◌, ◌+◌, ℕ, List, min, length, drop, get_or, sym, arith}
+use Rattle.std.proofs.Common.{◌≡◌, ◌∙◌, ◌+◌, min, length, drop, get_or, sym, arith}
 use Rattle.std.specs.Ordering.{nat_cmp}
 use Rattle.dexspec.specs.Rows.{key_cmp}
 use Rattle.dexrows.proofs.Shorts.{key_at, key_differs, key_agrees, key_ended}

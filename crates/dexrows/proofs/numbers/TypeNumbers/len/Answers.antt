@@ -1,4 +1,4 @@
-use Rattle.std.proofs.Common.{◌≡◌, ◌∙◌, ◌/◌, length, sym, ap}
+use Rattle.std.proofs.Common.{◌∙◌, ◌/◌, length, sym, ap}
 use Rattle.dexspec.proofs.FormedRows.{length-ushorts_at}
 use Rattle.dexrows.specs.Listed.{numbers_in}
 use Rattle.dexrows.proofs.numbers.TypeNumbers.len.Goals as goal

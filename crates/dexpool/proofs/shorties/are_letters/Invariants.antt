@@ -1,0 +1,6 @@
+use Rattle.std.specs.Prelude.{◌↔◌, drop}
+use Rattle.dexpool.specs.Judged.{SpellNumbers}
+use Rattle.dexpool.proofs.shorties.are_letters.Given as goal
+
+abbrev pub invariant-loop-i : goal.invariant-loop-i
+invariant-loop-i l = SpellNumbers l.letters l.units l.numbers ↔ SpellNumbers l.letters (drop l.i l.units) (drop l.i l.numbers)

@@ -1,0 +1,11 @@
+use Rattle.std.proofs.Common.{[], ◌∷◌, ◌++◌, sym, ap, ◌∙◌, arith}
+use Rattle.std.proofs.lemmas.List.{map_more}
+use Rattle.dexpool.specs.Tables.{type_of}
+use Rattle.dexpool.proofs.symbols.type_names.Goals as goal
+
+pub loop-i-preserved : goal.loop-i-preserved
+loop-i-preserved c =
+    let t = c.args.tables.now in
+    c.in_ok-push.ensures.items
+    ∙ (λ k. c.loop-i.invariant k ++ (c.in_ok-type_name.ensures ∙ ap (type_of t.strings.items t.types.items) c.at.ensures) k ∷ [])
+    ∙ sym (map_more (type_of t.strings.items t.types.items) c.args.types.now c.loop-i.i 0 (omega (arith, c.loop-i-test.true, c.len-i-end.ensures)))

@@ -1,0 +1,52 @@
+-- Texts whose units are spelled by one byte each.
+use Rattle.std.proofs.Common.{◌≡◌, ◌≢◌, ℕ, suc, ◌≤◌, List, [], ◌∷◌, ◌++◌, refl, sym, ap, ◌∙◌, length, arith, inl, inr}
+use Rattle.std.specs.List.{All}
+use Rattle.std.proofs.lemmas.List.Elements.{All-head, All-tail}
+use Rattle.dexspec.specs.Texts.{form, spelling, AreUnits}
+use Rattle.dexspec.proofs.OneText.{Shape, One, Two, Three, shape_of}
+use Rattle.dexstr.specs.Units.{units_of, IsSpelling, IsAscii}
+
+-- at least one byte for each unit
+more_bytes : (bytes : List ℕ) (u : ℕ) (rest : List ℕ) → Shape bytes u rest → suc (length rest) ≤ length bytes
+more_bytes bytes u rest (One some small e) = omega (arith, ap length e)
+more_bytes bytes u rest (Two which small e) = omega (arith, ap length e)
+more_bytes bytes u rest (Three large small e) = omega (arith, ap length e)
+
+least : (s : List ℕ) → AreUnits s → length s ≤ length (spelling s)
+least [] units = omega arith
+least (u ∷ s) units =
+    omega (arith, more_bytes (form u ++ spelling s) u (spelling s) (shape_of u (spelling s) (units 0 0 (omega arith))), least s (λ k d lt. units (suc k) d (omega arith)))
+
+-- the unit is the byte where it has no more
+one_byte : (bytes : List ℕ) (u : ℕ) (rest : List ℕ) → Shape bytes u rest → length bytes ≤ suc (length rest) → bytes ≡ u ∷ rest
+one_byte bytes u rest (One some small e) few = e
+one_byte bytes u rest (Two which small e) few = absurd (omega (arith, ap length e, few))
+one_byte bytes u rest (Three large small e) few = absurd (omega (arith, ap length e, few))
+
+one_byte_each : (s : List ℕ) → AreUnits s → length (spelling s) ≡ length s → spelling s ≡ s
+one_byte_each [] units same = refl
+one_byte_each (u ∷ s) units same =
+    let rest : AreUnits s = λ k d lt. units (suc k) d (omega arith) in
+    let first = one_byte (form u ++ spelling s) u (spelling s) (shape_of u (spelling s) (units 0 0 (omega arith))) (omega (arith, same, least s rest)) in
+    first ∙ ap (λ (t : List ℕ). u ∷ t) (one_byte_each s rest (omega (arith, ap length first, same)))
+
+ascii_form : (bytes : List ℕ) (u : ℕ) (rest : List ℕ) → Shape bytes u rest → IsAscii u → bytes ≡ u ∷ rest
+ascii_form bytes u rest (One some small e) h = e
+ascii_form bytes u rest (Two which small e) h = absurd (elim which [ inl none ↦ omega (arith, none, h.0) | inr large ↦ omega (arith, large, h.1) ])
+ascii_form bytes u rest (Three large small e) h = absurd (omega (arith, large, h.1))
+
+ascii_spelling : (s : List ℕ) → All IsAscii s → spelling s ≡ s
+ascii_spelling [] h = refl
+ascii_spelling (u ∷ s) h =
+    let first = All-head IsAscii u s h in
+    ascii_form (form u ++ spelling s) u (spelling s) (shape_of u (spelling s) (omega (arith, first.1))) first ∙ ap (λ (t : List ℕ). u ∷ t) (ascii_spelling s (All-tail IsAscii u s h))
+
+module _ (bytes s : List ℕ) (spelled : IsSpelling bytes) (is : units_of bytes ≡ s) where
+  same : spelling s ≡ bytes
+  same = ap spelling (sym is) ∙ spelled.parts
+
+  pub ascii_is : length s ≡ length bytes → bytes ≡ s
+  ascii_is e = sym same ∙ one_byte_each s (rw is at spelled.units) (ap length same ∙ sym e)
+
+  pub not_ascii : length s ≢ length bytes → ¬ All IsAscii s
+  not_ascii unlike all = unlike (ap length (sym (ascii_spelling s all) ∙ same))

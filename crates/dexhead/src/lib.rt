@@ -21,7 +21,7 @@ pub use device::{Device, DeviceFault, Sink, Source, write_whole};
 pub use frame::Frame;
 pub use head::{Head, Rows};
 pub use map_list::{MapEntry, MapList};
-pub use numbers::{put_u16, put_u32, u16_at, u32_at};
+pub use numbers::{push_u16, push_u32, put_u16, put_u32, u16_at, u32_at};
 pub use refusal::Refusal;
 pub use sections::Section;
 pub use stream::Adler;

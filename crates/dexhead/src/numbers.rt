@@ -57,9 +57,12 @@ pub fn put_u32(value: u32, out: &mut Vec<u8>) -> Result<(), AllocError>
     out.extend_from_slice(&bytes)
 }
 
-// Appends a `ushort` where there is room for it.
+/// Appends a number as two bytes (a `ushort`), where there is room for it.
+///
+/// Condition: the spare room is at least two bytes. No memory is taken. Source: "Dalvik Executable format",
+/// "Overall file layout".
 #[tactic(auto, using(crate::proofs::Spelled::length_ushort))]
-pub(crate) fn push_u16(value: u16, out: &mut Vec<u8>)
+pub fn push_u16(value: u16, out: &mut Vec<u8>)
     requires { vec_len out.old + 2 ≤ vec_capacity out.old }
     ensures items { out.new.items ≡ out.old.items ++ ushort value }
     ensures len { vec_len out.new ≡ vec_len out.old + 2 }
@@ -68,9 +71,12 @@ pub(crate) fn push_u16(value: u16, out: &mut Vec<u8>)
     put_u16(value, out).unwrap();
 }
 
-// Appends a `uint` where there is room for it.
+/// Appends a number as four bytes (a `uint`), where there is room for it.
+///
+/// Condition: the spare room is at least four bytes. No memory is taken. Source: "Dalvik Executable format",
+/// "Overall file layout".
 #[tactic(auto, using(crate::proofs::Spelled::length_uint))]
-pub(crate) fn push_u32(value: u32, out: &mut Vec<u8>)
+pub fn push_u32(value: u32, out: &mut Vec<u8>)
     requires { vec_len out.old + 4 ≤ vec_capacity out.old }
     ensures items { out.new.items ≡ out.old.items ++ uint value }
     ensures len { vec_len out.new ≡ vec_len out.old + 4 }

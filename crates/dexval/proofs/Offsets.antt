@@ -9,7 +9,6 @@ use Rattle.std.specs.List.{flat_map}
 use Rattle.dexspec.specs.Bytes.{uint, round_up}
 use Rattle.dexspec.specs.Numbers.{uleb128}
 use Rattle.dexspec.specs.Placing.{offsets_from, end_from}
-use Rattle.dexspec.proofs.ByteNumbers.{length-uint}
 use Rattle.dexspec.proofs.Places.{length-offsets_from}
 use Rattle.dexspec.proofs.Spellings.{uleb128_bounds}
 use Rattle.dexspec.proofs.SizeItems.{offsets_bytes-size}
@@ -23,9 +22,6 @@ use Rattle.dexval.specs.Code.{annotation_of}
 use Rattle.dexval.specs.Numbered.{NumberedAnnotation, NumberedSet, IsKnownSet, annotation_in, set_in, StandsForSet}
 use Rattle.dexval.specs.Spelled.{elements_count, count_bytes, numbered_elements_bytes, numbered_annotation_bytes, numbered_offsets, numbered_set_bytes, numbered_annotation_weight, numbered_set_weight}
 use Rattle.dexval.proofs.Spelling.{annotation_lengths_are}
-
-pub length_four : (n : ℕ) → length (uint n) ≡ 4
-length_four n = length-uint n
 
 -- ---- items one after the other
 

@@ -16,20 +16,9 @@ ghost use Rattle.dexval.specs.Spelled.{numbered_offsets, numbered_set_bytes};
 use crate::annotation::Annotation;
 use crate::set::AnnotationSet;
 use crate::sizes::annotation_size;
-use dexhead::put_u32;
+use dexhead::push_u32;
 use dexpool::Numbering;
 use std::alloc::AllocError;
-
-// Appends a number of four bytes where there is room for it.
-#[tactic(auto, using(crate::proofs::Offsets::length_four))]
-fn push_u32(number: u32, out: &mut Vec<u8>)
-    requires { vec_len out.old + 4 ≤ vec_capacity out.old }
-    ensures items { out.new.items ≡ out.old.items ++ uint number }
-    ensures len { vec_len out.new ≡ vec_len out.old + 4 }
-    ensures capacity { vec_capacity out.old ≤ vec_capacity out.new }
-{
-    put_u32(number, out).unwrap();
-}
 
 // Appends where each annotation begins, the first at a place and each other behind the one before it, where there is
 // room.

@@ -20,9 +20,6 @@ length_offsets ns = length-append (uint (length ns)) (flat_map uint ns) ∙ omeg
 pub length_four : (n : ℕ) → length (uint n) ≡ 4
 length_four n = length-uint n
 
-pub length_two : (n : ℕ) → length (ushort n) ≡ 2
-length_two n = length-ushort n
-
 pub length_member : (c n t : ℕ) → length (ushort c ++ (ushort n ++ uint t)) ≡ 8
 length_member c n t = omega (arith, length-append {A = ℕ}, length-uint, length-ushort)
 

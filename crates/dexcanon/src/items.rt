@@ -9,7 +9,7 @@ ghost use Rattle.dexspec.specs.Spellings.{offsets_bytes};
 ghost use Rattle.dexspec.specs.Aside.Writing.{Puts};
 ghost use Rattle.dexhead.specs.Written.{entry_meant};
 
-use dexhead::{MapEntry, MapList, put_u16, put_u32};
+use dexhead::{MapEntry, MapList, push_u16, push_u32, put_u32};
 use dexstr::{Text, put_text};
 use std::alloc::AllocError;
 
@@ -64,28 +64,6 @@ pub(crate) struct StringData<'a>(pub(crate) &'a Text<'a>);
 /// A map_list.
 #[derive(Drop)]
 pub(crate) struct Entries<'a>(pub(crate) &'a [MapEntry]);
-
-// Appends a number of two bytes where there is room for it.
-#[tactic(auto, using(crate::proofs::ItemLengths::length_two))]
-pub(crate) fn push_u16(number: u16, out: &mut Vec<u8>)
-    requires { vec_len out.old + 2 ≤ vec_capacity out.old }
-    ensures items { out.new.items ≡ out.old.items ++ ushort number }
-    ensures len { vec_len out.new ≡ vec_len out.old + 2 }
-    ensures capacity { vec_capacity out.old ≤ vec_capacity out.new }
-{
-    put_u16(number, out).unwrap();
-}
-
-// Appends a number of four bytes where there is room for it.
-#[tactic(auto, using(crate::proofs::ItemLengths::length_four))]
-pub(crate) fn push_u32(number: u32, out: &mut Vec<u8>)
-    requires { vec_len out.old + 4 ≤ vec_capacity out.old }
-    ensures items { out.new.items ≡ out.old.items ++ uint number }
-    ensures len { vec_len out.new ≡ vec_len out.old + 4 }
-    ensures capacity { vec_capacity out.old ≤ vec_capacity out.new }
-{
-    put_u32(number, out).unwrap();
-}
 
 // Appends numbers of four bytes each where there is room for them.
 fn push_numbers(numbers: &[u32], out: &mut Vec<u8>)

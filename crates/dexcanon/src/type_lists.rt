@@ -15,8 +15,9 @@ ghost use Rattle.dexcanon.specs.TypeLists.{types_at, list_bytes, AreFewTypes};
 
 use crate::contents::Contents;
 use crate::faults::StoreFault;
-use crate::items::{Item, push_u16, push_u32};
+use crate::items::Item;
 use crate::taking::{Takes, pass_aligned};
+use dexhead::{push_u16, push_u32};
 use dexpool::Numbering;
 use dexrows::TypeNumbers;
 use std::alloc::AllocError;

@@ -1,4 +1,5 @@
 pub mod Numbers
+pub mod KeyOrders
 pub mod Join
 pub mod Merge
 pub mod Cut

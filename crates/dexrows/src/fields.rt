@@ -1,6 +1,7 @@
 //! Rows of fields.
 
-ghost use Rattle.std.specs.Prelude.{◌≡◌, ◌∷◌, [], true};
+ghost use Rattle.std.specs.Prelude.{◌≡◌, ◌∷◌, [], true, refl};
+ghost use Rattle.dexrows.specs.KeyOrders.{both_same, same_number};
 
 use crate::lower::LowerPlaces;
 use crate::rows::Row;
@@ -34,6 +35,8 @@ impl Row for FieldRow {
     ghost mapped = { λ lower row. record { class = lower.types row.class; name = lower.strings row.name; typ = lower.types row.typ } };
 
     ghost can_move = { λ lower row list. Unit {0} };
+
+    ghost keeps_order = { λ among lower rise x y in_x in_y. both_same _ _ _ _ (same_number among.types lower.types rise.types x.class y.class in_x.0 in_y.0) (both_same _ _ _ _ (same_number among.strings lower.strings rise.strings x.name y.name in_x.1 in_y.1) (both_same _ _ _ _ (same_number among.types lower.types rise.types x.typ y.typ in_x.2 in_y.2) refl)) };
 
     fn key(&self) -> [usize; 3] {
         [self.class, self.name, self.typ]

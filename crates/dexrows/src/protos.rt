@@ -1,6 +1,7 @@
 //! Rows of protos.
 
 ghost use Rattle.std.specs.Prelude.{◌≡◌, ◌∷◌, [], true, All, map, length, slice_index, nat_lt};
+ghost use Rattle.dexrows.specs.KeyOrders.{both_same, same_number, same_numbers};
 
 use crate::lower::LowerPlaces;
 use crate::numbers::TypeNumbers;
@@ -83,6 +84,8 @@ impl<'p> Row for ProtoRow<'p> {
     ghost mapped = { λ lower row. record { shorty = lower.strings row.shorty; return_type = lower.types row.return_type; parameters = map lower.types row.parameters } };
 
     ghost can_move = { λ lower row list. (nat_lt row.shorty (length lower.strings.now) ≡ true) × (list.now ≡ map (slice_index lower.types.now) row.parameters) };
+
+    ghost keeps_order = { λ among lower rise x y in_x in_y. both_same _ _ _ _ (same_number among.types lower.types rise.types x.return_type y.return_type in_x.0 in_y.0) (same_numbers among.types lower.types rise.types x.parameters y.parameters in_x.1 in_y.1) };
 
     fn key(&self) -> (usize, TypeNumbers<'p>) {
         (self.return_type, self.parameters.clone())

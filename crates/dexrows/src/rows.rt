@@ -2,7 +2,7 @@
 
 ghost use Rattle.std.specs.Prelude.{◌≡◌, List, ℕ};
 ghost use Rattle.dexspec.specs.Rows.{key_cmp};
-ghost use Rattle.dexrows.specs.Numbers.{Among, Lower, lower_of, among_of};
+ghost use Rattle.dexrows.specs.Numbers.{Among, Lower, RiseAmong, lower_of, among_of};
 
 use crate::lower::LowerPlaces;
 use std::cmp::Ordering;
@@ -55,4 +55,7 @@ pub trait Row: Drop {
         requires within { numbers_in (among_of lower) self.now }
         requires list { can_move lower self.now list }
         ensures { result ≡ mapped (lower_of lower.entry) self.now };
+
+    // Where the numbers of lower tables are replaced in their order, the rows keep theirs.
+    ghost keeps_order: { (among : Among) (lower : Lower) → RiseAmong among lower → (x y : Self) → numbers_in among x → numbers_in among y → key_cmp (key_of (mapped lower x)) (key_of (mapped lower y)) ≡ key_cmp (key_of x) (key_of y) };
 }

@@ -1,5 +1,7 @@
 //! Texts as rows.
 
+ghost use Rattle.std.specs.Prelude.{refl};
+
 use crate::lower::LowerPlaces;
 use crate::rows::Row;
 use dexstr::Text;
@@ -22,6 +24,8 @@ impl<'a> Row for Text<'a> {
     ghost mapped = { λ lower text. text };
 
     ghost can_move = { λ lower text list. Unit {0} };
+
+    ghost keeps_order = { λ among lower rise x y in_x in_y. refl };
 
     fn key(&self) -> Text<'a> {
         self.clone()

@@ -1,6 +1,7 @@
 //! Rows of types.
 
-ghost use Rattle.std.specs.Prelude.{◌≡◌, ◌∷◌, [], true};
+ghost use Rattle.std.specs.Prelude.{◌≡◌, ◌∷◌, [], true, refl};
+ghost use Rattle.dexrows.specs.KeyOrders.{both_same, same_number};
 
 use crate::lower::LowerPlaces;
 use crate::rows::Row;
@@ -30,6 +31,8 @@ impl Row for TypeRow {
     ghost mapped = { λ lower row. record { descriptor = lower.strings row.descriptor } };
 
     ghost can_move = { λ lower row list. Unit {0} };
+
+    ghost keeps_order = { λ among lower rise x y in_x in_y. both_same _ _ _ _ (same_number among.strings lower.strings rise.strings x.descriptor y.descriptor in_x in_y) refl };
 
     fn key(&self) -> usize {
         self.descriptor

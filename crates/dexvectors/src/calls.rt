@@ -11,21 +11,53 @@ mod sums;
 mod text;
 
 use crate::kind::Kind;
-use dexcases::{CaseFault, Outcome};
+use crate::words::{bytes_in, units_in};
+use dexcases::{CaseFault, Outcome, first_word};
 use std::alloc::Global;
 
 /// Runs a line of a file of calls of this kind.
 pub fn run_call(alloc: Global, kind: Kind, line: &str) -> Result<Outcome, CaseFault> {
+    let (word, rest) = first_word(line)?;
+    let (number, right) = match kind {
+        Kind::Puts | Kind::Flags => first_word(rest)?,
+        _ => ("", rest),
+    };
+    let answered = told(alloc, kind, word, number)?;
+    Ok(Outcome::of(answered, right))
+}
+
+// What is told of the first word of a line, and of the number behind it where one stands there.
+fn told(alloc: Global, kind: Kind, word: &str, number: &str) -> Result<String, CaseFault> {
     match kind {
-        Kind::Leb => leb::run(alloc, line),
-        Kind::Puts => puts::run(alloc, line),
-        Kind::Text => text::run(alloc, line),
-        Kind::Names => names::run(alloc, line),
-        Kind::Split => split::run(alloc, line),
-        Kind::Opcodes => opcodes::run(alloc, line),
-        Kind::Debug => debug::run(alloc, line),
-        Kind::Sums => sums::run(alloc, line),
-        Kind::Flags => flags::run(alloc, line),
-        _ => Ok(Outcome::Unserved),
+        Kind::Puts => puts::told(alloc, word, number),
+        Kind::Flags => flags::told(alloc, word, number),
+        Kind::Opcodes => opcodes::told(alloc, word),
+        Kind::Names | Kind::Split => {
+            let units = units_in(alloc, word)?;
+            told_of_units(alloc, kind, &units)
+        }
+        _ => {
+            let bytes = bytes_in(alloc, word)?;
+            told_of_bytes(alloc, kind, &bytes)
+        }
+    }
+}
+
+// What is told of the units that a word stands for.
+fn told_of_units(alloc: Global, kind: Kind, units: &[u16]) -> Result<String, CaseFault> {
+    match kind {
+        Kind::Names => names::told(alloc, units),
+        _ => Ok(split::told(alloc, units)?),
+    }
+}
+
+// What is told of the bytes that a word stands for.
+fn told_of_bytes(alloc: Global, kind: Kind, bytes: &[u8]) -> Result<String, CaseFault> {
+    match kind {
+        Kind::Leb => Ok(leb::told(alloc, bytes)?),
+        Kind::Text => Ok(text::told(alloc, bytes)?),
+        Kind::Debug => debug::told(alloc, bytes),
+        Kind::Sums => Ok(sums::told(alloc, bytes)?),
+        _ => Err(CaseFault::Form),
     }
 }

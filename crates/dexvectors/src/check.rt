@@ -72,16 +72,28 @@ fn right_in(alloc: Global, right: &str) -> Result<RightAnswer, CaseFault> {
     if let Some(classes) = right.strip_prefix("ok ") {
         return Ok(RightAnswer::Accepted(classes.parse()?));
     }
-    let listed = right.strip_prefix("refused ").ok_or(CaseFault::Form)?;
+    match right.strip_prefix("refused ") {
+        Some(listed) => Ok(RightAnswer::Refused(refusals_in(alloc, listed)?)),
+        None => Err(CaseFault::Form),
+    }
+}
+
+// Refusals, in the words of a line.
+fn refusals_in(alloc: Global, listed: &str) -> Result<Vec<Refusal>, CaseFault> {
     let mut refusals = Vec::new(alloc);
     for one in listed.split(" | ") {
-        let (number, place) = first_word(one)?;
-        refusals.push(Refusal {
-            number: number.parse()?,
-            place: place.parse()?,
-        })?;
+        refusals.push(refusal_in(one)?)?;
     }
-    Ok(RightAnswer::Refused(refusals))
+    Ok(refusals)
+}
+
+// A refusal, in the words of a line.
+fn refusal_in(words: &str) -> Result<Refusal, CaseFault> {
+    let (number, place) = first_word(words)?;
+    Ok(Refusal {
+        number: number.parse()?,
+        place: place.parse()?,
+    })
 }
 
 // What was told, in the words of a line.

@@ -5,6 +5,7 @@ use crate::check;
 use dexcases::{CaseFault, Outcome, first_word};
 use dexhead::set_sums;
 use std::alloc::Global;
+use std::ops::RangeInclusive;
 
 /// What is made right again in the header of a file that is cut.
 #[derive(Clone, Copy)]
@@ -55,17 +56,24 @@ pub fn run(alloc: Global, bytes: &[u8], case: &str) -> Result<Outcome, CaseFault
     let (first, rest) = first_word(case)?;
     let (last, rest) = first_word(rest)?;
     let (mended, right) = first_word(rest)?;
-    let (first, last): (usize, usize) = (first.parse()?, last.parse()?);
+    let lens = first.parse()?..=last.parse()?;
     let mended = Mended::of_word(mended).ok_or(CaseFault::Form)?;
-    for len in first..=last {
+    run_cuts(alloc, bytes, lens, mended, right)
+}
+
+// How a file goes that is cut to each of these lengths.
+fn run_cuts(
+    alloc: Global,
+    bytes: &[u8],
+    lens: RangeInclusive<usize>,
+    mended: Mended,
+    right: &str,
+) -> Result<Outcome, CaseFault> {
+    for len in lens {
         let front = bytes.get(..len).ok_or(CaseFault::Form)?;
-        match run_cut(alloc, front, mended, right)? {
-            Outcome::Passed => continue,
-            Outcome::Failed(answered) => {
-                let answered = format!(in alloc; "cut to {len} bytes: {answered}")?;
-                return Ok(Outcome::Failed(answered));
-            }
-            Outcome::Unserved => return Ok(Outcome::Unserved),
+        if let Outcome::Failed(answered) = run_cut(alloc, front, mended, right)? {
+            let answered = format!(in alloc; "cut to {len} bytes: {answered}")?;
+            return Ok(Outcome::Failed(answered));
         }
     }
     Ok(Outcome::Passed)

@@ -1,7 +1,7 @@
 //! Files merged: `merge PLAN caps T P F M S W files FILE.. ok CANON`, `.. fault CAUSE | CAUSE ..`, any of
 //! which is right, or `.. badplan`; no files are `-`.
 
-use crate::normalise::{is_written_as, other_bytes};
+use crate::normalise::is_written_as;
 use crate::plans::{caps_in, plan_in};
 use crate::words::print_name;
 use dexcases::{CaseFault, Folder, Outcome, Printed};
@@ -63,7 +63,8 @@ pub fn run<R: Files + AllocGlobal>(
 ) -> Result<Outcome, CaseFault> {
     let (plan, rest) = case.split_once(" caps ").ok_or(CaseFault::Form)?;
     let merge = Merge::of(folder, rest)?;
-    merge.run(folder.alloc(), plan, after)
+    merge.run(folder.alloc(), plan, after)?;
+    Ok(Outcome::Passed)
 }
 
 impl<'a> Merge<'a> {
@@ -79,21 +80,17 @@ impl<'a> Merge<'a> {
         Ok(Merge { files, caps, right })
     }
 
-    // How the line goes by the plan that these words stand for.
-    fn run(&self, alloc: Global, plan: &str, after: After) -> Result<Outcome, CaseFault> {
+    // Fails the line unless the plan that these words stand for answers what is right.
+    fn run(&self, alloc: Global, plan: &str, after: After) -> Result<(), CaseFault> {
         let plan = plan_in(alloc, plan)?;
         self.run_plan(alloc, &plan, after)
     }
 
-    // How the line goes by a plan: the programs are lent to the merge, and then given to it.
-    fn run_plan(&self, alloc: Global, plan: &Plan, after: After) -> Result<Outcome, CaseFault> {
+    // The same of a plan: the programs are lent to the merge, and then given to it.
+    fn run_plan(&self, alloc: Global, plan: &Plan, after: After) -> Result<(), CaseFault> {
         let programs = self.programs(alloc)?;
-        match self.planned(alloc, &programs, plan, after)? {
-            Outcome::Passed => {
-                self.judged(alloc, merge_files(alloc, programs, plan, &self.caps), after)
-            }
-            failed => Ok(failed),
-        }
+        self.check_plan(alloc, &programs, plan, after)?;
+        self.check(alloc, merge_files(alloc, programs, plan, &self.caps), after)
     }
 
     /// The programs of the files. A line of which a file is refused fails.
@@ -111,62 +108,67 @@ impl<'a> Merge<'a> {
         Ok(programs)
     }
 
-    /// How the line goes where the programs are merged by this plan.
-    pub(crate) fn planned(
+    /// Fails the line unless the programs that are merged by this plan give what is right.
+    pub(crate) fn check_plan(
         &self,
         alloc: Global,
         programs: &[Program<'_>],
         plan: &Plan,
         after: After,
-    ) -> Result<Outcome, CaseFault> {
-        self.judged(alloc, merge_plan(alloc, programs, plan, &self.caps), after)
+    ) -> Result<(), CaseFault> {
+        self.check(alloc, merge_plan(alloc, programs, plan, &self.caps), after)
     }
 
-    // How the line goes where this is the answer.
-    fn judged(
+    // Fails the line unless this answer is right.
+    fn check(
         &self,
         alloc: Global,
         answer: Result<Program<'_>, PlanFault>,
         after: After,
-    ) -> Result<Outcome, CaseFault> {
+    ) -> Result<(), CaseFault> {
         match answer {
-            Ok(program) => self.judged_program(alloc, program, after),
+            Ok(program) => self.check_program(alloc, program, after),
             Err(PlanFault::BadPlan) => match self.right {
-                RightAnswer::BadPlan => Ok(Outcome::Passed),
+                RightAnswer::BadPlan => Ok(()),
                 _ => Err(CaseFault::failed(alloc, "badplan")),
             },
-            Err(PlanFault::Merge(fault)) => told(alloc, &fault, &self.right),
+            Err(PlanFault::Merge(fault)) => check_cause(alloc, &fault, &self.right),
         }
     }
 
-    // How the line goes where this is the merged program.
-    fn judged_program(
+    // Fails the line unless this merged program is right.
+    fn check_program(
         &self,
         alloc: Global,
         program: Program<'_>,
         after: After,
-    ) -> Result<Outcome, CaseFault> {
-        match &self.right {
-            RightAnswer::Written(right) => {
-                if after.is_written_as(alloc, program, right)? {
-                    return Ok(Outcome::Passed);
-                }
-                other_bytes(alloc)
-            }
-            _ => Err(CaseFault::failed(alloc, "ok")),
+    ) -> Result<(), CaseFault> {
+        let right = match &self.right {
+            RightAnswer::Written(right) => right,
+            _ => return Err(CaseFault::failed(alloc, "ok")),
+        };
+        if after.is_written_as(alloc, program, right)? {
+            return Ok(());
         }
+        Err(CaseFault::failed(alloc, "other bytes"))
     }
 }
 
-// How a line goes whose files are not merged, for this cause.
-fn told(alloc: Global, fault: &MergeFault, right: &RightAnswer<'_>) -> Result<Outcome, CaseFault> {
+// Fails the line unless this cause, for which its files are not merged, is right.
+fn check_cause(
+    alloc: Global,
+    fault: &MergeFault,
+    right: &RightAnswer<'_>,
+) -> Result<(), CaseFault> {
     let told = cause_of(alloc, fault)?;
-    match right {
-        RightAnswer::Causes(causes) if causes.split(" | ").any(|cause| cause == told.as_str()) => {
-            Ok(Outcome::Passed)
+    if let RightAnswer::Causes(causes) = right {
+        for cause in causes.split(" | ") {
+            if cause == told.as_str() {
+                return Ok(());
+            }
         }
-        _ => Ok(Outcome::Failed(told)),
     }
+    Err(CaseFault::Failed(told))
 }
 
 // The bytes of the files of these names.

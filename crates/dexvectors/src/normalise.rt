@@ -20,15 +20,14 @@ pub fn run(alloc: Global, bytes: &[u8], right: &[u8]) -> Result<Outcome, CaseFau
     if is_canonical(alloc, &program, right)? {
         return Ok(Outcome::Passed);
     }
-    other_bytes(alloc)
+    Err(CaseFault::failed(alloc, "other bytes"))
 }
 
 // Whether a device is given these bytes for a copy of the program, and the program is made to them.
 fn is_canonical(alloc: Global, program: &Program<'_>, right: &[u8]) -> Result<bool, AllocError>
     ensures { IfOk result (λ is. IsTrue is → right.now ≡ canonical program.now) }
 {
-    let copy = program.copy()?;
-    if !is_given(alloc, &copy, right)? {
+    if !is_given_copied(alloc, program, right)? {
         return Ok(false);
     }
     is_written_as(alloc, program, right)
@@ -42,6 +41,12 @@ pub fn is_written_as(alloc: Global, program: &Program<'_>, right: &[u8]) -> Resu
     Ok(right == written.as_slice())
 }
 
+// Whether a device is given these bytes as the canonical file of a copy of the program.
+fn is_given_copied(alloc: Global, program: &Program<'_>, right: &[u8]) -> Result<bool, AllocError> {
+    let copy = program.copy()?;
+    is_given(alloc, &copy, right)
+}
+
 // Whether a device is given these bytes as the canonical file of the program.
 fn is_given(alloc: Global, program: &Program<'_>, right: &[u8]) -> Result<bool, AllocError> {
     let mut out = Device::new(Vec::new(alloc));
@@ -50,11 +55,4 @@ fn is_given(alloc: Global, program: &Program<'_>, right: &[u8]) -> Result<bool, 
         Err(StoreFault::Memory) => Err(AllocError),
         Err(StoreFault::Io) => Ok(false),
     }
-}
-
-/// How a line goes whose canonical file has other bytes.
-pub fn other_bytes(alloc: Global) -> Result<Outcome, CaseFault>
-    ensures { IfOk result (λ outcome. outcome ≡ Outcome.Passed → ⊥) }
-{
-    Ok(Outcome::Failed(String::from_str(alloc, "other bytes")?))
 }

@@ -1,22 +1,31 @@
 //! Files stripped: `strip FILE CANON`, the canonical file without debug programs and source texts.
 
-ghost use Rattle.std.specs.Prelude.{◌≡◌, IfOk};
+ghost use Rattle.std.specs.Prelude.{◌≡◌, IfOk, IsTrue};
+ghost use Rattle.dexspec.specs.Canonical.{canonical};
+ghost use Rattle.dexspec.specs.Stripping.{strip_collection};
 ghost use Rattle.dexvectors.specs.Told.{Strips};
 
-use crate::normalise::{is_written_as, other_bytes};
+use crate::normalise::is_written_as;
 use crate::program::program_of;
 use dexcases::{CaseFault, Outcome};
-use dexclass::strip;
-use std::alloc::Global;
+use dexclass::{Program, strip};
+use std::alloc::{AllocError, Global};
 
 /// Runs a line, given the file and the bytes of the canonical file of what is left: how it goes.
 pub fn run(alloc: Global, bytes: &[u8], right: &[u8]) -> Result<Outcome, CaseFault>
     ensures { IfOk result (λ outcome. outcome ≡ Outcome.Passed → Strips bytes.now right.now) }
 {
     let program = program_of(alloc, bytes)?;
-    let stripped = strip(alloc, &program)?;
-    if is_written_as(alloc, &stripped, right)? {
+    if is_stripped_to(alloc, &program, right)? {
         return Ok(Outcome::Passed);
     }
-    other_bytes(alloc)
+    Err(CaseFault::failed(alloc, "other bytes"))
+}
+
+// Whether the canonical file of what is left of the program has these bytes.
+fn is_stripped_to(alloc: Global, program: &Program<'_>, right: &[u8]) -> Result<bool, AllocError>
+    ensures { IfOk result (λ is. IsTrue is → right.now ≡ canonical (strip_collection program.now)) }
+{
+    let stripped = strip(alloc, program)?;
+    is_written_as(alloc, &stripped, right)
 }

@@ -22,11 +22,21 @@ pub fn run(alloc: Global, bytes: &[u8], asked: &str) -> Result<Outcome, CaseFaul
 fn named_in(alloc: Global, bytes: &[u8], kind: SymbolKind, row: u32) -> Result<String, CaseFault> {
     let frame = frame_of(alloc, bytes)?;
     let pools = pools_of(alloc, &frame)?;
+    named_by(alloc, &pools, kind, row)
+}
+
+// What a row of these pools names.
+fn named_by(
+    alloc: Global,
+    pools: &Pools<'_>,
+    kind: SymbolKind,
+    row: u32,
+) -> Result<String, CaseFault> {
     if row as usize >= pools.len(kind) {
         return Err(CaseFault::failed(alloc, "no row"));
     }
     let symbol = pools.symbol(alloc, kind, row)?;
-    Ok(named(alloc, &pools, row, &symbol)?)
+    Ok(named(alloc, pools, row, &symbol)?)
 }
 
 // What a symbol of a row names, by a copy of it, or that the copy ranks otherwise.
@@ -37,10 +47,20 @@ fn named(
     symbol: &Symbol,
 ) -> Result<String, AllocError> {
     let copy = symbol.copy()?;
-    if rank_in(pools, &copy)? != row as usize {
+    named_itself(alloc, pools, row, &copy)
+}
+
+// The same of the symbol itself.
+fn named_itself(
+    alloc: Global,
+    pools: &Pools<'_>,
+    row: u32,
+    symbol: &Symbol,
+) -> Result<String, AllocError> {
+    if rank_in(pools, symbol)? != row as usize {
         return String::from_str(alloc, "another rank");
     }
-    shown(alloc, &copy)
+    shown(alloc, symbol)
 }
 
 // How many symbols of its kind are less in a numbering of the pools.

@@ -23,8 +23,15 @@ fn weighed(alloc: Global, bytes: &[u8], right: u64) -> Result<Outcome, CaseFault
     if weighs(&program, right) {
         return Ok(Outcome::Passed);
     }
-    let weight = program.weight();
-    Ok(Outcome::Failed(format!(in alloc; "{weight}")?))
+    Err(other_weight(alloc, program.weight()))
+}
+
+// The fault that the classes weigh otherwise.
+fn other_weight(alloc: Global, weight: u64) -> CaseFault {
+    match format!(in alloc; "{weight}") {
+        Ok(weight) => CaseFault::Failed(weight),
+        Err(_) => CaseFault::Memory,
+    }
 }
 
 // Whether the classes of a program weigh so much.

@@ -2,11 +2,10 @@
 //! NUMBER`.
 
 use crate::pools::{frame_of, pools_of};
-use crate::words::bytes_in;
-use dexcases::{CaseFault, Outcome, Printed, first_word};
+use dexcases::{CaseFault, Printed};
 use dexcode::{Debug, positions, read_debug};
-use dexhead::{Head, MapEntry, MapList, Rows, Section, set_sums};
-use dexpool::ItemFault;
+use dexhead::{Frame, Head, MapEntry, MapList, Rows, Section, set_sums};
+use dexpool::{ItemFault, Pools};
 use std::alloc::{AllocError, Global};
 
 const HEADER_SIZE: u32 = 112;
@@ -16,27 +15,30 @@ const MAP_SIZE: u32 = 28;
 // Where the item stands: it ends with the file.
 const ITEM: u32 = HEADER_SIZE + MAP_SIZE;
 
-/// Runs a line.
-pub fn run(alloc: Global, line: &str) -> Result<Outcome, CaseFault> {
-    let (word, right) = first_word(line)?;
-    let file = file_of(alloc, word)?;
-    let answered = told_in(alloc, &file)?;
-    Ok(Outcome::of(answered, right))
+/// What is told of an item of these bytes.
+pub fn told(alloc: Global, item: &[u8]) -> Result<String, CaseFault> {
+    let file = file_around(alloc, item)?;
+    told_in(alloc, &file)
 }
 
 // What is told of the item in a file.
 fn told_in(alloc: Global, file: &[u8]) -> Result<String, CaseFault> {
     let frame = frame_of(alloc, file)?;
     let pools = pools_of(alloc, &frame)?;
-    match read_debug(alloc, &frame, &pools, ITEM) {
-        Ok(debug) => Ok(told(alloc, &debug)?),
-        Err(ItemFault::Refused(number)) => Ok(format!(in alloc; "refused {number}")?),
-        Err(ItemFault::Memory) => Err(CaseFault::Memory),
+    Ok(told_of(alloc, &frame, &pools)?)
+}
+
+// The same, given the file's pools.
+fn told_of(alloc: Global, frame: &Frame<'_>, pools: &Pools<'_>) -> Result<String, AllocError> {
+    match read_debug(alloc, frame, pools, ITEM) {
+        Ok(debug) => told_positions(alloc, &debug),
+        Err(ItemFault::Refused(number)) => format!(in alloc; "refused {number}"),
+        Err(ItemFault::Memory) => Err(AllocError),
     }
 }
 
 // The positions of a debug program.
-fn told(alloc: Global, debug: &Debug) -> Result<String, AllocError> {
+fn told_positions(alloc: Global, debug: &Debug) -> Result<String, AllocError> {
     let positions = positions(alloc, debug)?;
     let mut text = Printed::new(alloc);
     text.add("ok ");
@@ -44,15 +46,11 @@ fn told(alloc: Global, debug: &Debug) -> Result<String, AllocError> {
     text.finish()
 }
 
-// The file of the item that a word spells.
-fn file_of(alloc: Global, word: &str) -> Result<Vec<u8>, CaseFault> {
-    let item = bytes_in(alloc, word)?;
-    file_around(alloc, &item)
-}
-
 // A file without tables, whose data is the map and the item.
 fn file_around(alloc: Global, item: &[u8]) -> Result<Vec<u8>, CaseFault> {
-    let item_size = u32::try_from(item.len()).map_err(|_| CaseFault::Form)?;
+    let Ok(item_size) = u32::try_from(item.len()) else {
+        return Err(CaseFault::Form);
+    };
     let file_size = item_size.checked_add(ITEM).ok_or(CaseFault::Form)?;
     let head = Head {
         checksum: 0,

@@ -4,29 +4,26 @@
 ghost use Rattle.std.specs.Prelude.{◌≡◌, ◌++◌, IfOk, OnOk};
 ghost use Rattle.dexspec.specs.Texts.{form, string_data};
 
-use crate::words::units_in;
-use dexcases::{CaseFault, Outcome, first_word};
+use dexcases::CaseFault;
 use dexleb::put_u;
 use dexstr::{Text, descriptor_kind, is_member_name, put_text};
 use std::alloc::{AllocError, Global};
 
-/// Runs a line.
-pub fn run(alloc: Global, line: &str) -> Result<Outcome, CaseFault> {
-    let (word, right) = first_word(line)?;
-    let item = item_in(alloc, word)?;
-    let answered = told_of(alloc, &item)?;
-    Ok(Outcome::of(answered, right))
+/// What is told of a text of these units.
+pub fn told(alloc: Global, units: &[u16]) -> Result<String, CaseFault> {
+    let item = item_of(alloc, units)?;
+    told_in(alloc, &item)
 }
 
 // What is told of the text of an item.
-fn told_of(alloc: Global, item: &[u8]) -> Result<String, CaseFault> {
+fn told_in(alloc: Global, item: &[u8]) -> Result<String, CaseFault> {
     let Ok((text, _)) = Text::read(item, 0) else {
         return Err(CaseFault::failed(alloc, "no text"));
     };
     if !is_put_as(alloc, &text, item)? {
         return Err(CaseFault::failed(alloc, "another item"));
     }
-    Ok(told(alloc, &text)?)
+    Ok(told_of(alloc, &text)?)
 }
 
 // Whether a text is put as these bytes.
@@ -37,7 +34,7 @@ fn is_put_as(alloc: Global, text: &Text<'_>, item: &[u8]) -> Result<bool, AllocE
 }
 
 // What a text may name.
-fn told(alloc: Global, text: &Text<'_>) -> Result<String, AllocError> {
+fn told_of(alloc: Global, text: &Text<'_>) -> Result<String, AllocError> {
     let member = u8::from(is_member_name(text));
     match descriptor_kind(text) {
         Some(kind) => format!(in alloc; "{kind:?} {member}"),
@@ -45,17 +42,14 @@ fn told(alloc: Global, text: &Text<'_>) -> Result<String, AllocError> {
     }
 }
 
-// The string_data_item of the text that a word spells.
-fn item_in(alloc: Global, word: &str) -> Result<Vec<u8>, CaseFault> {
-    let units = units_in(alloc, word)?;
-    item_of(alloc, &units)
-}
-
 // The string_data_item of a text of these units.
 fn item_of(alloc: Global, units: &[u16]) -> Result<Vec<u8>, CaseFault>
     ensures { IfOk result (λ item. item.items ≡ string_data units.now) }
 {
-    let count = u32::try_from(units.len()).map_err(|_| CaseFault::Form)?;
+    let count = match u32::try_from(units.len()) {
+        Ok(count) => count,
+        Err(_) => return Err(CaseFault::Form),
+    };
     let mut item = Vec::new(alloc);
     put_u(count, &mut item)?;
     for &unit in units {

@@ -4,14 +4,12 @@
 ghost use Rattle.std.specs.Prelude.{◌<◌, ◌^◌, IfOk};
 ghost use Rattle.dexspec.specs.Numbers.{plus_one};
 
-use dexcases::{CaseFault, Outcome, first_word};
+use dexcases::CaseFault;
 use dexleb::{put_p1, put_s, put_u};
 use std::alloc::Global;
 
-/// Runs a line.
-pub fn run(alloc: Global, line: &str) -> Result<Outcome, CaseFault> {
-    let (call, rest) = first_word(line)?;
-    let (number, right) = first_word(rest)?;
+/// The bytes that a call puts for a number, in hexadecimal.
+pub fn told(alloc: Global, call: &str, number: &str) -> Result<String, CaseFault> {
     let mut bytes = Vec::new(alloc);
     match call {
         "u" => put_u(number.parse()?, &mut bytes)?,
@@ -19,7 +17,7 @@ pub fn run(alloc: Global, line: &str) -> Result<Outcome, CaseFault> {
         "p1" => put_p1(number_or_none(number)?, &mut bytes)?,
         _ => return Err(CaseFault::Form),
     }
-    Ok(Outcome::of(hex::encode(alloc, bytes.as_slice())?, right))
+    Ok(hex::encode(alloc, bytes.as_slice())?)
 }
 
 // The number below 2^32 - 1 that a word stands for, or none.

@@ -1,22 +1,13 @@
 //! Code cut into pieces: `UNITS ok START/LENGTH,START/LENGTH,..`, or `UNITS`, a fault and its unit.
 
-use crate::words::units_in;
-use dexcases::{CaseFault, Outcome, Printed, first_word};
+use dexcases::Printed;
 use dexinsn::{CodeFault, Cut, split};
 use std::alloc::{AllocError, Global};
 
-/// Runs a line.
-pub fn run(alloc: Global, line: &str) -> Result<Outcome, CaseFault> {
-    let (word, right) = first_word(line)?;
-    let units = units_in(alloc, word)?;
-    let answered = told_of(alloc, &units)?;
-    Ok(Outcome::of(answered, right))
-}
-
-// What is told of code of these units.
-fn told_of(alloc: Global, units: &[u16]) -> Result<String, AllocError> {
+/// What is told of code of these units.
+pub fn told(alloc: Global, units: &[u16]) -> Result<String, AllocError> {
     let fault = match split(alloc, units) {
-        Ok(cuts) => return told(alloc, &cuts),
+        Ok(cuts) => return told_cuts(alloc, &cuts),
         Err(fault) => fault,
     };
     let name = match fault {
@@ -30,7 +21,7 @@ fn told_of(alloc: Global, units: &[u16]) -> Result<String, AllocError> {
 }
 
 // The first unit and the number of units of each piece.
-fn told(alloc: Global, cuts: &[Cut]) -> Result<String, AllocError> {
+fn told_cuts(alloc: Global, cuts: &[Cut]) -> Result<String, AllocError> {
     let mut answered = Printed::new(alloc);
     answered.add("ok");
     let mut mark = " ";

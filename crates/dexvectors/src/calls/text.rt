@@ -1,28 +1,19 @@
 //! Texts read: `HEX ok USED UNITS`, or `HEX` and a fault. The units are told of a copy that owns them.
 
-use crate::words::bytes_in;
-use dexcases::{CaseFault, Outcome, Printed, first_word};
+use dexcases::Printed;
 use dexstr::{Name, Text};
 use std::alloc::{AllocError, Global};
 
-/// Runs a line.
-pub fn run(alloc: Global, line: &str) -> Result<Outcome, CaseFault> {
-    let (word, right) = first_word(line)?;
-    let bytes = bytes_in(alloc, word)?;
-    let answered = told_of(alloc, &bytes)?;
-    Ok(Outcome::of(answered, right))
-}
-
-// What is told of the text at the front of these bytes.
-fn told_of(alloc: Global, bytes: &[u8]) -> Result<String, AllocError> {
+/// What is told of the text at the front of these bytes.
+pub fn told(alloc: Global, bytes: &[u8]) -> Result<String, AllocError> {
     match Text::read(bytes, 0) {
-        Ok((text, used)) => told(alloc, used, &Name::of(alloc, &text)?),
+        Ok((text, used)) => told_name(alloc, used, &Name::of(alloc, &text)?),
         Err(fault) => format!(in alloc; "{fault:?}"),
     }
 }
 
 // The number of bytes of a text, and the units of a copy of it.
-fn told(alloc: Global, used: usize, name: &Name) -> Result<String, AllocError> {
+fn told_name(alloc: Global, used: usize, name: &Name) -> Result<String, AllocError> {
     let copy = name.copy()?;
     let mut words = Printed::new(alloc);
     words.add("ok ");

@@ -20,22 +20,46 @@ use dexhead::Table;
 use dexmembers::Members;
 use std::alloc::{AllocError, Global};
 
+// How many items are put as they stand in the file, and why the first that is not so fails the line.
+#[derive(Drop)]
+struct Count {
+    items: u32,
+    fault: Option<CaseFault>,
+}
+
+impl Count {
+    // Counts an item, if it is put as it stands.
+    fn add(&mut self, answer: Result<(), CaseFault>) {
+        if self.fault.is_some() {
+            return;
+        }
+        match answer {
+            Ok(()) => self.items = self.items.saturating_add(1),
+            Err(fault) => self.fault = Some(fault),
+        }
+    }
+
+    // How many there are, if each is put as it stands.
+    fn finish(self) -> Result<u32, CaseFault> {
+        let Count { items, fault } = self;
+        match fault {
+            Some(fault) => Err(fault),
+            None => Ok(items),
+        }
+    }
+}
+
 /// Runs a line that asks for one item.
 pub fn run_item(alloc: Global, file: &DexFile<'_>, line: Line<'_>) -> Result<Outcome, CaseFault>
     requires { ArePools file.now.frame file.now.pools }
 {
     let debug_off = match line.word {
         "value" | "statics" | "debug" => 0,
-        "code" => number_behind(file.frame.bytes(), line.place, 8)?,
+        "code" => number_behind(file.frame.bytes(), line.place, 8),
         _ => return Err(CaseFault::Form),
     };
-    stands(
-        alloc,
-        file,
-        Put::of_word(line.word, debug_off)?,
-        line.place,
-        line.place,
-    )?;
+    let put = Put::of_word(line.word, debug_off)?;
+    stands(alloc, file, put, line.place, line.place)?;
     Ok(Outcome::Passed)
 }
 
@@ -43,14 +67,25 @@ pub fn run_item(alloc: Global, file: &DexFile<'_>, line: Line<'_>) -> Result<Out
 pub fn run(alloc: Global, file: &DexFile<'_>, line: Line<'_>) -> Result<Outcome, CaseFault>
     requires { ArePools file.now.frame file.now.pools }
 {
-    let mut count: u32 = 0;
-    for row in 0..file.frame.size(Table::ClassDefs) {
-        count = count.saturating_add(count_class(alloc, file, row)?);
-    }
-    if count == line.place {
+    let items = count_classes(alloc, file)?;
+    if items == line.place {
         return Ok(Outcome::Passed);
     }
-    Ok(Outcome::Failed(format!(in alloc; "{count} items")?))
+    Ok(Outcome::Failed(format!(in alloc; "{items} items")?))
+}
+
+// How many items the class rows lead to, if each is put as it stands; else the line fails.
+fn count_classes(alloc: Global, file: &DexFile<'_>) -> Result<u32, CaseFault>
+    requires { ArePools file.now.frame file.now.pools }
+{
+    let mut count = Count {
+        items: 0,
+        fault: None,
+    };
+    for row in 0..file.frame.size(Table::ClassDefs) {
+        count_class(alloc, file, row, &mut count)?;
+    }
+    count.finish()
 }
 
 // Fails the line unless the item at an offset is put as the bytes that stand at a place.
@@ -61,15 +96,21 @@ fn stands(alloc: Global, file: &DexFile<'_>, put: Put, off: u32, at: u32) -> Res
     check_bytes(alloc, file.frame.bytes(), at, &bytes)
 }
 
-// How many items a class row leads to, if each is put as it stands; else the line fails.
-fn count_class(alloc: Global, file: &DexFile<'_>, row: u32) -> Result<u32, CaseFault>
+// Counts the items that a class row leads to.
+fn count_class(
+    alloc: Global,
+    file: &DexFile<'_>,
+    row: u32,
+    count: &mut Count,
+) -> Result<(), CaseFault>
     requires pools { ArePools file.now.frame file.now.pools }
     requires row { row < table_size file.now.frame ClassDefs }
 {
     let item = Item::at(alloc, file, ItemKind::Members, row)?;
     match &item {
         Item::Members(members) => {
-            count_row(alloc, file, file.frame.row(Table::ClassDefs, row), members)
+            let row = file.frame.row(Table::ClassDefs, row);
+            Ok(count_row(alloc, file, row, members, count)?)
         }
         _ => Err(CaseFault::Form),
     }
@@ -81,104 +122,68 @@ fn count_row(
     file: &DexFile<'_>,
     row: &[u8],
     members: &Members<'_>,
-) -> Result<u32, CaseFault>
+    count: &mut Count,
+) -> Result<(), AllocError>
     requires { ArePools file.now.frame file.now.pools }
 {
-    let annotated = count_directory(alloc, file, number_at(row, 20)?, members)?;
-    let declared = count_class_data(alloc, file, number_at(row, 24)?, members)?;
-    let valued = count_statics(alloc, file, number_at(row, 28)?)?;
-    Ok(annotated.saturating_add(declared).saturating_add(valued))
+    count_directory(alloc, file, number_at(row, 20), members, count)?;
+    count_class_data(alloc, file, number_at(row, 24), members, count)?;
+    count_item(alloc, file, ItemKind::Statics, number_at(row, 28), count);
+    Ok(())
 }
 
-// The same of an array of values, if there is one.
-fn count_statics(alloc: Global, file: &DexFile<'_>, off: u32) -> Result<u32, CaseFault>
+// Counts the item at an offset, if there is one, and what it leads to: code and its debug program, a set and its
+// annotations.
+fn count_item(alloc: Global, file: &DexFile<'_>, kind: ItemKind, off: u32, count: &mut Count)
     requires { ArePools file.now.frame file.now.pools }
 {
     if off == 0 {
-        return Ok(0);
+        return;
     }
-    stands(alloc, file, Put::Statics, off, off)?;
-    Ok(1)
-}
-
-// The same of a code item and its debug program.
-fn count_code(alloc: Global, file: &DexFile<'_>, off: u32) -> Result<u32, CaseFault>
-    requires { ArePools file.now.frame file.now.pools }
-{
-    let debug_off = number_behind(file.frame.bytes(), off, 8)?;
-    stands(alloc, file, Put::Code(debug_off), off, off)?;
-    if debug_off == 0 {
-        return Ok(1);
-    }
-    stands(alloc, file, Put::Debug, debug_off, debug_off)?;
-    Ok(2)
-}
-
-// The same of a set and its annotations.
-fn count_set(alloc: Global, file: &DexFile<'_>, off: u32) -> Result<u32, CaseFault>
-    requires { ArePools file.now.frame file.now.pools }
-{
-    let first = number_behind(file.frame.bytes(), off, 4)?;
-    stands(alloc, file, Put::Set(first), off, off)?;
-    stands(alloc, file, Put::Annotations, off, first)?;
-    Ok(2)
-}
-
-// The same of the sets at these offsets; 0 stands for none.
-fn count_sets(alloc: Global, file: &DexFile<'_>, offs: &[u32]) -> Result<u32, CaseFault>
-    requires { ArePools file.now.frame file.now.pools }
-{
-    let mut count: u32 = 0;
-    for off in offs {
-        if *off != 0 {
-            count = count.saturating_add(count_set(alloc, file, *off)?);
+    let bytes = file.frame.bytes();
+    match kind {
+        ItemKind::Code => {
+            let debug_off = number_behind(bytes, off, 8);
+            count.add(stands(alloc, file, Put::Code(debug_off), off, off));
+            if debug_off != 0 {
+                count.add(stands(alloc, file, Put::Debug, debug_off, debug_off));
+            }
         }
+        ItemKind::Set => {
+            let first = number_behind(bytes, off, 4);
+            count.add(stands(alloc, file, Put::Set(first), off, off));
+            count.add(stands(alloc, file, Put::Annotations, off, first));
+        }
+        _ => count.add(stands(alloc, file, Put::Statics, off, off)),
     }
-    Ok(count)
 }
 
-// The same of the sets in a list. The list is no such item.
-fn count_list(alloc: Global, file: &DexFile<'_>, off: u32) -> Result<u32, CaseFault>
+// Counts the items of a kind at these offsets.
+fn count_items(alloc: Global, file: &DexFile<'_>, kind: ItemKind, offs: &[u32], count: &mut Count)
     requires { ArePools file.now.frame file.now.pools }
 {
-    let offs = list_offs(alloc, file.frame.bytes(), off)?;
-    count_sets(alloc, file, &offs)
+    for off in offs {
+        count_item(alloc, file, kind, *off, count);
+    }
 }
 
-// The same of class data and the code that it leads to, if there is some.
+// Counts class data, if there is some, and the code that it leads to.
 fn count_class_data(
     alloc: Global,
     file: &DexFile<'_>,
     off: u32,
     members: &Members<'_>,
-) -> Result<u32, CaseFault>
+    count: &mut Count,
+) -> Result<(), AllocError>
     requires { ArePools file.now.frame file.now.pools }
 {
     if off == 0 {
-        return Ok(0);
+        return Ok(());
     }
     let code_offs = method_code_offs(alloc, file.frame.bytes(), off)?;
-    count_codes(alloc, file, off, members, &code_offs)
-}
-
-// The same of class data and the code at these offsets; 0 stands for none.
-fn count_codes(
-    alloc: Global,
-    file: &DexFile<'_>,
-    off: u32,
-    members: &Members<'_>,
-    code_offs: &[u32],
-) -> Result<u32, CaseFault>
-    requires { ArePools file.now.frame file.now.pools }
-{
-    class_data_stands(alloc, file, off, members, code_offs)?;
-    let mut count: u32 = 1;
-    for code_off in code_offs {
-        if *code_off != 0 {
-            count = count.saturating_add(count_code(alloc, file, *code_off)?);
-        }
-    }
-    Ok(count)
+    count.add(class_data_stands(alloc, file, off, members, &code_offs));
+    count_items(alloc, file, ItemKind::Code, &code_offs, count);
+    Ok(())
 }
 
 // Fails the line unless the class data of members is put as it stands at an offset.
@@ -197,20 +202,22 @@ fn class_data_stands(
     check_bytes(alloc, file.frame.bytes(), off, &out)
 }
 
-// How many items there are with a directory and the sets that it leads to, if there is one.
+// Counts a directory, if there is one, and the sets that it leads to.
 fn count_directory(
     alloc: Global,
     file: &DexFile<'_>,
     off: u32,
     members: &Members<'_>,
-) -> Result<u32, CaseFault>
+    count: &mut Count,
+) -> Result<(), AllocError>
     requires { ArePools file.now.frame file.now.pools }
 {
     if off == 0 {
-        return Ok(0);
+        return Ok(());
     }
     let offs = member_offs(alloc, file.frame.bytes(), off, members)?;
-    count_annotated(alloc, file, off, members, &offs)
+    count.add(directory_stands(alloc, file, off, members, &offs));
+    count_sets(alloc, file, &offs, count)
 }
 
 // The offsets in the directory at an offset, for these members.
@@ -219,7 +226,7 @@ fn member_offs(
     bytes: &[u8],
     off: u32,
     members: &Members<'_>,
-) -> Result<DirectoryOffs, CaseFault> {
+) -> Result<DirectoryOffs, AllocError> {
     let fields = field_numbers(alloc, members)?;
     let methods = method_numbers(alloc, members)?;
     directory_offs(alloc, bytes, off, &fields, &methods)
@@ -283,24 +290,23 @@ fn put_counted(
     Ok(())
 }
 
-// The same, given the offsets in the directory.
-fn count_annotated(
+// Counts the sets that a directory leads to. Its lists of sets are not counted.
+fn count_sets(
     alloc: Global,
     file: &DexFile<'_>,
-    off: u32,
-    members: &Members<'_>,
     offs: &DirectoryOffs,
-) -> Result<u32, CaseFault>
+    count: &mut Count,
+) -> Result<(), AllocError>
     requires { ArePools file.now.frame file.now.pools }
 {
-    directory_stands(alloc, file, off, members, offs)?;
-    let mut count = count_sets(alloc, file, &[offs.own])?.saturating_add(1);
-    count = count.saturating_add(count_sets(alloc, file, &offs.fields)?);
-    count = count.saturating_add(count_sets(alloc, file, &offs.methods)?);
+    count_item(alloc, file, ItemKind::Set, offs.own, count);
+    count_items(alloc, file, ItemKind::Set, &offs.fields, count);
+    count_items(alloc, file, ItemKind::Set, &offs.methods, count);
     for list in &offs.parameters {
         if *list != 0 {
-            count = count.saturating_add(count_list(alloc, file, *list)?);
+            let sets = list_offs(alloc, file.frame.bytes(), *list)?;
+            count_items(alloc, file, ItemKind::Set, &sets, count);
         }
     }
-    Ok(count)
+    Ok(())
 }

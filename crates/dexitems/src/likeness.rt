@@ -2,9 +2,8 @@
 
 use crate::item::Item;
 use crate::numbers::is_same;
-use dexcases::CaseFault;
 use dexpool::Numbering;
-use std::alloc::Global;
+use std::alloc::{AllocError, Global};
 use std::collections::HashSet;
 use std::hash::Hash;
 
@@ -27,7 +26,7 @@ impl Likeness {
         numbering: &Numbering<'_>,
         item: &Item<'_>,
         other: &Item<'_>,
-    ) -> Result<Likeness, CaseFault> {
+    ) -> Result<Likeness, AllocError> {
         let is_same = is_same(alloc, numbering, item, other)?;
         match (item, other) {
             (Item::Value(value, _), Item::Value(other, _)) => compared(
@@ -62,11 +61,11 @@ fn compared<T: Eq + Hash>(
     item: &T,
     other: &T,
     is_same: bool,
-) -> Result<Likeness, CaseFault> {
+) -> Result<Likeness, AllocError> {
     let is_equal = *item == *other;
     let mut items = HashSet::new(alloc);
     if items.insert(item).is_err() {
-        return Err(CaseFault::Memory);
+        return Err(AllocError);
     }
     Ok(Likeness {
         is_equal,

@@ -6,18 +6,17 @@ ghost use Rattle.dexpool.specs.Uses.{IsLedUse};
 ghost use Rattle.dexitems.specs.Items.{IsKnownItem, item_uses};
 
 use crate::item::Item;
-use dexcases::CaseFault;
 use dexcode::code_kept_law;
 use dexinsn::Pieces;
 use dexpool::{Marks, Numbering, Remap};
 use std::alloc::{AllocError, Global};
 
 // A map that leads each number of a numbering to itself.
-fn as_it_is(alloc: Global, numbering: &Numbering<'_>) -> Result<Remap, CaseFault> {
+fn as_it_is(alloc: Global, numbering: &Numbering<'_>) -> Result<Remap, AllocError> {
     let mut parts = Vec::new(alloc);
     parts.push(numbering)?;
-    let (_, remaps) = Numbering::join(alloc, &parts)?;
-    remaps.into_iter().next().ok_or(CaseFault::Memory)
+    let (_, mut remaps) = Numbering::join(alloc, &parts)?;
+    remaps.pop().ok_or(AllocError)
 }
 
 /// Whether two items of a numbering are the same.
@@ -26,7 +25,7 @@ pub fn is_same(
     numbering: &Numbering<'_>,
     item: &Item<'_>,
     other: &Item<'_>,
-) -> Result<bool, CaseFault> {
+) -> Result<bool, AllocError> {
     let remap = as_it_is(alloc, numbering)?;
     Ok(item.same_mapped(&remap, other, &remap))
 }
@@ -37,7 +36,7 @@ pub fn are_same_pieces(
     numbering: &Numbering<'_>,
     pieces: &Pieces<'_>,
     others: &Pieces<'_>,
-) -> Result<bool, CaseFault> {
+) -> Result<bool, AllocError> {
     let remap = as_it_is(alloc, numbering)?;
     Ok(pieces.same_mapped(&remap, others, &remap))
 }
@@ -49,7 +48,7 @@ pub fn is_led_to<'i>(
     remap: &Remap,
     other: &Item<'i>,
     numbering: &Numbering<'_>,
-) -> Result<bool, CaseFault> {
+) -> Result<bool, AllocError> {
     let as_it_is = as_it_is(alloc, numbering)?;
     Ok(item.same_mapped(remap, other, &as_it_is))
 }

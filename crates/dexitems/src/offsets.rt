@@ -1,6 +1,5 @@
-//! Where the items of a file stand, by the offsets in its bytes alone.
+//! Where the items of an accepted file stand, by the offsets in its bytes alone. A number that its bytes do not spell is 0.
 
-use dexcases::CaseFault;
 use dexhead::u32_at;
 use dexleb::read_u;
 use std::alloc::{AllocError, Global};
@@ -17,15 +16,15 @@ pub struct DirectoryOffs {
 }
 
 /// The number in the four bytes at a place.
-pub fn number_at(bytes: &[u8], at: usize) -> Result<u32, CaseFault> {
+pub fn number_at(bytes: &[u8], at: usize) -> u32 {
     if at >= bytes.len() || bytes.len() - at < 4 {
-        return Err(CaseFault::Form);
+        return 0;
     }
-    Ok(u32_at(bytes, at))
+    u32_at(bytes, at)
 }
 
 /// The number in the four bytes at a distance from an offset.
-pub fn number_behind(bytes: &[u8], off: u32, distance: usize) -> Result<u32, CaseFault> {
+pub fn number_behind(bytes: &[u8], off: u32, distance: usize) -> u32 {
     number_at(bytes, (off as usize).saturating_add(distance))
 }
 
@@ -38,40 +37,40 @@ struct Ulebs<'b> {
 
 impl Ulebs<'_> {
     // The next number.
-    fn next(&mut self) -> Result<u32, CaseFault> {
+    fn next(&mut self) -> u32 {
         if self.at >= self.bytes.len() {
-            return Err(CaseFault::Form);
+            return 0;
         }
         match read_u(self.bytes, self.at) {
             Ok((number, used)) => {
                 self.at = self.at.saturating_add(used);
-                Ok(number)
+                number
             }
-            Err(_) => Err(CaseFault::Form),
+            Err(_) => 0,
         }
     }
 
     // What two numbers come to.
-    fn sum(&mut self) -> Result<u64, CaseFault> {
-        Ok(u64::from(self.next()?) + u64::from(self.next()?))
+    fn sum(&mut self) -> u64 {
+        u64::from(self.next()) + u64::from(self.next())
     }
 }
 
 /// The offset of the code of each method in the class_data_item at an offset, the direct ones first; 0 stands for none.
-pub fn method_code_offs(alloc: Global, bytes: &[u8], off: u32) -> Result<Vec<u32>, CaseFault> {
+pub fn method_code_offs(alloc: Global, bytes: &[u8], off: u32) -> Result<Vec<u32>, AllocError> {
     let mut numbers = Ulebs {
         bytes,
         at: off as usize,
     };
-    let fields = numbers.sum()?;
-    let methods = numbers.sum()?;
+    let fields = numbers.sum();
+    let methods = numbers.sum();
     for _ in 0..fields {
-        numbers.sum()?;
+        numbers.sum();
     }
     let mut offs = Vec::new(alloc);
     for _ in 0..methods {
-        numbers.sum()?;
-        offs.push(numbers.next()?)?;
+        numbers.sum();
+        offs.push(numbers.next())?;
     }
     Ok(offs)
 }
@@ -82,13 +81,12 @@ fn pairs_at(
     bytes: &[u8],
     at: usize,
     count: u32,
-) -> Result<BTreeMap<u32, u32>, CaseFault> {
+) -> Result<BTreeMap<u32, u32>, AllocError> {
     let mut pairs = BTreeMap::new(alloc);
     let mut at = at;
     for _ in 0..count {
-        let number = number_at(bytes, at)?;
-        let off = number_at(bytes, at.saturating_add(4))?;
-        pairs.insert(number, off)?;
+        let number = number_at(bytes, at);
+        pairs.insert(number, number_at(bytes, at.saturating_add(4)))?;
         at = at.saturating_add(8);
     }
     Ok(pairs)
@@ -117,9 +115,9 @@ fn member_offs(
     at: usize,
     count: u32,
     numbers: &[u32],
-) -> Result<Vec<u32>, CaseFault> {
+) -> Result<Vec<u32>, AllocError> {
     let pairs = pairs_at(alloc, bytes, at, count)?;
-    Ok(offs_of(alloc, numbers, &pairs)?)
+    offs_of(alloc, numbers, &pairs)
 }
 
 /// The offsets in the annotations_directory_item at an offset, for fields and methods of these numbers.
@@ -129,11 +127,10 @@ pub fn directory_offs(
     off: u32,
     fields: &[u32],
     methods: &[u32],
-) -> Result<DirectoryOffs, CaseFault> {
-    let own = number_behind(bytes, off, 0)?;
-    let field_count = number_behind(bytes, off, 4)?;
-    let method_count = number_behind(bytes, off, 8)?;
-    let parameter_count = number_behind(bytes, off, 12)?;
+) -> Result<DirectoryOffs, AllocError> {
+    let field_count = number_behind(bytes, off, 4);
+    let method_count = number_behind(bytes, off, 8);
+    let parameter_count = number_behind(bytes, off, 12);
     let at = (off as usize).saturating_add(16);
     let field_offs = member_offs(alloc, bytes, at, field_count, fields)?;
     let at = at.saturating_add((field_count as usize).saturating_mul(8));
@@ -141,7 +138,7 @@ pub fn directory_offs(
     let at = at.saturating_add((method_count as usize).saturating_mul(8));
     let parameter_offs = member_offs(alloc, bytes, at, parameter_count, methods)?;
     Ok(DirectoryOffs {
-        own,
+        own: number_behind(bytes, off, 0),
         fields: field_offs,
         methods: method_offs,
         parameters: parameter_offs,
@@ -149,12 +146,12 @@ pub fn directory_offs(
 }
 
 /// The offsets in the list of sets at an offset; 0 stands for none.
-pub fn list_offs(alloc: Global, bytes: &[u8], off: u32) -> Result<Vec<u32>, CaseFault> {
-    let count = number_behind(bytes, off, 0)?;
+pub fn list_offs(alloc: Global, bytes: &[u8], off: u32) -> Result<Vec<u32>, AllocError> {
+    let count = number_behind(bytes, off, 0);
     let mut offs = Vec::new(alloc);
     let mut at = (off as usize).saturating_add(4);
     for _ in 0..count {
-        offs.push(number_at(bytes, at)?)?;
+        offs.push(number_at(bytes, at))?;
         at = at.saturating_add(4);
     }
     Ok(offs)

@@ -98,18 +98,19 @@ impl Put {
         numbering: &Numbering<'_>,
         out: &mut Vec<u8>,
     ) -> Result<bool, AllocError> {
-        match (self, item) {
-            (Put::Code(debug_off), Item::Code(code)) => {
-                return append_code(code, debug_off, numbering, out);
-            }
-            (Put::Set(first), Item::Set(set)) => {
-                return append_light_set(set, first, numbering, out);
-            }
-            (Put::Annotations, Item::Set(set)) => append_annotations(set, numbering, out)?,
-            (_, Item::Value(value, _)) => put_value(value, numbering, out)?,
-            (_, Item::Statics(values)) => put_statics(values, numbering, out)?,
-            (_, Item::Debug(debug)) => put_debug(debug, numbering, out)?,
-            _ => return Ok(false),
+        match item {
+            Item::Value(value, _) => put_value(value, numbering, out)?,
+            Item::Statics(values) => put_statics(values, numbering, out)?,
+            Item::Debug(debug) => put_debug(debug, numbering, out)?,
+            Item::Set(set) => match self {
+                Put::Set(first) => return append_light_set(set, first, numbering, out),
+                _ => append_annotations(set, numbering, out)?,
+            },
+            Item::Code(code) => match self {
+                Put::Code(debug_off) => return append_code(code, debug_off, numbering, out),
+                _ => return Ok(false),
+            },
+            Item::Directory(_) | Item::Members(_) => return Ok(false),
         }
         Ok(true)
     }

@@ -47,5 +47,5 @@ fn likeness_to(
     requires { ArePools file.now.frame file.now.pools }
 {
     let other = Item::at(alloc, file, line.item_kind()?, place)?;
-    Likeness::of(alloc, file.pools.numbering(), item, &other)
+    Ok(Likeness::of(alloc, file.pools.numbering(), item, &other)?)
 }

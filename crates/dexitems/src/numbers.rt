@@ -53,22 +53,6 @@ pub fn is_led_to<'i>(
     Ok(item.same_mapped(remap, other, &as_it_is))
 }
 
-/// A copy of an item whose numbers are led on, if each leads somewhere.
-pub fn led_copy<'a>(item: &Item<'a>, remap: &Remap) -> Result<Option<Item<'a>>, AllocError>
-    requires down { LeadDown remap.now }
-    requires led { All (IsLedUse remap.now) (item_uses item.now) }
-{
-    match item.copy() {
-        Ok(Some(mut copy)) => {
-            if copy.lead(remap) {
-                return Ok(Some(copy));
-            }
-            Ok(None)
-        }
-        answer => answer,
-    }
-}
-
 /// A numbering of just the symbols that occur in an item, and where numbers lead.
 pub fn kept<'n>(
     alloc: Global,

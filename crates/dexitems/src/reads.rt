@@ -3,10 +3,8 @@
 //! number of its bytes stands before it. An item that is read is also copied, its symbols are marked, its numbers led to
 //! those of a numbering of just these symbols, and it is compared with what that gives.
 
-ghost use Rattle.std.specs.Prelude.{All};
-ghost use Rattle.dexpool.specs.Orderly.{LeadDown};
+ghost use Rattle.std.specs.Prelude.{◌≡◌};
 ghost use Rattle.dexpool.specs.Pools.{ArePools};
-ghost use Rattle.dexpool.specs.Uses.{IsLedUse};
 ghost use Rattle.dexitems.specs.Items.{IsKnownItem, item_uses};
 
 use crate::checks::{check, check_bytes};
@@ -15,7 +13,7 @@ use crate::item::{Item, members_at};
 use crate::item_kind::ItemKind;
 use crate::likeness::Likeness;
 use crate::line::Line;
-use crate::numbers::{are_same_pieces, is_led_to, kept, led_copy};
+use crate::numbers::{are_same_pieces, is_led_to, kept};
 use crate::shown::print_item;
 use dexcases::{CaseFault, Outcome, Printed};
 use dexinsn::{Pieces, put_pieces, read_pieces};
@@ -55,14 +53,22 @@ fn judged(
 
 // How a line goes whose item is refused: right is `refused NUMBER | NUMBER ..`, with the number that is told.
 fn refused(alloc: Global, number: u8, right: &str) -> Result<Outcome, CaseFault> {
-    let told = format!(in alloc; "{number}")?;
-    let listed = right.strip_prefix("refused ").unwrap_or("");
-    for one in listed.split(" | ") {
-        if one == told.as_str() {
-            return Ok(Outcome::Passed);
-        }
+    if is_listed(number, right.strip_prefix("refused ").unwrap_or("")) {
+        return Ok(Outcome::Passed);
     }
     Ok(Outcome::Failed(format!(in alloc; "refused {number}")?))
+}
+
+// Whether a number is one of those that a line lists.
+fn is_listed(number: u8, listed: &str) -> bool {
+    for one in listed.split(" | ") {
+        if let Ok(one) = one.parse::<u8>() {
+            if one == number {
+                return true;
+            }
+        }
+    }
+    false
 }
 
 // An item in print, behind a word.
@@ -88,22 +94,38 @@ fn check_calls(
     requires { IsKnownItem file.now.pools item.now }
 {
     check_copy(alloc, file.pools.numbering(), item)?;
-    if let Item::Code(code) = item {
-        check_pieces(alloc, file, place, code.pieces())?;
-    }
     match item {
-        Item::Debug(_) => Ok(()),
+        Item::Code(code) => check_pieces(alloc, file, place, code.pieces()),
         Item::Directory(_) | Item::Members(_) => check_weight(alloc, file, place, item),
-        _ => check_lead(alloc, file.pools.numbering(), item),
+        _ => Ok(()),
     }
 }
 
-// Fails the line unless a copy of an item, if it has one, is the same.
-fn check_copy(alloc: Global, numbering: &Numbering<'_>, item: &Item<'_>) -> Result<(), CaseFault> {
+// Fails the line unless a copy of an item, if it has one, is the same, and goes right where it is led on.
+fn check_copy(alloc: Global, numbering: &Numbering<'_>, item: &Item<'_>) -> Result<(), CaseFault>
+    requires { IsKnownItem numbering.now item.now }
+{
     match item.copy() {
-        Ok(Some(copy)) => check_likeness(alloc, numbering, &copy, item, true),
+        Ok(Some(mut copy)) => check_copied(alloc, numbering, item, &mut copy),
         Ok(None) => Ok(()),
         Err(_) => Err(CaseFault::Memory),
+    }
+}
+
+// The same, given the copy.
+fn check_copied<'i>(
+    alloc: Global,
+    numbering: &Numbering<'_>,
+    item: &Item<'i>,
+    copy: &mut Item<'i>,
+) -> Result<(), CaseFault>
+    requires known { IsKnownItem numbering.now item.now }
+    requires same { item_uses copy.old ≡ item_uses item.now }
+{
+    check_likeness(alloc, numbering, copy, item, true)?;
+    match item {
+        Item::Debug(_) | Item::Directory(_) | Item::Members(_) => Ok(()),
+        _ => check_lead(alloc, numbering, item, copy),
     }
 }
 
@@ -125,34 +147,25 @@ fn check_likeness(
     )
 }
 
-// Fails the line unless an item that is led on to another numbering is told apart from what it was just where a number
+// Fails the line unless a copy of an item that is led on to another numbering is told apart from the item just where a number
 // changed, and prints the same.
-fn check_lead(alloc: Global, numbering: &Numbering<'_>, item: &Item<'_>) -> Result<(), CaseFault>
-    requires { IsKnownItem numbering.now item.now }
-{
-    let (others, remap) = kept(alloc, numbering, item)?;
-    check_led_by(alloc, numbering, item, &others, &remap)
-}
-
-// The same, given the other numbering and the map to it.
-fn check_led_by(
+fn check_lead<'i>(
     alloc: Global,
     numbering: &Numbering<'_>,
-    item: &Item<'_>,
-    kept: &Numbering<'_>,
-    remap: &Remap,
+    item: &Item<'i>,
+    copy: &mut Item<'i>,
 ) -> Result<(), CaseFault>
-    requires down { LeadDown remap.now }
-    requires led { All (IsLedUse remap.now) (item_uses item.now) }
+    requires known { IsKnownItem numbering.now item.now }
+    requires same { item_uses copy.old ≡ item_uses item.now }
 {
-    match led_copy(item, remap) {
-        Ok(Some(led)) => check_led(alloc, numbering, item, &led, kept, remap),
-        Ok(None) => Err(CaseFault::failed(alloc, "a marked symbol is not kept")),
-        Err(_) => Err(CaseFault::Memory),
+    let (others, remap) = kept(alloc, numbering, item)?;
+    if !copy.lead(&remap) {
+        return Err(CaseFault::failed(alloc, "a marked symbol is not kept"));
     }
+    check_led(alloc, numbering, item, copy, &others, &remap)
 }
 
-// The same, given the item that is led on.
+// The same, given the copy that is led on.
 fn check_led<'i>(
     alloc: Global,
     numbering: &Numbering<'_>,

@@ -50,21 +50,26 @@ pub fn run_file<K: Cases, R: Files + Print + AllocGlobal>(
     name: &str,
 ) -> Result<Tally, CaseFault> {
     let source: Source<'_, K> = Source::of(name).ok_or(CaseFault::Words(K::WORDS))?;
-    let text = match fs::read_to_string(rt, name) {
-        Ok(text) => text,
-        Err(error) => return Err(unreadable(rt.alloc(), name, error)?),
-    };
-    println!(rt; "{name}")?;
+    let text = text_of(rt, name)?;
     run_text(rt, name, &source, text.as_str())
 }
 
-// Runs each line of a text.
+// The text of a file.
+fn text_of<R: Files + AllocGlobal>(rt: &R, name: &str) -> Result<String, CaseFault> {
+    match fs::read_to_string(rt, name) {
+        Ok(text) => Ok(text),
+        Err(error) => Err(unreadable(rt.alloc(), name, error)),
+    }
+}
+
+// Prints the name of a file, and runs each line of its text.
 fn run_text<K: Cases, R: Files + Print + AllocGlobal>(
     rt: &R,
     name: &str,
     source: &Source<'_, K>,
     text: &str,
 ) -> Result<Tally, CaseFault> {
+    println!(rt; "{name}")?;
     let mut tallies: BTreeMap<K, Tally> = BTreeMap::new(rt.alloc());
     for (number, line) in (1u64..).zip(text.lines()) {
         if !line.starts_with('#') {

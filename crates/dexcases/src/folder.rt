@@ -31,19 +31,15 @@ impl<R: Files + AllocGlobal> Folder<'_, R> {
         let path = self.path.join(self.rt.alloc(), name)?;
         match fs::read(self.rt, path.as_path()) {
             Ok(bytes) => Ok(bytes),
-            Err(error) => Err(unreadable(self.rt.alloc(), path.as_str(), error)?),
+            Err(error) => Err(unreadable(self.rt.alloc(), path.as_str(), error)),
         }
     }
 }
 
 /// The fault that a file cannot be read.
-pub(crate) fn unreadable(
-    alloc: Global,
-    name: &str,
-    error: io::Error,
-) -> Result<CaseFault, CaseFault> {
-    Ok(CaseFault::File {
-        name: String::from_str(alloc, name)?,
-        error,
-    })
+pub(crate) fn unreadable(alloc: Global, name: &str, error: io::Error) -> CaseFault {
+    match String::from_str(alloc, name) {
+        Ok(name) => CaseFault::File { name, error },
+        Err(_) => CaseFault::Memory,
+    }
 }

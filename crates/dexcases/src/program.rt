@@ -26,10 +26,17 @@ pub fn run<K: Cases, R: Files + Print + Eprint + Env + AllocGlobal>(rt: &R) -> E
 // Runs each file that the command line names, and adds up what the lines passed.
 fn run_files<K: Cases, R: Files + Print + Env + AllocGlobal>(rt: &R) -> Result<Tally, CaseFault> {
     let words: Vec<String> = env::args(rt)?.collect(rt.alloc())?;
-    let names = match words.as_slice() {
-        [] | [_] => return Err(CaseFault::Words(K::WORDS)),
-        [_, names @ ..] => names,
-    };
+    match words.as_slice() {
+        [] | [_] => Err(CaseFault::Words(K::WORDS)),
+        [_, names @ ..] => run_named::<K, R>(rt, names),
+    }
+}
+
+// Runs each file of these names, and adds up what the lines passed.
+fn run_named<K: Cases, R: Files + Print + AllocGlobal>(
+    rt: &R,
+    names: &[String],
+) -> Result<Tally, CaseFault> {
     let mut all = K::no_lines();
     for name in names {
         all = all.with(run_file::<K, R>(rt, name.as_str())?);

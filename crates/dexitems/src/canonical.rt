@@ -116,7 +116,8 @@ fn count_class(
     }
 }
 
-// The same, given the bytes of the row and what it declares.
+// The same, given the bytes of the row and what it declares: its directory and its class data, if there is some, with the
+// code that this leads to.
 fn count_row(
     alloc: Global,
     file: &DexFile<'_>,
@@ -127,7 +128,12 @@ fn count_row(
     requires { ArePools file.now.frame file.now.pools }
 {
     count_directory(alloc, file, number_at(row, 20), members, count)?;
-    count_class_data(alloc, file, number_at(row, 24), members, count)?;
+    let data_off = number_at(row, 24);
+    if data_off != 0 {
+        let code_offs = method_code_offs(alloc, file.frame.bytes(), data_off)?;
+        count.add(class_data_stands(alloc, file, data_off, members, &code_offs));
+        count_items(alloc, file, ItemKind::Code, &code_offs, count);
+    }
     count_item(alloc, file, ItemKind::Statics, number_at(row, 28), count);
     Ok(())
 }
@@ -165,25 +171,6 @@ fn count_items(alloc: Global, file: &DexFile<'_>, kind: ItemKind, offs: &[u32], 
     for off in offs {
         count_item(alloc, file, kind, *off, count);
     }
-}
-
-// Counts class data, if there is some, and the code that it leads to.
-fn count_class_data(
-    alloc: Global,
-    file: &DexFile<'_>,
-    off: u32,
-    members: &Members<'_>,
-    count: &mut Count,
-) -> Result<(), AllocError>
-    requires { ArePools file.now.frame file.now.pools }
-{
-    if off == 0 {
-        return Ok(());
-    }
-    let code_offs = method_code_offs(alloc, file.frame.bytes(), off)?;
-    count.add(class_data_stands(alloc, file, off, members, &code_offs));
-    count_items(alloc, file, ItemKind::Code, &code_offs, count);
-    Ok(())
 }
 
 // Fails the line unless the class data of members is put as it stands at an offset.

@@ -106,26 +106,12 @@ fn check_copy(alloc: Global, numbering: &Numbering<'_>, item: &Item<'_>) -> Resu
     requires { IsKnownItem numbering.now item.now }
 {
     match item.copy() {
-        Ok(Some(mut copy)) => check_copied(alloc, numbering, item, &mut copy),
+        Ok(Some(mut copy)) => {
+            check_likeness(alloc, numbering, &copy, item, true)?;
+            check_lead(alloc, numbering, item, &mut copy)
+        }
         Ok(None) => Ok(()),
         Err(_) => Err(CaseFault::Memory),
-    }
-}
-
-// The same, given the copy.
-fn check_copied<'i>(
-    alloc: Global,
-    numbering: &Numbering<'_>,
-    item: &Item<'i>,
-    copy: &mut Item<'i>,
-) -> Result<(), CaseFault>
-    requires known { IsKnownItem numbering.now item.now }
-    requires same { item_uses copy.old ≡ item_uses item.now }
-{
-    check_likeness(alloc, numbering, copy, item, true)?;
-    match item {
-        Item::Debug(_) | Item::Directory(_) | Item::Members(_) => Ok(()),
-        _ => check_lead(alloc, numbering, item, copy),
     }
 }
 
@@ -147,8 +133,8 @@ fn check_likeness(
     )
 }
 
-// Fails the line unless a copy of an item that is led on to another numbering is told apart from the item just where a number
-// changed, and prints the same.
+// Fails the line unless a copy of an item that is led on to another numbering, if items of its kind are, is told apart from the
+// item just where a number changed, and prints the same.
 fn check_lead<'i>(
     alloc: Global,
     numbering: &Numbering<'_>,
@@ -158,6 +144,9 @@ fn check_lead<'i>(
     requires known { IsKnownItem numbering.now item.now }
     requires same { item_uses copy.old ≡ item_uses item.now }
 {
+    if matches!(item, Item::Debug(_) | Item::Directory(_) | Item::Members(_)) {
+        return Ok(());
+    }
     let (others, remap) = kept(alloc, numbering, item)?;
     if !copy.lead(&remap) {
         return Err(CaseFault::failed(alloc, "a marked symbol is not kept"));

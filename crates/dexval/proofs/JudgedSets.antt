@@ -7,7 +7,7 @@ use Rattle.dexspec.specs.Mentions.{Mentions}
 use Rattle.dexval.specs.declared.set.AnnotationSet.{AnnotationSet}
 use Rattle.dexval.specs.declared.judged.Judged.{Judged}
 use Rattle.dexval.specs.Code.{set_of}
-use Rattle.dexval.specs.Judged.{IsJudgedSet, HasRefList, AreJudged}
+use Rattle.dexval.specs.Judged.{IsJudgedSet, AreJudged}
 
 module _ (b : List ℕ) (m : Mentions) where
   -- what was judged stays so while more is read
@@ -32,14 +32,4 @@ module _ (b : List ℕ) (m : Mentions) where
       | inr apart ↦ h.sets_judged off t (sym (others off (ne_eqb o off apart)) ∙ e)
     ];
     lists_judged = λ off e. h.lists_judged off (ap (λ l. contains nat_eq l off) lists ∙ e);
-  }
-
-  -- one list more is noted
-  pub list_noted : (most weight : ℕ) (j k : Judged) (o : ℕ) → ((q : ℕ) → nat_eq o q ≡ false → contains nat_eq k.lists q ≡ contains nat_eq j.lists q) → j.sets ≡ k.sets → HasRefList b m o → AreJudged b m most weight j → AreJudged b m most weight k
-  list_noted most weight j k o others sets r h = record {
-    sets_judged = λ off t e. h.sets_judged off t (ap (λ l. get nat_eq l off) sets ∙ e);
-    lists_judged = λ off e. elim (cases_eq o off) [
-      | inl same ↦ subst (HasRefList b m) same r
-      | inr apart ↦ h.lists_judged off (sym (others off (ne_eqb o off apart)) ∙ e)
-    ];
   }

@@ -126,33 +126,33 @@ length-annotations m (w ∷ ws) =
 
 -- what is told of the items of each section says how many there are
 pub record AreCounted (K : Ordered) (d : Data) : Type 0 where
-  pub type_lists : length d.type_lists.written ≡ length (type_list_section K).items
-  pub annotations : length (flat_map (λ set. set) d.annotations.written) ≡ length (annotation_section K).items
-  pub arrays : count_placed d.static_values.offsets ≡ length (array_section K).items
+  pub type_lists : length d.front.type_lists.written ≡ length (type_list_section K).items
+  pub annotations : length (flat_map (λ set. set) d.front.annotations.written) ≡ length (annotation_section K).items
+  pub arrays : count_placed d.front.static_values.offsets ≡ length (array_section K).items
   pub strings : length K.pools.texts ≡ length (string_section K).items
-  pub debugs : length d.debugs.written ≡ length (debug_section K).items
-  pub codes : count_placed d.codes.offsets ≡ length (code_section K).items
-  pub class_data : count_placed d.class_data.offsets ≡ length (class_data_section K).items
-  pub sets : length d.annotations.written ≡ length (set_section K).items
-  pub ref_lists : count_placed d.ref_lists.offsets ≡ length (ref_list_section K).items
-  pub directories : count_placed d.directories.offsets ≡ length (directory_section K).items
+  pub debugs : length d.bodies.debugs.written ≡ length (debug_section K).items
+  pub codes : count_placed d.bodies.codes.offsets ≡ length (code_section K).items
+  pub class_data : count_placed d.bodies.class_data.offsets ≡ length (class_data_section K).items
+  pub sets : length d.front.annotations.written ≡ length (set_section K).items
+  pub ref_lists : count_placed d.back.ref_lists.offsets ≡ length (ref_list_section K).items
+  pub directories : count_placed d.back.directories.offsets ≡ length (directory_section K).items
 
 pub counted : (m : Mentions) (cs : List NumberedClass) {d : Data} → AreData m cs d → AreCounted (ordered_of m cs) d
 counted m cs {d} h =
     let K = ordered_of m cs in
     let items = (set_items K).written in
     record {
-      type_lists = sym (length-map d.type_lists.written (map (type_at m))) ∙ ap (λ xs. length xs) h.type_lists_are.written_are ∙ sym (length-map (type_list_items K).written (type_list_bytes m));
-      annotations = sym (length-annotations m d.annotations.written) ∙ ap (λ (xs : List AnnotationSet). length (flat_map (λ (set : AnnotationSet). set) xs)) h.annotations_are.written_are
+      type_lists = sym (length-map d.front.type_lists.written (map (type_at m))) ∙ ap (λ xs. length xs) h.front_are.type_lists_are.written_are ∙ sym (length-map (type_list_items K).written (type_list_bytes m));
+      annotations = sym (length-annotations m d.front.annotations.written) ∙ ap (λ (xs : List AnnotationSet). length (flat_map (λ (set : AnnotationSet). set) xs)) h.front_are.annotations_are.written_are
           ∙ sym (length-map (flat_map (λ (set : AnnotationSet). set) items) (annotation_bytes m));
-      arrays = ap count_placed h.static_values_are.offsets_are ∙ array_count K;
+      arrays = ap count_placed h.front_are.static_values_are.offsets_are ∙ array_count K;
       strings = sym (length-map m.texts string_data);
-      debugs = sym (length-map d.debugs.written (debug_in m)) ∙ ap (λ xs. length xs) h.debugs_are.written_are ∙ sym (length-map (debug_items K).written (debug_bytes m));
-      codes = ap count_placed h.codes_are.offsets_are ∙ code_count K;
-      class_data = ap count_placed h.class_data_are.offsets_are ∙ class_data_count K;
-      sets = sym (length-map d.annotations.written (set_in m)) ∙ ap (λ (xs : List AnnotationSet). length xs) h.annotations_are.written_are ∙ sym (set_count K);
-      ref_lists = ap count_placed h.ref_lists_are.offsets_are ∙ ref_list_count K;
-      directories = ap count_placed h.directories_are.offsets_are ∙ directory_count K;
+      debugs = sym (length-map d.bodies.debugs.written (debug_in m)) ∙ ap (λ xs. length xs) h.bodies_are.debugs_are.written_are ∙ sym (length-map (debug_items K).written (debug_bytes m));
+      codes = ap count_placed h.bodies_are.codes_are.offsets_are ∙ code_count K;
+      class_data = ap count_placed h.bodies_are.class_data_are.offsets_are ∙ class_data_count K;
+      sets = sym (length-map d.front.annotations.written (set_in m)) ∙ ap (λ (xs : List AnnotationSet). length xs) h.front_are.annotations_are.written_are ∙ sym (set_count K);
+      ref_lists = ap count_placed h.back_are.ref_lists_are.offsets_are ∙ ref_list_count K;
+      directories = ap count_placed h.back_are.directories_are.offsets_are ∙ directory_count K;
     }
 
 -- each section has no more items than the file may have bytes

@@ -4,10 +4,11 @@ use Rattle.dexspec.specs.Bytes.{round_up}
 use Rattle.dexspec.specs.Header.{header_length}
 use Rattle.dexspec.specs.Sections.{Section, TableOf}
 use Rattle.dexspec.specs.Placing.{Ordered, offsets}
-use Rattle.dexspec.specs.Canonical.{placed_tables, data_start, data_sections, set_items, array_section, array_offsets, array_end, string_section, string_end, code_section, code_offsets, code_end, class_data_section, class_data_offsets, class_data_end, ref_list_section, ref_list_offsets, ref_list_end, directory_section, directory_offsets, directory_end}
+use Rattle.dexspec.specs.Canonical.{placed_tables, data_start, data_sections, array_section, array_offsets, array_end, string_section, string_end, code_section, code_offsets, code_end, class_data_section, class_data_offsets, class_data_end, ref_list_section, ref_list_offsets, ref_list_end, directory_section, directory_offsets, directory_end}
 use Rattle.dexhead.specs.Written.{rows_meant}
 use Rattle.dexspec.specs.Mentions.{Mentions}
 use Rattle.dexclass.specs.Numbered.{NumberedClass}
+use Rattle.dexlayout.specs.declared.data.Back.{Back}
 use Rattle.dexlayout.specs.declared.data.Bodies.{Bodies}
 use Rattle.dexlayout.specs.declared.data.Data.{Data}
 use Rattle.dexlayout.specs.declared.data.Front.{Front}
@@ -45,11 +46,10 @@ section_parts K = map (λ p. (p.kind, length p.items, round_up p.align p.from)) 
 abbrev pub count_placed : List ℕ → ℕ
 count_placed offs = count_by (λ o. not (o == 0)) offs
 
--- the items of the sections up to the string data stand where they stand in the file of these classes, and each use of a set has its number
+-- the items of the sections up to the string data stand where they stand in the file of these classes
 pub record AreFront (m : Mentions) (cs : List NumberedClass) (f : Front) : Type 0 where
   pub type_lists_are : AreTypeLists m cs f.type_lists
   pub annotations_are : AreAnnotations m cs f.annotations
-  pub numbers_are : f.numbers.items ≡ (set_items (ordered_of m cs)).numbers
   pub static_values_are : StandSo (array_offsets (ordered_of m cs)) (array_end (ordered_of m cs)) (array_section (ordered_of m cs)).items f.static_values
   pub strings_are : StandSo (offsets (string_section (ordered_of m cs))) (string_end (ordered_of m cs)) (string_section (ordered_of m cs)).items f.strings
 
@@ -59,15 +59,14 @@ pub record AreBodies (m : Mentions) (cs : List NumberedClass) (b : Bodies) : Typ
   pub codes_are : StandSo (code_offsets (ordered_of m cs)) (code_end (ordered_of m cs)) (code_section (ordered_of m cs)).items b.codes
   pub class_data_are : StandSo (class_data_offsets (ordered_of m cs)) (class_data_end (ordered_of m cs)) (class_data_section (ordered_of m cs)).items b.class_data
 
--- the items of each section of the data stand where they stand in the file of these classes
+-- and of the last sections
+pub record AreBack (m : Mentions) (cs : List NumberedClass) (b : Back) : Type 0 where
+  pub sets_are : AreSets m cs b.sets
+  pub ref_lists_are : StandSo (ref_list_offsets (ordered_of m cs)) (ref_list_end (ordered_of m cs)) (ref_list_section (ordered_of m cs)).items b.ref_lists
+  pub directories_are : StandSo (directory_offsets (ordered_of m cs)) (directory_end (ordered_of m cs)) (directory_section (ordered_of m cs)).items b.directories
+
+-- the items of each section of the data stand so
 pub record AreData (m : Mentions) (cs : List NumberedClass) (d : Data) : Type 0 where
-  pub type_lists_are : AreTypeLists m cs d.type_lists
-  pub annotations_are : AreAnnotations m cs d.annotations
-  pub static_values_are : StandSo (array_offsets (ordered_of m cs)) (array_end (ordered_of m cs)) (array_section (ordered_of m cs)).items d.static_values
-  pub strings_are : StandSo (offsets (string_section (ordered_of m cs))) (string_end (ordered_of m cs)) (string_section (ordered_of m cs)).items d.strings
-  pub debugs_are : AreDebugs m cs d.debugs
-  pub codes_are : StandSo (code_offsets (ordered_of m cs)) (code_end (ordered_of m cs)) (code_section (ordered_of m cs)).items d.codes
-  pub class_data_are : StandSo (class_data_offsets (ordered_of m cs)) (class_data_end (ordered_of m cs)) (class_data_section (ordered_of m cs)).items d.class_data
-  pub sets_are : AreSets m cs d.sets
-  pub ref_lists_are : StandSo (ref_list_offsets (ordered_of m cs)) (ref_list_end (ordered_of m cs)) (ref_list_section (ordered_of m cs)).items d.ref_lists
-  pub directories_are : StandSo (directory_offsets (ordered_of m cs)) (directory_end (ordered_of m cs)) (directory_section (ordered_of m cs)).items d.directories
+  pub front_are : AreFront m cs d.front
+  pub bodies_are : AreBodies m cs d.bodies
+  pub back_are : AreBack m cs d.back

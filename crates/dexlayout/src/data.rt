@@ -1,14 +1,15 @@
 //! The sections of the data, one behind the other.
 
-ghost use Rattle.std.specs.Prelude.{◌≡◌, ◌^◌, ◌≤◌, List, IfOk, length, map};
+ghost use Rattle.std.specs.Prelude.{◌≡◌, ◌^◌, ◌≤◌, All, List, IfOk, length, map};
 ghost use Rattle.std.specs.List.{flat_map};
 ghost use Rattle.dexspec.specs.Mentions.{Mentions};
-ghost use Rattle.dexspec.specs.Canonical.{data_sections, data_start, string_end};
+ghost use Rattle.dexspec.specs.Canonical.{class_data_end, data_sections, data_start, set_items, string_end};
 ghost use Rattle.dexhead.specs.Written.{entry_meant};
 ghost use Rattle.dexval.specs.Code.{set_of};
+ghost use Rattle.dexval.specs.Numbered.{IsKnownSet, set_in};
 ghost use Rattle.dexclass.specs.Numbered.{NumberedClass};
 ghost use Rattle.dexlayout.specs.Laid.{AreWritable, greatest_in, ordered_of};
-ghost use Rattle.dexlayout.specs.Parts.{AreBodies, AreData, AreFront, section_parts};
+ghost use Rattle.dexlayout.specs.Parts.{AreBack, AreBodies, AreData, AreFront, section_parts};
 
 use crate::annotations::{Annotations, place_annotations};
 use crate::class_data::place_class_data;
@@ -34,56 +35,57 @@ use std::alloc::{AllocError, Global};
 /// Where the items of each section of the data stand, in the order of the file.
 #[derive(Drop)]
 pub(crate) struct Data<'p> {
+    pub(crate) front: Front<'p>,
+    pub(crate) bodies: Bodies<'p>,
+    pub(crate) back: Back,
+}
+
+/// Where the items of the first sections stand.
+#[derive(Drop)]
+pub(crate) struct Front<'p> {
     pub(crate) type_lists: TypeLists<'p>,
     pub(crate) annotations: Annotations<'p>,
     pub(crate) static_values: Offsets,
     pub(crate) strings: Offsets,
+}
+
+/// Where the items of code, of its debug programs and of class data stand.
+#[derive(Drop)]
+pub(crate) struct Bodies<'p> {
     pub(crate) debugs: DebugPrograms<'p>,
     pub(crate) codes: Offsets,
     pub(crate) class_data: Offsets,
+}
+
+/// Where the items of the last sections stand: annotation sets, lists of sets, and annotations directories.
+#[derive(Drop)]
+pub(crate) struct Back {
     pub(crate) sets: Sets,
     pub(crate) ref_lists: Offsets,
     pub(crate) directories: Offsets,
 }
 
-// Where the items of the first sections stand, and for each use of a set the number of its set, if it has annotations.
-#[derive(Drop)]
-struct Front<'p> {
-    type_lists: TypeLists<'p>,
-    annotations: Annotations<'p>,
-    numbers: Vec<Option<usize>>,
-    static_values: Offsets,
-    strings: Offsets,
-}
-
-// Where the items of code, of its debug programs and of class data stand.
-#[derive(Drop)]
-struct Bodies<'p> {
-    debugs: DebugPrograms<'p>,
-    codes: Offsets,
-    class_data: Offsets,
-}
-
-// Where the items of the sections up to the string data stand, behind the tables.
+// Where the items of the sections up to the string data stand, behind the tables. `written` are the sets that are written.
 fn place_front<'p>(
     alloc: Global,
     numbering: &'p Numbering<'_>,
     classes: &'p [Class<'_>],
+    written: Vec<&'p AnnotationSet>,
     from: u32,
 ) -> Result<Front<'p>, AllocError>
     requires classes { AreWritable numbering.now classes.now }
+    requires written { map (λ s. set_in numbering.now (set_of s.now)) written.items ≡ (set_items (ordered_of numbering.now classes.now)).written }
+    requires known { All (λ s. IsKnownSet numbering.now (set_of s.now)) written.items }
     requires from { from ≡ data_start (ordered_of numbering.now classes.now) }
     ensures { IfOk result (AreFront numbering.now classes.now) }
 {
     let type_lists = place_type_lists(alloc, numbering, classes, from)?;
-    let Shared { written, numbers } = share_sets(alloc, classes)?;
     let annotations = place_annotations(alloc, written, type_lists.places().end())?;
     let static_values = place_static_values(alloc, classes, annotations.places().end())?;
     let strings = place_strings(alloc, numbering, static_values.end())?;
     Ok(Front {
         type_lists,
         annotations,
-        numbers,
         static_values,
         strings,
     })
@@ -108,6 +110,39 @@ fn place_bodies<'p>(
     })
 }
 
+// Where the items of the last sections stand, behind the class data. `numbers` has for each use the number of its set among
+// those that are written.
+fn place_back(
+    alloc: Global,
+    numbering: &Numbering<'_>,
+    classes: &[Class<'_>],
+    front: &Front<'_>,
+    numbers: &[Option<usize>],
+    from: u32,
+) -> Result<Back, AllocError>
+    requires classes { AreWritable numbering.now classes.now }
+    requires front { AreFront numbering.now classes.now front.now }
+    requires numbers { numbers.now ≡ (set_items (ordered_of numbering.now classes.now)).numbers }
+    requires from { from ≡ class_data_end (ordered_of numbering.now classes.now) }
+    ensures { IfOk result (AreBack numbering.now classes.now) }
+{
+    let sets = place_sets(alloc, numbering, classes, &front.annotations, numbers, from)?;
+    let ref_lists = place_ref_lists(alloc, numbering, classes, sets.methods().len(), sets.end())?;
+    let directories = place_directories(
+        alloc,
+        numbering,
+        classes,
+        &sets,
+        ref_lists.offsets(),
+        ref_lists.end(),
+    )?;
+    Ok(Back {
+        sets,
+        ref_lists,
+        directories,
+    })
+}
+
 /// Where the items of each section stand, behind the tables.
 ///
 /// Error: memory was refused.
@@ -121,36 +156,21 @@ pub(crate) fn place_data<'p>(
     requires from { from ≡ data_start (ordered_of numbering.now classes.now) }
     ensures { IfOk result (AreData numbering.now classes.now) }
 {
-    let front = place_front(alloc, numbering, classes, from)?;
+    let Shared { written, numbers } = share_sets(alloc, classes)?;
+    let front = place_front(alloc, numbering, classes, written, from)?;
     let bodies = place_bodies(alloc, classes, front.strings.end())?;
-    let sets = place_sets(
+    let back = place_back(
         alloc,
         numbering,
         classes,
-        &front.annotations,
-        &front.numbers,
+        &front,
+        &numbers,
         bodies.class_data.end(),
     )?;
-    let ref_lists = place_ref_lists(alloc, numbering, classes, sets.methods().len(), sets.end())?;
-    let directories = place_directories(
-        alloc,
-        numbering,
-        classes,
-        &sets,
-        ref_lists.offsets(),
-        ref_lists.end(),
-    )?;
     Ok(Data {
-        type_lists: front.type_lists,
-        annotations: front.annotations,
-        static_values: front.static_values,
-        strings: front.strings,
-        debugs: bodies.debugs,
-        codes: bodies.codes,
-        class_data: bodies.class_data,
-        sets,
-        ref_lists,
-        directories,
+        front,
+        bodies,
+        back,
     })
 }
 
@@ -172,57 +192,57 @@ impl Data<'_> {
         requires { (cs : List NumberedClass) × AreWritable numbering.now cs × AreData numbering.now cs self.now × (from ≡ data_start (ordered_of numbering.now cs)) }
         ensures { (cs : List NumberedClass) → AreWritable numbering.now cs → AreData numbering.now cs self.now → from ≡ data_start (ordered_of numbering.now cs) → map entry_meant result ≡ section_parts (ordered_of numbering.now cs) }
     {
-        let written = self.annotations.written();
+        let written = self.front.annotations.written();
         [
             entry(
                 Section::TypeLists,
-                self.type_lists.written().len() as u32,
+                self.front.type_lists.written().len() as u32,
                 round_up(from),
             ),
             entry(
                 Section::AnnotationItems,
                 count_annotations(written),
-                self.type_lists.places().end(),
+                self.front.type_lists.places().end(),
             ),
             entry(
                 Section::EncodedArrayItems,
-                count_placed(self.static_values.offsets()) as u32,
-                self.annotations.places().end(),
+                count_placed(self.front.static_values.offsets()) as u32,
+                self.front.annotations.places().end(),
             ),
             entry(
                 Section::StringDataItems,
                 numbering.count(SymbolKind::Text) as u32,
-                self.static_values.end(),
+                self.front.static_values.end(),
             ),
             entry(
                 Section::DebugInfoItems,
-                self.debugs.written().len() as u32,
-                self.strings.end(),
+                self.bodies.debugs.written().len() as u32,
+                self.front.strings.end(),
             ),
             entry(
                 Section::CodeItems,
-                count_placed(self.codes.offsets()) as u32,
-                round_up(self.debugs.places().end()),
+                count_placed(self.bodies.codes.offsets()) as u32,
+                round_up(self.bodies.debugs.places().end()),
             ),
             entry(
                 Section::ClassDataItems,
-                count_placed(self.class_data.offsets()) as u32,
-                self.codes.end(),
+                count_placed(self.bodies.class_data.offsets()) as u32,
+                self.bodies.codes.end(),
             ),
             entry(
                 Section::AnnotationSets,
                 written.len() as u32,
-                round_up(self.class_data.end()),
+                round_up(self.bodies.class_data.end()),
             ),
             entry(
                 Section::AnnotationSetRefLists,
-                count_placed(self.ref_lists.offsets()) as u32,
-                round_up(self.sets.end()),
+                count_placed(self.back.ref_lists.offsets()) as u32,
+                round_up(self.back.sets.end()),
             ),
             entry(
                 Section::AnnotationsDirectories,
-                count_placed(self.directories.offsets()) as u32,
-                round_up(self.ref_lists.end()),
+                count_placed(self.back.directories.offsets()) as u32,
+                round_up(self.back.ref_lists.end()),
             ),
         ]
     }
@@ -231,17 +251,18 @@ impl Data<'_> {
     pub(crate) fn greatest(&self) -> usize
         ensures { (m : Mentions) (cs : List NumberedClass) → AreData m cs self.now → result ≡ greatest_in (data_sections (ordered_of m cs)) }
     {
-        self.type_lists
+        self.front
+            .type_lists
             .places()
             .greatest()
-            .max(self.annotations.places().greatest())
-            .max(self.static_values.greatest())
-            .max(self.strings.greatest())
-            .max(self.debugs.places().greatest())
-            .max(self.codes.greatest())
-            .max(self.class_data.greatest())
-            .max(self.sets.greatest())
-            .max(self.ref_lists.greatest())
-            .max(self.directories.greatest())
+            .max(self.front.annotations.places().greatest())
+            .max(self.front.static_values.greatest())
+            .max(self.front.strings.greatest())
+            .max(self.bodies.debugs.places().greatest())
+            .max(self.bodies.codes.greatest())
+            .max(self.bodies.class_data.greatest())
+            .max(self.back.sets.greatest())
+            .max(self.back.ref_lists.greatest())
+            .max(self.back.directories.greatest())
     }
 }

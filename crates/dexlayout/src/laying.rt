@@ -1,7 +1,10 @@
 //! The parts of a layout put together.
 
-ghost use Rattle.std.specs.Prelude.{IfOk};
+ghost use Rattle.std.specs.Prelude.{◌≡◌, ◌+◌, ◌<◌, ◌≤◌, ◌^◌, IfOk, length};
+ghost use Rattle.dexspec.specs.Placing.{Ordered};
+ghost use Rattle.dexhead.specs.Laid.{TellsLayout, map_list, map_start};
 ghost use Rattle.dexlayout.specs.Laid.{AreWritable, IsLaid};
+ghost use Rattle.dexlayout.specs.Parts.{AreTables};
 
 use crate::data::place_data;
 use crate::layout::Layout;
@@ -12,6 +15,25 @@ use dexclass::Class;
 use dexhead::Head;
 use dexpool::Numbering;
 use std::alloc::{AllocError, Global};
+
+// The header of a file with these tables and with a map of so many bytes at a place, with sums of 0.
+fn head_of(tables: &Tables, map_off: u32, map_size: u32) -> Head
+    requires behind { tables.now.end ≤ map_off }
+    requires fits { map_off + map_size < 2 ^ 32 }
+    ensures tells { (K : Ordered) → AreTables K tables.now → map_off ≡ map_start K → map_size ≡ length (map_list K) → TellsLayout result K }
+    ensures signature { length result.signature ≡ 20 }
+{
+    let file_size = map_off + map_size;
+    Head {
+        checksum: 0,
+        signature: [0; 20],
+        file_size,
+        map_off,
+        tables: tables.rows(),
+        data_size: file_size - tables.end,
+        data_off: tables.end,
+    }
+}
 
 /// The layout of the file of classes.
 ///
@@ -26,21 +48,12 @@ pub(crate) fn lay<'p>(
 {
     let tables = Tables::of(numbering, classes);
     let data = place_data(alloc, numbering, classes, tables.end)?;
-    let map_off = round_up(data.directories.end());
+    let map_off = round_up(data.back.directories.end());
     let sections = data.entries(numbering, tables.end);
     let entries = map_entries(alloc, &tables.entries(), &sections, map_off)?;
     let map_size = 4 + 12 * entries.len() as u32;
-    let file_size = map_off + map_size;
+    let head = head_of(&tables, map_off, map_size);
     let longest = data.greatest();
-    let head = Head {
-        checksum: 0,
-        signature: [0; 20],
-        file_size,
-        map_off,
-        tables: tables.rows(),
-        data_size: file_size - tables.end,
-        data_off: tables.end,
-    };
     Ok(Layout {
         head,
         placed: data,

@@ -45,7 +45,7 @@ impl<'p> Model for Layout<'p> {
 
     ghost coded = { Prim.hlevel (codes, elements_code) };
 
-    ghost view = { λ l. record { head = l.head; type_lists = l.placed.type_lists; annotations = l.placed.annotations; static_values = l.placed.static_values; strings = l.placed.strings; debugs = l.placed.debugs; codes = l.placed.codes; class_data = l.placed.class_data; sets = l.placed.sets; ref_lists = l.placed.ref_lists; directories = l.placed.directories; entries = map entry_meant l.entries.items; greatest = l.greatest } };
+    ghost view = { λ l. record { head = l.head; type_lists = l.placed.front.type_lists; annotations = l.placed.front.annotations; static_values = l.placed.front.static_values; strings = l.placed.front.strings; debugs = l.placed.bodies.debugs; codes = l.placed.bodies.codes; class_data = l.placed.bodies.class_data; sets = l.placed.back.sets; ref_lists = l.placed.back.ref_lists; directories = l.placed.back.directories; entries = map entry_meant l.entries.items; greatest = l.greatest } };
 }
 
 impl<'p> Layout<'p> {
@@ -83,70 +83,70 @@ impl<'p> Layout<'p> {
     pub fn type_lists(&self) -> &TypeLists<'p>
         ensures { result.now ≡ self.now.type_lists }
     {
-        &self.placed.type_lists
+        &self.placed.front.type_lists
     }
 
     /// The annotation sets that are written, and where the first annotation of each stands.
     pub fn annotations(&self) -> &Annotations<'p>
         ensures { result.now ≡ self.now.annotations }
     {
-        &self.placed.annotations
+        &self.placed.front.annotations
     }
 
     /// Where the static values of each class stand.
     pub fn static_values(&self) -> &Offsets
         ensures { result.now ≡ self.now.static_values }
     {
-        &self.placed.static_values
+        &self.placed.front.static_values
     }
 
     /// Where each text stands.
     pub fn strings(&self) -> &Offsets
         ensures { result.now ≡ self.now.strings }
     {
-        &self.placed.strings
+        &self.placed.front.strings
     }
 
     /// The debug programs that are written, and where they stand, for each method.
     pub fn debugs(&self) -> &DebugPrograms<'p>
         ensures { result.now ≡ self.now.debugs }
     {
-        &self.placed.debugs
+        &self.placed.bodies.debugs
     }
 
     /// Where the code of each method stands.
     pub fn codes(&self) -> &Offsets
         ensures { result.now ≡ self.now.codes }
     {
-        &self.placed.codes
+        &self.placed.bodies.codes
     }
 
     /// Where the class data of each class stand.
     pub fn class_data(&self) -> &Offsets
         ensures { result.now ≡ self.now.class_data }
     {
-        &self.placed.class_data
+        &self.placed.bodies.class_data
     }
 
     /// Where the annotation sets stand.
     pub fn sets(&self) -> &Sets
         ensures { result.now ≡ self.now.sets }
     {
-        &self.placed.sets
+        &self.placed.back.sets
     }
 
     /// Where the list of the sets of the parameters of each method stands.
     pub fn ref_lists(&self) -> &Offsets
         ensures { result.now ≡ self.now.ref_lists }
     {
-        &self.placed.ref_lists
+        &self.placed.back.ref_lists
     }
 
     /// Where the annotations directory of each class stands; they end where the sections before the map end.
     pub fn directories(&self) -> &Offsets
         ensures { result.now ≡ self.now.directories }
     {
-        &self.placed.directories
+        &self.placed.back.directories
     }
 
     /// The entries of the map.

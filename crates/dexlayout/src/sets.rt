@@ -29,8 +29,7 @@ pub struct Sets {
     pub(crate) fields: Vec<u32>,
     pub(crate) methods: Vec<u32>,
     pub(crate) parameters: Vec<u32>,
-    pub(crate) end: u32,
-    pub(crate) greatest: usize,
+    pub(crate) written: Offsets,
 }
 
 impl Model for Sets {
@@ -38,7 +37,7 @@ impl Model for Sets {
 
     ghost Value = { SetPlaces };
 
-    ghost view = { λ s. record { own = s.own.items; fields = s.fields.items; methods = s.methods.items; parameters = s.parameters.items; end = s.end; greatest = s.greatest } };
+    ghost view = { λ s. record { own = s.own.items; fields = s.fields.items; methods = s.methods.items; parameters = s.parameters.items; end = s.written.end; greatest = s.written.greatest } };
 }
 
 impl Sets {
@@ -74,29 +73,28 @@ impl Sets {
     pub fn end(&self) -> u32
         ensures { result ≡ self.now.end }
     {
-        self.end
+        self.written.end()
     }
 
     /// How many bytes the longest set has, or 0 where there is none.
     pub fn greatest(&self) -> usize
         ensures { result ≡ self.now.greatest }
     {
-        self.greatest
+        self.written.greatest()
     }
 }
 
 impl Sets {
     // No sets yet, and memory for so many classes; those that are written are placed.
-    fn none(alloc: Global, classes: usize, written: &Offsets) -> Result<Sets, AllocError>
-        ensures { IfOk result (λ sets. sets ≡ record { own = []; fields = []; methods = []; parameters = []; end = written.now.end; greatest = written.now.greatest }) }
+    fn none(alloc: Global, classes: usize, written: Offsets) -> Result<Sets, AllocError>
+        ensures { IfOk result (λ sets. sets ≡ record { own = []; fields = []; methods = []; parameters = []; end = written.end; greatest = written.greatest }) }
     {
         Ok(Sets {
             own: Vec::with_capacity(alloc, classes)?,
             fields: Vec::new(alloc),
             methods: Vec::new(alloc),
             parameters: Vec::new(alloc),
-            end: written.end(),
-            greatest: written.greatest(),
+            written,
         })
     }
 
@@ -193,7 +191,7 @@ pub(crate) fn place_sets(
 {
     let written = place_written(alloc, annotations.written(), from)?;
     let uses = place_shared(alloc, numbers, &written)?;
-    let mut sets = Sets::none(alloc, classes.len(), &written)?;
+    let mut sets = Sets::none(alloc, classes.len(), written)?;
     let mut rest = uses.offsets();
     for class in classes {
         rest = sets.gather_class(class, rest)?;

@@ -12,62 +12,38 @@ use Rattle.dexlayout.proofs.data.place_front.Goals as goal
 pub place_annotations-requires : goal.place_annotations-requires
 place_annotations-requires c =
     let m = c.args.numbering.now in
-    let cs = c.args.classes.now in
-    let w = c.requires.classes in
-    let K = ordered_of m cs in
-    let end = λ (q : ItemPlaces). q.end in
-    let e1 = c.end.ensures ∙ ap end c.places.ensures ∙ c.in_ok-type_lists.ensures.places_are.end_is in
-    let are = (c.in_ok-written.ensures.shared m w).written_are in
-    let known = c.in_ok-written.ensures.known m w in
-    annotations_fit m cs (map (λ s. set_of s.now) c.in_ok-written.field-0.written.items) c.end.result w (sets_behind m (λ s. set_of s.now) c.in_ok-written.field-0.written.items ∙ are) (All-map (IsKnownSet m) (λ s. set_of s.now) c.in_ok-written.field-0.written.items known) e1
+    let sets = map (λ s. set_of s.now) c.args.written.items in
+    annotations_fit m c.args.classes.now sets c.end.result c.requires.classes (sets_behind m (λ s. set_of s.now) c.args.written.items ∙ c.requires.written) (All-map (IsKnownSet m) (λ s. set_of s.now) c.args.written.items c.requires.known)
+    (c.end.ensures ∙ ap (λ (q : ItemPlaces). q.end) c.places.ensures ∙ c.in_ok-type_lists.ensures.places_are.end_is)
 
 pub place_static_values-requires : goal.place_static_values-requires
 place_static_values-requires c =
-    let m = c.args.numbering.now in
-    let cs = c.args.classes.now in
-    let w = c.requires.classes in
-    let K = ordered_of m cs in
     let end = λ (q : ItemPlaces). q.end in
     let e1 = c.end.ensures ∙ ap end c.places.ensures ∙ c.in_ok-type_lists.ensures.places_are.end_is in
-    let are = (c.in_ok-written.ensures.shared m w).written_are in
-    let known = c.in_ok-written.ensures.known m w in
-    let a = c.in_ok-annotations.ensures m cs w are known e1 in
-    let e2 = c.end-2.ensures ∙ ap end c.places-2.ensures ∙ a.places_are.end_is in
-    (m, w, e2)
+    let a = c.in_ok-annotations.ensures _ _ c.requires.classes c.requires.written c.requires.known e1 in
+    (c.args.numbering.now, c.requires.classes, c.end-2.ensures ∙ ap end c.places-2.ensures ∙ a.places_are.end_is)
 
 pub place_strings-requires : goal.place_strings-requires
 place_strings-requires c =
-    let m = c.args.numbering.now in
-    let cs = c.args.classes.now in
-    let w = c.requires.classes in
-    let K = ordered_of m cs in
+    let K = ordered_of c.args.numbering.now c.args.classes.now in
     let end = λ (q : ItemPlaces). q.end in
     let e1 = c.end.ensures ∙ ap end c.places.ensures ∙ c.in_ok-type_lists.ensures.places_are.end_is in
-    let are = (c.in_ok-written.ensures.shared m w).written_are in
-    let known = c.in_ok-written.ensures.known m w in
-    let a = c.in_ok-annotations.ensures m cs w are known e1 in
+    let a = c.in_ok-annotations.ensures _ _ c.requires.classes c.requires.written c.requires.known e1 in
     let e2 = c.end-2.ensures ∙ ap end c.places-2.ensures ∙ a.places_are.end_is in
-    let s = c.in_ok-static_values.ensures m w e2 in
-    let e3 = c.end-3.ensures ∙ s.end_is in
-    strings_fit K c.end-3.result e3 (end_in_file K w.fits)
+    let s = c.in_ok-static_values.ensures c.args.numbering.now c.requires.classes e2 in
+    strings_fit K c.end-3.result (c.end-3.ensures ∙ s.end_is) (end_in_file K c.requires.classes.fits)
 
 pub returns : goal.returns
 returns c =
-    let m = c.args.numbering.now in
-    let cs = c.args.classes.now in
-    let w = c.requires.classes in
-    let K = ordered_of m cs in
+    let K = ordered_of c.args.numbering.now c.args.classes.now in
     let end = λ (q : ItemPlaces). q.end in
     let e1 = c.end.ensures ∙ ap end c.places.ensures ∙ c.in_ok-type_lists.ensures.places_are.end_is in
-    let shared = c.in_ok-written.ensures.shared m w in
-    let a = c.in_ok-annotations.ensures m cs w shared.written_are (c.in_ok-written.ensures.known m w) e1 in
+    let a = c.in_ok-annotations.ensures _ _ c.requires.classes c.requires.written c.requires.known e1 in
     let e2 = c.end-2.ensures ∙ ap end c.places-2.ensures ∙ a.places_are.end_is in
-    let s = c.in_ok-static_values.ensures m w e2 in
-    let e3 = c.end-3.ensures ∙ s.end_is in
+    let s = c.in_ok-static_values.ensures c.args.numbering.now c.requires.classes e2 in
     record {
       type_lists_are = c.in_ok-type_lists.ensures;
       annotations_are = a;
-      numbers_are = shared.numbers_are;
       static_values_are = s;
-      strings_are = strings_stand K c.end-3.result e3 c.in_ok-strings.ensures;
+      strings_are = strings_stand K c.end-3.result (c.end-3.ensures ∙ s.end_is) c.in_ok-strings.ensures;
     }

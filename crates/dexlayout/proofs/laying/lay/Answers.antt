@@ -1,4 +1,4 @@
-use Rattle.std.proofs.Common.{◌≡◌, ℕ, ◌+◌, ◌*◌, ◌-◌, ◌≤◌, max, length, map, refl, arith, ap, sym, ◌∙◌}
+use Rattle.std.proofs.Common.{◌≡◌, ℕ, ◌+◌, ◌*◌, ◌≤◌, max, length, map, arith, ap, sym, ◌∙◌}
 use Rattle.std.proofs.lemmas.List.{length-map}
 use Rattle.dexspec.specs.Bytes.{round_up}
 use Rattle.dexspec.specs.Canonical.{Layout, layout, map_of, data_sections}
@@ -14,7 +14,7 @@ use Rattle.dexlayout.proofs.laying.lay.Goals.{After-len}
 pub round_up-map_off-requires : goal.round_up-map_off-requires
 round_up-map_off-requires c =
     let K = ordered_of c.args.numbering.now c.args.classes.now in
-    omega (arith, c.end.ensures, c.in_ok-data.ensures.directories_are.end_is, (end_in_file K c.requires.fits).directories)
+    omega (arith, c.end.ensures, c.in_ok-data.ensures.back_are.directories_are.end_is, (end_in_file K c.requires.fits).directories)
 
 pub entries-sections-requires : goal.entries-sections-requires
 entries-sections-requires c = (c.args.classes.now, c.requires, c.in_ok-data.ensures, c.of-tables.ensures.end_is)
@@ -23,7 +23,7 @@ entries-sections-requires c = (c.args.classes.now, c.requires, c.in_ok-data.ensu
 entries_are : (c : After-len) → map entry_meant c.in_ok-entries.entries.items ≡ map_of (ordered_of c.args.numbering.now c.args.classes.now) (layout (ordered_of c.args.numbering.now c.args.classes.now)) (map_start (ordered_of c.args.numbering.now c.args.classes.now))
 entries_are c =
     let K = ordered_of c.args.numbering.now c.args.classes.now in
-    let map_is = c.round_up-map_off.ensures ∙ ap (round_up 4) (c.end.ensures ∙ c.in_ok-data.ensures.directories_are.end_is) ∙ sym (map_start_is K) in
+    let map_is = c.round_up-map_off.ensures ∙ ap (round_up 4) (c.end.ensures ∙ c.in_ok-data.ensures.back_are.directories_are.end_is) ∙ sym (map_start_is K) in
     entries_same K c.round_up-map_off.result (map entry_meant c.entries.result) (map entry_meant c.entries-sections.result) (map entry_meant c.in_ok-entries.entries.items) c.in_ok-entries.ensures
     (c.entries.ensures K c.of-tables.ensures) (c.entries-sections.ensures c.args.classes.now c.requires c.in_ok-data.ensures c.of-tables.ensures.end_is) map_is
 
@@ -37,7 +37,7 @@ map_size c =
 small : (c : After-len) → c.round_up-map_off.result + (4 + 12 * c.len.result) ≤ 1073741824
 small c =
     let K = ordered_of c.args.numbering.now c.args.classes.now in
-    let map_is = c.round_up-map_off.ensures ∙ ap (round_up 4) (c.end.ensures ∙ c.in_ok-data.ensures.directories_are.end_is) ∙ sym (map_start_is K) in
+    let map_is = c.round_up-map_off.ensures ∙ ap (round_up 4) (c.end.ensures ∙ c.in_ok-data.ensures.back_are.directories_are.end_is) ∙ sym (map_start_is K) in
     omega (arith, map_is, map_size c, c.requires.fits)
 
 pub overflow_cast-map_size : goal.overflow_cast-map_size
@@ -49,15 +49,14 @@ overflow_mul-map_size c = omega (arith, small ((goal.at.overflow_mul-map_size c)
 pub overflow_add-map_size : goal.overflow_add-map_size
 overflow_add-map_size c = omega (arith, small ((goal.at.overflow_add-map_size c).After-len))
 
-pub overflow_add-file_size : goal.overflow_add-file_size
-overflow_add-file_size c = omega (arith, small ((goal.at.overflow_add-file_size c).After-len))
-
-pub overflow_sub-head : goal.overflow_sub-head
-overflow_sub-head c =
-    let here = (goal.at.overflow_sub-head c).After-len in
+pub head_of-head-requires-clause-behind : goal.head_of-head-requires-clause-behind
+head_of-head-requires-clause-behind c =
     let K = ordered_of c.args.numbering.now c.args.classes.now in
-    let map_is = c.round_up-map_off.ensures ∙ ap (round_up 4) (c.end.ensures ∙ c.in_ok-data.ensures.directories_are.end_is) ∙ sym (map_start_is K) in
+    let map_is = c.round_up-map_off.ensures ∙ ap (round_up 4) (c.end.ensures ∙ c.in_ok-data.ensures.back_are.directories_are.end_is) ∙ sym (map_start_is K) in
     omega (arith, c.of-tables.ensures.end_is, map_is, data_before K)
+
+pub head_of-head-requires-clause-fits : goal.head_of-head-requires-clause-fits
+head_of-head-requires-clause-fits c = omega (arith, small ((goal.at.head_of-head-requires-clause-fits c).After-len))
 
 pub returns : goal.returns
 returns c =
@@ -67,31 +66,22 @@ returns c =
     let K = ordered_of m cs in
     let d = c.in_ok-data.ensures in
     let t = c.of-tables.ensures in
-    let map_is = c.round_up-map_off.ensures ∙ ap (round_up 4) (c.end.ensures ∙ d.directories_are.end_is) ∙ sym (map_start_is K) in
+    let map_is = c.round_up-map_off.ensures ∙ ap (round_up 4) (c.end.ensures ∙ d.back_are.directories_are.end_is) ∙ sym (map_start_is K) in
     let size = map_size here in
-    let file = ap (λ n. n + (4 + 12 * c.len.result)) map_is ∙ ap (λ n. map_start K + n) size in
     let texts = ap (λ (l : Layout). l.strings) (layout_is K) in
     record {
-      head_tells = record {
-        tables = record {
-          rows = c.rows.ensures K t;
-          data_begins = t.end_is;
-          data_ends = ap (λ n. c.round_up-map_off.result + (4 + 12 * c.len.result) - n) t.end_is;
-        };
-        map_begins = map_is;
-        file_ends = file;
-      };
-      signature_length = refl;
-      type_lists_are = d.type_lists_are;
-      annotations_are = d.annotations_are;
-      static_values_are = d.static_values_are;
-      strings_are = record { offsets_are = d.strings_are.offsets_are ∙ sym texts; end_is = d.strings_are.end_is; greatest_is = d.strings_are.greatest_is };
-      debugs_are = d.debugs_are;
-      codes_are = d.codes_are;
-      class_data_are = d.class_data_are;
-      sets_are = d.sets_are;
-      ref_lists_are = d.ref_lists_are;
-      directories_are = d.directories_are;
+      head_tells = c.head_of-head.ensures.tells K t map_is size;
+      signature_length = c.head_of-head.ensures.signature;
+      type_lists_are = d.front_are.type_lists_are;
+      annotations_are = d.front_are.annotations_are;
+      static_values_are = d.front_are.static_values_are;
+      strings_are = record { offsets_are = d.front_are.strings_are.offsets_are ∙ sym texts; end_is = d.front_are.strings_are.end_is; greatest_is = d.front_are.strings_are.greatest_is };
+      debugs_are = d.bodies_are.debugs_are;
+      codes_are = d.bodies_are.codes_are;
+      class_data_are = d.bodies_are.class_data_are;
+      sets_are = d.back_are.sets_are;
+      ref_lists_are = d.back_are.ref_lists_are;
+      directories_are = d.back_are.directories_are;
       entries_are = entries_are here;
       greatest_is = longest c.max.result c.max-2.result c.greatest-longest.result (4 + 12 * c.len.result) (length (map_list K)) (greatest_in (data_sections K)) c.max.ensures c.max-2.ensures (c.greatest-longest.ensures m cs d) size;
     }

@@ -17,7 +17,7 @@ use Rattle.dexspec.proofs.ByteNumbers.{length-uint}
 use Rattle.dexpool.specs.Laws.{RanksAreNumbers}
 use Rattle.dexclass.specs.Numbered.{NumberedClass, definition_of, text_at, type_at}
 use Rattle.dexclass.specs.Uses.{IsKnownClass}
-use Rattle.dexcanon.specs.ClassRows.{class_row}
+use Rattle.dexcanon.specs.ClassRows.{class_row, rows_with}
 use Rattle.dexcanon.proofs.Aligned.{all_front}
 use Rattle.dexcanon.proofs.OwnUses.{zip_with_at, length-zip_with}
 
@@ -66,7 +66,7 @@ offsets_at ns bs ds vs r = record { interfaces = slice_index ns r; annotations =
 
 -- the rows of classes
 abbrev pub rows_of : Mentions → List NumberedClass → List ℕ → List ℕ → List ℕ → List ℕ → List (List ℕ)
-rows_of m cs ns bs ds vs = zip_with (class_row_bytes m) (map (definition_of m) cs) (class_offsets ns bs ds vs)
+rows_of m cs ns bs ds vs = rows_with m cs (class_offsets ns bs ds vs)
 
 module _ (m : Mentions) (cs : List NumberedClass) (ns bs ds vs : List ℕ) (n : length ns ≡ length cs) (a : length bs ≡ length cs) (d : length ds ≡ length cs) (v : length vs ≡ length cs) where
   abbrev pub class_rows : List (List ℕ)

@@ -1,5 +1,5 @@
 -- What stands behind the header, part by part.
-use Rattle.std.proofs.Common.{◌≡◌, ℕ, ◌+◌, ◌<◌, ◌^◌, List, ◌++◌, length, map, take, drop, sym, ap, ◌∙◌, arith}
+use Rattle.std.proofs.Common.{◌≡◌, ℕ, ◌+◌, ◌<◌, ◌≤◌, ◌^◌, List, ◌++◌, length, map, take, drop, sym, ap, ◌∙◌, arith}
 use Rattle.std.specs.List.{flat_map, concat}
 use Rattle.std.proofs.lemmas.List.{length-take, length-drop, length-map}
 use Rattle.dexspec.specs.Lists.{zip_with}
@@ -12,8 +12,10 @@ use Rattle.dexspec.proofs.Placements.{layout_is, length-type_list_offsets}
 use Rattle.dexclass.specs.Numbered.{NumberedClass, definition_of}
 use Rattle.dexspec.specs.Sections.{Section}
 use Rattle.dexhead.specs.Laid.{map_start, map_list}
+use Rattle.dexlayout.specs.Places.{Places}
 use Rattle.dexlayout.specs.Laid.{ordered_of, AreWritable}
 use Rattle.dexlayout.proofs.Ends.{end_in_file}
+use Rattle.dexcanon.specs.Ready.{IsReady}
 
 module _ (m : Mentions) (cs : List NumberedClass) where
   -- the tables in their order
@@ -103,3 +105,9 @@ module _ (m : Mentions) (cs : List NumberedClass) where
       let start : round_up 4 end ≡ map_start K = ap (round_up 4) (e ∙ sym (ap (λ (l : canonical.Layout). l.data_end) (layout_is K))) in
       let list : length (map_bytes es) ≡ length (map_list K) = ap (λ z. length (map_bytes z)) f in
       omega (arith, start, list, w.fits)
+
+  -- it is an item like the others
+  pub map_within : {p : Places} {limit : ℕ} (es : List (Section × ℕ × ℕ)) → IsReady m cs p limit → es ≡ map_of (ordered_of m cs) (layout (ordered_of m cs)) (map_start (ordered_of m cs)) → length (map_bytes es) ≤ limit
+  map_within es h f =
+      let list : length (map_bytes es) ≡ length (map_list (ordered_of m cs)) = ap (λ z. length (map_bytes z)) f in
+      omega (arith, list, h.laid.greatest_is, h.greatest)

@@ -10,7 +10,7 @@ ghost use Rattle.dexcanon.specs.Taking.{Outcome};
 
 use crate::annotations::put_annotations;
 use crate::class_data::put_class_data;
-use crate::class_defs::{ClassPlaces, put_class_defs};
+use crate::class_defs::put_class_defs;
 use crate::codes::put_codes;
 use crate::contents::Contents;
 use crate::debugs::put_debugs;
@@ -24,7 +24,6 @@ use crate::strings::put_strings;
 use crate::tables::{put_field_ids, put_method_ids, put_proto_ids, put_string_ids, put_type_ids};
 use crate::taking::Takes;
 use crate::type_lists::put_type_lists;
-use dexpool::SymbolKind;
 
 // The rows of the tables.
 fn put_tables<S, M: Takes<S>>(
@@ -36,25 +35,12 @@ fn put_tables<S, M: Takes<S>>(
     requires ready { CanBeMade contents.now }
     ensures { Outcome M.holds M.has_failed M.empties contents.now.limit state.old gathered.old state.new gathered.new (table_bytes (ordered_in contents.now) (layout (ordered_in contents.now))) result }
 {
-    let layout = contents.layout;
-    let string_offs = layout.strings().offsets();
-    let list_offs = layout.type_lists().places().offsets();
-    let annotation_offs = layout.directories().offsets();
-    let data_offs = layout.class_data().offsets();
-    let value_offs = layout.static_values().offsets();
-    let (proto_offs, class_offs) = list_offs.split_at(contents.numbering.count(SymbolKind::Proto));
-    put_string_ids::<S, M>(string_offs, contents.limit, gathered, state)?;
+    put_string_ids::<S, M>(contents, gathered, state)?;
     put_type_ids::<S, M>(contents, gathered, state)?;
-    put_proto_ids::<S, M>(contents, proto_offs, gathered, state)?;
+    put_proto_ids::<S, M>(contents, gathered, state)?;
     put_field_ids::<S, M>(contents, gathered, state)?;
     put_method_ids::<S, M>(contents, gathered, state)?;
-    let places = ClassPlaces {
-        interfaces: class_offs,
-        annotations: annotation_offs,
-        class_data: data_offs,
-        static_values: value_offs,
-    };
-    put_class_defs::<S, M>(contents, &places, gathered, state)
+    put_class_defs::<S, M>(contents, gathered, state)
 }
 
 // The sections of the data.
@@ -89,10 +75,7 @@ pub(crate) fn put_body<S, M: Takes<S>>(
     requires ready { CanBeMade contents.now }
     ensures { Outcome M.holds M.has_failed M.empties contents.now.limit state.old gathered.old state.new gathered.new (behind_header (ordered_in contents.now)) result }
 {
-    let layout = contents.layout;
     put_tables::<S, M>(contents, gathered, state)?;
     put_data::<S, M>(contents, gathered, state)?;
-    let entries = layout.entries();
-    let data_end = layout.directories().end();
-    put_map::<S, M>(entries, data_end, contents.limit, gathered, state)
+    put_map::<S, M>(contents, gathered, state)
 }

@@ -2,15 +2,13 @@
 //!
 //! Source: the heading "class_def_item" of the Android page "Dalvik Executable format".
 
-ghost use Rattle.std.specs.Prelude.{◌≡◌, ◌<◌, ◌^◌, false, length, map, unwrap_or, slice_index, IfSome};
+ghost use Rattle.std.specs.Prelude.{◌≡◌, ◌<◌, ◌^◌, false, length, unwrap_or, slice_index, IfSome};
 ghost use Rattle.std.specs.List.{concat, flat_map};
-ghost use Rattle.dexspec.specs.Lists.{zip_with};
 ghost use Rattle.dexspec.specs.Bytes.{uint};
 ghost use Rattle.dexspec.specs.Classes.{no_index};
-ghost use Rattle.dexspec.specs.Canonical.{class_offsets, class_row_bytes};
-ghost use Rattle.dexclass.specs.Numbered.{definition_of};
-ghost use Rattle.dexcanon.specs.ClassRows.{class_row};
-ghost use Rattle.dexcanon.specs.Ready.{CanBeMade};
+ghost use Rattle.dexspec.specs.Canonical.{class_offsets, layout};
+ghost use Rattle.dexcanon.specs.ClassRows.{class_row, rows_with};
+ghost use Rattle.dexcanon.specs.Ready.{CanBeMade, ordered_in};
 ghost use Rattle.dexcanon.specs.Taking.{Outcome};
 
 use crate::contents::Contents;
@@ -18,16 +16,38 @@ use crate::faults::StoreFault;
 use crate::items::Numbers;
 use crate::taking::{Takes, pass};
 use dexclass::Class;
-use dexpool::number_law;
+use dexpool::{SymbolKind, number_law};
 
-/// Where what the classes hold stands, an offset for each class: their interfaces, their annotations directories, their class data
-/// and their static values.
+// Where what the classes hold stands, an offset for each class: their interfaces, their annotations directories, their class data
+// and their static values.
 #[derive(Drop)]
-pub(crate) struct ClassPlaces<'a> {
-    pub(crate) interfaces: &'a [u32],
-    pub(crate) annotations: &'a [u32],
-    pub(crate) class_data: &'a [u32],
-    pub(crate) static_values: &'a [u32],
+struct ClassPlaces<'a> {
+    interfaces: &'a [u32],
+    annotations: &'a [u32],
+    class_data: &'a [u32],
+    static_values: &'a [u32],
+}
+
+impl<'a> ClassPlaces<'a> {
+    // By the layout of the file. There is an offset of each kind for each class.
+    fn of(contents: &Contents<'a, '_, '_, '_>) -> ClassPlaces<'a>
+        requires { CanBeMade contents.now }
+        ensures interfaces { length result.interfaces.now ≡ length contents.now.classes.now }
+        ensures annotations { length result.annotations.now ≡ length contents.now.classes.now }
+        ensures class_data { length result.class_data.now ≡ length contents.now.classes.now }
+        ensures static_values { length result.static_values.now ≡ length contents.now.classes.now }
+        ensures rows { concat (rows_with contents.now.numbering.now contents.now.classes.now (class_offsets result.interfaces.now result.annotations.now result.class_data.now result.static_values.now)) ≡ concat (rows_with contents.now.numbering.now contents.now.classes.now (layout (ordered_in contents.now)).classes) }
+    {
+        let layout = contents.layout;
+        let list_offs = layout.type_lists().places().offsets();
+        let (_, interfaces) = list_offs.split_at(contents.numbering.count(SymbolKind::Proto));
+        ClassPlaces {
+            interfaces,
+            annotations: layout.directories().offsets(),
+            class_data: layout.class_data().offsets(),
+            static_values: layout.static_values().offsets(),
+        }
+    }
 }
 
 // A number, or the index that names nothing.
@@ -69,23 +89,19 @@ fn row_of(class: &Class<'_>, places: &ClassPlaces<'_>, r: usize) -> [u32; 8]
 /// The rows of the classes.
 pub(crate) fn put_class_defs<S, M: Takes<S>>(
     contents: &Contents<'_, '_, '_, '_>,
-    places: &ClassPlaces<'_>,
     gathered: &mut Vec<u8>,
     state: &mut S,
 ) -> Result<(), StoreFault>
     requires works { M.has_failed state.old ≡ false }
     requires ready { CanBeMade contents.now }
-    requires interfaces { length places.now.interfaces.now ≡ length contents.now.classes.now }
-    requires annotations { length places.now.annotations.now ≡ length contents.now.classes.now }
-    requires class_data { length places.now.class_data.now ≡ length contents.now.classes.now }
-    requires static_values { length places.now.static_values.now ≡ length contents.now.classes.now }
-    ensures { Outcome M.holds M.has_failed M.empties contents.now.limit state.old gathered.old state.new gathered.new (concat (zip_with (class_row_bytes contents.now.numbering.now) (map (definition_of contents.now.numbering.now) contents.now.classes.now) (class_offsets places.now.interfaces.now places.now.annotations.now places.now.class_data.now places.now.static_values.now))) result }
+    ensures { Outcome M.holds M.has_failed M.empties contents.now.limit state.old gathered.old state.new gathered.new (concat (rows_with contents.now.numbering.now contents.now.classes.now (layout (ordered_in contents.now)).classes)) result }
 {
     let classes = contents.classes;
     contents.numbering.is_numbering();
     number_law();
+    let places = ClassPlaces::of(contents);
     for r in 0..classes.len() {
-        let row = row_of(&classes[r], places, r);
+        let row = row_of(&classes[r], &places, r);
         pass::<Numbers, S, M>(&Numbers(&row), contents.limit, gathered, state)?;
     }
     Ok(())

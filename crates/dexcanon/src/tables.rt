@@ -3,13 +3,13 @@
 //! Source: the headings "string_id_item", "type_id_item", "proto_id_item", "field_id_item" and "method_id_item" of the Android page
 //! "Dalvik Executable format".
 
-ghost use Rattle.std.specs.Prelude.{◌≡◌, ◌≤◌, false, length};
+ghost use Rattle.std.specs.Prelude.{◌≡◌, false};
 ghost use Rattle.std.specs.List.{flat_map, concat};
 ghost use Rattle.dexspec.specs.Lists.{zip_with};
 ghost use Rattle.dexspec.specs.Bytes.{uint};
 ghost use Rattle.dexspec.specs.Spellings.{text_index};
-ghost use Rattle.dexspec.specs.Canonical.{proto_row_bytes, field_row_bytes, method_row_bytes};
-ghost use Rattle.dexcanon.specs.Ready.{CanBeMade};
+ghost use Rattle.dexspec.specs.Canonical.{layout, proto_row_bytes, field_row_bytes, method_row_bytes};
+ghost use Rattle.dexcanon.specs.Ready.{CanBeMade, ordered_in};
 ghost use Rattle.dexcanon.specs.Taking.{Outcome};
 
 use crate::contents::Contents;
@@ -20,17 +20,17 @@ use dexpool::{SymbolKind, number_law};
 
 /// The rows of the texts, from where each stands.
 pub(crate) fn put_string_ids<S, M: Takes<S>>(
-    offsets: &[u32],
-    limit: usize,
+    contents: &Contents<'_, '_, '_, '_>,
     gathered: &mut Vec<u8>,
     state: &mut S,
 ) -> Result<(), StoreFault>
     requires works { M.has_failed state.old ≡ false }
-    requires least { 112 ≤ limit }
-    ensures { Outcome M.holds M.has_failed M.empties limit state.old gathered.old state.new gathered.new (flat_map uint offsets.now) result }
+    requires ready { CanBeMade contents.now }
+    ensures { Outcome M.holds M.has_failed M.empties contents.now.limit state.old gathered.old state.new gathered.new (flat_map uint (layout (ordered_in contents.now)).strings) result }
 {
+    let offsets = contents.layout.strings().offsets();
     for off in offsets {
-        pass::<Number, S, M>(&Number(*off), limit, gathered, state)?;
+        pass::<Number, S, M>(&Number(*off), contents.limit, gathered, state)?;
     }
     Ok(())
 }
@@ -58,19 +58,24 @@ pub(crate) fn put_type_ids<S, M: Takes<S>>(
 /// The rows of the protos, from where the parameters of each are listed.
 pub(crate) fn put_proto_ids<S, M: Takes<S>>(
     contents: &Contents<'_, '_, '_, '_>,
-    list_offs: &[u32],
     gathered: &mut Vec<u8>,
     state: &mut S,
 ) -> Result<(), StoreFault>
     requires works { M.has_failed state.old ≡ false }
     requires ready { CanBeMade contents.now }
-    requires lists { length list_offs.now ≡ length contents.now.numbering.now.protos }
-    ensures { Outcome M.holds M.has_failed M.empties contents.now.limit state.old gathered.old state.new gathered.new (concat (zip_with (proto_row_bytes contents.now.numbering.now) contents.now.numbering.now.protos list_offs.now)) result }
+    ensures { Outcome M.holds M.has_failed M.empties contents.now.limit state.old gathered.old state.new gathered.new (concat (zip_with (proto_row_bytes contents.now.numbering.now) contents.now.numbering.now.protos (layout (ordered_in contents.now)).parameters)) result }
 {
     let numbering = contents.numbering;
     numbering.is_numbering();
     number_law();
-    for i in 0..numbering.count(SymbolKind::Proto) {
+    let count = numbering.count(SymbolKind::Proto);
+    let (list_offs, _) = contents
+        .layout
+        .type_lists()
+        .places()
+        .offsets()
+        .split_at(count);
+    for i in 0..count {
         let proto = numbering.proto(i);
         let row = [
             proto.shorty() as u32,

@@ -42,13 +42,7 @@ pub fn to_bytes(alloc: Global, program: &Program<'_>) -> Result<Vec<u8>, AllocEr
 {
     dexlaws_normal::normal_form();
     let layout = Layout::of(alloc, program)?;
-    let limit = layout.greatest();
-    let contents = Contents {
-        numbering: program.numbering(),
-        classes: program.classes(),
-        layout: &layout,
-        limit,
-    };
+    let contents = Contents::of(program, &layout);
     whole_file(alloc, &contents)
 }
 
@@ -87,13 +81,7 @@ pub fn write_to<W: Sink>(
     ensures device { IsErrOf result Io ↔ (W.has_failed out.new ≡ true) }
 {
     let layout = Layout::of(alloc, program)?;
-    let limit = layout.greatest();
-    let contents = Contents {
-        numbering: program.numbering(),
-        classes: program.classes(),
-        layout: &layout,
-        limit,
-    };
+    let contents = Contents::of(program, &layout);
     write_contents(alloc, &contents, out)
 }
 

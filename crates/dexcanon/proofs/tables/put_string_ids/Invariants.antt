@@ -6,4 +6,4 @@ use Rattle.dexcanon.proofs.tables.put_string_ids.Given as goal
 
 abbrev pub invariant-loop-off : goal.invariant-loop-off
 invariant-loop-off g l =
-    Making g.M.Takes.holds g.M.Takes.has_failed g.M.Takes.empties l.limit l.fn.state l.fn.gathered l.state l.gathered (flat_map uint l.offsets) (flat_map uint (drop l.off-index l.offsets))
+    Making g.M.Takes.holds g.M.Takes.has_failed g.M.Takes.empties l.contents.limit l.fn.state l.fn.gathered l.state l.gathered (flat_map uint l.offsets) (flat_map uint (drop l.off-index l.offsets))

@@ -33,11 +33,21 @@ use dexval::AnnotationSet;
 use std::alloc::{AllocError, Global};
 
 /// Where the items of each section of the data stand, in the order of the file.
-#[derive(Drop)]
 pub(crate) struct Data<'p> {
     pub(crate) front: Front<'p>,
     pub(crate) bodies: Bodies<'p>,
     pub(crate) back: Back,
+}
+
+// So that a value is let go by one call.
+impl Drop for Data<'_> {
+    fn drop(self) {
+        let Data {
+            front: _,
+            bodies: _,
+            back: _,
+        } = self;
+    }
 }
 
 /// Where the items of the first sections stand.

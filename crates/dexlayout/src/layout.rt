@@ -26,12 +26,23 @@ use std::marker::Model;
 /// annotation sets have one item, in the place of the first use.
 ///
 /// Source: "Overall file layout"; the order of what stands in each section is this project's rule.
-#[derive(Drop)]
 pub struct Layout<'p> {
     pub(crate) head: Head,
     pub(crate) placed: Data<'p>,
     pub(crate) entries: Vec<MapEntry>,
     pub(crate) greatest: usize,
+}
+
+// So that a layout is let go by one call, in the crates above too.
+impl Drop for Layout<'_> {
+    fn drop(self) {
+        let Layout {
+            head: _,
+            placed: _,
+            entries: _,
+            greatest: _,
+        } = self;
+    }
 }
 
 impl<'p> Model for Layout<'p> {

@@ -1,8 +1,10 @@
 -- How far inputs are read one after the other.
-use Rattle.std.proofs.Common.{◌≡◌, ℕ, zero, suc, ◌<◌, Bool, List, [], ◌∷◌, length, get_or, drop, refl, sym, subst, arith}
+use Rattle.std.proofs.Common.{◌≡◌, ℕ, zero, suc, ◌<◌, Bool, true, List, [], ◌∷◌, length, get_or, drop, refl, sym, ap, subst, ◌∙◌, arith}
 use Rattle.std.proofs.Math.ListN.{set}
+use Rattle.std.proofs.lemmas.List.{get_or-set_other, get_or-set_same, length-set}
 use Rattle.std.specs.List.{AllZip}
 use Rattle.dexcmd.specs.Inputs.{IsReadNoFurther}
+use Rattle.dexcmd.specs.Runs.{AllWork, HasFailed}
 use Rattle.dexcmd.proofs.Checked.{same_head}
 
 -- no input is read yet
@@ -22,3 +24,11 @@ pub moved_now : {R : Type 0} (P : R → R → Type 0) (inputs now : List R) (i :
     x ≡ get_or now i x → P (get_or now i x) y → AllZip P inputs (set now i y)
 moved_now P inputs now i x y all rest lt lt' at here =
     moved_more P inputs now i x y all lt' (same_head now inputs i x rest lt lt' at) (subst (λ z. P z y) (sym at) here)
+
+-- this reader has failed, and no other, where all have worked
+pub one_failed : {R : Type 0} (has_failed : R → Bool) (inputs : List R) (i : ℕ) (y : R) → AllWork has_failed inputs → i < length inputs → has_failed y ≡ true → HasFailed has_failed (set inputs i y) i
+one_failed has_failed inputs i y works lt failed = record {
+  within = omega (arith, lt, length-set inputs i y);
+  failed = λ d. ap has_failed (get_or-set_same inputs i y d lt) ∙ failed;
+  others = λ k d within not. ap has_failed (get_or-set_other inputs i k y d not) ∙ works k d (omega (arith, within, length-set inputs i y));
+}

@@ -124,6 +124,47 @@ fn cause_text(alloc: Global, cause: &MergeCause) -> Result<String, AllocError>
     }
 }
 
+// The exit status after a fault.
+fn exit_status(fault: &RunFault) -> u8
+    ensures { result ≡ exit_status fault.now }
+{
+    match fault {
+        RunFault::Input(_, _) | RunFault::Plan | RunFault::Merge(_) => REFUSED,
+        RunFault::Read(_) | RunFault::Write => DEVICE,
+        RunFault::Memory => MEMORY,
+    }
+}
+
+// The line for standard error, without its end.
+fn fault_line(
+    alloc: Global,
+    fault: &RunFault,
+    names: &[&str],
+    out: &str,
+) -> Result<String, AllocError>
+    requires { HasName (length names.now) fault.now }
+    ensures { IfOk result (λ line. string_bytes line ≡ fault_line (map (λ name. name.now) names.now) out.now fault.now) }
+{
+    match fault {
+        RunFault::Input(i, refusal) => {
+            let name = names[*i];
+            let text = refusal_text(alloc, refusal)?;
+            format!(in alloc; "dexkit: {name}: {text}")
+        }
+        RunFault::Plan => String::from_str(alloc, "dexkit: bad plan"),
+        RunFault::Merge(cause) => {
+            let text = cause_text(alloc, cause)?;
+            format!(in alloc; "dexkit: {text}")
+        }
+        RunFault::Read(i) => {
+            let name = names[*i];
+            format!(in alloc; "dexkit: {name}: cannot be read")
+        }
+        RunFault::Write => format!(in alloc; "dexkit: {out}: cannot be written"),
+        RunFault::Memory => String::from_str(alloc, "dexkit: out of memory"),
+    }
+}
+
 /// The exit status after a fault, and the line for standard error, without its end. `names` are the names of the
 /// inputs, and `out` is that of the output.
 ///
@@ -139,25 +180,6 @@ pub fn explain(
     ensures status { IfOk result (λ told. told.0 ≡ exit_status fault.now) }
     ensures line { IfOk result (λ told. string_bytes told.1 ≡ fault_line (map (λ name. name.now) names.now) out.now fault.now) }
 {
-    match fault {
-        RunFault::Input(i, refusal) => {
-            let name = names[*i];
-            let text = refusal_text(alloc, refusal)?;
-            Ok((REFUSED, format!(in alloc; "dexkit: {name}: {text}")?))
-        }
-        RunFault::Plan => Ok((REFUSED, String::from_str(alloc, "dexkit: bad plan")?)),
-        RunFault::Merge(cause) => {
-            let text = cause_text(alloc, cause)?;
-            Ok((REFUSED, format!(in alloc; "dexkit: {text}")?))
-        }
-        RunFault::Read(i) => {
-            let name = names[*i];
-            Ok((DEVICE, format!(in alloc; "dexkit: {name}: cannot be read")?))
-        }
-        RunFault::Write => Ok((
-            DEVICE,
-            format!(in alloc; "dexkit: {out}: cannot be written")?,
-        )),
-        RunFault::Memory => Ok((MEMORY, String::from_str(alloc, "dexkit: out of memory")?)),
-    }
+    let line = fault_line(alloc, fault, names, out)?;
+    Ok((exit_status(fault), line))
 }

@@ -47,6 +47,21 @@ fn files<'a>(alloc: Global) -> Arg<'a> {
         .action(ArgAction::Append)
 }
 
+fn fan<'a>(alloc: Global) -> Arg<'a> {
+    Arg::new(alloc, "fan")
+        .long("fan")
+        .value_name("N")
+        .help(help::FAN)
+        .value_parser(value_parser!(u16).range(i64::from(LEAST_FAN)..))
+}
+
+fn strip<'a>(alloc: Global) -> Arg<'a> {
+    Arg::new(alloc, "strip")
+        .long("strip")
+        .help(help::STRIP)
+        .action(ArgAction::SetTrue)
+}
+
 // An option that names the most of something, at most so many.
 fn most<'a>(alloc: Global, id: &'a str, greatest: u32, help: &'a str) -> Arg<'a> {
     Arg::new(alloc, id)
@@ -79,28 +94,23 @@ fn normalise<'a>(alloc: Global) -> Result<Command<'a>, AllocError> {
 }
 
 fn merge<'a>(alloc: Global) -> Result<Command<'a>, AllocError> {
-    let fan = Arg::new(alloc, "fan")
-        .long("fan")
-        .value_name("N")
-        .help(help::FAN)
-        .value_parser(value_parser!(u16).range(i64::from(LEAST_FAN)..));
-    let strip = Arg::new(alloc, "strip")
-        .long("strip")
-        .help(help::STRIP)
-        .action(ArgAction::SetTrue);
-    let greatest = Caps::greatest();
-    Command::new(alloc, "merge")
+    let mut command = Command::new(alloc, "merge")
         .about(help::MERGE)
         .long_about(help::MERGE_LONG)
         .arg(one(alloc, "out", "OUT", help::OUT).long("out"))?
-        .arg(fan)?
-        .arg(strip)?
-        .arg(most(alloc, "max-types", greatest.types(), help::MAX_TYPES))?
-        .arg(most(alloc, "max-protos", greatest.protos(), help::MAX_PROTOS))?
-        .arg(most(alloc, "max-fields", greatest.fields(), help::MAX_FIELDS))?
-        .arg(most(alloc, "max-methods", greatest.methods(), help::MAX_METHODS))?
-        .arg(most(alloc, "max-weight", greatest.weight(), help::MAX_WEIGHT))?
-        .arg(files(alloc))
+        .arg(fan(alloc))?
+        .arg(strip(alloc))?;
+    let greatest = Caps::greatest();
+    for (id, greatest, help) in [
+        ("max-types", greatest.types(), help::MAX_TYPES),
+        ("max-protos", greatest.protos(), help::MAX_PROTOS),
+        ("max-fields", greatest.fields(), help::MAX_FIELDS),
+        ("max-methods", greatest.methods(), help::MAX_METHODS),
+        ("max-weight", greatest.weight(), help::MAX_WEIGHT),
+    ] {
+        command = command.arg(most(alloc, id, greatest, help))?;
+    }
+    command.arg(files(alloc))
 }
 
 fn command<'a>(alloc: Global) -> Result<Command<'a>, AllocError> {

@@ -3,7 +3,7 @@ use Rattle.std.proofs.lemmas.List.{length-map, drop-set-lt}
 use Rattle.std.proofs.lemmas.List.Elements.{All-set}
 use Rattle.std.proofs.lemmas.Grind.{drop_more_same}
 use Rattle.dexcmd.specs.Inputs.{bytes_read, IsReadNoFurther}
-use Rattle.dexcmd.proofs.Moved.{none_moved, moved_now}
+use Rattle.dexcmd.proofs.Moved.{none_moved, moved_now, one_failed}
 use Rattle.dexcmd.proofs.Checked.{none_checked, checked_more, begun, begun_more, right_now, line_is}
 use Rattle.dexcmd.proofs.checking.check_run.Goals as goal
 
@@ -103,3 +103,20 @@ returns-in-Err-write_whole-clause-no_further g c =
     let now : c.loop-i.i < length c.loop-i.inputs = omega arith in
     moved_now (IsReadNoFurther g.R.Source.tells g.R.Source.to_come g.R.Source.has_failed) c.args.inputs.now c.loop-i.inputs c.loop-i.i c.index-inputs-i.result c.judge.new.input
     c.loop-i.invariant.moved c.loop-i.invariant.rest now lt c.index-inputs-i.is c.judge.ensures.no_further
+
+pub returns-in-Err-Read-clause-fault : goal.returns-in-Err-Read-clause-fault
+returns-in-Err-Read-clause-fault g c =
+    let now : c.loop-i.i < length c.loop-i.inputs = omega arith in
+    let failed = rw c.in-Err-Read.field-0-is at c.in-Err-Read.ensures.fault in
+    (one_failed g.R.Source.has_failed c.loop-i.inputs c.loop-i.i c.judge.new.input c.loop-i.invariant.readers now failed, c.loop-i.invariant.writer)
+
+pub returns-in-Err-Memory-clause-fault : goal.returns-in-Err-Memory-clause-fault
+returns-in-Err-Memory-clause-fault g c =
+    let works = rw c.in-Err-Memory.field-0-is at c.in-Err-Memory.ensures.fault in
+    (All-set (λ s. g.R.Source.has_failed s ≡ false) _ _ _ works c.loop-i.invariant.readers, c.loop-i.invariant.writer)
+
+pub returns-in-Err-clause-fault : goal.returns-in-Err-clause-fault
+returns-in-Err-clause-fault g c = (All-set (λ s. g.R.Source.has_failed s ≡ false) _ _ _ c.in-Ok.ensures.works c.loop-i.invariant.readers, c.loop-i.invariant.writer)
+
+pub returns-in-Err-write_whole-clause-fault : goal.returns-in-Err-write_whole-clause-fault
+returns-in-Err-write_whole-clause-fault g c = (All-set (λ s. g.R.Source.has_failed s ≡ false) _ _ _ c.in-Ok.ensures.works c.loop-i.invariant.readers, c.in-Err-write_whole.ensures.fails)

@@ -8,7 +8,7 @@ use Rattle.dexcmd.specs.Inputs.{IsReadNoFurther}
 use Rattle.dexcmd.specs.Merges.{IsReadFrom}
 use Rattle.dexcmd.proofs.Checked.{same_head}
 use Rattle.dexcmd.proofs.Merged.{held_first, read_more}
-use Rattle.dexcmd.proofs.Moved.{none_moved, moved_now}
+use Rattle.dexcmd.proofs.Moved.{none_moved, moved_now, one_failed}
 use Rattle.dexcmd.proofs.merging.read_each.Goals as goal
 
 pub loop-i-init : goal.loop-i-init
@@ -87,3 +87,20 @@ loop-i-preserved g c =
           (held_first (λ x. IsReadFrom g.R.Source.tells g.R.Source.to_come x c.in-Ok-read.program) c.loop-i.inputs c.args.inputs.now c.loop-i.i c.index-inputs-i.result c.loop-i.invariant.rest now lt c.index-inputs-i.is
           (λ t. subst (λ b. IsReadAs b c.in-Ok-read.program) (c.as_slice.ensures.value ∙ c.in-Ok.ensures.bytes t) c.in-Ok-read.ensures.accepted)));
     }
+
+pub returns-in-Err-Read-clause-devices : goal.returns-in-Err-Read-clause-devices
+returns-in-Err-Read-clause-devices g c =
+    let now : c.loop-i.i < length c.loop-i.inputs = omega (arith, c.requires.places) in
+    let failed = rw c.in-Err-Read.field-0-is at c.in-Err-Read.ensures.fault in
+    (one_failed g.R.Source.has_failed c.loop-i.inputs c.loop-i.i c.read_whole.new.input c.loop-i.invariant.readers now failed, refl)
+
+pub returns-in-Err-Memory-clause-devices : goal.returns-in-Err-Memory-clause-devices
+returns-in-Err-Memory-clause-devices g c =
+    let works = rw c.in-Err-Memory.field-0-is at c.in-Err-Memory.ensures.fault in
+    (All-set (λ s. g.R.Source.has_failed s ≡ false) _ _ _ works c.loop-i.invariant.readers, refl)
+
+pub returns-in-Err-Refused-clause-devices : goal.returns-in-Err-Refused-clause-devices
+returns-in-Err-Refused-clause-devices g c = (All-set (λ s. g.R.Source.has_failed s ≡ false) _ _ _ c.in-Ok.ensures.works c.loop-i.invariant.readers, refl)
+
+pub returns-in-Err-Memory-read-clause-devices : goal.returns-in-Err-Memory-read-clause-devices
+returns-in-Err-Memory-read-clause-devices g c = (All-set (λ s. g.R.Source.has_failed s ≡ false) _ _ _ c.in-Ok.ensures.works c.loop-i.invariant.readers, refl)

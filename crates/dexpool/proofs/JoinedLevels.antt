@@ -29,7 +29,7 @@ use Rattle.dexpool.specs.Joining.{IsUnion, StandFor, AreJoinedTexts, AreJoinedTy
 use Rattle.dexpool.proofs.NumberOrder as order
 use Rattle.dexpool.proofs.NumberOrder.{HasTypeNumbers, HasFieldNumbers, HasMethodNumbers, slices-map}
 use Rattle.dexpool.proofs.Pairs.{map_both}
-use Rattle.dexpool.proofs.Unions.{parts_sorted, joined_within, union}
+use Rattle.dexpool.proofs.Unions.{joined_within, union}
 
 -- a union rises
 pub union_rises : {P X : Type 0} (of : P → List X) (R : X → X → Ordering) (o : IsTotalOrder R) (exact : IsAntisymmetric R) (parts : List P) (joined : List X) (images : List (List ℕ)) → IsUnion of R parts joined images → rises R joined ≡ true
@@ -60,11 +60,6 @@ module _ (parts : List Mentions) (numberings : All IsNumbering parts) where
     -- ---- types
 
     module _ (rows : List (List TypeRow)) (stand : AllZip (λ (part : Mentions) xs. StandFor (λ (row : TypeRow). text_of texts row.descriptor) (λ (row : TypeRow). row.descriptor < length texts) part.types xs) parts rows) where
-      pub types_sorted : All (AreSorted (λ (row : TypeRow). row.descriptor ∷ [])) rows
-      types_sorted = parts_sorted (λ (row : TypeRow). row.descriptor ∷ []) (λ (row : TypeRow). text_of texts row.descriptor) (λ (row : TypeRow). row.descriptor < length texts) text_cmp text_total text_exact
-          (λ x y p q. order.type_rows_agree texts texts_rise x.descriptor y.descriptor p q) (λ (m : Mentions). m.types) parts rows stand
-          (All-weaker IsNumbering (λ m. rises text_cmp m.types ≡ true) (λ m n. n.rising.types_rise) parts numberings)
-
       pub types_joined : (joined : List TypeRow) (images : List (List ℕ)) (numbers : List ℕ) → IsJoin (λ (row : TypeRow). row.descriptor ∷ []) rows joined images → numbers ≡ map (λ (row : TypeRow). row.descriptor) joined → AreJoinedTypes parts texts numbers images
       types_joined joined images numbers j is =
           let u = union (λ (row : TypeRow). row.descriptor ∷ []) (λ (row : TypeRow). text_of texts row.descriptor) (λ (row : TypeRow). row.descriptor < length texts) text_cmp text_total text_exact
@@ -78,8 +73,11 @@ module _ (parts : List Mentions) (numberings : All IsNumbering parts) where
           }
 
     module _ (types : List ℕ) (type_images : List (List ℕ)) (jy : AreJoinedTypes parts texts types type_images) where
+      pub type_texts_rise : rises text_cmp (map (text_of texts) types) ≡ true
+      type_texts_rise = union_rises (λ (m : Mentions). m.types) text_cmp text_total text_exact parts (map (text_of texts) types) type_images jy.union
+
       pub types_rise : rises type_cmp types ≡ true
-      types_rise = order.types_rise_alike texts texts_rise types jy.within ∙ union_rises (λ (m : Mentions). m.types) text_cmp text_total text_exact parts (map (text_of texts) types) type_images jy.union
+      types_rise = order.types_rise_alike texts texts_rise types jy.within ∙ type_texts_rise
 
       types_agree : (m n : ℕ) → m < length types → n < length types → nat_cmp m n ≡ text_cmp (type_of texts types m) (type_of texts types n)
       types_agree = order.types_agree texts texts_rise types jy.within types_rise
@@ -94,10 +92,6 @@ module _ (parts : List Mentions) (numberings : All IsNumbering parts) where
           λ i. ordering_then (e i) (r i)
 
       module _ (rows : List (List ProtoNumbers)) (stand : AllZip (λ (part : Mentions) xs. StandFor (proto_of_row texts types) (IsRowOf texts types) part.protos xs) parts rows) where
-        pub protos_sorted : All (AreSorted (λ (row : ProtoNumbers). row.return_type ∷ row.parameters)) rows
-        protos_sorted = parts_sorted (λ (row : ProtoNumbers). row.return_type ∷ row.parameters) (proto_of_row texts types) (IsRowOf texts types) symbols.proto_cmp proto_total proto_exact rows_agree (λ (m : Mentions). m.protos) parts rows stand
-            (All-weaker IsNumbering (λ m. rises symbols.proto_cmp m.protos ≡ true) (λ m n. n.rising.protos_rise) parts numberings)
-
         pub protos_joined : (joined : List ProtoNumbers) (images : List (List ℕ)) (table : Protos) → IsJoin (λ (row : ProtoNumbers). row.return_type ∷ row.parameters) rows joined images → HasSpans table → numbers_in table ≡ joined
             → AreJoinedProtos parts texts types table.parameters.items table.rows.items images
         protos_joined joined images table j spans is =
@@ -122,10 +116,6 @@ module _ (parts : List Mentions) (numberings : All IsNumbering parts) where
       fields_agree f g h k = order.field_rows_agree texts texts_rise types jy.within types_rise f g (field_numbers f h) (field_numbers g k)
 
       module _ (rows : List (List FieldRow)) (stand : AllZip (λ (part : Mentions) xs. StandFor (field_of texts types) (IsFieldWithin (length texts) (length types)) part.fields xs) parts rows) where
-        pub fields_sorted : All (AreSorted field_key) rows
-        fields_sorted = parts_sorted field_key (field_of texts types) (IsFieldWithin (length texts) (length types)) symbols.field_cmp field_total field_exact fields_agree (λ (m : Mentions). m.fields) parts rows stand
-            (All-weaker IsNumbering (λ m. rises symbols.field_cmp m.fields ≡ true) (λ m n. n.rising.fields_rise) parts numberings)
-
         pub fields_joined : (joined : List FieldRow) (images : List (List ℕ)) → IsJoin field_key rows joined images → AreJoinedFields parts texts types joined images
         fields_joined joined images j = record {
           union = union field_key (field_of texts types) (IsFieldWithin (length texts) (length types)) symbols.field_cmp field_total field_exact fields_agree (λ (m : Mentions). m.fields) parts rows stand joined images j;
@@ -138,9 +128,11 @@ module _ (parts : List Mentions) (numberings : All IsNumbering parts) where
         entries_in : All (HasTypeNumbers ps (length types)) protos
         entries_in = All-weaker (IsEntryWithin (length texts) (length types) ps) (HasTypeNumbers ps (length types)) (λ p h. record { return_in = h.return_in; parameters_in = h.parameters_in }) protos jp.within
 
+        pub proto_symbols_rise : rises symbols.proto_cmp (map (proto_of texts types ps) protos) ≡ true
+        proto_symbols_rise = union_rises (λ (m : Mentions). m.protos) symbols.proto_cmp proto_total proto_exact parts (map (proto_of texts types ps) protos) proto_images jp.union
+
         pub protos_rise : rises (proto_cmp ps) protos ≡ true
-        protos_rise = order.protos_rise_alike texts texts_rise types jy.within types_rise ps protos entries_in
-            ∙ union_rises (λ (m : Mentions). m.protos) symbols.proto_cmp proto_total proto_exact parts (map (proto_of texts types ps) protos) proto_images jp.union
+        protos_rise = order.protos_rise_alike texts texts_rise types jy.within types_rise ps protos entries_in ∙ proto_symbols_rise
 
         method_numbers : (m : MethodRow) → IsMethodWithin (length texts) (length types) (length protos) m → HasMethodNumbers (length types) (length texts) (length protos) m
         method_numbers m h = record { class_in = h.class_in; name_in = h.name_in; proto_in = h.proto_in }
@@ -150,10 +142,6 @@ module _ (parts : List Mentions) (numberings : All IsNumbering parts) where
         methods_agree m n h k = order.method_rows_agree texts texts_rise types jy.within types_rise ps protos entries_in protos_rise m n (method_numbers m h) (method_numbers n k)
 
         module _ (rows : List (List MethodRow)) (stand : AllZip (λ (part : Mentions) xs. StandFor (method_of texts types ps protos) (IsMethodWithin (length texts) (length types) (length protos)) part.methods xs) parts rows) where
-          pub methods_sorted : All (AreSorted method_key) rows
-          methods_sorted = parts_sorted method_key (method_of texts types ps protos) (IsMethodWithin (length texts) (length types) (length protos)) symbols.method_cmp method_total method_exact methods_agree (λ (m : Mentions). m.methods) parts rows stand
-              (All-weaker IsNumbering (λ m. rises symbols.method_cmp m.methods ≡ true) (λ m n. n.rising.methods_rise) parts numberings)
-
           pub methods_joined : (joined : List MethodRow) (images : List (List ℕ)) → IsJoin method_key rows joined images → AreJoinedMethods parts texts types ps protos joined images
           methods_joined joined images j = record {
             union = union method_key (method_of texts types ps protos) (IsMethodWithin (length texts) (length types) (length protos)) symbols.method_cmp method_total method_exact methods_agree (λ (m : Mentions). m.methods) parts rows stand joined images j;

@@ -10,8 +10,9 @@ use Rattle.dexspec.specs.Names.{IsDescriptor, IsValueType, shorty}
 use Rattle.dexspec.specs.Names as names
 use Rattle.dexspec.specs.Symbols as symbols
 use Rattle.dexspec.proofs.InOrder.{Rises-from_rises, rises-from_Rises}
-use Rattle.dexspec.proofs.SymbolOrders.{text_total, proto_total, field_total, method_total}
+use Rattle.dexspec.proofs.SymbolOrders.{text_total}
 use Rattle.dexrows.specs.Cut.{kept}
+use Rattle.dexrows.specs.Join.{row_cmp, AreSorted}
 use Rattle.dexrows.specs.Numbers.{ProtoNumbers}
 use Rattle.dexrows.specs.declared.fields.FieldRow.{FieldRow}
 use Rattle.dexrows.specs.declared.methods.MethodRow.{MethodRow}
@@ -22,12 +23,13 @@ use Rattle.dexpool.specs.Tables.{text_of, type_of, span_of, proto_of, proto_at, 
 use Rattle.dexpool.specs.Reading.{HasSpan}
 use Rattle.dexpool.specs.Numberings.{AreMarksOf}
 use Rattle.dexpool.specs.Renumbering.{numbers_of, moved_proto, moved_field, moved_method, IsEntryWithin, IsFieldWithin, IsMethodWithin}
+use Rattle.dexpool.specs.Joining.{proto_key}
 use Rattle.dexpool.specs.Stored.{symbols_in, IsTypeNumber, IsTypeOf, IsProtoEntry, IsFieldRow, IsMethodRow, AreTables}
 use Rattle.dexpool.specs.Closing.{new_numbers, IsCut, IsMarked, AreClosed, HasMarkedEntry, HasMarkedField, HasMarkedMethod, kept_symbols}
 use Rattle.dexpool.proofs.KeptRows.{mark_within, kept_all, kept-map, kept_rises, length-new_numbers, is_moved}
-use Rattle.dexpool.proofs.NumberOrder as order
-use Rattle.dexpool.proofs.NumberOrder.{HasTypeNumbers, HasFieldNumbers, HasMethodNumbers}
-use Rattle.dexpool.proofs.TablesStand.{entry_numbers, field_numbers, method_numbers, are_rising}
+use Rattle.dexpool.proofs.NumberOrder.{rises-map, type_total, proto_rows_total, field_rows_total, method_rows_total}
+use Rattle.dexpool.proofs.RowOrder as order
+use Rattle.dexpool.proofs.RowOrder.{TypesStay, ProtosStay, FieldsStay, MethodsStay}
 
 -- ---- any lists
 
@@ -113,12 +115,6 @@ module _ (t : Tables) (ok : AreTables t) (marks : Marks) (count : AreMarksOf (sy
       (all_both (IsMarked marks.strings.items) (IsTypeNumber t) (λ n. IsTypeNumber cut (slice_index ns n)) rows closed.types_closed (kept_all (IsTypeNumber t) marks.types.items t.types.items ok.types_stand)
       (λ n m k. record { text_in = text_within n m; descriptor = subst IsDescriptor (sym (text_moved n m)) k.descriptor })))
 
-  cut_types_in : All (λ n. n < length cut.strings.items) cut.types.items
-  cut_types_in = All-weaker (IsTypeNumber cut) (λ n. n < length cut.strings.items) (λ n k. k.text_in) cut.types.items cut_types_stand
-
-  cut_types_rise : rises type_cmp cut.types.items ≡ true
-  cut_types_rise = order.types_rise_alike cut.strings.items cut_texts_rise cut.types.items cut_types_in ∙ ap (rises text_cmp) types_same ∙ kept_rise text_cmp text_total marks.types.items (symbols_in t).types (are_rising t ok).types_rise
-
   is_type_of : (Is : List ℕ → Type 0) (n : ℕ) → IsMarked marks.types.items n → IsTypeOf Is t n → IsTypeOf Is cut (slice_index (new_numbers marks.types.items) n)
   is_type_of Is n m k = record { type_in = type_within n m; is = subst Is (sym (type_moved n m)) k.is }
 
@@ -179,14 +175,6 @@ module _ (t : Tables) (ok : AreTables t) (marks : Marks) (count : AreMarksOf (sy
       all_both (λ p. HasSpan cut.parameters p.parameters) (λ p. IsRow cut (numbers_of cut.parameters p)) (IsProtoEntry cut) cut.protos.items is.spans cut_rows_stand
       (λ p s r. record { span = s; return_in = r.return_in; parameters_in = r.parameters_in; shorty_in = r.shorty_in; shorty_is = r.shorty_is })
 
-  cut_protos_in : All (HasTypeNumbers cut.parameters (length cut.types.items)) cut.protos.items
-  cut_protos_in = All-weaker (IsProtoEntry cut) (HasTypeNumbers cut.parameters (length cut.types.items)) (entry_numbers cut) cut.protos.items cut_protos_stand
-
-  cut_protos_rise : rises (proto_cmp cut.parameters) cut.protos.items ≡ true
-  cut_protos_rise =
-      order.protos_rise_alike cut.strings.items cut_texts_rise cut.types.items cut_types_in cut_types_rise cut.parameters cut.protos.items cut_protos_in
-      ∙ ap (rises symbols.proto_cmp) protos_same ∙ kept_rise symbols.proto_cmp proto_total marks.protos.items (symbols_in t).protos (are_rising t ok).protos_rise
-
   -- ---- fields
 
   fields_same : (symbols_in cut).fields ≡ kept marks.fields.items (symbols_in t).fields
@@ -215,12 +203,6 @@ module _ (t : Tables) (ok : AreTables t) (marks : Marks) (count : AreMarksOf (sy
         name_is = subst names.IsMemberName (sym (text_moved f.name m.name_marked)) k.name_is;
         type_is = is_type_of IsValueType f.typ m.type_marked k.type_is;
       })))
-
-  cut_fields_rise : rises field_cmp cut.fields.items ≡ true
-  cut_fields_rise =
-      order.fields_rise_alike cut.strings.items cut_texts_rise cut.types.items cut_types_in cut_types_rise cut.fields.items
-      (All-weaker (IsFieldRow cut) (HasFieldNumbers (length cut.types.items) (length cut.strings.items)) (field_numbers cut) cut.fields.items cut_fields_stand)
-      ∙ ap (rises symbols.field_cmp) fields_same ∙ kept_rise symbols.field_cmp field_total marks.fields.items (symbols_in t).fields (are_rising t ok).fields_rise
 
   -- ---- methods
 
@@ -253,27 +235,52 @@ module _ (t : Tables) (ok : AreTables t) (marks : Marks) (count : AreMarksOf (sy
         proto_in = proto_within x.proto m.proto_marked;
       })))
 
-  cut_methods_rise : rises method_cmp cut.methods.items ≡ true
-  cut_methods_rise =
-      order.methods_rise_alike cut.strings.items cut_texts_rise cut.types.items cut_types_in cut_types_rise cut.parameters cut.protos.items cut_protos_in cut_protos_rise cut.methods.items
-      (All-weaker (IsMethodRow cut) (HasMethodNumbers (length cut.types.items) (length cut.strings.items) (length cut.protos.items)) (method_numbers cut) cut.methods.items cut_methods_stand)
-      ∙ ap (rises symbols.method_cmp) methods_same ∙ kept_rise symbols.method_cmp method_total marks.methods.items (symbols_in t).methods (are_rising t ok).methods_rise
+  -- ---- the order
+
+  module _ (types_stay : TypesStay) (protos_stay : ProtosStay) (fields_stay : FieldsStay) (methods_stay : MethodsStay) where
+    cut_types_rise : rises type_cmp cut.types.items ≡ true
+    cut_types_rise = subst (λ ns. rises type_cmp ns ≡ true) (sym is.types_are)
+        (order.type_numbers_stay (order.marked_among marks) (order.new_lower marks) (order.marked_rise marks) types_stay (kept marks.types.items t.types.items) closed.types_closed
+        (kept_rise type_cmp type_total marks.types.items t.types.items ok.types_rise))
+
+    cut_protos_rise : rises (proto_cmp cut.parameters) cut.protos.items ≡ true
+    cut_protos_rise =
+        rises-map (proto_cmp cut.parameters) (row_cmp proto_key) (numbers_of cut.parameters) (λ p. Unit {0}) (λ x y p q. refl) cut.protos.items (λ k d lt. tt)
+        ∙ subst (AreSorted proto_key) (sym is.protos_are)
+        (order.protos_stay (order.marked_among marks) (order.new_lower marks) (order.marked_rise marks) protos_stay t.parameters (kept marks.protos.items t.protos.items)
+        (All-weaker (HasMarkedEntry t marks) (λ p. IsMarked marks.types.items p.return_type × All (IsMarked marks.types.items) (span_of t.parameters p.parameters))
+        (λ p m. (m.return_marked, m.parameters_marked)) (kept marks.protos.items t.protos.items) closed.protos_closed)
+        (kept_rise (proto_cmp t.parameters) (proto_rows_total t.parameters) marks.protos.items t.protos.items ok.protos_rise))
+
+    cut_fields_rise : rises field_cmp cut.fields.items ≡ true
+    cut_fields_rise = subst (λ fs. rises field_cmp fs ≡ true) (sym is.fields_are)
+        (fields_stay (order.marked_among marks) (order.new_lower marks) (kept marks.fields.items t.fields.items) (order.marked_rise marks)
+        (All-weaker (HasMarkedField marks) (λ f. IsMarked marks.types.items f.class × IsMarked marks.strings.items f.name × IsMarked marks.types.items f.typ)
+        (λ f m. (m.class_marked, m.name_marked, m.type_marked)) (kept marks.fields.items t.fields.items) closed.fields_closed)
+        (kept_rise field_cmp field_rows_total marks.fields.items t.fields.items ok.fields_rise))
+
+    cut_methods_rise : rises method_cmp cut.methods.items ≡ true
+    cut_methods_rise = subst (λ ms. rises method_cmp ms ≡ true) (sym is.methods_are)
+        (methods_stay (order.marked_among marks) (order.new_lower marks) (kept marks.methods.items t.methods.items) (order.marked_rise marks)
+        (All-weaker (HasMarkedMethod marks) (λ x. IsMarked marks.types.items x.class × IsMarked marks.strings.items x.name × IsMarked marks.protos.items x.proto)
+        (λ x m. (m.class_marked, m.name_marked, m.proto_marked)) (kept marks.methods.items t.methods.items) closed.methods_closed)
+        (kept_rise method_cmp method_rows_total marks.methods.items t.methods.items ok.methods_rise))
+
+    -- they are tables
+    pub cut_tables : AreTables cut
+    cut_tables = record {
+      texts_rise = cut_texts_rise;
+      types_rise = cut_types_rise;
+      protos_rise = cut_protos_rise;
+      fields_rise = cut_fields_rise;
+      methods_rise = cut_methods_rise;
+      types_stand = cut_types_stand;
+      protos_stand = cut_protos_stand;
+      fields_stand = cut_fields_stand;
+      methods_stand = cut_methods_stand;
+    }
 
   -- ---- the whole
-
-  -- they are tables
-  pub cut_tables : AreTables cut
-  cut_tables = record {
-    texts_rise = cut_texts_rise;
-    types_rise = cut_types_rise;
-    protos_rise = cut_protos_rise;
-    fields_rise = cut_fields_rise;
-    methods_rise = cut_methods_rise;
-    types_stand = cut_types_stand;
-    protos_stand = cut_protos_stand;
-    fields_stand = cut_fields_stand;
-    methods_stand = cut_methods_stand;
-  }
 
   -- of the marked symbols
   pub cut_symbols : symbols_in cut ≡ kept_symbols marks (symbols_in t)

@@ -16,6 +16,7 @@ pub mod KeptSymbols
 pub mod NumberOrder
 pub mod TablesStand
 pub mod ReadTables
+pub mod RowOrder
 pub mod RowParts
 pub mod SameTables
 pub mod Pairs

@@ -107,6 +107,10 @@ module _ {A B X Y : Type 0} (R : A → B → Type 0) (f : X → A) (g : Y → B)
 pub All_more : {A X : Type 0} (Q : A → Type 0) (f : X → A) (xs : List X) (i : ℕ) (x : X) → i < length xs → x ≡ get_or xs i x → All Q (map f (take i xs)) → Q (f x) → All Q (map f (take (i + 1) xs))
 All_more Q f xs i x lt at h q = subst (All Q) (sym (map_more f xs i x lt ∙ ap (λ z. map f (take i xs) ++ f z ∷ []) (sym at))) (All-push Q (map f (take i xs)) (f x) h q)
 
+-- and one more that is pushed
+pub all_pushed : {A X : Type 0} (Q : A → Type 0) (f : X → A) (xs zs : List X) (x : X) → zs ≡ xs ++ x ∷ [] → All (λ y. Q (f y)) xs → Q (f x) → All (λ y. Q (f y)) zs
+all_pushed Q f xs zs x more h q = subst (All (λ y. Q (f y))) (sym more) (All-push (λ y. Q (f y)) xs x h q)
+
 -- where all of the first are taken
 pub zip_all : {A B X Y : Type 0} (R : A → B → Type 0) (f : X → A) (g : Y → B) (xs : List X) (ys zs : List Y) (i : ℕ) → length xs ≤ i → zs ≡ ys → AllZip R (map f (take i xs)) (map g ys) → AllZip R (map f xs) (map g zs)
 zip_all R f g xs ys zs i le e h = subst (λ l. AllZip R (map f xs) (map g l)) (sym e) (subst (λ l. AllZip R (map f l) (map g ys)) (take_all i xs le) h)

@@ -1,5 +1,5 @@
 -- Sorted rows joined: what they stand for is the union of what the parts' rows stand for.
-use Rattle.std.proofs.Common.{◌≡◌, ℕ, ◌<◌, true, List, [], ◌∷◌, length, get_or, map, sym, ap, ◌∙◌, subst, arith, slice_index}
+use Rattle.std.proofs.Common.{◌≡◌, ℕ, ◌<◌, List, [], ◌∷◌, length, get_or, map, sym, ap, ◌∙◌, subst, arith, slice_index}
 use Rattle.std.specs.List.{All, AllZip, Contains, flat_map}
 use Rattle.std.specs.Cmp.{IsTotalOrder}
 use Rattle.std.specs.FinMap.{IsAntisymmetric}
@@ -7,14 +7,14 @@ use Rattle.std.specs.declared.cmp.Ordering.{Ordering}
 use Rattle.std.proofs.lemmas.Cmp.{tied_itself}
 use Rattle.std.proofs.lemmas.List.{get_or-map, length-map}
 use Rattle.std.proofs.lemmas.List.Elements.{All-weaker, All-contains, All-contains_itself, Contains-get_or}
-use Rattle.dexspec.specs.Lists.{rises, in_order}
+use Rattle.dexspec.specs.Lists.{in_order}
 use Rattle.dexspec.specs.Rows.{key_cmp}
 use Rattle.dexspec.proofs.InOrder.{Rises-from_rises, Rises-same, Rises-in_order, in_order-has, in_order-only}
 use Rattle.dexspec.proofs.Members.{AreAmong, Contains-flat_map, Contains-flat_map_source}
 use Rattle.dexspec.proofs.Mapped.{Contains-map_source}
 use Rattle.dexspec.proofs.Depths.{Contains-map}
 use Rattle.dexspec.proofs.SymbolOrders.{text_total}
-use Rattle.dexrows.specs.Join.{row_cmp, AreSorted, IsImage, IsOfParts, IsJoin}
+use Rattle.dexrows.specs.Join.{row_cmp, IsImage, IsOfParts, IsJoin}
 use Rattle.dexpool.specs.Joining.{Moves, IsUnion, StandFor}
 use Rattle.dexpool.proofs.NumberOrder.{rises-map}
 use Rattle.dexpool.proofs.Pairs.{zip_source, zip_target, zip_along}
@@ -33,17 +33,7 @@ all_union of R o exact Q parts joined is h =
 
 module _ {P R X : Type 0} (key : R → List ℕ) (symbol : R → X) (Within : R → Type 0) (S : X → X → Ordering) (o : IsTotalOrder S) (exact : IsAntisymmetric S)
     (agree : (x y : R) → Within x → Within y → row_cmp key x y ≡ S (symbol x) (symbol y)) (of : P → List X) where
-  -- rows rise as their symbols do
-  pub part_sorted : (p : P) (rows : List R) → rises S (of p) ≡ true → StandFor symbol Within (of p) rows → AreSorted key rows
-  part_sorted p rows rise s = rises-map (row_cmp key) S symbol Within agree rows s.within ∙ ap (rises S) s.same ∙ rise
-
   module _ (parts : List P) (rows : List (List R)) (stand : AllZip (λ p xs. StandFor symbol Within (of p) xs) parts rows) where
-    pub parts_sorted : All (λ p. rises S (of p) ≡ true) parts → All (AreSorted key) rows
-    parts_sorted rise =
-        All-weaker (Contains rows) (AreSorted key) (λ xs c.
-        let s = zip_source (λ p ys. StandFor symbol Within (of p) ys) parts rows xs stand c in
-        part_sorted s.0 xs (All-contains (λ p. rises S (of p) ≡ true) parts s.0 rise s.1) s.2) rows (All-contains_itself rows)
-
     module _ (joined : List R) (images : List (List ℕ)) (j : IsJoin key rows joined images) where
       -- the joined rows' numbers are in range
       pub joined_within : All Within joined

@@ -1,6 +1,7 @@
 -- Rows whose numbers are replaced: by the numbers at their places in the images.
 use Rattle.std.specs.Prelude.{ℕ, ◌<◌, List, map, slice_index, All}
-use Rattle.dexrows.specs.Numbers.{ProtoNumbers}
+use Rattle.dexrows.specs.Join.{AreSorted}
+use Rattle.dexrows.specs.Numbers.{Among, Lower, RiseAmong, ProtoNumbers}
 use Rattle.dexrows.specs.declared.types.TypeRow.{TypeRow}
 use Rattle.dexrows.specs.declared.fields.FieldRow.{FieldRow}
 use Rattle.dexrows.specs.declared.methods.MethodRow.{MethodRow}
@@ -8,6 +9,12 @@ use Rattle.dexpool.specs.declared.rows.ProtoEntry.{ProtoEntry}
 use Rattle.dexpool.specs.declared.protos.Protos.{Protos}
 use Rattle.dexpool.specs.Tables.{span_of}
 use Rattle.dexpool.specs.Reading.{HasSpan}
+
+-- ---- rows of any kind
+
+-- where the numbers that they name are replaced in the order of these, sorted rows stay sorted
+abbrev pub StaySorted : {R : Type 0} → (R → List ℕ) → (Among → R → Type 0) → (Lower → R → R) → Type 0
+StaySorted {R} key numbers_in mapped = (among : Among) (lower : Lower) (rows : List R) → RiseAmong among lower → All (numbers_in among) rows → AreSorted key rows → AreSorted key (map (mapped lower) rows)
 
 -- ---- rows of types
 

@@ -16,10 +16,10 @@ use crate::protos::Protos;
 use crate::remap::Remap;
 use crate::renumbering::{
     descriptors, proto_rows, renumbered_fields, renumbered_methods, renumbered_protos,
-    renumbered_types, stored,
+    renumbered_types, sorted_law, stored,
 };
 use crate::tables::Tables;
-use dexrows::{FieldRow, Joined, MethodRow, ProtoRow, Row, join};
+use dexrows::{FieldRow, Joined, MethodRow, ProtoRow, Row, TypeRow, join};
 use dexstr::Text;
 use std::alloc::{AllocError, Global};
 
@@ -94,6 +94,7 @@ fn join_types<'a>(
     requires strings { AreJoinedTexts (map (λ part. part.now) parts.now) strings.now.rows.items (map (λ image. image.items) strings.now.images.items) }
     ensures { IfOk result (λ types. AreJoinedTypes (map (λ part. part.now) parts.now) strings.now.rows.items types.numbers.items (map (λ image. image.items) types.images.items)) }
 {
+    sorted_law::<TypeRow>();
     let mut rows = Vec::with_capacity(alloc, parts.len())?;
     for (i, part) in parts.iter().enumerate() {
         rows.push(renumbered_types(alloc, &part.tables().types, &strings.images[i])?)?;
@@ -129,11 +130,14 @@ fn renumbered_tables<'a>(
     strings: &Joined<Text<'a>>,
     types: &JoinedTypes,
 ) -> Result<Vec<Protos>, AllocError>
+    requires numberings { All IsNumbering (map (λ part. part.now) parts.now) }
     requires strings { AreJoinedTexts (map (λ part. part.now) parts.now) strings.now.rows.items (map (λ image. image.items) strings.now.images.items) }
     requires types { AreJoinedTypes (map (λ part. part.now) parts.now) strings.now.rows.items types.now.numbers.items (map (λ image. image.items) types.now.images.items) }
     ensures spans { IfOk result (λ tables. All HasSpans tables.items) }
+    ensures sorted { IfOk result (λ tables. All (λ table. AreSorted proto_key (numbers_in table)) tables.items) }
     ensures rows { IfOk result (λ tables. AllZip (λ part rows. StandFor (proto_of_row strings.now.rows.items types.now.numbers.items) (IsRowOf strings.now.rows.items types.now.numbers.items) part.protos rows) (map (λ part. part.now) parts.now) (map numbers_in tables.items)) }
 {
+    sorted_law::<ProtoRow<'_>>();
     let mut tables = Vec::with_capacity(alloc, parts.len())?;
     for (i, part) in parts.iter().enumerate() {
         let part = part.tables();
@@ -186,6 +190,7 @@ fn join_fields<'a>(
     requires types { AreJoinedTypes (map (λ part. part.now) parts.now) strings.now.rows.items types.now.numbers.items (map (λ image. image.items) types.now.images.items) }
     ensures { IfOk result (λ fields. AreJoinedFields (map (λ part. part.now) parts.now) strings.now.rows.items types.now.numbers.items fields.rows.items (map (λ image. image.items) fields.images.items)) }
 {
+    sorted_law::<FieldRow>();
     let mut rows = Vec::with_capacity(alloc, parts.len())?;
     for (i, part) in parts.iter().enumerate() {
         rows.push(renumbered_fields(
@@ -212,6 +217,7 @@ fn join_methods<'a>(
     requires protos { AreJoinedProtos (map (λ part. part.now) parts.now) strings.now.rows.items types.now.numbers.items protos.now.table.parameters.items protos.now.table.rows.items (map (λ image. image.items) protos.now.images.items) }
     ensures { IfOk result (λ methods. AreJoinedMethods (map (λ part. part.now) parts.now) strings.now.rows.items types.now.numbers.items protos.now.table.parameters.items protos.now.table.rows.items methods.rows.items (map (λ image. image.items) methods.images.items)) }
 {
+    sorted_law::<MethodRow>();
     let mut rows = Vec::with_capacity(alloc, parts.len())?;
     for (i, part) in parts.iter().enumerate() {
         rows.push(renumbered_methods(

@@ -12,9 +12,11 @@ use crate::lists::Parameters;
 use crate::marks::Marks;
 use crate::protos::Protos;
 use crate::remap::Remap;
-use crate::renumbering::{images_of, renumbered_fields, renumbered_methods, renumbered_protos};
+use crate::renumbering::{
+    images_of, renumbered_fields, renumbered_methods, renumbered_protos, sorted_law,
+};
 use crate::tables::Tables;
-use dexrows::{FieldRow, MethodRow, cut};
+use dexrows::{FieldRow, MethodRow, ProtoRow, TypeRow, cut};
 use dexstr::Text;
 use std::alloc::{AllocError, Global};
 
@@ -43,6 +45,10 @@ pub(crate) fn keep_marked<'a>(
     let remap = kept_remap(alloc, strings.images, marks)?;
     let lower = lower_numbers(alloc, &remap)?;
     let kept = kept_rows(alloc, strings.rows, tables, marks, &lower)?;
+    sorted_law::<TypeRow>();
+    sorted_law::<ProtoRow<'_>>();
+    sorted_law::<FieldRow>();
+    sorted_law::<MethodRow>();
     Ok((kept, remap))
 }
 

@@ -1,7 +1,8 @@
 //! Rows whose numbers are replaced by those of the same symbols in other tables.
 
 ghost use Rattle.std.specs.Prelude.{◌≡◌, ◌<◌, ◌++◌, length, map, All, IfOk, OnOk, slice_index};
-ghost use Rattle.dexpool.specs.Renumbering.{moved_type, IsEntryWithin, HasSpans, numbers_in, moved_proto, IsFieldWithin, moved_field, IsMethodWithin, moved_method};
+ghost use Rattle.dexrows.specs.Numbers.{among_of, lower_of};
+ghost use Rattle.dexpool.specs.Renumbering.{StaySorted, moved_type, IsEntryWithin, HasSpans, numbers_in, moved_proto, IsFieldWithin, moved_field, IsMethodWithin, moved_method};
 
 use crate::lists::Parameters;
 use crate::protos::{Protos, part};
@@ -158,6 +159,25 @@ pub(crate) fn stored(alloc: Global, protos: &[ProtoRow<'_>]) -> Result<Protos, A
     Ok(Protos { rows, parameters })
 }
 
+/// The rows, by the images of the rows of lower tables that they name.
+///
+/// Error: the memory for the rows was refused.
+fn renumbered_rows<R: Row<List = ()>>(
+    alloc: Global,
+    rows: &[R],
+    lower: LowerPlaces<'_>,
+) -> Result<Vec<R>, AllocError>
+    requires within { All (R.numbers_in (among_of lower)) rows.now }
+    requires list { All (λ row. R.can_move lower row tt) rows.now }
+    ensures { IfOk result (λ moved. moved.items ≡ map (R.mapped (lower_of lower.entry)) rows.now) }
+{
+    let mut moved = Vec::with_capacity(alloc, rows.len())?;
+    for row in rows {
+        moved.push(row.renumbered(lower, ()))?;
+    }
+    Ok(moved)
+}
+
 /// The rows of fields, by the images of their texts and types.
 pub(crate) fn renumbered_fields(
     alloc: Global,
@@ -173,11 +193,7 @@ pub(crate) fn renumbered_fields(
         types,
         protos: &[],
     };
-    let mut rows = Vec::with_capacity(alloc, fields.len())?;
-    for field in fields {
-        rows.push(field.renumbered(lower, ()))?;
-    }
-    Ok(rows)
+    renumbered_rows(alloc, fields, lower)
 }
 
 /// The rows of methods, by the images of their texts, types and protos.
@@ -196,9 +212,10 @@ pub(crate) fn renumbered_methods(
         types,
         protos,
     };
-    let mut rows = Vec::with_capacity(alloc, methods.len())?;
-    for method in methods {
-        rows.push(method.renumbered(lower, ()))?;
-    }
-    Ok(rows)
+    renumbered_rows(alloc, methods, lower)
 }
+
+/// Sorted rows stay sorted where the numbers that they name are replaced in the order of these.
+pub(crate) fn sorted_law<R: Row>()
+    ensures { StaySorted R.key_of R.numbers_in R.mapped }
+{}

@@ -2,10 +2,10 @@ use Rattle.std.proofs.Common.{ap, map, sym, ◌∙◌, subst, refl}
 use Rattle.std.specs.Prelude.{Result, Ok, Err, IfOk}
 use Rattle.std.specs.List.{All}
 use Rattle.dexrows.specs.Join.{AreSorted, IsJoin}
-use Rattle.dexrows.proofs.Composing.{all_seen}
 use Rattle.dexpool.specs.Renumbering.{numbers_in, HasSpans}
 use Rattle.dexpool.specs.Joining.{proto_key}
-use Rattle.dexpool.proofs.JoinedLevels.{protos_sorted, protos_joined}
+use Rattle.dexpool.proofs.Pairs.{all_seen}
+use Rattle.dexpool.proofs.JoinedLevels.{protos_joined}
 use Rattle.dexpool.proofs.joined_tables.join_protos.Goals as goal
 
 if_ok_both : {A E : Type 0} (P Q R : A → Type 0) (r : Result A E) → ((x : A) → P x → Q x → R x) → IfOk r P → IfOk r Q → IfOk r R
@@ -18,8 +18,7 @@ rows_of_tables-requires c = subst (All HasSpans) (sym c.deref.ensures.value) c.i
 pub joined_protos-requires : goal.joined_protos-requires
 joined_protos-requires c =
     let same = ap (map (λ rows. rows.items)) c.deref-2.ensures.value ∙ c.in_ok-rows.ensures ∙ ap (map numbers_in) c.deref.ensures.value in
-    all_seen (λ rows. rows.items) (AreSorted proto_key) c.deref-2.result.now
-    (subst (All (AreSorted proto_key)) (sym same) (protos_sorted (map (λ part. part.now) c.args.parts.now) c.requires.numberings c.args.strings.now.rows.items (map (λ image. image.items) c.args.strings.now.images.items) c.requires.strings c.args.types.now.numbers.items (map (λ image. image.items) c.args.types.now.images.items) c.requires.types (map numbers_in c.in_ok-tables.tables.items) c.in_ok-tables.ensures.rows))
+    all_seen (λ rows. rows.items) numbers_in (AreSorted proto_key) c.deref-2.result.now c.in_ok-tables.tables.items same c.in_ok-tables.ensures.sorted
 
 pub returns : goal.returns
 returns c =

@@ -1,0 +1,176 @@
+-- Rows whose numbers are replaced in their order stay sorted: what the law of rows says of each kind, in joins and in cuts.
+use Rattle.std.proofs.Common.{◌≡◌, ℕ, ◌<◌, Bool, true, false, List, [], ◌∷◌, length, get_or, map, Option, Some, None, refl, sym, ap, ◌∙◌, subst, arith, nat_lt, lt-ltb, ltb-true, slice_index, slice_index_or}
+use Rattle.std.specs.List.{All}
+use Rattle.std.specs.Cmp.{IsTotalOrder}
+use Rattle.std.specs.declared.cmp.Ordering.{Ordering}
+use Rattle.std.proofs.lemmas.List.{get_or-map}
+use Rattle.std.proofs.lemmas.List.Elements.{All-map, All-weaker}
+use Rattle.dexspec.specs.Lists.{rises}
+use Rattle.dexspec.specs.Texts.{Text, text_cmp}
+use Rattle.dexspec.specs.Symbols as symbols
+use Rattle.dexspec.proofs.SymbolOrders.{text_total, proto_total}
+use Rattle.dexrows.specs.Cut.{places}
+use Rattle.dexrows.specs.Join.{row_cmp, AreSorted}
+use Rattle.dexrows.specs.Numbers.{Among, Lower, RisesOn, RiseAmong, ProtoNumbers}
+use Rattle.dexrows.specs.declared.types.TypeRow.{TypeRow}
+use Rattle.dexrows.specs.declared.fields.FieldRow.{FieldRow}
+use Rattle.dexrows.specs.declared.methods.MethodRow.{MethodRow}
+use Rattle.dexrows.proofs.KeptPlaces.{length_places, marked_has}
+use Rattle.dexpool.specs.declared.rows.ProtoEntry.{ProtoEntry}
+use Rattle.dexpool.specs.declared.tables.Tables.{Tables}
+use Rattle.dexpool.specs.declared.marks.Marks.{Marks}
+use Rattle.dexpool.specs.Tables.{text_of, proto_of, span_of, type_cmp, proto_cmp, field_key, method_key}
+use Rattle.dexpool.specs.Renumbering.{StaySorted, numbers_of, moved_type, moved_proto, moved_field, moved_method, IsEntryWithin, IsFieldWithin, IsMethodWithin}
+use Rattle.dexpool.specs.Joining.{Moves, proto_key}
+use Rattle.dexpool.specs.Stored.{symbols_in, AreTables}
+use Rattle.dexpool.specs.Closing.{IsMarked, new_numbers, number_or_none}
+use Rattle.dexpool.proofs.KeptRows.{mark_within, places_keep}
+use Rattle.dexpool.proofs.Leading.{leads}
+use Rattle.dexpool.proofs.Moved.{types_movable, protos_movable, fields_movable, methods_movable}
+use Rattle.dexpool.proofs.NumberOrder.{rises-map}
+use Rattle.dexpool.proofs.Pairs.{map_both}
+use Rattle.dexpool.proofs.TablesStand.{are_rising}
+
+-- ---- what the law says of each kind
+
+-- the row of a type
+abbrev pub type_row : ℕ → TypeRow
+type_row n = record { descriptor = n }
+
+-- the law for types, protos, fields and methods
+abbrev pub TypesStay : Type 0
+TypesStay = StaySorted (λ (row : TypeRow). row.descriptor ∷ []) (λ among row. among.strings row.descriptor ≡ true) (λ lower row. record { descriptor = lower.strings row.descriptor })
+
+abbrev pub ProtosStay : Type 0
+ProtosStay = StaySorted proto_key
+    (λ among row. (among.types row.return_type ≡ true) × All (λ number. among.types number ≡ true) row.parameters)
+    (λ lower row. record { shorty = lower.strings row.shorty; return_type = lower.types row.return_type; parameters = map lower.types row.parameters })
+
+abbrev pub FieldsStay : Type 0
+FieldsStay = StaySorted field_key
+    (λ among row. (among.types row.class ≡ true) × (among.strings row.name ≡ true) × (among.types row.typ ≡ true))
+    (λ lower row. record { class = lower.types row.class; name = lower.strings row.name; typ = lower.types row.typ })
+
+abbrev pub MethodsStay : Type 0
+MethodsStay = StaySorted method_key
+    (λ among row. (among.types row.class ≡ true) × (among.strings row.name ≡ true) × (among.protos row.proto ≡ true))
+    (λ lower row. record { class = lower.types row.class; name = lower.strings row.name; proto = lower.protos row.proto })
+
+module _ (among : Among) (lower : Lower) (rise : RiseAmong among lower) where
+  -- types, as the numbers of their texts
+  pub types_stay : TypesStay → (types : List ℕ) → All (λ n. among.strings n ≡ true) types → rises type_cmp types ≡ true → AreSorted (λ (row : TypeRow). row.descriptor ∷ []) (map (λ n. type_row (lower.strings n)) types)
+  types_stay law types within sorted =
+      let Key : TypeRow → List ℕ = λ row. row.descriptor ∷ [] in
+      subst (AreSorted Key) (map_both type_row (λ row. type_row (lower.strings row.descriptor)) (λ n. type_row (lower.strings n)) types (λ k d lt. refl))
+      (law among lower (map type_row types) rise (All-map (λ row. among.strings row.descriptor ≡ true) type_row types within)
+      (sym (rises-map type_cmp (row_cmp Key) type_row (λ n. Unit {0}) (λ x y p q. refl) types (λ k d lt. tt)) ∙ sorted))
+
+  pub type_numbers_stay : TypesStay → (types : List ℕ) → All (λ n. among.strings n ≡ true) types → rises type_cmp types ≡ true → rises type_cmp (map lower.strings types) ≡ true
+  type_numbers_stay law types within sorted =
+      let Key : TypeRow → List ℕ = λ row. row.descriptor ∷ [] in
+      rises-map type_cmp (row_cmp Key) type_row (λ n. Unit {0}) (λ x y p q. refl) (map lower.strings types) (λ k d lt. tt)
+      ∙ ap (rises (row_cmp Key)) (map_both lower.strings type_row (λ n. type_row (lower.strings n)) types (λ k d lt. refl)) ∙ types_stay law types within sorted
+
+  -- protos, as their entries
+  pub protos_stay : ProtosStay → (ps : List ℕ) (protos : List ProtoEntry)
+      → All (λ p. (among.types p.return_type ≡ true) × All (λ number. among.types number ≡ true) (span_of ps p.parameters)) protos → rises (proto_cmp ps) protos ≡ true
+      → AreSorted proto_key (map (λ p. record { shorty = lower.strings p.shorty; return_type = lower.types p.return_type; parameters = map lower.types (span_of ps p.parameters) }) protos)
+  protos_stay law ps protos within sorted =
+      let mapped : ProtoNumbers → ProtoNumbers = λ row. record { shorty = lower.strings row.shorty; return_type = lower.types row.return_type; parameters = map lower.types row.parameters } in
+      subst (AreSorted proto_key) (map_both (numbers_of ps) mapped (λ p. mapped (numbers_of ps p)) protos (λ k d lt. refl))
+      (law among lower (map (numbers_of ps) protos) rise
+      (All-map (λ row. (among.types row.return_type ≡ true) × All (λ number. among.types number ≡ true) row.parameters) (numbers_of ps) protos within)
+      (sym (rises-map (proto_cmp ps) (row_cmp proto_key) (numbers_of ps) (λ p. Unit {0}) (λ x y p q. refl) protos (λ k d lt. tt)) ∙ sorted))
+
+-- no number is told
+none_rise : (f : ℕ → ℕ) → RisesOn (λ n. false) f
+none_rise f m n p q lt = absurd (let e : false ≡ true = p in cc)
+
+-- ---- joins: images of all numbers
+
+-- the numbers that have an image
+abbrev pub has_image : List ℕ → ℕ → Bool
+has_image images n = nat_lt n (length images)
+
+-- the images of sorted members among sorted ones rise
+images_rise : {X : Type 0} (R : X → X → Ordering) (o : IsTotalOrder R) (from to : List X) → rises R from ≡ true → rises R to ≡ true → (images : List ℕ) → Moves from to images → RisesOn (has_image images) (slice_index images)
+images_rise R o from to from_rises to_rises images moves m n p q before =
+    let some : (i : ℕ) → has_image images i ≡ true → get_or (map (λ (k : ℕ). Some k) images) i None ≡ Some (slice_index images i) =
+    λ i lt. get_or-map {X = ℕ} {Y = Option ℕ} (λ k. Some k) images i 0 None (ltb-true i (length images) lt) in
+    (leads R o from to from_rises to_rises images moves).rising m n (slice_index images m) (slice_index images n) before (some m p) (some n q)
+
+module _ (t : Tables) (ok : AreTables t) (texts : List Text) (texts_rise : rises text_cmp texts ≡ true) (strings : List ℕ) (by_texts : Moves t.strings.items texts strings) where
+  strings_rise : RisesOn (has_image strings) (slice_index strings)
+  strings_rise = images_rise text_cmp text_total t.strings.items texts ok.texts_rise texts_rise strings by_texts
+
+  pub types_sorted : TypesStay → (rows : List TypeRow) → rows ≡ map (moved_type strings) t.types.items → AreSorted (λ (row : TypeRow). row.descriptor ∷ []) rows
+  types_sorted law rows is = subst (AreSorted (λ (row : TypeRow). row.descriptor ∷ [])) (sym is)
+      (types_stay (record { strings = has_image strings; types = λ n. false; protos = λ n. false }) (record { strings = slice_index strings; types = λ n. n; protos = λ n. n })
+      (record { strings = strings_rise; types = none_rise (λ n. n); protos = none_rise (λ n. n) }) law t.types.items
+      (All-weaker (λ n. n < length strings) (λ n. has_image strings n ≡ true) (λ n lt. lt-ltb n (length strings) lt) t.types.items (types_movable t ok texts strings by_texts)) ok.types_rise)
+
+  module _ (types : List ℕ) (types_rise : rises text_cmp (map (text_of texts) types) ≡ true) (images : List ℕ) (by_types : Moves (symbols_in t).types (map (text_of texts) types) images) where
+    images_of_types_rise : RisesOn (has_image images) (slice_index images)
+    images_of_types_rise = images_rise text_cmp text_total (symbols_in t).types (map (text_of texts) types) (are_rising t ok).types_rise types_rise images by_types
+
+    pub protos_sorted : ProtosStay → (rows : List ProtoNumbers) → rows ≡ map (moved_proto strings images t.parameters) t.protos.items → AreSorted proto_key rows
+    protos_sorted law rows is =
+        let Within : ProtoEntry → Type 0 = λ p. (has_image images p.return_type ≡ true) × All (λ n. has_image images n ≡ true) (span_of t.parameters p.parameters) in
+        subst (AreSorted proto_key) (sym is)
+        (protos_stay (record { strings = λ n. false; types = has_image images; protos = λ n. false }) (record { strings = slice_index strings; types = slice_index images; protos = λ n. n })
+        (record { strings = none_rise (slice_index strings); types = images_of_types_rise; protos = none_rise (λ n. n) }) law t.parameters t.protos.items
+        (All-weaker (IsEntryWithin (length strings) (length images) t.parameters) Within
+        (λ p h. (lt-ltb p.return_type (length images) h.return_in, All-weaker (λ n. n < length images) (λ n. has_image images n ≡ true) (λ n lt. lt-ltb n (length images) lt) (span_of t.parameters p.parameters) h.parameters_in))
+        t.protos.items (protos_movable t ok texts strings by_texts types images by_types)) ok.protos_rise)
+
+    pub fields_sorted : FieldsStay → (rows : List FieldRow) → rows ≡ map (moved_field strings images) t.fields.items → AreSorted field_key rows
+    fields_sorted law rows is =
+        let Within : FieldRow → Type 0 = λ f. (has_image images f.class ≡ true) × (has_image strings f.name ≡ true) × (has_image images f.typ ≡ true) in
+        subst (AreSorted field_key) (sym is)
+        (law (record { strings = has_image strings; types = has_image images; protos = λ n. false }) (record { strings = slice_index strings; types = slice_index images; protos = λ n. n }) t.fields.items
+        (record { strings = strings_rise; types = images_of_types_rise; protos = none_rise (λ n. n) })
+        (All-weaker (IsFieldWithin (length strings) (length images)) Within
+        (λ f h. (lt-ltb f.class (length images) h.class_in, lt-ltb f.name (length strings) h.name_in, lt-ltb f.typ (length images) h.type_in))
+        t.fields.items (fields_movable t ok texts strings by_texts types images by_types)) ok.fields_rise)
+
+    module _ (parameters : List ℕ) (protos : List ProtoEntry) (protos_rise : rises symbols.proto_cmp (map (proto_of texts types parameters) protos) ≡ true)
+        (proto_images : List ℕ) (by_protos : Moves (symbols_in t).protos (map (proto_of texts types parameters) protos) proto_images) where
+      pub methods_sorted : MethodsStay → (rows : List MethodRow) → rows ≡ map (moved_method strings images proto_images) t.methods.items → AreSorted method_key rows
+      methods_sorted law rows is =
+          let Within : MethodRow → Type 0 = λ m. (has_image images m.class ≡ true) × (has_image strings m.name ≡ true) × (has_image proto_images m.proto ≡ true) in
+          subst (AreSorted method_key) (sym is)
+          (law (record { strings = has_image strings; types = has_image images; protos = has_image proto_images })
+          (record { strings = slice_index strings; types = slice_index images; protos = slice_index proto_images }) t.methods.items
+          (record {
+            strings = strings_rise;
+            types = images_of_types_rise;
+            protos = images_rise symbols.proto_cmp proto_total (symbols_in t).protos (map (proto_of texts types parameters) protos) (are_rising t ok).protos_rise protos_rise proto_images by_protos;
+          })
+          (All-weaker (IsMethodWithin (length strings) (length images) (length proto_images)) Within
+          (λ m h. (lt-ltb m.class (length images) h.class_in, lt-ltb m.name (length strings) h.name_in, lt-ltb m.proto (length proto_images) h.proto_in))
+          t.methods.items (methods_movable t ok texts strings by_texts types images by_types parameters protos proto_images by_protos)) ok.methods_rise)
+
+-- ---- cuts: new numbers of marked ones
+
+-- the test of marks
+abbrev pub is_marked : List Bool → ℕ → Bool
+is_marked marks n = slice_index_or marks n false
+
+new_number : (marks : List Bool) (n place : ℕ) → IsMarked marks n → get_or (places 0 marks) n None ≡ Some place → slice_index (new_numbers marks) n ≡ place
+new_number marks n place marked e = get_or-map number_or_none (places 0 marks) n None 0 (omega (arith, length_places 0 marks, mark_within marks n marked)) ∙ ap number_or_none e
+
+-- marked numbers are replaced in their order
+new_rise : (marks : List Bool) → RisesOn (is_marked marks) (slice_index (new_numbers marks))
+new_rise marks m n p q before =
+    let x = marked_has marks m 0 false None (mark_within marks m p) p in
+    let y = marked_has marks n 0 false None (mark_within marks n q) q in
+    omega (arith, new_number marks m x.0 p x.1, new_number marks n y.0 q y.1, places_keep marks m n x.0 y.0 before x.1 y.1)
+
+abbrev pub marked_among : Marks → Among
+marked_among marks = record { strings = is_marked marks.strings.items; types = is_marked marks.types.items; protos = is_marked marks.protos.items }
+
+abbrev pub new_lower : Marks → Lower
+new_lower marks = record { strings = slice_index (new_numbers marks.strings.items); types = slice_index (new_numbers marks.types.items); protos = slice_index (new_numbers marks.protos.items) }
+
+pub marked_rise : (marks : Marks) → RiseAmong (marked_among marks) (new_lower marks)
+marked_rise marks = record { strings = new_rise marks.strings.items; types = new_rise marks.types.items; protos = new_rise marks.protos.items }

@@ -1,10 +1,10 @@
 -- The five joined tables are tables of a numbering, the union of the parts, and their images are maps.
-use Rattle.std.proofs.Common.{◌≡◌, ℕ, ◌<◌, true, List, [], length, get_or, map, Option, Some, sym, ap, ◌∙◌, subst, arith}
+use Rattle.std.proofs.Common.{◌≡◌, ℕ, ◌+◌, ◌<◌, true, List, [], ◌∷◌, ◌++◌, length, get_or, take, map, Option, Some, sym, ap, ◌∙◌, subst, arith}
 use Rattle.std.specs.List.{All, AllZip}
 use Rattle.std.specs.Cmp.{IsTotalOrder}
 use Rattle.std.specs.FinMap.{IsAntisymmetric}
 use Rattle.std.specs.declared.cmp.Ordering.{Ordering}
-use Rattle.std.proofs.lemmas.List.{get_or-map, length-map}
+use Rattle.std.proofs.lemmas.List.{get_or-map, length-map, map-append, map_more}
 use Rattle.std.proofs.lemmas.List.Elements.{All-weaker, All-get_or}
 use Rattle.dexspec.specs.Lists.{rises}
 use Rattle.dexspec.specs.Texts.{Text, text_cmp}
@@ -53,6 +53,13 @@ images_keep of R o exact parts to items images u rise i d lt =
     let same : get_or (map items images) i [] ≡ items (get_or images i d) = get_or-map items images i d [] lt in
     let moves : Moves (of (get_or parts i part)) to (items (get_or images i d)) = subst (Moves (of (get_or parts i part)) to) same (zip_at (λ m image. Moves (of m) to image) parts (map items images) i part [] u.moves less) in
     (leads R o (of (get_or parts i part)) to (All-get_or (λ m. rises R (of m) ≡ true) parts i part less rise) (union_rises of R o exact parts to (map items images) u) (items (get_or images i d)) moves).rising
+
+-- the map of one part more
+pub maps_more : {Z : Type 0} (items : Z → List ℕ) (seen : Maps → List (Option ℕ)) (old new : List Maps) (m : Maps) (images : List Z) (i : ℕ) (d : Z) → new ≡ old ++ m ∷ [] → map seen old ≡ map (map (λ (k : ℕ). Some k)) (map items (take i images)) → i < length images
+    → seen m ≡ map (λ (k : ℕ). Some k) (items (get_or images i d)) → map seen new ≡ map (map (λ (k : ℕ). Some k)) (map items (take (i + 1) images))
+maps_more items seen old new m images i d more so_far lt is =
+    ap (map seen) more ∙ map-append seen old (m ∷ []) ∙ (λ k. so_far k ++ is k ∷ [])
+    ∙ sym (map-append (map (λ (k : ℕ). Some k)) (map items (take i images)) (items (get_or images i d) ∷ [])) ∙ ap (map (map (λ (k : ℕ). Some k))) (sym (map_more items images i d lt))
 
 module _ (parts : List Mentions) (numberings : All IsNumbering parts) (t : Tables) (strings types protos fields methods : List (List ℕ))
     (jt : AreJoinedTexts parts t.strings.items strings) (jy : AreJoinedTypes parts t.strings.items t.types.items types) (jp : AreJoinedProtos parts t.strings.items t.types.items t.parameters t.protos.items protos)

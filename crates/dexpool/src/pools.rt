@@ -4,6 +4,7 @@ ghost use Rattle.std.specs.Prelude.{◌≡◌, ◌<◌, ℕ, List, length, slice
 ghost use Rattle.dexspec.specs.Accepted.{HoldBelow, IsFrame};
 ghost use Rattle.dexspec.specs.Symbols.{Proto, Field, Method};
 ghost use Rattle.dexpool.specs.Pools.{ArePools, count_of};
+ghost use Rattle.dexpool.specs.Reading.{AreNames, AreProtos, AreFields, AreMethods, file_numbers};
 ghost use Rattle.dexpool.specs.Numberings.{IsAt, IsNumbered, IsOfKind, IsNumbering, StandsForProto, StandsForField, StandsForMethod};
 ghost use Rattle.dexpool.specs.Owned.{symbol_of};
 ghost use Rattle.dexpool.specs.Faults.{IsFault};
@@ -15,6 +16,7 @@ use crate::methods::read_methods;
 use crate::names::Names;
 use crate::numbering::Numbering;
 use crate::protos::read_protos;
+use crate::rows::ProtoEntry;
 use crate::strings::read_strings;
 use crate::symbols::{FieldSymbol, MethodSymbol, ProtoSymbol, Symbol, SymbolKind, type_name};
 use crate::tables::Tables;
@@ -31,6 +33,14 @@ use std::marker::Model;
 #[derive(Drop)]
 pub struct Pools<'a> {
     numbering: Numbering<'a>,
+}
+
+// The protos, fields and methods, by row.
+#[derive(Drop)]
+struct Rows {
+    protos: Vec<ProtoEntry>,
+    fields: Vec<FieldRow>,
+    methods: Vec<MethodRow>,
 }
 
 impl<'a> Model for Pools<'a> {
@@ -63,18 +73,16 @@ impl<'a> Pools<'a> {
             types: &types,
         };
         let parameters = Parameters::of_file(frame.bytes());
-        let protos = read_protos(alloc, &names, &parameters)?;
-        let fields = read_fields(alloc, &names)?;
-        let methods = read_methods(alloc, &names, &protos)?;
+        let rows = read_rows(alloc, &names, &parameters)?;
         Ok(Pools {
             numbering: Numbering {
                 tables: Tables {
                     strings,
                     types,
-                    protos,
+                    protos: rows.protos,
                     parameters,
-                    fields,
-                    methods,
+                    fields: rows.fields,
+                    methods: rows.methods,
                 },
             },
         })
@@ -166,6 +174,29 @@ impl<'a> Pools<'a> {
             }
         })
     }
+}
+
+// The protos, fields and methods of a file whose texts and types are read.
+fn read_rows(
+    alloc: Global,
+    names: &Names<'_, '_>,
+    parameters: &Parameters<'_>,
+) -> Result<Rows, ReadFault>
+    requires names { AreNames names.now.frame.now names.now.strings.now names.now.types.now }
+    requires file { parameters.now ≡ file_numbers names.now.frame.now }
+    ensures protos { IfOk result (λ rows. AreProtos names.now.frame.now names.now.strings.now names.now.types.now (file_numbers names.now.frame.now) rows.protos.items) }
+    ensures fields { IfOk result (λ rows. AreFields names.now.frame.now names.now.strings.now names.now.types.now rows.fields.items) }
+    ensures methods { IfOk result (λ rows. AreMethods names.now.frame.now names.now.strings.now names.now.types.now (file_numbers names.now.frame.now) rows.protos.items rows.methods.items) }
+    ensures err { IfErr result (IsFault names.now.frame.now) }
+{
+    let protos = read_protos(alloc, names, parameters)?;
+    let fields = read_fields(alloc, names)?;
+    let methods = read_methods(alloc, names, &protos)?;
+    Ok(Rows {
+        protos,
+        fields,
+        methods,
+    })
 }
 
 // A frame meets the conditions before those of the pools.

@@ -1,16 +1,15 @@
 //! Numbers that lead nowhere, and kinds of values with one number.
 
-use dexpool::{Numbering, Remap};
+use dexpool::{Marks, Numbering, Remap};
 use dexval::{Value, values_fit};
 use std::alloc::Global;
 
 /// A map that leads no number anywhere.
 fn nowhere(alloc: Global) -> Option<Remap> {
     let empty = Numbering::empty(alloc);
-    let mut parts = Vec::new(alloc);
-    parts.push(&empty).ok()?;
-    let (_, remaps) = Numbering::join(alloc, &parts).ok()?;
-    remaps.into_iter().next()
+    let marks = Marks::none(alloc, &empty).ok()?;
+    let (_, remap) = empty.keep(alloc, &marks).ok()?;
+    Some(remap)
 }
 
 /// Whether the numbers of a value lead somewhere.

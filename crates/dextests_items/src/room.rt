@@ -2,7 +2,7 @@
 //! wanted were written down by hand from the format.
 
 use crate::made_files::{ITEMS, file_with};
-use dexcode::{put_code, put_debug, read_code, read_debug};
+use dexcode::{Code, Debug, put_code, put_debug, read_code, read_debug};
 use dexhead::Frame;
 use dexmembers::Members;
 use dexpool::{Numbering, Pools};
@@ -98,21 +98,30 @@ fn a_set_is_put_in_its_room(rt: HostRuntime) {
 }
 
 /// What a debug program is put as in the room of its weight, and that room afterwards.
-fn debug_in_its_weight(alloc: Global) -> Option<(Vec<u8>, usize)> {
-    let file = file_with(alloc, &[0x0a, 0x00, 0x02, 0x01, 0x0e, 0x00])?;
-    let frame = Frame::open(&file).ok()?;
-    let pools = Pools::read(alloc, &frame).ok()?;
-    let debug = read_debug(alloc, &frame, &pools, ITEMS).ok()?;
+fn debug_in_its_weight(
+    alloc: Global,
+    debug: &Debug,
+    numbering: &Numbering<'_>,
+) -> Option<(Vec<u8>, usize)> {
     // 11, 1 + 5 for the step of lines, and 1 for the special operation.
     let mut bytes = Vec::with_capacity(alloc, 18).ok()?;
-    put_debug(&debug, pools.numbering(), &mut bytes).ok()?;
+    put_debug(debug, numbering, &mut bytes).ok()?;
     let room = bytes.capacity();
     Some((bytes, room))
 }
 
+/// The same, of a debug program of one step of lines and one special operation.
+fn read_debug_in_its_weight(alloc: Global) -> Option<(Vec<u8>, usize)> {
+    let file = file_with(alloc, &[0x0a, 0x00, 0x02, 0x01, 0x0e, 0x00])?;
+    let frame = Frame::open(&file).ok()?;
+    let pools = Pools::read(alloc, &frame).ok()?;
+    let debug = read_debug(alloc, &frame, &pools, ITEMS).ok()?;
+    debug_in_its_weight(alloc, &debug, pools.numbering())
+}
+
 #[test]
 fn a_debug_program_is_put_in_its_weight(rt: HostRuntime) {
-    let Some((bytes, room)) = debug_in_its_weight(rt.alloc()) else {
+    let Some((bytes, room)) = read_debug_in_its_weight(rt.alloc()) else {
         panic!(rt; "no bytes")
     };
     assert_eq!(rt;
@@ -126,24 +135,33 @@ fn a_debug_program_is_put_in_its_weight(rt: HostRuntime) {
 const CODE: [u8; 18] = [1, 0, 0, 0, 0, 0, 0, 0, 0, 0, 0, 0, 1, 0, 0, 0, 14, 0];
 
 /// What code is put as in the room of its weight less 3, and that room afterwards.
-fn code_in_its_weight(alloc: Global) -> Option<(Vec<u8>, usize)> {
-    let file = file_with(alloc, &CODE)?;
-    let frame = Frame::open(&file).ok()?;
-    let pools = Pools::read(alloc, &frame).ok()?;
-    let code = read_code(alloc, &frame, &pools, ITEMS).ok()?;
+fn code_in_its_weight(
+    alloc: Global,
+    code: &Code<'_>,
+    numbering: &Numbering<'_>,
+) -> Option<(Vec<u8>, usize)> {
     if !code.types_fit() {
         return None;
     }
     // 24, and 2 for the unit.
     let mut bytes = Vec::with_capacity(alloc, 23).ok()?;
-    put_code(&code, 0, pools.numbering(), &mut bytes).ok()?;
+    put_code(code, 0, numbering, &mut bytes).ok()?;
     let room = bytes.capacity();
     Some((bytes, room))
 }
 
+/// The same, of the code of one `return-void`.
+fn read_code_in_its_weight(alloc: Global) -> Option<(Vec<u8>, usize)> {
+    let file = file_with(alloc, &CODE)?;
+    let frame = Frame::open(&file).ok()?;
+    let pools = Pools::read(alloc, &frame).ok()?;
+    let code = read_code(alloc, &frame, &pools, ITEMS).ok()?;
+    code_in_its_weight(alloc, &code, pools.numbering())
+}
+
 #[test]
 fn code_is_put_in_its_weight(rt: HostRuntime) {
-    let Some((bytes, room)) = code_in_its_weight(rt.alloc()) else {
+    let Some((bytes, room)) = read_code_in_its_weight(rt.alloc()) else {
         panic!(rt; "no bytes")
     };
     assert_eq!(rt; bytes.as_slice(), CODE.as_slice());

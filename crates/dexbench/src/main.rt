@@ -20,8 +20,8 @@ use dexpool::{Numbering, Pools};
 use dexstr::Text;
 use fault::BenchFault;
 use merges::{bytes_of, merge_all, merged, programs, read_files, sums, write};
-use numberings::{dealt, join, read_pools, symbols};
-use pace::timed;
+use numberings::{dealt, join, read_pools, symbols, symbols_of};
+use pace::tell;
 use sha1::Sha1;
 use std::alloc::{AllocError, Global};
 use std::io::Read;
@@ -34,19 +34,10 @@ use texts::{read_all, read_each, rising};
 /// The most bytes that are read: more are no file of the format, and some devices never end.
 const MOST: u64 = 1 << 30;
 
-// The first four bytes of the SHA-1.
+// The first four bytes of the SHA-1, as a number.
 fn digest(bytes: &[u8]) -> u64 {
     let [first, second, third, fourth, ..] = Sha1::digest(bytes);
     u64::from(u32::from_be_bytes([first, second, third, fourth]))
-}
-
-fn time_sums(rt: &(impl CpuClock + Print), bytes: &[u8]) -> io::Result<()> {
-    let pace = timed(rt, || digest(bytes))?;
-    let (rate, answer) = (pace.millions(bytes.len()), pace.answer());
-    println!(rt; "SHA-1: {rate} MB/s; it begins {answer:08x}")?;
-    let pace = timed(rt, || u64::from(adler(bytes)))?;
-    let (rate, answer) = (pace.millions(bytes.len()), pace.answer());
-    println!(rt; "Adler-32: {rate} MB/s; it is {answer:08x}")
 }
 
 // Opens the file: where the data begin, or where it is refused.
@@ -57,24 +48,22 @@ fn open(bytes: &[u8]) -> u64 {
     }
 }
 
-// Times how these texts, which have so many bytes, are read and compared.
+fn time_sums(rt: &(impl CpuClock + Print), bytes: &[u8]) -> io::Result<()> {
+    tell(rt, "SHA-1", bytes.len(), "MB/s", || digest(bytes))?;
+    tell(rt, "Adler-32", bytes.len(), "MB/s", || {
+        u64::from(adler(bytes))
+    })
+}
+
+// Times how these texts, whose items have so many bytes, are read and compared.
 fn time_all_texts(
     rt: &(impl CpuClock + Print),
     frame: &Frame<'_>,
     texts: &[Text<'_>],
     len: usize,
 ) -> io::Result<()> {
-    let pace = timed(rt, || read_each(frame))?;
-    let (rate, items, answer) = (
-        pace.millions(len),
-        pace.millions(texts.len()),
-        pace.answer(),
-    );
-    println!(rt; "reading texts: {rate} MB/s, {items} million texts/s; {answer} bytes")?;
-    let pace = timed(rt, || rising(texts))?;
-    let pairs = pace.millions(texts.len().saturating_sub(1));
-    let (rate, answer) = (pace.millions(len), pace.answer());
-    println!(rt; "comparing neighbours: {rate} MB/s, {pairs} million comparisons/s; {answer} rise")
+    tell(rt, "reading texts", len, "MB/s", || read_each(frame))?;
+    tell(rt, "comparing neighbours", len, "MB/s", || rising(texts))
 }
 
 fn time_texts(
@@ -88,31 +77,20 @@ fn time_texts(
     }
 }
 
-// Times how numberings are joined.
-fn time_parts(
-    rt: &(impl CpuClock + Print),
-    alloc: Global,
-    parts: &[&Numbering<'_>],
-) -> io::Result<()> {
-    let mut all = 0usize;
-    for part in parts {
-        all = all.saturating_add(symbols(part));
-    }
-    let pace = timed(rt, || join(alloc, parts))?;
-    let (count, rate, answer) = (parts.len(), pace.millions(all), pace.answer());
-    println!(rt; "joining {count} numberings: {rate} million symbols/s; {answer} texts")
-}
-
 // Joins so many numberings that are dealt from one.
 fn time_join(
     rt: &(impl CpuClock + Print),
     alloc: Global,
+    name: &str,
     numbering: &Numbering<'_>,
     parts: usize,
 ) -> Result<(), BenchFault> {
     let parts = dealt(alloc, numbering, parts)?;
     let lent: Vec<&Numbering<'_>> = parts.iter().collect(alloc)?;
-    Ok(time_parts(rt, alloc, &lent)?)
+    let things = symbols_of(&lent);
+    Ok(tell(rt, name, things, "million symbols/s", || {
+        join(alloc, &lent)
+    })?)
 }
 
 // Times how pools that have this numbering are read, and how numberings that are dealt from it are joined.
@@ -122,12 +100,13 @@ fn time_numbering(
     frame: &Frame<'_>,
     numbering: &Numbering<'_>,
 ) -> Result<(), BenchFault> {
-    let pace = timed(rt, || read_pools(alloc, frame))?;
-    let (rate, answer) = (pace.millions(symbols(numbering)), pace.answer());
-    println!(rt; "reading pools: {rate} million symbols/s; {answer} texts")?;
-    time_join(rt, alloc, numbering, 2)?;
-    time_join(rt, alloc, numbering, 16)?;
-    time_join(rt, alloc, numbering, 256)
+    let things = symbols(numbering);
+    tell(rt, "reading pools", things, "million symbols/s", || {
+        read_pools(alloc, frame)
+    })?;
+    time_join(rt, alloc, "joining 2 numberings", numbering, 2)?;
+    time_join(rt, alloc, "joining 16 numberings", numbering, 16)?;
+    time_join(rt, alloc, "joining 256 numberings", numbering, 256)
 }
 
 fn time_pools(
@@ -147,9 +126,7 @@ fn time_frame(
     bytes: &[u8],
     frame: &Frame<'_>,
 ) -> Result<(), BenchFault> {
-    let pace = timed(rt, || open(bytes))?;
-    let (rate, answer) = (pace.millions(bytes.len()), pace.answer());
-    println!(rt; "Frame::open: {rate} MB/s; the data begin at {answer}")?;
+    tell(rt, "Frame::open", bytes.len(), "MB/s", || open(bytes))?;
     time_texts(rt, alloc, frame)?;
     time_pools(rt, alloc, frame)
 }
@@ -174,19 +151,17 @@ fn time_merged(
     program: &Program<'_>,
     file: &[u8],
 ) -> io::Result<()> {
-    let (count, len) = (files.len(), bytes_of(files));
-    let pace = timed(rt, || read_files(alloc, files))?;
-    let (rate, micros, answer) = (pace.millions(len), pace.micros(), pace.answer());
-    println!(rt; "reading {count} files: {rate} MB/s, {micros} us; {answer} classes")?;
-    let pace = timed(rt, || merge_all(alloc, parts))?;
-    let (rate, micros, answer) = (pace.millions(len), pace.micros(), pace.answer());
-    println!(rt; "merging {count} files: {rate} MB/s, {micros} us; {answer} classes")?;
-    let pace = timed(rt, || write(alloc, program))?;
-    let (rate, micros, answer) = (pace.millions(file.len()), pace.micros(), pace.answer());
-    println!(rt; "writing the merged file: {rate} MB/s, {micros} us; {answer} bytes")?;
-    let pace = timed(rt, || sums(file))?;
-    let (rate, micros) = (pace.millions(file.len()), pace.micros());
-    println!(rt; "SHA-1 and Adler-32 of it: {rate} MB/s, {micros} us")
+    let (all, len) = (bytes_of(files), file.len());
+    tell(rt, "reading the files", all, "MB/s", || {
+        read_files(alloc, files)
+    })?;
+    tell(rt, "merging the files", all, "MB/s", || {
+        merge_all(alloc, parts)
+    })?;
+    tell(rt, "writing the merged file", len, "MB/s", || {
+        write(alloc, program)
+    })?;
+    tell(rt, "SHA-1 and Adler-32 of it", len, "MB/s", || sums(file))
 }
 
 // Merges the programs of the files in one join, and times it.

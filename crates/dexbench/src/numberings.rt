@@ -25,6 +25,15 @@ pub fn symbols(numbering: &Numbering<'_>) -> usize {
     all
 }
 
+/// The number of symbols of all these numberings.
+pub fn symbols_of(numberings: &[&Numbering<'_>]) -> usize {
+    let mut all = 0usize;
+    for numbering in numberings {
+        all = all.saturating_add(symbols(numbering));
+    }
+    all
+}
+
 /// Reads the pools, and answers how many texts they have; 0 where they are refused.
 pub fn read_pools(alloc: Global, frame: &Frame<'_>) -> u64 {
     match Pools::read(alloc, frame) {

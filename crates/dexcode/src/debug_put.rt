@@ -67,28 +67,19 @@ fn operation_len(operation: &Operation) -> usize
     }
 }
 
-// How many bytes names have.
-fn names_len(names: &[Option<u32>]) -> usize
-    requires count { length names.now < 2 ^ 32 }
+// How many bytes names and operations have.
+fn parts_len(names: &[Option<u32>], operations: &[Operation]) -> usize
+    requires names { length names.now < 2 ^ 32 }
     requires fit { All FitsIndex names.now }
-    ensures len { result ≡ length (flat_map uleb128p1 names.now) }
-    ensures few { result ≤ 5 * length names.now }
+    requires operations { length operations.now < 2 ^ 30 }
+    requires formed { All IsFormedOperation operations.now }
+    ensures len { result ≡ length (flat_map uleb128p1 names.now) + length (flat_map numbered_operation_bytes operations.now) }
+    ensures few { result ≤ 5 * length names.now + 21 * length operations.now }
 {
     let mut len = 0;
     for name in names {
         len += index_len(*name);
     }
-    len
-}
-
-// How many bytes operations have.
-fn operations_len(operations: &[Operation]) -> usize
-    requires count { length operations.now < 2 ^ 30 }
-    requires formed { All IsFormedOperation operations.now }
-    ensures len { result ≡ length (flat_map numbered_operation_bytes operations.now) }
-    ensures few { result ≤ 21 * length operations.now }
-{
-    let mut len = 0;
     for operation in operations {
         len += operation_len(operation);
     }
@@ -104,10 +95,9 @@ impl Debug {
         ensures symbolic { (m : Mentions) (x : symbolic.Debug) → AreRising m → StandsForDebug m self.now x → result ≡ length (debug_bytes m x) }
     {
         debug_bytes_law();
-        let names = names_len(&self.parameter_names);
-        let operations = operations_len(&self.operations);
+        let parts = parts_len(&self.parameter_names, &self.operations);
         let count = self.parameter_names.len() as u32;
-        len_u(self.line_start) + len_u(count) + names + operations + 1
+        len_u(self.line_start) + len_u(count) + parts + 1
     }
 }
 

@@ -15,9 +15,8 @@ returns-clause-numbered c =
       c.len_u.ensures.shortest,
       c.len_u-2.ensures.shortest,
       ap (λ n. length (uleb128 n)) (c.len-count.ensures ∙ c.self.inside.parameter_names.ok.0),
-      c.names_len-names.ensures.len,
+      c.parts_len-parts.ensures.len,
       ap (λ xs. length (flat_map uleb128p1 xs)) c.deref.ensures.value,
-      c.operations_len-operations.ensures.len,
       ap (λ xs. length (flat_map numbered_operation_bytes xs)) c.deref-2.ensures.value,
     )
 

@@ -124,6 +124,15 @@ fn append_pairs<T: HasNumber>(
     Ok(())
 }
 
+// Where the sets of a class and of its members stand, and the lists of those of parameters.
+#[derive(Clone, Copy)]
+struct SetOffs<'o> {
+    own: u32,
+    fields: &'o [u32],
+    methods: &'o [u32],
+    parameters: &'o [u32],
+}
+
 impl Members<'_> {
     // Appends the pairs of the fields.
     fn append_fields(&self, offsets: &[u32], out: &mut Vec<u8>) -> Result<(), AllocError>
@@ -142,27 +151,20 @@ impl Members<'_> {
     }
 
     // Appends the annotations_directory_item.
-    fn append_directory(
-        &self,
-        own_off: u32,
-        field_offs: &[u32],
-        method_offs: &[u32],
-        parameter_offs: &[u32],
-        out: &mut Vec<u8>,
-    ) -> Result<(), AllocError>
-        requires fields { length field_offs.now ≡ length (fields_of self.now) }
-        requires methods { length method_offs.now ≡ length (methods_of self.now) }
-        requires parameters { length parameter_offs.now ≡ length (methods_of self.now) }
-        ensures { Appends ⊤ (numbered_directory_bytes self.now own_off field_offs.now method_offs.now parameter_offs.now) out.old out.new result }
+    fn append_directory(&self, offs: &SetOffs<'_>, out: &mut Vec<u8>) -> Result<(), AllocError>
+        requires fields { length offs.now.fields.now ≡ length (fields_of self.now) }
+        requires methods { length offs.now.methods.now ≡ length (methods_of self.now) }
+        requires parameters { length offs.now.parameters.now ≡ length (methods_of self.now) }
+        ensures { Appends ⊤ (numbered_directory_bytes self.now offs.now.own offs.now.fields.now offs.now.methods.now offs.now.parameters.now) out.old out.new result }
     {
         self.are_few();
-        append_u32(own_off, out)?;
-        append_u32(placed(field_offs), out)?;
-        append_u32(placed(method_offs), out)?;
-        append_u32(placed(parameter_offs), out)?;
-        self.append_fields(field_offs, out)?;
-        self.append_methods(method_offs, out)?;
-        self.append_methods(parameter_offs, out)
+        append_u32(offs.own, out)?;
+        append_u32(placed(offs.fields), out)?;
+        append_u32(placed(offs.methods), out)?;
+        append_u32(placed(offs.parameters), out)?;
+        self.append_fields(offs.fields, out)?;
+        self.append_methods(offs.methods, out)?;
+        self.append_methods(offs.parameters, out)
     }
 
     /// Appends the annotations_directory_item: the offset of the class's own set, the counts of annotated fields, of annotated
@@ -195,7 +197,13 @@ impl Members<'_> {
     {
         members_bytes_law();
         let start = out.len();
-        let answer = self.append_directory(own_off, field_offs, method_offs, parameter_offs, out);
+        let offs = SetOffs {
+            own: own_off,
+            fields: field_offs,
+            methods: method_offs,
+            parameters: parameter_offs,
+        };
+        let answer = self.append_directory(&offs, out);
         taken_back_on_error(start, answer, out)
     }
 }

@@ -150,6 +150,15 @@ fn push_local(register_num: u32, name_idx: Option<u32>, type_idx: Option<u32>, o
     push_index(type_idx, out);
 }
 
+// Appends an opcode and a number, where there is room for them.
+fn push_numbered(opcode: u8, value: u32, out: &mut Vec<u8>)
+    requires { HasRoomFor (opcode ∷ uleb128 value) out.old }
+    ensures { Pushes (opcode ∷ uleb128 value) out.old out.new }
+{
+    push_byte(opcode, out);
+    push_u(value, out);
+}
+
 // Appends an operation, where there is room for it.
 fn push_operation(operation: &Operation, out: &mut Vec<u8>)
     requires formed { IsFormedOperation operation.now }
@@ -157,10 +166,7 @@ fn push_operation(operation: &Operation, out: &mut Vec<u8>)
     ensures { Pushes (numbered_operation_bytes operation.now) out.old out.new }
 {
     match operation {
-        Operation::AdvancePc(addr_diff) => {
-            push_byte(DBG_ADVANCE_PC, out);
-            push_u(*addr_diff, out);
-        }
+        Operation::AdvancePc(addr_diff) => push_numbered(DBG_ADVANCE_PC, *addr_diff, out),
         Operation::AdvanceLine(line_diff) => {
             push_byte(DBG_ADVANCE_LINE, out);
             push_s(*line_diff, out);
@@ -183,13 +189,9 @@ fn push_operation(operation: &Operation, out: &mut Vec<u8>)
             push_local(*register_num, *name_idx, *type_idx, out);
             push_index(*sig_idx, out);
         }
-        Operation::EndLocal(register_num) => {
-            push_byte(DBG_END_LOCAL, out);
-            push_u(*register_num, out);
-        }
+        Operation::EndLocal(register_num) => push_numbered(DBG_END_LOCAL, *register_num, out),
         Operation::RestartLocal(register_num) => {
-            push_byte(DBG_RESTART_LOCAL, out);
-            push_u(*register_num, out);
+            push_numbered(DBG_RESTART_LOCAL, *register_num, out)
         }
         Operation::SetPrologueEnd => push_byte(DBG_SET_PROLOGUE_END, out),
         Operation::SetEpilogueBegin => push_byte(DBG_SET_EPILOGUE_BEGIN, out),

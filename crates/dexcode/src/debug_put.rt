@@ -33,6 +33,16 @@ fn index_len(number: Option<u32>) -> usize
     len_u(number.map_or(0, |number| number + 1))
 }
 
+// How many bytes a register has, and the numbers of a local variable's name and type.
+fn local_len(register_num: u32, name_idx: Option<u32>, type_idx: Option<u32>) -> usize
+    requires name { FitsIndex name_idx }
+    requires typ { FitsIndex type_idx }
+    ensures len { result ≡ length (uleb128 register_num) + length (uleb128p1 name_idx) + length (uleb128p1 type_idx) }
+    ensures few { result ≤ 15 }
+{
+    len_u(register_num) + index_len(name_idx) + index_len(type_idx)
+}
+
 // How many bytes an operation has.
 fn operation_len(operation: &Operation) -> usize
     requires { IsFormedOperation operation.now }
@@ -46,18 +56,13 @@ fn operation_len(operation: &Operation) -> usize
             register_num,
             name_idx,
             type_idx,
-        } => 1 + len_u(*register_num) + index_len(*name_idx) + index_len(*type_idx),
+        } => 1 + local_len(*register_num, *name_idx, *type_idx),
         Operation::StartLocalExtended {
             register_num,
             name_idx,
             type_idx,
             sig_idx,
-        } => {
-            1 + len_u(*register_num)
-                + index_len(*name_idx)
-                + index_len(*type_idx)
-                + index_len(*sig_idx)
-        }
+        } => 1 + local_len(*register_num, *name_idx, *type_idx) + index_len(*sig_idx),
         Operation::EndLocal(register_num) => 1 + len_u(*register_num),
         Operation::RestartLocal(register_num) => 1 + len_u(*register_num),
         Operation::SetPrologueEnd => 1,

@@ -9,7 +9,6 @@ use crate::symbols::SymbolKind;
 use std::alloc::{AllocError, Global};
 
 /// A mark for each symbol of a numbering, by its number: whether it is to be kept.
-#[derive(Drop)]
 pub struct Marks {
     /// For each text by its number, whether it is marked.
     pub strings: Vec<bool>,
@@ -21,6 +20,19 @@ pub struct Marks {
     pub fields: Vec<bool>,
     /// For each method.
     pub methods: Vec<bool>,
+}
+
+// So that a value is let go by one call.
+impl Drop for Marks {
+    fn drop(self) {
+        let Marks {
+            strings: _,
+            types: _,
+            protos: _,
+            fields: _,
+            methods: _,
+        } = self;
+    }
 }
 
 impl Marks {

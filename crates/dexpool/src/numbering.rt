@@ -20,9 +20,15 @@ use std::marker::Model;
 /// Texts borrow the bytes that they were read from.
 ///
 /// Source: "string_id_item", "type_id_item", "proto_id_item", "field_id_item" and "method_id_item".
-#[derive(Drop)]
 pub struct Numbering<'a> {
     pub(crate) tables: Tables<'a>,
+}
+
+// So that a value is let go by one call.
+impl Drop for Numbering<'_> {
+    fn drop(self) {
+        let Numbering { tables: _ } = self;
+    }
 }
 
 impl<'a> Model for Numbering<'a> {

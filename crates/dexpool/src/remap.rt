@@ -10,13 +10,25 @@ use std::marker::Model;
 
 /// For each number of a numbering the number of the same symbol in another one, if it is there. Numbers keep their
 /// order. Contracts see five lists.
-#[derive(Drop)]
 pub struct Remap {
     pub(crate) strings: Vec<Option<usize>>,
     pub(crate) types: Vec<Option<usize>>,
     pub(crate) protos: Vec<Option<usize>>,
     pub(crate) fields: Vec<Option<usize>>,
     pub(crate) methods: Vec<Option<usize>>,
+}
+
+// So that a value is let go by one call.
+impl Drop for Remap {
+    fn drop(self) {
+        let Remap {
+            strings: _,
+            types: _,
+            protos: _,
+            fields: _,
+            methods: _,
+        } = self;
+    }
 }
 
 impl Model for Remap {

@@ -1,14 +1,13 @@
 -- The enums of the code, as what they mean.
-use Rattle.std.specs.Prelude.{◌≡◌, ℕ, List, map, Option}
+use Rattle.std.specs.Prelude.{◌≡◌, ℕ, List, [], map, Option}
 use Rattle.std.specs.List.{range_with_len}
 use Rattle.std.specs.Borrow.{Bor}
-use Rattle.std.specs.Option.{option_map}
-use Rattle.dexspec.specs.Symbols.{Pool, Strings, Types, Fields, Methods}
-use Rattle.dexspec.specs.Opcodes.{Opcode, opcode_of, Format as Meant, F10x, F12x, F11n, F11x, F10t, F20t, F22x, F21t, F21s, F21h, F21c, F23x, F22b, F22s, F22t, F22c, F30t, F32x, F31i, F31t, F31c, F35c, F3rc, F51l}
+use Rattle.std.specs.Option.{option_map, option_map_or}
+use Rattle.dexspec.specs.Opcodes.{opcode_of, Format as Meant, F10x, F12x, F11n, F11x, F10t, F20t, F22x, F21t, F21s, F21h, F21c, F23x, F22b, F22s, F22t, F22c, F30t, F32x, F31i, F31t, F31c, F35c, F3rc, F51l}
 use Rattle.dexinsn.specs.declared.format.Format.{Format}
 use Rattle.dexinsn.specs.declared.format.Format.TheVariants.{Format10x, Format12x, Format11n, Format11x, Format10t, Format20t, Format22x, Format21t, Format21s, Format21h, Format21c, Format23x, Format22b, Format22s, Format22t, Format22c, Format30t, Format32x, Format31i, Format31t, Format31c, Format35c, Format3rc, Format51l}
-use Rattle.dexinsn.specs.declared.format.IndexKind.{IndexKind}
-use Rattle.dexinsn.specs.declared.format.IndexKind.TheVariants.{Strings as InStrings, Types as InTypes, Fields as InFields, Methods as InMethods}
+use Rattle.dexpool.specs.declared.symbols.SymbolKind.{SymbolKind}
+use Rattle.dexinsn.specs.Numbered.{kind_of_pool}
 
 -- the format that the page names so
 abbrev pub format_of : Format → Meant
@@ -37,21 +36,26 @@ format_of Format35c = F35c
 format_of Format3rc = F3rc
 format_of Format51l = F51l
 
--- the pool that an index of this kind counts in
-abbrev pub pool_of_kind : IndexKind → Pool
-pool_of_kind InStrings = Strings
-pool_of_kind InTypes = Types
-pool_of_kind InFields = Fields
-pool_of_kind InMethods = Methods
-
--- a row of the code's table: an opcode's format, the pool of its index, and its mnemonic
-abbrev pub Row : Type 0
-Row = Format × Option IndexKind × Bor (List ℕ)
+-- a row of the code's table of formats: an opcode's format, and the kind of symbol that its index names
+abbrev pub FormatRow : Type 0
+FormatRow = Format × Option SymbolKind
 
 -- what the row says
-abbrev pub meant : Row → Opcode
-meant row = record { format = format_of row.0; index = option_map pool_of_kind row.1; mnemonic = row.2.now }
+abbrev pub meant : FormatRow → Meant × Option SymbolKind
+meant row = (format_of row.0, row.1)
 
--- the table says of each opcode what it is
-pub record IsOpcodeTable (rows : List (Option Row)) : Type 0 where
-  pub each : map (option_map meant) rows ≡ map opcode_of (range_with_len 0 256)
+-- what it is to say of an opcode
+abbrev pub indexed_format_of : ℕ → Option (Meant × Option SymbolKind)
+indexed_format_of op = option_map (λ o. (o.format, option_map kind_of_pool o.index)) (opcode_of op)
+
+-- the table says so of each opcode
+pub record AreFormats (rows : List (Option FormatRow)) : Type 0 where
+  pub each : map (option_map meant) rows ≡ map indexed_format_of (range_with_len 0 256)
+
+-- the mnemonic of an opcode; empty where the opcode is unused
+abbrev pub mnemonic_of : ℕ → List ℕ
+mnemonic_of op = option_map_or (λ o. o.mnemonic) (opcode_of op) []
+
+-- the table has the mnemonic of each opcode
+pub record AreMnemonics (texts : List (Bor (List ℕ))) : Type 0 where
+  pub each : map (λ text. text.now) texts ≡ map mnemonic_of (range_with_len 0 256)

@@ -34,17 +34,6 @@ pub enum Format {
     Format51l,
 }
 
-/// The pool whose rows an instruction's index counts.
-///
-/// Source: the heading "Summary of bytecode set" of the Android page "Dalvik bytecode".
-#[derive(Clone, Copy, Debug, PartialEq, Eq)]
-pub enum IndexKind {
-    Strings,
-    Types,
-    Fields,
-    Methods,
-}
-
 impl Format {
     /// The number of 16-bit units.
     ///

@@ -2,31 +2,16 @@
 
 ghost use Rattle.std.specs.Prelude.{◌≡◌, ◌<◌, ◌≤◌, ◌+◌, ◌^◌, length, drop, slice_index, true, Some, None};
 ghost use Rattle.std.specs.Option.{option_map};
-ghost use Rattle.dexspec.specs.Symbols.{Pool};
 ghost use Rattle.dexspec.specs.Pieces.{index_pool, is_wide_index, index_in, two_units};
-ghost use Rattle.dexinsn.specs.Opcode.{pool_of_kind};
 ghost use Rattle.dexinsn.specs.Numbered.{kind_of_pool, kind_in, index_room};
 
 use crate::code_units::Units;
-use crate::format::IndexKind;
 use crate::opcodes::index_kind;
 use crate::units::opcode_in;
 use dexpool::SymbolKind;
 
 /// The opcode of the one instruction whose index has 32 bits, const-string/jumbo.
 const JUMBO: u8 = 0x1b;
-
-// The kind of symbol that an index of this kind names.
-fn symbol_kind(kind: IndexKind) -> SymbolKind
-    ensures { result ≡ kind_of_pool (pool_of_kind kind) }
-{
-    match kind {
-        IndexKind::Strings => SymbolKind::Text,
-        IndexKind::Types => SymbolKind::Typ,
-        IndexKind::Fields => SymbolKind::Field,
-        IndexKind::Methods => SymbolKind::Method,
-    }
-}
 
 /// The kind of symbol that the index of the piece at a unit names; `None` where the piece has no index.
 #[tactic(auto, using(crate::proofs::IndexRoom::pool_of_first))]
@@ -35,10 +20,7 @@ pub(crate) fn kind_at(units: &Units<'_>, unit: usize) -> Option<SymbolKind>
     ensures { result ≡ option_map kind_of_pool (index_pool (drop unit units.now)) }
 {
     // A payload begins as the instruction nop does, which has no index.
-    match index_kind(opcode_in(units.at(unit))) {
-        Some(kind) => Some(symbol_kind(kind)),
-        None => None,
-    }
+    index_kind(opcode_in(units.at(unit)))
 }
 
 /// Whether the index of the instruction at a unit has 32 bits.

@@ -4,7 +4,7 @@
 #![tactic(auto)]
 
 pub use code::{CodeFault, Cut, split};
-pub use format::{Format, IndexKind};
+pub use format::Format;
 pub use instruction_starts::InstructionStarts;
 pub use laws::{
     cut_places_law, images_law, joined_places_law, marks_law, renumber_law, short_strings_law,

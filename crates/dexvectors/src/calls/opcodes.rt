@@ -2,7 +2,8 @@
 //! instruction.
 
 use dexcases::CaseFault;
-use dexinsn::{Format, IndexKind, index_kind, mnemonic};
+use dexinsn::{Format, index_kind, mnemonic};
+use dexpool::SymbolKind;
 use std::alloc::{AllocError, Global};
 
 /// What is told of the opcode that a word spells in hexadecimal.
@@ -20,10 +21,11 @@ fn told_of(alloc: Global, format: Format, op: u8) -> Result<String, AllocError> 
     let format = format!(in alloc; "{format:?}")?;
     let digits = format.as_str().strip_prefix("Format").unwrap_or("-");
     let pool = match index_kind(op) {
-        Some(IndexKind::Strings) => "strings",
-        Some(IndexKind::Types) => "types",
-        Some(IndexKind::Fields) => "fields",
-        Some(IndexKind::Methods) => "methods",
+        Some(SymbolKind::Text) => "strings",
+        Some(SymbolKind::Typ) => "types",
+        Some(SymbolKind::Proto) => "protos",
+        Some(SymbolKind::Field) => "fields",
+        Some(SymbolKind::Method) => "methods",
         None => "-",
     };
     let name = mnemonic(op).unwrap_or("-");

@@ -1,5 +1,5 @@
 -- Places of the numbers in values, elements and annotations, member by member.
-use Rattle.std.proofs.Common.{◌≡◌, ℕ, ◌+◌, ◌<◌, ◌≤◌, List, [], ◌∷◌, length, take, map, get_or, sym, subst}
+use Rattle.std.proofs.Common.{◌≡◌, ◌↔◌, Bool, IsTrue, ℕ, ◌+◌, ◌<◌, ◌≤◌, List, [], ◌∷◌, length, take, map, get_or, sym, subst}
 use Rattle.std.specs.List.{All}
 use Rattle.std.proofs.lemmas.List.{take_more, take_all}
 use Rattle.std.proofs.lemmas.List.Elements.{All-nil, All-cons, All-head, All-tail, All-append, All-get_or}
@@ -45,6 +45,10 @@ module _ (r : Maps) where
   pub values_to : (xs : List Value) → HavePlaces r (values_of_list (map value_of xs)) → All (ValueFits r) xs
   values_to [] h = All-nil (ValueFits r)
   values_to (x ∷ xs) h = All-cons (ValueFits r) x xs h.0 (values_to xs h.1)
+
+  -- whether each number of a value leads on is told by what the value is
+  pub fits_as : {b : Bool} (v : Value) (x : NumberedValue) → value_of v ≡ x → (IsTrue b ↔ HasPlaces r x) → IsTrue b ↔ HasPlaces r (value_of v)
+  fits_as {b} v x is h = subst (λ (y : NumberedValue). IsTrue b ↔ HasPlaces r y) (sym is) h
 
   pub elements_from : (xs : List Element) → All (ElementFits r) xs → ElementsHavePlaces r (elements_of_list (map element_of xs))
   elements_from [] h = tt

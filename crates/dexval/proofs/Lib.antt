@@ -8,7 +8,8 @@ pub mod FileRead
 pub mod Fitted
 pub mod Growing
 pub mod Hashed
-pub mod Images
+pub mod Heads
+mod Images
 pub mod Joining
 pub mod JudgedSets
 pub mod Keeping

@@ -2,6 +2,7 @@ pub mod Appending
 pub mod Code
 pub mod Directories
 pub mod Equality
+pub mod Heads
 pub mod Items
 pub mod Judged
 pub mod Nesting

@@ -35,6 +35,7 @@ mod directory_reading;
 mod equality;
 mod fitting;
 mod hashing;
+mod head;
 mod judged;
 mod laws;
 mod marking;

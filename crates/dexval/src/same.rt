@@ -7,12 +7,13 @@ ghost use Rattle.dexval.specs.Numbered.{values_of_list, elements_of_list};
 ghost use Rattle.dexval.specs.Renumbering.{led, renumbered, renumbered_values, renumbered_elements, renumbered_element, renumbered_annotation, renumbered_set};
 
 use crate::annotation::Annotation;
+use crate::head::heads_alike;
 use crate::set::AnnotationSet;
 use crate::value::{Element, Value};
 use dexpool::{Remap, SymbolKind};
 
-// Where a number leads; one that leads nowhere stays.
-fn end(remap: &Remap, kind: SymbolKind, number: u32) -> usize
+/// Where a number leads; one that leads nowhere stays.
+pub(crate) fn end(remap: &Remap, kind: SymbolKind, number: u32) -> usize
     ensures { result ≡ led remap.now kind number }
 {
     match remap.image(kind, number as usize) {
@@ -73,40 +74,13 @@ impl Value {
     pub fn same_mapped(&self, mine: &Remap, other: &Value, theirs: &Remap) -> bool
         ensures { IsTrue result ↔ (renumbered mine.now (value_of self.now) ≡ renumbered theirs.now (value_of other.now)) }
     {
-        match (self, other) {
-            (Value::Byte(number), Value::Byte(other)) => number == other,
-            (Value::Short(number), Value::Short(other)) => number == other,
-            (Value::Char(unit), Value::Char(other)) => unit == other,
-            (Value::Int(number), Value::Int(other)) => number == other,
-            (Value::Long(number), Value::Long(other)) => number == other,
-            (Value::Float(bits), Value::Float(other)) => bits == other,
-            (Value::Double(bits), Value::Double(other)) => bits == other,
-            (Value::String(number), Value::String(other)) => {
-                ends_alike(SymbolKind::Text, mine, *number, theirs, *other)
-            }
-            (Value::Typ(number), Value::Typ(other)) => {
-                ends_alike(SymbolKind::Typ, mine, *number, theirs, *other)
-            }
-            (Value::Field(number), Value::Field(other)) => {
-                ends_alike(SymbolKind::Field, mine, *number, theirs, *other)
-            }
-            (Value::Method(number), Value::Method(other)) => {
-                ends_alike(SymbolKind::Method, mine, *number, theirs, *other)
-            }
-            (Value::Enum(number), Value::Enum(other)) => {
-                ends_alike(SymbolKind::Field, mine, *number, theirs, *other)
-            }
-            (Value::Array(values), Value::Array(others)) => {
-                same_values_mapped(values, mine, others, theirs)
-            }
-            (Value::Annotation(typ, elements), Value::Annotation(other, others)) => {
-                ends_alike(SymbolKind::Typ, mine, *typ, theirs, *other)
-                    && same_elements(mine, elements, theirs, others)
-            }
-            (Value::Null, Value::Null) => true,
-            (Value::Boolean(is), Value::Boolean(other)) => is == other,
-            _ => false,
+        if !heads_alike(self, mine, other, theirs) {
+            return false;
         }
+        if !same_values_mapped(self.held_values(), mine, other.held_values(), theirs) {
+            return false;
+        }
+        same_elements(mine, self.held_elements(), theirs, other.held_elements())
     }
 }
 

@@ -1,7 +1,10 @@
-use Rattle.std.proofs.Common.{rules, ◌<◌, length, map, arith}
+use Rattle.std.proofs.Common.{ap, rules, ◌<◌, length, map, arith}
 use Rattle.dexval.specs.Code.{value_of, element_of}
+use Rattle.dexval.specs.Heads.{head_of}
 use Rattle.dexval.specs.Renumbering.{renumbered, renumbered_element}
+use Rattle.dexval.specs.Spelled.{numbered_values_weight, numbered_elements_weight}
 use Rattle.dexval.proofs.Compared.{same_count, same_at, same_all, values_same, same_values, elements_same, same_elements}
+use Rattle.dexval.proofs.Heads.{held_values_same, held_elements_same, parts_same, held_values_lighter, held_elements_lighter}
 use Rattle.dexval.proofs.Members.{value_lighter, element_lighter}
 use Rattle.dexval.proofs.+comparing.Goals as goal
 
@@ -77,4 +80,37 @@ same::same_values_mapped-returns t c =
     let ys = c.args.others.now in (
       (λ t. same_values r q (map value_of xs) (map value_of ys) (same_all value_of (renumbered r) (renumbered q) xs ys c.loop-i.i (omega arith) (omega (arith, c.loop-i.invariant.count)) c.loop-i.invariant.same)),
       (λ e. search rules),
+    )
+
+pub value::Value::same_mapped-returns-then-not-heads_alike : goal.value::Value::same_mapped-returns-then-not-heads_alike
+value::Value::same_mapped-returns-then-not-heads_alike t c =
+    ((λ t. absurd cc), (λ e. let found = c.heads_alike.ensures.1 (ap head_of e) in cc))
+
+pub value::Value::same_mapped-same_values_mapped-requires : goal.value::Value::same_mapped-same_values_mapped-requires
+value::Value::same_mapped-same_values_mapped-requires t c =
+    let lighter = held_values_lighter (value_of c.args.self.now) in
+    let same = ap numbered_values_weight c.held_values.ensures in
+    (omega (arith, lighter, same), tt)
+
+pub value::Value::same_mapped-returns-then-not-same_values_mapped : goal.value::Value::same_mapped-returns-then-not-same_values_mapped
+value::Value::same_mapped-returns-then-not-same_values_mapped t c =
+    let same = held_values_same c.args.mine.now c.args.theirs.now (value_of c.args.self.now) (value_of c.args.other.now) _ _ c.held_values.ensures c.held_values-2.ensures in
+    ((λ t. absurd cc), (λ e. let found = c.same_values_mapped.ensures.1 (same e) in cc))
+
+pub value::Value::same_mapped-same_elements-requires : goal.value::Value::same_mapped-same_elements-requires
+value::Value::same_mapped-same_elements-requires t c =
+    let lighter = held_elements_lighter (value_of c.args.self.now) in
+    let same = ap numbered_elements_weight c.held_elements.ensures in
+    (omega (arith, lighter, same), tt)
+
+pub value::Value::same_mapped-returns : goal.value::Value::same_mapped-returns
+value::Value::same_mapped-returns t c =
+    let r = c.args.mine.now in
+    let q = c.args.theirs.now in
+    let x = value_of c.args.self.now in
+    let y = value_of c.args.other.now in
+    let heads = c.heads_alike.ensures.0 c.if-not-heads_alike.false in
+    let values = c.same_values_mapped.ensures.0 c.if-not-same_values_mapped.false in (
+      (λ t. parts_same r q x y _ _ _ _ c.held_values.ensures c.held_values-2.ensures c.held_elements.ensures c.held_elements-2.ensures heads values (c.same_elements.ensures.0 t)),
+      (λ e. c.same_elements.ensures.1 (held_elements_same r q x y _ _ c.held_elements.ensures c.held_elements-2.ensures e)),
     )

@@ -1,0 +1,94 @@
+-- A value is what it is apart from what it holds, and what it holds.
+use Rattle.std.proofs.Common.{◌≡◌, ◌+◌, ◌<◌, refl, ap, sym, ◌∙◌, arith}
+use Rattle.dexpool.specs.Numberings.{Maps}
+use Rattle.dexval.specs.declared.head.Head.{Head}
+use Rattle.dexval.specs.declared.head.Head.TheVariants as heads
+use Rattle.dexval.specs.Heads.{head_of, held_values, held_elements}
+use Rattle.dexval.specs.Numbered.{NumberedValue, NumberedValues, NumberedElements, Plain, Named, Array, Annotated, ByteLiteral, ShortLiteral, CharLiteral, IntLiteral, LongLiteral, FloatLiteral, DoubleLiteral, NullLiteral, BooleanLiteral, StringReference, TypeReference, FieldReference, MethodReference, EnumReference}
+use Rattle.dexval.specs.Renumbering.{renumbered, renumbered_values, renumbered_elements}
+use Rattle.dexval.specs.Spelled.{numbered_weight, numbered_values_weight, numbered_elements_weight}
+
+-- a value made of both
+abbrev made : Head → NumberedValues → NumberedElements → NumberedValue
+made (heads.Byte z) xs es = Plain (ByteLiteral z)
+made (heads.Short z) xs es = Plain (ShortLiteral z)
+made (heads.Char u) xs es = Plain (CharLiteral u)
+made (heads.Int z) xs es = Plain (IntLiteral z)
+made (heads.Long z) xs es = Plain (LongLiteral z)
+made (heads.Float bits) xs es = Plain (FloatLiteral bits)
+made (heads.Double bits) xs es = Plain (DoubleLiteral bits)
+made (heads.String i) xs es = Named StringReference i
+made (heads.Typ i) xs es = Named TypeReference i
+made (heads.Field i) xs es = Named FieldReference i
+made (heads.Method i) xs es = Named MethodReference i
+made (heads.Enum i) xs es = Named EnumReference i
+made heads.Array xs es = Array xs
+made (heads.Annotation t) xs es = Annotated t es
+made heads.Null xs es = Plain NullLiteral
+made (heads.Boolean is) xs es = Plain (BooleanLiteral is)
+
+made_again : (x : NumberedValue) → made (head_of x) (held_values x) (held_elements x) ≡ x
+made_again (Plain (ByteLiteral z)) = refl
+made_again (Plain (ShortLiteral z)) = refl
+made_again (Plain (CharLiteral u)) = refl
+made_again (Plain (IntLiteral z)) = refl
+made_again (Plain (LongLiteral z)) = refl
+made_again (Plain (FloatLiteral bits)) = refl
+made_again (Plain (DoubleLiteral bits)) = refl
+made_again (Plain NullLiteral) = refl
+made_again (Plain (BooleanLiteral is)) = refl
+made_again (Named StringReference i) = refl
+made_again (Named TypeReference i) = refl
+made_again (Named FieldReference i) = refl
+made_again (Named MethodReference i) = refl
+made_again (Named EnumReference i) = refl
+made_again (Array xs) = refl
+made_again (Annotated t es) = refl
+
+-- values that are the same in both are the same
+same_parts : (x y : NumberedValue) → head_of x ≡ head_of y → held_values x ≡ held_values y → held_elements x ≡ held_elements y → x ≡ y
+same_parts x y h v e =
+    sym (made_again x) ∙ ap (λ (k : Head). made k (held_values x) (held_elements x)) h ∙ ap (λ (xs : NumberedValues). made (head_of y) xs (held_elements x)) v ∙ ap (made (head_of y) (held_values y)) e ∙ made_again y
+
+-- ---- what a value holds, led on
+
+values_led : (r : Maps) (x : NumberedValue) → held_values (renumbered r x) ≡ renumbered_values r (held_values x)
+values_led r (Plain literal) = refl
+values_led r (Named reference i) = refl
+values_led r (Array xs) = refl
+values_led r (Annotated t es) = refl
+
+elements_led : (r : Maps) (x : NumberedValue) → held_elements (renumbered r x) ≡ renumbered_elements r (held_elements x)
+elements_led r (Plain literal) = refl
+elements_led r (Named reference i) = refl
+elements_led r (Array xs) = refl
+elements_led r (Annotated t es) = refl
+
+module _ (r q : Maps) (x y : NumberedValue) where
+  -- values that are the same once they are led on hold the same values
+  pub held_values_same : (xs ys : NumberedValues) → xs ≡ held_values x → ys ≡ held_values y → renumbered r x ≡ renumbered q y → renumbered_values r xs ≡ renumbered_values q ys
+  held_values_same xs ys is was e = ap (renumbered_values r) is ∙ sym (values_led r x) ∙ ap held_values e ∙ values_led q y ∙ ap (renumbered_values q) (sym was)
+
+  -- and the same elements
+  pub held_elements_same : (es fs : NumberedElements) → es ≡ held_elements x → fs ≡ held_elements y → renumbered r x ≡ renumbered q y → renumbered_elements r es ≡ renumbered_elements q fs
+  held_elements_same es fs is was e = ap (renumbered_elements r) is ∙ sym (elements_led r x) ∙ ap held_elements e ∙ elements_led q y ∙ ap (renumbered_elements q) (sym was)
+
+  -- and the other way round
+  pub parts_same : (xs ys : NumberedValues) (es fs : NumberedElements) → xs ≡ held_values x → ys ≡ held_values y → es ≡ held_elements x → fs ≡ held_elements y → head_of (renumbered r x) ≡ head_of (renumbered q y) → renumbered_values r xs ≡ renumbered_values q ys → renumbered_elements r es ≡ renumbered_elements q fs → renumbered r x ≡ renumbered q y
+  parts_same xs ys es fs vx vy ex ey h v e =
+      same_parts (renumbered r x) (renumbered q y) h (values_led r x ∙ ap (renumbered_values r) (sym vx) ∙ v ∙ ap (renumbered_values q) vy ∙ sym (values_led q y))
+      (elements_led r x ∙ ap (renumbered_elements r) (sym ex) ∙ e ∙ ap (renumbered_elements q) ey ∙ sym (elements_led q y))
+
+-- ---- it is lighter
+
+pub held_values_lighter : (x : NumberedValue) → numbered_values_weight (held_values x) + 1 < numbered_weight x
+held_values_lighter (Plain literal) = omega arith
+held_values_lighter (Named reference i) = omega arith
+held_values_lighter (Array xs) = omega arith
+held_values_lighter (Annotated t es) = omega arith
+
+pub held_elements_lighter : (x : NumberedValue) → numbered_elements_weight (held_elements x) + 2 < numbered_weight x
+held_elements_lighter (Plain literal) = omega arith
+held_elements_lighter (Named reference i) = omega arith
+held_elements_lighter (Array xs) = omega arith
+held_elements_lighter (Annotated t es) = omega arith

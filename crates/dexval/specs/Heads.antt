@@ -1,0 +1,42 @@
+-- Values apart from what they hold.
+use Rattle.std.specs.Prelude.{ℕ}
+use Rattle.dexval.specs.declared.head.Head.{Head}
+use Rattle.dexval.specs.declared.head.Head.TheVariants as heads
+use Rattle.dexval.specs.Numbered.{NumberedValue, NumberedValues, NumberedElements, NoValue, NoElement, Plain, Named, Array, Annotated, Literal, ByteLiteral, ShortLiteral, CharLiteral, IntLiteral, LongLiteral, FloatLiteral, DoubleLiteral, NullLiteral, BooleanLiteral, Reference, StringReference, TypeReference, FieldReference, MethodReference, EnumReference}
+
+-- what a literal is
+abbrev pub literal_head : Literal → Head
+literal_head (ByteLiteral z) = heads.Byte z
+literal_head (ShortLiteral z) = heads.Short z
+literal_head (CharLiteral u) = heads.Char u
+literal_head (IntLiteral z) = heads.Int z
+literal_head (LongLiteral z) = heads.Long z
+literal_head (FloatLiteral bits) = heads.Float bits
+literal_head (DoubleLiteral bits) = heads.Double bits
+literal_head NullLiteral = heads.Null
+literal_head (BooleanLiteral is) = heads.Boolean is
+
+-- what a reference is to the symbol of a number
+abbrev pub reference_head : Reference → ℕ → Head
+reference_head StringReference i = heads.String i
+reference_head TypeReference i = heads.Typ i
+reference_head FieldReference i = heads.Field i
+reference_head MethodReference i = heads.Method i
+reference_head EnumReference i = heads.Enum i
+
+-- what a value is, apart from the values that it holds
+abbrev pub head_of : NumberedValue → Head
+head_of (Plain literal) = literal_head literal
+head_of (Named reference i) = reference_head reference i
+head_of (Array xs) = heads.Array
+head_of (Annotated t es) = heads.Annotation t
+
+-- the values of an array
+abbrev pub held_values : NumberedValue → NumberedValues
+held_values (Array xs) = xs
+held_values _ = NoValue
+
+-- the elements of an annotation
+abbrev pub held_elements : NumberedValue → NumberedElements
+held_elements (Annotated t es) = es
+held_elements _ = NoElement

@@ -1,0 +1,88 @@
+//! Values apart from what they hold.
+
+ghost use Rattle.std.specs.Prelude.{◌≡◌, ◌↔◌, IsTrue, map};
+ghost use Rattle.dexval.specs.Code.{value_of, element_of};
+ghost use Rattle.dexval.specs.Heads.{head_of, held_values, held_elements};
+ghost use Rattle.dexval.specs.Numbered.{values_of_list, elements_of_list};
+ghost use Rattle.dexval.specs.Renumbering.{renumbered};
+
+use crate::same::end;
+use crate::value::{Element, Value};
+use dexpool::{Remap, SymbolKind};
+
+/// What a value is, apart from the values that it holds. A number of a symbol is the one that it leads to.
+#[derive(Drop, PartialEq, Eq)]
+pub(crate) enum Head {
+    Byte(i8),
+    Short(i16),
+    Char(u16),
+    Int(i32),
+    Long(i64),
+    Float(u32),
+    Double(u64),
+    String(usize),
+    Typ(usize),
+    Field(usize),
+    Method(usize),
+    Enum(usize),
+    Array,
+    Annotation(usize),
+    Null,
+    Boolean(bool),
+}
+
+impl Head {
+    // What the value is, its number led on by the map. A number that leads nowhere stays.
+    fn of(value: &Value, remap: &Remap) -> Head
+        ensures { result ≡ head_of (renumbered remap.now (value_of value.now)) }
+    {
+        match value {
+            Value::Byte(number) => Head::Byte(*number),
+            Value::Short(number) => Head::Short(*number),
+            Value::Char(unit) => Head::Char(*unit),
+            Value::Int(number) => Head::Int(*number),
+            Value::Long(number) => Head::Long(*number),
+            Value::Float(bits) => Head::Float(*bits),
+            Value::Double(bits) => Head::Double(*bits),
+            Value::String(number) => Head::String(end(remap, SymbolKind::Text, *number)),
+            Value::Typ(number) => Head::Typ(end(remap, SymbolKind::Typ, *number)),
+            Value::Field(number) => Head::Field(end(remap, SymbolKind::Field, *number)),
+            Value::Method(number) => Head::Method(end(remap, SymbolKind::Method, *number)),
+            Value::Enum(number) => Head::Enum(end(remap, SymbolKind::Field, *number)),
+            Value::Array(_) => Head::Array,
+            Value::Annotation(typ, _) => Head::Annotation(end(remap, SymbolKind::Typ, *typ)),
+            Value::Null => Head::Null,
+            Value::Boolean(is) => Head::Boolean(*is),
+        }
+    }
+}
+
+/// Whether a value and another one are the same, apart from the values that they hold, once the numbers of each are led
+/// on by a map of its own.
+pub(crate) fn heads_alike(value: &Value, mine: &Remap, other: &Value, theirs: &Remap) -> bool
+    ensures { IsTrue result ↔ (head_of (renumbered mine.now (value_of value.now)) ≡ head_of (renumbered theirs.now (value_of other.now))) }
+{
+    Head::of(value, mine) == Head::of(other, theirs)
+}
+
+impl Value {
+    /// The values of an array. Other values hold none.
+    pub(crate) fn held_values(&self) -> &[Value]
+        ensures { values_of_list (map value_of result.now) ≡ held_values (value_of self.now) }
+    {
+        match self {
+            Value::Array(values) => values,
+            _ => &[],
+        }
+    }
+
+    /// The elements of an annotation. Other values have none.
+    pub(crate) fn held_elements(&self) -> &[Element]
+        ensures { elements_of_list (map element_of result.now) ≡ held_elements (value_of self.now) }
+    {
+        match self {
+            Value::Annotation(_, elements) => elements,
+            _ => &[],
+        }
+    }
+}

@@ -65,9 +65,15 @@ impl<'a> Model for Method<'a> {
 /// their order, which may be fewer.
 ///
 /// Source: "class_data_item", "annotations_directory_item", "encoded_array_item".
-#[derive(Drop)]
 pub struct Members<'a> {
     pub(crate) contents: Contents<'a>,
+}
+
+// So that what a class declares is let go by one call, in the crates above too.
+impl Drop for Members<'_> {
+    fn drop(self) {
+        let Members { contents: _ } = self;
+    }
 }
 
 /// What members hold, and what they will hold once it is weighed and is not too much.

@@ -3,7 +3,7 @@
 ghost use Rattle.std.specs.Prelude.{◌≡◌, ◌↔◌, IsTrue, map};
 ghost use Rattle.dexpool.specs.declared.symbols.SymbolKind.TheVariants as kinds;
 ghost use Rattle.dexval.specs.Code.{set_of};
-ghost use Rattle.dexval.specs.Renumbering.{led, renumbered_set};
+ghost use Rattle.dexval.specs.Renumbering.{renumbered_set};
 ghost use Rattle.dexcode.specs.Renumbering.{renumbered_item};
 ghost use Rattle.dexmembers.specs.Renumbering.{renumbered_field, renumbered_method, renumbered_members};
 ghost use Rattle.std.specs.Option.{option_map};
@@ -11,24 +11,7 @@ ghost use Rattle.std.specs.Option.{option_map};
 use crate::members::{Field, Members, Method};
 use dexcode::Code;
 use dexpool::{Remap, SymbolKind};
-use dexval::{AnnotationSet, same_values_mapped};
-
-// Where a number leads; one that leads nowhere stays.
-fn end(remap: &Remap, kind: SymbolKind, number: u32) -> usize
-    ensures { result ≡ led remap.now kind number }
-{
-    match remap.image(kind, number as usize) {
-        Some(image) => image,
-        None => number as usize,
-    }
-}
-
-// Whether both numbers lead to one.
-fn ends_alike(kind: SymbolKind, mine: &Remap, number: u32, theirs: &Remap, other: u32) -> bool
-    ensures { IsTrue result ↔ (led mine.now kind number ≡ led theirs.now kind other) }
-{
-    end(mine, kind, number) == end(theirs, kind, other)
-}
+use dexval::{AnnotationSet, ends_alike, same_values_mapped};
 
 // Whether the code is the same, if there is some, its numbers led on.
 fn same_code(

@@ -8,7 +8,7 @@ ghost use Rattle.dexmembers.specs.Numbered.{NumbersRise};
 ghost use Rattle.dexmembers.specs.Attaching.{looked_up, sets_of, EntriesRise, HasNumberAt, AreTaken, field_with, method_with};
 
 use crate::class_data::{EncodedField, EncodedMethod};
-use crate::members::{Field, Method};
+use crate::members::{DeclaredField, DeclaredMethod};
 use dexcode::Code;
 use dexflags::{FieldFlags, MethodFlags};
 use dexval::AnnotationSet;
@@ -57,14 +57,14 @@ pub(crate) fn attach_fields(
     alloc: Global,
     listed: &[EncodedField],
     sets: &mut Vec<(u32, AnnotationSet)>,
-) -> Result<Vec<Field>, AllocError>
+) -> Result<Vec<DeclaredField>, AllocError>
     ensures fields { EntriesRise sets.old.items → NumbersRise (map (λ x. x.index) listed.now) → IfOk result (λ fields. fields.items ≡ map (field_with sets.old.items) listed.now) }
     ensures left { IfOk result (λ _. AreTaken set_of (map (λ x. x.index) listed.now) sets.old.items sets.new.items) }
 {
     let mut fields = Vec::with_capacity(alloc, listed.len())?;
     for field in listed {
         let annotations = take_set(alloc, sets, field.index);
-        fields.push(Field {
+        fields.push(DeclaredField {
             number: field.index,
             flags: FieldFlags::from_bits_retain(field.flags),
             annotations,
@@ -84,7 +84,7 @@ pub(crate) fn attach_methods<'a>(
     codes: Vec<Option<Code<'a>>>,
     sets: &mut Vec<(u32, AnnotationSet)>,
     lists: &mut Vec<(u32, Vec<AnnotationSet>)>,
-) -> Result<Vec<Method<'a>>, AllocError>
+) -> Result<Vec<DeclaredMethod<'a>>, AllocError>
     ensures methods { EntriesRise sets.old.items → EntriesRise lists.old.items → NumbersRise (map (λ x. x.index) listed.now) → length codes.entry.items ≡ length listed.now → IfOk result (λ methods. methods.items ≡ zip_with (method_with sets.old.items lists.old.items) listed.now codes.entry.items) }
     ensures sets_left { IfOk result (λ _. AreTaken set_of (map (λ x. x.index) listed.now) sets.old.items sets.new.items) }
     ensures lists_left { IfOk result (λ _. AreTaken sets_of (map (λ x. x.index) listed.now) lists.old.items lists.new.items) }
@@ -95,7 +95,7 @@ pub(crate) fn attach_methods<'a>(
         let code = codes.next().flatten();
         let annotations = take_set(alloc, sets, method.index);
         let parameter_annotations = take_list(alloc, lists, method.index);
-        methods.push(Method {
+        methods.push(DeclaredMethod {
             number: method.index,
             flags: MethodFlags::from_bits_retain(method.flags),
             code,

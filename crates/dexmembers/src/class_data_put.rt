@@ -12,7 +12,7 @@ ghost use Rattle.dexval.specs.Appending.{Appends};
 ghost use Rattle.dexmembers.specs.Numbered.{AreKnownMembers, AreOfClass, fields_of, methods_of, members_in, members_of};
 ghost use Rattle.dexmembers.specs.Spelled.{numbered_field_bytes, numbered_fields_bytes, numbered_method_bytes, numbered_methods_bytes, numbered_class_data_bytes};
 
-use crate::members::{Field, Members, Method};
+use crate::members::{DeclaredField, DeclaredMethod, Members};
 use crate::put_laws::members_bytes_law;
 use crate::taking_back::taken_back_on_error;
 use dexleb::put_u;
@@ -27,7 +27,7 @@ fn append_number(value: u32, out: &mut Vec<u8>) -> Result<(), AllocError>
 }
 
 // Appends an encoded_field behind one with the number `last`.
-fn append_field(field: &Field, last: u32, out: &mut Vec<u8>) -> Result<(), AllocError>
+fn append_field(field: &DeclaredField, last: u32, out: &mut Vec<u8>) -> Result<(), AllocError>
     ensures { Appends ⊤ (numbered_field_bytes last field.now) out.old out.new result }
 {
     append_number(field.number().saturating_sub(last), out)?;
@@ -35,7 +35,7 @@ fn append_field(field: &Field, last: u32, out: &mut Vec<u8>) -> Result<(), Alloc
 }
 
 // Appends encoded_fields.
-fn append_fields(fields: &[Field], out: &mut Vec<u8>) -> Result<(), AllocError>
+fn append_fields(fields: &[DeclaredField], out: &mut Vec<u8>) -> Result<(), AllocError>
     ensures { Appends ⊤ (numbered_fields_bytes 0 fields.now) out.old out.new result }
 {
     let mut last = 0;
@@ -48,7 +48,7 @@ fn append_fields(fields: &[Field], out: &mut Vec<u8>) -> Result<(), AllocError>
 
 // Appends an encoded_method behind one with the number `last`, with the offset of its code.
 fn append_method(
-    method: &Method<'_>,
+    method: &DeclaredMethod<'_>,
     last: u32,
     code_off: u32,
     out: &mut Vec<u8>,
@@ -62,7 +62,7 @@ fn append_method(
 
 // Appends encoded_methods, each with the offset of its code.
 fn append_methods(
-    methods: &[Method<'_>],
+    methods: &[DeclaredMethod<'_>],
     code_offs: &[u32],
     out: &mut Vec<u8>,
 ) -> Result<(), AllocError>
@@ -79,10 +79,10 @@ fn append_methods(
 
 // Appends the four counts and the four lists of a class_data_item.
 fn append_lists(
-    static_fields: &[Field],
-    instance_fields: &[Field],
-    direct_methods: &[Method<'_>],
-    virtual_methods: &[Method<'_>],
+    static_fields: &[DeclaredField],
+    instance_fields: &[DeclaredField],
+    direct_methods: &[DeclaredMethod<'_>],
+    virtual_methods: &[DeclaredMethod<'_>],
     code_offs: &[u32],
     out: &mut Vec<u8>,
 ) -> Result<(), AllocError>
@@ -111,11 +111,12 @@ impl Members<'_> {
         ensures { Appends ⊤ (numbered_class_data_bytes self.now code_offs.now) out.old out.new result }
     {
         self.are_few();
+        let own = &self.contents;
         append_lists(
-            self.static_fields(),
-            self.instance_fields(),
-            self.direct_methods(),
-            self.virtual_methods(),
+            &own.static_fields,
+            &own.instance_fields,
+            &own.direct_methods,
+            &own.virtual_methods,
             code_offs,
             out,
         )

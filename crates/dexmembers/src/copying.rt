@@ -3,7 +3,7 @@
 ghost use Rattle.std.specs.Prelude.{◌≡◌, IfOk, map};
 ghost use Rattle.dexval.specs.Code.{set_of, value_of};
 
-use crate::members::{Contents, Field, Members, Method};
+use crate::members::{Contents, DeclaredField, DeclaredMethod, Members};
 use dexcode::Code;
 use dexval::{AnnotationSet, Value};
 use std::alloc::AllocError;
@@ -31,7 +31,7 @@ fn copied_values(values: &Vec<Value>) -> Result<Vec<Value>, AllocError>
 }
 
 // The same fields.
-fn copied_fields(fields: &Vec<Field>) -> Result<Vec<Field>, AllocError>
+fn copied_fields(fields: &Vec<DeclaredField>) -> Result<Vec<DeclaredField>, AllocError>
     ensures { IfOk result (λ copy. copy.items ≡ fields.now.items) }
 {
     let mut copy = Vec::with_capacity(*fields.allocator(), fields.len())?;
@@ -42,7 +42,9 @@ fn copied_fields(fields: &Vec<Field>) -> Result<Vec<Field>, AllocError>
 }
 
 // The same methods.
-fn copied_methods<'a>(methods: &Vec<Method<'a>>) -> Result<Vec<Method<'a>>, AllocError>
+fn copied_methods<'a>(
+    methods: &Vec<DeclaredMethod<'a>>,
+) -> Result<Vec<DeclaredMethod<'a>>, AllocError>
     ensures { IfOk result (λ copy. copy.items ≡ methods.now.items) }
 {
     let mut copy = Vec::with_capacity(*methods.allocator(), methods.len())?;
@@ -62,16 +64,16 @@ fn copied_code<'a>(code: &Option<Code<'a>>) -> Result<Option<Code<'a>>, AllocErr
     })
 }
 
-impl Field {
+impl DeclaredField {
     /// The same field, with annotations of its own.
     ///
     /// Error: memory was refused.
     ///
     /// Source: "encoded_field format", "field_annotation format".
-    pub fn copy(&self) -> Result<Field, AllocError>
+    pub(crate) fn copy(&self) -> Result<DeclaredField, AllocError>
         ensures { IfOk result (λ copy. copy ≡ self.now) }
     {
-        Ok(Field {
+        Ok(DeclaredField {
             number: self.number,
             flags: self.flags,
             annotations: self.annotations.copy()?,
@@ -79,16 +81,16 @@ impl Field {
     }
 }
 
-impl<'a> Method<'a> {
+impl<'a> DeclaredMethod<'a> {
     /// The same method, with lists of its own. The units of its code are borrowed as before.
     ///
     /// Error: memory was refused.
     ///
     /// Source: "encoded_method format", "method_annotation format", "parameter_annotation format".
-    pub fn copy(&self) -> Result<Method<'a>, AllocError>
+    pub(crate) fn copy(&self) -> Result<DeclaredMethod<'a>, AllocError>
         ensures { IfOk result (λ copy. copy ≡ self.now) }
     {
-        Ok(Method {
+        Ok(DeclaredMethod {
             number: self.number,
             flags: self.flags,
             code: copied_code(&self.code)?,

@@ -12,7 +12,7 @@ ghost use Rattle.dexspec.specs.Bytes.{uint};
 ghost use Rattle.dexval.specs.Appending.{Appends};
 ghost use Rattle.dexmembers.specs.DirectoryPut.{pair_bytes, count_placed, both_bytes, field_numbers, method_numbers, numbered_directory_bytes};
 
-use crate::members::{Field, Members, Method};
+use crate::members::{DeclaredField, DeclaredMethod, Members};
 use crate::put_laws::members_bytes_law;
 use crate::taking_back::taken_back_on_error;
 use dexhead::put_u32;
@@ -69,7 +69,7 @@ trait HasNumber {
         ensures { result ≡ number_of self.now };
 }
 
-impl HasNumber for Field {
+impl HasNumber for DeclaredField {
     ghost number_of = { λ f. f.number };
 
     fn number(&self) -> u32 {
@@ -77,7 +77,7 @@ impl HasNumber for Field {
     }
 }
 
-impl HasNumber for Method<'_> {
+impl HasNumber for DeclaredMethod<'_> {
     ghost number_of = { λ x. x.number };
 
     fn number(&self) -> u32 {
@@ -139,7 +139,8 @@ impl Members<'_> {
         requires { length offsets.now ≡ length (fields_of self.now) }
         ensures { Appends ⊤ (both_bytes (field_numbers self.now.static_fields) (field_numbers self.now.instance_fields) offsets.now) out.old out.new result }
     {
-        append_pairs(self.static_fields(), self.instance_fields(), offsets, out)
+        let own = &self.contents;
+        append_pairs(&own.static_fields, &own.instance_fields, offsets, out)
     }
 
     // Appends pairs of the methods.
@@ -147,7 +148,8 @@ impl Members<'_> {
         requires { length offsets.now ≡ length (methods_of self.now) }
         ensures { Appends ⊤ (both_bytes (method_numbers self.now.direct_methods) (method_numbers self.now.virtual_methods) offsets.now) out.old out.new result }
     {
-        append_pairs(self.direct_methods(), self.virtual_methods(), offsets, out)
+        let own = &self.contents;
+        append_pairs(&own.direct_methods, &own.virtual_methods, offsets, out)
     }
 
     // Appends the annotations_directory_item.

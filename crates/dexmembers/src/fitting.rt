@@ -7,7 +7,7 @@ ghost use Rattle.dexcode.specs.Renumbering.{HasPlaces};
 ghost use Rattle.dexmembers.specs.Numbered.{IsKnownMethod, AreKnownMembers};
 ghost use Rattle.dexmembers.specs.Renumbering.{LeadsInto, MethodHasPlaces, MembersHavePlaces};
 
-use crate::members::{Members, Method};
+use crate::members::{DeclaredMethod, Members};
 use dexcode::{Code, code_meaning_law, code_places_law};
 use dexpool::Remap;
 use dexval::places_law;
@@ -22,7 +22,7 @@ fn code_fits(code: &Code<'_>, remap: &Remap) -> bool
 }
 
 // Whether each number of methods does.
-fn methods_fit(methods: &[Method<'_>], remap: &Remap) -> bool
+fn methods_fit(methods: &[DeclaredMethod<'_>], remap: &Remap) -> bool
     ensures { (m n : Mentions) → LeadsInto m n remap.now → All (IsKnownMethod m) methods.now → IsTrue result ↔ All (MethodHasPlaces remap.now) methods.now }
 {
     for method in methods {
@@ -33,7 +33,7 @@ fn methods_fit(methods: &[Method<'_>], remap: &Remap) -> bool
     true
 }
 
-impl<'a> Method<'a> {
+impl<'a> DeclaredMethod<'a> {
     // Whether each number of the method does.
     fn instructions_fit(&self, remap: &Remap) -> bool
         ensures { (m n : Mentions) → LeadsInto m n remap.now → IsKnownMethod m self.now → IsTrue result ↔ MethodHasPlaces remap.now self.now }

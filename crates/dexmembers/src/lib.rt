@@ -12,10 +12,12 @@ mod copying;
 mod directory_put;
 mod encoded;
 mod encoded_lists;
+mod field_views;
 mod fitting;
 mod marking;
 mod measuring;
 mod members;
+mod method_views;
 mod naming;
 mod put_laws;
 mod reading;
@@ -31,7 +33,9 @@ mod taking_back;
 mod uses_laws;
 mod weighing;
 
-pub use members::{Field, Members, Method};
+pub use field_views::{Field, Fields};
+pub use members::Members;
+pub use method_views::{Method, Methods, ParameterSets};
 pub use put_laws::{few_members_law, members_bytes_law};
 pub use reading::read_members;
 pub use renumbering_laws::{

@@ -8,7 +8,7 @@ ghost use Rattle.dexval.specs.Uses.{set_uses};
 ghost use Rattle.dexcode.specs.Renumbering.{item_uses};
 ghost use Rattle.dexmembers.specs.Uses.{field_uses, method_uses, members_uses};
 
-use crate::members::{Field, Members, Method};
+use crate::members::{DeclaredField, DeclaredMethod, Members};
 use dexcode::Code;
 use dexpool::{Marks, SymbolKind};
 use dexval::{AnnotationSet, mark_values};
@@ -34,7 +34,7 @@ fn mark_code(code: &Option<Code<'_>>, marks: &mut Marks)
 }
 
 // Marks fields, and the symbols of their sets.
-fn mark_fields(fields: &[Field], marks: &mut Marks)
+fn mark_fields(fields: &[DeclaredField], marks: &mut Marks)
     requires { All (HasMark marks.old) (flat_map field_uses fields.now) }
     ensures { AreMarkedToo (flat_map field_uses fields.now) marks.old marks.new }
 {
@@ -44,7 +44,7 @@ fn mark_fields(fields: &[Field], marks: &mut Marks)
 }
 
 // Marks methods, and the symbols of their code and their sets.
-fn mark_methods(methods: &[Method<'_>], marks: &mut Marks)
+fn mark_methods(methods: &[DeclaredMethod<'_>], marks: &mut Marks)
     requires { All (HasMark marks.old) (flat_map method_uses methods.now) }
     ensures { AreMarkedToo (flat_map method_uses methods.now) marks.old marks.new }
 {
@@ -53,7 +53,7 @@ fn mark_methods(methods: &[Method<'_>], marks: &mut Marks)
     }
 }
 
-impl Field {
+impl DeclaredField {
     // Marks the field, and the symbols of its set.
     fn mark(&self, marks: &mut Marks)
         requires { All (HasMark marks.old) (field_uses self.now) }
@@ -64,7 +64,7 @@ impl Field {
     }
 }
 
-impl<'a> Method<'a> {
+impl<'a> DeclaredMethod<'a> {
     // Marks the method, and the symbols of its code and its sets.
     fn mark(&self, marks: &mut Marks)
         requires { All (HasMark marks.old) (method_uses self.now) }

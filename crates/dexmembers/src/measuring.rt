@@ -6,11 +6,11 @@ ghost use Rattle.dexmembers.specs.Spelled.{numbered_field_bytes, numbered_fields
 ghost use Rattle.dexmembers.specs.DirectoryPut.{numbered_directory_bytes};
 
 use crate::directory_put::placed;
-use crate::members::{Field, Members, Method};
+use crate::members::{DeclaredField, DeclaredMethod, Members};
 use dexleb::len_u;
 
 // How many bytes an encoded_field has behind one with the number `last`.
-fn field_len(field: &Field, last: u32) -> usize
+fn field_len(field: &DeclaredField, last: u32) -> usize
     ensures exact { result ≡ length (numbered_field_bytes last field.now) }
     ensures few { result ≤ 10 }
 {
@@ -18,7 +18,7 @@ fn field_len(field: &Field, last: u32) -> usize
 }
 
 // How many bytes encoded_fields have.
-fn fields_len(fields: &[Field]) -> usize
+fn fields_len(fields: &[DeclaredField]) -> usize
     requires { length fields.now < 2 ^ 32 }
     ensures exact { result ≡ length (numbered_fields_bytes 0 fields.now) }
     ensures few { result ≤ 10 * length fields.now }
@@ -33,7 +33,7 @@ fn fields_len(fields: &[Field]) -> usize
 }
 
 // How many bytes an encoded_method has behind one with the number `last`, with the offset of its code.
-fn method_len(method: &Method<'_>, last: u32, code_off: u32) -> usize
+fn method_len(method: &DeclaredMethod<'_>, last: u32, code_off: u32) -> usize
     ensures exact { result ≡ length (numbered_method_bytes last method.now code_off) }
     ensures few { result ≤ 15 }
 {
@@ -41,7 +41,7 @@ fn method_len(method: &Method<'_>, last: u32, code_off: u32) -> usize
 }
 
 // How many bytes encoded_methods have, each with the offset of its code.
-fn methods_len(methods: &[Method<'_>], code_offs: &[u32]) -> usize
+fn methods_len(methods: &[DeclaredMethod<'_>], code_offs: &[u32]) -> usize
     requires few { length methods.now < 2 ^ 32 }
     requires offsets { length code_offs.now ≡ length methods.now }
     ensures exact { result ≡ length (numbered_methods_bytes 0 methods.now code_offs.now) }
@@ -69,10 +69,10 @@ impl Members<'_> {
         ensures { result ≡ length (numbered_class_data_bytes self.now code_offs.now) }
     {
         self.are_few();
-        let static_fields = self.static_fields();
-        let instance_fields = self.instance_fields();
-        let direct_methods = self.direct_methods();
-        let virtual_methods = self.virtual_methods();
+        let static_fields = &self.contents.static_fields;
+        let instance_fields = &self.contents.instance_fields;
+        let direct_methods = &self.contents.direct_methods;
+        let virtual_methods = &self.contents.virtual_methods;
         let (direct_offs, virtual_offs) = code_offs.split_at(direct_methods.len());
         let counts = len_u(static_fields.len() as u32)
             + len_u(instance_fields.len() as u32)

@@ -1,10 +1,12 @@
 //! What a class declares, with numbers in the place of symbols.
 
-ghost use Rattle.std.specs.Prelude.{◌≡◌, Some, None, MatchOption, map};
+ghost use Rattle.std.specs.Prelude.{◌≡◌, [], Some, None, MatchOption, map};
 ghost use Rattle.dexval.specs.Code.{set_of, value_of};
 ghost use Rattle.dexval.specs.Numbered.{values_of_list};
 ghost use Rattle.dexmembers.specs.Numbered.{no_members, AreFew};
 
+use crate::field_views::Fields;
+use crate::method_views::Methods;
 use dexcode::Code;
 use dexflags::{FieldFlags, MethodFlags};
 use dexval::{AnnotationSet, Value};
@@ -15,13 +17,13 @@ use std::marker::Model;
 ///
 /// Source: "encoded_field format", "field_annotation format".
 #[derive(Drop)]
-pub struct Field {
+pub(crate) struct DeclaredField {
     pub(crate) number: u32,
     pub(crate) flags: FieldFlags,
     pub(crate) annotations: AnnotationSet,
 }
 
-impl Model for Field {
+impl Model for DeclaredField {
     ghost use Rattle.dexval.specs.Code.{set_of};
     ghost use Rattle.std.specs.Coded.{codes};
     ghost use Rattle.dexmembers.specs.Stored.{elements_code};
@@ -39,7 +41,7 @@ impl Model for Field {
 ///
 /// Source: "encoded_method format", "method_annotation format", "parameter_annotation format".
 #[derive(Drop)]
-pub struct Method<'a> {
+pub(crate) struct DeclaredMethod<'a> {
     pub(crate) number: u32,
     pub(crate) flags: MethodFlags,
     pub(crate) code: Option<Code<'a>>,
@@ -47,7 +49,7 @@ pub struct Method<'a> {
     pub(crate) parameter_annotations: Vec<AnnotationSet>,
 }
 
-impl<'a> Model for Method<'a> {
+impl<'a> Model for DeclaredMethod<'a> {
     ghost use Rattle.std.specs.Prelude.{map};
     ghost use Rattle.dexval.specs.Code.{set_of};
     ghost use Rattle.std.specs.Coded.{codes};
@@ -80,10 +82,10 @@ impl Drop for Members<'_> {
 #[derive(Drop)]
 pub(crate) struct Contents<'a> {
     pub(crate) annotations: AnnotationSet,
-    pub(crate) static_fields: Vec<Field>,
-    pub(crate) instance_fields: Vec<Field>,
-    pub(crate) direct_methods: Vec<Method<'a>>,
-    pub(crate) virtual_methods: Vec<Method<'a>>,
+    pub(crate) static_fields: Vec<DeclaredField>,
+    pub(crate) instance_fields: Vec<DeclaredField>,
+    pub(crate) direct_methods: Vec<DeclaredMethod<'a>>,
+    pub(crate) virtual_methods: Vec<DeclaredMethod<'a>>,
     pub(crate) static_values: Vec<Value>,
 }
 
@@ -104,9 +106,9 @@ impl<'a> Model for Members<'a> {
     ghost invariant = { λ x. AreFew x.contents.static_fields.items x.contents.instance_fields.items x.contents.direct_methods.items x.contents.virtual_methods.items };
 }
 
-impl Field {
+impl DeclaredField {
     /// The number of the field. No memory is taken.
-    pub fn number(&self) -> u32
+    pub(crate) fn number(&self) -> u32
         ensures { result ≡ self.now.number }
     {
         self.number
@@ -115,23 +117,23 @@ impl Field {
     /// The access flags. No memory is taken.
     ///
     /// Source: "access_flags definitions".
-    pub fn flags(&self) -> FieldFlags
+    pub(crate) fn flags(&self) -> FieldFlags
         ensures { result.0 ≡ self.now.flags }
     {
         self.flags
     }
 
     /// The annotations. No memory is taken.
-    pub fn annotations(&self) -> &AnnotationSet
+    pub(crate) fn annotations(&self) -> &AnnotationSet
         ensures { set_of result.now ≡ self.now.annotations }
     {
         &self.annotations
     }
 }
 
-impl<'a> Method<'a> {
+impl<'a> DeclaredMethod<'a> {
     /// The number of the method. No memory is taken.
-    pub fn number(&self) -> u32
+    pub(crate) fn number(&self) -> u32
         ensures { result ≡ self.now.number }
     {
         self.number
@@ -140,28 +142,28 @@ impl<'a> Method<'a> {
     /// The access flags. No memory is taken.
     ///
     /// Source: "access_flags definitions".
-    pub fn flags(&self) -> MethodFlags
+    pub(crate) fn flags(&self) -> MethodFlags
         ensures { result.0 ≡ self.now.flags }
     {
         self.flags
     }
 
     /// The code, if the method has some. No memory is taken.
-    pub fn code(&self) -> Option<&Code<'a>>
+    pub(crate) fn code(&self) -> Option<&Code<'a>>
         ensures { MatchOption result (self.now.code ≡ None) (λ code. self.now.code ≡ Some code.now) }
     {
         self.code.as_ref()
     }
 
     /// The annotations. No memory is taken.
-    pub fn annotations(&self) -> &AnnotationSet
+    pub(crate) fn annotations(&self) -> &AnnotationSet
         ensures { set_of result.now ≡ self.now.annotations }
     {
         &self.annotations
     }
 
     /// The annotations of the parameters, from left to right; their number is not compared with that of the parameters. No memory is taken.
-    pub fn parameter_annotations(&self) -> &[AnnotationSet]
+    pub(crate) fn parameter_annotations(&self) -> &[AnnotationSet]
         ensures { map set_of result.now ≡ self.now.parameter_annotations }
     {
         &self.parameter_annotations
@@ -193,39 +195,49 @@ impl<'a> Members<'a> {
         let _fields = &self.contents.static_fields;
     }
 
-    /// The annotations of the class itself. No memory is taken.
-    pub fn annotations(&self) -> &AnnotationSet
-        ensures { set_of result.now ≡ self.now.annotations }
+    /// The annotations of the class itself; `None` says that it has none. No memory is taken.
+    ///
+    /// Source: "annotations_directory_item", the field `class_annotations_off`.
+    pub fn annotations(&self) -> Option<&AnnotationSet>
+        ensures { MatchOption result (self.now.annotations ≡ []) (λ set. set_of set.now ≡ self.now.annotations) }
     {
-        &self.contents.annotations
+        Some(&self.contents.annotations)
     }
 
     /// The static fields, by number. No memory is taken.
-    pub fn static_fields(&self) -> &[Field]
-        ensures { result.now ≡ self.now.static_fields }
+    ///
+    /// Source: "class_data_item", the field `static_fields`.
+    pub fn static_fields(&self) -> Fields<'_>
+        ensures { result ≡ self.now.static_fields }
     {
-        &self.contents.static_fields
+        Fields::of(&self.contents.static_fields)
     }
 
     /// The instance fields, by number. No memory is taken.
-    pub fn instance_fields(&self) -> &[Field]
-        ensures { result.now ≡ self.now.instance_fields }
+    ///
+    /// Source: "class_data_item", the field `instance_fields`.
+    pub fn instance_fields(&self) -> Fields<'_>
+        ensures { result ≡ self.now.instance_fields }
     {
-        &self.contents.instance_fields
+        Fields::of(&self.contents.instance_fields)
     }
 
     /// The direct methods, by number. No memory is taken.
-    pub fn direct_methods(&self) -> &[Method<'a>]
-        ensures { result.now ≡ self.now.direct_methods }
+    ///
+    /// Source: "class_data_item", the field `direct_methods`.
+    pub fn direct_methods(&self) -> Methods<'_, 'a>
+        ensures { result ≡ self.now.direct_methods }
     {
-        &self.contents.direct_methods
+        Methods::of(&self.contents.direct_methods)
     }
 
     /// The virtual methods, by number. No memory is taken.
-    pub fn virtual_methods(&self) -> &[Method<'a>]
-        ensures { result.now ≡ self.now.virtual_methods }
+    ///
+    /// Source: "class_data_item", the field `virtual_methods`.
+    pub fn virtual_methods(&self) -> Methods<'_, 'a>
+        ensures { result ≡ self.now.virtual_methods }
     {
-        &self.contents.virtual_methods
+        Methods::of(&self.contents.virtual_methods)
     }
 
     /// What the static fields begin with, in their order. No memory is taken.

@@ -6,7 +6,7 @@ ghost use Rattle.dexval.specs.Code.{set_of};
 ghost use Rattle.dexval.specs.Renumbering.{led, renumbered_set, LeadsOn, SetHasPlaces};
 ghost use Rattle.dexmembers.specs.Renumbering.{renumbered_field, renumbered_method, renumbered_members, FieldHasPlaces, MethodHasPlaces, MembersHavePlaces};
 
-use crate::members::{Field, Members, Method};
+use crate::members::{DeclaredField, DeclaredMethod, Members};
 use dexpool::{Remap, SymbolKind};
 use dexval::{AnnotationSet, renumber_values};
 
@@ -32,7 +32,7 @@ fn renumber_sets(sets: &mut Vec<AnnotationSet>, remap: &Remap)
 }
 
 // Puts for each number of fields the one that it leads to.
-fn renumber_fields(fields: &mut Vec<Field>, remap: &Remap)
+fn renumber_fields(fields: &mut Vec<DeclaredField>, remap: &Remap)
     requires { All (FieldHasPlaces remap.now) fields.old.items }
     ensures { fields.new.items ≡ map (renumbered_field remap.now) fields.old.items }
 {
@@ -42,7 +42,7 @@ fn renumber_fields(fields: &mut Vec<Field>, remap: &Remap)
 }
 
 // Puts for each number of methods the one that it leads to.
-fn renumber_methods(methods: &mut Vec<Method<'_>>, remap: &Remap)
+fn renumber_methods(methods: &mut Vec<DeclaredMethod<'_>>, remap: &Remap)
     requires { All (MethodHasPlaces remap.now) methods.old.items }
     ensures { methods.new.items ≡ map (renumbered_method remap.now) methods.old.items }
 {
@@ -51,7 +51,7 @@ fn renumber_methods(methods: &mut Vec<Method<'_>>, remap: &Remap)
     }
 }
 
-impl Field {
+impl DeclaredField {
     // Puts for each number of the field the one that it leads to.
     fn renumber(&mut self, remap: &Remap)
         requires { FieldHasPlaces remap.now self.old }
@@ -62,7 +62,7 @@ impl Field {
     }
 }
 
-impl<'a> Method<'a> {
+impl<'a> DeclaredMethod<'a> {
     // Puts for each number of the method the one that it leads to.
     fn renumber(&mut self, remap: &Remap)
         requires { MethodHasPlaces remap.now self.old }

@@ -8,7 +8,7 @@ ghost use Rattle.dexcode.specs.Renumbering.{renumbered_item};
 ghost use Rattle.dexmembers.specs.Renumbering.{renumbered_field, renumbered_method, renumbered_members};
 ghost use Rattle.std.specs.Option.{option_map};
 
-use crate::members::{Field, Members, Method};
+use crate::members::{DeclaredField, DeclaredMethod, Members};
 use dexcode::Code;
 use dexpool::{Remap, SymbolKind};
 use dexval::{AnnotationSet, ends_alike, same_values_mapped};
@@ -45,7 +45,12 @@ fn same_sets(mine: &Remap, sets: &[AnnotationSet], theirs: &Remap, others: &[Ann
 }
 
 // Whether the fields are the same, one for one, their numbers led on.
-fn same_fields(mine: &Remap, fields: &[Field], theirs: &Remap, others: &[Field]) -> bool
+fn same_fields(
+    mine: &Remap,
+    fields: &[DeclaredField],
+    theirs: &Remap,
+    others: &[DeclaredField],
+) -> bool
     ensures { IsTrue result ↔ (map (renumbered_field mine.now) fields.now ≡ map (renumbered_field theirs.now) others.now) }
 {
     if fields.len() != others.len() {
@@ -60,7 +65,12 @@ fn same_fields(mine: &Remap, fields: &[Field], theirs: &Remap, others: &[Field])
 }
 
 // Whether the methods are the same, one for one, their numbers led on.
-fn same_methods(mine: &Remap, methods: &[Method<'_>], theirs: &Remap, others: &[Method<'_>]) -> bool
+fn same_methods(
+    mine: &Remap,
+    methods: &[DeclaredMethod<'_>],
+    theirs: &Remap,
+    others: &[DeclaredMethod<'_>],
+) -> bool
     ensures { IsTrue result ↔ (map (renumbered_method mine.now) methods.now ≡ map (renumbered_method theirs.now) others.now) }
 {
     if methods.len() != others.len() {
@@ -74,9 +84,9 @@ fn same_methods(mine: &Remap, methods: &[Method<'_>], theirs: &Remap, others: &[
     true
 }
 
-impl Field {
+impl DeclaredField {
     // Whether this and another field are the same, their numbers led on.
-    fn same_mapped(&self, mine: &Remap, other: &Field, theirs: &Remap) -> bool
+    fn same_mapped(&self, mine: &Remap, other: &DeclaredField, theirs: &Remap) -> bool
         ensures { IsTrue result ↔ (renumbered_field mine.now self.now ≡ renumbered_field theirs.now other.now) }
     {
         if !ends_alike(SymbolKind::Field, mine, self.number, theirs, other.number) {
@@ -90,9 +100,9 @@ impl Field {
     }
 }
 
-impl<'a> Method<'a> {
+impl<'a> DeclaredMethod<'a> {
     // Whether this and another method are the same, their numbers led on.
-    fn same_mapped(&self, mine: &Remap, other: &Method<'_>, theirs: &Remap) -> bool
+    fn same_mapped(&self, mine: &Remap, other: &DeclaredMethod<'_>, theirs: &Remap) -> bool
         ensures { IsTrue result ↔ (renumbered_method mine.now self.now ≡ renumbered_method theirs.now other.now) }
     {
         if !ends_alike(SymbolKind::Method, mine, self.number, theirs, other.number) {

@@ -5,7 +5,7 @@ ghost use Rattle.std.specs.List.{flat_map};
 ghost use Rattle.dexinsn.specs.Fitting.{IsGreatest};
 ghost use Rattle.dexmembers.specs.Fitting.{MethodFits, NumbersFit, code_short_strings, method_short_strings, members_short_strings};
 
-use crate::members::{Members, Method};
+use crate::members::{DeclaredMethod, Members};
 use dexcode::Code;
 
 // The greater of two numbers, if there are any.
@@ -32,7 +32,7 @@ fn greatest_of_code(code: &Option<Code<'_>>) -> Option<u32>
 }
 
 // The greatest such number in the code of methods.
-fn greatest_of_methods(methods: &[Method<'_>]) -> Option<u32>
+fn greatest_of_methods(methods: &[DeclaredMethod<'_>]) -> Option<u32>
     ensures { IsGreatest (flat_map method_short_strings methods.now) result }
 {
     let mut greatest = None;
@@ -43,7 +43,7 @@ fn greatest_of_methods(methods: &[Method<'_>]) -> Option<u32>
 }
 
 // Each number in the code of methods fits its place.
-fn methods_fit_now(methods: &[Method<'_>])
+fn methods_fit_now(methods: &[DeclaredMethod<'_>])
     ensures { All MethodFits methods.now }
 {
     for method in methods {
@@ -51,7 +51,7 @@ fn methods_fit_now(methods: &[Method<'_>])
     }
 }
 
-impl Method<'_> {
+impl DeclaredMethod<'_> {
     // The greatest such number in the method's code.
     fn greatest_short_string(&self) -> Option<u32>
         ensures { IsGreatest (method_short_strings self.now) result }

@@ -7,10 +7,10 @@ ghost use Rattle.dexmembers.specs.Fitting.{members_short_strings};
 ghost use Rattle.dexmembers.specs.Numbered.{NumberedMembers, members_in, methods_of, AreKnownMembers, AreOrdered, AreOfClass};
 ghost use Rattle.dexmembers.specs.Stripped.{method_tries, stripped_method, stripped_members, strip_members};
 
-use crate::members::{Members, Method};
+use crate::members::{DeclaredMethod, Members};
 
 // Leaves out the debug programs of methods.
-fn drop_debugs(methods: &mut Vec<Method<'_>>)
+fn drop_debugs(methods: &mut Vec<DeclaredMethod<'_>>)
     ensures { methods.new.items ≡ map stripped_method methods.old.items }
 {
     for i in 0..methods.len() {
@@ -18,7 +18,7 @@ fn drop_debugs(methods: &mut Vec<Method<'_>>)
     }
 }
 
-impl<'a> Method<'a> {
+impl<'a> DeclaredMethod<'a> {
     // Leaves out the debug program.
     fn drop_debug(&mut self)
         ensures { self.new ≡ stripped_method self.old }

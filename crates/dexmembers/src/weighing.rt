@@ -11,7 +11,7 @@ ghost use Rattle.dexmembers.specs.Weight.{members_weight};
 ghost use Rattle.dexmembers.specs.RowParts.{contents_in};
 ghost use Rattle.dexmembers.specs.Weighing.{numbered_field_weight, numbered_whole_weight, numbered_method_weight, numbered_members_weight};
 
-use crate::members::{Contents, Field, Members, Method};
+use crate::members::{Contents, DeclaredField, DeclaredMethod, Members};
 use dexcode::{Code, code_meaning_law, code_weight_law, debug_bare_law, debug_meaning_law};
 use dexval::{AnnotationSet, Value, parameter_sets_weight, statics_weight};
 
@@ -50,7 +50,7 @@ fn code_weight(code: &Option<Code<'_>>) -> u64
 }
 
 // What fields weigh.
-fn fields_weight(fields: &[Field]) -> u64
+fn fields_weight(fields: &[DeclaredField]) -> u64
     ensures { result ≡ min (2 ^ 64 - 1) (sum_by numbered_field_weight fields.now) }
 {
     let mut weight: u64 = 0;
@@ -61,7 +61,7 @@ fn fields_weight(fields: &[Field]) -> u64
 }
 
 // What methods weigh.
-fn methods_weight(methods: &[Method<'_>]) -> u64
+fn methods_weight(methods: &[DeclaredMethod<'_>]) -> u64
     ensures { result ≡ min (2 ^ 64 - 1) (sum_by numbered_method_weight methods.now) }
 {
     let mut weight: u64 = 0;
@@ -74,10 +74,10 @@ fn methods_weight(methods: &[Method<'_>]) -> u64
 // What all that a class declares weighs.
 fn whole_weight(
     annotations: &AnnotationSet,
-    static_fields: &[Field],
-    instance_fields: &[Field],
-    direct_methods: &[Method<'_>],
-    virtual_methods: &[Method<'_>],
+    static_fields: &[DeclaredField],
+    instance_fields: &[DeclaredField],
+    direct_methods: &[DeclaredMethod<'_>],
+    virtual_methods: &[DeclaredMethod<'_>],
     static_values: &[Value],
 ) -> u64
     ensures { result ≡ min (2 ^ 64 - 1) (numbered_members_weight (record { annotations = set_of annotations.now; static_fields = static_fields.now; instance_fields = instance_fields.now; direct_methods = direct_methods.now; virtual_methods = virtual_methods.now; static_values = values_of_list (map value_of static_values.now) })) }
@@ -90,7 +90,7 @@ fn whole_weight(
         .saturating_add(values_weight(static_values))
 }
 
-impl Field {
+impl DeclaredField {
     // What the field weighs.
     fn weight(&self) -> u64
         ensures { result ≡ min (2 ^ 64 - 1) (numbered_field_weight self.now) }
@@ -99,7 +99,7 @@ impl Field {
     }
 }
 
-impl<'a> Method<'a> {
+impl<'a> DeclaredMethod<'a> {
     // What the method weighs.
     fn weight(&self) -> u64
         ensures { result ≡ min (2 ^ 64 - 1) (numbered_method_weight self.now) }

@@ -11,7 +11,7 @@ use Rattle.dexcode.specs.Renumbering.{item_uses}
 use Rattle.dexcode.proofs.DebugUses.{all_front}
 use Rattle.dexmembers.specs.Uses.{method_uses}
 use Rattle.dexmembers.proofs.MembersMarked.{rest_marked}
-use Rattle.dexmembers.proofs.members.Method.mark.Goals as goal
+use Rattle.dexmembers.proofs.members.DeclaredMethod.mark.Goals as goal
 
 pub mark-requires : goal.mark-requires
 mark-requires c =

@@ -1,6 +1,6 @@
 use Rattle.std.proofs.Common.{All, sym, subst}
 use Rattle.dexval.specs.Renumbering.{SetHasPlaces}
-use Rattle.dexmembers.proofs.members.Method.renumber.Goals as goal
+use Rattle.dexmembers.proofs.members.DeclaredMethod.renumber.Goals as goal
 
 pub renumber-requires : goal.renumber-requires
 renumber-requires c = subst (λ x. SetHasPlaces c.args.remap.now x.annotations) (sym c.self.view_is) c.requires.annotations_lead

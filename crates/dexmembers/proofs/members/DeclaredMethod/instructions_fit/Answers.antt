@@ -1,6 +1,6 @@
 use Rattle.std.proofs.Common.{◌∙◌, refl, sym, ap}
 use Rattle.dexmembers.proofs.FittingMembers.{SetsPlaced, few_enough, method_decided, bare_placed}
-use Rattle.dexmembers.proofs.members.Method.instructions_fit.Goals as goal
+use Rattle.dexmembers.proofs.members.DeclaredMethod.instructions_fit.Goals as goal
 
 pub returns-in-Some : goal.returns-in-Some
 returns-in-Some c = λ m n into known.

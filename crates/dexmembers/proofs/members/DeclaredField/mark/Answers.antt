@@ -7,7 +7,7 @@ use Rattle.dexval.specs.Code.{set_of}
 use Rattle.dexval.specs.Uses.{set_uses}
 use Rattle.dexmembers.specs.Uses.{field_uses}
 use Rattle.dexmembers.proofs.MembersMarked.{rest_marked}
-use Rattle.dexmembers.proofs.members.Field.mark.Goals as goal
+use Rattle.dexmembers.proofs.members.DeclaredField.mark.Goals as goal
 
 pub mark-requires : goal.mark-requires
 mark-requires c =

@@ -3,6 +3,8 @@ pub mod FieldRows
 pub mod FirstUnits
 pub mod Refusing
 pub mod Steps
+pub mod Spellings
+pub mod KindCounts
 pub mod TypeLists
 pub mod ProtoRows
 pub mod MethodRows

@@ -4,7 +4,7 @@
 /// A row of protos.
 ///
 /// Source: "proto_id_item".
-#[derive(Clone, Copy, Debug, PartialEq, Eq)]
+#[derive(Clone, Copy)]
 pub struct ProtoEntry {
     /// The text of the shorty.
     pub shorty: usize,
@@ -15,7 +15,7 @@ pub struct ProtoEntry {
 }
 
 /// A part of a list that rows share: from `start` on, up to `end`.
-#[derive(Clone, Copy, Debug, PartialEq, Eq)]
+#[derive(Clone, Copy)]
 pub struct Span {
     /// The place of its first number.
     pub start: usize,

@@ -1,5 +1,5 @@
-use Rattle.std.proofs.Common.{[], ◌∷◌, ◌++◌, sym, ap, ◌∙◌, arith}
-use Rattle.std.proofs.lemmas.List.{map_more}
+use Rattle.std.proofs.Common.{[], ◌∷◌, ◌++◌, sym, ap, ◌∙◌, arith, map}
+use Rattle.std.proofs.lemmas.List.{map_more, take_all}
 use Rattle.dexpool.specs.Tables.{type_of}
 use Rattle.dexpool.proofs.symbols.type_names.Goals as goal
 
@@ -9,3 +9,6 @@ loop-i-preserved c =
     c.in_ok-push.ensures.items
     ∙ (λ k. c.loop-i.invariant k ++ (c.in_ok-type_name.ensures ∙ ap (type_of t.strings.items t.types.items) c.at.ensures) k ∷ [])
     ∙ sym (map_more (type_of t.strings.items t.types.items) c.args.types.now c.loop-i.i 0 (omega (arith, c.loop-i-test.true, c.len-i-end.ensures)))
+
+pub returns : goal.returns
+returns c = c.loop-i.invariant ∙ ap (map (type_of c.args.tables.now.strings.items c.args.tables.now.types.items)) (take_all c.loop-i.i c.args.types.now (omega (arith, c.loop-i-test.false, c.len-i-end.ensures)))

@@ -18,7 +18,6 @@ use std::marker::Model;
 /// A class definition. Its types and texts, and the symbols of what it declares, are numbers of a numbering.
 ///
 /// Source: "class_def_item".
-#[derive(Drop)]
 pub struct Class<'a> {
     pub(crate) name: usize,
     pub(crate) flags: u32,
@@ -26,6 +25,20 @@ pub struct Class<'a> {
     pub(crate) interfaces: Vec<usize>,
     pub(crate) source: Option<usize>,
     pub(crate) members: Members<'a>,
+}
+
+// So that a class is let go by one call, in the crates above too.
+impl Drop for Class<'_> {
+    fn drop(self) {
+        let Class {
+            name: _,
+            flags: _,
+            superclass: _,
+            interfaces: _,
+            source: _,
+            members: _,
+        } = self;
+    }
 }
 
 impl<'a> Model for Class<'a> {

@@ -25,11 +25,21 @@ use std::marker::Model;
 ///
 /// It keeps the numbering of just what the classes mention, and the classes with numbers in the place of symbols, by
 /// depth and then by name.
-#[derive(Drop)]
 pub struct Program<'a> {
     pub(crate) numbering: Numbering<'a>,
     pub(crate) classes: Vec<Class<'a>>,
     pub(crate) weight: u64,
+}
+
+// So that a program is let go by one call, in the crates above too.
+impl Drop for Program<'_> {
+    fn drop(self) {
+        let Program {
+            numbering: _,
+            classes: _,
+            weight: _,
+        } = self;
+    }
 }
 
 impl<'a> Model for Program<'a> {
@@ -89,7 +99,11 @@ impl<'a> Program<'a> {
     pub fn into_classes(self) -> Vec<Class<'a>>
         ensures { AreClassesOf self.entry result.items }
     {
-        let Program { classes, .. } = self;
+        let Program {
+            numbering: _,
+            classes,
+            weight: _,
+        } = self;
         classes
     }
 
@@ -101,7 +115,7 @@ impl<'a> Program<'a> {
         let Program {
             numbering,
             classes,
-            ..
+            weight: _,
         } = self;
         (numbering, classes)
     }

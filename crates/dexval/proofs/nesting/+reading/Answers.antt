@@ -1,12 +1,14 @@
-use Rattle.std.proofs.Common.{◌≡◌, ◌∙◌, ◌+◌, ◌∷◌, ◌++◌, ℕ, List, [], map, sym, ap, subst, arith}
+use Rattle.std.proofs.Common.{◌≡◌, ◌∙◌, ◌+◌, ◌∷◌, ◌++◌, ℕ, List, [], map, refl, sym, ap, subst, arith}
 use Rattle.std.proofs.lemmas.List.{map-append}
 use Rattle.dexval.specs.Code.{value_of, element_of}
 use Rattle.dexval.specs.Numbered.{NumberedValue, values_of_list, elements_of_list}
 use Rattle.dexval.specs.Scalars.{IsReadAt}
+use Rattle.dexval.specs.Nesting.{IsElementReadAt}
 use Rattle.dexval.proofs.CodeForms.{array_is, annotation_is, element_is}
 use Rattle.dexval.proofs.NestedRead.{ok_no_err, nothing_behind, no_deep_array, no_deep_annotation, array_stands, no_array, annotation_stands, no_annotation, deeper}
 use Rattle.dexval.proofs.ValuesRead.{HaveRead, one_more, no_next, no_count, no_values, all_read}
-use Rattle.dexval.proofs.ElementsRead.{HaveReadOf, one_element_more, no_next_element, all_elements_read, no_name, no_value, no_type, no_element_count, no_elements, annotation_read}
+use Rattle.dexval.proofs.ElementsRead.{HaveReadOf, no_such_name, no_such_type, one_element_more, no_next_element, all_elements_read, no_name, no_value, no_type, no_element_count, no_elements, annotation_read}
+use Rattle.dexval.proofs.nesting.+reading.Goals.{element_at-then-from-least-via-then-from-least, element_at-then-from-least-via-else-from-least+then-name-len}
 use Rattle.dexval.proofs.nesting.+reading.Goals as goal
 
 pub annotation_at-returns-in-Some-clause-read : goal.annotation_at-returns-in-Some-clause-read
@@ -133,3 +135,31 @@ value_at-returns-in-None-2-clause-read t c = λ p.
 
 pub value_at-returns-in_default-clause-read : goal.value_at-returns-in_default-clause-read
 value_at-returns-in_default-clause-read t c = λ p. deeper c.args.bytes.now c.args.at c.args.depth c.args.pools.now p.pools _ _ c.scalar_at.result (c.scalar_at.ensures.read p.pools)
+
+pub annotation_at-returns-then-typ-len-clause-read : goal.annotation_at-returns-then-typ-len-clause-read
+annotation_at-returns-then-typ-len-clause-read t c = λ p.
+    no_such_type c.args.bytes.now c.args.pools.now p c.args.at c.args.depth c.in-Ok.read.0 c.in-Ok.read.1 c.in-Ok.ensures.found (λ known. absurd (omega (arith, known, c.len.ensures)))
+
+pub element_at-returns-then-from-least-clause-read : goal.element_at-returns-then-from-least-clause-read
+element_at-returns-then-from-least-clause-read t c = λ p.
+    no_such_name c.args.bytes.now c.args.pools.now p c.args.at c.args.depth c.args.least c.in-Ok.read.0 c.in-Ok.read.1 c.in-Ok.ensures.found
+    (λ above known.
+    elim c.then-from-least.branch [
+      | element_at-then-from-least-via-then-from-least w ↦ absurd (omega (arith, above, c.from.ensures, w.if-from-least.true))
+      | element_at-then-from-least-via-else-from-least+then-name-len w ↦ absurd (omega (arith, known, w.len.ensures, w.if-name-len.true))
+    ])
+
+pub element_at-returns-in-Some-clause-read : goal.element_at-returns-in-Some-clause-read
+element_at-returns-in-Some-clause-read t c = λ p.
+    let h = c.in_ok-value.ensures.read p in
+    let r = rw c.in-Some.is at h in
+    subst (λ (e : ℕ × NumberedValue). IsElementReadAt c.args.bytes.now c.args.at c.args.pools.now c.args.depth c.args.least e (c.in-Ok.read.1 + c.in-Some.size)) (sym (element_is _))
+    (record {
+      head = c.in-Ok.read.1;
+      size = c.in-Some.size;
+      index = c.in-Ok.ensures.found;
+      name_known = omega (arith, c.len.ensures, c.if-name-len.false);
+      above = omega (arith, c.from.ensures, c.if-from-least.false);
+      value = r;
+      sum = refl;
+    })

@@ -1,7 +1,9 @@
-use Rattle.std.proofs.Common.{rules, map, ap, ◌∙◌, arith}
+use Rattle.std.proofs.Common.{rules, map, ap, sym, subst, ◌∙◌, arith}
+use Rattle.dexpool.specs.declared.symbols.SymbolKind.TheVariants as kinds
 use Rattle.dexval.specs.Code.{value_of, element_of}
 use Rattle.dexval.specs.Numbered.{values_of_list, elements_of_list}
-use Rattle.dexval.specs.Renumbering.{renumbered, renumbered_element, HasPlaces, ElementHasPlaces}
+use Rattle.dexval.specs.Renumbering.{renumbered, renumbered_element, LeadsOn, HasPlaces, ElementHasPlaces}
+use Rattle.dexval.proofs.CodeForms.{string_is, typ_is, field_is, method_is, enum_is, annotation_is}
 use Rattle.dexval.proofs.Members.{value_lighter, element_lighter}
 use Rattle.dexval.proofs.Renumbered.{next_is, next_member, all_led, led_more, values_placed, elements_placed, values_renumbered, elements_renumbered}
 use Rattle.dexval.proofs.+renumbering.Goals as goal
@@ -45,3 +47,33 @@ renumbering::renumber_values-returns t c =
     let r = c.args.remap.now in
     let old = c.args.values.now.items in
     ap values_of_list (all_led value_of (renumbered r) old c.loop-i.values.items c.loop-i.i c.loop-i.invariant (omega arith)) ∙ values_renumbered r (map value_of old)
+
+pub value::Value::renumber-led-requires : goal.value::Value::renumber-led-requires
+value::Value::renumber-led-requires t c =
+    let leads = subst (HasPlaces c.args.remap.now) (ap value_of c.in-String.is ∙ string_is c.in-String.number) c.requires in
+    subst (LeadsOn c.args.remap.now kinds.Text) (sym c.in-String.number-is) leads
+
+pub value::Value::renumber-led-requires-in-Typ : goal.value::Value::renumber-led-requires-in-Typ
+value::Value::renumber-led-requires-in-Typ t c =
+    let leads = subst (HasPlaces c.args.remap.now) (ap value_of c.in-Typ.is ∙ typ_is c.in-Typ.number) c.requires in
+    subst (LeadsOn c.args.remap.now kinds.Typ) (sym c.in-Typ.number-is) leads
+
+pub value::Value::renumber-led-requires-in-Field : goal.value::Value::renumber-led-requires-in-Field
+value::Value::renumber-led-requires-in-Field t c =
+    let leads = subst (HasPlaces c.args.remap.now) (ap value_of c.in-Field.is ∙ field_is c.in-Field.number) c.requires in
+    subst (LeadsOn c.args.remap.now kinds.Field) (sym c.in-Field.number-is) leads
+
+pub value::Value::renumber-led-requires-in-Method : goal.value::Value::renumber-led-requires-in-Method
+value::Value::renumber-led-requires-in-Method t c =
+    let leads = subst (HasPlaces c.args.remap.now) (ap value_of c.in-Method.is ∙ method_is c.in-Method.number) c.requires in
+    subst (LeadsOn c.args.remap.now kinds.Method) (sym c.in-Method.number-is) leads
+
+pub value::Value::renumber-led-requires-in-Enum : goal.value::Value::renumber-led-requires-in-Enum
+value::Value::renumber-led-requires-in-Enum t c =
+    let leads = subst (HasPlaces c.args.remap.now) (ap value_of c.in-Enum.is ∙ enum_is c.in-Enum.number) c.requires in
+    subst (LeadsOn c.args.remap.now kinds.Field) (sym c.in-Enum.number-is) leads
+
+pub value::Value::renumber-led-requires-in-Annotation : goal.value::Value::renumber-led-requires-in-Annotation
+value::Value::renumber-led-requires-in-Annotation t c =
+    let leads = subst (HasPlaces c.args.remap.now) (ap value_of c.in-Annotation.is ∙ annotation_is c.in-Annotation.typ c.in-Annotation.elements) c.requires in
+    subst (LeadsOn c.args.remap.now kinds.Typ) (sym c.in-Annotation.typ-is) leads.0

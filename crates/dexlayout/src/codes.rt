@@ -10,7 +10,7 @@ ghost use Rattle.dexlayout.specs.Sizes.{class_code_sizes, code_size};
 use crate::offsets::{Offsets, round_up};
 use dexclass::Class;
 use dexcode::code_bytes_law;
-use dexmembers::Method;
+use dexmembers::{Method, Methods};
 use std::alloc::{AllocError, Global};
 
 /// Where the code of each method of each class stands, the direct ones first, behind the debug programs, of which it has the offsets.
@@ -40,23 +40,23 @@ fn place_class(class: &Class<'_>, places: &mut Offsets) -> Result<(), AllocError
     ensures { OnOk result (places.new ≡ place_uses 4 places.old (class_code_sizes class.now)) }
 {
     let members = class.members();
-    place_methods(members.direct_methods(), places)?;
-    place_methods(members.virtual_methods(), places)
+    place_methods(&members.direct_methods(), places)?;
+    place_methods(&members.virtual_methods(), places)
 }
 
 // That of methods.
-fn place_methods(methods: &[Method<'_>], places: &mut Offsets) -> Result<(), AllocError>
+fn place_methods(methods: &Methods<'_, '_>, places: &mut Offsets) -> Result<(), AllocError>
     requires { (place_uses 4 places.old (map code_size methods.now)).end ≤ 2 ^ 30 }
     ensures { OnOk result (places.new ≡ place_uses 4 places.old (map code_size methods.now)) }
 {
-    for method in methods {
-        place_code(method, places)?;
+    for i in 0..methods.len() {
+        place_code(&methods.get(i), places)?;
     }
     Ok(())
 }
 
 // That of one method.
-fn place_code(method: &Method<'_>, places: &mut Offsets) -> Result<(), AllocError>
+fn place_code(method: &Method<'_, '_>, places: &mut Offsets) -> Result<(), AllocError>
     requires { (place_use 4 places.old (code_size method.now)).end ≤ 2 ^ 30 }
     ensures { OnOk result (places.new ≡ place_use 4 places.old (code_size method.now)) }
 {

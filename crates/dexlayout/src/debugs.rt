@@ -15,7 +15,7 @@ use crate::offsets::Offsets;
 use crate::sharing::{Shared, Sharing, place_shared};
 use dexclass::Class;
 use dexcode::{Debug, debug_equality_law};
-use dexmembers::{Members, Method};
+use dexmembers::{Members, Method, Methods};
 use std::alloc::{AllocError, Global};
 use std::marker::Model;
 
@@ -58,7 +58,7 @@ impl<'p> DebugPrograms<'p> {
 }
 
 // The debug program of a method, if it has one.
-fn debug_of<'p>(method: &'p Method<'_>) -> Option<&'p Debug>
+fn debug_of<'p>(method: &Method<'p, '_>) -> Option<&'p Debug>
     ensures { MatchOption result (debug_of method.now ≡ None) (λ debug. debug_of method.now ≡ Some debug.now) }
 {
     match method.code() {
@@ -70,12 +70,12 @@ fn debug_of<'p>(method: &'p Method<'_>) -> Option<&'p Debug>
 // Adds the uses of methods.
 fn add_debugs<'p>(
     sharing: &mut Sharing<&'p Debug>,
-    methods: &'p [Method<'_>],
+    methods: &Methods<'p, '_>,
 ) -> Result<(), AllocError>
     ensures { (m : Mentions) (uses : List (Option DebugMeant)) → All (IsKnownMethod m) methods.now → SharesDebugs m uses sharing.old.items.keys sharing.old.numbers.items → OnOk result (SharesDebugs m (uses ++ debugs_uses m methods.now) sharing.new.items.keys sharing.new.numbers.items) }
 {
     for i in 0..methods.len() {
-        sharing.add(debug_of(&methods[i]))?;
+        sharing.add(debug_of(&methods.get(i)))?;
     }
     Ok(())
 }
@@ -87,8 +87,8 @@ fn add_members<'p>(
 ) -> Result<(), AllocError>
     ensures { (m : Mentions) (uses : List (Option DebugMeant)) → AreKnownMembers m members.now → SharesDebugs m uses sharing.old.items.keys sharing.old.numbers.items → OnOk result (SharesDebugs m (uses ++ debugs_uses m (methods_of members.now)) sharing.new.items.keys sharing.new.numbers.items) }
 {
-    add_debugs(sharing, members.direct_methods())?;
-    add_debugs(sharing, members.virtual_methods())
+    add_debugs(sharing, &members.direct_methods())?;
+    add_debugs(sharing, &members.virtual_methods())
 }
 
 // The debug programs that methods share.

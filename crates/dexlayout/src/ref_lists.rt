@@ -9,13 +9,12 @@ ghost use Rattle.dexlayout.specs.Running.{place_use, place_uses};
 
 use crate::offsets::{Offsets, round_up};
 use dexclass::Class;
-use dexmembers::Method;
+use dexmembers::{Method, Methods};
 use dexpool::Numbering;
-use dexval::ref_list_size;
 use std::alloc::{AllocError, Global};
 
 // Places the list of a method behind those that stand, unless it is empty.
-fn place_list(method: &Method<'_>, places: &mut Offsets) -> Result<(), AllocError>
+fn place_list(method: &Method<'_, '_>, places: &mut Offsets) -> Result<(), AllocError>
     requires { (place_use 4 places.old (list_size (length method.now.parameter_annotations))).end ≤ 2 ^ 30 }
     ensures { OnOk result (places.new ≡ place_use 4 places.old (list_size (length method.now.parameter_annotations))) }
 {
@@ -23,16 +22,16 @@ fn place_list(method: &Method<'_>, places: &mut Offsets) -> Result<(), AllocErro
     if sets.is_empty() {
         return places.pass();
     }
-    places.put_at(round_up(places.end()), ref_list_size(sets) as u32)
+    places.put_at(round_up(places.end()), sets.list_size() as u32)
 }
 
 // Places the lists of methods.
-fn place_lists(methods: &[Method<'_>], places: &mut Offsets) -> Result<(), AllocError>
+fn place_lists(methods: &Methods<'_, '_>, places: &mut Offsets) -> Result<(), AllocError>
     requires { (place_uses 4 places.old (list_sizes methods.now)).end ≤ 2 ^ 30 }
     ensures { OnOk result (places.new ≡ place_uses 4 places.old (list_sizes methods.now)) }
 {
-    for method in methods {
-        place_list(method, places)?;
+    for i in 0..methods.len() {
+        place_list(&methods.get(i), places)?;
     }
     Ok(())
 }
@@ -43,8 +42,8 @@ fn place_class_lists(class: &Class<'_>, places: &mut Offsets) -> Result<(), Allo
     ensures { OnOk result (places.new ≡ place_uses 4 places.old (list_sizes (methods_of class.now.members))) }
 {
     let members = class.members();
-    place_lists(members.direct_methods(), places)?;
-    place_lists(members.virtual_methods(), places)
+    place_lists(&members.direct_methods(), places)?;
+    place_lists(&members.virtual_methods(), places)
 }
 
 /// Where the list of the sets of the parameters of each method stands, behind the sets. Memory is taken for so many methods at

@@ -13,7 +13,7 @@ use crate::class_data::field_count;
 use crate::offsets::{Offsets, round_up};
 use crate::sharing::place_shared;
 use dexclass::Class;
-use dexmembers::Method;
+use dexmembers::Methods;
 use dexpool::Numbering;
 use dexval::{AnnotationSet, set_size};
 use std::alloc::{AllocError, Global};
@@ -121,7 +121,7 @@ impl Sets {
     // Adds the offsets of the sets of methods, and answers those that are left.
     fn gather_methods<'o>(
         &mut self,
-        methods: &[Method<'_>],
+        methods: &Methods<'_, '_>,
         offs: &'o [u32],
     ) -> Result<&'o [u32], AllocError>
         requires { length (flat_map sets_of_method methods.now) ≤ length offs.now }
@@ -129,8 +129,9 @@ impl Sets {
         ensures left { IfOk result (λ rest. rest.now ≡ drop (length (flat_map sets_of_method methods.now)) offs.now) }
     {
         let mut rest = offs;
-        for method in methods {
-            let (sets, behind) = rest.split_at(1 + method.parameter_annotations().len());
+        for i in 0..methods.len() {
+            let parameters = methods.get(i).parameter_annotations();
+            let (sets, behind) = rest.split_at(1 + parameters.len());
             self.gather_method(sets)?;
             rest = behind;
         }
@@ -151,8 +152,8 @@ impl Sets {
         let (_, rest) = offs.split_at(1);
         let (fields, rest) = rest.split_at(field_count(members));
         self.gather_own(offs[0], fields)?;
-        let rest = self.gather_methods(members.direct_methods(), rest)?;
-        self.gather_methods(members.virtual_methods(), rest)
+        let rest = self.gather_methods(&members.direct_methods(), rest)?;
+        self.gather_methods(&members.virtual_methods(), rest)
     }
 }
 

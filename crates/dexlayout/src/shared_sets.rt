@@ -1,44 +1,43 @@
 //! Annotation sets, of which equal ones are written once.
 
-ghost use Rattle.std.specs.Prelude.{◌∷◌, [], ◌++◌, All, IfOk, List, OnOk, Option, map};
+ghost use Rattle.std.specs.Prelude.{◌≡◌, ◌∷◌, [], ◌++◌, All, IfOk, List, MatchOption, OnOk, Option, map};
 ghost use Rattle.dexspec.specs.Annotations.{AnnotationSet as SetMeant};
 ghost use Rattle.dexspec.specs.Canonical.{set_items};
 ghost use Rattle.dexspec.specs.Mentions.{Mentions};
 ghost use Rattle.dexval.specs.Code.{set_of};
-ghost use Rattle.dexval.specs.Numbered.{IsKnownSet, set_in};
+ghost use Rattle.dexval.specs.Numbered.{NumberedSet, IsKnownSet, set_in};
 ghost use Rattle.dexmembers.specs.Numbered.{AreKnownMembers, IsKnownField, IsKnownMethod};
 ghost use Rattle.dexlayout.specs.Laid.{AreShared, AreWritable, ordered_of};
 ghost use Rattle.dexlayout.specs.SharedUses.{SharesSets, set_use, field_uses, members_uses, method_uses, methods_uses};
 
 use crate::sharing::{Shared, Sharing};
 use dexclass::Class;
-use dexmembers::{Field, Members, Method};
+use dexmembers::{Fields, Members, Method, Methods, ParameterSets};
 use dexval::AnnotationSet;
 use std::alloc::{AllocError, Global};
 
-// Adds a use of a set, which has no item where the set is empty.
+// Adds a use of a set, which has no item where there is none or it is empty.
 fn add_set<'p>(
     sharing: &mut Sharing<&'p AnnotationSet>,
-    set: &'p AnnotationSet,
+    set: Option<&'p AnnotationSet>,
 ) -> Result<(), AllocError>
-    ensures { (m : Mentions) (uses : List (Option SetMeant)) → IsKnownSet m (set_of set.now) → SharesSets m uses sharing.old.items.keys sharing.old.numbers.items → OnOk result (SharesSets m (uses ++ set_use m (set_of set.now) ∷ []) sharing.new.items.keys sharing.new.numbers.items) }
+    ensures { (m : Mentions) (uses : List (Option SetMeant)) (meant : NumberedSet) → MatchOption set.entry (meant ≡ []) (λ s. set_of s.now ≡ meant) → IsKnownSet m meant → SharesSets m uses sharing.old.items.keys sharing.old.numbers.items → OnOk result (SharesSets m (uses ++ set_use m meant ∷ []) sharing.new.items.keys sharing.new.numbers.items) }
 {
-    if set.is_empty() {
-        sharing.add(None)
-    } else {
-        sharing.add(Some(set))
+    match set {
+        Some(set) if !set.is_empty() => sharing.add(Some(set)),
+        _ => sharing.add(None),
     }
 }
 
-// Adds the uses of sets.
+// Adds the uses of the sets of a method's parameters.
 fn add_sets<'p>(
     sharing: &mut Sharing<&'p AnnotationSet>,
-    sets: &'p [AnnotationSet],
+    sets: &ParameterSets<'p>,
 ) -> Result<(), AllocError>
-    ensures { (m : Mentions) (uses : List (Option SetMeant)) → All (λ s. IsKnownSet m (set_of s)) sets.now → SharesSets m uses sharing.old.items.keys sharing.old.numbers.items → OnOk result (SharesSets m (uses ++ map (λ s. set_use m (set_of s)) sets.now) sharing.new.items.keys sharing.new.numbers.items) }
+    ensures { (m : Mentions) (uses : List (Option SetMeant)) → All (IsKnownSet m) sets.now → SharesSets m uses sharing.old.items.keys sharing.old.numbers.items → OnOk result (SharesSets m (uses ++ map (set_use m) sets.now) sharing.new.items.keys sharing.new.numbers.items) }
 {
     for i in 0..sets.len() {
-        add_set(sharing, &sets[i])?;
+        add_set(sharing, sets.get(i))?;
     }
     Ok(())
 }
@@ -46,12 +45,12 @@ fn add_sets<'p>(
 // Adds the uses of the sets of fields.
 fn add_fields<'p>(
     sharing: &mut Sharing<&'p AnnotationSet>,
-    fields: &'p [Field],
+    fields: &Fields<'p>,
 ) -> Result<(), AllocError>
     ensures { (m : Mentions) (uses : List (Option SetMeant)) → All (IsKnownField m) fields.now → SharesSets m uses sharing.old.items.keys sharing.old.numbers.items → OnOk result (SharesSets m (uses ++ field_uses m fields.now) sharing.new.items.keys sharing.new.numbers.items) }
 {
     for i in 0..fields.len() {
-        add_set(sharing, fields[i].annotations())?;
+        add_set(sharing, fields.get(i).annotations())?;
     }
     Ok(())
 }
@@ -59,23 +58,23 @@ fn add_fields<'p>(
 // Adds the uses of a method's own set and of those of its parameters.
 fn add_method<'p>(
     sharing: &mut Sharing<&'p AnnotationSet>,
-    method: &'p Method<'_>,
+    method: &Method<'p, '_>,
 ) -> Result<(), AllocError>
     ensures { (m : Mentions) (uses : List (Option SetMeant)) → IsKnownMethod m method.now → SharesSets m uses sharing.old.items.keys sharing.old.numbers.items → OnOk result (SharesSets m (uses ++ method_uses m method.now) sharing.new.items.keys sharing.new.numbers.items) }
 {
     add_set(sharing, method.annotations())?;
-    add_sets(sharing, method.parameter_annotations())
+    add_sets(sharing, &method.parameter_annotations())
 }
 
 // Adds the uses of the sets of methods.
 fn add_methods<'p>(
     sharing: &mut Sharing<&'p AnnotationSet>,
-    methods: &'p [Method<'_>],
+    methods: &Methods<'p, '_>,
 ) -> Result<(), AllocError>
     ensures { (m : Mentions) (uses : List (Option SetMeant)) → All (IsKnownMethod m) methods.now → SharesSets m uses sharing.old.items.keys sharing.old.numbers.items → OnOk result (SharesSets m (uses ++ methods_uses m methods.now) sharing.new.items.keys sharing.new.numbers.items) }
 {
     for i in 0..methods.len() {
-        add_method(sharing, &methods[i])?;
+        add_method(sharing, &methods.get(i))?;
     }
     Ok(())
 }
@@ -88,10 +87,10 @@ fn add_members<'p>(
     ensures { (m : Mentions) (uses : List (Option SetMeant)) → AreKnownMembers m members.now → SharesSets m uses sharing.old.items.keys sharing.old.numbers.items → OnOk result (SharesSets m (uses ++ members_uses m members.now) sharing.new.items.keys sharing.new.numbers.items) }
 {
     add_set(sharing, members.annotations())?;
-    add_fields(sharing, members.static_fields())?;
-    add_fields(sharing, members.instance_fields())?;
-    add_methods(sharing, members.direct_methods())?;
-    add_methods(sharing, members.virtual_methods())
+    add_fields(sharing, &members.static_fields())?;
+    add_fields(sharing, &members.instance_fields())?;
+    add_methods(sharing, &members.direct_methods())?;
+    add_methods(sharing, &members.virtual_methods())
 }
 
 /// The sets that are written, each once, in the order of their first use, and for each use the number of its set, if it has

@@ -19,7 +19,7 @@ pub place_methods-requires : goal.place_methods-requires
 place_methods-requires c =
     let x = c.args.class.now.members in
     let p = c.args.places.now in
-    let ds = c.direct_methods.result.now in
+    let ds = c.direct_methods.result in
     let ed = c.direct_methods.ensures ∙ ap (λ (y : NumberedMembers). y.direct_methods) c.members-members.ensures in
     let all = ap (λ (q : ItemPlaces). q.end) (two_lists p ds x.virtual_methods x.direct_methods x.virtual_methods ed refl) in
     omega (arith, all, place_grows 4 (place_uses 4 p (map code_size ds)) (map code_size x.virtual_methods), c.requires)
@@ -28,8 +28,8 @@ pub place_methods-requires-2 : goal.place_methods-requires-2
 place_methods-requires-2 c =
     let x = c.args.class.now.members in
     let p = c.args.places.now in
-    let ds = c.direct_methods.result.now in
-    let vs = c.virtual_methods.result.now in
+    let ds = c.direct_methods.result in
+    let vs = c.virtual_methods.result in
     let ed = c.direct_methods.ensures ∙ ap (λ (y : NumberedMembers). y.direct_methods) c.members-members.ensures in
     let ev = c.virtual_methods.ensures ∙ ap (λ (y : NumberedMembers). y.virtual_methods) c.members-members.ensures in
     let all = ap (λ (q : ItemPlaces). q.end) (ap (λ q. place_uses 4 q (map code_size vs)) c.in_ok-place_methods.ensures ∙ two_lists p ds vs x.direct_methods x.virtual_methods ed ev) in
@@ -40,6 +40,6 @@ returns c =
     let x = c.args.class.now.members in
     let ed = c.direct_methods.ensures ∙ ap (λ (y : NumberedMembers). y.direct_methods) c.members-members.ensures in
     let ev = c.virtual_methods.ensures ∙ ap (λ (y : NumberedMembers). y.virtual_methods) c.members-members.ensures in
-    let both = ap (λ q. place_uses 4 q (map code_size c.virtual_methods.result.now)) c.in_ok-place_methods.ensures
-    ∙ two_lists c.args.places.now c.direct_methods.result.now c.virtual_methods.result.now x.direct_methods x.virtual_methods ed ev in
+    let both = ap (λ q. place_uses 4 q (map code_size c.virtual_methods.result)) c.in_ok-place_methods.ensures
+    ∙ two_lists c.args.places.now c.direct_methods.result c.virtual_methods.result x.direct_methods x.virtual_methods ed ev in
     on_ok_weaker c.place_methods-2.result (λ f. f ∙ both) c.place_methods-2.ensures

@@ -5,4 +5,4 @@ use Rattle.dexlayout.proofs.codes.place_methods.Goals as goal
 
 pub place_code-requires : goal.place_code-requires
 place_code-requires c =
-    omega (arith, left_fits 4 code_size c.loop-method.places c.args.methods.now c.loop-method.method-index c.method-item.result c.loop-method-test.true (sym c.method-item.is) c.loop-method.invariant, c.requires)
+    omega (arith, left_fits 4 code_size c.loop-i.places c.args.methods.now c.loop-i.i c.get.result (omega (arith, c.loop-i-test.true, c.len-i-end.ensures)) (sym c.get.ensures) c.loop-i.invariant, c.requires)

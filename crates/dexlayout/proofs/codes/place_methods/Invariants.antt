@@ -3,5 +3,5 @@ use Rattle.dexlayout.specs.Running.{place_uses}
 use Rattle.dexlayout.specs.Sizes.{code_size}
 use Rattle.dexlayout.proofs.codes.place_methods.Given as goal
 
-abbrev pub invariant-loop-method : goal.invariant-loop-method
-invariant-loop-method l = place_uses 4 l.places (map code_size (drop l.method-index l.methods)) ≡ place_uses 4 l.fn.places (map code_size l.methods)
+abbrev pub invariant-loop-i : goal.invariant-loop-i
+invariant-loop-i l = place_uses 4 l.places (map code_size (drop l.i l.methods)) ≡ place_uses 4 l.fn.places (map code_size l.methods)

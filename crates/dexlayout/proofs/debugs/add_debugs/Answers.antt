@@ -1,4 +1,4 @@
-use Rattle.std.proofs.Common.{◌≡◌, Option, Some, None, Ok, sym, ap, subst, Bor}
+use Rattle.std.proofs.Common.{◌≡◌, Option, Some, None, Ok, sym, ap, subst, arith, Bor}
 use Rattle.std.specs.Prelude.{IfSome, MatchOption, Result}
 use Rattle.std.specs.Option.{option_map, option_map_or}
 use Rattle.dexspec.specs.Mentions.{Mentions}
@@ -28,12 +28,12 @@ pub loop-i-preserved : goal.loop-i-preserved
 loop-i-preserved c = λ m uses known h.
     let xs = c.args.methods.now in
     let i = c.loop-i.i in
-    let x = c.index-methods-i.result in
-    let here : IsKnownMethod m x = subst (IsKnownMethod m) (sym c.index-methods-i.is) (known i x c.loop-i-test.true) in
+    let x = c.get.result in
+    let here : IsKnownMethod m x = subst (IsKnownMethod m) (sym c.get.ensures) (known i x (omega (arith, c.loop-i-test.true, c.len-i-end.ensures))) in
     let o = c.debug_of.result in
     let u = option_map (debug_in m) (debug_of x) in
     let done : Result (Unit {0}) (Unit {0}) = Ok tt in
     subst (λ us. SharesDebugs m us c.add.new.self.items.keys c.add.new.self.numbers.items)
-    (uses_next (λ (y : NumberedMethod). option_map (debug_in m) (debug_of y)) uses xs i x c.loop-i-test.true (sym c.index-methods-i.is))
+    (uses_next (λ (y : NumberedMethod). option_map (debug_in m) (debug_of y)) uses xs i x (omega (arith, c.loop-i-test.true, c.len-i-end.ensures)) (sym c.get.ensures))
     (shared_use (c.loop-i.invariant m uses known h) done _ _ o u (lent_known m o (debug_of x) c.debug_of.ensures (code_debug_known m x.code here.code_known)) (lent_means m o (debug_of x) c.debug_of.ensures)
     (c.in_ok-add.ensures (c.loop-i.invariant m uses known h).used (c.loop-i.invariant m uses known h).items))

@@ -12,10 +12,10 @@ returns c = λ m uses known h.
     let x = c.args.members.now in
     let dm = c.direct_methods.ensures in
     let vm = c.virtual_methods.ensures in
-    let us0 = uses ++ debugs_uses m c.direct_methods.result.now in
+    let us0 = uses ++ debugs_uses m c.direct_methods.result in
     let s0 = c.in_ok-add_debugs.ensures m uses (subst (All (IsKnownMethod m)) (sym dm) known.direct_methods_known) h in
     subst (λ us. OnOk c.add_debugs-2.result (SharesDebugs m us c.add_debugs-2.new.sharing.items.keys c.add_debugs-2.new.sharing.numbers.items))
-    (append_assoc uses (debugs_uses m c.direct_methods.result.now) (debugs_uses m c.virtual_methods.result.now)
+    (append_assoc uses (debugs_uses m c.direct_methods.result) (debugs_uses m c.virtual_methods.result)
     ∙ (λ i. uses ++ (debugs_uses m (dm i) ++ debugs_uses m (vm i)))
     ∙ ap (λ us. uses ++ us) (sym (map-append (λ (y : NumberedMethod). option_map (debug_in m) (debug_of y)) x.direct_methods x.virtual_methods)))
     (c.add_debugs-2.ensures m us0 (subst (All (IsKnownMethod m)) (sym vm) known.virtual_methods_known) s0)

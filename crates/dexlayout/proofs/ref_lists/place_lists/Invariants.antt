@@ -4,5 +4,5 @@ use Rattle.dexlayout.specs.Running.{place_uses}
 use Rattle.dexlayout.proofs.ref_lists.place_lists.Given as goal
 
 -- what is still to be placed leads to all
-abbrev pub invariant-loop-method : goal.invariant-loop-method
-invariant-loop-method l = place_uses 4 l.places (list_sizes (drop l.method-index l.methods)) ≡ place_uses 4 l.fn.places (list_sizes l.methods)
+abbrev pub invariant-loop-i : goal.invariant-loop-i
+invariant-loop-i l = place_uses 4 l.places (list_sizes (drop l.i l.methods)) ≡ place_uses 4 l.fn.places (list_sizes l.methods)

@@ -4,9 +4,9 @@ use Rattle.dexlayout.specs.Gathering.{sets_of_method, parts_of_methods, gather_m
 use Rattle.dexlayout.proofs.sets.Sets.gather_methods.Given as goal
 
 -- what is left leads to all
-abbrev pub invariant-loop-method : goal.invariant-loop-method
-invariant-loop-method l = record {
-  gathered : gather_methods l.self (parts_of_methods (drop l.method-index l.methods) l.rest) ≡ gather_methods l.fn.self (parts_of_methods l.methods l.offs);
-  left : drop (length (flat_map sets_of_method (drop l.method-index l.methods))) l.rest ≡ drop (length (flat_map sets_of_method l.methods)) l.offs;
-  enough : length (flat_map sets_of_method (drop l.method-index l.methods)) ≤ length l.rest;
+abbrev pub invariant-loop-i : goal.invariant-loop-i
+invariant-loop-i l = record {
+  gathered : gather_methods l.self (parts_of_methods (drop l.i l.methods) l.rest) ≡ gather_methods l.fn.self (parts_of_methods l.methods l.offs);
+  left : drop (length (flat_map sets_of_method (drop l.i l.methods))) l.rest ≡ drop (length (flat_map sets_of_method l.methods)) l.offs;
+  enough : length (flat_map sets_of_method (drop l.i l.methods)) ≤ length l.rest;
 }

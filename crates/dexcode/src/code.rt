@@ -12,7 +12,6 @@ use std::marker::Model;
 /// program. Its symbols are numbers, and contracts see them so.
 ///
 /// Source: "code_item".
-#[derive(Drop)]
 pub struct Code<'a> {
     /// The numbers of registers, and the instructions and payloads.
     pub(crate) pieces: Pieces<'a>,
@@ -20,6 +19,17 @@ pub struct Code<'a> {
     pub(crate) tries: Tries,
     /// The debug program, if there is one.
     pub(crate) debug: Option<Debug>,
+}
+
+// So that code is let go by one call, in the crates above too.
+impl Drop for Code<'_> {
+    fn drop(self) {
+        let Code {
+            pieces: _,
+            tries: _,
+            debug: _,
+        } = self;
+    }
 }
 
 impl<'a> Model for Code<'a> {

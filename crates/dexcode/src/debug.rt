@@ -9,7 +9,6 @@ use std::marker::Model;
 /// numbers, and contracts see them so.
 ///
 /// Source: "debug_info_item".
-#[derive(Drop)]
 pub struct Debug {
     /// The initial value of the line register.
     pub(crate) line_start: u32,
@@ -17,6 +16,17 @@ pub struct Debug {
     pub(crate) parameter_names: Vec<Option<u32>>,
     /// The operations, without `DBG_END_SEQUENCE`.
     pub(crate) operations: Vec<Operation>,
+}
+
+// So that a debug program is let go by one call.
+impl Drop for Debug {
+    fn drop(self) {
+        let Debug {
+            line_start: _,
+            parameter_names: _,
+            operations: _,
+        } = self;
+    }
 }
 
 impl Model for Debug {

@@ -26,12 +26,21 @@ pub struct Try {
 /// handlers.
 ///
 /// Source: "try_item" and "encoded_catch_handler_list".
-#[derive(Drop)]
 pub struct Tries {
     /// The tries, each with the number of its handler.
     pub(crate) tries: Vec<Try>,
     /// The handlers that they name, each once.
     pub(crate) handlers: Vec<Handler>,
+}
+
+// So that tries are let go by one call.
+impl Drop for Tries {
+    fn drop(self) {
+        let Tries {
+            tries: _,
+            handlers: _,
+        } = self;
+    }
 }
 
 impl Model for Tries {

@@ -1,13 +1,12 @@
 -- Lists of sets of parameters, list by list.
 use Rattle.std.proofs.Common.{◌≡◌, ℕ, zero, suc, ◌+◌, ◌<◌, ◌≤◌, List, [], ◌∷◌, ◌++◌, Bool, false, length, get_or, map, take, drop, Result, Err, IsErr, IsErrAnd, ap, refl, sym, ◌∙◌, arith, append_assoc}
 use Rattle.std.specs.Global.{Vec}
-use Rattle.std.proofs.lemmas.List.{drop_more, length-drop, length-map, map-append}
+use Rattle.std.proofs.lemmas.List.{drop_more, length-drop, map-append}
 use Rattle.std.proofs.Math.Seq.{drop-nil}
 use Rattle.dexspec.specs.Lists.{chunks, present}
 use Rattle.dexspec.specs.Bytes.{round_up, padding}
 use Rattle.dexspec.specs.Placing.{unless_empty, bytes_from, end_from}
 use Rattle.dexspec.specs.Spellings.{offsets_bytes}
-use Rattle.dexval.specs.Numbered.{NumberedSet}
 use Rattle.dexmembers.specs.Numbered.{NumberedMethod, NumberedMembers, methods_of}
 use Rattle.dexclass.specs.Numbered.{NumberedClass}
 use Rattle.dexcanon.specs.declared.faults.StoreFault.{StoreFault}
@@ -119,10 +118,10 @@ module _ {S : Type 0} {holds : S → List ℕ → Type 0} {has_failed : S → Bo
 -- ---- methods and classes
 
 -- the counts of the next method, whose sets have been seen, and of those behind it
-pub method_counts : {Y : Type 0} (g : Y → NumberedSet) (sets : List Y) (xs : List NumberedMethod) (i : ℕ) (x : NumberedMethod) → i < length xs → x ≡ get_or xs i x → map g sets ≡ x.parameter_annotations
-    → parameter_counts (drop i xs) ≡ length sets ∷ parameter_counts (drop (i + 1) xs)
-method_counts g sets xs i x lt is e =
-    ap parameter_counts (drop_more xs i x lt ∙ ap (λ y. y ∷ drop (i + 1) xs) (sym is)) ∙ ap (λ n. n ∷ parameter_counts (drop (i + 1) xs)) (ap (λ (ss : List NumberedSet). length ss) (sym e) ∙ length-map sets g)
+pub method_counts : (n : ℕ) (xs : List NumberedMethod) (i : ℕ) (x : NumberedMethod) → i < length xs → x ≡ get_or xs i x → n ≡ length x.parameter_annotations
+    → parameter_counts (drop i xs) ≡ n ∷ parameter_counts (drop (i + 1) xs)
+method_counts n xs i x lt is e =
+    ap parameter_counts (drop_more xs i x lt ∙ ap (λ y. y ∷ drop (i + 1) xs) (sym is)) ∙ ap (λ k. k ∷ parameter_counts (drop (i + 1) xs)) (sym e)
 
 -- those of the next class, the direct methods first, and of those behind it
 pub class_counts : (cs : List NumberedClass) (i : ℕ) (c : NumberedClass) (x : NumberedMembers) (ds vs : List NumberedMethod) → i < length cs → c ≡ get_or cs i c → x ≡ c.members → ds ≡ x.direct_methods → vs ≡ x.virtual_methods

@@ -17,7 +17,7 @@ use crate::faults::StoreFault;
 use crate::items::Item;
 use crate::taking::{Takes, pass_aligned};
 use dexcode::{Code, code_meaning_law, code_types_law, put_code};
-use dexmembers::Method;
+use dexmembers::Methods;
 use dexpool::Numbering;
 use std::alloc::AllocError;
 
@@ -50,7 +50,7 @@ impl Item for CodeItem<'_, '_> {
 // The code of methods, from a place on, with the offset of the debug program of each. Where it ends is answered.
 fn put_method_codes<S, M: Takes<S>>(
     numbering: &Numbering<'_>,
-    methods: &[Method<'_>],
+    methods: &Methods<'_, '_>,
     debug_offs: &[u32],
     from: u32,
     limit: usize,
@@ -67,7 +67,7 @@ fn put_method_codes<S, M: Takes<S>>(
 {
     let mut at = from;
     for i in 0..methods.len() {
-        let code = match methods[i].code() {
+        let code = match methods.get(i).code() {
             Some(code) => code,
             None => continue,
         };
@@ -102,9 +102,9 @@ pub(crate) fn put_codes<S, M: Takes<S>>(
         let direct = members.direct_methods();
         let virtuals = members.virtual_methods();
         let (own, others) = rest.split_at(direct.len());
-        at = put_method_codes::<S, M>(numbering, direct, own, at, limit, gathered, state)?;
+        at = put_method_codes::<S, M>(numbering, &direct, own, at, limit, gathered, state)?;
         let (own, others) = others.split_at(virtuals.len());
-        at = put_method_codes::<S, M>(numbering, virtuals, own, at, limit, gathered, state)?;
+        at = put_method_codes::<S, M>(numbering, &virtuals, own, at, limit, gathered, state)?;
         rest = others;
     }
     Ok(())

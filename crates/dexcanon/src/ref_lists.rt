@@ -13,12 +13,12 @@ use crate::contents::Contents;
 use crate::faults::StoreFault;
 use crate::items::OffsetList;
 use crate::taking::{Takes, pass_aligned};
-use dexmembers::Method;
+use dexmembers::Methods;
 
 // The lists of methods, from a place on, from the offsets of all sets in turn. Where they end is answered, and the
 // offsets that are left.
 fn put_method_lists<'o, S, M: Takes<S>>(
-    methods: &[Method<'_>],
+    methods: &Methods<'_, '_>,
     set_offs: &'o [u32],
     from: u32,
     limit: usize,
@@ -34,8 +34,9 @@ fn put_method_lists<'o, S, M: Takes<S>>(
 {
     let mut at = from;
     let mut rest = set_offs;
-    for method in methods {
-        let (list, others) = rest.split_at(method.parameter_annotations().len());
+    for i in 0..methods.len() {
+        let parameters = methods.get(i).parameter_annotations();
+        let (list, others) = rest.split_at(parameters.len());
         rest = others;
         if list.is_empty() {
             continue;
@@ -63,8 +64,8 @@ pub(crate) fn put_ref_lists<S, M: Takes<S>>(
         let members = class.members();
         let direct = members.direct_methods();
         let virtuals = members.virtual_methods();
-        (at, rest) = put_method_lists::<S, M>(direct, rest, at, limit, gathered, state)?;
-        (at, rest) = put_method_lists::<S, M>(virtuals, rest, at, limit, gathered, state)?;
+        (at, rest) = put_method_lists::<S, M>(&direct, rest, at, limit, gathered, state)?;
+        (at, rest) = put_method_lists::<S, M>(&virtuals, rest, at, limit, gathered, state)?;
     }
     Ok(())
 }

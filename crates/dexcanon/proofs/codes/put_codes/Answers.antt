@@ -1,4 +1,4 @@
-use Rattle.std.proofs.Common.{◌≡◌, ◌+◌, ◌++◌, List, length, drop, arith, ap, sym, subst, ◌∙◌}
+use Rattle.std.proofs.Common.{◌≡◌, ◌+◌, ◌++◌, List, length, take, drop, arith, ap, sym, subst, ◌∙◌}
 use Rattle.std.specs.Prelude.{All}
 use Rattle.std.proofs.lemmas.List.{drop_all, length-append}
 use Rattle.dexmembers.specs.Numbered.{AreKnownMembers, IsKnownMethod, NumberedMethod}
@@ -21,20 +21,20 @@ loop-class-init g c =
     }
 
 -- the methods of the class, the direct ones first, and of those behind it
-methods : (g : _) (c : After-virtual_methods-virtuals g) → class_methods (drop c.loop-class.class-index c.args.contents.now.classes.now) ≡ c.direct_methods-direct.result.now ++ (c.virtual_methods-virtuals.result.now ++ class_methods (drop (c.loop-class.class-index + 1) c.args.contents.now.classes.now))
+methods : (g : _) (c : After-virtual_methods-virtuals g) → class_methods (drop c.loop-class.class-index c.args.contents.now.classes.now) ≡ c.direct_methods-direct.result ++ (c.virtual_methods-virtuals.result ++ class_methods (drop (c.loop-class.class-index + 1) c.args.contents.now.classes.now))
 methods g c =
     direct_first c.args.contents.now.classes.now c.loop-class.class-index c.class-item.result c.members-members.result.now c.loop-class-test.true c.class-item.is c.members-members.ensures
-    c.direct_methods-direct.result.now c.virtual_methods-virtuals.result.now c.direct_methods-direct.ensures c.virtual_methods-virtuals.ensures
+    c.direct_methods-direct.result c.virtual_methods-virtuals.result c.direct_methods-direct.ensures c.virtual_methods-virtuals.ensures
 
 -- there is an offset for each
-count : (g : _) (c : After-virtual_methods-virtuals g) → length c.loop-class.rest.now ≡ length c.direct_methods-direct.result.now + (length c.virtual_methods-virtuals.result.now + length (class_methods (drop (c.loop-class.class-index + 1) c.args.contents.now.classes.now)))
+count : (g : _) (c : After-virtual_methods-virtuals g) → length c.loop-class.rest.now ≡ length c.direct_methods-direct.result + (length c.virtual_methods-virtuals.result + length (class_methods (drop (c.loop-class.class-index + 1) c.args.contents.now.classes.now)))
 count g c =
     omega (
       arith,
       c.loop-class.invariant.count,
       ap (λ (xs : List NumberedMethod). length xs) (methods g c),
-      length-append c.direct_methods-direct.result.now (c.virtual_methods-virtuals.result.now ++ class_methods (drop (c.loop-class.class-index + 1) c.args.contents.now.classes.now)),
-      length-append c.virtual_methods-virtuals.result.now (class_methods (drop (c.loop-class.class-index + 1) c.args.contents.now.classes.now)),
+      length-append c.direct_methods-direct.result (c.virtual_methods-virtuals.result ++ class_methods (drop (c.loop-class.class-index + 1) c.args.contents.now.classes.now)),
+      length-append c.virtual_methods-virtuals.result (class_methods (drop (c.loop-class.class-index + 1) c.args.contents.now.classes.now)),
     )
 
 -- their numbers are those of symbols
@@ -43,22 +43,22 @@ known g c =
     subst (AreKnownMembers c.args.contents.now.numbering.now) (sym c.members-members.ensures) (subst (IsKnownClass c.args.contents.now.numbering.now) (sym c.class-item.is) (c.requires.ready.writable.known c.loop-class.class-index c.class-item.result c.loop-class-test.true)).members_known
 
 -- the code of the direct ones comes first
-direct_codes : (g : _) (c : After-split_at g) → class_methods (drop c.loop-class.class-index c.args.contents.now.classes.now) ≡ c.direct_methods-direct.result.now ++ (c.virtual_methods-virtuals.result.now ++ class_methods (drop (c.loop-class.class-index + 1) c.args.contents.now.classes.now)) → method_codes c.args.contents.now.numbering.now (class_methods (drop c.loop-class.class-index c.args.contents.now.classes.now)) c.loop-class.rest.now ≡ method_codes c.args.contents.now.numbering.now c.direct_methods-direct.result.now c.split_at.result.0.now ++ method_codes c.args.contents.now.numbering.now (c.virtual_methods-virtuals.result.now ++ class_methods (drop (c.loop-class.class-index + 1) c.args.contents.now.classes.now)) c.split_at.result.1.now
+direct_codes : (g : _) (c : After-split_at g) → class_methods (drop c.loop-class.class-index c.args.contents.now.classes.now) ≡ c.direct_methods-direct.result ++ (c.virtual_methods-virtuals.result ++ class_methods (drop (c.loop-class.class-index + 1) c.args.contents.now.classes.now)) → method_codes c.args.contents.now.numbering.now (class_methods (drop c.loop-class.class-index c.args.contents.now.classes.now)) c.loop-class.rest.now ≡ method_codes c.args.contents.now.numbering.now c.direct_methods-direct.result c.split_at.result.0.now ++ method_codes c.args.contents.now.numbering.now (c.virtual_methods-virtuals.result ++ class_methods (drop (c.loop-class.class-index + 1) c.args.contents.now.classes.now)) c.split_at.result.1.now
 direct_codes g c same =
-    ap (λ xs. method_codes c.args.contents.now.numbering.now xs c.loop-class.rest.now) same ∙ codes_split c.args.contents.now.numbering.now c.direct_methods-direct.result.now (c.virtual_methods-virtuals.result.now ++ class_methods (drop (c.loop-class.class-index + 1) c.args.contents.now.classes.now)) c.loop-class.rest.now c.split_at.result.0.now c.split_at.result.1.now c.split_at.ensures.front c.split_at.ensures.back
+    ap (λ xs. method_codes c.args.contents.now.numbering.now xs c.loop-class.rest.now) same ∙ codes_split c.args.contents.now.numbering.now c.direct_methods-direct.result (c.virtual_methods-virtuals.result ++ class_methods (drop (c.loop-class.class-index + 1) c.args.contents.now.classes.now)) c.loop-class.rest.now c.split_at.result.0.now c.split_at.result.1.now (c.split_at.ensures.front ∙ ap (λ n. take n c.loop-class.rest.now) c.len.ensures) (c.split_at.ensures.back ∙ ap (λ n. drop n c.loop-class.rest.now) c.len.ensures)
 
 -- and then that of the others
-virtual_codes : (g : _) (c : After-split_at-in-loop-class g) → method_codes c.args.contents.now.numbering.now (c.virtual_methods-virtuals.result.now ++ class_methods (drop (c.loop-class.class-index + 1) c.args.contents.now.classes.now)) c.split_at.result.1.now ≡ method_codes c.args.contents.now.numbering.now c.virtual_methods-virtuals.result.now c.split_at-in-loop-class.result.0.now ++ method_codes c.args.contents.now.numbering.now (class_methods (drop (c.loop-class.class-index + 1) c.args.contents.now.classes.now)) c.split_at-in-loop-class.result.1.now
-virtual_codes g c = codes_split c.args.contents.now.numbering.now c.virtual_methods-virtuals.result.now (class_methods (drop (c.loop-class.class-index + 1) c.args.contents.now.classes.now)) c.split_at.result.1.now c.split_at-in-loop-class.result.0.now c.split_at-in-loop-class.result.1.now c.split_at-in-loop-class.ensures.front c.split_at-in-loop-class.ensures.back
+virtual_codes : (g : _) (c : After-split_at-in-loop-class g) → method_codes c.args.contents.now.numbering.now (c.virtual_methods-virtuals.result ++ class_methods (drop (c.loop-class.class-index + 1) c.args.contents.now.classes.now)) c.split_at.result.1.now ≡ method_codes c.args.contents.now.numbering.now c.virtual_methods-virtuals.result c.split_at-in-loop-class.result.0.now ++ method_codes c.args.contents.now.numbering.now (class_methods (drop (c.loop-class.class-index + 1) c.args.contents.now.classes.now)) c.split_at-in-loop-class.result.1.now
+virtual_codes g c = codes_split c.args.contents.now.numbering.now c.virtual_methods-virtuals.result (class_methods (drop (c.loop-class.class-index + 1) c.args.contents.now.classes.now)) c.split_at.result.1.now c.split_at-in-loop-class.result.0.now c.split_at-in-loop-class.result.1.now (c.split_at-in-loop-class.ensures.front ∙ ap (λ n. take n c.split_at.result.1.now) c.len-in-loop-class.ensures) (c.split_at-in-loop-class.ensures.back ∙ ap (λ n. drop n c.split_at.result.1.now) c.len-in-loop-class.ensures)
 
 -- that of the direct ones was written
-between : (g : _) (c : In_ok-at g) → method_codes c.args.contents.now.numbering.now (class_methods (drop c.loop-class.class-index c.args.contents.now.classes.now)) c.loop-class.rest.now ≡ method_codes c.args.contents.now.numbering.now c.direct_methods-direct.result.now c.split_at.result.0.now ++ method_codes c.args.contents.now.numbering.now (c.virtual_methods-virtuals.result.now ++ class_methods (drop (c.loop-class.class-index + 1) c.args.contents.now.classes.now)) c.split_at.result.1.now
+between : (g : _) (c : In_ok-at g) → method_codes c.args.contents.now.numbering.now (class_methods (drop c.loop-class.class-index c.args.contents.now.classes.now)) c.loop-class.rest.now ≡ method_codes c.args.contents.now.numbering.now c.direct_methods-direct.result c.split_at.result.0.now ++ method_codes c.args.contents.now.numbering.now (c.virtual_methods-virtuals.result ++ class_methods (drop (c.loop-class.class-index + 1) c.args.contents.now.classes.now)) c.split_at.result.1.now
     → Aligned g.M.Takes.holds g.M.Takes.has_failed g.M.Takes.empties c.args.contents.now.limit c.args.state.now c.args.gathered.now c.put_method_codes.new.state c.put_method_codes.new.gathered 4 c.end-at.result
-    (method_codes c.args.contents.now.numbering.now (class_methods c.args.contents.now.classes.now) c.offsets-rest.result.now) c.in_ok-at.at (method_codes c.args.contents.now.numbering.now (c.virtual_methods-virtuals.result.now ++ class_methods (drop (c.loop-class.class-index + 1) c.args.contents.now.classes.now)) c.split_at.result.1.now)
-between g c next = aligned_join (method_codes c.args.contents.now.numbering.now c.direct_methods-direct.result.now c.split_at.result.0.now) (method_codes c.args.contents.now.numbering.now (c.virtual_methods-virtuals.result.now ++ class_methods (drop (c.loop-class.class-index + 1) c.args.contents.now.classes.now)) c.split_at.result.1.now) c.loop-class.invariant.made next c.in_ok-at.at c.in_ok-at.ensures.end c.in_ok-at.ensures.outcome.ok
+    (method_codes c.args.contents.now.numbering.now (class_methods c.args.contents.now.classes.now) c.offsets-rest.result.now) c.in_ok-at.at (method_codes c.args.contents.now.numbering.now (c.virtual_methods-virtuals.result ++ class_methods (drop (c.loop-class.class-index + 1) c.args.contents.now.classes.now)) c.split_at.result.1.now)
+between g c next = aligned_join (method_codes c.args.contents.now.numbering.now c.direct_methods-direct.result c.split_at.result.0.now) (method_codes c.args.contents.now.numbering.now (c.virtual_methods-virtuals.result ++ class_methods (drop (c.loop-class.class-index + 1) c.args.contents.now.classes.now)) c.split_at.result.1.now) c.loop-class.invariant.made next c.in_ok-at.at c.in_ok-at.ensures.end c.in_ok-at.ensures.outcome.ok
 
 pub split_at-requires : goal.split_at-requires
-split_at-requires g c = omega (arith, count g (goal.at.split_at-requires g c).After-virtual_methods-virtuals)
+split_at-requires g c = omega (arith, c.len.ensures, count g (goal.at.split_at-requires g c).After-virtual_methods-virtuals)
 
 pub put_method_codes-requires-clause-known : goal.put_method_codes-requires-clause-known
 put_method_codes-requires-clause-known g c = subst (All (IsKnownMethod c.args.contents.now.numbering.now)) (sym c.direct_methods-direct.ensures) (known g (goal.at.put_method_codes-requires-clause-known g c).After-virtual_methods-virtuals).direct_methods_known
@@ -66,17 +66,17 @@ put_method_codes-requires-clause-known g c = subst (All (IsKnownMethod c.args.co
 pub put_method_codes-requires-clause-fit : goal.put_method_codes-requires-clause-fit
 put_method_codes-requires-clause-fit g c =
     let here = goal.at.put_method_codes-requires-clause-fit g c in
-    front_fit (method_codes c.args.contents.now.numbering.now c.direct_methods-direct.result.now c.split_at.result.0.now) (method_codes c.args.contents.now.numbering.now (c.virtual_methods-virtuals.result.now ++ class_methods (drop (c.loop-class.class-index + 1) c.args.contents.now.classes.now)) c.split_at.result.1.now) c.loop-class.invariant.made (direct_codes g here.After-split_at (methods g here.After-virtual_methods-virtuals)) (laid_codes_fit c.requires.ready (c.places-places.ensures ∙ ap (λ (d : DebugPlaces). d.places) c.debugs.ensures) c.offsets-rest.ensures c.end-at.ensures)
+    front_fit (method_codes c.args.contents.now.numbering.now c.direct_methods-direct.result c.split_at.result.0.now) (method_codes c.args.contents.now.numbering.now (c.virtual_methods-virtuals.result ++ class_methods (drop (c.loop-class.class-index + 1) c.args.contents.now.classes.now)) c.split_at.result.1.now) c.loop-class.invariant.made (direct_codes g here.After-split_at (methods g here.After-virtual_methods-virtuals)) (laid_codes_fit c.requires.ready (c.places-places.ensures ∙ ap (λ (d : DebugPlaces). d.places) c.debugs.ensures) c.offsets-rest.ensures c.end-at.ensures)
 
 pub returns-in_err-at : goal.returns-in_err-at
 returns-in_err-at g c =
     let here = goal.at.returns-in_err-at g c in
     whole_as (laid_codes_bytes c.requires.ready (c.places-places.ensures ∙ ap (λ (d : DebugPlaces). d.places) c.debugs.ensures) c.offsets-rest.ensures c.end-at.ensures)
-    (aligned_join_fault (method_codes c.args.contents.now.numbering.now c.direct_methods-direct.result.now c.split_at.result.0.now) (method_codes c.args.contents.now.numbering.now (c.virtual_methods-virtuals.result.now ++ class_methods (drop (c.loop-class.class-index + 1) c.args.contents.now.classes.now)) c.split_at.result.1.now) c.loop-class.invariant.made (direct_codes g here.After-split_at (methods g here.After-virtual_methods-virtuals)) c.in_err-at.ensures.outcome c.from_residual.ensures.0 c.from_residual.ensures.1)
+    (aligned_join_fault (method_codes c.args.contents.now.numbering.now c.direct_methods-direct.result c.split_at.result.0.now) (method_codes c.args.contents.now.numbering.now (c.virtual_methods-virtuals.result ++ class_methods (drop (c.loop-class.class-index + 1) c.args.contents.now.classes.now)) c.split_at.result.1.now) c.loop-class.invariant.made (direct_codes g here.After-split_at (methods g here.After-virtual_methods-virtuals)) c.in_err-at.ensures.outcome c.from_residual.ensures.0 c.from_residual.ensures.1)
 
 pub split_at-requires-in-loop-class : goal.split_at-requires-in-loop-class
 split_at-requires-in-loop-class g c =
-    omega (arith, c.split_at.ensures.back_len, count g (goal.at.split_at-requires-in-loop-class g c).After-virtual_methods-virtuals)
+    omega (arith, c.split_at.ensures.back_len, c.len.ensures, c.len-in-loop-class.ensures, count g (goal.at.split_at-requires-in-loop-class g c).After-virtual_methods-virtuals)
 
 pub put_method_codes-requires-in-loop-class-clause-known : goal.put_method_codes-requires-in-loop-class-clause-known
 put_method_codes-requires-in-loop-class-clause-known g c =
@@ -85,20 +85,20 @@ put_method_codes-requires-in-loop-class-clause-known g c =
 pub put_method_codes-requires-in-loop-class-clause-fit : goal.put_method_codes-requires-in-loop-class-clause-fit
 put_method_codes-requires-in-loop-class-clause-fit g c =
     let here = goal.at.put_method_codes-requires-in-loop-class-clause-fit g c in
-    front_fit (method_codes c.args.contents.now.numbering.now c.virtual_methods-virtuals.result.now c.split_at-in-loop-class.result.0.now) (method_codes c.args.contents.now.numbering.now (class_methods (drop (c.loop-class.class-index + 1) c.args.contents.now.classes.now)) c.split_at-in-loop-class.result.1.now) (between g here.In_ok-at (direct_codes g here.After-split_at (methods g here.After-virtual_methods-virtuals))) (virtual_codes g here.After-split_at-in-loop-class) (laid_codes_fit c.requires.ready (c.places-places.ensures ∙ ap (λ (d : DebugPlaces). d.places) c.debugs.ensures) c.offsets-rest.ensures c.end-at.ensures)
+    front_fit (method_codes c.args.contents.now.numbering.now c.virtual_methods-virtuals.result c.split_at-in-loop-class.result.0.now) (method_codes c.args.contents.now.numbering.now (class_methods (drop (c.loop-class.class-index + 1) c.args.contents.now.classes.now)) c.split_at-in-loop-class.result.1.now) (between g here.In_ok-at (direct_codes g here.After-split_at (methods g here.After-virtual_methods-virtuals))) (virtual_codes g here.After-split_at-in-loop-class) (laid_codes_fit c.requires.ready (c.places-places.ensures ∙ ap (λ (d : DebugPlaces). d.places) c.debugs.ensures) c.offsets-rest.ensures c.end-at.ensures)
 
 pub returns-in_err-at-2 : goal.returns-in_err-at-2
 returns-in_err-at-2 g c =
     let here = goal.at.returns-in_err-at-2 g c in
     whole_as (laid_codes_bytes c.requires.ready (c.places-places.ensures ∙ ap (λ (d : DebugPlaces). d.places) c.debugs.ensures) c.offsets-rest.ensures c.end-at.ensures)
-    (aligned_join_fault (method_codes c.args.contents.now.numbering.now c.virtual_methods-virtuals.result.now c.split_at-in-loop-class.result.0.now) (method_codes c.args.contents.now.numbering.now (class_methods (drop (c.loop-class.class-index + 1) c.args.contents.now.classes.now)) c.split_at-in-loop-class.result.1.now) (between g here.In_ok-at (direct_codes g here.After-split_at (methods g here.After-virtual_methods-virtuals))) (virtual_codes g here.After-split_at-in-loop-class) c.in_err-at-2.ensures.outcome c.from_residual-in_err-at-2.ensures.0 c.from_residual-in_err-at-2.ensures.1)
+    (aligned_join_fault (method_codes c.args.contents.now.numbering.now c.virtual_methods-virtuals.result c.split_at-in-loop-class.result.0.now) (method_codes c.args.contents.now.numbering.now (class_methods (drop (c.loop-class.class-index + 1) c.args.contents.now.classes.now)) c.split_at-in-loop-class.result.1.now) (between g here.In_ok-at (direct_codes g here.After-split_at (methods g here.After-virtual_methods-virtuals))) (virtual_codes g here.After-split_at-in-loop-class) c.in_err-at-2.ensures.outcome c.from_residual-in_err-at-2.ensures.0 c.from_residual-in_err-at-2.ensures.1)
 
 pub loop-class-preserved : goal.loop-class-preserved
 loop-class-preserved g c =
     let here = goal.at.loop-class-preserved g c in
     record {
-      made = aligned_join (method_codes c.args.contents.now.numbering.now c.virtual_methods-virtuals.result.now c.split_at-in-loop-class.result.0.now) (method_codes c.args.contents.now.numbering.now (class_methods (drop (c.loop-class.class-index + 1) c.args.contents.now.classes.now)) c.split_at-in-loop-class.result.1.now) (between g here.In_ok-at (direct_codes g here.After-split_at (methods g here.After-virtual_methods-virtuals))) (virtual_codes g here.After-split_at-in-loop-class) c.in_ok-at-2.at c.in_ok-at-2.ensures.end c.in_ok-at-2.ensures.outcome.ok;
-      count = omega (arith, c.split_at-in-loop-class.ensures.back_len, c.split_at.ensures.back_len, count g here.After-virtual_methods-virtuals);
+      made = aligned_join (method_codes c.args.contents.now.numbering.now c.virtual_methods-virtuals.result c.split_at-in-loop-class.result.0.now) (method_codes c.args.contents.now.numbering.now (class_methods (drop (c.loop-class.class-index + 1) c.args.contents.now.classes.now)) c.split_at-in-loop-class.result.1.now) (between g here.In_ok-at (direct_codes g here.After-split_at (methods g here.After-virtual_methods-virtuals))) (virtual_codes g here.After-split_at-in-loop-class) c.in_ok-at-2.at c.in_ok-at-2.ensures.end c.in_ok-at-2.ensures.outcome.ok;
+      count = omega (arith, c.split_at-in-loop-class.ensures.back_len, c.split_at.ensures.back_len, c.len.ensures, c.len-in-loop-class.ensures, count g here.After-virtual_methods-virtuals);
     }
 
 pub returns : goal.returns

@@ -30,6 +30,7 @@ pub mod Settling
 pub mod Shapes
 pub mod Spelled
 pub mod Spelling
+pub mod Tables
 pub mod ValueForms
 pub mod ValuesRead
 pub mod Weights

@@ -10,5 +10,8 @@ pub mod Numbered
 pub mod Reading
 pub mod Renumbering
 pub mod Scalars
+pub mod Shared
 pub mod Spelled
+pub mod Stored
+pub mod Tables
 pub mod Uses

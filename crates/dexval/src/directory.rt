@@ -1,6 +1,7 @@
 //! What a class and its members are annotated with.
 
 use crate::set::AnnotationSet;
+use crate::set_table::SetTable;
 
 /// The annotations of a class, and for each annotated member a pair of its number and its annotations, in the order
 /// of the numbers.
@@ -16,6 +17,24 @@ pub struct Directory {
     pub methods: Vec<(u32, AnnotationSet)>,
     /// Those of the parameters of methods, a set for each parameter.
     pub parameters: Vec<(u32, Vec<AnnotationSet>)>,
+}
+
+/// The annotations of a class, and for each annotated member a pair of its number and the place of its annotations, in the
+/// order of the numbers. What several of them share is kept once.
+///
+/// Source: "annotations_directory_item".
+#[derive(Drop)]
+pub struct SharedDirectory {
+    /// The sets, and the lists of sets.
+    pub table: SetTable,
+    /// The place of the class's own set, or `None` where it has no annotation.
+    pub own: Option<u32>,
+    /// The places of the sets of fields.
+    pub fields: Vec<(u32, u32)>,
+    /// The places of the sets of methods.
+    pub methods: Vec<(u32, u32)>,
+    /// The places of the lists of the parameters of methods, a set for each parameter.
+    pub parameters: Vec<(u32, u32)>,
 }
 
 /// How many members a directory annotates.

@@ -8,7 +8,7 @@
 
 pub use annotation::{Annotation, Visibility};
 pub use copying::copied_values;
-pub use directory::{Directory, MemberCounts};
+pub use directory::{Directory, MemberCounts, SharedDirectory};
 pub use directory_reading::{member_counts, read_directory, read_directory_within};
 pub use equality::set_equality_law;
 pub use fitting::values_fit;
@@ -22,6 +22,7 @@ pub use same::{ends_alike, same_values_mapped};
 pub use set::AnnotationSet;
 pub use set_put::put_set;
 pub use set_reading::read_set;
+pub use set_table::SetTable;
 pub use sizes::{annotation_size, ref_list_size, set_size, statics_size};
 pub use value::{Element, Value};
 pub use value_reading::{read_statics, read_value};
@@ -48,6 +49,7 @@ mod scalars;
 mod set;
 mod set_put;
 mod set_reading;
+mod set_table;
 mod sizes;
 mod type_codes;
 mod value;

@@ -1,0 +1,36 @@
+-- Sets of annotations, and lists of them, that are kept once and named by their places.
+use Rattle.std.specs.Prelude.{ℕ, ◌<◌, List, [], length, map, All, Option, Some, None, slice_index_or}
+use Rattle.std.specs.List.{Contains}
+use Rattle.dexval.specs.Numbered.{NumberedSet}
+
+-- Sets, and lists of them by their places. In a list, `None` is the empty set.
+pub record NumberedTable : Type 0 where
+  pub sets : List NumberedSet
+  pub lists : List (List (Option ℕ))
+
+-- the place, if it is one, is one of the list
+abbrev pub IsPlaceIn : {X : Type 0} → List X → Option ℕ → Type 0
+IsPlaceIn xs None = Unit {0}
+IsPlaceIn xs (Some i) = i < length xs
+
+-- each place in a list is one of the sets
+abbrev pub HoldsLists : NumberedTable → Type 0
+HoldsLists t = All (All (IsPlaceIn t.sets)) t.lists
+
+-- the set at a place, which is empty at none
+abbrev pub set_at : List NumberedSet → Option ℕ → NumberedSet
+set_at sets None = []
+set_at sets (Some i) = slice_index_or sets i []
+
+-- the places of a list of sets, of which there are none at no place
+abbrev pub places_at : List (List (Option ℕ)) → Option ℕ → List (Option ℕ)
+places_at lists None = []
+places_at lists (Some i) = slice_index_or lists i []
+
+-- the sets of a list
+abbrev pub sets_at : NumberedTable → Option ℕ → List NumberedSet
+sets_at t place = map (set_at t.sets) (places_at t.lists place)
+
+-- a list of the table has the place
+abbrev pub IsListed : NumberedTable → ℕ → Type 0
+IsListed t i = (places : List (Option ℕ)) × Contains t.lists places × Contains places (Some i)

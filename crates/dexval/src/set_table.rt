@@ -1,0 +1,138 @@
+//! Sets of annotations that several members share, each kept once.
+
+ghost use Rattle.std.specs.Prelude.{◌≡◌, ◌≢◌, [], All, IfNone, IfOk, IfSome, map};
+ghost use Rattle.dexval.specs.Code.{set_of};
+ghost use Rattle.dexval.specs.Renumbering.{renumbered_set, SetHasPlaces};
+ghost use Rattle.dexval.specs.Tables.{IsPlaceIn, set_at, places_at};
+
+use crate::set::AnnotationSet;
+use dexpool::Remap;
+use std::alloc::{AllocError, Global};
+use std::marker::Model;
+
+/// Sets of annotations, and lists of sets, as those of a method's parameters, which are named by their places. A list has
+/// the places of its sets, and `None` for an empty one.
+///
+/// Source: "annotation_set_item" and "annotation_set_ref_list".
+#[derive(Drop)]
+pub struct SetTable {
+    pub(crate) sets: Vec<AnnotationSet>,
+    pub(crate) lists: Vec<Vec<Option<u32>>>,
+}
+
+impl Model for SetTable {
+    ghost use Rattle.std.specs.Prelude.{map};
+    ghost use Rattle.std.specs.Coded.{codes};
+    ghost use Rattle.dexval.specs.Code.{set_of};
+    ghost use Rattle.dexval.specs.Stored.{elements_code};
+    ghost use Rattle.dexval.specs.Tables.{NumberedTable, HoldsLists};
+
+    ghost Value = { NumberedTable };
+
+    ghost coded = { Prim.hlevel (codes, elements_code) };
+
+    ghost view = { λ t. record { sets = map set_of t.sets.items; lists = map (λ l. l.items) t.lists.items } };
+
+    ghost invariant = { λ t. HoldsLists (record { sets = map set_of t.sets.items; lists = map (λ l. l.items) t.lists.items }) };
+}
+
+// Puts for each number of a symbol in the sets the one that it leads to.
+fn renumber_sets(sets: &mut Vec<AnnotationSet>, remap: &Remap)
+    requires { All (SetHasPlaces remap.now) (map set_of sets.old.items) }
+    ensures { map set_of sets.new.items ≡ map (renumbered_set remap.now) (map set_of sets.old.items) }
+{
+    for i in 0..sets.len() {
+        sets[i].renumber(remap);
+    }
+}
+
+// The same sets.
+fn copied_sets(sets: &Vec<AnnotationSet>) -> Result<Vec<AnnotationSet>, AllocError>
+    ensures { IfOk result (λ copy. map set_of copy.items ≡ map set_of sets.now.items) }
+{
+    let mut copy = Vec::with_capacity(*sets.allocator(), sets.len())?;
+    for set in sets {
+        copy.push(set.copy()?)?;
+    }
+    Ok(copy)
+}
+
+// The same lists.
+fn copied_lists(lists: &Vec<Vec<Option<u32>>>) -> Result<Vec<Vec<Option<u32>>>, AllocError>
+    ensures { IfOk result (λ copy. map (λ l. l.items) copy.items ≡ map (λ l. l.items) lists.now.items) }
+{
+    let mut copy = Vec::with_capacity(*lists.allocator(), lists.len())?;
+    for list in lists {
+        copy.push(Vec::from_slice(*lists.allocator(), list)?)?;
+    }
+    Ok(copy)
+}
+
+impl SetTable {
+    /// A table without sets and lists. No memory is taken.
+    pub fn empty(alloc: Global) -> SetTable
+        ensures { result ≡ record { sets = []; lists = [] } }
+    {
+        SetTable {
+            sets: Vec::new(alloc),
+            lists: Vec::new(alloc),
+        }
+    }
+
+    /// The set at a place, or `None` where there is no place, which is the empty set. No memory is taken.
+    ///
+    /// Condition: the place is one of the sets'.
+    pub fn set(&self, place: Option<u32>) -> Option<&AnnotationSet>
+        requires { IsPlaceIn self.now.sets place }
+        ensures set { IfSome result (λ set. (place ≢ None) × (set_of set.now ≡ set_at self.now.sets place)) }
+        ensures none { IfNone result (place ≡ None) }
+    {
+        match place {
+            Some(place) => Some(&self.sets[place as usize]),
+            None => None,
+        }
+    }
+
+    /// All sets. No memory is taken.
+    pub fn sets(&self) -> &[AnnotationSet]
+        ensures { map set_of result.now ≡ self.now.sets }
+    {
+        &self.sets
+    }
+
+    /// The places of the sets of the list at a place, none where there is no place. No memory is taken.
+    ///
+    /// Condition: the place is one of the lists'.
+    pub fn list(&self, place: Option<u32>) -> &[Option<u32>]
+        requires { IsPlaceIn self.now.lists place }
+        ensures list { result.now ≡ places_at self.now.lists place }
+        ensures places { All (IsPlaceIn self.now.sets) result.now }
+    {
+        match place {
+            Some(place) => &self.lists[place as usize],
+            None => &[],
+        }
+    }
+
+    /// Puts for each number of a symbol in the sets the one that it leads to. No memory is taken.
+    ///
+    /// Condition: each number leads to one, below 2^32, which [`fits`](AnnotationSet::fits) tells.
+    pub fn renumber(&mut self, remap: &Remap)
+        requires { All (SetHasPlaces remap.now) self.old.sets }
+        ensures { self.new ≡ record { sets = map (renumbered_set remap.now) self.old.sets; lists = self.old.lists } }
+    {
+        renumber_sets(&mut self.sets, remap);
+    }
+
+    /// The same table, with sets and lists of its own.
+    ///
+    /// Error: memory was refused.
+    pub fn copy(&self) -> Result<SetTable, AllocError>
+        ensures { IfOk result (λ copy. copy ≡ self.now) }
+    {
+        Ok(SetTable {
+            sets: copied_sets(&self.sets)?,
+            lists: copied_lists(&self.lists)?,
+        })
+    }
+}

@@ -31,6 +31,7 @@ pub mod Shapes
 pub mod Spelled
 pub mod Spelling
 pub mod Tables
+pub mod TablesLed
 pub mod ValueForms
 pub mod ValuesRead
 pub mod Weights

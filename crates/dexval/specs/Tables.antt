@@ -1,7 +1,9 @@
 -- Sets of annotations, and lists of them, that are kept once and named by their places.
-use Rattle.std.specs.Prelude.{ℕ, ◌<◌, List, [], length, map, All, Option, Some, None, slice_index_or}
+use Rattle.std.specs.Prelude.{◌≡◌, ℕ, ◌<◌, List, [], length, map, All, Option, Some, None, slice_index_or}
 use Rattle.std.specs.List.{Contains}
+use Rattle.dexpool.specs.Numberings.{Maps}
 use Rattle.dexval.specs.Numbered.{NumberedSet}
+use Rattle.dexval.specs.Renumbering.{renumbered_set, SetHasPlaces}
 
 -- Sets, and lists of them by their places. In a list, `None` is the empty set.
 pub record NumberedTable : Type 0 where
@@ -34,3 +36,7 @@ sets_at t place = map (set_at t.sets) (places_at t.lists place)
 -- a list of the table has the place
 abbrev pub IsListed : NumberedTable → ℕ → Type 0
 IsListed t i = (places : List (Option ℕ)) × Contains t.lists places × Contains places (Some i)
+
+-- the new set is the old one with its numbers led on, where each has a place
+abbrev pub IsLedSet : Maps → NumberedSet → NumberedSet → Type 0
+IsLedSet r old new = SetHasPlaces r old → new ≡ renumbered_set r old

@@ -1,9 +1,8 @@
 //! Sets of annotations that several members share, each kept once.
 
-ghost use Rattle.std.specs.Prelude.{◌≡◌, ◌≢◌, [], All, IfNone, IfOk, IfSome, map};
+ghost use Rattle.std.specs.Prelude.{◌≡◌, ◌≢◌, ℕ, Option, [], All, IfNone, IfOk, IfSome, length, map};
 ghost use Rattle.dexval.specs.Code.{set_of};
-ghost use Rattle.dexval.specs.Renumbering.{renumbered_set, SetHasPlaces};
-ghost use Rattle.dexval.specs.Tables.{IsPlaceIn, set_at, places_at};
+ghost use Rattle.dexval.specs.Tables.{IsPlaceIn, IsLedSet, set_at, places_at};
 
 use crate::set::AnnotationSet;
 use dexpool::Remap;
@@ -36,13 +35,15 @@ impl Model for SetTable {
     ghost invariant = { λ t. HoldsLists (record { sets = map set_of t.sets.items; lists = map (λ l. l.items) t.lists.items }) };
 }
 
-// Puts for each number of a symbol in the sets the one that it leads to.
+// Puts for each number of a symbol in the sets the one that it leads to, in each set that fits.
 fn renumber_sets(sets: &mut Vec<AnnotationSet>, remap: &Remap)
-    requires { All (SetHasPlaces remap.now) (map set_of sets.old.items) }
-    ensures { map set_of sets.new.items ≡ map (renumbered_set remap.now) (map set_of sets.old.items) }
+    ensures size { length sets.new.items ≡ length sets.old.items }
+    ensures sets { (place : Option ℕ) → IsLedSet remap.now (set_at (map set_of sets.old.items) place) (set_at (map set_of sets.new.items) place) }
 {
     for i in 0..sets.len() {
-        sets[i].renumber(remap);
+        if sets[i].fits(remap) {
+            sets[i].renumber(remap);
+        }
     }
 }
 
@@ -114,12 +115,12 @@ impl SetTable {
         }
     }
 
-    /// Puts for each number of a symbol in the sets the one that it leads to. No memory is taken.
-    ///
-    /// Condition: each number leads to one, below 2^32, which [`fits`](AnnotationSet::fits) tells.
+    /// Puts for each number of a symbol in the sets the one that it leads to. A set with a number that leads nowhere, or to 2^32
+    /// or more, stays as it is; [`fits`](AnnotationSet::fits) tells it. No memory is taken.
     pub fn renumber(&mut self, remap: &Remap)
-        requires { All (SetHasPlaces remap.now) self.old.sets }
-        ensures { self.new ≡ record { sets = map (renumbered_set remap.now) self.old.sets; lists = self.old.lists } }
+        ensures size { length self.new.sets ≡ length self.old.sets }
+        ensures lists { self.new.lists ≡ self.old.lists }
+        ensures sets { (place : Option ℕ) → IsLedSet remap.now (set_at self.old.sets place) (set_at self.new.sets place) }
     {
         renumber_sets(&mut self.sets, remap);
     }

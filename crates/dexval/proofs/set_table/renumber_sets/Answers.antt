@@ -1,17 +1,24 @@
-use Rattle.std.proofs.Common.{arith}
+use Rattle.std.proofs.Common.{◌≡◌, ◌+◌, true, false, sym, subst, ◌∙◌, arith}
 use Rattle.dexval.specs.Code.{set_of}
-use Rattle.dexval.specs.Renumbering.{renumbered_set, SetHasPlaces}
-use Rattle.dexval.proofs.Renumbered.{next_member, led_more, all_led}
+use Rattle.dexval.specs.Renumbering.{SetHasPlaces}
+use Rattle.dexval.proofs.TablesLed.{AreSettled, settled_stays, settled_led, all_settled, one_here}
 use Rattle.dexval.proofs.set_table.renumber_sets.Goals as goal
+use Rattle.dexval.proofs.set_table.renumber_sets.Goals.{then-fits, else-fits}
 
 pub renumber-requires : goal.renumber-requires
 renumber-requires c =
-    let r = c.args.remap.now in
-    next_member set_of (renumbered_set r) (SetHasPlaces r) c.args.sets.now.items c.loop-i.sets.items c.loop-i.i c.index_mut.result.now c.loop-i.invariant (omega arith) c.requires c.index_mut.ensures.value
+    subst (λ x. SetHasPlaces c.args.remap.now (set_of x)) (one_here c.loop-i.sets.items c.loop-i.i c.index.result.now c.index_mut.result.now c.index.ensures c.index_mut.ensures.value (omega arith)) (c.fits.ensures.0 c.if-fits.true)
 
 pub loop-i-preserved : goal.loop-i-preserved
-loop-i-preserved c =
-    led_more set_of (renumbered_set c.args.remap.now) c.args.sets.now.items c.loop-i.sets.items c.loop-i.i c.index_mut.result.now c.renumber.new.self c.loop-i.invariant (omega arith) c.index_mut.ensures.value c.renumber.ensures
+loop-i-preserved c = elim c.if-fits.branch [
+  | then-fits w ↦
+      subst (λ xs. AreSettled c.args.remap.now (c.loop-i.i + 1) c.args.sets.now.items xs.items) (sym w.sets-is)
+      (settled_led c.args.remap.now c.args.sets.now.items c.loop-i.sets.items c.loop-i.i w.index_mut.result.now w.renumber.new.self c.loop-i.invariant (omega arith) w.index_mut.ensures.value w.renumber.ensures)
+  | else-fits w ↦
+      subst (λ xs. AreSettled c.args.remap.now (c.loop-i.i + 1) c.args.sets.now.items xs.items) (sym w.sets-is)
+      (settled_stays c.args.remap.now c.args.sets.now.items c.loop-i.sets.items c.loop-i.i c.index.result.now c.loop-i.invariant (omega arith) c.index.ensures
+      (λ h. let fits = c.fits.ensures.1 h in absurd (let e : false ≡ true = sym w.if-fits.false ∙ fits in cc)))
+]
 
-pub returns : goal.returns
-returns c = all_led set_of (renumbered_set c.args.remap.now) c.args.sets.now.items c.loop-i.sets.items c.loop-i.i c.loop-i.invariant (omega arith)
+pub returns-clause-sets : goal.returns-clause-sets
+returns-clause-sets c = all_settled c.args.remap.now c.args.sets.now.items c.loop-i.sets.items c.loop-i.i c.loop-i.invariant (omega arith)

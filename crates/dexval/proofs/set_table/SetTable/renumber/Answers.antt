@@ -1,7 +1,7 @@
-use Rattle.std.proofs.Common.{sym, subst}
-use Rattle.std.specs.Prelude.{All}
-use Rattle.dexval.specs.Renumbering.{SetHasPlaces}
+use Rattle.std.proofs.Common.{map, subst, Option}
+use Rattle.dexval.specs.Code.{set_of}
+use Rattle.dexval.specs.Tables.{IsLedSet, set_at}
 use Rattle.dexval.proofs.set_table.SetTable.renumber.Goals as goal
 
-pub renumber_sets-requires : goal.renumber_sets-requires
-renumber_sets-requires c = subst (λ t. All (SetHasPlaces c.args.remap.now) t.sets) (sym c.self.view_is) c.requires
+pub returns-clause-sets : goal.returns-clause-sets
+returns-clause-sets c = subst (λ t. (place : Option _) → IsLedSet c.args.remap.now (set_at t.sets place) (set_at (map set_of c.renumber_sets.new.sets.items) place)) c.self.view_is c.renumber_sets.ensures.sets

@@ -1,35 +1,112 @@
--- What was judged, noted and looked up.
-use Rattle.std.proofs.Common.{◌≡◌, ℕ, ◌≤◌, List, false, Some, nat_eq, sym, ap, subst, ◌∙◌, inl, inr, ne_eqb}
+-- What was read, noted and looked up.
+use Rattle.std.proofs.Common.{◌≡◌, ◌⊎◌, ℕ, ◌<◌, List, true, false, Some, length, nat_eq, sym, ap, subst, ◌∙◌, inl, inr, ne_eqb}
 use Rattle.std.proofs.lemmas.Bool.{cases_eq}
 use Rattle.std.specs.HashMap.{get}
 use Rattle.std.specs.HashSet.{contains}
 use Rattle.dexspec.specs.Mentions.{Mentions}
-use Rattle.dexval.specs.declared.set.AnnotationSet.{AnnotationSet}
 use Rattle.dexval.specs.declared.judged.Judged.{Judged}
-use Rattle.dexval.specs.Code.{set_of}
-use Rattle.dexval.specs.Judged.{IsJudgedSet, AreJudged}
+use Rattle.dexval.specs.Directories.{IsRefListAt}
+use Rattle.dexval.specs.Judged.{HasSet, HasRefList, AreHeld, AreJudged}
+use Rattle.dexval.specs.Reading.{IsSetAt}
+use Rattle.dexval.specs.Tables.{Extends, set_at, sets_at}
 
-module _ (b : List ℕ) (m : Mentions) where
-  -- what was judged stays so while more is read
-  pub judged_later : {most weight bound more : ℕ} (j k : Judged) → j.sets ≡ k.sets → j.lists ≡ k.lists → (more ≤ bound → weight ≤ most) → AreJudged b m most weight j → AreJudged b m bound more k
-  judged_later j k sets lists early h = record {
-    sets_judged = λ off s e.
-        let g = h.sets_judged off s (ap (λ l. get nat_eq l off) sets ∙ e) in
-        record { item = g.item; is_read = g.is_read; whole = λ le. g.whole (early le) };
-    lists_judged = λ off e. h.lists_judged off (ap (λ l. contains nat_eq l off) lists ∙ e);
+-- ---- what is new
+
+-- what is noted was noted before, or is new
+pub record Notes (NewSet NewList : ℕ → ℕ → Type 0) (NewPassed NewPassedList : ℕ → Type 0) (j k : Judged) : Type 0 where
+  pub extended : Extends j.table k.table
+  pub sets_from : (q place : ℕ) → get nat_eq k.sets q ≡ Some place → (get nat_eq j.sets q ≡ Some place) ⊎ NewSet q place
+  pub lists_from : (q place : ℕ) → get nat_eq k.lists q ≡ Some place → (get nat_eq j.lists q ≡ Some place) ⊎ NewList q place
+  pub passed_from : (q : ℕ) → contains nat_eq k.passed_sets q ≡ true → (contains nat_eq j.passed_sets q ≡ true) ⊎ NewPassed q
+  pub passed_lists_from : (q : ℕ) → contains nat_eq k.passed_lists q ≡ true → (contains nat_eq j.passed_lists q ≡ true) ⊎ NewPassedList q
+
+-- where one value is put, each of the others was there before
+from_before : {X : Type 0} (f g : ℕ → X) (o : ℕ) (v : X) → g o ≡ v → ((q : ℕ) → nat_eq o q ≡ false → g q ≡ f q) → (q : ℕ) (w : X) → g q ≡ w → (f q ≡ w) ⊎ ((o ≡ q) × (v ≡ w))
+from_before {X} f g o v here others q w e = elim (cases_eq o q) [
+  | inl same ↦ inr (same, sym here ∙ subst (λ (n : ℕ). g n ≡ w) (sym same) e)
+  | inr apart ↦ inl (sym (others q (ne_eqb o q apart)) ∙ e)
+]
+
+pub one_place : (p place : ℕ) → Some p ≡ Some place → p ≡ place
+one_place p place e = cc
+
+abbrev IsNew : ℕ → ℕ → ℕ → ℕ → Type 0
+IsNew o p q place = (o ≡ q) × (p ≡ place)
+
+abbrev NoneNew : ℕ → ℕ → Type 0
+NoneNew q place = ⊥
+
+abbrev NonePassed : ℕ → Type 0
+NonePassed q = ⊥
+
+module _ (j k : Judged) (o : ℕ) where
+  pub set_noted : (p : ℕ) → Extends j.table k.table → get nat_eq k.sets o ≡ Some p → ((q : ℕ) → nat_eq o q ≡ false → get nat_eq k.sets q ≡ get nat_eq j.sets q) → k.lists ≡ j.lists → k.passed_sets ≡ j.passed_sets → k.passed_lists ≡ j.passed_lists
+      → Notes (IsNew o p) NoneNew NonePassed NonePassed j k
+  set_noted p extended here others lists passed passed_lists = record {
+    extended = extended;
+    sets_from = λ q place e. elim (from_before (λ n. get nat_eq j.sets n) (λ n. get nat_eq k.sets n) o (Some p) here others q (Some place) e) [ inl before ↦ inl before | inr new ↦ inr (new.0, one_place p place new.1) ];
+    lists_from = λ q place e. inl (ap (λ l. get nat_eq l q) (sym lists) ∙ e);
+    passed_from = λ q e. inl (ap (λ l. contains nat_eq l q) (sym passed) ∙ e);
+    passed_lists_from = λ q e. inl (ap (λ l. contains nat_eq l q) (sym passed_lists) ∙ e);
   }
 
-  one_value : (s t : AnnotationSet) → Some s ≡ Some t → t ≡ s
-  one_value s t e = cc
-
-  -- one set more is noted
-  pub set_noted : (most weight : ℕ) (j k : Judged) (o : ℕ) (s : AnnotationSet) → get nat_eq k.sets o ≡ Some s → ((q : ℕ) → nat_eq o q ≡ false → get nat_eq k.sets q ≡ get nat_eq j.sets q) → j.lists ≡ k.lists
-      → IsJudgedSet b m most weight o (set_of s) → AreJudged b m most weight j → AreJudged b m most weight k
-  set_noted most weight j k o s here others lists r h = record {
-    sets_judged = λ off t e. elim (cases_eq o off) [
-      | inl same ↦ subst (λ (n : ℕ). IsJudgedSet b m most weight n (set_of t)) same
-          (subst (λ (x : AnnotationSet). IsJudgedSet b m most weight o (set_of x)) (sym (one_value s t (sym here ∙ subst (λ (n : ℕ). get nat_eq k.sets n ≡ Some t) (sym same) e))) r)
-      | inr apart ↦ h.sets_judged off t (sym (others off (ne_eqb o off apart)) ∙ e)
-    ];
-    lists_judged = λ off e. h.lists_judged off (ap (λ l. contains nat_eq l off) lists ∙ e);
+  pub list_noted : (p : ℕ) → Extends j.table k.table → get nat_eq k.lists o ≡ Some p → ((q : ℕ) → nat_eq o q ≡ false → get nat_eq k.lists q ≡ get nat_eq j.lists q) → k.sets ≡ j.sets → k.passed_sets ≡ j.passed_sets → k.passed_lists ≡ j.passed_lists
+      → Notes NoneNew (IsNew o p) NonePassed NonePassed j k
+  list_noted p extended here others sets passed passed_lists = record {
+    extended = extended;
+    sets_from = λ q place e. inl (ap (λ l. get nat_eq l q) (sym sets) ∙ e);
+    lists_from = λ q place e. elim (from_before (λ n. get nat_eq j.lists n) (λ n. get nat_eq k.lists n) o (Some p) here others q (Some place) e) [ inl before ↦ inl before | inr new ↦ inr (new.0, one_place p place new.1) ];
+    passed_from = λ q e. inl (ap (λ l. contains nat_eq l q) (sym passed) ∙ e);
+    passed_lists_from = λ q e. inl (ap (λ l. contains nat_eq l q) (sym passed_lists) ∙ e);
   }
+
+  pub set_passed : Extends j.table k.table → contains nat_eq k.passed_sets o ≡ true → ((q : ℕ) → nat_eq o q ≡ false → contains nat_eq k.passed_sets q ≡ contains nat_eq j.passed_sets q) → k.sets ≡ j.sets → k.lists ≡ j.lists → k.passed_lists ≡ j.passed_lists
+      → Notes NoneNew NoneNew (λ q. o ≡ q) NonePassed j k
+  set_passed extended here others sets lists passed_lists = record {
+    extended = extended;
+    sets_from = λ q place e. inl (ap (λ l. get nat_eq l q) (sym sets) ∙ e);
+    lists_from = λ q place e. inl (ap (λ l. get nat_eq l q) (sym lists) ∙ e);
+    passed_from = λ q e. elim (from_before (λ n. contains nat_eq j.passed_sets n) (λ n. contains nat_eq k.passed_sets n) o true here others q true e) [ inl before ↦ inl before | inr new ↦ inr new.0 ];
+    passed_lists_from = λ q e. inl (ap (λ l. contains nat_eq l q) (sym passed_lists) ∙ e);
+  }
+
+  pub list_passed : Extends j.table k.table → contains nat_eq k.passed_lists o ≡ true → ((q : ℕ) → nat_eq o q ≡ false → contains nat_eq k.passed_lists q ≡ contains nat_eq j.passed_lists q) → k.sets ≡ j.sets → k.lists ≡ j.lists → k.passed_sets ≡ j.passed_sets
+      → Notes NoneNew NoneNew NonePassed (λ q. o ≡ q) j k
+  list_passed extended here others sets lists passed = record {
+    extended = extended;
+    sets_from = λ q place e. inl (ap (λ l. get nat_eq l q) (sym sets) ∙ e);
+    lists_from = λ q place e. inl (ap (λ l. get nat_eq l q) (sym lists) ∙ e);
+    passed_from = λ q e. inl (ap (λ l. contains nat_eq l q) (sym passed) ∙ e);
+    passed_lists_from = λ q e. elim (from_before (λ n. contains nat_eq j.passed_lists n) (λ n. contains nat_eq k.passed_lists n) o true here others q true e) [ inl before ↦ inl before | inr new ↦ inr new.0 ];
+  }
+
+-- ---- what is known of it
+
+-- what was noted is held, and what is new
+pub all_held : {NS NL : ℕ → ℕ → Type 0} {NP NPL : ℕ → Type 0} (j k : Judged) → Notes NS NL NP NPL j k → ((q place : ℕ) → NS q place → place < length k.table.sets) → ((q place : ℕ) → NL q place → place < length k.table.lists) → AreHeld j → AreHeld k
+all_held j k notes new_set new_list h = record {
+  sets_held = λ q place e. elim (notes.sets_from q place e) [
+    | inl before ↦ notes.extended.sets_hold (Some place) (h.sets_held q place before)
+    | inr new ↦ new_set q place new
+  ];
+  lists_held = λ q place e. elim (notes.lists_from q place e) [
+    | inl before ↦ notes.extended.lists_hold (Some place) (h.lists_held q place before)
+    | inr new ↦ new_list q place new
+  ];
+}
+
+-- what was noted stands where it stood, and so does what is new
+pub all_judged : {NS NL : ℕ → ℕ → Type 0} {NP NPL : ℕ → Type 0} (b : List ℕ) (m : Mentions) (j k : Judged) → Notes NS NL NP NPL j k → ((q place : ℕ) → NS q place → IsSetAt b q m (set_at k.table.sets (Some place)))
+    → ((q place : ℕ) → NL q place → IsRefListAt b q m (sets_at k.table (Some place))) → ((q : ℕ) → NP q → HasSet b m q) → ((q : ℕ) → NPL q → HasRefList b m q) → AreHeld j → AreJudged b m j → AreJudged b m k
+all_judged b m j k notes new_set new_list new_passed new_passed_list held h = record {
+  sets_judged = λ q place e. elim (notes.sets_from q place e) [
+    | inl before ↦ subst (IsSetAt b q m) (sym (notes.extended.sets_stay (Some place) (held.sets_held q place before))) (h.sets_judged q place before)
+    | inr new ↦ new_set q place new
+  ];
+  lists_judged = λ q place e. elim (notes.lists_from q place e) [
+    | inl before ↦ subst (IsRefListAt b q m) (sym (notes.extended.lists_stay (Some place) (held.lists_held q place before))) (h.lists_judged q place before)
+    | inr new ↦ new_list q place new
+  ];
+  passed_sets_judged = λ q e. elim (notes.passed_from q e) [ inl before ↦ h.passed_sets_judged q before | inr new ↦ new_passed q new ];
+  passed_lists_judged = λ q e. elim (notes.passed_lists_from q e) [ inl before ↦ h.passed_lists_judged q before | inr new ↦ new_passed_list q new ];
+}

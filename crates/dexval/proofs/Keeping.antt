@@ -43,25 +43,34 @@ new_kept Read weighs most before after item kept r le e same = record {
 }
 
 -- what was read before is counted once more, but not where the weight has passed
-pub known_kept : {X : Type 0} (Read : X → Type 0) (weighs : X → ℕ) (most before after : ℕ) (item known kept : X) → Read item → (before ≤ most → known ≡ item)
-    → (most < before → after ≡ before) → (before ≤ most → after ≡ min (2 ^ 64 - 1) (before + weighs known)) → (before ≤ most → kept ≡ known) → IsKept Read weighs most before after kept
-known_kept {X} Read weighs most before after item known kept r whole passed counted same =
+pub known_kept : {X : Type 0} (Read : X → Type 0) (weighs : X → ℕ) (most before after : ℕ) (item : X) → Read item → (most < before → after ≡ before) → (before ≤ most → after ≡ min (2 ^ 64 - 1) (before + weighs item)) → IsKept Read weighs most before after item
+known_kept {X} Read weighs most before after item r passed counted =
     let early : after ≤ most → before ≤ most = λ within. elim (cases_lt most before) [
       | inl over ↦ absurd (omega (arith, over, within, passed over))
       | inr le ↦ le
     ] in
-    let grows : before ≤ most → after ≡ min (2 ^ 64 - 1) (before + weighs item) = λ le. subst (λ (x : X). after ≡ min (2 ^ 64 - 1) (before + weighs x)) (whole le) (counted le) in
     record {
       item = item;
       is_read = r;
       early = early;
-      grown = λ within. grows (early within);
+      grown = λ within. counted (early within);
       heavy = λ over. elim (cases_lt most before) [
         | inl passed_before ↦ omega (arith, passed_before)
-        | inr le ↦ omega (arith, over, grows le)
+        | inr le ↦ omega (arith, over, counted le)
       ];
-      whole = λ within. same (early within) ∙ whole (early within);
+      whole = λ within. refl;
     }
+
+-- what is not kept was read before, once the weight had passed
+pub passed_kept : {X : Type 0} (Read : X → Type 0) (weighs : X → ℕ) (most weight : ℕ) (item kept : X) → Read item → most < weight → IsKept Read weighs most weight weight kept
+passed_kept Read weighs most weight item kept r over = record {
+  item = item;
+  is_read = r;
+  early = λ within. within;
+  grown = λ within. absurd (omega (arith, over, within));
+  heavy = λ lt. omega (arith, over);
+  whole = λ within. absurd (omega (arith, over, within));
+}
 
 -- one more was read, and kept where the running weight allows it
 pub one_kept : {X : Type 0} (Read Next : List X → Type 0) (weighs : List X → ℕ) (one : X → ℕ) (most before old new : ℕ) (kept next : List X) (x y : X)
@@ -147,7 +156,7 @@ parts_weigh m d =
 abbrev directory_parts : NumberedSet → List (ℕ × NumberedSet) → List (ℕ × NumberedSet) → List (ℕ × List NumberedSet) → NumberedDirectory
 directory_parts own fields methods parameters = record { own = own; fields = fields; methods = methods; parameters = parameters }
 
-same_parts : {a b : NumberedSet} {c d e f : List (ℕ × NumberedSet)} {g h : List (ℕ × List NumberedSet)} → a ≡ b → c ≡ d → e ≡ f → g ≡ h → directory_parts a c e g ≡ directory_parts b d f h
+pub same_parts : {a b : NumberedSet} {c d e f : List (ℕ × NumberedSet)} {g h : List (ℕ × List NumberedSet)} → a ≡ b → c ≡ d → e ≡ f → g ≡ h → directory_parts a c e g ≡ directory_parts b d f h
 same_parts own fields methods parameters = cc
 
 -- all parts were read, and kept where the weight of all allows it

@@ -18,6 +18,7 @@ pub mod LowBytes
 pub mod Marked
 pub mod Meanings
 pub mod Members
+pub mod Naming
 pub mod NestedRead
 pub mod Offsets
 pub mod Ranked
@@ -30,6 +31,7 @@ pub mod Settling
 pub mod Shapes
 pub mod Spelled
 pub mod Spelling
+pub mod TableGrowth
 pub mod Tables
 pub mod TablesLed
 pub mod ValueForms

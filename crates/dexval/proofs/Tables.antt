@@ -1,8 +1,9 @@
 -- Tables of sets: what is looked up in them.
-use Rattle.std.proofs.Common.{◌≡◌, ℕ, ◌<◌, ◌≤◌, List, length, map, get_or, ap, sym, subst, ◌∙◌, arith, Option, Some, None}
+use Rattle.std.proofs.Common.{◌≡◌, ℕ, ◌<◌, ◌≤◌, List, [], ◌∷◌, length, map, get_or, refl, ap, sym, subst, ◌∙◌, arith, Option, Some, None}
+use Rattle.std.specs.Prelude.{IsSome}
 use Rattle.std.specs.List.{All}
 use Rattle.std.proofs.lemmas.List.{get_or-map, length-map}
-use Rattle.std.proofs.lemmas.List.Elements.{All-get_or}
+use Rattle.std.proofs.lemmas.List.Elements.{All-get_or, All-head, All-tail}
 use Rattle.dexval.specs.Tables.{IsPlaceIn}
 
 -- what holds of all that members stand for holds of one of them
@@ -17,3 +18,17 @@ place_later xs ys le (Some i) h = omega (arith, le, h)
 -- and so are the places of lists
 pub lists_later : {X Y : Type 0} (xs : List X) (ys : List Y) → length xs ≤ length ys → (lists : List (List (Option ℕ))) → All (All (IsPlaceIn xs)) lists → All (All (IsPlaceIn ys)) lists
 lists_later xs ys le lists h = λ k d lt i e inside. place_later xs ys le _ (h k d lt i e inside)
+
+-- what two functions make of a list is the same where they are the same at each member
+pub map_stays : {A X : Type 0} (f g : A → X) (P : A → Type 0) → ((a : A) → P a → g a ≡ f a) → (xs : List A) → All P xs → map g xs ≡ map f xs
+map_stays f g P same [] h = refl
+map_stays f g P same (x ∷ xs) h = ap (λ y. y ∷ map g xs) (same x (All-head P x xs h)) ∙ ap (λ ys. f x ∷ ys) (map_stays f g P same xs (All-tail P x xs h))
+
+-- what holds of all members holds of them in another way
+pub all_as : {A : Type 0} (P Q : A → Type 0) → ((a : A) → P a → Q a) → (xs : List A) → All P xs → All Q xs
+all_as P Q goes xs h = λ k d lt. goes _ (h k d lt)
+
+-- no place is none
+pub not_some : (o : Option ℕ) → o ≡ None → IsSome o → ⊥
+not_some None e h = absurd cc
+not_some (Some i) e h = absurd cc

@@ -1,5 +1,5 @@
 -- What numbers weigh is what they stand for weighs.
-use Rattle.std.proofs.Common.{◌≡◌, ◌<◌, ℕ, ◌+◌, ◌*◌, List, [], ◌∷◌, length, map, refl, sym, ap, arith, sum_by}
+use Rattle.std.proofs.Common.{◌≡◌, ◌<◌, ℕ, ◌+◌, ◌*◌, List, [], ◌∷◌, length, map, refl, sym, ap, arith, sum_by, Option}
 use Rattle.std.proofs.lemmas.List.Sums.{sum_by-cons}
 use Rattle.dexspec.specs.Mentions.{Mentions}
 use Rattle.dexspec.specs.Weight.{value_weight, values_weight, elements_weight, annotation_weight, set_weight, ref_list_weight, static_values_weight}
@@ -9,6 +9,7 @@ use Rattle.dexval.specs.declared.value.Value.{Value}
 use Rattle.dexval.specs.Code.{value_of, annotation_of, set_of}
 use Rattle.dexval.specs.Numbered.{Literal, ByteLiteral, ShortLiteral, CharLiteral, IntLiteral, LongLiteral, FloatLiteral, DoubleLiteral, NullLiteral, BooleanLiteral, Reference, StringReference, TypeReference, FieldReference, MethodReference, EnumReference, NumberedValue, NumberedValues, NumberedElements, NumberedAnnotation, NumberedSet, Plain, Named, Array, Annotated, NoValue, ThenNext, NoElement, ThenNamed, plain_value, named_value, value_in, values_in, elements_in, annotation_in, set_in, values_of_list}
 use Rattle.dexval.specs.Spelled.{numbered_weight, numbered_values_weight, numbered_elements_weight, numbered_annotation_weight, numbered_set_weight}
+use Rattle.dexval.specs.Tables.{set_at}
 
 plain_weight : (l : Literal) → value_weight (plain_value l) ≡ 9
 plain_weight (ByteLiteral z) = refl
@@ -80,3 +81,13 @@ annotations_sum (x ∷ xs) =
 pub annotations_weight_is : (xs : List CodeAnnotation) → 0 < length xs → 8 + sum_by (λ a. 4 + numbered_annotation_weight (annotation_of a)) xs ≡ numbered_set_weight (map annotation_of xs)
 annotations_weight_is [] some = absurd (omega arith)
 annotations_weight_is (x ∷ xs) some = ap (λ (n : ℕ). 8 + n) (annotations_sum (x ∷ xs))
+
+places_sum : (m : Mentions) (sets : List NumberedSet) (ps : List (Option ℕ)) → sum_by (λ p. 4 + set_weight (set_in m (set_at sets p))) ps ≡ 4 * length (map (set_in m) (map (set_at sets) ps)) + sum_by set_weight (map (set_in m) (map (set_at sets) ps))
+places_sum m sets [] = refl
+places_sum m sets (p ∷ ps) =
+    omega (arith, sum_by-cons (λ p. 4 + set_weight (set_in m (set_at sets p))) p ps, sum_by-cons set_weight (set_in m (set_at sets p)) (map (set_in m) (map (set_at sets) ps)), places_sum m sets ps)
+
+-- the sets of a list by their places, of which there is one
+pub places_weigh : (m : Mentions) (sets : List NumberedSet) (ps : List (Option ℕ)) → 0 < length ps → 8 + sum_by (λ p. 4 + set_weight (set_in m (set_at sets p))) ps ≡ ref_list_weight (map (set_in m) (map (set_at sets) ps))
+places_weigh m sets [] some = absurd (omega arith)
+places_weigh m sets (p ∷ ps) some = omega (arith, places_sum m sets (p ∷ ps))

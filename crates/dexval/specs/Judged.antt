@@ -1,27 +1,45 @@
--- What of a directory was judged.
-use Rattle.std.specs.Prelude.{◌≡◌, ℕ, ◌≤◌, List, true, Some, nat_eq}
+-- What of a directory was read, by its offset.
+use Rattle.std.specs.Prelude.{◌≡◌, ℕ, ◌<◌, List, true, Option, Some, length, nat_eq}
+use Rattle.std.specs.List.{Contains}
 use Rattle.std.specs.HashMap.{get}
 use Rattle.std.specs.HashSet.{contains}
 use Rattle.dexspec.specs.Mentions.{Mentions}
-use Rattle.dexval.specs.declared.set.AnnotationSet.{AnnotationSet}
 use Rattle.dexval.specs.declared.judged.Judged.{Judged}
-use Rattle.dexval.specs.Code.{set_of}
 use Rattle.dexval.specs.Numbered.{NumberedSet}
 use Rattle.dexval.specs.Directories.{IsRefListAt}
 use Rattle.dexval.specs.Reading.{IsSetAt}
+use Rattle.dexval.specs.Tables.{Extends, AreNewNamed, set_at, sets_at}
 
--- a set stands at the offset; what is kept is all of it where the running weight is at most `most`
-pub record IsJudgedSet (b : List ℕ) (m : Mentions) (most weight off : ℕ) (kept : NumberedSet) : Type 0 where
+-- a set stands at the offset
+pub record HasSet (b : List ℕ) (m : Mentions) (off : ℕ) : Type 0 where
   pub item : NumberedSet
-  pub is_read : IsSetAt b off m item
-  pub whole : weight ≤ most → kept ≡ item
+  pub is_set : IsSetAt b off m item
 
 -- an annotation_set_ref_list stands at the offset
 pub record HasRefList (b : List ℕ) (m : Mentions) (off : ℕ) : Type 0 where
   pub item : List NumberedSet
   pub is_list : IsRefListAt b off m item
 
--- so it is for each set and each list that is noted
-pub record AreJudged (b : List ℕ) (m : Mentions) (most weight : ℕ) (judged : Judged) : Type 0 where
-  pub sets_judged : (off : ℕ) (s : AnnotationSet) → get nat_eq judged.sets off ≡ Some s → IsJudgedSet b m most weight off (set_of s)
-  pub lists_judged : (off : ℕ) → contains nat_eq judged.lists off ≡ true → HasRefList b m off
+-- each place that is noted is one of the table's
+pub record AreHeld (judged : Judged) : Type 0 where
+  pub sets_held : (off place : ℕ) → get nat_eq judged.sets off ≡ Some place → place < length judged.table.sets
+  pub lists_held : (off place : ℕ) → get nat_eq judged.lists off ≡ Some place → place < length judged.table.lists
+
+-- what is noted at an offset stands there
+pub record AreJudged (b : List ℕ) (m : Mentions) (judged : Judged) : Type 0 where
+  pub sets_judged : (off place : ℕ) → get nat_eq judged.sets off ≡ Some place → IsSetAt b off m (set_at judged.table.sets (Some place))
+  pub lists_judged : (off place : ℕ) → get nat_eq judged.lists off ≡ Some place → IsRefListAt b off m (sets_at judged.table (Some place))
+  pub passed_sets_judged : (off : ℕ) → contains nat_eq judged.passed_sets off ≡ true → HasSet b m off
+  pub passed_lists_judged : (off : ℕ) → contains nat_eq judged.passed_lists off ≡ true → HasRefList b m off
+
+-- Something was read and noted: the table grew, and still holds what is noted, and what was read. If all is kept, what is new
+-- in the table is named by it.
+pub record IsNoted (SetNamed ListNamed : ℕ → Type 0) (Held AllKept : Type 0) (old new : Judged) : Type 0 where
+  pub extended : Extends old.table new.table
+  pub noted_held : AreHeld new
+  pub held : Held
+  pub named : AllKept → AreNewNamed SetNamed ListNamed old.table new.table
+
+-- a member's place names it
+abbrev pub IsNamedOf : (Option ℕ → ℕ → Type 0) → List (ℕ × ℕ) → ℕ → Type 0
+IsNamedOf names members i = (number : ℕ) × (place : ℕ) × Contains members (number, place) × names (Some place) i

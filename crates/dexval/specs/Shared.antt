@@ -2,16 +2,24 @@
 use Rattle.std.specs.Prelude.{◌≡◌, ◌⊎◌, ℕ, ◌<◌, List, length, map, All, Option, Some}
 use Rattle.std.specs.List.{Contains}
 use Rattle.dexval.specs.declared.directory.SharedDirectory.{SharedDirectory}
-use Rattle.dexval.specs.Numbered.{NumberedDirectory}
+use Rattle.dexval.specs.Numbered.{NumberedSet, NumberedDirectory}
 use Rattle.dexval.specs.Tables.{NumberedTable, IsPlaceIn, IsListed, set_at, sets_at}
+
+-- members with their sets
+abbrev pub sets_of_members : NumberedTable → List (ℕ × ℕ) → List (ℕ × NumberedSet)
+sets_of_members t members = map (λ e. (e.0, set_at t.sets (Some e.1))) members
+
+-- members with their lists of sets
+abbrev pub lists_of_members : NumberedTable → List (ℕ × ℕ) → List (ℕ × List NumberedSet)
+lists_of_members t members = map (λ e. (e.0, sets_at t (Some e.1))) members
 
 -- a directory of these places, with each set and each list in the stead of its place in the table
 abbrev pub looked_up : NumberedTable → Option ℕ → List (ℕ × ℕ) → List (ℕ × ℕ) → List (ℕ × ℕ) → NumberedDirectory
 looked_up t own fields methods parameters = record {
   own = set_at t.sets own;
-  fields = map (λ e. (e.0, set_at t.sets (Some e.1))) fields;
-  methods = map (λ e. (e.0, set_at t.sets (Some e.1))) methods;
-  parameters = map (λ e. (e.0, sets_at t (Some e.1))) parameters;
+  fields = sets_of_members t fields;
+  methods = sets_of_members t methods;
+  parameters = lists_of_members t parameters;
 }
 
 -- the directory

@@ -1,5 +1,5 @@
 -- Sets of annotations, and lists of them, that are kept once and named by their places.
-use Rattle.std.specs.Prelude.{◌≡◌, ℕ, ◌<◌, List, [], length, map, All, Option, Some, None, slice_index_or}
+use Rattle.std.specs.Prelude.{◌≡◌, ◌⊎◌, ℕ, ◌<◌, List, [], length, map, All, Option, Some, None, slice_index_or}
 use Rattle.std.specs.List.{Contains}
 use Rattle.dexpool.specs.Numberings.{Maps}
 use Rattle.dexval.specs.Numbered.{NumberedSet}
@@ -40,3 +40,18 @@ IsListed t i = (places : List (Option ℕ)) × Contains t.lists places × Contai
 -- the new set is the old one with its numbers led on, where each has a place
 abbrev pub IsLedSet : Maps → NumberedSet → NumberedSet → Type 0
 IsLedSet r old new = SetHasPlaces r old → new ≡ renumbered_set r old
+
+-- ---- a table that grows
+
+-- what stands in the first table stands in the second, at the same places
+pub record Extends (t u : NumberedTable) : Type 0 where
+  pub sets_hold : (place : Option ℕ) → IsPlaceIn t.sets place → IsPlaceIn u.sets place
+  pub lists_hold : (place : Option ℕ) → IsPlaceIn t.lists place → IsPlaceIn u.lists place
+  pub sets_stay : (place : Option ℕ) → IsPlaceIn t.sets place → set_at u.sets place ≡ set_at t.sets place
+  pub lists_stay : (place : Option ℕ) → IsPlaceIn t.lists place → sets_at u place ≡ sets_at t place
+  pub listed_stay : (i : ℕ) → IsListed t i → IsListed u i
+
+-- each set of the second table that is none of the first has a name, and so has each list
+pub record AreNewNamed (SetNamed ListNamed : ℕ → Type 0) (t u : NumberedTable) : Type 0 where
+  pub set_named : (i : ℕ) → i < length u.sets → (i < length t.sets) ⊎ SetNamed i
+  pub list_named : (i : ℕ) → i < length u.lists → (i < length t.lists) ⊎ ListNamed i

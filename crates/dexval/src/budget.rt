@@ -1,6 +1,6 @@
 //! How much of what is read may be kept.
 
-ghost use Rattle.std.specs.Prelude.{◌≡◌, ◌↔◌, ◌+◌, ◌-◌, ◌^◌, ◌≤◌, min, IsTrue};
+ghost use Rattle.std.specs.Prelude.{◌≡◌, ◌↔◌, ◌+◌, ◌-◌, ◌^◌, ◌<◌, ◌≤◌, min, IsTrue};
 
 /// What was read so far weighs `weight`, or 2^64 - 1 where that is more. It is kept while that is at most `most`.
 #[derive(Drop)]
@@ -21,7 +21,8 @@ impl Budget {
 
     /// Whether all that was read may be kept.
     pub(crate) fn is_within(&self) -> bool
-        ensures { IsTrue result ↔ (self.now.weight ≤ self.now.most) }
+        ensures within { IsTrue result ↔ (self.now.weight ≤ self.now.most) }
+        ensures fits { self.now.weight < 2 ^ 64 }
     {
         self.weight <= self.most
     }

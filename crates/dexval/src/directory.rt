@@ -1,7 +1,13 @@
 //! What a class and its members are annotated with.
 
+ghost use Rattle.std.specs.Prelude.{◌≡◌, All, IfOk, Some, map};
+ghost use Rattle.dexval.specs.Code.{set_of, directory_of};
+ghost use Rattle.dexval.specs.Shared.{HoldsPlaces, sets_of_members, lists_of_members, shared_directory_of};
+ghost use Rattle.dexval.specs.Tables.{IsPlaceIn, set_at, sets_at};
+
 use crate::set::AnnotationSet;
 use crate::set_table::SetTable;
+use std::alloc::{AllocError, Global};
 
 /// The annotations of a class, and for each annotated member a pair of its number and its annotations, in the order
 /// of the numbers.
@@ -48,4 +54,87 @@ pub struct MemberCounts {
     pub methods: u32,
     /// Methods with annotated parameters.
     pub parameters: u32,
+}
+
+// The set at a place, with annotations of its own.
+fn copied_set(
+    alloc: Global,
+    table: &SetTable,
+    place: Option<u32>,
+) -> Result<AnnotationSet, AllocError>
+    requires { IsPlaceIn table.now.sets place }
+    ensures { IfOk result (λ set. set_of set ≡ set_at table.now.sets place) }
+{
+    match table.set(place) {
+        Some(set) => set.copy(),
+        None => Ok(AnnotationSet::empty(alloc)),
+    }
+}
+
+// The sets of the list at a place, each with annotations of its own.
+fn copied_list(
+    alloc: Global,
+    table: &SetTable,
+    place: u32,
+) -> Result<Vec<AnnotationSet>, AllocError>
+    requires { IsPlaceIn table.now.lists (Some place) }
+    ensures { IfOk result (λ sets. map set_of sets.items ≡ sets_at table.now (Some place)) }
+{
+    let places = table.list(Some(place));
+    let mut sets = Vec::with_capacity(alloc, places.len())?;
+    for place in places {
+        sets.push(copied_set(alloc, table, *place)?)?;
+    }
+    Ok(sets)
+}
+
+// Members with their sets in the stead of the places.
+fn copied_sets(
+    table: &SetTable,
+    members: &Vec<(u32, u32)>,
+) -> Result<Vec<(u32, AnnotationSet)>, AllocError>
+    requires { All (λ e. IsPlaceIn table.now.sets (Some e.1)) members.now.items }
+    ensures { IfOk result (λ copies. sets_of_members table.now members.now.items ≡ map (λ e. (e.0, set_of e.1)) copies.items) }
+{
+    let alloc = *members.allocator();
+    let mut copies = Vec::with_capacity(alloc, members.len())?;
+    for member in members {
+        let set = copied_set(alloc, table, Some(member.1))?;
+        copies.push((member.0, set))?;
+    }
+    Ok(copies)
+}
+
+// Members with their lists of sets in the stead of the places.
+fn copied_lists(
+    table: &SetTable,
+    members: &Vec<(u32, u32)>,
+) -> Result<Vec<(u32, Vec<AnnotationSet>)>, AllocError>
+    requires { All (λ e. IsPlaceIn table.now.lists (Some e.1)) members.now.items }
+    ensures { IfOk result (λ copies. lists_of_members table.now members.now.items ≡ map (λ e. (e.0, map set_of e.1.items)) copies.items) }
+{
+    let alloc = *members.allocator();
+    let mut copies = Vec::with_capacity(alloc, members.len())?;
+    for member in members {
+        let sets = copied_list(alloc, table, member.1)?;
+        copies.push((member.0, sets))?;
+    }
+    Ok(copies)
+}
+
+impl SharedDirectory {
+    /// The same directory, with sets of its own for each member.
+    ///
+    /// Condition: each place is one of the table's. Error: memory was refused.
+    pub(crate) fn unshared(&self) -> Result<Directory, AllocError>
+        requires { HoldsPlaces self.now.table self.now.own self.now.fields.items self.now.methods.items self.now.parameters.items }
+        ensures { IfOk result (λ directory. directory_of directory ≡ shared_directory_of self.now) }
+    {
+        Ok(Directory {
+            own: copied_set(*self.fields.allocator(), &self.table, self.own)?,
+            fields: copied_sets(&self.table, &self.fields)?,
+            methods: copied_sets(&self.table, &self.methods)?,
+            parameters: copied_lists(&self.table, &self.parameters)?,
+        })
+    }
 }

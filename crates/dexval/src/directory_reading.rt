@@ -1,22 +1,24 @@
 //! Directories of annotations read from a file.
 
-ghost use Rattle.std.specs.Prelude.{ℕ, List, ◌^◌, ◌<◌, ◌≡◌, ◌≢◌, ◌+◌, ◌*◌, ◌≤◌, All, IfOk, IfErr, OnOk, IfSome, IfNone, MatchOption, length, map, sum_by};
+ghost use Rattle.std.specs.Prelude.{ℕ, List, [], ◌^◌, ◌<◌, ◌≡◌, ◌≢◌, ◌+◌, ◌*◌, ◌≤◌, Option, Some, IsSome, All, IfOk, IfErr, OnOk, IfSome, IfNone, MatchOption, length, map, sum_by};
+ghost use Rattle.std.specs.List.{Contains};
 ghost use Rattle.dexspec.specs.Bytes.{uint_at};
 ghost use Rattle.dexspec.specs.Annotations.{AnnotationSet as SetMeant, SetAt, RefListAt, fields_count, methods_count, parameters_count};
 ghost use Rattle.dexspec.specs.Mentions.{Mentions};
 ghost use Rattle.dexpool.specs.Pools.{ArePools};
-ghost use Rattle.dexval.specs.Code.{set_of, directory_of};
+ghost use Rattle.dexval.specs.Code.{directory_of};
 ghost use Rattle.dexval.specs.Numbered.{NumberedSet, IsKnownSet, set_in, directory_in};
 ghost use Rattle.dexval.specs.Nesting.{AreFilePools};
 ghost use Rattle.dexval.specs.Items.{IsRefusal};
 ghost use Rattle.dexval.specs.Directories.{IsKnownAt, IsRefListAt, NoRefListAt, HasPair, ArePairsAt, NoPairsAt, HasMembers, directory_weight, set_weight_in, sets_weight_in, IsKept};
-ghost use Rattle.dexval.specs.Judged.{AreJudged};
+ghost use Rattle.dexval.specs.Judged.{AreHeld, AreJudged, IsNoted, IsNamedOf};
 ghost use Rattle.dexval.specs.Reading.{IsDirectoryAt, IsDirectoryFault, IsDirectoryWithin, HasHeavyDirectory};
+ghost use Rattle.dexval.specs.Shared.{HoldsPlaces, NamesAll, IsTight, looked_up, shared_directory_of};
+ghost use Rattle.dexval.specs.Tables.{NumberedTable, Extends, IsListed, IsPlaceIn, set_at, sets_at};
 
 use crate::budget::Budget;
-use crate::directory::{Directory, MemberCounts};
-use crate::judged::{Judged, counted_set_at};
-use crate::set::AnnotationSet;
+use crate::directory::{Directory, MemberCounts, SharedDirectory};
+use crate::judged::{Judged, count_list, counted_set_at, note_list};
 use crate::set_reading::count_at;
 use dexhead::{Frame, u32_at};
 use dexpool::{ItemFault, Pools, SymbolKind};
@@ -87,8 +89,8 @@ fn list_weight(count: u32) -> u64
     8 + 4 * u64::from(count)
 }
 
-// The sets of the annotation_set_ref_list at an offset, counted one by one. They are whole while the budget lasts.
-// Error: none stands there.
+// The places of the sets of the annotation_set_ref_list at an offset, counted one by one, while the budget lasts. Error: no
+// list stands there.
 fn listed_sets_at(
     alloc: Global,
     frame: &Frame<'_>,
@@ -96,37 +98,79 @@ fn listed_sets_at(
     off: u32,
     judged: &mut Judged,
     budget: &mut Budget,
-) -> Result<Vec<AnnotationSet>, ItemFault>
-    requires judged { AreFilePools frame.now pools.now → AreJudged frame.now pools.now budget.old.most budget.old.weight judged.old }
+) -> Result<Vec<Option<u32>>, ItemFault>
+    requires held { AreHeld judged.old }
+    requires judged { AreFilePools frame.now pools.now → AreJudged frame.now pools.now judged.old }
     ensures most { budget.new.most ≡ budget.old.most }
-    ensures judged { AreFilePools frame.now pools.now → OnOk result (AreJudged frame.now pools.now budget.new.most budget.new.weight judged.new) }
-    ensures read { AreFilePools frame.now pools.now → IfOk result (λ sets. IsKept (IsRefListAt frame.now off pools.now) (sets_weight_in pools.now) budget.old.most budget.old.weight budget.new.weight (map set_of sets.items)) }
+    ensures grows { budget.old.weight ≤ budget.new.weight }
+    ensures noted { IfOk result (λ places. IsNoted (λ i. Contains places.items (Some i)) (λ _. ⊥) (All (IsPlaceIn judged.new.table.sets) places.items) (budget.new.weight ≤ budget.new.most) judged.old judged.new) }
+    ensures judged { AreFilePools frame.now pools.now → OnOk result (AreJudged frame.now pools.now judged.new) }
+    ensures read { AreFilePools frame.now pools.now → IfOk result (λ places. IsKept (IsRefListAt frame.now off pools.now) (sets_weight_in pools.now) budget.old.most budget.old.weight budget.new.weight (map (set_at judged.new.table.sets) places.items)) }
     ensures refused { AreFilePools frame.now pools.now → IfErr result (IsRefusal (NoRefListAt frame.now off)) }
 {
     let count = count_at(frame, off)?;
     let bytes = frame.bytes();
     let list = list_weight(count);
     budget.add(list);
-    let mut sets = Vec::with_capacity(alloc, room(count, budget))?;
+    let mut places = Vec::with_capacity(alloc, room(count, budget))?;
     for i in 0..count {
-        let place = u32_at(bytes, off as usize + 4 + 4 * i as usize);
-        let set = counted_set_at(alloc, frame, pools, place, judged, budget)?;
+        let set_off = u32_at(bytes, off as usize + 4 + 4 * i as usize);
+        let place = counted_set_at(alloc, frame, pools, set_off, judged, budget)?;
         if budget.is_within() {
-            sets.push(set)?;
+            places.push(place)?;
         }
     }
-    Ok(sets)
+    Ok(places)
 }
 
-// What a directory says of a member: a set of annotations, or the sets of its parameters.
-trait OfMember: Drop {
+// The place of the annotation_set_ref_list at an offset, counted with its sets, if it is kept. It is kept while the budget
+// lasts. Error: none stands there.
+fn counted_list_at(
+    alloc: Global,
+    frame: &Frame<'_>,
+    pools: &Pools<'_>,
+    off: u32,
+    judged: &mut Judged,
+    budget: &mut Budget,
+) -> Result<Option<u32>, ItemFault>
+    requires held { AreHeld judged.old }
+    requires judged { AreFilePools frame.now pools.now → AreJudged frame.now pools.now judged.old }
+    ensures most { budget.new.most ≡ budget.old.most }
+    ensures grows { budget.old.weight ≤ budget.new.weight }
+    ensures kept { IfOk result (λ place. budget.new.weight ≤ budget.new.most → IsSome place) }
+    ensures noted { IfOk result (λ place. IsNoted (IsListed judged.new.table) (λ i. place ≡ Some i) (IsPlaceIn judged.new.table.lists place) (budget.new.weight ≤ budget.new.most) judged.old judged.new) }
+    ensures judged { AreFilePools frame.now pools.now → OnOk result (AreJudged frame.now pools.now judged.new) }
+    ensures read { AreFilePools frame.now pools.now → IfOk result (λ place. IsKept (IsRefListAt frame.now off pools.now) (sets_weight_in pools.now) budget.old.most budget.old.weight budget.new.weight (sets_at judged.new.table place)) }
+    ensures refused { AreFilePools frame.now pools.now → IfErr result (IsRefusal (NoRefListAt frame.now off)) }
+{
+    if let Some(place) = judged.lists.get(&off) {
+        let place = *place;
+        count_list(&judged.table, place, budget);
+        return Ok(Some(place));
+    }
+    if !budget.is_within() && judged.passed_lists.contains(&off) {
+        return Ok(None);
+    }
+    let places = listed_sets_at(alloc, frame, pools, off, judged, budget)?;
+    Ok(note_list(off, places, judged, budget)?)
+}
+
+// What a directory says of a member, by its place in the table: a set of annotations, or the sets of its parameters.
+trait OfMember {
     // With numbers in the place of symbols.
     ghost Numbered: { Type 0 };
 
     // What the numbers stand for.
     ghost Meant: { Type 0 };
 
-    ghost of: { Self → Numbered };
+    ghost of: { NumberedTable → Option ℕ → Numbered };
+
+    ghost is_held: { NumberedTable → Option ℕ → Type 0 };
+
+    // What the place names: a set, or a list.
+    ghost names_set: { NumberedTable → Option ℕ → ℕ → Type 0 };
+
+    ghost names_list: { Option ℕ → ℕ → Type 0 };
 
     ghost is_known: { Mentions → Numbered → Type 0 };
 
@@ -136,7 +180,8 @@ trait OfMember: Drop {
 
     ghost weighs: { Mentions → Numbered → ℕ };
 
-    // What stands at an offset other than 0, counted. It is whole while the budget lasts. Error: nothing stands there.
+    // The place of what stands at an offset other than 0, counted. It is kept while the budget lasts. Error: nothing stands
+    // there.
     fn counted_at(
         alloc: Global,
         frame: &Frame<'_>,
@@ -144,21 +189,39 @@ trait OfMember: Drop {
         off: u32,
         judged: &mut Judged,
         budget: &mut Budget,
-    ) -> Result<Self, ItemFault>
+    ) -> Result<Option<u32>, ItemFault>
         requires other { off ≢ 0 }
-        requires judged { AreFilePools frame.now pools.now → AreJudged frame.now pools.now budget.old.most budget.old.weight judged.old }
+        requires held { AreHeld judged.old }
+        requires judged { AreFilePools frame.now pools.now → AreJudged frame.now pools.now judged.old }
         ensures most { budget.new.most ≡ budget.old.most }
-        ensures judged { AreFilePools frame.now pools.now → OnOk result (AreJudged frame.now pools.now budget.new.most budget.new.weight judged.new) }
-        ensures read { AreFilePools frame.now pools.now → IfOk result (λ x. IsKept (IsKnownAt (is_known pools.now) (inside pools.now) (stands frame.now off)) (weighs pools.now) budget.old.most budget.old.weight budget.new.weight (of x)) }
+        ensures grows { budget.old.weight ≤ budget.new.weight }
+        ensures kept { IfOk result (λ place. budget.new.weight ≤ budget.new.most → IsSome place) }
+        ensures noted { IfOk result (λ place. IsNoted (names_set judged.new.table place) (names_list place) (is_held judged.new.table place) (budget.new.weight ≤ budget.new.most) judged.old judged.new) }
+        ensures judged { AreFilePools frame.now pools.now → OnOk result (AreJudged frame.now pools.now judged.new) }
+        ensures read { AreFilePools frame.now pools.now → IfOk result (λ place. IsKept (IsKnownAt (is_known pools.now) (inside pools.now) (stands frame.now off)) (weighs pools.now) budget.old.most budget.old.weight budget.new.weight (of judged.new.table place)) }
         ensures refused { AreFilePools frame.now pools.now → IfErr result (IsRefusal ((meant : Meant) → stands frame.now off meant → ⊥)) };
+
+    // In a table that grew, a place holds and names what it did.
+    ghost stays: { (t u : NumberedTable) (place : Option ℕ) → Extends t u → is_held t place → is_held u place × (of u place ≡ of t place) };
+
+    ghost naming_stays: { (t u : NumberedTable) (place : Option ℕ) (i : ℕ) → Extends t u → names_set t place i → names_set u place i };
 }
 
-impl OfMember for AnnotationSet {
+// The set of a field or a method.
+struct SetOfMember;
+
+impl OfMember for SetOfMember {
     ghost Numbered = { NumberedSet };
 
     ghost Meant = { SetMeant };
 
-    ghost of = { set_of };
+    ghost of = { λ t place. set_at t.sets place };
+
+    ghost is_held = { λ t place. IsPlaceIn t.sets place };
+
+    ghost names_set = { λ t place i. place ≡ Some i };
+
+    ghost names_list = { λ place i. ⊥ };
 
     ghost is_known = { IsKnownSet };
 
@@ -175,17 +238,30 @@ impl OfMember for AnnotationSet {
         off: u32,
         judged: &mut Judged,
         budget: &mut Budget,
-    ) -> Result<AnnotationSet, ItemFault> {
+    ) -> Result<Option<u32>, ItemFault> {
         counted_set_at(alloc, frame, pools, off, judged, budget)
     }
+
+    ghost stays = { λ t u place extended held. (extended.sets_hold place held, extended.sets_stay place held) };
+
+    ghost naming_stays = { λ t u place i extended named. named };
 }
 
-impl OfMember for Vec<AnnotationSet> {
+// The list of sets of a method's parameters.
+struct ListOfMember;
+
+impl OfMember for ListOfMember {
     ghost Numbered = { List NumberedSet };
 
     ghost Meant = { List SetMeant };
 
-    ghost of = { λ sets. map set_of sets.items };
+    ghost of = { sets_at };
+
+    ghost is_held = { λ t place. IsPlaceIn t.lists place };
+
+    ghost names_set = { λ t place i. IsListed t i };
+
+    ghost names_list = { λ place i. place ≡ Some i };
 
     ghost is_known = { λ m. All (IsKnownSet m) };
 
@@ -202,21 +278,17 @@ impl OfMember for Vec<AnnotationSet> {
         off: u32,
         judged: &mut Judged,
         budget: &mut Budget,
-    ) -> Result<Vec<AnnotationSet>, ItemFault> {
-        if budget.is_within() {
-            return listed_sets_at(alloc, frame, pools, off, judged, budget);
-        }
-        if judged.lists.contains(&off) {
-            return Ok(Vec::new(alloc));
-        }
-        let sets = listed_sets_at(alloc, frame, pools, off, judged, budget)?;
-        judged.lists.insert(off)?;
-        Ok(sets)
+    ) -> Result<Option<u32>, ItemFault> {
+        counted_list_at(alloc, frame, pools, off, judged, budget)
     }
+
+    ghost stays = { λ t u place extended held. (extended.lists_hold place held, extended.lists_stay place held) };
+
+    ghost naming_stays = { λ t u place i extended named. extended.listed_stay i named };
 }
 
-// So many members from a place on, by their numbers, which are below the limit, with what the directory says of each. They
-// are whole while the budget lasts. Error: they do not stand there.
+// So many members from a place on, by their numbers, which are below the limit, with the place of what the directory says of
+// each, while the budget lasts. Error: they do not stand there.
 fn members_at<T: OfMember>(
     alloc: Global,
     frame: &Frame<'_>,
@@ -226,30 +298,42 @@ fn members_at<T: OfMember>(
     limit: usize,
     judged: &mut Judged,
     budget: &mut Budget,
-) -> Result<Vec<(u32, T)>, ItemFault>
+) -> Result<Vec<(u32, u32)>, ItemFault>
     requires within { at + 8 * count ≤ length frame.now }
     requires fits { at < 2 ^ 40 }
-    requires judged { AreFilePools frame.now pools.now → AreJudged frame.now pools.now budget.old.most budget.old.weight judged.old }
+    requires held { AreHeld judged.old }
+    requires judged { AreFilePools frame.now pools.now → AreJudged frame.now pools.now judged.old }
     ensures most { budget.new.most ≡ budget.old.most }
-    ensures judged { AreFilePools frame.now pools.now → OnOk result (AreJudged frame.now pools.now budget.new.most budget.new.weight judged.new) }
-    ensures read { AreFilePools frame.now pools.now → IfOk result (λ members. IsKept (ArePairsAt (T.is_known pools.now) (T.inside pools.now) T.stands frame.now at count limit) (sum_by (λ e. T.weighs pools.now e.1)) budget.old.most budget.old.weight budget.new.weight (map (λ e. (e.0, T.of e.1)) members.items)) }
+    ensures grows { budget.old.weight ≤ budget.new.weight }
+    ensures noted { IfOk result (λ members. IsNoted (IsNamedOf (T.names_set judged.new.table) members.items) (IsNamedOf T.names_list members.items) (All (λ e. T.is_held judged.new.table (Some e.1)) members.items) (budget.new.weight ≤ budget.new.most) judged.old judged.new) }
+    ensures judged { AreFilePools frame.now pools.now → OnOk result (AreJudged frame.now pools.now judged.new) }
+    ensures read { AreFilePools frame.now pools.now → IfOk result (λ members. IsKept (ArePairsAt (T.is_known pools.now) (T.inside pools.now) T.stands frame.now at count limit) (sum_by (λ e. T.weighs pools.now e.1)) budget.old.most budget.old.weight budget.new.weight (map (λ e. (e.0, T.of judged.new.table (Some e.1))) members.items)) }
     ensures refused { AreFilePools frame.now pools.now → IfErr result (IsRefusal (NoPairsAt T.stands frame.now at count limit)) }
 {
     let mut members = Vec::with_capacity(alloc, room(count, budget))?;
     let mut least = 0;
     for i in 0..count {
         let (number, off) = pair_at(frame, at + 8 * i as usize, least, limit)?;
-        let said = T::counted_at(alloc, frame, pools, off, judged, budget)?;
+        let place = T::counted_at(alloc, frame, pools, off, judged, budget)?;
         least = u64::from(number) + 1;
-        if budget.is_within() {
-            members.push((number, said))?;
+        if let Some(place) = place {
+            members.push((number, place))?;
         }
     }
     Ok(members)
 }
 
-// The directory of the annotations_directory_item at an offset, its sets counted one by one. They are whole while the
-// budget lasts, of which nothing is used before. Error: none stands there.
+// The places that a directory names.
+#[derive(Drop)]
+struct Places {
+    own: Option<u32>,
+    fields: Vec<(u32, u32)>,
+    methods: Vec<(u32, u32)>,
+    parameters: Vec<(u32, u32)>,
+}
+
+// The places that the annotations_directory_item at an offset names, its sets counted one by one, while the budget lasts, of
+// which nothing is used before. Error: none stands there.
 fn counted_directory_at(
     alloc: Global,
     frame: &Frame<'_>,
@@ -257,10 +341,15 @@ fn counted_directory_at(
     off: u32,
     judged: &mut Judged,
     budget: &mut Budget,
-) -> Result<Directory, ItemFault>
+) -> Result<Places, ItemFault>
     requires unused { budget.old.weight ≡ 0 }
-    requires judged { AreFilePools frame.now pools.now → AreJudged frame.now pools.now budget.old.most budget.old.weight judged.old }
-    ensures read { AreFilePools frame.now pools.now → IfOk result (λ directory. IsKept (IsDirectoryAt frame.now off pools.now) (λ d. directory_weight (directory_in pools.now d)) budget.old.most 0 budget.new.weight (directory_of directory)) }
+    requires held { AreHeld judged.old }
+    requires judged { AreFilePools frame.now pools.now → AreJudged frame.now pools.now judged.old }
+    requires none { judged.old.table ≡ record { sets = []; lists = [] } }
+    ensures most { budget.new.most ≡ budget.old.most }
+    ensures held { IfOk result (λ places. HoldsPlaces judged.new.table places.own places.fields.items places.methods.items places.parameters.items) }
+    ensures named { IfOk result (λ places. budget.new.weight ≤ budget.new.most → NamesAll judged.new.table places.own places.fields.items places.methods.items places.parameters.items) }
+    ensures read { AreFilePools frame.now pools.now → IfOk result (λ places. IsKept (IsDirectoryAt frame.now off pools.now) (λ d. directory_weight (directory_in pools.now d)) budget.old.most 0 budget.new.weight (looked_up judged.new.table places.own places.fields.items places.methods.items places.parameters.items)) }
     ensures refused { AreFilePools frame.now pools.now → IfErr result (IsDirectoryFault frame.now off) }
 {
     let counts = match member_counts(frame, off) {
@@ -268,11 +357,11 @@ fn counted_directory_at(
         None => return Err(ItemFault::Refused(22)),
     };
     let bytes = frame.bytes();
-    let place = u32_at(bytes, off as usize);
-    let own = counted_set_at(alloc, frame, pools, place, judged, budget)?;
+    let own_off = u32_at(bytes, off as usize);
+    let own = counted_set_at(alloc, frame, pools, own_off, judged, budget)?;
     let fields_at = off as usize + 16;
     let limit = pools.len(SymbolKind::Field);
-    let fields = members_at(
+    let fields = members_at::<SetOfMember>(
         alloc,
         frame,
         pools,
@@ -284,7 +373,7 @@ fn counted_directory_at(
     )?;
     let methods_at = fields_at + 8 * counts.fields as usize;
     let limit = pools.len(SymbolKind::Method);
-    let methods = members_at(
+    let methods = members_at::<SetOfMember>(
         alloc,
         frame,
         pools,
@@ -295,7 +384,7 @@ fn counted_directory_at(
         budget,
     )?;
     let parameters_at = methods_at + 8 * counts.methods as usize;
-    let parameters = members_at(
+    let parameters = members_at::<ListOfMember>(
         alloc,
         frame,
         pools,
@@ -305,7 +394,7 @@ fn counted_directory_at(
         judged,
         budget,
     )?;
-    Ok(Directory {
+    Ok(Places {
         own,
         fields,
         methods,
@@ -321,20 +410,29 @@ fn directory_at(
     pools: &Pools<'_>,
     off: u32,
     most: u64,
-) -> Result<(Directory, u64), ItemFault>
-    ensures read { AreFilePools frame.now pools.now → IfOk result (λ read. IsKept (IsDirectoryAt frame.now off pools.now) (λ d. directory_weight (directory_in pools.now d)) most 0 read.1 (directory_of read.0)) }
+) -> Result<(SharedDirectory, u64), ItemFault>
+    ensures tight { IfOk result (λ read. read.1 ≤ most → IsTight read.0) }
+    ensures read { AreFilePools frame.now pools.now → IfOk result (λ read. IsKept (IsDirectoryAt frame.now off pools.now) (λ d. directory_weight (directory_in pools.now d)) most 0 read.1 (shared_directory_of read.0)) }
     ensures refused { AreFilePools frame.now pools.now → IfErr result (IsDirectoryFault frame.now off) }
 {
     let mut judged = Judged::none(alloc);
     let mut budget = Budget { weight: 0, most };
-    let directory = counted_directory_at(alloc, frame, pools, off, &mut judged, &mut budget)?;
+    let places = counted_directory_at(alloc, frame, pools, off, &mut judged, &mut budget)?;
+    let directory = SharedDirectory {
+        table: judged.table,
+        own: places.own,
+        fields: places.fields,
+        methods: places.methods,
+        parameters: places.parameters,
+    };
     Ok((directory, budget.weight))
 }
 
 /// Reads the annotations_directory_item at an offset, and the sets that it leads to. Its indices count in the pools:
 /// those of the file. Whether the members are those of the class is not judged.
 ///
-/// Each place that names a set has it anew: see [`read_directory_within`] for a bound on what is kept.
+/// Each place that names a set has it anew: see [`read_shared_directory_within`] for sets that are kept once, and for a
+/// bound on them.
 ///
 /// Error: `Refused(22)` exactly where no such directory stands there: the item is not wholly in the data at a multiple
 /// of 4, a member has an offset of 0, an index that is out of range or not greater than the one before it, or no set
@@ -352,16 +450,38 @@ pub fn read_directory(
 {
     pools.numbering().is_numbering();
     let (directory, _) = directory_at(alloc, frame, pools, off, u64::MAX)?;
-    Ok(directory)
+    Ok(directory.unshared()?)
 }
 
-/// Reads the annotations_directory_item at an offset, as [`read_directory`] does, where its sets and lists of sets
-/// weigh at most `most` together, in the bytes of [`AnnotationSet::weight`] and of
-/// [`parameter_sets_weight`](crate::parameter_sets_weight). `None` says that a directory stands there and that they
-/// weigh more. A bound of 2^64 - 1 is none.
+/// Reads the annotations_directory_item at an offset, as [`read_directory`] does, where its sets and lists of sets weigh at
+/// most `most` together, in the bytes of [`AnnotationSet::weight`] and of
+/// [`parameter_sets_weight`](crate::parameter_sets_weight). `None` says that a directory stands there and that they weigh
+/// more. A bound of 2^64 - 1 is none.
 ///
-/// Each place that names a set counts it anew. What is kept at a time weighs at most `most`, beside one set: from the
-/// set on with which it would weigh more, the others are judged and not kept, each once.
+/// Each place that names a set or a list counts it anew, and it is kept once. From the one on with which all would weigh more
+/// than `most`, the others are judged and not kept, each once.
+///
+/// Error: as of [`read_directory`].
+///
+/// Source: "annotations_directory_item" and "annotation_set_ref_list".
+pub fn read_shared_directory_within(
+    alloc: Global,
+    frame: &Frame<'_>,
+    pools: &Pools<'_>,
+    off: u32,
+    most: u64,
+) -> Result<Option<SharedDirectory>, ItemFault>
+    ensures directory { ArePools frame.now pools.now → IfOk result (λ found. MatchOption found (HasHeavyDirectory frame.now off most) (λ directory. IsDirectoryWithin frame.now off pools.now most (shared_directory_of directory))) }
+    ensures tight { IfOk result (λ found. IfSome found IsTight) }
+    ensures refused { ArePools frame.now pools.now → IfErr result (IsDirectoryFault frame.now off) }
+{
+    pools.numbering().is_numbering();
+    let (directory, weight) = directory_at(alloc, frame, pools, off, most)?;
+    Ok((weight <= most).then_some(directory))
+}
+
+/// Reads the annotations_directory_item at an offset, as [`read_shared_directory_within`] does. Each place that names a set
+/// has it anew.
 ///
 /// Error: as of [`read_directory`].
 ///
@@ -376,7 +496,8 @@ pub fn read_directory_within(
     ensures directory { ArePools frame.now pools.now → IfOk result (λ found. MatchOption found (HasHeavyDirectory frame.now off most) (λ directory. IsDirectoryWithin frame.now off pools.now most (directory_of directory))) }
     ensures refused { ArePools frame.now pools.now → IfErr result (IsDirectoryFault frame.now off) }
 {
-    pools.numbering().is_numbering();
-    let (directory, weight) = directory_at(alloc, frame, pools, off, most)?;
-    Ok((weight <= most).then_some(directory))
+    match read_shared_directory_within(alloc, frame, pools, off, most)? {
+        Some(directory) => Ok(Some(directory.unshared()?)),
+        None => Ok(None),
+    }
 }

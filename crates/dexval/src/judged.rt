@@ -1,93 +1,112 @@
-//! What a directory of annotations names, each judged once however many members name it.
+//! What a directory of annotations names, each read once however many members name it.
 
-ghost use Rattle.std.specs.Prelude.{◌≡◌, ◌<◌, ◌+◌, ◌-◌, ◌^◌, ◌≤◌, ℕ, List, min, IfOk, IfErr, OnOk};
+ghost use Rattle.std.specs.Prelude.{◌≡◌, ◌≢◌, ◌<◌, ◌+◌, ◌-◌, ◌^◌, ◌≤◌, ℕ, List, [], Some, All, length, min, map, IfOk, IfErr, IsSome, OnOk};
+ghost use Rattle.std.specs.List.{Contains};
 ghost use Rattle.dexspec.specs.Annotations.{SetAt};
 ghost use Rattle.dexspec.specs.Mentions.{Mentions};
 ghost use Rattle.dexval.specs.Code.{set_of};
 ghost use Rattle.dexval.specs.Nesting.{AreFilePools};
 ghost use Rattle.dexval.specs.Reading.{IsSetAt};
 ghost use Rattle.dexval.specs.Items.{IsRefusal};
-ghost use Rattle.dexval.specs.Directories.{IsSetOrEmptyAt, NoSetOrEmptyAt, set_weight_in, IsKept};
-ghost use Rattle.dexval.specs.Judged.{AreJudged};
+ghost use Rattle.dexval.specs.Directories.{IsSetOrEmptyAt, NoSetOrEmptyAt, IsRefListAt, set_weight_in, sets_weight_in, IsKept};
+ghost use Rattle.dexval.specs.Judged.{AreHeld, AreJudged, IsNoted};
+ghost use Rattle.dexval.specs.Tables.{IsListed, IsPlaceIn, set_at, sets_at};
 
 use crate::budget::Budget;
 use crate::set::AnnotationSet;
 use crate::set_reading::read_set;
+use crate::set_table::SetTable;
 use dexhead::Frame;
 use dexpool::{ItemFault, Pools};
 use std::alloc::{AllocError, Global};
 use std::collections::{HashMap, HashSet};
 
-// A set that weighs no more is judged again: it takes no longer than to look it up.
-const LIGHT: u64 = 256;
-
-/// What of a directory was judged, by its offset.
+/// What of a directory was read: all that is kept, and where it stands by its offset, while the budget lasts, and then the
+/// offsets of what was judged.
 #[derive(Drop)]
 pub(crate) struct Judged {
-    /// Sets: whole where all that was read by then could be kept, and else empty.
-    pub(crate) sets: HashMap<u32, AnnotationSet>,
-    /// Lists of sets that were judged once not all could be kept.
-    pub(crate) lists: HashSet<u32>,
+    /// What is kept.
+    pub(crate) table: SetTable,
+    /// The places of sets.
+    pub(crate) sets: HashMap<u32, u32>,
+    /// The places of lists of sets.
+    pub(crate) lists: HashMap<u32, u32>,
+    /// Sets that are not kept.
+    pub(crate) passed_sets: HashSet<u32>,
+    /// Lists that are not kept.
+    pub(crate) passed_lists: HashSet<u32>,
 }
 
 impl Judged {
     /// Nothing yet.
     pub(crate) fn none(alloc: Global) -> Judged
-        ensures { (b : List ℕ) (m : Mentions) (most weight : ℕ) → AreJudged b m most weight result }
+        ensures table { result.table ≡ record { sets = []; lists = [] } }
+        ensures held { AreHeld result }
+        ensures judged { (b : List ℕ) (m : Mentions) → AreJudged b m result }
     {
         Judged {
+            table: SetTable::empty(alloc),
             sets: HashMap::new(alloc),
-            lists: HashSet::new(alloc),
+            lists: HashMap::new(alloc),
+            passed_sets: HashSet::new(alloc),
+            passed_lists: HashSet::new(alloc),
         }
     }
 }
 
-// A set that was judged before, counted once more, or an empty one where the budget has passed.
-fn known_set(
-    alloc: Global,
-    set: &AnnotationSet,
-    budget: &mut Budget,
-) -> Result<AnnotationSet, AllocError>
+// A set of the table, counted once more, but not where the budget has passed.
+fn count_set(table: &SetTable, place: u32, budget: &mut Budget)
+    requires { place < length table.now.sets }
     ensures most { budget.new.most ≡ budget.old.most }
+    ensures grows { budget.old.weight ≤ budget.new.weight }
     ensures passed { budget.old.most < budget.old.weight → budget.new.weight ≡ budget.old.weight }
-    ensures counted { budget.old.weight ≤ budget.old.most → (m : Mentions) → budget.new.weight ≡ min (2 ^ 64 - 1) (budget.old.weight + set_weight_in m (set_of set.now)) }
-    ensures set { budget.old.weight ≤ budget.old.most → IfOk result (λ copy. set_of copy ≡ set_of set.now) }
+    ensures counted { budget.old.weight ≤ budget.old.most → (m : Mentions) → budget.new.weight ≡ min (2 ^ 64 - 1) (budget.old.weight + set_weight_in m (set_at table.now.sets (Some place))) }
 {
-    if !budget.is_within() {
-        return Ok(AnnotationSet::empty(alloc));
+    if budget.is_within() {
+        budget.add(table.set_weight(Some(place)));
     }
-    budget.add(set.weight());
-    set.copy()
 }
 
-// The set at an offset, read for the first time: counted, and noted where it is not light. An empty one where the budget
-// has passed.
+/// A list of the table, counted once more, but not where the budget has passed.
+pub(crate) fn count_list(table: &SetTable, place: u32, budget: &mut Budget)
+    requires { place < length table.now.lists }
+    ensures most { budget.new.most ≡ budget.old.most }
+    ensures grows { budget.old.weight ≤ budget.new.weight }
+    ensures passed { budget.old.most < budget.old.weight → budget.new.weight ≡ budget.old.weight }
+    ensures counted { budget.old.weight ≤ budget.old.most → (m : Mentions) → budget.new.weight ≡ min (2 ^ 64 - 1) (budget.old.weight + sets_weight_in m (sets_at table.now (Some place))) }
+{
+    if budget.is_within() {
+        budget.add(table.list_weight(Some(place)));
+    }
+}
+
+// The set at an offset, read for the first time: counted, and kept where the budget allows it. Its place, if it is kept.
 fn note_set(
-    alloc: Global,
     off: u32,
     set: AnnotationSet,
     judged: &mut Judged,
     budget: &mut Budget,
-) -> Result<AnnotationSet, AllocError>
+) -> Result<Option<u32>, AllocError>
+    requires held { AreHeld judged.old }
     ensures most { budget.new.most ≡ budget.old.most }
-    ensures judged { (b : List ℕ) (m : Mentions) → IsSetAt b off m (set_of set) → AreJudged b m budget.old.most budget.old.weight judged.old → OnOk result (AreJudged b m budget.new.most budget.new.weight judged.new) }
-    ensures read { (b : List ℕ) (m : Mentions) → IsSetAt b off m (set_of set) → IfOk result (λ kept. IsKept (IsSetAt b off m) (set_weight_in m) budget.old.most budget.old.weight budget.new.weight (set_of kept)) }
+    ensures grows { budget.old.weight ≤ budget.new.weight }
+    ensures kept { IfOk result (λ place. budget.new.weight ≤ budget.new.most → IsSome place) }
+    ensures noted { IfOk result (λ place. IsNoted (λ i. place ≡ Some i) (λ _. ⊥) (IsPlaceIn judged.new.table.sets place) (budget.new.weight ≤ budget.new.most) judged.old judged.new) }
+    ensures judged { (b : List ℕ) (m : Mentions) → IsSetAt b off m (set_of set) → AreJudged b m judged.old → OnOk result (AreJudged b m judged.new) }
+    ensures read { (b : List ℕ) (m : Mentions) → IsSetAt b off m (set_of set) → IfOk result (λ place. IsKept (IsSetAt b off m) (set_weight_in m) budget.old.most budget.old.weight budget.new.weight (set_at judged.new.table.sets place)) }
 {
-    let weight = set.weight();
-    budget.add(weight);
-    let kept = if budget.is_within() {
-        set
-    } else {
-        AnnotationSet::empty(alloc)
-    };
-    if weight > LIGHT {
-        judged.sets.insert(off, kept.copy()?)?;
+    budget.add(set.weight());
+    if !budget.is_within() {
+        judged.passed_sets.insert(off)?;
+        return Ok(None);
     }
-    Ok(kept)
+    let place = judged.table.add_set(set)?;
+    judged.sets.insert(off, place)?;
+    Ok(Some(place))
 }
 
-/// The set of the annotation_set_item at an offset, counted, or an empty one at 0. It is whole while the budget lasts.
-/// Error: none stands there.
+/// The place of the set of the annotation_set_item at an offset, counted, if it is kept; none at 0. It is kept while the
+/// budget lasts. Error: none stands there.
 pub(crate) fn counted_set_at(
     alloc: Global,
     frame: &Frame<'_>,
@@ -95,21 +114,54 @@ pub(crate) fn counted_set_at(
     off: u32,
     judged: &mut Judged,
     budget: &mut Budget,
-) -> Result<AnnotationSet, ItemFault>
-    requires judged { AreFilePools frame.now pools.now → AreJudged frame.now pools.now budget.old.most budget.old.weight judged.old }
+) -> Result<Option<u32>, ItemFault>
+    requires held { AreHeld judged.old }
+    requires judged { AreFilePools frame.now pools.now → AreJudged frame.now pools.now judged.old }
     ensures most { budget.new.most ≡ budget.old.most }
-    ensures judged { AreFilePools frame.now pools.now → OnOk result (AreJudged frame.now pools.now budget.new.most budget.new.weight judged.new) }
-    ensures read { AreFilePools frame.now pools.now → IfOk result (λ set. IsKept (IsSetOrEmptyAt frame.now off pools.now) (set_weight_in pools.now) budget.old.most budget.old.weight budget.new.weight (set_of set)) }
+    ensures grows { budget.old.weight ≤ budget.new.weight }
+    ensures kept { off ≢ 0 → IfOk result (λ place. budget.new.weight ≤ budget.new.most → IsSome place) }
+    ensures noted { IfOk result (λ place. IsNoted (λ i. place ≡ Some i) (λ _. ⊥) (IsPlaceIn judged.new.table.sets place) (budget.new.weight ≤ budget.new.most) judged.old judged.new) }
+    ensures judged { AreFilePools frame.now pools.now → OnOk result (AreJudged frame.now pools.now judged.new) }
+    ensures read { AreFilePools frame.now pools.now → IfOk result (λ place. IsKept (IsSetOrEmptyAt frame.now off pools.now) (set_weight_in pools.now) budget.old.most budget.old.weight budget.new.weight (set_at judged.new.table.sets place)) }
     ensures refused { AreFilePools frame.now pools.now → IfErr result (IsRefusal (NoSetOrEmptyAt frame.now off)) }
 {
+    let within = budget.is_within();
     if off == 0 {
-        let empty = AnnotationSet::empty(alloc);
-        budget.add(empty.weight());
-        return Ok(empty);
+        return Ok(None);
     }
-    if let Some(set) = judged.sets.get(&off) {
-        return Ok(known_set(alloc, set, budget)?);
+    if let Some(place) = judged.sets.get(&off) {
+        let place = *place;
+        count_set(&judged.table, place, budget);
+        return Ok(Some(place));
+    }
+    if !within && judged.passed_sets.contains(&off) {
+        return Ok(None);
     }
     let set = read_set(alloc, frame, pools, off)?;
-    Ok(note_set(alloc, off, set, judged, budget)?)
+    Ok(note_set(off, set, judged, budget)?)
+}
+
+/// The list at an offset, read for the first time, and its sets counted: kept where the budget allows it. Its place, if it
+/// is kept.
+pub(crate) fn note_list(
+    off: u32,
+    places: Vec<Option<u32>>,
+    judged: &mut Judged,
+    budget: &Budget,
+) -> Result<Option<u32>, AllocError>
+    requires held { AreHeld judged.old }
+    requires places { All (IsPlaceIn judged.old.table.sets) places.items }
+    ensures kept { IfOk result (λ place. budget.now.weight ≤ budget.now.most → IsSome place) }
+    ensures noted { IfOk result (λ place. IsNoted (λ _. ⊥) (λ i. place ≡ Some i) (IsPlaceIn judged.new.table.lists place) (budget.now.weight ≤ budget.now.most) judged.old judged.new) }
+    ensures listed { OnOk result (budget.now.weight ≤ budget.now.most → (i : ℕ) → Contains places.items (Some i) → IsListed judged.new.table i) }
+    ensures judged { (b : List ℕ) (m : Mentions) (before : ℕ) → IsKept (IsRefListAt b off m) (sets_weight_in m) budget.now.most before budget.now.weight (map (set_at judged.old.table.sets) places.items) → AreJudged b m judged.old → OnOk result (AreJudged b m judged.new) }
+    ensures read { (b : List ℕ) (m : Mentions) (before : ℕ) → IsKept (IsRefListAt b off m) (sets_weight_in m) budget.now.most before budget.now.weight (map (set_at judged.old.table.sets) places.items) → IfOk result (λ place. IsKept (IsRefListAt b off m) (sets_weight_in m) budget.now.most before budget.now.weight (sets_at judged.new.table place)) }
+{
+    if !budget.is_within() {
+        judged.passed_lists.insert(off)?;
+        return Ok(None);
+    }
+    let place = judged.table.add_list(places)?;
+    judged.lists.insert(off, place)?;
+    Ok(Some(place))
 }

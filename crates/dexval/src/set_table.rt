@@ -1,8 +1,10 @@
 //! Sets of annotations that several members share, each kept once.
 
-ghost use Rattle.std.specs.Prelude.{◌≡◌, ◌≢◌, ℕ, Option, [], All, IfNone, IfOk, IfSome, length, map};
+ghost use Rattle.std.specs.Prelude.{◌≡◌, ◌≢◌, ◌<◌, ◌-◌, ◌^◌, ℕ, Option, [], ◌∷◌, ◌++◌, All, IfNone, IfOk, IfSome, OnOk, length, map, min};
+ghost use Rattle.dexspec.specs.Mentions.{Mentions};
 ghost use Rattle.dexval.specs.Code.{set_of};
-ghost use Rattle.dexval.specs.Tables.{IsPlaceIn, IsLedSet, set_at, places_at};
+ghost use Rattle.dexval.specs.Directories.{set_weight_in, sets_weight_in};
+ghost use Rattle.dexval.specs.Tables.{Extends, IsLedSet, IsPlaceIn, set_at, places_at, sets_at};
 
 use crate::set::AnnotationSet;
 use dexpool::Remap;
@@ -69,6 +71,16 @@ fn copied_lists(lists: &Vec<Vec<Option<u32>>>) -> Result<Vec<Vec<Option<u32>>>, 
     Ok(copy)
 }
 
+// The place behind so many. Error: it has more than 32 bits, and so much memory is not there.
+fn place_of(len: usize) -> Result<u32, AllocError>
+    ensures { IfOk result (λ place. place ≡ len) }
+{
+    if len > u32::MAX as usize {
+        return Err(AllocError);
+    }
+    Ok(len as u32)
+}
+
 impl SetTable {
     /// A table without sets and lists. No memory is taken.
     pub fn empty(alloc: Global) -> SetTable
@@ -113,6 +125,65 @@ impl SetTable {
             Some(place) => &self.lists[place as usize],
             None => &[],
         }
+    }
+
+    /// What the set at a place weighs, or 2^64 - 1 where that is more. No memory is taken.
+    ///
+    /// Condition: the place is one of the sets'.
+    pub fn set_weight(&self, place: Option<u32>) -> u64
+        requires { IsPlaceIn self.now.sets place }
+        ensures { (m : Mentions) → result ≡ min (2 ^ 64 - 1) (set_weight_in m (set_at self.now.sets place)) }
+    {
+        match self.set(place) {
+            Some(set) => set.weight(),
+            None => 0,
+        }
+    }
+
+    /// What the list at a place and its sets weigh, each set as often as it is there, or 2^64 - 1 where that is more. No
+    /// memory is taken.
+    ///
+    /// Condition: the place is one of the lists'.
+    pub fn list_weight(&self, place: Option<u32>) -> u64
+        requires { IsPlaceIn self.now.lists place }
+        ensures { (m : Mentions) → result ≡ min (2 ^ 64 - 1) (sets_weight_in m (sets_at self.now place)) }
+    {
+        let places = self.list(place);
+        if places.is_empty() {
+            return 0;
+        }
+        let mut weight: u64 = 8;
+        for place in places {
+            weight = weight
+                .saturating_add(4)
+                .saturating_add(self.set_weight(*place));
+        }
+        weight
+    }
+
+    /// Adds a set. Its place.
+    pub(crate) fn add_set(&mut self, set: AnnotationSet) -> Result<u32, AllocError>
+        ensures place { IfOk result (λ place. place ≡ length self.old.sets) }
+        ensures table { OnOk result (self.new ≡ record { sets = self.old.sets ++ set_of set ∷ []; lists = self.old.lists }) }
+        ensures extends { OnOk result (Extends self.old self.new) }
+    {
+        let place = place_of(self.sets.len())?;
+        self.sets.push(set)?;
+        Ok(place)
+    }
+
+    /// Adds a list of sets. Its place.
+    ///
+    /// Condition: each place in it is one of the sets'.
+    pub(crate) fn add_list(&mut self, list: Vec<Option<u32>>) -> Result<u32, AllocError>
+        requires { All (IsPlaceIn self.old.sets) list.items }
+        ensures place { IfOk result (λ place. place ≡ length self.old.lists) }
+        ensures table { OnOk result (self.new ≡ record { sets = self.old.sets; lists = self.old.lists ++ list.items ∷ [] }) }
+        ensures extends { OnOk result (Extends self.old self.new) }
+    {
+        let place = place_of(self.lists.len())?;
+        self.lists.push(list)?;
+        Ok(place)
     }
 
     /// Puts for each number of a symbol in the sets the one that it leads to. A set with a number that leads nowhere, or to 2^32

@@ -1,14 +1,17 @@
-use Rattle.std.specs.Prelude.{◌≡◌, ◌+◌, map, sum_by}
-use Rattle.dexval.specs.Code.{set_of}
+use Rattle.std.specs.Prelude.{◌≡◌, ◌+◌, ◌≤◌, Some, All, map, sum_by}
+use Rattle.std.specs.List.{Contains}
 use Rattle.dexval.specs.Nesting.{AreFilePools}
 use Rattle.dexval.specs.Directories.{IsKept, set_weight_in}
-use Rattle.dexval.specs.Judged.{AreJudged}
+use Rattle.dexval.specs.Judged.{AreJudged, IsNoted}
+use Rattle.dexval.specs.Tables.{IsPlaceIn, set_at}
 use Rattle.dexval.proofs.DirectoryRead.{HaveReadList}
 use Rattle.dexval.proofs.directory_reading.listed_sets_at.Given as goal
 
 abbrev pub invariant-loop-i : goal.invariant-loop-i
 invariant-loop-i l = record {
   bound : l.budget.most ≡ l.fn.budget.most;
-  judged : AreFilePools l.frame l.pools → AreJudged l.frame l.pools l.budget.most l.budget.weight l.judged;
-  read : AreFilePools l.frame l.pools → IsKept (HaveReadList l.frame (l.off + 4) l.pools l.i) (λ ss. l.list + sum_by (set_weight_in l.pools) ss) l.fn.budget.most l.fn.budget.weight l.budget.weight (map set_of l.sets.items);
+  grows : l.fn.budget.weight ≤ l.budget.weight;
+  noted : IsNoted (λ i. Contains l.places.items (Some i)) (λ i. ⊥) (All (IsPlaceIn l.judged.table.sets) l.places.items) (l.budget.weight ≤ l.budget.most) l.fn.judged l.judged;
+  judged : AreFilePools l.frame l.pools → AreJudged l.frame l.pools l.judged;
+  read : AreFilePools l.frame l.pools → IsKept (HaveReadList l.frame (l.off + 4) l.pools l.i) (λ ss. l.list + sum_by (set_weight_in l.pools) ss) l.fn.budget.most l.fn.budget.weight l.budget.weight (map (set_at l.judged.table.sets) l.places.items);
 }

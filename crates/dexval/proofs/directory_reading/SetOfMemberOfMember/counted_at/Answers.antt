@@ -9,7 +9,7 @@ use Rattle.dexval.specs.Directories.{IsKnownAt, IsSetOrEmptyAt, set_weight_in}
 use Rattle.dexval.proofs.DirectoryRead.{set_is, no_set_is}
 use Rattle.dexval.proofs.Keeping.{kept_moved}
 use Rattle.dexval.proofs.Refusals.{refused_so}
-use Rattle.dexval.proofs.directory_reading.AnnotationSetOfMember.counted_at.Goals as goal
+use Rattle.dexval.proofs.directory_reading.SetOfMemberOfMember.counted_at.Goals as goal
 
 refused_where : {A P Q : Type 0} (r : Result A ItemFault) → (P → Q) → IfErr r (IsRefusal P) → IfErr r (IsRefusal Q)
 refused_where (Ok x) so h = h

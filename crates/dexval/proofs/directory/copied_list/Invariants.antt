@@ -1,0 +1,7 @@
+use Rattle.std.proofs.Common.{◌≡◌, take, map}
+use Rattle.dexval.specs.Code.{set_of}
+use Rattle.dexval.specs.Tables.{set_at}
+use Rattle.dexval.proofs.directory.copied_list.Given as goal
+
+abbrev pub invariant-loop-place : goal.invariant-loop-place
+invariant-loop-place l = map set_of l.sets.items ≡ map (set_at l.table.sets) (take l.place-index l.places)

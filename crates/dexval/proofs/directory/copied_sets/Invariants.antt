@@ -1,0 +1,7 @@
+use Rattle.std.proofs.Common.{◌≡◌, take, map}
+use Rattle.dexval.specs.Code.{set_of}
+use Rattle.dexval.specs.Shared.{sets_of_members}
+use Rattle.dexval.proofs.directory.copied_sets.Given as goal
+
+abbrev pub invariant-loop-member : goal.invariant-loop-member
+invariant-loop-member l = sets_of_members l.table (take l.member-index l.members.items) ≡ map (λ e. (e.0, set_of e.1)) l.copies.items

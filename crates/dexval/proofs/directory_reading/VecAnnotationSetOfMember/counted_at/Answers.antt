@@ -1,7 +1,0 @@
-use Rattle.std.proofs.lemmas.Result.{err_from_is_err_and}
-use Rattle.dexval.proofs.directory_reading.VecAnnotationSetOfMember.counted_at.Goals as goal
-
-pub returns-in_err-sets-clause-refused : goal.returns-in_err-sets-clause-refused
-returns-in_err-sets-clause-refused c = λ p.
-    let e = err_from_is_err_and c.from_residual.result c.from_residual.ensures.1 in
-    rw (e.1, e.2) (c.in_err-sets.ensures.refused p)

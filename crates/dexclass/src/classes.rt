@@ -43,7 +43,7 @@ impl Drop for Class<'_> {
 
 impl<'a> Model for Class<'a> {
     ghost use Rattle.std.specs.Coded.{codes};
-    ghost use Rattle.dexmembers.specs.Stored.{elements_code, values_code};
+    ghost use Rattle.dexval.specs.Stored.{elements_code, values_code};
     ghost use Rattle.dexclass.specs.Numbered.{NumberedClass};
 
     ghost Value = { NumberedClass };

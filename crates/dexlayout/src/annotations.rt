@@ -28,7 +28,7 @@ pub struct Annotations<'p> {
 impl<'p> Model for Annotations<'p> {
     ghost use Rattle.std.specs.Prelude.{map};
     ghost use Rattle.std.specs.Coded.{codes};
-    ghost use Rattle.dexmembers.specs.Stored.{elements_code};
+    ghost use Rattle.dexval.specs.Stored.{elements_code};
     ghost use Rattle.dexval.specs.Code.{set_of};
     ghost use Rattle.dexlayout.specs.Places.{AnnotationPlaces};
 

@@ -48,7 +48,7 @@ impl Drop for Layout<'_> {
 impl<'p> Model for Layout<'p> {
     ghost use Rattle.std.specs.Prelude.{map};
     ghost use Rattle.std.specs.Coded.{codes};
-    ghost use Rattle.dexmembers.specs.Stored.{elements_code};
+    ghost use Rattle.dexval.specs.Stored.{elements_code};
     ghost use Rattle.dexhead.specs.Written.{entry_meant};
     ghost use Rattle.dexlayout.specs.Places.{Places};
 

@@ -1,4 +1,4 @@
-pub mod Attached
+pub mod Attachments
 pub mod ClassDataSpelled
 pub mod CodesOfMethods
 pub mod DataCounts
@@ -7,6 +7,7 @@ pub mod DirectorySpelled
 pub mod Entered
 pub mod FewMembers
 pub mod FittingMembers
+pub mod HeldMembers
 pub mod Images
 pub mod Judged
 pub mod Made
@@ -33,5 +34,5 @@ pub mod RowWeighed
 pub mod SameMembers
 pub mod StaticValuesRead
 pub mod StrippedMembers
-pub mod Taken
+pub mod Searched
 pub mod Weighed

@@ -12,11 +12,7 @@ use Rattle.dexspec.specs.Mentions.{Mentions}
 use Rattle.dexpool.specs.Numberings.{AreRising}
 use Rattle.dexcode.specs.Numbered.{NumberedItem, StandsForCode}
 use Rattle.dexcode.specs.Meaning.{code_in, IsKnownCode}
-use Rattle.dexval.specs.Code.{set_of, directory_of}
-use Rattle.dexval.specs.Numbered.{NumberedValues, IsKnownDirectory, AreKnown, directory_in, values_in}
-use Rattle.dexval.specs.declared.set.AnnotationSet.{AnnotationSet as CodeSet}
-use Rattle.dexval.specs.declared.directory.Directory.{Directory as DirectoryRead}
-use Rattle.std.specs.Global.{Vec}
+use Rattle.dexval.specs.Numbered.{NumberedSet, NumberedDirectory, NumberedValues, IsKnownDirectory, AreKnown, directory_in, values_in}
 use Rattle.dexmembers.specs.Numbered.{NumberedField, NumberedMethod, NumberedMembers, AreKnownMembers, AreOrdered, members_in}
 use Rattle.dexmembers.specs.ClassData.{class_data_in, IsDataOf}
 use Rattle.dexmembers.specs.MethodCodes.{AreCodesAt}
@@ -28,19 +24,19 @@ use Rattle.dexmembers.specs.declared.class_data.ClassData.{ClassData as DataRead
 use Rattle.dexmembers.proofs.Meant.{fields_meant, fields_known, methods_meant, methods_known}
 
 -- fields keep their indices
-field_numbers : (sets : List (ℕ × CodeSet)) (xs : List FieldRead) → map (λ (f : NumberedField). f.number) (map (field_with sets) xs) ≡ map (λ (x : FieldRead). x.index) xs
+field_numbers : (sets : List (ℕ × NumberedSet)) (xs : List FieldRead) → map (λ (f : NumberedField). f.number) (map (field_with sets) xs) ≡ map (λ (x : FieldRead). x.index) xs
 field_numbers sets [] = refl
 field_numbers sets (x ∷ xs) = ap (λ (l : List ℕ). x.index ∷ l) (field_numbers sets xs)
 
 -- and so do methods
-method_numbers : (b : List ℕ) (m : Mentions) (sets : List (ℕ × CodeSet)) (lists : List (ℕ × Vec CodeSet)) (xs : List MethodRead) (codes : List (Option NumberedItem)) (symbolic : List (Option Code)) → AreCodesAt b xs symbolic → AllZip (BothOrNone (StandsForCode m)) codes symbolic
+method_numbers : (b : List ℕ) (m : Mentions) (sets : List (ℕ × NumberedSet)) (lists : List (ℕ × List NumberedSet)) (xs : List MethodRead) (codes : List (Option NumberedItem)) (symbolic : List (Option Code)) → AreCodesAt b xs symbolic → AllZip (BothOrNone (StandsForCode m)) codes symbolic
     → map (λ (y : NumberedMethod). y.number) (zip_with (method_with sets lists) xs codes) ≡ map (λ (x : MethodRead). x.index) xs
 method_numbers b m sets lists [] codes symbolic h s = refl
 method_numbers b m sets lists (x ∷ xs) codes [] h s = absurd h
 method_numbers b m sets lists (x ∷ xs) [] (y ∷ symbolic) h s = absurd s
 method_numbers b m sets lists (x ∷ xs) (c ∷ codes) (y ∷ symbolic) h s = ap (λ (l : List ℕ). x.index ∷ l) (method_numbers b m sets lists xs codes symbolic h.1 s.1)
 
-module _ (b : List ℕ) (r : ℕ) (m : Mentions) (rising : AreRising m) (dir : DirectoryRead) (known : IsKnownDirectory m (directory_of dir)) (read : DataRead) (is : IsDataOf b r m read)
+module _ (b : List ℕ) (r : ℕ) (m : Mentions) (rising : AreRising m) (dir : NumberedDirectory) (known : IsKnownDirectory m dir) (read : DataRead) (is : IsDataOf b r m read)
     (is_known : (c : NumberedItem) (x : Code) → StandsForCode m c x → IsKnownCode m c) (is_meant : (c : NumberedItem) (x : Code) → StandsForCode m c x → x ≡ code_in m c)
     (direct virtual : List (Option NumberedItem)) (direct_codes virtual_codes : List (Option Code))
     (direct_at : AreCodesAt b read.direct_methods.items direct_codes) (direct_stand : AllZip (BothOrNone (StandsForCode m)) direct direct_codes)
@@ -49,18 +45,18 @@ module _ (b : List ℕ) (r : ℕ) (m : Mentions) (rising : AreRising m) (dir : D
   -- all of it
   abbrev pub made : NumberedMembers
   made = record {
-    annotations = set_of dir.own;
-    static_fields = map (field_with dir.fields.items) read.static_fields.items;
-    instance_fields = map (field_with dir.fields.items) read.instance_fields.items;
-    direct_methods = zip_with (method_with dir.methods.items dir.parameters.items) read.direct_methods.items direct;
-    virtual_methods = zip_with (method_with dir.methods.items dir.parameters.items) read.virtual_methods.items virtual;
+    annotations = dir.own;
+    static_fields = map (field_with dir.fields) read.static_fields.items;
+    instance_fields = map (field_with dir.fields) read.instance_fields.items;
+    direct_methods = zip_with (method_with dir.methods dir.parameters) read.direct_methods.items direct;
+    virtual_methods = zip_with (method_with dir.methods dir.parameters) read.virtual_methods.items virtual;
     static_values = values;
   }
 
   -- the row declares what it means
-  pub made_row : OrNone DirectoryAt no_directory b (annotations_off b r) (directory_in m (directory_of dir)) → OrNone StaticValuesAt NoValues b (static_values_off b r) (values_in m values) → MembersRow b r (members_in m made)
+  pub made_row : OrNone DirectoryAt no_directory b (annotations_off b r) (directory_in m dir) → OrNone StaticValuesAt NoValues b (static_values_off b r) (values_in m values) → MembersRow b r (members_in m made)
   made_row at values_at = record {
-    directory = directory_in m (directory_of dir);
+    directory = directory_in m dir;
     directory_is = at;
     declared = class_data_in m read;
     declared_is = is.declared.is;
@@ -86,10 +82,10 @@ module _ (b : List ℕ) (r : ℕ) (m : Mentions) (rising : AreRising m) (dir : D
   -- and in order
   pub made_ordered : AreOrdered made
   made_ordered =
-      let statics = field_numbers dir.fields.items read.static_fields.items in
-      let instances = field_numbers dir.fields.items read.instance_fields.items in
-      let directs = method_numbers b m dir.methods.items dir.parameters.items read.direct_methods.items direct direct_codes direct_at direct_stand in
-      let virtuals = method_numbers b m dir.methods.items dir.parameters.items read.virtual_methods.items virtual virtual_codes virtual_at virtual_stand in
+      let statics = field_numbers dir.fields read.static_fields.items in
+      let instances = field_numbers dir.fields read.instance_fields.items in
+      let directs = method_numbers b m dir.methods dir.parameters read.direct_methods.items direct direct_codes direct_at direct_stand in
+      let virtuals = method_numbers b m dir.methods dir.parameters read.virtual_methods.items virtual virtual_codes virtual_at virtual_stand in
       record {
         static_fields_rise = ap (rises nat_cmp) statics ∙ is.static_fields_are.fields_rise;
         instance_fields_rise = ap (rises nat_cmp) instances ∙ is.instance_fields_are.fields_rise;

@@ -18,9 +18,7 @@ use Rattle.dexpool.specs.Numberings.{AreRising}
 use Rattle.dexpool.proofs.NumberOrder.{places_agree}
 use Rattle.dexcode.specs.Numbered.{NumberedItem, StandsForCode}
 use Rattle.dexcode.specs.Meaning.{code_in, IsKnownCode}
-use Rattle.dexval.specs.Code.{directory_of}
-use Rattle.dexval.specs.Numbered.{NumberedSet, IsKnownAnnotation, IsKnownSet, IsKnownDirectory, annotation_in, set_in, directory_in, field_at, method_at}
-use Rattle.dexval.specs.declared.directory.Directory.{Directory as DirectoryRead}
+use Rattle.dexval.specs.Numbered.{NumberedSet, IsKnownAnnotation, IsKnownSet, NumberedDirectory, IsKnownDirectory, annotation_in, set_in, directory_in, field_at, method_at}
 use Rattle.dexmembers.specs.Numbered.{IsKnownField, IsKnownMethod, field_in, method_in}
 use Rattle.dexmembers.specs.ClassData.{encoded_field_in, encoded_method_in}
 use Rattle.dexmembers.specs.MethodCodes.{AreCodesAt}
@@ -63,36 +61,36 @@ All-second P Q xs h k d lt = (h k d lt).1
 
 -- ---- members
 
-module _ (m : Mentions) (rising : AreRising m) (dir : DirectoryRead) (known : IsKnownDirectory m (directory_of dir)) where
+module _ (m : Mentions) (rising : AreRising m) (dir : NumberedDirectory) (known : IsKnownDirectory m dir) where
   -- the set of a field
-  field_set : (n : ℕ) → n < length m.fields → set_in m (annotated nat_cmp ((directory_of dir).fields) n) ≡ annotated field_cmp ((directory_in m (directory_of dir)).fields) (field_at m n)
+  field_set : (n : ℕ) → n < length m.fields → set_in m (annotated nat_cmp dir.fields n) ≡ annotated field_cmp ((directory_in m dir).fields) (field_at m n)
   field_set n lt =
-      let es = (directory_of dir).fields in
+      let es = dir.fields in
       sym (look_meant field_cmp field_total m.fields rising.fields_rise (record { class = []; name = []; type = [] }) (annotation_in m) es n
       (All-first (λ (e : ℕ × NumberedSet). e.0 < length m.fields) (λ e. IsKnownSet m e.1) es known.fields_known) lt)
 
   -- the set of a method
-  method_set : (n : ℕ) → n < length m.methods → set_in m (annotated nat_cmp ((directory_of dir).methods) n) ≡ annotated method_cmp ((directory_in m (directory_of dir)).methods) (method_at m n)
+  method_set : (n : ℕ) → n < length m.methods → set_in m (annotated nat_cmp dir.methods n) ≡ annotated method_cmp ((directory_in m dir).methods) (method_at m n)
   method_set n lt =
-      let es = (directory_of dir).methods in
+      let es = dir.methods in
       sym (look_meant method_cmp method_total m.methods rising.methods_rise (record { class = []; name = []; proto = record { return_type = []; parameters = [] } }) (annotation_in m) es n
       (All-first (λ (e : ℕ × NumberedSet). e.0 < length m.methods) (λ e. IsKnownSet m e.1) es known.methods_known) lt)
 
   -- the sets of its parameters
-  method_list : (n : ℕ) → n < length m.methods → map (set_in m) (annotated nat_cmp ((directory_of dir).parameters) n) ≡ annotated method_cmp ((directory_in m (directory_of dir)).parameters) (method_at m n)
+  method_list : (n : ℕ) → n < length m.methods → map (set_in m) (annotated nat_cmp dir.parameters n) ≡ annotated method_cmp ((directory_in m dir).parameters) (method_at m n)
   method_list n lt =
-      let es = (directory_of dir).parameters in
+      let es = dir.parameters in
       sym (look_meant method_cmp method_total m.methods rising.methods_rise (record { class = []; name = []; proto = record { return_type = []; parameters = [] } }) (set_in m) es n
       (All-first (λ (e : ℕ × List NumberedSet). e.0 < length m.methods) (λ e. All (IsKnownSet m) e.1) es known.parameters_known) lt)
 
   -- a field means what its index and its set make
-  pub field_meant : (x : FieldRead) → x.index < length m.fields → field_in m (field_with dir.fields.items x) ≡ field_def (directory_in m (directory_of dir)) (encoded_field_in m x)
+  pub field_meant : (x : FieldRead) → x.index < length m.fields → field_in m (field_with dir.fields x) ≡ field_def (directory_in m dir) (encoded_field_in m x)
   field_meant x lt =
       λ i. record { name = (field_at m x.index).name; type = (field_at m x.index).type; flags = x.flags; annotations = field_set x.index lt i }
 
   -- so do the fields of a list
   pub fields_meant : (xs : List FieldRead) → All (λ (x : FieldRead). x.index < length m.fields) xs
-      → map (field_in m) (map (field_with dir.fields.items) xs) ≡ map (field_def (directory_in m (directory_of dir))) (map (encoded_field_in m) xs)
+      → map (field_in m) (map (field_with dir.fields) xs) ≡ map (field_def (directory_in m dir)) (map (encoded_field_in m) xs)
   fields_meant [] h = refl
   fields_meant (x ∷ xs) h =
       let first = field_meant x (All-head (λ (y : FieldRead). y.index < length m.fields) x xs h) in
@@ -100,15 +98,15 @@ module _ (m : Mentions) (rising : AreRising m) (dir : DirectoryRead) (known : Is
       λ i. first i ∷ rest i
 
   -- and their numbers are those of symbols
-  pub fields_known : (xs : List FieldRead) → All (λ (x : FieldRead). x.index < length m.fields) xs → All (IsKnownField m) (map (field_with dir.fields.items) xs)
+  pub fields_known : (xs : List FieldRead) → All (λ (x : FieldRead). x.index < length m.fields) xs → All (IsKnownField m) (map (field_with dir.fields) xs)
   fields_known [] h = All-nil (IsKnownField m)
   fields_known (x ∷ xs) h =
-      let es = (directory_of dir).fields in
-      let first : IsKnownField m (field_with dir.fields.items x) = record {
+      let es = dir.fields in
+      let first : IsKnownField m (field_with dir.fields x) = record {
         number_in = All-head (λ (y : FieldRead). y.index < length m.fields) x xs h;
         annotations_known = look_known (IsKnownSet m) (All-nil (IsKnownAnnotation m)) es x.index (All-second (λ (e : ℕ × NumberedSet). e.0 < length m.fields) (λ e. IsKnownSet m e.1) es known.fields_known);
       } in
-      All-cons (IsKnownField m) (field_with dir.fields.items x) (map (field_with dir.fields.items) xs) first (fields_known xs (All-tail (λ (y : FieldRead). y.index < length m.fields) x xs h))
+      All-cons (IsKnownField m) (field_with dir.fields x) (map (field_with dir.fields) xs) first (fields_known xs (All-tail (λ (y : FieldRead). y.index < length m.fields) x xs h))
 
   module _ (b : List ℕ) (is_known : (c : NumberedItem) (x : Code) → StandsForCode m c x → IsKnownCode m c) (is_meant : (c : NumberedItem) (x : Code) → StandsForCode m c x → x ≡ code_in m c) where
     -- the code of a method
@@ -126,7 +124,7 @@ module _ (m : Mentions) (rising : AreRising m) (dir : DirectoryRead) (known : Is
 
     -- methods mean what their indices, code and sets make
     pub methods_meant : (xs : List MethodRead) (codes : List (Option NumberedItem)) (symbolic : List (Option Code)) → All (λ (x : MethodRead). x.index < length m.methods) xs → AreCodesAt b xs symbolic → AllZip (BothOrNone (StandsForCode m)) codes symbolic
-        → AllZip (MakesMethod b (directory_in m (directory_of dir))) (map (encoded_method_in m) xs) (map (method_in m) (zip_with (method_with dir.methods.items dir.parameters.items) xs codes))
+        → AllZip (MakesMethod b (directory_in m dir)) (map (encoded_method_in m) xs) (map (method_in m) (zip_with (method_with dir.methods dir.parameters) xs codes))
     methods_meant [] codes symbolic h at s = tt
     methods_meant (x ∷ xs) codes [] h at s = absurd at
     methods_meant (x ∷ xs) [] (y ∷ symbolic) h at s = absurd s
@@ -145,18 +143,18 @@ module _ (m : Mentions) (rising : AreRising m) (dir : DirectoryRead) (known : Is
 
     -- and their numbers are those of symbols
     pub methods_known : (xs : List MethodRead) (codes : List (Option NumberedItem)) (symbolic : List (Option Code)) → All (λ (x : MethodRead). x.index < length m.methods) xs → AreCodesAt b xs symbolic → AllZip (BothOrNone (StandsForCode m)) codes symbolic
-        → All (IsKnownMethod m) (zip_with (method_with dir.methods.items dir.parameters.items) xs codes)
+        → All (IsKnownMethod m) (zip_with (method_with dir.methods dir.parameters) xs codes)
     methods_known [] codes symbolic h at s = All-nil (IsKnownMethod m)
     methods_known (x ∷ xs) codes [] h at s = absurd at
     methods_known (x ∷ xs) [] (y ∷ symbolic) h at s = absurd s
     methods_known (x ∷ xs) (c ∷ codes) (y ∷ symbolic) h at s =
-        let es = (directory_of dir).methods in
-        let fs = (directory_of dir).parameters in
-        let first : IsKnownMethod m (method_with dir.methods.items dir.parameters.items x c) = record {
+        let es = dir.methods in
+        let fs = dir.parameters in
+        let first : IsKnownMethod m (method_with dir.methods dir.parameters x c) = record {
           number_in = All-head (λ (z : MethodRead). z.index < length m.methods) x xs h;
           code_known = code_known c y s.0;
           annotations_known = look_known (IsKnownSet m) (All-nil (IsKnownAnnotation m)) es x.index (All-second (λ (e : ℕ × NumberedSet). e.0 < length m.methods) (λ e. IsKnownSet m e.1) es known.methods_known);
           parameters_known = look_known (All (IsKnownSet m)) (All-nil (IsKnownSet m)) fs x.index (All-second (λ (e : ℕ × List NumberedSet). e.0 < length m.methods) (λ e. All (IsKnownSet m) e.1) fs known.parameters_known);
         } in
-        All-cons (IsKnownMethod m) (method_with dir.methods.items dir.parameters.items x c) (zip_with (method_with dir.methods.items dir.parameters.items) xs codes) first
+        All-cons (IsKnownMethod m) (method_with dir.methods dir.parameters x c) (zip_with (method_with dir.methods dir.parameters) xs codes) first
         (methods_known xs codes symbolic (All-tail (λ (z : MethodRead). z.index < length m.methods) x xs h) at.1 s.1)

@@ -12,10 +12,7 @@ use Rattle.dexcode.proofs.DebugUses.{all_front, all_back}
 use Rattle.dexspec.specs.Code.{Code}
 use Rattle.dexspec.specs.Mentions.{Mentions}
 use Rattle.dexcode.specs.Numbered.{NumberedItem, StandsForCode}
-use Rattle.dexval.specs.Numbered.{NumberedValues, field_at, method_at}
-use Rattle.dexval.specs.declared.directory.Directory.{Directory as DirectoryRead}
-use Rattle.dexval.specs.declared.set.AnnotationSet.{AnnotationSet as CodeSet}
-use Rattle.std.specs.Global.{Vec}
+use Rattle.dexval.specs.Numbered.{NumberedSet, NumberedDirectory, NumberedValues, field_at, method_at}
 use Rattle.dexmembers.specs.Numbered.{NumberedField, NumberedMethod, AreOfClass}
 use Rattle.dexmembers.specs.ClassData.{encoded_field_in, encoded_method_in, class_data_in, IsDataOf}
 use Rattle.dexmembers.specs.RowParts.{attached}
@@ -26,7 +23,7 @@ use Rattle.dexmembers.specs.declared.class_data.EncodedMethod.{EncodedMethod as 
 use Rattle.dexmembers.specs.declared.class_data.ClassData.{ClassData as DataRead}
 
 -- the fields of a list
-pub fields_of_class : (m : Mentions) (name : Text) (sets : List (ℕ × CodeSet)) (xs : List FieldRead) → All (λ (x : EncodedField). x.field.class ≡ name) (map (encoded_field_in m) xs)
+pub fields_of_class : (m : Mentions) (name : Text) (sets : List (ℕ × NumberedSet)) (xs : List FieldRead) → All (λ (x : EncodedField). x.field.class ≡ name) (map (encoded_field_in m) xs)
     → All (λ (f : NumberedField). (field_at m f.number).class ≡ name) (map (field_with sets) xs)
 fields_of_class m name sets [] h = All-nil (λ (f : NumberedField). (field_at m f.number).class ≡ name)
 fields_of_class m name sets (x ∷ xs) h =
@@ -34,7 +31,7 @@ fields_of_class m name sets (x ∷ xs) h =
     (fields_of_class m name sets xs (All-tail (λ (y : EncodedField). y.field.class ≡ name) (encoded_field_in m x) (map (encoded_field_in m) xs) h))
 
 -- the methods
-pub methods_of_class : (b : List ℕ) (m : Mentions) (name : Text) (sets : List (ℕ × CodeSet)) (lists : List (ℕ × Vec CodeSet)) (xs : List MethodRead) (codes : List (Option NumberedItem)) (symbolic : List (Option Code)) → AreCodesAt b xs symbolic → AllZip (BothOrNone (StandsForCode m)) codes symbolic
+pub methods_of_class : (b : List ℕ) (m : Mentions) (name : Text) (sets : List (ℕ × NumberedSet)) (lists : List (ℕ × List NumberedSet)) (xs : List MethodRead) (codes : List (Option NumberedItem)) (symbolic : List (Option Code)) → AreCodesAt b xs symbolic → AllZip (BothOrNone (StandsForCode m)) codes symbolic
     → All (λ (x : EncodedMethod). x.method.class ≡ name) (map (encoded_method_in m) xs) → All (λ (y : NumberedMethod). (method_at m y.number).class ≡ name) (zip_with (method_with sets lists) xs codes)
 methods_of_class b m name sets lists [] codes symbolic at s h = All-nil (λ (y : NumberedMethod). (method_at m y.number).class ≡ name)
 methods_of_class b m name sets lists (x ∷ xs) codes [] at s h = absurd at
@@ -55,7 +52,7 @@ module _ (b : List ℕ) (r : ℕ) (m : Mentions) (read : DataRead) (is : IsDataO
   own_methods = subst (λ (t : Text). All (λ (x : EncodedMethod). x.method.class ≡ t) (methods_of (class_data_in m read))) name_is is.declared.own.methods
 
   -- so are those that are put together
-  pub attached_of_class : (a : DirectoryRead) (direct virtual : List (Option NumberedItem)) (vs : NumberedValues) (direct_codes virtual_codes : List (Option Code)) → AreCodesAt b read.direct_methods.items direct_codes → AllZip (BothOrNone (StandsForCode m)) direct direct_codes
+  pub attached_of_class : (a : NumberedDirectory) (direct virtual : List (Option NumberedItem)) (vs : NumberedValues) (direct_codes virtual_codes : List (Option Code)) → AreCodesAt b read.direct_methods.items direct_codes → AllZip (BothOrNone (StandsForCode m)) direct direct_codes
       → AreCodesAt b read.virtual_methods.items virtual_codes → AllZip (BothOrNone (StandsForCode m)) virtual virtual_codes → AreOfClass m name (attached read a direct virtual vs)
   attached_of_class a direct virtual vs direct_codes virtual_codes direct_at direct_stand virtual_at virtual_stand =
       let F = λ (x : EncodedField). x.field.class ≡ name in
@@ -67,8 +64,8 @@ module _ (b : List ℕ) (r : ℕ) (m : Mentions) (read : DataRead) (is : IsDataO
       let made = attached read a direct virtual vs in
       record {
         fields_of_class = All-append (λ (f : NumberedField). (field_at m f.number).class ≡ name) made.static_fields made.instance_fields
-            (fields_of_class m name a.fields.items read.static_fields.items (all_front F statics instances own_fields)) (fields_of_class m name a.fields.items read.instance_fields.items (all_back F statics instances own_fields));
+            (fields_of_class m name a.fields read.static_fields.items (all_front F statics instances own_fields)) (fields_of_class m name a.fields read.instance_fields.items (all_back F statics instances own_fields));
         methods_of_class = All-append (λ (y : NumberedMethod). (method_at m y.number).class ≡ name) made.direct_methods made.virtual_methods
-            (methods_of_class b m name a.methods.items a.parameters.items read.direct_methods.items direct direct_codes direct_at direct_stand (all_front M directs virtuals own_methods))
-            (methods_of_class b m name a.methods.items a.parameters.items read.virtual_methods.items virtual virtual_codes virtual_at virtual_stand (all_back M directs virtuals own_methods));
+            (methods_of_class b m name a.methods a.parameters read.direct_methods.items direct direct_codes direct_at direct_stand (all_front M directs virtuals own_methods))
+            (methods_of_class b m name a.methods a.parameters read.virtual_methods.items virtual virtual_codes virtual_at virtual_stand (all_back M directs virtuals own_methods));
       }

@@ -4,6 +4,7 @@ use Rattle.std.specs.Prelude.{⊤, Result, IsOk, IsErr, vec_len, vec_capacity}
 use Rattle.std.specs.Global.{Vec}
 use Rattle.std.proofs.lemmas.List.{append-nil}
 use Rattle.dexspec.specs.Bytes.{uint}
+use Rattle.dexspec.specs.Numbers.{uleb128}
 use Rattle.dexspec.specs.Aside.Writing.{Puts}
 use Rattle.dexval.specs.Appending.{Appended, Stopped, Appends}
 use Rattle.dexval.proofs.Joining.{nothing_yet, appended_both, stopped_after, stopped_before, puts_appends}
@@ -54,3 +55,11 @@ same_appended {n} {k} {u} {v} e h = subst (λ (i : ℕ). Appended (uint i) u v) 
 
 pub same_stopped : {n k : ℕ} {u v : Vec ℕ} → n ≡ k → Stopped ⊤ (uint n) u v → Stopped ⊤ (uint k) u v
 same_stopped {n} {k} {u} {v} e h = subst (λ (i : ℕ). Stopped ⊤ (uint i) u v) e h
+
+-- ---- counts, by other words
+
+pub appended_count : {u v : Vec ℕ} {n k : ℕ} → n ≡ k → Appended (uleb128 n) u v → Appended (uleb128 k) u v
+appended_count {u} {v} e h = subst (λ (i : ℕ). Appended (uleb128 i) u v) e h
+
+pub stopped_count : {C : Type 0} {u v : Vec ℕ} {n k : ℕ} → n ≡ k → Stopped C (uleb128 n) u v → Stopped C (uleb128 k) u v
+stopped_count {C} {u} {v} e h = subst (λ (i : ℕ). Stopped C (uleb128 i) u v) e h

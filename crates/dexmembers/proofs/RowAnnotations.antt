@@ -11,11 +11,12 @@ use Rattle.dexpool.specs.declared.faults.ItemFault.{ItemFault}
 use Rattle.dexpool.specs.declared.faults.ItemFault.TheVariants.{Refused, Memory}
 use Rattle.dexpool.specs.Numberings.{AreRising}
 use Rattle.dexpool.specs.Pools.{ArePools}
-use Rattle.dexval.specs.Code.{set_of, directory_of}
+use Rattle.dexval.specs.Shared.{shared_directory_of}
+use Rattle.dexval.specs.Tables.{set_at, sets_at}
 use Rattle.dexval.specs.Numbered.{directory_in}
 use Rattle.dexval.specs.Directories.{HasMembers}
 use Rattle.dexval.specs.Reading.{IsDirectoryFault, IsDirectoryWithin, HasHeavyDirectory}
-use Rattle.dexval.specs.declared.directory.Directory.{Directory as DirectoryRead}
+use Rattle.dexval.specs.declared.directory.SharedDirectory.{SharedDirectory}
 use Rattle.dexmembers.specs.ClassData.{class_data_in, IsDataOf}
 use Rattle.dexmembers.specs.Attaching.{EntriesRise}
 use Rattle.dexmembers.specs.Naming.{NamesRead, ListsRise}
@@ -63,16 +64,16 @@ module _ (b : List ℕ) (r : ℕ) (m : Mentions) (read : DataRead) (is : IsDataO
         none (record { in_data = at.in_data; aligned = at.aligned }) (lists_rise b r m read is) (named_indices b m pools rising off a.0 at r read is a.2)
 
     -- what was read is that of the row
-    pub directory_answer : (most : ℕ) (found : Option DirectoryRead) → MatchOption found (HasHeavyDirectory b off most) (λ (a : DirectoryRead). IsDirectoryWithin b off m most (directory_of a)) → NamesRead b off read
+    pub directory_answer : (most : ℕ) (found : Option SharedDirectory) → MatchOption found (HasHeavyDirectory b off most) (λ (a : SharedDirectory). IsDirectoryWithin b off m most (shared_directory_of a)) → NamesRead b off read
         → MatchOption found (AreHeavyAnnotations b r m read most) (AreAnnotationsOf b r m read)
     directory_answer most None h names = record { directory = h.directory; at = directory_here h.directory h.at; named = named_members b m pools rising off h.directory h.at r read is names; heavy = h.heavy }
     directory_answer most (Some a) h names = record {
       known = h.is.known;
-      at = directory_here (directory_in m (directory_of a)) h.is.at;
-      named = named_members b m pools rising off (directory_in m (directory_of a)) h.is.at r read is names;
+      at = directory_here (directory_in m (shared_directory_of a)) h.is.at;
+      named = named_members b m pools rising off (directory_in m (shared_directory_of a)) h.is.at r read is names;
       entered = record {
-        fields_entered = keys_rise set_of a.fields.items (field_entries_rise b m pools rising off (directory_of a) h.is);
-        methods_entered = keys_rise set_of a.methods.items (method_entries_rise b m pools rising off (directory_of a) h.is);
-        parameters_entered = keys_rise (λ v. map set_of v.items) a.parameters.items (list_entries_rise b m pools rising off (directory_of a) h.is);
+        fields_entered = keys_rise (λ (i : ℕ). set_at a.table.sets (Some i)) a.fields.items (field_entries_rise b m pools rising off (shared_directory_of a) h.is);
+        methods_entered = keys_rise (λ (i : ℕ). set_at a.table.sets (Some i)) a.methods.items (method_entries_rise b m pools rising off (shared_directory_of a) h.is);
+        parameters_entered = keys_rise (λ (i : ℕ). sets_at a.table (Some i)) a.parameters.items (list_entries_rise b m pools rising off (shared_directory_of a) h.is);
       };
     }

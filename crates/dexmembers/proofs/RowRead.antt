@@ -8,9 +8,9 @@ use Rattle.dexspec.specs.Mentions.{Mentions}
 use Rattle.dexpool.specs.Numberings.{AreRising}
 use Rattle.dexcode.specs.Numbered.{NumberedItem, StandsForCode}
 use Rattle.dexcode.specs.Meaning.{code_in, IsKnownCode}
-use Rattle.dexval.specs.Code.{directory_of}
+use Rattle.dexval.specs.Shared.{shared_directory_of}
 use Rattle.dexval.specs.Numbered.{NumberedValues, directory_in, values_in}
-use Rattle.dexval.specs.declared.directory.Directory.{Directory as DirectoryRead}
+use Rattle.dexval.specs.declared.directory.SharedDirectory.{SharedDirectory}
 use Rattle.dexmembers.specs.Numbered.{NumberedMembers, members_in, AreKnownMembers}
 use Rattle.dexmembers.specs.Weight.{members_weight}
 use Rattle.dexmembers.specs.ClassData.{IsDataOf}
@@ -21,7 +21,6 @@ use Rattle.dexmembers.specs.declared.class_data.EncodedMethod.{EncodedMethod as 
 use Rattle.dexmembers.specs.declared.class_data.ClassData.{ClassData as DataRead}
 use Rattle.dexmembers.proofs.Made.{made_row, made_known, made_ordered}
 use Rattle.dexmembers.proofs.OfClass.{attached_of_class}
-use Rattle.dexmembers.proofs.RowAnnotations.{lists_rise}
 use Rattle.dexmembers.proofs.RowStands.{row_readable}
 
 -- lists that are paired have one length
@@ -35,48 +34,45 @@ zip_many R (x ∷ xs) (y ∷ ys) h = ap suc (zip_many R xs ys h.1)
 codes_many : (b : List ℕ) (m : Mentions) (xs : List MethodRead) (codes : List (Option NumberedItem)) (symbolic : List (Option Code)) → AreCodesAt b xs symbolic → AllZip (BothOrNone (StandsForCode m)) codes symbolic → length codes ≡ length xs
 codes_many b m xs codes symbolic at stand = zip_many (BothOrNone (StandsForCode m)) codes symbolic stand ∙ sym (zip_many _ xs symbolic at)
 
-module _ (b : List ℕ) (r : ℕ) (m : Mentions) (rising : AreRising m) (read : DataRead) (is : IsDataOf b r m read) (most : ℕ) (a : DirectoryRead) (direct virtual : List (Option NumberedItem)) (vs : NumberedValues) (parts : ArePartsOf b r m read most a direct virtual vs) where
+module _ (b : List ℕ) (r : ℕ) (m : Mentions) (rising : AreRising m) (read : DataRead) (is : IsDataOf b r m read) (most : ℕ) (a : SharedDirectory) (direct virtual : List (Option NumberedItem)) (vs : NumberedValues) (parts : ArePartsOf b r m read most a direct virtual vs) where
   -- the parts can be put together
   pub parts_attachable : AreAttachable read a direct virtual
   parts_attachable = record {
-    lists = lists_rise b r m read is;
     entered = parts.annotations.entered;
-    fields_apart = is.fields_apart;
-    methods_apart = is.methods_apart;
     direct_many = codes_many b m read.direct_methods.items direct parts.direct_codes.symbolic parts.direct_codes.at parts.direct_codes.stand;
     virtual_many = codes_many b m read.virtual_methods.items virtual parts.virtual_codes.symbolic parts.virtual_codes.at parts.virtual_codes.stand;
   }
 
   module _ (is_known : (c : NumberedItem) (x : Code) → StandsForCode m c x → IsKnownCode m c) (is_meant : (c : NumberedItem) (x : Code) → StandsForCode m c x → x ≡ code_in m c) where
     -- their numbers are those of symbols
-    pub parts_known : AreKnownMembers m (attached read a direct virtual vs)
+    pub parts_known : AreKnownMembers m (attached read (shared_directory_of a) direct virtual vs)
     parts_known =
-        made_known b r m rising a parts.annotations.known read is is_known is_meant direct virtual parts.direct_codes.symbolic parts.virtual_codes.symbolic parts.direct_codes.at parts.direct_codes.stand parts.virtual_codes.at parts.virtual_codes.stand vs parts.values.known
+        made_known b r m rising (shared_directory_of a) parts.annotations.known read is is_known is_meant direct virtual parts.direct_codes.symbolic parts.virtual_codes.symbolic parts.direct_codes.at parts.direct_codes.stand parts.virtual_codes.at parts.virtual_codes.stand vs parts.values.known
 
     -- the row declares what they mean
-    parts_row : MembersRow b r (members_in m (attached read a direct virtual vs))
+    parts_row : MembersRow b r (members_in m (attached read (shared_directory_of a) direct virtual vs))
     parts_row =
-        made_row b r m rising a parts.annotations.known read is is_known is_meant direct virtual parts.direct_codes.symbolic parts.virtual_codes.symbolic parts.direct_codes.at parts.direct_codes.stand parts.virtual_codes.at parts.virtual_codes.stand vs parts.annotations.at parts.values.are.at
+        made_row b r m rising (shared_directory_of a) parts.annotations.known read is is_known is_meant direct virtual parts.direct_codes.symbolic parts.virtual_codes.symbolic parts.direct_codes.at parts.direct_codes.stand parts.virtual_codes.at parts.virtual_codes.stand vs parts.annotations.at parts.values.are.at
 
     -- what is answered of them
-    pub parts_answer : (made : NumberedMembers) → made ≡ attached read a direct virtual vs → (found : Option (NumberedMembers × ℕ)) → MatchOption found (most < members_weight (members_in m made)) (λ (x : NumberedMembers × ℕ). (x.0 ≡ made) × (x.1 ≡ members_weight (members_in m made)) × (x.1 ≤ most))
+    pub parts_answer : (made : NumberedMembers) → made ≡ attached read (shared_directory_of a) direct virtual vs → (found : Option (NumberedMembers × ℕ)) → MatchOption found (most < members_weight (members_in m made)) (λ (x : NumberedMembers × ℕ). (x.0 ≡ made) × (x.1 ≡ members_weight (members_in m made)) × (x.1 ≤ most))
         → AreReadWithin b r m most found
     parts_answer made same None heavy = record {
-      readable = row_readable b r m read is (record { directory = directory_in m (directory_of a); at = parts.annotations.at; named = parts.annotations.named }) (parts.direct_codes.symbolic, parts.direct_codes.at) (parts.virtual_codes.symbolic, parts.virtual_codes.at) (values_in m vs, parts.values.are);
-      members = members_in m (attached read a direct virtual vs);
+      readable = row_readable b r m read is (record { directory = directory_in m (shared_directory_of a); at = parts.annotations.at; named = parts.annotations.named }) (parts.direct_codes.symbolic, parts.direct_codes.at) (parts.virtual_codes.symbolic, parts.virtual_codes.at) (values_in m vs, parts.values.are);
+      members = members_in m (attached read (shared_directory_of a) direct virtual vs);
       row = parts_row;
       heavy = subst (λ (x : NumberedMembers). most < members_weight (members_in m x)) same heavy;
     }
     parts_answer made same (Some y) h =
         let whole = h.0 ∙ same in
-        let weighs : y.1 ≡ members_weight (members_in m (attached read a direct virtual vs)) = h.1 ∙ ap (λ (x : NumberedMembers). members_weight (members_in m x)) same in
+        let weighs : y.1 ≡ members_weight (members_in m (attached read (shared_directory_of a) direct virtual vs)) = h.1 ∙ ap (λ (x : NumberedMembers). members_weight (members_in m x)) same in
         subst (λ (x : NumberedMembers). AreReadWithin b r m most (Some (x, y.1))) (sym whole) (
           record {
-            readable = row_readable b r m read is (record { directory = directory_in m (directory_of a); at = parts.annotations.at; named = parts.annotations.named }) (parts.direct_codes.symbolic, parts.direct_codes.at) (parts.virtual_codes.symbolic, parts.virtual_codes.at) (values_in m vs, parts.values.are);
+            readable = row_readable b r m read is (record { directory = directory_in m (shared_directory_of a); at = parts.annotations.at; named = parts.annotations.named }) (parts.direct_codes.symbolic, parts.direct_codes.at) (parts.virtual_codes.symbolic, parts.virtual_codes.at) (values_in m vs, parts.values.are);
             known = parts_known;
             row = parts_row;
-            ordered = made_ordered b r m rising a parts.annotations.known read is is_known is_meant direct virtual parts.direct_codes.symbolic parts.virtual_codes.symbolic parts.direct_codes.at parts.direct_codes.stand parts.virtual_codes.at parts.virtual_codes.stand vs;
-            of_class = λ name at. attached_of_class b r m read is name at a direct virtual vs parts.direct_codes.symbolic parts.virtual_codes.symbolic parts.direct_codes.at parts.direct_codes.stand parts.virtual_codes.at parts.virtual_codes.stand;
+            ordered = made_ordered b r m rising (shared_directory_of a) parts.annotations.known read is is_known is_meant direct virtual parts.direct_codes.symbolic parts.virtual_codes.symbolic parts.direct_codes.at parts.direct_codes.stand parts.virtual_codes.at parts.virtual_codes.stand vs;
+            of_class = λ name at. attached_of_class b r m read is name at (shared_directory_of a) direct virtual vs parts.direct_codes.symbolic parts.virtual_codes.symbolic parts.direct_codes.at parts.direct_codes.stand parts.virtual_codes.at parts.virtual_codes.stand;
             light = subst (λ (n : ℕ). n ≤ most) weighs h.2;
           },
           weighs,

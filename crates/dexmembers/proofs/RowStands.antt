@@ -18,10 +18,10 @@ use Rattle.dexpool.specs.declared.faults.ItemFault.TheVariants.{Refused, Memory}
 use Rattle.dexpool.specs.Numberings.{AreRising}
 use Rattle.dexpool.specs.Pools.{ArePools}
 use Rattle.dexcode.specs.Numbered.{NumberedItem}
-use Rattle.dexval.specs.Code.{directory_of}
+use Rattle.dexval.specs.Shared.{shared_directory_of}
 use Rattle.dexval.specs.Numbered.{NumberedValues, directory_in, values_in}
 use Rattle.dexval.specs.Directories.{directory_weight}
-use Rattle.dexval.specs.declared.directory.Directory.{Directory as DirectoryRead}
+use Rattle.dexval.specs.declared.directory.SharedDirectory.{SharedDirectory}
 use Rattle.dexmembers.specs.Weight.{members_weight}
 use Rattle.dexmembers.specs.ClassData.{encoded_field_in, encoded_method_in, class_data_in, IsDataOf}
 use Rattle.dexmembers.specs.MethodCodes.{optional_code_weight, AreCodesAt, HaveCodes, AreCodesOf, AreHeavyCodes}
@@ -55,9 +55,9 @@ pub record HasDirectory (b : List ℕ) (r : ℕ) (m : Mentions) (read : DataRead
   pub named : NamesDeclared directory (class_data_in m read)
 
 -- it is there, kept or not
-pub any_directory : (b : List ℕ) (r : ℕ) (m : Mentions) (read : DataRead) (most : ℕ) (found : Option DirectoryRead) → MatchOption found (AreHeavyAnnotations b r m read most) (AreAnnotationsOf b r m read) → HasDirectory b r m read
+pub any_directory : (b : List ℕ) (r : ℕ) (m : Mentions) (read : DataRead) (most : ℕ) (found : Option SharedDirectory) → MatchOption found (AreHeavyAnnotations b r m read most) (AreAnnotationsOf b r m read) → HasDirectory b r m read
 any_directory b r m read most None h = record { directory = h.directory; at = h.at; named = h.named }
-any_directory b r m read most (Some a) h = record { directory = directory_in m (directory_of a); at = h.at; named = h.named }
+any_directory b r m read most (Some a) h = record { directory = directory_in m (shared_directory_of a); at = h.at; named = h.named }
 
 -- code is there
 pub any_codes : {X : Type 0} (items : X → List (Option NumberedItem)) (b : List ℕ) (m : Mentions) (xs : List MethodRead) (most : ℕ) (found : Option X) → MatchOption found (AreHeavyCodes b xs most) (λ (x : X). AreCodesOf b m xs most (items x)) → HaveCodes b xs

@@ -1,7 +1,9 @@
 pub mod Attaching
 pub mod ClassData
+pub mod Contents
 pub mod DirectoryPut
 pub mod EncodedMembers
+pub mod Held
 pub mod MethodCodes
 pub mod Naming
 pub mod Numbered
@@ -10,7 +12,6 @@ pub mod Renumbering
 pub mod RowParts
 pub mod Spelled
 pub mod StaticValues
-pub mod Stored
 pub mod Uses
 pub mod Weighing
 pub mod Weight

@@ -11,6 +11,7 @@ use Rattle.dexcode.specs.Renumbering.{renumbered_item}
 use Rattle.dexcode.specs.Renumbering as code
 use Rattle.dexval.specs.Renumbering.{led, renumbered_set, renumbered_values, LeadsOn, SetHasPlaces, HavePlaces}
 use Rattle.dexmembers.specs.Numbered.{NumberedField, NumberedMethod, NumberedMembers}
+use Rattle.dexmembers.specs.Held.{HeldField, HeldMethod}
 
 -- ---- other numbers
 
@@ -39,7 +40,24 @@ renumbered_members r x = record {
   static_values = renumbered_values r x.static_values;
 }
 
+-- the field as it is held, its number led on
+abbrev pub led_field : Maps → HeldField → HeldField
+led_field r f = record { number = led r kinds.Field f.number; flags = f.flags; set = f.set }
+
+-- the method as it is held, its number and those of its code led on
+abbrev pub led_method : Maps → HeldMethod → HeldMethod
+led_method r x = record { number = led r kinds.Method x.number; flags = x.flags; code = option_map (renumbered_item r) x.code; set = x.set; list = x.list }
+
 -- ---- places of numbers
+
+-- the number of the field leads to one that fits its place
+abbrev pub HeldFieldLeads : Maps → HeldField → Type 0
+HeldFieldLeads r f = LeadsOn r kinds.Field f.number
+
+-- the number of the method, and each of its code
+pub record HeldMethodLeads (r : Maps) (x : HeldMethod) : Type 0 where
+  pub number_leads : LeadsOn r kinds.Method x.number
+  pub code_leads : IfSome x.code (code.HasPlaces r)
 
 -- each number of the field leads to one that fits its place
 pub record FieldHasPlaces (r : Maps) (f : NumberedField) : Type 0 where

@@ -4,6 +4,7 @@ use Rattle.std.specs.Option.{option_map}
 use Rattle.dexspec.specs.Stripping.{strip_method}
 use Rattle.dexcode.specs.Numbered.{NumberedItem, NumberedTry}
 use Rattle.dexmembers.specs.Numbered.{NumberedMethod, NumberedMembers, Members}
+use Rattle.dexmembers.specs.Held.{HeldMethod}
 
 -- the code without its debug program
 abbrev pub stripped_code : NumberedItem → NumberedItem
@@ -12,6 +13,10 @@ stripped_code c = record { body = c.body; tries = c.tries; debug = None }
 -- the method, its code so
 abbrev pub stripped_method : NumberedMethod → NumberedMethod
 stripped_method x = record { number = x.number; flags = x.flags; code = option_map stripped_code x.code; annotations = x.annotations; parameter_annotations = x.parameter_annotations }
+
+-- the same of a method as it is held
+abbrev pub stripped_held : HeldMethod → HeldMethod
+stripped_held x = record { number = x.number; flags = x.flags; code = option_map stripped_code x.code; set = x.set; list = x.list }
 
 -- all members, each method so
 abbrev pub stripped_members : NumberedMembers → NumberedMembers

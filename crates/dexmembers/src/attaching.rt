@@ -1,54 +1,35 @@
-//! Fields and methods put together: what class data says of them, with their code and the sets of a directory.
+//! Fields and methods put together: what class data says of them, with their code and the places of the sets of a directory.
 
-ghost use Rattle.std.specs.Prelude.{◌≡◌, [], ◌∷◌, map, IfOk, MatchOption, length};
+ghost use Rattle.std.specs.Prelude.{◌≡◌, ℕ, ◌<◌, All, map, IfOk, IfSome, MatchOption, length};
 ghost use Rattle.std.specs.List.{Contains};
 ghost use Rattle.dexspec.specs.Lists.{zip_with};
-ghost use Rattle.dexval.specs.Code.{set_of};
-ghost use Rattle.dexmembers.specs.Numbered.{NumbersRise};
-ghost use Rattle.dexmembers.specs.Attaching.{looked_up, sets_of, EntriesRise, HasNumberAt, AreTaken, field_with, method_with};
+ghost use Rattle.dexmembers.specs.Attaching.{place_for, EntriesRise, HasNumberAt, held_field, held_method};
 
 use crate::class_data::{EncodedField, EncodedMethod};
 use crate::members::{DeclaredField, DeclaredMethod};
 use dexcode::Code;
 use dexflags::{FieldFlags, MethodFlags};
-use dexval::AnnotationSet;
 use std::alloc::{AllocError, Global};
-use std::mem;
 
-// The place of the entry of this number, if there is one.
-fn place_of<T>(entries: &[(u32, T)], number: u32) -> Option<usize>
+// Where the entry of this number stands, if there is one.
+fn entry_of(entries: &[(u32, u32)], number: u32) -> Option<usize>
     ensures { MatchOption result (EntriesRise entries.now → Contains (map (λ e. e.0) entries.now) number → ⊥) (HasNumberAt entries.now number) }
 {
     entries.binary_search_by_key(&number, |entry| entry.0).ok()
 }
 
-// The set of the member of this number, which is taken out and leaves an empty one, or an empty set.
-fn take_set(alloc: Global, sets: &mut Vec<(u32, AnnotationSet)>, number: u32) -> AnnotationSet
-    ensures taken { EntriesRise sets.old.items → set_of result ≡ looked_up set_of sets.old.items number }
-    ensures left { AreTaken set_of (number ∷ []) sets.old.items sets.new.items }
+// The place that entries have for this number, if there is an entry of it.
+fn place_for(entries: &[(u32, u32)], number: u32) -> Option<u32>
+    ensures found { EntriesRise entries.now → result ≡ place_for entries.now number }
+    ensures held { (limit : ℕ) → All (λ e. e.1 < limit) entries.now → IfSome result (λ place. place < limit) }
 {
-    match place_of(sets, number) {
-        Some(at) => mem::replace(&mut sets[at].1, AnnotationSet::empty(alloc)),
-        None => AnnotationSet::empty(alloc),
+    match entry_of(entries, number) {
+        Some(at) => Some(entries[at].1),
+        None => None,
     }
 }
 
-// The sets of the parameters of the method of this number, which are taken out, or none.
-fn take_list(
-    alloc: Global,
-    lists: &mut Vec<(u32, Vec<AnnotationSet>)>,
-    number: u32,
-) -> Vec<AnnotationSet>
-    ensures taken { EntriesRise lists.old.items → sets_of result ≡ looked_up sets_of lists.old.items number }
-    ensures left { AreTaken sets_of (number ∷ []) lists.old.items lists.new.items }
-{
-    match place_of(lists, number) {
-        Some(at) => mem::replace(&mut lists[at].1, Vec::new(alloc)),
-        None => Vec::new(alloc),
-    }
-}
-
-/// The fields of a list of class data, with their sets, which are taken out of those of a directory.
+/// The fields of a list of class data, with the places of their sets in a directory.
 ///
 /// Error: the memory for the list was refused.
 ///
@@ -56,24 +37,23 @@ fn take_list(
 pub(crate) fn attach_fields(
     alloc: Global,
     listed: &[EncodedField],
-    sets: &mut Vec<(u32, AnnotationSet)>,
+    sets: &[(u32, u32)],
 ) -> Result<Vec<DeclaredField>, AllocError>
-    ensures fields { EntriesRise sets.old.items → NumbersRise (map (λ x. x.index) listed.now) → IfOk result (λ fields. fields.items ≡ map (field_with sets.old.items) listed.now) }
-    ensures left { IfOk result (λ _. AreTaken set_of (map (λ x. x.index) listed.now) sets.old.items sets.new.items) }
+    ensures fields { EntriesRise sets.now → IfOk result (λ fields. fields.items ≡ map (held_field sets.now) listed.now) }
+    ensures held { (limit : ℕ) → All (λ e. e.1 < limit) sets.now → IfOk result (λ fields. All (λ f. IfSome f.set (λ place. place < limit)) fields.items) }
 {
     let mut fields = Vec::with_capacity(alloc, listed.len())?;
     for field in listed {
-        let annotations = take_set(alloc, sets, field.index);
         fields.push(DeclaredField {
             number: field.index,
             flags: FieldFlags::from_bits_retain(field.flags),
-            annotations,
+            set: place_for(sets, field.index),
         })?;
     }
     Ok(fields)
 }
 
-/// The methods of a list of class data, with their code and their sets, which are taken out of those of a directory.
+/// The methods of a list of class data, with their code and the places of their sets and lists of sets in a directory.
 ///
 /// Error: the memory for the list was refused.
 ///
@@ -82,25 +62,23 @@ pub(crate) fn attach_methods<'a>(
     alloc: Global,
     listed: &[EncodedMethod],
     codes: Vec<Option<Code<'a>>>,
-    sets: &mut Vec<(u32, AnnotationSet)>,
-    lists: &mut Vec<(u32, Vec<AnnotationSet>)>,
+    sets: &[(u32, u32)],
+    lists: &[(u32, u32)],
 ) -> Result<Vec<DeclaredMethod<'a>>, AllocError>
-    ensures methods { EntriesRise sets.old.items → EntriesRise lists.old.items → NumbersRise (map (λ x. x.index) listed.now) → length codes.entry.items ≡ length listed.now → IfOk result (λ methods. methods.items ≡ zip_with (method_with sets.old.items lists.old.items) listed.now codes.entry.items) }
-    ensures sets_left { IfOk result (λ _. AreTaken set_of (map (λ x. x.index) listed.now) sets.old.items sets.new.items) }
-    ensures lists_left { IfOk result (λ _. AreTaken sets_of (map (λ x. x.index) listed.now) lists.old.items lists.new.items) }
+    ensures methods { EntriesRise sets.now → EntriesRise lists.now → length codes.entry.items ≡ length listed.now → IfOk result (λ methods. methods.items ≡ zip_with (held_method sets.now lists.now) listed.now codes.entry.items) }
+    ensures sets_held { (limit : ℕ) → All (λ e. e.1 < limit) sets.now → IfOk result (λ methods. All (λ x. IfSome x.set (λ place. place < limit)) methods.items) }
+    ensures lists_held { (limit : ℕ) → All (λ e. e.1 < limit) lists.now → IfOk result (λ methods. All (λ x. IfSome x.list (λ place. place < limit)) methods.items) }
 {
     let mut methods = Vec::with_capacity(alloc, listed.len())?;
     let mut codes = codes.into_iter();
     for method in listed {
         let code = codes.next().flatten();
-        let annotations = take_set(alloc, sets, method.index);
-        let parameter_annotations = take_list(alloc, lists, method.index);
         methods.push(DeclaredMethod {
             number: method.index,
             flags: MethodFlags::from_bits_retain(method.flags),
             code,
-            annotations,
-            parameter_annotations,
+            set: place_for(sets, method.index),
+            list: place_for(lists, method.index),
         })?;
     }
     Ok(methods)

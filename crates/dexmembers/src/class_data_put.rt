@@ -12,7 +12,9 @@ ghost use Rattle.dexval.specs.Appending.{Appends};
 ghost use Rattle.dexmembers.specs.Numbered.{AreKnownMembers, AreOfClass, fields_of, methods_of, members_in, members_of};
 ghost use Rattle.dexmembers.specs.Spelled.{numbered_field_bytes, numbered_fields_bytes, numbered_method_bytes, numbered_methods_bytes, numbered_class_data_bytes};
 
-use crate::members::{DeclaredField, DeclaredMethod, Members};
+use crate::field_views::{Field, Fields};
+use crate::members::Members;
+use crate::method_views::{Method, Methods};
 use crate::put_laws::members_bytes_law;
 use crate::taking_back::taken_back_on_error;
 use dexleb::put_u;
@@ -27,7 +29,7 @@ fn append_number(value: u32, out: &mut Vec<u8>) -> Result<(), AllocError>
 }
 
 // Appends an encoded_field behind one with the number `last`.
-fn append_field(field: &DeclaredField, last: u32, out: &mut Vec<u8>) -> Result<(), AllocError>
+fn append_field(field: &Field<'_>, last: u32, out: &mut Vec<u8>) -> Result<(), AllocError>
     ensures { Appends ⊤ (numbered_field_bytes last field.now) out.old out.new result }
 {
     append_number(field.number().saturating_sub(last), out)?;
@@ -35,12 +37,13 @@ fn append_field(field: &DeclaredField, last: u32, out: &mut Vec<u8>) -> Result<(
 }
 
 // Appends encoded_fields.
-fn append_fields(fields: &[DeclaredField], out: &mut Vec<u8>) -> Result<(), AllocError>
+fn append_fields(fields: &Fields<'_>, out: &mut Vec<u8>) -> Result<(), AllocError>
     ensures { Appends ⊤ (numbered_fields_bytes 0 fields.now) out.old out.new result }
 {
     let mut last = 0;
-    for field in fields {
-        append_field(field, last, out)?;
+    for i in 0..fields.len() {
+        let field = fields.get(i);
+        append_field(&field, last, out)?;
         last = field.number();
     }
     Ok(())
@@ -48,7 +51,7 @@ fn append_fields(fields: &[DeclaredField], out: &mut Vec<u8>) -> Result<(), Allo
 
 // Appends an encoded_method behind one with the number `last`, with the offset of its code.
 fn append_method(
-    method: &DeclaredMethod<'_>,
+    method: &Method<'_, '_>,
     last: u32,
     code_off: u32,
     out: &mut Vec<u8>,
@@ -62,7 +65,7 @@ fn append_method(
 
 // Appends encoded_methods, each with the offset of its code.
 fn append_methods(
-    methods: &[DeclaredMethod<'_>],
+    methods: &Methods<'_, '_>,
     code_offs: &[u32],
     out: &mut Vec<u8>,
 ) -> Result<(), AllocError>
@@ -70,8 +73,9 @@ fn append_methods(
     ensures { Appends ⊤ (numbered_methods_bytes 0 methods.now code_offs.now) out.old out.new result }
 {
     let mut last = 0;
-    for (i, method) in methods.iter().enumerate() {
-        append_method(method, last, code_offs[i], out)?;
+    for i in 0..methods.len() {
+        let method = methods.get(i);
+        append_method(&method, last, code_offs[i], out)?;
         last = method.number();
     }
     Ok(())
@@ -79,10 +83,10 @@ fn append_methods(
 
 // Appends the four counts and the four lists of a class_data_item.
 fn append_lists(
-    static_fields: &[DeclaredField],
-    instance_fields: &[DeclaredField],
-    direct_methods: &[DeclaredMethod<'_>],
-    virtual_methods: &[DeclaredMethod<'_>],
+    static_fields: &Fields<'_>,
+    instance_fields: &Fields<'_>,
+    direct_methods: &Methods<'_, '_>,
+    virtual_methods: &Methods<'_, '_>,
     code_offs: &[u32],
     out: &mut Vec<u8>,
 ) -> Result<(), AllocError>
@@ -111,12 +115,11 @@ impl Members<'_> {
         ensures { Appends ⊤ (numbered_class_data_bytes self.now code_offs.now) out.old out.new result }
     {
         self.are_few();
-        let own = &self.contents;
         append_lists(
-            &own.static_fields,
-            &own.instance_fields,
-            &own.direct_methods,
-            &own.virtual_methods,
+            &self.static_fields(),
+            &self.instance_fields(),
+            &self.direct_methods(),
+            &self.virtual_methods(),
             code_offs,
             out,
         )

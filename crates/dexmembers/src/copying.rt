@@ -1,23 +1,12 @@
 //! Copies of what classes declare.
 
 ghost use Rattle.std.specs.Prelude.{◌≡◌, IfOk, map};
-ghost use Rattle.dexval.specs.Code.{set_of, value_of};
+ghost use Rattle.dexval.specs.Code.{value_of};
 
 use crate::members::{Contents, DeclaredField, DeclaredMethod, Members};
 use dexcode::Code;
-use dexval::{AnnotationSet, Value};
+use dexval::Value;
 use std::alloc::AllocError;
-
-// The same sets.
-fn copied_sets(sets: &Vec<AnnotationSet>) -> Result<Vec<AnnotationSet>, AllocError>
-    ensures { IfOk result (λ copy. map set_of copy.items ≡ map set_of sets.now.items) }
-{
-    let mut copy = Vec::with_capacity(*sets.allocator(), sets.len())?;
-    for set in sets {
-        copy.push(set.copy()?)?;
-    }
-    Ok(copy)
-}
 
 // The same values.
 fn copied_values(values: &Vec<Value>) -> Result<Vec<Value>, AllocError>
@@ -36,7 +25,7 @@ fn copied_fields(fields: &Vec<DeclaredField>) -> Result<Vec<DeclaredField>, Allo
 {
     let mut copy = Vec::with_capacity(*fields.allocator(), fields.len())?;
     for field in fields {
-        copy.push(field.copy()?)?;
+        copy.push(field.copy())?;
     }
     Ok(copy)
 }
@@ -65,37 +54,29 @@ fn copied_code<'a>(code: &Option<Code<'a>>) -> Result<Option<Code<'a>>, AllocErr
 }
 
 impl DeclaredField {
-    /// The same field, with annotations of its own.
-    ///
-    /// Error: memory was refused.
-    ///
-    /// Source: "encoded_field format", "field_annotation format".
-    pub(crate) fn copy(&self) -> Result<DeclaredField, AllocError>
-        ensures { IfOk result (λ copy. copy ≡ self.now) }
+    // The same field.
+    fn copy(&self) -> DeclaredField
+        ensures { result ≡ self.now }
     {
-        Ok(DeclaredField {
+        DeclaredField {
             number: self.number,
             flags: self.flags,
-            annotations: self.annotations.copy()?,
-        })
+            set: self.set,
+        }
     }
 }
 
 impl<'a> DeclaredMethod<'a> {
-    /// The same method, with lists of its own. The units of its code are borrowed as before.
-    ///
-    /// Error: memory was refused.
-    ///
-    /// Source: "encoded_method format", "method_annotation format", "parameter_annotation format".
-    pub(crate) fn copy(&self) -> Result<DeclaredMethod<'a>, AllocError>
+    // The same method, with code of its own, whose units are borrowed as before. Error: memory was refused.
+    fn copy(&self) -> Result<DeclaredMethod<'a>, AllocError>
         ensures { IfOk result (λ copy. copy ≡ self.now) }
     {
         Ok(DeclaredMethod {
             number: self.number,
             flags: self.flags,
             code: copied_code(&self.code)?,
-            annotations: self.annotations.copy()?,
-            parameter_annotations: copied_sets(&self.parameter_annotations)?,
+            set: self.set,
+            list: self.list,
         })
     }
 }
@@ -111,7 +92,8 @@ impl<'a> Members<'a> {
     {
         Ok(Members {
             contents: Contents {
-                annotations: self.contents.annotations.copy()?,
+                table: self.contents.table.copy()?,
+                set: self.contents.set,
                 static_fields: copied_fields(&self.contents.static_fields)?,
                 instance_fields: copied_fields(&self.contents.instance_fields)?,
                 direct_methods: copied_methods(&self.contents.direct_methods)?,

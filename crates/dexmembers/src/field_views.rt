@@ -1,11 +1,12 @@
 //! Declared fields as they are lent.
 
-ghost use Rattle.std.specs.Prelude.{◌≡◌, ◌<◌, ◌==◌, [], length, slice_index_or, MatchOption};
+ghost use Rattle.std.specs.Prelude.{◌≡◌, ◌<◌, ◌==◌, [], length, map, slice_index_or, All, MatchOption};
 ghost use Rattle.dexval.specs.Code.{set_of};
+ghost use Rattle.dexmembers.specs.Held.{field_of, IsHeldField};
 
 use crate::members::DeclaredField;
 use dexflags::FieldFlags;
-use dexval::AnnotationSet;
+use dexval::{AnnotationSet, SetTable};
 use std::marker::Model;
 
 /// Fields of one kind that a class declares, by number. They are borrowed.
@@ -13,20 +14,24 @@ use std::marker::Model;
 /// Source: "class_data_item", the fields `static_fields` and `instance_fields`.
 #[derive(Drop)]
 pub struct Fields<'m> {
+    table: &'m SetTable,
     fields: &'m [DeclaredField],
 }
 
 impl<'m> Model for Fields<'m> {
-    ghost use Rattle.std.specs.Prelude.{List};
+    ghost use Rattle.std.specs.Prelude.{List, map, All};
     ghost use Rattle.std.specs.Coded.{codes};
-    ghost use Rattle.dexmembers.specs.Stored.{elements_code};
+    ghost use Rattle.dexval.specs.Stored.{elements_code};
     ghost use Rattle.dexmembers.specs.Numbered.{NumberedField};
+    ghost use Rattle.dexmembers.specs.Held.{field_of, IsHeldField};
 
     ghost Value = { List NumberedField };
 
     ghost coded = { Prim.hlevel (codes, elements_code) };
 
-    ghost view = { λ x. x.fields.now };
+    ghost view = { λ x. map (field_of x.table.now.sets) x.fields.now };
+
+    ghost invariant = { λ x. All (IsHeldField x.table.now.sets) x.fields.now };
 }
 
 /// A declared field, which is borrowed: its number among the fields, its access flags, and its annotations.
@@ -34,27 +39,34 @@ impl<'m> Model for Fields<'m> {
 /// Source: "encoded_field format", "field_annotation format".
 #[derive(Drop)]
 pub struct Field<'m> {
+    table: &'m SetTable,
     field: &'m DeclaredField,
 }
 
 impl<'m> Model for Field<'m> {
     ghost use Rattle.std.specs.Coded.{codes};
-    ghost use Rattle.dexmembers.specs.Stored.{elements_code};
+    ghost use Rattle.dexval.specs.Stored.{elements_code};
     ghost use Rattle.dexmembers.specs.Numbered.{NumberedField};
+    ghost use Rattle.dexmembers.specs.Held.{field_of, IsHeldField};
 
     ghost Value = { NumberedField };
 
     ghost coded = { Prim.hlevel (codes, elements_code) };
 
-    ghost view = { λ x. x.field.now };
+    ghost view = { λ x. field_of x.table.now.sets x.field.now };
+
+    ghost invariant = { λ x. IsHeldField x.table.now.sets x.field.now };
 }
 
 impl<'m> Fields<'m> {
-    /// These fields.
-    pub(crate) fn of(fields: &'m [DeclaredField]) -> Fields<'m>
-        ensures { result ≡ fields.now }
+    /// These fields, with their sets in a table.
+    ///
+    /// Condition: their places are the table's.
+    pub(crate) fn of(table: &'m SetTable, fields: &'m [DeclaredField]) -> Fields<'m>
+        requires { All (IsHeldField table.now.sets) fields.now }
+        ensures { result ≡ map (field_of table.now.sets) fields.now }
     {
-        Fields { fields }
+        Fields { table, fields }
     }
 
     /// How many fields there are. No memory is taken.
@@ -80,6 +92,7 @@ impl<'m> Fields<'m> {
     {
         let fields = self.fields;
         Field {
+            table: self.table,
             field: &fields[place],
         }
     }
@@ -92,7 +105,8 @@ impl<'m> Field<'m> {
     pub fn number(&self) -> u32
         ensures { result ≡ self.now.number }
     {
-        self.field.number()
+        let field = self.field;
+        field.number
     }
 
     /// The access flags. No memory is taken.
@@ -101,7 +115,8 @@ impl<'m> Field<'m> {
     pub fn flags(&self) -> FieldFlags
         ensures { result.0 ≡ self.now.flags }
     {
-        self.field.flags()
+        let field = self.field;
+        field.flags
     }
 
     /// The annotations; `None` says that the field has none. No memory is taken.
@@ -110,6 +125,7 @@ impl<'m> Field<'m> {
     pub fn annotations(&self) -> Option<&'m AnnotationSet>
         ensures { MatchOption result (self.now.annotations ≡ []) (λ set. set_of set.now ≡ self.now.annotations) }
     {
-        Some(self.field.annotations())
+        let (table, field) = (self.table, self.field);
+        table.set(field.set)
     }
 }

@@ -7,7 +7,8 @@ ghost use Rattle.dexcode.specs.Renumbering.{HasPlaces};
 ghost use Rattle.dexmembers.specs.Numbered.{IsKnownMethod, AreKnownMembers};
 ghost use Rattle.dexmembers.specs.Renumbering.{LeadsInto, MethodHasPlaces, MembersHavePlaces};
 
-use crate::members::{DeclaredMethod, Members};
+use crate::members::Members;
+use crate::method_views::{Method, Methods};
 use dexcode::{Code, code_meaning_law, code_places_law};
 use dexpool::Remap;
 use dexval::places_law;
@@ -22,24 +23,24 @@ fn code_fits(code: &Code<'_>, remap: &Remap) -> bool
 }
 
 // Whether each number of methods does.
-fn methods_fit(methods: &[DeclaredMethod<'_>], remap: &Remap) -> bool
+fn methods_fit(methods: &Methods<'_, '_>, remap: &Remap) -> bool
     ensures { (m n : Mentions) → LeadsInto m n remap.now → All (IsKnownMethod m) methods.now → IsTrue result ↔ All (MethodHasPlaces remap.now) methods.now }
 {
-    for method in methods {
-        if !method.instructions_fit(remap) {
+    for i in 0..methods.len() {
+        if !methods.get(i).instructions_fit(remap) {
             return false;
         }
     }
     true
 }
 
-impl<'a> DeclaredMethod<'a> {
+impl Method<'_, '_> {
     // Whether each number of the method does.
     fn instructions_fit(&self, remap: &Remap) -> bool
         ensures { (m n : Mentions) → LeadsInto m n remap.now → IsKnownMethod m self.now → IsTrue result ↔ MethodHasPlaces remap.now self.now }
     {
         places_law();
-        match &self.code {
+        match self.code() {
             Some(code) => code_fits(code, remap),
             None => true,
         }
@@ -57,9 +58,9 @@ impl<'a> Members<'a> {
         ensures { (m n : Mentions) → LeadsInto m n remap.now → AreKnownMembers m self.now → IsTrue result ↔ MembersHavePlaces remap.now self.now }
     {
         places_law();
-        if !methods_fit(&self.contents.direct_methods, remap) {
+        if !methods_fit(&self.direct_methods(), remap) {
             return false;
         }
-        methods_fit(&self.contents.virtual_methods, remap)
+        methods_fit(&self.virtual_methods(), remap)
     }
 }

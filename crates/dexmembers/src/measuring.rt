@@ -6,11 +6,13 @@ ghost use Rattle.dexmembers.specs.Spelled.{numbered_field_bytes, numbered_fields
 ghost use Rattle.dexmembers.specs.DirectoryPut.{numbered_directory_bytes};
 
 use crate::directory_put::placed;
-use crate::members::{DeclaredField, DeclaredMethod, Members};
+use crate::field_views::{Field, Fields};
+use crate::members::Members;
+use crate::method_views::{Method, Methods};
 use dexleb::len_u;
 
 // How many bytes an encoded_field has behind one with the number `last`.
-fn field_len(field: &DeclaredField, last: u32) -> usize
+fn field_len(field: &Field<'_>, last: u32) -> usize
     ensures exact { result ≡ length (numbered_field_bytes last field.now) }
     ensures few { result ≤ 10 }
 {
@@ -18,22 +20,23 @@ fn field_len(field: &DeclaredField, last: u32) -> usize
 }
 
 // How many bytes encoded_fields have.
-fn fields_len(fields: &[DeclaredField]) -> usize
+fn fields_len(fields: &Fields<'_>) -> usize
     requires { length fields.now < 2 ^ 32 }
     ensures exact { result ≡ length (numbered_fields_bytes 0 fields.now) }
     ensures few { result ≤ 10 * length fields.now }
 {
     let mut len = 0;
     let mut last = 0;
-    for field in fields {
-        len += field_len(field, last);
+    for i in 0..fields.len() {
+        let field = fields.get(i);
+        len += field_len(&field, last);
         last = field.number();
     }
     len
 }
 
 // How many bytes an encoded_method has behind one with the number `last`, with the offset of its code.
-fn method_len(method: &DeclaredMethod<'_>, last: u32, code_off: u32) -> usize
+fn method_len(method: &Method<'_, '_>, last: u32, code_off: u32) -> usize
     ensures exact { result ≡ length (numbered_method_bytes last method.now code_off) }
     ensures few { result ≤ 15 }
 {
@@ -41,7 +44,7 @@ fn method_len(method: &DeclaredMethod<'_>, last: u32, code_off: u32) -> usize
 }
 
 // How many bytes encoded_methods have, each with the offset of its code.
-fn methods_len(methods: &[DeclaredMethod<'_>], code_offs: &[u32]) -> usize
+fn methods_len(methods: &Methods<'_, '_>, code_offs: &[u32]) -> usize
     requires few { length methods.now < 2 ^ 32 }
     requires offsets { length code_offs.now ≡ length methods.now }
     ensures exact { result ≡ length (numbered_methods_bytes 0 methods.now code_offs.now) }
@@ -49,8 +52,9 @@ fn methods_len(methods: &[DeclaredMethod<'_>], code_offs: &[u32]) -> usize
 {
     let mut len = 0;
     let mut last = 0;
-    for (i, method) in methods.iter().enumerate() {
-        len += method_len(method, last, code_offs[i]);
+    for i in 0..methods.len() {
+        let method = methods.get(i);
+        len += method_len(&method, last, code_offs[i]);
         last = method.number();
     }
     len
@@ -69,18 +73,18 @@ impl Members<'_> {
         ensures { result ≡ length (numbered_class_data_bytes self.now code_offs.now) }
     {
         self.are_few();
-        let static_fields = &self.contents.static_fields;
-        let instance_fields = &self.contents.instance_fields;
-        let direct_methods = &self.contents.direct_methods;
-        let virtual_methods = &self.contents.virtual_methods;
+        let static_fields = self.static_fields();
+        let instance_fields = self.instance_fields();
+        let direct_methods = self.direct_methods();
+        let virtual_methods = self.virtual_methods();
         let (direct_offs, virtual_offs) = code_offs.split_at(direct_methods.len());
         let counts = len_u(static_fields.len() as u32)
             + len_u(instance_fields.len() as u32)
             + len_u(direct_methods.len() as u32)
             + len_u(virtual_methods.len() as u32);
-        let fields = fields_len(static_fields) + fields_len(instance_fields);
-        let methods = methods_len(direct_methods, direct_offs)
-            + methods_len(virtual_methods, virtual_offs);
+        let fields = fields_len(&static_fields) + fields_len(&instance_fields);
+        let methods = methods_len(&direct_methods, direct_offs)
+            + methods_len(&virtual_methods, virtual_offs);
         counts + fields + methods
     }
 

@@ -1,43 +1,44 @@
 //! What a class declares, with numbers in the place of symbols.
 
-ghost use Rattle.std.specs.Prelude.{◌≡◌, [], Some, None, MatchOption, map};
+ghost use Rattle.std.specs.Prelude.{◌≡◌, [], MatchOption, map};
 ghost use Rattle.dexval.specs.Code.{set_of, value_of};
 ghost use Rattle.dexval.specs.Numbered.{values_of_list};
 ghost use Rattle.dexmembers.specs.Numbered.{no_members, AreFew};
+ghost use Rattle.dexmembers.specs.Contents.{contents_in, AreHeld};
 
 use crate::field_views::Fields;
 use crate::method_views::Methods;
 use dexcode::Code;
 use dexflags::{FieldFlags, MethodFlags};
-use dexval::{AnnotationSet, Value};
+use dexval::{AnnotationSet, SetTable, Value};
 use std::alloc::Global;
 use std::marker::Model;
 
-/// A declared field: its number among the fields, its access flags, and its annotations.
+/// A declared field: its number among the fields, its access flags, and the place of its annotations in a table of sets, or
+/// `None` where it has none.
 ///
 /// Source: "encoded_field format", "field_annotation format".
 #[derive(Drop)]
 pub(crate) struct DeclaredField {
     pub(crate) number: u32,
     pub(crate) flags: FieldFlags,
-    pub(crate) annotations: AnnotationSet,
+    pub(crate) set: Option<u32>,
 }
 
 impl Model for DeclaredField {
-    ghost use Rattle.dexval.specs.Code.{set_of};
     ghost use Rattle.std.specs.Coded.{codes};
-    ghost use Rattle.dexmembers.specs.Stored.{elements_code};
-    ghost use Rattle.dexmembers.specs.Numbered.{NumberedField};
+    ghost use Rattle.dexval.specs.Stored.{elements_code};
+    ghost use Rattle.dexmembers.specs.Held.{HeldField};
 
-    ghost Value = { NumberedField };
+    ghost Value = { HeldField };
 
     ghost coded = { Prim.hlevel (codes, elements_code) };
 
-    ghost view = { λ f. record { number = f.number; flags = f.flags.0; annotations = set_of f.annotations } };
+    ghost view = { λ f. record { number = f.number; flags = f.flags.0; set = f.set } };
 }
 
-/// A declared method: its number among the methods, its access flags, its code, if it has some, its annotations, and sets of
-/// annotations for its parameters, from left to right.
+/// A declared method: its number among the methods, its access flags, its code, if it has some, the place of its annotations
+/// in a table of sets, and the place of the list of sets for its parameters, or `None` where it has none.
 ///
 /// Source: "encoded_method format", "method_annotation format", "parameter_annotation format".
 #[derive(Drop)]
@@ -45,22 +46,20 @@ pub(crate) struct DeclaredMethod<'a> {
     pub(crate) number: u32,
     pub(crate) flags: MethodFlags,
     pub(crate) code: Option<Code<'a>>,
-    pub(crate) annotations: AnnotationSet,
-    pub(crate) parameter_annotations: Vec<AnnotationSet>,
+    pub(crate) set: Option<u32>,
+    pub(crate) list: Option<u32>,
 }
 
 impl<'a> Model for DeclaredMethod<'a> {
-    ghost use Rattle.std.specs.Prelude.{map};
-    ghost use Rattle.dexval.specs.Code.{set_of};
     ghost use Rattle.std.specs.Coded.{codes};
-    ghost use Rattle.dexmembers.specs.Stored.{elements_code};
-    ghost use Rattle.dexmembers.specs.Numbered.{NumberedMethod};
+    ghost use Rattle.dexval.specs.Stored.{elements_code};
+    ghost use Rattle.dexmembers.specs.Held.{HeldMethod};
 
-    ghost Value = { NumberedMethod };
+    ghost Value = { HeldMethod };
 
     ghost coded = { Prim.hlevel (codes, elements_code) };
 
-    ghost view = { λ x. record { number = x.number; flags = x.flags.0; code = x.code; annotations = set_of x.annotations; parameter_annotations = map set_of x.parameter_annotations.items } };
+    ghost view = { λ x. record { number = x.number; flags = x.flags.0; code = x.code; set = x.set; list = x.list } };
 }
 
 /// What a class declares: its own annotations, its fields and methods by number, and what its static fields begin with, in
@@ -78,10 +77,12 @@ impl Drop for Members<'_> {
     }
 }
 
-/// What members hold, and what they will hold once it is weighed and is not too much.
+/// What members hold, and what they will hold once it is weighed and is not too much: their sets of annotations in a table,
+/// each once, and the place of the class's own.
 #[derive(Drop)]
 pub(crate) struct Contents<'a> {
-    pub(crate) annotations: AnnotationSet,
+    pub(crate) table: SetTable,
+    pub(crate) set: Option<u32>,
     pub(crate) static_fields: Vec<DeclaredField>,
     pub(crate) instance_fields: Vec<DeclaredField>,
     pub(crate) direct_methods: Vec<DeclaredMethod<'a>>,
@@ -90,83 +91,59 @@ pub(crate) struct Contents<'a> {
 }
 
 impl<'a> Model for Members<'a> {
-    ghost use Rattle.std.specs.Prelude.{map};
-    ghost use Rattle.dexval.specs.Code.{set_of, value_of};
-    ghost use Rattle.dexval.specs.Numbered.{values_of_list};
     ghost use Rattle.std.specs.Coded.{codes};
-    ghost use Rattle.dexmembers.specs.Stored.{elements_code, values_code};
-    ghost use Rattle.dexmembers.specs.Numbered.{NumberedMembers, AreFew};
+    ghost use Rattle.dexval.specs.Stored.{elements_code, values_code};
+    ghost use Rattle.dexmembers.specs.Numbered.{NumberedMembers};
+    ghost use Rattle.dexmembers.specs.Contents.{contents_in, AreKept};
 
     ghost Value = { NumberedMembers };
 
     ghost coded = { Prim.hlevel (codes, elements_code, values_code) };
 
-    ghost view = { λ x. record { annotations = set_of x.contents.annotations; static_fields = x.contents.static_fields.items; instance_fields = x.contents.instance_fields.items; direct_methods = x.contents.direct_methods.items; virtual_methods = x.contents.virtual_methods.items; static_values = values_of_list (map value_of x.contents.static_values.items) } };
+    ghost view = { λ x. contents_in x.contents };
 
-    ghost invariant = { λ x. AreFew x.contents.static_fields.items x.contents.instance_fields.items x.contents.direct_methods.items x.contents.virtual_methods.items };
+    ghost invariant = { λ x. AreKept x.contents };
 }
 
-impl DeclaredField {
-    /// The number of the field. No memory is taken.
-    pub(crate) fn number(&self) -> u32
-        ensures { result ≡ self.now.number }
+impl<'a> Contents<'a> {
+    /// The annotations of the class itself. No memory is taken.
+    pub(crate) fn annotations(&self) -> Option<&AnnotationSet>
+        requires { AreHeld self.now }
+        ensures { MatchOption result ((contents_in self.now).annotations ≡ []) (λ set. set_of set.now ≡ (contents_in self.now).annotations) }
     {
-        self.number
+        self.table.set(self.set)
     }
 
-    /// The access flags. No memory is taken.
-    ///
-    /// Source: "access_flags definitions".
-    pub(crate) fn flags(&self) -> FieldFlags
-        ensures { result.0 ≡ self.now.flags }
+    /// The static fields. No memory is taken.
+    pub(crate) fn static_fields(&self) -> Fields<'_>
+        requires { AreHeld self.now }
+        ensures { result ≡ (contents_in self.now).static_fields }
     {
-        self.flags
+        Fields::of(&self.table, &self.static_fields)
     }
 
-    /// The annotations. No memory is taken.
-    pub(crate) fn annotations(&self) -> &AnnotationSet
-        ensures { set_of result.now ≡ self.now.annotations }
+    /// The instance fields. No memory is taken.
+    pub(crate) fn instance_fields(&self) -> Fields<'_>
+        requires { AreHeld self.now }
+        ensures { result ≡ (contents_in self.now).instance_fields }
     {
-        &self.annotations
-    }
-}
-
-impl<'a> DeclaredMethod<'a> {
-    /// The number of the method. No memory is taken.
-    pub(crate) fn number(&self) -> u32
-        ensures { result ≡ self.now.number }
-    {
-        self.number
+        Fields::of(&self.table, &self.instance_fields)
     }
 
-    /// The access flags. No memory is taken.
-    ///
-    /// Source: "access_flags definitions".
-    pub(crate) fn flags(&self) -> MethodFlags
-        ensures { result.0 ≡ self.now.flags }
+    /// The direct methods. No memory is taken.
+    pub(crate) fn direct_methods(&self) -> Methods<'_, 'a>
+        requires { AreHeld self.now }
+        ensures { result ≡ (contents_in self.now).direct_methods }
     {
-        self.flags
+        Methods::of(&self.table, &self.direct_methods)
     }
 
-    /// The code, if the method has some. No memory is taken.
-    pub(crate) fn code(&self) -> Option<&Code<'a>>
-        ensures { MatchOption result (self.now.code ≡ None) (λ code. self.now.code ≡ Some code.now) }
+    /// The virtual methods. No memory is taken.
+    pub(crate) fn virtual_methods(&self) -> Methods<'_, 'a>
+        requires { AreHeld self.now }
+        ensures { result ≡ (contents_in self.now).virtual_methods }
     {
-        self.code.as_ref()
-    }
-
-    /// The annotations. No memory is taken.
-    pub(crate) fn annotations(&self) -> &AnnotationSet
-        ensures { set_of result.now ≡ self.now.annotations }
-    {
-        &self.annotations
-    }
-
-    /// The annotations of the parameters, from left to right; their number is not compared with that of the parameters. No memory is taken.
-    pub(crate) fn parameter_annotations(&self) -> &[AnnotationSet]
-        ensures { map set_of result.now ≡ self.now.parameter_annotations }
-    {
-        &self.parameter_annotations
+        Methods::of(&self.table, &self.virtual_methods)
     }
 }
 
@@ -177,7 +154,8 @@ impl<'a> Members<'a> {
     {
         Members {
             contents: Contents {
-                annotations: AnnotationSet::empty(alloc),
+                table: SetTable::empty(alloc),
+                set: None,
                 static_fields: Vec::new(alloc),
                 instance_fields: Vec::new(alloc),
                 direct_methods: Vec::new(alloc),
@@ -201,7 +179,7 @@ impl<'a> Members<'a> {
     pub fn annotations(&self) -> Option<&AnnotationSet>
         ensures { MatchOption result (self.now.annotations ≡ []) (λ set. set_of set.now ≡ self.now.annotations) }
     {
-        Some(&self.contents.annotations)
+        self.contents.annotations()
     }
 
     /// The static fields, by number. No memory is taken.
@@ -210,7 +188,7 @@ impl<'a> Members<'a> {
     pub fn static_fields(&self) -> Fields<'_>
         ensures { result ≡ self.now.static_fields }
     {
-        Fields::of(&self.contents.static_fields)
+        self.contents.static_fields()
     }
 
     /// The instance fields, by number. No memory is taken.
@@ -219,7 +197,7 @@ impl<'a> Members<'a> {
     pub fn instance_fields(&self) -> Fields<'_>
         ensures { result ≡ self.now.instance_fields }
     {
-        Fields::of(&self.contents.instance_fields)
+        self.contents.instance_fields()
     }
 
     /// The direct methods, by number. No memory is taken.
@@ -228,7 +206,7 @@ impl<'a> Members<'a> {
     pub fn direct_methods(&self) -> Methods<'_, 'a>
         ensures { result ≡ self.now.direct_methods }
     {
-        Methods::of(&self.contents.direct_methods)
+        self.contents.direct_methods()
     }
 
     /// The virtual methods, by number. No memory is taken.
@@ -237,7 +215,7 @@ impl<'a> Members<'a> {
     pub fn virtual_methods(&self) -> Methods<'_, 'a>
         ensures { result ≡ self.now.virtual_methods }
     {
-        Methods::of(&self.contents.virtual_methods)
+        self.contents.virtual_methods()
     }
 
     /// What the static fields begin with, in their order. No memory is taken.

@@ -1,13 +1,15 @@
 //! Declared methods as they are lent.
 
-ghost use Rattle.std.specs.Prelude.{◌≡◌, ◌<◌, ◌==◌, ℕ, List, [], Some, None, length, map, slice_index_or, MatchOption};
+ghost use Rattle.std.specs.Prelude.{◌≡◌, ◌<◌, ◌==◌, ℕ, List, [], Some, None, length, map, slice_index_or, All, MatchOption};
 ghost use Rattle.dexspec.specs.Spellings.{offsets_bytes};
 ghost use Rattle.dexval.specs.Code.{set_of};
+ghost use Rattle.dexval.specs.Tables.{IsPlaceIn, set_at};
+ghost use Rattle.dexmembers.specs.Held.{method_of, IsHeldMethod};
 
 use crate::members::DeclaredMethod;
 use dexcode::Code;
 use dexflags::MethodFlags;
-use dexval::{AnnotationSet, ref_list_size};
+use dexval::{AnnotationSet, SetTable};
 use std::marker::Model;
 
 /// Methods of one kind that a class declares, by number. They are borrowed.
@@ -15,20 +17,24 @@ use std::marker::Model;
 /// Source: "class_data_item", the fields `direct_methods` and `virtual_methods`.
 #[derive(Drop)]
 pub struct Methods<'m, 'a> {
+    table: &'m SetTable,
     methods: &'m [DeclaredMethod<'a>],
 }
 
 impl<'m, 'a> Model for Methods<'m, 'a> {
-    ghost use Rattle.std.specs.Prelude.{List};
+    ghost use Rattle.std.specs.Prelude.{List, map, All};
     ghost use Rattle.std.specs.Coded.{codes};
-    ghost use Rattle.dexmembers.specs.Stored.{elements_code};
+    ghost use Rattle.dexval.specs.Stored.{elements_code};
     ghost use Rattle.dexmembers.specs.Numbered.{NumberedMethod};
+    ghost use Rattle.dexmembers.specs.Held.{method_of, IsHeldMethod};
 
     ghost Value = { List NumberedMethod };
 
     ghost coded = { Prim.hlevel (codes, elements_code) };
 
-    ghost view = { λ x. x.methods.now };
+    ghost view = { λ x. map (method_of x.table.now) x.methods.now };
+
+    ghost invariant = { λ x. All (IsHeldMethod x.table.now) x.methods.now };
 }
 
 /// A declared method, which is borrowed: its number among the methods, its access flags, its code, if it has some, its
@@ -37,19 +43,23 @@ impl<'m, 'a> Model for Methods<'m, 'a> {
 /// Source: "encoded_method format", "method_annotation format", "parameter_annotation format".
 #[derive(Drop)]
 pub struct Method<'m, 'a> {
+    table: &'m SetTable,
     method: &'m DeclaredMethod<'a>,
 }
 
 impl<'m, 'a> Model for Method<'m, 'a> {
     ghost use Rattle.std.specs.Coded.{codes};
-    ghost use Rattle.dexmembers.specs.Stored.{elements_code};
+    ghost use Rattle.dexval.specs.Stored.{elements_code};
     ghost use Rattle.dexmembers.specs.Numbered.{NumberedMethod};
+    ghost use Rattle.dexmembers.specs.Held.{method_of, IsHeldMethod};
 
     ghost Value = { NumberedMethod };
 
     ghost coded = { Prim.hlevel (codes, elements_code) };
 
-    ghost view = { λ x. x.method.now };
+    ghost view = { λ x. method_of x.table.now x.method.now };
+
+    ghost invariant = { λ x. IsHeldMethod x.table.now x.method.now };
 }
 
 /// The sets of annotations of a method's parameters, from left to right. They are borrowed.
@@ -57,29 +67,35 @@ impl<'m, 'a> Model for Method<'m, 'a> {
 /// Source: "parameter_annotation format", "annotation_set_ref_list".
 #[derive(Drop)]
 pub struct ParameterSets<'m> {
-    sets: &'m [AnnotationSet],
+    table: &'m SetTable,
+    places: &'m [Option<u32>],
 }
 
 impl<'m> Model for ParameterSets<'m> {
-    ghost use Rattle.std.specs.Prelude.{List, map};
+    ghost use Rattle.std.specs.Prelude.{List, map, All};
     ghost use Rattle.std.specs.Coded.{codes};
-    ghost use Rattle.dexval.specs.Code.{set_of};
     ghost use Rattle.dexval.specs.Numbered.{NumberedSet};
-    ghost use Rattle.dexmembers.specs.Stored.{elements_code};
+    ghost use Rattle.dexval.specs.Stored.{elements_code};
+    ghost use Rattle.dexval.specs.Tables.{IsPlaceIn, set_at};
 
     ghost Value = { List NumberedSet };
 
     ghost coded = { Prim.hlevel (codes, elements_code) };
 
-    ghost view = { λ x. map set_of x.sets.now };
+    ghost view = { λ x. map (set_at x.table.now.sets) x.places.now };
+
+    ghost invariant = { λ x. All (IsPlaceIn x.table.now.sets) x.places.now };
 }
 
 impl<'m, 'a> Methods<'m, 'a> {
-    /// These methods.
-    pub(crate) fn of(methods: &'m [DeclaredMethod<'a>]) -> Methods<'m, 'a>
-        ensures { result ≡ methods.now }
+    /// These methods, with their sets in a table.
+    ///
+    /// Condition: their places are the table's.
+    pub(crate) fn of(table: &'m SetTable, methods: &'m [DeclaredMethod<'a>]) -> Methods<'m, 'a>
+        requires { All (IsHeldMethod table.now) methods.now }
+        ensures { result ≡ map (method_of table.now) methods.now }
     {
-        Methods { methods }
+        Methods { table, methods }
     }
 
     /// How many methods there are. No memory is taken.
@@ -105,6 +121,7 @@ impl<'m, 'a> Methods<'m, 'a> {
     {
         let methods = self.methods;
         Method {
+            table: self.table,
             method: &methods[place],
         }
     }
@@ -117,7 +134,8 @@ impl<'m, 'a> Method<'m, 'a> {
     pub fn number(&self) -> u32
         ensures { result ≡ self.now.number }
     {
-        self.method.number()
+        let method = self.method;
+        method.number
     }
 
     /// The access flags. No memory is taken.
@@ -126,7 +144,8 @@ impl<'m, 'a> Method<'m, 'a> {
     pub fn flags(&self) -> MethodFlags
         ensures { result.0 ≡ self.now.flags }
     {
-        self.method.flags()
+        let method = self.method;
+        method.flags
     }
 
     /// The code, if the method has some. No memory is taken.
@@ -135,7 +154,8 @@ impl<'m, 'a> Method<'m, 'a> {
     pub fn code(&self) -> Option<&'m Code<'a>>
         ensures { MatchOption result (self.now.code ≡ None) (λ code. self.now.code ≡ Some code.now) }
     {
-        self.method.code()
+        let method = self.method;
+        method.code.as_ref()
     }
 
     /// The annotations; `None` says that the method has none. No memory is taken.
@@ -144,7 +164,8 @@ impl<'m, 'a> Method<'m, 'a> {
     pub fn annotations(&self) -> Option<&'m AnnotationSet>
         ensures { MatchOption result (self.now.annotations ≡ []) (λ set. set_of set.now ≡ self.now.annotations) }
     {
-        Some(self.method.annotations())
+        let (table, method) = (self.table, self.method);
+        table.set(method.set)
     }
 
     /// The annotations of the parameters, from left to right; their number is not compared with that of the parameters. No
@@ -154,30 +175,34 @@ impl<'m, 'a> Method<'m, 'a> {
     pub fn parameter_annotations(&self) -> ParameterSets<'m>
         ensures { result ≡ self.now.parameter_annotations }
     {
-        ParameterSets::of(self.method.parameter_annotations())
+        let (table, method) = (self.table, self.method);
+        ParameterSets::of(table, table.list(method.list))
     }
 }
 
 impl<'m> ParameterSets<'m> {
-    /// These sets.
-    pub(crate) fn of(sets: &'m [AnnotationSet]) -> ParameterSets<'m>
-        ensures { result ≡ map set_of sets.now }
+    // The sets of a table at these places.
+    //
+    // Condition: the places are the table's.
+    fn of(table: &'m SetTable, places: &'m [Option<u32>]) -> ParameterSets<'m>
+        requires { All (IsPlaceIn table.now.sets) places.now }
+        ensures { result ≡ map (set_at table.now.sets) places.now }
     {
-        ParameterSets { sets }
+        ParameterSets { table, places }
     }
 
     /// How many sets there are. No memory is taken.
     pub fn len(&self) -> usize
         ensures { result ≡ length self.now }
     {
-        self.sets.len()
+        self.places.len()
     }
 
     /// Whether there is no set. No memory is taken.
     pub fn is_empty(&self) -> bool
         ensures { result ≡ (length self.now == 0) }
     {
-        self.sets.is_empty()
+        self.places.is_empty()
     }
 
     /// How many bytes an annotation_set_ref_list of these sets takes, wherever they stand: four, and four for each of them. No
@@ -187,7 +212,7 @@ impl<'m> ParameterSets<'m> {
     pub fn list_size(&self) -> u64
         ensures { (offsets : List ℕ) → length offsets ≡ length self.now → result ≡ length (offsets_bytes offsets) }
     {
-        ref_list_size(self.sets)
+        4 + 4 * self.places.len() as u64
     }
 
     /// The set at a place; `None` says that it is empty. No memory is taken.
@@ -197,7 +222,7 @@ impl<'m> ParameterSets<'m> {
         requires { place < length self.now }
         ensures { MatchOption result (slice_index_or self.now place [] ≡ []) (λ set. set_of set.now ≡ slice_index_or self.now place []) }
     {
-        let sets = self.sets;
-        Some(&sets[place])
+        let table = self.table;
+        table.set(self.places[place])
     }
 }

@@ -9,7 +9,7 @@ ghost use Rattle.dexpool.specs.Pools.{ArePools};
 ghost use Rattle.dexmembers.specs.Numbered.{AreKnownMembers, members_in};
 ghost use Rattle.dexmembers.specs.Weight.{members_weight};
 ghost use Rattle.dexmembers.specs.Reading.{AreReadWithin, IsMembersFault};
-ghost use Rattle.dexmembers.specs.RowParts.{contents_in};
+ghost use Rattle.dexmembers.specs.Contents.{contents_in, AreHeld};
 
 use crate::class_data::read_class_data;
 use crate::members::{Contents, Members};
@@ -20,7 +20,10 @@ use dexpool::{ItemFault, Pools};
 use std::alloc::Global;
 
 // The members and what they weigh, or none where that is more than they may.
+//
+// Condition: their places are their table's.
 fn within(unweighed: Contents<'_>, most: u32) -> Option<(Members<'_>, u32)>
+    requires { AreHeld unweighed }
     ensures { (m : Mentions) → AreRising m → AreKnownMembers m (contents_in unweighed.entry) → MatchOption result (most < members_weight (members_in m (contents_in unweighed.entry))) (λ x. (x.0 ≡ contents_in unweighed.entry) × (x.1 ≡ members_weight (members_in m (contents_in unweighed.entry))) × (x.1 ≤ most)) }
 {
     code_weight_law();

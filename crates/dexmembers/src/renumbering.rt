@@ -1,14 +1,12 @@
 //! What classes declare, with its numbers led to those of another numbering.
 
 ghost use Rattle.std.specs.Prelude.{◌≡◌, All, map};
-ghost use Rattle.dexpool.specs.declared.symbols.SymbolKind.TheVariants as kinds;
-ghost use Rattle.dexval.specs.Code.{set_of};
-ghost use Rattle.dexval.specs.Renumbering.{led, renumbered_set, LeadsOn, SetHasPlaces};
-ghost use Rattle.dexmembers.specs.Renumbering.{renumbered_field, renumbered_method, renumbered_members, FieldHasPlaces, MethodHasPlaces, MembersHavePlaces};
+ghost use Rattle.dexval.specs.Renumbering.{led, LeadsOn};
+ghost use Rattle.dexmembers.specs.Renumbering.{led_field, led_method, renumbered_members, HeldFieldLeads, HeldMethodLeads, MembersHavePlaces};
 
 use crate::members::{DeclaredField, DeclaredMethod, Members};
 use dexpool::{Remap, SymbolKind};
-use dexval::{AnnotationSet, renumber_values};
+use dexval::renumber_values;
 
 // The number that a number leads to.
 fn led(remap: &Remap, kind: SymbolKind, number: u32) -> u32
@@ -21,20 +19,10 @@ fn led(remap: &Remap, kind: SymbolKind, number: u32) -> u32
     }
 }
 
-// Puts for each number of sets the one that it leads to.
-fn renumber_sets(sets: &mut Vec<AnnotationSet>, remap: &Remap)
-    requires { All (SetHasPlaces remap.now) (map set_of sets.old.items) }
-    ensures { map set_of sets.new.items ≡ map (renumbered_set remap.now) (map set_of sets.old.items) }
-{
-    for i in 0..sets.len() {
-        sets[i].renumber(remap);
-    }
-}
-
-// Puts for each number of fields the one that it leads to.
+// Puts for the number of each field the one that it leads to.
 fn renumber_fields(fields: &mut Vec<DeclaredField>, remap: &Remap)
-    requires { All (FieldHasPlaces remap.now) fields.old.items }
-    ensures { fields.new.items ≡ map (renumbered_field remap.now) fields.old.items }
+    requires { All (HeldFieldLeads remap.now) fields.old.items }
+    ensures { fields.new.items ≡ map (led_field remap.now) fields.old.items }
 {
     for i in 0..fields.len() {
         fields[i].renumber(remap);
@@ -43,8 +31,8 @@ fn renumber_fields(fields: &mut Vec<DeclaredField>, remap: &Remap)
 
 // Puts for each number of methods the one that it leads to.
 fn renumber_methods(methods: &mut Vec<DeclaredMethod<'_>>, remap: &Remap)
-    requires { All (MethodHasPlaces remap.now) methods.old.items }
-    ensures { methods.new.items ≡ map (renumbered_method remap.now) methods.old.items }
+    requires { All (HeldMethodLeads remap.now) methods.old.items }
+    ensures { methods.new.items ≡ map (led_method remap.now) methods.old.items }
 {
     for i in 0..methods.len() {
         methods[i].renumber(remap);
@@ -52,24 +40,21 @@ fn renumber_methods(methods: &mut Vec<DeclaredMethod<'_>>, remap: &Remap)
 }
 
 impl DeclaredField {
-    // Puts for each number of the field the one that it leads to.
+    // Puts for the number of the field the one that it leads to. The sets are led on in their table.
     fn renumber(&mut self, remap: &Remap)
-        requires { FieldHasPlaces remap.now self.old }
-        ensures { self.new ≡ renumbered_field remap.now self.old }
+        requires { HeldFieldLeads remap.now self.old }
+        ensures { self.new ≡ led_field remap.now self.old }
     {
         self.number = led(remap, SymbolKind::Field, self.number);
-        self.annotations.renumber(remap);
     }
 }
 
 impl<'a> DeclaredMethod<'a> {
-    // Puts for each number of the method the one that it leads to.
+    // Puts for the number of the method, and for each in its code, the one that it leads to.
     fn renumber(&mut self, remap: &Remap)
-        requires { MethodHasPlaces remap.now self.old }
-        ensures { self.new ≡ renumbered_method remap.now self.old }
+        requires { HeldMethodLeads remap.now self.old }
+        ensures { self.new ≡ led_method remap.now self.old }
     {
-        self.annotations.renumber(remap);
-        renumber_sets(&mut self.parameter_annotations, remap);
         self.number = led(remap, SymbolKind::Method, self.number);
         if let Some(code) = &mut self.code {
             code.renumber(remap);
@@ -89,7 +74,7 @@ impl<'a> Members<'a> {
         requires { MembersHavePlaces remap.now self.old }
         ensures { self.new ≡ renumbered_members remap.now self.old }
     {
-        self.contents.annotations.renumber(remap);
+        self.contents.table.renumber(remap);
         renumber_fields(&mut self.contents.static_fields, remap);
         renumber_fields(&mut self.contents.instance_fields, remap);
         renumber_methods(&mut self.contents.direct_methods, remap);

@@ -1,18 +1,19 @@
 //! The annotations of a class and its members.
 
-ghost use Rattle.std.specs.Prelude.{◌<◌, IsTrue, IfOk, IfErr, MatchOption};
+ghost use Rattle.std.specs.Prelude.{◌≡◌, ◌<◌, [], IsTrue, IfOk, IfErr, IfSome, MatchOption};
 ghost use Rattle.dexspec.specs.Header.{ClassDefs, table_size};
 ghost use Rattle.dexpool.specs.Pools.{ArePools};
 ghost use Rattle.dexval.specs.Directories.{HasMembers};
+ghost use Rattle.dexval.specs.Shared.{shared_directory_of};
 ghost use Rattle.dexmembers.specs.ClassData.{IsDataOf};
 ghost use Rattle.dexmembers.specs.Naming.{NamesRead, ListsRise};
-ghost use Rattle.dexmembers.specs.RowParts.{AreAnnotationsOf, AreHeavyAnnotations, IsAnnotationsFault};
+ghost use Rattle.dexmembers.specs.RowParts.{AreAnnotationsOf, AreEntered, AreHeavyAnnotations, IsAnnotationsFault, IsHeldDirectory};
 
 use crate::class_data::{ClassData, EncodedField, EncodedMethod, row_number};
 use crate::naming::names_members;
 use dexhead::Frame;
 use dexpool::{ItemFault, Pools};
-use dexval::{AnnotationSet, Directory, member_counts, read_directory_within};
+use dexval::{SetTable, SharedDirectory, member_counts, read_shared_directory_within};
 use std::alloc::Global;
 
 // Whether the directory at an offset names declared members alone.
@@ -38,6 +39,21 @@ fn names_declared(frame: &Frame<'_>, off: u32, declared: &ClassData) -> bool
     names_members::<EncodedMethod>(frame, at, counts.parameters, first, second)
 }
 
+// The directory of a row that has none.
+fn no_directory(alloc: Global) -> SharedDirectory
+    ensures none { shared_directory_of result ≡ record { own = []; fields = []; methods = []; parameters = [] } }
+    ensures entered { AreEntered result }
+    ensures held { IsHeldDirectory result }
+{
+    SharedDirectory {
+        table: SetTable::empty(alloc),
+        own: None,
+        fields: Vec::new(alloc),
+        methods: Vec::new(alloc),
+        parameters: Vec::new(alloc),
+    }
+}
+
 /// Reads the annotations of the class of row `row` and of its members, or none where its offset is 0. Where their sets weigh
 /// more than `most`, they are judged only, and none is answered.
 ///
@@ -52,22 +68,18 @@ pub(crate) fn read_annotations(
     row: u32,
     declared: &ClassData,
     most: u64,
-) -> Result<Option<Directory>, ItemFault>
+) -> Result<Option<SharedDirectory>, ItemFault>
     requires row { row < table_size frame.now ClassDefs }
     ensures read { ArePools frame.now pools.now → IsDataOf frame.now row pools.now declared.now → IfOk result (λ found. MatchOption found (AreHeavyAnnotations frame.now row pools.now declared.now most) (AreAnnotationsOf frame.now row pools.now declared.now)) }
+    ensures held { IfOk result (λ found. IfSome found IsHeldDirectory) }
     ensures refused { ArePools frame.now pools.now → IsDataOf frame.now row pools.now declared.now → IfErr result (IsAnnotationsFault frame.now row) }
 {
     pools.numbering().is_numbering();
     let off = row_number(frame, row, 20);
     if off == 0 {
-        return Ok(Some(Directory {
-            own: AnnotationSet::empty(alloc),
-            fields: Vec::new(alloc),
-            methods: Vec::new(alloc),
-            parameters: Vec::new(alloc),
-        }));
+        return Ok(Some(no_directory(alloc)));
     }
-    let found = match read_directory_within(alloc, frame, pools, off, most) {
+    let found = match read_shared_directory_within(alloc, frame, pools, off, most) {
         Ok(found) => found,
         Err(fault) => return Err(fault),
     };

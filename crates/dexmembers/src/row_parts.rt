@@ -1,13 +1,15 @@
 //! What stands at a class row beside its class data: annotations, code and static values.
 
-ghost use Rattle.std.specs.Prelude.{◌≡◌, ◌<◌, IfOk, IfErr, MatchOption, map};
+ghost use Rattle.std.specs.Prelude.{◌≡◌, ◌<◌, IfOk, IfErr, IfSome, MatchOption, map};
 ghost use Rattle.dexspec.specs.Header.{ClassDefs, table_size};
 ghost use Rattle.dexpool.specs.Pools.{ArePools};
 ghost use Rattle.dexval.specs.Code.{value_of};
 ghost use Rattle.dexval.specs.Numbered.{values_of_list};
 ghost use Rattle.dexmembers.specs.ClassData.{IsDataOf};
 ghost use Rattle.dexmembers.specs.Reading.{AreHeavyMembers, IsMembersFault};
-ghost use Rattle.dexmembers.specs.RowParts.{ArePartsOf, AreAttachable, attached, contents_in};
+ghost use Rattle.dexval.specs.Shared.{shared_directory_of};
+ghost use Rattle.dexmembers.specs.Contents.{contents_in, AreHeld};
+ghost use Rattle.dexmembers.specs.RowParts.{ArePartsOf, AreAttachable, IsHeldDirectory, attached};
 
 use crate::attaching::{attach_fields, attach_methods};
 use crate::class_data::ClassData;
@@ -18,14 +20,14 @@ use crate::static_values::read_static_values;
 use dexcode::Code;
 use dexhead::Frame;
 use dexpool::{ItemFault, Pools};
-use dexval::{AnnotationSet, Directory, Value};
+use dexval::{SharedDirectory, Value};
 use std::alloc::{AllocError, Global};
 
 /// What stands at a class row beside its class data: annotations, the code of direct and of virtual methods, and static
 /// values.
 #[derive(Drop)]
 pub(crate) struct Parts<'a> {
-    pub(crate) directory: Directory,
+    pub(crate) directory: SharedDirectory,
     pub(crate) direct_codes: Vec<Option<Code<'a>>>,
     pub(crate) virtual_codes: Vec<Option<Code<'a>>>,
     pub(crate) static_values: Vec<Value>,
@@ -49,6 +51,7 @@ pub(crate) fn read_parts<'a>(
 ) -> Result<Option<Parts<'a>>, ItemFault>
     requires row { row < table_size frame.now ClassDefs }
     ensures read { ArePools frame.now pools.now → IsDataOf frame.now row pools.now declared.now → IfOk result (λ parts. MatchOption parts (AreHeavyMembers frame.now row most) (λ x. ArePartsOf frame.now row pools.now declared.now most x.directory x.direct_codes.items x.virtual_codes.items (values_of_list (map value_of x.static_values.items)))) }
+    ensures held { IfOk result (λ parts. IfSome parts (λ x. IsHeldDirectory x.directory)) }
     ensures refused { ArePools frame.now pools.now → IsDataOf frame.now row pools.now declared.now → IfErr result (IsMembersFault frame.now row) }
 {
     pools.numbering().is_numbering();
@@ -94,7 +97,7 @@ pub(crate) fn read_parts<'a>(
 
 /// The members of class data with their parts.
 ///
-/// Error: the memory for a list was refused.
+/// Condition: the places of the directory are its table's. Error: the memory for a list was refused.
 ///
 /// Source: "class_data_item", "annotations_directory_item".
 pub(crate) fn attach<'a>(
@@ -102,7 +105,9 @@ pub(crate) fn attach<'a>(
     declared: &ClassData,
     parts: Parts<'a>,
 ) -> Result<Contents<'a>, AllocError>
-    ensures { AreAttachable declared.now parts.entry.directory parts.entry.direct_codes.items parts.entry.virtual_codes.items → IfOk result (λ x. contents_in x ≡ attached declared.now parts.entry.directory parts.entry.direct_codes.items parts.entry.virtual_codes.items (values_of_list (map value_of parts.entry.static_values.items))) }
+    requires { IsHeldDirectory parts.directory }
+    ensures attached { AreAttachable declared.now parts.entry.directory parts.entry.direct_codes.items parts.entry.virtual_codes.items → IfOk result (λ x. contents_in x ≡ attached declared.now (shared_directory_of parts.entry.directory) parts.entry.direct_codes.items parts.entry.virtual_codes.items (values_of_list (map value_of parts.entry.static_values.items))) }
+    ensures held { IfOk result AreHeld }
 {
     let Parts {
         directory,
@@ -110,30 +115,32 @@ pub(crate) fn attach<'a>(
         virtual_codes,
         static_values,
     } = parts;
-    let Directory {
+    let SharedDirectory {
+        table,
         own,
-        mut fields,
-        mut methods,
-        mut parameters,
+        fields,
+        methods,
+        parameters,
     } = directory;
-    let static_fields = attach_fields(alloc, &declared.static_fields, &mut fields)?;
-    let instance_fields = attach_fields(alloc, &declared.instance_fields, &mut fields)?;
+    let static_fields = attach_fields(alloc, &declared.static_fields, &fields)?;
+    let instance_fields = attach_fields(alloc, &declared.instance_fields, &fields)?;
     let direct_methods = attach_methods(
         alloc,
         &declared.direct_methods,
         direct_codes,
-        &mut methods,
-        &mut parameters,
+        &methods,
+        &parameters,
     )?;
     let virtual_methods = attach_methods(
         alloc,
         &declared.virtual_methods,
         virtual_codes,
-        &mut methods,
-        &mut parameters,
+        &methods,
+        &parameters,
     )?;
     Ok(Contents {
-        annotations: own,
+        table,
+        set: own,
         static_fields,
         instance_fields,
         direct_methods,

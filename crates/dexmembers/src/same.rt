@@ -1,14 +1,18 @@
 //! Whether what classes declare is the same, once its numbers are led on.
 
-ghost use Rattle.std.specs.Prelude.{◌≡◌, ◌↔◌, IsTrue, map};
+ghost use Rattle.std.specs.Prelude.{◌≡◌, ◌↔◌, [], IsTrue, MatchOption, Option, Some, None, map};
 ghost use Rattle.dexpool.specs.declared.symbols.SymbolKind.TheVariants as kinds;
 ghost use Rattle.dexval.specs.Code.{set_of};
 ghost use Rattle.dexval.specs.Renumbering.{renumbered_set};
+ghost use Rattle.dexval.specs.Numbered.{NumberedSet};
+ghost use Rattle.dexcode.specs.Numbered.{NumberedItem};
 ghost use Rattle.dexcode.specs.Renumbering.{renumbered_item};
 ghost use Rattle.dexmembers.specs.Renumbering.{renumbered_field, renumbered_method, renumbered_members};
 ghost use Rattle.std.specs.Option.{option_map};
 
-use crate::members::{DeclaredField, DeclaredMethod, Members};
+use crate::field_views::{Field, Fields};
+use crate::members::Members;
+use crate::method_views::{Method, Methods, ParameterSets};
 use dexcode::Code;
 use dexpool::{Remap, SymbolKind};
 use dexval::{AnnotationSet, ends_alike, same_values_mapped};
@@ -16,11 +20,11 @@ use dexval::{AnnotationSet, ends_alike, same_values_mapped};
 // Whether the code is the same, if there is some, its numbers led on.
 fn same_code(
     mine: &Remap,
-    code: &Option<Code<'_>>,
+    code: Option<&Code<'_>>,
     theirs: &Remap,
-    other: &Option<Code<'_>>,
+    other: Option<&Code<'_>>,
 ) -> bool
-    ensures { IsTrue result ↔ (option_map (renumbered_item mine.now) code.now ≡ option_map (renumbered_item theirs.now) other.now) }
+    ensures { (x y : Option NumberedItem) → MatchOption code.entry (x ≡ None) (λ code. x ≡ Some code.now) → MatchOption other.entry (y ≡ None) (λ code. y ≡ Some code.now) → IsTrue result ↔ (option_map (renumbered_item mine.now) x ≡ option_map (renumbered_item theirs.now) y) }
 {
     match (code, other) {
         (Some(code), Some(other)) => code.same_mapped(mine, other, theirs),
@@ -29,15 +33,37 @@ fn same_code(
     }
 }
 
+// Whether the sets are the same, their numbers led on. None is an empty one.
+fn same_set(
+    mine: &Remap,
+    set: Option<&AnnotationSet>,
+    theirs: &Remap,
+    other: Option<&AnnotationSet>,
+) -> bool
+    ensures { (x y : NumberedSet) → MatchOption set.entry (x ≡ []) (λ set. set_of set.now ≡ x) → MatchOption other.entry (y ≡ []) (λ set. set_of set.now ≡ y) → IsTrue result ↔ (renumbered_set mine.now x ≡ renumbered_set theirs.now y) }
+{
+    match (set, other) {
+        (Some(set), Some(other)) => set.same_mapped(mine, other, theirs),
+        (Some(set), None) => set.is_empty(),
+        (None, Some(other)) => other.is_empty(),
+        (None, None) => true,
+    }
+}
+
 // Whether the sets are the same, one for one, their numbers led on.
-fn same_sets(mine: &Remap, sets: &[AnnotationSet], theirs: &Remap, others: &[AnnotationSet]) -> bool
-    ensures { IsTrue result ↔ (map (renumbered_set mine.now) (map set_of sets.now) ≡ map (renumbered_set theirs.now) (map set_of others.now)) }
+fn same_sets(
+    mine: &Remap,
+    sets: &ParameterSets<'_>,
+    theirs: &Remap,
+    others: &ParameterSets<'_>,
+) -> bool
+    ensures { IsTrue result ↔ (map (renumbered_set mine.now) sets.now ≡ map (renumbered_set theirs.now) others.now) }
 {
     if sets.len() != others.len() {
         return false;
     }
-    for (i, set) in sets.iter().enumerate() {
-        if !set.same_mapped(mine, &others[i], theirs) {
+    for i in 0..sets.len() {
+        if !same_set(mine, sets.get(i), theirs, others.get(i)) {
             return false;
         }
     }
@@ -45,19 +71,14 @@ fn same_sets(mine: &Remap, sets: &[AnnotationSet], theirs: &Remap, others: &[Ann
 }
 
 // Whether the fields are the same, one for one, their numbers led on.
-fn same_fields(
-    mine: &Remap,
-    fields: &[DeclaredField],
-    theirs: &Remap,
-    others: &[DeclaredField],
-) -> bool
+fn same_fields(mine: &Remap, fields: &Fields<'_>, theirs: &Remap, others: &Fields<'_>) -> bool
     ensures { IsTrue result ↔ (map (renumbered_field mine.now) fields.now ≡ map (renumbered_field theirs.now) others.now) }
 {
     if fields.len() != others.len() {
         return false;
     }
-    for (i, field) in fields.iter().enumerate() {
-        if !field.same_mapped(mine, &others[i], theirs) {
+    for i in 0..fields.len() {
+        if !fields.get(i).same_mapped(mine, &others.get(i), theirs) {
             return false;
         }
     }
@@ -67,64 +88,72 @@ fn same_fields(
 // Whether the methods are the same, one for one, their numbers led on.
 fn same_methods(
     mine: &Remap,
-    methods: &[DeclaredMethod<'_>],
+    methods: &Methods<'_, '_>,
     theirs: &Remap,
-    others: &[DeclaredMethod<'_>],
+    others: &Methods<'_, '_>,
 ) -> bool
     ensures { IsTrue result ↔ (map (renumbered_method mine.now) methods.now ≡ map (renumbered_method theirs.now) others.now) }
 {
     if methods.len() != others.len() {
         return false;
     }
-    for (i, method) in methods.iter().enumerate() {
-        if !method.same_mapped(mine, &others[i], theirs) {
+    for i in 0..methods.len() {
+        if !methods.get(i).same_mapped(mine, &others.get(i), theirs) {
             return false;
         }
     }
     true
 }
 
-impl DeclaredField {
+impl Field<'_> {
     // Whether this and another field are the same, their numbers led on.
-    fn same_mapped(&self, mine: &Remap, other: &DeclaredField, theirs: &Remap) -> bool
+    fn same_mapped(&self, mine: &Remap, other: &Field<'_>, theirs: &Remap) -> bool
         ensures { IsTrue result ↔ (renumbered_field mine.now self.now ≡ renumbered_field theirs.now other.now) }
     {
-        if !ends_alike(SymbolKind::Field, mine, self.number, theirs, other.number) {
+        if !ends_alike(
+            SymbolKind::Field,
+            mine,
+            self.number(),
+            theirs,
+            other.number(),
+        ) {
             return false;
         }
-        if self.flags != other.flags {
+        if self.flags() != other.flags() {
             return false;
         }
-        self.annotations
-            .same_mapped(mine, &other.annotations, theirs)
+        same_set(mine, self.annotations(), theirs, other.annotations())
     }
 }
 
-impl<'a> DeclaredMethod<'a> {
+impl Method<'_, '_> {
     // Whether this and another method are the same, their numbers led on.
-    fn same_mapped(&self, mine: &Remap, other: &DeclaredMethod<'_>, theirs: &Remap) -> bool
+    fn same_mapped(&self, mine: &Remap, other: &Method<'_, '_>, theirs: &Remap) -> bool
         ensures { IsTrue result ↔ (renumbered_method mine.now self.now ≡ renumbered_method theirs.now other.now) }
     {
-        if !ends_alike(SymbolKind::Method, mine, self.number, theirs, other.number) {
+        if !ends_alike(
+            SymbolKind::Method,
+            mine,
+            self.number(),
+            theirs,
+            other.number(),
+        ) {
             return false;
         }
-        if self.flags != other.flags {
+        if self.flags() != other.flags() {
             return false;
         }
-        if !same_code(mine, &self.code, theirs, &other.code) {
+        if !same_code(mine, self.code(), theirs, other.code()) {
             return false;
         }
-        if !self
-            .annotations
-            .same_mapped(mine, &other.annotations, theirs)
-        {
+        if !same_set(mine, self.annotations(), theirs, other.annotations()) {
             return false;
         }
         same_sets(
             mine,
-            &self.parameter_annotations,
+            &self.parameter_annotations(),
             theirs,
-            &other.parameter_annotations,
+            &other.parameter_annotations(),
         )
     }
 }
@@ -138,26 +167,26 @@ impl<'a> Members<'a> {
     pub fn same_mapped(&self, mine: &Remap, other: &Members<'_>, theirs: &Remap) -> bool
         ensures { IsTrue result ↔ (renumbered_members mine.now self.now ≡ renumbered_members theirs.now other.now) }
     {
-        let own = &self.contents;
-        let others = &other.contents;
-        if !same_fields(mine, &own.static_fields, theirs, &others.static_fields) {
+        let fields = self.static_fields();
+        if !same_fields(mine, &fields, theirs, &other.static_fields()) {
             return false;
         }
-        if !same_fields(mine, &own.instance_fields, theirs, &others.instance_fields) {
+        let fields = self.instance_fields();
+        if !same_fields(mine, &fields, theirs, &other.instance_fields()) {
             return false;
         }
-        if !own
-            .annotations
-            .same_mapped(mine, &others.annotations, theirs)
-        {
+        let own = self.annotations();
+        if !same_set(mine, own, theirs, other.annotations()) {
             return false;
         }
-        if !same_values_mapped(&own.static_values, mine, &others.static_values, theirs) {
+        if !same_values_mapped(self.static_values(), mine, other.static_values(), theirs) {
             return false;
         }
-        if !same_methods(mine, &own.direct_methods, theirs, &others.direct_methods) {
+        let methods = self.direct_methods();
+        if !same_methods(mine, &methods, theirs, &other.direct_methods()) {
             return false;
         }
-        same_methods(mine, &own.virtual_methods, theirs, &others.virtual_methods)
+        let methods = self.virtual_methods();
+        same_methods(mine, &methods, theirs, &other.virtual_methods())
     }
 }

@@ -1,11 +1,13 @@
 //! Texts that a const-string names, in the code of what classes declare, and whether numbers fit their places now.
 
-ghost use Rattle.std.specs.Prelude.{◌++◌, ℕ, List, option_to_list, All};
+ghost use Rattle.std.specs.Prelude.{◌≡◌, ◌++◌, ℕ, List, MatchOption, Option, Some, None, option_to_list, All};
 ghost use Rattle.std.specs.List.{flat_map};
 ghost use Rattle.dexinsn.specs.Fitting.{IsGreatest};
+ghost use Rattle.dexcode.specs.Numbered.{NumberedItem};
 ghost use Rattle.dexmembers.specs.Fitting.{MethodFits, NumbersFit, code_short_strings, method_short_strings, members_short_strings};
 
-use crate::members::{DeclaredMethod, Members};
+use crate::members::Members;
+use crate::method_views::{Method, Methods};
 use dexcode::Code;
 
 // The greater of two numbers, if there are any.
@@ -22,8 +24,8 @@ fn greater(left: Option<u32>, right: Option<u32>) -> Option<u32>
 }
 
 // The greatest such number in the code, if there is some.
-fn greatest_of_code(code: &Option<Code<'_>>) -> Option<u32>
-    ensures { IsGreatest (flat_map code_short_strings (option_to_list code.now)) result }
+fn greatest_of_code(code: Option<&Code<'_>>) -> Option<u32>
+    ensures { (known : Option NumberedItem) → MatchOption code.entry (known ≡ None) (λ code. known ≡ Some code.now) → IsGreatest (flat_map code_short_strings (option_to_list known)) result }
 {
     match code {
         Some(code) => code.greatest_short_string(),
@@ -32,38 +34,38 @@ fn greatest_of_code(code: &Option<Code<'_>>) -> Option<u32>
 }
 
 // The greatest such number in the code of methods.
-fn greatest_of_methods(methods: &[DeclaredMethod<'_>]) -> Option<u32>
+fn greatest_of_methods(methods: &Methods<'_, '_>) -> Option<u32>
     ensures { IsGreatest (flat_map method_short_strings methods.now) result }
 {
     let mut greatest = None;
-    for method in methods {
-        greatest = greater(greatest, method.greatest_short_string());
+    for i in 0..methods.len() {
+        greatest = greater(greatest, methods.get(i).greatest_short_string());
     }
     greatest
 }
 
 // Each number in the code of methods fits its place.
-fn methods_fit_now(methods: &[DeclaredMethod<'_>])
+fn methods_fit_now(methods: &Methods<'_, '_>)
     ensures { All MethodFits methods.now }
 {
-    for method in methods {
-        method.numbers_fit();
+    for i in 0..methods.len() {
+        methods.get(i).numbers_fit();
     }
 }
 
-impl DeclaredMethod<'_> {
+impl Method<'_, '_> {
     // The greatest such number in the method's code.
     fn greatest_short_string(&self) -> Option<u32>
         ensures { IsGreatest (method_short_strings self.now) result }
     {
-        greatest_of_code(&self.code)
+        greatest_of_code(self.code())
     }
 
     // Each number in the method's code fits its place.
     fn numbers_fit(&self)
         ensures { MethodFits self.now }
     {
-        if let Some(code) = &self.code {
+        if let Some(code) = self.code() {
             code.numbers_fit();
         }
     }
@@ -78,8 +80,8 @@ impl Members<'_> {
         ensures { IsGreatest (members_short_strings self.now) result }
     {
         greater(
-            greatest_of_methods(&self.contents.direct_methods),
-            greatest_of_methods(&self.contents.virtual_methods),
+            greatest_of_methods(&self.direct_methods()),
+            greatest_of_methods(&self.virtual_methods()),
         )
     }
 
@@ -89,7 +91,7 @@ impl Members<'_> {
     pub fn numbers_fit(&self)
         ensures { NumbersFit self.now }
     {
-        methods_fit_now(&self.contents.direct_methods);
-        methods_fit_now(&self.contents.virtual_methods);
+        methods_fit_now(&self.direct_methods());
+        methods_fit_now(&self.virtual_methods());
     }
 }

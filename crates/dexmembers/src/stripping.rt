@@ -5,13 +5,13 @@ ghost use Rattle.dexspec.specs.Texts.{Text};
 ghost use Rattle.dexspec.specs.Mentions.{Mentions};
 ghost use Rattle.dexmembers.specs.Fitting.{members_short_strings};
 ghost use Rattle.dexmembers.specs.Numbered.{NumberedMembers, members_in, methods_of, AreKnownMembers, AreOrdered, AreOfClass};
-ghost use Rattle.dexmembers.specs.Stripped.{method_tries, stripped_method, stripped_members, strip_members};
+ghost use Rattle.dexmembers.specs.Stripped.{method_tries, stripped_held, stripped_members, strip_members};
 
 use crate::members::{DeclaredMethod, Members};
 
 // Leaves out the debug programs of methods.
 fn drop_debugs(methods: &mut Vec<DeclaredMethod<'_>>)
-    ensures { methods.new.items ≡ map stripped_method methods.old.items }
+    ensures { methods.new.items ≡ map stripped_held methods.old.items }
 {
     for i in 0..methods.len() {
         methods[i].drop_debug();
@@ -21,7 +21,7 @@ fn drop_debugs(methods: &mut Vec<DeclaredMethod<'_>>)
 impl<'a> DeclaredMethod<'a> {
     // Leaves out the debug program.
     fn drop_debug(&mut self)
-        ensures { self.new ≡ stripped_method self.old }
+        ensures { self.new ≡ stripped_held self.old }
     {
         if let Some(code) = &mut self.code {
             code.drop_debug();

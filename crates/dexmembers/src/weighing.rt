@@ -1,19 +1,22 @@
 //! What members of classes weigh.
 
-ghost use Rattle.std.specs.Prelude.{◌≡◌, ◌-◌, ◌^◌, min, map, sum_by, option_to_list};
+ghost use Rattle.std.specs.Prelude.{◌≡◌, ◌+◌, ◌-◌, ◌*◌, ◌^◌, [], length, min, map, sum_by, option_to_list, MatchOption, Option, Some, None};
 ghost use Rattle.dexspec.specs.Mentions.{Mentions};
 ghost use Rattle.dexpool.specs.Numberings.{AreRising};
 ghost use Rattle.dexval.specs.Code.{set_of, value_of};
-ghost use Rattle.dexval.specs.Numbered.{values_of_list};
+ghost use Rattle.dexcode.specs.Numbered.{NumberedItem};
+ghost use Rattle.dexval.specs.Numbered.{NumberedSet, values_of_list};
 ghost use Rattle.dexval.specs.Spelled.{numbered_set_weight, numbered_sets_weight, numbered_statics_weight};
 ghost use Rattle.dexmembers.specs.Numbered.{AreKnownMembers, members_in};
 ghost use Rattle.dexmembers.specs.Weight.{members_weight};
-ghost use Rattle.dexmembers.specs.RowParts.{contents_in};
+ghost use Rattle.dexmembers.specs.Contents.{contents_in, AreHeld};
 ghost use Rattle.dexmembers.specs.Weighing.{numbered_field_weight, numbered_whole_weight, numbered_method_weight, numbered_members_weight};
 
-use crate::members::{Contents, DeclaredField, DeclaredMethod, Members};
+use crate::field_views::{Field, Fields};
+use crate::members::{Contents, Members};
+use crate::method_views::{Method, Methods, ParameterSets};
 use dexcode::{Code, code_meaning_law, code_weight_law, debug_bare_law, debug_meaning_law};
-use dexval::{AnnotationSet, Value, parameter_sets_weight, statics_weight};
+use dexval::{AnnotationSet, Value, statics_weight};
 
 // What a set weighs, or 2^64 - 1 where that is more.
 fn set_weight(set: &AnnotationSet) -> u64
@@ -22,11 +25,37 @@ fn set_weight(set: &AnnotationSet) -> u64
     set.weight()
 }
 
-// What the sets of parameters weigh, likewise.
-fn sets_weight(sets: &[AnnotationSet]) -> u64
-    ensures { result ≡ min (2 ^ 64 - 1) (numbered_sets_weight (map set_of sets.now)) }
+// What a set weighs, if there is one, likewise.
+fn optional_weight(set: Option<&AnnotationSet>) -> u64
+    ensures { (weighed : NumberedSet) → MatchOption set.entry (weighed ≡ []) (λ set. set_of set.now ≡ weighed) → result ≡ min (2 ^ 64 - 1) (numbered_set_weight weighed) }
 {
-    parameter_sets_weight(sets)
+    match set {
+        Some(set) => set_weight(set),
+        None => 0,
+    }
+}
+
+// What the sets of parameters weigh in a list of them, likewise.
+fn listed_weight(sets: &ParameterSets<'_>) -> u64
+    ensures { result ≡ min (2 ^ 64 - 1) (8 + 4 * length sets.now + sum_by numbered_set_weight sets.now) }
+{
+    let mut weight: u64 = 8;
+    for i in 0..sets.len() {
+        weight = weight
+            .saturating_add(4)
+            .saturating_add(optional_weight(sets.get(i)));
+    }
+    weight
+}
+
+// What the sets of parameters weigh, where no sets weigh nothing.
+fn sets_weight(sets: &ParameterSets<'_>) -> u64
+    ensures { result ≡ min (2 ^ 64 - 1) (numbered_sets_weight sets.now) }
+{
+    if sets.is_empty() {
+        return 0;
+    }
+    listed_weight(sets)
 }
 
 // What the values weigh that static fields begin with.
@@ -37,8 +66,8 @@ fn values_weight(values: &[Value]) -> u64
 }
 
 // What code weighs with its debug program, if there is some.
-fn code_weight(code: &Option<Code<'_>>) -> u64
-    ensures { result ≡ min (2 ^ 64 - 1) (sum_by numbered_whole_weight (option_to_list code.now)) }
+fn code_weight(code: Option<&Code<'_>>) -> u64
+    ensures { (weighed : Option NumberedItem) → MatchOption code.entry (weighed ≡ None) (λ code. weighed ≡ Some code.now) → result ≡ min (2 ^ 64 - 1) (sum_by numbered_whole_weight (option_to_list weighed)) }
 {
     let Some(code) = code else {
         return 0;
@@ -50,64 +79,45 @@ fn code_weight(code: &Option<Code<'_>>) -> u64
 }
 
 // What fields weigh.
-fn fields_weight(fields: &[DeclaredField]) -> u64
+fn fields_weight(fields: &Fields<'_>) -> u64
     ensures { result ≡ min (2 ^ 64 - 1) (sum_by numbered_field_weight fields.now) }
 {
     let mut weight: u64 = 0;
-    for field in fields {
-        weight = weight.saturating_add(field.weight());
+    for i in 0..fields.len() {
+        weight = weight.saturating_add(fields.get(i).weight());
     }
     weight
 }
 
 // What methods weigh.
-fn methods_weight(methods: &[DeclaredMethod<'_>]) -> u64
+fn methods_weight(methods: &Methods<'_, '_>) -> u64
     ensures { result ≡ min (2 ^ 64 - 1) (sum_by numbered_method_weight methods.now) }
 {
     let mut weight: u64 = 0;
-    for method in methods {
-        weight = weight.saturating_add(method.weight());
+    for i in 0..methods.len() {
+        weight = weight.saturating_add(methods.get(i).weight());
     }
     weight
 }
 
-// What all that a class declares weighs.
-fn whole_weight(
-    annotations: &AnnotationSet,
-    static_fields: &[DeclaredField],
-    instance_fields: &[DeclaredField],
-    direct_methods: &[DeclaredMethod<'_>],
-    virtual_methods: &[DeclaredMethod<'_>],
-    static_values: &[Value],
-) -> u64
-    ensures { result ≡ min (2 ^ 64 - 1) (numbered_members_weight (record { annotations = set_of annotations.now; static_fields = static_fields.now; instance_fields = instance_fields.now; direct_methods = direct_methods.now; virtual_methods = virtual_methods.now; static_values = values_of_list (map value_of static_values.now) })) }
-{
-    set_weight(annotations)
-        .saturating_add(fields_weight(static_fields))
-        .saturating_add(fields_weight(instance_fields))
-        .saturating_add(methods_weight(direct_methods))
-        .saturating_add(methods_weight(virtual_methods))
-        .saturating_add(values_weight(static_values))
-}
-
-impl DeclaredField {
+impl Field<'_> {
     // What the field weighs.
     fn weight(&self) -> u64
         ensures { result ≡ min (2 ^ 64 - 1) (numbered_field_weight self.now) }
     {
-        18u64.saturating_add(set_weight(&self.annotations))
+        18u64.saturating_add(optional_weight(self.annotations()))
     }
 }
 
-impl<'a> DeclaredMethod<'a> {
+impl Method<'_, '_> {
     // What the method weighs.
     fn weight(&self) -> u64
         ensures { result ≡ min (2 ^ 64 - 1) (numbered_method_weight self.now) }
     {
         31u64
-            .saturating_add(code_weight(&self.code))
-            .saturating_add(set_weight(&self.annotations))
-            .saturating_add(sets_weight(&self.parameter_annotations))
+            .saturating_add(code_weight(self.code()))
+            .saturating_add(optional_weight(self.annotations()))
+            .saturating_add(sets_weight(&self.parameter_annotations()))
     }
 }
 
@@ -137,16 +147,17 @@ impl<'a> Members<'a> {
 
 impl Contents<'_> {
     /// What is declared weighs together, in bytes, or 2^64 - 1 where that is more. No memory is taken.
+    ///
+    /// Condition: the places are the table's.
     pub(crate) fn weight(&self) -> u64
+        requires { AreHeld self.now }
         ensures { result ≡ min (2 ^ 64 - 1) (numbered_members_weight (contents_in self.now)) }
     {
-        whole_weight(
-            &self.annotations,
-            &self.static_fields,
-            &self.instance_fields,
-            &self.direct_methods,
-            &self.virtual_methods,
-            &self.static_values,
-        )
+        optional_weight(self.annotations())
+            .saturating_add(fields_weight(&self.static_fields()))
+            .saturating_add(fields_weight(&self.instance_fields()))
+            .saturating_add(methods_weight(&self.direct_methods()))
+            .saturating_add(methods_weight(&self.virtual_methods()))
+            .saturating_add(values_weight(&self.static_values))
     }
 }

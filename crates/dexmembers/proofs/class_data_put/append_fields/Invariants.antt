@@ -3,5 +3,5 @@ use Rattle.dexmembers.specs.Spelled.{numbered_fields_bytes}
 use Rattle.dexmembers.proofs.Partways.{Partway}
 use Rattle.dexmembers.proofs.class_data_put.append_fields.Given as goal
 
-abbrev pub invariant-loop-field : goal.invariant-loop-field
-invariant-loop-field l = Partway (numbered_fields_bytes l.last (drop l.field-index l.fields)) (numbered_fields_bytes 0 l.fields) l.initial.out l.out
+abbrev pub invariant-loop-i : goal.invariant-loop-i
+invariant-loop-i l = Partway (numbered_fields_bytes l.last (drop l.i l.fields)) (numbered_fields_bytes 0 l.fields) l.initial.out l.out

@@ -4,5 +4,5 @@ use Rattle.dexmembers.specs.Numbered.{IsKnownMethod}
 use Rattle.dexmembers.specs.Renumbering.{LeadsInto, MethodHasPlaces}
 use Rattle.dexmembers.proofs.fitting.methods_fit.Given as goal
 
-abbrev pub invariant-loop-method : goal.invariant-loop-method
-invariant-loop-method l = (m n : Mentions) → LeadsInto m n l.remap → All (IsKnownMethod m) l.methods → All (MethodHasPlaces l.remap) (take l.method-index l.methods)
+abbrev pub invariant-loop-i : goal.invariant-loop-i
+invariant-loop-i l = (m n : Mentions) → LeadsInto m n l.remap → All (IsKnownMethod m) l.methods → All (MethodHasPlaces l.remap) (take l.i l.methods)

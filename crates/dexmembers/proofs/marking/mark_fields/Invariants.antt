@@ -4,5 +4,5 @@ use Rattle.dexpool.specs.Uses.{AreMarkedToo}
 use Rattle.dexmembers.specs.Uses.{field_uses}
 use Rattle.dexmembers.proofs.marking.mark_fields.Given as goal
 
-abbrev pub invariant-loop-field : goal.invariant-loop-field
-invariant-loop-field l = AreMarkedToo (flat_map field_uses (take l.field-index l.fields)) l.initial.marks l.marks
+abbrev pub invariant-loop-i : goal.invariant-loop-i
+invariant-loop-i l = AreMarkedToo (flat_map field_uses (take l.i l.fields)) l.initial.marks l.marks

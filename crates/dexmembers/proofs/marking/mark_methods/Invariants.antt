@@ -4,5 +4,5 @@ use Rattle.dexpool.specs.Uses.{AreMarkedToo}
 use Rattle.dexmembers.specs.Uses.{method_uses}
 use Rattle.dexmembers.proofs.marking.mark_methods.Given as goal
 
-abbrev pub invariant-loop-method : goal.invariant-loop-method
-invariant-loop-method l = AreMarkedToo (flat_map method_uses (take l.method-index l.methods)) l.initial.marks l.marks
+abbrev pub invariant-loop-i : goal.invariant-loop-i
+invariant-loop-i l = AreMarkedToo (flat_map method_uses (take l.i l.methods)) l.initial.marks l.marks

@@ -1,13 +1,17 @@
-use Rattle.std.proofs.Common.{take, subst}
-use Rattle.std.specs.List.{All}
-use Rattle.dexpool.specs.Uses.{HasMark, AreMarkedToo}
+use Rattle.std.proofs.Common.{get_or, [], arith}
+use Rattle.std.specs.Prelude.{All}
+use Rattle.std.proofs.lemmas.List.{get_or_default}
+use Rattle.dexpool.specs.Uses.{HasMark}
+use Rattle.dexval.specs.Code.{set_of}
+use Rattle.dexval.specs.Uses.{set_uses}
 use Rattle.dexval.proofs.Marked.{next_has_marks}
-use Rattle.dexmembers.proofs.MembersMarked.{code_set_uses, uses_of_sets}
+use Rattle.dexmembers.proofs.HeldMembers.{set_there}
 use Rattle.dexmembers.proofs.marking.mark_sets.Goals as goal
 
-pub mark-requires : goal.mark-requires
-mark-requires c =
+pub mark_set-requires : goal.mark_set-requires
+mark_set-requires c =
     let xs = c.args.sets.now in
-    let i = c.loop-set.set-index in
-    let before = subst (λ us. AreMarkedToo us c.args.marks.now c.loop-set.marks) (uses_of_sets (take i xs)) c.loop-set.invariant in
-    next_has_marks code_set_uses xs i c.set-item.result c.args.marks.now c.loop-set.marks c.loop-set-test.true c.set-item.is (subst (All (HasMark c.args.marks.now)) (uses_of_sets xs) c.requires) before
+    let i = c.loop-i.i in
+    let x = get_or xs i [] in
+    set_there (λ set. set_of set.now) (λ s. All (HasMark c.loop-i.marks) (set_uses s)) c.get.result x c.get.ensures
+    (next_has_marks set_uses xs i x c.args.marks.now c.loop-i.marks (omega arith) (get_or_default xs i [] x (omega arith)) c.requires c.loop-i.invariant)

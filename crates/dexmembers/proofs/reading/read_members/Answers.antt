@@ -4,7 +4,8 @@ use Rattle.dexpool.specs.Numberings.{AreRising}
 use Rattle.dexval.specs.Code.{value_of}
 use Rattle.dexval.specs.Numbered.{values_of_list}
 use Rattle.dexmembers.specs.Reading.{AreHeavyMembers, AreReadWithin}
-use Rattle.dexmembers.specs.RowParts.{ArePartsOf, contents_in}
+use Rattle.dexmembers.specs.RowParts.{ArePartsOf}
+use Rattle.dexmembers.specs.Contents.{contents_in}
 use Rattle.dexmembers.specs.Numbered.{AreKnownMembers, members_in}
 use Rattle.dexmembers.specs.Weight.{members_weight}
 use Rattle.dexmembers.proofs.Judged.{data_refused}
@@ -30,7 +31,7 @@ returns-clause-read c = λ pools class.
     let parts = some_kept (AreHeavyMembers b r most) (λ x. ArePartsOf b r m d most x.directory x.direct_codes.items x.virtual_codes.items (values_of_list (map value_of x.static_values.items))) c.in-Ok-read_parts.found p c.in-Some.is (c.in-Ok-read_parts.ensures.read pools is) in
     let known = c.code_meaning_law.ensures.known m in
     let meant = c.code_meaning_law.ensures.meant m in
-    let same = c.in_ok-unweighed.ensures (parts_attachable b r m rising d is most p.directory p.direct_codes.items p.virtual_codes.items vs parts) in
+    let same = c.in_ok-unweighed.ensures.attached (parts_attachable b r m rising d is most p.directory p.direct_codes.items p.virtual_codes.items vs parts) in
     let made_known = parts_known b r m rising d is most p.directory p.direct_codes.items p.virtual_codes.items vs parts known meant in
     let weighed = c.within.ensures m rising (subst (AreKnownMembers m) (sym same) made_known) in
     let weighed_so = subst (λ (n : ℕ). MatchOption c.within.result (n < members_weight (members_in m made)) (λ x. (x.0 ≡ made) × (x.1 ≡ members_weight (members_in m made)) × (x.1 ≤ n))) (sym c.from.ensures) weighed in

@@ -1,6 +1,6 @@
 use Rattle.std.proofs.Common.{arith, refl}
 use Rattle.dexcode.specs.Meaning.{code_in, debug_in}
-use Rattle.dexmembers.specs.RowParts.{contents_in}
+use Rattle.dexmembers.specs.Contents.{contents_in}
 use Rattle.dexmembers.proofs.Weighed.{members_are}
 use Rattle.dexmembers.proofs.FewMembers.{weighed_few}
 use Rattle.dexmembers.proofs.reading.within.Goals as goal
@@ -11,7 +11,7 @@ returns-then-weight-from c = λ m rising known.
     omega (arith, is, c.weight-weight.ensures, c.from.ensures, c.if-weight-from.true)
 
 pub invariant_of-members : goal.invariant_of-members
-invariant_of-members c = weighed_few (contents_in c.args.unweighed) (omega (arith, c.weight-weight.ensures, c.from.ensures, c.if-weight-from.false, c.ranges.most.fits))
+invariant_of-members c = record { few = weighed_few (contents_in c.args.unweighed) (omega (arith, c.weight-weight.ensures, c.from.ensures, c.if-weight-from.false, c.ranges.most.fits)); held = c.requires }
 
 pub returns : goal.returns
 returns c = λ m rising known.

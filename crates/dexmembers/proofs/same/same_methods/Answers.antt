@@ -10,6 +10,6 @@ returns-then-not-same_mapped c =
     let others : c.loop-i.i < length c.args.others.now = omega (arith, c.loop-i.invariant.count) in (
       (λ t. absurd cc),
       (λ e.
-          let same = c.same_mapped.ensures.1 (same_at (renumbered_method r) (renumbered_method q) c.args.methods.now c.args.others.now c.loop-i.i c.index-methods-i.result c.index-others-i.result (omega arith) others c.index-methods-i.is c.index-others-i.is e) in
+          let same = c.same_mapped.ensures.1 (same_at (renumbered_method r) (renumbered_method q) c.args.methods.now c.args.others.now c.loop-i.i c.get.result c.get-in-loop-i.result (omega arith) others c.get.ensures c.get-in-loop-i.ensures e) in
           cc),
     )

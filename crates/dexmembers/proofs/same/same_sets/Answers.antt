@@ -1,16 +1,22 @@
-use Rattle.std.proofs.Common.{◌<◌, length, arith}
-use Rattle.dexval.specs.Code.{set_of}
+use Rattle.std.proofs.Common.{◌<◌, length, get_or, [], arith}
+use Rattle.std.proofs.lemmas.List.{get_or_default}
 use Rattle.dexval.specs.Renumbering.{renumbered_set}
-use Rattle.dexval.proofs.Compared.{same_at}
+use Rattle.dexmembers.proofs.RenumberingSteps.{same_at}
 use Rattle.dexmembers.proofs.same.same_sets.Goals as goal
 
-pub returns-then-not-same_mapped : goal.returns-then-not-same_mapped
-returns-then-not-same_mapped c =
+pub returns-then-not-same_set : goal.returns-then-not-same_set
+returns-then-not-same_set c =
     let r = c.args.mine.now in
     let q = c.args.theirs.now in
-    let others : c.loop-i.i < length c.args.others.now = omega (arith, c.loop-i.invariant.count) in (
+    let xs = c.args.sets.now in
+    let ys = c.args.others.now in
+    let i = c.loop-i.i in
+    let x = get_or xs i [] in
+    let y = get_or ys i [] in
+    let mine : i < length xs = omega arith in
+    let theirs : i < length ys = omega (arith, c.loop-i.invariant.count) in (
       (λ t. absurd cc),
       (λ e.
-          let same = c.same_mapped.ensures.1 (same_at set_of (renumbered_set r) (renumbered_set q) c.args.sets.now c.args.others.now c.loop-i.i c.index-sets-i.result c.index-others-i.result (omega arith) others c.index-sets-i.is c.index-others-i.is e) in
+          let same = (c.same_set.ensures x y c.get.ensures c.get-in-loop-i.ensures).1 (same_at (renumbered_set r) (renumbered_set q) xs ys i x y mine theirs (get_or_default xs i [] x mine) (get_or_default ys i [] y theirs) e) in
           cc),
     )

@@ -1,4 +1,4 @@
-use Rattle.std.proofs.Common.{◌≡◌, ◌+◌, ◌<◌, ◌++◌, ◌∷◌, [], ℕ, List, take, get_or, length, sym, ap, subst, ◌∙◌}
+use Rattle.std.proofs.Common.{◌≡◌, ◌+◌, ◌<◌, ◌++◌, ◌∷◌, [], ℕ, List, take, get_or, length, sym, ap, subst, ◌∙◌, arith}
 use Rattle.std.specs.List.{flat_map}
 use Rattle.std.proofs.lemmas.List.{take_more, append-nil}
 use Rattle.std.proofs.lemmas.List.Concat.{flat_map-append}
@@ -13,10 +13,10 @@ one_more xs i x lt is =
     ap (flat_map method_short_strings) (take_more xs i x lt) ∙ flat_map-append method_short_strings (take i xs) (get_or xs i x ∷ [])
     ∙ ap (λ ns. flat_map method_short_strings (take i xs) ++ ns) (append-nil (method_short_strings (get_or xs i x)) ∙ ap method_short_strings (sym is))
 
-pub loop-method-preserved : goal.loop-method-preserved
-loop-method-preserved c =
+pub loop-i-preserved : goal.loop-i-preserved
+loop-i-preserved c =
     let xs = c.args.methods.now in
-    let i = c.loop-method.method-index in
-    let x = c.method-item.result in
-    subst (λ ns. IsGreatest ns c.greater-greatest.result) (sym (one_more xs i x c.loop-method-test.true c.method-item.is))
-    (c.greater-greatest.ensures (flat_map method_short_strings (take i xs)) (method_short_strings x) c.loop-method.invariant c.greatest_short_string.ensures)
+    let i = c.loop-i.i in
+    let x = c.get.result in
+    subst (λ ns. IsGreatest ns c.greater-greatest.result) (sym (one_more xs i x (omega arith) c.get.ensures))
+    (c.greater-greatest.ensures (flat_map method_short_strings (take i xs)) (method_short_strings x) c.loop-i.invariant c.greatest_short_string.ensures)

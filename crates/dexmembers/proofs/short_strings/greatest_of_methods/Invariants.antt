@@ -4,5 +4,5 @@ use Rattle.dexinsn.specs.Fitting.{IsGreatest}
 use Rattle.dexmembers.specs.Fitting.{method_short_strings}
 use Rattle.dexmembers.proofs.short_strings.greatest_of_methods.Given as goal
 
-abbrev pub invariant-loop-method : goal.invariant-loop-method
-invariant-loop-method l = IsGreatest (flat_map method_short_strings (take l.method-index l.methods)) l.greatest
+abbrev pub invariant-loop-i : goal.invariant-loop-i
+invariant-loop-i l = IsGreatest (flat_map method_short_strings (take l.i l.methods)) l.greatest

@@ -3,5 +3,5 @@ use Rattle.std.specs.List.{All}
 use Rattle.dexmembers.specs.Fitting.{MethodFits}
 use Rattle.dexmembers.proofs.short_strings.methods_fit_now.Given as goal
 
-abbrev pub invariant-loop-method : goal.invariant-loop-method
-invariant-loop-method l = All MethodFits (take l.method-index l.methods)
+abbrev pub invariant-loop-i : goal.invariant-loop-i
+invariant-loop-i l = All MethodFits (take l.i l.methods)

@@ -3,15 +3,14 @@ use Rattle.std.specs.List.{flat_map}
 use Rattle.std.proofs.lemmas.List.Concat.{flat_map-append}
 use Rattle.dexinsn.specs.Fitting.{IsGreatest}
 use Rattle.dexmembers.specs.Numbered.{NumberedMethod}
-use Rattle.dexmembers.specs.Fitting.{method_short_strings, members_short_strings}
+use Rattle.dexmembers.specs.Fitting.{method_short_strings}
 use Rattle.dexmembers.proofs.members.Members.greatest_short_string.Goals as goal
 
 pub returns : goal.returns
 returns c =
-    let direct = c.self.inside.contents.direct_methods.items in
-    let virtual = c.self.inside.contents.virtual_methods.items in
-    let mine = subst (λ (xs : List NumberedMethod). IsGreatest (flat_map method_short_strings xs) c.greatest_of_methods.result) c.deref.ensures.value c.greatest_of_methods.ensures in
-    let theirs = subst (λ (xs : List NumberedMethod). IsGreatest (flat_map method_short_strings xs) c.greatest_of_methods-2.result) c.deref-2.ensures.value c.greatest_of_methods-2.ensures in
+    let direct = c.args.self.now.direct_methods in
+    let virtual = c.args.self.now.virtual_methods in
+    let mine = subst (λ (xs : List NumberedMethod). IsGreatest (flat_map method_short_strings xs) c.greatest_of_methods.result) c.direct_methods.ensures c.greatest_of_methods.ensures in
+    let theirs = subst (λ (xs : List NumberedMethod). IsGreatest (flat_map method_short_strings xs) c.greatest_of_methods-2.result) c.virtual_methods.ensures c.greatest_of_methods-2.ensures in
     let both = c.greater.ensures (flat_map method_short_strings direct) (flat_map method_short_strings virtual) mine theirs in
-    subst (λ x. IsGreatest (members_short_strings x) c.greater.result) c.self.view_is
-    (subst (λ ns. IsGreatest ns c.greater.result) (sym (flat_map-append method_short_strings direct virtual)) both)
+    subst (λ ns. IsGreatest ns c.greater.result) (sym (flat_map-append method_short_strings direct virtual)) both

@@ -1,19 +1,73 @@
-use Rattle.std.proofs.Common.{All, sym, subst}
-use Rattle.dexval.specs.Renumbering.{SetHasPlaces}
-use Rattle.dexmembers.specs.Renumbering.{FieldHasPlaces, MethodHasPlaces}
+use Rattle.std.proofs.Common.{◌≡◌, map, All, sym, subst, ap, ◌∙◌}
+use Rattle.dexval.specs.Code.{value_of}
+use Rattle.dexval.specs.Numbered.{values_of_list}
+use Rattle.dexval.specs.Tables.{set_at}
+use Rattle.dexmembers.specs.Numbered.{NumberedMembers}
+use Rattle.dexmembers.specs.Held.{field_of, method_of, IsHeldField, IsHeldMethod}
+use Rattle.dexmembers.specs.Contents.{contents_in}
+use Rattle.dexmembers.specs.Renumbering.{renumbered_field, renumbered_method, renumbered_members, MembersHavePlaces}
+use Rattle.dexmembers.proofs.HeldMembers.{fields_lead, methods_lead, fields_led, methods_led, own_kept, fields_kept, methods_kept, few_mapped, same_few}
 use Rattle.dexmembers.proofs.members.Members.renumber.Goals as goal
 
-pub renumber-requires : goal.renumber-requires
-renumber-requires c = subst (λ x. SetHasPlaces c.args.remap.now x.annotations) (sym c.self.view_is) c.requires.annotations_lead
-
 pub renumber_fields-requires : goal.renumber_fields-requires
-renumber_fields-requires c = subst (λ x. All (FieldHasPlaces c.args.remap.now) x.static_fields) (sym c.self.view_is) c.requires.static_fields_lead
+renumber_fields-requires c = fields_lead c.args.remap.now c.self.inside.contents.table.sets c.self.inside.contents.static_fields.items (subst (MembersHavePlaces c.args.remap.now) (sym c.self.view_is) c.requires).static_fields_lead
 
 pub renumber_fields-requires-2 : goal.renumber_fields-requires-2
-renumber_fields-requires-2 c = subst (λ x. All (FieldHasPlaces c.args.remap.now) x.instance_fields) (sym c.self.view_is) c.requires.instance_fields_lead
+renumber_fields-requires-2 c = fields_lead c.args.remap.now c.self.inside.contents.table.sets c.self.inside.contents.instance_fields.items (subst (MembersHavePlaces c.args.remap.now) (sym c.self.view_is) c.requires).instance_fields_lead
 
 pub renumber_methods-requires : goal.renumber_methods-requires
-renumber_methods-requires c = subst (λ x. All (MethodHasPlaces c.args.remap.now) x.direct_methods) (sym c.self.view_is) c.requires.direct_methods_lead
+renumber_methods-requires c = methods_lead c.args.remap.now c.self.inside.contents.table c.self.inside.contents.direct_methods.items (subst (MembersHavePlaces c.args.remap.now) (sym c.self.view_is) c.requires).direct_methods_lead
 
 pub renumber_methods-requires-2 : goal.renumber_methods-requires-2
-renumber_methods-requires-2 c = subst (λ x. All (MethodHasPlaces c.args.remap.now) x.virtual_methods) (sym c.self.view_is) c.requires.virtual_methods_lead
+renumber_methods-requires-2 c = methods_lead c.args.remap.now c.self.inside.contents.table c.self.inside.contents.virtual_methods.items (subst (MembersHavePlaces c.args.remap.now) (sym c.self.view_is) c.requires).virtual_methods_lead
+
+pub invariant_of-self : goal.invariant_of-self
+invariant_of-self c =
+    let r = c.args.remap.now in
+    let x = c.self.inside.contents in
+    let t' = c.renumber.new.self in
+    let kept = c.self.invariant in
+    let has = subst (MembersHavePlaces r) (sym c.self.view_is) c.requires in
+    let size = c.renumber.ensures.size in
+    let lists = c.renumber.ensures.lists in
+    let led = c.renumber.ensures.sets in
+    let few = few_mapped (renumbered_field r) (renumbered_method r) _ _ _ _ kept.few in
+    let statics = ap (map (field_of t'.sets)) c.renumber_fields.ensures ∙ fields_led r x.table.sets t'.sets led x.static_fields.items has.static_fields_lead in
+    let instances = ap (map (field_of t'.sets)) c.renumber_fields-2.ensures ∙ fields_led r x.table.sets t'.sets led x.instance_fields.items has.instance_fields_lead in
+    let directs = ap (map (method_of t')) c.renumber_methods.ensures ∙ methods_led r x.table.sets t'.sets led x.table.lists t'.lists lists x.direct_methods.items has.direct_methods_lead in
+    let virtuals = ap (map (method_of t')) c.renumber_methods-2.ensures ∙ methods_led r x.table.sets t'.sets led x.table.lists t'.lists lists x.virtual_methods.items has.virtual_methods_lead in
+    record {
+      few = same_few (sym statics) (sym instances) (sym directs) (sym virtuals) few;
+      held = record {
+        own_held = own_kept x.table.sets t'.sets size x.set kept.held.own_held;
+        static_fields_held = subst (All (IsHeldField t'.sets)) (sym c.renumber_fields.ensures) (fields_kept r x.table.sets t'.sets size x.static_fields.items kept.held.static_fields_held);
+        instance_fields_held = subst (All (IsHeldField t'.sets)) (sym c.renumber_fields-2.ensures) (fields_kept r x.table.sets t'.sets size x.instance_fields.items kept.held.instance_fields_held);
+        direct_methods_held = subst (All (IsHeldMethod t')) (sym c.renumber_methods.ensures) (methods_kept r x.table t' size lists x.direct_methods.items kept.held.direct_methods_held);
+        virtual_methods_held = subst (All (IsHeldMethod t')) (sym c.renumber_methods-2.ensures) (methods_kept r x.table t' size lists x.virtual_methods.items kept.held.virtual_methods_held);
+      };
+    }
+
+pub returns : goal.returns
+returns c =
+    let r = c.args.remap.now in
+    let x = c.self.inside.contents in
+    let t' = c.renumber.new.self in
+    let has = subst (MembersHavePlaces r) (sym c.self.view_is) c.requires in
+    let lists = c.renumber.ensures.lists in
+    let led = c.renumber.ensures.sets in
+    let own = led x.set has.annotations_lead in
+    let statics = ap (map (field_of t'.sets)) c.renumber_fields.ensures ∙ fields_led r x.table.sets t'.sets led x.static_fields.items has.static_fields_lead in
+    let instances = ap (map (field_of t'.sets)) c.renumber_fields-2.ensures ∙ fields_led r x.table.sets t'.sets led x.instance_fields.items has.instance_fields_lead in
+    let directs = ap (map (method_of t')) c.renumber_methods.ensures ∙ methods_led r x.table.sets t'.sets led x.table.lists t'.lists lists x.direct_methods.items has.direct_methods_lead in
+    let virtuals = ap (map (method_of t')) c.renumber_methods-2.ensures ∙ methods_led r x.table.sets t'.sets led x.table.lists t'.lists lists x.virtual_methods.items has.virtual_methods_lead in
+    let new : NumberedMembers = record {
+      annotations = set_at t'.sets x.set;
+      static_fields = map (field_of t'.sets) c.renumber_fields.new.fields.items;
+      instance_fields = map (field_of t'.sets) c.renumber_fields-2.new.fields.items;
+      direct_methods = map (method_of t') c.renumber_methods.new.methods.items;
+      virtual_methods = map (method_of t') c.renumber_methods-2.new.methods.items;
+      static_values = values_of_list (map value_of c.renumber_values.new.values.items);
+    } in
+    let all : new ≡ renumbered_members r (contents_in x) =
+    λ i. record { annotations = own i; static_fields = statics i; instance_fields = instances i; direct_methods = directs i; virtual_methods = virtuals i; static_values = c.renumber_values.ensures i } in
+    all ∙ ap (renumbered_members r) c.self.view_is

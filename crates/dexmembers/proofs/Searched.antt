@@ -1,23 +1,22 @@
--- Entries by number: a search among them, and what is taken out of them.
-use Rattle.std.proofs.Common.{◌≡◌, ◌≢◌, ℕ, zero, suc, ◌+◌, ◌<◌, ◌≤◌, Bool, true, false, cond, List, [], ◌∷◌, ◌++◌, length, get_or, map, length-take, refl, sym, ap, ◌∙◌, subst, arith, inl, inr, Option, Some, None, Ordering, Less, Equal, Greater}
-use Rattle.std.specs.Prelude.{IsTrue, slice_set, unwrap_or, Result, Ok, Err, MatchOption, take, drop, option_to_list}
+-- Entries by number: a search among them, and lists that are put together member by member.
+use Rattle.std.proofs.Common.{◌≡◌, ◌≢◌, ℕ, zero, suc, ◌+◌, ◌<◌, ◌≤◌, Bool, true, false, cond, List, [], ◌∷◌, ◌++◌, length, get_or, map, refl, sym, ap, ◌∙◌, subst, arith, inl, inr, Option, Some, None, Ordering, Less, Equal, Greater}
+use Rattle.std.specs.Prelude.{IsTrue, Result, Ok, Err, MatchOption, take, drop, option_to_list}
 use Rattle.std.specs.List.{Contains, HoldsAt}
 use Rattle.std.specs.List.Sorted.{IsNonDecreasingBy, IsPartitionPoint, IsSearchInRange, IsBinarySearchResult}
 use Rattle.std.specs.Result.{result_ok, is_ok}
 use Rattle.std.specs.Option.{IsSome, option_flatten}
-use Rattle.std.proofs.lemmas.List.Elements.{Contains-append_left, Contains-append_right}
 use Rattle.std.specs.Ordering.{nat_cmp, is_eq, ordering_index}
 use Rattle.std.specs.Cmp.{nat_cmp_total}
 use Rattle.std.specs.FinMap.{nat_cmp-IsAntisymmetric}
 use Rattle.std.specs.FinMap.Entries.{find}
 use Rattle.std.proofs.lemmas.Bool.{cases_lt}
 use Rattle.std.proofs.lemmas.Cmp.{tied_itself}
-use Rattle.std.proofs.lemmas.List.{get_or-map, length-drop, length-append, take_more, drop_more, get_or-take, get_or_default, map-append}
+use Rattle.std.proofs.lemmas.List.{get_or-map, length-drop, length-append, take_more, drop_more, map-append}
 use Rattle.dexspec.specs.Lists.{zip_with}
 use Rattle.dexspec.proofs.Members.{Contains-nil, Contains-first, Contains-later, Contains-cons_cases}
 use Rattle.dexspec.proofs.InOrder.{Rises, Rises-from_rises, Rises-places}
 use Rattle.dexmembers.specs.Numbered.{NumbersRise}
-use Rattle.dexmembers.specs.Attaching.{looked_up, EntriesRise, HasNumberAt, AreTaken}
+use Rattle.dexmembers.specs.Attaching.{EntriesRise, HasNumberAt}
 
 -- ---- numbers in order
 
@@ -90,32 +89,29 @@ module _ {T : Type 0} (key : T → ℕ) where
 
 -- ---- entries
 
-module _ {X Y : Type 0} (inside : X → List Y) where
-  abbrev look : List (ℕ × X) → ℕ → List Y
-  look = looked_up inside
-
+module _ {X : Type 0} where
   -- the first entry is another's
-  look_past : (e : ℕ × X) (es : List (ℕ × X)) (n : ℕ) → n ≢ e.0 → look (e ∷ es) n ≡ look es n
-  look_past e es n ne = ap (λ (b : Bool). unwrap_or (cond b (Some (inside e.1)) (find nat_cmp n (map (λ (x : ℕ × X). (x.0, inside x.1)) es))) []) (not_tied n e.0 ne)
+  find_past : (e : ℕ × X) (es : List (ℕ × X)) (n : ℕ) → n ≢ e.0 → find nat_cmp n (e ∷ es) ≡ find nat_cmp n es
+  find_past e es n ne = ap (λ (b : Bool). cond b (Some e.1) (find nat_cmp n es)) (not_tied n e.0 ne)
 
   -- or its own
-  look_here : (e : ℕ × X) (es : List (ℕ × X)) (n : ℕ) → n ≡ e.0 → look (e ∷ es) n ≡ inside e.1
-  look_here e es n same = ap (λ (r : Ordering). unwrap_or (cond (is_eq r) (Some (inside e.1)) (find nat_cmp n (map (λ (x : ℕ × X). (x.0, inside x.1)) es))) []) (ap (λ (k : ℕ). nat_cmp k e.0) same ∙ tied_itself nat_cmp_total e.0)
+  find_here : (e : ℕ × X) (es : List (ℕ × X)) (n : ℕ) → n ≡ e.0 → find nat_cmp n (e ∷ es) ≡ Some e.1
+  find_here e es n same = ap (λ (r : Ordering). cond (is_eq r) (Some e.1) (find nat_cmp n es)) (ap (λ (k : ℕ). nat_cmp k e.0) same ∙ tied_itself nat_cmp_total e.0)
 
   -- nothing is found where the number is not there
-  pub look_missing : (es : List (ℕ × X)) (n : ℕ) → (Contains (map (λ (e : ℕ × X). e.0) es) n → ⊥) → look es n ≡ []
-  look_missing [] n h = refl
-  look_missing (e ∷ es) n h =
-      look_past e es n (λ same. h (subst (Contains (map (λ (x : ℕ × X). x.0) (e ∷ es))) (sym same) (Contains-first e.0 (map (λ (x : ℕ × X). x.0) es))))
-      ∙ look_missing es n (λ c. h (Contains-later e.0 n (map (λ (x : ℕ × X). x.0) es) c))
+  pub find_missing : (es : List (ℕ × X)) (n : ℕ) → (Contains (map (λ (e : ℕ × X). e.0) es) n → ⊥) → find nat_cmp n es ≡ None
+  find_missing [] n h = refl
+  find_missing (e ∷ es) n h =
+      find_past e es n (λ same. h (subst (Contains (map (λ (x : ℕ × X). x.0) (e ∷ es))) (sym same) (Contains-first e.0 (map (λ (x : ℕ × X). x.0) es))))
+      ∙ find_missing es n (λ c. h (Contains-later e.0 n (map (λ (x : ℕ × X). x.0) es) c))
 
-  look_found_in : (es : List (ℕ × X)) (n at : ℕ) (d : ℕ × X) → Rises nat_cmp (map (λ (e : ℕ × X). e.0) es) → at < length es → (get_or es at d).0 ≡ n → look es n ≡ inside (get_or es at d).1
-  look_found_in [] n at d h lt e = absurd (omega arith)
-  look_found_in (x ∷ es) n zero d h lt e = look_here x es n (sym e)
-  look_found_in (x ∷ es) n (suc at) d h lt e =
+  find_found_in : (es : List (ℕ × X)) (n at : ℕ) (d : ℕ × X) → Rises nat_cmp (map (λ (e : ℕ × X). e.0) es) → at < length es → (get_or es at d).0 ≡ n → find nat_cmp n es ≡ Some (get_or es at d).1
+  find_found_in [] n at d h lt e = absurd (omega arith)
+  find_found_in (x ∷ es) n zero d h lt e = find_here x es n (sym e)
+  find_found_in (x ∷ es) n (suc at) d h lt e =
       let less : nat_cmp x.0 n ≡ Less = h.0 n (key_among (λ (y : ℕ × X). y.0) es n at (omega arith) (λ c. subst (λ (y : ℕ × X). y.0 ≡ n) (same_default es at d c (omega arith)) e)) in
-      look_past x es n (λ same. let lt : x.0 < n = less_below x.0 n less in omega (arith, same, lt))
-      ∙ look_found_in es n at d h.1 (omega arith) e
+      find_past x es n (λ same. let lt : x.0 < n = less_below x.0 n less in omega (arith, same, lt))
+      ∙ find_found_in es n at d h.1 (omega arith) e
     where
       same_default : (l : List (ℕ × X)) (k : ℕ) (c d : ℕ × X) → k < length l → get_or l k c ≡ get_or l k d
       same_default [] k c d lt = absurd (omega arith)
@@ -123,36 +119,8 @@ module _ {X Y : Type 0} (inside : X → List Y) where
       same_default (x ∷ l) (suc k) c d lt = same_default l k c d (omega arith)
 
   -- the entry of a number is found
-  pub look_found : (es : List (ℕ × X)) (n at : ℕ) (d : ℕ × X) → EntriesRise es → at < length es → (get_or es at d).0 ≡ n → look es n ≡ inside (get_or es at d).1
-  look_found es n at d h lt e = look_found_in es n at d (Rises-from_rises nat_cmp nat_cmp_total (map (λ (e : ℕ × X). e.0) es) h) lt e
-
-  look_set : (es : List (ℕ × X)) (at n m : ℕ) (x : X) (d : ℕ × X) → at < length es → (get_or es at d).0 ≡ n → m ≢ n → look (slice_set es at (n, x)) m ≡ look es m
-  look_set [] at n m x d lt e ne = absurd (omega arith)
-  look_set (y ∷ es) zero n m x d lt e ne = look_past (n, x) es m ne ∙ sym (look_past y es m (λ same. ne (same ∙ e)))
-  look_set (y ∷ es) (suc at) n m x d lt e ne =
-      let rest = look_set es at n m x d (omega arith) e ne in
-      ap (λ (l : List Y). l) (step (is_eq (nat_cmp m y.0)) rest)
-    where
-      step : (b : Bool) → look (slice_set es at (n, x)) m ≡ look es m
-          → unwrap_or (cond b (Some (inside y.1)) (find nat_cmp m (map (λ (z : ℕ × X). (z.0, inside z.1)) (slice_set es at (n, x))))) [] ≡ unwrap_or (cond b (Some (inside y.1)) (find nat_cmp m (map (λ (z : ℕ × X). (z.0, inside z.1)) es))) []
-      step true r = refl
-      step false r = r
-
-  numbers_set : (es : List (ℕ × X)) (at n : ℕ) (x : X) (d : ℕ × X) → at < length es → (get_or es at d).0 ≡ n → map (λ (e : ℕ × X). e.0) (slice_set es at (n, x)) ≡ map (λ (e : ℕ × X). e.0) es
-  numbers_set [] at n x d lt e = absurd (omega arith)
-  numbers_set (y ∷ es) zero n x d lt e = ap (λ (k : ℕ). k ∷ map (λ (z : ℕ × X). z.0) es) (sym e)
-  numbers_set (y ∷ es) (suc at) n x d lt e = ap (λ (l : List ℕ). y.0 ∷ l) (numbers_set es at n x d (omega arith) e)
-
-  -- an entry is taken out
-  pub one_taken : (es : List (ℕ × X)) (at n k : ℕ) (x : X) (d : ℕ × X) → at < length es → (get_or es at d).0 ≡ n → k ≡ n → AreTaken inside (n ∷ []) es (slice_set es at (k, x))
-  one_taken es at n k x d lt e same = subst (λ (j : ℕ). AreTaken inside (n ∷ []) es (slice_set es at (j, x))) (sym same) (record {
-    others = λ m none. look_set es at n m x d lt e (λ is. none (subst (Contains (n ∷ [])) (sym is) (Contains-first n [])));
-    numbers = numbers_set es at n x d lt e;
-  })
-
-  -- none is
-  pub none_taken : (ns : List ℕ) (es : List (ℕ × X)) → AreTaken inside ns es es
-  none_taken ns es = record { others = λ m none. refl; numbers = refl }
+  pub find_found : (es : List (ℕ × X)) (n at : ℕ) (d : ℕ × X) → EntriesRise es → at < length es → (get_or es at d).0 ≡ n → find nat_cmp n es ≡ Some (get_or es at d).1
+  find_found es n at d h lt e = find_found_in es n at d (Rises-from_rises nat_cmp nat_cmp_total (map (λ (e : ℕ × X). e.0) es) h) lt e
 
 -- what a search among entries answers
 pub entry_searched : {X : Type 0} (es : List (ℕ × X)) (n : ℕ) (r : Result ℕ ℕ) (o : Option ℕ) → o ≡ result_ok r → IsSearchInRange r (length es) → IsBinarySearchResult (λ (e : ℕ × X). nat_cmp e.0 n) es r
@@ -164,51 +132,11 @@ entry_searched {X} es n (Err i) o e bound h =
     subst (λ (p : Option ℕ). MatchOption p (EntriesRise es → Contains (map (λ (e : ℕ × X). e.0) es) n → ⊥) (HasNumberAt es n)) (sym e)
     (λ rise. key_not_among (λ (e : ℕ × X). e.0) es n (key_missed (λ (e : ℕ × X). e.0) es n i (h (keys_searched (λ (e : ℕ × X). e.0) es n rise))))
 
--- ---- several taken out, one after the other
-
-Contains-append_none : (ns : List ℕ) (k m : ℕ) → (Contains (ns ++ k ∷ []) m → ⊥) → (Contains ns m → ⊥) × (Contains (k ∷ []) m → ⊥)
-Contains-append_none ns k m h = ((λ c. h (Contains-append_left ns (k ∷ []) m c)), (λ c. h (Contains-append_right ns (k ∷ []) m c)))
-
--- one more
-pub taken_more : {X Y : Type 0} (inside : X → List Y) (ns : List ℕ) (k : ℕ) (a b c : List (ℕ × X)) → AreTaken inside ns a b → AreTaken inside (k ∷ []) b c → AreTaken inside (ns ++ k ∷ []) a c
-taken_more inside ns k a b c h g = record {
-  others = λ m none. let apart = Contains-append_none ns k m none in g.others m apart.1 ∙ h.others m apart.0;
-  numbers = g.numbers ∙ h.numbers;
-}
-
--- a number of a rising list is not among those before it
-pub not_before : {T : Type 0} (key : T → ℕ) (xs : List T) (i : ℕ) (d : T) → NumbersRise (map key xs) → i < length xs → Contains (map key (take i xs)) (key (get_or xs i d)) → ⊥
-not_before key xs i d h lt = key_not_among key (take i xs) (key (get_or xs i d)) (λ k e less same.
-    let few : length (take i xs) ≤ i = omega (arith, length-take i xs) in
-    let ki : k < i = omega (arith, few, less) in
-    let here : get_or (take i xs) k e ≡ get_or xs k e = get_or-take i xs k e ki in
-    let c = keys_less key xs k i e h ki lt in
-    let there : get_or xs i e ≡ get_or xs i d = get_or_default xs i e d lt in
-    omega (arith, c, ap key (sym here), same, ap key there))
+-- ---- lists, member by member
 
 -- what stood in the front, and the next
 pub front_more : {T Z : Type 0} (f : T → Z) (xs : List T) (i : ℕ) (x : T) → i < length xs → ((d : T) → get_or xs i d ≡ x) → map f (take (i + 1) xs) ≡ map f (take i xs) ++ f x ∷ []
 front_more f xs i x lt is = ap (map f) (take_more xs i x lt ∙ ap (λ (y : _). take i xs ++ y ∷ []) (is x)) ∙ map-append f (take i xs) (x ∷ [])
-
--- the same entries
-pub found : {X : Type 0} {es fs : List (ℕ × X)} {n at : ℕ} → es ≡ fs → HasNumberAt es n at → HasNumberAt fs n at
-found {X} {es} {fs} {n} {at} e h = subst (λ (l : List (ℕ × X)). HasNumberAt l n at) e h
-
-pub missed : {X : Type 0} {es fs : List (ℕ × X)} {n : ℕ} → es ≡ fs → (EntriesRise es → Contains (map (λ (e : ℕ × X). e.0) es) n → ⊥) → EntriesRise fs → Contains (map (λ (e : ℕ × X). e.0) fs) n → ⊥
-missed {X} {es} {fs} {n} e h = subst (λ (l : List (ℕ × X)). EntriesRise l → Contains (map (λ (x : ℕ × X). x.0) l) n → ⊥) e h
-
--- what is left has what was there for the next number
-pub next_there : {T X Y : Type 0} (key : T → ℕ) (inside : X → List Y) (xs : List T) (i : ℕ) (d : T) (old now : List (ℕ × X)) (found : List Y) → i < length xs → NumbersRise (map key xs) → EntriesRise old → AreTaken inside (map key (take i xs)) old now
-    → (EntriesRise now → found ≡ looked_up inside now (key (get_or xs i d))) → found ≡ looked_up inside old (key (get_or xs i d))
-next_there key inside xs i d old now found lt up rise h is =
-    is (subst NumbersRise (sym h.numbers) rise) ∙ h.others (key (get_or xs i d)) (not_before key xs i d up lt)
-
--- the next was taken
-pub next_taken : {T X Y : Type 0} (key : T → ℕ) (inside : X → List Y) (xs : List T) (i : ℕ) (d : T) (old now new : List (ℕ × X)) → i < length xs → AreTaken inside (map key (take i xs)) old now → AreTaken inside (key (get_or xs i d) ∷ []) now new
-    → AreTaken inside (map key (take (i + 1) xs)) old new
-next_taken {T} {X} key inside xs i d old now new lt h g =
-    subst (λ (ns : List ℕ). AreTaken inside ns old new) (sym (front_more key xs i (get_or xs i d) lt (λ e. get_or_default xs i e d lt)))
-    (taken_more inside (map key (take i xs)) (key (get_or xs i d)) old now new h g)
 
 zip_next : {A B C : Type 0} (f : A → B → C) (xs : List A) (ys : List B) (i : ℕ) (x : A) (y : B) → i < length xs → i < length ys → ((d : A) → get_or xs i d ≡ x) → ((d : B) → get_or ys i d ≡ y)
     → zip_with f (take (suc i) xs) (take (suc i) ys) ≡ zip_with f (take i xs) (take i ys) ++ f x y ∷ []

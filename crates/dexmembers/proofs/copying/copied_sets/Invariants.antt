@@ -1,6 +1,0 @@
-use Rattle.std.proofs.Common.{◌≡◌, take, map}
-use Rattle.dexval.specs.Code.{set_of}
-use Rattle.dexmembers.proofs.copying.copied_sets.Given as goal
-
-abbrev pub invariant-loop-set : goal.invariant-loop-set
-invariant-loop-set l = map set_of l.copy.items ≡ map set_of (take l.set-index l.sets.items)

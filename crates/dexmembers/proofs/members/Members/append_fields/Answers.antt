@@ -1,0 +1,13 @@
+use Rattle.std.specs.Prelude.{⊤}
+use Rattle.std.proofs.Common.{map, subst, ap, ◌∙◌}
+use Rattle.dexval.specs.Appending.{Appends}
+use Rattle.dexmembers.specs.DirectoryPut.{both_bytes, field_numbers}
+use Rattle.dexmembers.proofs.HeldMembers.{field_numbers_held}
+use Rattle.dexmembers.proofs.members.Members.append_fields.Goals as goal
+
+pub returns : goal.returns
+returns c =
+    let x = c.self.inside.contents in
+    let first = ap (map (λ f. f.number)) c.deref.ensures.value ∙ field_numbers_held x.table.sets x.static_fields.items ∙ ap (λ y. field_numbers y.static_fields) c.self.view_is in
+    let second = ap (map (λ f. f.number)) c.deref-2.ensures.value ∙ field_numbers_held x.table.sets x.instance_fields.items ∙ ap (λ y. field_numbers y.instance_fields) c.self.view_is in
+    subst (λ item. Appends ⊤ item c.args.out.now c.append_pairs.new.out c.append_pairs.result) (λ i. both_bytes (first i) (second i) c.args.offsets.now) c.append_pairs.ensures

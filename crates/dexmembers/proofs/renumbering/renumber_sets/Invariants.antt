@@ -1,7 +1,0 @@
-use Rattle.dexval.specs.Code.{set_of}
-use Rattle.dexval.specs.Renumbering.{renumbered_set}
-use Rattle.dexval.proofs.Renumbered.{AreLed}
-use Rattle.dexmembers.proofs.renumbering.renumber_sets.Given as goal
-
-abbrev pub invariant-loop-i : goal.invariant-loop-i
-invariant-loop-i l = AreLed set_of (renumbered_set l.remap) l.i l.initial.sets.items l.sets.items

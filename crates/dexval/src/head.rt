@@ -13,22 +13,22 @@ use dexpool::{Remap, SymbolKind};
 /// What a value is, apart from the values that it holds. A number of a symbol is the one that it leads to.
 #[derive(Drop, PartialEq, Eq)]
 pub(crate) enum Head {
+    Null,
+    Boolean(bool),
     Byte(i8),
-    Short(i16),
     Char(u16),
+    Short(i16),
     Int(i32),
-    Long(i64),
     Float(u32),
+    Long(i64),
     Double(u64),
     String(usize),
     Typ(usize),
     Field(usize),
-    Method(usize),
     Enum(usize),
+    Method(usize),
     Array,
     Annotation(usize),
-    Null,
-    Boolean(bool),
 }
 
 impl Head {

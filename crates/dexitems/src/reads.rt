@@ -18,7 +18,7 @@ use crate::shown::print_item;
 use dexcases::{CaseFault, Outcome, Printed};
 use dexinsn::{Pieces, put_pieces, read_pieces};
 use dexpool::{ItemFault, Numbering, Remap};
-use dexval::read_directory_within;
+use dexval::read_shared_directory_within;
 use std::alloc::{AllocError, Global};
 
 /// Runs a line.
@@ -268,7 +268,7 @@ fn is_directory_within(
     off: u32,
     most: u64,
 ) -> Result<bool, ItemFault> {
-    let found = read_directory_within(alloc, &file.frame, &file.pools, off, most)?;
+    let found = read_shared_directory_within(alloc, &file.frame, &file.pools, off, most)?;
     Ok(found.is_some())
 }
 

@@ -479,25 +479,3 @@ pub fn read_shared_directory_within(
     let (directory, weight) = directory_at(alloc, frame, pools, off, most)?;
     Ok((weight <= most).then_some(directory))
 }
-
-/// Reads the annotations_directory_item at an offset, as [`read_shared_directory_within`] does. Each place that names a set
-/// has it anew.
-///
-/// Error: as of [`read_directory`].
-///
-/// Source: "annotations_directory_item" and "annotation_set_ref_list".
-pub fn read_directory_within(
-    alloc: Global,
-    frame: &Frame<'_>,
-    pools: &Pools<'_>,
-    off: u32,
-    most: u64,
-) -> Result<Option<Directory>, ItemFault>
-    ensures directory { ArePools frame.now pools.now → IfOk result (λ found. MatchOption found (HasHeavyDirectory frame.now off most) (λ directory. IsDirectoryWithin frame.now off pools.now most (directory_of directory))) }
-    ensures refused { ArePools frame.now pools.now → IfErr result (IsDirectoryFault frame.now off) }
-{
-    match read_shared_directory_within(alloc, frame, pools, off, most)? {
-        Some(directory) => Ok(Some(directory.unshared()?)),
-        None => Ok(None),
-    }
-}

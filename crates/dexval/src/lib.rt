@@ -9,9 +9,7 @@
 pub use annotation::{Annotation, Visibility};
 pub use copying::copied_values;
 pub use directory::{Directory, MemberCounts, SharedDirectory};
-pub use directory_reading::{
-    member_counts, read_directory, read_directory_within, read_shared_directory_within,
-};
+pub use directory_reading::{member_counts, read_directory, read_shared_directory_within};
 pub use equality::set_equality_law;
 pub use fitting::values_fit;
 pub use laws::{

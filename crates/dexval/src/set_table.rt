@@ -106,13 +106,6 @@ impl SetTable {
         }
     }
 
-    /// All sets. No memory is taken.
-    pub fn sets(&self) -> &[AnnotationSet]
-        ensures { map set_of result.now ≡ self.now.sets }
-    {
-        &self.sets
-    }
-
     /// The places of the sets of the list at a place, none where there is no place. No memory is taken.
     ///
     /// Condition: the place is one of the lists'.
@@ -130,7 +123,7 @@ impl SetTable {
     /// What the set at a place weighs, or 2^64 - 1 where that is more. No memory is taken.
     ///
     /// Condition: the place is one of the sets'.
-    pub fn set_weight(&self, place: Option<u32>) -> u64
+    pub(crate) fn set_weight(&self, place: Option<u32>) -> u64
         requires { IsPlaceIn self.now.sets place }
         ensures { (m : Mentions) → result ≡ min (2 ^ 64 - 1) (set_weight_in m (set_at self.now.sets place)) }
     {
@@ -144,7 +137,7 @@ impl SetTable {
     /// memory is taken.
     ///
     /// Condition: the place is one of the lists'.
-    pub fn list_weight(&self, place: Option<u32>) -> u64
+    pub(crate) fn list_weight(&self, place: Option<u32>) -> u64
         requires { IsPlaceIn self.now.lists place }
         ensures { (m : Mentions) → result ≡ min (2 ^ 64 - 1) (sets_weight_in m (sets_at self.now place)) }
     {

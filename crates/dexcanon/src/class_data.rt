@@ -2,12 +2,11 @@
 //!
 //! Source: the heading "class_data_item" of the Android page "Dalvik Executable format".
 
-ghost use Rattle.std.specs.Prelude.{◌≡◌, false, length};
+ghost use Rattle.std.specs.Prelude.{◌≡◌, false};
 ghost use Rattle.dexspec.specs.Mentions.{Mentions};
 ghost use Rattle.dexspec.specs.Placing.{is_empty_class, section_bytes};
 ghost use Rattle.dexspec.specs.Canonical.{class_data_section};
 ghost use Rattle.dexspec.specs.Spellings.{class_data_bytes};
-ghost use Rattle.dexmembers.specs.Numbered.{methods_of};
 ghost use Rattle.dexclass.specs.Numbered.{definition_of};
 ghost use Rattle.dexcanon.specs.ClassItems.{IsFitClass};
 ghost use Rattle.dexcanon.specs.Ready.{CanBeMade, ordered_in};
@@ -18,7 +17,6 @@ use crate::faults::StoreFault;
 use crate::items::Item;
 use crate::taking::{Takes, pass};
 use dexclass::Class;
-use dexmembers::Members;
 use dexpool::{Numbering, number_law};
 use std::alloc::AllocError;
 
@@ -47,14 +45,6 @@ impl Item for ClassData<'_, '_, '_> {
     }
 }
 
-/// The number of the methods that a class declares.
-pub(crate) fn method_count(members: &Members<'_>) -> usize
-    ensures { result ≡ length (methods_of members.now) }
-{
-    members.are_few();
-    members.direct_methods().len() + members.virtual_methods().len()
-}
-
 // Whether a class declares neither fields nor methods.
 fn is_bare(class: &Class<'_>) -> bool
     ensures { (m : Mentions) → result ≡ is_empty_class (definition_of m class.now).1 }
@@ -79,7 +69,7 @@ pub(crate) fn put_class_data<S, M: Takes<S>>(
     let numbering = contents.numbering;
     let mut rest = contents.layout.codes().offsets();
     for class in contents.classes {
-        let (own, others) = rest.split_at(method_count(class.members()));
+        let (own, others) = rest.split_at(class.members().method_count());
         rest = others;
         if is_bare(class) {
             continue;

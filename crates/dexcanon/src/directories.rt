@@ -6,12 +6,10 @@ ghost use Rattle.std.specs.Prelude.{◌≡◌, ◌==◌, ◌&&◌, false, length
 ghost use Rattle.dexspec.specs.Placing.{section_bytes};
 ghost use Rattle.dexspec.specs.Canonical.{directory_section};
 ghost use Rattle.dexmembers.specs.DirectoryPut.{numbered_directory_bytes};
-ghost use Rattle.dexmembers.specs.Numbered.{fields_of};
 ghost use Rattle.dexcanon.specs.Directories.{HaveOffsets};
 ghost use Rattle.dexcanon.specs.Ready.{CanBeMade, ordered_in};
 ghost use Rattle.dexcanon.specs.Taking.{Outcome};
 
-use crate::class_data::method_count;
 use crate::contents::Contents;
 use crate::faults::StoreFault;
 use crate::items::Item;
@@ -64,14 +62,6 @@ impl DirectoryItem<'_, '_> {
     }
 }
 
-// The number of the fields that a class declares.
-fn field_count(members: &Members<'_>) -> usize
-    ensures { result ≡ length (fields_of members.now) }
-{
-    members.are_few();
-    members.static_fields().len() + members.instance_fields().len()
-}
-
 /// The directories of the classes.
 pub(crate) fn put_directories<S, M: Takes<S>>(
     contents: &Contents<'_, '_, '_, '_>,
@@ -93,8 +83,8 @@ pub(crate) fn put_directories<S, M: Takes<S>>(
     let mut at = places.end();
     for i in 0..classes.len() {
         let members = classes[i].members();
-        let count = method_count(members);
-        let (field_offs, other_fields) = fields.split_at(field_count(members));
+        let count = members.method_count();
+        let (field_offs, other_fields) = fields.split_at(members.field_count());
         let (method_offs, other_methods) = methods.split_at(count);
         let (list_offs, other_lists) = lists.split_at(count);
         fields = other_fields;

@@ -3,14 +3,13 @@
 ghost use Rattle.std.specs.Prelude.{◌≡◌, ◌+◌, ◌^◌, ◌≤◌, IfOk, OnOk, length};
 ghost use Rattle.dexspec.specs.Mentions.{Mentions};
 ghost use Rattle.dexspec.specs.Canonical.{class_data_end, class_data_offsets, class_data_section, code_end, code_offsets};
-ghost use Rattle.dexmembers.specs.Numbered.{fields_of, methods_of};
+ghost use Rattle.dexmembers.specs.Numbered.{methods_of};
 ghost use Rattle.dexlayout.specs.Laid.{AreWritable, StandSo, ordered_of};
 ghost use Rattle.dexlayout.specs.Running.{place_use};
 ghost use Rattle.dexlayout.specs.Sizes.{class_data_size};
 
 use crate::offsets::Offsets;
 use dexclass::Class;
-use dexmembers::Members;
 use std::alloc::{AllocError, Global};
 
 /// Where the class data of each class stand, behind the code, of which they have the offsets.
@@ -30,27 +29,11 @@ pub(crate) fn place_class_data(
     let mut rest = code_offs;
     let mut places = Offsets::starting_at(alloc, from, classes.len())?;
     for class in classes {
-        let (offs, others) = rest.split_at(method_count(class.members()));
+        let (offs, others) = rest.split_at(class.members().method_count());
         place_item(class, offs, &mut places)?;
         rest = others;
     }
     Ok(places)
-}
-
-/// How many methods a class declares.
-pub(crate) fn method_count(members: &Members<'_>) -> usize
-    ensures { result ≡ length (methods_of members.now) }
-{
-    members.are_few();
-    members.direct_methods().len() + members.virtual_methods().len()
-}
-
-/// How many fields a class declares.
-pub(crate) fn field_count(members: &Members<'_>) -> usize
-    ensures { result ≡ length (fields_of members.now) }
-{
-    members.are_few();
-    members.static_fields().len() + members.instance_fields().len()
 }
 
 // The data of one class behind the others.
@@ -60,7 +43,7 @@ fn place_item(class: &Class<'_>, code_offs: &[u32], places: &mut Offsets) -> Res
     ensures { OnOk result (places.new ≡ place_use 1 places.old (class_data_size class.now code_offs.now)) }
 {
     let members = class.members();
-    if field_count(members) == 0 && method_count(members) == 0 {
+    if members.field_count() == 0 && members.method_count() == 0 {
         places.pass()?;
         return Ok(());
     }

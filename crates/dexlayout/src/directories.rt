@@ -7,7 +7,6 @@ ghost use Rattle.dexlayout.specs.Directories.{entry_count, directory_size};
 ghost use Rattle.dexlayout.specs.Laid.{AreWritable, AreSets, StandSo, ordered_of};
 ghost use Rattle.dexlayout.specs.Running.{place_use};
 
-use crate::class_data::{field_count, method_count};
 use crate::offsets::{Offsets, round_up};
 use crate::sets::Sets;
 use dexclass::Class;
@@ -67,8 +66,8 @@ pub(crate) fn place_directories(
     let mut places = Offsets::starting_at(alloc, from, classes.len())?;
     for i in 0..classes.len() {
         let members = classes[i].members();
-        let count = method_count(members);
-        let (field_offs, fields_left) = fields.split_at(field_count(members));
+        let count = members.method_count();
+        let (field_offs, fields_left) = fields.split_at(members.field_count());
         let (method_offs, methods_left) = methods.split_at(count);
         let (list_offs, lists_left) = lists.split_at(count);
         place_directory(

@@ -9,7 +9,6 @@ ghost use Rattle.dexlayout.specs.Laid.{AreWritable, AreAnnotations, AreSets, ord
 ghost use Rattle.dexlayout.specs.Running.{none_from, place_uses};
 
 use crate::annotations::Annotations;
-use crate::class_data::field_count;
 use crate::offsets::{Offsets, round_up};
 use crate::sharing::place_shared;
 use dexclass::Class;
@@ -150,7 +149,7 @@ impl Sets {
     {
         let members = class.members();
         let (_, rest) = offs.split_at(1);
-        let (fields, rest) = rest.split_at(field_count(members));
+        let (fields, rest) = rest.split_at(members.field_count());
         self.gather_own(offs[0], fields)?;
         let rest = self.gather_methods(&members.direct_methods(), rest)?;
         self.gather_methods(&members.virtual_methods(), rest)

@@ -1,9 +1,9 @@
 //! What a class declares, with numbers in the place of symbols.
 
-ghost use Rattle.std.specs.Prelude.{◌≡◌, [], MatchOption, map};
+ghost use Rattle.std.specs.Prelude.{◌≡◌, [], MatchOption, length, map};
 ghost use Rattle.dexval.specs.Code.{set_of, value_of};
 ghost use Rattle.dexval.specs.Numbered.{values_of_list};
-ghost use Rattle.dexmembers.specs.Numbered.{no_members, AreFew};
+ghost use Rattle.dexmembers.specs.Numbered.{no_members, fields_of, methods_of, AreFew};
 ghost use Rattle.dexmembers.specs.Contents.{contents_in, AreHeld};
 
 use crate::field_views::Fields;
@@ -171,6 +171,26 @@ impl<'a> Members<'a> {
         ensures { AreFew self.now.static_fields self.now.instance_fields self.now.direct_methods self.now.virtual_methods }
     {
         let _fields = &self.contents.static_fields;
+    }
+
+    /// How many fields the class declares. No memory is taken.
+    ///
+    /// Source: "class_data_item", the fields `static_fields_size` and `instance_fields_size`.
+    pub fn field_count(&self) -> usize
+        ensures { result ≡ length (fields_of self.now) }
+    {
+        self.are_few();
+        self.static_fields().len() + self.instance_fields().len()
+    }
+
+    /// How many methods the class declares. No memory is taken.
+    ///
+    /// Source: "class_data_item", the fields `direct_methods_size` and `virtual_methods_size`.
+    pub fn method_count(&self) -> usize
+        ensures { result ≡ length (methods_of self.now) }
+    {
+        self.are_few();
+        self.direct_methods().len() + self.virtual_methods().len()
     }
 
     /// The annotations of the class itself; `None` says that it has none. No memory is taken.

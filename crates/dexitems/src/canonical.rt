@@ -17,7 +17,7 @@ use crate::offsets::{
 use crate::puts::Put;
 use dexcases::{CaseFault, Outcome};
 use dexhead::Table;
-use dexmembers::Members;
+use dexmembers::{Fields, Members, Methods};
 use std::alloc::{AllocError, Global};
 
 // How many items are put as they stand in the file, and why the first that is not so fails the line.
@@ -181,6 +181,7 @@ fn class_data_stands(
     members: &Members<'_>,
     code_offs: &[u32],
 ) -> Result<(), CaseFault> {
+    members.are_few();
     if code_offs.len() != members.direct_methods().len() + members.virtual_methods().len() {
         return Err(CaseFault::Form);
     }
@@ -219,27 +220,35 @@ fn member_offs(
     directory_offs(alloc, bytes, off, &fields, &methods)
 }
 
+// Appends the number of each field.
+fn push_fields(fields: &Fields<'_>, numbers: &mut Vec<u32>) -> Result<(), AllocError> {
+    for i in 0..fields.len() {
+        numbers.push(fields.get(i).number())?;
+    }
+    Ok(())
+}
+
+// Appends the number of each method.
+fn push_methods(methods: &Methods<'_, '_>, numbers: &mut Vec<u32>) -> Result<(), AllocError> {
+    for i in 0..methods.len() {
+        numbers.push(methods.get(i).number())?;
+    }
+    Ok(())
+}
+
 // The number of each field, the static ones first.
 fn field_numbers(alloc: Global, members: &Members<'_>) -> Result<Vec<u32>, AllocError> {
     let mut numbers = Vec::new(alloc);
-    for field in members.static_fields() {
-        numbers.push(field.number())?;
-    }
-    for field in members.instance_fields() {
-        numbers.push(field.number())?;
-    }
+    push_fields(&members.static_fields(), &mut numbers)?;
+    push_fields(&members.instance_fields(), &mut numbers)?;
     Ok(numbers)
 }
 
 // The number of each method, the direct ones first.
 fn method_numbers(alloc: Global, members: &Members<'_>) -> Result<Vec<u32>, AllocError> {
     let mut numbers = Vec::new(alloc);
-    for method in members.direct_methods() {
-        numbers.push(method.number())?;
-    }
-    for method in members.virtual_methods() {
-        numbers.push(method.number())?;
-    }
+    push_methods(&members.direct_methods(), &mut numbers)?;
+    push_methods(&members.virtual_methods(), &mut numbers)?;
     Ok(numbers)
 }
 
@@ -262,6 +271,7 @@ fn put_counted(
     offs: &DirectoryOffs,
     out: &mut Vec<u8>,
 ) -> Result<(), CaseFault> {
+    members.are_few();
     let fields = members.static_fields().len() + members.instance_fields().len();
     let methods = members.direct_methods().len() + members.virtual_methods().len();
     if offs.fields.len() != fields {

@@ -3,7 +3,7 @@
 use crate::shown::code::print_lines;
 use crate::shown::symbols::{Naming, print_field, print_method};
 use dexcases::Printed;
-use dexmembers::{Field, Members, Method};
+use dexmembers::{Fields, Members, Method, Methods};
 use dexpool::Numbering;
 
 // The access flags that fields and methods have, from the lowest bit. Two bits have other names for methods.
@@ -47,12 +47,13 @@ fn print_flags(flags: u32, is_method: bool, out: &mut Printed) {
 fn print_fields(
     are_first: bool,
     kind: &str,
-    fields: &[Field],
+    fields: &Fields<'_>,
     numbering: &Numbering<'_>,
     out: &mut Printed,
 ) {
     let mut mark = if are_first { "" } else { " / " };
-    for field in fields {
+    for i in 0..fields.len() {
+        let field = fields.get(i);
         out.add(mark);
         out.add(kind);
         print_field(Naming::Alone, numbering, field.number() as usize, out);
@@ -62,7 +63,7 @@ fn print_fields(
 }
 
 // Prints a method with the lines of its code.
-fn print_coded(method: &Method<'_>, numbering: &Numbering<'_>, out: &mut Printed) {
+fn print_coded(method: &Method<'_, '_>, numbering: &Numbering<'_>, out: &mut Printed) {
     print_method(Naming::Alone, numbering, method.number() as usize, out);
     print_flags(method.flags().bits(), true, out);
     if let Some(code) = method.code() {
@@ -75,15 +76,15 @@ fn print_coded(method: &Method<'_>, numbering: &Numbering<'_>, out: &mut Printed
 fn print_methods(
     are_first: bool,
     kind: &str,
-    methods: &[Method<'_>],
+    methods: &Methods<'_, '_>,
     numbering: &Numbering<'_>,
     out: &mut Printed,
 ) {
     let mut mark = if are_first { "" } else { " / " };
-    for method in methods {
+    for i in 0..methods.len() {
         out.add(mark);
         out.add(kind);
-        print_coded(method, numbering, out);
+        print_coded(&methods.get(i), numbering, out);
         mark = " / ";
     }
 }
@@ -91,16 +92,16 @@ fn print_methods(
 /// Prints the lines of members, or `-` for none.
 pub fn print_members(members: &Members<'_>, names: &Numbering<'_>, out: &mut Printed) {
     let fields = members.static_fields();
-    print_fields(true, "static-field ", fields, names, out);
+    print_fields(true, "static-field ", &fields, names, out);
     let are_first = fields.is_empty();
     let fields = members.instance_fields();
-    print_fields(are_first, "instance-field ", fields, names, out);
+    print_fields(are_first, "instance-field ", &fields, names, out);
     let are_first = are_first && fields.is_empty();
     let methods = members.direct_methods();
-    print_methods(are_first, "direct-method ", methods, names, out);
+    print_methods(are_first, "direct-method ", &methods, names, out);
     let are_first = are_first && methods.is_empty();
     let methods = members.virtual_methods();
-    print_methods(are_first, "virtual-method ", methods, names, out);
+    print_methods(are_first, "virtual-method ", &methods, names, out);
     if are_first && methods.is_empty() {
         out.add("-");
     }

@@ -9,7 +9,7 @@ pub mod Fitted
 pub mod Growing
 pub mod Hashed
 pub mod Heads
-mod Images
+pub mod Images
 pub mod Joining
 pub mod JudgedSets
 pub mod Keeping

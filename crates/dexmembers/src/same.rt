@@ -110,13 +110,8 @@ impl Field<'_> {
     fn same_mapped(&self, mine: &Remap, other: &Field<'_>, theirs: &Remap) -> bool
         ensures { IsTrue result ↔ (renumbered_field mine.now self.now ≡ renumbered_field theirs.now other.now) }
     {
-        if !ends_alike(
-            SymbolKind::Field,
-            mine,
-            self.number(),
-            theirs,
-            other.number(),
-        ) {
+        let number = other.number();
+        if !ends_alike(SymbolKind::Field, mine, self.number(), theirs, number) {
             return false;
         }
         if self.flags() != other.flags() {
@@ -131,13 +126,8 @@ impl Method<'_, '_> {
     fn same_mapped(&self, mine: &Remap, other: &Method<'_, '_>, theirs: &Remap) -> bool
         ensures { IsTrue result ↔ (renumbered_method mine.now self.now ≡ renumbered_method theirs.now other.now) }
     {
-        if !ends_alike(
-            SymbolKind::Method,
-            mine,
-            self.number(),
-            theirs,
-            other.number(),
-        ) {
+        let number = other.number();
+        if !ends_alike(SymbolKind::Method, mine, self.number(), theirs, number) {
             return false;
         }
         if self.flags() != other.flags() {

@@ -22,11 +22,11 @@ pub struct Remap {
 impl Drop for Remap {
     fn drop(self) {
         let Remap {
-            strings: _,
-            types: _,
-            protos: _,
-            fields: _,
             methods: _,
+            fields: _,
+            protos: _,
+            types: _,
+            strings: _,
         } = self;
     }
 }

@@ -1,23 +1,11 @@
 //! What classes declare, with its numbers led to those of another numbering.
 
 ghost use Rattle.std.specs.Prelude.{◌≡◌, All, map};
-ghost use Rattle.dexval.specs.Renumbering.{led, LeadsOn};
 ghost use Rattle.dexmembers.specs.Renumbering.{led_field, led_method, renumbered_members, HeldFieldLeads, HeldMethodLeads, MembersHavePlaces};
 
 use crate::members::{DeclaredField, DeclaredMethod, Members};
 use dexpool::{Remap, SymbolKind};
-use dexval::renumber_values;
-
-// The number that a number leads to.
-fn led(remap: &Remap, kind: SymbolKind, number: u32) -> u32
-    requires { LeadsOn remap.now kind number }
-    ensures { result ≡ led remap.now kind number }
-{
-    match remap.image(kind, number as usize) {
-        Some(image) => image as u32,
-        None => number,
-    }
-}
+use dexval::{led, renumber_values};
 
 // Puts for the number of each field the one that it leads to.
 fn renumber_fields(fields: &mut Vec<DeclaredField>, remap: &Remap)

@@ -73,10 +73,10 @@ named_by es i h = (h.0, subst (λ (p : ℕ). Contains es (h.0, p)) (one_place h.
 none_in : {X : Type 0} (xs : List X) (i : ℕ) → xs ≡ [] → i < length xs → ⊥
 none_in xs i e lt = let n : length xs ≡ 0 = ap length e in omega (arith, n, lt)
 
-module _ (old first second third new : Judged) (own : Option ℕ) (fields methods parameters : List (ℕ × ℕ)) {W1 W2 W3 W4 : Type 0} (of_own : IsNoted (λ i. own ≡ Some i) (λ i. ⊥) (IsPlaceIn first.table.sets own) W1 old first)
-    (of_fields : IsNoted (IsNamedOf (λ place i. place ≡ Some i) fields) (IsNamedOf (λ place i. ⊥) fields) (All (λ e. IsPlaceIn second.table.sets (Some e.1)) fields) W2 first second)
-    (of_methods : IsNoted (IsNamedOf (λ place i. place ≡ Some i) methods) (IsNamedOf (λ place i. ⊥) methods) (All (λ e. IsPlaceIn third.table.sets (Some e.1)) methods) W3 second third)
-    (of_parameters : IsNoted (IsNamedOf (λ place i. IsListed new.table i) parameters) (IsNamedOf (λ place i. place ≡ Some i) parameters) (All (λ e. IsPlaceIn new.table.lists (Some e.1)) parameters) W4 third new) where
+module _ (old first second third new : Judged) (own : Option ℕ) (fields methods parameters : List (ℕ × ℕ)) {OwnKept FieldsKept MethodsKept ParametersKept : Type 0} (of_own : IsNoted (λ i. own ≡ Some i) (λ i. ⊥) (IsPlaceIn first.table.sets own) OwnKept old first)
+    (of_fields : IsNoted (IsNamedOf (λ place i. place ≡ Some i) fields) (IsNamedOf (λ place i. ⊥) fields) (All (λ e. IsPlaceIn second.table.sets (Some e.1)) fields) FieldsKept first second)
+    (of_methods : IsNoted (IsNamedOf (λ place i. place ≡ Some i) methods) (IsNamedOf (λ place i. ⊥) methods) (All (λ e. IsPlaceIn third.table.sets (Some e.1)) methods) MethodsKept second third)
+    (of_parameters : IsNoted (IsNamedOf (λ place i. IsListed new.table i) parameters) (IsNamedOf (λ place i. place ≡ Some i) parameters) (All (λ e. IsPlaceIn new.table.lists (Some e.1)) parameters) ParametersKept third new) where
   from_second : Extends second.table new.table
   from_second = extends_then second.table third.table new.table of_methods.extended of_parameters.extended
 
@@ -91,12 +91,12 @@ module _ (old first second third new : Judged) (own : Option ℕ) (fields method
     parameters_held = of_parameters.held;
   }
 
-  pub directory_named : old.table.sets ≡ [] → old.table.lists ≡ [] → W1 → W2 → W3 → W4 → NamesAll new.table own fields methods parameters
-  directory_named sets lists w1 w2 w3 w4 = record {
-    sets_named = λ i lt. elim ((of_parameters.named w4).set_named i lt) [
-      | inl in_third ↦ elim ((of_methods.named w3).set_named i in_third) [
-        | inl in_second ↦ elim ((of_fields.named w2).set_named i in_second) [
-          | inl in_first ↦ elim ((of_own.named w1).set_named i in_first) [
+  pub directory_named : old.table.sets ≡ [] → old.table.lists ≡ [] → OwnKept → FieldsKept → MethodsKept → ParametersKept → NamesAll new.table own fields methods parameters
+  directory_named sets lists own_kept fields_kept methods_kept parameters_kept = record {
+    sets_named = λ i lt. elim ((of_parameters.named parameters_kept).set_named i lt) [
+      | inl in_third ↦ elim ((of_methods.named methods_kept).set_named i in_third) [
+        | inl in_second ↦ elim ((of_fields.named fields_kept).set_named i in_second) [
+          | inl in_first ↦ elim ((of_own.named own_kept).set_named i in_first) [
             | inl before ↦ absurd (none_in old.table.sets i sets before)
             | inr is_own ↦ inl is_own
           ]
@@ -106,10 +106,10 @@ module _ (old first second third new : Judged) (own : Option ℕ) (fields method
       ]
       | inr listed ↦ inr (inr (inr listed.3))
     ];
-    lists_named = λ i lt. elim ((of_parameters.named w4).list_named i lt) [
-      | inl in_third ↦ elim ((of_methods.named w3).list_named i in_third) [
-        | inl in_second ↦ elim ((of_fields.named w2).list_named i in_second) [
-          | inl in_first ↦ elim ((of_own.named w1).list_named i in_first) [
+    lists_named = λ i lt. elim ((of_parameters.named parameters_kept).list_named i lt) [
+      | inl in_third ↦ elim ((of_methods.named methods_kept).list_named i in_third) [
+        | inl in_second ↦ elim ((of_fields.named fields_kept).list_named i in_second) [
+          | inl in_first ↦ elim ((of_own.named own_kept).list_named i in_first) [
             | inl before ↦ absurd (none_in old.table.lists i lists before)
             | inr none ↦ absurd none
           ]

@@ -65,6 +65,24 @@ catch_all_length : (o : Option ℕ) → length (flat_map uleb128 (option_to_list
 catch_all_length None = omega arith
 catch_all_length (Some address) = omega (arith, length-append (uleb128 address) [], uleb128-size address)
 
+-- a handler has no more than ten bytes for each catch and ten
+catches_most : (cs : List Catch) → length (flat_map numbered_catch_bytes cs) ≤ 10 * length cs
+catches_most [] = omega arith
+catches_most (c ∷ cs) = omega (arith, length-append (numbered_catch_bytes c) (flat_map numbered_catch_bytes cs), length-append (uleb128 c.typ) (uleb128 c.addr), uleb128-size c.typ, uleb128-size c.addr, catches_most cs)
+
+pub handler_most : (h : NumberedHandler) → length (numbered_handler_bytes h) ≤ 10 + 10 * length h.catches
+handler_most h =
+    let catches = flat_map numbered_catch_bytes h.catches in
+    let all = flat_map uleb128 (option_to_list h.catch_all_addr) in
+    omega (arith, length-append (sleb128 (handler_count h)) (catches ++ all), length-append catches all, sleb128-size (handler_count h), catches_most h.catches, catch_all_length h.catch_all_addr)
+
+handlers_most : (hs : List NumberedHandler) → 10 + length (flat_map numbered_handler_bytes hs) ≤ 2 * handlers_weight hs
+handlers_most [] = omega arith
+handlers_most (h ∷ hs) = omega (arith, length-append (numbered_handler_bytes h) (flat_map numbered_handler_bytes hs), sum_by-cons (λ (h : NumberedHandler). 10 + 8 * length h.catches) h hs, handler_most h, handlers_most hs)
+
+pub list_most : (hs : List NumberedHandler) → length (numbered_list_bytes hs) ≤ 2 * handlers_weight hs
+list_most hs = omega (arith, length-append (uleb128 (length hs)) (flat_map numbered_handler_bytes hs), uleb128-size (length hs), handlers_most hs)
+
 pub handler_length : (h : NumberedHandler) → HasShortTypes h → length (numbered_handler_bytes h) ≤ 10 + 8 * length h.catches
 handler_length h typed =
     let catches = flat_map numbered_catch_bytes h.catches in

@@ -2,7 +2,7 @@
 use Rattle.std.proofs.Common.{◌≡◌, ℕ, ◌+◌, ◌<◌, ◌≤◌, List, [], ◌∷◌, length, take, drop, get_or, length-take, length-drop, Option, Some, None, refl, sym, subst, arith}
 use Rattle.std.specs.List.{AllZip}
 use Rattle.std.proofs.lemmas.List.{get_or_default}
-use Rattle.std.specs.Prelude.{Result, Ok, Err, IfOk, IfErr}
+use Rattle.std.specs.Prelude.{◌-◌, ◌*◌, ◌^◌, Result, Ok, Err, IfOk, MatchOption}
 use Rattle.dexspec.specs.Lists.{Sequence, BothOrNone}
 use Rattle.dexspec.specs.Bytes.{Stands}
 use Rattle.dexspec.specs.Numbers.{Uleb128At, Uleb128p1At, IsChain}
@@ -12,22 +12,18 @@ use Rattle.dexspec.specs.Rows.{StringRow, TypeRow}
 use Rattle.dexspec.specs.Debug as symbolic
 use Rattle.dexspec.specs.Mentions.{Mentions}
 use Rattle.dexpool.specs.declared.faults.ItemFault.{ItemFault}
-use Rattle.dexpool.specs.declared.faults.ItemFault.TheVariants.{Refused, Memory}
 use Rattle.dexpool.specs.Numberings.{IsAt}
 use Rattle.dexpool.specs.Pools.{ArePools}
 use Rattle.dexcode.specs.declared.debug_operation.Operation.{Operation}
 use Rattle.dexcode.specs.declared.debug_operation.Operation.TheVariants.{AdvancePc, AdvanceLine, StartLocal, StartLocalExtended, EndLocal, RestartLocal, SetPrologueEnd, SetEpilogueBegin, SetFile, Special}
-use Rattle.dexcode.specs.declared.debug_reading.Counts.{Counts}
+use Rattle.dexcode.specs.declared.debug_reading.DebugShape.{DebugShape}
+use Rattle.dexcode.proofs.DebugWeights.{weight_is}
 use Rattle.dexcode.specs.Debug.{NumberedDebug, StandsForText, StandsForType, StandsForOperation}
-use Rattle.dexcode.specs.DebugReading.{IsDebugAt, IsDebugFault, IsNoDebug, IndexAt, OperandsAt, NumberedAt, NumberedDebugAt}
+use Rattle.dexcode.specs.DebugReading.{IsDebugAt, IndexAt, OperandsAt, NumberedAt, NamesAt, ProgramAt, NumberedDebugAt, IsShape, IsShapeAt, HasDebugOf, HasNoDebug, counts_of}
 
 -- the number of each symbol is its row
 member_at : {X : Type 0} (xs : List X) (i : ℕ) (d : X) → i < length xs → IsAt xs i (get_or xs i d)
 member_at xs i d lt = record { within = lt; is = λ e. get_or_default xs i e d lt }
-
--- how many texts and types there are
-abbrev pub counts_of : Mentions → Counts
-counts_of m = record { texts = length m.texts; types = length m.types }
 
 module _ (b : List ℕ) (m : Mentions) (pools : ArePools b m) where
   text_named : (o : ℕ) (i : Option ℕ) (n : ℕ) → IndexAt (length m.texts) b o i n → (s : Option Text) × symbolic.OptionalTextAt b o s n × StandsForText m i s
@@ -211,17 +207,42 @@ module _ (b : List ℕ) (m : Mentions) (pools : ArePools b m) where
 
 -- ---- what is answered
 
-pub ok_named : (b : List ℕ) (m : Mentions) → ArePools b m → (off : ℕ) → data_off b ≤ off → (r : Result NumberedDebug ItemFault) → IfOk r (NumberedDebugAt (counts_of m) b off) → IfOk r (IsDebugAt b off m)
+-- the debug program of a shape, and what it weighs
+pub shaped : (b : List ℕ) (m : Mentions) → ArePools b m → (off : ℕ) (s : DebugShape) → IsShapeAt b off m s → HasDebugOf b off m s.weight
+shaped b m pools off s h =
+    let shape = h.shape in
+    let names = shape.names in
+    let operations = shape.operations in
+    let d : NumberedDebug = record { line_start = s.line_start; parameter_names = names.names; operations = operations.operations } in
+    let many = names.names_at.many in
+    let place : off + shape.start_size + shape.count_size + (s.operations_at - s.names_at) ≡ s.operations_at = omega (arith, shape.at_names, names.before) in
+    let weight = weight_is d in record {
+      debug = d;
+      at = debug_named b m pools off d h.in_data (record {
+        start_size = shape.start_size;
+        count_size = shape.count_size;
+        names_size = s.operations_at - s.names_at;
+        at_start = shape.at_start;
+        at_count = subst (λ (k : ℕ). Uleb128At b (off + shape.start_size) k shape.count_size) (sym many) shape.at_count;
+        at_names = subst (λ (k : ℕ). NamesAt (length m.texts) b k (length names.names) names.names (s.operations_at - s.names_at)) shape.at_names (record { many = refl; each = names.names_at.each });
+        program = subst (λ (k : ℕ). ProgramAt (counts_of m) b k operations.operations) (sym place) operations.program;
+      });
+      weighs = omega (arith, weight, many, operations.weight, shape.weight);
+    }
+
+pub ok_shaped : (b : List ℕ) (m : Mentions) → ArePools b m → (off : ℕ) (r : Result DebugShape ItemFault) → IfOk r (IsShapeAt b off m) → IfOk r (λ s. HasDebugOf b off m s.weight)
+ok_shaped b m pools off (Ok s) h = shaped b m pools off s h
+ok_shaped b m pools off (Err f) h = tt
+
+pub ok_named : {E : Type 0} (b : List ℕ) (m : Mentions) → ArePools b m → (off : ℕ) → data_off b ≤ off → (r : Result NumberedDebug E) → IfOk r (NumberedDebugAt (counts_of m) b off) → IfOk r (IsDebugAt b off m)
 ok_named b m pools off in_data (Ok d) h = debug_named b m pools off d in_data h
 ok_named b m pools off in_data (Err f) h = tt
 
-fault_named : (b : List ℕ) (m : Mentions) → ArePools b m → (off : ℕ) (f : ItemFault) → IsNoDebug (counts_of m) b off f → IsDebugFault b off f
-fault_named b m pools off (Refused number) h = (h.0, λ x at. let d = debug_numbered b m pools off x at in h.1 d.0 d.1)
-fault_named b m pools off Memory h = tt
-
-pub err_named : (b : List ℕ) (m : Mentions) → ArePools b m → (off : ℕ) (r : Result NumberedDebug ItemFault) → IfErr r (IsNoDebug (counts_of m) b off) → IfErr r (IsDebugFault b off)
-err_named b m pools off (Ok d) h = tt
-err_named b m pools off (Err f) h = fault_named b m pools off f h
+-- what is told by numbers is told by rows
+pub told : (b : List ℕ) (m : Mentions) (off : ℕ) (r : Option DebugShape) → data_off b ≤ off → off ≤ length b → length b ≤ 2 ^ 30 → MatchOption r ((d : NumberedDebug) → NumberedDebugAt (counts_of m) b off d → ⊥) (IsShape (counts_of m) b off)
+    → MatchOption r (ArePools b m → HasNoDebug b off) (IsShapeAt b off m)
+told b m off (Some s) in_data within small h = record { in_data = in_data; within = within; small = small; shape = h }
+told b m off None in_data within small h = λ pools x at. let d = debug_numbered b m pools off x at in h d.0 d.1
 
 -- behind the bytes nothing stands
 pub nothing_behind : (b : List ℕ) (off : ℕ) (x : symbolic.Debug) → length b < off → symbolic.DebugAt b off x → ⊥

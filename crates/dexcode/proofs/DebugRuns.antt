@@ -1,8 +1,10 @@
 -- Names and operations that are read one after the other.
-use Rattle.std.proofs.Common.{◌≡◌, ℕ, ◌+◌, ◌-◌, ◌^◌, ◌<◌, ◌≤◌, List, [], ◌∷◌, ◌++◌, length, take, get_or, Option, Some, None, refl, ap, sym, subst, arith, length-append}
+use Rattle.std.proofs.Common.{◌≡◌, ℕ, ◌+◌, ◌-◌, ◌*◌, ◌^◌, ◌<◌, ◌≤◌, List, [], ◌∷◌, ◌++◌, length, take, get_or, sum_by, Option, Some, None, refl, ap, sym, subst, ◌∙◌, arith, length-append}
 use Rattle.std.specs.List.{All}
-use Rattle.std.proofs.lemmas.List.{drop_more}
+use Rattle.std.proofs.lemmas.List.{drop_more, append_assoc, append-nil}
+use Rattle.std.proofs.lemmas.List.Sums.{sum_by-append}
 use Rattle.std.proofs.lemmas.List.Elements.{All-nil, All-cons, All-append}
+use Rattle.std.specs.Option.{IsSome}
 use Rattle.dexspec.specs.Lists.{Item, Sequence}
 use Rattle.dexspec.specs.Bytes.{Stands}
 use Rattle.dexspec.proofs.Stands.{stands_at, stands_within, same_first}
@@ -10,10 +12,9 @@ use Rattle.dexcode.specs.declared.debug_operation.Operation.{Operation}
 use Rattle.dexcode.specs.declared.debug_operation.Operation.TheVariants.{AdvancePc, AdvanceLine, StartLocal, StartLocalExtended, EndLocal, RestartLocal, SetPrologueEnd, SetEpilogueBegin, SetFile, Special}
 use Rattle.dexcode.specs.declared.debug_reading.Counts.{Counts}
 use Rattle.dexspec.specs.Numbers.{Uleb128At}
-use Rattle.dexpool.specs.declared.faults.ItemFault.{ItemFault}
-use Rattle.dexpool.specs.declared.faults.ItemFault.TheVariants.{Refused, Memory}
-use Rattle.dexcode.specs.Debug.{NumberedDebug, FitsIndex, IsFormedOperation}
-use Rattle.dexcode.specs.DebugReading.{IndexAt, OperandsAt, NumberedAt, ProgramAt, NamesAt, NumberedDebugAt, AreNames, AreOperations, AreNoNames, IsNoProgram, IsNoDebug}
+use Rattle.dexspec.specs.Weight.{operands}
+use Rattle.dexcode.specs.Debug.{NumberedDebug, FitsIndex, IsFormedOperation, bare_operation, operation_weight}
+use Rattle.dexcode.specs.DebugReading.{IndexAt, OperandsAt, NumberedAt, ProgramAt, NamesAt, NumberedDebugAt, EndNames, AreTallied, HaveNames, AreTheNames, HaveOperations, AreTheOperations}
 use Rattle.dexcode.proofs.DebugRead.{some_parts}
 
 -- ---- one more
@@ -90,6 +91,19 @@ goes_on m b o c r here some only (op ∷ ops) p =
       },
     )
 
+-- the opcode of an operation is not that of the end
+pub code_some : (m : Counts) (b : List ℕ) (o : ℕ) (op : Operation) (n c : ℕ) → OperandsAt m c b (o + 1) op n → 0 < c
+code_some m b o (AdvancePc addresses) n c h = omega (arith, h.0)
+code_some m b o (AdvanceLine lines) n c h = omega (arith, h.0)
+code_some m b o (StartLocal register name typ) n c h = omega (arith, h.0)
+code_some m b o (StartLocalExtended register name typ signature) n c h = omega (arith, h.0)
+code_some m b o (EndLocal register) n c h = omega (arith, h.0)
+code_some m b o (RestartLocal register) n c h = omega (arith, h.0)
+code_some m b o SetPrologueEnd n c h = omega (arith, h.0)
+code_some m b o SetEpilogueBegin n c h = omega (arith, h.0)
+code_some m b o (SetFile name) n c h = omega (arith, h.0)
+code_some m b o (Special opcode) n c h = omega (arith, h.0, h.1)
+
 -- an operation stands where its opcode and its operands do
 pub operation_stands : (m : Counts) (b : List ℕ) (o c : ℕ) (op : Operation) (n : ℕ) → Stands b o (c ∷ []) → c ≤ 0xff → OperandsAt m c b (o + 1) op n → NumberedAt m b o op (1 + n)
 operation_stands m b o c op n here byte operands = record { opcode = c; operands_size = n; at_opcode = here; byte = byte; operands = operands; size = refl }
@@ -113,6 +127,11 @@ pub record NamesSoFar (texts : ℕ) (b : List ℕ) (from count counter at : ℕ)
   pub before : Sequence (IndexAt texts) b from names (at - from)
   pub fit : All FitsIndex names
   pub others : (ys : List (Option ℕ)) (n : ℕ) → NamesAt texts b from count ys n → (rest : List (Option ℕ)) × (k : ℕ) × NamesAt texts b at (count - counter) rest k × (from + n ≡ at + k)
+
+-- the same, whatever they are
+pub record NamesChecked (texts : ℕ) (b : List ℕ) (from count counter at : ℕ) : Type 0 where
+  pub names : List (Option ℕ)
+  pub so_far : NamesSoFar texts b from count counter at names
 
 pub no_names_yet : (texts : ℕ) (b : List ℕ) (from count : ℕ) (names : List (Option ℕ)) → from ≤ length b → names ≡ [] → NamesSoFar texts b from count 0 from names
 no_names_yet texts b from count names le e = rw e (record {
@@ -145,9 +164,11 @@ one_name_more texts b from count counter at names more i k h lt le here only e =
           (on.2, on.3, subst (λ (q : ℕ). NamesAt texts b (at + k) q on.2 on.3) fewer (subst (λ (q : ℕ). NamesAt texts b (at + q) (count - counter - 1) on.2 on.3) (sym same) on.5), omega (arith, g.3, on.6, same));
     })
 
-pub all_names : (texts : ℕ) (b : List ℕ) (from count counter at : ℕ) (names : List (Option ℕ)) → NamesSoFar texts b from count counter at names → counter ≡ count → AreNames texts b from count names at
-all_names texts b from count counter at names h e =
+pub all_names : (texts : ℕ) (b : List ℕ) (from count counter at : ℕ) → NamesChecked texts b from count counter at → counter ≡ count → EndNames texts b from count at
+all_names texts b from count counter at checked e =
+    let h = checked.so_far in
     let counted = h.counted in record {
+      names = checked.names;
       before = h.behind;
       within = h.within;
       names_at = record { many = omega (arith, counted, e); each = h.before };
@@ -176,6 +197,15 @@ pub record OperationsSoFar (m : Counts) (b : List ℕ) (from at : ℕ) (ops : Li
   pub before : Sequence (NumberedAt m) b from ops (at - from)
   pub formed : All IsFormedOperation ops
   pub others : (xs : List Operation) → ProgramAt m b from xs → (rest : List Operation) × ProgramAt m b at rest
+
+-- the same, whatever they are: how many, and what they weigh
+pub record OperationsChecked (m : Counts) (b : List ℕ) (from at count weight : ℕ) : Type 0 where
+  pub operations : List Operation
+  pub so_far : OperationsSoFar m b from at operations
+  pub counted : length operations ≡ count
+  pub weighed : sum_by operation_weight operations ≡ weight
+  pub few : count ≤ at
+  pub light : weight ≤ 21 * count
 
 pub no_operations_yet : (m : Counts) (b : List ℕ) (from : ℕ) (ops : List Operation) → from ≤ length b → ops ≡ [] → OperationsSoFar m b from from ops
 no_operations_yet m b from ops le e = rw e (record { behind = omega arith; within = le; few = omega arith; before = omega arith; formed = All-nil IsFormedOperation; others = λ xs p. (xs, p) })
@@ -213,15 +243,149 @@ no_operation m b from at c ops h here some only xs p =
 pub no_end : (m : Counts) (b : List ℕ) (from at : ℕ) (ops : List Operation) → OperationsSoFar m b from at ops → length b ≤ at → (xs : List Operation) → ProgramAt m b from xs → ⊥
 no_end m b from at ops h end xs p = let g = h.others xs p in let within = stands_within g.1.end in omega (arith, within, end)
 
-pub all_operations : (m : Counts) (b : List ℕ) (from at : ℕ) (ops : List Operation) → OperationsSoFar m b from at ops → Stands b at (0x00 ∷ []) → 0 < from → length b ≤ 2 ^ 30 → AreOperations m b from ops
-all_operations m b from at ops h end some small =
+-- an operation more, which weighs so much
+pub one_more_checked : (m : Counts) (b : List ℕ) (from at c count weight : ℕ) (op : Operation) (k n : ℕ) → OperationsChecked m b from at count weight → at + 1 + k ≤ length b → Stands b at (c ∷ []) → 0 < c → c ≤ 0xff → OperandsAt m c b (at + 1) op k
+    → ((x : Operation) (n : ℕ) → OperandsAt m c b (at + 1) x n → ◌≡◌ {A = Option (Operation × ℕ)} (Some (op, k)) (Some (x, n))) → n ≡ operands (bare_operation op) → n < 5 → OperationsChecked m b from (at + (1 + k)) (count + 1) (weight + (1 + 5 * n))
+one_more_checked m b from at c count weight op k n h le here some byte operands_at only is light =
+    let ops = h.operations in
+    let counted = h.counted in
+    let weighed = h.weighed in
+    let few = h.few in
+    let so_far = h.light in record {
+      operations = ops ++ op ∷ [];
+      so_far = one_operation_more m b from at c ops (ops ++ op ∷ []) op k h.so_far le here some byte operands_at only refl;
+      counted = omega (arith, length-append ops (op ∷ []), counted);
+      weighed = omega (arith, sum_by-append operation_weight ops (op ∷ []), weighed, is);
+      few = omega arith;
+      light = omega arith;
+    }
+
+pub all_operations : (m : Counts) (b : List ℕ) (from at count weight : ℕ) → OperationsChecked m b from at count weight → Stands b at (0x00 ∷ []) → 0 < from → length b ≤ 2 ^ 30 → AreTallied m b from (record { operations = count; weight = weight })
+all_operations m b from at count weight checked end some small =
+    let h = checked.so_far in
     let behind = h.behind in
     let within = h.within in
     let few = h.few in record {
+      operations = checked.operations;
       program = record { size = at - from; operations = h.before; end = stands_at (omega arith) end };
       formed = h.formed;
       few = omega arith;
+      count = checked.counted;
+      weight = checked.weighed;
+      light = checked.light;
     }
+
+-- ---- names and operations that are known to stand there
+
+is_some : {A : Type 0} (r : Option A) (x : A) → r ≡ Some x → IsSome r
+is_some r x e = rw e refl
+
+-- names that are built up to a place, and those ahead
+pub record NamesBuilt (texts : ℕ) (b : List ℕ) (from count counter at : ℕ) (names : List (Option ℕ)) : Type 0 where
+  pub rest : List (Option ℕ)
+  pub size : ℕ
+  pub left : counter + length rest ≡ count
+  pub ahead : Sequence (IndexAt texts) b at rest size
+  pub whole : AreTheNames texts b from count (names ++ rest)
+
+pub no_names_built : (texts : ℕ) (b : List ℕ) (from count : ℕ) (names : List (Option ℕ)) → HaveNames texts b from count → names ≡ [] → NamesBuilt texts b from count 0 from names
+no_names_built texts b from count names h e = let at = h.are.names_at in rw e (record { rest = h.names; size = h.are.size; left = omega (arith, at.many); ahead = at.each; whole = h.are })
+
+-- the name that is read is the first ahead
+pub record IsNextName (texts : ℕ) (b : List ℕ) (from count counter at : ℕ) (names : List (Option ℕ)) (r : Option (Option ℕ × ℕ)) : Type 0 where
+  pub some : IsSome r
+  pub built : (x : Option ℕ × ℕ) (more : List (Option ℕ)) → r ≡ Some x → more ≡ names ++ x.0 ∷ [] → NamesBuilt texts b from count (counter + 1) (at + x.1) more
+
+pub next_name : (texts : ℕ) (b : List ℕ) (from count counter at : ℕ) (names : List (Option ℕ)) (r : Option (Option ℕ × ℕ)) → NamesBuilt texts b from count counter at names → counter < count → ((i : Option ℕ) (n : ℕ) → IndexAt texts b at i n → r ≡ Some (i, n))
+    → IsNextName texts b from count counter at names r
+next_name texts b from count counter at names r h lt only = by_rest h.rest h.left h.ahead h.whole
+  where
+    by_rest : (rest : List (Option ℕ)) → counter + length rest ≡ count → Sequence (IndexAt texts) b at rest h.size → AreTheNames texts b from count (names ++ rest) → IsNextName texts b from count counter at names r
+    by_rest [] left each whole = absurd (omega (arith, left))
+    by_rest (i ∷ rest) left each whole =
+        let is = only i each.0 each.2 in record {
+          some = is_some r (i, each.0) is;
+          built = λ x more e f.
+              let same = some_parts (i, each.0) x (sym is ∙ e) in record {
+                rest = rest;
+                size = each.1;
+                left = omega (arith, left);
+                ahead = subst (λ (k : ℕ). Sequence (IndexAt texts) b (at + k) rest each.1) same.1 each.3;
+                whole = subst (AreTheNames texts b from count) (sym (append_assoc names (i ∷ []) rest) ∙ ap (λ j. names ++ j ∷ [] ++ rest) same.0 ∙ ap (λ xs. xs ++ rest) (sym f)) whole;
+              };
+        }
+
+pub all_names_built : (texts : ℕ) (b : List ℕ) (from count counter at : ℕ) (names : List (Option ℕ)) → NamesBuilt texts b from count counter at names → counter ≡ count → AreTheNames texts b from count names
+all_names_built texts b from count counter at names h e = by_rest h.rest h.left h.whole
+  where
+    by_rest : (rest : List (Option ℕ)) → counter + length rest ≡ count → AreTheNames texts b from count (names ++ rest) → AreTheNames texts b from count names
+    by_rest [] left whole = subst (AreTheNames texts b from count) (append-nil names) whole
+    by_rest (i ∷ rest) left whole = absurd (omega (arith, left, e))
+
+-- operations that are built up to a place, and those ahead
+pub record OperationsBuilt (m : Counts) (b : List ℕ) (from count counter at : ℕ) (ops : List Operation) : Type 0 where
+  pub rest : List Operation
+  pub left : counter + length rest ≡ count
+  pub ahead : ProgramAt m b at rest
+  pub whole : AreTheOperations m b from count (ops ++ rest)
+
+pub no_operations_built : (m : Counts) (b : List ℕ) (from count : ℕ) (ops : List Operation) → HaveOperations m b from count → ops ≡ [] → OperationsBuilt m b from count 0 from ops
+no_operations_built m b from count ops h e = let are = h.are in rw e (record { rest = h.operations; left = omega (arith, are.many); ahead = are.program; whole = are })
+
+-- the operation that is read is the first ahead
+pub record IsNextOperation (m : Counts) (b : List ℕ) (from count counter at c : ℕ) (ops : List Operation) (r : Option (Operation × ℕ)) : Type 0 where
+  pub some : IsSome r
+  pub built : (x : Operation × ℕ) (more : List Operation) → r ≡ Some x → more ≡ ops ++ x.0 ∷ [] → OperationsBuilt m b from count (counter + 1) (at + (1 + x.1)) more
+
+-- there is an opcode ahead, that of an operation
+pub opcode_within : (m : Counts) (b : List ℕ) (from count counter at : ℕ) (ops : List Operation) → OperationsBuilt m b from count counter at ops → at < length b
+opcode_within m b from count counter at ops h = let p = h.ahead in let within = stands_within p.end in omega (arith, within)
+
+pub opcode_some : (m : Counts) (b : List ℕ) (from count counter at : ℕ) (ops : List Operation) → OperationsBuilt m b from count counter at ops → counter < count → 0 < get_or b at 0
+opcode_some m b from count counter at ops h lt = by_rest h.rest h.left h.ahead
+  where
+    by_rest : (rest : List Operation) → counter + length rest ≡ count → ProgramAt m b at rest → 0 < get_or b at 0
+    by_rest [] left p = absurd (omega (arith, left))
+    by_rest (op ∷ rest) left p =
+        let first = p.operations.2 in
+        let code = same_first first.opcode (get_or b at 0) [] [] first.at_opcode (byte_stands b at (opcode_within m b from count counter at ops h)) in
+        let some = code_some m b at op first.operands_size first.opcode first.operands in
+        omega (arith, code, some)
+
+pub next_operation : (m : Counts) (b : List ℕ) (from count counter at : ℕ) (ops : List Operation) (r : Option (Operation × ℕ)) → OperationsBuilt m b from count counter at ops → counter < count
+    → ((op : Operation) (n : ℕ) → OperandsAt m (get_or b at 0) b (at + 1) op n → r ≡ Some (op, n)) → IsNextOperation m b from count counter at (get_or b at 0) ops r
+next_operation m b from count counter at ops r h lt only = by_rest h.rest h.left h.ahead h.whole
+  where
+    c : ℕ
+    c = get_or b at 0
+
+    by_rest : (rest : List Operation) → counter + length rest ≡ count → ProgramAt m b at rest → AreTheOperations m b from count (ops ++ rest) → IsNextOperation m b from count counter at c ops r
+    by_rest [] left p whole = absurd (omega (arith, left))
+    by_rest (op ∷ rest) left p whole =
+        let first = p.operations.2 in
+        let code : first.opcode ≡ c = same_first first.opcode c [] [] first.at_opcode (byte_stands b at (opcode_within m b from count counter at ops h)) in
+        let is = only op first.operands_size (subst (λ (k : ℕ). OperandsAt m k b (at + 1) op first.operands_size) code first.operands) in record {
+          some = is_some r (op, first.operands_size) is;
+          built = λ x more e f.
+              let same = some_parts (op, first.operands_size) x (sym is ∙ e) in
+              let behind : at + p.operations.0 ≡ at + (1 + x.1) = omega (arith, first.size, same.1) in record {
+                rest = rest;
+                left = omega (arith, left);
+                ahead = record {
+                  size = p.operations.1;
+                  operations = subst (λ (k : ℕ). Sequence (NumberedAt m) b k rest p.operations.1) behind p.operations.3;
+                  end = stands_at (omega (arith, p.operations.4, behind)) p.end;
+                };
+                whole = subst (AreTheOperations m b from count) (sym (append_assoc ops (op ∷ []) rest) ∙ ap (λ y. ops ++ y ∷ [] ++ rest) same.0 ∙ ap (λ ys. ys ++ rest) (sym f)) whole;
+              };
+        }
+
+pub all_operations_built : (m : Counts) (b : List ℕ) (from count counter at : ℕ) (ops : List Operation) → OperationsBuilt m b from count counter at ops → counter ≡ count → AreTheOperations m b from count ops
+all_operations_built m b from count counter at ops h e = by_rest h.rest h.left h.whole
+  where
+    by_rest : (rest : List Operation) → counter + length rest ≡ count → AreTheOperations m b from count (ops ++ rest) → AreTheOperations m b from count ops
+    by_rest [] left whole = subst (AreTheOperations m b from count) (append-nil ops) whole
+    by_rest (op ∷ rest) left whole = absurd (omega (arith, left, e))
 
 -- ---- a whole program
 
@@ -244,12 +408,11 @@ behind_heads m b o start count h d p =
     )
 
 -- without names there is no program
-pub no_names : (m : Counts) (b : List ℕ) (o : ℕ) (start count : ℕ × ℕ) (f : ItemFault) → Heads b o start count → AreNoNames m.texts b (o + start.1 + count.1) count.0 f → IsNoDebug m b o f
-no_names m b o start count (Refused number) h none = (none.0, λ d p. let g = behind_heads m b o start count h d p in none.1 d.parameter_names g.0 g.1)
-no_names m b o start count Memory h none = tt
+pub no_names : (m : Counts) (b : List ℕ) (o : ℕ) (start count : ℕ × ℕ) → Heads b o start count → ((names : List (Option ℕ)) (n : ℕ) → NamesAt m.texts b (o + start.1 + count.1) count.0 names n → ⊥) → (d : NumberedDebug) → NumberedDebugAt m b o d → ⊥
+no_names m b o start count h none d p = let g = behind_heads m b o start count h d p in none d.parameter_names g.0 g.1
 
 -- nor is there without operations
-pub no_operations : (m : Counts) (b : List ℕ) (o end : ℕ) (start count : ℕ × ℕ) (names : List (Option ℕ)) (f : ItemFault) → Heads b o start count → AreNames m.texts b (o + start.1 + count.1) count.0 names end → IsNoProgram m b end f → IsNoDebug m b o f
-no_operations m b o end start count names (Refused number) h are none =
-    (none.0, λ d p. let g = behind_heads m b o start count h d p in none.1 d.operations (subst (λ (k : ℕ). ProgramAt m b k d.operations) (are.ends d.parameter_names g.0 g.1) g.2))
-no_operations m b o end start count names Memory h are none = tt
+pub no_operations : (m : Counts) (b : List ℕ) (o end : ℕ) (start count : ℕ × ℕ) → Heads b o start count → EndNames m.texts b (o + start.1 + count.1) count.0 end → ((ops : List Operation) → ProgramAt m b end ops → ⊥) → (d : NumberedDebug) → NumberedDebugAt m b o d → ⊥
+no_operations m b o end start count h are none d p =
+    let g = behind_heads m b o start count h d p in
+    none d.operations (subst (λ (k : ℕ). ProgramAt m b k d.operations) (are.ends d.parameter_names g.0 g.1) g.2)

@@ -8,6 +8,7 @@ pub mod DebugRuns
 pub mod DebugSame
 pub mod DebugUses
 pub mod DebugWeights
+pub mod Encoded
 pub mod Fronts
 pub mod HandlersRead
 pub mod Listed
@@ -15,6 +16,7 @@ pub mod Named
 pub mod OneHandler
 pub mod TriesListed
 pub mod TryTables
+pub mod Visits
 pub mod Whole
 pub mod Images
 pub mod TryRows

@@ -1,22 +1,30 @@
 -- Debug programs as they are read from a file.
-use Rattle.std.specs.Prelude.{◌≡◌, ℕ, ◌+◌, ◌-◌, ◌^◌, ◌<◌, ◌≤◌, List, [], ◌∷◌, All, length, Option, IfSome}
+use Rattle.std.specs.Prelude.{◌≡◌, ℕ, ◌+◌, ◌-◌, ◌*◌, ◌^◌, ◌<◌, ◌≤◌, List, [], ◌∷◌, All, length, sum_by, Option, IfSome}
 use Rattle.dexspec.specs.Lists.{Item, Sequence}
 use Rattle.dexspec.specs.Bytes.{Stands}
 use Rattle.dexspec.specs.Numbers.{Uleb128At, Sleb128At, Uleb128p1At}
 use Rattle.dexspec.specs.Mentions.{Mentions}
 use Rattle.dexspec.specs.Debug as symbolic
+use Rattle.dexspec.specs.Weight.{debug_weight}
+use Rattle.dexspec.specs.Header.{data_off}
 use Rattle.dexpool.specs.declared.faults.ItemFault.{ItemFault}
 use Rattle.dexpool.specs.declared.faults.ItemFault.TheVariants.{Refused, Memory}
 use Rattle.dexcode.specs.declared.debug_operation.Operation.{Operation}
 use Rattle.dexcode.specs.declared.debug_operation.Operation.TheVariants.{AdvancePc, AdvanceLine, StartLocal, StartLocalExtended, EndLocal, RestartLocal, SetPrologueEnd, SetEpilogueBegin, SetFile, Special}
 use Rattle.dexcode.specs.declared.debug_reading.Counts.{Counts}
-use Rattle.dexcode.specs.Debug.{NumberedDebug, StandsForDebug, FitsIndex, IsFormedOperation}
+use Rattle.dexcode.specs.declared.debug_reading.Tally.{Tally}
+use Rattle.dexcode.specs.declared.debug_reading.DebugShape.{DebugShape}
+use Rattle.dexcode.specs.Debug.{NumberedDebug, StandsForDebug, bare, FitsIndex, IsFormedOperation, operation_weight}
 
 -- the debug program is that at an offset, where symbols are numbered by their rows
 pub record IsDebugAt (b : List ℕ) (off : ℕ) (m : Mentions) (d : NumberedDebug) : Type 0 where
   pub program : symbolic.Debug
   pub at : symbolic.DebugAt b off program
   pub stands : StandsForDebug m d program
+
+-- no debug program stands there
+abbrev pub HasNoDebug : List ℕ → ℕ → Type 0
+HasNoDebug b off = (x : symbolic.Debug) → symbolic.DebugAt b off x → ⊥
 
 -- no debug program stands there; a refusal of memory tells nothing
 abbrev pub IsDebugFault : List ℕ → ℕ → ItemFault → Type 0
@@ -90,35 +98,76 @@ pub record NumberedDebugAt (m : Counts) (b : List ℕ) (o : ℕ) (d : NumberedDe
   pub at_names : NamesAt m.texts b (o + start_size + count_size) (length d.parameter_names) d.parameter_names names_size
   pub program : ProgramAt m b (o + start_size + count_size + names_size) d.operations
 
--- ---- refusals
+-- ---- what is checked
 
--- the operations, and behind them the end, do not stand there; a refusal of memory tells nothing
-abbrev pub IsNoProgram : Counts → List ℕ → ℕ → ItemFault → Type 0
-IsNoProgram m b o (Refused number) = (number ≡ 20) × ((ops : List Operation) → ProgramAt m b o ops → ⊥)
-IsNoProgram m b o Memory = Unit {0}
-
--- so many names do not stand there
-abbrev pub AreNoNames : ℕ → List ℕ → ℕ → ℕ → ItemFault → Type 0
-AreNoNames texts b o count (Refused number) = (number ≡ 20) × ((names : List (Option ℕ)) (n : ℕ) → NamesAt texts b o count names n → ⊥)
-AreNoNames texts b o count Memory = Unit {0}
-
--- no debug program does
-abbrev pub IsNoDebug : Counts → List ℕ → ℕ → ItemFault → Type 0
-IsNoDebug m b o (Refused number) = (number ≡ 20) × ((d : NumberedDebug) → NumberedDebugAt m b o d → ⊥)
-IsNoDebug m b o Memory = Unit {0}
-
--- ---- what was read
-
--- the names that stand there, and where they end
-pub record AreNames (texts : ℕ) (b : List ℕ) (o count : ℕ) (names : List (Option ℕ)) (end : ℕ) : Type 0 where
+-- names stand there, as many as that, and this is where they end
+pub record EndNames (texts : ℕ) (b : List ℕ) (o count end : ℕ) : Type 0 where
+  pub names : List (Option ℕ)
   pub before : o ≤ end
   pub within : end ≤ length b
   pub names_at : NamesAt texts b o count names (end - o)
   pub fit : All FitsIndex names
   pub ends : (others : List (Option ℕ)) (n : ℕ) → NamesAt texts b o count others n → o + n ≡ end
 
--- the operations that stand there
-pub record AreOperations (m : Counts) (b : List ℕ) (o : ℕ) (ops : List Operation) : Type 0 where
+-- operations stand there, as many as that, and that is what they weigh
+pub record AreTallied (m : Counts) (b : List ℕ) (o : ℕ) (t : Tally) : Type 0 where
+  pub operations : List Operation
+  pub program : ProgramAt m b o operations
+  pub formed : All IsFormedOperation operations
+  pub few : length operations < 2 ^ 30
+  pub count : length operations ≡ t.operations
+  pub weight : sum_by operation_weight operations ≡ t.weight
+  pub light : t.weight ≤ 21 * t.operations
+
+-- a debug program stands there, and that is what there is in it
+pub record IsShape (m : Counts) (b : List ℕ) (o : ℕ) (s : DebugShape) : Type 0 where
+  pub start_size : ℕ
+  pub count_size : ℕ
+  pub at_start : Uleb128At b o s.line_start start_size
+  pub at_count : Uleb128At b (o + start_size) s.names count_size
+  pub at_names : s.names_at ≡ o + start_size + count_size
+  pub few : s.names < 2 ^ 32
+  pub names : EndNames m.texts b s.names_at s.names s.operations_at
+  pub operations : AreTallied m b s.operations_at s.tally
+  pub weight : s.weight ≡ 11 + 5 * s.names + s.tally.weight
+
+-- how many texts and types there are
+abbrev pub counts_of : Mentions → Counts
+counts_of m = record { texts = length m.texts; types = length m.types }
+
+-- that is what there is in the debug_info_item at an offset
+pub record IsShapeAt (b : List ℕ) (off : ℕ) (m : Mentions) (s : DebugShape) : Type 0 where
+  pub in_data : data_off b ≤ off
+  pub within : off ≤ length b
+  pub small : length b ≤ 2 ^ 30
+  pub shape : IsShape (counts_of m) b off s
+
+-- a debug program of that weight stands there
+pub record HasDebugOf (b : List ℕ) (off : ℕ) (m : Mentions) (weight : ℕ) : Type 0 where
+  pub debug : NumberedDebug
+  pub at : IsDebugAt b off m debug
+  pub weighs : debug_weight (bare debug) ≡ weight
+
+-- ---- what is built
+
+-- these names stand there, as many as that
+pub record AreTheNames (texts : ℕ) (b : List ℕ) (o count : ℕ) (names : List (Option ℕ)) : Type 0 where
+  pub size : ℕ
+  pub names_at : NamesAt texts b o count names size
+  pub fit : All FitsIndex names
+
+-- names stand there, as many as that
+pub record HaveNames (texts : ℕ) (b : List ℕ) (o count : ℕ) : Type 0 where
+  pub names : List (Option ℕ)
+  pub are : AreTheNames texts b o count names
+
+-- these operations stand there, as many as that
+pub record AreTheOperations (m : Counts) (b : List ℕ) (o count : ℕ) (ops : List Operation) : Type 0 where
+  pub many : length ops ≡ count
   pub program : ProgramAt m b o ops
   pub formed : All IsFormedOperation ops
-  pub few : length ops < 2 ^ 30
+
+-- operations stand there, as many as that
+pub record HaveOperations (m : Counts) (b : List ℕ) (o count : ℕ) : Type 0 where
+  pub operations : List Operation
+  pub are : AreTheOperations m b o count operations

@@ -6,5 +6,6 @@ pub mod DebugReading
 pub mod Equality
 pub mod Meaning
 pub mod Numbered
+pub mod OutputLaws
 pub mod Reading
 pub mod Renumbering

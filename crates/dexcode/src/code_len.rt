@@ -14,42 +14,11 @@ ghost use Rattle.dexcode.specs.Numbered.{NumberedHandler, AreStored, StandsForCo
 
 use crate::code::Code;
 use crate::code_laws::code_bytes_law;
-use crate::handlers::{Catch, Handler};
+use crate::code_put::{encode_handler, encode_list};
+use crate::handlers::Handler;
+use crate::output::Count;
 use crate::tries::Try;
 use dexinsn::Pieces;
-use dexleb::{len_s, len_u};
-
-// How many bytes a catch has.
-fn catch_len(catch: &Catch) -> usize
-    ensures len { result ≡ length (numbered_catch_bytes catch.now) }
-    ensures few { result ≤ 10 }
-{
-    len_u(catch.typ) + len_u(catch.addr)
-}
-
-// How many bytes catches have.
-fn catches_len(catches: &[Catch]) -> usize
-    requires { length catches.now < 2 ^ 16 }
-    ensures len { result ≡ length (flat_map numbered_catch_bytes catches.now) }
-    ensures few { result ≤ 10 * length catches.now }
-{
-    let mut len = 0;
-    for catch in catches {
-        len += catch_len(catch);
-    }
-    len
-}
-
-// How many bytes the address for all else has.
-fn catch_all_len(catch_all_addr: Option<u32>) -> usize
-    ensures len { result ≡ length (flat_map uleb128 (option_to_list catch_all_addr)) }
-    ensures few { result ≤ 5 }
-{
-    match catch_all_addr {
-        Some(addr) => len_u(addr),
-        None => 0,
-    }
-}
 
 // The number of catches, 0 or less where there is an address for all else.
 pub(crate) fn handler_count(handler: &Handler) -> i32
@@ -69,9 +38,9 @@ pub(crate) fn handler_len(handler: &Handler) -> usize
     ensures len { result ≡ length (numbered_handler_bytes handler.now) }
     ensures few { result ≤ 10 + 10 * length handler.now.catches }
 {
-    len_s(handler_count(handler))
-        + catches_len(handler.catches())
-        + catch_all_len(handler.catch_all_addr())
+    let mut count = Count { len: 0 };
+    encode_handler(handler, &mut count);
+    count.len
 }
 
 // How many bytes the list of handlers has.
@@ -80,11 +49,9 @@ fn list_len(handlers: &[Handler]) -> usize
     ensures len { result ≡ length (numbered_list_bytes handlers.now) }
     ensures few { result < 2 ^ 18 }
 {
-    let mut len = len_u(handlers.len() as u32);
-    for handler in handlers {
-        len += handler_len(handler);
-    }
-    len
+    let mut count = Count { len: 0 };
+    encode_list(handlers, &mut count);
+    count.len
 }
 
 // How many bytes the zero has that stands where the number of units is odd.

@@ -1,6 +1,6 @@
 //! Code items written.
 
-ghost use Rattle.std.specs.Prelude.{◌≡◌, ◌++◌, ◌+◌, ◌*◌, ◌^◌, ◌<◌, ◌≤◌, ℕ, All, IsOk, length, option_to_list, vec_len, vec_capacity};
+ghost use Rattle.std.specs.Prelude.{◌≡◌, ◌++◌, ◌+◌, ◌*◌, ◌^◌, ◌<◌, ◌≤◌, ℕ, All, IsOk, ⊤, length, option_to_list, vec_len, vec_capacity};
 ghost use Rattle.std.specs.List.{flat_map};
 ghost use Rattle.dexspec.specs.Bytes.{ushort, uint};
 ghost use Rattle.dexspec.specs.Code as symbolic;
@@ -17,10 +17,9 @@ ghost use Rattle.dexcode.specs.Numbered.{AreStored, StandsForCode, all_named, ha
 use crate::code::Code;
 use crate::code_laws::{code_bytes_law, code_weight_law};
 use crate::code_len::{handler_count, handler_len, placed_len, unit_count};
-use crate::debug_put::{push_s, push_u};
 use crate::handlers::{Catch, Handler};
+use crate::output::{Encode, Output, encode_all};
 use crate::tries::{Tries, Try};
-use dexhead::{put_u16, put_u32};
 use dexinsn::{Pieces, put_pieces};
 use dexleb::len_u;
 use dexpool::Numbering;
@@ -48,159 +47,123 @@ fn place_handlers(handlers: &[Handler], places: &mut [u16]) -> usize
     place
 }
 
-// Appends a number of 16 bits, where there is room for it.
-fn push_u16(value: u16, out: &mut Vec<u8>)
-    requires { HasRoomFor (ushort value) out.old }
-    ensures { Pushes (ushort value) out.old out.new }
-{
-    put_u16(value, out).unwrap();
-}
+impl Encode for Catch {
+    ghost formed = { λ c. ⊤ };
 
-// Appends a number of 32 bits, where there is room for it.
-fn push_u32(value: u32, out: &mut Vec<u8>)
-    requires { HasRoomFor (uint value) out.old }
-    ensures { Pushes (uint value) out.old out.new }
-{
-    put_u32(value, out).unwrap();
-}
+    ghost bytes = { numbered_catch_bytes };
 
-// Appends a catch, where there is room for it.
-fn push_catch(catch: &Catch, out: &mut Vec<u8>)
-    requires { HasRoomFor (numbered_catch_bytes catch.now) out.old }
-    ensures { Pushes (numbered_catch_bytes catch.now) out.old out.new }
-{
-    push_u(catch.typ, out);
-    push_u(catch.addr, out);
-}
-
-// Appends catches, where there is room for them.
-fn push_catches(catches: &[Catch], out: &mut Vec<u8>)
-    requires { HasRoomFor (flat_map numbered_catch_bytes catches.now) out.old }
-    ensures { Pushes (flat_map numbered_catch_bytes catches.now) out.old out.new }
-{
-    for catch in catches {
-        push_catch(catch, out);
+    fn encode<O: Output>(&self, out: &mut O) {
+        out.uleb(self.typ);
+        out.uleb(self.addr);
     }
 }
 
-// Appends the address for all else, if there is one, where there is room for it.
-fn push_catch_all(catch_all_addr: Option<u32>, out: &mut Vec<u8>)
-    requires { HasRoomFor (flat_map uleb128 (option_to_list catch_all_addr)) out.old }
-    ensures { Pushes (flat_map uleb128 (option_to_list catch_all_addr)) out.old out.new }
+// Writes the address for all else, if there is one.
+fn encode_catch_all<O: Output>(catch_all_addr: Option<u32>, out: &mut O)
+    ensures { O.gives (flat_map uleb128 (option_to_list catch_all_addr)) out.old out.new }
 {
     if let Some(addr) = catch_all_addr {
-        push_u(addr, out);
+        out.uleb(addr);
     }
 }
 
-// Appends a handler, where there is room for it.
-fn push_handler(handler: &Handler, out: &mut Vec<u8>)
-    requires count { length handler.now.catches < 2 ^ 16 }
-    requires room { HasRoomFor (numbered_handler_bytes handler.now) out.old }
-    ensures { Pushes (numbered_handler_bytes handler.now) out.old out.new }
+// Writes a handler.
+pub(crate) fn encode_handler<O: Output>(handler: &Handler, out: &mut O)
+    requires { length handler.now.catches < 2 ^ 16 }
+    ensures { O.gives (numbered_handler_bytes handler.now) out.old out.new }
 {
-    push_s(handler_count(handler), out);
-    push_catches(handler.catches(), out);
-    push_catch_all(handler.catch_all_addr(), out);
+    out.sleb(handler_count(handler));
+    encode_all(handler.catches(), out);
+    encode_catch_all(handler.catch_all_addr(), out);
 }
 
-// Appends the list of handlers, where there is room for it.
-fn push_list(handlers: &[Handler], out: &mut Vec<u8>)
-    requires light { handlers_weight handlers.now ≤ most_handlers }
-    requires room { HasRoomFor (numbered_list_bytes handlers.now) out.old }
-    ensures { Pushes (numbered_list_bytes handlers.now) out.old out.new }
+// Writes the list of handlers.
+pub(crate) fn encode_list<O: Output>(handlers: &[Handler], out: &mut O)
+    requires { handlers_weight handlers.now ≤ most_handlers }
+    ensures { O.gives (numbered_list_bytes handlers.now) out.old out.new }
 {
-    push_u(handlers.len() as u32, out);
-    push_handlers(handlers, out);
+    out.uleb(handlers.len() as u32);
+    encode_handlers(handlers, out);
 }
 
-// Appends handlers, where there is room for them.
-fn push_handlers(handlers: &[Handler], out: &mut Vec<u8>)
-    requires light { handlers_weight handlers.now ≤ most_handlers }
-    requires room { HasRoomFor (flat_map numbered_handler_bytes handlers.now) out.old }
-    ensures { Pushes (flat_map numbered_handler_bytes handlers.now) out.old out.new }
+// Writes handlers.
+fn encode_handlers<O: Output>(handlers: &[Handler], out: &mut O)
+    requires { handlers_weight handlers.now ≤ most_handlers }
+    ensures { O.gives (flat_map numbered_handler_bytes handlers.now) out.old out.new }
 {
     for handler in handlers {
-        push_handler(handler, out);
+        encode_handler(handler, out);
     }
 }
 
-// Appends a try whose handler begins at one of the places, where there is room for it.
-fn push_try(item: &Try, places: &[u16], out: &mut Vec<u8>)
-    requires within { item.now.handler < length places.now }
-    requires room { HasRoomFor (placed_try_bytes places.now item.now) out.old }
-    ensures { Pushes (placed_try_bytes places.now item.now) out.old out.new }
+// Writes a try whose handler begins at one of the places.
+fn encode_try<O: Output>(item: &Try, places: &[u16], out: &mut O)
+    requires { item.now.handler < length places.now }
+    ensures { O.gives (placed_try_bytes places.now item.now) out.old out.new }
 {
-    push_u32(item.start_addr, out);
-    push_u16(item.insn_count, out);
-    push_u16(places[item.handler], out);
+    out.u32(item.start_addr);
+    out.u16(item.insn_count);
+    out.u16(places[item.handler]);
 }
 
-// Appends tries whose handlers begin at the places, where there is room for them.
-fn push_items(tries: &[Try], places: &[u16], out: &mut Vec<u8>)
-    requires within { All (λ t. t.handler < length places.now) tries.now }
-    requires room { HasRoomFor (flat_map (placed_try_bytes places.now) tries.now) out.old }
-    ensures { Pushes (flat_map (placed_try_bytes places.now) tries.now) out.old out.new }
+// Writes tries whose handlers begin at the places.
+fn encode_items<O: Output>(tries: &[Try], places: &[u16], out: &mut O)
+    requires { All (λ t. t.handler < length places.now) tries.now }
+    ensures { O.gives (flat_map (placed_try_bytes places.now) tries.now) out.old out.new }
 {
     for item in tries {
-        push_try(item, places, out);
+        encode_try(item, places, out);
     }
 }
 
-// Appends tries and the handlers that they name, which begin at the places, where there is room for them.
-fn push_table(tries: &[Try], handlers: &[Handler], places: &[u16], out: &mut Vec<u8>)
+// Writes tries and the handlers that they name, which begin at the places.
+fn encode_table<O: Output>(tries: &[Try], handlers: &[Handler], places: &[u16], out: &mut O)
     requires stored { AreStored handlers.now tries.now }
     requires placed { ArePlaces handlers.now places.now }
-    requires room { HasRoomFor (numbered_table_bytes handlers.now (all_named handlers.now tries.now)) out.old }
-    ensures { Pushes (numbered_table_bytes handlers.now (all_named handlers.now tries.now)) out.old out.new }
+    ensures { O.gives (numbered_table_bytes handlers.now (all_named handlers.now tries.now)) out.old out.new }
 {
-    push_items(tries, places, out);
-    push_list(handlers, out);
+    encode_items(tries, places, out);
+    encode_list(handlers, out);
 }
 
-// Appends a zero where the number of units is odd, where there is room for it.
-fn push_gap(units: u32, out: &mut Vec<u8>)
-    requires { HasRoomFor (gap_bytes units) out.old }
-    ensures { Pushes (gap_bytes units) out.old out.new }
+// Writes a zero where the number of units is odd.
+fn encode_gap<O: Output>(units: u32, out: &mut O)
+    ensures { O.gives (gap_bytes units) out.old out.new }
 {
     if units % 2 == 1 {
-        push_u16(0, out);
+        out.u16(0);
     }
 }
 
-// Appends the tries behind so many units, where there is room for them.
-fn push_tries(units: u32, tries: &[Try], handlers: &[Handler], places: &[u16], out: &mut Vec<u8>)
+// Writes the tries behind so many units.
+fn encode_tries<O: Output>(
+    units: u32,
+    tries: &[Try],
+    handlers: &[Handler],
+    places: &[u16],
+    out: &mut O,
+)
     requires stored { AreStored handlers.now tries.now }
     requires placed { ArePlaces handlers.now places.now }
-    requires room { HasRoomFor (numbered_tries_bytes units (all_named handlers.now tries.now)) out.old }
-    ensures { Pushes (numbered_tries_bytes units (all_named handlers.now tries.now)) out.old out.new }
+    ensures { O.gives (numbered_tries_bytes units (all_named handlers.now tries.now)) out.old out.new }
 {
     if tries.is_empty() {
         return;
     }
-    push_gap(units, out);
-    push_table(tries, handlers, places, out);
+    encode_gap(units, out);
+    encode_table(tries, handlers, places, out);
 }
 
-// Appends the numbers before the units, where there is room for them.
-fn push_head(pieces: &Pieces<'_>, tries: u16, debug_off: u32, out: &mut Vec<u8>)
-    requires { HasRoomFor (numbered_head_bytes debug_off tries pieces.now (unit_count pieces.now)) out.old }
-    ensures { Pushes (numbered_head_bytes debug_off tries pieces.now (unit_count pieces.now)) out.old out.new }
+// Writes the numbers before the units.
+fn encode_head<O: Output>(pieces: &Pieces<'_>, tries: u16, debug_off: u32, out: &mut O)
+    ensures { O.gives (numbered_head_bytes debug_off tries pieces.now (unit_count pieces.now)) out.old out.new }
 {
-    push_u16(pieces.registers(), out);
-    push_u16(pieces.ins(), out);
-    push_u16(pieces.outs(), out);
-    push_u16(tries, out);
-    push_u32(debug_off, out);
-    push_u32(unit_count(pieces), out);
-}
-
-// Appends the units, where there is room for them.
-fn push_units(pieces: &Pieces<'_>, numbering: &Numbering<'_>, out: &mut Vec<u8>)
-    requires { HasRoomFor (numbered_bytes pieces.now.pieces) out.old }
-    ensures { Pushes (numbered_bytes pieces.now.pieces) out.old out.new }
-{
-    put_pieces(pieces, numbering, out).unwrap();
+    out.u16(pieces.registers());
+    out.u16(pieces.ins());
+    out.u16(pieces.outs());
+    out.u16(tries);
+    out.u32(debug_off);
+    out.u32(unit_count(pieces));
 }
 
 // Appends a code item whose handlers begin at the places, where there is room for it.
@@ -212,14 +175,13 @@ fn push_item(
     numbering: &Numbering<'_>,
     out: &mut Vec<u8>,
 )
-    requires placed { ArePlaces (handlers_of tries.now) places.now }
-    requires room { HasRoomFor (numbered_item_bytes debug_off pieces.now tries.now) out.old }
-    ensures { Pushes (numbered_item_bytes debug_off pieces.now tries.now) out.old out.new }
+    requires { ArePlaces (handlers_of tries.now) places.now }
+    ensures { HasRoomFor (numbered_item_bytes debug_off pieces.now tries.now) out.old → Pushes (numbered_item_bytes debug_off pieces.now tries.now) out.old out.new }
 {
     let (items, handlers) = tries.parts();
-    push_head(pieces, items.len() as u16, debug_off, out);
-    push_units(pieces, numbering, out);
-    push_tries(unit_count(pieces), items, handlers, places, out);
+    encode_head(pieces, items.len() as u16, debug_off, out);
+    let _ = put_pieces(pieces, numbering, out);
+    encode_tries(unit_count(pieces), items, handlers, places, out);
 }
 
 // Appends a code item. There is room for the place of each of its handlers.

@@ -1,7 +1,7 @@
 //! Numbers of symbols in debug programs, and what becomes of them.
 
 ghost use Rattle.std.specs.Prelude.{◌≡◌, ◌<◌, ◌≤◌, ◌*◌, ◌^◌, ◌∷◌, [], IfOk, All, map, length, sum_by};
-ghost use Rattle.std.specs.List.{flat_map};
+ghost use Rattle.std.specs.List.{FoldsTo, flat_map};
 ghost use Rattle.dexspec.specs.Weight.{debug_weight};
 ghost use Rattle.dexpool.specs.declared.symbols.SymbolKind.TheVariants as kinds;
 ghost use Rattle.dexpool.specs.Uses.{HasMark, AreMarkedToo};
@@ -9,6 +9,7 @@ ghost use Rattle.dexcode.specs.Debug.{bare, number_uses, operation_uses, operati
 
 use crate::debug::Debug;
 use crate::debug_operation::Operation;
+use crate::visiting::{Renumber, Symbols, Visitor, mark, renumber_all, visit_all};
 use dexpool::{Marks, Remap, SymbolKind};
 use std::alloc::AllocError;
 
@@ -64,56 +65,50 @@ fn renumber_names(names: &mut Vec<Option<u32>>, remap: &Remap)
     }
 }
 
-// Puts for the numbers of each operation those that they lead to.
-fn renumber_operations(operations: &mut Vec<Operation>, remap: &Remap)
-    requires { All (HasPlace remap.now) (flat_map operation_uses operations.old.items) }
-    ensures { operations.new.items ≡ map (renumbered_operation remap.now) operations.old.items }
-{
-    for i in 0..operations.len() {
-        operations[i] = renumbered_operation(remap, operations[i]);
+impl Renumber for Operation {
+    ghost places = { λ r op. All (HasPlace r) (operation_uses op) };
+
+    ghost led = { renumbered_operation };
+
+    fn renumber(&mut self, remap: &Remap) {
+        *self = renumbered_operation(remap, *self);
     }
 }
 
-// Marks the symbol of a number, if there is one.
-fn mark_number(kind: SymbolKind, number: Option<u32>, marks: &mut Marks)
-    requires { All (HasMark marks.old) (number_uses kind number) }
-    ensures { AreMarkedToo (number_uses kind number) marks.old marks.new }
+// Hands on the symbol of a number, if there is one.
+fn visit_number<V: Visitor>(kind: SymbolKind, number: Option<u32>, visitor: &mut V)
+    ensures { FoldsTo V.step visitor.old (number_uses kind number) visitor.new }
 {
     if let Some(number) = number {
-        marks.mark(kind, number as usize);
+        visitor.symbol(kind, number);
     }
 }
 
-// Marks the symbols of an operation.
-fn mark_operation(operation: &Operation, marks: &mut Marks)
-    requires { All (HasMark marks.old) (operation_uses operation.now) }
-    ensures { AreMarkedToo (operation_uses operation.now) marks.old marks.new }
-{
-    if !operation.has_places() {
-        return;
-    }
-    mark_number(SymbolKind::Text, operation.name_idx(), marks);
-    mark_number(SymbolKind::Typ, operation.type_idx(), marks);
-    mark_number(SymbolKind::Text, operation.sig_idx(), marks);
-}
-
-// Marks the texts that are names.
-fn mark_names(names: &[Option<u32>], marks: &mut Marks)
-    requires { All (HasMark marks.old) (flat_map (number_uses kinds.Text) names.now) }
-    ensures { AreMarkedToo (flat_map (number_uses kinds.Text) names.now) marks.old marks.new }
+// Hands on the texts that are names.
+fn visit_names<V: Visitor>(names: &[Option<u32>], visitor: &mut V)
+    ensures { FoldsTo V.step visitor.old (flat_map (number_uses kinds.Text) names.now) visitor.new }
 {
     for name in names {
-        mark_number(SymbolKind::Text, *name, marks);
+        visit_number(SymbolKind::Text, *name, visitor);
     }
 }
 
-// Marks the symbols of operations.
-fn mark_operations(operations: &[Operation], marks: &mut Marks)
-    requires { All (HasMark marks.old) (flat_map operation_uses operations.now) }
-    ensures { AreMarkedToo (flat_map operation_uses operations.now) marks.old marks.new }
-{
-    for operation in operations {
-        mark_operation(operation, marks);
+impl Symbols for Operation {
+    ghost uses = { operation_uses };
+
+    fn visit<V: Visitor>(&self, visitor: &mut V) {
+        visit_number(SymbolKind::Text, self.name_idx(), visitor);
+        visit_number(SymbolKind::Typ, self.type_idx(), visitor);
+        visit_number(SymbolKind::Text, self.sig_idx(), visitor);
+    }
+}
+
+impl Symbols for Debug {
+    ghost uses = { debug_uses };
+
+    fn visit<V: Visitor>(&self, visitor: &mut V) {
+        visit_names(&self.parameter_names, visitor);
+        visit_all(&self.operations, visitor);
     }
 }
 
@@ -141,7 +136,7 @@ impl Debug {
         ensures { self.new ≡ renumbered_debug remap.now self.old }
     {
         renumber_names(&mut self.parameter_names, remap);
-        renumber_operations(&mut self.operations, remap);
+        renumber_all(&mut self.operations, remap);
     }
 
     /// Marks each symbol that occurs. No memory is taken.
@@ -151,8 +146,7 @@ impl Debug {
         requires { All (HasMark marks.old) (debug_uses self.now) }
         ensures { AreMarkedToo (debug_uses self.now) marks.old marks.new }
     {
-        mark_names(&self.parameter_names, marks);
-        mark_operations(&self.operations, marks);
+        mark(self, marks);
     }
 
     /// The same debug program, with names and operations of its own.

@@ -1,11 +1,12 @@
 //! Debug programs read from a file.
 
-ghost use Rattle.std.specs.Prelude.{◌≡◌, ◌↔◌, ℕ, ℤ, ◌+◌, ◌^◌, ◌<◌, ◌≤◌, Option, Some, IsTrue, IfOk, IfErr, IfSome, length};
+ghost use Rattle.std.specs.Prelude.{◌≡◌, ◌↔◌, ℕ, ℤ, ◌+◌, ◌^◌, ◌<◌, ◌≤◌, List, Option, Some, IsTrue, IfOk, IfErr, IfSome, MatchOption, length};
 ghost use Rattle.dexspec.specs.Numbers.{Uleb128At, Sleb128At};
 ghost use Rattle.dexpool.specs.Pools.{ArePools};
 ghost use Rattle.dexcode.specs.declared.debug_operation.Operation.{Operation};
 ghost use Rattle.dexcode.specs.declared.debug_reading.Counts.{Counts};
-ghost use Rattle.dexcode.specs.DebugReading.{IsDebugAt, IsDebugFault, IndexAt, LocalAt, OperandsAt, NumberedDebugAt, AreNames, AreNoNames, AreOperations, IsNoProgram, IsNoDebug};
+ghost use Rattle.dexcode.specs.Debug.{NumberedDebug};
+ghost use Rattle.dexcode.specs.DebugReading.{IsDebugAt, IsDebugFault, IndexAt, LocalAt, OperandsAt, NumberedDebugAt, NamesAt, ProgramAt, EndNames, AreTallied, IsShape, HaveNames, AreTheNames, HaveOperations, AreTheOperations, IsShapeAt, HasDebugOf, HasNoDebug, counts_of};
 
 use crate::debug::Debug;
 use crate::debug_opcodes::{
@@ -17,13 +18,7 @@ use crate::debug_operation::Operation;
 use dexhead::Frame;
 use dexleb::{read_p1, read_s, read_u};
 use dexpool::{ItemFault, Pools, SymbolKind};
-use std::alloc::Global;
-
-// Most methods have no more parameters than these.
-const FEW_NAMES: usize = 16;
-
-// Most debug programs have no more operations than these.
-const FEW_OPERATIONS: usize = 32;
+use std::alloc::{AllocError, Global};
 
 // How many texts and types there are.
 #[derive(Clone, Copy)]
@@ -32,7 +27,30 @@ struct Counts {
     types: usize,
 }
 
+// How many operations there are, and what they weigh.
+#[derive(Clone, Copy)]
+struct Tally {
+    operations: usize,
+    weight: u64,
+}
+
+/// What there is in a debug_info_item.
+#[derive(Clone, Copy)]
+pub struct DebugShape {
+    // The line that it starts at.
+    line_start: u32,
+    // Where the names begin, and how many there are.
+    names_at: usize,
+    names: u32,
+    // Where the operations begin, and how many there are.
+    operations_at: usize,
+    tally: Tally,
+    /// What the debug program weighs.
+    pub weight: u64,
+}
+
 // The unsigned number at a place, and how many bytes it has.
+#[inline(always)]
 fn number_at(bytes: &[u8], at: usize) -> Option<(u32, usize)>
     requires { at ≤ length bytes.now }
     ensures found { IfSome result (λ read. Uleb128At bytes.now at read.0 read.1) }
@@ -46,6 +64,7 @@ fn number_at(bytes: &[u8], at: usize) -> Option<(u32, usize)>
 }
 
 // The signed number at a place, and how many bytes it has.
+#[inline(always)]
 fn lines_at(bytes: &[u8], at: usize) -> Option<(i32, usize)>
     requires { at ≤ length bytes.now }
     ensures found { IfSome result (λ read. Sleb128At bytes.now at read.0 read.1) }
@@ -59,6 +78,7 @@ fn lines_at(bytes: &[u8], at: usize) -> Option<(i32, usize)>
 }
 
 // Whether the number, if there is one, is below a count.
+#[inline(always)]
 fn is_below(number: Option<u32>, count: usize) -> bool
     ensures { IsTrue result ↔ IfSome number (λ n. n < count) }
 {
@@ -69,6 +89,7 @@ fn is_below(number: Option<u32>, count: usize) -> bool
 }
 
 // The index below a count, or none, at a place, and how many bytes it has.
+#[inline(always)]
 fn index_at(bytes: &[u8], at: usize, count: usize) -> Option<(Option<u32>, usize)>
     requires { at ≤ length bytes.now }
     ensures found { IfSome result (λ read. IndexAt count bytes.now at read.0 read.1) }
@@ -89,6 +110,7 @@ fn index_at(bytes: &[u8], at: usize, count: usize) -> Option<(Option<u32>, usize
 
 // What tells of a local variable at a place: its register, the numbers of its name and its type, and how many bytes
 // they have.
+#[inline(always)]
 fn local_at(
     bytes: &[u8],
     at: usize,
@@ -111,6 +133,7 @@ fn local_at(
 }
 
 // The operation of an opcode, whose operands are at a place, and how many bytes they have.
+#[inline(always)]
 fn operation_at(bytes: &[u8], at: usize, opcode: u8, counts: Counts) -> Option<(Operation, usize)>
     requires within { at ≤ length bytes.now }
     requires some { 0 < opcode }
@@ -165,92 +188,219 @@ fn operation_at(bytes: &[u8], at: usize, opcode: u8, counts: Counts) -> Option<(
     }
 }
 
-// So many names from a place on, and where they end.
-fn read_names(
+// Where so many names from a place on end, if they stand there.
+fn names_end(bytes: &[u8], from: usize, count: u32, texts: usize) -> Option<usize>
+    requires { from ≤ length bytes.now }
+    ensures { MatchOption result ((names : List (Option ℕ)) (n : ℕ) → NamesAt texts bytes.now from count names n → ⊥) (EndNames texts bytes.now from count) }
+{
+    let mut at = from;
+    for _ in 0..count {
+        match index_at(bytes, at, texts) {
+            Some((_, len)) => at += len,
+            None => return None,
+        }
+    }
+    Some(at)
+}
+
+// How many operations stand from a place on, up to the end, and what they weigh.
+fn check_operations(bytes: &[u8], from: usize, counts: Counts) -> Option<Tally>
+    requires within { from ≤ length bytes.now }
+    requires behind { 0 < from }
+    requires small { length bytes.now ≤ 2 ^ 30 }
+    ensures { MatchOption result ((ops : List Operation) → ProgramAt counts bytes.now from ops → ⊥) (AreTallied counts bytes.now from) }
+{
+    let mut operations = 0;
+    let mut weight = 0;
+    let mut at = from;
+    while at < bytes.len() {
+        let opcode = bytes[at];
+        if opcode == DBG_END_SEQUENCE {
+            return Some(Tally { operations, weight });
+        }
+        let (operation, len) = match operation_at(bytes, at + 1, opcode, counts) {
+            Some(read) => read,
+            None => return None,
+        };
+        operations += 1;
+        weight += 1 + 5 * operation.operands();
+        at += 1 + len;
+    }
+    None
+}
+
+// What there is in the debug_info_item at a place, if one stands there. Nothing is kept of it.
+fn check_numbered(bytes: &[u8], at: usize, counts: Counts) -> Option<DebugShape>
+    requires within { at ≤ length bytes.now }
+    requires small { length bytes.now ≤ 2 ^ 30 }
+    ensures { MatchOption result ((d : NumberedDebug) → NumberedDebugAt counts bytes.now at d → ⊥) (IsShape counts bytes.now at) }
+{
+    let (line_start, start_len) = match number_at(bytes, at) {
+        Some(read) => read,
+        None => return None,
+    };
+    let (names, count_len) = match number_at(bytes, at + start_len) {
+        Some(read) => read,
+        None => return None,
+    };
+    let names_at = at + start_len + count_len;
+    let operations_at = match names_end(bytes, names_at, names, counts.texts) {
+        Some(end) => end,
+        None => return None,
+    };
+    let tally = match check_operations(bytes, operations_at, counts) {
+        Some(tally) => tally,
+        None => return None,
+    };
+    Some(DebugShape {
+        line_start,
+        names_at,
+        names,
+        operations_at,
+        tally,
+        weight: 11 + 5 * u64::from(names) + tally.weight,
+    })
+}
+
+// The names that stand from a place on.
+fn build_names(
     alloc: Global,
     bytes: &[u8],
     from: usize,
     count: u32,
     texts: usize,
-) -> Result<(Vec<Option<u32>>, usize), ItemFault>
-    requires { from ≤ length bytes.now }
-    ensures names { IfOk result (λ read. AreNames texts bytes.now from count read.0.items read.1) }
-    ensures refused { IfErr result (AreNoNames texts bytes.now from count) }
+) -> Result<Vec<Option<u32>>, AllocError>
+    requires within { from ≤ length bytes.now }
+    requires stand { HaveNames texts bytes.now from count }
+    ensures { IfOk result (λ names. AreTheNames texts bytes.now from count names.items) }
 {
-    let mut names = Vec::with_capacity(alloc, (count as usize).min(FEW_NAMES))?;
+    let mut names = Vec::with_capacity(alloc, count as usize)?;
     let mut at = from;
     for _ in 0..count {
-        let (name, len) = match index_at(bytes, at, texts) {
-            Some(read) => read,
-            None => return Err(ItemFault::Refused(20)),
-        };
-        names.push(name)?;
+        let (name, len) = index_at(bytes, at, texts).unwrap();
+        names.push(name).unwrap();
         at += len;
     }
-    Ok((names, at))
+    Ok(names)
 }
 
-// The operations from a place on, up to the end.
-fn read_operations(
+// The operations that stand from a place on.
+fn build_operations(
     alloc: Global,
     bytes: &[u8],
     from: usize,
+    count: usize,
     counts: Counts,
-) -> Result<Vec<Operation>, ItemFault>
+) -> Result<Vec<Operation>, AllocError>
     requires within { from ≤ length bytes.now }
-    requires behind { 0 < from }
-    requires small { length bytes.now ≤ 2 ^ 30 }
-    ensures operations { IfOk result (λ operations. AreOperations counts bytes.now from operations.items) }
-    ensures refused { IfErr result (IsNoProgram counts bytes.now from) }
+    requires stand { HaveOperations counts bytes.now from count }
+    ensures { IfOk result (λ ops. AreTheOperations counts bytes.now from count ops.items) }
 {
-    let mut operations = Vec::with_capacity(alloc, FEW_OPERATIONS)?;
+    let mut operations = Vec::with_capacity(alloc, count)?;
     let mut at = from;
-    while at < bytes.len() {
-        let opcode = bytes[at];
-        if opcode == DBG_END_SEQUENCE {
-            operations.shrink_to_fit();
-            return Ok(operations);
-        }
-        let (operation, len) = match operation_at(bytes, at + 1, opcode, counts) {
-            Some(read) => read,
-            None => return Err(ItemFault::Refused(20)),
-        };
-        operations.push(operation)?;
+    for _ in 0..count {
+        let (operation, len) = operation_at(bytes, at + 1, bytes[at], counts).unwrap();
+        operations.push(operation).unwrap();
         at += 1 + len;
     }
-    Err(ItemFault::Refused(20))
+    Ok(operations)
 }
 
-// The debug program at a place.
-fn read_numbered(alloc: Global, bytes: &[u8], at: usize, counts: Counts) -> Result<Debug, ItemFault>
+// The debug program that stands at a place, in exactly the memory that it takes.
+fn build_numbered(
+    alloc: Global,
+    bytes: &[u8],
+    at: usize,
+    counts: Counts,
+    shape: DebugShape,
+) -> Result<Debug, AllocError>
     requires within { at ≤ length bytes.now }
     requires small { length bytes.now ≤ 2 ^ 30 }
-    ensures debug { IfOk result (NumberedDebugAt counts bytes.now at) }
-    ensures refused { IfErr result (IsNoDebug counts bytes.now at) }
+    requires shape { IsShape counts bytes.now at shape }
+    ensures { IfOk result (NumberedDebugAt counts bytes.now at) }
 {
-    let (line_start, start_len) = match number_at(bytes, at) {
-        Some(read) => read,
-        None => return Err(ItemFault::Refused(20)),
-    };
-    let (count, count_len) = match number_at(bytes, at + start_len) {
-        Some(read) => read,
-        None => return Err(ItemFault::Refused(20)),
-    };
-    let from = at + start_len + count_len;
-    let (parameter_names, end) = read_names(alloc, bytes, from, count, counts.texts)?;
-    let operations = read_operations(alloc, bytes, end, counts)?;
+    let parameter_names = build_names(alloc, bytes, shape.names_at, shape.names, counts.texts)?;
+    let operations = build_operations(
+        alloc,
+        bytes,
+        shape.operations_at,
+        shape.tally.operations,
+        counts,
+    )?;
     Ok(Debug {
-        line_start,
+        line_start: shape.line_start,
         parameter_names,
         operations,
     })
 }
 
-/// Reads the debug_info_item at an offset, whose indices count in the pools: those of the file.
+// How many texts and types the pools have.
+fn counts_of(pools: &Pools<'_>) -> Counts
+    ensures { result ≡ counts_of pools.now }
+{
+    Counts {
+        texts: pools.len(SymbolKind::Text),
+        types: pools.len(SymbolKind::Typ),
+    }
+}
+
+// What there is in the debug_info_item at an offset, if one stands there.
+fn shape_at(frame: &Frame<'_>, pools: &Pools<'_>, off: u32) -> Option<DebugShape>
+    ensures { MatchOption result (ArePools frame.now pools.now → HasNoDebug frame.now off) (IsShapeAt frame.now off pools.now) }
+{
+    let bytes = frame.bytes();
+    if off < frame.data_off() || bytes.len() < off as usize {
+        return None;
+    }
+    check_numbered(bytes, off as usize, counts_of(pools))
+}
+
+/// Judges the debug_info_item at an offset, whose indices count in the pools: those of the file. Nothing is kept of it,
+/// and no memory is taken.
 ///
 /// Error: `Refused(20)` exactly where no debug_info_item stands there: where it is not in the data, or is cut off before
-/// its end, where a number is not spelled as it has to be, or where an index is out of range of its pool; `Memory`
-/// where a growth was refused.
+/// its end, where a number is not spelled as it has to be, or where an index is out of range of its pool.
+///
+/// Source: "debug_info_item".
+pub fn check_debug(
+    frame: &Frame<'_>,
+    pools: &Pools<'_>,
+    off: u32,
+) -> Result<DebugShape, ItemFault>
+    ensures shape { IfOk result (IsShapeAt frame.now off pools.now) }
+    ensures debug { ArePools frame.now pools.now → IfOk result (λ shape. HasDebugOf frame.now off pools.now shape.weight) }
+    ensures refused { ArePools frame.now pools.now → IfErr result (IsDebugFault frame.now off) }
+{
+    match shape_at(frame, pools, off) {
+        Some(shape) => Ok(shape),
+        None => Err(ItemFault::Refused(20)),
+    }
+}
+
+/// The debug program that stands at an offset, in exactly the memory that it takes.
+///
+/// Condition: its shape is that which [`check_debug`] told.
+///
+/// Error: the memory was refused.
+///
+/// Source: "debug_info_item".
+pub fn build_debug(
+    alloc: Global,
+    frame: &Frame<'_>,
+    pools: &Pools<'_>,
+    off: u32,
+    shape: DebugShape,
+) -> Result<Debug, AllocError>
+    requires { IsShapeAt frame.now off pools.now shape }
+    ensures { ArePools frame.now pools.now → IfOk result (IsDebugAt frame.now off pools.now) }
+{
+    let counts = counts_of(pools);
+    build_numbered(alloc, frame.bytes(), off as usize, counts, shape)
+}
+
+/// Reads the debug_info_item at an offset, whose indices count in the pools: those of the file.
+///
+/// Error: as of [`check_debug`]; `Memory` where a growth was refused.
 ///
 /// Source: "debug_info_item".
 pub fn read_debug(
@@ -262,13 +412,9 @@ pub fn read_debug(
     ensures debug { ArePools frame.now pools.now → IfOk result (IsDebugAt frame.now off pools.now) }
     ensures refused { ArePools frame.now pools.now → IfErr result (IsDebugFault frame.now off) }
 {
-    let bytes = frame.bytes();
-    if off < frame.data_off() || bytes.len() < off as usize {
-        return Err(ItemFault::Refused(20));
+    let shape = check_debug(frame, pools, off)?;
+    match build_debug(alloc, frame, pools, off, shape) {
+        Ok(debug) => Ok(debug),
+        Err(_) => Err(ItemFault::Memory),
     }
-    let counts = Counts {
-        texts: pools.len(SymbolKind::Text),
-        types: pools.len(SymbolKind::Typ),
-    };
-    read_numbered(alloc, bytes, off as usize, counts)
 }

@@ -1,83 +1,61 @@
 //! Numbers of types in tries, and what becomes of them.
 
-ghost use Rattle.std.specs.Prelude.{◌≡◌, ◌<◌, ◌^◌, All, map};
+ghost use Rattle.std.specs.Prelude.{◌≡◌, ◌<◌, ◌^◌, ◌∷◌, [], All, map};
 ghost use Rattle.std.specs.List.{flat_map};
 ghost use Rattle.dexpool.specs.Uses.{HasMark, AreMarkedToo};
 ghost use Rattle.dexcode.specs.Renumbering.{catch_use, handler_uses, tries_uses, HasTypePlace, renumbered_catch, renumbered_handler, renumbered_try};
 
 use crate::handlers::{Catch, Handler};
 use crate::tries::Tries;
+use crate::visiting::{Renumber, Symbols, Visitor, renumber_all, visit_all};
 use dexpool::{Marks, Remap, SymbolKind};
 
-// The catch with the number that its type's leads to.
-fn renumbered_catch(remap: &Remap, catch: Catch) -> Catch
-    requires { HasTypePlace remap.now (catch_use catch) }
-    ensures { result ≡ renumbered_catch remap.now catch }
-{
-    let typ = match remap.image(SymbolKind::Typ, catch.typ as usize) {
-        Some(image) => image as u32,
-        None => catch.typ,
-    };
-    Catch {
-        typ,
-        addr: catch.addr,
+impl Renumber for Catch {
+    ghost places = { λ r c. HasTypePlace r (catch_use c) };
+
+    ghost led = { renumbered_catch };
+
+    fn renumber(&mut self, remap: &Remap) {
+        self.typ = match remap.image(SymbolKind::Typ, self.typ as usize) {
+            Some(image) => image as u32,
+            None => self.typ,
+        };
     }
 }
 
-// Puts for each type that is caught the number that it leads to.
-fn renumber_catches(catches: &mut Vec<Catch>, remap: &Remap)
-    requires { All (HasTypePlace remap.now) (map catch_use catches.old.items) }
-    ensures { catches.new.items ≡ map (renumbered_catch remap.now) catches.old.items }
-{
-    for i in 0..catches.len() {
-        catches[i] = renumbered_catch(remap, catches[i]);
+impl Renumber for Handler {
+    ghost places = { λ r h. All (HasTypePlace r) (handler_uses h) };
+
+    ghost led = { renumbered_handler };
+
+    fn renumber(&mut self, remap: &Remap) {
+        renumber_all(&mut self.catches, remap);
     }
 }
 
-// Does so in a handler.
-fn renumber_handler(handler: &mut Handler, remap: &Remap)
-    requires { All (HasTypePlace remap.now) (handler_uses handler.old) }
-    ensures { handler.new ≡ renumbered_handler remap.now handler.old }
-{
-    renumber_catches(&mut handler.catches, remap);
-}
+impl Symbols for Catch {
+    ghost uses = { λ c. catch_use c ∷ [] };
 
-// Does so in each handler.
-fn renumber_handlers(handlers: &mut Vec<Handler>, remap: &Remap)
-    requires { All (HasTypePlace remap.now) (flat_map handler_uses handlers.old.items) }
-    ensures { handlers.new.items ≡ map (renumbered_handler remap.now) handlers.old.items }
-{
-    for i in 0..handlers.len() {
-        renumber_handler(&mut handlers[i], remap);
+    fn visit<V: Visitor>(&self, visitor: &mut V) {
+        visitor.symbol(SymbolKind::Typ, self.typ);
     }
 }
 
-// Marks the types that a handler catches.
-fn mark_handler(handler: &Handler, marks: &mut Marks)
-    requires { All (HasMark marks.old) (handler_uses handler.now) }
-    ensures { AreMarkedToo (handler_uses handler.now) marks.old marks.new }
-{
-    mark_catches(&handler.catches, marks);
-}
+impl Symbols for Handler {
+    ghost uses = { handler_uses };
 
-// Marks the types that are caught.
-fn mark_catches(catches: &[Catch], marks: &mut Marks)
-    requires { All (HasMark marks.old) (map catch_use catches.now) }
-    ensures { AreMarkedToo (map catch_use catches.now) marks.old marks.new }
-{
-    for catch in catches {
-        marks.mark(SymbolKind::Typ, catch.typ as usize);
+    fn visit<V: Visitor>(&self, visitor: &mut V) {
+        visit_all(&self.catches, visitor);
     }
 }
 
 // Marks the types that handlers catch.
+#[tactic(auto, using(crate::proofs::Visits::all_marked))]
 fn mark_handlers(handlers: &[Handler], marks: &mut Marks)
     requires { All (HasMark marks.old) (flat_map handler_uses handlers.now) }
     ensures { AreMarkedToo (flat_map handler_uses handlers.now) marks.old marks.new }
 {
-    for handler in handlers {
-        mark_handler(handler, marks);
-    }
+    visit_all(handlers, marks);
 }
 
 impl Tries {
@@ -94,7 +72,7 @@ impl Tries {
         ensures { self.new ≡ map (renumbered_try remap.now) self.old }
     {
         remap.keeps_order();
-        renumber_handlers(&mut self.handlers, remap);
+        renumber_all(&mut self.handlers, remap);
     }
 
     // Marks each type that is caught. No memory is taken.

@@ -18,7 +18,7 @@ AreCut-push at us rest (b ∷ cs) c cut reached is =
     let on : at + b.units + units_of_all cs ≡ c.unit = omega arith in
     (cut.0, cut.1, AreCut-push (at + b.units) (drop b.units us) rest cs c cut.2 on is)
 
-units_of_all-push : (cs : List Cut) (c : Cut) → units_of_all (cs ++ c ∷ []) ≡ units_of_all cs + c.units
+pub units_of_all-push : (cs : List Cut) (c : Cut) → units_of_all (cs ++ c ∷ []) ≡ units_of_all cs + c.units
 units_of_all-push [] c = omega arith
 units_of_all-push (b ∷ cs) c = let on : units_of_all (cs ++ c ∷ []) ≡ units_of_all cs + c.units = units_of_all-push cs c in omega arith
 

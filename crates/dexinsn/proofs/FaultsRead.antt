@@ -36,3 +36,7 @@ code_fault (Err f) us vs m cs ds same_units same_cuts code h =
 pub pieces_fault : (b : List ℕ) (off : ℕ) (m : Mentions) (bytes : List ℕ) (f : ItemFault) → ArePools b m → AreUnitsAt b off bytes → IsCodeFault (units_in bytes) m f → IsPiecesFault b off f
 pieces_fault b off m bytes (Refused n) pools at h = (h.0, none_read b off m bytes pools at h.1)
 pieces_fault b off m bytes Memory pools at h = tt
+
+pub checked_fault : {X : Type 0} (b : List ℕ) (off : ℕ) (m : Mentions) (bytes : List ℕ) (r : Result X ItemFault) → ArePools b m → AreUnitsAt b off bytes → IfErr r (IsCodeFault (units_in bytes) m) → IfErr r (IsPiecesFault b off)
+checked_fault b off m bytes (Ok x) pools at h = tt
+checked_fault b off m bytes (Err f) pools at h = pieces_fault b off m bytes f pools at h

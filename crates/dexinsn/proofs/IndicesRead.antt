@@ -29,11 +29,11 @@ piece_at us cuts i d lt pieces =
 pub unit_within : (us : List ℕ) (cuts : List CutOfCode) (i : ℕ) (d : CutOfCode) → i < length cuts → All (IsPieceAt us) (cuts_of cuts) → (get_or cuts i d).unit < length us
 unit_within us cuts i d lt pieces = piece_within us (get_or cuts i d).unit (get_or cuts i d).units (piece_at us cuts i d lt pieces)
 
-pool_is : (o : Option Pool) (kind : SymbolKind) → Some kind ≡ option_map kind_of_pool o → (pool : Pool) × (o ≡ Some pool) × (kind ≡ kind_of_pool pool)
+pub pool_is : (o : Option Pool) (kind : SymbolKind) → Some kind ≡ option_map kind_of_pool o → (pool : Pool) × (o ≡ Some pool) × (kind ≡ kind_of_pool pool)
 pool_is None kind e = absurd cc
 pool_is (Some pool) kind e = (pool, refl, cc)
 
-no_pool_is : (o : Option Pool) → None ≡ option_map kind_of_pool o → o ≡ None
+pub no_pool_is : (o : Option Pool) → None ≡ option_map kind_of_pool o → o ≡ None
 no_pool_is None e = refl
 no_pool_is (Some pool) e = cc
 
@@ -51,11 +51,11 @@ wide_room_for us cuts i d kind lt pieces named =
 
 -- ---- one piece more
 
-with_index_append : (o : Option Pool) (us : List ℕ) (c : Cut) (is js : List Index) → with_index_at o us c (is ++ js) ≡ with_index_at o us c is ++ js
+pub with_index_append : (o : Option Pool) (us : List ℕ) (c : Cut) (is js : List Index) → with_index_at o us c (is ++ js) ≡ with_index_at o us c is ++ js
 with_index_append None us c is js = refl
 with_index_append (Some pool) us c is js = refl
 
-indices_push : (us : List ℕ) (cs : List Cut) (c : Cut) → indices_at us (cs ++ c ∷ []) ≡ indices_at us cs ++ with_index_at (index_pool (drop c.unit us)) us c []
+pub indices_push : (us : List ℕ) (cs : List Cut) (c : Cut) → indices_at us (cs ++ c ∷ []) ≡ indices_at us cs ++ with_index_at (index_pool (drop c.unit us)) us c []
 indices_push us [] c = refl
 indices_push us (b ∷ cs) c =
     ap (with_index_at (index_pool (drop b.unit us)) us b) (indices_push us cs c)
@@ -68,10 +68,10 @@ append_nil : {X : Type 0} (xs : List X) → xs ++ [] ≡ xs
 append_nil [] = refl
 append_nil (x ∷ xs) = ap (λ ys. x ∷ ys) (append_nil xs)
 
-range_by : (us : List ℕ) (m : Mentions) (c : Cut) (o : Option Pool) → index_pool (drop c.unit us) ≡ o → MatchOption o (Unit {0}) (λ pool. index_in (drop c.unit us) < count_of (kind_of_pool pool) m) → IsInRange us m c
+pub range_by : (us : List ℕ) (m : Mentions) (c : Cut) (o : Option Pool) → index_pool (drop c.unit us) ≡ o → MatchOption o (Unit {0}) (λ pool. index_in (drop c.unit us) < count_of (kind_of_pool pool) m) → IsInRange us m c
 range_by us m c o e h = subst (λ (p : Option Pool). MatchOption p (Unit {0}) (λ pool. index_in (drop c.unit us) < count_of (kind_of_pool pool) m)) (sym e) h
 
-range_is : (us : List ℕ) (m : Mentions) (c : Cut) (o : Option Pool) → index_pool (drop c.unit us) ≡ o → IsInRange us m c → MatchOption o (Unit {0}) (λ pool. index_in (drop c.unit us) < count_of (kind_of_pool pool) m)
+pub range_is : (us : List ℕ) (m : Mentions) (c : Cut) (o : Option Pool) → index_pool (drop c.unit us) ≡ o → IsInRange us m c → MatchOption o (Unit {0}) (λ pool. index_in (drop c.unit us) < count_of (kind_of_pool pool) m)
 range_is us m c o e h = subst (λ (p : Option Pool). MatchOption p (Unit {0}) (λ pool. index_in (drop c.unit us) < count_of (kind_of_pool pool) m)) e h
 
 pub none_read : (us : List ℕ) (m : Mentions) (is : List Index) → is ≡ [] → AreIndicesOf us m [] is

@@ -24,3 +24,7 @@ pub mod Leads
 pub mod Once
 pub mod TargetGroups
 pub mod StartBits
+pub mod Passed
+pub mod Placed
+pub mod NextBits
+pub mod Leading

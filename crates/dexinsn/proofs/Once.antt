@@ -60,7 +60,7 @@ reaches at us (c ∷ cs) rest e =
     omega arith
 
 -- no piece begins where no units are left
-nothing : (at : ℕ) → piece_size at [] ≡ None
+pub nothing : (at : ℕ) → piece_size at [] ≡ None
 unfolding piece_size
 nothing at = refl
 
@@ -88,7 +88,7 @@ not_both us cs n cut b =
     omega arith
 
 -- there is one cut to the end
-whole_once : (us : List ℕ) (cs ds : List Cut) → AreCut 0 us cs [] → AreCut 0 us ds [] → cs ≡ ds
+pub whole_once : (us : List ℕ) (cs ds : List Cut) → AreCut 0 us cs [] → AreCut 0 us ds [] → cs ≡ ds
 whole_once us cs ds e f = cut_once 0 us cs ds [] [] (whole us cs e) (whole us ds f)
 
 -- a cut breaks at one unit

@@ -22,7 +22,7 @@ use Rattle.dexinsn.proofs.Starts.{int_eq-same, int_eq-other, starts_with-below}
 -- ---- 64 bits from one on
 
 -- the upper bits of a word, put down
-low_part : (a s i : ℕ) → bit_at (a / 2 ^ s) i ≡ bit_at a (s + i)
+pub low_part : (a s i : ℕ) → bit_at (a / 2 ^ s) i ≡ bit_at a (s + i)
 low_part a s i = ap (λ x. x % 2) (shr-shr a s i)
 
 -- what goes over the end of a word changes none of its bits
@@ -182,15 +182,15 @@ none_started us words n room is = subst (AreStartsOf us []) (sym is) record {
   within = λ k has. absurd (none_set n k has);
 }
 
-or_nothing : (x y : Bool) → y ≡ false → (x || (y || false)) ≡ x
+pub or_nothing : (x y : Bool) → y ≡ false → (x || (y || false)) ≡ x
 or_nothing true y none = refl
 or_nothing false y none = cc
 
-or_last : (x y : Bool) → y ≡ true → (x || (y || false)) ≡ true
+pub or_last : (x y : Bool) → y ≡ true → (x || (y || false)) ≡ true
 or_last true y some = refl
 or_last false y some = cc
 
-and_nothing : (x y : Bool) → y ≡ false → (x && y) ≡ false
+pub and_nothing : (x y : Bool) → y ≡ false → (x && y) ≡ false
 and_nothing true y none = none
 and_nothing false y none = refl
 
@@ -230,7 +230,7 @@ next_start us cs c words new plain inside long here others before = record {
 
 -- ---- targets by their groups
 
-same_answer : (a b : Bool) → (a ≡ true → b ≡ true) → (b ≡ true → a ≡ true) → a ≡ b
+pub same_answer : (a b : Bool) → (a ≡ true → b ≡ true) → (b ≡ true → a ≡ true) → a ≡ b
 same_answer true b f g = sym (f refl)
 same_answer false true f g = g refl
 same_answer false false f g = refl

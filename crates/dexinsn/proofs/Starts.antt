@@ -17,7 +17,7 @@ use Rattle.dexinsn.specs.Payload.{ident_of}
 use Rattle.dexinsn.specs.Split.{cut_of, cuts_of, AreMarked, IsPieceAt, starts_with}
 
 -- nothing begins at a negative number
-starts_with-negsuc : (test : ℕ → Bool) (us : List ℕ) (cs : List Cut) (n : ℕ) → starts_with test us cs (negsuc n) ≡ false
+pub starts_with-negsuc : (test : ℕ → Bool) (us : List ℕ) (cs : List Cut) (n : ℕ) → starts_with test us cs (negsuc n) ≡ false
 starts_with-negsuc test us [] n = refl
 starts_with-negsuc test us (c ∷ cs) n = starts_with-negsuc test us cs n
 
@@ -41,7 +41,7 @@ or_same false true = refl
 or_same false false = refl
 
 -- at a number a piece begins with a unit that passes where one begins and the unit there passes
-starts_with-pos : (test : ℕ → Bool) (us : List ℕ) (cs : List Cut) (k : ℕ) → starts_with test us cs (pos k) ≡ (list_any (λ c. c.unit == k) cs && test (slice_index us k))
+pub starts_with-pos : (test : ℕ → Bool) (us : List ℕ) (cs : List Cut) (k : ℕ) → starts_with test us cs (pos k) ≡ (list_any (λ c. c.unit == k) cs && test (slice_index us k))
 starts_with-pos test us [] k = refl
 starts_with-pos test us (c ∷ cs) k =
     let on : starts_with test us cs (pos k) ≡ (list_any (λ (b : Cut). b.unit == k) cs && test (slice_index us k)) = starts_with-pos test us cs k in

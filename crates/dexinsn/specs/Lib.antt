@@ -10,3 +10,4 @@ pub mod Same
 pub mod Listing
 pub mod Fitting
 pub mod LongSwitches
+pub mod Checking

@@ -3,6 +3,7 @@
 //! Sources: the Android pages "Dalvik bytecode" and "Dalvik executable instruction formats".
 #![tactic(auto)]
 
+pub use checking::{Scratch, check_pieces};
 pub use code::{CodeFault, Cut, split};
 pub use format::Format;
 pub use instruction_starts::InstructionStarts;
@@ -17,6 +18,7 @@ pub use pieces::Pieces;
 pub use put::put_pieces;
 pub use reading::{read_pieces, read_pieces_and_starts};
 
+mod checking;
 mod code;
 mod code_units;
 mod format;

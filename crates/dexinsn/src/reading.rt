@@ -19,7 +19,7 @@ use dexpool::{ItemFault, Pools};
 use std::alloc::Global;
 
 // The bytes of the units of the code_item at an offset, if there is room for them in the data.
-fn units_at<'a>(frame: &Frame<'a>, off: u32) -> Option<&'a [u8]>
+pub(crate) fn units_at<'a>(frame: &Frame<'a>, off: u32) -> Option<&'a [u8]>
     ensures { MatchOption result (HasCodeRoom frame.now off → ⊥) (λ bytes. AreUnitsAt frame.now off bytes.now) }
 {
     if off % 4 != 0 || !frame.is_in_data(off, 16) {

@@ -12,7 +12,7 @@ use Rattle.dexpool.specs.Orderly.{LeadDown}
 use Rattle.dexpool.specs.Pools.{count_of}
 use Rattle.dexpool.specs.Uses.{Use, IsLedUse}
 use Rattle.dexval.specs.Numbered.{NumberedValue, NumberedValues, NumberedElements, NumberedAnnotation, NumberedSet, Plain, Named, Array, Annotated, NoValue, ThenNext, NoElement, ThenNamed, kind_of_reference, IsKnown, AreKnown, HaveKnown, IsKnownAnnotation, IsKnownSet}
-use Rattle.dexval.specs.Renumbering.{LeadsNarrow, LeadsOn, HasPlaces, HavePlaces, ElementsHavePlaces, AnnotationHasPlaces, SetHasPlaces}
+use Rattle.dexval.specs.Renumbering.{LeadsNarrow, LeadsOn, LeadsUse, HasPlaces, HavePlaces, SetHasPlaces}
 use Rattle.dexval.specs.Uses.{value_uses, values_uses, elements_uses, annotation_uses, set_uses}
 use Rattle.dexval.proofs.Marked.{all_front, all_back}
 
@@ -38,74 +38,20 @@ module _ (r : Maps) (within : LeadsNarrow r) where
   leads_on : (kind : SymbolKind) (i : ℕ) → IsSome (image_of r kind i) → LeadsOn r kind i
   leads_on kind i h = let at = some_of (image_of r kind i) h in (at.0, at.1, λ lt. within kind i at.0 at.1 lt)
 
-  first_on : (kind : SymbolKind) (i : ℕ) (us : List Use) → All (IsLedUse r) (use_of kind i ∷ us) → LeadsOn r kind i
-  first_on kind i us h = leads_on kind i (All-head (IsLedUse r) (use_of kind i) us h)
-
-  mutual
-    pub value_placed : (x : NumberedValue) → All (IsLedUse r) (value_uses x) → HasPlaces r x
-    value_placed (Plain l) h = tt
-    value_placed (Named x i) h = first_on (kind_of_reference x) i [] h
-    value_placed (Array xs) h = values_placed xs h
-    value_placed (Annotated t es) h = (first_on kinds.Typ t (elements_uses es) h, elements_placed es (All-tail (IsLedUse r) (use_of kinds.Typ t) (elements_uses es) h))
-
-    pub values_placed : (xs : NumberedValues) → All (IsLedUse r) (values_uses xs) → HavePlaces r xs
-    values_placed NoValue h = tt
-    values_placed (ThenNext x xs) h = (value_placed x (all_front (IsLedUse r) (value_uses x) (values_uses xs) h), values_placed xs (all_back (IsLedUse r) (value_uses x) (values_uses xs) h))
-
-    elements_placed : (es : NumberedElements) → All (IsLedUse r) (elements_uses es) → ElementsHavePlaces r es
-    elements_placed NoElement h = tt
-    elements_placed (ThenNamed name x es) h =
-        let behind = All-tail (IsLedUse r) (use_of kinds.Text name) (value_uses x ++ elements_uses es) h in (
-          first_on kinds.Text name (value_uses x ++ elements_uses es) h,
-          value_placed x (all_front (IsLedUse r) (value_uses x) (elements_uses es) behind),
-          elements_placed es (all_back (IsLedUse r) (value_uses x) (elements_uses es) behind),
-        )
-
-  pub annotation_placed : (a : NumberedAnnotation) → All (IsLedUse r) (annotation_uses a) → AnnotationHasPlaces r a
-  annotation_placed a h = record {
-    type_leads = first_on kinds.Typ a.type (elements_uses a.elements) h;
-    elements_lead = elements_placed a.elements (All-tail (IsLedUse r) (use_of kinds.Typ a.type) (elements_uses a.elements) h);
-  }
-
-  pub set_placed : (xs : NumberedSet) → All (IsLedUse r) (set_uses xs) → SetHasPlaces r xs
-  set_placed [] h = All-nil (AnnotationHasPlaces r)
-  set_placed (x ∷ xs) h =
-      All-cons (AnnotationHasPlaces r) x xs (annotation_placed x (all_front (IsLedUse r) (annotation_uses x) (set_uses xs) h)) (set_placed xs (all_back (IsLedUse r) (annotation_uses x) (set_uses xs) h))
+  -- where each number that occurs leads somewhere, each leads on
+  pub uses_placed : (us : List Use) → All (IsLedUse r) us → All (LeadsUse r) us
+  uses_placed [] h = All-nil (LeadsUse r)
+  uses_placed (u ∷ us) h = All-cons (LeadsUse r) u us (leads_on u.kind u.number (All-head (IsLedUse r) u us h)) (uses_placed us (All-tail (IsLedUse r) u us h))
 
   pub sets_placed : (ss : List NumberedSet) → All (IsLedUse r) (flat_map set_uses ss) → All (SetHasPlaces r) ss
   sets_placed [] h = All-nil (SetHasPlaces r)
-  sets_placed (s ∷ ss) h = All-cons (SetHasPlaces r) s ss (set_placed s (all_front (IsLedUse r) (set_uses s) (flat_map set_uses ss) h)) (sets_placed ss (all_back (IsLedUse r) (set_uses s) (flat_map set_uses ss) h))
+  sets_placed (s ∷ ss) h = All-cons (SetHasPlaces r) s ss (uses_placed (set_uses s) (all_front (IsLedUse r) (set_uses s) (flat_map set_uses ss) h)) (sets_placed ss (all_back (IsLedUse r) (set_uses s) (flat_map set_uses ss) h))
 
 -- ---- from places to images
 
-module _ (r : Maps) where
-  has_image : (kind : SymbolKind) (i : ℕ) → LeadsOn r kind i → IsLedUse r (use_of kind i)
-  has_image kind i h = subst IsSome (sym h.1) refl
-
-  mutual
-    pub value_led_somewhere : (x : NumberedValue) → HasPlaces r x → All (IsLedUse r) (value_uses x)
-    value_led_somewhere (Plain l) h = All-nil (IsLedUse r)
-    value_led_somewhere (Named x i) h = All-cons (IsLedUse r) (use_of (kind_of_reference x) i) [] (has_image (kind_of_reference x) i h) (All-nil (IsLedUse r))
-    value_led_somewhere (Array xs) h = values_led_somewhere xs h
-    value_led_somewhere (Annotated t es) h = All-cons (IsLedUse r) (use_of kinds.Typ t) (elements_uses es) (has_image kinds.Typ t h.0) (elements_led_somewhere es h.1)
-
-    pub values_led_somewhere : (xs : NumberedValues) → HavePlaces r xs → All (IsLedUse r) (values_uses xs)
-    values_led_somewhere NoValue h = All-nil (IsLedUse r)
-    values_led_somewhere (ThenNext x xs) h = All-append (IsLedUse r) (value_uses x) (values_uses xs) (value_led_somewhere x h.0) (values_led_somewhere xs h.1)
-
-    elements_led_somewhere : (es : NumberedElements) → ElementsHavePlaces r es → All (IsLedUse r) (elements_uses es)
-    elements_led_somewhere NoElement h = All-nil (IsLedUse r)
-    elements_led_somewhere (ThenNamed name x es) h =
-        All-cons (IsLedUse r) (use_of kinds.Text name) (value_uses x ++ elements_uses es) (has_image kinds.Text name h.0)
-        (All-append (IsLedUse r) (value_uses x) (elements_uses es) (value_led_somewhere x h.1) (elements_led_somewhere es h.2))
-
-  annotation_led_somewhere : (a : NumberedAnnotation) → AnnotationHasPlaces r a → All (IsLedUse r) (annotation_uses a)
-  annotation_led_somewhere a h = All-cons (IsLedUse r) (use_of kinds.Typ a.type) (elements_uses a.elements) (has_image kinds.Typ a.type h.type_leads) (elements_led_somewhere a.elements h.elements_lead)
-
-  pub set_led_somewhere : (xs : NumberedSet) → SetHasPlaces r xs → All (IsLedUse r) (set_uses xs)
-  set_led_somewhere [] h = All-nil (IsLedUse r)
-  set_led_somewhere (x ∷ xs) h =
-      All-append (IsLedUse r) (annotation_uses x) (set_uses xs) (annotation_led_somewhere x (All-head (AnnotationHasPlaces r) x xs h)) (set_led_somewhere xs (All-tail (AnnotationHasPlaces r) x xs h))
+pub uses_led : (r : Maps) (us : List Use) → All (LeadsUse r) us → All (IsLedUse r) us
+uses_led r [] h = All-nil (IsLedUse r)
+uses_led r (u ∷ us) h = All-cons (IsLedUse r) u us (subst IsSome (sym (All-head (LeadsUse r) u us h).1) refl) (uses_led r us (All-tail (LeadsUse r) u us h))
 
 -- ---- numbers of symbols, in a map that has an image for each
 
@@ -137,10 +83,10 @@ module _ (m : Mentions) (r : Maps) (all : LeadsAll m r) where
 
 -- each number of a value leads to one of 32 bits
 pub value_has_places : (m n : Mentions) (r : Maps) (x : NumberedValue) → LeadsWithin n r → LeadsAll m r → ((kind : SymbolKind) → count_of kind n ≤ 2 ^ 32) → IsKnown m x → HasPlaces r x
-value_has_places m n r x within all few known = value_placed r (join_within n r within few) x (known_value_led m r all x known)
+value_has_places m n r x within all few known = uses_placed r (join_within n r within few) (value_uses x) (known_value_led m r all x known)
 
 pub values_have_places : (m n : Mentions) (r : Maps) (xs : NumberedValues) → LeadsWithin n r → LeadsAll m r → ((kind : SymbolKind) → count_of kind n ≤ 2 ^ 32) → AreKnown m xs → HavePlaces r xs
-values_have_places m n r xs within all few known = values_placed r (join_within n r within few) xs (known_values_led m r all xs known)
+values_have_places m n r xs within all few known = uses_placed r (join_within n r within few) (values_uses xs) (known_values_led m r all xs known)
 
 pub set_has_places : (m n : Mentions) (r : Maps) (xs : NumberedSet) → LeadsWithin n r → LeadsAll m r → ((kind : SymbolKind) → count_of kind n ≤ 2 ^ 32) → IsKnownSet m xs → SetHasPlaces r xs
-set_has_places m n r xs within all few known = set_placed r (join_within n r within few) xs (known_set_led m r all xs known)
+set_has_places m n r xs within all few known = uses_placed r (join_within n r within few) (set_uses xs) (known_set_led m r all xs known)

@@ -36,4 +36,5 @@ pub mod Tables
 pub mod TablesLed
 pub mod ValueForms
 pub mod ValuesRead
+pub mod Visits
 pub mod Weights

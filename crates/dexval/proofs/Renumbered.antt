@@ -4,8 +4,10 @@ use Rattle.std.specs.List.{All}
 use Rattle.std.proofs.lemmas.List.{drop-drop, get_or-drop, get_or-map, take_more_set, map-append, map_more, take_all, drop-set-lt, length-set, length-map}
 use Rattle.std.proofs.lemmas.List.Elements.{All-nil, All-cons, All-get_or}
 use Rattle.dexpool.specs.Numberings.{Maps}
-use Rattle.dexval.specs.Numbered.{NumberedValue, values_of_list, elements_of_list, ThenNext, ThenNamed}
-use Rattle.dexval.specs.Renumbering.{renumbered, renumbered_values, renumbered_elements, renumbered_element, HasPlaces, HavePlaces, ElementsHavePlaces, ElementHasPlaces}
+use Rattle.dexval.specs.Numbered.{NumberedValue, NumberedAnnotation, values_of_list, elements_of_list, ThenNext, ThenNamed}
+use Rattle.dexval.specs.Renumbering.{renumbered, renumbered_values, renumbered_elements, renumbered_element, LeadsUse, HasPlaces, HavePlaces, ElementsHavePlaces, ElementHasPlaces, AnnotationHasPlaces, SetHasPlaces}
+use Rattle.dexval.specs.Uses.{value_uses, values_uses, element_uses, elements_uses, annotation_uses, set_uses}
+use Rattle.dexval.proofs.Marked.{all_front, all_back}
 
 -- ---- a list that is changed member by member
 
@@ -59,8 +61,19 @@ elements_renumbered r ((name, y) ∷ ys) = let e = renumbered_element r (name, y
 
 pub values_placed : (r : Maps) (ys : List NumberedValue) → HavePlaces r (values_of_list ys) → All (HasPlaces r) ys
 values_placed r [] h = All-nil (HasPlaces r)
-values_placed r (y ∷ ys) h = All-cons (HasPlaces r) y ys h.0 (values_placed r ys h.1)
+values_placed r (y ∷ ys) h =
+    let us = value_uses y in
+    let vs = values_uses (values_of_list ys) in
+    All-cons (HasPlaces r) y ys (all_front (LeadsUse r) us vs h) (values_placed r ys (all_back (LeadsUse r) us vs h))
 
 pub elements_placed : (r : Maps) (ys : List (ℕ × NumberedValue)) → ElementsHavePlaces r (elements_of_list ys) → All (ElementHasPlaces r) ys
 elements_placed r [] h = All-nil (ElementHasPlaces r)
-elements_placed r ((name, y) ∷ ys) h = All-cons (ElementHasPlaces r) (name, y) ys (h.0, h.1) (elements_placed r ys h.2)
+elements_placed r ((name, y) ∷ ys) h =
+    let us = element_uses (name, y) in
+    let vs = elements_uses (elements_of_list ys) in
+    All-cons (ElementHasPlaces r) (name, y) ys (all_front (LeadsUse r) us vs h) (elements_placed r ys (all_back (LeadsUse r) us vs h))
+
+pub annotations_placed : (r : Maps) (xs : List NumberedAnnotation) → SetHasPlaces r xs → All (AnnotationHasPlaces r) xs
+annotations_placed r [] h = All-nil (AnnotationHasPlaces r)
+annotations_placed r (x ∷ xs) h =
+    All-cons (AnnotationHasPlaces r) x xs (all_front (LeadsUse r) (annotation_uses x) (set_uses xs) h) (annotations_placed r xs (all_back (LeadsUse r) (annotation_uses x) (set_uses xs) h))

@@ -3,6 +3,8 @@ use Rattle.std.specs.Prelude.{◌≡◌, ℕ, ◌^◌, ◌<◌, map, All, Some, 
 use Rattle.dexpool.specs.declared.symbols.SymbolKind.{SymbolKind}
 use Rattle.dexpool.specs.declared.symbols.SymbolKind.TheVariants as kinds
 use Rattle.dexpool.specs.Numberings.{Maps, image_of}
+use Rattle.dexpool.specs.Uses.{Use}
+use Rattle.dexval.specs.Uses.{value_uses, values_uses, element_uses, elements_uses, annotation_uses, set_uses}
 use Rattle.dexval.specs.Numbered.{NumberedValue, NumberedValues, NumberedElements, NumberedAnnotation, NumberedSet, Plain, Named, Array, Annotated, NoValue, ThenNext, NoElement, ThenNamed, kind_of_reference}
 
 -- where a number of a kind leads; one that leads nowhere stays
@@ -49,33 +51,30 @@ LeadsNarrow r = (kind : SymbolKind) (i j : ℕ) → image_of r kind i ≡ Some j
 abbrev pub LeadsOn : Maps → SymbolKind → ℕ → Type 0
 LeadsOn r kind i = (j : ℕ) × (image_of r kind i ≡ Some j) × (i < 2 ^ 32 → j < 2 ^ 32)
 
-abbrev mutual
-  -- each number of the value leads on so
-  pub HasPlaces : Maps → NumberedValue → Type 0
-  HasPlaces r (Plain literal) = Unit {0}
-  HasPlaces r (Named reference i) = LeadsOn r (kind_of_reference reference) i
-  HasPlaces r (Array xs) = HavePlaces r xs
-  HasPlaces r (Annotated t es) = LeadsOn r kinds.Typ t × ElementsHavePlaces r es
+-- the symbol's number leads on so
+abbrev pub LeadsUse : Maps → Use → Type 0
+LeadsUse r u = LeadsOn r u.kind u.number
 
-  -- each number of these values
-  pub HavePlaces : Maps → NumberedValues → Type 0
-  HavePlaces r NoValue = Unit {0}
-  HavePlaces r (ThenNext x xs) = HasPlaces r x × HavePlaces r xs
+-- each number of the value leads on so
+abbrev pub HasPlaces : Maps → NumberedValue → Type 0
+HasPlaces r x = All (LeadsUse r) (value_uses x)
 
-  -- of these elements
-  pub ElementsHavePlaces : Maps → NumberedElements → Type 0
-  ElementsHavePlaces r NoElement = Unit {0}
-  ElementsHavePlaces r (ThenNamed name x es) = LeadsOn r kinds.Text name × HasPlaces r x × ElementsHavePlaces r es
+-- each number of these values
+abbrev pub HavePlaces : Maps → NumberedValues → Type 0
+HavePlaces r xs = All (LeadsUse r) (values_uses xs)
+
+-- of these elements
+abbrev pub ElementsHavePlaces : Maps → NumberedElements → Type 0
+ElementsHavePlaces r es = All (LeadsUse r) (elements_uses es)
 
 -- of one element
 abbrev pub ElementHasPlaces : Maps → ℕ × NumberedValue → Type 0
-ElementHasPlaces r e = LeadsOn r kinds.Text e.0 × HasPlaces r e.1
+ElementHasPlaces r e = All (LeadsUse r) (element_uses e)
 
 -- of the annotation
-pub record AnnotationHasPlaces (r : Maps) (a : NumberedAnnotation) : Type 0 where
-  pub type_leads : LeadsOn r kinds.Typ a.type
-  pub elements_lead : ElementsHavePlaces r a.elements
+abbrev pub AnnotationHasPlaces : Maps → NumberedAnnotation → Type 0
+AnnotationHasPlaces r a = All (LeadsUse r) (annotation_uses a)
 
 -- of the set
 abbrev pub SetHasPlaces : Maps → NumberedSet → Type 0
-SetHasPlaces r s = All (AnnotationHasPlaces r) s
+SetHasPlaces r s = All (LeadsUse r) (set_uses s)

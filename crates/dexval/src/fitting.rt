@@ -2,116 +2,69 @@
 
 ghost use Rattle.std.specs.Prelude.{◌≡◌, ◌↔◌, IsTrue, map};
 ghost use Rattle.dexval.specs.Code.{value_of, element_of, annotation_of, set_of};
-ghost use Rattle.dexval.specs.Numbered.{values_of_list, elements_of_list};
-ghost use Rattle.dexval.specs.Renumbering.{LeadsOn, HasPlaces, HavePlaces, ElementHasPlaces, ElementsHavePlaces, AnnotationHasPlaces, SetHasPlaces};
+ghost use Rattle.dexval.specs.Numbered.{values_of_list};
+ghost use Rattle.dexval.specs.Renumbering.{HasPlaces, HavePlaces, ElementHasPlaces, AnnotationHasPlaces, SetHasPlaces};
 
 use crate::annotation::Annotation;
 use crate::set::AnnotationSet;
 use crate::value::{Element, Value};
-use dexpool::{Remap, SymbolKind};
-
-// Whether a number leads to one, below 2^32.
-fn leads_on(remap: &Remap, kind: SymbolKind, number: u32) -> bool
-    ensures { IsTrue result ↔ LeadsOn remap.now kind number }
-{
-    match remap.image(kind, number as usize) {
-        Some(image) => image < 0x1_0000_0000,
-        None => false,
-    }
-}
-
-// Whether each number of elements does.
-#[cycle(fitting)]
-fn elements_fit(elements: &[Element], remap: &Remap) -> bool
-    ensures { IsTrue result ↔ ElementsHavePlaces remap.now (elements_of_list (map element_of elements.now)) }
-{
-    for element in elements {
-        if !element.fits(remap) {
-            return false;
-        }
-    }
-    true
-}
+use crate::visiting::{Fits, visit_values};
+use dexpool::Remap;
 
 /// Whether each number of a symbol in values, as those of static fields, leads to one, below 2^32. No memory is taken.
-#[cycle(fitting)]
+#[tactic(auto, using(crate::proofs::Visits::all_fit))]
 pub fn values_fit(values: &[Value], remap: &Remap) -> bool
     ensures { IsTrue result ↔ HavePlaces remap.now (values_of_list (map value_of values.now)) }
 {
-    for value in values {
-        if !value.fits(remap) {
-            return false;
-        }
-    }
-    true
+    let mut fits = Fits { remap, fit: true };
+    visit_values(values, &mut fits);
+    fits.fit
 }
 
 impl Value {
     /// Whether each number of a symbol in the value leads to one, below 2^32. No memory is taken.
-    #[cycle(fitting)]
+    #[tactic(auto, using(crate::proofs::Visits::all_fit))]
     pub fn fits(&self, remap: &Remap) -> bool
         ensures { IsTrue result ↔ HasPlaces remap.now (value_of self.now) }
     {
-        match self {
-            Value::String(number) => leads_on(remap, SymbolKind::Text, *number),
-            Value::Typ(number) => leads_on(remap, SymbolKind::Typ, *number),
-            Value::Field(number) => leads_on(remap, SymbolKind::Field, *number),
-            Value::Method(number) => leads_on(remap, SymbolKind::Method, *number),
-            Value::Enum(number) => leads_on(remap, SymbolKind::Field, *number),
-            Value::Array(values) => values_fit(values, remap),
-            Value::Annotation(typ, elements) => {
-                if !leads_on(remap, SymbolKind::Typ, *typ) {
-                    return false;
-                }
-                elements_fit(elements, remap)
-            }
-            _ => true,
-        }
+        let mut fits = Fits { remap, fit: true };
+        self.visit(&mut fits);
+        fits.fit
     }
 }
 
 impl Element {
     /// Whether the number of the name, and each in the value, leads to one, below 2^32. No memory is taken.
-    #[cycle(fitting)]
+    #[tactic(auto, using(crate::proofs::Visits::all_fit))]
     pub fn fits(&self, remap: &Remap) -> bool
         ensures { IsTrue result ↔ ElementHasPlaces remap.now (element_of self.now) }
     {
-        if !leads_on(remap, SymbolKind::Text, self.name) {
-            return false;
-        }
-        self.value.fits(remap)
+        let mut fits = Fits { remap, fit: true };
+        self.visit(&mut fits);
+        fits.fit
     }
 }
 
 impl Annotation {
     /// Whether the number of the type, and each in the elements, leads to one, below 2^32. No memory is taken.
+    #[tactic(auto, using(crate::proofs::Visits::all_fit))]
     pub fn fits(&self, remap: &Remap) -> bool
         ensures { IsTrue result ↔ AnnotationHasPlaces remap.now (annotation_of self.now) }
     {
-        if !leads_on(remap, SymbolKind::Typ, self.typ) {
-            return false;
-        }
-        elements_fit(&self.elements, remap)
+        let mut fits = Fits { remap, fit: true };
+        self.visit(&mut fits);
+        fits.fit
     }
-}
-
-// Whether each number of annotations does.
-fn annotations_fit(annotations: &[Annotation], remap: &Remap) -> bool
-    ensures { IsTrue result ↔ SetHasPlaces remap.now (map annotation_of annotations.now) }
-{
-    for annotation in annotations {
-        if !annotation.fits(remap) {
-            return false;
-        }
-    }
-    true
 }
 
 impl AnnotationSet {
     /// Whether each number of a symbol in the annotations leads to one, below 2^32. No memory is taken.
+    #[tactic(auto, using(crate::proofs::Visits::all_fit))]
     pub fn fits(&self, remap: &Remap) -> bool
         ensures { IsTrue result ↔ SetHasPlaces remap.now (set_of self.now) }
     {
-        annotations_fit(&self.annotations, remap)
+        let mut fits = Fits { remap, fit: true };
+        self.visit(&mut fits);
+        fits.fit
     }
 }

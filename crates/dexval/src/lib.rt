@@ -55,5 +55,6 @@ mod type_codes;
 mod value;
 mod value_reading;
 mod visibility;
+mod visiting;
 mod weight;
 mod widths;

@@ -1,10 +1,13 @@
-use Rattle.std.proofs.Common.{rules, map, ap, sym, subst, ◌∙◌, arith}
+use Rattle.std.proofs.Common.{rules, [], map, ap, sym, subst, ◌∙◌, arith}
+use Rattle.std.proofs.lemmas.List.Elements.{All-head, All-tail}
 use Rattle.dexpool.specs.declared.symbols.SymbolKind.TheVariants as kinds
 use Rattle.dexval.specs.Code.{value_of, element_of}
 use Rattle.dexval.specs.Numbered.{values_of_list, elements_of_list}
-use Rattle.dexval.specs.Renumbering.{renumbered, renumbered_element, LeadsOn, HasPlaces, ElementHasPlaces}
-use Rattle.dexval.proofs.CodeForms.{string_is, typ_is, field_is, method_is, enum_is, annotation_is}
+use Rattle.dexval.specs.Renumbering.{renumbered, renumbered_element, LeadsOn, LeadsUse, HasPlaces, HavePlaces, ElementHasPlaces, ElementsHavePlaces}
+use Rattle.dexval.specs.Uses.{value_uses, elements_uses}
+use Rattle.dexval.proofs.CodeForms.{string_is, typ_is, field_is, method_is, enum_is, array_is, annotation_is, element_is}
 use Rattle.dexval.proofs.Members.{value_lighter, element_lighter}
+use Rattle.dexval.proofs.ValueForms.{array_lighter, annotation_lighter}
 use Rattle.dexval.proofs.Renumbered.{next_is, next_member, all_led, led_more, values_placed, elements_placed, values_renumbered, elements_renumbered}
 use Rattle.dexval.proofs.+renumbering.Goals as goal
 
@@ -50,30 +53,53 @@ renumbering::renumber_values-returns t c =
 
 pub value::Value::renumber-led-requires : goal.value::Value::renumber-led-requires
 value::Value::renumber-led-requires t c =
-    let leads = subst (HasPlaces c.args.remap.now) (ap value_of c.in-String.is ∙ string_is c.in-String.number) c.requires in
+    let leads = All-head (LeadsUse c.args.remap.now) (record { kind = kinds.Text; number = c.in-String.number }) [] (subst (HasPlaces c.args.remap.now) (ap value_of c.in-String.is ∙ string_is c.in-String.number) c.requires) in
     subst (LeadsOn c.args.remap.now kinds.Text) (sym c.in-String.number-is) leads
 
 pub value::Value::renumber-led-requires-in-Typ : goal.value::Value::renumber-led-requires-in-Typ
 value::Value::renumber-led-requires-in-Typ t c =
-    let leads = subst (HasPlaces c.args.remap.now) (ap value_of c.in-Typ.is ∙ typ_is c.in-Typ.number) c.requires in
+    let leads = All-head (LeadsUse c.args.remap.now) (record { kind = kinds.Typ; number = c.in-Typ.number }) [] (subst (HasPlaces c.args.remap.now) (ap value_of c.in-Typ.is ∙ typ_is c.in-Typ.number) c.requires) in
     subst (LeadsOn c.args.remap.now kinds.Typ) (sym c.in-Typ.number-is) leads
 
 pub value::Value::renumber-led-requires-in-Field : goal.value::Value::renumber-led-requires-in-Field
 value::Value::renumber-led-requires-in-Field t c =
-    let leads = subst (HasPlaces c.args.remap.now) (ap value_of c.in-Field.is ∙ field_is c.in-Field.number) c.requires in
+    let leads = All-head (LeadsUse c.args.remap.now) (record { kind = kinds.Field; number = c.in-Field.number }) [] (subst (HasPlaces c.args.remap.now) (ap value_of c.in-Field.is ∙ field_is c.in-Field.number) c.requires) in
     subst (LeadsOn c.args.remap.now kinds.Field) (sym c.in-Field.number-is) leads
 
 pub value::Value::renumber-led-requires-in-Method : goal.value::Value::renumber-led-requires-in-Method
 value::Value::renumber-led-requires-in-Method t c =
-    let leads = subst (HasPlaces c.args.remap.now) (ap value_of c.in-Method.is ∙ method_is c.in-Method.number) c.requires in
+    let leads = All-head (LeadsUse c.args.remap.now) (record { kind = kinds.Method; number = c.in-Method.number }) [] (subst (HasPlaces c.args.remap.now) (ap value_of c.in-Method.is ∙ method_is c.in-Method.number) c.requires) in
     subst (LeadsOn c.args.remap.now kinds.Method) (sym c.in-Method.number-is) leads
 
 pub value::Value::renumber-led-requires-in-Enum : goal.value::Value::renumber-led-requires-in-Enum
 value::Value::renumber-led-requires-in-Enum t c =
-    let leads = subst (HasPlaces c.args.remap.now) (ap value_of c.in-Enum.is ∙ enum_is c.in-Enum.number) c.requires in
+    let leads = All-head (LeadsUse c.args.remap.now) (record { kind = kinds.Field; number = c.in-Enum.number }) [] (subst (HasPlaces c.args.remap.now) (ap value_of c.in-Enum.is ∙ enum_is c.in-Enum.number) c.requires) in
     subst (LeadsOn c.args.remap.now kinds.Field) (sym c.in-Enum.number-is) leads
 
 pub value::Value::renumber-led-requires-in-Annotation : goal.value::Value::renumber-led-requires-in-Annotation
 value::Value::renumber-led-requires-in-Annotation t c =
-    let leads = subst (HasPlaces c.args.remap.now) (ap value_of c.in-Annotation.is ∙ annotation_is c.in-Annotation.typ c.in-Annotation.elements) c.requires in
-    subst (LeadsOn c.args.remap.now kinds.Typ) (sym c.in-Annotation.typ-is) leads.0
+    let leads = All-head (LeadsUse c.args.remap.now) (record { kind = kinds.Typ; number = c.in-Annotation.typ }) (elements_uses (elements_of_list (map element_of c.in-Annotation.elements.items))) (subst (HasPlaces c.args.remap.now) (ap value_of c.in-Annotation.is ∙ annotation_is c.in-Annotation.typ c.in-Annotation.elements) c.requires) in
+    subst (LeadsOn c.args.remap.now kinds.Typ) (sym c.in-Annotation.typ-is) leads
+
+pub value::Value::renumber-renumber_values-requires : goal.value::Value::renumber-renumber_values-requires
+value::Value::renumber-renumber_values-requires t c =
+    let placed = subst (HasPlaces c.args.remap.now) (ap value_of c.in-Array.is ∙ array_is c.in-Array.values) c.requires in
+    let lighter = array_lighter c.args.self.now c.in-Array.values c.in-Array.is (ap (λ xs. xs.items) c.in-Array.values-is) in
+    (search rules, subst (λ xs. HavePlaces c.args.remap.now (values_of_list (map value_of xs.items))) (sym c.in-Array.values-is) placed)
+
+pub value::Value::renumber-renumber_elements-requires : goal.value::Value::renumber-renumber_elements-requires
+value::Value::renumber-renumber_elements-requires t c =
+    let placed = subst (HasPlaces c.args.remap.now) (ap value_of c.in-Annotation.is ∙ annotation_is c.in-Annotation.typ c.in-Annotation.elements) c.requires in
+    let behind = All-tail (LeadsUse c.args.remap.now) (record { kind = kinds.Typ; number = c.in-Annotation.typ }) (elements_uses (elements_of_list (map element_of c.in-Annotation.elements.items))) placed in
+    let lighter = annotation_lighter c.args.self.now c.in-Annotation.typ c.in-Annotation.elements c.in-Annotation.is (ap (λ xs. xs.items) c.in-Annotation.elements-is) in
+    (search rules, subst (λ xs. ElementsHavePlaces c.args.remap.now (elements_of_list (map element_of xs.items))) (sym c.in-Annotation.elements-is) behind)
+
+pub value::Element::renumber-led-self-requires : goal.value::Element::renumber-led-self-requires
+value::Element::renumber-led-self-requires t c =
+    let e = c.args.self.now in
+    All-head (LeadsUse c.args.remap.now) (record { kind = kinds.Text; number = e.name }) (value_uses (value_of e.value)) (subst (ElementHasPlaces c.args.remap.now) (element_is e) c.requires)
+
+pub value::Element::renumber-renumber-requires : goal.value::Element::renumber-renumber-requires
+value::Element::renumber-renumber-requires t c =
+    let e = c.args.self.now in
+    (search rules, All-tail (LeadsUse c.args.remap.now) (record { kind = kinds.Text; number = e.name }) (value_uses (value_of e.value)) (subst (ElementHasPlaces c.args.remap.now) (element_is e) c.requires))

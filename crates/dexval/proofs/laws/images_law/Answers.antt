@@ -1,4 +1,5 @@
-use Rattle.dexval.proofs.Images.{value_led_somewhere, values_led_somewhere, set_led_somewhere, known_value_led, known_values_led, known_set_led}
+use Rattle.dexval.proofs.Images.{uses_led, known_value_led, known_values_led, known_set_led}
+use Rattle.dexval.specs.Uses.{value_uses, values_uses, set_uses}
 use Rattle.dexval.proofs.laws.images_law.Goals as goal
 
 pub returns : goal.returns
@@ -6,7 +7,7 @@ returns c = record {
   value = λ m r x all known. known_value_led m r all x known;
   values = λ m r xs all known. known_values_led m r all xs known;
   set = λ m r xs all known. known_set_led m r all xs known;
-  placed_value = value_led_somewhere;
-  placed_values = values_led_somewhere;
-  placed_set = set_led_somewhere;
+  placed_value = λ r x. uses_led r (value_uses x);
+  placed_values = λ r xs. uses_led r (values_uses xs);
+  placed_set = λ r xs. uses_led r (set_uses xs);
 }

@@ -1,13 +1,13 @@
-use Rattle.std.proofs.Common.{arith}
+use Rattle.std.proofs.Common.{map, arith}
 use Rattle.dexval.specs.Code.{annotation_of}
 use Rattle.dexval.specs.Renumbering.{renumbered_annotation, AnnotationHasPlaces}
-use Rattle.dexval.proofs.Renumbered.{next_member, led_more}
+use Rattle.dexval.proofs.Renumbered.{next_member, led_more, annotations_placed}
 use Rattle.dexval.proofs.renumbering.renumber_annotations.Goals as goal
 
 pub renumber-requires : goal.renumber-requires
 renumber-requires c =
     let r = c.args.remap.now in
-    next_member annotation_of (renumbered_annotation r) (AnnotationHasPlaces r) c.args.annotations.now.items c.loop-i.annotations.items c.loop-i.i c.index_mut.result.now c.loop-i.invariant (omega arith) c.requires c.index_mut.ensures.value
+    next_member annotation_of (renumbered_annotation r) (AnnotationHasPlaces r) c.args.annotations.now.items c.loop-i.annotations.items c.loop-i.i c.index_mut.result.now c.loop-i.invariant (omega arith) (annotations_placed r (map annotation_of c.args.annotations.now.items) c.requires) c.index_mut.ensures.value
 
 pub loop-i-preserved : goal.loop-i-preserved
 loop-i-preserved c =

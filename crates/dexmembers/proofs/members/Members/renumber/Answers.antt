@@ -71,3 +71,6 @@ returns c =
     let all : new ≡ renumbered_members r (contents_in x) =
     λ i. record { annotations = own i; static_fields = statics i; instance_fields = instances i; direct_methods = directs i; virtual_methods = virtuals i; static_values = c.renumber_values.ensures i } in
     all ∙ ap (renumbered_members r) c.self.view_is
+
+pub renumber_values-requires : goal.renumber_values-requires
+renumber_values-requires c = (subst (MembersHavePlaces c.args.remap.now) (sym c.self.view_is) c.requires).values_lead

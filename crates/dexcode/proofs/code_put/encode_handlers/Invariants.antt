@@ -1,0 +1,7 @@
+use Rattle.std.proofs.Common.{take}
+use Rattle.std.specs.List.{flat_map}
+use Rattle.dexcode.specs.CodePut.{numbered_handler_bytes}
+use Rattle.dexcode.proofs.code_put.encode_handlers.Given as goal
+
+abbrev pub invariant-loop-handler : goal.invariant-loop-handler
+invariant-loop-handler g l = g.O.Output.gives (flat_map numbered_handler_bytes (take l.handler-index l.handlers)) l.initial.out l.out

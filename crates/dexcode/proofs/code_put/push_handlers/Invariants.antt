@@ -1,8 +1,0 @@
-use Rattle.std.proofs.Common.{take}
-use Rattle.std.specs.List.{flat_map}
-use Rattle.dexcode.specs.CodePut.{numbered_handler_bytes}
-use Rattle.dexcode.specs.DebugPut.{Pushes}
-use Rattle.dexcode.proofs.code_put.push_handlers.Given as goal
-
-abbrev pub invariant-loop-handler : goal.invariant-loop-handler
-invariant-loop-handler l = Pushes (flat_map numbered_handler_bytes (take l.handler-index l.handlers)) l.initial.out l.out

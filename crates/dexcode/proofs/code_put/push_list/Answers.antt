@@ -1,6 +1,0 @@
-use Rattle.std.proofs.Common.{arith}
-use Rattle.dexcode.proofs.HandlerPlaces.{weight_count}
-use Rattle.dexcode.proofs.code_put.push_list.Goals as goal
-
-pub overflow_cast-handlers : goal.overflow_cast-handlers
-overflow_cast-handlers c = omega (arith, weight_count c.args.handlers.now, c.requires.light)

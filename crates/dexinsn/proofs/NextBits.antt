@@ -1,0 +1,80 @@
+-- The next bit that is set.
+use Rattle.std.proofs.Common.{◌≡◌, ℕ, ◌+◌, ◌-◌, ◌*◌, ◌/◌, ◌%◌, ◌^◌, ◌<◌, ◌≤◌, w64, Bool, true, false, ◌||◌, List, length, slice_index, Option, Some, None, inl, inr, refl, ap, sym, ◌∙◌, subst, arith}
+use Rattle.std.specs.Int.{bit_at, trailing_zeros}
+use Rattle.std.specs.Bool.{IsTrue}
+use Rattle.std.specs.List.{All}
+use Rattle.std.proofs.lemmas.Bool.{cases_lt}
+use Rattle.std.proofs.lemmas.List.{get_or_past}
+use Rattle.std.proofs.lemmas.Nat.Bits.{bit_at-zero, bit_at_above, bit_at-trailing_zeros}
+use Rattle.std.proofs.Math.Nat.{div-le_self}
+use Rattle.dexinsn.specs.LongSwitches.{HasBit}
+use Rattle.dexinsn.specs.Checking.{HasNoBit, IsNextBit}
+use Rattle.dexinsn.proofs.StartBits.{low_part}
+
+-- no bit is set from one unit up to another
+pub record NoneUpTo (words : List ℕ) (from at : ℕ) : Type 0 where
+  pub behind : from ≤ at
+  pub none : (k : ℕ) → from ≤ k → k < at → HasBit words k → ⊥
+
+pub none_yet : (words : List ℕ) (from : ℕ) → NoneUpTo words from from
+none_yet words from = record { behind = omega arith; none = λ k le lt has. omega (arith, le, lt) }
+
+-- the bits of a word from one on
+rest_of : (words : List ℕ) (at k : ℕ) → at ≤ k → k / 64 ≡ at / 64 → HasBit words k → bit_at (slice_index words (at / 64) / 2 ^ (at % 64)) (k - at) ≡ 1
+unfolding HasBit
+rest_of words at k le word has =
+    let place : at % 64 + (k - at) ≡ k % 64 = omega (arith, le, word) in
+    low_part (slice_index words (at / 64)) (at % 64) (k - at) ∙ (λ j. bit_at (slice_index words (sym word j)) (place j)) ∙ has
+
+bit_back : (words : List ℕ) (at k : ℕ) → at ≤ k → k / 64 ≡ at / 64 → bit_at (slice_index words (at / 64) / 2 ^ (at % 64)) (k - at) ≡ 1 → HasBit words k
+unfolding HasBit
+bit_back words at k le word is =
+    let place : at % 64 + (k - at) ≡ k % 64 = omega (arith, le, word) in
+    (λ j. bit_at (slice_index words (word j)) (sym place j)) ∙ sym (low_part (slice_index words (at / 64)) (at % 64) (k - at)) ∙ is
+
+-- nothing is left of a word
+pub word_done : (words : List ℕ) (from at : ℕ) → NoneUpTo words from at → slice_index words (at / 64) / 2 ^ (at % 64) ≡ 0 → NoneUpTo words from ((at / 64 + 1) * 64)
+word_done words from at h is = record {
+  behind = let b = h.behind in omega arith;
+  none = λ k le lt has. elim (cases_lt k at) [
+    | inl below ↦ h.none k le below has
+    | inr beyond ↦ let one = rest_of words at k beyond (omega arith) has in let none = ap (λ w. bit_at w (k - at)) is ∙ bit_at-zero (k - at) in omega (arith, one, none)
+  ];
+}
+
+-- the first bit of what is left
+pub word_has : (words : List ℕ) (from at rest : ℕ) → NoneUpTo words from at → rest ≡ slice_index words (at / 64) / 2 ^ (at % 64) → 0 < rest → slice_index words (at / 64) < 2 ^ 64 → IsNextBit words from (at + trailing_zeros w64 rest)
+word_has words from at rest h is some fits =
+    let small : rest < 2 ^ 64 = omega (arith, is, div-le_self (slice_index words (at / 64)) (2 ^ (at % 64)), fits) in
+    let z = bit_at-trailing_zeros w64 rest some small in
+    let tz : ℕ = trailing_zeros w64 rest in
+    let here : bit_at (slice_index words (at / 64) / 2 ^ (at % 64)) tz ≡ 1 = ap (λ w. bit_at w tz) (sym is) ∙ z.1 in
+    let in_word : at % 64 + tz < 64 = elim (cases_lt (at % 64 + tz) 64) [
+      | inl below ↦ below
+      | inr beyond ↦
+          let none = low_part (slice_index words (at / 64)) (at % 64) tz ∙ bit_at_above (slice_index words (at / 64)) 64 (at % 64 + tz) fits beyond in
+          absurd (omega (arith, here, none))
+    ] in
+    let same : at + tz - at ≡ tz = omega arith in
+    record {
+      behind = let b = h.behind in omega arith;
+      has = bit_back words at (at + tz) (omega arith) (omega (arith, in_word)) (ap (bit_at (slice_index words (at / 64) / 2 ^ (at % 64))) same ∙ here);
+      first = λ k le lt has. elim (cases_lt k at) [
+        | inl below ↦ h.none k le below has
+        | inr beyond ↦
+            let one = rest_of words at k beyond (omega (arith, in_word, lt, beyond)) has in
+            let none = ap (λ w. bit_at w (k - at)) (sym is) ∙ z.2 (k - at) (omega (arith, lt, beyond)) in
+            omega (arith, one, none)
+      ];
+    }
+
+-- nothing is set behind the words
+bit_past : (words : List ℕ) (k : ℕ) → length words ≤ k / 64 → HasBit words k → ⊥
+unfolding HasBit
+bit_past words k past has = let none = ap (λ w. bit_at w (k % 64)) (get_or_past words (k / 64) 0 past) ∙ bit_at-zero (k % 64) in omega arith
+
+pub none_left : (words : List ℕ) (from at : ℕ) → NoneUpTo words from at → length words ≤ at / 64 → HasNoBit words from
+none_left words from at h past = λ k le has. elim (cases_lt k at) [
+  | inl below ↦ h.none k le below has
+  | inr beyond ↦ bit_past words k (omega (arith, past, beyond)) has
+]

@@ -1,0 +1,141 @@
+-- Units judged in one pass.
+use Rattle.std.proofs.Common.{◌≡◌, ℕ, ◌+◌, ◌-◌, ◌/◌, ◌<◌, ◌≤◌, ◌||◌, ◌&&◌, pos, Bool, true, false, not, List, [], ◌∷◌, ◌++◌, length, drop, slice_index, replicate, Option, Some, None, inl, inr, refl, ap, sym, ◌∙◌, subst, arith, zero-add, length-drop, length-append}
+use Rattle.std.specs.Prelude.{◌↔◌}
+use Rattle.std.specs.List.{All}
+use Rattle.std.specs.Ordering.{int_eq}
+use Rattle.std.proofs.lemmas.Bool.{cases_eq}
+use Rattle.std.proofs.lemmas.List.{drop-drop, drop_all, length-replicate}
+use Rattle.std.proofs.lemmas.List.Elements.{All-nil, All-push, All-head, All-tail, All-append}
+use Rattle.std.proofs.lemmas.List.Folds.{list_any-append}
+use Rattle.dexspec.specs.Mentions.{Mentions}
+use Rattle.dexspec.specs.Symbols.{Pool}
+use Rattle.dexspec.specs.Pieces.{Cut, AreCut, BreaksAt, IsCode, index_pool, piece_size}
+use Rattle.dexinsn.specs.LongSwitches.{HasBit}
+use Rattle.dexinsn.specs.Stored.{FitsAt}
+use Rattle.dexinsn.specs.Reading.{IsInRange, indices_at, with_index_at}
+use Rattle.dexinsn.specs.Split.{IsPieceAt, starts_with, units_of_all}
+use Rattle.dexinsn.specs.Checking.{AreBitsOf, ArePassed, HasNoCode, IndexCount, IsOutside, begins_instruction, is_noted}
+use Rattle.dexinsn.proofs.Cuts.{AreCut-push, units_of_all-push}
+use Rattle.dexinsn.proofs.CodeRead.{cut_is_none}
+use Rattle.dexinsn.proofs.IndicesRead.{indices_push, with_index_append}
+use Rattle.dexinsn.proofs.Once.{nothing, whole_once}
+use Rattle.dexinsn.proofs.Sizes.{piece_size-fits}
+use Rattle.dexinsn.proofs.Starts.{int_eq-same, int_eq-other}
+use Rattle.dexinsn.proofs.StartBits.{or_nothing, or_last, and_nothing, none_set}
+use Rattle.dexinsn.specs.declared.code.CodeFault.TheVariants.{Piece}
+
+-- ---- bits
+
+bits_more : (test : ℕ → Bool) (us : List ℕ) (cs : List Cut) (c : Cut) (k : ℕ) → starts_with test us (cs ++ c ∷ []) (pos k) ≡ (starts_with test us cs (pos k) || ((int_eq (pos c.unit) (pos k) && test (slice_index us c.unit)) || false))
+bits_more test us cs c k = list_any-append (λ (d : Cut). int_eq (pos d.unit) (pos k) && test (slice_index us d.unit)) cs (c ∷ [])
+
+-- a piece that does not pass the test has no bit
+pub bits_stay : (test : ℕ → Bool) (us : List ℕ) (cs : List Cut) (c : Cut) (words : List ℕ) → test (slice_index us c.unit) ≡ false → AreBitsOf test us cs words → AreBitsOf test us (cs ++ c ∷ []) words
+bits_stay test us cs c words fails before = record {
+  room = before.room;
+  each = λ k.
+      let same = bits_more test us cs c k ∙ or_nothing (starts_with test us cs (pos k)) _ (and_nothing (int_eq (pos c.unit) (pos k)) _ fails) in
+      (λ has. same ∙ (before.each k).0 has, λ e. (before.each k).1 (sym same ∙ e));
+  inside = before.inside;
+}
+
+-- one that does has one
+pub bits_grow : (test : ℕ → Bool) (us : List ℕ) (cs : List Cut) (c : Cut) (words new : List ℕ) → test (slice_index us c.unit) ≡ true → c.unit < length us → length new ≡ length words → HasBit new c.unit
+    → ((k : ℕ) → (k ≡ c.unit → ⊥) → HasBit new k ↔ HasBit words k) → AreBitsOf test us cs words → AreBitsOf test us (cs ++ c ∷ []) new
+bits_grow test us cs c words new passes inside long here others before = record {
+  room = long ∙ before.room;
+  each = λ k. elim (cases_eq c.unit k) [
+    | inl same ↦
+        let begins : starts_with test us (cs ++ c ∷ []) (pos k) ≡ true = bits_more test us cs c k ∙ or_last (starts_with test us cs (pos k)) _ (rw (int_eq-same c.unit k same, passes)) in
+        (λ has. begins, λ e. subst (HasBit new) same here)
+    | inr other ↦
+        let as_before = bits_more test us cs c k ∙ or_nothing (starts_with test us cs (pos k)) _ (rw (int_eq-other c.unit k other)) in
+        let bits = others k (λ e. other (sym e)) in
+        (λ has. as_before ∙ (before.each k).0 (bits.0 has), λ e. bits.1 ((before.each k).1 (sym as_before ∙ e)))
+  ];
+  inside = λ k has. elim (cases_eq c.unit k) [
+    | inl same ↦ omega arith
+    | inr other ↦ before.inside k ((others k (λ e. other (sym e))).0 has)
+  ];
+}
+
+-- ---- pieces
+
+-- where pieces go on, some piece of the whole begins
+next_in : (P : Cut → Type 0) (a : ℕ) (us rest : List ℕ) (cs ds : List Cut) → AreCut a us cs rest → AreCut a us ds [] → 0 < length rest → All P ds → (d : Cut) × (d.unit ≡ a + units_of_all cs) × P d
+next_in P a us rest [] [] e f some all = absurd (omega (arith, some, ap (length {A = ℕ}) (sym e ∙ f)))
+next_in P a us rest [] (d ∷ ds) e f some all = (d, omega (arith, f.0), All-head P d ds all)
+next_in P a us rest (c ∷ cs) [] e f some all = let none : piece_size a us ≡ None = ap (piece_size a) f ∙ nothing a in let is = e.1 in absurd cc
+next_in P a us rest (c ∷ cs) (d ∷ ds) e f some all =
+    let both : Some c.units ≡ Some d.units = sym e.1 ∙ f.1 in
+    let same : c.units ≡ d.units = cc in
+    let later : AreCut (a + c.units) (drop c.units us) ds [] = subst (λ (k : ℕ). AreCut (a + k) (drop k us) ds []) (sym same) f.2 in
+    let found = next_in P (a + c.units) (drop c.units us) rest cs ds e.2 later some (All-tail P d ds all) in
+    (found.0, omega (arith, found.1), found.2)
+
+pub none_passed : (us : List ℕ) (m : Mentions) (starts noted : List ℕ) → AreBitsOf begins_instruction us [] starts → AreBitsOf is_noted us [] noted → ArePassed us m starts noted 0 0
+none_passed us m starts noted s n = record {
+  cuts = [];
+  cut = refl;
+  reached = refl;
+  within = omega arith;
+  pieces = All-nil (IsPieceAt us);
+  in_range = All-nil (IsInRange us m);
+  counted = refl;
+  few = omega arith;
+  fit = All-nil (FitsAt us);
+  starts_are = s;
+  noted_are = n;
+}
+
+-- a piece more
+pub one_passed : (us : List ℕ) (m : Mentions) (starts noted news newn : List ℕ) (at indices size count : ℕ) → ArePassed us m starts noted at indices → at < length us → piece_size at (drop at us) ≡ Some size → 0 < size → IndexCount us m at count
+    → ((cs : List Cut) (n : ℕ) → AreBitsOf begins_instruction us cs starts → AreBitsOf begins_instruction us (cs ++ record { unit = at; units = n } ∷ []) news)
+    → ((cs : List Cut) (n : ℕ) → AreBitsOf is_noted us cs noted → AreBitsOf is_noted us (cs ++ record { unit = at; units = n } ∷ []) newn)
+    → ArePassed us m news newn (at + size) (indices + count)
+one_passed us m starts noted news newn at indices size count h more is some index s n =
+    let c : Cut = record { unit = at; units = size } in
+    let fits : size ≤ length (drop at us) = (piece_size-fits at (drop at us) size is).1 in
+    let counted = h.counted in
+    let one = index.counted size in
+    let reached = h.reached in
+    record {
+      cuts = h.cuts ++ c ∷ [];
+      cut = subst (λ (rest : List ℕ). AreCut 0 us (h.cuts ++ c ∷ []) rest) (drop-drop size at us) (AreCut-push 0 us (drop at us) h.cuts c h.cut (zero-add (units_of_all h.cuts) ∙ h.reached) is);
+      reached = units_of_all-push h.cuts c ∙ ap (λ (k : ℕ). k + size) h.reached;
+      within = let l : length (drop at us) ≡ length us - at = length-drop at us in omega (arith, h.within);
+      pieces = All-push (IsPieceAt us) h.cuts c h.pieces is;
+      in_range = All-push (IsInRange us m) h.cuts c h.in_range (index.in_range size);
+      counted =
+          let pushed = ap length (indices_push us h.cuts c) in
+          omega (arith, pushed, length-append (indices_at us h.cuts) (with_index_at (index_pool (drop at us)) us c []), counted, one);
+      few = omega (arith, h.few, index.few);
+      fit = subst (All (FitsAt us)) (sym (indices_push us h.cuts c)) (All-append (FitsAt us) (indices_at us h.cuts) (with_index_at (index_pool (drop at us)) us c []) h.fit (index.fit size));
+      starts_are = s h.cuts size h.starts_are;
+      noted_are = n h.cuts size h.noted_are;
+    }
+
+-- where no piece begins there is no code
+pub no_piece : (us : List ℕ) (m : Mentions) (starts noted : List ℕ) (at indices : ℕ) → ArePassed us m starts noted at indices → at < length us → piece_size at (drop at us) ≡ None → HasNoCode us m
+no_piece us m starts noted at indices h more none = λ cuts code all. cut_is_none us (Piece at) (record { cuts = h.cuts; within = more; cut = h.cut; none = none }) cuts code
+
+-- where an index is out of range there is none with all in range
+pub no_index : (us : List ℕ) (m : Mentions) (starts noted : List ℕ) (at indices : ℕ) → ArePassed us m starts noted at indices → at < length us → IsOutside us m at → HasNoCode us m
+no_index us m starts noted at indices h more outside = λ cuts code all.
+    let some : 0 < length (drop at us) = omega (arith, length-drop at us) in
+    let found = next_in (IsInRange us m) 0 us (drop at us) h.cuts cuts h.cut code.cut some all in
+    outside found.0 (omega (arith, found.1, h.reached)) found.2
+
+pub all_cut : (us : List ℕ) (m : Mentions) (starts noted : List ℕ) (indices : ℕ) → (h : ArePassed us m starts noted (length us) indices) → AreCut 0 us h.cuts []
+all_cut us m starts noted indices h = subst (λ (rest : List ℕ). AreCut 0 us h.cuts rest) (drop_all (length us) us (omega arith)) h.cut
+
+pub same_cuts : (us : List ℕ) (cs ds : List Cut) → AreCut 0 us cs [] → AreCut 0 us ds [] → cs ≡ ds
+same_cuts us cs ds x y = whole_once us cs ds x y
+
+-- no bit is set yet
+pub none_bits : (test : ℕ → Bool) (us words : List ℕ) (n : ℕ) → n ≡ length us / 64 + 2 → words ≡ replicate n 0 → AreBitsOf test us [] words
+none_bits test us words n room is = subst (AreBitsOf test us []) (sym is) record {
+  room = length-replicate {A = ℕ} n 0 ∙ room;
+  each = λ k. (λ has. absurd (none_set n k has), λ e. absurd cc);
+  inside = λ k has. absurd (none_set n k has);
+}

@@ -1,0 +1,132 @@
+-- Places by their bits.
+use Rattle.std.proofs.Common.{◌≡◌, ℕ, ◌+◌, ◌/◌, ◌%◌, ◌^◌, ◌<◌, ◌≤◌, ◌==◌, ◌||◌, ◌&&◌, ℤ, pos, ◌<ℤ◌, Bool, true, false, not, List, length, drop, slice_index, Option, Some, None, refl, ap, sym, ◌∙◌, subst, arith, eqb-true}
+use lib.IntN.{negsuc, nat_abs}
+use Rattle.std.specs.Prelude.{◌↔◌, bit_and}
+use Rattle.std.specs.List.{All, list_any}
+use Rattle.std.specs.Option.{IsSome}
+use Rattle.std.specs.Int.{bit_at}
+use Rattle.std.proofs.lemmas.Int.{ints}
+use Rattle.std.proofs.lemmas.List.{get_or_past}
+use Rattle.std.proofs.lemmas.Nat.Bits.{bit_at-zero}
+use Rattle.dexspec.specs.Pieces.{Cut, is_payload_ident}
+use Rattle.dexspec.specs.Opcodes.{F31t}
+use Rattle.dexinsn.specs.declared.format.Format.{Format}
+use Rattle.dexinsn.specs.declared.format.Format.TheVariants.{Format10x, Format12x, Format11n, Format11x, Format10t, Format20t, Format22x, Format21t, Format21s, Format21h, Format21c, Format23x, Format22b, Format22s, Format22t, Format22c, Format30t, Format32x, Format31i, Format31t, Format31c, Format35c, Format3rc, Format51l}
+use Rattle.dexinsn.specs.Opcode.{format_of}
+use Rattle.dexinsn.specs.declared.payload.PayloadKind.{PayloadKind}
+use Rattle.dexinsn.specs.declared.payload.PayloadKind.TheVariants.{PackedSwitch, SparseSwitch, ArrayData}
+use Rattle.dexinsn.specs.Payload.{ident_of}
+use Rattle.dexinsn.specs.LongSwitches.{HasBit, HasPlace}
+use Rattle.dexinsn.specs.Split.{starts_with}
+use Rattle.dexinsn.specs.Checking.{AreBitsOf, begins_instruction, is_noted, leads}
+use Rattle.dexinsn.proofs.StartBits.{same_answer}
+use Rattle.dexinsn.proofs.Starts.{starts_with-negsuc, starts_with-pos}
+
+-- no place is below 0
+pub no_place_below : (words : List ℕ) (z : ℤ) → z <ℤ pos 0 → HasPlace words z → ⊥
+no_place_below words (pos n) below h = omega (arith, ints)
+no_place_below words (negsuc n) below h = h
+
+-- nor is one behind the words
+no_bit_past : (words : List ℕ) (unit : ℕ) → length words ≤ unit / 64 → HasBit words unit → ⊥
+unfolding HasBit
+no_bit_past words unit past has = let none = ap (λ w. bit_at w (unit % 64)) (get_or_past words (unit / 64) 0 past) ∙ bit_at-zero (unit % 64) in omega arith
+
+pub no_place_past : (words : List ℕ) (z : ℤ) (unit : ℕ) → z ≡ pos unit → length words ≤ unit / 64 → HasPlace words z → ⊥
+no_place_past words z unit at past h = no_bit_past words unit past (subst (HasPlace words) at h)
+
+-- a place is a start exactly where its bit is set
+pub place_starts : (test : ℕ → Bool) (us : List ℕ) (cs : List Cut) (words : List ℕ) (z : ℤ) → AreBitsOf test us cs words → HasPlace words z ↔ (starts_with test us cs z ≡ true)
+place_starts test us cs words (pos k) h = h.each k
+place_starts test us cs words (negsuc k) h = (λ has. absurd has, λ e. let none = starts_with-negsuc test us cs k in absurd cc)
+
+pub answer_is : (test : ℕ → Bool) (us : List ℕ) (cs : List Cut) (words : List ℕ) (z : ℤ) (r : Bool) → (r ≡ true) ↔ HasPlace words z → AreBitsOf test us cs words → r ≡ starts_with test us cs z
+answer_is test us cs words z r says h = same_answer r (starts_with test us cs z) (λ e. (place_starts test us cs words z h).0 (says.0 e)) (λ e. says.1 ((place_starts test us cs words z h).1 e))
+
+-- the bit as it is read
+read_bit : (words : List ℕ) (unit : ℕ) → (slice_index words (unit / 64) / 2 ^ (unit % 64) % 2 ≡ 1) ↔ HasBit words unit
+unfolding HasBit
+read_bit words unit = (λ e. e, λ e. e)
+
+pub bit_is : (words : List ℕ) (unit : ℕ) (z : ℤ) → z ≡ pos unit → (slice_index words (unit / 64) / 2 ^ (unit % 64) % 2 ≡ 1) ↔ HasPlace words z
+bit_is words unit z at = (λ e. subst (HasPlace words) (sym at) ((read_bit words unit).0 e), λ has. (read_bit words unit).1 (subst (HasPlace words) at has))
+
+-- ---- payloads
+
+payload_noted : (u : ℕ) → is_payload_ident u ≡ true → is_noted u ≡ true
+payload_noted u is = ap (λ (b : Bool). b || leads u) is
+
+second_true : (a b : Bool) → (a && b) ≡ true → b ≡ true
+second_true true b e = e
+second_true false b e = cc
+
+both_true : (a b : Bool) → (a && b) ≡ true → a ≡ true
+both_true true b e = refl
+both_true false b e = e
+
+-- where a payload begins there is a bit, and where there is none none does
+pub no_payload : (ident : ℕ) (us : List ℕ) (cs : List Cut) (words : List ℕ) (z : ℤ) → is_payload_ident ident ≡ true → (HasPlace words z → ⊥) → AreBitsOf is_noted us cs words → starts_with (λ u. u == ident) us cs z ≡ false
+no_payload ident us cs words (negsuc k) is none h = starts_with-negsuc (λ u. u == ident) us cs k
+no_payload ident us cs words (pos k) is none h = by_test (starts_with (λ u. u == ident) us cs (pos k)) refl
+  where
+    by_test : (b : Bool) → starts_with (λ u. u == ident) us cs (pos k) ≡ b → starts_with (λ u. u == ident) us cs (pos k) ≡ false
+    by_test false e = e
+    by_test true e =
+        let both = sym (starts_with-pos (λ u. u == ident) us cs k) ∙ e in
+        let starts = both_true (list_any (λ c. c.unit == k) cs) (slice_index us k == ident) both in
+        let here : slice_index us k ≡ ident = eqb-true (slice_index us k) ident (second_true (list_any (λ c. c.unit == k) cs) (slice_index us k == ident) both) in
+        let noted = starts_with-pos is_noted us cs k ∙ ap (λ (b : Bool). b && is_noted (slice_index us k)) starts ∙ payload_noted (slice_index us k) (ap is_payload_ident here ∙ is) in
+        absurd (none ((h.each k).1 noted))
+
+-- where there is a bit the unit there decides
+pub payload_by_unit : (ident : ℕ) (us : List ℕ) (cs : List Cut) (words : List ℕ) (z : ℤ) (k : ℕ) → z ≡ pos k → HasPlace words z → AreBitsOf is_noted us cs words → starts_with (λ u. u == ident) us cs z ≡ (slice_index us k == ident)
+payload_by_unit ident us cs words z k at has h =
+    let here : HasPlace words (pos k) = subst (HasPlace words) at has in
+    let both = sym (starts_with-pos is_noted us cs k) ∙ (h.each k).0 here in
+    let starts = both_true (list_any (λ c. c.unit == k) cs) (is_noted (slice_index us k)) both in
+    ap (starts_with (λ u. u == ident) us cs) at ∙ starts_with-pos (λ u. u == ident) us cs k ∙ ap (λ (b : Bool). b && slice_index us k == ident) starts
+
+-- ---- formats
+
+pub format_switch : (f : Format) → f ≡ Format31t → format_of f ≡ F31t
+format_switch f is = ap format_of is
+
+pub format_other : (f : Format) → (f ≡ Format31t → ⊥) → format_of f ≡ F31t → ⊥
+format_other Format10x other e = cc
+format_other Format12x other e = cc
+format_other Format11n other e = cc
+format_other Format11x other e = cc
+format_other Format10t other e = cc
+format_other Format20t other e = cc
+format_other Format22x other e = cc
+format_other Format21t other e = cc
+format_other Format21s other e = cc
+format_other Format21h other e = cc
+format_other Format21c other e = cc
+format_other Format23x other e = cc
+format_other Format22b other e = cc
+format_other Format22s other e = cc
+format_other Format22t other e = cc
+format_other Format22c other e = cc
+format_other Format30t other e = cc
+format_other Format32x other e = cc
+format_other Format31i other e = cc
+format_other Format31t other e = other refl
+format_other Format31c other e = cc
+format_other Format35c other e = cc
+format_other Format3rc other e = cc
+format_other Format51l other e = cc
+
+pub ident_begins : (kind : PayloadKind) → is_payload_ident (ident_of kind) ≡ true
+ident_begins PackedSwitch = refl
+ident_begins SparseSwitch = refl
+ident_begins ArrayData = refl
+
+-- a place with a bit is a unit
+pub at_place : (words : List ℕ) (z : ℤ) → HasPlace words z → z ≡ pos (nat_abs z)
+at_place words (pos k) has = refl
+at_place words (negsuc k) has = absurd has
+
+pub some_size : (o : Option ℕ) → IsSome o → (n : ℕ) × (o ≡ Some n)
+some_size None h = absurd (let e : false ≡ true = h in cc)
+some_size (Some n) h = (n, refl)

@@ -1,0 +1,9 @@
+use Rattle.std.proofs.Common.{◌-◌, length}
+use Rattle.dexinsn.specs.Checking.{ArePassed}
+use Rattle.dexinsn.proofs.checking.pass.Given as goal
+
+abbrev pub invariant-loop-at : goal.invariant-loop-at
+invariant-loop-at l = ArePassed l.units l.pools l.starts.items l.noted.items l.at l.indices
+
+abbrev pub decreases-loop-at : goal.decreases-loop-at
+decreases-loop-at l = length l.units - l.at

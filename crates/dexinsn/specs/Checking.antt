@@ -1,0 +1,113 @@
+-- Units that are judged in one pass, with a bit for each unit.
+use Rattle.std.specs.Prelude.{◌≡◌, ◌↔◌, ℕ, ◌+◌, ◌/◌, ◌<◌, ◌≤◌, ◌||◌, pos, Bool, true, false, not, List, [], ◌∷◌, length, drop, All, IsTrue, slice_index}
+use Rattle.std.specs.Option.{IsSome, option_map_or}
+use Rattle.dexspec.specs.Mentions.{Mentions}
+use Rattle.dexspec.specs.Opcodes.{Format, F10t, F20t, F21t, F22t, F30t, F31t, opcode_of}
+use Rattle.dexspec.specs.Pieces.{Cut, AreCut, IsCode, has_right_targets, index_pool, is_payload_ident, low_byte, piece_size}
+use Rattle.dexinsn.specs.LongSwitches.{HasBit}
+use Rattle.dexinsn.specs.Stored.{FitsAt}
+use Rattle.dexinsn.specs.Numbered.{NumberedPiece}
+use Rattle.dexinsn.specs.Reading.{ArePiecesAt, IsInRange, indices_at, with_index_at}
+use Rattle.dexinsn.specs.Split.{IsPieceAt, starts_with, units_of_all}
+
+-- ---- tests of a first unit
+
+-- an instruction of the format leads to another place
+abbrev pub branches : Format → Bool
+branches F10t = true
+branches F20t = true
+branches F21t = true
+branches F22t = true
+branches F30t = true
+branches F31t = true
+branches _ = false
+
+-- so does an instruction that begins with this unit
+abbrev pub leads : ℕ → Bool
+leads u = option_map_or (λ o. branches o.format) (opcode_of (low_byte u)) false
+
+-- an instruction begins with this unit, and no payload
+abbrev pub begins_instruction : ℕ → Bool
+begins_instruction u = not (is_payload_ident u)
+
+-- a payload begins with it, or an instruction that leads to another place
+abbrev pub is_noted : ℕ → Bool
+is_noted u = is_payload_ident u || leads u
+
+-- ---- bits
+
+-- the bits are those of these pieces whose first unit passes the test
+pub record AreBitsOf (test : ℕ → Bool) (us : List ℕ) (cs : List Cut) (words : List ℕ) : Type 0 where
+  pub room : length words ≡ length us / 64 + 2
+  pub each : (k : ℕ) → HasBit words k ↔ (starts_with test us cs (pos k) ≡ true)
+  pub inside : (k : ℕ) → HasBit words k → k < length us
+
+-- each unit that has a bit begins a piece
+pub record AreNoted (us : List ℕ) (words : List ℕ) : Type 0 where
+  pub inside : (k : ℕ) → HasBit words k → k < length us
+  pub pieces : (k : ℕ) → HasBit words k → IsSome (piece_size k (drop k us))
+
+-- the answer says whether the piece at a unit leads to nothing or to what it may
+abbrev pub LeadsAt : List ℕ → List ℕ → List ℕ → ℕ → Bool → Type 0
+LeadsAt us starts noted at answer = (cs : List Cut) (n : ℕ) → AreBitsOf begins_instruction us cs starts → AreBitsOf is_noted us cs noted → answer ≡ has_right_targets us cs (record { unit = at; units = n })
+
+-- from a unit on no bit is set
+abbrev pub HasNoBit : List ℕ → ℕ → Type 0
+HasNoBit words from = (k : ℕ) → from ≤ k → HasBit words k → ⊥
+
+-- from a unit on this is the first bit that is set
+pub record IsNextBit (words : List ℕ) (from unit : ℕ) : Type 0 where
+  pub behind : from ≤ unit
+  pub has : HasBit words unit
+  pub first : (k : ℕ) → from ≤ k → k < unit → HasBit words k → ⊥
+
+-- the answer says whether all pieces do
+abbrev pub AreAllRight : List ℕ → List ℕ → List ℕ → Bool → Type 0
+AreAllRight us starts noted true = (cs : List Cut) → All (IsPieceAt us) cs → AreBitsOf begins_instruction us cs starts → AreBitsOf is_noted us cs noted → All (λ c. IsTrue (has_right_targets us cs c)) cs
+AreAllRight us starts noted false = (cs : List Cut) → AreBitsOf begins_instruction us cs starts → AreBitsOf is_noted us cs noted → All (λ c. IsTrue (has_right_targets us cs c)) cs → ⊥
+
+-- ---- indices
+
+-- no piece that begins at the unit is in range
+abbrev pub IsOutside : List ℕ → Mentions → ℕ → Type 0
+IsOutside us m at = (c : Cut) → c.unit ≡ at → IsInRange us m c → ⊥
+
+-- each piece that begins at the unit is in range, and has so many indices
+pub record IndexCount (us : List ℕ) (m : Mentions) (at count : ℕ) : Type 0 where
+  pub in_range : (n : ℕ) → IsInRange us m (record { unit = at; units = n })
+  pub counted : (n : ℕ) → length (with_index_at (index_pool (drop at us)) us (record { unit = at; units = n }) []) ≡ count
+  pub few : count ≤ 1
+  pub fit : (n : ℕ) → All (FitsAt us) (with_index_at (index_pool (drop at us)) us (record { unit = at; units = n }) [])
+
+-- ---- the pass
+
+-- there is no code whose indices are in range
+abbrev pub HasNoCode : List ℕ → Mentions → Type 0
+HasNoCode us m = (cuts : List Cut) → IsCode us cuts → All (IsInRange us m) cuts → ⊥
+
+-- the units up to one are cut into pieces in range, with so many indices, and these are the bits of the pieces
+pub record ArePassed (us : List ℕ) (m : Mentions) (starts noted : List ℕ) (at indices : ℕ) : Type 0 where
+  pub cuts : List Cut
+  pub cut : AreCut 0 us cuts (drop at us)
+  pub reached : units_of_all cuts ≡ at
+  pub within : at ≤ length us
+  pub pieces : All (IsPieceAt us) cuts
+  pub in_range : All (IsInRange us m) cuts
+  pub counted : length (indices_at us cuts) ≡ indices
+  pub few : indices ≤ at
+  pub fit : All (FitsAt us) (indices_at us cuts)
+  pub starts_are : AreBitsOf begins_instruction us cuts starts
+  pub noted_are : AreBitsOf is_noted us cuts noted
+
+-- the units are code whose indices are in range, and there are so many of them
+pub record IsChecked (us : List ℕ) (m : Mentions) (indices : ℕ) : Type 0 where
+  pub cuts : List Cut
+  pub code : IsCode us cuts
+  pub in_range : All (IsInRange us m) cuts
+  pub counted : length (indices_at us cuts) ≡ indices
+  pub fit : All (FitsAt us) (indices_at us cuts)
+
+-- pieces stand there, with so many indices
+pub record HasPieces (b : List ℕ) (off : ℕ) (m : Mentions) (indices : ℕ) : Type 0 where
+  pub pieces : List NumberedPiece
+  pub at : ArePiecesAt b off m pieces

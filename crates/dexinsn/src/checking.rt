@@ -1,0 +1,356 @@
+//! Units judged in one pass, with bits in words that are lent: nothing is kept of them.
+
+ghost use Rattle.std.specs.Prelude.{◌≡◌, ◌↔◌, ◌^◌, ◌+◌, ◌*◌, ◌/◌, ◌<◌, ◌≤◌, ℕ, true, List, [], ◌∷◌, ◌++◌, IsSome, drop, length, slice_index, IfOk, IfErr, MatchOption, OnOk, replicate};
+ghost use Rattle.dexspec.specs.Opcodes as opcodes;
+ghost use Rattle.dexspec.specs.Pieces.{Cut, ints_in, low_byte, piece_size};
+ghost use Rattle.dexpool.specs.Pools.{ArePools};
+ghost use Rattle.dexinsn.specs.Units.{units_in};
+ghost use Rattle.dexinsn.specs.Reading.{IsCodeFault, IsPiecesFault};
+ghost use Rattle.dexinsn.specs.Opcode.{format_of};
+ghost use Rattle.dexinsn.specs.Payload.{ident_of};
+ghost use Rattle.dexinsn.specs.LongSwitches.{HasPlace};
+ghost use Rattle.dexinsn.specs.Split.{IsPieceAt, branches_right, lead_right, leads_to_payload};
+ghost use Rattle.dexinsn.specs.Checking.{AreBitsOf, AreNoted, ArePassed, HasNoCode, AreAllRight, HasNoBit, HasPieces, IndexCount, IsNextBit, IsOutside, IsChecked, LeadsAt, begins_instruction, branches, is_noted, leads};
+
+use crate::code_units::Units;
+use crate::format::Format;
+use crate::indexed::{index_at, kind_at};
+use crate::instruction::branch_offset;
+use crate::long_switches::targets_at;
+use crate::payload::PayloadKind;
+use crate::piece::piece_size;
+use crate::start_bits::set_bit;
+use crate::units::{int_at, opcode_in};
+use crate::reading::units_at;
+use dexhead::Frame;
+use dexpool::{ItemFault, Pools};
+use std::alloc::{AllocError, Global};
+
+impl Format {
+    // Whether an instruction of the format leads to another place.
+    fn branches(self) -> bool
+        ensures { result ≡ branches (format_of self) }
+    {
+        matches!(
+            self,
+            Format::Format10t
+                | Format::Format20t
+                | Format::Format21t
+                | Format::Format22t
+                | Format::Format30t
+                | Format::Format31t
+        )
+    }
+}
+
+// Whether an instruction that begins with this unit leads to another place.
+fn leads(first: u16) -> bool
+    ensures { result ≡ leads first }
+{
+    match Format::of(opcode_in(first)) {
+        Some(format) => format.branches(),
+        None => false,
+    }
+}
+
+// How many indices the piece at a unit has, one or none, if what it has is in range.
+#[tactic(auto, using(crate::proofs::IndexRoom::room_behind, crate::proofs::IndexRoom::wide_room_behind))]
+fn index_count(units: &Units<'_>, at: usize, size: usize, pools: &Pools<'_>) -> Option<usize>
+    requires { IsPieceAt units.now (record { unit = at; units = size }) }
+    ensures { MatchOption result (IsOutside units.now pools.now at) (IndexCount units.now pools.now at) }
+{
+    match kind_at(units, at) {
+        Some(kind) => {
+            if pools.len(kind) <= index_at(units, at) as usize {
+                None
+            } else {
+                Some(1)
+            }
+        }
+        None => Some(0),
+    }
+}
+
+// Sets the bits of the piece that begins at a unit.
+fn note(units: &Units<'_>, at: usize, starts: &mut Vec<u64>, noted: &mut Vec<u64>)
+    requires within { at < length units.now }
+    requires starts { length starts.old.items ≡ length units.now / 64 + 2 }
+    requires noted { length noted.old.items ≡ length units.now / 64 + 2 }
+    ensures starts { (cs : List Cut) (n : ℕ) → AreBitsOf begins_instruction units.now cs starts.old.items → AreBitsOf begins_instruction units.now (cs ++ record { unit = at; units = n } ∷ []) starts.new.items }
+    ensures noted { (cs : List Cut) (n : ℕ) → AreBitsOf is_noted units.now cs noted.old.items → AreBitsOf is_noted units.now (cs ++ record { unit = at; units = n } ∷ []) noted.new.items }
+{
+    let first = units.at(at);
+    if PayloadKind::of(first).is_some() {
+        set_bit(noted, at);
+        return;
+    }
+    set_bit(starts, at);
+    if leads(first) {
+        set_bit(noted, at);
+    }
+}
+
+// Cuts the units, judges the indices, and sets the bits of the pieces: how many indices there are.
+fn pass(
+    units: &Units<'_>,
+    pools: &Pools<'_>,
+    starts: &mut Vec<u64>,
+    noted: &mut Vec<u64>,
+) -> Option<usize>
+    requires few { length units.now < 2 ^ 32 }
+    requires starts { AreBitsOf begins_instruction units.now [] starts.old.items }
+    requires noted { AreBitsOf is_noted units.now [] noted.old.items }
+    ensures { MatchOption result (HasNoCode units.now pools.now) (ArePassed units.now pools.now starts.new.items noted.new.items (length units.now)) }
+{
+    let mut at = 0;
+    let mut indices = 0;
+    while at < units.len() {
+        let size = match piece_size(at, &units.rest(at)) {
+            Some(size) => size,
+            None => return None,
+        };
+        let count = match index_count(units, at, size, pools) {
+            Some(count) => count,
+            None => return None,
+        };
+        note(units, at, starts, noted);
+        indices += count;
+        at += size;
+    }
+    Some(indices)
+}
+
+// Whether the bit of a place is set.
+fn has_place(words: &[u64], place: i64) -> bool
+    ensures { (result ≡ true) ↔ HasPlace words.now place }
+{
+    if place < 0 {
+        return false;
+    }
+    let unit = place as usize;
+    if words.len() <= unit / 64 {
+        return false;
+    }
+    (words[unit / 64] >> (unit % 64) as u32) % 2 == 1
+}
+
+// Whether so many targets of two units each, from unit `first` on, counted from the instruction at unit `at`, are starts
+// of instructions.
+fn targets_lead(units: &Units<'_>, starts: &[u64], at: usize, first: usize, count: usize) -> bool
+    requires small { length units.now < 2 ^ 62 }
+    requires from { at < length units.now }
+    requires within { first + 2 * count ≤ length units.now }
+    ensures { (cs : List Cut) → AreBitsOf begins_instruction units.now cs starts.now → result ≡ lead_right units.now cs at (ints_in units.now first count) }
+{
+    for i in 0..count {
+        let offset = int_at(units, first + 2 * i);
+        if !has_place(starts, at as i64 + i64::from(offset)) {
+            return false;
+        }
+    }
+    true
+}
+
+// Whether a payload of the kind begins at the place, and its targets, counted from the instruction at unit `at`, are
+// starts of instructions.
+fn payload_leads(
+    units: &Units<'_>,
+    starts: &[u64],
+    noted: &[u64],
+    at: usize,
+    kind: PayloadKind,
+    place: i64,
+) -> bool
+    requires small { length units.now < 2 ^ 62 }
+    requires from { at < length units.now }
+    requires noted { AreNoted units.now noted.now }
+    ensures { (cs : List Cut) → AreBitsOf begins_instruction units.now cs starts.now → AreBitsOf is_noted units.now cs noted.now → result ≡ leads_to_payload (ident_of kind) units.now cs at place }
+{
+    if !has_place(noted, place) {
+        return false;
+    }
+    let unit = place as usize;
+    if units.at(unit) != kind.ident() {
+        return false;
+    }
+    match targets_at(units, kind, unit) {
+        Some(targets) => targets_lead(units, starts, at, targets.first, targets.count),
+        None => true,
+    }
+}
+
+// Whether the instruction at unit `at`, which has this format, leads to nothing or to what it may.
+fn branch_leads(
+    units: &Units<'_>,
+    starts: &[u64],
+    noted: &[u64],
+    at: usize,
+    format: Format,
+) -> bool
+    requires small { length units.now < 2 ^ 62 }
+    requires from { at < length units.now }
+    requires within { at + opcodes.units_in (format_of format) ≤ length units.now }
+    requires noted { AreNoted units.now noted.now }
+    ensures { (cs : List Cut) → AreBitsOf begins_instruction units.now cs starts.now → AreBitsOf is_noted units.now cs noted.now → result ≡ branches_right units.now cs at (format_of format) }
+{
+    let offset = match branch_offset(format, units, at) {
+        Some(offset) => offset,
+        None => return true,
+    };
+    let target = at as i64 + i64::from(offset);
+    match format {
+        Format::Format31t => {
+            let kind = PayloadKind::led_to_by(opcode_in(units.at(at)));
+            payload_leads(units, starts, noted, at, kind, target)
+        }
+        _ => has_place(starts, target),
+    }
+}
+
+// Whether the piece at a unit is a payload, or an instruction that leads to nothing or to what it may.
+fn piece_leads(units: &Units<'_>, starts: &[u64], noted: &[u64], at: usize) -> bool
+    requires small { length units.now < 2 ^ 62 }
+    requires piece { IsSome (piece_size at (drop at units.now)) }
+    requires noted { AreNoted units.now noted.now }
+    ensures { LeadsAt units.now starts.now noted.now at result }
+{
+    let first = units.at(at);
+    if PayloadKind::of(first).is_some() {
+        return true;
+    }
+    match Format::of(opcode_in(first)) {
+        Some(format) => branch_leads(units, starts, noted, at, format),
+        None => true,
+    }
+}
+
+// The first unit from one on whose bit is set.
+fn next_bit(words: &[u64], from: usize) -> Option<usize>
+    requires { length words.now < 2 ^ 56 }
+    ensures { MatchOption result (HasNoBit words.now from) (IsNextBit words.now from) }
+{
+    let mut at = from;
+    while at / 64 < words.len() {
+        let rest = words[at / 64] >> (at % 64) as u32;
+        if rest != 0 {
+            return Some(at + rest.trailing_zeros() as usize);
+        }
+        at = (at / 64 + 1) * 64;
+    }
+    None
+}
+
+// Whether all pieces lead to nothing or to what they may.
+fn all_lead(units: &Units<'_>, starts: &[u64], noted: &[u64]) -> bool
+    requires small { length units.now < 2 ^ 62 }
+    requires few { length noted.now < 2 ^ 56 }
+    requires noted { AreNoted units.now noted.now }
+    ensures { AreAllRight units.now starts.now noted.now result }
+{
+    let mut at = 0;
+    while at < units.len() {
+        let unit = match next_bit(noted, at) {
+            Some(unit) => unit,
+            None => return true,
+        };
+        if !piece_leads(units, starts, noted, unit) {
+            return false;
+        }
+        at = unit + 1;
+    }
+    true
+}
+
+/// Room for the bits of one code_item, lent from one to the next.
+#[derive(Drop)]
+pub struct Scratch {
+    starts: Vec<u64>,
+    noted: Vec<u64>,
+}
+
+impl Scratch {
+    /// No room yet. No memory is taken.
+    pub fn new(alloc: Global) -> Scratch {
+        Scratch {
+            starts: Vec::new(alloc),
+            noted: Vec::new(alloc),
+        }
+    }
+}
+
+// Makes so many words, none of which has a bit.
+fn wipe(words: &mut Vec<u64>, count: usize) -> Result<(), AllocError>
+    ensures { OnOk result (words.new.items ≡ replicate count 0) }
+{
+    words.clear();
+    words.resize(count, 0)?;
+    Ok(())
+}
+
+// Whether units are code whose indices are in range, and how many indices there are.
+fn check_with(
+    units: &Units<'_>,
+    pools: &Pools<'_>,
+    starts: &mut Vec<u64>,
+    noted: &mut Vec<u64>,
+) -> Option<usize>
+    requires few { length units.now < 2 ^ 32 }
+    requires starts { AreBitsOf begins_instruction units.now [] starts.old.items }
+    requires noted { AreBitsOf is_noted units.now [] noted.old.items }
+    ensures { MatchOption result (HasNoCode units.now pools.now) (IsChecked units.now pools.now) }
+{
+    if units.len() == 0 {
+        return None;
+    }
+    let indices = match pass(units, pools, starts, noted) {
+        Some(indices) => indices,
+        None => return None,
+    };
+    if all_lead(units, starts, noted) {
+        Some(indices)
+    } else {
+        None
+    }
+}
+
+// How many indices there are in units that are code, each in range.
+fn check_units(
+    bytes: &[u8],
+    pools: &Pools<'_>,
+    scratch: &mut Scratch,
+) -> Result<usize, ItemFault>
+    requires { length (units_in bytes.now) < 2 ^ 32 }
+    ensures indices { IfOk result (IsChecked (units_in bytes.now) pools.now) }
+    ensures fault { IfErr result (IsCodeFault (units_in bytes.now) pools.now) }
+{
+    let units = Units::of_bytes(bytes);
+    let words = units.len() / 64 + 2;
+    wipe(&mut scratch.starts, words)?;
+    wipe(&mut scratch.noted, words)?;
+    match check_with(&units, pools, &mut scratch.starts, &mut scratch.noted) {
+        Some(indices) => Ok(indices),
+        None => Err(ItemFault::Refused(18)),
+    }
+}
+
+/// Judges the registers and the pieces of the code_item at an offset, whose indices count in the pools: those of the
+/// file. Nothing is kept of them but how many indices there are.
+///
+/// Error: as of [`read_pieces`](crate::read_pieces); `Memory` where there was no memory for the scratch.
+///
+/// Source: "code_item"; the Android page "Dalvik bytecode".
+pub fn check_pieces(
+    frame: &Frame<'_>,
+    pools: &Pools<'_>,
+    off: u32,
+    scratch: &mut Scratch,
+) -> Result<usize, ItemFault>
+    ensures pieces { ArePools frame.now pools.now → IfOk result (HasPieces frame.now off pools.now) }
+    ensures refused { ArePools frame.now pools.now → IfErr result (IsPiecesFault frame.now off) }
+{
+    let bytes = match units_at(frame, off) {
+        Some(bytes) => bytes,
+        None => return Err(ItemFault::Refused(18)),
+    };
+    check_units(bytes, pools, scratch)
+}

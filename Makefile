@@ -1,46 +1,78 @@
 # What `make` does here is done by `rt`, the command of Rattle's kit; see README.md.
 #
-#   make                    proves the program and all that it stands on, crate by crate, and builds it as crates/dexkit/out/dexkit;
-#                           what is proved is kept, so that a run that was interrupted goes on where it was
-#   make try                compiles the program with checks in the place of proofs, and runs it on two small files
+#   make try                merges real files in two orders with the unproved program, which it builds first if it is not there
+#   make unproved           builds crates/dexkit/out/dexkit-unproved: the program with checks at run time and no proof
+#   make                    proves the program and all that it stands on, crate by crate, and builds crates/dexkit/out/dexkit;
+#                           what is proved is kept, so a run that was interrupted goes on where it was
 #   make check              the gate: proves everything from nothing and runs all cases
-#   make install PREFIX=..  puts the proved program, as `make` built it, and its manual page below PREFIX, /usr/local where none is named
-#   make clean              removes what the crates' checks and builds keep, so that the next one begins from nothing
+#   make documents          checks links, sizes and versions of the documents
+#   make install PREFIX=..  installs the proved program, its manual, completions and notices; PREFIX is /usr/local if not given
+#   make dist               packs them as a tar file and a Debian package in dist/
+#   make clean              removes what checks and builds keep
 
 PREFIX ?= /usr/local
 DESTDIR ?=
 
-# The proved program, once `make` has built it.
-PROGRAM = crates/dexkit/out/dexkit
-
 # How many tasks a check may have at a time.
 JOBS ?= $(shell nproc)
 
-# The libraries of the program, each behind those that it stands on.
-LIBRARIES = dexspec \
-	dexlaws_growth dexlaws_denotes dexlaws_strip dexlaws_causes dexlaws_normal dexlaws_size \
-	dexleb dexhead dexstr dexflags dexrows dexorder dexpool dexinsn dexval dexcode dexmembers \
-	dexclass dexmerge dexlayout dexcanon dexlisting dexcmd
+# The program, once `make` has proved and built it, and once `make unproved` has built it.
+PROGRAM = crates/dexkit/out/dexkit
+UNPROVED = crates/dexkit/out/dexkit-unproved
 
-.PHONY: all try check install clean
+VERSION := $(shell sed -n 's/.*const VERSION: &str = "\(.*\)";/\1/p' crates/dexcmd/src/*.rt)
+
+# The crates of the program, each after those that it stands on; the program is the last one.
+CRATES := $(shell tools/libraries dexkit)
+SOURCES := $(foreach crate,$(CRATES),$(wildcard crates/$(crate)/src/*.rt crates/$(crate)/src/*/*.rt))
+
+.PHONY: all try unproved check documents install dist clean
 
 all:
-	set -e; for library in $(LIBRARIES); do (cd crates/$$library && rt lib --jobs $(JOBS)); done
-	cd crates/dexkit && rt run --jobs $(JOBS) -- --version
+	@set -e; number=0; \
+	for crate in $(CRATES); do \
+		number=$$((number + 1)); \
+		echo "crate $$number of $(words $(CRATES)): $$crate"; \
+		cd crates/$$crate; \
+		if [ $$crate = dexkit ]; then rt run --jobs $(JOBS) -- --version; else rt lib --jobs $(JOBS); fi; \
+		cd ../..; \
+	done
 
-try:
-	cd crates/dexkit && rt try -- check data/unused_strings.dex data/class_below.dex
+try: $(UNPROVED)
+	@tools/try $(UNPROVED)
+
+unproved: $(UNPROVED)
+	@echo "$(UNPROVED) has checks at run time and no proof: for trying dexkit out, and not for use."
+
+$(UNPROVED): $(SOURCES)
+	@echo "Compiling dexkit without proofs: a minute and a half on four idle cores, several beside other work."
+	@tools/unproved
 
 check:
 	rt ci
 
-# Where nothing was built yet.
+documents:
+	tests/documents/run
+
 $(PROGRAM):
-	$(MAKE) all
+	@echo "$(PROGRAM) is not there: prove and build it with make (more than an hour)" >&2
+	@exit 1
 
 install: $(PROGRAM)
 	install -D -m 755 $(PROGRAM) $(DESTDIR)$(PREFIX)/bin/dexkit
 	install -D -m 644 docs/dexkit.1 $(DESTDIR)$(PREFIX)/share/man/man1/dexkit.1
+	sed -i 's/^\(\.TH DEXKIT .*\)"dexkit[^"]*"/\1"dexkit $(VERSION)"/' $(DESTDIR)$(PREFIX)/share/man/man1/dexkit.1
+	install -D -m 644 docs/completions/dexkit.bash $(DESTDIR)$(PREFIX)/share/bash-completion/completions/dexkit
+	install -D -m 644 docs/completions/_dexkit $(DESTDIR)$(PREFIX)/share/zsh/site-functions/_dexkit
+	install -D -m 644 docs/completions/dexkit.fish $(DESTDIR)$(PREFIX)/share/fish/vendor_completions.d/dexkit.fish
+	install -d $(DESTDIR)$(PREFIX)/share/doc/dexkit
+	install -m 644 README.md CHANGELOG.md LICENSE NOTICE docs/FORMAT.md docs/PROMISES.md docs/RECIPES.md $(DESTDIR)$(PREFIX)/share/doc/dexkit
+
+dist: $(PROGRAM)
+	@rm -rf dist/stage
+	@umask 022; $(MAKE) -s install DESTDIR=dist/stage PREFIX=/usr
+	@tools/dist dist/stage $(VERSION)
+	@rm -rf dist/stage
 
 clean:
-	rm -rf crates/*/out
+	rm -rf crates/*/out dist

@@ -2,7 +2,7 @@
 # What the recipes share. Each `run` reads this file first.
 # DEXKIT names the program; without it, it is the one that `make` at the top of the repository builds.
 set -eu
-export LC_ALL=C
+export LC_ALL=C.UTF-8
 
 examples=$(cd "$(dirname "$0")/.." && pwd)
 DEXKIT=${DEXKIT:-$examples/../crates/dexkit/out/dexkit}
@@ -19,14 +19,24 @@ trap 'cd / && chmod -R u+w "$room" && rm -rf "$room"' EXIT
 cp -r "$examples/dex" "$room/dex"
 cd "$room"
 
+# File names of the examples. Names like these are what real tools write.
+dollar='MoreObjects$ToStringHelper$ValueHolder.dex'
+iterator='AbstractMapBasedMultimap$WrappedList$WrappedListIterator.dex'
+
 fail() {
     echo "FAILED: $1" >&2
     exit 1
 }
 
-# Every example file, in one order.
+# The names of all example files, one a line, in one order.
 all_files() {
-    find dex -name '*.dex' | sort
+    find dex -name '*.dex' | LC_ALL=C sort
+}
+
+# Merges all example files at once, as they are now.
+flat() {
+    all_files >files
+    "$DEXKIT" merge --out flat.dex @files
 }
 
 # Two files have the same bytes.
@@ -35,7 +45,7 @@ same() {
     echo "same bytes: $1 and $2"
 }
 
-# A file has the bytes that an independent program wrote for so named a file.
+# A file has the bytes that an independent program wrote for a file of that name.
 same_as_reference() {
     wanted=$(sed -n "s|^\([0-9a-f]*\)  $2\$|\1|p" "$examples/reproducible/SHA256SUMS")
     [ -n "$wanted" ] || fail "SHA256SUMS has no $2"
@@ -43,8 +53,16 @@ same_as_reference() {
     echo "bytes of the reference: $1"
 }
 
-# So many of something were wanted.
+# A count is the expected one.
 counted() {
-    [ "$2" = "$3" ] || fail "$1: $2, and not $3"
+    [ "$2" = "$3" ] || fail "$1: $2 instead of $3"
     echo "$1: $2"
+}
+
+# A command fails.
+refused() {
+    if "$@" >log 2>&1; then
+        cat log
+        fail "this ended with status 0: $*"
+    fi
 }

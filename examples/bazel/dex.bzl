@@ -1,13 +1,26 @@
 """Merging DEX files with dexkit, in shards."""
 
+def _is_ascii(file):
+    for letter in file.path.elems():
+        if letter > "~":
+            return False
+    return True
+
 def _merged(ctx, name, files):
     out = ctx.actions.declare_file(name)
     arguments = ctx.actions.args()
     arguments.add("merge")
     arguments.add("--out", out)
-    arguments.add_all(files)
+
+    # The names of the files go into a file of their own, one a line: there may be more than a command line takes. Other
+    # names than ASCII go onto the command line, since Bazel 4 writes them wrongly into that file.
+    arguments.add_all([file for file in files if not _is_ascii(file)])
+    names = ctx.actions.args()
+    names.add_all([file for file in files if _is_ascii(file)])
+    names.set_param_file_format("multiline")
+    names.use_param_file("@%s", use_always = True)
     ctx.actions.run(
-        arguments = [arguments],
+        arguments = [arguments, names],
         executable = ctx.executable.dexkit,
         inputs = files,
         mnemonic = "DexMerge",
@@ -17,12 +30,21 @@ def _merged(ctx, name, files):
     return out
 
 def _dex_merge_impl(ctx):
+    files = ctx.files.srcs
+    for file in files:
+        if file.extension != "dex":
+            fail("%s is no .dex file" % file.short_path)
+
+    # A library without classes gives no file, and is left out of what stands on it.
+    if not files:
+        return [DefaultInfo(files = depset())]
+
     # The path of a file says which shard has it, so a file that comes or goes leaves the other shards as they are.
     shards = {}
-    for file in ctx.files.srcs:
+    for file in files:
         shards.setdefault(hash(file.short_path) % ctx.attr.shards, []).append(file)
     name = ctx.label.name
-    parts = ctx.files.srcs
+    parts = files
     if len(shards) > 1:
         parts = [
             _merged(ctx, "%s.%d.dex" % (name, number), shards[number])
@@ -41,6 +63,7 @@ dex_merge = rule(
             executable = True,
         ),
         "shards": attr.int(default = 1),
-        "srcs": attr.label_list(allow_files = [".dex"], mandatory = True),
+        # Not [".dex"]: that refuses a library without files.
+        "srcs": attr.label_list(allow_files = True, mandatory = True),
     },
 )

@@ -1,5 +1,5 @@
 -- what a Device holds
-use Rattle.std.specs.Prelude.{Bool}
+use Rattle.std.specs.Prelude.{ℕ, Bool}
 use Rattle.dexhead.specs.declared.device.Device.{Device}
 
 -- what is inside a device
@@ -9,3 +9,7 @@ inner_of d = d.inner
 -- whether a call of the device was answered DeviceFault
 abbrev pub is_broken : {T : Type 0} → Device T → Bool
 is_broken d = d.is_broken
+
+-- how many bytes are expected of a device
+abbrev pub expected_of : {T : Type 0} → Device T → ℕ
+expected_of d = d.expected

@@ -24,9 +24,10 @@ pub trait Source {
     fn failed(&self) -> bool
         ensures { result ≡ has_failed self.now };
 
-    /// How many bytes in all it was expected to tell, 0 where nobody knows. It is a hint for the room that is made at
-    /// first, and nothing is promised of it.
-    fn expected(&self) -> usize;
+    /// How many bytes in all are expected to come, 0 where nobody knows. It is a hint for the first allocation.
+    fn expected(&self) -> usize {
+        0
+    }
 
     /// Moves a front of the bytes to come into the front of the buffer, and answers how many bytes that
     /// are. For a buffer that is not empty these are 0 only at the end of the bytes.
@@ -115,20 +116,22 @@ pub struct Device<T> {
 }
 
 impl<T> Device<T> {
-    ghost use Rattle.dexhead.specs.Device.{inner_of, is_broken};
+    ghost use Rattle.dexhead.specs.Device.{inner_of, is_broken, expected_of};
 
-    /// A device that has not failed. How many bytes it will tell is not known.
+    /// A device that has not failed. How many bytes it will tell is not known: 0 are expected.
     pub fn new(inner: T) -> Self
         ensures inner { inner_of result ≡ inner }
         ensures works { is_broken result ≡ false }
+        ensures expected { expected_of result ≡ 0 }
     {
         Device::expecting(inner, 0)
     }
 
-    /// A device that has not failed, of which so many bytes are expected.
+    /// A device that has not failed, of which `expected` bytes are expected: `Source::expected` returns this number.
     pub fn expecting(inner: T, expected: usize) -> Self
         ensures inner { inner_of result ≡ inner }
         ensures works { is_broken result ≡ false }
+        ensures expected { expected_of result ≡ expected }
     {
         Device {
             inner,
@@ -147,6 +150,8 @@ impl<T> Device<T> {
 }
 
 impl<T: Read> Source for Device<T> {
+    ghost use Rattle.dexhead.specs.Device.{expected_of};
+
     ghost tells = { λ d. IsSome (T.remaining d.inner) };
 
     ghost to_come = { λ d. unwrap_or (T.remaining d.inner) [] };
@@ -157,7 +162,9 @@ impl<T: Read> Source for Device<T> {
         self.is_broken
     }
 
-    fn expected(&self) -> usize {
+    fn expected(&self) -> usize
+        ensures { result ≡ expected_of self.now }
+    {
         self.expected
     }
 

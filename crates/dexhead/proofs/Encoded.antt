@@ -1,0 +1,34 @@
+-- The encodings of the items of a list, one after the other.
+use Rattle.std.proofs.Common.{◌≡◌, ℕ, ◌+◌, ◌-◌, ◌^◌, ◌<◌, ◌≤◌, min, Result, Ok, refl, arith, List, [], ◌∷◌, ◌++◌, length, take, get_or, ap, sym, ◌∙◌, subst}
+use Rattle.std.specs.Global.{Vec}
+use Rattle.std.specs.Prelude.{vec_len, vec_capacity}
+use Rattle.std.specs.List.{flat_map}
+use Rattle.dexspec.specs.Aside.Writing.{Puts}
+use Rattle.dexhead.specs.Pushing.{HasRoomFor, Pushes}
+use Rattle.std.proofs.lemmas.List.{append-nil, take_all, take_more}
+use Rattle.std.proofs.lemmas.Grind.{flat_map-append}
+
+module _ {O X : Type 0} (gives : List ℕ → O → O → Type 0) (both : (x y : List ℕ) (a b c : O) → gives x a b → gives y b c → gives (x ++ y) a c) (f : X → List ℕ) where
+  -- one more of a list
+  pub given_more : (xs : List X) (i : ℕ) (d : X) (a b c : O) → i < length xs → gives (flat_map f (take i xs)) a b → gives (f (get_or xs i d)) b c → gives (flat_map f (take (i + 1) xs)) a c
+  given_more xs i d a b c lt before more =
+      let x = get_or xs i d in
+      let parts : flat_map f (take (i + 1) xs) ≡ flat_map f (take i xs) ++ f x =
+      ap (flat_map f) (take_more xs i d lt) ∙ flat_map-append f (take i xs) (x ∷ []) ∙ ap (λ ys. flat_map f (take i xs) ++ ys) (append-nil (f x)) in
+      subst (λ bs. gives bs a c) (sym parts) (both (flat_map f (take i xs)) (f x) a b c before more)
+
+  pub given_all : (xs : List X) (i : ℕ) (a b : O) → length xs ≤ i → gives (flat_map f (take i xs)) a b → gives (flat_map f xs) a b
+  given_all xs i a b end h = subst (λ ys. gives (flat_map f ys) a b) (take_all i xs end) h
+
+-- bytes after the vector was given room for them
+pub encoded_put : {T E : Type 0} (item : List ℕ) (n : ℕ) (a b c : Vec ℕ) (t : T) → n ≡ min (2 ^ 64 - 1) (length item) → b.items ≡ a.items → vec_len b ≡ vec_len a → vec_len b + n ≤ vec_capacity b → vec_capacity a ≤ vec_capacity b
+    → (HasRoomFor item b → Pushes item b c) → Puts {T = T} {E = E} item a c (Ok t)
+encoded_put item n a b c t is items len room more push =
+    let pushes = push (omega (arith, is, room, b.small)) in
+    record {
+      ok = pushes.items ∙ ap (λ bs. bs ++ item) items;
+      len = omega (arith, pushes.len, len);
+      err = tt;
+      room = λ _. refl;
+      capacity = omega (arith, pushes.capacity, more);
+    }

@@ -32,6 +32,9 @@ pub mod JoinedTables
 pub mod UnionLaws
 pub mod LeadingAll
 pub mod MarksMade
+pub mod Parts
+pub mod Visits
+pub mod Changed
 pub mod KeptNumbers
 pub mod FileLists
 pub mod ListedPlaces

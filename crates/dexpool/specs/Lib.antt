@@ -13,6 +13,7 @@ pub mod Joining
 pub mod Laws
 pub mod Orderly
 pub mod Uses
+pub mod Images
 pub mod Lists
 pub mod Judged
 pub mod SharedLists

@@ -33,6 +33,7 @@ mod strings;
 mod symbols;
 mod tables;
 mod types;
+mod visiting;
 mod weight;
 
 pub use dexrows::{FieldRow, MethodRow, ProtoRow, Row, TypeNumbers, TypeRow};
@@ -44,3 +45,4 @@ pub use parameters::type_list_len;
 pub use pools::Pools;
 pub use remap::Remap;
 pub use symbols::{FieldSymbol, MethodSymbol, ProtoSymbol, Symbol, SymbolKind};
+pub use visiting::{Fits, Renumber, Symbols, Visitor, all_fit, mark, renumber_all, visit_all};

@@ -123,7 +123,7 @@ impl<'a> Numbering<'a> {
     /// The number of lesser types, for a type by its descriptor, from 0 on. No memory is taken.
     ///
     /// Source: the order of the rows, "type_id_item".
-    pub fn rank_type(&self, descriptor: &Text<'_>) -> usize
+    pub fn rank_typ(&self, descriptor: &Text<'_>) -> usize
         ensures { result ≡ rank text_cmp descriptor.now self.now.types }
     {
         self.is_numbering();
@@ -131,6 +131,13 @@ impl<'a> Numbering<'a> {
             self.count(SymbolKind::Typ),
             |i| self.compare_type(i, descriptor),
         )
+    }
+
+    /// The same as `rank_typ`.
+    pub fn rank_type(&self, descriptor: &Text<'_>) -> usize
+        ensures { result ≡ rank text_cmp descriptor.now self.now.types }
+    {
+        self.rank_typ(descriptor)
     }
 
     /// The number of lesser protos, from 0 on. No memory is taken.

@@ -3,7 +3,7 @@ use Rattle.std.specs.Ordering.{is_lt}
 use Rattle.dexspec.specs.Texts.{text_cmp}
 use Rattle.dexspec.proofs.SymbolOrders.{text_total}
 use Rattle.dexpool.proofs.Ranking.{rank_by_halving}
-use Rattle.dexpool.proofs.numbering.Numbering.rank_type.Goals as goal
+use Rattle.dexpool.proofs.numbering.Numbering.rank_typ.Goals as goal
 
 pub returns : goal.returns
 returns c =

@@ -2,7 +2,7 @@
 use Rattle.std.proofs.Common.{◌≡◌, ℕ, ◌+◌, ◌<◌, ◌≤◌, List, [], ◌∷◌, length, take, drop, get_or, length-take, length-drop, Option, Some, None, refl, sym, subst, arith}
 use Rattle.std.specs.List.{AllZip}
 use Rattle.std.proofs.lemmas.List.{get_or_default}
-use Rattle.std.specs.Prelude.{◌-◌, ◌*◌, ◌^◌, Result, Ok, Err, IfOk, MatchOption}
+use Rattle.std.specs.Prelude.{◌-◌, ◌^◌, Result, Ok, Err, IfOk, MatchOption}
 use Rattle.dexspec.specs.Lists.{Sequence, BothOrNone}
 use Rattle.dexspec.specs.Bytes.{Stands}
 use Rattle.dexspec.specs.Numbers.{Uleb128At, Uleb128p1At, IsChain}

@@ -11,7 +11,7 @@ use crate::debug_reading::read_debug;
 use crate::tries::Tries;
 use crate::try_table::read_try_table;
 use dexhead::{Frame, u16_at, u32_at};
-use dexinsn::{InstructionStarts, read_pieces_and_starts};
+use dexinsn::{InstructionStarts, Scratch, build_pieces, check_pieces};
 use dexpool::{ItemFault, Pools, SymbolKind};
 use std::alloc::Global;
 
@@ -73,9 +73,11 @@ pub fn read_code<'a>(
     if !frame.is_in_data(off, 16 + 2 * units) {
         return Err(ItemFault::Refused(18));
     }
-    let (pieces, starts) = read_pieces_and_starts(alloc, frame, pools, off)?;
+    let mut scratch = Scratch::new(alloc);
+    let shape = check_pieces(frame, pools, off, &mut scratch)?;
+    let pieces = build_pieces(alloc, frame, pools, off, shape)?;
     let types = pools.len(SymbolKind::Typ);
-    let tries = read_tries(alloc, bytes, off_bytes, &starts, types)?;
+    let tries = read_tries(alloc, bytes, off_bytes, &scratch.starts(), types)?;
     let debug_off = u32_at(bytes, off_bytes + 8);
     if debug_off == 0 {
         return Ok(Code {

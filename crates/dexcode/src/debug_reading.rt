@@ -362,11 +362,7 @@ fn shape_at(frame: &Frame<'_>, pools: &Pools<'_>, off: u32) -> Option<DebugShape
 /// its end, where a number is not spelled as it has to be, or where an index is out of range of its pool.
 ///
 /// Source: "debug_info_item".
-pub fn check_debug(
-    frame: &Frame<'_>,
-    pools: &Pools<'_>,
-    off: u32,
-) -> Result<DebugShape, ItemFault>
+pub fn check_debug(frame: &Frame<'_>, pools: &Pools<'_>, off: u32) -> Result<DebugShape, ItemFault>
     ensures shape { IfOk result (IsShapeAt frame.now off pools.now) }
     ensures debug { ArePools frame.now pools.now → IfOk result (λ shape. HasDebugOf frame.now off pools.now shape.weight) }
     ensures refused { ArePools frame.now pools.now → IfErr result (IsDebugFault frame.now off) }

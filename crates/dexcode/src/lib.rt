@@ -20,7 +20,7 @@ pub use debug_laws::{
 pub use debug_operation::Operation;
 pub use debug_positions::positions;
 pub use debug_put::put_debug;
-pub use debug_reading::{build_debug, check_debug, read_debug, DebugShape};
+pub use debug_reading::{DebugShape, build_debug, check_debug, read_debug};
 pub use handlers::{Catch, Handler};
 pub use meaning_laws::{code_led_law, code_meaning_law, debug_led_law, debug_meaning_law};
 pub use tries::{Tries, Try};

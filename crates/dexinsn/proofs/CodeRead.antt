@@ -3,12 +3,10 @@ use Rattle.std.proofs.Common.{◌≡◌, ℕ, ◌+◌, ◌*◌, ◌%◌, ◌^◌
 use Rattle.std.proofs.lemmas.List.{drop-drop}
 use Rattle.dexspec.specs.Bytes.{uint_at, ushorts_at}
 use Rattle.dexspec.specs.Sections.{IsInData}
-use Rattle.dexspec.specs.Pieces.{Cut, IsCode}
-use Rattle.dexinsn.specs.declared.code.CodeFault.{CodeFault}
-use Rattle.dexinsn.specs.declared.code.CodeFault.TheVariants.{Empty, Piece, Target, Memory}
+use Rattle.dexspec.specs.Pieces.{BreaksAt, Cut, IsCode}
+use Rattle.dexinsn.specs.declared.code.CodeFault.TheVariants.{Piece}
 use Rattle.dexinsn.specs.Units.{units_in}
-use Rattle.dexinsn.specs.Split.{IsCutFault, GoesAstrayAt}
-use Rattle.dexinsn.specs.Reading.{HasCodeRoom, AreUnitsAt, IsNoCode}
+use Rattle.dexinsn.specs.Reading.{HasCodeRoom, AreUnitsAt}
 use Rattle.dexinsn.proofs.Halves.{uint_behind, units_of_part}
 use Rattle.dexinsn.proofs.Once.{answer_once}
 
@@ -27,12 +25,6 @@ units_there b off n rest bytes is small aligned room behind front =
       few = subst (λ (k : ℕ). k < 2 ^ 32) count small;
     }
 
--- what breaks or goes astray is no code
-pub cut_is_none : (us : List ℕ) (f : CodeFault) → IsCutFault us f → IsNoCode us f
-cut_is_none us Empty h = absurd h
-cut_is_none us (Piece n) h = λ cuts code. let e : Ok cuts ≡ Err (Piece n) = answer_once us (Ok cuts) (Err (Piece n)) code h in cc
-cut_is_none us (Target n) h = absurd h
-cut_is_none us Memory h = tt
-
-pub astray_is_none : (us : List ℕ) (n : ℕ) → GoesAstrayAt us n → (cuts : List Cut) → IsCode us cuts → ⊥
-astray_is_none us n h cuts code = let e : Ok cuts ≡ Err (Target n) = answer_once us (Ok cuts) (Err (Target n)) code h in cc
+-- units that break are no code
+pub broken_is_none : (us : List ℕ) (n : ℕ) → BreaksAt us n → (cuts : List Cut) → IsCode us cuts → ⊥
+broken_is_none us n h cuts code = let e : Ok cuts ≡ Err (Piece n) = answer_once us (Ok cuts) (Err (Piece n)) code h in cc

@@ -1,23 +1,27 @@
 -- Whether all pieces lead right, by those that are noted.
-use Rattle.std.proofs.Common.{◌≡◌, ℕ, ◌<◌, ◌≤◌, ◌==◌, ◌||◌, ◌&&◌, pos, Bool, true, false, List, [], length, get_or, slice_index, Option, Some, None, refl, ap, sym, ◌∙◌, subst, arith, eq-eqb, eqb-true, nat_eq}
+use Rattle.std.proofs.Common.{◌≡◌, ℕ, ◌+◌, ◌*◌, ◌<◌, ◌==◌, ◌||◌, ◌&&◌, Bool, true, false, List, length, get_or, slice_index, Option, Some, None, refl, ap, sym, ◌∙◌, subst, arith, eq-eqb, eqb-true}
 use Rattle.std.specs.Bool.{IsTrue}
 use Rattle.std.specs.Option.{option_map, option_map_or}
 use Rattle.std.specs.List.{All, Any, list_any}
 use Rattle.std.proofs.lemmas.List.Elements.{All-from_get_or, All-get_or}
 use Rattle.std.proofs.lemmas.List.Folds.{list_any_at, Any-from_list_any}
 use Rattle.dexspec.specs.Opcodes.{Opcode, Format, opcode_of, F10x, F12x, F11n, F11x, F10t, F20t, F22x, F21t, F21s, F21h, F21c, F23x, F22b, F22s, F22t, F22c, F30t, F32x, F31i, F31t, F31c, F35c, F3rc, F51l}
-use Rattle.dexspec.specs.Pieces.{Cut, AreCut, IsCode, branch_offset, has_right_targets, is_payload_ident, low_byte}
+use Rattle.dexspec.specs.Pieces.{Cut, branch_offset, has_right_targets, is_payload_ident, low_byte}
 use Rattle.dexspec.specs.Mentions.{Mentions}
 use Rattle.dexinsn.specs.LongSwitches.{HasBit}
-use Rattle.std.specs.Prelude.{Result, Ok, Err, IfOk}
+use Rattle.dexspec.specs.Bytes.{uint_at}
+use Rattle.dexspec.specs.Code.{RegistersAt}
+use Rattle.dexspec.proofs.FormedRows.{length-ushorts_at}
 use Rattle.dexpool.specs.Pools.{ArePools}
-use Rattle.dexpool.specs.declared.faults.ItemFault.{ItemFault}
+use Rattle.dexinsn.specs.declared.shape.PiecesShape.{PiecesShape}
 use Rattle.dexinsn.specs.Units.{units_in}
 use Rattle.dexinsn.specs.Stored.{parts_in, pieces_with}
-use Rattle.dexinsn.specs.Reading.{AreUnitsAt, IsInRange, indices_at}
-use Rattle.dexinsn.proofs.StoredRead.{read_pieces}
-use Rattle.dexinsn.specs.Split.{IsPieceAt, branches_right}
-use Rattle.dexinsn.specs.Checking.{AreBitsOf, AreNoted, ArePassed, AreAllRight, LeadsAt, HasNoCode, HasPieces, IsChecked, begins_instruction, branches, is_noted, leads}
+use Rattle.dexinsn.specs.Reading.{AreCodeIndices, AreUnitsAt, indices_at}
+use Rattle.dexinsn.proofs.StoredRead.{few_units, read_pieces, read_stored}
+use Rattle.dexinsn.proofs.PutUnits.{stored_length}
+use Rattle.dexinsn.proofs.Lined.{count_for}
+use Rattle.dexinsn.specs.Split.{IsPieceAt}
+use Rattle.dexinsn.specs.Checking.{AreBitsOf, AreCodeStarts, AreNoted, ArePassed, AreAllRight, LeadsAt, HasNoCode, HasPiecesOf, IsChecked, IsShapeAt, begins_instruction, branches, is_noted, leads}
 use Rattle.dexinsn.proofs.Leads.{branches-none, right-instruction}
 use Rattle.dexinsn.proofs.Starts.{starts_with-pos, piece_at}
 use Rattle.dexinsn.proofs.Passed.{same_cuts, all_cut}
@@ -104,15 +108,18 @@ one_wrong us starts noted k has wrong = λ cs sb nb all.
 -- ---- the whole
 
 -- each bit is that of a piece
-pub are_noted : (us : List ℕ) (m : Mentions) (starts noted : List ℕ) (indices : ℕ) → ArePassed us m starts noted (length us) indices → AreNoted us noted
-are_noted us m starts noted indices h = record {
-  inside = h.noted_are.inside;
-  pieces = λ k has. piece_at us h.cuts k h.pieces (first (list_any (λ c. c.unit == k) h.cuts) (is_noted (slice_index us k)) (sym (starts_with-pos is_noted us h.cuts k) ∙ (h.noted_are.each k).0 has));
+pub bits_noted : (us : List ℕ) (cs : List Cut) (noted : List ℕ) → All (IsPieceAt us) cs → AreBitsOf is_noted us cs noted → AreNoted us noted
+bits_noted us cs noted pieces bits = record {
+  inside = bits.inside;
+  pieces = λ k has. piece_at us cs k pieces (first (list_any (λ c. c.unit == k) cs) (is_noted (slice_index us k)) (sym (starts_with-pos is_noted us cs k) ∙ (bits.each k).0 has));
 }
   where
     first : (a b : Bool) → (a && b) ≡ true → a ≡ true
     first true b e = refl
     first false b e = e
+
+pub are_noted : (us : List ℕ) (m : Mentions) (starts noted : List ℕ) (indices : ℕ) → ArePassed us m starts noted (length us) indices → AreNoted us noted
+are_noted us m starts noted indices h = bits_noted us h.cuts noted h.pieces h.noted_are
 
 pub checked : (us : List ℕ) (m : Mentions) (starts noted : List ℕ) (indices : ℕ) → 0 < length us → ArePassed us m starts noted (length us) indices → AreAllRight us starts noted true → IsChecked us m indices
 checked us m starts noted indices some h right = record {
@@ -127,12 +134,39 @@ pub astray : (us : List ℕ) (m : Mentions) (starts noted : List ℕ) (indices :
 astray us m starts noted indices h wrong = λ cuts code all.
     wrong h.cuts h.starts_are h.noted_are (subst (λ (cs : List Cut). All (λ c. IsTrue (has_right_targets us cs c)) cs) (same_cuts us cuts h.cuts code.cut (all_cut us m starts noted indices h)) code.targets)
 
--- what is checked stands there
-pub pieces_stand : (b : List ℕ) (off : ℕ) (m : Mentions) (bytes : List ℕ) (r : Result ℕ ItemFault) → ArePools b m → AreUnitsAt b off bytes → IfOk r (IsChecked (units_in bytes) m) → IfOk r (HasPieces b off m)
-pieces_stand b off m bytes (Ok n) pools at h =
+-- the bits that the pass leaves are those of the code
+pub code_starts : (us : List ℕ) (m : Mentions) (starts noted : List ℕ) (indices : ℕ) → ArePassed us m starts noted (length us) indices → AreCodeStarts us starts
+code_starts us m starts noted indices h cuts code =
+    subst (λ (cs : List Cut). AreBitsOf begins_instruction us cs starts) (same_cuts us h.cuts cuts (all_cut us m starts noted indices h) code.cut) h.starts_are
+
+-- ---- the shape
+
+-- what is checked is code with these indices
+pub checked_indices : (us : List ℕ) (m : Mentions) (indices : ℕ) → (h : IsChecked us m indices) → AreCodeIndices us m (indices_at us h.cuts)
+checked_indices us m indices h = record { cuts = h.cuts; code = h.code; read = record { are = refl; in_range = h.in_range; fit = h.fit } }
+
+-- a shape of a code_item
+pub shape_there : (b : List ℕ) (off : ℕ) (m : Mentions) (bytes : List ℕ) (s : PiecesShape) → AreUnitsAt b off bytes → RegistersAt b off s.registers s.ins s.outs → s.units ≡ length (units_in bytes) → IsChecked (units_in bytes) m s.indices → IsShapeAt b off m s
+shape_there b off m bytes s at registers count h =
+    let l : length (units_in bytes) ≡ uint_at b (off + 12) = ap length at.units ∙ length-ushorts_at b (off + 16) (uint_at b (off + 12)) in
+    record {
+      room = at.room;
+      registers = registers;
+      units = sym (count ∙ l);
+      few = omega (arith, at.few, count, l);
+      checked = subst (λ (us : List ℕ). IsChecked us m s.indices) at.units h;
+    }
+
+-- pieces of that shape
+pub pieces_there : (b : List ℕ) (off : ℕ) (m : Mentions) (bytes : List ℕ) (s : PiecesShape) → ArePools b m → AreUnitsAt b off bytes → RegistersAt b off s.registers s.ins s.outs → s.units ≡ length (units_in bytes) → IsChecked (units_in bytes) m s.indices → HasPiecesOf b off m s
+pieces_there b off m bytes s pools at registers count h =
     let us : List ℕ = units_in bytes in
+    let read : AreCodeIndices us m (indices_at us h.cuts) = checked_indices us m s.indices h in
+    let stored = read_stored us m (indices_at us h.cuts) (few_units b off bytes at) read in
     record {
       pieces = pieces_with (parts_in us) (indices_at us h.cuts);
-      at = read_pieces b off m bytes (indices_at us h.cuts) pools at (record { cuts = h.cuts; code = h.code; read = record { are = refl; in_range = h.in_range; fit = h.fit } });
+      at = read_pieces b off m bytes (indices_at us h.cuts) pools at read;
+      registers = registers;
+      units = stored_length us (indices_at us h.cuts) stored ∙ ap (λ (n : ℕ). 2 * n) (sym count);
+      indices = count_for us (indices_at us h.cuts) stored ∙ h.counted;
     }
-pieces_stand b off m bytes (Err f) pools at h = tt

@@ -28,3 +28,4 @@ pub mod Passed
 pub mod Placed
 pub mod NextBits
 pub mod Leading
+pub mod BuiltIndices

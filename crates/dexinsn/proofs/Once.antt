@@ -7,9 +7,12 @@ use Rattle.std.proofs.lemmas.List.Elements.{All-head, All-tail}
 use Rattle.std.proofs.lemmas.List.{nil_from_length}
 use Rattle.std.proofs.lemmas.Option.{same_Some}
 use Rattle.dexspec.specs.Pieces.{Cut, AreCut, BreaksAt, IsCode, has_right_targets, piece_size}
+use Rattle.std.specs.Prelude.{Vec, IfOk, IfErr}
+use Rattle.std.specs.declared.alloc.Global.{Global}
+use Rattle.dexinsn.specs.declared.code.Cut.{Cut as CutOfCode}
 use Rattle.dexinsn.specs.declared.code.CodeFault.{CodeFault}
 use Rattle.dexinsn.specs.declared.code.CodeFault.TheVariants.{Empty, Piece, Target, Memory}
-use Rattle.dexinsn.specs.Split.{units_of_all, first_astray, first_astray_of, GoesAstrayAt, IsFault, IsCutFault, IsAnswer, IsAnswered}
+use Rattle.dexinsn.specs.Split.{cuts_of, units_of_all, first_astray, first_astray_of, GoesAstrayAt, IsFault, IsCutFault, IsAnswer, IsAnswered}
 use Rattle.dexinsn.proofs.Sizes.{piece_size-fits}
 
 -- the pieces, and what is left, where no piece begins
@@ -186,3 +189,8 @@ cut_fault us Memory is = tt
 -- where there are no units, that is the only answer
 pub only_empty : (us : List ℕ) → length us ≡ 0 → (answer : Result (List Cut) CodeFault) → IsAnswer us answer → IsAnswered answer (Err Empty)
 only_empty us none answer is = answer_once us (Err Empty) answer (nil_from_length us none) is
+
+-- what is returned is the only answer
+pub answered_all : (us : List ℕ) (r : Result (Vec CutOfCode Global) CodeFault) (answer : Result (List Cut) CodeFault) → IfOk r (λ cuts. IsCode us (cuts_of cuts.items)) → IfErr r (IsFault us) → IsAnswer us answer → IsAnswered answer r
+answered_all us (Ok cuts) answer code fault is = answer_once us (Ok (cuts_of cuts.items)) answer code is
+answered_all us (Err f) answer code fault is = answered_fault us f answer fault is

@@ -1,13 +1,17 @@
 -- What a cut without a wrong target, or with one, says of the units.
-use Rattle.std.proofs.Common.{◌≡◌, ℕ, ◌<◌, Bool, true, false, not, cond, List, [], ◌∷◌, length, Some, None, refl, sym, subst, arith}
+use Rattle.std.proofs.Common.{◌≡◌, ℕ, ◌<◌, Bool, true, false, not, cond, List, [], ◌∷◌, length, drop, drop-cons, add-one, get_or, ◌+◌, Option, Some, None, refl, ap, sym, subst, ◌∙◌}
 use Rattle.std.specs.Bool.{IsTrue}
 use Rattle.std.specs.List.{All, find}
-use Rattle.std.specs.Option.{option_map}
-use Rattle.std.proofs.lemmas.List.{drop_all}
-use Rattle.std.proofs.lemmas.List.Elements.{All-nil, All-cons}
-use Rattle.dexspec.specs.Pieces.{AreCut, IsCode, has_right_targets}
+use Rattle.std.specs.Option.{IsSome, option_map}
+use Rattle.std.proofs.lemmas.List.Elements.{All-nil, All-cons, All-get_or}
+use Rattle.std.proofs.lemmas.List.{length-map}
+use Rattle.std.proofs.Math.ListN.{get_or-map}
+use Rattle.dexspec.specs.Pieces.{Cut, IsCode, has_right_targets, piece_size}
 use Rattle.dexinsn.specs.declared.code.Cut.{Cut as CutOfCode}
-use Rattle.dexinsn.specs.Split.{cuts_of, AreMarked, GoesAstrayAt, first_astray}
+use Rattle.dexinsn.specs.Split.{GoesAstrayAt, IsPieceAt, cut_of, cuts_of, first_astray, first_astray_of}
+use Rattle.dexinsn.specs.Checking.{AreCutWith, AreNoted}
+use Rattle.dexinsn.proofs.Passed.{whole_cut}
+use Rattle.dexinsn.proofs.Leading.{bits_noted}
 
 -- where no element fails the test, each passes
 found_none : {X : Type 0} (test : X → Bool) (unit : X → ℕ) (x : X) (xs : List X) (b : Bool) → test x ≡ b → option_map unit (cond (not b) (Some x) (find (λ y. not (test y)) xs)) ≡ None
@@ -19,21 +23,42 @@ All-find : {X : Type 0} (test : X → Bool) (unit : X → ℕ) (xs : List X) →
 All-find test unit [] none = All-nil (λ y. IsTrue (test y))
 All-find test unit (x ∷ xs) none = found_none test unit x xs (test x) refl none (All-find test unit xs)
 
-AreMarked-whole : (us : List ℕ) (cuts : List CutOfCode) (marks : List Bool) → AreMarked us cuts marks (length us) → AreCut 0 us (cuts_of cuts) []
-AreMarked-whole us cuts marks m = subst (λ (rest : List ℕ). AreCut 0 us (cuts_of cuts) rest) (drop_all (length us) us (omega arith)) m.cut
-
-code : (us : List ℕ) (cuts : List CutOfCode) (marks : List Bool) → 0 < length us → AreMarked us cuts marks (length us) → first_astray us (cuts_of cuts) ≡ None → IsCode us (cuts_of cuts)
-code us cuts marks some m none = record {
+pub cut_code : (us : List ℕ) (cs : List Cut) (starts noted : List ℕ) → 0 < length us → AreCutWith us cs starts noted (length us) → first_astray us cs ≡ None → IsCode us cs
+cut_code us cs starts noted some h none = record {
   some = some;
-  cut = AreMarked-whole us cuts marks m;
-  targets = All-find (has_right_targets us (cuts_of cuts)) (λ c. c.unit) (cuts_of cuts) none;
+  cut = whole_cut us cs starts noted h;
+  targets = All-find (has_right_targets us cs) (λ c. c.unit) cs none;
 }
 
--- the code's own names for the units and for the cuts change nothing
-pub AreMarked-code : (us vs : List ℕ) (cuts : List CutOfCode) (marks : List Bool) (taken : List CutOfCode) → vs ≡ us → taken ≡ cuts → 0 < length us → AreMarked vs cuts marks (length vs) → first_astray vs (cuts_of cuts) ≡ None → IsCode us (cuts_of taken)
-AreMarked-code us vs cuts marks taken same_units same_cuts some m none =
-    let some' : 0 < length vs = subst (λ (ws : List ℕ). 0 < length ws) (sym same_units) some in
-    subst (λ (ws : List ℕ). IsCode ws (cuts_of taken)) same_units (subst (λ (cs : List CutOfCode). IsCode vs (cuts_of cs)) (sym same_cuts) (code vs cuts marks some' m none))
+pub cut_astray : (us : List ℕ) (cs : List Cut) (starts noted : List ℕ) (n : ℕ) → AreCutWith us cs starts noted (length us) → first_astray us cs ≡ Some n → GoesAstrayAt us n
+cut_astray us cs starts noted n h first = record { cuts = cs; cut = whole_cut us cs starts noted h; first = first }
 
-pub AreMarked-astray : (us vs : List ℕ) (cuts : List CutOfCode) (marks : List Bool) (n : ℕ) → vs ≡ us → AreMarked vs cuts marks (length vs) → first_astray vs (cuts_of cuts) ≡ Some n → GoesAstrayAt us n
-AreMarked-astray us vs cuts marks n same m first = subst (λ (ws : List ℕ). GoesAstrayAt ws n) same (record { cuts = cuts_of cuts; cut = AreMarked-whole vs cuts marks m; first = first })
+-- each bit is that of a piece
+pub cut_noted : (us : List ℕ) (cs : List Cut) (starts noted : List ℕ) → AreCutWith us cs starts noted (length us) → AreNoted us noted
+cut_noted us cs starts noted h = bits_noted us cs noted h.pieces h.noted_are
+
+-- ---- the first with a wrong target, one piece after the other
+
+rest_is : (cuts : List CutOfCode) (i : ℕ) (d : CutOfCode) → i < length cuts → cuts_of (drop i cuts) ≡ cut_of (get_or cuts i d) ∷ cuts_of (drop (i + 1) cuts)
+rest_is cuts i d lt = ap cuts_of (drop-cons cuts i d lt ∙ ap (λ (k : ℕ). get_or cuts i d ∷ drop k cuts) (sym (add-one i)))
+
+pub astray_here : (us : List ℕ) (cs : List Cut) (cuts : List CutOfCode) (i : ℕ) (d : CutOfCode) → i < length cuts → false ≡ has_right_targets us cs (cut_of (get_or cuts i d)) → first_astray_of us cs (cuts_of (drop i cuts)) ≡ Some (get_or cuts i d).unit
+astray_here us cs cuts i d lt wrong =
+    let c : Cut = cut_of (get_or cuts i d) in
+    let rest : List Cut = cuts_of (drop (i + 1) cuts) in
+    ap (first_astray_of us cs) (rest_is cuts i d lt)
+    ∙ ap (λ (b : Bool). option_map (λ (e : Cut). e.unit) (cond (not b) (Some c) (find (λ e. not (has_right_targets us cs e)) rest))) (sym wrong)
+
+pub astray_on : (us : List ℕ) (cs : List Cut) (cuts : List CutOfCode) (i : ℕ) (d : CutOfCode) → i < length cuts → true ≡ has_right_targets us cs (cut_of (get_or cuts i d)) → first_astray_of us cs (cuts_of (drop i cuts)) ≡ first_astray_of us cs (cuts_of (drop (i + 1) cuts))
+astray_on us cs cuts i d lt right =
+    let c : Cut = cut_of (get_or cuts i d) in
+    let rest : List Cut = cuts_of (drop (i + 1) cuts) in
+    ap (first_astray_of us cs) (rest_is cuts i d lt)
+    ∙ ap (λ (b : Bool). option_map (λ (e : Cut). e.unit) (cond (not b) (Some c) (find (λ e. not (has_right_targets us cs e)) rest))) (sym right)
+
+-- each of the pieces begins where it says
+pub piece_there : (us : List ℕ) (cuts : List CutOfCode) (i : ℕ) (d : CutOfCode) → i < length cuts → All (IsPieceAt us) (cuts_of cuts) → IsSome (piece_size (get_or cuts i d).unit (drop (get_or cuts i d).unit us))
+piece_there us cuts i d lt pieces =
+    let inside : i < length (cuts_of cuts) = subst (λ (n : ℕ). i < n) (sym (length-map cuts cut_of)) lt in
+    let is : IsPieceAt us (cut_of (get_or cuts i d)) = subst (IsPieceAt us) (get_or-map cut_of cuts i d) (All-get_or (IsPieceAt us) (cuts_of cuts) i (cut_of d) inside pieces) in
+    subst (λ (o : Option ℕ). IsSome o) (sym is) refl

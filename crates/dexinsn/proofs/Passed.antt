@@ -1,5 +1,5 @@
 -- Units judged in one pass.
-use Rattle.std.proofs.Common.{◌≡◌, ℕ, ◌+◌, ◌-◌, ◌/◌, ◌<◌, ◌≤◌, ◌||◌, ◌&&◌, pos, Bool, true, false, not, List, [], ◌∷◌, ◌++◌, length, drop, slice_index, replicate, Option, Some, None, inl, inr, refl, ap, sym, ◌∙◌, subst, arith, zero-add, length-drop, length-append}
+use Rattle.std.proofs.Common.{◌≡◌, ℕ, ◌+◌, ◌-◌, ◌/◌, ◌<◌, ◌≤◌, ◌||◌, ◌&&◌, pos, Bool, true, false, List, [], ◌∷◌, ◌++◌, length, drop, slice_index, replicate, Some, None, inl, inr, refl, ap, sym, ◌∙◌, subst, arith, zero-add, length-drop, length-append}
 use Rattle.std.specs.Prelude.{◌↔◌}
 use Rattle.std.specs.List.{All}
 use Rattle.std.specs.Ordering.{int_eq}
@@ -8,21 +8,19 @@ use Rattle.std.proofs.lemmas.List.{drop-drop, drop_all, length-replicate}
 use Rattle.std.proofs.lemmas.List.Elements.{All-nil, All-push, All-head, All-tail, All-append}
 use Rattle.std.proofs.lemmas.List.Folds.{list_any-append}
 use Rattle.dexspec.specs.Mentions.{Mentions}
-use Rattle.dexspec.specs.Symbols.{Pool}
-use Rattle.dexspec.specs.Pieces.{Cut, AreCut, BreaksAt, IsCode, index_pool, piece_size}
+use Rattle.dexspec.specs.Pieces.{Cut, AreCut, BreaksAt, index_pool, piece_size}
 use Rattle.dexinsn.specs.LongSwitches.{HasBit}
 use Rattle.dexinsn.specs.Stored.{FitsAt}
 use Rattle.dexinsn.specs.Reading.{IsInRange, indices_at, with_index_at}
 use Rattle.dexinsn.specs.Split.{IsPieceAt, starts_with, units_of_all}
-use Rattle.dexinsn.specs.Checking.{AreBitsOf, ArePassed, HasNoCode, IndexCount, IsOutside, begins_instruction, is_noted}
+use Rattle.dexinsn.specs.Checking.{AreBitsOf, AreCutWith, ArePassed, HasNoCode, IndexCount, IsOutside, begins_instruction, is_noted}
 use Rattle.dexinsn.proofs.Cuts.{AreCut-push, units_of_all-push}
-use Rattle.dexinsn.proofs.CodeRead.{cut_is_none}
-use Rattle.dexinsn.proofs.IndicesRead.{indices_push, with_index_append}
+use Rattle.dexinsn.proofs.CodeRead.{broken_is_none}
+use Rattle.dexinsn.proofs.IndicesRead.{indices_push}
 use Rattle.dexinsn.proofs.Once.{nothing, whole_once}
 use Rattle.dexinsn.proofs.Sizes.{piece_size-fits}
 use Rattle.dexinsn.proofs.Starts.{int_eq-same, int_eq-other}
 use Rattle.dexinsn.proofs.StartBits.{or_nothing, or_last, and_nothing, none_set}
-use Rattle.dexinsn.specs.declared.code.CodeFault.TheVariants.{Piece}
 
 -- ---- bits
 
@@ -117,7 +115,7 @@ one_passed us m starts noted news newn at indices size count h more is some inde
 
 -- where no piece begins there is no code
 pub no_piece : (us : List ℕ) (m : Mentions) (starts noted : List ℕ) (at indices : ℕ) → ArePassed us m starts noted at indices → at < length us → piece_size at (drop at us) ≡ None → HasNoCode us m
-no_piece us m starts noted at indices h more none = λ cuts code all. cut_is_none us (Piece at) (record { cuts = h.cuts; within = more; cut = h.cut; none = none }) cuts code
+no_piece us m starts noted at indices h more none = λ cuts code all. broken_is_none us at (record { cuts = h.cuts; within = more; cut = h.cut; none = none }) cuts code
 
 -- where an index is out of range there is none with all in range
 pub no_index : (us : List ℕ) (m : Mentions) (starts noted : List ℕ) (at indices : ℕ) → ArePassed us m starts noted at indices → at < length us → IsOutside us m at → HasNoCode us m
@@ -139,3 +137,39 @@ none_bits test us words n room is = subst (AreBitsOf test us []) (sym is) record
   each = λ k. (λ has. absurd (none_set n k has), λ e. absurd cc);
   inside = λ k has. absurd (none_set n k has);
 }
+
+-- ---- cuts that are kept
+
+pub none_cut : (us starts noted : List ℕ) → AreBitsOf begins_instruction us [] starts → AreBitsOf is_noted us [] noted → AreCutWith us [] starts noted 0
+none_cut us starts noted s n = record {
+  cut = refl;
+  reached = refl;
+  within = omega arith;
+  pieces = All-nil (IsPieceAt us);
+  starts_are = s;
+  noted_are = n;
+}
+
+-- a piece more is cut off
+pub one_cut_more : (us : List ℕ) (cs : List Cut) (starts noted news newn : List ℕ) (at size : ℕ) → AreCutWith us cs starts noted at → at < length us → piece_size at (drop at us) ≡ Some size
+    → ((cs : List Cut) (n : ℕ) → AreBitsOf begins_instruction us cs starts → AreBitsOf begins_instruction us (cs ++ record { unit = at; units = n } ∷ []) news)
+    → ((cs : List Cut) (n : ℕ) → AreBitsOf is_noted us cs noted → AreBitsOf is_noted us (cs ++ record { unit = at; units = n } ∷ []) newn)
+    → AreCutWith us (cs ++ record { unit = at; units = size } ∷ []) news newn (at + size)
+one_cut_more us cs starts noted news newn at size h more is s n =
+    let c : Cut = record { unit = at; units = size } in
+    let fits : size ≤ length (drop at us) = (piece_size-fits at (drop at us) size is).1 in
+    record {
+      cut = subst (λ (rest : List ℕ). AreCut 0 us (cs ++ c ∷ []) rest) (drop-drop size at us) (AreCut-push 0 us (drop at us) cs c h.cut (zero-add (units_of_all cs) ∙ h.reached) is);
+      reached = units_of_all-push cs c ∙ ap (λ (k : ℕ). k + size) h.reached;
+      within = let l : length (drop at us) ≡ length us - at = length-drop at us in omega (arith, h.within);
+      pieces = All-push (IsPieceAt us) cs c h.pieces is;
+      starts_are = s cs size h.starts_are;
+      noted_are = n cs size h.noted_are;
+    }
+
+-- where no piece begins the cut breaks
+pub cut_breaks : (us : List ℕ) (cs : List Cut) (starts noted : List ℕ) (at : ℕ) → AreCutWith us cs starts noted at → at < length us → piece_size at (drop at us) ≡ None → BreaksAt us at
+cut_breaks us cs starts noted at h more none = record { cuts = cs; within = more; cut = h.cut; none = none }
+
+pub whole_cut : (us : List ℕ) (cs : List Cut) (starts noted : List ℕ) → AreCutWith us cs starts noted (length us) → AreCut 0 us cs []
+whole_cut us cs starts noted h = subst (λ (rest : List ℕ). AreCut 0 us cs rest) (drop_all (length us) us (omega arith)) h.cut

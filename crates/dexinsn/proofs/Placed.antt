@@ -1,8 +1,8 @@
 -- Places by their bits.
-use Rattle.std.proofs.Common.{◌≡◌, ℕ, ◌+◌, ◌/◌, ◌%◌, ◌^◌, ◌<◌, ◌≤◌, ◌==◌, ◌||◌, ◌&&◌, ℤ, pos, ◌<ℤ◌, Bool, true, false, not, List, length, drop, slice_index, Option, Some, None, refl, ap, sym, ◌∙◌, subst, arith, eqb-true}
+use Rattle.std.proofs.Common.{◌≡◌, ℕ, ◌/◌, ◌%◌, ◌^◌, ◌≤◌, ◌==◌, ◌||◌, ◌&&◌, ℤ, pos, ◌<ℤ◌, Bool, true, false, List, length, slice_index, Option, Some, None, refl, ap, sym, ◌∙◌, subst, arith, eqb-true}
 use lib.IntN.{negsuc, nat_abs}
-use Rattle.std.specs.Prelude.{◌↔◌, bit_and}
-use Rattle.std.specs.List.{All, list_any}
+use Rattle.std.specs.Prelude.{◌↔◌}
+use Rattle.std.specs.List.{list_any}
 use Rattle.std.specs.Option.{IsSome}
 use Rattle.std.specs.Int.{bit_at}
 use Rattle.std.proofs.lemmas.Int.{ints}
@@ -18,7 +18,7 @@ use Rattle.dexinsn.specs.declared.payload.PayloadKind.TheVariants.{PackedSwitch,
 use Rattle.dexinsn.specs.Payload.{ident_of}
 use Rattle.dexinsn.specs.LongSwitches.{HasBit, HasPlace}
 use Rattle.dexinsn.specs.Split.{starts_with}
-use Rattle.dexinsn.specs.Checking.{AreBitsOf, begins_instruction, is_noted, leads}
+use Rattle.dexinsn.specs.Checking.{AreBitsOf, is_noted, leads}
 use Rattle.dexinsn.proofs.StartBits.{same_answer}
 use Rattle.dexinsn.proofs.Starts.{starts_with-negsuc, starts_with-pos}
 
@@ -28,7 +28,7 @@ no_place_below words (pos n) below h = omega (arith, ints)
 no_place_below words (negsuc n) below h = h
 
 -- nor is one behind the words
-no_bit_past : (words : List ℕ) (unit : ℕ) → length words ≤ unit / 64 → HasBit words unit → ⊥
+pub no_bit_past : (words : List ℕ) (unit : ℕ) → length words ≤ unit / 64 → HasBit words unit → ⊥
 unfolding HasBit
 no_bit_past words unit past has = let none = ap (λ w. bit_at w (unit % 64)) (get_or_past words (unit / 64) 0 past) ∙ bit_at-zero (unit % 64) in omega arith
 

@@ -145,7 +145,7 @@ spelled_by (Some pool) us c at parts places (i ∷ is) unit piece e same on =
     ∙ ap (λ (x : ℕ). take 1 (drop x us) ++ (index_units (is_wide_index (drop i.unit us)) i.number ++ spelled_from us (behind_index (is_wide_index (drop i.unit us)) i.unit) is)) here
     ∙ ap (λ (x : ℕ). take x (drop at us) ++ (index_units (is_wide_index (drop i.unit us)) i.number ++ spelled_from us (behind_index (is_wide_index (drop i.unit us)) i.unit) is)) (sym one)
 
-spelled_all : (us : List ℕ) (at : ℕ) (cs : List Cut) (is : List Index) → at ≤ length us → AreCut at (drop at us) cs [] → map (λ (i : Index). i.unit) is ≡ index_places at (map (cut_units us) cs) → flat_map numbered_units (pieces_with (map (cut_units us) cs) is) ≡ spelled_from us at is
+pub spelled_all : (us : List ℕ) (at : ℕ) (cs : List Cut) (is : List Index) → at ≤ length us → AreCut at (drop at us) cs [] → map (λ (i : Index). i.unit) is ≡ index_places at (map (cut_units us) cs) → flat_map numbered_units (pieces_with (map (cut_units us) cs) is) ≡ spelled_from us at is
 spelled_all us at [] [] le cut same = sym cut
 spelled_all us at [] (i ∷ is) le cut same = absurd cc
 spelled_all us at (c ∷ cs) is le cut same =

@@ -1,5 +1,5 @@
 -- Starts of instructions as bits of words.
-use Rattle.std.proofs.Common.{◌≡◌, ℕ, ◌+◌, ◌-◌, ◌*◌, ◌/◌, ◌%◌, ◌^◌, ◌<◌, ◌≤◌, ℤ, pos, ◌+ℤ◌, ◌<ℤ◌, to_z, of_z, w32, Bool, true, false, not, ◌&&◌, ◌||◌, List, [], ◌∷◌, ◌++◌, length, set, slice_index, replicate, inl, inr, refl, ap, sym, ◌∙◌, subst, arith, w64}
+use Rattle.std.proofs.Common.{◌≡◌, ℕ, ◌+◌, ◌-◌, ◌*◌, ◌/◌, ◌%◌, ◌^◌, ◌<◌, ◌≤◌, ℤ, pos, ◌+ℤ◌, ◌<ℤ◌, to_z, of_z, w32, Bool, true, false, not, ◌&&◌, ◌||◌, List, length, set, slice_index, replicate, inl, inr, refl, ap, sym, ◌∙◌, subst, arith, w64}
 use lib.IntN.{negsuc}
 use mir.Val.{SFits}
 use Rattle.std.specs.Prelude.{◌↔◌, ◌⊎◌, bit_and, bit_or}
@@ -7,17 +7,16 @@ use Rattle.std.specs.Int.{bit_at, bit_not}
 use Rattle.std.proofs.lemmas.Int.{ints}
 use Rattle.std.proofs.lemmas.Bool.{cases_eq, cases_lt}
 use Rattle.std.specs.List.{All}
-use Rattle.std.specs.Ordering.{int_eq}
 use Rattle.std.proofs.lemmas.List.Elements.{All-weaker}
 use Rattle.std.proofs.lemmas.List.{get_or-set_same, get_or-set_other, get_or-replicate, get_or_past, length-replicate}
-use Rattle.std.proofs.lemmas.List.Folds.{list_any-append}
 use Rattle.std.proofs.lemmas.Nat.{and_le_l, shr-shr, shr_split, pow_pos}
 use Rattle.std.proofs.lemmas.Nat.Bits.{bit_at_and, bit_at_or, bit_at_not, bit_at-lt, bit_at-zero, bit_at_above, bit_at_cat_low, bit_at_cat_high, bit_at_set_same, bit_at_set_other, same_from_bits_below}
 use Rattle.dexspec.specs.Pieces.{Cut, is_instruction_start, is_payload_ident}
 use Rattle.dexinsn.specs.LongSwitches.{AllInGroup, AreGrouped, AreStartBits, HasBit, HasPlace, HasPlaces, EndsEmpty}
 use Rattle.dexinsn.specs.Split.{lead_right}
 use Rattle.dexinsn.specs.declared.target_group.TargetGroup.{TargetGroup}
-use Rattle.dexinsn.proofs.Starts.{int_eq-same, int_eq-other, starts_with-below}
+use Rattle.dexinsn.specs.Checking.{AreBitsOf, begins_instruction}
+use Rattle.dexinsn.proofs.Starts.{starts_with-below}
 
 -- ---- 64 bits from one on
 
@@ -157,7 +156,7 @@ others_stay words unit k within other =
     let same = same_bit words unit k within other in
     (λ e. sym same ∙ e, λ e. same ∙ e)
 
--- ---- the starts of pieces, one after the other
+-- ---- the bits of pieces
 
 -- no bit is set yet
 pub none_set : (n k : ℕ) → HasBit (replicate n 0) k → ⊥
@@ -168,19 +167,6 @@ none_set n k has = elim (cases_lt (k / 64) n) [
       let long : length (replicate n 0) ≤ k / 64 = omega (arith, length-replicate {A = ℕ} n 0) in
       let none = ap (λ w. bit_at w (k % 64)) (get_or_past (replicate n 0) (k / 64) 0 long) ∙ bit_at-zero (k % 64) in omega arith)
 ]
-
--- the bits are those of the starts of these pieces, which lie within the units
-pub record AreStartsOf (us : List ℕ) (cs : List Cut) (words : List ℕ) : Type 0 where
-  pub room : length words ≡ length us / 64 + 2
-  pub each : (k : ℕ) → HasBit words k ↔ (is_instruction_start us cs (pos k) ≡ true)
-  pub within : (k : ℕ) → HasBit words k → k < length us
-
-pub none_started : (us words : List ℕ) (n : ℕ) → n ≡ length us / 64 + 2 → words ≡ replicate n 0 → AreStartsOf us [] words
-none_started us words n room is = subst (AreStartsOf us []) (sym is) record {
-  room = length-replicate {A = ℕ} n 0 ∙ room;
-  each = λ k. (λ has. absurd (none_set n k has), λ e. absurd cc);
-  within = λ k has. absurd (none_set n k has);
-}
 
 pub or_nothing : (x y : Bool) → y ≡ false → (x || (y || false)) ≡ x
 or_nothing true y none = refl
@@ -194,39 +180,9 @@ pub and_nothing : (x y : Bool) → y ≡ false → (x && y) ≡ false
 and_nothing true y none = none
 and_nothing false y none = refl
 
--- whether an instruction begins there, by the last piece
-start_more : (us : List ℕ) (cs : List Cut) (c : Cut) (z : ℤ) → is_instruction_start us (cs ++ c ∷ []) z ≡ (is_instruction_start us cs z || ((int_eq (pos c.unit) z && not (is_payload_ident (slice_index us c.unit))) || false))
-start_more us cs c z = list_any-append (λ (d : Cut). int_eq (pos d.unit) z && not (is_payload_ident (slice_index us d.unit))) cs (c ∷ [])
-
--- a payload is no start
-pub next_payload : (us : List ℕ) (cs : List Cut) (c : Cut) (words : List ℕ) → not (is_payload_ident (slice_index us c.unit)) ≡ false → AreStartsOf us cs words → AreStartsOf us (cs ++ c ∷ []) words
-next_payload us cs c words payload before = record {
-  room = before.room;
-  each = λ k.
-      let same = start_more us cs c (pos k) ∙ or_nothing (is_instruction_start us cs (pos k)) _ (and_nothing (int_eq (pos c.unit) (pos k)) _ payload) in
-      (λ has. same ∙ (before.each k).0 has, λ e. (before.each k).1 (sym same ∙ e));
-  within = before.within;
-}
-
--- the start of an instruction is a bit more
-pub next_start : (us : List ℕ) (cs : List Cut) (c : Cut) (words new : List ℕ) → not (is_payload_ident (slice_index us c.unit)) ≡ true → c.unit < length us → length new ≡ length words → HasBit new c.unit
-    → ((k : ℕ) → (k ≡ c.unit → ⊥) → HasBit new k ↔ HasBit words k) → AreStartsOf us cs words → AreStartsOf us (cs ++ c ∷ []) new
-next_start us cs c words new plain inside long here others before = record {
-  room = long ∙ before.room;
-  each = λ k. elim (cases_eq c.unit k) [
-    | inl same ↦
-        let begins : is_instruction_start us (cs ++ c ∷ []) (pos k) ≡ true = start_more us cs c (pos k) ∙ or_last (is_instruction_start us cs (pos k)) _ (rw (int_eq-same c.unit k same, plain)) in
-        (λ has. begins, λ e. subst (HasBit new) same here)
-    | inr other ↦
-        let as_before = start_more us cs c (pos k) ∙ or_nothing (is_instruction_start us cs (pos k)) _ (rw (int_eq-other c.unit k other)) in
-        let bits = others k (λ e. other (sym e)) in
-        (λ has. as_before ∙ (before.each k).0 (bits.0 has), λ e. bits.1 ((before.each k).1 (sym as_before ∙ e)))
-  ];
-  within = λ k has. elim (cases_eq c.unit k) [
-    | inl same ↦ omega arith
-    | inr other ↦ before.within k ((others k (λ e. other (sym e))).0 has)
-  ];
-}
+-- the last word has no bit
+pub ends_empty : (test : ℕ → Bool) (us : List ℕ) (cs : List Cut) (words : List ℕ) → AreBitsOf test us cs words → EndsEmpty words
+ends_empty test us cs words h = λ k past has. omega (arith, h.room, h.inside k has)
 
 -- ---- targets by their groups
 
@@ -259,8 +215,9 @@ groups_are us cs words at ts groups r starts grouped says =
     (λ e. (grouped test).1 (All-weaker (λ (g : TargetGroup). HasPlaces words (pos at +ℤ g.first) g.bits) (AllInGroup test) (λ g. (group_is us cs words at g starts).0) groups (says.0 e)))
     (λ e. says.1 (All-weaker (AllInGroup test) (λ (g : TargetGroup). HasPlaces words (pos at +ℤ g.first) g.bits) (λ g. (group_is us cs words at g starts).1) groups ((grouped test).0 e)))
 
-pub all_started : (us : List ℕ) (cs : List Cut) (words : List ℕ) → AreStartsOf us cs words → AreStartBits us cs words
-all_started us cs words h = record {
+-- the bits of instructions are those of their starts
+pub start_bits : (us : List ℕ) (cs : List Cut) (words : List ℕ) → AreBitsOf begins_instruction us cs words → AreStartBits us cs words
+start_bits us cs words h = record {
   each = h.each;
-  last = λ k past has. omega (arith, h.room, h.within k has);
+  last = ends_empty begins_instruction us cs words h;
 }

@@ -1,5 +1,5 @@
--- Where pieces begin, by the marks.
-use Rattle.std.proofs.Common.{◌≡◌, ℕ, ◌<◌, ◌≤◌, ◌==◌, ℤ, pos, ◌<ℤ◌, Bool, true, false, not, cond, ◌&&◌, ◌||◌, List, [], ◌∷◌, length, drop, slice_index, get_or, Option, Some, None, inl, inr, refl, ap, sym, ◌∙◌, subst, arith, eqb-true, eq-eqb, ne_eqb}
+-- Where pieces begin.
+use Rattle.std.proofs.Common.{◌≡◌, ℕ, ◌==◌, ℤ, pos, ◌<ℤ◌, Bool, true, false, cond, ◌&&◌, ◌||◌, List, [], ◌∷◌, drop, slice_index, Option, Some, None, inl, inr, refl, ap, sym, ◌∙◌, subst, arith, eqb-true, eq-eqb, ne_eqb}
 use lib.IntN.{negsuc}
 use Rattle.std.specs.Option.{IsSome, is_some, option_map}
 use Rattle.std.specs.List.{All, Any, list_any}
@@ -8,13 +8,10 @@ use Rattle.std.proofs.lemmas.Int.{ints}
 use Rattle.std.proofs.lemmas.Bool.{cases_eq}
 use Rattle.std.proofs.lemmas.List.Elements.{All-get_or}
 use Rattle.std.proofs.lemmas.List.Folds.{Any-from_list_any}
-use Rattle.std.proofs.Math.ListN.{get_or-map}
-use Rattle.std.proofs.lemmas.List.{get_or_past, get_or_read, length-map}
 use Rattle.dexspec.specs.Pieces.{Cut, piece_size}
-use Rattle.dexinsn.specs.declared.code.Cut.{Cut as CutOfCode}
 use Rattle.dexinsn.specs.declared.payload.PayloadKind.{PayloadKind}
 use Rattle.dexinsn.specs.Payload.{ident_of}
-use Rattle.dexinsn.specs.Split.{cut_of, cuts_of, AreMarked, IsPieceAt, starts_with}
+use Rattle.dexinsn.specs.Split.{IsPieceAt, starts_with}
 
 -- nothing begins at a negative number
 pub starts_with-negsuc : (test : ℕ → Bool) (us : List ℕ) (cs : List Cut) (n : ℕ) → starts_with test us cs (negsuc n) ≡ false
@@ -58,10 +55,6 @@ starts_with-pos test us (c ∷ cs) k =
           ∙ ap (λ (b : Bool). (b || list_any (λ (d : Cut). d.unit == k) cs) && test (slice_index us k)) (sym (ne_eqb c.unit k other))
     ]
 
--- at a place from 0 on its mark decides
-pub starts_with-at : (test : ℕ → Bool) (us : List ℕ) (cs : List Cut) (z : ℤ) (k : ℕ) (marked : Bool) → z ≡ pos k → list_any (λ c. c.unit == k) cs ≡ marked → starts_with test us cs z ≡ (marked && test (slice_index us k))
-starts_with-at test us cs z k marked at is = ap (starts_with test us cs) at ∙ starts_with-pos test us cs k ∙ ap (λ (b : Bool). b && test (slice_index us k)) is
-
 -- where a mark stands a piece begins
 pub piece_at : (us : List ℕ) (cs : List Cut) (k : ℕ) → All (IsPieceAt us) cs → list_any (λ c. c.unit == k) cs ≡ true → IsSome (piece_size k (drop k us))
 piece_at us cs k pieces marked =
@@ -72,33 +65,9 @@ piece_at us cs k pieces marked =
     let size : piece_size k (drop k us) ≡ Some c.units = subst (λ (p : ℕ). piece_size p (drop p us) ≡ Some c.units) at piece in
     subst (λ (o : Option ℕ). IsSome o) (sym size) refl
 
--- what a mark that is read says of the pieces
-pub marked_at : (us : List ℕ) (cuts : List CutOfCode) (marks : List Bool) (at k : ℕ) (mark : Bool) → AreMarked us cuts marks at → k < length marks → mark ≡ get_or marks k mark → list_any (λ c. c.unit == k) (cuts_of cuts) ≡ mark
-marked_at us cuts marks at k mark m within is = sym (m.starts k) ∙ sym (get_or_read marks k mark within is false)
-
--- no piece begins past the marks
-pub marked_past : (us : List ℕ) (cuts : List CutOfCode) (marks : List Bool) (at k : ℕ) → AreMarked us cuts marks at → length marks ≤ k → list_any (λ c. c.unit == k) (cuts_of cuts) ≡ false
-marked_past us cuts marks at k m past = sym (m.starts k) ∙ get_or_past marks k false past
-
--- no payload begins with the unit where the code finds no kind
-pub none_is : (o : Option PayloadKind) (u : ℕ) (payload none : Bool) → option_map ident_of o ≡ cond payload (Some u) None → is_some o ≡ not none → none ≡ not payload
-none_is None u true none is some = cc
-none_is None u false true is some = refl
-none_is None u false false is some = cc
-none_is (Some kind) u false none is some = cc
-none_is (Some kind) u true false is some = refl
-none_is (Some kind) u true true is some = cc
-
 -- a payload begins with the unit where the code finds a kind
 pub payload_is : (o : Option PayloadKind) (u : ℕ) (payload some : Bool) → option_map ident_of o ≡ cond payload (Some u) None → is_some o ≡ some → payload ≡ some
 payload_is None u true some is found = cc
 payload_is None u false some is found = found
 payload_is (Some kind) u true some is found = found
 payload_is (Some kind) u false some is found = cc
-
--- each of the code's cuts is a piece
-pub piece_of : (us : List ℕ) (cuts items : List CutOfCode) (marks : List Bool) (at i : ℕ) (d : CutOfCode) → AreMarked us cuts marks at → items ≡ cuts → i < length items → IsPieceAt us (cut_of (get_or items i d))
-piece_of us cuts items marks at i d m same within =
-    let inside : i < length (cuts_of items) = subst (λ (n : ℕ). i < n) (sym (length-map items cut_of)) within in
-    let pieces : All (IsPieceAt us) (cuts_of items) = subst (λ (cs : List CutOfCode). All (IsPieceAt us) (cuts_of cs)) (sym same) m.pieces in
-    subst (IsPieceAt us) (get_or-map cut_of items i d) (All-get_or (IsPieceAt us) (cuts_of items) i (cut_of d) inside pieces)

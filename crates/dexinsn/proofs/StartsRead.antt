@@ -1,39 +1,58 @@
--- Where instructions begin, by marks.
-use Rattle.std.proofs.Common.{◌≡◌, ℕ, zero, suc, ◌==◌, pos, Bool, true, false, ◌&&◌, not, List, [], ◌∷◌, length, get_or, slice_index, refl, ap, sym, ◌∙◌, subst, arith}
-use Rattle.std.specs.List.{list_any}
-use Rattle.dexspec.specs.Pieces.{Cut, IsCode, is_payload_ident, is_instruction_start}
-use Rattle.dexinsn.specs.declared.code.Cut.{Cut as CutOfCode}
-use Rattle.dexinsn.specs.Units.{units_in, starts_in}
-use Rattle.dexinsn.specs.Split.{cuts_of, AreMarked}
-use Rattle.dexinsn.specs.Reading.{AreUnitsAt, AreStartMarks, AreStartsAt}
-use Rattle.dexinsn.proofs.Starts.{starts_with-at}
-use Rattle.dexinsn.proofs.FaultsRead.{one_cut}
+-- Where instructions begin, by the bits.
+use Rattle.std.proofs.Common.{◌≡◌, ℕ, zero, suc, ◌+◌, ◌*◌, ◌/◌, ◌%◌, ◌<◌, ◌≤◌, pos, Bool, true, false, List, length, get_or, slice_index, inl, inr, refl, ap, sym, ◌∙◌, subst, arith, eqb-true, eq-eqb, zero-add}
+use Rattle.std.specs.Prelude.{◌↔◌}
+use Rattle.std.specs.Int.{bit_at}
+use Rattle.std.proofs.lemmas.Bool.{cases_lt}
+use Rattle.std.proofs.lemmas.List.{get_or_past}
+use Rattle.dexspec.specs.Pieces.{IsCode, is_instruction_start}
+use Rattle.dexinsn.specs.Units.{units_in}
+use Rattle.dexinsn.specs.Bits.{bits_from, bits_in, has_bit}
+use Rattle.dexinsn.specs.LongSwitches.{HasBit, HasPlace}
+use Rattle.dexinsn.specs.Reading.{AreUnitsAt, AreStartsAt}
+use Rattle.dexinsn.specs.Checking.{AreCodeStarts}
+use Rattle.dexinsn.proofs.StartBits.{same_answer}
+use Rattle.dexinsn.proofs.Placed.{no_bit_past}
 
--- what is told of one unit
-pub start_at : (us : List ℕ) (marks : List Bool) (k : ℕ) → length marks ≡ length us → get_or (starts_in us marks) k false ≡ (get_or marks k false && not (is_payload_ident (slice_index us k)))
-start_at [] [] k e = refl
-start_at [] (m ∷ ms) k e = absurd (omega arith)
-start_at (u ∷ us) [] k e = absurd (omega arith)
-start_at (u ∷ us) (m ∷ ms) zero e = refl
-start_at (u ∷ us) (m ∷ ms) (suc k) e = start_at us ms k (omega arith)
+-- the bit as an answer
+pub bit_says : (words : List ℕ) (k : ℕ) → (has_bit words k ≡ true) ↔ HasBit words k
+unfolding HasBit
+bit_says words k = (λ e. eqb-true (bit_at (slice_index words (k / 64)) (k % 64)) 1 e, λ has. eq-eqb (bit_at (slice_index words (k / 64)) (k % 64)) 1 has)
 
-pub no_start : (us : List ℕ) (marks : List Bool) (k : ℕ) → length marks ≡ length us → get_or marks k false ≡ false → false ≡ get_or (starts_in us marks) k false
-no_start us marks k e none = sym (start_at us marks k e ∙ ap (λ (b : Bool). b && not (is_payload_ident (slice_index us k))) none)
+bit_from : (n : ℕ) (words : List ℕ) (k i : ℕ) → i < n → get_or (bits_from n words k) i false ≡ has_bit words (k + i)
+bit_from zero words k i lt = absurd (omega (arith, lt))
+bit_from (suc n) words k zero lt = ap (has_bit words) (omega arith)
+bit_from (suc n) words k (suc i) lt =
+    let same : k + 1 + i ≡ k + suc i = omega arith in
+    bit_from n words (k + 1) i (omega (arith, lt)) ∙ ap (has_bit words) same
 
-pub some_start : (us : List ℕ) (marks : List Bool) (k : ℕ) (b : Bool) → length marks ≡ length us → get_or marks k false ≡ true → b ≡ not (is_payload_ident (slice_index us k)) → b ≡ get_or (starts_in us marks) k false
-some_start us marks k b e some is = is ∙ sym (start_at us marks k e ∙ ap (λ (t : Bool). t && not (is_payload_ident (slice_index us k))) some)
+length_from : (n : ℕ) (words : List ℕ) (k : ℕ) → length (bits_from n words k) ≡ n
+length_from zero words k = refl
+length_from (suc n) words k = ap suc (length_from n words (k + 1))
 
--- the marks of a cut
-pub marked_starts : (us vs : List ℕ) (cuts : List CutOfCode) (marks : List Bool) → vs ≡ us → AreMarked vs cuts marks (length vs) → IsCode us (cuts_of cuts) → AreStartMarks us marks
-marked_starts us vs cuts marks same m code = record {
-  count = m.each ∙ ap length same;
-  each = λ ds k other. m.starts k ∙ ap (list_any (λ (c : Cut). c.unit == k)) (one_cut us (cuts_of cuts) ds code other);
-}
+no_bit : (b : Bool) → (b ≡ true → ⊥) → b ≡ false
+no_bit true none = absurd (none refl)
+no_bit false none = refl
+
+-- the answers are those of the bits
+pub bit_in : (words : List ℕ) (k : ℕ) → get_or (bits_in words) k false ≡ has_bit words k
+unfolding bits_in
+bit_in words k = elim (cases_lt k (64 * length words)) [
+  | inl within ↦ bit_from (64 * length words) words 0 k within ∙ ap (has_bit words) (zero-add k)
+  | inr past ↦
+      let long : length (bits_from (64 * length words) words 0) ≤ k = omega (arith, length_from (64 * length words) words 0, past) in
+      get_or_past (bits_from (64 * length words) words 0) k false long
+      ∙ sym (no_bit (has_bit words k) (λ e. no_bit_past words k (omega (arith, past)) ((bit_says words k).0 e)))
+]
+
+-- an answer that is right of the place is right of the bits
+pub answer_in : (words : List ℕ) (k : ℕ) (r : Bool) → (r ≡ true) ↔ HasPlace words (pos k) → r ≡ get_or (bits_in words) k false
+answer_in words k r says = same_answer r (has_bit words k) (λ e. (bit_says words k).1 (says.0 e)) (λ e. says.1 ((bit_says words k).0 e)) ∙ sym (bit_in words k)
 
 -- the starts of the code_item
-pub starts_there : (b : List ℕ) (off : ℕ) (bytes : List ℕ) (marks : List Bool) → AreUnitsAt b off bytes → AreStartMarks (units_in bytes) marks → AreStartsAt b off (starts_in (units_in bytes) marks)
-starts_there b off bytes marks at s cuts ps k h =
+pub starts_there : (b : List ℕ) (off : ℕ) (bytes words : List ℕ) → AreUnitsAt b off bytes → AreCodeStarts (units_in bytes) words → AreStartsAt b off (bits_in words)
+starts_there b off bytes words at s cuts ps k h =
     let code : IsCode (units_in bytes) cuts = subst (λ (us : List ℕ). IsCode us cuts) (sym at.units) h.code in
-    start_at (units_in bytes) marks k s.count
-    ∙ sym (starts_with-at (λ u. not (is_payload_ident u)) (units_in bytes) cuts (pos k) k (get_or marks k false) refl (sym (s.each cuts k code)))
+    let bits = (s cuts code).each k in
+    bit_in words k
+    ∙ same_answer (has_bit words k) (is_instruction_start (units_in bytes) cuts (pos k)) (λ e. bits.0 ((bit_says words k).0 e)) (λ e. (bit_says words k).1 (bits.1 e))
     ∙ ap (λ (us : List ℕ). is_instruction_start us cuts (pos k)) at.units

@@ -1,13 +1,17 @@
 -- Units that are judged in one pass, with a bit for each unit.
-use Rattle.std.specs.Prelude.{◌≡◌, ◌↔◌, ℕ, ◌+◌, ◌/◌, ◌<◌, ◌≤◌, ◌||◌, pos, Bool, true, false, not, List, [], ◌∷◌, length, drop, All, IsTrue, slice_index}
+use Rattle.std.specs.Prelude.{◌≡◌, ◌↔◌, ℕ, ◌+◌, ◌*◌, ◌/◌, ◌^◌, ◌<◌, ◌≤◌, ◌||◌, pos, Bool, true, false, not, List, [], length, drop, All, IsTrue}
 use Rattle.std.specs.Option.{IsSome, option_map_or}
 use Rattle.dexspec.specs.Mentions.{Mentions}
 use Rattle.dexspec.specs.Opcodes.{Format, F10t, F20t, F21t, F22t, F30t, F31t, opcode_of}
 use Rattle.dexspec.specs.Pieces.{Cut, AreCut, IsCode, has_right_targets, index_pool, is_payload_ident, low_byte, piece_size}
 use Rattle.dexinsn.specs.LongSwitches.{HasBit}
 use Rattle.dexinsn.specs.Stored.{FitsAt}
-use Rattle.dexinsn.specs.Numbered.{NumberedPiece}
-use Rattle.dexinsn.specs.Reading.{ArePiecesAt, IsInRange, indices_at, with_index_at}
+use Rattle.dexspec.specs.Bytes.{uint_at}
+use Rattle.dexspec.specs.Code.{RegistersAt, code_units}
+use Rattle.dexinsn.specs.declared.pieces.Index.{Index}
+use Rattle.dexinsn.specs.declared.shape.PiecesShape.{PiecesShape}
+use Rattle.dexinsn.specs.Numbered.{NumberedPiece, numbered_bytes, uses_of}
+use Rattle.dexinsn.specs.Reading.{ArePiecesAt, HasCodeRoom, IsInRange, indices_at, with_index_at}
 use Rattle.dexinsn.specs.Split.{IsPieceAt, starts_with, units_of_all}
 
 -- ---- tests of a first unit
@@ -107,7 +111,45 @@ pub record IsChecked (us : List ℕ) (m : Mentions) (indices : ℕ) : Type 0 whe
   pub counted : length (indices_at us cuts) ≡ indices
   pub fit : All (FitsAt us) (indices_at us cuts)
 
--- pieces stand there, with so many indices
-pub record HasPieces (b : List ℕ) (off : ℕ) (m : Mentions) (indices : ℕ) : Type 0 where
+-- the bits are those of the instructions of the code
+abbrev pub AreCodeStarts : List ℕ → List ℕ → Type 0
+AreCodeStarts us words = (cuts : List Cut) → IsCode us cuts → AreBitsOf begins_instruction us cuts words
+
+-- the units up to one are cut into these pieces, and these are the bits of the pieces
+pub record AreCutWith (us : List ℕ) (cs : List Cut) (starts noted : List ℕ) (at : ℕ) : Type 0 where
+  pub cut : AreCut 0 us cs (drop at us)
+  pub reached : units_of_all cs ≡ at
+  pub within : at ≤ length us
+  pub pieces : All (IsPieceAt us) cs
+  pub starts_are : AreBitsOf begins_instruction us cs starts
+  pub noted_are : AreBitsOf is_noted us cs noted
+
+-- ---- the shape
+
+-- a code_item's fixed part and units stand there, the units are code whose indices are in range, and that is its shape
+pub record IsShapeAt (b : List ℕ) (off : ℕ) (m : Mentions) (s : PiecesShape) : Type 0 where
+  pub room : HasCodeRoom b off
+  pub registers : RegistersAt b off s.registers s.ins s.outs
+  pub units : uint_at b (off + 12) ≡ s.units
+  pub few : s.units < 2 ^ 32
+  pub checked : IsChecked (code_units b off) m s.indices
+
+-- pieces stand there, and that is their shape
+pub record HasPiecesOf (b : List ℕ) (off : ℕ) (m : Mentions) (s : PiecesShape) : Type 0 where
   pub pieces : List NumberedPiece
   pub at : ArePiecesAt b off m pieces
+  pub registers : RegistersAt b off s.registers s.ins s.outs
+  pub units : length (numbered_bytes pieces) ≡ 2 * s.units
+  pub indices : length (uses_of pieces) ≡ s.indices
+
+-- ---- what is built
+
+-- the units are cut to their end, and so many instructions have an index, which fits its place
+pub record HaveIndices (us : List ℕ) (count : ℕ) : Type 0 where
+  pub cuts : List Cut
+  pub cut : AreCut 0 us cuts []
+  pub counted : length (indices_at us cuts) ≡ count
+
+-- these are the indices of the pieces
+abbrev pub AreTheIndices : List ℕ → List Index → Type 0
+AreTheIndices us is = (cuts : List Cut) → AreCut 0 us cuts [] → is ≡ indices_at us cuts

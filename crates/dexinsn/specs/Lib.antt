@@ -11,3 +11,4 @@ pub mod Listing
 pub mod Fitting
 pub mod LongSwitches
 pub mod Checking
+pub mod Bits

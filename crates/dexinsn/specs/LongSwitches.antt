@@ -8,7 +8,6 @@ use Rattle.std.specs.declared.alloc.Global.{Global}
 use Rattle.dexspec.specs.Pieces.{Cut, ints_in, is_instruction_start, payload_targets}
 use Rattle.dexinsn.specs.declared.target_group.TargetGroup.{TargetGroup}
 use Rattle.dexinsn.specs.declared.long_switches.Targets.{Targets}
-use Rattle.dexinsn.specs.declared.long_switches.LongSwitches.{LongSwitches}
 
 -- ---- targets in groups
 
@@ -62,8 +61,3 @@ ArePayloads us m = (k : ℕ) (groups : Vec TargetGroup Global) → get nat_eq m 
 pub record AreTargetsAt (us : List ℕ) (unit : ℕ) (t : Targets) : Type 0 where
   pub within : t.first + 2 * t.count ≤ length us
   pub is : payload_targets us unit ≡ ints_in us t.first t.count
-
--- the payloads that are noted, and the starts where there are some
-pub record AreLong (us : List ℕ) (cs : List Cut) (l : LongSwitches) : Type 0 where
-  pub payloads : ArePayloads us l.groups
-  pub starts : (k : ℕ) (groups : Vec TargetGroup Global) → get nat_eq l.groups k ≡ Some groups → AreStartBits us cs l.starts.items

@@ -1,18 +1,15 @@
 -- Pieces as they are read from a file.
-use Rattle.std.specs.Prelude.{◌≡◌, ℕ, ◌+◌, ◌*◌, ◌%◌, ◌^◌, ◌<◌, ◌==◌, pos, Bool, false, List, [], ◌∷◌, length, drop, All, MatchOption, Option, Some, None, slice_index_or}
+use Rattle.std.specs.Prelude.{◌≡◌, ℕ, ◌+◌, ◌*◌, ◌%◌, ◌^◌, ◌<◌, pos, Bool, false, List, [], ◌∷◌, drop, All, MatchOption, Option, Some, None, slice_index_or}
 use Rattle.dexspec.specs.Bytes.{uint_at}
 use Rattle.dexspec.specs.Sections.{IsInData}
 use Rattle.dexspec.specs.Symbols.{Pool}
 use Rattle.dexspec.specs.Mentions.{Mentions}
 use Rattle.dexspec.specs.Pieces.{Cut, Piece, IsCode, index_pool, index_in, is_instruction_start}
-use Rattle.std.specs.List.{list_any}
 use Rattle.dexspec.specs.Code.{code_units, PiecesAt}
 use Rattle.dexpool.specs.declared.faults.ItemFault.{ItemFault}
 use Rattle.dexpool.specs.declared.faults.ItemFault.TheVariants.{Refused, Memory}
 use Rattle.dexpool.specs.Pools.{count_of}
 use Rattle.dexinsn.specs.declared.pieces.Index.{Index}
-use Rattle.dexinsn.specs.declared.code.CodeFault.{CodeFault}
-use Rattle.dexinsn.specs.declared.code.CodeFault.TheVariants as faults
 use Rattle.dexinsn.specs.Stored.{FitsAt}
 use Rattle.dexinsn.specs.Units.{units_in}
 use Rattle.dexinsn.specs.Numbered.{NumberedPiece, StandFor, kind_of_pool}
@@ -39,11 +36,6 @@ pub record AreUnitsAt (b : List ℕ) (off : ℕ) (bytes : List ℕ) : Type 0 whe
   pub room : HasCodeRoom b off
   pub units : units_in bytes ≡ code_units b off
   pub few : uint_at b (off + 12) < 2 ^ 32
-
--- the units are no code; a refusal of memory tells nothing
-abbrev pub IsNoCode : List ℕ → CodeFault → Type 0
-IsNoCode us faults.Memory = Unit {0}
-IsNoCode us fault = (cuts : List Cut) → IsCode us cuts → ⊥
 
 -- the index that begins a list, if an instruction with an index begins with it
 abbrev pub with_index_at : Option Pool → List ℕ → Cut → List Index → List Index
@@ -76,17 +68,7 @@ abbrev pub IsCodeFault : List ℕ → Mentions → ItemFault → Type 0
 IsCodeFault us m (Refused number) = (number ≡ 18) × ((cuts : List Cut) → IsCode us cuts → All (IsInRange us m) cuts → ⊥)
 IsCodeFault us m Memory = Unit {0}
 
--- some index is out of range; a refusal of memory tells nothing
-abbrev pub IsOutOfRange : List ℕ → Mentions → List Cut → ItemFault → Type 0
-IsOutOfRange us m cs (Refused number) = (number ≡ 18) × (All (IsInRange us m) cs → ⊥)
-IsOutOfRange us m cs Memory = Unit {0}
-
--- ---- where pieces begin
-
--- there is a mark for each unit, which says whether a piece of the code begins there
-pub record AreStartMarks (us : List ℕ) (marks : List Bool) : Type 0 where
-  pub count : length marks ≡ length us
-  pub each : (cuts : List Cut) (k : ℕ) → IsCode us cuts → slice_index_or marks k false ≡ list_any (λ c. c.unit == k) cuts
+-- ---- where instructions begin
 
 -- for each unit of the code_item at an offset, whether an instruction begins there
 abbrev pub AreStartsAt : List ℕ → ℕ → List Bool → Type 0

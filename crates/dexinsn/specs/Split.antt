@@ -1,5 +1,5 @@
 -- What the cuts and faults of the code mean.
-use Rattle.std.specs.Prelude.{Result, Ok, Err, ◌≡◌, Vec, ℕ, ◌+◌, ◌≤◌, ◌==◌, Bool, false, not, List, [], ◌∷◌, length, drop, map, All, slice_index, slice_index_or, Option, Some, None, ℤ, pos, ◌+ℤ◌, nat_abs, ◌&&◌}
+use Rattle.std.specs.Prelude.{Result, Ok, Err, ◌≡◌, Vec, ℕ, ◌+◌, Bool, not, List, [], ◌∷◌, drop, map, slice_index, Option, Some, ℤ, pos, ◌+ℤ◌, nat_abs, ◌&&◌}
 use Rattle.std.specs.List.{find, list_any, list_all}
 use Rattle.std.specs.declared.alloc.Global.{Global}
 use Rattle.std.specs.Option.{option_map}
@@ -27,24 +27,9 @@ abbrev pub units_of_all : List Cut → ℕ
 units_of_all [] = 0
 units_of_all (c ∷ cs) = c.units + units_of_all cs
 
--- The units up to one are cut into these pieces, and there is a mark for each unit, which says whether a
--- piece begins there.
-pub record AreMarked (us : List ℕ) (cuts : List CutOfCode) (marks : List Bool) (at : ℕ) : Type 0 where
-  pub cut : AreCut 0 us (cuts_of cuts) (drop at us)
-  pub reached : units_of_all (cuts_of cuts) ≡ at
-  pub within : at ≤ length us
-  pub each : length marks ≡ length us
-  pub starts : (k : ℕ) → slice_index_or marks k false ≡ list_any (λ c. c.unit == k) (cuts_of cuts)
-  pub pieces : All (IsPieceAt us) (cuts_of cuts)
-
 -- a piece begins at the place, with a unit that passes the test
 abbrev pub starts_with : (ℕ → Bool) → List ℕ → List Cut → ℤ → Bool
 starts_with test us cs z = list_any (λ c. int_eq (pos c.unit) z && test (slice_index us c.unit)) cs
-
--- there is a place, and the unit there passes the test
-abbrev pub passes_at : (ℕ → Bool) → List ℕ → Option ℕ → Bool
-passes_at test us None = false
-passes_at test us (Some k) = test (slice_index us k)
 
 -- the targets, counted from the instruction at a unit, are starts of instructions
 abbrev pub lead_right : List ℕ → List Cut → ℕ → List ℤ → Bool

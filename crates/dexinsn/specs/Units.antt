@@ -1,7 +1,5 @@
 -- Code units as they are borrowed.
-use Rattle.std.specs.Prelude.{ℕ, ◌/◌, ◌<◌, ◌^◌, Bool, ◌&&◌, not, List, length}
-use Rattle.dexspec.specs.Lists.{zip_with}
-use Rattle.dexspec.specs.Pieces.{is_payload_ident}
+use Rattle.std.specs.Prelude.{ℕ, ◌/◌, ◌<◌, ◌^◌, List, length}
 use Rattle.dexspec.specs.Bytes.{ushorts_at}
 use Rattle.dexinsn.specs.declared.code_units.Source.{Source}
 use Rattle.dexinsn.specs.declared.code_units.Source.TheVariants.{Numbers, Bytes}
@@ -19,7 +17,3 @@ units_from (Bytes bytes) = units_in bytes.now
 abbrev pub IsInMemory : Source → Type 0
 IsInMemory (Numbers numbers) = length numbers.now < 2 ^ 62
 IsInMemory (Bytes bytes) = length bytes.now < 2 ^ 63
-
--- for each unit whether an instruction begins there, where marks say whether a piece does
-abbrev pub starts_in : List ℕ → List Bool → List Bool
-starts_in us marks = zip_with (λ mark u. mark && not (is_payload_ident u)) marks us

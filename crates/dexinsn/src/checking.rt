@@ -1,28 +1,31 @@
-//! Units judged in one pass, with bits in words that are lent: nothing is kept of them.
+//! Code units checked in one pass, with bits in words that are lent: nothing is kept of the units.
 
-ghost use Rattle.std.specs.Prelude.{◌≡◌, ◌↔◌, ◌^◌, ◌+◌, ◌*◌, ◌/◌, ◌<◌, ◌≤◌, ℕ, true, List, [], ◌∷◌, ◌++◌, IsSome, drop, length, slice_index, IfOk, IfErr, MatchOption, OnOk, replicate};
+ghost use Rattle.std.specs.Prelude.{◌≡◌, ◌^◌, ◌+◌, ◌*◌, ◌/◌, ◌<◌, ◌≤◌, ℕ, List, [], ◌∷◌, ◌++◌, IsSome, drop, length, IfOk, IfErr, MatchOption, OnOk, replicate};
 ghost use Rattle.dexspec.specs.Opcodes as opcodes;
-ghost use Rattle.dexspec.specs.Pieces.{Cut, ints_in, low_byte, piece_size};
+ghost use Rattle.dexspec.specs.Pieces.{Cut, ints_in, piece_size};
 ghost use Rattle.dexpool.specs.Pools.{ArePools};
 ghost use Rattle.dexinsn.specs.Units.{units_in};
-ghost use Rattle.dexinsn.specs.Reading.{IsCodeFault, IsPiecesFault};
+ghost use Rattle.dexinsn.specs.Reading.{AreStartsAt, IsCodeFault, IsPiecesFault};
+ghost use Rattle.dexinsn.specs.Bits.{bits_in};
 ghost use Rattle.dexinsn.specs.Opcode.{format_of};
 ghost use Rattle.dexinsn.specs.Payload.{ident_of};
-ghost use Rattle.dexinsn.specs.LongSwitches.{HasPlace};
+ghost use Rattle.dexinsn.specs.LongSwitches.{ArePayloads, EndsEmpty};
 ghost use Rattle.dexinsn.specs.Split.{IsPieceAt, branches_right, lead_right, leads_to_payload};
-ghost use Rattle.dexinsn.specs.Checking.{AreBitsOf, AreNoted, ArePassed, HasNoCode, AreAllRight, HasNoBit, HasPieces, IndexCount, IsNextBit, IsOutside, IsChecked, LeadsAt, begins_instruction, branches, is_noted, leads};
+ghost use Rattle.dexinsn.specs.Checking.{AreBitsOf, AreCodeStarts, AreNoted, ArePassed, HasNoCode, AreAllRight, HasPiecesOf, IndexCount, IsOutside, IsChecked, IsShapeAt, LeadsAt, begins_instruction, branches, is_noted, leads};
 
 use crate::code_units::Units;
 use crate::format::Format;
 use crate::indexed::{index_at, kind_at};
 use crate::instruction::branch_offset;
-use crate::long_switches::targets_at;
+use crate::long_switches::{LongSwitches, targets_at};
 use crate::payload::PayloadKind;
 use crate::piece::piece_size;
-use crate::start_bits::set_bit;
-use crate::units::{int_at, opcode_in};
 use crate::reading::units_at;
-use dexhead::Frame;
+use crate::scratch::{Scratch, wipe};
+use crate::shape::PiecesShape;
+use crate::start_bits::{groups_lead_right, has_place, next_bit, set_bit};
+use crate::units::{int_at, opcode_in};
+use dexhead::{Frame, u16_at};
 use dexpool::{ItemFault, Pools};
 use std::alloc::{AllocError, Global};
 
@@ -71,8 +74,8 @@ fn index_count(units: &Units<'_>, at: usize, size: usize, pools: &Pools<'_>) -> 
     }
 }
 
-// Sets the bits of the piece that begins at a unit.
-fn note(units: &Units<'_>, at: usize, starts: &mut Vec<u64>, noted: &mut Vec<u64>)
+/// Sets the bits of the piece that begins at a unit.
+pub(crate) fn note(units: &Units<'_>, at: usize, starts: &mut Vec<u64>, noted: &mut Vec<u64>)
     requires within { at < length units.now }
     requires starts { length starts.old.items ≡ length units.now / 64 + 2 }
     requires noted { length noted.old.items ≡ length units.now / 64 + 2 }
@@ -120,20 +123,6 @@ fn pass(
     Some(indices)
 }
 
-// Whether the bit of a place is set.
-fn has_place(words: &[u64], place: i64) -> bool
-    ensures { (result ≡ true) ↔ HasPlace words.now place }
-{
-    if place < 0 {
-        return false;
-    }
-    let unit = place as usize;
-    if words.len() <= unit / 64 {
-        return false;
-    }
-    (words[unit / 64] >> (unit % 64) as u32) % 2 == 1
-}
-
 // Whether so many targets of two units each, from unit `first` on, counted from the instruction at unit `at`, are starts
 // of instructions.
 fn targets_lead(units: &Units<'_>, starts: &[u64], at: usize, first: usize, count: usize) -> bool
@@ -157,11 +146,14 @@ fn payload_leads(
     units: &Units<'_>,
     starts: &[u64],
     noted: &[u64],
+    switches: &LongSwitches,
     at: usize,
     kind: PayloadKind,
     place: i64,
 ) -> bool
     requires small { length units.now < 2 ^ 62 }
+    requires last { EndsEmpty starts.now }
+    requires switches { ArePayloads units.now switches.now.groups }
     requires from { at < length units.now }
     requires noted { AreNoted units.now noted.now }
     ensures { (cs : List Cut) → AreBitsOf begins_instruction units.now cs starts.now → AreBitsOf is_noted units.now cs noted.now → result ≡ leads_to_payload (ident_of kind) units.now cs at place }
@@ -172,6 +164,9 @@ fn payload_leads(
     let unit = place as usize;
     if units.at(unit) != kind.ident() {
         return false;
+    }
+    if let Some(groups) = switches.groups.get(&unit) {
+        return groups_lead_right(starts, groups, at);
     }
     match targets_at(units, kind, unit) {
         Some(targets) => targets_lead(units, starts, at, targets.first, targets.count),
@@ -184,10 +179,13 @@ fn branch_leads(
     units: &Units<'_>,
     starts: &[u64],
     noted: &[u64],
+    switches: &LongSwitches,
     at: usize,
     format: Format,
 ) -> bool
     requires small { length units.now < 2 ^ 62 }
+    requires last { EndsEmpty starts.now }
+    requires switches { ArePayloads units.now switches.now.groups }
     requires from { at < length units.now }
     requires within { at + opcodes.units_in (format_of format) ≤ length units.now }
     requires noted { AreNoted units.now noted.now }
@@ -201,15 +199,23 @@ fn branch_leads(
     match format {
         Format::Format31t => {
             let kind = PayloadKind::led_to_by(opcode_in(units.at(at)));
-            payload_leads(units, starts, noted, at, kind, target)
+            payload_leads(units, starts, noted, switches, at, kind, target)
         }
         _ => has_place(starts, target),
     }
 }
 
-// Whether the piece at a unit is a payload, or an instruction that leads to nothing or to what it may.
-fn piece_leads(units: &Units<'_>, starts: &[u64], noted: &[u64], at: usize) -> bool
+/// Whether the piece at a unit is a payload, or an instruction that leads to nothing or to what it may.
+pub(crate) fn piece_leads(
+    units: &Units<'_>,
+    starts: &[u64],
+    noted: &[u64],
+    switches: &LongSwitches,
+    at: usize,
+) -> bool
     requires small { length units.now < 2 ^ 62 }
+    requires last { EndsEmpty starts.now }
+    requires switches { ArePayloads units.now switches.now.groups }
     requires piece { IsSome (piece_size at (drop at units.now)) }
     requires noted { AreNoted units.now noted.now }
     ensures { LeadsAt units.now starts.now noted.now at result }
@@ -219,31 +225,17 @@ fn piece_leads(units: &Units<'_>, starts: &[u64], noted: &[u64], at: usize) -> b
         return true;
     }
     match Format::of(opcode_in(first)) {
-        Some(format) => branch_leads(units, starts, noted, at, format),
+        Some(format) => branch_leads(units, starts, noted, switches, at, format),
         None => true,
     }
 }
 
-// The first unit from one on whose bit is set.
-fn next_bit(words: &[u64], from: usize) -> Option<usize>
-    requires { length words.now < 2 ^ 56 }
-    ensures { MatchOption result (HasNoBit words.now from) (IsNextBit words.now from) }
-{
-    let mut at = from;
-    while at / 64 < words.len() {
-        let rest = words[at / 64] >> (at % 64) as u32;
-        if rest != 0 {
-            return Some(at + rest.trailing_zeros() as usize);
-        }
-        at = (at / 64 + 1) * 64;
-    }
-    None
-}
-
 // Whether all pieces lead to nothing or to what they may.
-fn all_lead(units: &Units<'_>, starts: &[u64], noted: &[u64]) -> bool
+fn all_lead(units: &Units<'_>, starts: &[u64], noted: &[u64], switches: &LongSwitches) -> bool
     requires small { length units.now < 2 ^ 62 }
-    requires few { length noted.now < 2 ^ 56 }
+    requires last { EndsEmpty starts.now }
+    requires switches { ArePayloads units.now switches.now.groups }
+    requires few { length noted.now < 2 ^ 57 }
     requires noted { AreNoted units.now noted.now }
     ensures { AreAllRight units.now starts.now noted.now result }
 {
@@ -253,7 +245,7 @@ fn all_lead(units: &Units<'_>, starts: &[u64], noted: &[u64]) -> bool
             Some(unit) => unit,
             None => return true,
         };
-        if !piece_leads(units, starts, noted, unit) {
+        if !piece_leads(units, starts, noted, switches, unit) {
             return false;
         }
         at = unit + 1;
@@ -261,82 +253,63 @@ fn all_lead(units: &Units<'_>, starts: &[u64], noted: &[u64]) -> bool
     true
 }
 
-/// Room for the bits of one code_item, lent from one to the next.
-#[derive(Drop)]
-pub struct Scratch {
-    starts: Vec<u64>,
-    noted: Vec<u64>,
-}
-
-impl Scratch {
-    /// No room yet. No memory is taken.
-    pub fn new(alloc: Global) -> Scratch {
-        Scratch {
-            starts: Vec::new(alloc),
-            noted: Vec::new(alloc),
-        }
-    }
-}
-
-// Makes so many words, none of which has a bit.
-fn wipe(words: &mut Vec<u64>, count: usize) -> Result<(), AllocError>
-    ensures { OnOk result (words.new.items ≡ replicate count 0) }
-{
-    words.clear();
-    words.resize(count, 0)?;
-    Ok(())
-}
-
-// Whether units are code whose indices are in range, and how many indices there are.
+// How many indices there are in units that are code, if they are and each index is in range.
 fn check_with(
+    alloc: Global,
     units: &Units<'_>,
     pools: &Pools<'_>,
     starts: &mut Vec<u64>,
     noted: &mut Vec<u64>,
-) -> Option<usize>
+) -> Result<Option<usize>, AllocError>
     requires few { length units.now < 2 ^ 32 }
     requires starts { AreBitsOf begins_instruction units.now [] starts.old.items }
     requires noted { AreBitsOf is_noted units.now [] noted.old.items }
-    ensures { MatchOption result (HasNoCode units.now pools.now) (IsChecked units.now pools.now) }
+    ensures { IfOk result (λ found. MatchOption found (HasNoCode units.now pools.now) (λ indices. IsChecked units.now pools.now indices × AreCodeStarts units.now starts.new.items)) }
 {
     if units.len() == 0 {
-        return None;
+        return Ok(None);
     }
     let indices = match pass(units, pools, starts, noted) {
         Some(indices) => indices,
-        None => return None,
+        None => return Ok(None),
     };
-    if all_lead(units, starts, noted) {
-        Some(indices)
+    let switches = LongSwitches::find(alloc, units, noted)?;
+    if all_lead(units, starts, noted, &switches) {
+        Ok(Some(indices))
     } else {
-        None
+        Ok(None)
     }
 }
 
 // How many indices there are in units that are code, each in range.
-fn check_units(
-    bytes: &[u8],
-    pools: &Pools<'_>,
-    scratch: &mut Scratch,
-) -> Result<usize, ItemFault>
+fn check_units(bytes: &[u8], pools: &Pools<'_>, scratch: &mut Scratch) -> Result<usize, ItemFault>
     requires { length (units_in bytes.now) < 2 ^ 32 }
     ensures indices { IfOk result (IsChecked (units_in bytes.now) pools.now) }
+    ensures starts { OnOk result ((words : List ℕ) × (scratch.new ≡ bits_in words) × AreCodeStarts (units_in bytes.now) words) }
     ensures fault { IfErr result (IsCodeFault (units_in bytes.now) pools.now) }
 {
     let units = Units::of_bytes(bytes);
     let words = units.len() / 64 + 2;
     wipe(&mut scratch.starts, words)?;
     wipe(&mut scratch.noted, words)?;
-    match check_with(&units, pools, &mut scratch.starts, &mut scratch.noted) {
+    let alloc = scratch.alloc;
+    match check_with(
+        alloc,
+        &units,
+        pools,
+        &mut scratch.starts,
+        &mut scratch.noted,
+    )? {
         Some(indices) => Ok(indices),
         None => Err(ItemFault::Refused(18)),
     }
 }
 
-/// Judges the registers and the pieces of the code_item at an offset, whose indices count in the pools: those of the
-/// file. Nothing is kept of them but how many indices there are.
+/// Checks the registers and the pieces of the code_item at an offset, whose indices count in the pools: those of the
+/// file. It returns how many registers, units and indices there are, and leaves in the scratch at which units
+/// instructions begin. Nothing else is kept.
 ///
-/// Error: as of [`read_pieces`](crate::read_pieces); `Memory` where there was no memory for the scratch.
+/// Error: as of [`read_pieces`](crate::read_pieces); `Memory` where there was none for the scratch.
 ///
 /// Source: "code_item"; the Android page "Dalvik bytecode".
 pub fn check_pieces(
@@ -344,13 +317,23 @@ pub fn check_pieces(
     pools: &Pools<'_>,
     off: u32,
     scratch: &mut Scratch,
-) -> Result<usize, ItemFault>
-    ensures pieces { ArePools frame.now pools.now → IfOk result (HasPieces frame.now off pools.now) }
+) -> Result<PiecesShape, ItemFault>
+    ensures shape { IfOk result (IsShapeAt frame.now off pools.now) }
+    ensures pieces { ArePools frame.now pools.now → IfOk result (HasPiecesOf frame.now off pools.now) }
+    ensures starts { OnOk result (AreStartsAt frame.now off scratch.new) }
     ensures refused { ArePools frame.now pools.now → IfErr result (IsPiecesFault frame.now off) }
 {
     let bytes = match units_at(frame, off) {
         Some(bytes) => bytes,
         None => return Err(ItemFault::Refused(18)),
     };
-    check_units(bytes, pools, scratch)
+    let indices = check_units(bytes, pools, scratch)?;
+    let code = frame.rest(off);
+    Ok(PiecesShape {
+        registers: u16_at(code, 0),
+        ins: u16_at(code, 2),
+        outs: u16_at(code, 4),
+        units: (bytes.len() / 2) as u32,
+        indices,
+    })
 }

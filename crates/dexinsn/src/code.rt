@@ -1,10 +1,16 @@
-ghost use Rattle.std.specs.Prelude.{◌≡◌, List, Result, IfErr, IfOk};
+ghost use Rattle.std.specs.Prelude.{◌≡◌, ◌<◌, ◌^◌, List, [], Result, IfErr, IfOk, length};
 ghost use Rattle.dexspec.specs.Pieces.{Cut as Meant, IsCode};
-ghost use Rattle.dexinsn.specs.Split.{IsAnswer, IsAnswered, IsFault, cuts_of, kind_of, unit_of};
+ghost use Rattle.dexinsn.specs.declared.code.CodeFault.TheVariants.{Memory};
+ghost use Rattle.dexinsn.specs.LongSwitches.{ArePayloads};
+ghost use Rattle.dexinsn.specs.Checking.{AreBitsOf, AreCutWith, begins_instruction, is_noted};
+ghost use Rattle.dexinsn.specs.Split.{IsAnswer, IsAnswered, IsCutFault, IsFault, cuts_of, first_astray, kind_of, unit_of};
 
+use crate::checking::{note, piece_leads};
 use crate::code_units::Units;
-use crate::marked::Marked;
-use std::alloc::Global;
+use crate::long_switches::LongSwitches;
+use crate::piece::piece_size;
+use crate::scratch::wipe;
+use std::alloc::{AllocError, Global};
 
 /// An instruction or payload: its first 16-bit unit, and its number of units.
 #[derive(Clone, Copy, Debug, PartialEq, Eq)]
@@ -51,6 +57,86 @@ impl CodeFault {
     }
 }
 
+// Cuts units to their end, and sets the bits of the pieces.
+fn cut_units(
+    alloc: Global,
+    units: &Units<'_>,
+    starts: &mut Vec<u64>,
+    noted: &mut Vec<u64>,
+) -> Result<Vec<Cut>, CodeFault>
+    requires starts { AreBitsOf begins_instruction units.now [] starts.old.items }
+    requires noted { AreBitsOf is_noted units.now [] noted.old.items }
+    ensures cuts { IfOk result (λ cuts. AreCutWith units.now (cuts_of cuts.items) starts.new.items noted.new.items (length units.now)) }
+    ensures fault { IfErr result (IsCutFault units.now) }
+{
+    let mut cuts = Vec::new(alloc);
+    let mut at = 0;
+    while at < units.len() {
+        let size = match piece_size(at, &units.rest(at)) {
+            Some(size) => size,
+            None => return Err(CodeFault::Piece(at)),
+        };
+        let piece = Cut {
+            unit: at,
+            units: size,
+        };
+        if cuts.push(piece).is_err() {
+            return Err(CodeFault::Memory);
+        }
+        note(units, at, starts, noted);
+        at += size;
+    }
+    Ok(cuts)
+}
+
+// The unit of the first of the pieces with a wrong target, if there is one.
+fn first_astray(
+    units: &Units<'_>,
+    cuts: &[Cut],
+    starts: &[u64],
+    noted: &[u64],
+    switches: &LongSwitches,
+) -> Option<usize>
+    requires small { length units.now < 2 ^ 62 }
+    requires cuts { AreCutWith units.now (cuts_of cuts.now) starts.now noted.now (length units.now) }
+    requires switches { ArePayloads units.now switches.now.groups }
+    ensures { result ≡ first_astray units.now (cuts_of cuts.now) }
+{
+    for cut in cuts {
+        if !piece_leads(units, starts, noted, switches, cut.unit) {
+            return Some(cut.unit);
+        }
+    }
+    None
+}
+
+// Cuts units that are code.
+fn split_units(alloc: Global, units: &Units<'_>) -> Result<Vec<Cut>, CodeFault>
+    requires { 0 < length units.now }
+    ensures code { IfOk result (λ cuts. IsCode units.now (cuts_of cuts.items)) }
+    ensures fault { IfErr result (IsFault units.now) }
+{
+    let words = units.len() / 64 + 2;
+    let mut starts = Vec::new(alloc);
+    wipe(&mut starts, words)?;
+    let mut noted = Vec::new(alloc);
+    wipe(&mut noted, words)?;
+    let cuts = cut_units(alloc, units, &mut starts, &mut noted)?;
+    let switches = LongSwitches::find(alloc, units, &noted)?;
+    match first_astray(units, &cuts, &starts, &noted, &switches) {
+        Some(unit) => Err(CodeFault::Target(unit)),
+        None => Ok(cuts),
+    }
+}
+
+impl From<AllocError> for CodeFault {
+    ghost from_gives = { λ _ fault. fault ≡ Memory };
+
+    fn from(_: AllocError) -> CodeFault {
+        CodeFault::Memory
+    }
+}
+
 /// Cuts 16-bit code units, from the first one on and without gaps, into instructions and payloads, in
 /// order.
 ///
@@ -71,14 +157,5 @@ pub fn split(alloc: Global, units: &[u16]) -> Result<Vec<Cut>, CodeFault>
     if units.is_empty() {
         return Err(CodeFault::Empty);
     }
-    let units = Units::of_numbers(units);
-    let marked = Marked::cut(alloc, &units)?;
-    let astray = match marked.first_astray(alloc) {
-        Ok(astray) => astray,
-        Err(_) => return Err(CodeFault::Memory),
-    };
-    match astray {
-        Some(unit) => Err(CodeFault::Target(unit)),
-        None => Ok(marked.into_cuts()),
-    }
+    split_units(alloc, &Units::of_numbers(units))
 }

@@ -1,39 +1,33 @@
 //! Where instructions begin.
 
-ghost use Rattle.std.specs.Prelude.{◌≡◌, ◌/◌, List, Bool, false, length, slice_index_or};
-ghost use Rattle.dexinsn.specs.Units.{units_in, starts_in};
+ghost use Rattle.std.specs.Prelude.{◌≡◌, false, slice_index_or};
+ghost use Rattle.dexinsn.specs.Bits.{bits_in};
 
-use crate::code_units::Units;
-use crate::payload::PayloadKind;
+use crate::start_bits::has_place;
 use std::marker::Model;
 
 /// The units of a code_item at which instructions begin. Contracts see for each unit whether one does.
 #[derive(Drop)]
-pub struct InstructionStarts<'a> {
-    // Two for each unit.
-    bytes: &'a [u8],
-    // For each unit whether an instruction or payload begins there.
-    marks: Vec<bool>,
+pub struct InstructionStarts<'s> {
+    // A bit for each unit.
+    words: &'s [u64],
 }
 
-impl<'a> Model for InstructionStarts<'a> {
-    ghost use Rattle.std.specs.Prelude.{◌≡◌, List, Bool, length};
-    ghost use Rattle.dexinsn.specs.Units.{units_in, starts_in};
+impl<'s> Model for InstructionStarts<'s> {
+    ghost use Rattle.std.specs.Prelude.{List, Bool};
+    ghost use Rattle.dexinsn.specs.Bits.{bits_in};
 
     ghost Value = { List Bool };
 
-    ghost view = { λ s. starts_in (units_in s.bytes.now) s.marks.items };
-
-    ghost invariant = { λ s. length s.marks.items ≡ length (units_in s.bytes.now) };
+    ghost view = { λ s. bits_in s.words.now };
 }
 
-impl<'a> InstructionStarts<'a> {
-    // The marks of the units that the bytes spell.
-    pub(crate) fn of(bytes: &'a [u8], marks: Vec<bool>) -> InstructionStarts<'a>
-        requires { length marks.items ≡ length (units_in bytes.now) }
-        ensures { result ≡ starts_in (units_in bytes.now) marks.items }
+impl<'s> InstructionStarts<'s> {
+    // The units whose bits are set.
+    pub(crate) fn of(words: &'s [u64]) -> InstructionStarts<'s>
+        ensures { result ≡ bits_in words.now }
     {
-        InstructionStarts { bytes, marks }
+        InstructionStarts { words }
     }
 
     /// Whether an instruction begins at an address, in units from the first one. No memory is taken.
@@ -42,14 +36,6 @@ impl<'a> InstructionStarts<'a> {
     pub fn contains(&self, address: u32) -> bool
         ensures { result ≡ slice_index_or self.now address false }
     {
-        let unit = address as usize;
-        if self.marks.len() <= unit {
-            return false;
-        }
-        if !self.marks[unit] {
-            return false;
-        }
-        let units = Units::of_bytes(self.bytes);
-        PayloadKind::of(units.at(unit)).is_none()
+        has_place(self.words, i64::from(address))
     }
 }

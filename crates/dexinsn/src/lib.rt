@@ -3,7 +3,8 @@
 //! Sources: the Android pages "Dalvik bytecode" and "Dalvik executable instruction formats".
 #![tactic(auto)]
 
-pub use checking::{Scratch, check_pieces};
+pub use building::build_pieces;
+pub use checking::check_pieces;
 pub use code::{CodeFault, Cut, split};
 pub use format::Format;
 pub use instruction_starts::InstructionStarts;
@@ -12,12 +13,16 @@ pub use laws::{
     units_law, uses_law,
 };
 pub use listing::{Piece, PieceIter, PieceKind};
+pub use numbers::renumber;
 pub use opcodes::{index_kind, mnemonic};
 pub use payload::PayloadKind;
 pub use pieces::Pieces;
 pub use put::put_pieces;
-pub use reading::{read_pieces, read_pieces_and_starts};
+pub use reading::read_pieces;
+pub use scratch::Scratch;
+pub use shape::PiecesShape;
 
+mod building;
 mod checking;
 mod code;
 mod code_units;
@@ -28,7 +33,6 @@ mod instruction_starts;
 mod laws;
 mod listing;
 mod long_switches;
-mod marked;
 mod numbers;
 mod opcodes;
 mod payload;
@@ -37,6 +41,8 @@ mod pieces;
 mod put;
 mod reading;
 mod same;
+mod scratch;
+mod shape;
 mod start_bits;
 mod target_group;
 mod target_groups;

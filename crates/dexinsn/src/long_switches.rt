@@ -4,21 +4,20 @@ ghost use Rattle.std.specs.Prelude.{◌≡◌, ◌+◌, ◌*◌, ◌<◌, ◌≤
 ghost use Rattle.std.specs.List.Sorted.{IsPermutation};
 ghost use Rattle.dexspec.specs.Pieces.{ints_in, payload_targets, piece_size};
 ghost use Rattle.dexinsn.specs.Payload.{ident_of};
-ghost use Rattle.dexinsn.specs.Split.{IsPieceAt, cut_of, cuts_of};
-ghost use Rattle.dexinsn.specs.LongSwitches.{AreLong, ArePayloads, AreStartBits, AreTargetsAt};
+ghost use Rattle.dexinsn.specs.LongSwitches.{ArePayloads, AreTargetsAt};
+ghost use Rattle.dexinsn.specs.Checking.{AreNoted};
 
-use crate::code::Cut;
 use crate::code_units::Units;
 use crate::payload::PayloadKind;
-use crate::start_bits::set_bit;
+use crate::start_bits::next_bit;
 use crate::target_group::TargetGroup;
 use crate::target_groups::group_targets;
 use crate::units::int_at;
 use std::alloc::{AllocError, Global};
 use std::collections::HashMap;
 
-// Payloads of no more units are judged anew for each switch: they seldom are led to by two.
-const LONG: usize = 512;
+// The targets of a payload that has no more are checked anew for each switch: seldom do two switches share one.
+const FEW_TARGETS: usize = 256;
 
 /// Where the targets of a payload stand, two units each.
 #[derive(Clone, Copy)]
@@ -54,26 +53,10 @@ pub(crate) fn targets_at(units: &Units<'_>, kind: PayloadKind, unit: usize) -> O
     }
 }
 
-/// The long switch payloads of code: the groups of targets of each by the unit at which it begins, and for each
-/// unit a bit that says whether an instruction begins there.
+/// The targets of the long switch payloads of code, in groups, by the unit at which each payload begins.
 #[derive(Drop)]
 pub(crate) struct LongSwitches {
-    pub(crate) starts: Vec<u64>,
     pub(crate) groups: HashMap<usize, Vec<TargetGroup>>,
-}
-
-// For each unit a bit that says whether an instruction begins there.
-fn start_bits(alloc: Global, units: &Units<'_>, cuts: &[Cut]) -> Result<Vec<u64>, AllocError>
-    requires { All (IsPieceAt units.now) (cuts_of cuts.now) }
-    ensures { IfOk result (λ words. AreStartBits units.now (cuts_of cuts.now) words.items) }
-{
-    let mut words = vec![in alloc; 0; units.len() / 64 + 2]?;
-    for cut in cuts {
-        if PayloadKind::of(units.at(cut.unit)).is_none() {
-            set_bit(&mut words, cut.unit);
-        }
-    }
-    Ok(words)
 }
 
 // The targets in rising order.
@@ -94,59 +77,78 @@ fn sorted_targets(
     Ok(sorted)
 }
 
-// Notes the payload at the cut, if it is a switch with targets.
+// Groups the targets of the piece at a unit, if it is a switch payload with many.
 fn note(
     alloc: Global,
     units: &Units<'_>,
     groups: &mut HashMap<usize, Vec<TargetGroup>>,
-    cut: Cut,
+    unit: usize,
 ) -> Result<(), AllocError>
-    requires piece { IsPieceAt units.now (cut_of cut) }
+    requires piece { IsSome (piece_size unit (drop unit units.now)) }
     requires groups { ArePayloads units.now groups.old }
     ensures { OnOk result (ArePayloads units.now groups.new) }
 {
-    let kind = match PayloadKind::of(units.at(cut.unit)) {
+    let kind = match PayloadKind::of(units.at(unit)) {
         Some(kind) => kind,
         None => return Ok(()),
     };
-    let targets = match targets_at(units, kind, cut.unit) {
+    let targets = match targets_at(units, kind, unit) {
         Some(targets) => targets,
         None => return Ok(()),
     };
+    if targets.count <= FEW_TARGETS {
+        return Ok(());
+    }
     let sorted = sorted_targets(alloc, units, targets)?;
     if sorted.is_empty() {
         return Ok(());
     }
     let grouped = group_targets(alloc, &sorted)?;
-    groups.insert(cut.unit, grouped)?;
+    groups.insert(unit, grouped)?;
+    Ok(())
+}
+
+// Groups the targets of the long switch payloads among the pieces whose bits are set.
+fn note_all(
+    alloc: Global,
+    units: &Units<'_>,
+    noted: &[u64],
+    groups: &mut HashMap<usize, Vec<TargetGroup>>,
+) -> Result<(), AllocError>
+    requires few { length noted.now < 2 ^ 57 }
+    requires noted { AreNoted units.now noted.now }
+    requires groups { ArePayloads units.now groups.old }
+    ensures { OnOk result (ArePayloads units.now groups.new) }
+{
+    let mut at = 0;
+    while at < units.len() {
+        let unit = match next_bit(noted, at) {
+            Some(unit) => unit,
+            None => return Ok(()),
+        };
+        note(alloc, units, groups, unit)?;
+        at = unit + 1;
+    }
     Ok(())
 }
 
 impl LongSwitches {
-    /// The long switch payloads of the pieces.
+    /// The long switch payloads among the pieces whose bits are set.
     ///
     /// Error: the memory was refused.
     pub(crate) fn find(
         alloc: Global,
         units: &Units<'_>,
-        cuts: &[Cut],
+        noted: &[u64],
     ) -> Result<LongSwitches, AllocError>
-        requires { All (IsPieceAt units.now) (cuts_of cuts.now) }
-        ensures { IfOk result (AreLong units.now (cuts_of cuts.now)) }
+        requires few { length noted.now < 2 ^ 57 }
+        requires noted { AreNoted units.now noted.now }
+        ensures { IfOk result (λ switches. ArePayloads units.now switches.groups) }
     {
         let mut groups = HashMap::new(alloc);
-        if !cuts.iter().any(|cut| cut.units > LONG) {
-            return Ok(LongSwitches {
-                starts: Vec::new(alloc),
-                groups,
-            });
+        if units.len() > FEW_TARGETS {
+            note_all(alloc, units, noted, &mut groups)?;
         }
-        let starts = start_bits(alloc, units, cuts)?;
-        for cut in cuts {
-            if cut.units > LONG {
-                note(alloc, units, &mut groups, *cut)?;
-            }
-        }
-        Ok(LongSwitches { starts, groups })
+        Ok(LongSwitches { groups })
     }
 }

@@ -207,3 +207,13 @@ impl<'a> Pieces<'a> {
         (kind, index.number as usize)
     }
 }
+
+/// Puts for each number of the pieces the one that it leads to. No memory is taken.
+///
+/// Condition: each number leads to one that fits its place, which [`fits`](Pieces::fits) tells.
+pub fn renumber(pieces: &mut Pieces<'_>, remap: &Remap)
+    requires { All (HasPlace remap.now) pieces.old.pieces }
+    ensures { pieces.new ≡ renumbered remap.now pieces.old }
+{
+    pieces.renumber(remap);
+}

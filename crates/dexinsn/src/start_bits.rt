@@ -1,8 +1,9 @@
 //! Starts of instructions as bits, 64 to a word.
 
-ghost use Rattle.std.specs.Prelude.{◌≡◌, ◌↔◌, ℕ, ◌+◌, ◌/◌, ◌<◌, ◌^◌, pos, ◌+ℤ◌, true, length, All};
+ghost use Rattle.std.specs.Prelude.{◌≡◌, ◌↔◌, ℕ, ◌+◌, ◌/◌, ◌<◌, ◌^◌, pos, ◌+ℤ◌, true, length, All, MatchOption};
 ghost use Rattle.std.specs.Int.{bit_at};
-ghost use Rattle.dexinsn.specs.LongSwitches.{EndsEmpty, HasBit, HasPlaces};
+ghost use Rattle.dexinsn.specs.LongSwitches.{EndsEmpty, HasBit, HasPlace, HasPlaces};
+ghost use Rattle.dexinsn.specs.Checking.{HasNoBit, IsNextBit};
 
 use crate::target_group::TargetGroup;
 
@@ -59,4 +60,34 @@ pub(crate) fn groups_lead_right(words: &[u64], groups: &[TargetGroup], at: usize
         }
     }
     true
+}
+
+/// The first unit from one on whose bit is set.
+pub(crate) fn next_bit(words: &[u64], from: usize) -> Option<usize>
+    requires { length words.now < 2 ^ 57 }
+    ensures { MatchOption result (HasNoBit words.now from) (IsNextBit words.now from) }
+{
+    let mut at = from;
+    while at / 64 < words.len() {
+        let rest = words[at / 64] >> (at % 64) as u32;
+        if rest != 0 {
+            return Some(at + rest.trailing_zeros() as usize);
+        }
+        at = (at / 64 + 1) * 64;
+    }
+    None
+}
+
+/// Whether the bit of a place is set.
+pub(crate) fn has_place(words: &[u64], place: i64) -> bool
+    ensures { (result ≡ true) ↔ HasPlace words.now place }
+{
+    if place < 0 {
+        return false;
+    }
+    let unit = place as usize;
+    if words.len() <= unit / 64 {
+        return false;
+    }
+    (words[unit / 64] >> (unit % 64) as u32) % 2 == 1
 }

@@ -1,4 +1,4 @@
-use Rattle.std.proofs.Common.{get_or, arith, rules}
+use Rattle.std.proofs.Common.{arith, rules}
 use Rattle.dexcode.proofs.DebugRuns.{opcode_some, next_operation}
 use Rattle.dexcode.proofs.debug_reading.build_operations.Goals as goal
 

@@ -1,4 +1,4 @@
-use Rattle.std.proofs.Common.{◌≡◌, ◌≤◌, length}
+use Rattle.std.proofs.Common.{◌≡◌, ◌≤◌}
 use Rattle.std.specs.Prelude.{vec_len, vec_capacity}
 use Rattle.dexcode.proofs.DebugRuns.{OperationsBuilt}
 use Rattle.dexcode.proofs.debug_reading.build_operations.Given as goal

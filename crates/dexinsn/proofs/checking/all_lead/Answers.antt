@@ -1,4 +1,4 @@
-use Rattle.std.proofs.Common.{ℕ, inl, inr, arith, subst, Bool}
+use Rattle.std.proofs.Common.{inl, inr, arith, subst, Bool}
 use Rattle.std.proofs.lemmas.Bool.{cases_lt}
 use Rattle.dexinsn.specs.Checking.{LeadsAt}
 use Rattle.dexinsn.proofs.Leading.{all_right, one_wrong}

@@ -1,13 +1,47 @@
-use Rattle.dexinsn.proofs.FaultsRead.{checked_fault}
-use Rattle.dexinsn.proofs.Leading.{pieces_stand}
+use Rattle.std.proofs.Common.{◌≡◌, ◌+◌, ◌/◌, length, ap, sym, subst, ◌∙◌, arith}
+use Rattle.std.proofs.lemmas.Result.{err_from_is_err_and}
+use Rattle.dexspec.specs.Bytes.{ushort_at}
+use Rattle.dexspec.specs.Code.{RegistersAt}
+use Rattle.dexspec.proofs.FormedRows.{length-ushorts_at}
+use Rattle.dexinsn.specs.Units.{units_in}
+use Rattle.dexinsn.specs.Reading.{AreStartsAt}
+use Rattle.dexinsn.proofs.FaultsRead.{pieces_fault}
+use Rattle.dexinsn.proofs.Halves.{ushort_behind}
+use Rattle.dexinsn.proofs.Leading.{pieces_there, shape_there}
+use Rattle.dexinsn.proofs.StartsRead.{starts_there}
 use Rattle.dexinsn.proofs.StoredRead.{few_units}
 use Rattle.dexinsn.proofs.checking.check_pieces.Goals as goal
 
 pub check_units-requires : goal.check_units-requires
 check_units-requires c = few_units c.args.frame.now c.args.off c.in-Some.bytes.now c.in-Some.ensures
 
+pub returns-in_err-indices-clause-refused : goal.returns-in_err-indices-clause-refused
+returns-in_err-indices-clause-refused c = λ pools.
+    let p = err_from_is_err_and c.from_residual.result c.from_residual.ensures.1 in
+    rw (p.1, p.2) (pieces_fault c.args.frame.now c.args.off c.args.pools.now c.in-Some.bytes.now c.in_err-indices.field-0.0 pools c.in-Some.ensures c.in_err-indices.ensures.fault)
+
 pub returns : goal.returns
-returns c = record {
-  pieces = λ pools. pieces_stand c.args.frame.now c.args.off c.args.pools.now c.in-Some.bytes.now c.check_units.result pools c.in-Some.ensures c.check_units.ensures.indices;
-  refused = λ pools. checked_fault c.args.frame.now c.args.off c.args.pools.now c.in-Some.bytes.now c.check_units.result pools c.in-Some.ensures c.check_units.ensures.fault;
-}
+returns c =
+    let b = c.args.frame.now in
+    let off = c.args.off in
+    let bytes = c.in-Some.bytes.now in
+    let first : off + 0 ≡ off = omega arith in
+    let registers : RegistersAt b off c.u16_at.result c.u16_at-2.result c.u16_at-3.result = record {
+      registers_size = ap (ushort_at b) (sym first) ∙ sym (rw c.rest-code.ensures at c.u16_at.ensures ∙ ushort_behind b off 0);
+      ins_size = sym (rw c.rest-code.ensures at c.u16_at-2.ensures ∙ ushort_behind b off 2);
+      outs_size = sym (rw c.rest-code.ensures at c.u16_at-3.ensures ∙ ushort_behind b off 4);
+    } in
+    let count : length bytes / 2 ≡ length (units_in bytes) = sym (length-ushorts_at bytes 0 (length bytes / 2)) in
+    let starts = c.in_ok-indices.ensures.starts in
+    record {
+      shape = shape_there b off c.args.pools.now bytes _ c.in-Some.ensures registers count c.in_ok-indices.ensures.indices;
+      pieces = λ pools. pieces_there b off c.args.pools.now bytes _ pools c.in-Some.ensures registers count c.in_ok-indices.ensures.indices;
+      starts = subst (AreStartsAt b off) (sym starts.1) (starts_there b off bytes starts.0 c.in-Some.ensures starts.2);
+      refused = λ pools. tt;
+    }
+
+pub overflow_cast-result : goal.overflow_cast-result
+overflow_cast-result c =
+    let bytes = c.in-Some.bytes.now in
+    let count : length (units_in bytes) ≡ length bytes / 2 = length-ushorts_at bytes 0 (length bytes / 2) in
+    omega (arith, count, few_units c.args.frame.now c.args.off bytes c.in-Some.ensures)

@@ -1,4 +1,4 @@
-use Rattle.std.proofs.Common.{◌≡◌, ℕ, ◌<◌, Option, Some, None, drop, length, ap, sym, ◌∙◌, arith}
+use Rattle.std.proofs.Common.{◌≡◌, Some, None, drop, ap, sym, ◌∙◌, arith}
 use Rattle.dexspec.specs.Pieces.{piece_size}
 use Rattle.dexinsn.proofs.Passed.{one_passed, no_piece, no_index}
 use Rattle.dexinsn.proofs.checking.pass.Goals as goal

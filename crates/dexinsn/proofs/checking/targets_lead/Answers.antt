@@ -1,4 +1,4 @@
-use Rattle.std.proofs.Common.{◌+◌, ◌-◌, ◌*◌, ◌^◌, ◌<◌, true, false, rules, sym, ◌∙◌, arith}
+use Rattle.std.proofs.Common.{◌+◌, ◌-◌, ◌*◌, true, false, rules, sym, ◌∙◌, arith}
 use mir.Val.{SFits}
 use mir.Syntax.{w32}
 use Rattle.dexinsn.specs.Checking.{begins_instruction}

@@ -4,6 +4,7 @@ use Rattle.std.specs.HashMap.{get}
 use Rattle.dexspec.specs.Pieces.{ints_in, payload_targets}
 use Rattle.dexinsn.specs.LongSwitches.{AreGrouped}
 use Rattle.dexinsn.specs.declared.target_group.TargetGroup.{TargetGroup}
+use Rattle.dexinsn.proofs.Placed.{some_size}
 use Rattle.dexinsn.proofs.Sizes.{piece_within}
 use Rattle.dexinsn.proofs.TargetGroups.{sorted_grouped}
 use Rattle.dexinsn.proofs.long_switches.note.Goals as goal
@@ -12,7 +13,7 @@ one_value : (a b : Vec TargetGroup Global) → Some a ≡ Some b → b ≡ a
 one_value a b e = cc
 
 pub at-requires : goal.at-requires
-at-requires c = piece_within c.args.units.now c.args.cut.unit c.args.cut.units c.requires.piece
+at-requires c = let size = some_size _ c.requires.piece in piece_within c.args.units.now c.args.unit size.0 size.1
 
 pub returns : goal.returns
 returns c = λ k groups e.
@@ -21,11 +22,11 @@ returns c = λ k groups e.
     let grouped : AreGrouped (ints_in us t.first t.count) c.in_ok-grouped.grouped.items =
     sorted_grouped (ints_in us t.first t.count) c.in_ok-sorted.sorted.items c.in_ok-grouped.grouped.items c.in_ok-sorted.ensures
     (subst (λ (ts : List ℤ). AreGrouped ts c.in_ok-grouped.grouped.items) c.deref.ensures.value c.in_ok-grouped.ensures) in
-    let here : AreGrouped (payload_targets us c.args.cut.unit) c.in_ok-grouped.grouped.items = subst (λ (ts : List ℤ). AreGrouped ts c.in_ok-grouped.grouped.items) (sym c.in-Some-targets_at.ensures.is) grouped in
-    elim (cases_eq c.args.cut.unit k) [
+    let here : AreGrouped (payload_targets us c.args.unit) c.in_ok-grouped.grouped.items = subst (λ (ts : List ℤ). AreGrouped ts c.in_ok-grouped.grouped.items) (sym c.in-Some-targets_at.ensures.is) grouped in
+    elim (cases_eq c.args.unit k) [
       | inl same ↦
           let value : Some groups ≡ Some c.in_ok-grouped.grouped = sym (subst (λ (n : ℕ). get nat_eq c.insert.new.self n ≡ Some groups) (sym same) e) ∙ c.in_ok-insert.ensures.updates.1 in
           subst (λ (n : ℕ). AreGrouped (payload_targets us n) groups.items) same
-          (subst (λ (v : Vec TargetGroup Global). AreGrouped (payload_targets us c.args.cut.unit) v.items) (one_value groups c.in_ok-grouped.grouped value) here)
-      | inr apart ↦ c.requires.groups k groups (sym (c.in_ok-insert.ensures.updates.2 k (ne_eqb c.args.cut.unit k apart)) ∙ e)
+          (subst (λ (v : Vec TargetGroup Global). AreGrouped (payload_targets us c.args.unit) v.items) (one_value groups c.in_ok-grouped.grouped value) here)
+      | inr apart ↦ c.requires.groups k groups (sym (c.in_ok-insert.ensures.updates.2 k (ne_eqb c.args.unit k apart)) ∙ e)
     ]

@@ -1,0 +1,81 @@
+use Rattle.std.proofs.Common.{◌≡◌, ◌-◌, true, false, length, length-drop, drop, Some, IsSome, sym, ap, subst, ◌∙◌, arith, rules}
+use Rattle.std.specs.Option.{is_some}
+use Rattle.dexspec.specs.Pieces.{index_pool, piece_size}
+use Rattle.dexinsn.proofs.BuiltIndices.{all_built, index_built, next_begins, next_piece, next_size, next_within, no_pool, none_built, plain_built, some_pool, some_units}
+use Rattle.dexinsn.proofs.IndexRoom.{room_behind, wide_room_behind}
+use Rattle.dexinsn.proofs.building.build_indices.Goals as goal
+use Rattle.dexinsn.proofs.building.build_indices.Goals.{then-is_some, else-is_some}
+
+pub loop-size-init : goal.loop-size-init
+loop-size-init c = record {
+  room = search rules;
+  built = none_built c.args.units.now c.args.count c.in_ok-indices.indices.items (search rules) c.requires.have;
+}
+
+pub rest-requires : goal.rest-requires
+rest-requires c = let begins = next_begins c.args.units.now c.args.count c.loop-size.at c.loop-size.indices.items (next_piece c.args.units.now c.args.count c.loop-size.at c.loop-size.indices.items c.loop-size.invariant.built (omega arith)) in omega (arith, begins)
+
+pub unwrap-size-requires : goal.unwrap-size-requires
+unwrap-size-requires c =
+    let next = next_piece c.args.units.now c.args.count c.loop-size.at c.loop-size.indices.items c.loop-size.invariant.built (omega arith) in
+    subst IsSome (ap (piece_size c.loop-size.at) (sym c.rest.ensures) ∙ sym c.piece_size.ensures.size) (next_size c.args.units.now c.args.count c.loop-size.at c.loop-size.indices.items next)
+
+pub kind_at-requires : goal.kind_at-requires
+kind_at-requires c = next_begins c.args.units.now c.args.count c.loop-size.at c.loop-size.indices.items (next_piece c.args.units.now c.args.count c.loop-size.at c.loop-size.indices.items c.loop-size.invariant.built (omega arith))
+
+pub index_at-number-requires-clause-some : goal.index_at-number-requires-clause-some
+index_at-number-requires-clause-some c =
+    let next = next_piece c.args.units.now c.args.count c.loop-size.at c.loop-size.indices.items c.loop-size.invariant.built (omega arith) in
+    let some : is_some c.kind_at.result ≡ true = sym c.is_some.ensures ∙ c.if-is_some.true in
+    let pool = some_pool (index_pool (drop c.loop-size.at c.args.units.now)) (ap is_some (sym c.kind_at.ensures) ∙ some) in
+    room_behind c.args.units.now c.loop-size.at next.piece.units pool.0 next.size pool.1
+
+pub index_at-number-requires-clause-wide : goal.index_at-number-requires-clause-wide
+index_at-number-requires-clause-wide c =
+    let next = next_piece c.args.units.now c.args.count c.loop-size.at c.loop-size.indices.items c.loop-size.invariant.built (omega arith) in
+    let some : is_some c.kind_at.result ≡ true = sym c.is_some.ensures ∙ c.if-is_some.true in
+    let pool = some_pool (index_pool (drop c.loop-size.at c.args.units.now)) (ap is_some (sym c.kind_at.ensures) ∙ some) in
+    wide_room_behind c.args.units.now c.loop-size.at next.piece.units pool.0 next.size pool.1
+
+pub overflow_cast-unit : goal.overflow_cast-unit
+overflow_cast-unit c =
+    let begins = next_begins c.args.units.now c.args.count c.loop-size.at c.loop-size.indices.items (next_piece c.args.units.now c.args.count c.loop-size.at c.loop-size.indices.items c.loop-size.invariant.built (omega arith)) in
+    omega (arith, begins, c.requires.few)
+
+pub loop-size-preserved : goal.loop-size-preserved
+loop-size-preserved c =
+    let us = c.args.units.now in
+    let next = next_piece us c.args.count c.loop-size.at c.loop-size.indices.items c.loop-size.invariant.built (omega arith) in
+    let size : piece_size c.loop-size.at (drop c.loop-size.at us) ≡ Some c.unwrap-size.result = ap (piece_size c.loop-size.at) (sym c.rest.ensures) ∙ sym c.piece_size.ensures.size ∙ c.unwrap-size.ensures in
+    elim c.if-is_some.branch [
+      | then-is_some w ↦
+          let some : is_some c.kind_at.result ≡ true = sym c.is_some.ensures ∙ w.if-is_some.true in
+          let pool = some_pool (index_pool (drop c.loop-size.at us)) (ap is_some (sym c.kind_at.ensures) ∙ some) in
+          record {
+            room = rw w.indices-is (omega (arith, w.push.ensures.capacity));
+            built = rw w.indices-is (index_built us c.args.count c.loop-size.at c.unwrap-size.result w.index_at-number.result c.loop-size.indices.items w.push.new.self.items pool.0 next size pool.1 w.index_at-number.ensures.is (search rules));
+          }
+      | else-is_some w ↦
+          let plain : is_some c.kind_at.result ≡ false = sym c.is_some.ensures ∙ w.if-is_some.false in
+          let none = no_pool (index_pool (drop c.loop-size.at us)) (ap is_some (sym c.kind_at.ensures) ∙ plain) in
+          record {
+            room = rw w.indices-is c.loop-size.invariant.room;
+            built = rw w.indices-is (plain_built us c.args.count c.loop-size.at c.unwrap-size.result c.loop-size.indices.items next size none);
+          }
+    ]
+
+pub loop-size-smaller : goal.loop-size-smaller
+loop-size-smaller c =
+    let us = c.args.units.now in
+    let next = next_piece us c.args.count c.loop-size.at c.loop-size.indices.items c.loop-size.invariant.built (omega arith) in
+    let size : piece_size c.loop-size.at (drop c.loop-size.at us) ≡ Some c.unwrap-size.result = ap (piece_size c.loop-size.at) (sym c.rest.ensures) ∙ sym c.piece_size.ensures.size ∙ c.unwrap-size.ensures in
+    omega (arith, next_within us c.args.count c.loop-size.at c.unwrap-size.result c.loop-size.indices.items next size, some_units us c.loop-size.at c.unwrap-size.result size)
+
+pub piece_size-requires : goal.piece_size-requires
+piece_size-requires c =
+    let begins = next_begins c.args.units.now c.args.count c.loop-size.at c.loop-size.indices.items (next_piece c.args.units.now c.args.count c.loop-size.at c.loop-size.indices.items c.loop-size.invariant.built (omega arith)) in
+    let l : length c.rest.result ≡ length c.args.units.now - c.loop-size.at = ap length c.rest.ensures ∙ length-drop c.loop-size.at c.args.units.now in
+    omega (arith, l, begins)
+
+pub returns : goal.returns
+returns c = all_built c.args.units.now c.args.count c.loop-size.at c.loop-size.indices.items c.loop-size.invariant.built (omega arith)

@@ -1,0 +1,22 @@
+use Rattle.std.proofs.Common.{◌≡◌, ◌+◌, List, ◌∷◌, [], ◌++◌, drop, Some, None, sym, ◌∙◌, ap, subst, arith}
+use Rattle.std.proofs.lemmas.Grind.{common_steps}
+use Rattle.dexspec.specs.Pieces.{Cut as Meant, piece_size}
+use Rattle.dexinsn.specs.declared.code.Cut.{Cut}
+use Rattle.dexinsn.specs.Split.{cuts_of}
+use Rattle.dexinsn.specs.Checking.{AreCutWith}
+use Rattle.dexinsn.proofs.Cuts.{cuts_of-push}
+use Rattle.dexinsn.proofs.Passed.{one_cut_more, cut_breaks}
+use Rattle.dexinsn.proofs.code.cut_units.Goals as goal
+
+pub returns-in-None-clause-fault : goal.returns-in-None-clause-fault
+returns-in-None-clause-fault c =
+    let none : piece_size c.loop-at.at (drop c.loop-at.at c.args.units.now) ≡ None = ap (piece_size c.loop-at.at) (sym c.rest.ensures) ∙ sym c.in-None.ensures.size in
+    cut_breaks c.args.units.now (cuts_of c.loop-at.cuts.items) c.loop-at.starts.items c.loop-at.noted.items c.loop-at.at c.loop-at.invariant (omega arith) none
+
+pub loop-at-preserved : goal.loop-at-preserved
+loop-at-preserved c =
+    let piece : Cut = record { unit = c.loop-at.at; units = c.in-Some.size } in
+    let pushed : c.push.new.self.items ≡ c.loop-at.cuts.items ++ piece ∷ [] = grind (arith, common_steps) in
+    let size : piece_size c.loop-at.at (drop c.loop-at.at c.args.units.now) ≡ Some c.in-Some.size = ap (piece_size c.loop-at.at) (sym c.rest.ensures) ∙ sym c.in-Some.ensures.size in
+    subst (λ (cs : List Meant). AreCutWith c.args.units.now cs c.note.new.starts.items c.note.new.noted.items (c.loop-at.at + c.in-Some.size)) (sym (ap cuts_of pushed ∙ cuts_of-push c.loop-at.cuts.items piece))
+    (one_cut_more c.args.units.now (cuts_of c.loop-at.cuts.items) c.loop-at.starts.items c.loop-at.noted.items c.note.new.starts.items c.note.new.noted.items c.loop-at.at c.in-Some.size c.loop-at.invariant (omega arith) size c.note.ensures.starts c.note.ensures.noted)

@@ -1,0 +1,10 @@
+use Rattle.std.proofs.Common.{◌-◌, length}
+use Rattle.dexinsn.specs.Split.{cuts_of}
+use Rattle.dexinsn.specs.Checking.{AreCutWith}
+use Rattle.dexinsn.proofs.code.cut_units.Given as goal
+
+abbrev pub invariant-loop-at : goal.invariant-loop-at
+invariant-loop-at l = AreCutWith l.units (cuts_of l.cuts.items) l.starts.items l.noted.items l.at
+
+abbrev pub decreases-loop-at : goal.decreases-loop-at
+decreases-loop-at l = length l.units - l.at

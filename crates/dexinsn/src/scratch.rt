@@ -1,0 +1,56 @@
+//! Room that is lent from one code_item to the next.
+
+ghost use Rattle.std.specs.Prelude.{◌≡◌, OnOk, replicate};
+
+use crate::instruction_starts::InstructionStarts;
+use std::alloc::{AllocError, Global};
+use std::marker::Model;
+
+/// Room for the bits of one code_item, lent from one to the next. Contracts see for each unit of the code_item that was
+/// checked last whether an instruction begins there.
+#[derive(Drop)]
+pub struct Scratch {
+    pub(crate) alloc: Global,
+    // A bit for each unit at which an instruction begins.
+    pub(crate) starts: Vec<u64>,
+    // A bit for each unit at which a payload, or an instruction with a branch offset, begins.
+    pub(crate) noted: Vec<u64>,
+}
+
+impl Model for Scratch {
+    ghost use Rattle.std.specs.Prelude.{List, Bool};
+    ghost use Rattle.dexinsn.specs.Bits.{bits_in};
+
+    ghost Value = { List Bool };
+
+    ghost view = { λ s. bits_in s.starts.items };
+}
+
+impl Scratch {
+    /// No room yet. No memory is taken.
+    pub fn new(alloc: Global) -> Scratch {
+        Scratch {
+            alloc,
+            starts: Vec::new(alloc),
+            noted: Vec::new(alloc),
+        }
+    }
+
+    /// The units at which instructions begin, of the code_item that was checked last. No memory is taken.
+    pub fn starts(&self) -> InstructionStarts<'_>
+        ensures { result ≡ self.now }
+    {
+        InstructionStarts::of(&self.starts)
+    }
+}
+
+/// Makes so many words, none of which has a bit.
+///
+/// Error: the memory was refused.
+pub(crate) fn wipe(words: &mut Vec<u64>, count: usize) -> Result<(), AllocError>
+    ensures { OnOk result (words.new.items ≡ replicate count 0) }
+{
+    words.clear();
+    words.resize(count, 0)?;
+    Ok(())
+}

@@ -29,3 +29,4 @@ pub mod Placed
 pub mod NextBits
 pub mod Leading
 pub mod BuiltIndices
+pub mod BlankUnits

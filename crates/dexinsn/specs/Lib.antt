@@ -12,3 +12,4 @@ pub mod Fitting
 pub mod LongSwitches
 pub mod Checking
 pub mod Bits
+pub mod Blank

@@ -46,4 +46,5 @@ mod shape;
 mod start_bits;
 mod target_group;
 mod target_groups;
+mod unit;
 mod units;

@@ -23,7 +23,7 @@ use Rattle.dexcode.specs.Renumbering.{catch_use, handler_uses, tries_uses, item_
 use Rattle.dexcode.proofs.CodeUses.{optional_debug_uses, debug_part}
 use Rattle.dexcode.proofs.DebugMeanings as debugs
 use Rattle.dexcode.proofs.DebugMeanings.{lead_at, zip-append}
-use Rattle.dexcode.proofs.DebugUses.{all_of, all_parts}
+use Rattle.dexpool.proofs.Parts.{all_of, all_parts}
 use Rattle.dexcode.proofs.Images.{one_default, all_distinct}
 use Rattle.dexcode.proofs.TryRows.{IsInRange, handlers_meant}
 use Rattle.dexcode.proofs.TypesLed.{all_from_distinct}

@@ -26,7 +26,7 @@ use Rattle.dexcode.specs.Numbered.{NumberedHandler, NumberedItem, StandsForCode,
 use Rattle.dexcode.specs.Renumbering.{catch_use, handler_uses, tries_uses, item_uses, HasTypePlace, HasPlaces, HasImages, NumbersFit}
 use Rattle.dexcode.proofs.CodeMeanings.{handlers_in, debug_used}
 use Rattle.dexcode.proofs.CodeUses.{optional_debug_uses, pieces_part, tries_part, debugs_part}
-use Rattle.dexcode.proofs.DebugUses.{all_of, all_front, all_map}
+use Rattle.dexpool.proofs.Parts.{all_of, all_front, all_map}
 use Rattle.dexcode.proofs.TryRows.{IsInRange}
 
 -- so do the numbers of the code whose symbols do

@@ -6,7 +6,7 @@ use Rattle.dexinsn.specs.Numbered.{uses_of}
 use Rattle.dexcode.specs.Debug.{NumberedDebug, debug_uses}
 use Rattle.dexcode.specs.Numbered.{NumberedItem}
 use Rattle.dexcode.specs.Renumbering.{tries_uses, item_uses}
-use Rattle.dexcode.proofs.DebugUses.{all_front, all_back}
+use Rattle.dexpool.proofs.Parts.{all_front, all_back}
 
 -- those of the debug program, if there is one
 abbrev pub optional_debug_uses : Option NumberedDebug → List Use

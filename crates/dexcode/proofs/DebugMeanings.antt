@@ -26,7 +26,8 @@ use Rattle.dexpool.specs.Uses.{Use, HasMark, IsUseOf}
 use Rattle.dexcode.specs.declared.debug_operation.Operation.{Operation}
 use Rattle.dexcode.specs.declared.debug_operation.Operation.TheVariants.{AdvancePc, AdvanceLine, StartLocal, StartLocalExtended, EndLocal, RestartLocal, SetPrologueEnd, SetEpilogueBegin, SetFile, Special}
 use Rattle.dexcode.specs.Debug.{NumberedDebug, StandsForText, StandsForType, StandsForOperation, StandsForDebug, bare_operation, bare, operation_weight, numbered_operation_bytes, numbered_debug_bytes, number_uses, operation_uses, debug_uses, HasImage, HasPlace, image_or_none, renumbered_operation, renumbered_debug, name_of, type_of, signature_of}
-use Rattle.dexcode.proofs.DebugUses.{all_front, all_back, use_of}
+use Rattle.dexcode.proofs.DebugUses.{use_of}
+use Rattle.dexpool.proofs.Parts.{all_front, all_back}
 use Rattle.dexcode.proofs.DebugWeights.{weight_is}
 
 -- ---- the bytes

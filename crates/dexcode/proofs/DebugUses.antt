@@ -9,37 +9,11 @@ use Rattle.dexpool.specs.declared.symbols.SymbolKind.TheVariants as kinds
 use Rattle.dexpool.specs.declared.marks.Marks.{Marks}
 use Rattle.dexpool.specs.Numberings.{Maps, image_of}
 use Rattle.dexpool.specs.Uses.{Use, HasMark, AreMarkedToo, marks_of, same_kind, occurs}
-use Rattle.dexpool.proofs.MarksMade.{none_marked, still_marked}
+use Rattle.dexpool.proofs.MarksMade.{none_marked}
+use Rattle.dexpool.proofs.Parts.{all_front, all_back, all_parts, all_map}
 use Rattle.dexcode.specs.declared.debug_operation.Operation.{Operation}
 use Rattle.dexcode.specs.declared.debug_operation.Operation.TheVariants.{AdvancePc, AdvanceLine, StartLocal, StartLocalExtended, EndLocal, RestartLocal, SetPrologueEnd, SetEpilogueBegin, SetFile, Special}
 use Rattle.dexcode.specs.Debug.{NumberedDebug, HasPlace, FitsIndex, IsFormedOperation, IsFormedDebug, IsSpecial, number_uses, operation_uses, debug_uses, image_or_none, name_of, type_of, signature_of, with_numbers, renumbered_operation, renumbered_debug}
-
--- ---- what holds of all members of joined lists
-
-pub all_front : {X : Type 0} (P : X → Type 0) (xs ys : List X) → All P (xs ++ ys) → All P xs
-all_front P [] ys h = All-nil P
-all_front P (x ∷ xs) ys h = All-cons P x xs (All-head P x (xs ++ ys) h) (all_front P xs ys (All-tail P x (xs ++ ys) h))
-
-pub all_back : {X : Type 0} (P : X → Type 0) (xs ys : List X) → All P (xs ++ ys) → All P ys
-all_back P [] ys h = h
-all_back P (x ∷ xs) ys h = all_back P xs ys (All-tail P x (xs ++ ys) h)
-
--- what holds of all that members give holds of what each gives
-pub all_parts : {X Y : Type 0} (P : Y → Type 0) (f : X → List Y) (xs : List X) → All P (flat_map f xs) → All (λ x. All P (f x)) xs
-all_parts P f [] h = All-nil (λ x. All P (f x))
-all_parts P f (x ∷ xs) h = All-cons (λ x. All P (f x)) x xs (all_front P (f x) (flat_map f xs) h) (all_parts P f xs (all_back P (f x) (flat_map f xs) h))
-
-pub all_part : {X Y : Type 0} (P : Y → Type 0) (f : X → List Y) (xs : List X) (i : ℕ) (d : X) → i < length xs → All P (flat_map f xs) → All P (f (get_or xs i d))
-all_part P f xs i d lt h = All-get_or (λ x. All P (f x)) xs i d lt (all_parts P f xs h)
-
--- what holds of each member holds of all
-pub all_of : {X : Type 0} (P Q : X → Type 0) (xs : List X) → ((x : X) → P x → Q x) → All P xs → All Q xs
-all_of P Q [] step h = All-nil Q
-all_of P Q (x ∷ xs) step h = All-cons Q x xs (step x (All-head P x xs h)) (all_of P Q xs step (All-tail P x xs h))
-
-pub all_map : {X Y : Type 0} (P : X → Type 0) (Q : Y → Type 0) (f : X → Y) (xs : List X) → ((x : X) → P x → Q (f x)) → All P xs → All Q (map f xs)
-all_map P Q f [] step h = All-nil Q
-all_map P Q f (x ∷ xs) step h = All-cons Q (f x) (map f xs) (step x (All-head P x xs h)) (all_map P Q f xs step (All-tail P x xs h))
 
 -- what holds of the symbol of a number, if there is one
 pub use_of : (P : Use → Type 0) (kind : SymbolKind) (i : Option ℕ) (n : ℕ) → All P (number_uses kind i) → i ≡ Some n → P (record { kind = kind; number = n })
@@ -139,20 +113,3 @@ stays r (Special opcode) none = refl
 -- the marks of no symbols
 pub marked_none : (us : List Use) (a : Marks) → us ≡ [] → AreMarkedToo us a a
 marked_none us a none = subst (λ vs. AreMarkedToo vs a a) (sym none) (none_marked a)
-
-or_assoc : (a b c : Bool) → ((a || b) || c) ≡ (a || (b || c))
-or_assoc true b c = refl
-or_assoc false b c = refl
-
--- the marks of two lists, one made after the other
-pub marked_both : (us vs : List Use) (a b c : Marks) → AreMarkedToo us a b → AreMarkedToo vs b c → AreMarkedToo (us ++ vs) a c
-marked_both us vs a b c before more = record {
-  count = λ j. more.count j ∙ before.count j;
-  each = λ j i.
-      more.each j i ∙ ap (λ (t : Bool). t || occurs vs j i) (before.each j i) ∙ or_assoc (get_or (marks_of j a) i false) (occurs us j i) (occurs vs j i)
-      ∙ ap (λ (t : Bool). get_or (marks_of j a) i false || t) (sym (list_any-append (λ v. same_kind v.kind j && v.number == i) us vs));
-}
-
--- there still is a mark for each that had one
-pub still_all : (us vs : List Use) (a b : Marks) → AreMarkedToo us a b → All (HasMark a) vs → All (HasMark b) vs
-still_all us vs a b h all = all_of (HasMark a) (HasMark b) vs (λ u lt. still_marked us u a b h lt) all

@@ -1,4 +1,4 @@
--- Bytes that are written one behind the other.
+-- The parts of a debug program, written one after the other.
 use Rattle.std.proofs.Common.{◌≡◌, ℕ, ◌+◌, ◌<◌, ◌≤◌, List, [], ◌∷◌, ◌++◌, length, take, get_or, ap, sym, ◌∙◌, subst, append_assoc}
 use Rattle.std.specs.List.{flat_map}
 use Rattle.std.proofs.lemmas.List.{append-nil, take_all, take_more}
@@ -9,19 +9,7 @@ use Rattle.dexcode.specs.Debug.{NumberedDebug, numbered_operation_bytes, numbere
 pub regrouped : (r n t s : List ℕ) → (r ++ (n ++ t)) ++ s ≡ r ++ (n ++ (t ++ s))
 regrouped r n t s = append_assoc r (n ++ t) s ∙ ap (λ bs. r ++ bs) (append_assoc n t s)
 
-module _ {O X : Type 0} (gives : List ℕ → O → O → Type 0) (both : (x y : List ℕ) (a b c : O) → gives x a b → gives y b c → gives (x ++ y) a c) (f : X → List ℕ) where
-  -- one more of a list
-  pub given_more : (xs : List X) (i : ℕ) (d : X) (a b c : O) → i < length xs → gives (flat_map f (take i xs)) a b → gives (f (get_or xs i d)) b c → gives (flat_map f (take (i + 1) xs)) a c
-  given_more xs i d a b c lt before more =
-      let x = get_or xs i d in
-      let parts : flat_map f (take (i + 1) xs) ≡ flat_map f (take i xs) ++ f x =
-      ap (flat_map f) (take_more xs i d lt) ∙ flat_map-append f (take i xs) (x ∷ []) ∙ ap (λ ys. flat_map f (take i xs) ++ ys) (append-nil (f x)) in
-      subst (λ bs. gives bs a c) (sym parts) (both (flat_map f (take i xs)) (f x) a b c before more)
-
-  pub given_all : (xs : List X) (i : ℕ) (a b : O) → length xs ≤ i → gives (flat_map f (take i xs)) a b → gives (flat_map f xs) a b
-  given_all xs i a b end h = subst (λ ys. gives (flat_map f ys) a b) (take_all i xs end) h
-
--- the parts of a debug program one behind the other
+-- the parts of a debug program one after the other
 pub debug_given : {O : Type 0} (gives : List ℕ → O → O → Type 0) (both : (x y : List ℕ) (a b c : O) → gives x a b → gives y b c → gives (x ++ y) a c) (d : NumberedDebug) (a b c e f g : O)
     → gives (uleb128 d.line_start) a b → gives (uleb128 (length d.parameter_names)) b c → gives (flat_map uleb128p1 d.parameter_names) c e → gives (flat_map numbered_operation_bytes d.operations) e f → gives (0x00 ∷ []) f g → gives (numbered_debug_bytes d) a g
 unfolding numbered_debug_bytes

@@ -16,7 +16,6 @@ pub mod Named
 pub mod OneHandler
 pub mod TriesListed
 pub mod TryTables
-pub mod Visits
 pub mod Whole
 pub mod Images
 pub mod TryRows

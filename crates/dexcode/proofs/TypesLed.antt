@@ -16,7 +16,7 @@ use Rattle.dexcode.specs.declared.tries.Try.{Try}
 use Rattle.dexcode.specs.Equality.{handler_decides}
 use Rattle.dexcode.specs.Numbered.{NumberedHandler, NumberedTry, AreStored, same_handler, handlers_of, handlers_weight, no_handler, all_named}
 use Rattle.dexcode.specs.Renumbering.{catch_use, handler_uses, tries_uses, HasTypePlace, AreTypesApart, led_type, led_try, renumbered_catch, renumbered_handler, renumbered_try}
-use Rattle.dexcode.proofs.DebugUses.{all_parts}
+use Rattle.dexpool.proofs.Parts.{all_parts}
 use Rattle.dexcode.proofs.Images.{distinct_map}
 use Rattle.dexcode.proofs.Listed.{below_or_not}
 use Rattle.dexcode.proofs.Whole.{formed_led}

@@ -1,11 +1,9 @@
 pub mod CodePut
 pub mod Debug
 pub mod DebugEquality
-pub mod DebugPut
 pub mod DebugReading
 pub mod Equality
 pub mod Meaning
 pub mod Numbered
-pub mod OutputLaws
 pub mod Reading
 pub mod Renumbering

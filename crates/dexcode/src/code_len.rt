@@ -16,8 +16,8 @@ use crate::code::Code;
 use crate::code_laws::code_bytes_law;
 use crate::code_put::{encode_handler, encode_list};
 use crate::handlers::Handler;
-use crate::output::Count;
 use crate::tries::Try;
+use dexhead::Count;
 use dexinsn::Pieces;
 
 // The number of catches, 0 or less where there is an address for all else.

@@ -86,3 +86,11 @@ impl<'a> Code<'a> {
         }
     }
 }
+
+/// The same as [`Code::renumber`].
+pub fn renumber(code: &mut Code<'_>, remap: &Remap)
+    requires { HasPlaces remap.now code.old }
+    ensures { code.new ≡ renumbered_item remap.now code.old }
+{
+    code.renumber(remap);
+}

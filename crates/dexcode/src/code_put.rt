@@ -11,15 +11,15 @@ ghost use Rattle.dexspec.specs.Weight.{code_weight};
 ghost use Rattle.dexspec.specs.Aside.Writing.{Puts};
 ghost use Rattle.dexinsn.specs.Numbered.{numbered_bytes};
 ghost use Rattle.dexcode.specs.CodePut.{HasShortTypes, AreShort, ArePlaces, gap_bytes, handler_count, numbered_catch_bytes, numbered_handler_bytes, numbered_head_bytes, numbered_item_bytes, numbered_code_bytes, numbered_list_bytes, numbered_table_bytes, numbered_tries_bytes, placed_try_bytes, unit_count};
-ghost use Rattle.dexcode.specs.DebugPut.{Pushes, HasRoomFor};
+ghost use Rattle.dexhead.specs.Pushing.{Pushes, HasRoomFor};
 ghost use Rattle.dexcode.specs.Numbered.{AreStored, StandsForCode, all_named, handlers_of, handlers_weight};
 
 use crate::code::Code;
 use crate::code_laws::{code_bytes_law, code_weight_law};
 use crate::code_len::{handler_count, handler_len, placed_len, unit_count};
 use crate::handlers::{Catch, Handler};
-use crate::output::{Encode, Output, encode_all};
 use crate::tries::{Tries, Try};
+use dexhead::{Encode, Output, encode_all};
 use dexinsn::{Pieces, put_pieces};
 use dexleb::len_u;
 use dexpool::Numbering;
@@ -258,6 +258,7 @@ pub fn put_code(
     requires { All HasShortTypes (handlers_of code.now.tries) }
     ensures bytes { Puts (numbered_code_bytes debug_off code.now) out.old out.new result }
     ensures symbolic { (x : symbolic.Code) → StandsForCode numbering.now code.now x → Puts (code_bytes numbering.now debug_off x) out.old out.new result }
+    ensures bound { (x : symbolic.Code) → StandsForCode numbering.now code.now x → length (numbered_code_bytes debug_off code.now) + 3 ≤ code_weight x }
     ensures room { (x : symbolic.Code) → StandsForCode numbering.now code.now x → vec_len out.old + code_weight x ≤ vec_capacity out.old + 3 → IsOk result }
 {
     numbering.is_numbering();

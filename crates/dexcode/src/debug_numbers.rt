@@ -9,8 +9,9 @@ ghost use Rattle.dexcode.specs.Debug.{bare, number_uses, operation_uses, operati
 
 use crate::debug::Debug;
 use crate::debug_operation::Operation;
-use crate::visiting::{Renumber, Symbols, Visitor, mark, renumber_all, visit_all};
-use dexpool::{Marks, Remap, SymbolKind};
+use dexpool::{
+    Marks, Remap, Renumber, SymbolKind, Symbols, Visitor, mark, renumber_all, visit_all,
+};
 use std::alloc::AllocError;
 
 // What operations weigh.
@@ -75,7 +76,7 @@ impl Renumber for Operation {
     }
 }
 
-// Hands on the symbol of a number, if there is one.
+// Passes the symbol of a number, if there is one, to the visitor.
 fn visit_number<V: Visitor>(kind: SymbolKind, number: Option<u32>, visitor: &mut V)
     ensures { FoldsTo V.step visitor.old (number_uses kind number) visitor.new }
 {
@@ -84,7 +85,7 @@ fn visit_number<V: Visitor>(kind: SymbolKind, number: Option<u32>, visitor: &mut
     }
 }
 
-// Hands on the texts that are names.
+// Passes the texts that are names to the visitor.
 fn visit_names<V: Visitor>(names: &[Option<u32>], visitor: &mut V)
     ensures { FoldsTo V.step visitor.old (flat_map (number_uses kinds.Text) names.now) visitor.new }
 {

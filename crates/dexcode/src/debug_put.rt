@@ -10,7 +10,7 @@ ghost use Rattle.dexspec.specs.Weight.{debug_weight};
 ghost use Rattle.dexspec.specs.Aside.Writing.{Puts};
 ghost use Rattle.dexpool.specs.Numberings.{AreRising};
 ghost use Rattle.dexcode.specs.Debug.{StandsForDebug, FitsIndex, IsFormedOperation, bare, numbered_operation_bytes, numbered_debug_bytes};
-ghost use Rattle.dexcode.specs.DebugPut.{HasRoomFor};
+ghost use Rattle.dexhead.specs.Pushing.{HasRoomFor};
 
 use crate::debug::Debug;
 use crate::debug_laws::debug_bytes_law;
@@ -20,7 +20,7 @@ use crate::debug_opcodes::{
     DBG_START_LOCAL_EXTENDED,
 };
 use crate::debug_operation::Operation;
-use crate::output::{Count, Encode, Output, encode_all};
+use dexhead::{Count, Encode, Output, encode_all};
 use dexpool::Numbering;
 use std::alloc::AllocError;
 
@@ -187,6 +187,7 @@ pub fn put_debug(
 ) -> Result<(), AllocError>
     ensures bytes { Puts (numbered_debug_bytes debug.now) out.old out.new result }
     ensures symbolic { (x : symbolic.Debug) → StandsForDebug numbering.now debug.now x → Puts (debug_bytes numbering.now x) out.old out.new result }
+    ensures bound { length (numbered_debug_bytes debug.now) ≤ debug_weight (bare debug.now) }
     ensures room { vec_len out.old + debug_weight (bare debug.now) ≤ vec_capacity out.old → IsOk result }
 {
     numbering.is_numbering();

@@ -6,6 +6,7 @@
 
 pub use code::Code;
 pub use code_laws::{code_bytes_law, code_types_law, code_weight_law};
+pub use code_numbers::renumber;
 pub use code_numbers_laws::{
     code_cut_law, code_images_law, code_joined_law, code_kept_law, code_places_law,
     code_renumber_law, code_uses_law,
@@ -48,10 +49,8 @@ mod debug_same;
 mod handler_list;
 mod handlers;
 mod meaning_laws;
-mod output;
 mod tries;
 mod tries_numbers;
 mod tries_same;
 mod try_items;
 mod try_table;
-mod visiting;

@@ -7,8 +7,7 @@ ghost use Rattle.dexcode.specs.Renumbering.{catch_use, handler_uses, tries_uses,
 
 use crate::handlers::{Catch, Handler};
 use crate::tries::Tries;
-use crate::visiting::{Renumber, Symbols, Visitor, renumber_all, visit_all};
-use dexpool::{Marks, Remap, SymbolKind};
+use dexpool::{Marks, Remap, Renumber, SymbolKind, Symbols, Visitor, renumber_all, visit_all};
 
 impl Renumber for Catch {
     ghost places = { λ r c. HasTypePlace r (catch_use c) };
@@ -50,7 +49,7 @@ impl Symbols for Handler {
 }
 
 // Marks the types that handlers catch.
-#[tactic(auto, using(crate::proofs::Visits::all_marked))]
+#[tactic(auto, using(dexpool::proofs::Visits::all_marked))]
 fn mark_handlers(handlers: &[Handler], marks: &mut Marks)
     requires { All (HasMark marks.old) (flat_map handler_uses handlers.now) }
     ensures { AreMarkedToo (flat_map handler_uses handlers.now) marks.old marks.new }

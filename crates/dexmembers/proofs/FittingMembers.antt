@@ -12,7 +12,8 @@ use Rattle.dexcode.specs.Meaning.{IsKnownCode}
 use Rattle.dexcode.specs.Numbered.{NumberedItem}
 use Rattle.dexcode.specs.Renumbering.{HasPlaces}
 use Rattle.dexval.specs.Numbered.{NumberedSet, NumberedValues, IsKnownSet, AreKnown}
-use Rattle.dexval.specs.Renumbering.{LeadsOn, SetHasPlaces, HavePlaces}
+use Rattle.dexval.specs.Renumbering.{SetHasPlaces, HavePlaces}
+use Rattle.dexpool.specs.Images.{LeadsOn}
 use Rattle.dexmembers.specs.Numbered.{NumberedField, NumberedMethod, NumberedMembers, IsKnownField, IsKnownMethod, AreKnownMembers}
 use Rattle.dexmembers.specs.Renumbering.{FieldHasPlaces, MethodHasPlaces, MembersHavePlaces, LeadsInto}
 use Rattle.dexmembers.proofs.RenumberingLists.{all_both}

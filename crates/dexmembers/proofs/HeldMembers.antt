@@ -35,7 +35,7 @@ module _ (r : Maps) (sets sets' : List NumberedSet) (led : (place : Option ℕ) 
   pub fields_led : (fs : List HeldField) → All (FieldHasPlaces r) (map (field_of sets) fs) → map (field_of sets') (map (led_field r) fs) ≡ map (renumbered_field r) (map (field_of sets) fs)
   fields_led [] h = refl
   fields_led (f ∷ fs) h =
-      let set = led f.set (All-head (FieldHasPlaces r) (field_of sets f) (map (field_of sets) fs) h).annotations_lead in
+      let set = (led f.set).0 (All-head (FieldHasPlaces r) (field_of sets f) (map (field_of sets) fs) h).annotations_lead in
       let rest = fields_led fs (All-tail (FieldHasPlaces r) (field_of sets f) (map (field_of sets) fs) h) in
       λ i. record { number = (led_field r f).number; flags = f.flags; annotations = set i } ∷ rest i
 
@@ -43,7 +43,7 @@ module _ (r : Maps) (sets sets' : List NumberedSet) (led : (place : Option ℕ) 
   list_led : (places : List (Option ℕ)) → All (SetHasPlaces r) (map (set_at sets) places) → map (set_at sets') places ≡ map (renumbered_set r) (map (set_at sets) places)
   list_led [] h = refl
   list_led (p ∷ ps) h =
-      let first = led p (All-head (SetHasPlaces r) (set_at sets p) (map (set_at sets) ps) h) in
+      let first = (led p).0 (All-head (SetHasPlaces r) (set_at sets p) (map (set_at sets) ps) h) in
       let rest = list_led ps (All-tail (SetHasPlaces r) (set_at sets p) (map (set_at sets) ps) h) in
       λ i. first i ∷ rest i
 
@@ -54,7 +54,7 @@ module _ (r : Maps) (sets sets' : List NumberedSet) (led : (place : Option ℕ) 
   methods_led lists lists' same (x ∷ xs) h =
       let t : NumberedTable = record { sets = sets; lists = lists } in
       let one = All-head (MethodHasPlaces r) (method_of t x) (map (method_of t) xs) h in
-      let set = led x.set one.annotations_lead in
+      let set = (led x.set).0 one.annotations_lead in
       let list = ap (λ (ls : List (List (Option ℕ))). map (set_at sets') (places_at ls x.list)) same ∙ list_led (places_at lists x.list) one.parameters_lead in
       let rest = methods_led lists lists' same xs (All-tail (MethodHasPlaces r) (method_of t x) (map (method_of t) xs) h) in
       λ i. record { number = (led_method r x).number; flags = x.flags; code = (led_method r x).code; annotations = set i; parameter_annotations = list i } ∷ rest i

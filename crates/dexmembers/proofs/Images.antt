@@ -10,7 +10,7 @@ use Rattle.dexcode.specs.Numbered.{NumberedItem}
 use Rattle.dexcode.specs.Renumbering.{item_uses, HasImages}
 use Rattle.dexval.specs.Numbered.{NumberedSet, NumberedValues}
 use Rattle.dexval.specs.Uses.{set_uses, values_uses}
-use Rattle.dexval.proofs.Marked.{all_front, all_back}
+use Rattle.dexpool.proofs.Parts.{all_front, all_back}
 use Rattle.dexmembers.specs.Numbered.{NumberedField, NumberedMethod, NumberedMembers, fields_of, methods_of}
 use Rattle.dexmembers.specs.Uses.{field_uses, method_uses, members_uses}
 use Rattle.dexmembers.proofs.RenumberingLists.{all_left, all_right}

@@ -7,8 +7,8 @@ use Rattle.dexval.specs.declared.set.AnnotationSet.{AnnotationSet}
 use Rattle.dexval.specs.Code.{set_of}
 use Rattle.dexval.specs.Numbered.{NumberedSet, NumberedValues}
 use Rattle.dexval.specs.Uses.{set_uses, values_uses}
-use Rattle.dexval.proofs.Marked.{still_all}
-use Rattle.dexcode.proofs.DebugUses.{all_back}
+use Rattle.dexpool.proofs.Visits.{still_all}
+use Rattle.dexpool.proofs.Parts.{all_back}
 use Rattle.dexmembers.specs.Numbered.{NumberedField, NumberedMethod, NumberedMembers}
 use Rattle.dexmembers.specs.Uses.{field_uses, method_uses, members_uses}
 

@@ -6,9 +6,9 @@ use Rattle.std.proofs.lemmas.List.{append-nil}
 use Rattle.dexspec.specs.Bytes.{uint}
 use Rattle.dexspec.specs.Numbers.{uleb128}
 use Rattle.dexspec.specs.Aside.Writing.{Puts}
-use Rattle.dexval.specs.Appending.{Appended, Stopped, Appends}
-use Rattle.dexval.proofs.Joining.{nothing_yet, appended_both, stopped_after, stopped_before, puts_appends}
-use Rattle.dexval.proofs.Settling.{settled, taken_back}
+use Rattle.dexmembers.specs.Appending.{Appended, Stopped, Appends}
+use Rattle.dexmembers.proofs.Joining.{nothing_yet, appended_both, stopped_after, stopped_before, puts_appends}
+use Rattle.dexmembers.proofs.Settling.{settled, taken_back}
 
 -- what was put was appended
 pub puts_appends_too : {T E : Type 0} {item : List ℕ} {u v : Vec ℕ} {r : Result T E} → Puts item u v r → Appends ⊤ item u v r

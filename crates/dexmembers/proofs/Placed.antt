@@ -16,7 +16,8 @@ use Rattle.dexcode.specs.Numbered.{NumberedItem}
 use Rattle.dexcode.specs.Renumbering.{item_uses, HasPlaces, HasImages}
 use Rattle.dexcode.specs.Renumbering as code
 use Rattle.dexval.specs.Numbered.{NumberedSet, NumberedValues}
-use Rattle.dexval.specs.Renumbering.{LeadsNarrow, LeadsOn, SetHasPlaces, HavePlaces}
+use Rattle.dexval.specs.Renumbering.{LeadsNarrow, SetHasPlaces, HavePlaces}
+use Rattle.dexpool.specs.Images.{LeadsOn}
 use Rattle.dexmembers.specs.Numbered.{NumberedField, NumberedMethod, NumberedMembers, methods_of}
 use Rattle.dexmembers.specs.Renumbering.{FieldHasPlaces, MethodHasPlaces, MembersHavePlaces}
 use Rattle.dexmembers.specs.Fitting.{MethodFits, NumbersFit, code_short_strings, method_short_strings, members_short_strings}

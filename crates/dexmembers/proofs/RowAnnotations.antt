@@ -1,6 +1,6 @@
 -- The annotations of a row: condition 22, and what was read.
 use Rattle.std.proofs.Common.{◌≡◌, ◌≢◌, ℕ, List, [], ◌∷◌, map, refl, sym, ap, ◌∙◌, subst, inl, inr, Option, Some, None}
-use Rattle.std.specs.Prelude.{MatchOption}
+use Rattle.std.specs.Prelude.{◌-◌, ◌^◌, ◌≤◌, min, MatchOption, IfSome}
 use Rattle.std.specs.Ordering.{nat_cmp}
 use Rattle.dexspec.specs.Lists.{rises, OrNone}
 use Rattle.dexspec.specs.Annotations.{Directory, DirectoryAt, no_directory}
@@ -14,7 +14,7 @@ use Rattle.dexpool.specs.Pools.{ArePools}
 use Rattle.dexval.specs.Shared.{shared_directory_of}
 use Rattle.dexval.specs.Tables.{set_at, sets_at}
 use Rattle.dexval.specs.Numbered.{directory_in}
-use Rattle.dexval.specs.Directories.{HasMembers}
+use Rattle.dexval.specs.Directories.{HasMembers, directory_weight}
 use Rattle.dexval.specs.Reading.{IsDirectoryFault, IsDirectoryWithin, HasHeavyDirectory}
 use Rattle.dexval.specs.declared.directory.SharedDirectory.{SharedDirectory}
 use Rattle.dexmembers.specs.ClassData.{class_data_in, IsDataOf}
@@ -77,3 +77,9 @@ module _ (b : List ℕ) (r : ℕ) (m : Mentions) (read : DataRead) (is : IsDataO
         parameters_entered = keys_rise (λ (i : ℕ). sets_at a.table (Some i)) a.parameters.items (list_entries_rise b m pools rising off (shared_directory_of a) h.is);
       };
     }
+
+-- what was read weighs no more than it may
+pub directory_light : (b : List ℕ) (m : Mentions) (off most : ℕ) (found : Option SharedDirectory) → MatchOption found (HasHeavyDirectory b off most) (λ (a : SharedDirectory). IsDirectoryWithin b off m most (shared_directory_of a))
+    → IfSome found (λ (a : SharedDirectory). min (2 ^ 64 - 1) (directory_weight (directory_in m (shared_directory_of a))) ≤ most)
+directory_light b m off most None h = tt
+directory_light b m off most (Some a) h = h.within

@@ -1,3 +1,4 @@
+pub mod Appending
 pub mod Attaching
 pub mod ClassData
 pub mod Contents

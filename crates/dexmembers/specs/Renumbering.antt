@@ -9,7 +9,8 @@ use Rattle.dexpool.specs.Numberings.{Maps, AllLead}
 use Rattle.dexpool.specs.Pools.{count_of}
 use Rattle.dexcode.specs.Renumbering.{renumbered_item}
 use Rattle.dexcode.specs.Renumbering as code
-use Rattle.dexval.specs.Renumbering.{led, renumbered_set, renumbered_values, LeadsOn, SetHasPlaces, HavePlaces}
+use Rattle.dexval.specs.Renumbering.{led, renumbered_set, renumbered_values, SetHasPlaces, HavePlaces}
+use Rattle.dexpool.specs.Images.{LeadsOn}
 use Rattle.dexmembers.specs.Numbered.{NumberedField, NumberedMethod, NumberedMembers}
 use Rattle.dexmembers.specs.Held.{HeldField, HeldMethod}
 

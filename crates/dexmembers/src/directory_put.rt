@@ -9,7 +9,7 @@ ghost use Rattle.dexspec.specs.Aside.Writing.{Puts};
 ghost use Rattle.dexpool.specs.Numberings.{AreRising};
 ghost use Rattle.dexmembers.specs.Numbered.{fields_of, methods_of, members_in, members_of, AreKnownMembers, AreOrdered, AreOfClass};
 ghost use Rattle.dexspec.specs.Bytes.{uint};
-ghost use Rattle.dexval.specs.Appending.{Appends};
+ghost use Rattle.dexmembers.specs.Appending.{Appends};
 ghost use Rattle.dexmembers.specs.DirectoryPut.{pair_bytes, count_placed, both_bytes, field_numbers, method_numbers, numbered_directory_bytes};
 
 use crate::members::{DeclaredField, DeclaredMethod, Members};

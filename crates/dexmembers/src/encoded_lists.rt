@@ -14,7 +14,9 @@ use std::cmp::Ordering;
 const MOST_AT_ONCE: usize = 4096;
 
 /// For how many of so many members room is taken before they are read: a count that is not true asks for little.
-pub(crate) fn room(count: usize) -> usize {
+pub(crate) fn room(count: usize) -> usize
+    ensures { result ≤ 4096 }
+{
     count.min(MOST_AT_ONCE)
 }
 

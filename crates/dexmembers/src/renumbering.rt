@@ -1,48 +1,30 @@
 //! What classes declare, with its numbers led to those of another numbering.
 
-ghost use Rattle.std.specs.Prelude.{◌≡◌, All, map};
+ghost use Rattle.std.specs.Prelude.{◌≡◌};
 ghost use Rattle.dexmembers.specs.Renumbering.{led_field, led_method, renumbered_members, HeldFieldLeads, HeldMethodLeads, MembersHavePlaces};
 
 use crate::members::{DeclaredField, DeclaredMethod, Members};
-use dexpool::{Remap, SymbolKind};
+use dexpool::{Remap, Renumber, SymbolKind, renumber_all};
 use dexval::{led, renumber_values};
 
-// Puts for the number of each field the one that it leads to.
-fn renumber_fields(fields: &mut Vec<DeclaredField>, remap: &Remap)
-    requires { All (HeldFieldLeads remap.now) fields.old.items }
-    ensures { fields.new.items ≡ map (led_field remap.now) fields.old.items }
-{
-    for i in 0..fields.len() {
-        fields[i].renumber(remap);
-    }
-}
+impl Renumber for DeclaredField {
+    ghost places = { HeldFieldLeads };
 
-// Puts for each number of methods the one that it leads to.
-fn renumber_methods(methods: &mut Vec<DeclaredMethod<'_>>, remap: &Remap)
-    requires { All (HeldMethodLeads remap.now) methods.old.items }
-    ensures { methods.new.items ≡ map (led_method remap.now) methods.old.items }
-{
-    for i in 0..methods.len() {
-        methods[i].renumber(remap);
-    }
-}
+    ghost led = { led_field };
 
-impl DeclaredField {
-    // Puts for the number of the field the one that it leads to. The sets are led on in their table.
-    fn renumber(&mut self, remap: &Remap)
-        requires { HeldFieldLeads remap.now self.old }
-        ensures { self.new ≡ led_field remap.now self.old }
-    {
+    // The sets are remapped in their table.
+    fn renumber(&mut self, remap: &Remap) {
         self.number = led(remap, SymbolKind::Field, self.number);
     }
 }
 
-impl<'a> DeclaredMethod<'a> {
-    // Puts for the number of the method, and for each in its code, the one that it leads to.
-    fn renumber(&mut self, remap: &Remap)
-        requires { HeldMethodLeads remap.now self.old }
-        ensures { self.new ≡ led_method remap.now self.old }
-    {
+impl Renumber for DeclaredMethod<'_> {
+    ghost places = { HeldMethodLeads };
+
+    ghost led = { led_method };
+
+    // The sets are remapped in their table.
+    fn renumber(&mut self, remap: &Remap) {
         self.number = led(remap, SymbolKind::Method, self.number);
         if let Some(code) = &mut self.code {
             code.renumber(remap);
@@ -63,10 +45,10 @@ impl<'a> Members<'a> {
         ensures { self.new ≡ renumbered_members remap.now self.old }
     {
         self.contents.table.renumber(remap);
-        renumber_fields(&mut self.contents.static_fields, remap);
-        renumber_fields(&mut self.contents.instance_fields, remap);
-        renumber_methods(&mut self.contents.direct_methods, remap);
-        renumber_methods(&mut self.contents.virtual_methods, remap);
+        renumber_all(&mut self.contents.static_fields, remap);
+        renumber_all(&mut self.contents.instance_fields, remap);
+        renumber_all(&mut self.contents.direct_methods, remap);
+        renumber_all(&mut self.contents.virtual_methods, remap);
         renumber_values(&mut self.contents.static_values, remap);
     }
 }

@@ -1,9 +1,10 @@
 //! The annotations of a class and its members.
 
-ghost use Rattle.std.specs.Prelude.{◌≡◌, ◌<◌, [], IsTrue, IfOk, IfErr, IfSome, MatchOption};
+ghost use Rattle.std.specs.Prelude.{◌≡◌, ◌-◌, ◌^◌, ◌<◌, ◌≤◌, min, [], IsTrue, IfOk, IfErr, IfSome, MatchOption};
 ghost use Rattle.dexspec.specs.Header.{ClassDefs, table_size};
 ghost use Rattle.dexpool.specs.Pools.{ArePools};
-ghost use Rattle.dexval.specs.Directories.{HasMembers};
+ghost use Rattle.dexval.specs.Directories.{HasMembers, directory_weight};
+ghost use Rattle.dexval.specs.Numbered.{directory_in};
 ghost use Rattle.dexval.specs.Shared.{shared_directory_of};
 ghost use Rattle.dexmembers.specs.ClassData.{IsDataOf};
 ghost use Rattle.dexmembers.specs.Naming.{NamesRead, ListsRise};
@@ -71,6 +72,7 @@ pub(crate) fn read_annotations(
 ) -> Result<Option<SharedDirectory>, ItemFault>
     requires row { row < table_size frame.now ClassDefs }
     ensures read { ArePools frame.now pools.now → IsDataOf frame.now row pools.now declared.now → IfOk result (λ found. MatchOption found (AreHeavyAnnotations frame.now row pools.now declared.now most) (AreAnnotationsOf frame.now row pools.now declared.now)) }
+    ensures within { ArePools frame.now pools.now → IfOk result (λ found. IfSome found (λ directory. min (2 ^ 64 - 1) (directory_weight (directory_in pools.now (shared_directory_of directory))) ≤ most)) }
     ensures held { IfOk result (λ found. IfSome found IsHeldDirectory) }
     ensures refused { ArePools frame.now pools.now → IsDataOf frame.now row pools.now declared.now → IfErr result (IsAnnotationsFault frame.now row) }
 {

@@ -3,7 +3,7 @@
 ghost use Rattle.std.specs.Prelude.{⊤, ◌≡◌, ℕ, List, vec_len};
 ghost use Rattle.std.specs.Global.{Vec};
 ghost use Rattle.dexspec.specs.Aside.Writing.{Puts};
-ghost use Rattle.dexval.specs.Appending.{Appends};
+ghost use Rattle.dexmembers.specs.Appending.{Appends};
 
 use std::alloc::AllocError;
 

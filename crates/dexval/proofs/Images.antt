@@ -11,10 +11,11 @@ use Rattle.dexpool.specs.Numberings.{Maps, image_of}
 use Rattle.dexpool.specs.Orderly.{LeadDown}
 use Rattle.dexpool.specs.Pools.{count_of}
 use Rattle.dexpool.specs.Uses.{Use, IsLedUse}
+use Rattle.dexpool.specs.Images.{LeadsOn, LeadsUse}
 use Rattle.dexval.specs.Numbered.{NumberedValue, NumberedValues, NumberedElements, NumberedAnnotation, NumberedSet, Plain, Named, Array, Annotated, NoValue, ThenNext, NoElement, ThenNamed, kind_of_reference, IsKnown, AreKnown, HaveKnown, IsKnownAnnotation, IsKnownSet}
-use Rattle.dexval.specs.Renumbering.{LeadsNarrow, LeadsOn, LeadsUse, HasPlaces, HavePlaces, SetHasPlaces}
+use Rattle.dexval.specs.Renumbering.{LeadsNarrow, HasPlaces, HavePlaces, SetHasPlaces}
 use Rattle.dexval.specs.Uses.{value_uses, values_uses, elements_uses, annotation_uses, set_uses}
-use Rattle.dexval.proofs.Marked.{all_front, all_back}
+use Rattle.dexpool.proofs.Parts.{all_front, all_back}
 
 -- a symbol that occurs
 abbrev use_of : SymbolKind → ℕ → Use

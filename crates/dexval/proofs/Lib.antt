@@ -4,16 +4,15 @@ pub mod Counts
 pub mod Compared
 pub mod DirectoryRead
 pub mod ElementsRead
+pub mod Encodings
 pub mod FileRead
 pub mod Fitted
 pub mod Growing
 pub mod Hashed
 pub mod Heads
 pub mod Images
-pub mod Joining
 pub mod JudgedSets
 pub mod Keeping
-pub mod Lengths
 pub mod LowBytes
 pub mod Marked
 pub mod Meanings
@@ -27,7 +26,6 @@ pub mod Renumbered
 pub mod Unmoved
 pub mod ScalarsRead
 pub mod SetsRead
-pub mod Settling
 pub mod Shapes
 pub mod Spelled
 pub mod Spelling
@@ -36,5 +34,4 @@ pub mod Tables
 pub mod TablesLed
 pub mod ValueForms
 pub mod ValuesRead
-pub mod Visits
 pub mod Weights

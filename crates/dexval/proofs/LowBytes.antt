@@ -1,15 +1,16 @@
 -- Numbers written in their lowest bytes.
 use Rattle.std.proofs.Common.{◌≡◌, ℕ, zero, suc, ◌+◌, ◌-◌, ◌*◌, ◌/◌, ◌%◌, ◌^◌, ◌<◌, ◌≤◌, List, ◌∷◌, ◌++◌, length, take, set, ◌⊎◌, inl, inr, refl, ap, sym, ◌∙◌, subst, arith, add-one, append_assoc}
-use Rattle.std.specs.Prelude.{ℤ, pos, negsuc, ◌≢◌, Result, FitsSigned}
+use Rattle.std.specs.Prelude.{ℤ, pos, negsuc, ◌≢◌, FitsSigned}
 use Rattle.std.specs.Int.{w64}
 use Rattle.std.proofs.lemmas.Int.{ints}
-use Rattle.std.specs.Global.{Vec}
-use Rattle.dexspec.specs.Aside.Writing.{Puts}
+use Rattle.std.specs.Int.{bytes_low_first}
+use Rattle.std.proofs.lemmas.List.{take-append-le}
+use Rattle.byteorder.specs.Endian.{little_bytes}
+use Rattle.byteorder.proofs.Bytes.{take-bytes_low_first}
+use native.Mathlib.Nat.{div-div-eq-div-mul}
 use Rattle.std.proofs.Math.Nat.{mul_assoc, mul-suc, mul-mod_right, mul-div_cancel_left, div-add-mod}
-use Rattle.std.proofs.Math.Seq.{take-suc-set}
 use Rattle.std.proofs.lemmas.Bool.{cases_lt}
 use Rattle.std.proofs.lemmas.Nat.{pow-add}
-use Rattle.std.proofs.lemmas.List.{append-nil}
 use Rattle.dexspec.specs.Bytes.{bytes_of}
 use Rattle.dexspec.specs.Numbers.{magnitude}
 use Rattle.dexspec.specs.Values.{value_byte}
@@ -17,23 +18,25 @@ use Rattle.dexspec.specs.Spellings.{unsigned_width, signed_width, bits_width, co
 use Rattle.dexspec.proofs.ByteNumbers.{pow_256, pow_256_pos}
 use Rattle.dexspec.proofs.Widths.{signed_width_is, bits_width_is}
 
--- with one byte more written, one byte less is left
-pub one_byte_more : (bytes target : List ℕ) (i n rest : ℕ) → i + 1 < length bytes → i < n → take (i + 1) bytes ++ bytes_of (n - i) rest ≡ target
-    → take (i + 1 + 1) (set bytes (i + 1) (rest % 256)) ++ bytes_of (n - (i + 1)) (rest / 256) ≡ target
+-- the lowest bytes of a number, as `byteorder` writes them
+low_first : (i n v : ℕ) → bytes_low_first i n v ≡ bytes_of n (v / 256 ^ i)
 unfolding bytes_of
-one_byte_more bytes target i n rest within more so_far =
-    let now : n - i ≡ suc (n - (i + 1)) = omega arith in
-    let e = rw now at so_far in
-    rw (add-one, take-suc-set, append_assoc) e
+low_first i zero v = refl
+low_first zero (suc n) v =
+    let whole : v / 256 ^ 0 ≡ v = omega arith in
+    let first : v % 256 ≡ v / 256 ^ 0 % 256 = ap (λ (x : ℕ). x % 256) (sym whole) in
+    let rest : v / 256 ^ 1 ≡ v / 256 ^ 0 / 256 = omega arith in
+    ap (λ (r : List ℕ). v % 256 ∷ r) (low_first 1 n v ∙ ap (bytes_of n) rest) ∙ ap (λ (x : ℕ). x ∷ bytes_of n (v / 256 ^ 0 / 256)) first
+low_first (suc i) (suc n) v =
+    let power : 256 ^ suc (suc i) ≡ 256 ^ suc i * 256 = omega arith in
+    let rest : v / 256 ^ suc (suc i) ≡ v / 256 ^ suc i / 256 = ap (λ (p : ℕ). v / p) power ∙ sym (div-div-eq-div-mul v (256 ^ suc i) 256) in
+    ap (λ (r : List ℕ). v / 256 ^ suc i % 256 ∷ r) (low_first (suc (suc i)) n v ∙ ap (bytes_of n) rest)
 
--- with all bytes written, none is left
-pub all_written : (bytes target : List ℕ) (i n rest : ℕ) → n ≤ i → i ≤ n → take (i + 1) bytes ++ bytes_of (n - i) rest ≡ target → take (n + 1) bytes ≡ target
-unfolding bytes_of
-all_written bytes target i n rest from to so_far =
-    let none : n - i ≡ zero = omega arith in
-    let all : i ≡ n = omega arith in
-    let e = rw (none, all) at so_far in
-    sym (append-nil (take (n + 1) bytes)) ∙ e
+pub low_bytes : (n v : ℕ) (r : List ℕ) → n ≤ 8 → take n (little_bytes 8 v ++ r) ≡ bytes_of n v
+low_bytes n v r few =
+    let size : length (little_bytes 8 v) ≡ 8 = refl in
+    let whole : v / 256 ^ 0 ≡ v = omega arith in
+    take-append-le n (little_bytes 8 v) r (omega (arith, size, few)) ∙ take-bytes_low_first 0 8 n v few ∙ low_first 0 n v ∙ ap (bytes_of n) whole
 
 -- a multiple of 256 ^ n more has the same n lowest bytes
 bytes_of-more : (n v k : ℕ) → bytes_of n (v + 256 ^ n * k) ≡ bytes_of n v
@@ -121,9 +124,7 @@ pub long_room : (z : ℤ) → FitsSigned w64 z → 2 * magnitude z < 256 ^ 8
 long_room (pos n) fits = omega (arith, ints)
 long_room (negsuc n) fits = omega (arith, ints)
 
--- what was put is the number with a sign
-pub signed_put : {T E : Type 0} {old new : Vec ℕ} {r : Result T E} (code : ℕ) (z : ℤ) (width bits : ℕ) → 2 * magnitude z < 256 ^ 8 → width ≡ signed_width z → width ≤ 8 → bits ≡ complement 8 z
-    → Puts (value_byte (width - 1) code ∷ bytes_of width bits) old new r → Puts (signed_bytes code z) old new r
-signed_put {T} {E} {old} {new} {r} code z width bits room width_is few bits_is puts =
-    let whole = ap (λ (b : ℕ). value_byte (width - 1) code ∷ bytes_of width b) bits_is ∙ signed_is code z width room few width_is in
-    subst (λ (item : List ℕ). Puts item old new r) whole puts
+-- the number with a sign
+pub signed_spelled : (code : ℕ) (z : ℤ) (width bits : ℕ) → 2 * magnitude z < 256 ^ 8 → width ≡ signed_width z → width ≤ 8 → bits ≡ complement 8 z
+    → value_byte (width - 1) code ∷ bytes_of width bits ≡ signed_bytes code z
+signed_spelled code z width bits room width_is few bits_is = ap (λ (b : ℕ). value_byte (width - 1) code ∷ bytes_of width b) bits_is ∙ signed_is code z width room few width_is

@@ -12,43 +12,9 @@ use Rattle.dexval.specs.Code.{value_of, element_of, annotation_of}
 use Rattle.dexval.specs.Numbered.{NumberedValue, Reference, Named, kind_of_reference, values_of_list, elements_of_list}
 use Rattle.dexpool.specs.Uses.{Use, marks_of, HasMark, same_kind, occurs, AreMarkedToo}
 use Rattle.dexval.specs.Uses.{value_uses, values_uses, element_uses, elements_uses, annotation_uses, set_uses}
+use Rattle.dexpool.proofs.Parts.{all_parts}
+use Rattle.dexpool.proofs.Visits.{marked_both, still_all}
 use Rattle.dexval.proofs.CodeForms.{element_is}
-
--- ---- marks on one list of symbols after the other
-
-pub all_front : {X : Type 0} (P : X → Type 0) (xs ys : List X) → All P (xs ++ ys) → All P xs
-all_front P [] ys h = All-nil P
-all_front P (x ∷ xs) ys h = All-cons P x xs (All-head P x (xs ++ ys) h) (all_front P xs ys (All-tail P x (xs ++ ys) h))
-
-pub all_back : {X : Type 0} (P : X → Type 0) (xs ys : List X) → All P (xs ++ ys) → All P ys
-all_back P [] ys h = h
-all_back P (x ∷ xs) ys h = all_back P xs ys (All-tail P x (xs ++ ys) h)
-
--- what holds of all that members give holds of what each gives
-all_parts : {X Y : Type 0} (P : Y → Type 0) (f : X → List Y) (xs : List X) → All P (flat_map f xs) → All (λ x. All P (f x)) xs
-all_parts P f [] h = All-nil (λ x. All P (f x))
-all_parts P f (x ∷ xs) h = All-cons (λ x. All P (f x)) x xs (all_front P (f x) (flat_map f xs) h) (all_parts P f xs (all_back P (f x) (flat_map f xs) h))
-
-or_assoc : (a b c : Bool) → ((a || b) || c) ≡ (a || (b || c))
-or_assoc true b c = refl
-or_assoc false b c = refl
-
--- the marks of two lists, one made after the other
-pub marked_both : (us vs : List Use) (a b c : Marks) → AreMarkedToo us a b → AreMarkedToo vs b c → AreMarkedToo (us ++ vs) a c
-marked_both us vs a b c before more = record {
-  count = λ j. more.count j ∙ before.count j;
-  each = λ j i.
-      more.each j i ∙ ap (λ (t : Bool). t || occurs vs j i) (before.each j i) ∙ or_assoc (get_or (marks_of j a) i false) (occurs us j i) (occurs vs j i)
-      ∙ ap (λ (t : Bool). get_or (marks_of j a) i false || t) (sym (list_any-append (λ v. same_kind v.kind j && v.number == i) us vs));
-}
-
-still_marked : (us : List Use) (u : Use) (a b : Marks) → AreMarkedToo us a b → HasMark a u → HasMark b u
-still_marked us u a b h lt = subst (λ (n : ℕ). u.number < n) (sym (h.count u.kind)) lt
-
--- there still is a mark for each that had one
-pub still_all : (us vs : List Use) (a b : Marks) → AreMarkedToo us a b → All (HasMark a) vs → All (HasMark b) vs
-still_all us [] a b h all = All-nil (HasMark b)
-still_all us (v ∷ vs) a b h all = All-cons (HasMark b) v vs (still_marked us v a b h (All-head (HasMark a) v vs all)) (still_all us vs a b h (All-tail (HasMark a) v vs all))
 
 -- ---- the symbols of members
 

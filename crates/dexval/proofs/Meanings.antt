@@ -18,7 +18,7 @@ use Rattle.dexval.specs.Numbered.{Literal, ByteLiteral, ShortLiteral, CharLitera
 use Rattle.dexval.specs.Renumbering.{led, renumbered, renumbered_values, renumbered_elements, renumbered_annotation, renumbered_set}
 use Rattle.dexpool.specs.Uses.{Use, IsUseOf, IsLedUse, HasMark, marks_of}
 use Rattle.dexval.specs.Uses.{value_uses, values_uses, elements_uses, annotation_uses, set_uses}
-use Rattle.dexval.proofs.Marked.{all_front, all_back}
+use Rattle.dexpool.proofs.Parts.{all_front, all_back}
 
 abbrev no_field : Field
 no_field = record { class = []; name = []; type = [] }

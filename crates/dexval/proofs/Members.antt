@@ -1,16 +1,13 @@
--- Values and elements appended one after the other.
+-- The bytes of values and elements, one after the other.
 use Rattle.std.proofs.Common.{◌≡◌, ℕ, zero, suc, ◌+◌, ◌<◌, ◌≤◌, List, [], ◌∷◌, ◌++◌, get_or, length, take, drop, map, refl, sym, ap, ◌∙◌, subst, arith, append_assoc}
-use Rattle.std.specs.Global.{Vec}
 use Rattle.std.proofs.lemmas.List.{take_all, take-append-drop, map-append, append-nil, length-map, get_or-map}
 use Rattle.dexspec.specs.Numbers.{uleb128}
 use Rattle.dexval.specs.declared.value.Value.{Value}
 use Rattle.dexval.specs.declared.value.Element.{Element}
-use Rattle.dexval.specs.Appending.{Appended, Stopped}
 use Rattle.dexval.specs.Code.{value_of, element_of}
 use Rattle.dexval.specs.Numbered.{NumberedValue, values_of_list, elements_of_list}
 use Rattle.dexval.specs.Spelled.{values_count, elements_count, numbered_weight, numbered_values_weight, numbered_elements_weight, numbered_bytes, numbered_values_bytes, numbered_elements_bytes}
 use Rattle.dexval.proofs.Growing.{element_is, values_more, elements_more}
-use Rattle.dexval.proofs.Joining.{appended_both, stopped_after, stopped_before}
 
 -- ---- values
 
@@ -29,25 +26,6 @@ pub one_value : (xs : List Value) (i : ℕ) (d : Value) → i < length xs → d 
 one_value xs i d lt e =
     ap (λ (l : List NumberedValue). numbered_values_bytes (values_of_list l)) (values_more xs i d lt e) ∙ values_bytes_both (map value_of (take i xs)) (value_of d ∷ [])
     ∙ ap (λ (l : List ℕ). values_spelled (take i xs) ++ l) (append-nil (numbered_bytes (value_of d)))
-
-values_cut : (xs : List Value) (n : ℕ) → values_spelled xs ≡ values_spelled (take n xs) ++ values_spelled (drop n xs)
-values_cut xs n =
-    ap (λ (l : List Value). values_spelled l) (sym (take-append-drop n xs)) ∙ ap (λ (l : List NumberedValue). numbered_values_bytes (values_of_list l)) (map-append value_of (take n xs) (drop n xs))
-    ∙ values_bytes_both (map value_of (take n xs)) (map value_of (drop n xs))
-
--- one value more
-pub value_step_on : (xs : List Value) (i : ℕ) (d : Value) {u v w : Vec ℕ} → i < length xs → d ≡ get_or xs i d → Appended (values_spelled (take i xs)) u v → Appended (numbered_bytes (value_of d)) v w → Appended (values_spelled (take (i + 1) xs)) u w
-value_step_on xs i d {u} {v} {w} lt e a b = subst (λ (l : List ℕ). Appended l u w) (sym (one_value xs i d lt e)) (appended_both a b)
-
--- one value for which there was no room
-pub value_stop : (xs : List Value) (i : ℕ) (d : Value) {C : Type 0} {u v w : Vec ℕ} → i < length xs → d ≡ get_or xs i d → Appended (values_spelled (take i xs)) u v → Stopped C (numbered_bytes (value_of d)) v w → Stopped C (values_spelled xs) u w
-value_stop xs i d {C} {u} {v} {w} lt e a b =
-    subst (λ (l : List ℕ). Stopped C l u w) (ap (λ (l : List ℕ). l ++ values_spelled (drop (i + 1) xs)) (sym (one_value xs i d lt e)) ∙ sym (values_cut xs (i + 1)))
-    (stopped_before (stopped_after a b) (values_spelled (drop (i + 1) xs)))
-
--- all values
-pub values_end : (xs : List Value) (i : ℕ) {u v : Vec ℕ} → length xs ≤ i → Appended (values_spelled (take i xs)) u v → Appended (values_spelled xs) u v
-values_end xs i {u} {v} end a = subst (λ (l : List Value). Appended (values_spelled l) u v) (take_all i xs end) a
 
 pub count_of_list : (ys : List NumberedValue) → values_count (values_of_list ys) ≡ length ys
 count_of_list [] = refl
@@ -79,25 +57,6 @@ one_element xs i d lt e =
     ap (λ (l : List (ℕ × NumberedValue)). numbered_elements_bytes (elements_of_list l)) (elements_more xs i d lt e) ∙ elements_bytes_both (map element_of (take i xs)) (element_of d ∷ [])
     ∙ ap (λ (x : ℕ × NumberedValue). elements_spelled (take i xs) ++ numbered_elements_bytes (elements_of_list (x ∷ []))) (element_is d)
     ∙ ap (λ (l : List ℕ). elements_spelled (take i xs) ++ (uleb128 d.name ++ l)) (append-nil (numbered_bytes (value_of d.value)))
-
-elements_cut : (xs : List Element) (n : ℕ) → elements_spelled xs ≡ elements_spelled (take n xs) ++ elements_spelled (drop n xs)
-elements_cut xs n =
-    ap (λ (l : List Element). elements_spelled l) (sym (take-append-drop n xs)) ∙ ap (λ (l : List (ℕ × NumberedValue)). numbered_elements_bytes (elements_of_list l)) (map-append element_of (take n xs) (drop n xs))
-    ∙ elements_bytes_both (map element_of (take n xs)) (map element_of (drop n xs))
-
--- one element more
-pub element_step_on : (xs : List Element) (i : ℕ) (d : Element) {u v w : Vec ℕ} → i < length xs → d ≡ get_or xs i d → Appended (elements_spelled (take i xs)) u v → Appended (element_spelled d) v w → Appended (elements_spelled (take (i + 1) xs)) u w
-element_step_on xs i d {u} {v} {w} lt e a b = subst (λ (l : List ℕ). Appended l u w) (sym (one_element xs i d lt e)) (appended_both a b)
-
--- one element for which there was no room
-pub element_stop : (xs : List Element) (i : ℕ) (d : Element) {C : Type 0} {u v w : Vec ℕ} → i < length xs → d ≡ get_or xs i d → Appended (elements_spelled (take i xs)) u v → Stopped C (element_spelled d) v w → Stopped C (elements_spelled xs) u w
-element_stop xs i d {C} {u} {v} {w} lt e a b =
-    subst (λ (l : List ℕ). Stopped C l u w) (ap (λ (l : List ℕ). l ++ elements_spelled (drop (i + 1) xs)) (sym (one_element xs i d lt e)) ∙ sym (elements_cut xs (i + 1)))
-    (stopped_before (stopped_after a b) (elements_spelled (drop (i + 1) xs)))
-
--- all elements
-pub elements_end : (xs : List Element) (i : ℕ) {u v : Vec ℕ} → length xs ≤ i → Appended (elements_spelled (take i xs)) u v → Appended (elements_spelled xs) u v
-elements_end xs i {u} {v} end a = subst (λ (l : List Element). Appended (elements_spelled l) u v) (take_all i xs end) a
 
 elements_count_of_list : (ys : List (ℕ × NumberedValue)) → elements_count (elements_of_list ys) ≡ length ys
 elements_count_of_list [] = refl

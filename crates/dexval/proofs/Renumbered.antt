@@ -5,9 +5,10 @@ use Rattle.std.proofs.lemmas.List.{drop-drop, get_or-drop, get_or-map, take_more
 use Rattle.std.proofs.lemmas.List.Elements.{All-nil, All-cons, All-get_or}
 use Rattle.dexpool.specs.Numberings.{Maps}
 use Rattle.dexval.specs.Numbered.{NumberedValue, NumberedAnnotation, values_of_list, elements_of_list, ThenNext, ThenNamed}
-use Rattle.dexval.specs.Renumbering.{renumbered, renumbered_values, renumbered_elements, renumbered_element, LeadsUse, HasPlaces, HavePlaces, ElementsHavePlaces, ElementHasPlaces, AnnotationHasPlaces, SetHasPlaces}
+use Rattle.dexval.specs.Renumbering.{renumbered, renumbered_values, renumbered_elements, renumbered_element, HasPlaces, HavePlaces, ElementsHavePlaces, ElementHasPlaces, AnnotationHasPlaces, SetHasPlaces}
+use Rattle.dexpool.specs.Images.{LeadsUse}
 use Rattle.dexval.specs.Uses.{value_uses, values_uses, element_uses, elements_uses, annotation_uses, set_uses}
-use Rattle.dexval.proofs.Marked.{all_front, all_back}
+use Rattle.dexpool.proofs.Parts.{all_front, all_back}
 
 -- ---- a list that is changed member by member
 

@@ -26,7 +26,7 @@ settled_stays r old new i x h lt e none = record {
     | inr ge ↦
         let same : i ≡ k = omega (arith, ge, less) in
         let here : get_or old k d ≡ x = ap (λ (n : ℕ). get_or old n d) (sym same) ∙ default old i d x lt ∙ sym (h.rest i x (omega arith)) ∙ sym e in
-        λ places. absurd (none (subst (λ (y : AnnotationSet). SetHasPlaces r (set_of y)) here places))
+        ((λ places. absurd (none (subst (λ (y : AnnotationSet). SetHasPlaces r (set_of y)) here places))), (λ _. ap (λ (y : AnnotationSet). set_of y) (h.rest k d (omega (arith, ge)))))
   ];
   rest = λ k d le. h.rest k d (omega (arith, le));
   size = h.size;
@@ -38,8 +38,8 @@ settled_stays r old new i x h lt e none = record {
     default (x ∷ xs) (suc n) d e lt = default xs n d e (omega arith)
 
 -- one more, which is led on
-pub settled_led : (r : Maps) (old new : List AnnotationSet) (i : ℕ) (x y : AnnotationSet) → AreSettled r i old new → i < length old → x ≡ get_or new i x → set_of y ≡ renumbered_set r (set_of x) → AreSettled r (i + 1) old (set new i y)
-settled_led r old new i x y h lt e is =
+pub settled_led : (r : Maps) (old new : List AnnotationSet) (i : ℕ) (x y : AnnotationSet) → AreSettled r i old new → i < length old → x ≡ get_or new i x → SetHasPlaces r (set_of x) → set_of y ≡ renumbered_set r (set_of x) → AreSettled r (i + 1) old (set new i y)
+settled_led r old new i x y h lt e fits is =
     let inside_new : i < length new = omega (arith, h.size, lt) in
     record {
       done = λ k d less inside. elim (cases_lt k i) [
@@ -48,7 +48,7 @@ settled_led r old new i x y h lt e is =
             let same : i ≡ k = omega (arith, ge, less) in
             let here : x ≡ get_or old k d = e ∙ h.rest i x (omega arith) ∙ default old i x d lt ∙ ap (λ (n : ℕ). get_or old n d) same in
             let there : y ≡ get_or (set new i y) k d = sym (at new i y d inside_new) ∙ ap (λ (n : ℕ). get_or (set new i y) n d) same in
-            λ places. ap set_of (sym there) ∙ is ∙ ap (λ (z : AnnotationSet). renumbered_set r (set_of z)) here
+            ((λ places. ap set_of (sym there) ∙ is ∙ ap (λ (z : AnnotationSet). renumbered_set r (set_of z)) here), (λ none. absurd (none (subst (λ (z : AnnotationSet). SetHasPlaces r (set_of z)) here fits))))
       ];
       rest = λ k d le. other new i k y d (λ same. omega (arith, same, le)) ∙ h.rest k d (omega (arith, le));
       size = length-set new i y ∙ h.size;
@@ -73,7 +73,7 @@ settled_led r old new i x y h lt e is =
 
 -- all of them, by their places
 pub all_settled : (r : Maps) (old new : List AnnotationSet) (i : ℕ) → AreSettled r i old new → length old ≤ i → (place : Option ℕ) → IsLedSet r (set_at (map set_of old) place) (set_at (map set_of new) place)
-all_settled r old new i h le None = λ places. refl
+all_settled r old new i h le None = ((λ places. refl), (λ none. refl))
 all_settled r old new i h le (Some k) = at old new h.size k (λ d lt. h.done k d (omega (arith, lt, le)) lt)
   where
     past : (xs : List AnnotationSet) (k : ℕ) → length xs ≤ k → set_at (map set_of xs) (Some k) ≡ []
@@ -82,7 +82,7 @@ all_settled r old new i h le (Some k) = at old new h.size k (λ d lt. h.done k d
     past (x ∷ xs) (suc k) le = past xs k (omega arith)
 
     at : (xs ys : List AnnotationSet) → length ys ≡ length xs → (k : ℕ) → ((d : AnnotationSet) → k < length xs → IsLedSet r (set_of (get_or xs k d)) (set_of (get_or ys k d))) → IsLedSet r (set_at (map set_of xs) (Some k)) (set_at (map set_of ys) (Some k))
-    at [] [] size k each = λ places. refl
+    at [] [] size k each = ((λ places. refl), (λ none. refl))
     at [] (y ∷ ys) size k each = absurd (omega (arith, size))
     at (x ∷ xs) [] size k each = absurd (omega (arith, size))
     at (x ∷ xs) (y ∷ ys) size zero each = each x (omega arith)

@@ -1,4 +1,3 @@
-pub mod Appending
 pub mod Code
 pub mod Directories
 pub mod Equality

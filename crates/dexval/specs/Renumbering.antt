@@ -3,7 +3,7 @@ use Rattle.std.specs.Prelude.{◌≡◌, ℕ, ◌^◌, ◌<◌, map, All, Some, 
 use Rattle.dexpool.specs.declared.symbols.SymbolKind.{SymbolKind}
 use Rattle.dexpool.specs.declared.symbols.SymbolKind.TheVariants as kinds
 use Rattle.dexpool.specs.Numberings.{Maps, image_of}
-use Rattle.dexpool.specs.Uses.{Use}
+use Rattle.dexpool.specs.Images.{LeadsUse}
 use Rattle.dexval.specs.Uses.{value_uses, values_uses, element_uses, elements_uses, annotation_uses, set_uses}
 use Rattle.dexval.specs.Numbered.{NumberedValue, NumberedValues, NumberedElements, NumberedAnnotation, NumberedSet, Plain, Named, Array, Annotated, NoValue, ThenNext, NoElement, ThenNamed, kind_of_reference}
 
@@ -46,14 +46,6 @@ renumbered_set r s = map (renumbered_annotation r) s
 -- numbers of 32 bits lead to such
 abbrev pub LeadsNarrow : Maps → Type 0
 LeadsNarrow r = (kind : SymbolKind) (i j : ℕ) → image_of r kind i ≡ Some j → i < 2 ^ 32 → j < 2 ^ 32
-
--- The number leads to one, of 32 bits where it is of 32 bits itself, as each number of the code is.
-abbrev pub LeadsOn : Maps → SymbolKind → ℕ → Type 0
-LeadsOn r kind i = (j : ℕ) × (image_of r kind i ≡ Some j) × (i < 2 ^ 32 → j < 2 ^ 32)
-
--- the symbol's number leads on so
-abbrev pub LeadsUse : Maps → Use → Type 0
-LeadsUse r u = LeadsOn r u.kind u.number
 
 -- each number of the value leads on so
 abbrev pub HasPlaces : Maps → NumberedValue → Type 0

@@ -37,9 +37,9 @@ sets_at t place = map (set_at t.sets) (places_at t.lists place)
 abbrev pub IsListed : NumberedTable → ℕ → Type 0
 IsListed t i = (places : List (Option ℕ)) × Contains t.lists places × Contains places (Some i)
 
--- the new set is the old one with its numbers led on, where each has a place
+-- the new set is the old one remapped, where each number has a place, and else the old one
 abbrev pub IsLedSet : Maps → NumberedSet → NumberedSet → Type 0
-IsLedSet r old new = SetHasPlaces r old → new ≡ renumbered_set r old
+IsLedSet r old new = (SetHasPlaces r old → new ≡ renumbered_set r old) × ((SetHasPlaces r old → ⊥) → new ≡ old)
 
 -- ---- a table that grows
 

@@ -8,11 +8,11 @@ ghost use Rattle.dexval.specs.Renumbering.{HasPlaces, HavePlaces, ElementHasPlac
 use crate::annotation::Annotation;
 use crate::set::AnnotationSet;
 use crate::value::{Element, Value};
-use crate::visiting::{Fits, visit_values};
-use dexpool::Remap;
+use crate::visiting::visit_values;
+use dexpool::{Fits, Remap, all_fit};
 
 /// Whether each number of a symbol in values, as those of static fields, leads to one, below 2^32. No memory is taken.
-#[tactic(auto, using(crate::proofs::Visits::all_fit))]
+#[tactic(auto, using(dexpool::proofs::Visits::all_fit))]
 pub fn values_fit(values: &[Value], remap: &Remap) -> bool
     ensures { IsTrue result ↔ HavePlaces remap.now (values_of_list (map value_of values.now)) }
 {
@@ -23,7 +23,7 @@ pub fn values_fit(values: &[Value], remap: &Remap) -> bool
 
 impl Value {
     /// Whether each number of a symbol in the value leads to one, below 2^32. No memory is taken.
-    #[tactic(auto, using(crate::proofs::Visits::all_fit))]
+    #[tactic(auto, using(dexpool::proofs::Visits::all_fit))]
     pub fn fits(&self, remap: &Remap) -> bool
         ensures { IsTrue result ↔ HasPlaces remap.now (value_of self.now) }
     {
@@ -35,7 +35,7 @@ impl Value {
 
 impl Element {
     /// Whether the number of the name, and each in the value, leads to one, below 2^32. No memory is taken.
-    #[tactic(auto, using(crate::proofs::Visits::all_fit))]
+    #[tactic(auto, using(dexpool::proofs::Visits::all_fit))]
     pub fn fits(&self, remap: &Remap) -> bool
         ensures { IsTrue result ↔ ElementHasPlaces remap.now (element_of self.now) }
     {
@@ -47,24 +47,18 @@ impl Element {
 
 impl Annotation {
     /// Whether the number of the type, and each in the elements, leads to one, below 2^32. No memory is taken.
-    #[tactic(auto, using(crate::proofs::Visits::all_fit))]
     pub fn fits(&self, remap: &Remap) -> bool
         ensures { IsTrue result ↔ AnnotationHasPlaces remap.now (annotation_of self.now) }
     {
-        let mut fits = Fits { remap, fit: true };
-        self.visit(&mut fits);
-        fits.fit
+        all_fit(self, remap)
     }
 }
 
 impl AnnotationSet {
     /// Whether each number of a symbol in the annotations leads to one, below 2^32. No memory is taken.
-    #[tactic(auto, using(crate::proofs::Visits::all_fit))]
     pub fn fits(&self, remap: &Remap) -> bool
         ensures { IsTrue result ↔ SetHasPlaces remap.now (set_of self.now) }
     {
-        let mut fits = Fits { remap, fit: true };
-        self.visit(&mut fits);
-        fits.fit
+        all_fit(self, remap)
     }
 }

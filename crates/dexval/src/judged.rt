@@ -90,6 +90,7 @@ fn note_set(
     requires held { AreHeld judged.old }
     ensures most { budget.new.most ≡ budget.old.most }
     ensures grows { budget.old.weight ≤ budget.new.weight }
+    ensures passed { budget.new.most < budget.new.weight → judged.new.table ≡ judged.old.table }
     ensures kept { IfOk result (λ place. budget.new.weight ≤ budget.new.most → IsSome place) }
     ensures noted { IfOk result (λ place. IsNoted (λ i. place ≡ Some i) (λ _. ⊥) (IsPlaceIn judged.new.table.sets place) (budget.new.weight ≤ budget.new.most) judged.old judged.new) }
     ensures judged { (b : List ℕ) (m : Mentions) → IsSetAt b off m (set_of set) → AreJudged b m judged.old → OnOk result (AreJudged b m judged.new) }
@@ -151,6 +152,7 @@ pub(crate) fn note_list(
 ) -> Result<Option<u32>, AllocError>
     requires held { AreHeld judged.old }
     requires places { All (IsPlaceIn judged.old.table.sets) places.items }
+    ensures passed { budget.now.most < budget.now.weight → judged.new.table ≡ judged.old.table }
     ensures kept { IfOk result (λ place. budget.now.weight ≤ budget.now.most → IsSome place) }
     ensures noted { IfOk result (λ place. IsNoted (λ _. ⊥) (λ i. place ≡ Some i) (IsPlaceIn judged.new.table.lists place) (budget.now.weight ≤ budget.now.most) judged.old judged.new) }
     ensures listed { OnOk result (budget.now.weight ≤ budget.now.most → (i : ℕ) → Contains places.items (Some i) → IsListed judged.new.table i) }

@@ -17,7 +17,7 @@ pub use laws::{
 };
 pub use marking::mark_values;
 pub use put::{put_annotation, put_statics, put_value};
-pub use renumbering::{led, renumber_values};
+pub use renumbering::{led, renumber, renumber_set, renumber_values};
 pub use same::{ends_alike, same_values_mapped};
 pub use set::AnnotationSet;
 pub use set_put::put_set;
@@ -33,6 +33,7 @@ mod budget;
 mod copying;
 mod directory;
 mod directory_reading;
+mod encoding;
 mod equality;
 mod fitting;
 mod hashing;

@@ -10,12 +10,12 @@ use crate::annotation::Annotation;
 use crate::set::AnnotationSet;
 use crate::value::{Element, Value};
 use crate::visiting::visit_values;
-use dexpool::Marks;
+use dexpool::{Marks, mark};
 
 /// Marks each symbol that occurs in values, as those of static fields. No memory is taken.
 ///
 /// Condition: there is a mark for each of them.
-#[tactic(auto, using(crate::proofs::Visits::all_marked))]
+#[tactic(auto, using(dexpool::proofs::Visits::all_marked))]
 pub fn mark_values(values: &[Value], marks: &mut Marks)
     requires { All (HasMark marks.old) (values_uses (values_of_list (map value_of values.now))) }
     ensures { AreMarkedToo (values_uses (values_of_list (map value_of values.now))) marks.old marks.new }
@@ -27,7 +27,7 @@ impl Value {
     /// Marks each symbol that occurs in the value. No memory is taken.
     ///
     /// Condition: there is a mark for each of them.
-    #[tactic(auto, using(crate::proofs::Visits::all_marked))]
+    #[tactic(auto, using(dexpool::proofs::Visits::all_marked))]
     pub fn mark(&self, marks: &mut Marks)
         requires { All (HasMark marks.old) (value_uses (value_of self.now)) }
         ensures { AreMarkedToo (value_uses (value_of self.now)) marks.old marks.new }
@@ -40,7 +40,7 @@ impl Element {
     /// Marks the name, and each symbol that occurs in the value. No memory is taken.
     ///
     /// Condition: there is a mark for each of them.
-    #[tactic(auto, using(crate::proofs::Visits::all_marked))]
+    #[tactic(auto, using(dexpool::proofs::Visits::all_marked))]
     pub fn mark(&self, marks: &mut Marks)
         requires { All (HasMark marks.old) (element_uses (element_of self.now)) }
         ensures { AreMarkedToo (element_uses (element_of self.now)) marks.old marks.new }
@@ -53,12 +53,11 @@ impl Annotation {
     /// Marks the type, and each symbol that occurs in the elements. No memory is taken.
     ///
     /// Condition: there is a mark for each of them.
-    #[tactic(auto, using(crate::proofs::Visits::all_marked))]
     pub fn mark(&self, marks: &mut Marks)
         requires { All (HasMark marks.old) (annotation_uses (annotation_of self.now)) }
         ensures { AreMarkedToo (annotation_uses (annotation_of self.now)) marks.old marks.new }
     {
-        self.visit(marks);
+        mark(self, marks);
     }
 }
 
@@ -66,11 +65,10 @@ impl AnnotationSet {
     /// Marks each symbol that occurs in the annotations. No memory is taken.
     ///
     /// Condition: there is a mark for each of them.
-    #[tactic(auto, using(crate::proofs::Visits::all_marked))]
     pub fn mark(&self, marks: &mut Marks)
         requires { All (HasMark marks.old) (set_uses (set_of self.now)) }
         ensures { AreMarkedToo (set_uses (set_of self.now)) marks.old marks.new }
     {
-        self.visit(marks);
+        mark(self, marks);
     }
 }

@@ -4,7 +4,8 @@ ghost use Rattle.std.specs.Prelude.{◌≡◌, ◌<◌, ◌^◌, All, map};
 ghost use Rattle.dexpool.specs.declared.symbols.SymbolKind.TheVariants as kinds;
 ghost use Rattle.dexval.specs.Code.{value_of, element_of, annotation_of, set_of};
 ghost use Rattle.dexval.specs.Numbered.{values_of_list, elements_of_list};
-ghost use Rattle.dexval.specs.Renumbering.{led, renumbered, renumbered_values, renumbered_elements, renumbered_element, renumbered_annotation, renumbered_set, LeadsOn, HasPlaces, HavePlaces, ElementHasPlaces, ElementsHavePlaces, AnnotationHasPlaces, SetHasPlaces};
+ghost use Rattle.dexval.specs.Renumbering.{led, renumbered, renumbered_values, renumbered_elements, renumbered_element, renumbered_annotation, renumbered_set, HasPlaces, HavePlaces, ElementHasPlaces, ElementsHavePlaces, AnnotationHasPlaces, SetHasPlaces};
+ghost use Rattle.dexpool.specs.Images.{LeadsOn};
 
 use crate::annotation::Annotation;
 use crate::set::AnnotationSet;
@@ -120,4 +121,20 @@ impl AnnotationSet {
     {
         renumber_annotations(&mut self.annotations, remap);
     }
+}
+
+/// The same as [`Value::renumber`].
+pub fn renumber(value: &mut Value, remap: &Remap)
+    requires { HasPlaces remap.now (value_of value.old) }
+    ensures { value_of value.new ≡ renumbered remap.now (value_of value.old) }
+{
+    value.renumber(remap);
+}
+
+/// The same as [`AnnotationSet::renumber`].
+pub fn renumber_set(set: &mut AnnotationSet, remap: &Remap)
+    requires { SetHasPlaces remap.now (set_of set.old) }
+    ensures { set_of set.new ≡ renumbered_set remap.now (set_of set.old) }
+{
+    set.renumber(remap);
 }

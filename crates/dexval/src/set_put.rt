@@ -1,6 +1,6 @@
 //! Sets of annotations written.
 
-ghost use Rattle.std.specs.Prelude.{◌≡◌, ◌++◌, ◌+◌, ◌*◌, ◌^◌, ◌<◌, ◌≤◌, All, map, length, IsOk, vec_len, vec_capacity};
+ghost use Rattle.std.specs.Prelude.{◌+◌, ◌*◌, ◌^◌, ◌<◌, ◌≤◌, All, map, length, IsOk, vec_len, vec_capacity};
 ghost use Rattle.std.specs.List.{flat_map};
 ghost use Rattle.dexspec.specs.Bytes.{uint};
 ghost use Rattle.dexspec.specs.Annotations.{AnnotationSet as SetMeant};
@@ -16,22 +16,18 @@ ghost use Rattle.dexval.specs.Spelled.{numbered_offsets, numbered_set_bytes};
 use crate::annotation::Annotation;
 use crate::set::AnnotationSet;
 use crate::sizes::annotation_size;
-use dexhead::push_u32;
+use dexhead::Output;
 use dexpool::Numbering;
 use std::alloc::AllocError;
 
-// Appends where each annotation begins, the first at a place and each other behind the one before it, where there is
-// room.
-fn push_offsets(annotations: &[Annotation], first: u32, out: &mut Vec<u8>)
-    requires fit { All (λ offset. offset < 2 ^ 32) (numbered_offsets first (map annotation_of annotations.now)) }
-    requires room { vec_len out.old + 4 * length annotations.now ≤ vec_capacity out.old }
-    ensures items { out.new.items ≡ out.old.items ++ flat_map uint (numbered_offsets first (map annotation_of annotations.now)) }
-    ensures len { vec_len out.new ≡ vec_len out.old + 4 * length annotations.now }
-    ensures capacity { vec_capacity out.old ≤ vec_capacity out.new }
+// Writes where each annotation begins, the first at an offset and each other after the one before it.
+fn encode_offsets<O: Output>(annotations: &[Annotation], first: u32, out: &mut O)
+    requires { All (λ offset. offset < 2 ^ 32) (numbered_offsets first (map annotation_of annotations.now)) }
+    ensures { O.gives (flat_map uint (numbered_offsets first (map annotation_of annotations.now))) out.old out.new }
 {
     let mut offset = u64::from(first);
     for annotation in annotations {
-        push_u32(offset as u32, out);
+        out.u32(offset as u32);
         offset = offset.saturating_add(annotation_size(annotation));
     }
 }
@@ -42,8 +38,8 @@ fn put_offsets(annotations: &[Annotation], first: u32, out: &mut Vec<u8>) -> Res
     ensures { Puts (numbered_set_bytes first (map annotation_of annotations.now)) out.old out.new result }
 {
     out.reserve(4 + 4 * annotations.len())?;
-    push_u32(annotations.len() as u32, out);
-    push_offsets(annotations, first, out);
+    out.u32(annotations.len() as u32);
+    encode_offsets(annotations, first, out);
     Ok(())
 }
 
@@ -69,6 +65,7 @@ pub fn put_set(
     ensures bytes { Puts (numbered_set_bytes first (set_of set.now)) out.old out.new result }
     ensures symbolic { (symbolic : SetMeant) → StandsForSet numbering.now (set_of set.now) symbolic → Puts (offsets_bytes (offsets_from 1 first (map (annotation_bytes numbering.now) symbolic))) out.old out.new result }
     ensures bound { vec_len out.old + (4 + 4 * length (set_of set.now)) ≤ vec_capacity out.old → IsOk result }
+    ensures most { length (numbered_set_bytes first (set_of set.now)) ≤ 4 + 4 * length (set_of set.now) }
     ensures room { (m : Mentions) → 0 < length (set_of set.now) → vec_len out.old + set_weight (set_in m (set_of set.now)) ≤ vec_capacity out.old → IsOk result }
 {
     numbering.is_numbering();

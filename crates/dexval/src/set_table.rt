@@ -1,6 +1,6 @@
 //! Sets of annotations that several members share, each kept once.
 
-ghost use Rattle.std.specs.Prelude.{◌≡◌, ◌≢◌, ◌<◌, ◌-◌, ◌^◌, ℕ, Option, [], ◌∷◌, ◌++◌, All, IfNone, IfOk, IfSome, OnOk, length, map, min};
+ghost use Rattle.std.specs.Prelude.{◌≡◌, ◌≢◌, ◌<◌, ◌-◌, ◌^◌, ℕ, Option, [], ◌∷◌, ◌++◌, All, IfNone, IfOk, IfSome, IsOk, OnOk, length, map, min};
 ghost use Rattle.dexspec.specs.Mentions.{Mentions};
 ghost use Rattle.dexval.specs.Code.{set_of};
 ghost use Rattle.dexval.specs.Directories.{set_weight_in, sets_weight_in};
@@ -71,9 +71,10 @@ fn copied_lists(lists: &Vec<Vec<Option<u32>>>) -> Result<Vec<Vec<Option<u32>>>, 
     Ok(copy)
 }
 
-// The place behind so many. Error: it has more than 32 bits, and so much memory is not there.
+// The place after the first `len`. Error: it has more than 32 bits.
 fn place_of(len: usize) -> Result<u32, AllocError>
-    ensures { IfOk result (λ place. place ≡ len) }
+    ensures place { IfOk result (λ place. place ≡ len) }
+    ensures below { len < 2 ^ 32 → IsOk result }
 {
     if len > u32::MAX as usize {
         return Err(AllocError);

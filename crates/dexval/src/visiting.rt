@@ -1,81 +1,17 @@
 //! Visits of the symbols that occur in values and in sets of annotations.
 
-ghost use Rattle.std.specs.Prelude.{◌≡◌, ◌∷◌, ◌↔◌, [], List, All, IsTrue, length, map};
-ghost use Rattle.std.specs.List.{FoldsTo, flat_map};
-ghost use Rattle.dexpool.specs.Uses.{Use, HasMark, AreMarkedToo, marks_of};
+ghost use Rattle.std.specs.Prelude.{map};
+ghost use Rattle.std.specs.List.{FoldsTo};
 ghost use Rattle.dexval.specs.Code.{value_of, element_of, annotation_of, set_of};
 ghost use Rattle.dexval.specs.Numbered.{values_of_list, elements_of_list};
-ghost use Rattle.dexval.specs.Renumbering.{LeadsOn};
 ghost use Rattle.dexval.specs.Uses.{value_uses, values_uses, element_uses, elements_uses, annotation_uses, set_uses};
 
 use crate::annotation::Annotation;
 use crate::set::AnnotationSet;
 use crate::value::{Element, Value};
-use dexpool::{Marks, Remap, SymbolKind};
+use dexpool::{SymbolKind, Symbols, Visitor, visit_all};
 
-/// What takes symbols, one by one.
-pub trait Visitor {
-    // the visitor before a call, the symbol, and the visitor after it
-    ghost step: { Self → Use → Self → Type 0 };
-
-    /// Takes the symbol of a kind and a number.
-    fn symbol(&mut self, kind: SymbolKind, number: u32)
-        ensures { step self.old (record { kind = kind; number = number }) self.new };
-}
-
-// How many marks of a kind there are.
-fn mark_count(marks: &Marks, kind: SymbolKind) -> usize
-    ensures { result ≡ length (marks_of kind marks.now) }
-{
-    match kind {
-        SymbolKind::Text => marks.strings.len(),
-        SymbolKind::Typ => marks.types.len(),
-        SymbolKind::Proto => marks.protos.len(),
-        SymbolKind::Field => marks.fields.len(),
-        SymbolKind::Method => marks.methods.len(),
-    }
-}
-
-impl Visitor for Marks {
-    ghost step = { λ a u b. HasMark a u → AreMarkedToo (u ∷ []) a b };
-
-    fn symbol(&mut self, kind: SymbolKind, number: u32) {
-        if (number as usize) < mark_count(self, kind) {
-            self.mark(kind, number as usize);
-        }
-    }
-}
-
-/// Whether each number that was visited leads to one, below 2^32.
-#[derive(Drop)]
-pub struct Fits<'a> {
-    /// Where numbers lead.
-    pub remap: &'a Remap,
-    /// Whether each did.
-    pub fit: bool,
-}
-
-// Whether a number leads to one, below 2^32.
-fn leads_on(remap: &Remap, kind: SymbolKind, number: u32) -> bool
-    ensures { IsTrue result ↔ LeadsOn remap.now kind number }
-{
-    match remap.image(kind, number as usize) {
-        Some(image) => image < 0x1_0000_0000,
-        None => false,
-    }
-}
-
-impl Visitor for Fits<'_> {
-    ghost step = { λ a u b. (b.remap.now ≡ a.remap.now) × (IsTrue b.fit ↔ IsTrue a.fit × LeadsOn a.remap.now u.kind u.number) };
-
-    fn symbol(&mut self, kind: SymbolKind, number: u32) {
-        if !leads_on(self.remap, kind, number) {
-            self.fit = false;
-        }
-    }
-}
-
-// Hands on the names of elements, and the symbols that occur in their values.
+// Passes the names of elements, and the symbols that occur in their values, to the visitor.
 #[cycle(visiting)]
 fn visit_elements<V: Visitor>(elements: &[Element], visitor: &mut V)
     ensures { FoldsTo V.step visitor.old (elements_uses (elements_of_list (map element_of elements.now))) visitor.new }
@@ -85,7 +21,7 @@ fn visit_elements<V: Visitor>(elements: &[Element], visitor: &mut V)
     }
 }
 
-/// Hands on each symbol that occurs in values, in order.
+/// Passes each symbol that occurs in values to the visitor, in order.
 #[cycle(visiting)]
 pub fn visit_values<V: Visitor>(values: &[Value], visitor: &mut V)
     ensures { FoldsTo V.step visitor.old (values_uses (values_of_list (map value_of values.now))) visitor.new }
@@ -96,7 +32,7 @@ pub fn visit_values<V: Visitor>(values: &[Value], visitor: &mut V)
 }
 
 impl Value {
-    /// Hands on each symbol that occurs in the value, in order.
+    /// Passes each symbol that occurs in the value to the visitor, in order.
     #[cycle(visiting)]
     pub fn visit<V: Visitor>(&self, visitor: &mut V)
         ensures { FoldsTo V.step visitor.old (value_uses (value_of self.now)) visitor.new }
@@ -118,7 +54,7 @@ impl Value {
 }
 
 impl Element {
-    /// Hands on the name, and each symbol that occurs in the value, in order.
+    /// Passes the name, and each symbol that occurs in the value, to the visitor, in order.
     #[cycle(visiting)]
     pub fn visit<V: Visitor>(&self, visitor: &mut V)
         ensures { FoldsTo V.step visitor.old (element_uses (element_of self.now)) visitor.new }
@@ -128,30 +64,19 @@ impl Element {
     }
 }
 
-impl Annotation {
-    /// Hands on the type, and each symbol that occurs in the elements, in order.
-    pub fn visit<V: Visitor>(&self, visitor: &mut V)
-        ensures { FoldsTo V.step visitor.old (annotation_uses (annotation_of self.now)) visitor.new }
-    {
+impl Symbols for Annotation {
+    ghost uses = { λ a. annotation_uses (annotation_of a) };
+
+    fn visit<V: Visitor>(&self, visitor: &mut V) {
         visitor.symbol(SymbolKind::Typ, self.typ);
         visit_elements(&self.elements, visitor);
     }
 }
 
-// Hands on the symbols that occur in annotations.
-fn visit_annotations<V: Visitor>(annotations: &[Annotation], visitor: &mut V)
-    ensures { FoldsTo V.step visitor.old (set_uses (map annotation_of annotations.now)) visitor.new }
-{
-    for annotation in annotations {
-        annotation.visit(visitor);
-    }
-}
+impl Symbols for AnnotationSet {
+    ghost uses = { λ s. set_uses (set_of s) };
 
-impl AnnotationSet {
-    /// Hands on each symbol that occurs in the annotations, in order.
-    pub fn visit<V: Visitor>(&self, visitor: &mut V)
-        ensures { FoldsTo V.step visitor.old (set_uses (set_of self.now)) visitor.new }
-    {
-        visit_annotations(&self.annotations, visitor);
+    fn visit<V: Visitor>(&self, visitor: &mut V) {
+        visit_all(&self.annotations, visitor);
     }
 }

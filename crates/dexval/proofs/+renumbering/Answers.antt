@@ -3,7 +3,8 @@ use Rattle.std.proofs.lemmas.List.Elements.{All-head, All-tail}
 use Rattle.dexpool.specs.declared.symbols.SymbolKind.TheVariants as kinds
 use Rattle.dexval.specs.Code.{value_of, element_of}
 use Rattle.dexval.specs.Numbered.{values_of_list, elements_of_list}
-use Rattle.dexval.specs.Renumbering.{renumbered, renumbered_element, LeadsOn, LeadsUse, HasPlaces, HavePlaces, ElementHasPlaces, ElementsHavePlaces}
+use Rattle.dexval.specs.Renumbering.{renumbered, renumbered_element, HasPlaces, HavePlaces, ElementHasPlaces, ElementsHavePlaces}
+use Rattle.dexpool.specs.Images.{LeadsOn, LeadsUse}
 use Rattle.dexval.specs.Uses.{value_uses, elements_uses}
 use Rattle.dexval.proofs.CodeForms.{string_is, typ_is, field_is, method_is, enum_is, array_is, annotation_is, element_is}
 use Rattle.dexval.proofs.Members.{value_lighter, element_lighter}

@@ -4,7 +4,7 @@ use Rattle.dexval.specs.Uses.{element_uses}
 use Rattle.dexval.proofs.CodeForms.{element_is}
 use Rattle.dexval.proofs.Members.{value_lighter, element_lighter}
 use Rattle.dexval.proofs.Marked.{code_uses, part_uses, uses_of_values, uses_of_elements}
-use Rattle.dexval.proofs.Visits.{visited_more, visited_all}
+use Rattle.dexpool.proofs.Visits.{visited_more, visited_all}
 use Rattle.dexval.proofs.+visiting.Goals as goal
 
 pub visiting::visit_elements-visit-requires : goal.visiting::visit_elements-visit-requires

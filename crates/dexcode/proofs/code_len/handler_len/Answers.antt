@@ -1,12 +1,11 @@
-use Rattle.std.proofs.Common.{◌+◌, ◌^◌, ◌<◌, length, arith}
-use Rattle.dexcode.specs.CodePut.{numbered_handler_bytes}
+use Rattle.std.proofs.Common.{◌^◌, ◌<◌, arith}
 use Rattle.dexcode.proofs.CodeSizes.{handler_most}
 use Rattle.dexcode.proofs.code_len.handler_len.Goals as goal
 
 pub returns-clause-len : goal.returns-clause-len
 returns-clause-len c =
-    let small : 0 + length (numbered_handler_bytes c.args.handler.now) < 2 ^ 64 = omega (arith, handler_most c.args.handler.now, c.requires) in
-    omega (arith, c.encode_handler.ensures small)
+    let zero : 0 < 2 ^ 64 = omega arith in
+    omega (arith, c.encode_handler.ensures zero, handler_most c.args.handler.now, c.requires)
 
 pub returns-clause-few : goal.returns-clause-few
 returns-clause-few c = omega (arith, returns-clause-len c, handler_most c.args.handler.now, c.requires)

@@ -1,7 +1,7 @@
 use Rattle.std.proofs.Common.{◌≡◌, get_or, sym, subst, ◌∙◌}
 use Rattle.dexcode.specs.Numbered.{no_handler}
 use Rattle.dexcode.specs.CodePut.{numbered_handler_bytes}
-use Rattle.dexcode.proofs.Encoded.{given_more, given_all}
+use Rattle.dexhead.proofs.Encoded.{given_more, given_all}
 use Rattle.dexcode.proofs.Images.{one_default}
 use Rattle.dexcode.proofs.code_put.encode_handlers.Goals as goal
 

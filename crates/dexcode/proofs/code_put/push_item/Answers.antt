@@ -2,8 +2,8 @@ use Rattle.std.proofs.Common.{ℕ, length, ap, sym, subst, ◌∙◌}
 use Rattle.std.proofs.lemmas.List.{length-map}
 use Rattle.dexinsn.specs.Numbered.{numbered_bytes}
 use Rattle.dexcode.specs.Numbered.{named}
-use Rattle.dexcode.specs.DebugPut.{HasRoomFor, Pushes}
-use Rattle.dexcode.specs.OutputLaws.{pushed_both, puts_pushes}
+use Rattle.dexhead.specs.Pushing.{HasRoomFor, Pushes}
+use Rattle.dexhead.specs.OutputLaws.{pushed_both, puts_pushes}
 use Rattle.dexcode.specs.CodePut.{unit_count, numbered_tries_bytes, numbered_head_bytes, numbered_item_bytes}
 use Rattle.dexcode.proofs.code_put.push_item.Goals as goal
 

@@ -2,6 +2,11 @@ use Rattle.std.proofs.Common.{length, ap, arith}
 use Rattle.dexcode.specs.CodePut.{numbered_item_bytes}
 use Rattle.dexcode.proofs.code_put.put_code.Goals as goal
 
+pub returns-clause-bound : goal.returns-clause-bound
+returns-clause-bound c = λ x stands.
+    let code = c.args.code.now in
+    omega (arith, c.code_bytes_law.ensures.few c.args.debug_off code c.requires, c.code_weight_law.ensures c.args.numbering.now code x c.is_numbering.ensures.rising stands)
+
 pub returns-clause-room : goal.returns-clause-room
 returns-clause-room c = λ x stands room.
     let code = c.args.code.now in

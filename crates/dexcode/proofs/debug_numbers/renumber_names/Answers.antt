@@ -1,9 +1,9 @@
 use Rattle.std.proofs.Common.{sym, ◌∙◌, ap, subst, arith}
 use Rattle.std.specs.List.{All}
 use Rattle.dexpool.specs.declared.symbols.SymbolKind.TheVariants as kinds
-use Rattle.dexinsn.proofs.Steps.{unchanged, changed_more}
+use Rattle.dexpool.proofs.Changed.{unchanged, changed_more}
 use Rattle.dexcode.specs.Debug.{HasPlace, number_uses, image_or_none}
-use Rattle.dexcode.proofs.DebugUses.{all_parts}
+use Rattle.dexpool.proofs.Parts.{all_parts}
 use Rattle.dexcode.proofs.debug_numbers.renumber_names.Goals as goal
 
 pub renumbered-requires : goal.renumbered-requires

@@ -1,5 +1,5 @@
 use Rattle.dexpool.specs.declared.symbols.SymbolKind.TheVariants as kinds
-use Rattle.dexinsn.proofs.Steps.{AreChanged}
+use Rattle.dexpool.proofs.Changed.{AreChanged}
 use Rattle.dexcode.specs.Debug.{image_or_none}
 use Rattle.dexcode.proofs.debug_numbers.renumber_names.Given as goal
 

@@ -1,7 +1,7 @@
 use Rattle.std.proofs.Common.{get_or, None, refl}
 use Rattle.dexpool.specs.declared.symbols.SymbolKind.TheVariants as kinds
 use Rattle.dexcode.specs.Debug.{number_uses}
-use Rattle.dexcode.proofs.Visits.{visited_more, visited_all}
+use Rattle.dexpool.proofs.Visits.{visited_more, visited_all}
 use Rattle.dexcode.proofs.debug_numbers.visit_names.Goals as goal
 
 pub loop-name-preserved : goal.loop-name-preserved

@@ -1,6 +1,6 @@
 use Rattle.std.proofs.Common.{None}
 use Rattle.dexspec.specs.Numbers.{uleb128p1}
-use Rattle.dexcode.proofs.Encoded.{given_more, given_all}
+use Rattle.dexhead.proofs.Encoded.{given_more, given_all}
 use Rattle.dexcode.proofs.debug_put.encode_names.Goals as goal
 
 pub loop-name-preserved : goal.loop-name-preserved

@@ -1,7 +1,7 @@
 use Rattle.std.proofs.Common.{◌≡◌, [], ◌∷◌, ◌++◌, map, take, subst, sym, ap, ◌∙◌}
 use Rattle.std.specs.Prelude.{◌<◌, option_to_list, length}
 use Rattle.std.proofs.lemmas.List.Elements.{All-tail}
-use Rattle.dexcode.proofs.DebugUses.{all_back}
+use Rattle.dexpool.proofs.Parts.{all_back}
 use Rattle.dexspec.specs.Placing.{unless_empty}
 use Rattle.dexclass.specs.Numbered.{type_at}
 use Rattle.dexclass.specs.Uses.{IsKnownClass}

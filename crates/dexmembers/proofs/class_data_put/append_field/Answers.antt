@@ -1,8 +1,8 @@
 use Rattle.std.proofs.Common.{ℕ, ◌-◌, ◌++◌, ap, ◌∙◌, subst}
 use Rattle.std.specs.Prelude.{⊤}
 use Rattle.dexspec.specs.Numbers.{uleb128}
-use Rattle.dexval.specs.Appending.{Appends}
-use Rattle.dexval.proofs.Joining.{appends_same, appends_after}
+use Rattle.dexmembers.specs.Appending.{Appends}
+use Rattle.dexmembers.proofs.Joining.{appends_same, appends_after}
 use Rattle.dexmembers.proofs.class_data_put.append_field.Goals as goal
 
 pub returns : goal.returns

@@ -1,4 +1,4 @@
-use Rattle.dexval.proofs.Joining.{appends_after, stops, stopped_after, stopped_before}
+use Rattle.dexmembers.proofs.Joining.{appends_after, stops, stopped_after, stopped_before}
 use Rattle.dexmembers.proofs.Partways.{appended_count, stopped_count}
 use Rattle.dexmembers.proofs.class_data_put.append_lists.Goals as goal
 

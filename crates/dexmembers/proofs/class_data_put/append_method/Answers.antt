@@ -1,6 +1,6 @@
 use Rattle.std.proofs.Common.{◌≡◌, ℕ, ◌-◌, ◌++◌, ap, ◌∙◌}
 use Rattle.dexspec.specs.Numbers.{uleb128}
-use Rattle.dexval.proofs.Joining.{appends_same, appends_after, stops, stopped_after, stopped_before}
+use Rattle.dexmembers.proofs.Joining.{appends_same, appends_after, stops, stopped_after, stopped_before}
 use Rattle.dexmembers.proofs.class_data_put.append_method.Goals as goal
 
 pub returns-in_err-append_number-2 : goal.returns-in_err-append_number-2

@@ -1,5 +1,5 @@
 use Rattle.std.proofs.Common.{ℕ, ◌+◌, drop, sym, subst, arith}
-use Rattle.dexval.proofs.Joining.{stops}
+use Rattle.dexmembers.proofs.Joining.{stops}
 use Rattle.dexmembers.specs.Spelled.{numbered_methods_bytes}
 use Rattle.dexmembers.proofs.Partways.{Partway, partway_next, partway_stop, partway_last}
 use Rattle.dexmembers.proofs.ClassDataSpelled.{methods_next, methods_end}

@@ -1,6 +1,6 @@
 use Rattle.std.proofs.Common.{◌≡◌, ◌≤◌, length, map, arith}
 use Rattle.std.proofs.lemmas.List.{length-map}
-use Rattle.dexval.proofs.Joining.{stops}
+use Rattle.dexmembers.proofs.Joining.{stops}
 use Rattle.dexmembers.proofs.Partways.{partway_next, partway_stop}
 use Rattle.dexmembers.proofs.PairsMerged.{step_first, step_second, first_there, second_there}
 use Rattle.dexmembers.proofs.directory_put.append_pairs.Goals as goal

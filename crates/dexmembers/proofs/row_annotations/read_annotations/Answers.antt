@@ -1,7 +1,9 @@
-use Rattle.std.proofs.Common.{◌≡◌, ◌≢◌, ◌∙◌, refl, sym, subst, true, false, arith}
+use Rattle.std.proofs.Common.{◌≡◌, ◌≢◌, ◌≤◌, ◌-◌, ◌^◌, min, ◌∙◌, refl, sym, subst, true, false, arith}
 use Rattle.std.proofs.lemmas.Grind.{common_steps}
 use Rattle.dexpool.specs.Numberings.{AreRising}
-use Rattle.dexmembers.proofs.RowAnnotations.{directory_refused, unnamed_refused, directory_answer}
+use Rattle.dexval.specs.Directories.{directory_weight}
+use Rattle.dexval.specs.Numbered.{directory_in}
+use Rattle.dexmembers.proofs.RowAnnotations.{directory_refused, unnamed_refused, directory_answer, directory_light}
 use Rattle.dexmembers.proofs.row_annotations.read_annotations.Goals as goal
 
 pub returns-in-Err-clause-refused : goal.returns-in-Err-clause-refused
@@ -23,3 +25,9 @@ returns-clause-read c = λ pools is.
     let some : c.row_number-off.result ≢ 0 = λ e. grind (arith, common_steps) in
     let rising = subst AreRising c.numbering.ensures c.is_numbering.ensures.rising in
     directory_answer c.args.frame.now c.args.row c.args.pools.now c.args.declared.now is c.row_number-off.result c.row_number-off.ensures some pools rising c.args.most c.in-Ok.found (c.in-Ok.ensures.directory pools) (c.names_declared.ensures.listed c.if-not-names_declared.false)
+
+pub returns-then-off-eq0-clause-within : goal.returns-then-off-eq0-clause-within
+returns-then-off-eq0-clause-within c = λ pools. subst (λ d. min (2 ^ 64 - 1) (directory_weight (directory_in c.args.pools.now d)) ≤ c.args.most) (sym c.no_directory.ensures.none) (omega arith)
+
+pub returns-clause-within : goal.returns-clause-within
+returns-clause-within c = λ pools. directory_light c.args.frame.now c.args.pools.now c.row_number-off.result c.args.most c.in-Ok.found (c.in-Ok.ensures.directory pools)

@@ -1,8 +1,8 @@
-use Rattle.std.proofs.Common.{arith}
+use Rattle.std.proofs.Common.{ap, ◌∙◌, arith}
 use Rattle.dexmembers.specs.Stripped.{stripped_held}
-use Rattle.dexmembers.proofs.RenumberingSteps.{changed_more}
+use Rattle.dexpool.proofs.Changed.{changed_more}
 use Rattle.dexmembers.proofs.stripping.drop_debugs.Goals as goal
 
 pub loop-i-preserved : goal.loop-i-preserved
 loop-i-preserved c =
-    changed_more stripped_held c.args.methods.now.items c.loop-i.methods.items c.loop-i.i c.index_mut.result.now c.drop_debug.new.self c.loop-i.invariant (omega arith) c.index_mut.ensures.value c.drop_debug.ensures
+    changed_more stripped_held c.args.methods.now.items c.loop-i.methods.items c.loop-i.i c.index_mut.result.now c.drop_debug.new.self c.loop-i.invariant (omega arith) (c.drop_debug.ensures ∙ ap stripped_held c.index_mut.ensures.value)

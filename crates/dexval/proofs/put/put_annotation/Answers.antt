@@ -1,19 +1,18 @@
 use Rattle.std.proofs.Common.{arith}
 use Rattle.dexval.specs.Code.{annotation_of}
-use Rattle.dexval.specs.Spelled.{numbered_annotation_bytes}
 use Rattle.dexval.proofs.Spelling.{annotation_put_is, annotation_size_is}
 use Rattle.dexval.proofs.Weights.{elements_weight_is}
 use Rattle.dexval.proofs.put.put_annotation.Goals as goal
 
-pub returns-clause-bytes : goal.returns-clause-bytes
-returns-clause-bytes c = c.settle.ensures c.args.out.now (numbered_annotation_bytes (annotation_of c.args.annotation.now)) (omega (arith, c.len-start.ensures)) c.append_item-answer.ensures
-
 pub returns-clause-symbolic : goal.returns-clause-symbolic
 returns-clause-symbolic c =
     let x = annotation_of c.args.annotation.now in
-    annotation_put_is c.args.numbering.now x c.is_numbering.ensures.rising (c.settle.ensures c.args.out.now (numbered_annotation_bytes x) (omega (arith, c.len-start.ensures)) c.append_item-answer.ensures)
+    annotation_put_is c.args.numbering.now x c.is_numbering.ensures.rising c.put_encoded.ensures
+
+pub returns-clause-bound : goal.returns-clause-bound
+returns-clause-bound c = λ m. let x = annotation_of c.args.annotation.now in omega (arith, annotation_size_is m x, elements_weight_is m x.elements)
 
 pub returns-clause-room : goal.returns-clause-room
 returns-clause-room c = λ m le.
     let x = annotation_of c.args.annotation.now in
-    (c.settle.ensures c.args.out.now (numbered_annotation_bytes x) (omega (arith, c.len-start.ensures)) c.append_item-answer.ensures).room (omega (arith, le, annotation_size_is m x, elements_weight_is m x.elements))
+    c.put_encoded.ensures.room (omega (arith, le, annotation_size_is m x, elements_weight_is m x.elements))

@@ -1,6 +1,8 @@
-use Rattle.std.proofs.Common.{◌≡◌, ◌+◌, ◌*◌, ◌++◌, List, ℕ, length, map, refl, ap, ◌∙◌, append_assoc, arith, rules}
+use Rattle.std.proofs.Common.{◌≡◌, ◌+◌, ◌*◌, ◌++◌, ℕ, length, map, refl, ap, ◌∙◌, subst, arith, rules}
 use Rattle.std.proofs.lemmas.List.{length-map}
 use Rattle.dexspec.specs.Bytes.{uint}
+use Rattle.dexhead.specs.OutputLaws.{pushed_both}
+use Rattle.dexhead.specs.Pushing.{HasRoomFor, Pushes}
 use Rattle.dexval.specs.Code.{annotation_of}
 use Rattle.dexval.specs.Spelled.{numbered_set_bytes}
 use Rattle.dexval.proofs.Offsets.{annotations_few, set_size, set_begins, offsets_spelled}
@@ -18,12 +20,17 @@ returns-in_err-reserve c =
 pub returns : goal.returns
 returns c =
     let xs = c.args.annotations.now in
+    let item = numbered_set_bytes c.args.first (map annotation_of xs) in
     let size = set_size c.args.first (map annotation_of xs) in
+    let b = c.reserve.new.self in
+    let d = c.encode_offsets.new.out in
+    let both = pushed_both (uint (length xs)) (offsets_spelled c.args.first xs) b c.u32.new.self d c.u32.ensures c.encode_offsets.ensures in
+    let whole = subst (λ bs. HasRoomFor bs b → Pushes bs b d) (set_begins c.args.first xs) both in
+    let pushes = whole (omega (arith, c.in_ok-reserve.ensures.ok, size, length-map xs annotation_of)) in
     record {
-      ok = c.push_offsets.ensures.items ∙ ap (λ (l : List ℕ). l ++ offsets_spelled c.args.first xs) (c.push_u32.ensures.items ∙ ap (λ (l : List ℕ). l ++ uint (length xs)) c.in_ok-reserve.ensures.items)
-          ∙ append_assoc c.args.out.now.items (uint (length xs)) (offsets_spelled c.args.first xs) ∙ ap (λ (l : List ℕ). c.args.out.now.items ++ l) (set_begins c.args.first xs);
-      len = omega (arith, c.push_offsets.ensures.len, c.push_u32.ensures.len, c.in_ok-reserve.ensures.len, size, length-map xs annotation_of);
+      ok = pushes.items ∙ ap (λ bs. bs ++ item) c.in_ok-reserve.ensures.items;
+      len = omega (arith, pushes.len, c.in_ok-reserve.ensures.len);
       err = tt;
       room = λ _. refl;
-      capacity = omega (arith, c.push_offsets.ensures.capacity, c.push_u32.ensures.capacity, c.in_ok-reserve.ensures.capacity);
+      capacity = omega (arith, pushes.capacity, c.in_ok-reserve.ensures.capacity);
     }

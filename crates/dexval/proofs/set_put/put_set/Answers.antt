@@ -10,6 +10,9 @@ returns-clause-symbolic c = set_put_is c.args.numbering.now c.args.first (set_of
 pub returns-clause-bound : goal.returns-clause-bound
 returns-clause-bound c = λ le. let puts = rw c.annotations.ensures at c.put_offsets.ensures in puts.room (omega (arith, le, set_size c.args.first (set_of c.args.set.now)))
 
+pub returns-clause-most : goal.returns-clause-most
+returns-clause-most c = omega (arith, set_size c.args.first (set_of c.args.set.now))
+
 pub returns-clause-room : goal.returns-clause-room
 returns-clause-room c = λ m some le.
     let s = set_of c.args.set.now in

@@ -13,7 +13,8 @@ pub loop-i-preserved : goal.loop-i-preserved
 loop-i-preserved c = elim c.if-fits.branch [
   | then-fits w ↦
       subst (λ xs. AreSettled c.args.remap.now (c.loop-i.i + 1) c.args.sets.now.items xs.items) (sym w.sets-is)
-      (settled_led c.args.remap.now c.args.sets.now.items c.loop-i.sets.items c.loop-i.i w.index_mut.result.now w.renumber.new.self c.loop-i.invariant (omega arith) w.index_mut.ensures.value w.renumber.ensures)
+      (settled_led c.args.remap.now c.args.sets.now.items c.loop-i.sets.items c.loop-i.i w.index_mut.result.now w.renumber.new.self c.loop-i.invariant (omega arith) w.index_mut.ensures.value
+      (subst (λ x. SetHasPlaces c.args.remap.now (set_of x)) (one_here c.loop-i.sets.items c.loop-i.i c.index.result.now w.index_mut.result.now c.index.ensures w.index_mut.ensures.value (omega arith)) (c.fits.ensures.0 w.if-fits.true)) w.renumber.ensures)
   | else-fits w ↦
       subst (λ xs. AreSettled c.args.remap.now (c.loop-i.i + 1) c.args.sets.now.items xs.items) (sym w.sets-is)
       (settled_stays c.args.remap.now c.args.sets.now.items c.loop-i.sets.items c.loop-i.i c.index.result.now c.loop-i.invariant (omega arith) c.index.ensures

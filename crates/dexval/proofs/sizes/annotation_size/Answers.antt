@@ -5,4 +5,4 @@ use Rattle.dexval.proofs.sizes.annotation_size.Goals as goal
 
 pub returns-clause-symbolic : goal.returns-clause-symbolic
 returns-clause-symbolic c = λ m symbolic rising stands.
-    c.item_size.ensures ∙ ap (λ (n : ℕ). min (2 ^ 64 - 1) n) (annotation_lengths_are m (annotation_of c.args.annotation.now) symbolic rising stands)
+    c.encoded_len.ensures ∙ ap (λ (n : ℕ). min (2 ^ 64 - 1) n) (annotation_lengths_are m (annotation_of c.args.annotation.now) symbolic rising stands)

@@ -6,4 +6,4 @@ use Rattle.dexval.proofs.sizes.statics_size.Goals as goal
 
 pub returns-clause-symbolic : goal.returns-clause-symbolic
 returns-clause-symbolic c = λ m symbolic rising stand.
-    c.array_size.ensures ∙ ap (λ (n : ℕ). min (2 ^ 64 - 1) n) (array_lengths_are m (values_of_list (map value_of c.args.values.now)) symbolic rising stand)
+    c.encoded_len.ensures ∙ ap (λ (n : ℕ). min (2 ^ 64 - 1) n) (array_lengths_are m (values_of_list (map value_of c.args.values.now)) symbolic rising stand)

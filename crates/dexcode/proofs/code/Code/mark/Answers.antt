@@ -6,7 +6,7 @@ use Rattle.dexcode.specs.Debug.{debug_uses}
 use Rattle.dexcode.specs.Numbered.{NumberedItem}
 use Rattle.dexcode.specs.Renumbering.{tries_uses, item_uses}
 use Rattle.dexcode.proofs.CodeUses.{debug_part, tries_part, debugs_part}
-use Rattle.dexcode.proofs.DebugUses.{still_all, marked_both}
+use Rattle.dexpool.proofs.Visits.{still_all, marked_both}
 use Rattle.dexcode.proofs.code.Code.mark.Goals as goal
 
 pub mark-requires-2 : goal.mark-requires-2

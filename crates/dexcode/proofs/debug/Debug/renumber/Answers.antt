@@ -2,7 +2,8 @@ use Rattle.std.proofs.Common.{subst, sym, ◌∙◌, ap, map}
 use Rattle.std.specs.List.{All, flat_map}
 use Rattle.dexpool.specs.declared.symbols.SymbolKind.TheVariants as kinds
 use Rattle.dexcode.specs.Debug.{NumberedDebug, HasPlace, IsFormedDebug, number_uses, operation_uses, debug_uses, image_or_none, renumbered_debug}
-use Rattle.dexcode.proofs.DebugUses.{all_front, all_back, all_parts, debug_formed}
+use Rattle.dexcode.proofs.DebugUses.{debug_formed}
+use Rattle.dexpool.proofs.Parts.{all_front, all_back, all_parts}
 use Rattle.dexcode.proofs.debug.Debug.renumber.Goals as goal
 
 pub renumber_names-requires : goal.renumber_names-requires

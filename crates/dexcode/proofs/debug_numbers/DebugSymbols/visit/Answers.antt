@@ -2,7 +2,7 @@ use Rattle.std.proofs.Common.{subst}
 use Rattle.std.specs.List.{FoldsTo, flat_map}
 use Rattle.dexpool.specs.declared.symbols.SymbolKind.TheVariants as kinds
 use Rattle.dexcode.specs.Debug.{number_uses, operation_uses, debug_uses}
-use Rattle.dexcode.proofs.Visits.{visited_both}
+use Rattle.dexpool.proofs.Visits.{visited_both}
 use Rattle.dexcode.proofs.debug_numbers.DebugSymbols.visit.Goals as goal
 
 pub returns : goal.returns

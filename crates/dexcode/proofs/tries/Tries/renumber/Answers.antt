@@ -2,7 +2,7 @@ use Rattle.std.proofs.Common.{map, sym, ◌∙◌, ap, subst}
 use Rattle.std.specs.List.{All, flat_map}
 use Rattle.dexcode.specs.Numbered.{AreStored, handlers_of, all_named}
 use Rattle.dexcode.specs.Renumbering.{handler_uses, tries_uses, HasTypePlace, renumbered_try}
-use Rattle.dexcode.proofs.DebugUses.{all_parts}
+use Rattle.dexpool.proofs.Parts.{all_parts}
 use Rattle.dexcode.proofs.TypesLed.{types_apart, stored_led, named_led}
 use Rattle.dexcode.proofs.tries.Tries.renumber.Goals as goal
 

@@ -5,7 +5,7 @@ use Rattle.dexpool.specs.declared.symbols.SymbolKind.TheVariants as kinds
 use Rattle.dexpool.specs.Uses.{Use, HasMark, AreMarkedToo}
 use Rattle.dexval.specs.Code.{set_of}
 use Rattle.dexval.specs.Uses.{set_uses}
-use Rattle.dexval.proofs.Marked.{marked_both}
+use Rattle.dexpool.proofs.Visits.{marked_both}
 use Rattle.dexmembers.proofs.HeldMembers.{set_there}
 use Rattle.dexmembers.proofs.MembersMarked.{rest_marked}
 use Rattle.dexmembers.proofs.field_views.Field.mark.Goals as goal

@@ -1,4 +1,4 @@
-use Rattle.dexval.proofs.Joining.{appends_after, stops, stopped_after, stopped_before}
+use Rattle.dexmembers.proofs.Joining.{appends_after, stops, stopped_after, stopped_before}
 use Rattle.dexmembers.proofs.Partways.{same_appended, same_stopped}
 use Rattle.dexmembers.proofs.members.Members.append_directory.Goals as goal
 

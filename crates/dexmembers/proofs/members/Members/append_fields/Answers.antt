@@ -1,6 +1,6 @@
 use Rattle.std.specs.Prelude.{⊤}
 use Rattle.std.proofs.Common.{map, subst, ap, ◌∙◌}
-use Rattle.dexval.specs.Appending.{Appends}
+use Rattle.dexmembers.specs.Appending.{Appends}
 use Rattle.dexmembers.specs.DirectoryPut.{both_bytes, field_numbers}
 use Rattle.dexmembers.proofs.HeldMembers.{field_numbers_held}
 use Rattle.dexmembers.proofs.members.Members.append_fields.Goals as goal

@@ -4,8 +4,8 @@ use Rattle.dexpool.specs.Uses.{HasMark, AreMarkedToo}
 use Rattle.dexval.specs.Code.{set_of}
 use Rattle.dexval.specs.Numbered.{NumberedValues}
 use Rattle.dexval.specs.Uses.{set_uses, values_uses}
-use Rattle.dexval.proofs.Marked.{marked_both}
-use Rattle.dexcode.proofs.DebugUses.{all_front}
+use Rattle.dexpool.proofs.Visits.{marked_both}
+use Rattle.dexpool.proofs.Parts.{all_front}
 use Rattle.dexmembers.specs.Numbered.{NumberedField, NumberedMethod}
 use Rattle.dexmembers.specs.Uses.{field_uses, method_uses}
 use Rattle.dexmembers.proofs.HeldMembers.{set_there}

@@ -9,17 +9,17 @@ use Rattle.dexmembers.specs.Renumbering.{renumbered_field, renumbered_method, re
 use Rattle.dexmembers.proofs.HeldMembers.{fields_lead, methods_lead, fields_led, methods_led, own_kept, fields_kept, methods_kept, few_mapped, same_few}
 use Rattle.dexmembers.proofs.members.Members.renumber.Goals as goal
 
-pub renumber_fields-requires : goal.renumber_fields-requires
-renumber_fields-requires c = fields_lead c.args.remap.now c.self.inside.contents.table.sets c.self.inside.contents.static_fields.items (subst (MembersHavePlaces c.args.remap.now) (sym c.self.view_is) c.requires).static_fields_lead
+pub renumber_all-requires : goal.renumber_all-requires
+renumber_all-requires c = fields_lead c.args.remap.now c.self.inside.contents.table.sets c.self.inside.contents.static_fields.items (subst (MembersHavePlaces c.args.remap.now) (sym c.self.view_is) c.requires).static_fields_lead
 
-pub renumber_fields-requires-2 : goal.renumber_fields-requires-2
-renumber_fields-requires-2 c = fields_lead c.args.remap.now c.self.inside.contents.table.sets c.self.inside.contents.instance_fields.items (subst (MembersHavePlaces c.args.remap.now) (sym c.self.view_is) c.requires).instance_fields_lead
+pub renumber_all-requires-2 : goal.renumber_all-requires-2
+renumber_all-requires-2 c = fields_lead c.args.remap.now c.self.inside.contents.table.sets c.self.inside.contents.instance_fields.items (subst (MembersHavePlaces c.args.remap.now) (sym c.self.view_is) c.requires).instance_fields_lead
 
-pub renumber_methods-requires : goal.renumber_methods-requires
-renumber_methods-requires c = methods_lead c.args.remap.now c.self.inside.contents.table c.self.inside.contents.direct_methods.items (subst (MembersHavePlaces c.args.remap.now) (sym c.self.view_is) c.requires).direct_methods_lead
+pub renumber_all-requires-3 : goal.renumber_all-requires-3
+renumber_all-requires-3 c = methods_lead c.args.remap.now c.self.inside.contents.table c.self.inside.contents.direct_methods.items (subst (MembersHavePlaces c.args.remap.now) (sym c.self.view_is) c.requires).direct_methods_lead
 
-pub renumber_methods-requires-2 : goal.renumber_methods-requires-2
-renumber_methods-requires-2 c = methods_lead c.args.remap.now c.self.inside.contents.table c.self.inside.contents.virtual_methods.items (subst (MembersHavePlaces c.args.remap.now) (sym c.self.view_is) c.requires).virtual_methods_lead
+pub renumber_all-requires-4 : goal.renumber_all-requires-4
+renumber_all-requires-4 c = methods_lead c.args.remap.now c.self.inside.contents.table c.self.inside.contents.virtual_methods.items (subst (MembersHavePlaces c.args.remap.now) (sym c.self.view_is) c.requires).virtual_methods_lead
 
 pub invariant_of-self : goal.invariant_of-self
 invariant_of-self c =
@@ -32,18 +32,18 @@ invariant_of-self c =
     let lists = c.renumber.ensures.lists in
     let led = c.renumber.ensures.sets in
     let few = few_mapped (renumbered_field r) (renumbered_method r) _ _ _ _ kept.few in
-    let statics = ap (map (field_of t'.sets)) c.renumber_fields.ensures ∙ fields_led r x.table.sets t'.sets led x.static_fields.items has.static_fields_lead in
-    let instances = ap (map (field_of t'.sets)) c.renumber_fields-2.ensures ∙ fields_led r x.table.sets t'.sets led x.instance_fields.items has.instance_fields_lead in
-    let directs = ap (map (method_of t')) c.renumber_methods.ensures ∙ methods_led r x.table.sets t'.sets led x.table.lists t'.lists lists x.direct_methods.items has.direct_methods_lead in
-    let virtuals = ap (map (method_of t')) c.renumber_methods-2.ensures ∙ methods_led r x.table.sets t'.sets led x.table.lists t'.lists lists x.virtual_methods.items has.virtual_methods_lead in
+    let statics = ap (map (field_of t'.sets)) c.renumber_all.ensures ∙ fields_led r x.table.sets t'.sets led x.static_fields.items has.static_fields_lead in
+    let instances = ap (map (field_of t'.sets)) c.renumber_all-2.ensures ∙ fields_led r x.table.sets t'.sets led x.instance_fields.items has.instance_fields_lead in
+    let directs = ap (map (method_of t')) c.renumber_all-3.ensures ∙ methods_led r x.table.sets t'.sets led x.table.lists t'.lists lists x.direct_methods.items has.direct_methods_lead in
+    let virtuals = ap (map (method_of t')) c.renumber_all-4.ensures ∙ methods_led r x.table.sets t'.sets led x.table.lists t'.lists lists x.virtual_methods.items has.virtual_methods_lead in
     record {
       few = same_few (sym statics) (sym instances) (sym directs) (sym virtuals) few;
       held = record {
         own_held = own_kept x.table.sets t'.sets size x.set kept.held.own_held;
-        static_fields_held = subst (All (IsHeldField t'.sets)) (sym c.renumber_fields.ensures) (fields_kept r x.table.sets t'.sets size x.static_fields.items kept.held.static_fields_held);
-        instance_fields_held = subst (All (IsHeldField t'.sets)) (sym c.renumber_fields-2.ensures) (fields_kept r x.table.sets t'.sets size x.instance_fields.items kept.held.instance_fields_held);
-        direct_methods_held = subst (All (IsHeldMethod t')) (sym c.renumber_methods.ensures) (methods_kept r x.table t' size lists x.direct_methods.items kept.held.direct_methods_held);
-        virtual_methods_held = subst (All (IsHeldMethod t')) (sym c.renumber_methods-2.ensures) (methods_kept r x.table t' size lists x.virtual_methods.items kept.held.virtual_methods_held);
+        static_fields_held = subst (All (IsHeldField t'.sets)) (sym c.renumber_all.ensures) (fields_kept r x.table.sets t'.sets size x.static_fields.items kept.held.static_fields_held);
+        instance_fields_held = subst (All (IsHeldField t'.sets)) (sym c.renumber_all-2.ensures) (fields_kept r x.table.sets t'.sets size x.instance_fields.items kept.held.instance_fields_held);
+        direct_methods_held = subst (All (IsHeldMethod t')) (sym c.renumber_all-3.ensures) (methods_kept r x.table t' size lists x.direct_methods.items kept.held.direct_methods_held);
+        virtual_methods_held = subst (All (IsHeldMethod t')) (sym c.renumber_all-4.ensures) (methods_kept r x.table t' size lists x.virtual_methods.items kept.held.virtual_methods_held);
       };
     }
 
@@ -55,17 +55,17 @@ returns c =
     let has = subst (MembersHavePlaces r) (sym c.self.view_is) c.requires in
     let lists = c.renumber.ensures.lists in
     let led = c.renumber.ensures.sets in
-    let own = led x.set has.annotations_lead in
-    let statics = ap (map (field_of t'.sets)) c.renumber_fields.ensures ∙ fields_led r x.table.sets t'.sets led x.static_fields.items has.static_fields_lead in
-    let instances = ap (map (field_of t'.sets)) c.renumber_fields-2.ensures ∙ fields_led r x.table.sets t'.sets led x.instance_fields.items has.instance_fields_lead in
-    let directs = ap (map (method_of t')) c.renumber_methods.ensures ∙ methods_led r x.table.sets t'.sets led x.table.lists t'.lists lists x.direct_methods.items has.direct_methods_lead in
-    let virtuals = ap (map (method_of t')) c.renumber_methods-2.ensures ∙ methods_led r x.table.sets t'.sets led x.table.lists t'.lists lists x.virtual_methods.items has.virtual_methods_lead in
+    let own = (led x.set).0 has.annotations_lead in
+    let statics = ap (map (field_of t'.sets)) c.renumber_all.ensures ∙ fields_led r x.table.sets t'.sets led x.static_fields.items has.static_fields_lead in
+    let instances = ap (map (field_of t'.sets)) c.renumber_all-2.ensures ∙ fields_led r x.table.sets t'.sets led x.instance_fields.items has.instance_fields_lead in
+    let directs = ap (map (method_of t')) c.renumber_all-3.ensures ∙ methods_led r x.table.sets t'.sets led x.table.lists t'.lists lists x.direct_methods.items has.direct_methods_lead in
+    let virtuals = ap (map (method_of t')) c.renumber_all-4.ensures ∙ methods_led r x.table.sets t'.sets led x.table.lists t'.lists lists x.virtual_methods.items has.virtual_methods_lead in
     let new : NumberedMembers = record {
       annotations = set_at t'.sets x.set;
-      static_fields = map (field_of t'.sets) c.renumber_fields.new.fields.items;
-      instance_fields = map (field_of t'.sets) c.renumber_fields-2.new.fields.items;
-      direct_methods = map (method_of t') c.renumber_methods.new.methods.items;
-      virtual_methods = map (method_of t') c.renumber_methods-2.new.methods.items;
+      static_fields = map (field_of t'.sets) c.renumber_all.new.items.items;
+      instance_fields = map (field_of t'.sets) c.renumber_all-2.new.items.items;
+      direct_methods = map (method_of t') c.renumber_all-3.new.items.items;
+      virtual_methods = map (method_of t') c.renumber_all-4.new.items.items;
       static_values = values_of_list (map value_of c.renumber_values.new.values.items);
     } in
     let all : new ≡ renumbered_members r (contents_in x) =

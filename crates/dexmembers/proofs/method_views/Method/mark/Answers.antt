@@ -6,9 +6,9 @@ use Rattle.dexpool.specs.Uses.{Use, HasMark, AreMarkedToo}
 use Rattle.dexval.specs.Code.{set_of}
 use Rattle.dexval.specs.Numbered.{NumberedSet}
 use Rattle.dexval.specs.Uses.{set_uses}
-use Rattle.dexval.proofs.Marked.{marked_both}
+use Rattle.dexpool.proofs.Visits.{marked_both}
 use Rattle.dexcode.specs.Renumbering.{item_uses}
-use Rattle.dexcode.proofs.DebugUses.{all_front}
+use Rattle.dexpool.proofs.Parts.{all_front}
 use Rattle.dexmembers.specs.Numbered.{NumberedMethod}
 use Rattle.dexmembers.proofs.HeldMembers.{set_there, code_marked}
 use Rattle.dexmembers.proofs.MembersMarked.{rest_marked}

@@ -3,7 +3,7 @@ use Rattle.std.proofs.lemmas.List.Elements.{All-head, All-tail}
 use Rattle.dexpool.specs.declared.symbols.SymbolKind.TheVariants as kinds
 use Rattle.dexval.specs.Code.{element_of}
 use Rattle.dexval.specs.Numbered.{elements_of_list}
-use Rattle.dexval.specs.Renumbering.{LeadsUse}
+use Rattle.dexpool.specs.Images.{LeadsUse}
 use Rattle.dexval.specs.Uses.{elements_uses}
 use Rattle.dexval.proofs.annotation.Annotation.renumber.Goals as goal
 

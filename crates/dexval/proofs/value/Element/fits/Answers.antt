@@ -1,7 +1,7 @@
 use Rattle.std.proofs.Common.{refl, true}
 use Rattle.dexval.specs.Code.{element_of}
 use Rattle.dexval.specs.Uses.{element_uses}
-use Rattle.dexval.proofs.Visits.{all_fit}
+use Rattle.dexpool.proofs.Visits.{all_fit}
 use Rattle.dexval.proofs.value.Element.fits.Goals as goal
 
 pub returns : goal.returns

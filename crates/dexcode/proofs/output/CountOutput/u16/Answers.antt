@@ -1,6 +1,0 @@
-use Rattle.std.proofs.Common.{arith}
-use Rattle.dexspec.proofs.ByteNumbers.{length-ushort}
-use Rattle.dexcode.proofs.output.CountOutput.u16.Goals as goal
-
-pub returns : goal.returns
-returns c = λ small. omega (arith, small, length-ushort c.args._value)

@@ -1,7 +1,0 @@
-use Rattle.std.proofs.Common.{arith, sym, subst}
-use Rattle.dexcode.specs.DebugPut.{HasRoomFor, Pushes}
-use Rattle.dexcode.specs.OutputLaws.{one_byte}
-use Rattle.dexcode.proofs.output.VecU8Output.uleb.Goals as goal
-
-pub returns-then-value-lt128 : goal.returns-then-value-lt128
-returns-then-value-lt128 c = subst (λ bytes. HasRoomFor bytes c.args.self.now → Pushes bytes c.args.self.now c.byte.new.self) (sym (one_byte c.args.value (omega arith))) c.byte.ensures

@@ -1,6 +1,0 @@
-use Rattle.std.proofs.Common.{take}
-use Rattle.std.specs.List.{flat_map}
-use Rattle.dexcode.proofs.output.encode_all.Given as goal
-
-abbrev pub invariant-loop-item : goal.invariant-loop-item
-invariant-loop-item g l = g.O.Output.gives (flat_map g.T.Encode.bytes (take l.item-index l.items)) l.initial.out l.out

@@ -1,5 +1,0 @@
-use Rattle.dexinsn.proofs.Steps.{AreChanged}
-use Rattle.dexcode.proofs.visiting.renumber_all.Given as goal
-
-abbrev pub invariant-loop-i : goal.invariant-loop-i
-invariant-loop-i g l = AreChanged (g.T.Renumber.led l.remap) l.i l.initial.items.items l.items.items

@@ -1,0 +1,113 @@
+use Rattle.std.proofs.Common.{ℕ, List, ◌∷◌, [], ◌++◌, subst, sym, ap, ◌∙◌, rules, map, to_z, of_z, w64}
+use Rattle.dexspec.specs.Numbers.{uleb128}
+use Rattle.dexspec.specs.Values.{byte_value_type, short_value_type, char_value_type, int_value_type, long_value_type, float_value_type, double_value_type, string_value_type, type_value_type, field_value_type, method_value_type, enum_value_type}
+use Rattle.dexval.specs.declared.value.Value.{Value}
+use Rattle.dexval.specs.declared.value.Element.{Element}
+use Rattle.dexval.specs.Code.{value_of, element_of}
+use Rattle.dexval.specs.Numbered.{values_of_list, elements_of_list}
+use Rattle.dexval.specs.Spelled.{values_count, elements_count, count_bytes, numbered_bytes, numbered_values_bytes, numbered_elements_bytes, numbered_array_bytes, encoded_annotation_bytes}
+use Rattle.dexval.proofs.CodeForms.{byte_is, short_is, char_is, int_is, long_is, float_is, double_is, string_is, typ_is, field_is, method_is, enum_is, null_is, boolean_is}
+use Rattle.dexval.proofs.Encodings.{unsigned_given, signed_given, bits_given, value_given, element_given, values_given, elements_given}
+use Rattle.dexval.proofs.Members.{count_values_is, count_elements_is, value_lighter, element_lighter}
+use Rattle.dexval.proofs.ValueForms.{array_is, annotation_is, array_lighter, annotation_lighter}
+use Rattle.dexval.proofs.encoding.+encoding.Goals as goal
+
+pub encode_array-returns : goal.encode_array-returns
+encode_array-returns g t c =
+    let gives = g.O.Output.gives in
+    let xs = values_of_list (map value_of c.args.values.now) in
+    let count = subst (λ (n : ℕ). gives (count_bytes n) c.args.out.now c.encode_count.new.out) (sym (count_values_is c.args.values.now)) c.encode_count.ensures in
+    g.met.O.Output.both (count_bytes (values_count xs)) (numbered_values_bytes xs) c.args.out.now c.encode_count.new.out c.encode_values.new.out count c.encode_values.ensures
+
+pub encode_values-encode_value-requires : goal.encode_values-encode_value-requires
+encode_values-encode_value-requires g t c =
+    let lighter = value_lighter c.args.values.now c.loop-value.value-index c.value-item.result c.loop-value-test.true c.value-item.is in
+    search rules
+
+pub encode_values-loop-value-preserved : goal.encode_values-loop-value-preserved
+encode_values-loop-value-preserved g t c =
+    value_given g.O.Output.gives g.met.O.Output.both c.args.values.now c.loop-value.value-index c.value-item.result c.args.out.now c.loop-value.out c.encode_value.new.out c.loop-value-test.true c.value-item.is c.loop-value.invariant c.encode_value.ensures
+
+pub encode_values-returns : goal.encode_values-returns
+encode_values-returns g t c = values_given g.O.Output.gives c.args.values.now c.loop-value.value-index c.args.out.now c.loop-value.out c.loop-value-test.false c.loop-value.invariant
+
+pub encode_annotation-returns : goal.encode_annotation-returns
+encode_annotation-returns g t c =
+    let gives = g.O.Output.gives in
+    let es = elements_of_list (map element_of c.args.elements.now) in
+    let count = subst (λ (n : ℕ). gives (count_bytes n) c.uleb.new.self c.encode_count.new.out) (sym (count_elements_is c.args.elements.now)) c.encode_count.ensures in
+    let members = g.met.O.Output.both (count_bytes (elements_count es)) (numbered_elements_bytes es) c.uleb.new.self c.encode_count.new.out c.encode_elements.new.out count c.encode_elements.ensures in
+    g.met.O.Output.both (uleb128 c.args.typ) (count_bytes (elements_count es) ++ numbered_elements_bytes es) c.args.out.now c.uleb.new.self c.encode_elements.new.out c.uleb.ensures members
+
+pub encode_elements-encode_value-requires : goal.encode_elements-encode_value-requires
+encode_elements-encode_value-requires g t c =
+    let lighter = element_lighter c.args.elements.now c.loop-element.element-index c.element-item.result c.loop-element-test.true c.element-item.is in
+    search rules
+
+pub encode_elements-loop-element-preserved : goal.encode_elements-loop-element-preserved
+encode_elements-loop-element-preserved g t c =
+    let d = c.element-item.result in
+    let one = g.met.O.Output.both (uleb128 d.name) (numbered_bytes (value_of d.value)) c.loop-element.out c.uleb.new.self c.encode_value.new.out c.uleb.ensures c.encode_value.ensures in
+    element_given g.O.Output.gives g.met.O.Output.both c.args.elements.now c.loop-element.element-index d c.args.out.now c.loop-element.out c.encode_value.new.out c.loop-element-test.true c.element-item.is c.loop-element.invariant one
+
+pub encode_elements-returns : goal.encode_elements-returns
+encode_elements-returns g t c = elements_given g.O.Output.gives c.args.elements.now c.loop-element.element-index c.args.out.now c.loop-element.out c.loop-element-test.false c.loop-element.invariant
+
+pub encode_value-encode_array-requires : goal.encode_value-encode_array-requires
+encode_value-encode_array-requires g t c =
+    let lighter = array_lighter c.args.value.now c.in-Array.values c.in-Array.is c.deref.ensures.value in
+    search rules
+
+pub encode_value-encode_annotation-requires : goal.encode_value-encode_annotation-requires
+encode_value-encode_annotation-requires g t c =
+    let lighter = annotation_lighter c.args.value.now c.in-Annotation.typ c.in-Annotation.elements c.in-Annotation.is c.deref-in-Annotation.ensures.value in
+    search rules
+
+pub encode_value-returns-in-Array : goal.encode_value-returns-in-Array
+encode_value-returns-in-Array g t c =
+    let whole = g.met.O.Output.both (28 ∷ []) (numbered_array_bytes (values_of_list (map value_of c.deref.result.now))) c.args.out.now c.byte.new.self c.encode_array.new.out c.byte.ensures c.encode_array.ensures in
+    let is = ap (λ (l : List Value). 28 ∷ numbered_array_bytes (values_of_list (map value_of l))) c.deref.ensures.value ∙ ap numbered_bytes (sym (array_is c.args.value.now c.in-Array.values c.in-Array.is)) in
+    subst (λ bs. g.O.Output.gives bs c.args.out.now c.encode_array.new.out) is whole
+
+pub encode_value-returns-in-Annotation : goal.encode_value-returns-in-Annotation
+encode_value-returns-in-Annotation g t c =
+    let typ = c.in-Annotation.typ in
+    let whole = g.met.O.Output.both (29 ∷ []) (encoded_annotation_bytes typ (elements_of_list (map element_of c.deref-in-Annotation.result.now))) c.args.out.now c.byte-in-Annotation.new.self c.encode_annotation.new.out c.byte-in-Annotation.ensures c.encode_annotation.ensures in
+    let is = ap (λ (l : List Element). 29 ∷ encoded_annotation_bytes typ (elements_of_list (map element_of l))) c.deref-in-Annotation.ensures.value ∙ ap numbered_bytes (sym (annotation_is c.args.value.now typ c.in-Annotation.elements c.in-Annotation.is)) in
+    subst (λ bs. g.O.Output.gives bs c.args.out.now c.encode_annotation.new.out) is whole
+
+pub encode_value-returns-in-Byte : goal.encode_value-returns-in-Byte
+encode_value-returns-in-Byte g t c = signed_given g.O.Output.gives c.args.value.now byte_value_type c.in-Byte.number {n = to_z w64 (of_z w64 c.from.result)} (ap numbered_bytes (ap value_of c.in-Byte.is ∙ byte_is c.in-Byte.number)) c.encode_signed.ensures (search rules)
+
+pub encode_value-returns-in-Short : goal.encode_value-returns-in-Short
+encode_value-returns-in-Short g t c = signed_given g.O.Output.gives c.args.value.now short_value_type c.in-Short.number {n = to_z w64 (of_z w64 c.from-in-Short.result)} (ap numbered_bytes (ap value_of c.in-Short.is ∙ short_is c.in-Short.number)) c.encode_signed-in-Short.ensures (search rules)
+
+pub encode_value-returns-in-Char : goal.encode_value-returns-in-Char
+encode_value-returns-in-Char g t c = unsigned_given g.O.Output.gives c.args.value.now char_value_type c.in-Char.unit {n = c.from-in-Char.result} (ap numbered_bytes (ap value_of c.in-Char.is ∙ char_is c.in-Char.unit)) c.encode_unsigned.ensures (search rules)
+
+pub encode_value-returns-in-Int : goal.encode_value-returns-in-Int
+encode_value-returns-in-Int g t c = signed_given g.O.Output.gives c.args.value.now int_value_type c.in-Int.number {n = to_z w64 (of_z w64 c.from-in-Int.result)} (ap numbered_bytes (ap value_of c.in-Int.is ∙ int_is c.in-Int.number)) c.encode_signed-in-Int.ensures (search rules)
+
+pub encode_value-returns-in-Long : goal.encode_value-returns-in-Long
+encode_value-returns-in-Long g t c = signed_given g.O.Output.gives c.args.value.now long_value_type c.in-Long.number {n = to_z w64 (of_z w64 c.in-Long.number)} (ap numbered_bytes (ap value_of c.in-Long.is ∙ long_is c.in-Long.number)) c.encode_signed-in-Long.ensures (search rules)
+
+pub encode_value-returns-in-Float : goal.encode_value-returns-in-Float
+encode_value-returns-in-Float g t c = bits_given g.O.Output.gives c.args.value.now float_value_type 4 c.in-Float.bits {n = c.from-in-Float.result} (ap numbered_bytes (ap value_of c.in-Float.is ∙ float_is c.in-Float.bits)) c.encode_bits.ensures (search rules)
+
+pub encode_value-returns-in-Double : goal.encode_value-returns-in-Double
+encode_value-returns-in-Double g t c = bits_given g.O.Output.gives c.args.value.now double_value_type 8 c.in-Double.bits {n = c.in-Double.bits} (ap numbered_bytes (ap value_of c.in-Double.is ∙ double_is c.in-Double.bits)) c.encode_bits-in-Double.ensures (search rules)
+
+pub encode_value-returns-in-String : goal.encode_value-returns-in-String
+encode_value-returns-in-String g t c = unsigned_given g.O.Output.gives c.args.value.now string_value_type c.in-String.number {n = c.from-in-String.result} (ap numbered_bytes (ap value_of c.in-String.is ∙ string_is c.in-String.number)) c.encode_unsigned-in-String.ensures (search rules)
+
+pub encode_value-returns-in-Typ : goal.encode_value-returns-in-Typ
+encode_value-returns-in-Typ g t c = unsigned_given g.O.Output.gives c.args.value.now type_value_type c.in-Typ.number {n = c.from-in-Typ.result} (ap numbered_bytes (ap value_of c.in-Typ.is ∙ typ_is c.in-Typ.number)) c.encode_unsigned-in-Typ.ensures (search rules)
+
+pub encode_value-returns-in-Field : goal.encode_value-returns-in-Field
+encode_value-returns-in-Field g t c = unsigned_given g.O.Output.gives c.args.value.now field_value_type c.in-Field.number {n = c.from-in-Field.result} (ap numbered_bytes (ap value_of c.in-Field.is ∙ field_is c.in-Field.number)) c.encode_unsigned-in-Field.ensures (search rules)
+
+pub encode_value-returns-in-Method : goal.encode_value-returns-in-Method
+encode_value-returns-in-Method g t c = unsigned_given g.O.Output.gives c.args.value.now method_value_type c.in-Method.number {n = c.from-in-Method.result} (ap numbered_bytes (ap value_of c.in-Method.is ∙ method_is c.in-Method.number)) c.encode_unsigned-in-Method.ensures (search rules)
+
+pub encode_value-returns-in-Enum : goal.encode_value-returns-in-Enum
+encode_value-returns-in-Enum g t c = unsigned_given g.O.Output.gives c.args.value.now enum_value_type c.in-Enum.number {n = c.from-in-Enum.result} (ap numbered_bytes (ap value_of c.in-Enum.is ∙ enum_is c.in-Enum.number)) c.encode_unsigned-in-Enum.ensures (search rules)

@@ -1,0 +1,193 @@
+//! Values and annotations as bytes.
+
+ghost use Rattle.std.specs.Prelude.{◌≡◌, ◌-◌, ◌<◌, ◌≤◌, ◌∷◌, ⊤, map};
+ghost use Rattle.dexspec.specs.Bytes.{bytes_of};
+ghost use Rattle.dexspec.specs.Values.{value_byte};
+ghost use Rattle.dexspec.specs.Spellings.{complement, unsigned_bytes, signed_bytes, bits_bytes};
+ghost use Rattle.dexval.specs.Code.{value_of, element_of, annotation_of};
+ghost use Rattle.dexval.specs.Numbered.{values_of_list, elements_of_list};
+ghost use Rattle.dexval.specs.Spelled.{count_bytes, numbered_bytes, numbered_array_bytes, numbered_values_bytes, numbered_elements_bytes, encoded_annotation_bytes, numbered_annotation_bytes};
+
+use crate::annotation::Annotation;
+use crate::type_codes::{
+    ANNOTATION, ARRAY, BOOLEAN, BYTE, CHAR, DOUBLE, ENUM, FIELD, FLOAT, INT, LONG, METHOD, NULL,
+    SHORT, STRING, TYPE,
+};
+use crate::value::{Element, Value};
+use crate::widths::{bits_width, magnitude, signed_width, unsigned_width};
+use byteorder::{ByteOrder, LittleEndian};
+use dexhead::{Encode, Output};
+
+// Writes a type code with the count of bytes after it, and the lowest bytes of a number.
+fn encode_low<O: Output>(code: u8, width: usize, value: u64, out: &mut O)
+    requires code { code < 32 }
+    requires some { 1 ≤ width }
+    requires few { width ≤ 8 }
+    ensures { O.gives (value_byte (width - 1) code ∷ bytes_of width value) out.old out.new }
+{
+    let mut bytes = [0; 8];
+    LittleEndian::write_u64(&mut bytes, value);
+    out.byte(32 * (width - 1) as u8 + code);
+    out.bytes(&bytes[..width]);
+}
+
+// Writes a value of an unsigned kind.
+fn encode_unsigned<O: Output>(code: u8, value: u64, out: &mut O)
+    requires { code < 32 }
+    ensures { O.gives (unsigned_bytes code value) out.old out.new }
+{
+    encode_low(code, unsigned_width(value), value, out);
+}
+
+// The number in two's complement.
+fn complement(value: i64) -> u64
+    ensures { result ≡ complement 8 value }
+{
+    if value < 0 {
+        u64::MAX - magnitude(value)
+    } else {
+        value as u64
+    }
+}
+
+// Writes a value of a signed kind.
+fn encode_signed<O: Output>(code: u8, value: i64, out: &mut O)
+    requires { code < 32 }
+    ensures { O.gives (signed_bytes code value) out.old out.new }
+{
+    encode_low(code, signed_width(value), complement(value), out);
+}
+
+// Writes a bit pattern of `width` bytes without the zeros at its low end.
+fn encode_bits<O: Output>(code: u8, width: usize, bits: u64, out: &mut O)
+    requires code { code < 32 }
+    requires some { 1 ≤ width }
+    requires few { width ≤ 8 }
+    ensures { O.gives (bits_bytes code width bits) out.old out.new }
+{
+    let left = bits_width(width, bits);
+    encode_low(code, left, bits >> (8 * (width - left)), out);
+}
+
+// Writes a count as a uleb128, which holds 32 bits.
+#[tactic(auto, unfolding(crate::specs::Spelled::count_bytes))]
+fn encode_count<O: Output>(count: usize, out: &mut O)
+    ensures { O.gives (count_bytes count) out.old out.new }
+{
+    out.uleb(count.min(u32::MAX as usize) as u32);
+}
+
+/// Writes an encoded_value.
+#[cycle(encoding)]
+pub(crate) fn encode_value<O: Output>(value: &Value, out: &mut O)
+    ensures { O.gives (numbered_bytes (value_of value.now)) out.old out.new }
+{
+    match value {
+        Value::Byte(number) => encode_signed(BYTE, i64::from(*number), out),
+        Value::Short(number) => encode_signed(SHORT, i64::from(*number), out),
+        Value::Char(unit) => encode_unsigned(CHAR, u64::from(*unit), out),
+        Value::Int(number) => encode_signed(INT, i64::from(*number), out),
+        Value::Long(number) => encode_signed(LONG, *number, out),
+        Value::Float(bits) => encode_bits(FLOAT, 4, u64::from(*bits), out),
+        Value::Double(bits) => encode_bits(DOUBLE, 8, *bits, out),
+        Value::String(number) => encode_unsigned(STRING, u64::from(*number), out),
+        Value::Typ(number) => encode_unsigned(TYPE, u64::from(*number), out),
+        Value::Field(number) => encode_unsigned(FIELD, u64::from(*number), out),
+        Value::Method(number) => encode_unsigned(METHOD, u64::from(*number), out),
+        Value::Enum(number) => encode_unsigned(ENUM, u64::from(*number), out),
+        Value::Array(values) => {
+            out.byte(ARRAY);
+            encode_array(values, out);
+        }
+        Value::Annotation(typ, elements) => {
+            out.byte(ANNOTATION);
+            encode_annotation(*typ, elements, out);
+        }
+        Value::Null => out.byte(NULL),
+        Value::Boolean(is) => out.byte(32 * u8::from(*is) + BOOLEAN),
+    }
+}
+
+/// Writes an encoded_array.
+#[cycle(encoding)]
+pub(crate) fn encode_array<O: Output>(values: &[Value], out: &mut O)
+    ensures { O.gives (numbered_array_bytes (values_of_list (map value_of values.now))) out.old out.new }
+{
+    encode_count(values.len(), out);
+    encode_values(values, out);
+}
+
+// Writes values, one after the other.
+#[cycle(encoding)]
+fn encode_values<O: Output>(values: &[Value], out: &mut O)
+    ensures { O.gives (numbered_values_bytes (values_of_list (map value_of values.now))) out.old out.new }
+{
+    for value in values {
+        encode_value(value, out);
+    }
+}
+
+// Writes an encoded_annotation.
+#[cycle(encoding)]
+fn encode_annotation<O: Output>(typ: u32, elements: &[Element], out: &mut O)
+    ensures { O.gives (encoded_annotation_bytes typ (elements_of_list (map element_of elements.now))) out.old out.new }
+{
+    out.uleb(typ);
+    encode_count(elements.len(), out);
+    encode_elements(elements, out);
+}
+
+// Writes elements, one after the other.
+#[cycle(encoding)]
+fn encode_elements<O: Output>(elements: &[Element], out: &mut O)
+    ensures { O.gives (numbered_elements_bytes (elements_of_list (map element_of elements.now))) out.old out.new }
+{
+    for element in elements {
+        out.uleb(element.name);
+        encode_value(&element.value, out);
+    }
+}
+
+/// A value, to be encoded as an encoded_value.
+#[derive(Drop)]
+pub(crate) struct ValueItem<'a> {
+    pub(crate) value: &'a Value,
+}
+
+impl Encode for ValueItem<'_> {
+    ghost formed = { λ _. ⊤ };
+
+    ghost bytes = { λ i. numbered_bytes (value_of i.value.now) };
+
+    fn encode<O: Output>(&self, out: &mut O) {
+        encode_value(self.value, out);
+    }
+}
+
+/// Values, to be encoded as an encoded_array.
+#[derive(Drop)]
+pub(crate) struct ArrayItem<'a> {
+    pub(crate) values: &'a [Value],
+}
+
+impl Encode for ArrayItem<'_> {
+    ghost formed = { λ _. ⊤ };
+
+    ghost bytes = { λ i. numbered_array_bytes (values_of_list (map value_of i.values.now)) };
+
+    fn encode<O: Output>(&self, out: &mut O) {
+        encode_array(self.values, out);
+    }
+}
+
+// As an annotation_item.
+impl Encode for Annotation {
+    ghost formed = { λ _. ⊤ };
+
+    ghost bytes = { λ a. numbered_annotation_bytes (annotation_of a) };
+
+    fn encode<O: Output>(&self, out: &mut O) {
+        out.byte(self.visibility.number());
+        encode_annotation(self.typ, &self.elements, out);
+    }
+}

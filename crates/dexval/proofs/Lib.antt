@@ -5,6 +5,7 @@ pub mod Compared
 pub mod DirectoryRead
 pub mod ElementsRead
 pub mod Encodings
+pub mod FileChecked
 pub mod FileRead
 pub mod Fitted
 pub mod Growing
@@ -18,6 +19,7 @@ pub mod Marked
 pub mod Meanings
 pub mod Members
 pub mod Naming
+pub mod NestedChecked
 pub mod NestedRead
 pub mod Offsets
 pub mod Ranked
@@ -25,6 +27,7 @@ pub mod Refusals
 pub mod Renumbered
 pub mod Unmoved
 pub mod ScalarsRead
+pub mod SetsChecked
 pub mod SetsRead
 pub mod Shapes
 pub mod Spelled

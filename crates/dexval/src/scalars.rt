@@ -101,6 +101,7 @@ fn sized_at(bytes: &[u8], pools: &Pools<'_>, at: usize) -> Option<(Value, usize)
     requires yes { slice_index bytes.now at ≢ 0x3f }
     ensures read { ArePools bytes.now pools.now → MatchOption result ((depth : ℕ) → NoValueAt bytes.now at depth) (λ read. IsReadAt bytes.now at pools.now 0 (value_of read.0) read.1) }
     ensures within { IfSome result (λ read. at + read.1 ≤ length bytes.now) }
+    ensures some { IfSome result (λ read. 1 ≤ read.1) }
 {
     let code = bytes[at] % 32;
     let width = width_of(code)?;
@@ -121,6 +122,7 @@ pub(crate) fn scalar_at(bytes: &[u8], pools: &Pools<'_>, at: usize) -> Option<(V
     requires annotation { slice_index bytes.now at ≢ 0x1d }
     ensures read { ArePools bytes.now pools.now → MatchOption result ((depth : ℕ) → NoValueAt bytes.now at depth) (λ read. IsReadAt bytes.now at pools.now 0 (value_of read.0) read.1) }
     ensures within { IfSome result (λ read. at + read.1 ≤ length bytes.now) }
+    ensures some { IfSome result (λ read. 1 ≤ read.1) }
 {
     match bytes[at] {
         NULL => Some((Value::Null, 1)),

@@ -1,6 +1,6 @@
 //! Sets of annotations read from a file.
 
-ghost use Rattle.std.specs.Prelude.{◌≡◌, ◌<◌, IfOk, IfErr};
+ghost use Rattle.std.specs.Prelude.{◌≡◌, ◌<◌, IfOk, IfErr, MatchOption};
 ghost use Rattle.dexspec.specs.Bytes.{uint_at};
 ghost use Rattle.dexpool.specs.Pools.{ArePools};
 ghost use Rattle.dexval.specs.Code.{annotation_of, set_of, visibility_of};
@@ -55,20 +55,30 @@ fn item_at(
     }
 }
 
-/// The number of offsets of an annotation_set_item or an annotation_set_ref_list at an offset. Error: it is not wholly
+/// The number of offsets of an annotation_set_item or an annotation_set_ref_list at an offset, or `None` where it is not wholly
 /// in the data at a multiple of 4.
+pub(crate) fn offset_count(frame: &Frame<'_>, off: u32) -> Option<u32>
+    ensures { MatchOption result (HasOffsets frame.now off → ⊥) (λ count. HasOffsets frame.now off × (count ≡ uint_at frame.now off)) }
+{
+    if off % 4 != 0 || !frame.is_in_data(off, 4) {
+        return None;
+    }
+    let count = u32_at(frame.bytes(), off as usize);
+    if !frame.is_in_data(off, 4 + 4 * u64::from(count)) {
+        return None;
+    }
+    Some(count)
+}
+
+/// As [`offset_count`]. Error: it is not wholly in the data at a multiple of 4.
 pub(crate) fn count_at(frame: &Frame<'_>, off: u32) -> Result<u32, ItemFault>
     ensures count { IfOk result (λ count. HasOffsets frame.now off × (count ≡ uint_at frame.now off)) }
     ensures refused { IfErr result (IsRefusal (HasOffsets frame.now off → ⊥)) }
 {
-    if off % 4 != 0 || !frame.is_in_data(off, 4) {
-        return Err(ItemFault::Refused(22));
+    match offset_count(frame, off) {
+        Some(count) => Ok(count),
+        None => Err(ItemFault::Refused(22)),
     }
-    let count = u32_at(frame.bytes(), off as usize);
-    if !frame.is_in_data(off, 4 + 4 * u64::from(count)) {
-        return Err(ItemFault::Refused(22));
-    }
-    Ok(count)
 }
 
 /// Reads the annotation_set_item at an offset, and the annotations that it leads to. Their indices count in the pools:

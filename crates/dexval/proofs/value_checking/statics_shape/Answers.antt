@@ -1,0 +1,31 @@
+use Rattle.std.proofs.Common.{◌+◌, ℕ, List, refl, sym, subst, arith}
+use Rattle.dexspec.specs.Values.{most_depth}
+use Rattle.dexpool.specs.Pools.{ArePools}
+use Rattle.dexval.specs.Checking.{HasArray}
+use Rattle.dexval.specs.Nesting.{NoArrayAt}
+use Rattle.dexval.proofs.FileRead.{file_pools, no_statics}
+use Rattle.dexval.proofs.FileChecked.{statics_checked}
+use Rattle.dexval.proofs.value_checking.statics_shape.Goals as goal
+
+pub returns-in-None : goal.returns-in-None
+returns-in-None c = λ pools.
+    let e = c.bytes-bytes.ensures.bytes in
+    let q = subst (λ (b : List ℕ). ArePools b c.args.pools.now) (sym e) pools in
+    let none = c.in-None.ensures.checked (file_pools c.bytes-bytes.result.now c.args.pools.now c.numbering.result.now c.numbering.ensures c.is_numbering.ensures q) in
+    no_statics c.args.frame.now c.args.off (subst (λ (b : List ℕ). NoArrayAt b c.args.off most_depth) e none)
+
+pub returns-then-count-eq0 : goal.returns-then-count-eq0
+returns-then-count-eq0 c = λ pools.
+    let e = c.bytes-bytes.ensures.bytes in
+    let q = subst (λ (b : List ℕ). ArePools b c.args.pools.now) (sym e) pools in
+    let h = c.in-Some.ensures.checked (file_pools c.bytes-bytes.result.now c.args.pools.now c.numbering.result.now c.numbering.ensures c.is_numbering.ensures q) in
+    statics_checked c.args.frame.now c.args.off c.args.pools.now c.in-Some.count c.in-Some.values.size c.in-Some.values.weight 0 (omega arith) (λ none. refl) (λ some. absurd (some c.if-count-eq0.true))
+    (subst (λ (b : List ℕ). HasArray b c.args.off c.args.pools.now most_depth c.in-Some.count c.in-Some.values.size c.in-Some.values.weight) e h)
+
+pub returns-else-count-eq0 : goal.returns-else-count-eq0
+returns-else-count-eq0 c = λ pools.
+    let e = c.bytes-bytes.ensures.bytes in
+    let q = subst (λ (b : List ℕ). ArePools b c.args.pools.now) (sym e) pools in
+    let h = c.in-Some.ensures.checked (file_pools c.bytes-bytes.result.now c.args.pools.now c.numbering.result.now c.numbering.ensures c.is_numbering.ensures q) in
+    statics_checked c.args.frame.now c.args.off c.args.pools.now c.in-Some.count c.in-Some.values.size c.in-Some.values.weight (6 + c.in-Some.values.weight) (omega arith) (λ none. absurd (c.if-count-eq0.false none)) (λ some. refl)
+    (subst (λ (b : List ℕ). HasArray b c.args.off c.args.pools.now most_depth c.in-Some.count c.in-Some.values.size c.in-Some.values.weight) e h)

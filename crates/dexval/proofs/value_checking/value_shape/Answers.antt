@@ -1,0 +1,22 @@
+use Rattle.std.proofs.Common.{ℕ, List, length, ap, sym, subst, arith}
+use Rattle.dexspec.specs.Values.{most_depth}
+use Rattle.dexpool.specs.Pools.{ArePools}
+use Rattle.dexval.specs.Checking.{HasValue}
+use Rattle.dexval.specs.Scalars.{NoValueAt}
+use Rattle.dexval.proofs.FileRead.{few_bytes, file_pools, no_value}
+use Rattle.dexval.proofs.FileChecked.{value_checked}
+use Rattle.dexval.proofs.value_checking.value_shape.Goals as goal
+
+pub returns-in-Some : goal.returns-in-Some
+returns-in-Some c = λ pools.
+    let e = c.bytes.ensures.bytes in
+    let q = subst (λ (b : List ℕ). ArePools b c.args.pools.now) (sym e) pools in
+    let h = c.in-Some.ensures.checked (file_pools c.bytes.result.now c.args.pools.now c.numbering.result.now c.numbering.ensures c.is_numbering.ensures q) in
+    value_checked c.args.frame.now c.args.off c.args.pools.now c.in-Some.value.size c.in-Some.value.weight (omega arith) (subst (λ (b : List ℕ). HasValue b c.args.off c.args.pools.now most_depth c.in-Some.value.size c.in-Some.value.weight) e h)
+
+pub returns-in-None : goal.returns-in-None
+returns-in-None c = λ pools.
+    let e = c.bytes.ensures.bytes in
+    let q = subst (λ (b : List ℕ). ArePools b c.args.pools.now) (sym e) pools in
+    let none = c.in-None.ensures.checked (file_pools c.bytes.result.now c.args.pools.now c.numbering.result.now c.numbering.ensures c.is_numbering.ensures q) in
+    no_value c.args.frame.now c.args.off (subst (λ (b : List ℕ). NoValueAt b c.args.off most_depth) e none)

@@ -1,0 +1,232 @@
+//! Values, arrays and annotations that are checked where they are in a file, one within the other. Nothing is kept of them,
+//! and no memory is taken.
+
+ghost use Rattle.std.specs.Prelude.{ℕ, ◌≢◌, ◌+◌, ◌*◌, ◌^◌, ◌<◌, ◌≤◌, MatchOption, IfSome, length, slice_index};
+ghost use Rattle.dexspec.specs.Numbers.{Uleb128At};
+ghost use Rattle.dexpool.specs.Pools.{ArePools};
+ghost use Rattle.dexval.specs.Scalars.{NoValueAt};
+ghost use Rattle.dexval.specs.Nesting.{AreFilePools, NoArrayAt, NoElementAt, NoElementsAt, NoAnnotationAt};
+ghost use Rattle.dexval.specs.Checking.{HasValue, HasArray, HasElement, HasElements, HasAnnotation};
+
+use crate::scalars::scalar_at;
+use crate::type_codes::{ANNOTATION, ARRAY};
+use dexleb::read_u;
+use dexpool::{Pools, SymbolKind};
+
+/// How many bytes an item has in the file, and what it weighs.
+#[derive(Clone, Copy)]
+pub(crate) struct Measure {
+    pub(crate) size: usize,
+    pub(crate) weight: u64,
+}
+
+// The unsigned number at a place, and how many bytes it has.
+#[inline(always)]
+fn number_at(bytes: &[u8], at: usize) -> Option<(u32, usize)>
+    requires { at ≤ length bytes.now }
+    ensures found { MatchOption result ((v n : ℕ) → Uleb128At bytes.now at v n → ⊥) (λ read. Uleb128At bytes.now at read.0 read.1) }
+    ensures some { IfSome result (λ read. 1 ≤ read.1) }
+    ensures within { IfSome result (λ read. at + read.1 ≤ length bytes.now) }
+{
+    match read_u(bytes, at) {
+        Ok(read) => Some(read),
+        Err(_) => None,
+    }
+}
+
+// The measure of the value at a place that holds no other value, or `None` where there is none.
+fn scalar_measure(bytes: &[u8], pools: &Pools<'_>, at: usize) -> Option<Measure>
+    requires within { at < length bytes.now }
+    requires array { slice_index bytes.now at ≢ 0x1c }
+    requires annotation { slice_index bytes.now at ≢ 0x1d }
+    ensures checked { ArePools bytes.now pools.now → (depth : ℕ) → MatchOption result (NoValueAt bytes.now at depth) (λ value. HasValue bytes.now at pools.now depth value.size value.weight) }
+    ensures within { IfSome result (λ value. at + value.size ≤ length bytes.now) }
+    ensures light { IfSome result (λ value. value.weight ≤ 9 * value.size) }
+{
+    let size = match scalar_at(bytes, pools, at) {
+        Some((_, size)) => size,
+        None => return None,
+    };
+    Some(Measure { size, weight: 9 })
+}
+
+/// The measure of the value at a place, or `None` where there is none that nests at most `depth` deep.
+#[cycle(checking)]
+pub(crate) fn value_measure(
+    bytes: &[u8],
+    pools: &Pools<'_>,
+    at: usize,
+    depth: u32,
+) -> Option<Measure>
+    requires small { length bytes.now ≤ 2 ^ 30 }
+    ensures checked { AreFilePools bytes.now pools.now → MatchOption result (NoValueAt bytes.now at depth) (λ value. HasValue bytes.now at pools.now depth value.size value.weight) }
+    ensures within { IfSome result (λ value. at + value.size ≤ length bytes.now) }
+    ensures light { IfSome result (λ value. value.weight ≤ 9 * value.size) }
+{
+    if at >= bytes.len() {
+        return None;
+    }
+    match bytes[at] {
+        ARRAY => {
+            if depth == 0 {
+                return None;
+            }
+            match array_measure(bytes, pools, at + 1, depth - 1) {
+                Some((_, values)) => Some(Measure {
+                    size: 1 + values.size,
+                    weight: 6 + values.weight,
+                }),
+                None => None,
+            }
+        }
+        ANNOTATION => {
+            if depth == 0 {
+                return None;
+            }
+            match annotation_measure(bytes, pools, at + 1, depth - 1) {
+                Some((_, annotation)) => Some(Measure {
+                    size: 1 + annotation.size,
+                    weight: annotation.weight,
+                }),
+                None => None,
+            }
+        }
+        _ => scalar_measure(bytes, pools, at),
+    }
+}
+
+/// How many values the encoded_array at a place has, and its measure: the weight is that of the values alone. `None` where
+/// there is none whose values nest at most `depth` deep.
+#[cycle(checking)]
+pub(crate) fn array_measure(
+    bytes: &[u8],
+    pools: &Pools<'_>,
+    at: usize,
+    depth: u32,
+) -> Option<(u32, Measure)>
+    requires at { at ≤ length bytes.now }
+    requires small { length bytes.now ≤ 2 ^ 30 }
+    ensures checked { AreFilePools bytes.now pools.now → MatchOption result (NoArrayAt bytes.now at depth) (λ array. HasArray bytes.now at pools.now depth array.0 array.1.size array.1.weight) }
+    ensures within { IfSome result (λ array. at + array.1.size ≤ length bytes.now) }
+    ensures light { IfSome result (λ array. array.1.weight ≤ 9 * array.1.size) }
+{
+    let (count, head) = match number_at(bytes, at) {
+        Some(read) => read,
+        None => return None,
+    };
+    let mut size = 0;
+    let mut weight = 0;
+    for _i in 0..count {
+        match value_measure(bytes, pools, at + head + size, depth) {
+            Some(value) => {
+                size += value.size;
+                weight += value.weight;
+            }
+            None => return None,
+        }
+    }
+    let size = head + size;
+    Some((count, Measure { size, weight }))
+}
+
+// The number of the name of the element at a place, and the element's measure, or `None` where there is none whose name has at
+// least the number `least` and whose value nests at most `depth` deep.
+#[cycle(checking)]
+fn element_measure(
+    bytes: &[u8],
+    pools: &Pools<'_>,
+    at: usize,
+    depth: u32,
+    least: u64,
+) -> Option<(u32, Measure)>
+    requires at { at ≤ length bytes.now }
+    requires small { length bytes.now ≤ 2 ^ 30 }
+    ensures checked { AreFilePools bytes.now pools.now → MatchOption result (NoElementAt bytes.now at depth least) (λ element. HasElement bytes.now at pools.now depth least element.0 element.1.size element.1.weight) }
+    ensures name { IfSome result (λ element. element.0 < 2 ^ 32) }
+    ensures within { IfSome result (λ element. at + element.1.size ≤ length bytes.now) }
+    ensures light { IfSome result (λ element. element.1.weight ≤ 9 * element.1.size) }
+{
+    let (name, head) = match number_at(bytes, at) {
+        Some(read) => read,
+        None => return None,
+    };
+    if u64::from(name) < least || name as usize >= pools.len(SymbolKind::Text) {
+        return None;
+    }
+    match value_measure(bytes, pools, at + head, depth) {
+        Some(value) => {
+            let size = head + value.size;
+            let weight = 5 + value.weight;
+            Some((name, Measure { size, weight }))
+        }
+        None => None,
+    }
+}
+
+// The measure of `count` elements from a place on, or `None` where there are none whose names rise strictly and whose values
+// nest at most `depth` deep.
+#[cycle(checking)]
+fn elements_measure(
+    bytes: &[u8],
+    pools: &Pools<'_>,
+    at: usize,
+    depth: u32,
+    count: u32,
+) -> Option<Measure>
+    requires at { at ≤ length bytes.now }
+    requires small { length bytes.now ≤ 2 ^ 30 }
+    ensures checked { AreFilePools bytes.now pools.now → MatchOption result (NoElementsAt bytes.now at depth count) (λ elements. HasElements bytes.now at pools.now depth count elements.size elements.weight) }
+    ensures within { IfSome result (λ elements. at + elements.size ≤ length bytes.now) }
+    ensures light { IfSome result (λ elements. elements.weight ≤ 9 * elements.size) }
+{
+    let mut size = 0;
+    let mut weight = 0;
+    let mut least = 0;
+    for _i in 0..count {
+        match element_measure(bytes, pools, at + size, depth, least) {
+            Some((name, element)) => {
+                least = u64::from(name) + 1;
+                size += element.size;
+                weight += element.weight;
+            }
+            None => return None,
+        }
+    }
+    Some(Measure { size, weight })
+}
+
+/// The number of the type of the encoded_annotation at a place, and the annotation's measure, or `None` where there is none
+/// whose values nest at most `depth` deep.
+#[cycle(checking)]
+pub(crate) fn annotation_measure(
+    bytes: &[u8],
+    pools: &Pools<'_>,
+    at: usize,
+    depth: u32,
+) -> Option<(u32, Measure)>
+    requires at { at ≤ length bytes.now }
+    requires small { length bytes.now ≤ 2 ^ 30 }
+    ensures checked { AreFilePools bytes.now pools.now → MatchOption result (NoAnnotationAt bytes.now at depth) (λ annotation. HasAnnotation bytes.now at pools.now depth annotation.0 annotation.1.size annotation.1.weight) }
+    ensures within { IfSome result (λ annotation. at + annotation.1.size ≤ length bytes.now) }
+    ensures light { IfSome result (λ annotation. annotation.1.weight ≤ 9 * annotation.1.size) }
+{
+    let (typ, first) = match number_at(bytes, at) {
+        Some(read) => read,
+        None => return None,
+    };
+    if typ as usize >= pools.len(SymbolKind::Typ) {
+        return None;
+    }
+    let (count, second) = match number_at(bytes, at + first) {
+        Some(read) => read,
+        None => return None,
+    };
+    match elements_measure(bytes, pools, at + first + second, depth, count) {
+        Some(elements) => {
+            let size = first + second + elements.size;
+            let weight = 12 + elements.weight;
+            Some((typ, Measure { size, weight }))
+        }
+        None => None,
+    }
+}

@@ -1,0 +1,93 @@
+//! Sets of annotations that are checked where they are in a file.
+
+ghost use Rattle.std.specs.Prelude.{◌≡◌, ◌*◌, ◌^◌, ◌≤◌, IfOk, IfErr, IfSome, MatchOption};
+ghost use Rattle.dexpool.specs.Pools.{ArePools};
+ghost use Rattle.dexpool.specs.declared.faults.ItemFault.TheVariants.{Refused};
+ghost use Rattle.dexval.specs.Checking.{HasItem, HasSetOf};
+ghost use Rattle.dexval.specs.Items.{NoItemAt, NoSetAt};
+ghost use Rattle.dexval.specs.Nesting.{AreFilePools};
+ghost use Rattle.dexval.specs.Reading.{IsSetFault};
+
+use crate::nested_checking::annotation_measure;
+use crate::set_reading::offset_count;
+use crate::value_reading::MOST_DEPTH;
+use dexhead::{Frame, u32_at};
+use dexpool::{ItemFault, Pools};
+
+/// The greatest number of a visibility.
+const MOST_VISIBILITY: u8 = 2;
+
+/// How many annotations a set has, and how heavy it is.
+#[derive(Clone, Copy, Debug)]
+pub struct SetShape {
+    /// How many annotations it has.
+    pub count: u32,
+    /// What it weighs, as [`AnnotationSet::weight`](crate::AnnotationSet::weight) has it.
+    pub weight: u64,
+}
+
+// The number of the type of the annotation_item at an offset, and what the annotation weighs, if there is one.
+fn item_weight(frame: &Frame<'_>, pools: &Pools<'_>, off: u32) -> Option<(u32, u64)>
+    ensures checked { AreFilePools frame.now pools.now → MatchOption result (NoItemAt frame.now off) (λ item. HasItem frame.now off pools.now item.0 item.1) }
+    ensures light { IfSome result (λ item. item.1 ≤ 9 * 2 ^ 30) }
+{
+    let bytes = frame.bytes();
+    let at = off as usize;
+    if off < frame.data_off() || at >= bytes.len() {
+        return None;
+    }
+    if bytes[at] > MOST_VISIBILITY {
+        return None;
+    }
+    match annotation_measure(bytes, pools, at + 1, MOST_DEPTH) {
+        Some((typ, annotation)) => Some((typ, annotation.weight)),
+        None => None,
+    }
+}
+
+// The shape of the annotation_set_item at an offset, if there is one.
+fn set_shape(frame: &Frame<'_>, pools: &Pools<'_>, off: u32) -> Option<SetShape>
+    ensures { AreFilePools frame.now pools.now → MatchOption result (NoSetAt frame.now off) (λ shape. HasSetOf frame.now off pools.now shape.count shape.weight) }
+{
+    let count = match offset_count(frame, off) {
+        Some(count) => count,
+        None => return None,
+    };
+    let bytes = frame.bytes();
+    let mut weight = 8;
+    let mut least = 0;
+    for i in 0..count {
+        let place = u32_at(bytes, off as usize + 4 + 4 * i as usize);
+        let (typ, item) = match item_weight(frame, pools, place) {
+            Some(item) => item,
+            None => return None,
+        };
+        if u64::from(typ) < least {
+            return None;
+        }
+        least = u64::from(typ) + 1;
+        weight += 4 + item;
+    }
+    if count == 0 {
+        return Some(SetShape { count, weight: 0 });
+    }
+    Some(SetShape { count, weight })
+}
+
+/// Checks the annotation_set_item at an offset, and the annotations that it refers to. Their indices count in the pools: those
+/// of the file. Nothing is kept of them, and no memory is taken.
+///
+/// Error: `Refused(22)` exactly where [`read_set`](crate::read_set) refuses it.
+///
+/// Source: "annotation_set_item" and "annotation_item".
+pub fn check_set(frame: &Frame<'_>, pools: &Pools<'_>, off: u32) -> Result<SetShape, ItemFault>
+    ensures set { ArePools frame.now pools.now → IfOk result (λ shape. HasSetOf frame.now off pools.now shape.count shape.weight) }
+    ensures refused { ArePools frame.now pools.now → IfErr result (IsSetFault frame.now off) }
+    ensures number { IfErr result (λ fault. fault ≡ Refused 22) }
+{
+    pools.numbering().is_numbering();
+    match set_shape(frame, pools, off) {
+        Some(shape) => Ok(shape),
+        None => Err(ItemFault::Refused(22)),
+    }
+}

@@ -2,48 +2,20 @@
 use Rattle.std.proofs.Common.{◌≡◌, ℕ, ◌+◌, ◌<◌, ◌==◌, Bool, true, false, ◌||◌, ◌&&◌, List, [], ◌∷◌, ◌++◌, length, take, get_or, refl, ap, sym, ◌∙◌, subst}
 use Rattle.std.specs.List.{All, flat_map}
 use Rattle.std.proofs.lemmas.List.{take_more, append-nil}
-use Rattle.std.proofs.lemmas.List.Elements.{All-nil, All-cons, All-head, All-tail}
 use Rattle.std.proofs.lemmas.List.Folds.{list_any-append}
 use Rattle.std.proofs.lemmas.Grind.{flat_map-append}
 use Rattle.dexpool.specs.declared.marks.Marks.{Marks}
 use Rattle.dexpool.specs.declared.symbols.SymbolKind.{SymbolKind}
 use Rattle.dexpool.specs.Uses.{Use, marks_of, HasMark, same_kind, occurs, AreMarkedToo}
-use Rattle.dexpool.proofs.MarksMade.{still_marked}
+use Rattle.dexpool.proofs.Parts.{all_back}
+use Rattle.dexpool.proofs.Visits.{still_all}
 use Rattle.dexclass.specs.Uses.{HaveMarked}
 
--- ---- what holds of all members of joined lists
-
-pub all_front : {X : Type 0} (P : X → Type 0) (xs ys : List X) → All P (xs ++ ys) → All P xs
-all_front P [] ys h = All-nil P
-all_front P (x ∷ xs) ys h = All-cons P x xs (All-head P x (xs ++ ys) h) (all_front P xs ys (All-tail P x (xs ++ ys) h))
-
-pub all_back : {X : Type 0} (P : X → Type 0) (xs ys : List X) → All P (xs ++ ys) → All P ys
-all_back P [] ys h = h
-all_back P (x ∷ xs) ys h = all_back P xs ys (All-tail P x (xs ++ ys) h)
-
 -- ---- one list after the other
-
-or_assoc : (a b c : Bool) → ((a || b) || c) ≡ (a || (b || c))
-or_assoc true b c = refl
-or_assoc false b c = refl
 
 -- what occurs in two lists
 occurs_both : (us vs : List Use) (j : SymbolKind) (i : ℕ) → occurs (us ++ vs) j i ≡ (occurs us j i || occurs vs j i)
 occurs_both us vs j i = list_any-append (λ v. same_kind v.kind j && v.number == i) us vs
-
--- the marks of two lists, one made after the other
-pub marked_both : (us vs : List Use) (a b c : Marks) → AreMarkedToo us a b → AreMarkedToo vs b c → AreMarkedToo (us ++ vs) a c
-marked_both us vs a b c before more = record {
-  count = λ j. more.count j ∙ before.count j;
-  each = λ j i.
-      more.each j i ∙ ap (λ (t : Bool). t || occurs vs j i) (before.each j i) ∙ or_assoc (get_or (marks_of j a) i false) (occurs us j i) (occurs vs j i)
-      ∙ ap (λ (t : Bool). get_or (marks_of j a) i false || t) (sym (occurs_both us vs j i));
-}
-
--- there still is a mark for each that had one
-pub still_all : (us vs : List Use) (a b : Marks) → AreMarkedToo us a b → All (HasMark a) vs → All (HasMark b) vs
-still_all us [] a b h all = All-nil (HasMark b)
-still_all us (v ∷ vs) a b h all = All-cons (HasMark b) v vs (still_marked us v a b h (All-head (HasMark a) v vs all)) (still_all us vs a b h (All-tail (HasMark a) v vs all))
 
 -- there is a mark for each behind those that were marked
 pub rest_marked : (us vs : List Use) (a b : Marks) → AreMarkedToo us a b → All (HasMark a) (us ++ vs) → All (HasMark b) vs

@@ -20,7 +20,7 @@ use Rattle.dexmembers.specs.Uses.{members_uses}
 use Rattle.dexclass.specs.Numbered.{NumberedClass, type_at, definition_of}
 use Rattle.dexclass.specs.Uses.{type_numbers, text_numbers, type_use, text_use, IsKnownClass}
 use Rattle.dexclass.specs.Renumbering.{led, renumbered, IsLedClass, StaysSame, IsPartClass}
-use Rattle.dexclass.proofs.Marked.{all_front, all_back}
+use Rattle.dexpool.proofs.Parts.{all_front, all_back}
 use Rattle.dexclass.proofs.OwnUses.{all_mapped}
 use Rattle.dexclass.proofs.LedOn.{led_is, all_led, optional_led, all_within, optional_numbers, numbers_behind, one_at, one_list, one_optional}
 

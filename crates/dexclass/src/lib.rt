@@ -22,4 +22,5 @@ pub use classes::Class;
 pub use laws::{renumbering_law, same_law, uses_law};
 pub use programs::Program;
 pub use reading::read;
+pub use renumbering::renumber;
 pub use stripping::{into_stripped, strip};

@@ -73,3 +73,11 @@ impl<'a> Class<'a> {
         self.members.renumber(remap);
     }
 }
+
+/// The same as [`Class::renumber`].
+pub fn renumber(class: &mut Class<'_>, remap: &Remap)
+    requires { ClassHasPlaces remap.now class.old }
+    ensures { class.new ≡ renumbered remap.now class.old }
+{
+    class.renumber(remap);
+}

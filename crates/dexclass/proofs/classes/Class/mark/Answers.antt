@@ -4,7 +4,9 @@ use Rattle.std.proofs.lemmas.List.Elements.{All-head}
 use Rattle.dexpool.specs.Uses.{HasMark, AreMarkedToo}
 use Rattle.dexmembers.specs.Uses.{members_uses}
 use Rattle.dexclass.specs.Uses.{type_use, text_use, class_uses}
-use Rattle.dexclass.proofs.Marked.{all_front, marked_both, rest_marked}
+use Rattle.dexclass.proofs.Marked.{rest_marked}
+use Rattle.dexpool.proofs.Visits.{marked_both}
+use Rattle.dexpool.proofs.Parts.{all_front}
 use Rattle.dexclass.proofs.OwnUses.{parts_are}
 use Rattle.dexclass.proofs.classes.Class.mark.Goals as goal
 

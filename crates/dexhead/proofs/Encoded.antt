@@ -1,5 +1,5 @@
 -- The encodings of the items of a list, one after the other.
-use Rattle.std.proofs.Common.{◌≡◌, ℕ, ◌+◌, ◌-◌, ◌^◌, ◌<◌, ◌≤◌, min, Result, Ok, refl, arith, List, [], ◌∷◌, ◌++◌, length, take, get_or, ap, sym, ◌∙◌, subst}
+use Rattle.std.proofs.Common.{◌≡◌, ℕ, ◌+◌, ◌-◌, ◌^◌, ◌<◌, ◌≤◌, min, Ok, refl, arith, List, [], ◌∷◌, ◌++◌, length, take, get_or, ap, sym, ◌∙◌, subst}
 use Rattle.std.specs.Global.{Vec}
 use Rattle.std.specs.Prelude.{vec_len, vec_capacity}
 use Rattle.std.specs.List.{flat_map}

@@ -1,6 +1,6 @@
 -- Values and annotations that are checked one within the other: what a reader would have read is there.
-use Rattle.std.proofs.Common.{◌≡◌, ◌≢◌, ℕ, zero, suc, ◌+◌, ◌-◌, ◌<◌, ◌≤◌, List, [], ◌∷◌, ◌++◌, length, Option, Some, None, refl, ap, sym, ◌∙◌, arith}
-use Rattle.std.specs.Prelude.{slice_index, MatchOption}
+use Rattle.std.proofs.Common.{◌≡◌, ◌≢◌, ℕ, zero, suc, ◌+◌, ◌-◌, ◌<◌, ◌≤◌, List, [], ◌∷◌, ◌++◌, length, refl, ap, arith}
+use Rattle.std.specs.Prelude.{slice_index}
 use Rattle.dexspec.specs.Numbers.{BeginsWith, IsUleb128, Uleb128At}
 use Rattle.dexspec.specs.Values.{value_depth}
 use Rattle.dexspec.specs.Mentions.{Mentions}

@@ -21,7 +21,7 @@ pub record Notes (NewSet NewList : ℕ → ℕ → Type 0) (NewPassed NewPassedL
   pub passed_lists_from : (q : ℕ) → contains nat_eq k.passed_lists q ≡ true → (contains nat_eq j.passed_lists q ≡ true) ⊎ NewPassedList q
 
 -- where one value is put, each of the others was there before
-from_before : {X : Type 0} (f g : ℕ → X) (o : ℕ) (v : X) → g o ≡ v → ((q : ℕ) → nat_eq o q ≡ false → g q ≡ f q) → (q : ℕ) (w : X) → g q ≡ w → (f q ≡ w) ⊎ ((o ≡ q) × (v ≡ w))
+pub from_before : {X : Type 0} (f g : ℕ → X) (o : ℕ) (v : X) → g o ≡ v → ((q : ℕ) → nat_eq o q ≡ false → g q ≡ f q) → (q : ℕ) (w : X) → g q ≡ w → (f q ≡ w) ⊎ ((o ≡ q) × (v ≡ w))
 from_before {X} f g o v here others q w e = elim (cases_eq o q) [
   | inl same ↦ inr (same, sym here ∙ subst (λ (n : ℕ). g n ≡ w) (sym same) e)
   | inr apart ↦ inl (sym (others q (ne_eqb o q apart)) ∙ e)

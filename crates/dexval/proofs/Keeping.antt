@@ -144,7 +144,7 @@ members_add weighs x xs = omega (arith, sum_by-append (λ e. weighs e.1) xs (x �
 
 -- ---- directories
 
-parts_weigh : (m : Mentions) (d : NumberedDirectory) → directory_weight (directory_in m d) ≡ set_weight_in m d.own + sum_by (λ e. set_weight_in m e.1) d.fields + sum_by (λ e. set_weight_in m e.1) d.methods + sum_by (λ e. sets_weight_in m e.1) d.parameters
+pub parts_weigh : (m : Mentions) (d : NumberedDirectory) → directory_weight (directory_in m d) ≡ set_weight_in m d.own + sum_by (λ e. set_weight_in m e.1) d.fields + sum_by (λ e. set_weight_in m e.1) d.methods + sum_by (λ e. sets_weight_in m e.1) d.parameters
 parts_weigh m d =
     omega (
       arith,

@@ -1,3 +1,4 @@
+pub mod CheckedSets
 pub mod Checking
 pub mod Code
 pub mod Directories

@@ -62,9 +62,14 @@ pub fn member_counts(frame: &Frame<'_>, off: u32) -> Option<MemberCounts>
     })
 }
 
-// The number of a member and the offset of what belongs to it, from the pair at a place. Error: the number is less than
-// this one or not below the limit, or the offset is 0.
-fn pair_at(frame: &Frame<'_>, at: usize, least: u64, limit: usize) -> Result<(u32, u32), ItemFault>
+/// The number of a member and the offset of what belongs to it, from the pair at a place. Error: the number is less than
+/// this one or not below the limit, or the offset is 0.
+pub(crate) fn pair_at(
+    frame: &Frame<'_>,
+    at: usize,
+    least: u64,
+    limit: usize,
+) -> Result<(u32, u32), ItemFault>
     requires { at + 8 ≤ length frame.now }
     ensures pair { IfOk result (λ pair. HasPair frame.now at least limit × (pair.0 ≡ uint_at frame.now at) × (pair.1 ≡ uint_at frame.now (at + 4))) }
     ensures refused { IfErr result (IsRefusal (HasPair frame.now at least limit → ⊥)) }
@@ -78,8 +83,8 @@ fn pair_at(frame: &Frame<'_>, at: usize, least: u64, limit: usize) -> Result<(u3
     Ok((number, off))
 }
 
-// What a list of so many sets weighs beside them.
-fn list_weight(count: u32) -> u64
+/// What a list of `count` sets weighs beside them.
+pub(crate) fn list_weight(count: u32) -> u64
     ensures none { count ≡ 0 → result ≡ 0 }
     ensures some { 0 < count → result ≡ 8 + 4 * count }
 {

@@ -9,6 +9,7 @@
 pub use annotation::{Annotation, Visibility};
 pub use copying::copied_values;
 pub use directory::{Directory, MemberCounts, SharedDirectory};
+pub use directory_checking::{CheckedSets, DirectoryShape, check_directory};
 pub use directory_reading::{member_counts, read_directory, read_shared_directory_within};
 pub use equality::set_equality_law;
 pub use fitting::values_fit;
@@ -34,6 +35,7 @@ mod annotation;
 mod budget;
 mod copying;
 mod directory;
+mod directory_checking;
 mod directory_reading;
 mod encoding;
 mod equality;

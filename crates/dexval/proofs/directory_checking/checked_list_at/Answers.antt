@@ -1,0 +1,13 @@
+use Rattle.std.proofs.Common.{refl, sym}
+use Rattle.dexval.specs.declared.directory_checking.CheckedSets.{CheckedSets}
+use Rattle.dexval.proofs.DirectoryChecked.{list_added}
+use Rattle.dexval.proofs.directory_checking.checked_list_at.Goals as goal
+
+pub returns-in-Some-clause-weight : goal.returns-in-Some-clause-weight
+returns-in-Some-clause-weight c = λ p. (c.requires p).lists_checked c.args.off c.in-Some.weight.now (sym c.in-Some.ensures.value)
+
+pub returns-clause-checked : goal.returns-clause-checked
+returns-clause-checked c = λ p.
+    let mid = c.listed_weight.new.checked in
+    let new : CheckedSets = record { sets = mid.sets; lists = c.insert.new.self } in
+    list_added c.args.frame.now c.args.pools.now mid new c.args.off c.in-Ok.weight (c.in-Ok.ensures.checked p) (c.in-Ok.ensures.weight p) c.in_ok-insert.ensures.updates.1 c.in_ok-insert.ensures.updates.2 refl

@@ -1,0 +1,33 @@
+use Rattle.std.proofs.Common.{[], refl, sym, arith}
+use Rattle.dexval.specs.declared.directory_checking.CheckedSets.{CheckedSets}
+use Rattle.dexval.specs.Directories.{IsSetOrEmptyAt, set_weight_in}
+use Rattle.dexval.specs.Reading.{IsSetAt}
+use Rattle.dexval.proofs.DirectoryRead.{empty_set, some_set, no_set}
+use Rattle.dexval.proofs.DirectoryChecked.{weighed_as, set_weighed, set_added}
+use Rattle.dexval.proofs.Refusals.{refused_set}
+use Rattle.dexval.proofs.directory_checking.checked_set_at.Goals as goal
+
+pub returns-then-off-eq0-clause-weight : goal.returns-then-off-eq0-clause-weight
+returns-then-off-eq0-clause-weight c = λ p. record { item = []; is_read = empty_set c.args.frame.now c.args.off c.args.pools.now c.if-off-eq0.true; weight_is = omega arith }
+
+pub returns-in-Some-clause-weight : goal.returns-in-Some-clause-weight
+returns-in-Some-clause-weight c = λ p.
+    let b = c.args.frame.now in
+    let m = c.args.pools.now in
+    let off = c.args.off in
+    weighed_as (IsSetAt b off m) (IsSetOrEmptyAt b off m) (set_weight_in m) (set_weight_in m) (λ s h. some_set b off m s (omega arith) h) (λ s h. refl) ((c.requires p).sets_checked off c.in-Some.weight.now (sym c.in-Some.ensures.value))
+
+pub returns-in-Err-clause-refused : goal.returns-in-Err-clause-refused
+returns-in-Err-clause-refused c = λ p. refused_set c.args.frame.now c.args.off (no_set c.args.frame.now c.args.off (omega arith)) c.in-Err.fault (c.in-Err.ensures.refused p.pools)
+
+pub returns-clause-checked : goal.returns-clause-checked
+returns-clause-checked c = λ p.
+    let new : CheckedSets = record { sets = c.insert.new.self; lists = c.args.checked.now.lists } in
+    set_added c.args.frame.now c.args.pools.now c.args.checked.now new c.args.off c.in-Ok.shape.weight (c.requires p) (set_weighed c.args.frame.now c.args.off c.args.pools.now c.in-Ok.shape.count c.in-Ok.shape.weight (omega arith) (c.in-Ok.ensures.set p.pools)) c.in_ok-insert.ensures.updates.1 c.in_ok-insert.ensures.updates.2 refl
+
+pub returns-clause-weight : goal.returns-clause-weight
+returns-clause-weight c = λ p.
+    let b = c.args.frame.now in
+    let m = c.args.pools.now in
+    let off = c.args.off in
+    weighed_as (IsSetAt b off m) (IsSetOrEmptyAt b off m) (set_weight_in m) (set_weight_in m) (λ s h. some_set b off m s (omega arith) h) (λ s h. refl) (set_weighed b off m c.in-Ok.shape.count c.in-Ok.shape.weight (omega arith) (c.in-Ok.ensures.set p.pools))

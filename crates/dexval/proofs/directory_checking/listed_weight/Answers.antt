@@ -1,0 +1,52 @@
+use Rattle.std.proofs.Common.{◌≡◌, ◌+◌, ◌*◌, ◌∙◌, ℕ, List, [], sum_by, ap, subst, arith}
+use Rattle.dexspec.specs.Bytes.{uint_at}
+use Rattle.dexval.specs.Numbered.{NumberedSet}
+use Rattle.dexval.specs.Directories.{IsSetOrEmptyAt, NoSetOrEmptyAt, IsRefListAt, set_weight_in, sets_weight_in}
+use Rattle.dexval.proofs.DirectoryRead.{HaveReadList, no_list_yet, one_set_more, no_set_next, no_list_room, list_read}
+use Rattle.dexval.proofs.DirectoryChecked.{one_weighed, weighed_as}
+use Rattle.dexval.proofs.Keeping.{list_adds, list_weighs}
+use Rattle.dexval.proofs.Refusals.{refused_so}
+use Rattle.dexval.proofs.directory_checking.listed_weight.Goals as goal
+
+pub returns-in-Err-clause-refused : goal.returns-in-Err-clause-refused
+returns-in-Err-clause-refused c = λ p. refused_so (no_list_room c.args.frame.now c.args.off) c.in-Err.fault c.in-Err.ensures.refused
+
+pub returns-in-Err-checked_set_at-clause-refused : goal.returns-in-Err-checked_set_at-clause-refused
+returns-in-Err-checked_set_at-clause-refused c = λ p.
+    let b = c.args.frame.now in
+    let place : c.u32_at-set_off.result ≡ uint_at b (c.args.off + 4 + 4 * c.loop-i.i) = c.u32_at-set_off.ensures ∙ ap (λ (x : List ℕ). uint_at x (c.args.off + 4 + 4 * c.loop-i.i)) c.bytes-bytes.ensures.bytes in
+    refused_so (λ none. no_set_next b c.args.off c.loop-i.i (omega (arith, c.in-Ok.ensures.count.1)) (subst (NoSetOrEmptyAt b) place none)) c.in-Err-checked_set_at.fault (c.in-Err-checked_set_at.ensures.refused p)
+
+pub loop-i-init : goal.loop-i-init
+loop-i-init c = record {
+  checked = c.requires;
+  weighed = λ p. record { item = []; is_read = no_list_yet c.args.frame.now (c.args.off + 4) c.args.pools.now; weight_is = omega arith };
+}
+
+pub loop-i-preserved : goal.loop-i-preserved
+loop-i-preserved c =
+    let b = c.args.frame.now in
+    let m = c.args.pools.now in
+    let p4 = c.args.off + 4 in
+    let i = c.loop-i.i in
+    let list = c.list_weight-list.result in
+    let stand : c.u32_at-set_off.result ≡ uint_at b (c.args.off + 4 + 4 * i) = c.u32_at-set_off.ensures ∙ ap (λ (x : List ℕ). uint_at x (c.args.off + 4 + 4 * i)) c.bytes-bytes.ensures.bytes in
+    record {
+      checked = λ p. c.in-Ok-checked_set_at.ensures.checked p;
+      weighed = λ p.
+          let r = c.in-Ok-checked_set_at.ensures.weight p in
+          let stands : IsSetOrEmptyAt b (uint_at b (c.args.off + 4 + 4 * i)) m r.item = subst (λ (x : ℕ). IsSetOrEmptyAt b x m r.item) stand r.is_read in
+          one_weighed (HaveReadList b p4 m i) (HaveReadList b p4 m (i + 1)) (λ (ss : List NumberedSet). list + sum_by (set_weight_in m) ss) (set_weight_in m) r.item (λ ss k. one_set_more b p4 m i ss r.item k stands) (list_adds m list r.item) (c.loop-i.invariant.weighed p) r.weight_is (omega (arith, c.saturating_add-weight.ensures));
+    }
+
+pub returns-clause-weight : goal.returns-clause-weight
+returns-clause-weight c = λ p.
+    let b = c.args.frame.now in
+    let m = c.args.pools.now in
+    let list = c.list_weight-list.result in
+    let i = c.loop-i.i in
+    let count : i ≡ uint_at b c.args.off = omega (arith, c.in-Ok.ensures.count.1) in
+    let is_count : i ≡ c.in-Ok.count = omega arith in
+    weighed_as (HaveReadList b (c.args.off + 4) m i) (IsRefListAt b c.args.off m) (λ (ss : List NumberedSet). list + sum_by (set_weight_in m) ss) (sets_weight_in m) (λ ss k. list_read b c.args.off m i ss c.in-Ok.ensures.count.0 count k)
+    (λ ss k. list_weighs b (c.args.off + 4) m i list ss (λ e. c.list_weight-list.ensures.none (omega (arith, e, is_count))) (λ lt. omega (arith, is_count, c.list_weight-list.ensures.some (omega (arith, lt, is_count)))) k)
+    (c.loop-i.invariant.weighed p)

@@ -1,0 +1,325 @@
+//! Directories of annotations that are checked where they are in a file.
+
+ghost use Rattle.std.specs.Prelude.{ℕ, List, ◌≡◌, ◌≢◌, ◌<◌, ◌+◌, ◌*◌, ◌^◌, ◌≤◌, All, IfOk, IfErr, OnOk, map, sum_by, length};
+ghost use Rattle.dexspec.specs.Annotations.{AnnotationSet as SetMeant, SetAt, RefListAt, fields_count, methods_count, parameters_count};
+ghost use Rattle.dexspec.specs.Mentions.{Mentions};
+ghost use Rattle.dexpool.specs.Pools.{ArePools};
+ghost use Rattle.dexval.specs.Numbered.{NumberedSet, IsKnownSet, set_in};
+ghost use Rattle.dexval.specs.Nesting.{AreFilePools};
+ghost use Rattle.dexval.specs.Items.{IsRefusal};
+ghost use Rattle.dexval.specs.Directories.{IsKnownAt, IsSetOrEmptyAt, NoSetOrEmptyAt, IsRefListAt, NoRefListAt, ArePairsAt, NoPairsAt, HasMembers, set_weight_in, sets_weight_in};
+ghost use Rattle.dexval.specs.Reading.{IsDirectoryFault};
+ghost use Rattle.dexval.specs.CheckedSets.{AreChecked, IsWeighed, HasDirectoryOf};
+
+use crate::directory::MemberCounts;
+use crate::directory_reading::{list_weight, member_counts, pair_at};
+use crate::set_checking::check_set;
+use crate::set_reading::count_at;
+use dexhead::{Frame, u32_at};
+use dexpool::{ItemFault, Pools, SymbolKind};
+use std::alloc::Global;
+use std::collections::HashMap;
+
+/// The sets and the lists of sets of a file that were checked, each by its offset with its weight. Each is checked once,
+/// however many members name it.
+#[derive(Drop)]
+pub struct CheckedSets {
+    // What sets weigh.
+    pub(crate) sets: HashMap<u32, u64>,
+    // What lists of sets weigh.
+    pub(crate) lists: HashMap<u32, u64>,
+}
+
+impl CheckedSets {
+    /// Nothing yet. No memory is taken.
+    pub fn none(alloc: Global) -> CheckedSets
+        ensures { (b : List ℕ) (m : Mentions) → AreChecked b m result }
+    {
+        CheckedSets {
+            sets: HashMap::new(alloc),
+            lists: HashMap::new(alloc),
+        }
+    }
+}
+
+/// How many members a directory annotates, and how heavy it is.
+#[derive(Clone, Copy, Debug)]
+pub struct DirectoryShape {
+    /// How many members it annotates.
+    pub counts: MemberCounts,
+    /// What its sets and its lists of sets weigh together, or 2^64 - 1 where that is more. Each use of a set or a list counts.
+    pub weight: u64,
+}
+
+// What the set of the annotation_set_item at an offset weighs, or 2^64 - 1 where that is more; at 0 there is none, and it
+// weighs nothing. Error: there is none elsewhere.
+fn checked_set_at(
+    frame: &Frame<'_>,
+    pools: &Pools<'_>,
+    off: u32,
+    checked: &mut CheckedSets,
+) -> Result<u64, ItemFault>
+    requires { AreFilePools frame.now pools.now → AreChecked frame.now pools.now checked.old }
+    ensures checked { AreFilePools frame.now pools.now → OnOk result (AreChecked frame.now pools.now checked.new) }
+    ensures weight { AreFilePools frame.now pools.now → IfOk result (IsWeighed (IsSetOrEmptyAt frame.now off pools.now) (set_weight_in pools.now)) }
+    ensures refused { AreFilePools frame.now pools.now → IfErr result (IsRefusal (NoSetOrEmptyAt frame.now off)) }
+{
+    if off == 0 {
+        return Ok(0);
+    }
+    if let Some(weight) = checked.sets.get(&off) {
+        return Ok(*weight);
+    }
+    let shape = match check_set(frame, pools, off) {
+        Ok(shape) => shape,
+        Err(fault) => return Err(fault),
+    };
+    checked.sets.insert(off, shape.weight)?;
+    Ok(shape.weight)
+}
+
+// What the sets of the annotation_set_ref_list at an offset weigh with the list, or 2^64 - 1 where that is more. Error: there is
+// none.
+fn listed_weight(
+    frame: &Frame<'_>,
+    pools: &Pools<'_>,
+    off: u32,
+    checked: &mut CheckedSets,
+) -> Result<u64, ItemFault>
+    requires { AreFilePools frame.now pools.now → AreChecked frame.now pools.now checked.old }
+    ensures checked { AreFilePools frame.now pools.now → OnOk result (AreChecked frame.now pools.now checked.new) }
+    ensures weight { AreFilePools frame.now pools.now → IfOk result (IsWeighed (IsRefListAt frame.now off pools.now) (sets_weight_in pools.now)) }
+    ensures refused { AreFilePools frame.now pools.now → IfErr result (IsRefusal (NoRefListAt frame.now off)) }
+{
+    let count = match count_at(frame, off) {
+        Ok(count) => count,
+        Err(fault) => return Err(fault),
+    };
+    let bytes = frame.bytes();
+    let list = list_weight(count);
+    let mut weight = list;
+    for i in 0..count {
+        let set_off = u32_at(bytes, off as usize + 4 + 4 * i as usize);
+        let set = match checked_set_at(frame, pools, set_off, checked) {
+            Ok(set) => set,
+            Err(fault) => return Err(fault),
+        };
+        weight = weight.saturating_add(set);
+    }
+    Ok(weight)
+}
+
+// As `listed_weight`, each list once.
+fn checked_list_at(
+    frame: &Frame<'_>,
+    pools: &Pools<'_>,
+    off: u32,
+    checked: &mut CheckedSets,
+) -> Result<u64, ItemFault>
+    requires { AreFilePools frame.now pools.now → AreChecked frame.now pools.now checked.old }
+    ensures checked { AreFilePools frame.now pools.now → OnOk result (AreChecked frame.now pools.now checked.new) }
+    ensures weight { AreFilePools frame.now pools.now → IfOk result (IsWeighed (IsRefListAt frame.now off pools.now) (sets_weight_in pools.now)) }
+    ensures refused { AreFilePools frame.now pools.now → IfErr result (IsRefusal (NoRefListAt frame.now off)) }
+{
+    if let Some(weight) = checked.lists.get(&off) {
+        return Ok(*weight);
+    }
+    let weight = match listed_weight(frame, pools, off, checked) {
+        Ok(weight) => weight,
+        Err(fault) => return Err(fault),
+    };
+    checked.lists.insert(off, weight)?;
+    Ok(weight)
+}
+
+// What a directory has for a member: a set of annotations, or the sets of its parameters.
+trait CheckedMember {
+    // With numbers instead of symbols.
+    ghost Numbered: { Type 0 };
+
+    // What the numbers denote.
+    ghost Meant: { Type 0 };
+
+    ghost is_known: { Mentions → Numbered → Type 0 };
+
+    ghost inside: { Mentions → Numbered → Meant };
+
+    ghost stands: { List ℕ → ℕ → Meant → Type 0 };
+
+    ghost weighs: { Mentions → Numbered → ℕ };
+
+    // What the item at an offset other than 0 weighs, or 2^64 - 1 where that is more. Error: there is none.
+    fn checked_at(
+        frame: &Frame<'_>,
+        pools: &Pools<'_>,
+        off: u32,
+        checked: &mut CheckedSets,
+    ) -> Result<u64, ItemFault>
+        requires other { off ≢ 0 }
+        requires checked { AreFilePools frame.now pools.now → AreChecked frame.now pools.now checked.old }
+        ensures checked { AreFilePools frame.now pools.now → OnOk result (AreChecked frame.now pools.now checked.new) }
+        ensures weight { AreFilePools frame.now pools.now → IfOk result (IsWeighed (IsKnownAt (is_known pools.now) (inside pools.now) (stands frame.now off)) (weighs pools.now)) }
+        ensures refused { AreFilePools frame.now pools.now → IfErr result (IsRefusal ((meant : Meant) → stands frame.now off meant → ⊥)) };
+}
+
+// The set of a field or a method.
+struct CheckedSet;
+
+impl CheckedMember for CheckedSet {
+    ghost Numbered = { NumberedSet };
+
+    ghost Meant = { SetMeant };
+
+    ghost is_known = { IsKnownSet };
+
+    ghost inside = { set_in };
+
+    ghost stands = { SetAt };
+
+    ghost weighs = { set_weight_in };
+
+    fn checked_at(
+        frame: &Frame<'_>,
+        pools: &Pools<'_>,
+        off: u32,
+        checked: &mut CheckedSets,
+    ) -> Result<u64, ItemFault> {
+        checked_set_at(frame, pools, off, checked)
+    }
+}
+
+// The list of sets of a method's parameters.
+struct CheckedList;
+
+impl CheckedMember for CheckedList {
+    ghost Numbered = { List NumberedSet };
+
+    ghost Meant = { List SetMeant };
+
+    ghost is_known = { λ m. All (IsKnownSet m) };
+
+    ghost inside = { λ m. map (set_in m) };
+
+    ghost stands = { RefListAt };
+
+    ghost weighs = { sets_weight_in };
+
+    fn checked_at(
+        frame: &Frame<'_>,
+        pools: &Pools<'_>,
+        off: u32,
+        checked: &mut CheckedSets,
+    ) -> Result<u64, ItemFault> {
+        checked_list_at(frame, pools, off, checked)
+    }
+}
+
+// What `count` members from a place on weigh, or 2^64 - 1 where that is more: their numbers are below the limit. Error: there
+// are none.
+fn members_weight<T: CheckedMember>(
+    frame: &Frame<'_>,
+    pools: &Pools<'_>,
+    at: usize,
+    count: u32,
+    limit: usize,
+    checked: &mut CheckedSets,
+) -> Result<u64, ItemFault>
+    requires within { at + 8 * count ≤ length frame.now }
+    requires fits { at < 2 ^ 40 }
+    requires checked { AreFilePools frame.now pools.now → AreChecked frame.now pools.now checked.old }
+    ensures checked { AreFilePools frame.now pools.now → OnOk result (AreChecked frame.now pools.now checked.new) }
+    ensures weight { AreFilePools frame.now pools.now → IfOk result (IsWeighed (ArePairsAt (T.is_known pools.now) (T.inside pools.now) T.stands frame.now at count limit) (sum_by (λ e. T.weighs pools.now e.1))) }
+    ensures refused { AreFilePools frame.now pools.now → IfErr result (IsRefusal (NoPairsAt T.stands frame.now at count limit)) }
+{
+    let mut weight: u64 = 0;
+    let mut least = 0;
+    for i in 0..count {
+        let (number, off) = match pair_at(frame, at + 8 * i as usize, least, limit) {
+            Ok(pair) => pair,
+            Err(fault) => return Err(fault),
+        };
+        let item = match T::checked_at(frame, pools, off, checked) {
+            Ok(item) => item,
+            Err(fault) => return Err(fault),
+        };
+        least = u64::from(number) + 1;
+        weight = weight.saturating_add(item);
+    }
+    Ok(weight)
+}
+
+/// Checks the annotations_directory_item at an offset, and the sets that it refers to. Its indices count in the pools: those of
+/// the file. Whether the members are those of the class is not checked. What is checked already is not checked again, and no
+/// other memory is taken than that of `checked`.
+///
+/// Condition: what is checked already is of this file.
+///
+/// Error: `Refused(22)` exactly where [`read_directory`](crate::read_directory) refuses it; `Memory` where an allocation failed.
+///
+/// Source: "annotations_directory_item" and "annotation_set_ref_list".
+pub fn check_directory(
+    frame: &Frame<'_>,
+    pools: &Pools<'_>,
+    off: u32,
+    checked: &mut CheckedSets,
+) -> Result<DirectoryShape, ItemFault>
+    requires { ArePools frame.now pools.now → AreChecked frame.now pools.now checked.old }
+    ensures checked { ArePools frame.now pools.now → OnOk result (AreChecked frame.now pools.now checked.new) }
+    ensures members { IfOk result (λ shape. HasMembers frame.now off × (shape.counts.fields ≡ fields_count frame.now off) × (shape.counts.methods ≡ methods_count frame.now off) × (shape.counts.parameters ≡ parameters_count frame.now off)) }
+    ensures directory { ArePools frame.now pools.now → IfOk result (λ shape. HasDirectoryOf frame.now off pools.now shape.weight) }
+    ensures refused { ArePools frame.now pools.now → IfErr result (IsDirectoryFault frame.now off) }
+{
+    pools.numbering().is_numbering();
+    let counts = match member_counts(frame, off) {
+        Some(counts) => counts,
+        None => return Err(ItemFault::Refused(22)),
+    };
+    let own_off = u32_at(frame.bytes(), off as usize);
+    let own = match checked_set_at(frame, pools, own_off, checked) {
+        Ok(own) => own,
+        Err(fault) => return Err(fault),
+    };
+    let fields_at = off as usize + 16;
+    let limit = pools.len(SymbolKind::Field);
+    let fields = match members_weight::<CheckedSet>(
+        frame,
+        pools,
+        fields_at,
+        counts.fields,
+        limit,
+        checked,
+    ) {
+        Ok(fields) => fields,
+        Err(fault) => return Err(fault),
+    };
+    let methods_at = fields_at + 8 * counts.fields as usize;
+    let limit = pools.len(SymbolKind::Method);
+    let methods = match members_weight::<CheckedSet>(
+        frame,
+        pools,
+        methods_at,
+        counts.methods,
+        limit,
+        checked,
+    ) {
+        Ok(methods) => methods,
+        Err(fault) => return Err(fault),
+    };
+    let parameters_at = methods_at + 8 * counts.methods as usize;
+    let parameters = match members_weight::<CheckedList>(
+        frame,
+        pools,
+        parameters_at,
+        counts.parameters,
+        limit,
+        checked,
+    ) {
+        Ok(parameters) => parameters,
+        Err(fault) => return Err(fault),
+    };
+    let weight = own
+        .saturating_add(fields)
+        .saturating_add(methods)
+        .saturating_add(parameters);
+    Ok(DirectoryShape { counts, weight })
+}

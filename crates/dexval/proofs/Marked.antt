@@ -1,16 +1,15 @@
 -- Marks that are made member by member.
-use Rattle.std.proofs.Common.{◌≡◌, ℕ, ◌+◌, ◌<◌, ◌==◌, Bool, true, false, ◌||◌, ◌&&◌, List, [], ◌∷◌, ◌++◌, length, take, map, get_or, refl, ap, sym, ◌∙◌, subst, append_assoc}
+use Rattle.std.proofs.Common.{◌≡◌, ℕ, ◌+◌, ◌<◌, List, [], ◌∷◌, ◌++◌, length, take, map, get_or, refl, ap, sym, ◌∙◌, subst, append_assoc}
 use Rattle.std.specs.List.{All, flat_map}
 use Rattle.std.proofs.lemmas.List.{take_more, append-nil}
-use Rattle.std.proofs.lemmas.List.Elements.{All-nil, All-cons, All-head, All-tail, All-get_or}
-use Rattle.std.proofs.lemmas.List.Folds.{list_any-append}
+use Rattle.std.proofs.lemmas.List.Elements.{All-head, All-get_or}
 use Rattle.dexpool.specs.declared.marks.Marks.{Marks}
 use Rattle.dexval.specs.declared.annotation.Annotation.{Annotation}
 use Rattle.dexval.specs.declared.value.Value.{Value}
 use Rattle.dexval.specs.declared.value.Element.{Element}
 use Rattle.dexval.specs.Code.{value_of, element_of, annotation_of}
 use Rattle.dexval.specs.Numbered.{NumberedValue, Reference, Named, kind_of_reference, values_of_list, elements_of_list}
-use Rattle.dexpool.specs.Uses.{Use, marks_of, HasMark, same_kind, occurs, AreMarkedToo}
+use Rattle.dexpool.specs.Uses.{Use, HasMark, AreMarkedToo}
 use Rattle.dexval.specs.Uses.{value_uses, values_uses, element_uses, elements_uses, annotation_uses, set_uses}
 use Rattle.dexpool.proofs.Parts.{all_parts}
 use Rattle.dexpool.proofs.Visits.{marked_both, still_all}

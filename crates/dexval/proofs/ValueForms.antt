@@ -1,17 +1,14 @@
 -- Arrays and annotations of the code by their members.
-use Rattle.std.proofs.Common.{◌≡◌, ℕ, ◌+◌, ◌<◌, List, [], ◌∷◌, map, sym, ap, ◌∙◌, arith}
-use Rattle.std.specs.Prelude.{ℤ, Result}
+use Rattle.std.proofs.Common.{◌≡◌, ℕ, ◌+◌, ◌<◌, List, map, sym, ap, ◌∙◌, arith}
 use Rattle.std.specs.Global.{Vec}
-use Rattle.dexspec.specs.Values.{byte_value_type, short_value_type, char_value_type, int_value_type, long_value_type, float_value_type, double_value_type, string_value_type, type_value_type, field_value_type, method_value_type, enum_value_type}
-use Rattle.dexspec.specs.Spellings.{unsigned_bytes, signed_bytes, bits_bytes}
 use Rattle.dexval.specs.declared.value.Value.{Value}
 use Rattle.dexval.specs.declared.value.Value.TheVariants as variants
 use Rattle.dexval.specs.declared.value.Value.TheOpen as layers
 use Rattle.dexval.specs.declared.value.Value.TheFolds.{fold-roll-Value}
 use Rattle.dexval.specs.declared.value.Element.{Element}
 use Rattle.dexval.specs.Code.{value_of, element_of, value_step, element_step}
-use Rattle.dexval.specs.Numbered.{NumberedValue, Plain, Named, ByteLiteral, ShortLiteral, CharLiteral, IntLiteral, LongLiteral, FloatLiteral, DoubleLiteral, StringReference, TypeReference, FieldReference, MethodReference, EnumReference, Array, Annotated, values_of_list, elements_of_list}
-use Rattle.dexval.specs.Spelled.{numbered_weight, numbered_values_weight, numbered_elements_weight, numbered_bytes, numbered_array_bytes, encoded_annotation_bytes}
+use Rattle.dexval.specs.Numbered.{NumberedValue, Array, Annotated, values_of_list, elements_of_list}
+use Rattle.dexval.specs.Spelled.{numbered_weight, numbered_values_weight, numbered_elements_weight}
 
 -- an array is the array of its values
 pub array_is : (v : Value) (values : Vec Value) → v ≡ variants.Array values → value_of v ≡ Array (values_of_list (map value_of values.items))

@@ -6,7 +6,7 @@ use Rattle.dexval.specs.declared.value.Element.{Element}
 use Rattle.dexval.specs.Code.{value_of, element_of}
 use Rattle.dexval.specs.Numbered.{values_of_list, elements_of_list}
 use Rattle.dexval.specs.Spelled.{values_count, elements_count, count_bytes, numbered_bytes, numbered_values_bytes, numbered_elements_bytes, numbered_array_bytes, encoded_annotation_bytes}
-use Rattle.dexval.proofs.CodeForms.{byte_is, short_is, char_is, int_is, long_is, float_is, double_is, string_is, typ_is, field_is, method_is, enum_is, null_is, boolean_is}
+use Rattle.dexval.proofs.CodeForms.{byte_is, short_is, char_is, int_is, long_is, float_is, double_is, string_is, typ_is, field_is, method_is, enum_is}
 use Rattle.dexval.proofs.Encodings.{unsigned_given, signed_given, bits_given, value_given, element_given, values_given, elements_given}
 use Rattle.dexval.proofs.Members.{count_values_is, count_elements_is, value_lighter, element_lighter}
 use Rattle.dexval.proofs.ValueForms.{array_is, annotation_is, array_lighter, annotation_lighter}

@@ -1,4 +1,4 @@
-use Rattle.std.proofs.Common.{◌≡◌, ℕ, ◌++◌, take, sym, subst, arith}
+use Rattle.std.proofs.Common.{◌≡◌, ℕ, take, sym, subst, arith}
 use Rattle.dexspec.specs.Bytes.{uint}
 use Rattle.dexval.proofs.Offsets.{end_of, offsets_spelled, one_offset, next_offset, offset_fits, offsets_end}
 use Rattle.dexval.proofs.set_put.encode_offsets.Goals as goal

@@ -39,7 +39,7 @@ at_least a b true e le = absurd (omega (arith, ltb-true a b e, le))
 at_least a b false e le = refl
 
 -- where no number is from a cap on, each is below it
-none_from : (cap : ℕ) (ns : List ℕ) (n : ℕ) → has_from cap ns ≡ false → Contains ns n → n < cap
+pub none_from : (cap : ℕ) (ns : List ℕ) (n : ℕ) → has_from cap ns ≡ false → Contains ns n → n < cap
 none_from cap ns n none has = elim (cases_lt n cap) [
   | inl less ↦ less
   | inr le ↦ absurd (let t = list_any-member (λ (k : ℕ). not (nat_lt k cap)) ns n has (ap not (at_least n cap (nat_lt n cap) refl le)) in cc)

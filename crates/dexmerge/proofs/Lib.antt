@@ -10,6 +10,7 @@ pub mod CapLaws
 pub mod MergeLaws
 pub mod ShortStrings
 pub mod FarTexts
+pub mod Counting
 pub mod JoinedPlaces
 pub mod Gathered
 pub mod JoinLaws

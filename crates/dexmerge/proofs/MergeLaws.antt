@@ -101,10 +101,10 @@ module _ (m : Mentions) (D : List Definition) (cs : List Candidate) (h : AreOnce
   same : AreSame E D
   same = h.copies.members.same
 
-  once_own : m ≡ mentions E
+  pub once_own : m ≡ mentions E
   once_own = h.copies.mentions_are ∙ mentions-same D E (λ d. (same d).1) (λ d. (same d).0)
 
-  once_apart : AreDistinct E
+  pub once_apart : AreDistinct E
   once_apart = definitions_differ m h.copies.rising Ks h.copies.members.known h.kept.rise
 
   one_each : IsConsistent E

@@ -5,6 +5,7 @@ pub mod Faults
 pub mod Candidates
 pub mod Cycles
 pub mod Amounts
+pub mod Counting
 pub mod Unions
 pub mod Gathering
 pub mod Parts

@@ -9,8 +9,8 @@ ghost use Rattle.dexspec.specs.Weight.{body_weight};
 ghost use Rattle.dexmembers.specs.Fitting.{members_short_strings};
 ghost use Rattle.dexclass.specs.Numbered.{definition_of};
 ghost use Rattle.dexclass.specs.Renumbering.{LeadInto, IsLedClass, led};
-ghost use Rattle.dexmerge.specs.Amounts.{has_from};
 ghost use Rattle.dexmerge.specs.Candidates.{AreMembers, IsOfPart, class_of, classes_of};
+ghost use Rattle.dexmerge.specs.Counting.{Decides};
 
 use dexclass::{Class, Program, renumbering_law};
 use dexorder::HasParents;
@@ -49,25 +49,22 @@ impl<'a, 'b> Candidate<'a, 'b> {
         self.class.weight()
     }
 
-    /// Whether the number in the union of a text that a `const-string` of the class names is not below a cap; a
-    /// `const-string/jumbo` does not count. Maps keep the order of numbers, so only the greatest has to be led on.
+    /// The greatest number in the union of a text that a `const-string` of the class names, or `None` without one; a
+    /// `const-string/jumbo` does not count. Maps keep the order of numbers, so only the greatest is remapped.
     ///
     /// Condition: each symbol that occurs in the class leads somewhere.
     ///
     /// Source: "Instruction Formats", the 16 bits of an index.
-    pub(crate) fn has_text_from(&self, cap: usize) -> bool
+    pub(crate) fn greatest_short_string(&self) -> Option<usize>
         requires { IsLedClass self.now.remap.now self.now.class.now }
-        ensures { result ≡ has_from cap (members_short_strings (class_of self.now).members) }
+        ensures { Decides result (members_short_strings (class_of self.now).members) }
     {
         self.remap.keeps_order();
         let greatest = match self.class.members().greatest_short_string() {
             Some(greatest) => greatest,
-            None => return false,
+            None => return None,
         };
-        match self.remap.image(SymbolKind::Text, greatest as usize) {
-            Some(image) => image >= cap,
-            None => false,
-        }
+        self.remap.image(SymbolKind::Text, greatest as usize)
     }
 }
 

@@ -1,17 +1,21 @@
 //! What a union comes to, and the first cap that it exceeds.
 
-ghost use Rattle.std.specs.Prelude.{◌≡◌, ◌-◌, ◌^◌, min, nat_lt, All};
+ghost use Rattle.std.specs.Prelude.{◌≡◌, ℕ, ◌-◌, ◌^◌, ◌||◌, min, nat_lt, All};
+ghost use Rattle.dexspec.specs.Mentions.{Mentions};
 ghost use Rattle.dexpool.specs.Pools.{count_of};
 ghost use Rattle.dexclass.specs.Uses.{IsKnownClass};
 ghost use Rattle.dexmerge.specs.Candidates.{IsOfPart, classes_of};
 ghost use Rattle.dexmerge.specs.Amounts.{weight_over, short_numbers, has_from, first_over};
+ghost use Rattle.dexmerge.specs.Counting.{Decides, is_from};
 
 use crate::candidates::Candidate;
 use crate::caps::Caps;
 use dexpool::{Numbering, SymbolKind};
 
-// What the classes weigh, with the symbols of the numbering, or 2^64 - 1 where that is more.
-fn weight(numbering: &Numbering<'_>, classes: &[Candidate<'_, '_>]) -> u64
+/// What the classes weigh, with the symbols of the numbering, or 2^64 - 1 where that is more.
+///
+/// Condition: the classes are classes of parts, led to the numbering.
+pub(crate) fn weight(numbering: &Numbering<'_>, classes: &[Candidate<'_, '_>]) -> u64
     requires { All (IsOfPart numbering.now) classes.now }
     ensures { result ≡ min (2 ^ 64 - 1) (weight_over numbering.now (classes_of classes.now)) }
 {
@@ -29,8 +33,46 @@ fn has_more(numbering: &Numbering<'_>, kind: SymbolKind, cap: u32) -> bool
     numbering.count(kind) > cap as usize
 }
 
-// Whether the number of a text that a `const-string` names is not below a cap; a `const-string/jumbo` does not count.
-// No code is read where there are no more texts than the cap.
+// The greater number, if there is one.
+fn greater(number: Option<usize>, other: Option<usize>) -> Option<usize>
+    ensures { (cap : ℕ) → is_from cap result ≡ (is_from cap number || is_from cap other) }
+{
+    match number {
+        Some(number) => match other {
+            Some(other) => Some(number.max(other)),
+            None => Some(number),
+        },
+        None => other,
+    }
+}
+
+/// The greatest number of a text that a `const-string` names, or `None` without one; a `const-string/jumbo` does not
+/// count.
+///
+/// Condition: the classes are classes of parts, led to a numbering.
+pub(crate) fn greatest_short_string(classes: &[Candidate<'_, '_>]) -> Option<usize>
+    requires { (m : Mentions) × All (IsOfPart m) classes.now }
+    ensures { Decides result (short_numbers (classes_of classes.now)) }
+{
+    let mut greatest = None;
+    for i in 0..classes.len() {
+        greatest = greater(greatest, classes[i].greatest_short_string());
+    }
+    greatest
+}
+
+// Whether a number, if there is one, is not below a cap.
+fn is_from(cap: usize, number: Option<usize>) -> bool
+    ensures { result ≡ is_from cap number }
+{
+    match number {
+        Some(number) => number >= cap,
+        None => false,
+    }
+}
+
+// Whether the number of a text that a `const-string` names is not below a cap. No code is read where there are no more
+// texts than the cap.
 fn has_text_from(numbering: &Numbering<'_>, classes: &[Candidate<'_, '_>], cap: u32) -> bool
     requires parts { All (IsOfPart numbering.now) classes.now }
     requires known { All (IsKnownClass numbering.now) (classes_of classes.now) }
@@ -39,12 +81,7 @@ fn has_text_from(numbering: &Numbering<'_>, classes: &[Candidate<'_, '_>], cap: 
     if !has_more(numbering, SymbolKind::Text, cap) {
         return false;
     }
-    for i in 0..classes.len() {
-        if classes[i].has_text_from(cap as usize) {
-            return true;
-        }
-    }
-    false
+    is_from(cap as usize, greatest_short_string(classes))
 }
 
 // Whether the classes weigh more than a cap allows.

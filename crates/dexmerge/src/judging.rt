@@ -24,8 +24,8 @@ use dexpool::{Numbering, Remap, SymbolKind};
 use dexstr::Name;
 use std::alloc::{AllocError, Global};
 
-// One class of each name. Classes of one name that are unlike are a conflict.
-fn one_of_each<'a, 'b>(
+/// One class of each name. Classes of one name that are unlike are a conflict.
+pub(crate) fn one_of_each<'a, 'b>(
     alloc: Global,
     numbering: &Numbering<'_>,
     candidates: &[Candidate<'a, 'b>],
@@ -42,8 +42,8 @@ fn one_of_each<'a, 'b>(
     }
 }
 
-// The name of a class.
-fn name_of(
+/// The name of a class.
+pub(crate) fn name_of(
     alloc: Global,
     numbering: &Numbering<'_>,
     classes: &[Candidate<'_, '_>],

@@ -11,12 +11,14 @@ mod faults;
 mod fitting;
 mod gathering;
 mod judging;
+mod measuring;
 mod merging;
 mod plan;
 mod planned;
 
 pub use caps::Caps;
 pub use faults::{MergeFault, PlanFault};
+pub use measuring::{Counts, measure};
 pub use merging::merge;
 pub use plan::{Plan, is_plan_for};
 pub use planned::{merge_files, merge_plan};

@@ -47,8 +47,8 @@ fn all_parts<'a, 'b>(
     Ok(parts)
 }
 
-// The numbering of all parts, and where the numbers of each lead.
-fn joined<'a>(
+/// The numbering of all parts, and where the numbers of each lead.
+pub(crate) fn joined<'a>(
     alloc: Global,
     parts: &[&Program<'a>],
 ) -> Result<(Numbering<'a>, Vec<Remap>), AllocError>

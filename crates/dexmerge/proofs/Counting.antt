@@ -1,0 +1,127 @@
+-- What a union holds, in numbers.
+use Rattle.std.proofs.Common.{◌≡◌, ℕ, ◌+◌, ◌-◌, ◌^◌, ◌<◌, ◌≤◌, Bool, true, false, not, ◌||◌, min, List, [], ◌∷◌, ◌++◌, length, take, map, refl, sym, ap, ◌∙◌, arith, Option, Some, None}
+use Rattle.std.specs.Prelude.{All, nat_lt}
+use Rattle.std.specs.List.{Contains, list_any}
+use Rattle.std.proofs.lemmas.Bool.{ltb-true, ltb-false, lt-ltb}
+use Rattle.std.proofs.lemmas.List.{take_more, append-nil, length-map}
+use Rattle.std.proofs.lemmas.List.Folds.{list_any-append}
+use Rattle.std.proofs.lemmas.Grind.{flat_map-append}
+use Rattle.dexspec.specs.Lists.{rank}
+use Rattle.dexspec.specs.Texts.{Text, text_cmp}
+use Rattle.dexspec.specs.Classes.{Definition}
+use Rattle.dexspec.specs.Mentions.{Mentions, mentions}
+use Rattle.dexspec.specs.Merging.{HasShortString}
+use Rattle.dexspec.proofs.Members.{list_any-source}
+use Rattle.dexpool.specs.Numberings.{IsAt, Maps, image}
+use Rattle.dexpool.specs.Orderly.{KeepOrder}
+use Rattle.dexinsn.specs.Fitting.{IsGreatest}
+use Rattle.dexmembers.specs.Fitting.{members_short_strings}
+use Rattle.dexmembers.specs.Renumbering.{renumbered_members}
+use Rattle.dexclass.specs.Numbered.{NumberedClass, definition_of}
+use Rattle.dexclass.specs.Parents.{no_class}
+use Rattle.dexclass.specs.Renumbering.{IsLedClass}
+use Rattle.dexclass.specs.Uses.{IsKnownClass}
+use Rattle.dexmerge.specs.declared.candidates.Candidate.{Candidate}
+use Rattle.dexmerge.specs.declared.measuring.Counts.{Counts}
+use Rattle.dexmerge.specs.Amounts.{short_numbers, has_from}
+use Rattle.dexmerge.specs.Candidates.{classes_of, class_at}
+use Rattle.dexmerge.specs.Counting.{AreCounts, AreCountsOver, Decides, IsShortBound, above_it, is_from}
+use Rattle.dexmerge.specs.Unions.{AreOnce}
+use Rattle.dexmerge.proofs.CapLaws.{none_from, weight_is}
+use Rattle.dexmerge.proofs.FarTexts.{few_texts, greatest_decides, none_led}
+use Rattle.dexmerge.proofs.MergeLaws.{once_apart, once_own}
+use Rattle.dexmerge.proofs.ShortStrings.{short_named_by, short_stands_for, rank_is}
+
+-- nothing is not below what is above it
+over : (greatest : Option ℕ) → is_from (above_it greatest) greatest ≡ false
+over None = refl
+over (Some g) = ap not (lt-ltb g (g + 1) (omega arith))
+
+not_true : (b : Bool) → not b ≡ true → b ≡ false
+not_true true e = absurd cc
+not_true false e = refl
+
+not_self : (g : ℕ) (b : Bool) → nat_lt g g ≡ b → not b ≡ true
+not_self g true e = absurd (omega (arith, ltb-true g g e))
+not_self g false e = refl
+
+-- where no number is from a cap on, the greatest is below it
+below_cap : (cap : ℕ) (greatest : Option ℕ) → is_from cap greatest ≡ false → above_it greatest ≤ cap
+below_cap cap None e = omega arith
+below_cap cap (Some g) e = by (nat_lt g cap) refl e
+  where
+    by : (b : Bool) → nat_lt g cap ≡ b → not b ≡ false → g + 1 ≤ cap
+    by true t e = omega (arith, ltb-true g cap t)
+    by false t e = absurd cc
+
+-- each number is that of a text
+pub within_texts : (m : Mentions) (cs : List NumberedClass) (greatest : Option ℕ) → All (IsKnownClass m) cs → Decides greatest (short_numbers cs) → above_it greatest ≤ length m.texts
+within_texts m cs greatest known decides = below_cap (length m.texts) greatest (sym (decides (length m.texts)) ∙ few_texts m cs (length m.texts) known (omega arith))
+
+-- where the greatest leads decides
+pub image_decides : (r : Maps) (x : NumberedClass) → IsLedClass r x → (g : ℕ) (o : Option ℕ) → KeepOrder r → IsGreatest (members_short_strings x.members) (Some g) → image r.texts g ≡ o → Decides o (members_short_strings (renumbered_members r x.members))
+image_decides r x led g None order is e = absurd (none_led r x led g is e)
+image_decides r x led g (Some k) order is e = λ cap. greatest_decides r x led g k cap order is e
+
+-- one class more
+pub decides_more : (cs : List NumberedClass) (i : ℕ) (a b c : Option ℕ) → i < length cs → Decides a (short_numbers (take i cs)) → Decides b (members_short_strings (class_at cs i).members) → ((cap : ℕ) → is_from cap c ≡ (is_from cap a || is_from cap b)) → Decides c (short_numbers (take (i + 1) cs))
+decides_more cs i a b c lt before own both = λ cap.
+    let test : ℕ → Bool = λ n. not (nat_lt n cap) in
+    let mine : List ℕ = members_short_strings (class_at cs i).members in
+    let more : short_numbers (take (i + 1) cs) ≡ short_numbers (take i cs) ++ mine =
+    ap short_numbers (take_more cs i no_class lt) ∙ flat_map-append (λ (x : NumberedClass). members_short_strings x.members) (take i cs) (class_at cs i ∷ []) ∙ ap (λ (l : List ℕ). short_numbers (take i cs) ++ l) (append-nil mine) in
+    ap (list_any test) more ∙ list_any-append test (short_numbers (take i cs)) mine
+    ∙ ap (λ (t : Bool). t || list_any test mine) (before cap) ∙ ap (λ (t : Bool). is_from cap a || t) (own cap) ∙ sym (both cap)
+
+module _ (m : Mentions) (D : List Definition) (cs : List Candidate) (h : AreOnce m D cs) where
+  abbrev Ks : List NumberedClass
+  Ks = classes_of cs
+
+  abbrev E : List Definition
+  E = map (definition_of m) Ks
+
+  -- the rank of a text is its number
+  rank_in : (n : ℕ) (s : Text) → IsAt m.texts n s → rank text_cmp s (mentions D).texts ≡ n
+  rank_in n s at = ap (λ (o : Mentions). rank text_cmp s o.texts) (sym h.copies.mentions_are) ∙ rank_is m h.copies.rising n s at
+
+  -- the same definitions have the same const-strings
+  in_all : (s : Text) → HasShortString E s → HasShortString D s
+  in_all s x = record { definition = x.definition; method = x.method; code = x.code; units = x.units; member = (h.copies.members.same x.definition).0 x.member; declared = x.declared; has_code = x.has_code; piece = x.piece; short = x.short }
+
+  in_kept : (s : Text) → HasShortString D s → HasShortString E s
+  in_kept s x = record { definition = x.definition; method = x.method; code = x.code; units = x.units; member = (h.copies.members.same x.definition).1 x.member; declared = x.declared; has_code = x.has_code; piece = x.piece; short = x.short }
+
+  below : (greatest : Option ℕ) → Decides greatest (short_numbers Ks) → (s : Text) → HasShortString D s → rank text_cmp s (mentions D).texts < above_it greatest
+  below greatest decides s x =
+      let f = short_named_by m Ks h.copies.members.known s (in_kept s x) in
+      let low = none_from (above_it greatest) (short_numbers Ks) f.0 (decides (above_it greatest) ∙ over greatest) f.1 in
+      omega (arith, rank_in f.0 s f.2, low)
+
+  least : (greatest : Option ℕ) → Decides greatest (short_numbers Ks) → 0 < above_it greatest → (s : Text) × HasShortString D s × (rank text_cmp s (mentions D).texts + 1 ≡ above_it greatest)
+  least None decides lt = absurd (omega (arith, lt))
+  least (Some g) decides lt =
+      let n = list_any-source (λ (k : ℕ). not (nat_lt k g)) (short_numbers Ks) (decides g ∙ not_self g (nat_lt g g) refl) in
+      let f = short_stands_for m Ks h.copies.members.known n.0 n.1 in
+      let high = ltb-false n.0 g (not_true (nat_lt n.0 g) n.2) in
+      let low = none_from (g + 1) (short_numbers Ks) n.0 (decides (g + 1) ∙ over (Some g)) n.1 in
+      (f.0, in_all f.0 f.2, omega (arith, rank_in n.0 f.0 f.1, high, low))
+
+  pub once_counts : (counts : Counts) → AreCountsOver m Ks counts → AreCounts D counts
+  once_counts counts x = record {
+    types = x.types ∙ ap (λ (o : Mentions). length o.types) h.copies.mentions_are;
+    protos = x.protos ∙ ap (λ (o : Mentions). length o.protos) h.copies.mentions_are;
+    fields = x.fields ∙ ap (λ (o : Mentions). length o.fields) h.copies.mentions_are;
+    methods = x.methods ∙ ap (λ (o : Mentions). length o.methods) h.copies.mentions_are;
+    strings = x.strings ∙ ap (λ (o : Mentions). length o.texts) h.copies.mentions_are;
+    short_strings = record {
+      below = λ s y. omega (arith, below x.greatest x.decides s y, x.short_strings);
+      least = λ lt. (let l = least x.greatest x.decides (omega (arith, lt, x.short_strings)) in (l.0, l.1, l.2 ∙ sym x.short_strings));
+    };
+    size = record {
+      once = E;
+      same = h.copies.members.same;
+      distinct = once_apart m D cs h;
+      classes_are = x.classes ∙ sym (length-map Ks (definition_of m));
+      weighs_is = x.weight ∙ ap (λ (w : ℕ). min (2 ^ 64 - 1) w) (sym (weight_is m Ks (once_own m D cs h)));
+    };
+  }

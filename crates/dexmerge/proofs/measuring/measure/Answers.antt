@@ -1,0 +1,17 @@
+use Rattle.std.proofs.Common.{List, map, sym, subst}
+use Rattle.std.specs.List.{flat_map}
+use Rattle.dexspec.specs.Classes.{Definition}
+use Rattle.dexspec.specs.Files.{Collection, definitions}
+use Rattle.dexpool.specs.Numberings.{Maps}
+use Rattle.dexmerge.specs.Unions.{AreCopies, IsJoined}
+use Rattle.dexmerge.proofs.MergeLaws.{are_copies}
+use Rattle.dexmerge.proofs.measuring.measure.Goals as goal
+
+pub returns-in-Err-clause-fault : goal.returns-in-Err-clause-fault
+returns-in-Err-clause-fault c = λ caps.
+    let Ks : List Collection = map (λ part. part.now) c.args.parts.now in
+    let D : List Definition = flat_map definitions Ks in
+    let m = c.in_ok-numbering.numbering in
+    let joined : IsJoined Ks m c.deref.result.now = subst (λ (r : List Maps). IsJoined Ks m r) (sym c.deref.ensures.value) c.in_ok-numbering.ensures in
+    let copies : AreCopies m D c.in_ok-copies.copies.items = are_copies Ks m c.deref.result.now c.in_ok-copies.copies.items joined (c.in_ok-copies.ensures.members m) (c.in_ok-copies.ensures.parts m) in
+    c.in-Err.ensures.fault caps D (subst (AreCopies m D) (sym c.deref-2.ensures.value) copies)

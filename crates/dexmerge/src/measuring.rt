@@ -1,0 +1,110 @@
+//! What a union holds, in numbers.
+
+ghost use Rattle.std.specs.Prelude.{◌≡◌, ◌≤◌, All, map, List, IfOk, IfErr};
+ghost use Rattle.std.specs.List.{flat_map};
+ghost use Rattle.dexspec.specs.Classes.{Definition};
+ghost use Rattle.dexspec.specs.Files.{definitions};
+ghost use Rattle.dexspec.specs.Merging as merging;
+ghost use Rattle.dexspec.specs.Merging.{IsFirstCause};
+ghost use Rattle.dexclass.specs.Uses.{IsKnownClass};
+ghost use Rattle.dexmerge.specs.Candidates.{IsOfPart, classes_of};
+ghost use Rattle.dexmerge.specs.Counting.{AreCounts, AreCountsOver, above_it};
+ghost use Rattle.dexmerge.specs.Faults.{Tells};
+ghost use Rattle.dexmerge.specs.Unions.{AreOnce};
+
+use crate::candidates::{Candidate, candidates};
+use crate::cycles::class_depths;
+use crate::faults::MergeFault;
+use crate::fitting::{greatest_short_string, weight};
+use crate::judging::{name_of, one_of_each};
+use crate::merging::joined;
+use dexclass::Program;
+use dexpool::{Numbering, SymbolKind};
+use std::alloc::Global;
+
+/// What a merged program holds.
+#[derive(Clone, Copy, Debug, PartialEq, Eq)]
+pub struct Counts {
+    /// The types that the classes mention.
+    pub types: usize,
+    /// The protos.
+    pub protos: usize,
+    /// The fields.
+    pub fields: usize,
+    /// The methods.
+    pub methods: usize,
+    /// One more than the greatest number of a string that a `const-string` names, or 0 without one.
+    pub short_strings: usize,
+    /// The weight, or 2^64 - 1 where it is more.
+    pub weight: u64,
+    /// The classes.
+    pub classes: usize,
+    /// The strings.
+    pub strings: usize,
+}
+
+// One more than the number, or 0 without one.
+fn above_it(number: Option<usize>, count: usize) -> usize
+    requires { above_it number ≤ count }
+    ensures { result ≡ above_it number }
+{
+    match number {
+        Some(number) if number < count => number + 1,
+        _ => 0,
+    }
+}
+
+// What classes hold, with the symbols of their numbering.
+fn counts_of(numbering: &Numbering<'_>, classes: &[Candidate<'_, '_>]) -> Counts
+    requires parts { All (IsOfPart numbering.now) classes.now }
+    requires known { All (IsKnownClass numbering.now) (classes_of classes.now) }
+    ensures { AreCountsOver numbering.now (classes_of classes.now) result }
+{
+    let strings = numbering.count(SymbolKind::Text);
+    Counts {
+        types: numbering.count(SymbolKind::Typ),
+        protos: numbering.count(SymbolKind::Proto),
+        fields: numbering.count(SymbolKind::Field),
+        methods: numbering.count(SymbolKind::Method),
+        short_strings: above_it(greatest_short_string(classes), strings),
+        weight: weight(numbering, classes),
+        classes: classes.len(),
+        strings,
+    }
+}
+
+// What classes, one of each name, hold, unless one is above itself.
+fn measure_once(
+    alloc: Global,
+    numbering: &Numbering<'_>,
+    classes: &[Candidate<'_, '_>],
+) -> Result<Counts, MergeFault>
+    requires { (D : List Definition) × AreOnce numbering.now D classes.now }
+    ensures counts { IfOk result (λ counts. (D : List Definition) → AreOnce numbering.now D classes.now → AreCounts D counts) }
+    ensures fault { IfErr result (λ fault. (caps : merging.Caps) (D : List Definition) → AreOnce numbering.now D classes.now → Tells (IsFirstCause caps D) fault) }
+{
+    let types = numbering.count(SymbolKind::Typ);
+    let _depths = match class_depths(alloc, classes, types)? {
+        Ok(depths) => depths,
+        Err(i) => return Err(MergeFault::Cycle(name_of(alloc, numbering, classes, i)?)),
+    };
+    Ok(counts_of(numbering, classes))
+}
+
+/// What the program of all classes of the parts holds, in any order and with any repeats: the numbers that caps bound,
+/// and those of its classes and strings. No cap is asked.
+///
+/// Error: `Conflict` with the least name that has two unlike classes; else `Cycle` with the least name of a class that
+/// is above itself or below such a class; or `Memory` where a growth was refused. `Cap` is never answered.
+pub fn measure(alloc: Global, parts: &[&Program<'_>]) -> Result<Counts, MergeFault>
+    ensures counts { IfOk result (AreCounts (flat_map definitions (map (λ part. part.now) parts.now))) }
+    ensures fault { IfErr result (λ fault. (caps : merging.Caps) → Tells (IsFirstCause caps (flat_map definitions (map (λ part. part.now) parts.now))) fault) }
+{
+    let (numbering, remaps) = joined(alloc, parts)?;
+    let copies = candidates(alloc, parts, &remaps)?;
+    let classes = match one_of_each(alloc, &numbering, &copies) {
+        Ok(classes) => classes,
+        Err(fault) => return Err(fault),
+    };
+    measure_once(alloc, &numbering, &classes)
+}

@@ -29,5 +29,6 @@ mod type_lists;
 mod value_items;
 mod writing;
 
+pub use dexlayout::Layout;
 pub use faults::StoreFault;
 pub use writing::{to_bytes, write_to};

@@ -19,6 +19,7 @@ mod stripping;
 mod trimming;
 
 pub use classes::Class;
+pub use dexflags::{ClassFlags, FieldFlags, MethodFlags};
 pub use laws::{renumbering_law, same_law, uses_law};
 pub use programs::Program;
 pub use reading::read;

@@ -5,7 +5,7 @@
 #   make                    proves the program and all that it stands on, crate by crate, and builds crates/dexkit/out/dexkit;
 #                           what is proved is kept, so a run that was interrupted goes on where it was
 #   make check              the gate: proves everything from nothing and runs all cases
-#   make documents          checks links, sizes and versions of the documents
+#   make documents          checks links, sizes, names and versions in the documents
 #   make install PREFIX=..  installs the proved program, its manual, completions and notices; PREFIX is /usr/local if not given
 #   make dist               packs them as a tar file and a Debian package in dist/
 #   make clean              removes what checks and builds keep
@@ -53,6 +53,7 @@ check:
 
 documents:
 	tests/documents/run
+	[ ! -x tests/cases/run ] || tests/cases/run
 
 $(PROGRAM):
 	@echo "$(PROGRAM) is not there: prove and build it with make (more than an hour)" >&2

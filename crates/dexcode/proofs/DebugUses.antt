@@ -1,14 +1,13 @@
 -- The symbols of a debug program, part by part, and what becomes of their numbers.
-use Rattle.std.proofs.Common.{◌≡◌, ℕ, ◌+◌, ◌<◌, ◌^◌, ◌==◌, Bool, false, ◌||◌, ◌&&◌, true, List, [], ◌∷◌, ◌++◌, length, map, get_or, Option, Some, None, refl, ap, sym, ◌∙◌, subst, arith}
+use Rattle.std.proofs.Common.{◌≡◌, ℕ, ◌+◌, ◌<◌, ◌^◌, List, [], ◌∷◌, ◌++◌, map, Option, Some, None, refl, sym, subst, arith}
 use Rattle.std.proofs.lemmas.List.{length-map}
 use Rattle.std.specs.List.{All, flat_map}
-use Rattle.std.proofs.lemmas.List.Elements.{All-nil, All-cons, All-head, All-tail, All-get_or}
-use Rattle.std.proofs.lemmas.List.Folds.{list_any-append}
+use Rattle.std.proofs.lemmas.List.Elements.{All-nil, All-cons, All-head, All-tail}
 use Rattle.dexpool.specs.declared.symbols.SymbolKind.{SymbolKind}
 use Rattle.dexpool.specs.declared.symbols.SymbolKind.TheVariants as kinds
 use Rattle.dexpool.specs.declared.marks.Marks.{Marks}
 use Rattle.dexpool.specs.Numberings.{Maps, image_of}
-use Rattle.dexpool.specs.Uses.{Use, HasMark, AreMarkedToo, marks_of, same_kind, occurs}
+use Rattle.dexpool.specs.Uses.{Use, AreMarkedToo}
 use Rattle.dexpool.proofs.MarksMade.{none_marked}
 use Rattle.dexpool.proofs.Parts.{all_front, all_back, all_parts, all_map}
 use Rattle.dexcode.specs.declared.debug_operation.Operation.{Operation}

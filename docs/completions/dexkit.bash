@@ -2,7 +2,7 @@
 
 _dexkit() {
     local word=${COMP_WORDS[COMP_CWORD]} before=${COMP_WORDS[COMP_CWORD - 1]}
-    local commands='check count dump merge normalise normalize repair help'
+    local commands='check dump merge normalise help'
     COMPREPLY=()
     if ((COMP_CWORD == 1)); then
         mapfile -t COMPREPLY < <(compgen -W "$commands --help --version" -- "$word")
@@ -21,15 +21,9 @@ _dexkit() {
     if [[ $word == -?* ]]; then
         local options=--help
         case ${COMP_WORDS[1]} in
-            check) options+=' --keep-going' ;;
             merge) options+=' --out --strip --fan --max-types --max-protos --max-fields --max-methods --max-weight' ;;
         esac
         mapfile -t COMPREPLY < <(compgen -W "$options" -- "$word")
-        return
-    fi
-    # A list of arguments is @FILE.
-    if [[ $word == @* ]]; then
-        mapfile -t COMPREPLY < <(compgen -P @ -f -- "${word#@}")
         return
     fi
     mapfile -t COMPREPLY < <(compgen -d -- "$word"; compgen -f -X '!*.dex' -- "$word")

@@ -10,7 +10,7 @@ ghost use Rattle.dexclass.specs.Rows.{IsKnown, IsClassFault, AreDefinedMarks, Is
 
 use crate::class_rows::{NO_INDEX, RowFields, row_fields};
 use crate::class_types::{class_types, defined, mark, no_marks};
-use dexhead::{Frame, Refusal, Table, u16_at};
+use dexhead::{Condition, Frame, Refusal, Table, u16_at};
 use dexpool::{Pools, ReadFault, SymbolKind, type_list_len};
 use std::alloc::Global;
 
@@ -168,7 +168,7 @@ pub(crate) fn judge_classes(
     for r in 0..count {
         if !judge.holds(&seen, r) {
             return Err(ReadFault::Refused(Refusal {
-                number: 16,
+                number: Condition::Classes as u8,
                 place: r,
             }));
         }

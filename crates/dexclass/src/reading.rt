@@ -16,7 +16,7 @@ use crate::classes::{Class, class_at};
 use crate::judging::judge_classes;
 use crate::programs::Program;
 use crate::trimming::trim;
-use dexhead::{Frame, Refusal, Table};
+use dexhead::{Condition, Frame, Refusal, Table};
 use dexlaws_denotes::good::denoted_is_good;
 use dexmembers::read_members;
 use dexpool::{ItemFault, Numbering, Pools, ReadFault, type_list_len};
@@ -71,7 +71,7 @@ fn too_heavy(r: u32) -> ReadFault
     ensures { result ≡ Refused (record { number = 23; place = r }) }
 {
     ReadFault::Refused(Refusal {
-        number: 23,
+        number: Condition::Weight as u8,
         place: r,
     })
 }
@@ -162,7 +162,7 @@ fn judge_weight(frame: &Frame<'_>, numbering: &Numbering<'_>, bodies: u64) -> Re
         .saturating_add(1024);
     if weight > MOST_WEIGHT {
         return Err(Refusal {
-            number: 23,
+            number: Condition::Weight as u8,
             place: frame.size(Table::ClassDefs).saturating_sub(1),
         });
     }

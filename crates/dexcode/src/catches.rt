@@ -8,6 +8,7 @@ ghost use Rattle.dexcode.specs.Reading.{IsStart, CatchAt, CatchesRead, CatchAllA
 ghost use Rattle.dexcode.specs.declared.handlers.Catch.{Catch as Caught};
 
 use crate::handlers::{Catch, Handler};
+use dexhead::Condition;
 use dexinsn::InstructionStarts;
 use dexleb::{read_s, read_u};
 use dexpool::ItemFault;
@@ -79,7 +80,7 @@ fn read_catches(
     for _ in 0..count {
         let (caught, len) = match read_catch(bytes, at + size, starts, types) {
             Some(read) => read,
-            None => return Err(ItemFault::Refused(19)),
+            None => return Err(ItemFault::Refused(Condition::Tries as u8)),
         };
         catches.push(caught)?;
         size += len;
@@ -123,7 +124,7 @@ pub(crate) fn read_handler(
 {
     let (count, count_size) = match read_s(bytes, at) {
         Ok(read) => read,
-        Err(_) => return Err(ItemFault::Refused(19)),
+        Err(_) => return Err(ItemFault::Refused(Condition::Tries as u8)),
     };
     let first = at + count_size;
     let many = count.unsigned_abs() as usize;
@@ -135,7 +136,7 @@ pub(crate) fn read_handler(
         starts,
     ) {
         Some(read) => read,
-        None => return Err(ItemFault::Refused(19)),
+        None => return Err(ItemFault::Refused(Condition::Tries as u8)),
     };
     let handler = Handler {
         catches,

@@ -10,7 +10,7 @@ use crate::code::Code;
 use crate::debug_reading::read_debug;
 use crate::tries::Tries;
 use crate::try_table::read_try_table;
-use dexhead::{Frame, u16_at, u32_at};
+use dexhead::{Condition, Frame, u16_at, u32_at};
 use dexinsn::{InstructionStarts, Scratch, build_pieces, check_pieces};
 use dexpool::{ItemFault, Pools, SymbolKind};
 use std::alloc::Global;
@@ -37,10 +37,10 @@ fn read_tries(
         return read_try_table(alloc, bytes, behind, count, units, starts, types);
     }
     if bytes.len() < behind + 2 {
-        return Err(ItemFault::Refused(19));
+        return Err(ItemFault::Refused(Condition::Tries as u8));
     }
     if u16_at(bytes, behind) != 0 {
-        return Err(ItemFault::Refused(19));
+        return Err(ItemFault::Refused(Condition::Tries as u8));
     }
     read_try_table(alloc, bytes, behind + 2, count, units, starts, types)
 }
@@ -65,13 +65,13 @@ pub fn read_code<'a>(
 {
     pools.numbering().is_numbering();
     if !frame.is_in_data(off, 16) {
-        return Err(ItemFault::Refused(18));
+        return Err(ItemFault::Refused(Condition::Code as u8));
     }
     let bytes = frame.bytes();
     let off_bytes = off as usize;
     let units = u64::from(u32_at(bytes, off_bytes + 12));
     if !frame.is_in_data(off, 16 + 2 * units) {
-        return Err(ItemFault::Refused(18));
+        return Err(ItemFault::Refused(Condition::Code as u8));
     }
     let mut scratch = Scratch::new(alloc);
     let shape = check_pieces(frame, pools, off, &mut scratch)?;

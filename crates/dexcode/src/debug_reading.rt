@@ -15,7 +15,7 @@ use crate::debug_opcodes::{
     DBG_START_LOCAL_EXTENDED,
 };
 use crate::debug_operation::Operation;
-use dexhead::Frame;
+use dexhead::{Condition, Frame};
 use dexleb::{read_p1, read_s, read_u};
 use dexpool::{ItemFault, Pools, SymbolKind};
 use std::alloc::{AllocError, Global};
@@ -369,7 +369,7 @@ pub fn check_debug(frame: &Frame<'_>, pools: &Pools<'_>, off: u32) -> Result<Deb
 {
     match shape_at(frame, pools, off) {
         Some(shape) => Ok(shape),
-        None => Err(ItemFault::Refused(20)),
+        None => Err(ItemFault::Refused(Condition::Debug as u8)),
     }
 }
 

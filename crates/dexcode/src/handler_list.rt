@@ -8,6 +8,7 @@ ghost use Rattle.dexcode.specs.Reading.{HandlerAt, HandlersRead, IsListAt, IsNum
 
 use crate::catches::read_handler;
 use crate::handlers::Handler;
+use dexhead::Condition;
 use dexinsn::InstructionStarts;
 use dexleb::read_u;
 use dexpool::ItemFault;
@@ -81,7 +82,7 @@ pub(crate) fn read_list(
 {
     let (count, count_size) = match read_u(bytes, at) {
         Ok(read) => read,
-        Err(_) => return Err(ItemFault::Refused(19)),
+        Err(_) => return Err(ItemFault::Refused(Condition::Tries as u8)),
     };
     read_handlers(alloc, bytes, at, at + count_size, count, starts, types)
 }

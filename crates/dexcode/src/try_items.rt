@@ -7,7 +7,7 @@ ghost use Rattle.dexcode.specs.declared.tries.Try.{Try as Meant};
 
 use crate::handler_list::handler_at;
 use crate::tries::Try;
-use dexhead::{u16_at, u32_at};
+use dexhead::{Condition, u16_at, u32_at};
 use dexpool::ItemFault;
 use std::alloc::Global;
 
@@ -54,10 +54,10 @@ pub(crate) fn read_try_items(
     for _ in 0..count {
         let item = match read_try(bytes, place, units, numbers) {
             Some(item) => item,
-            None => return Err(ItemFault::Refused(19)),
+            None => return Err(ItemFault::Refused(Condition::Tries as u8)),
         };
         if item.start_addr < end {
-            return Err(ItemFault::Refused(19));
+            return Err(ItemFault::Refused(Condition::Tries as u8));
         }
         end = item.start_addr + u32::from(item.insn_count);
         tries.push(item)?;

@@ -7,6 +7,7 @@ ghost use Rattle.dexcode.specs.Reading.{TryItemsAt, IsTriesFault};
 use crate::handler_list::{HandlerList, read_list};
 use crate::tries::Tries;
 use crate::try_items::read_try_items;
+use dexhead::Condition;
 use dexinsn::InstructionStarts;
 use dexpool::ItemFault;
 use std::alloc::Global;
@@ -27,7 +28,7 @@ pub(crate) fn read_try_table(
 {
     let size = 8 * usize::from(count);
     if bytes.len() - at <= size {
-        return Err(ItemFault::Refused(19));
+        return Err(ItemFault::Refused(Condition::Tries as u8));
     }
     let list_at = at + size;
     let HandlerList { handlers, numbers } = read_list(alloc, bytes, list_at, starts, types)?;
@@ -38,6 +39,6 @@ pub(crate) fn read_try_table(
     };
     match tries {
         Some(tries) => Ok(tries),
-        None => Err(ItemFault::Refused(19)),
+        None => Err(ItemFault::Refused(Condition::Tries as u8)),
     }
 }

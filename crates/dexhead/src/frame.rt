@@ -5,9 +5,12 @@ ghost use Rattle.dexspec.specs.Header.{table_size, table_off, row_size, data_off
 ghost use Rattle.dexspec.specs.Rows.{row_at};
 ghost use Rattle.dexspec.specs.Sections.{IsInData};
 ghost use Rattle.dexspec.specs.Accepted.{HoldBelow, IsFrame, IsRefused};
+ghost use Rattle.dexspec.specs.Conditions.{number};
+ghost use Rattle.dexhead.specs.Conditions.{condition_meant};
 ghost use Rattle.dexhead.specs.Refusals.{IsEarly};
 ghost use Rattle.dexhead.specs.Tables.{meant};
 
+use crate::condition::Condition;
 use crate::refusal::Refusal;
 use crate::tables::Table;
 use crate::{header, map};
@@ -141,15 +144,15 @@ fn judge_start(bytes: &[u8]) -> Result<(), Refusal>
     ensures refused { IfErr result (IsEarly bytes.now) }
 {
     if !header::has_size(bytes) {
-        return Err(whole(1));
+        return Err(whole(Condition::Size));
     }
     if !header::has_magic(bytes) {
-        return Err(whole(2));
+        return Err(whole(Condition::Magic));
     }
     let version = header::version(bytes);
     if version != 35 {
         return Err(Refusal {
-            number: 3,
+            number: Condition::Version as u8,
             place: version,
         });
     }
@@ -163,13 +166,13 @@ fn judge_fields(bytes: &[u8]) -> Result<(), Refusal>
     ensures refused { IfErr result (IsEarly bytes.now) }
 {
     if !header::has_lengths(bytes) {
-        return Err(whole(4));
+        return Err(whole(Condition::Lengths));
     }
     if !header::has_endian(bytes) {
-        return Err(whole(5));
+        return Err(whole(Condition::Endian));
     }
     if !header::has_no_link(bytes) {
-        return Err(whole(6));
+        return Err(whole(Condition::Link));
     }
     Ok(())
 }
@@ -181,10 +184,10 @@ fn judge_sums(bytes: &[u8]) -> Result<(), Refusal>
     ensures refused { IfErr result (λ refusal. HoldBelow 7 bytes.now → IsEarly bytes.now refusal) }
 {
     if !header::has_checksum(bytes) {
-        return Err(whole(7));
+        return Err(whole(Condition::Checksum));
     }
     if !header::has_signature(bytes) {
-        return Err(whole(8));
+        return Err(whole(Condition::Signature));
     }
     Ok(())
 }
@@ -196,17 +199,20 @@ fn judge_places(bytes: &[u8]) -> Result<(), Refusal>
     ensures refused { IfErr result (λ refusal. HoldBelow 9 bytes.now → IsEarly bytes.now refusal) }
 {
     if !header::has_layout(bytes) {
-        return Err(whole(9));
+        return Err(whole(Condition::Layout));
     }
     if !map::has_map(bytes) {
-        return Err(whole(10));
+        return Err(whole(Condition::Map));
     }
     Ok(())
 }
 
 // The refusal by a condition on the whole file.
-fn whole(number: u8) -> Refusal
-    ensures { result ≡ record { number = number; place = 0 } }
+fn whole(condition: Condition) -> Refusal
+    ensures { result ≡ record { number = number (condition_meant condition); place = 0 } }
 {
-    Refusal { number, place: 0 }
+    Refusal {
+        number: condition.number(),
+        place: 0,
+    }
 }

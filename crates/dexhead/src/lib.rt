@@ -2,6 +2,7 @@
 //! signature, the header, the map, and the devices that bytes come from and go to.
 #![tactic(auto)]
 
+mod condition;
 mod device;
 mod frame;
 mod head;
@@ -18,6 +19,7 @@ mod sums;
 mod tables;
 mod whole;
 
+pub use condition::Condition;
 pub use device::{Device, DeviceFault, Sink, Source, write_whole};
 pub use frame::Frame;
 pub use head::{Head, Rows};

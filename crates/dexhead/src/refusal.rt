@@ -7,7 +7,7 @@
 /// row at which the condition fails.
 #[derive(Clone, Copy, Debug, PartialEq, Eq)]
 pub struct Refusal {
-    /// The number of the condition, from 1 on.
+    /// The number of the condition: [`Condition::number`](crate::Condition::number).
     pub number: u8,
     /// 0, the version, or the row at which the condition fails, counted from 0.
     pub place: u32,

@@ -25,7 +25,7 @@ use crate::scratch::{Scratch, wipe};
 use crate::shape::PiecesShape;
 use crate::start_bits::{groups_lead_right, has_place, next_bit, set_bit};
 use crate::units::{int_at, opcode_in};
-use dexhead::{Frame, u16_at};
+use dexhead::{Condition, Frame, u16_at};
 use dexpool::{ItemFault, Pools};
 use std::alloc::{AllocError, Global};
 
@@ -301,7 +301,7 @@ fn check_units(bytes: &[u8], pools: &Pools<'_>, scratch: &mut Scratch) -> Result
         &mut scratch.noted,
     )? {
         Some(indices) => Ok(indices),
-        None => Err(ItemFault::Refused(18)),
+        None => Err(ItemFault::Refused(Condition::Code as u8)),
     }
 }
 
@@ -325,7 +325,7 @@ pub fn check_pieces(
 {
     let bytes = match units_at(frame, off) {
         Some(bytes) => bytes,
-        None => return Err(ItemFault::Refused(18)),
+        None => return Err(ItemFault::Refused(Condition::Code as u8)),
     };
     let indices = check_units(bytes, pools, scratch)?;
     let code = frame.rest(off);

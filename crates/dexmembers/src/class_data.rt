@@ -13,7 +13,7 @@ ghost use Rattle.dexmembers.specs.ClassData.{IsDataOf, IsDataFault};
 
 use crate::encoded::Owner;
 use crate::encoded_lists::read_lists;
-use dexhead::{Frame, Table, u32_at};
+use dexhead::{Condition, Frame, Table, u32_at};
 use dexleb::read_u;
 use dexpool::{ItemFault, Pools};
 use std::alloc::Global;
@@ -102,7 +102,7 @@ fn read_data(
 {
     let (counts, counts_size) = match read_counts(bytes, at) {
         Some(read) => read,
-        None => return Err(ItemFault::Refused(17)),
+        None => return Err(ItemFault::Refused(Condition::Members as u8)),
     };
     let (statics, instances) = (counts.static_fields, counts.instance_fields);
     let fields_at = at + counts_size;
@@ -172,7 +172,7 @@ pub(crate) fn read_class_data(
         });
     }
     if !frame.is_in_data(off, 1) {
-        return Err(ItemFault::Refused(17));
+        return Err(ItemFault::Refused(Condition::Members as u8));
     }
     read_data(alloc, Owner { pools, class }, bytes, off as usize)
 }

@@ -6,6 +6,7 @@ ghost use Rattle.dexmembers.specs.Numbered.{NumbersRise};
 ghost use Rattle.dexmembers.specs.EncodedMembers.{IsDataRefusal, IsListRead, NoList, AreListsRead, NoLists};
 
 use crate::encoded::{Encoded, Owner};
+use dexhead::Condition;
 use dexpool::ItemFault;
 use std::alloc::Global;
 use std::cmp::Ordering;
@@ -39,7 +40,7 @@ fn read_list<T: Encoded>(
     for _ in 0..count {
         let (member, len) = match T::read(owner, bytes, at + size, last) {
             Some(read) => read,
-            None => return Err(ItemFault::Refused(17)),
+            None => return Err(ItemFault::Refused(Condition::Members as u8)),
         };
         members.push(member)?;
         last = Some(member.index());
@@ -91,7 +92,7 @@ pub(crate) fn read_lists<T: Encoded>(
         Err(fault) => return Err(fault),
     };
     if !are_apart::<T>(&members, &others) {
-        return Err(ItemFault::Refused(17));
+        return Err(ItemFault::Refused(Condition::Members as u8));
     }
     Ok((members, others, size + others_size))
 }

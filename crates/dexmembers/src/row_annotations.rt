@@ -12,7 +12,7 @@ ghost use Rattle.dexmembers.specs.RowParts.{AreAnnotationsOf, AreEntered, AreHea
 
 use crate::class_data::{ClassData, EncodedField, EncodedMethod, row_number};
 use crate::naming::names_members;
-use dexhead::Frame;
+use dexhead::{Condition, Frame};
 use dexpool::{ItemFault, Pools};
 use dexval::{SetTable, SharedDirectory, member_counts, read_shared_directory_within};
 use std::alloc::Global;
@@ -86,7 +86,7 @@ pub(crate) fn read_annotations(
         Err(fault) => return Err(fault),
     };
     if !names_declared(frame, off, declared) {
-        return Err(ItemFault::Refused(22));
+        return Err(ItemFault::Refused(Condition::Annotations as u8));
     }
     Ok(found)
 }

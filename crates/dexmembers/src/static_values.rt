@@ -8,7 +8,7 @@ ghost use Rattle.dexval.specs.Numbered.{values_of_list};
 ghost use Rattle.dexmembers.specs.StaticValues.{AreValuesOf, AreHeavyValues, IsValuesFault};
 
 use crate::class_data::row_number;
-use dexhead::Frame;
+use dexhead::{Condition, Frame};
 use dexpool::{ItemFault, Pools};
 use dexval::{Value, read_statics, statics_weight};
 use std::alloc::Global;
@@ -43,7 +43,7 @@ pub(crate) fn read_static_values(
         Err(fault) => return Err(fault),
     };
     if values.len() > fields {
-        return Err(ItemFault::Refused(21));
+        return Err(ItemFault::Refused(Condition::Values as u8));
     }
     if statics_weight(&values) > most {
         return Ok(None);

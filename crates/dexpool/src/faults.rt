@@ -1,10 +1,12 @@
 //! Why pools or an item were not read.
 
 ghost use Rattle.std.specs.Prelude.{◌≡◌};
+ghost use Rattle.dexspec.specs.Conditions.{number};
+ghost use Rattle.dexhead.specs.Conditions.{condition_meant};
 ghost use Rattle.dexpool.specs.declared.faults.ReadFault.TheVariants.{Refused, Memory};
 ghost use Rattle.dexpool.specs.declared.faults.ItemFault.TheVariants as items;
 
-use dexhead::Refusal;
+use dexhead::{Condition, Refusal};
 use std::alloc::{AllocError, AllocFailed};
 
 /// Why the pools of a file were not read.
@@ -27,10 +29,13 @@ pub enum ItemFault {
 }
 
 // The refusal of a row by a condition.
-pub(crate) fn refused(number: u8, row: u32) -> ReadFault
-    ensures { result ≡ Refused (record { number = number; place = row }) }
+pub(crate) fn refused(condition: Condition, row: u32) -> ReadFault
+    ensures { result ≡ Refused (record { number = number (condition_meant condition); place = row }) }
 {
-    ReadFault::Refused(Refusal { number, place: row })
+    ReadFault::Refused(Refusal {
+        number: condition.number(),
+        place: row,
+    })
 }
 
 impl From<AllocError> for ReadFault {

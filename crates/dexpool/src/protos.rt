@@ -17,7 +17,7 @@ use crate::names::Names;
 use crate::parameters::place_at;
 use crate::rows::{ProtoEntry, Span};
 use crate::shorties::letters_of;
-use dexhead::{Frame, Table, u32_at};
+use dexhead::{Condition, Frame, Table, u32_at};
 use std::alloc::{AllocError, Global};
 use std::cmp::Ordering;
 use std::collections::HashMap;
@@ -153,10 +153,10 @@ pub(crate) fn read_protos(
     for i in 0..count {
         let proto = match proto_at(names, &letters, file, &mut lists, i)? {
             Some(proto) => proto,
-            None => return Err(refused(13, i)),
+            None => return Err(refused(Condition::Protos, i)),
         };
         if !is_above(file, &rows, &proto) {
-            return Err(refused(13, i));
+            return Err(refused(Condition::Protos, i));
         }
         rows.push(proto)?;
     }

@@ -9,7 +9,7 @@ ghost use Rattle.dexpool.specs.Reading.{is_above_last, AreTexts};
 ghost use Rattle.dexpool.specs.Faults.{IsFault};
 
 use crate::faults::{ReadFault, refused};
-use dexhead::{Frame, Table, u32_at};
+use dexhead::{Condition, Frame, Table, u32_at};
 use dexstr::Text;
 use std::alloc::Global;
 
@@ -27,10 +27,10 @@ pub(crate) fn read_strings<'a>(alloc: Global, frame: &Frame<'a>) -> Result<Vec<T
     for i in 0..count {
         let text = match string_at(frame, i) {
             Some(text) => text,
-            None => return Err(refused(11, i)),
+            None => return Err(refused(Condition::Strings, i)),
         };
         if !is_above(&strings, &text) {
-            return Err(refused(11, i));
+            return Err(refused(Condition::Strings, i));
         }
         strings.push(text)?;
     }

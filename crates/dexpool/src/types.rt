@@ -10,7 +10,7 @@ ghost use Rattle.dexpool.specs.Tables.{type_cmp};
 ghost use Rattle.dexpool.specs.Faults.{IsFault};
 
 use crate::faults::{ReadFault, refused};
-use dexhead::{Frame, Table, u32_at};
+use dexhead::{Condition, Frame, Table, u32_at};
 use dexstr::{Text, descriptor_kind};
 use std::alloc::Global;
 
@@ -34,10 +34,10 @@ pub(crate) fn read_types(
     for i in 0..count {
         let index = match type_at(frame, strings, i) {
             Some(index) => index,
-            None => return Err(refused(12, i)),
+            None => return Err(refused(Condition::Types, i)),
         };
         if !is_above(&types, index) {
-            return Err(refused(12, i));
+            return Err(refused(Condition::Types, i));
         }
         types.push(index)?;
     }

@@ -15,7 +15,7 @@ use crate::directory::MemberCounts;
 use crate::directory_reading::{list_weight, member_counts, pair_at};
 use crate::set_checking::check_set;
 use crate::set_reading::count_at;
-use dexhead::{Frame, u32_at};
+use dexhead::{Condition, Frame, u32_at};
 use dexpool::{ItemFault, Pools, SymbolKind};
 use std::alloc::Global;
 use std::collections::HashMap;
@@ -272,7 +272,7 @@ pub fn check_directory(
     pools.numbering().is_numbering();
     let counts = match member_counts(frame, off) {
         Some(counts) => counts,
-        None => return Err(ItemFault::Refused(22)),
+        None => return Err(ItemFault::Refused(Condition::Annotations as u8)),
     };
     let own_off = u32_at(frame.bytes(), off as usize);
     let own = match checked_set_at(frame, pools, own_off, checked) {

@@ -20,7 +20,7 @@ use crate::budget::Budget;
 use crate::directory::{Directory, MemberCounts, SharedDirectory};
 use crate::judged::{Judged, count_list, counted_set_at, note_list};
 use crate::set_reading::count_at;
-use dexhead::{Frame, u32_at};
+use dexhead::{Condition, Frame, u32_at};
 use dexpool::{ItemFault, Pools, SymbolKind};
 use std::alloc::Global;
 
@@ -78,7 +78,7 @@ pub(crate) fn pair_at(
     let number = u32_at(bytes, at);
     let off = u32_at(bytes, at + 4);
     if u64::from(number) < least || number as usize >= limit || off == 0 {
-        return Err(ItemFault::Refused(22));
+        return Err(ItemFault::Refused(Condition::Annotations as u8));
     }
     Ok((number, off))
 }
@@ -359,7 +359,7 @@ fn counted_directory_at(
 {
     let counts = match member_counts(frame, off) {
         Some(counts) => counts,
-        None => return Err(ItemFault::Refused(22)),
+        None => return Err(ItemFault::Refused(Condition::Annotations as u8)),
     };
     let bytes = frame.bytes();
     let own_off = u32_at(bytes, off as usize);

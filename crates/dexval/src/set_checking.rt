@@ -11,7 +11,7 @@ ghost use Rattle.dexval.specs.Reading.{IsSetFault};
 use crate::nested_checking::annotation_measure;
 use crate::set_reading::offset_count;
 use crate::value_reading::MOST_DEPTH;
-use dexhead::{Frame, u32_at};
+use dexhead::{Condition, Frame, u32_at};
 use dexpool::{ItemFault, Pools};
 
 /// The greatest number of a visibility.
@@ -88,6 +88,6 @@ pub fn check_set(frame: &Frame<'_>, pools: &Pools<'_>, off: u32) -> Result<SetSh
     pools.numbering().is_numbering();
     match set_shape(frame, pools, off) {
         Some(shape) => Ok(shape),
-        None => Err(ItemFault::Refused(22)),
+        None => Err(ItemFault::Refused(Condition::Annotations as u8)),
     }
 }

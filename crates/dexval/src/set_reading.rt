@@ -12,7 +12,7 @@ use crate::annotation::{Annotation, Visibility};
 use crate::nesting::annotation_at;
 use crate::set::AnnotationSet;
 use crate::value_reading::MOST_DEPTH;
-use dexhead::{Frame, u32_at};
+use dexhead::{Condition, Frame, u32_at};
 use dexpool::{ItemFault, Pools};
 use std::alloc::{AllocError, Global};
 
@@ -25,7 +25,7 @@ fn visibility_of(number: u8) -> Result<Visibility, ItemFault>
         0 => Ok(Visibility::Build),
         1 => Ok(Visibility::Runtime),
         2 => Ok(Visibility::System),
-        _ => Err(ItemFault::Refused(22)),
+        _ => Err(ItemFault::Refused(Condition::Annotations as u8)),
     }
 }
 
@@ -42,7 +42,7 @@ fn item_at(
     let bytes = frame.bytes();
     let at = off as usize;
     if off < frame.data_off() || at >= bytes.len() {
-        return Err(ItemFault::Refused(22));
+        return Err(ItemFault::Refused(Condition::Annotations as u8));
     }
     let visibility = visibility_of(bytes[at])?;
     match annotation_at(alloc, bytes, pools, at + 1, MOST_DEPTH)? {
@@ -51,7 +51,7 @@ fn item_at(
             typ,
             elements,
         }),
-        None => Err(ItemFault::Refused(22)),
+        None => Err(ItemFault::Refused(Condition::Annotations as u8)),
     }
 }
 
@@ -77,7 +77,7 @@ pub(crate) fn count_at(frame: &Frame<'_>, off: u32) -> Result<u32, ItemFault>
 {
     match offset_count(frame, off) {
         Some(count) => Ok(count),
-        None => Err(ItemFault::Refused(22)),
+        None => Err(ItemFault::Refused(Condition::Annotations as u8)),
     }
 }
 
@@ -108,7 +108,7 @@ pub fn read_set(
         let place = u32_at(bytes, off as usize + 4 + 4 * i as usize);
         let annotation = item_at(alloc, frame, pools, place)?;
         if u64::from(annotation.typ) < least {
-            return Err(ItemFault::Refused(22));
+            return Err(ItemFault::Refused(Condition::Annotations as u8));
         }
         least = u64::from(annotation.typ) + 1;
         annotations.push(annotation)?;

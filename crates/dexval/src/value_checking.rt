@@ -9,7 +9,7 @@ ghost use Rattle.dexval.specs.Reading.{IsValueFault, IsStaticsFault};
 
 use crate::nested_checking::{array_measure, value_measure};
 use crate::value_reading::MOST_DEPTH;
-use dexhead::Frame;
+use dexhead::{Condition, Frame};
 use dexpool::{ItemFault, Pools};
 
 /// How large and how heavy an encoded_value is.
@@ -62,7 +62,7 @@ pub fn check_value(frame: &Frame<'_>, pools: &Pools<'_>, off: u32) -> Result<Val
 {
     match value_shape(frame, pools, off) {
         Some(shape) => Ok(shape),
-        None => Err(ItemFault::Refused(21)),
+        None => Err(ItemFault::Refused(Condition::Values as u8)),
     }
 }
 
@@ -103,6 +103,6 @@ pub fn check_statics(
 {
     match statics_shape(frame, pools, off) {
         Some(shape) => Ok(shape),
-        None => Err(ItemFault::Refused(21)),
+        None => Err(ItemFault::Refused(Condition::Values as u8)),
     }
 }

@@ -8,7 +8,7 @@ ghost use Rattle.dexval.specs.Reading.{IsValueAt, IsValueFault, AreStaticsAt, Is
 
 use crate::nesting::{array_at, value_at};
 use crate::value::Value;
-use dexhead::Frame;
+use dexhead::{Condition, Frame};
 use dexpool::{ItemFault, Pools};
 use std::alloc::Global;
 
@@ -34,12 +34,12 @@ pub fn read_value(
     ensures refused { ArePools frame.now pools.now → IfErr result (IsValueFault frame.now off) }
 {
     if off < frame.data_off() {
-        return Err(ItemFault::Refused(21));
+        return Err(ItemFault::Refused(Condition::Values as u8));
     }
     pools.numbering().is_numbering();
     match value_at(alloc, frame.bytes(), pools, off as usize, MOST_DEPTH)? {
         Some((value, size)) => Ok((value, size as u32)),
-        None => Err(ItemFault::Refused(21)),
+        None => Err(ItemFault::Refused(Condition::Values as u8)),
     }
 }
 
@@ -60,11 +60,11 @@ pub fn read_statics(
     let bytes = frame.bytes();
     let at = off as usize;
     if off < frame.data_off() || at > bytes.len() {
-        return Err(ItemFault::Refused(21));
+        return Err(ItemFault::Refused(Condition::Values as u8));
     }
     pools.numbering().is_numbering();
     match array_at(alloc, bytes, pools, at, MOST_DEPTH)? {
         Some((values, _)) => Ok(values),
-        None => Err(ItemFault::Refused(21)),
+        None => Err(ItemFault::Refused(Condition::Values as u8)),
     }
 }

@@ -1,0 +1,106 @@
+//! The conditions that a file has to meet, by name and number.
+
+ghost use Rattle.std.specs.Prelude.{◌≡◌};
+ghost use Rattle.dexspec.specs.Conditions as conditions;
+ghost use Rattle.dexhead.specs.Conditions.{condition_meant, condition_name};
+
+use std::fmt;
+
+/// A condition that a file has to meet to be accepted.
+///
+/// Source: this project's rule; what each condition says is the definition of its name.
+#[derive(Clone, Copy, Debug, PartialEq, Eq)]
+pub enum Condition {
+    /// The input has 112 to 2^30 bytes.
+    Size = 1,
+    /// It begins as a DEX file, with three digits.
+    Magic = 2,
+    /// The digits are 035.
+    Version = 3,
+    /// `file_size` and `header_size` are right.
+    Lengths = 4,
+    /// `endian_tag` is that of little-endian numbers.
+    Endian = 5,
+    /// There is no link data.
+    Link = 6,
+    /// `checksum` is right.
+    Checksum = 7,
+    /// `signature` is right.
+    Signature = 8,
+    /// The pools and the data are in order, and within the limits of their sizes.
+    Layout = 9,
+    /// The map_list agrees with the header.
+    Map = 10,
+    /// The rows of string_ids.
+    Strings = 11,
+    /// The rows of type_ids.
+    Types = 12,
+    /// The rows of proto_ids.
+    Protos = 13,
+    /// The rows of field_ids.
+    Fields = 14,
+    /// The rows of method_ids.
+    Methods = 15,
+    /// The rows of class_defs.
+    Classes = 16,
+    /// The class_data_item of a class.
+    Members = 17,
+    /// The fixed parts and the units of its code_items.
+    Code = 18,
+    /// Their tries and handlers.
+    Tries = 19,
+    /// Their debug_info_items.
+    Debug = 20,
+    /// The static values of a class.
+    Values = 21,
+    /// The annotations of a class.
+    Annotations = 22,
+    /// The weight of all classes together.
+    Weight = 23,
+}
+
+impl Condition {
+    /// The number of the condition, from 1 to 23.
+    pub fn number(self) -> u8
+        ensures { result ≡ conditions.number (condition_meant self) }
+    {
+        self as u8
+    }
+
+    /// The name of the condition, as refusals print it.
+    pub fn name(self) -> &'static str
+        ensures { result.now ≡ condition_name (condition_meant self) }
+    {
+        match self {
+            Condition::Size => "Size",
+            Condition::Magic => "Magic",
+            Condition::Version => "Version",
+            Condition::Lengths => "Lengths",
+            Condition::Endian => "Endian",
+            Condition::Link => "Link",
+            Condition::Checksum => "Checksum",
+            Condition::Signature => "Signature",
+            Condition::Layout => "Layout",
+            Condition::Map => "Map",
+            Condition::Strings => "Strings",
+            Condition::Types => "Types",
+            Condition::Protos => "Protos",
+            Condition::Fields => "Fields",
+            Condition::Methods => "Methods",
+            Condition::Classes => "Classes",
+            Condition::Members => "Members",
+            Condition::Code => "Code",
+            Condition::Tries => "Tries",
+            Condition::Debug => "Debug",
+            Condition::Values => "Values",
+            Condition::Annotations => "Annotations",
+            Condition::Weight => "Weight",
+        }
+    }
+}
+
+impl fmt::Display for Condition {
+    fn fmt<W: fmt::Write>(&self, f: &mut fmt::Formatter<W>) -> fmt::Result {
+        f.write_str(self.name())
+    }
+}

@@ -16,7 +16,7 @@ ghost use Rattle.dexpool.specs.Faults.{IsFault};
 use crate::faults::{ReadFault, refused};
 use crate::kinds::{is_class, is_value};
 use crate::names::Names;
-use dexhead::{Condition, Frame, Table, u16_at, u32_at};
+use dexhead::{Frame, Table, u16_at, u32_at};
 use dexrows::{FieldRow, Row};
 use dexstr::{Text, is_member_name};
 use std::alloc::Global;
@@ -94,10 +94,10 @@ pub(crate) fn read_fields(alloc: Global, names: &Names<'_, '_>) -> Result<Vec<Fi
     for i in 0..count {
         let field = match field_at(names, i) {
             Some(field) => field,
-            None => return Err(refused(Condition::Fields, i)),
+            None => return Err(refused(dexhead::Condition::Fields, i)),
         };
         if !is_above(&fields, &field) {
-            return Err(refused(Condition::Fields, i));
+            return Err(refused(dexhead::Condition::Fields, i));
         }
         fields.push(field)?;
     }

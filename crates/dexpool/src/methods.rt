@@ -15,7 +15,7 @@ use crate::faults::{ReadFault, refused};
 use crate::kinds::is_reference;
 use crate::names::Names;
 use crate::rows::ProtoEntry;
-use dexhead::{Condition, Frame, Table, u16_at, u32_at};
+use dexhead::{Frame, Table, u16_at, u32_at};
 use dexrows::{MethodRow, Row};
 use dexstr::{Text, is_member_name};
 use std::alloc::Global;
@@ -97,10 +97,10 @@ pub(crate) fn read_methods(
     for i in 0..count {
         let method = match method_at(names, protos, i) {
             Some(method) => method,
-            None => return Err(refused(Condition::Methods, i)),
+            None => return Err(refused(dexhead::Condition::Methods, i)),
         };
         if !is_above(&methods, &method) {
-            return Err(refused(Condition::Methods, i));
+            return Err(refused(dexhead::Condition::Methods, i));
         }
         methods.push(method)?;
     }

@@ -1,6 +1,6 @@
 //! The conditions that a file has to meet, by name and number.
 
-ghost use Rattle.std.specs.Prelude.{◌≡◌};
+ghost use Rattle.std.specs.Prelude.{◌≡◌, ◌⊎◌, ◌<◌, IfSome, IfNone};
 ghost use Rattle.dexspec.specs.Conditions as conditions;
 ghost use Rattle.dexhead.specs.Conditions.{condition_meant, condition_name};
 
@@ -65,6 +65,39 @@ impl Condition {
         ensures { result ≡ conditions.number (condition_meant self) }
     {
         self as u8
+    }
+
+    /// The condition with a number, or `None` if none has it.
+    pub fn of(number: u8) -> Option<Condition>
+        ensures some { IfSome result (λ condition. conditions.number (condition_meant condition) ≡ number) }
+        ensures none { IfNone result ((number ≡ 0) ⊎ (23 < number)) }
+    {
+        match number {
+            1 => Some(Condition::Size),
+            2 => Some(Condition::Magic),
+            3 => Some(Condition::Version),
+            4 => Some(Condition::Lengths),
+            5 => Some(Condition::Endian),
+            6 => Some(Condition::Link),
+            7 => Some(Condition::Checksum),
+            8 => Some(Condition::Signature),
+            9 => Some(Condition::Layout),
+            10 => Some(Condition::Map),
+            11 => Some(Condition::Strings),
+            12 => Some(Condition::Types),
+            13 => Some(Condition::Protos),
+            14 => Some(Condition::Fields),
+            15 => Some(Condition::Methods),
+            16 => Some(Condition::Classes),
+            17 => Some(Condition::Members),
+            18 => Some(Condition::Code),
+            19 => Some(Condition::Tries),
+            20 => Some(Condition::Debug),
+            21 => Some(Condition::Values),
+            22 => Some(Condition::Annotations),
+            23 => Some(Condition::Weight),
+            _ => None,
+        }
     }
 
     /// The name of the condition, as refusals print it.

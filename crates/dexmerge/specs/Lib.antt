@@ -1,3 +1,4 @@
+pub mod CapKinds
 pub mod Capping
 pub mod Plans
 pub mod Judging

@@ -14,8 +14,7 @@ pub enum MergeFault {
     Conflict(Name),
     /// The class of this name is above itself, or below such a class.
     Cycle(Name),
-    /// The classes exceed a cap: 1 the types, 2 the protos, 3 the fields, 4 the methods, 5 the texts that a
-    /// `const-string` names, 6 the weight.
+    /// The classes exceed a cap: the number of its kind, [`CapKind::number`](crate::CapKind::number).
     Cap(u8),
     /// A growth was refused.
     Memory,

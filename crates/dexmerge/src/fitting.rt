@@ -9,6 +9,7 @@ ghost use Rattle.dexmerge.specs.Amounts.{weight_over, short_numbers, has_from, f
 ghost use Rattle.dexmerge.specs.Counting.{Decides, is_from};
 
 use crate::candidates::Candidate;
+use crate::cap_kind::CapKind;
 use crate::caps::Caps;
 use dexpool::{Numbering, SymbolKind};
 
@@ -106,22 +107,22 @@ pub(crate) fn first_exceeded(
     ensures { result ≡ first_over caps.now numbering.now (classes_of classes.now) }
 {
     if has_more(numbering, SymbolKind::Typ, caps.types()) {
-        return Some(1);
+        return Some(CapKind::Types as u8);
     }
     if has_more(numbering, SymbolKind::Proto, caps.protos()) {
-        return Some(2);
+        return Some(CapKind::Protos as u8);
     }
     if has_more(numbering, SymbolKind::Field, caps.fields()) {
-        return Some(3);
+        return Some(CapKind::Fields as u8);
     }
     if has_more(numbering, SymbolKind::Method, caps.methods()) {
-        return Some(4);
+        return Some(CapKind::Methods as u8);
     }
     if has_text_from(numbering, classes, caps.short_strings()) {
-        return Some(5);
+        return Some(CapKind::ShortStrings as u8);
     }
     if is_heavier(numbering, classes, caps) {
-        return Some(6);
+        return Some(CapKind::Weight as u8);
     }
     None
 }

@@ -4,6 +4,7 @@
 #![tactic(auto)]
 
 mod candidates;
+mod cap_kind;
 mod caps;
 mod copies;
 mod cycles;
@@ -16,6 +17,7 @@ mod merging;
 mod plan;
 mod planned;
 
+pub use cap_kind::CapKind;
 pub use caps::Caps;
 pub use faults::{MergeFault, PlanFault};
 pub use measuring::{Counts, measure};

@@ -20,7 +20,7 @@ JOBS ?= $(shell nproc)
 PROGRAM = crates/dexkit/out/dexkit
 UNPROVED = crates/dexkit/out/dexkit-unproved
 
-VERSION := $(shell sed -n 's/.*const VERSION: &str = "\(.*\)";/\1/p' crates/dexcmd/src/*.rt)
+VERSION := $(shell sed -n 's/.*const VERSION: &str = "\(.*\)";/\1/p' crates/dexargs/src/*.rt)
 
 # The crates of the program, each after those that it stands on; the program is the last one.
 CRATES := $(shell tools/libraries dexkit)

@@ -1,25 +1,8 @@
-//! The runs of the program `dexkit` over any readers and writer, the words of its command line, and what it says
-//! of faults.
+//! The program `dexkit` as a library: its runs, its arguments, and its jobs.
 #![tactic(auto)]
 
-mod checking;
-mod dumping;
-mod explaining;
-mod fanning;
-mod faults;
-mod help;
-mod inputs;
-mod lines;
-mod merging;
-mod normalising;
-mod words;
-
-pub use checking::check_run;
-pub use dumping::dump_run;
-pub use explaining::explain;
-pub use fanning::fan_plan;
-pub use faults::{MergeCause, RunFault};
-pub use inputs::MOST_READ;
-pub use merging::{merge_run, merge_strip_run};
-pub use normalising::normalise_run;
-pub use words::{Job, read_words};
+pub use dexargs::{Job, read_words};
+pub use dexruns::{
+    MOST_READ, MergeCause, RunFault, check_run, dump_run, explain, fan_plan, merge_run,
+    merge_strip_run, normalise_run,
+};

@@ -1,7 +1,7 @@
 //! What holds of a merge.
 
 ghost use Rattle.std.specs.Prelude.{◌≡◌, false, IfOk};
-ghost use Rattle.dexcmd.specs.Runs.{AllWork};
+ghost use Rattle.dexruns.specs.Runs.{AllWork};
 ghost use Rattle.dexhead.specs.Device.{is_broken};
 
 use crate::causes::{is_same, is_told};

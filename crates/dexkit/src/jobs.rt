@@ -1,9 +1,9 @@
 //! What the program does for each command.
 
 ghost use Rattle.std.specs.Prelude.{◌≡◌, ◌≤◌, false, length, IfOk, IfErr, IfSome};
-ghost use Rattle.dexcmd.specs.Lines.{HasName};
-ghost use Rattle.dexcmd.specs.Runs.{AllWork};
-ghost use Rattle.dexcmd.specs.Words.{IsSound};
+ghost use Rattle.dexruns.specs.Lines.{HasName};
+ghost use Rattle.dexruns.specs.Runs.{AllWork};
+ghost use Rattle.dexargs.specs.Words.{IsSound};
 ghost use Rattle.dexhead.specs.Device.{is_broken};
 
 use crate::files::{NewFile, OldFile, file_len};

@@ -1,7 +1,7 @@
 //! What is said of faults, and plans of fans by what they look like.
 
 ghost use Rattle.std.specs.Prelude.{◌≤◌, IfSome};
-ghost use Rattle.dexcmd.specs.Lines.{HasName};
+ghost use Rattle.dexruns.specs.Lines.{HasName};
 
 use dexcmd::{MergeCause, RunFault, explain, fan_plan};
 use dexhead::Refusal;

@@ -1,4 +1,4 @@
-use Rattle.dexcmd.specs.Runs.{AllWork}
+use Rattle.dexruns.specs.Runs.{AllWork}
 use Rattle.dexgenerated.proofs.judging.devices.Given as goal
 
 -- no device has failed so far

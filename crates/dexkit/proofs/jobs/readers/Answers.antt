@@ -1,6 +1,6 @@
 use Rattle.std.proofs.Common.{◌≡◌, sym, subst, arith, false}
 use Rattle.std.proofs.lemmas.List.Elements.{All-push}
-use Rattle.dexcmd.specs.Runs.{AllWork}
+use Rattle.dexruns.specs.Runs.{AllWork}
 use Rattle.dexkit.proofs.jobs.readers.Goals as goal
 
 pub loop-name-preserved : goal.loop-name-preserved

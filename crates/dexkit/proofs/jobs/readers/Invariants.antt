@@ -1,5 +1,5 @@
 use Rattle.std.proofs.Common.{◌≡◌, vec_len}
-use Rattle.dexcmd.specs.Runs.{AllWork}
+use Rattle.dexruns.specs.Runs.{AllWork}
 use Rattle.dexkit.proofs.jobs.readers.Given as goal
 
 -- a reader for each name so far, none of which has failed

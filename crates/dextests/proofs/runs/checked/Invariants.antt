@@ -1,5 +1,5 @@
 use Rattle.std.proofs.Common.{◌≡◌, vec_len}
-use Rattle.dexcmd.specs.Runs.{AllWork}
+use Rattle.dexruns.specs.Runs.{AllWork}
 use Rattle.dextests.proofs.runs.checked.Given as goal
 
 -- a name and a reader for each file so far, and no reader has failed

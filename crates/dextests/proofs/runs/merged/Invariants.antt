@@ -1,4 +1,4 @@
-use Rattle.dexcmd.specs.Runs.{AllWork}
+use Rattle.dexruns.specs.Runs.{AllWork}
 use Rattle.dextests.proofs.runs.merged.Given as goal
 
 -- no reader has failed so far

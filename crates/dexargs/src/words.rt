@@ -1,0 +1,243 @@
+//! The words of the command line.
+
+ghost use Rattle.std.specs.Prelude.{◌<◌, vec_len, IfOk, IfSome};
+ghost use Rattle.dexspec.specs.Merging.{AreCaps};
+ghost use Rattle.dexargs.specs.Words.{IsSound};
+
+use crate::help;
+use clap::error::ErrorKind;
+use clap::{Arg, ArgAction, ArgMatches, Command, Error, value_parser};
+use dexmerge::Caps;
+use std::alloc::{AllocError, Global};
+
+const LEAST_FAN: u16 = 2;
+
+/// What the words ask for. Files are named as they stand in the words.
+#[derive(Debug, Drop)]
+pub enum Job {
+    /// Tells of each of these files whether it is accepted.
+    Check(Vec<String>),
+    /// Lists the classes of this file.
+    Dump(String),
+    /// Writes the canonical file of the first to the second.
+    Normalise(String, String),
+    /// Writes the merged file to the first: so many of the files at a time, or all at once, under the caps, and without
+    /// debug programs and source texts where it is to be stripped.
+    Merge(String, Option<usize>, Caps, bool, Vec<String>),
+    /// Reports of each of these files whether it is accepted, past those that cannot be read.
+    KeepChecking(Vec<String>),
+    /// Writes the digest of each class of these files.
+    Digest(Vec<String>),
+    /// Writes what a merge of these files would hold, beside the greatest caps.
+    Count(Vec<String>),
+    /// Writes the first file, with its sums set right, to the second.
+    Repair(String, String),
+}
+
+fn owned(alloc: Global, texts: &[&str]) -> Result<Vec<String>, AllocError> {
+    let mut all = Vec::new(alloc);
+    for text in texts {
+        all.push(String::from_str(alloc, text)?)?;
+    }
+    Ok(all)
+}
+
+fn one<'a>(alloc: Global, id: &'a str, name: &'a str, help: &'a str) -> Arg<'a> {
+    Arg::new(alloc, id)
+        .value_name(name)
+        .required(true)
+        .help(help)
+}
+
+fn files<'a>(alloc: Global) -> Arg<'a> {
+    one(alloc, "files", "FILE", help::FILES)
+        .num_args(1..)
+        .action(ArgAction::Append)
+}
+
+fn fan<'a>(alloc: Global) -> Arg<'a> {
+    Arg::new(alloc, "fan")
+        .long("fan")
+        .value_name("N")
+        .help(help::FAN)
+        .value_parser(value_parser!(u16).range(i64::from(LEAST_FAN)..))
+}
+
+fn strip<'a>(alloc: Global) -> Arg<'a> {
+    Arg::new(alloc, "strip")
+        .long("strip")
+        .help(help::STRIP)
+        .action(ArgAction::SetTrue)
+}
+
+// An option that names the most of something, at most so many.
+fn most<'a>(alloc: Global, id: &'a str, greatest: u32, help: &'a str) -> Arg<'a> {
+    Arg::new(alloc, id)
+        .long(id)
+        .value_name("N")
+        .help(help)
+        .value_parser(value_parser!(u32).range(0..=i64::from(greatest)))
+}
+
+fn check<'a>(alloc: Global) -> Result<Command<'a>, AllocError> {
+    Command::new(alloc, "check")
+        .about(help::CHECK)
+        .long_about(help::CHECK_LONG)
+        .after_long_help(help::REFUSALS)
+        .arg(files(alloc))
+}
+
+fn dump<'a>(alloc: Global) -> Result<Command<'a>, AllocError> {
+    Command::new(alloc, "dump")
+        .about(help::DUMP)
+        .arg(one(alloc, "file", "FILE", help::FILE))
+}
+
+fn normalise<'a>(alloc: Global) -> Result<Command<'a>, AllocError> {
+    Command::new(alloc, "normalise")
+        .about(help::NORMALISE)
+        .long_about(help::NORMALISE_LONG)
+        .arg(one(alloc, "file", "FILE", help::FILE))?
+        .arg(one(alloc, "out", "OUT", help::OUT))
+}
+
+fn merge<'a>(alloc: Global) -> Result<Command<'a>, AllocError> {
+    let mut command = Command::new(alloc, "merge")
+        .about(help::MERGE)
+        .long_about(help::MERGE_LONG)
+        .arg(one(alloc, "out", "OUT", help::OUT).long("out"))?
+        .arg(fan(alloc))?
+        .arg(strip(alloc))?;
+    let greatest = Caps::greatest();
+    for (id, greatest, help) in [
+        ("max-types", greatest.types(), help::MAX_TYPES),
+        ("max-protos", greatest.protos(), help::MAX_PROTOS),
+        ("max-fields", greatest.fields(), help::MAX_FIELDS),
+        ("max-methods", greatest.methods(), help::MAX_METHODS),
+        ("max-weight", greatest.weight(), help::MAX_WEIGHT),
+    ] {
+        command = command.arg(most(alloc, id, greatest, help))?;
+    }
+    command.arg(files(alloc))
+}
+
+fn command<'a>(alloc: Global) -> Result<Command<'a>, AllocError> {
+    Command::new(alloc, "dexkit")
+        .about(help::ABOUT)
+        .version(help::VERSION)
+        .after_help(help::STATUSES)
+        .bin_name("dexkit")?
+        .no_binary_name(true)
+        .subcommand_required(true)
+        .subcommand(check(alloc)?)?
+        .subcommand(dump(alloc)?)?
+        .subcommand(normalise(alloc)?)?
+        .subcommand(merge(alloc)?)
+}
+
+fn text_of(alloc: Global, matches: &ArgMatches<'_>, id: &str) -> Result<String, AllocError> {
+    String::from_str(alloc, matches.get_str(id).unwrap_or(""))
+}
+
+// The files of a command, of which there is one or more.
+fn files_of(alloc: Global, matches: &ArgMatches<'_>) -> Result<Option<Vec<String>>, AllocError>
+    ensures { IfOk result (λ files. IfSome files (λ files. 0 < vec_len files)) }
+{
+    let files = owned(alloc, matches.get_strs("files").unwrap_or(&[]))?;
+    if files.is_empty() {
+        return Ok(None);
+    }
+    Ok(Some(files))
+}
+
+// The caps of a merge: what the options name, and else the greatest.
+fn caps_of(matches: &ArgMatches<'_>) -> Option<Caps>
+    ensures { IfSome result AreCaps }
+{
+    let greatest = Caps::greatest();
+    let caps = Caps::new(
+        matches.get_one("max-types").unwrap_or(greatest.types()),
+        matches.get_one("max-protos").unwrap_or(greatest.protos()),
+        matches.get_one("max-fields").unwrap_or(greatest.fields()),
+        matches.get_one("max-methods").unwrap_or(greatest.methods()),
+        greatest.short_strings(),
+        matches.get_one("max-weight").unwrap_or(greatest.weight()),
+    )?;
+    caps.are_caps();
+    Some(caps)
+}
+
+fn check_of(alloc: Global, matches: &ArgMatches<'_>) -> Result<Option<Job>, AllocError>
+    ensures { IfOk result (λ job. IfSome job IsSound) }
+{
+    match files_of(alloc, matches)? {
+        Some(files) => Ok(Some(Job::Check(files))),
+        None => Ok(None),
+    }
+}
+
+fn merge_of(alloc: Global, matches: &ArgMatches<'_>) -> Result<Option<Job>, AllocError>
+    ensures { IfOk result (λ job. IfSome job IsSound) }
+{
+    let fan = match matches.get_one::<u16>("fan") {
+        Some(fan) if fan < LEAST_FAN => return Ok(None),
+        Some(fan) => Some(usize::from(fan)),
+        None => None,
+    };
+    let Some(caps) = caps_of(matches) else {
+        return Ok(None);
+    };
+    let Some(files) = files_of(alloc, matches)? else {
+        return Ok(None);
+    };
+    let out = text_of(alloc, matches, "out")?;
+    let strip = matches.get_flag("strip");
+    Ok(Some(Job::Merge(out, fan, caps, strip, files)))
+}
+
+fn job_of(alloc: Global, matches: &ArgMatches<'_>) -> Result<Option<Job>, AllocError>
+    ensures { IfOk result (λ job. IfSome job IsSound) }
+{
+    match matches.subcommand() {
+        Some(("check", found)) => check_of(alloc, found),
+        Some(("dump", found)) => Ok(Some(Job::Dump(text_of(alloc, found, "file")?))),
+        Some(("normalise", found)) => Ok(Some(Job::Normalise(
+            text_of(alloc, found, "file")?,
+            text_of(alloc, found, "out")?,
+        ))),
+        Some(("merge", found)) => merge_of(alloc, found),
+        _ => Ok(None),
+    }
+}
+
+// The job that a command finds in words, if it is one.
+fn found_job<'a>(
+    alloc: Global,
+    command: &mut Command<'a>,
+    words: &'a [&'a str],
+) -> Result<Option<Job>, Error>
+    ensures { IfOk result (λ job. IfSome job IsSound) }
+{
+    let matches = command.try_get_matches_from_mut(words)?;
+    Ok(job_of(alloc, &matches)?)
+}
+
+// The job that a command finds in words.
+fn job_in<'a>(alloc: Global, command: &mut Command<'a>, words: &'a [&'a str]) -> Result<Job, Error>
+    ensures { IfOk result IsSound }
+{
+    match found_job(alloc, command, words)? {
+        Some(job) => Ok(job),
+        None => Err(command.error(ErrorKind::ValueValidation, "no such command")?),
+    }
+}
+
+/// Reads the words after the program's name as a command.
+///
+/// Error: that of `clap`, where the words are no command, ask for help, or memory for reading them was refused.
+pub fn read_words(alloc: Global, words: &[&str]) -> Result<Job, Error>
+    ensures { IfOk result IsSound }
+{
+    let mut command = command(alloc)?;
+    job_in(alloc, &mut command, words)
+}

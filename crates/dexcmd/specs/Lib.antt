@@ -1,6 +1,0 @@
-pub mod Inputs
-pub mod Lines
-pub mod Runs
-pub mod Words
-pub mod Merges
-pub mod Fans

@@ -1,0 +1,145 @@
+-- Inputs read one after the other, and merged.
+use Rattle.std.proofs.Common.{◌≡◌, ℕ, suc, ◌+◌, ◌<◌, Bool, List, [], ◌∷◌, ◌++◌, length, get_or, take, drop, refl, sym, ap, ◌∙◌, subst, arith}
+use Rattle.std.proofs.lemmas.List.{take_more, take_all}
+use Rattle.std.specs.Prelude.{Result, Ok, Err, IfErr, OnOk}
+use Rattle.std.specs.List.{AllZip}
+use Rattle.dexspec.specs.Files.{Collection, definitions, Denotes}
+use Rattle.dexspec.specs.WellFormed.{AreWellFormed}
+use Rattle.dexspec.specs.Accepted.{IsAccepted}
+use Rattle.dexspec.specs.Classes.{Definition}
+use Rattle.dexspec.specs.Canonical.{canonical}
+use Rattle.dexspec.specs.Merging.{Caps, Cause, IsCause, IsGood, greatest_caps, Plan, IsPlanFor}
+use Rattle.dexspec.specs.Merging as merging
+use Rattle.dexmerge.specs.Faults.{planned, IsPlannedCause}
+use Rattle.dexruns.specs.declared.faults.MergeCause.{MergeCause}
+use Rattle.dexruns.specs.declared.faults.MergeCause.TheVariants as cause
+use Rattle.dexruns.specs.declared.faults.RunFault.{RunFault}
+use Rattle.dexruns.specs.declared.faults.RunFault.TheVariants as run
+use Rattle.dexruns.specs.Runs.{AllWork, IsLeft}
+use Rattle.dexruns.specs.Merges.{AreReadFrom, TellsCause, IsTrueCause, IsUnionFault, IsUnited, IsUnitedFault, IsFileOf, IsFrontAppended, IsMergedFile, IsMergeFault, IsWriteFault, AreUncalled, IsOfWriter, IsOfDevices}
+use Rattle.dexruns.proofs.Checked.{zip_more, same_head}
+
+-- ---- inputs one after the other
+
+-- what holds of the input with this number now held of it at first, where those before it have been read
+pub held_first : {R : Type 0} (P : R → Type 0) (now inputs : List R) (i : ℕ) (x : R) → drop i now ≡ drop i inputs → i < length now → i < length inputs →
+    x ≡ get_or now i x → P (get_or now i x) → P x × (x ≡ get_or inputs i x)
+held_first P now inputs i x rest lt lt' at holds = (subst P (sym at) holds, same_head now inputs i x rest lt lt' at)
+
+-- the inputs before this one are read, and now it is
+pub read_more : {R : Type 0} (P : R → Collection → Type 0) (inputs : List R) (i : ℕ) (x : R) (collections : List Collection) (K : Collection) →
+    i < length inputs → AllZip P (take i inputs) collections → P x K × (x ≡ get_or inputs i x) → AllZip P (take (i + 1) inputs) (collections ++ K ∷ [])
+read_more P inputs i x collections K lt before here =
+    subst (λ xs. AllZip P xs (collections ++ K ∷ [])) (ap (λ z. take i inputs ++ z ∷ []) here.1 ∙ sym (take_more inputs i x lt)) (zip_more P (take i inputs) collections x K before here.0)
+
+-- all inputs are read
+pub all_read : {R : Type 0} (P : R → Collection → Type 0) (inputs : List R) (i : ℕ) (collections : List Collection) → i ≡ length inputs → AllZip P (take i inputs) collections → AllZip P inputs collections
+all_read P inputs i collections end before = subst (λ xs. AllZip P xs collections) (take_all i inputs (omega (arith, end))) before
+
+-- as many are zipped
+pub zip_length : {A B : Type 0} (P : A → B → Type 0) (xs : List A) (ys : List B) → AllZip P xs ys → length ys ≡ length xs
+zip_length P [] [] all = refl
+zip_length P [] (y ∷ ys) all = absurd all
+zip_length P (x ∷ xs) [] all = absurd all
+zip_length P (x ∷ xs) (y ∷ ys) all = ap suc (zip_length P xs ys all.1)
+
+-- ---- their union
+
+-- where the union is good no cause is true of it
+pub true_cause : (caps : Caps) (apart : (D : List Definition) (c : Cause) → IsGood caps D → IsCause caps D c → ⊥) (collections : List Collection) (plan : Plan) (told : MergeCause) →
+    TellsCause (IsPlannedCause caps collections plan) told → IsTrueCause caps collections plan told
+true_cause caps apart collections plan (cause.Conflict name) holds = record { cause = holds; bad = λ good. apart (planned collections plan) (merging.Conflict name) good holds.holds }
+true_cause caps apart collections plan (cause.Cycle name) holds = record { cause = holds; bad = λ good. apart (planned collections plan) (merging.Cycle name) good holds.holds }
+true_cause caps apart collections plan (cause.Cap number) holds = record { cause = holds; bad = λ good. apart (planned collections plan) (merging.Exceeded holds.cap) good holds.holds.holds }
+
+-- a plan for so many inputs is one for their collections
+plan_for_collections : {R : Type 0} (P : R → Collection → Type 0) (inputs : List R) (collections : List Collection) (plan : Plan) → AllZip P inputs collections → IsPlanFor (length inputs) plan → IsPlanFor (length collections) plan
+plan_for_collections P inputs collections plan all is = subst (λ n. IsPlanFor n plan) (sym (zip_length P inputs collections all)) is
+
+-- a fault of merging is one of uniting
+pub fault_of_merging : {R : Type 0} (tells : R → Type 0) (to_come : R → List ℕ) (inputs : List R) (collections : List Collection) (caps : Caps) (plan : Plan) (f : RunFault) →
+    IsPlanFor (length inputs) plan → AreReadFrom tells to_come inputs collections → IsUnionFault caps collections plan f → IsUnitedFault tells to_come inputs caps plan f
+fault_of_merging tells to_come inputs collections caps plan (run.Input i refusal) is read fault = absurd fault
+fault_of_merging tells to_come inputs collections caps plan run.Plan is read fault = absurd (fault (plan_for_collections _ inputs collections plan read is))
+fault_of_merging tells to_come inputs collections caps plan (run.Merge told) is read fault = record { collections = collections; read = read; cause = fault }
+fault_of_merging tells to_come inputs collections caps plan (run.Read i) is read fault = absurd fault
+fault_of_merging tells to_come inputs collections caps plan run.Write is read fault = absurd fault
+fault_of_merging tells to_come inputs collections caps plan run.Memory is read fault = tt
+
+pub uncalled_by_merging : {R : Type 0} (P : R → Collection → Type 0) (inputs now : List R) (collections : List Collection) (caps : Caps) (plan : Plan) (f : RunFault) →
+    IsPlanFor (length inputs) plan → AllZip P inputs collections → IsUnionFault caps collections plan f → AreUncalled inputs now f
+uncalled_by_merging P inputs now collections caps plan (run.Input i refusal) is read fault = tt
+uncalled_by_merging P inputs now collections caps plan run.Plan is read fault = absurd (fault (plan_for_collections P inputs collections plan read is))
+uncalled_by_merging P inputs now collections caps plan (run.Merge told) is read fault = tt
+uncalled_by_merging P inputs now collections caps plan (run.Read i) is read fault = tt
+uncalled_by_merging P inputs now collections caps plan run.Write is read fault = tt
+uncalled_by_merging P inputs now collections caps plan run.Memory is read fault = tt
+
+-- ---- what a run leaves
+
+-- a fault of which one thing holds, and so another
+pub if_err : {T E : Type 0} (P Q : E → Type 0) (r : Result T E) → ((e : E) → P e → Q e) → IfErr r P → IfErr r Q
+if_err P Q (Ok x) leads holds = tt
+if_err P Q (Err e) leads holds = leads e holds
+
+-- what holds where all was done, and so something else
+pub on_ok : {T E : Type 0} (A B : Type 0) (r : Result T E) → (A → B) → OnOk r A → OnOk r B
+on_ok A B (Ok x) leads holds = leads holds
+on_ok A B (Err e) leads holds = tt
+
+-- the canonical file of what is good and well formed is accepted, and denotes it
+pub file_is : (accepted : (K : Collection) → IsGood greatest_caps (definitions K) → AreWellFormed (definitions K) → IsAccepted (canonical K)) →
+    (denotes : (K : Collection) → IsGood greatest_caps (definitions K) → AreWellFormed (definitions K) → Denotes (canonical K) K) →
+    (K : Collection) → IsGood greatest_caps (definitions K) → AreWellFormed (definitions K) → IsFileOf K
+file_is accepted denotes K good formed = record { accepted = accepted K good formed; denotes = denotes K good formed }
+
+-- a fault of writing is one of the run
+pub fault_of_writing : {R W : Type 0} (tells : R → Type 0) (to_come : R → List ℕ) (inputs : List R) (caps : Caps) (plan : Plan) (kept : Collection → Collection)
+    (writes : W → Type 0) (taken : W → List ℕ) (old new : W) (whole program : Collection) (f : RunFault) →
+    IsUnited tells to_come inputs caps plan whole → program ≡ kept whole → IsFileOf program → IsWriteFault writes taken old new (canonical program) f →
+    IsMergeFault tells to_come inputs caps plan kept (IsFrontAppended (writes old) (taken old) (taken new)) f
+fault_of_writing tells to_come inputs caps plan kept writes taken old new whole program (run.Input i refusal) united is file fault = absurd fault
+fault_of_writing tells to_come inputs caps plan kept writes taken old new whole program run.Plan united is file fault = absurd fault
+fault_of_writing tells to_come inputs caps plan kept writes taken old new whole program (run.Merge told) united is file fault = absurd fault
+fault_of_writing tells to_come inputs caps plan kept writes taken old new whole program (run.Read i) united is file fault = absurd fault
+fault_of_writing tells to_come inputs caps plan kept writes taken old new whole program run.Write united is file fault = record {
+  whole = whole;
+  united = united;
+  read_back = subst IsFileOf is file;
+  written = subst (λ K. IsFrontAppended (writes old) (taken old) (taken new) (canonical K)) is fault;
+}
+fault_of_writing tells to_come inputs caps plan kept writes taken old new whole program run.Memory united is file fault = tt
+
+-- what was written is what the run says of it
+pub merged_by_writing : {R : Type 0} (tells : R → Type 0) (to_come : R → List ℕ) (inputs : List R) (caps : Caps) (plan : Plan) (kept : Collection → Collection) (Written : List ℕ → Type 0) (whole program : Collection) →
+    IsUnited tells to_come inputs caps plan whole → program ≡ kept whole → IsFileOf program → Written (canonical program) → IsMergedFile tells to_come inputs caps plan kept Written
+merged_by_writing tells to_come inputs caps plan kept Written whole program united is file written = record {
+  whole = whole;
+  united = united;
+  read_back = subst IsFileOf is file;
+  written = subst (λ K. Written (canonical K)) is written;
+}
+
+pub left_by_writing : {W : Type 0} (writes : W → Type 0) (taken : W → List ℕ) (old new : W) (bytes : List ℕ) (f : RunFault) → IsWriteFault writes taken old new bytes f → IsLeft old new f
+left_by_writing writes taken old new bytes (run.Input i refusal) fault = absurd fault
+left_by_writing writes taken old new bytes run.Plan fault = absurd fault
+left_by_writing writes taken old new bytes (run.Merge told) fault = absurd fault
+left_by_writing writes taken old new bytes (run.Read i) fault = absurd fault
+left_by_writing writes taken old new bytes run.Write fault = tt
+left_by_writing writes taken old new bytes run.Memory fault = fault
+
+pub uncalled_by_writing : {R : Type 0} (inputs now : List R) (writer_failed : Bool) (f : RunFault) → IsOfWriter writer_failed f → AreUncalled inputs now f
+uncalled_by_writing inputs now writer_failed (run.Input i refusal) fault = tt
+uncalled_by_writing inputs now writer_failed run.Plan fault = absurd fault
+uncalled_by_writing inputs now writer_failed (run.Merge told) fault = tt
+uncalled_by_writing inputs now writer_failed (run.Read i) fault = tt
+uncalled_by_writing inputs now writer_failed run.Write fault = tt
+uncalled_by_writing inputs now writer_failed run.Memory fault = tt
+
+pub devices_of_writing : {R : Type 0} (has_failed : R → Bool) (inputs : List R) (writer_failed : Bool) (f : RunFault) → AllWork has_failed inputs → IsOfWriter writer_failed f → IsOfDevices has_failed inputs writer_failed f
+devices_of_writing has_failed inputs writer_failed (run.Input i refusal) all fault = absurd fault
+devices_of_writing has_failed inputs writer_failed run.Plan all fault = absurd fault
+devices_of_writing has_failed inputs writer_failed (run.Merge told) all fault = absurd fault
+devices_of_writing has_failed inputs writer_failed (run.Read i) all fault = absurd fault
+devices_of_writing has_failed inputs writer_failed run.Write all fault = (all, fault)
+devices_of_writing has_failed inputs writer_failed run.Memory all fault = (all, fault)

@@ -1,0 +1,122 @@
+use Rattle.std.proofs.Common.{arith, ◌≡◌, ◌<◌, ◌≤◌, ◌+◌, refl, false, length, map}
+use Rattle.std.proofs.lemmas.List.{length-map, drop-set-lt}
+use Rattle.std.proofs.lemmas.List.Elements.{All-set}
+use Rattle.std.proofs.lemmas.Grind.{drop_more_same}
+use Rattle.dexruns.specs.Inputs.{bytes_read, IsReadNoFurther}
+use Rattle.dexruns.proofs.Moved.{none_moved, moved_now, one_failed}
+use Rattle.dexruns.proofs.Checked.{none_checked, checked_more, begun, begun_more, right_now, line_is}
+use Rattle.dexruns.proofs.checking.check_run.Goals as goal
+
+pub loop-i-init : goal.loop-i-init
+loop-i-init g c = record {
+  readers = c.requires.inputs;
+  writer = c.requires.out;
+  tells = λ t. t;
+  rest = refl;
+  moved = none_moved _ _ _ c.args.inputs.now;
+  checked = none_checked _ _ _ _;
+}
+
+pub returns-in-Err-Read-clause-begun : goal.returns-in-Err-Read-clause-begun
+returns-in-Err-Read-clause-begun g c =
+    let count = length-map c.args.inputs.now (λ input. bytes_read (g.R.Source.to_come input)) in
+    let le : c.loop-i.i ≤ length (map (λ input. bytes_read (g.R.Source.to_come input)) c.args.inputs.now) = omega (arith, count) in
+    begun _ _ _ (map (λ input. bytes_read (g.R.Source.to_come input)) c.args.inputs.now) _ _ _ _ le c.loop-i.invariant.checked
+
+pub returns-in-Err-Memory-clause-begun : goal.returns-in-Err-Memory-clause-begun
+returns-in-Err-Memory-clause-begun g c =
+    let count = length-map c.args.inputs.now (λ input. bytes_read (g.R.Source.to_come input)) in
+    let le : c.loop-i.i ≤ length (map (λ input. bytes_read (g.R.Source.to_come input)) c.args.inputs.now) = omega (arith, count) in
+    begun _ _ _ (map (λ input. bytes_read (g.R.Source.to_come input)) c.args.inputs.now) _ _ _ _ le c.loop-i.invariant.checked
+
+pub returns-in-Err-clause-begun : goal.returns-in-Err-clause-begun
+returns-in-Err-clause-begun g c =
+    let count = length-map c.args.inputs.now (λ input. bytes_read (g.R.Source.to_come input)) in
+    let le : c.loop-i.i ≤ length (map (λ input. bytes_read (g.R.Source.to_come input)) c.args.inputs.now) = omega (arith, count) in
+    begun _ _ _ (map (λ input. bytes_read (g.R.Source.to_come input)) c.args.inputs.now) _ _ _ _ le c.loop-i.invariant.checked
+
+pub returns-in-Err-write_whole-clause-begun : goal.returns-in-Err-write_whole-clause-begun
+returns-in-Err-write_whole-clause-begun g c =
+    let lt : c.loop-i.i < length c.args.inputs.now = omega arith in
+    let now : c.loop-i.i < length c.loop-i.inputs = omega arith in
+    let named : c.loop-i.i < length c.args.names.now = omega arith in
+    let count = length-map c.args.inputs.now (λ input. bytes_read (g.R.Source.to_come input)) in
+    let names = length-map c.args.names.now (λ name. name.now) in
+    let inside : c.loop-i.i < length (map (λ input. bytes_read (g.R.Source.to_come input)) c.args.inputs.now) = omega (arith, count) in
+    let same : length (map (λ name. name.now) c.args.names.now) ≡ length (map (λ input. bytes_read (g.R.Source.to_come input)) c.args.inputs.now) = omega (arith, count, names) in
+    begun_more _ _ (map (λ name. name.now) c.args.names.now) (map (λ input. bytes_read (g.R.Source.to_come input)) c.args.inputs.now) _ _ _ _ c.loop-i.i c.in-Ok.verdict inside same c.loop-i.invariant.checked
+    (right_now g.R.Source.tells (λ input. bytes_read (g.R.Source.to_come input)) c.loop-i.inputs c.args.inputs.now c.loop-i.i c.index-inputs-i.result c.in-Ok.verdict
+    c.loop-i.invariant.rest now lt c.index-inputs-i.is c.in-Ok.ensures.verdict)
+    c.as_bytes.result.now
+    (line_is (λ name. name.now) c.args.names.now c.loop-i.i _ c.in-Ok.verdict _ _ named c.as_bytes.ensures.value c.in-Ok-check_line.ensures)
+    (λ w. c.in-Err-write_whole.ensures.front (c.loop-i.invariant.tells w))
+
+pub loop-i-preserved : goal.loop-i-preserved
+loop-i-preserved g c =
+    let lt : c.loop-i.i < length c.args.inputs.now = omega arith in
+    let now : c.loop-i.i < length c.loop-i.inputs = omega arith in
+    let named : c.loop-i.i < length c.args.names.now = omega arith in
+    let count = length-map c.args.inputs.now (λ input. bytes_read (g.R.Source.to_come input)) in
+    let names = length-map c.args.names.now (λ name. name.now) in
+    let inside : c.loop-i.i < length (map (λ input. bytes_read (g.R.Source.to_come input)) c.args.inputs.now) = omega (arith, count) in
+    let same : length (map (λ name. name.now) c.args.names.now) ≡ length (map (λ input. bytes_read (g.R.Source.to_come input)) c.args.inputs.now) = omega (arith, count, names) in
+    let less : c.loop-i.i < c.loop-i.i + 1 = omega arith in
+    record {
+      readers = All-set (λ s. g.R.Source.has_failed s ≡ false) _ _ _ c.in-Ok.ensures.works c.loop-i.invariant.readers;
+      writer = c.in-Ok-write_whole.ensures.works;
+      tells = λ w. c.in-Ok-write_whole.ensures.tells (c.loop-i.invariant.tells w);
+      rest = rw drop-set-lt (drop_more_same c.loop-i.inputs c.args.inputs.now c.loop-i.i c.loop-i.invariant.rest);
+      moved = moved_now (IsReadNoFurther g.R.Source.tells g.R.Source.to_come g.R.Source.has_failed) c.args.inputs.now c.loop-i.inputs c.loop-i.i c.index-inputs-i.result c.judge.new.input
+          c.loop-i.invariant.moved c.loop-i.invariant.rest now lt c.index-inputs-i.is c.judge.ensures.no_further;
+      checked = rw c.status_after-status.ensures (checked_more _ _ (map (λ name. name.now) c.args.names.now) (map (λ input. bytes_read (g.R.Source.to_come input)) c.args.inputs.now) _ _ _ _ c.loop-i.i c.in-Ok.verdict inside same c.loop-i.invariant.checked
+          (right_now g.R.Source.tells (λ input. bytes_read (g.R.Source.to_come input)) c.loop-i.inputs c.args.inputs.now c.loop-i.i c.index-inputs-i.result c.in-Ok.verdict
+          c.loop-i.invariant.rest now lt c.index-inputs-i.is c.in-Ok.ensures.verdict)
+          c.as_bytes.result.now
+          (line_is (λ name. name.now) c.args.names.now c.loop-i.i _ c.in-Ok.verdict _ _ named c.as_bytes.ensures.value c.in-Ok-check_line.ensures)
+          (λ w. c.in-Ok-write_whole.ensures.written (c.loop-i.invariant.tells w)));
+    }
+
+pub returns-in-Err-Read-clause-no_further : goal.returns-in-Err-Read-clause-no_further
+returns-in-Err-Read-clause-no_further g c =
+    let lt : c.loop-i.i < length c.args.inputs.now = omega arith in
+    let now : c.loop-i.i < length c.loop-i.inputs = omega arith in
+    moved_now (IsReadNoFurther g.R.Source.tells g.R.Source.to_come g.R.Source.has_failed) c.args.inputs.now c.loop-i.inputs c.loop-i.i c.index-inputs-i.result c.judge.new.input
+    c.loop-i.invariant.moved c.loop-i.invariant.rest now lt c.index-inputs-i.is c.judge.ensures.no_further
+
+pub returns-in-Err-Memory-clause-no_further : goal.returns-in-Err-Memory-clause-no_further
+returns-in-Err-Memory-clause-no_further g c =
+    let lt : c.loop-i.i < length c.args.inputs.now = omega arith in
+    let now : c.loop-i.i < length c.loop-i.inputs = omega arith in
+    moved_now (IsReadNoFurther g.R.Source.tells g.R.Source.to_come g.R.Source.has_failed) c.args.inputs.now c.loop-i.inputs c.loop-i.i c.index-inputs-i.result c.judge.new.input
+    c.loop-i.invariant.moved c.loop-i.invariant.rest now lt c.index-inputs-i.is c.judge.ensures.no_further
+
+pub returns-in-Err-clause-no_further : goal.returns-in-Err-clause-no_further
+returns-in-Err-clause-no_further g c =
+    let lt : c.loop-i.i < length c.args.inputs.now = omega arith in
+    let now : c.loop-i.i < length c.loop-i.inputs = omega arith in
+    moved_now (IsReadNoFurther g.R.Source.tells g.R.Source.to_come g.R.Source.has_failed) c.args.inputs.now c.loop-i.inputs c.loop-i.i c.index-inputs-i.result c.judge.new.input
+    c.loop-i.invariant.moved c.loop-i.invariant.rest now lt c.index-inputs-i.is c.judge.ensures.no_further
+
+pub returns-in-Err-write_whole-clause-no_further : goal.returns-in-Err-write_whole-clause-no_further
+returns-in-Err-write_whole-clause-no_further g c =
+    let lt : c.loop-i.i < length c.args.inputs.now = omega arith in
+    let now : c.loop-i.i < length c.loop-i.inputs = omega arith in
+    moved_now (IsReadNoFurther g.R.Source.tells g.R.Source.to_come g.R.Source.has_failed) c.args.inputs.now c.loop-i.inputs c.loop-i.i c.index-inputs-i.result c.judge.new.input
+    c.loop-i.invariant.moved c.loop-i.invariant.rest now lt c.index-inputs-i.is c.judge.ensures.no_further
+
+pub returns-in-Err-Read-clause-fault : goal.returns-in-Err-Read-clause-fault
+returns-in-Err-Read-clause-fault g c =
+    let now : c.loop-i.i < length c.loop-i.inputs = omega arith in
+    let failed = rw c.in-Err-Read.field-0-is at c.in-Err-Read.ensures.fault in
+    (one_failed g.R.Source.has_failed c.loop-i.inputs c.loop-i.i c.judge.new.input c.loop-i.invariant.readers now failed, c.loop-i.invariant.writer)
+
+pub returns-in-Err-Memory-clause-fault : goal.returns-in-Err-Memory-clause-fault
+returns-in-Err-Memory-clause-fault g c =
+    let works = rw c.in-Err-Memory.field-0-is at c.in-Err-Memory.ensures.fault in
+    (All-set (λ s. g.R.Source.has_failed s ≡ false) _ _ _ works c.loop-i.invariant.readers, c.loop-i.invariant.writer)
+
+pub returns-in-Err-clause-fault : goal.returns-in-Err-clause-fault
+returns-in-Err-clause-fault g c = (All-set (λ s. g.R.Source.has_failed s ≡ false) _ _ _ c.in-Ok.ensures.works c.loop-i.invariant.readers, c.loop-i.invariant.writer)
+
+pub returns-in-Err-write_whole-clause-fault : goal.returns-in-Err-write_whole-clause-fault
+returns-in-Err-write_whole-clause-fault g c = (All-set (λ s. g.R.Source.has_failed s ≡ false) _ _ _ c.in-Ok.ensures.works c.loop-i.invariant.readers, c.in-Err-write_whole.ensures.fails)

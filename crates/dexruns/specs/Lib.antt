@@ -1,0 +1,5 @@
+pub mod Inputs
+pub mod Lines
+pub mod Runs
+pub mod Merges
+pub mod Fans

@@ -1,0 +1,92 @@
+//! The run of `check`.
+
+ghost use Rattle.std.specs.Prelude.{◌≡◌, ◌≤◌, true, false, length, map, All, OnOk, IfOk, IfErr};
+ghost use Rattle.std.specs.List.{AllZip};
+ghost use Rattle.dexruns.specs.Inputs.{bytes_read, IsReadNoFurther, TellsOf};
+ghost use Rattle.dexruns.specs.Lines.{status_after};
+ghost use Rattle.dexruns.specs.Runs.{IsVerdict, AreChecked, AreBegun, AllWork, IsOfCheck};
+
+use crate::faults::RunFault;
+use crate::inputs::{InputFault, read_whole};
+use crate::lines::{Verdict, check_line};
+use dexhead::{Sink, Source, write_whole};
+use dexpool::ReadFault;
+use std::alloc::Global;
+
+const DONE: u8 = 0;
+
+const REFUSED: u8 = 1;
+
+// What is said of an input.
+fn judge<R: Source>(alloc: Global, input: &mut R) -> Result<Verdict, InputFault>
+    requires { R.has_failed input.old ≡ false }
+    ensures verdict { IfOk result (λ verdict. R.tells input.old → IsVerdict (bytes_read (R.to_come input.old)) verdict) }
+    ensures no_further { IsReadNoFurther R.tells R.to_come R.has_failed input.old input.new }
+    ensures works { OnOk result (R.has_failed input.new ≡ false) }
+    ensures fault { IfErr result (TellsOf (R.has_failed input.new)) }
+{
+    let bytes = read_whole(alloc, input)?;
+    match dexclass::read(alloc, bytes.as_slice()) {
+        Ok(program) => Ok(Verdict::Accepted(program.len())),
+        Err(ReadFault::Refused(refusal)) => Ok(Verdict::Refused(refusal)),
+        Err(ReadFault::Memory) => Err(InputFault::Memory),
+    }
+}
+
+// The status with one more input.
+fn status_after(status: u8, verdict: &Verdict) -> u8
+    ensures { result ≡ status_after status verdict.now }
+{
+    match verdict {
+        Verdict::Accepted(_) => status,
+        Verdict::Refused(_) => REFUSED,
+    }
+}
+
+/// Writes a line for each input: its name, and whether it is accepted, with the number of its classes, or refused,
+/// with the condition and the place. The answer is 0, or 1 where an input is refused.
+///
+/// Conditions: no device has failed, and there are as many names as inputs. Error: `Read` with the number of an input
+/// exactly where its reader failed in this call, `Write` exactly where the writer did; `Memory` where a growth was
+/// refused; no other. It ends at the first error, and then a front of the lines was written, each of them right of its
+/// input. Of each input `2^30 + 1` bytes are read and no more.
+///
+/// Source: "Dalvik Executable format"; the lines are this project's rule.
+pub fn check_run<R: Source, W: Sink>(
+    alloc: Global,
+    names: &[&str],
+    inputs: &mut [R],
+    out: &mut W,
+) -> Result<u8, RunFault>
+    requires names { length names.now ≡ length inputs.old }
+    requires inputs { AllWork R.has_failed inputs.old }
+    requires out { W.has_failed out.old ≡ false }
+    ensures lines { IfOk result (AreChecked (All R.tells inputs.old) (W.tells out.old) (map (λ name. name.now) names.now)
+        (map (λ input. bytes_read (R.to_come input)) inputs.old) (W.taken out.old) (W.taken out.new)) }
+    ensures begun { IfErr result (λ _. AreBegun (All R.tells inputs.old) (W.tells out.old) (map (λ name. name.now) names.now)
+        (map (λ input. bytes_read (R.to_come input)) inputs.old) (W.taken out.old) (W.taken out.new)) }
+    ensures no_further { AllZip (IsReadNoFurther R.tells R.to_come R.has_failed) inputs.old inputs.new }
+
+    // The faults of the devices are told exactly where they are.
+    ensures readers { OnOk result (AllWork R.has_failed inputs.new) }
+    ensures writer { OnOk result (W.has_failed out.new ≡ false) }
+    ensures fault { IfErr result (IsOfCheck R.has_failed inputs.new (W.has_failed out.new)) }
+{
+    let mut status = DONE;
+    for i in 0..inputs.len() {
+        let verdict = match judge(alloc, &mut inputs[i]) {
+            Ok(verdict) => verdict,
+            Err(InputFault::Read) => return Err(RunFault::Read(i)),
+            Err(InputFault::Memory) => return Err(RunFault::Memory),
+        };
+        let line = match check_line(alloc, names[i], &verdict) {
+            Ok(line) => line,
+            Err(_) => return Err(RunFault::Memory),
+        };
+        match write_whole(out, line.as_bytes()) {
+            Ok(()) => status = status_after(status, &verdict),
+            Err(_) => return Err(RunFault::Write),
+        }
+    }
+    Ok(status)
+}

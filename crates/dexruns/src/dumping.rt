@@ -1,0 +1,55 @@
+//! The run of `dump`.
+
+ghost use Rattle.std.specs.Prelude.{◌≡◌, ◌↔◌, true, false, OnOk, IfErr, IsErrOf};
+ghost use Rattle.dexspec.specs.Accepted.{IsAccepted};
+ghost use Rattle.dexruns.specs.Inputs.{bytes_read, IsReadNoFurther};
+ghost use Rattle.dexruns.specs.Runs.{IsOfInput, IsLeft};
+ghost use Rattle.dexruns.specs.declared.faults.RunFault.TheVariants.{Read, Write};
+
+use crate::faults::RunFault;
+use crate::inputs::{InputFault, read_whole};
+use dexhead::{Sink, Source};
+use dexlisting::{ListingFault, write_listing};
+use dexpool::ReadFault;
+use std::alloc::Global;
+
+/// Writes the listing of an input: its classes, with their members and instructions.
+///
+/// Condition: neither device has failed. Error: `Input` with number 0 exactly where [`dexclass::read`] refuses the
+/// input's bytes, of which `2^30 + 1` are read and no more, with what it says of them; `Read` with number 0 exactly where
+/// the reader failed in this call, and `Write` exactly where the writer did; `Memory` where a growth was refused; no
+/// other. After `Write` a part of the listing was written, and after any other error nothing.
+///
+/// Source: "Dalvik Executable format"; the listing is this project's rule.
+pub fn dump_run<R: Source, W: Sink>(
+    alloc: Global,
+    input: &mut R,
+    out: &mut W,
+) -> Result<(), RunFault>
+    requires input { R.has_failed input.old ≡ false }
+    requires out { W.has_failed out.old ≡ false }
+    ensures accepted { OnOk result (R.tells input.old → IsAccepted (bytes_read (R.to_come input.old))) }
+    ensures fault { IfErr result (IsOfInput (R.tells input.old) (bytes_read (R.to_come input.old))) }
+    ensures left { IfErr result (IsLeft out.old out.new) }
+    ensures no_further { IsReadNoFurther R.tells R.to_come R.has_failed input.old input.new }
+
+    // The faults of the devices are told exactly where they are.
+    ensures read { IsErrOf result (Read 0) ↔ (R.has_failed input.new ≡ true) }
+    ensures write { IsErrOf result Write ↔ (W.has_failed out.new ≡ true) }
+{
+    let bytes = match read_whole(alloc, input) {
+        Ok(bytes) => bytes,
+        Err(InputFault::Read) => return Err(RunFault::Read(0)),
+        Err(InputFault::Memory) => return Err(RunFault::Memory),
+    };
+    let program = match dexclass::read(alloc, bytes.as_slice()) {
+        Ok(program) => program,
+        Err(ReadFault::Refused(refusal)) => return Err(RunFault::Input(0, refusal)),
+        Err(ReadFault::Memory) => return Err(RunFault::Memory),
+    };
+    match write_listing(alloc, &program, out) {
+        Ok(()) => Ok(()),
+        Err(ListingFault::Io) => Err(RunFault::Write),
+        Err(ListingFault::Memory) => Err(RunFault::Memory),
+    }
+}

@@ -1,0 +1,134 @@
+//! Inputs, read whole.
+
+ghost use Rattle.std.specs.Prelude.{◌≡◌, ◌<◌, ◌≤◌, ◌+◌, ◌++◌, [], true, false, length, take, drop, OnOk, OnErr, IfOk, IfErr, vec_len};
+ghost use Rattle.dexruns.specs.Inputs.{bytes_read, IsReadNoFurther, IsUnread, TellsOf};
+ghost use Rattle.dexruns.specs.declared.inputs.InputFault.TheVariants.{Memory};
+
+use dexhead::{DeviceFault, Source};
+use std::alloc::{AllocError, Global};
+
+/// How many bytes of an input are read at most. It is one more than a file may have: an input of so many bytes is too
+/// long, whatever else is to come.
+pub const MOST_READ: usize = 1073741825;
+
+// How much room is made for the next bytes where more come than were expected: as much as has come, within these bounds.
+const LEAST_ROOM: usize = 4096;
+
+const MOST_ROOM: usize = 1048576;
+
+/// Why an input was not read whole.
+#[derive(Clone, Copy, Debug, PartialEq, Eq)]
+pub enum InputFault {
+    /// The reader failed.
+    Read,
+    /// A growth was refused.
+    Memory,
+}
+
+impl From<AllocError> for InputFault {
+    ghost from_gives = { λ _ e. e ≡ Memory };
+
+    fn from(_error: AllocError) -> InputFault {
+        InputFault::Memory
+    }
+}
+
+// How much room is made where all of it is filled. For what is expected it is made at once, and for one byte more, so
+// that the end is found without another growth.
+fn room_for(expected: usize, filled: usize) -> usize
+    requires { filled < 1073741825 }
+    ensures more { filled < result }
+    ensures bound { result ≤ 1073741825 }
+{
+    if filled < expected {
+        return expected.min(MOST_READ - 1) + 1;
+    }
+    filled
+        + filled
+            .max(LEAST_ROOM)
+            .min(MOST_ROOM)
+            .min(MOST_READ - filled)
+}
+
+// Makes room behind the bytes that have come, unless there is some.
+fn make_room(bytes: &mut Vec<u8>, filled: usize, expected: usize) -> Result<(), AllocError>
+    requires filled { filled ≤ vec_len bytes.old }
+    requires most { filled < 1073741825 }
+    requires bound { vec_len bytes.old ≤ 1073741825 }
+    ensures room { OnOk result (filled < vec_len bytes.new) }
+    ensures bound { OnOk result (vec_len bytes.new ≤ 1073741825) }
+    ensures front { OnOk result (take filled bytes.new.items ≡ take filled bytes.old.items) }
+{
+    if filled < bytes.len() {
+        return Ok(());
+    }
+    bytes.resize(room_for(expected, filled), 0)?;
+    Ok(())
+}
+
+// One read into the bytes from a place on.
+fn read_at<R: Source>(input: &mut R, bytes: &mut [u8], at: usize) -> Result<usize, DeviceFault>
+    requires works { R.has_failed input.old ≡ false }
+    requires room { at < length bytes.old }
+    ensures works { OnOk result (R.has_failed input.new ≡ false) }
+    ensures fails { OnErr result (R.has_failed input.new ≡ true) }
+    ensures front { take at bytes.new ≡ take at bytes.old }
+    ensures fits { IfOk result (λ n. at + n ≤ length bytes.new) }
+    ensures tells { R.tells input.old → R.tells input.new }
+    ensures moved { IfOk result (λ n. R.tells input.old → R.to_come input.old ≡ take n (drop at bytes.new) ++ R.to_come input.new) }
+    ensures end { IfOk result (λ n. n ≡ 0 → R.tells input.old → R.to_come input.old ≡ []) }
+{
+    input.read(&mut bytes[at..])
+}
+
+// Reads more bytes behind those that have come, and answers how many.
+fn read_more<R: Source>(
+    input: &mut R,
+    bytes: &mut Vec<u8>,
+    filled: usize,
+) -> Result<usize, InputFault>
+    requires works { R.has_failed input.old ≡ false }
+    requires filled { filled ≤ vec_len bytes.old }
+    requires most { filled < 1073741825 }
+    requires bound { vec_len bytes.old ≤ 1073741825 }
+    ensures works { OnOk result (R.has_failed input.new ≡ false) }
+    ensures fault { IfErr result (TellsOf (R.has_failed input.new)) }
+    ensures unread { IfErr result (IsUnread input.old input.new) }
+    ensures bound { OnOk result (vec_len bytes.new ≤ 1073741825) }
+    ensures front { OnOk result (take filled bytes.new.items ≡ take filled bytes.old.items) }
+    ensures fits { IfOk result (λ n. filled + n ≤ vec_len bytes.new) }
+    ensures tells { R.tells input.old → R.tells input.new }
+    ensures moved { IfOk result (λ n. R.tells input.old → R.to_come input.old ≡ take n (drop filled bytes.new.items) ++ R.to_come input.new) }
+    ensures end { IfOk result (λ n. n ≡ 0 → R.tells input.old → R.to_come input.old ≡ []) }
+{
+    make_room(bytes, filled, input.expected())?;
+    match read_at(input, bytes.as_mut_slice(), filled) {
+        Ok(taken) => Ok(taken),
+        Err(_) => Err(InputFault::Read),
+    }
+}
+
+/// Reads to the end of an input, or one byte past the greatest length of a file, and no further. The bytes come into the
+/// room of the vector itself.
+///
+/// Condition: the reader has not failed. Error: `Read` exactly where it failed in this call; `Memory` where a growth
+/// was refused.
+pub fn read_whole<R: Source>(alloc: Global, input: &mut R) -> Result<Vec<u8>, InputFault>
+    requires { R.has_failed input.old ≡ false }
+    ensures bytes { IfOk result (λ bytes. R.tells input.old → bytes.items ≡ bytes_read (R.to_come input.old)) }
+    ensures no_further { IsReadNoFurther R.tells R.to_come R.has_failed input.old input.new }
+    ensures works { OnOk result (R.has_failed input.new ≡ false) }
+    ensures fault { IfErr result (TellsOf (R.has_failed input.new)) }
+{
+    let mut bytes = Vec::new(alloc);
+    let mut filled = 0;
+    'pieces: while filled < MOST_READ {
+        let taken = read_more(input, &mut bytes, filled)?;
+        if taken == 0 {
+            break;
+        }
+        filled += taken;
+    }
+    bytes.truncate(filled);
+    Ok(bytes)
+}

@@ -1,0 +1,21 @@
+//! The runs of the program `dexkit` over any readers and writer, and what it says of faults.
+#![tactic(auto)]
+
+mod checking;
+mod dumping;
+mod explaining;
+mod fanning;
+mod faults;
+mod inputs;
+mod lines;
+mod merging;
+mod normalising;
+
+pub use checking::check_run;
+pub use dumping::dump_run;
+pub use explaining::explain;
+pub use fanning::fan_plan;
+pub use faults::{MergeCause, RunFault};
+pub use inputs::MOST_READ;
+pub use merging::{merge_run, merge_strip_run};
+pub use normalising::normalise_run;

@@ -1,0 +1,86 @@
+//! The lines that `check` writes.
+
+ghost use Rattle.std.specs.Prelude.{◌≡◌, slice_index_or, map, IfOk, string_bytes};
+ghost use Rattle.dexruns.specs.Lines.{condition_name, refusal_text, check_line};
+
+use dexhead::Refusal;
+use std::alloc::{AllocError, Global};
+
+/// What is said of a file that is checked.
+#[derive(Clone, Copy, Debug, PartialEq, Eq)]
+pub enum Verdict {
+    /// It is accepted, and has so many classes.
+    Accepted(usize),
+    /// A condition that it does not meet, and where.
+    Refused(Refusal),
+}
+
+const UNKNOWN: &str = "Unknown";
+
+// The names of the conditions, each at its number.
+const NAMES: [&str; 24] = [
+    UNKNOWN,
+    "Size",
+    "Magic",
+    "Version",
+    "Lengths",
+    "Endian",
+    "Link",
+    "Checksum",
+    "Signature",
+    "Layout",
+    "Map",
+    "Strings",
+    "Types",
+    "Protos",
+    "Fields",
+    "Methods",
+    "Classes",
+    "Members",
+    "Code",
+    "Tries",
+    "Debug",
+    "Values",
+    "Annotations",
+    "Weight",
+];
+
+// The text with a number, or the default one behind the end.
+pub(crate) fn text_at<'a>(texts: &[&'a str], i: usize, default: &'a str) -> &'a str
+    ensures { result.now ≡ slice_index_or (map (λ text. text.now) texts.now) i default.now }
+{
+    match texts.get(i) {
+        Some(text) => text,
+        None => default,
+    }
+}
+
+#[tactic(auto, unfolding(crate::specs::Lines::condition_name))]
+fn condition_name(number: u8) -> &'static str
+    ensures { result.now ≡ condition_name number }
+{
+    text_at(&NAMES, usize::from(number), UNKNOWN)
+}
+
+/// A refusal as the program prints it: its number, the name of the condition, and the place.
+pub fn refusal_text(alloc: Global, refusal: &Refusal) -> Result<String, AllocError>
+    ensures { IfOk result (λ text. string_bytes text ≡ refusal_text refusal.now) }
+{
+    let number = refusal.number;
+    let name = condition_name(number);
+    let place = refusal.place;
+    format!(in alloc; "refused {number} {name} at {place}")
+}
+
+/// The line of a file that is checked, with its end.
+pub fn check_line(alloc: Global, name: &str, verdict: &Verdict) -> Result<String, AllocError>
+    ensures { IfOk result (λ line. string_bytes line ≡ check_line name.now verdict.now) }
+{
+    match verdict {
+        Verdict::Accepted(classes) => format!(in alloc; "{name}: ok classes={classes}\n"),
+        Verdict::Refused(refusal) => {
+            let text = refusal_text(alloc, refusal)?;
+            format!(in alloc; "{name}: {text}\n")
+        }
+    }
+}

@@ -1,0 +1,212 @@
+//! The runs that merge.
+
+ghost use Rattle.std.specs.Prelude.{◌≡◌, false, length, IfOk, OnOk, IfErr};
+ghost use Rattle.std.specs.List.{AllZip};
+ghost use Rattle.dexspec.specs.Canonical.{canonical};
+ghost use Rattle.dexspec.specs.Stripping.{strip_collection};
+ghost use Rattle.dexmerge.specs.Faults.{IsPlanned};
+ghost use Rattle.dexmerge.specs.Plans.{plan_of};
+ghost use Rattle.dexruns.specs.Inputs.{IsReadNoFurther};
+ghost use Rattle.dexruns.specs.Merges.{AreReadFrom, IsReadEachFault, IsUnionFault, IsUnited, IsUnitedFault, IsFileOf, IsAppended, IsFrontAppended, IsMergedFile, IsMergeFault, IsWriteFault, AreUncalled, IsOfWriter, IsOfDevices};
+ghost use Rattle.dexruns.specs.Runs.{AllWork, IsLeft};
+
+use crate::faults::{MergeCause, RunFault};
+use crate::inputs::{InputFault, read_whole};
+use dexcanon::{StoreFault, write_to};
+use dexclass::{Program, into_stripped};
+use dexhead::{Sink, Source};
+use dexlaws_normal::normal_form;
+use dexmerge::{Caps, MergeFault, Plan, PlanFault, is_plan_for, merge_files};
+use dexpool::ReadFault;
+use std::alloc::{AllocError, Global};
+
+// A place for the bytes of each input.
+fn places(alloc: Global, count: usize) -> Result<Vec<Vec<u8>>, AllocError>
+    ensures { IfOk result (λ places. length places.items ≡ count) }
+{
+    let mut places = Vec::new(alloc);
+    for _ in 0..count {
+        places.push(Vec::new(alloc))?;
+    }
+    Ok(places)
+}
+
+// Reads one input after the other, and judges it. The programs borrow from the bytes.
+fn read_each<'a, R: Source>(
+    alloc: Global,
+    inputs: &mut [R],
+    places: &'a mut [Vec<u8>],
+) -> Result<Vec<Program<'a>>, RunFault>
+    requires places { length places.old ≡ length inputs.old }
+    requires inputs { AllWork R.has_failed inputs.old }
+    ensures read { IfOk result (λ programs. AreReadFrom R.tells R.to_come inputs.old programs.items) }
+    ensures no_further { AllZip (IsReadNoFurther R.tells R.to_come R.has_failed) inputs.old inputs.new }
+    ensures works { OnOk result (AllWork R.has_failed inputs.new) }
+    ensures fault { IfErr result (IsReadEachFault R.tells R.to_come inputs.old) }
+    ensures devices { IfErr result (IsOfDevices R.has_failed inputs.new false) }
+{
+    let mut programs = Vec::new(alloc);
+    for (i, place) in places.iter_mut().enumerate() {
+        *place = match read_whole(alloc, &mut inputs[i]) {
+            Ok(bytes) => bytes,
+            Err(InputFault::Read) => return Err(RunFault::Read(i)),
+            Err(InputFault::Memory) => return Err(RunFault::Memory),
+        };
+        match dexclass::read(alloc, place.as_slice()) {
+            Ok(program) => programs.push(program)?,
+            Err(ReadFault::Refused(refusal)) => return Err(RunFault::Input(i, refusal)),
+            Err(ReadFault::Memory) => return Err(RunFault::Memory),
+        }
+    }
+    Ok(programs)
+}
+
+// The collection of what a plan names.
+fn united<'a>(
+    alloc: Global,
+    programs: Vec<Program<'a>>,
+    plan: &Plan,
+    caps: &Caps,
+) -> Result<Program<'a>, RunFault>
+    ensures united { IfOk result (IsPlanned caps.now programs.entry.items (plan_of plan.now)) }
+    ensures fault { IfErr result (IsUnionFault caps.now programs.entry.items (plan_of plan.now)) }
+{
+    match merge_files(alloc, programs, plan, caps) {
+        Ok(program) => Ok(program),
+        Err(PlanFault::BadPlan) => Err(RunFault::Plan),
+        Err(PlanFault::Merge(MergeFault::Conflict(name))) => {
+            Err(RunFault::Merge(MergeCause::Conflict(name)))
+        }
+        Err(PlanFault::Merge(MergeFault::Cycle(name))) => {
+            Err(RunFault::Merge(MergeCause::Cycle(name)))
+        }
+        Err(PlanFault::Merge(MergeFault::Cap(cap))) => Err(RunFault::Merge(MergeCause::Cap(cap))),
+        Err(PlanFault::Merge(MergeFault::Memory)) => Err(RunFault::Memory),
+    }
+}
+
+// The collection of what a plan names, of inputs that are read into the places.
+fn read_united<'a, R: Source>(
+    alloc: Global,
+    inputs: &mut [R],
+    plan: &Plan,
+    caps: &Caps,
+    places: &'a mut [Vec<u8>],
+) -> Result<Program<'a>, RunFault>
+    requires places { length places.old ≡ length inputs.old }
+    requires inputs { AllWork R.has_failed inputs.old }
+    ensures united { IfOk result (IsUnited R.tells R.to_come inputs.old caps.now (plan_of plan.now)) }
+    ensures fault { IfErr result (IsUnitedFault R.tells R.to_come inputs.old caps.now (plan_of plan.now)) }
+    ensures no_further { AllZip (IsReadNoFurther R.tells R.to_come R.has_failed) inputs.old inputs.new }
+    ensures uncalled { IfErr result (AreUncalled inputs.old inputs.new) }
+    ensures works { OnOk result (AllWork R.has_failed inputs.new) }
+    ensures devices { IfErr result (IsOfDevices R.has_failed inputs.new false) }
+{
+    if !is_plan_for(alloc, plan, inputs.len())? {
+        return Err(RunFault::Plan);
+    }
+    let programs = match read_each(alloc, inputs, places) {
+        Ok(programs) => programs,
+        Err(fault) => return Err(fault),
+    };
+    united(alloc, programs, plan, caps)
+}
+
+// Writes the canonical file of a program, which is accepted as just what the program holds.
+fn write_program<W: Sink>(alloc: Global, program: &Program<'_>, out: &mut W) -> Result<(), RunFault>
+    requires { W.has_failed out.old ≡ false }
+    ensures read_back { IsFileOf program.now }
+    ensures written { OnOk result (IsAppended (W.tells out.old) (W.taken out.old) (W.taken out.new) (canonical program.now)) }
+    ensures fault { IfErr result (IsWriteFault W.tells W.taken out.old out.new (canonical program.now)) }
+    ensures works { OnOk result (W.has_failed out.new ≡ false) }
+    ensures device { IfErr result (IsOfWriter (W.has_failed out.new)) }
+{
+    program.is_good();
+    normal_form();
+    match write_to(alloc, program, out) {
+        Ok(()) => Ok(()),
+        Err(StoreFault::Io) => Err(RunFault::Write),
+        Err(StoreFault::Memory) => Err(RunFault::Memory),
+    }
+}
+
+/// Writes the canonical file of the union of inputs, merged by a plan. The file is accepted, and stands for just the
+/// union.
+///
+/// Condition: no device has failed. Error: `Plan`, before any reader is called, exactly where the plan names an input
+/// that there is not, or does not name one that there is, or is deeper than 64. Then one input after the other is read
+/// whole and judged, and the first that fails ends the call: `Read` with its number exactly where its reader failed in
+/// this call, or `Input` with its number where it is refused, with what [`dexclass::read`] says of its bytes, of which
+/// `2^30 + 1` are read and no more. Then `Merge` with a cause that is true of the union, the first one where the plan is
+/// a leaf or a node of leaves; where the union can be merged, none is told. `Write` exactly where the writer failed;
+/// `Memory` where a growth was refused. After `Write` a front of the canonical file was written, and after any other
+/// error nothing.
+///
+/// Source: "Dalvik Executable format"; merging and the canonical form are this project's rules.
+pub fn merge_run<R: Source, W: Sink>(
+    alloc: Global,
+    inputs: &mut [R],
+    plan: &Plan,
+    caps: &Caps,
+    out: &mut W,
+) -> Result<(), RunFault>
+    requires inputs { AllWork R.has_failed inputs.old }
+    requires out { W.has_failed out.old ≡ false }
+    ensures merged { OnOk result (IsMergedFile R.tells R.to_come inputs.old caps.now (plan_of plan.now) (λ whole. whole)
+        (IsAppended (W.tells out.old) (W.taken out.old) (W.taken out.new))) }
+    ensures fault { IfErr result (IsMergeFault R.tells R.to_come inputs.old caps.now (plan_of plan.now) (λ whole. whole)
+        (IsFrontAppended (W.tells out.old) (W.taken out.old) (W.taken out.new))) }
+    ensures left { IfErr result (IsLeft out.old out.new) }
+    ensures uncalled { IfErr result (AreUncalled inputs.old inputs.new) }
+    ensures no_further { AllZip (IsReadNoFurther R.tells R.to_come R.has_failed) inputs.old inputs.new }
+
+    // The faults of the devices are told exactly where they are.
+    ensures readers { OnOk result (AllWork R.has_failed inputs.new) }
+    ensures writer { OnOk result (W.has_failed out.new ≡ false) }
+    ensures devices { IfErr result (IsOfDevices R.has_failed inputs.new (W.has_failed out.new)) }
+{
+    let mut files = places(alloc, inputs.len())?;
+    let program = match read_united(alloc, inputs, plan, caps, files.as_mut_slice()) {
+        Ok(program) => program,
+        Err(fault) => return Err(fault),
+    };
+    write_program(alloc, &program, out)
+}
+
+/// Writes the canonical file of the union of inputs without its debug programs and source texts, exactly where
+/// [`merge_run`] writes that of the union: the inputs are judged and merged as they are, and what comes out is stripped.
+/// The file is accepted, and stands for just the stripped union.
+///
+/// Condition and errors: those of [`merge_run`], with the stripped file in the place of the merged one.
+///
+/// Source: "Dalvik Executable format"; merging, stripping and the canonical form are this project's rules.
+pub fn merge_strip_run<R: Source, W: Sink>(
+    alloc: Global,
+    inputs: &mut [R],
+    plan: &Plan,
+    caps: &Caps,
+    out: &mut W,
+) -> Result<(), RunFault>
+    requires inputs { AllWork R.has_failed inputs.old }
+    requires out { W.has_failed out.old ≡ false }
+    ensures merged { OnOk result (IsMergedFile R.tells R.to_come inputs.old caps.now (plan_of plan.now) strip_collection
+        (IsAppended (W.tells out.old) (W.taken out.old) (W.taken out.new))) }
+    ensures fault { IfErr result (IsMergeFault R.tells R.to_come inputs.old caps.now (plan_of plan.now) strip_collection
+        (IsFrontAppended (W.tells out.old) (W.taken out.old) (W.taken out.new))) }
+    ensures left { IfErr result (IsLeft out.old out.new) }
+    ensures uncalled { IfErr result (AreUncalled inputs.old inputs.new) }
+    ensures no_further { AllZip (IsReadNoFurther R.tells R.to_come R.has_failed) inputs.old inputs.new }
+
+    // The faults of the devices are told exactly where they are.
+    ensures readers { OnOk result (AllWork R.has_failed inputs.new) }
+    ensures writer { OnOk result (W.has_failed out.new ≡ false) }
+    ensures devices { IfErr result (IsOfDevices R.has_failed inputs.new (W.has_failed out.new)) }
+{
+    let mut files = places(alloc, inputs.len())?;
+    let whole = match read_united(alloc, inputs, plan, caps, files.as_mut_slice()) {
+        Ok(whole) => whole,
+        Err(fault) => return Err(fault),
+    };
+    let stripped = into_stripped(alloc, whole)?;
+    write_program(alloc, &stripped, out)
+}

@@ -57,7 +57,7 @@ module _ (b : List ℕ) (off : ℕ) (m : Mentions) (pools : ArePools b m) (risin
   units : length us ≡ uint_at b (off + 12)
   units = length-ushorts_at b (off + 16) (uint_at b (off + 12))
 
-  tries_found : (ts : List NumberedTry) → TriesAt starts (length m.types) b off ts → whole.TriesAt b off cuts (map (try_meant m) ts)
+  pub tries_found : (ts : List NumberedTry) → TriesAt starts (length m.types) b off ts → whole.TriesAt b off cuts (map (try_meant m) ts)
   tries_found ts (inl h) = inl (h.0, ap (map (try_meant m)) h.1)
   tries_found ts (inr (d, inl g)) = inr (d, inl (g.0, items_found b m pools rising us cuts starts tell (off + 16 + 2 * uint_at b (off + 12)) (ushort_at b (off + 6)) ts (subst (λ (n : ℕ). TryItemsAt starts (length m.types) n b (off + 16 + 2 * uint_at b (off + 12)) (ushort_at b (off + 6)) ts) (sym units) g.1)))
   tries_found ts (inr (d, inr g)) = inr (d, inr (g.0, g.1, items_found b m pools rising us cuts starts tell (off + 18 + 2 * uint_at b (off + 12)) (ushort_at b (off + 6)) ts (subst (λ (n : ℕ). TryItemsAt starts (length m.types) n b (off + 18 + 2 * uint_at b (off + 12)) (ushort_at b (off + 6)) ts) (sym units) g.2)))
@@ -67,12 +67,12 @@ module _ (b : List ℕ) (off : ℕ) (m : Mentions) (pools : ArePools b m) (risin
       let h = subst (λ (n : ℕ). TryItemsAt starts (length m.types) n b o count ts) (sym units) g in
       items_in_range b m pools rising us cuts starts tell (o + 8 * count) h.count_size h.handlers_size o (8 * count) h.handlers ts h.list h.items
 
-  tries_range : (ts : List NumberedTry) → TriesAt starts (length m.types) b off ts → All (IsInRange m) (map (λ t. t.handler) ts)
+  pub tries_range : (ts : List NumberedTry) → TriesAt starts (length m.types) b off ts → All (IsInRange m) (map (λ t. t.handler) ts)
   tries_range ts (inl h) = subst (λ vs. All (IsInRange m) (map (λ (t : NumberedTry). t.handler) vs)) (sym h.1) (All-nil (IsInRange m))
   tries_range ts (inr (d, inl g)) = items_range (off + 16 + 2 * uint_at b (off + 12)) (ushort_at b (off + 6)) ts g.1
   tries_range ts (inr (d, inr g)) = items_range (off + 18 + 2 * uint_at b (off + 12)) (ushort_at b (off + 6)) ts g.2
 
-  tries_back : (xs : List whole.Try) → whole.TriesAt b off cuts xs → (ts : List NumberedTry) × TriesAt starts (length m.types) b off ts
+  pub tries_back : (xs : List whole.Try) → whole.TriesAt b off cuts xs → (ts : List NumberedTry) × TriesAt starts (length m.types) b off ts
   tries_back xs (inl h) = ([], inl (h.0, refl))
   tries_back xs (inr (d, inl g)) =
       let ts = items_back b m pools rising us cuts starts tell (off + 16 + 2 * uint_at b (off + 12)) (ushort_at b (off + 6)) xs g.1 in

@@ -31,3 +31,4 @@ pub mod CodeSizes
 pub mod MeaningDebug
 pub mod Meanings
 pub mod MeaningRanked
+pub mod CodesChecked

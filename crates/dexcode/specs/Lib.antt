@@ -1,3 +1,4 @@
+pub mod Checking
 pub mod CodePut
 pub mod Debug
 pub mod DebugEquality

@@ -16,7 +16,7 @@ use dexpool::{ItemFault, Pools, SymbolKind};
 use std::alloc::Global;
 
 // The tries of the code_item at an offset, where its units are in the data.
-fn read_tries(
+pub(crate) fn read_tries(
     alloc: Global,
     bytes: &[u8],
     off: usize,

@@ -27,7 +27,7 @@ fn handlers_weight(handlers: &[Handler]) -> u64
 }
 
 // What the tries weigh.
-fn tries_weight(tries: &Tries) -> u64
+pub(crate) fn tries_weight(tries: &Tries) -> u64
     ensures weight { result ≡ numbered_tries_weight tries.now }
     ensures few { result < 0x10_0000 }
 {

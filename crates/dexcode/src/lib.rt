@@ -5,6 +5,7 @@
 #![tactic(auto)]
 
 pub use code::Code;
+pub use code_checking::{CodeShape, check_code};
 pub use code_laws::{code_bytes_law, code_types_law, code_weight_law};
 pub use code_numbers::renumber;
 pub use code_numbers_laws::{
@@ -28,6 +29,7 @@ pub use tries::{Tries, Try};
 
 mod catches;
 mod code;
+mod code_checking;
 mod code_laws;
 mod code_len;
 mod code_numbers;

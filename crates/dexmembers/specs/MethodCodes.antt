@@ -1,19 +1,15 @@
 -- The code of methods as it is read, one after the other.
-use Rattle.std.specs.Prelude.{◌≢◌, ℕ, ◌+◌, ◌<◌, ◌≤◌, List, Option, None, sum_by, option_to_list}
+use Rattle.std.specs.Prelude.{◌≢◌, ℕ, ◌<◌, ◌≤◌, List, Option, None, sum_by, option_to_list}
 use Rattle.std.specs.List.{AllZip, Contains}
 use Rattle.dexspec.specs.Lists.{OrNone, SomeAt, BothOrNone}
 use Rattle.dexspec.specs.Code.{Code, CodeAt}
 use Rattle.dexspec.specs.Mentions.{Mentions}
-use Rattle.dexspec.specs.Weight.{code_weight, debug_weight}
 use Rattle.dexpool.specs.declared.faults.ItemFault.{ItemFault}
 use Rattle.dexpool.specs.declared.faults.ItemFault.TheVariants.{Refused, Memory}
+use Rattle.dexcode.specs.Checking.{one_code_weight}
 use Rattle.dexcode.specs.Numbered.{NumberedItem, StandsForCode}
 use Rattle.dexcode.specs.Reading.{IsCodeFault}
 use Rattle.dexmembers.specs.declared.class_data.EncodedMethod.{EncodedMethod}
-
--- what code weighs, with its debug program
-abbrev pub one_code_weight : Code → ℕ
-one_code_weight c = code_weight c + sum_by debug_weight (option_to_list c.debug)
 
 -- the same; none weighs nothing
 abbrev pub optional_code_weight : Option Code → ℕ

@@ -6,8 +6,9 @@ ghost use Rattle.dexspec.specs.Code as symbolic;
 ghost use Rattle.dexspec.specs.Mentions.{Mentions};
 ghost use Rattle.dexpool.specs.Numberings.{AreRising};
 ghost use Rattle.dexpool.specs.Pools.{ArePools};
+ghost use Rattle.dexcode.specs.Checking.{one_code_weight};
 ghost use Rattle.dexcode.specs.Numbered.{StandsForCode};
-ghost use Rattle.dexmembers.specs.MethodCodes.{HasCodeOrNone, IsCodeOrNone, IsCodeOrNoneFault, HaveCodes, AreCodesOf, AreHeavyCodes, IsCodesFault, one_code_weight, optional_code_weight};
+ghost use Rattle.dexmembers.specs.MethodCodes.{HasCodeOrNone, IsCodeOrNone, IsCodeOrNoneFault, HaveCodes, AreCodesOf, AreHeavyCodes, IsCodesFault, optional_code_weight};
 
 use crate::class_data::EncodedMethod;
 use crate::encoded_lists::room;

@@ -1,0 +1,73 @@
+-- Code items checked: what stands there and what it weighs, and which condition fails.
+use Rattle.std.proofs.Common.{◌≡◌, ℕ, ◌+◌, ◌*◌, Bool, List, [], length, map, Some, None, refl, sym, subst, ◌∙◌, inl, inr, arith}
+use Rattle.std.proofs.lemmas.List.Sums.{sum_by-cons}
+use Rattle.dexspec.specs.Bytes.{uint_at}
+use Rattle.dexspec.specs.Mentions.{Mentions}
+use Rattle.dexspec.specs.Code.{Code}
+use Rattle.dexspec.specs.Debug.{DebugAt}
+use Rattle.dexspec.specs.Weight.{code_weight, debug_weight}
+use Rattle.dexpool.specs.declared.faults.ItemFault.{ItemFault}
+use Rattle.dexpool.specs.declared.faults.ItemFault.TheVariants.{Refused, Memory}
+use Rattle.dexpool.specs.Pools.{ArePools}
+use Rattle.dexpool.specs.Numberings.{AreRising}
+use Rattle.dexinsn.specs.declared.shape.PiecesShape.{PiecesShape}
+use Rattle.dexinsn.specs.Checking.{HasPiecesOf}
+use Rattle.dexinsn.specs.Reading.{AreStartsAt}
+use Rattle.dexcode.specs.Checking.{HasCodeOf, HasProgramOf, HaveTriesOf, IsProgramFault}
+use Rattle.dexcode.specs.DebugReading.{HasDebugOf, IsDebugFault}
+use Rattle.dexcode.specs.CodePut.{numbered_code_weight}
+use Rattle.dexcode.specs.Numbered.{NumberedItem, StandsForCode, try_meant}
+use Rattle.dexcode.specs.Reading.{IsCodeFault}
+use Rattle.dexcode.proofs.CodeSizes.{units_length}
+use Rattle.dexcode.proofs.CodesRead.{tries_found, tries_range}
+use Rattle.dexcode.proofs.DebugMeanings.{weights_are}
+use Rattle.dexcode.proofs.TryRows.{tries_stand}
+
+-- a numbered code item weighs what the one that it stands for weighs
+abbrev pub WeightLaw : Type 0
+WeightLaw = (m : Mentions) (c : NumberedItem) (x : Code) → AreRising m → StandsForCode m c x → numbered_code_weight c ≡ code_weight x
+
+-- the code_item that stands there weighs what its parts weigh
+pub code_weighed : WeightLaw → (b : List ℕ) (off : ℕ) (m : Mentions) → ArePools b m → AreRising m → (starts : List Bool) → AreStartsAt b off starts → (s : PiecesShape) → HasPiecesOf b off m s
+    → (tries program : ℕ) → HaveTriesOf starts (length m.types) b off tries → HasProgramOf b off program → HasCodeOf b off (24 + 2 * s.units + tries + program)
+code_weighed law b off m pools rising starts starts_are s pieces tries program ts d =
+    let at = pieces.at in
+    let item : NumberedItem = record { body = record { registers = s.registers; ins = s.ins; outs = s.outs; pieces = pieces.pieces }; tries = ts.tries; debug = None } in
+    let bare : Code = record { registers = s.registers; ins = s.ins; outs = s.outs; pieces = at.symbolic; tries = map (try_meant m) ts.tries; debug = None } in
+    let stands : StandsForCode m item bare = record {
+      registers_are = refl;
+      ins_are = refl;
+      outs_are = refl;
+      pieces_are = at.stand;
+      tries_are = tries_stand m ts.tries (tries_range b off m pools rising starts starts_are at.cuts at.symbolic at.at ts.tries ts.at);
+      debug_is = tt;
+    } in
+    record {
+      code = record { registers = s.registers; ins = s.ins; outs = s.outs; pieces = at.symbolic; tries = map (try_meant m) ts.tries; debug = d.program };
+      at = record {
+        registers = pieces.registers;
+        cuts = at.cuts;
+        pieces = at.at;
+        tries = tries_found b off m pools rising starts starts_are at.cuts at.symbolic at.at ts.tries ts.at;
+        debug = d.at;
+      };
+      weighs = omega (arith, law m item bare rising stands, units_length pieces.pieces, pieces.units, ts.weighs, d.weighs);
+    }
+
+-- where pieces stand and no debug program does, no code does
+pub program_fault : (b : List ℕ) (off : ℕ) (m : Mentions) (s : PiecesShape) → HasPiecesOf b off m s → (fault : ItemFault) → IsProgramFault b off fault → IsCodeFault b off fault
+program_fault b off m s pieces (Refused number) h = inr (inr (h.0, record { cuts = pieces.at.cuts; pieces = pieces.at.symbolic; at = pieces.at.at }, h.1, h.2))
+program_fault b off m s pieces Memory h = tt
+
+-- the debug program that stands at the offset is that of the code_item
+pub program_found : (b : List ℕ) (off debug_off : ℕ) (m : Mentions) (weight : ℕ) → debug_off ≡ uint_at b (off + 8) → (debug_off ≡ 0 → ⊥) → HasDebugOf b debug_off m weight → HasProgramOf b off weight
+program_found b off debug_off m weight is some h = record {
+  program = Some h.at.program;
+  at = inr ((λ e. some (is ∙ e)), subst (λ (o : ℕ). DebugAt b o h.at.program) is h.at.at);
+  weighs = omega (arith, sum_by-cons debug_weight h.at.program [], weights_are m h.debug h.at.program h.at.stands, h.weighs);
+}
+
+-- where none stands there, the code_item has none
+pub no_program : (b : List ℕ) (off debug_off : ℕ) → debug_off ≡ uint_at b (off + 8) → (debug_off ≡ 0 → ⊥) → (fault : ItemFault) → IsDebugFault b debug_off fault → IsProgramFault b off fault
+no_program b off debug_off is some (Refused number) h = (h.0, (λ e. some (is ∙ e)), λ d at. h.1 d (subst (λ (o : ℕ). DebugAt b o d) (sym is) at))
+no_program b off debug_off is some Memory h = tt

@@ -1,0 +1,38 @@
+use Rattle.std.proofs.Common.{◌≡◌, ◌+◌, ◌*◌, ℕ, List, ap, sym, subst, ◌∙◌}
+use Rattle.std.proofs.lemmas.Result.{err_from_is_err_and}
+use Rattle.dexpool.specs.Numberings.{AreRising}
+use Rattle.dexinsn.specs.Numbered.{NumberedCode}
+use Rattle.dexinsn.specs.Reading.{AreStartsAt}
+use Rattle.dexcode.specs.Checking.{HasCodeOf, HaveTriesOf}
+use Rattle.dexcode.specs.Numbered.{NumberedTry}
+use Rattle.dexcode.specs.Reading.{IsTriesFault, TriesAt}
+use Rattle.dexcode.proofs.CodesChecked.{code_weighed, program_fault}
+use Rattle.dexcode.proofs.CodesRead.{tries_fault}
+use Rattle.dexcode.proofs.code_checking.check_code.Goals as goal
+
+pub returns-in_err-tries-clause-refused : goal.returns-in_err-tries-clause-refused
+returns-in_err-tries-clause-refused c = λ pools.
+    let p = err_from_is_err_and c.from_residual-in_err-tries.result c.from_residual-in_err-tries.ensures.1 in
+    let fault = c.in_err-tries.field-0.0 in
+    let shape = c.in_ok-pieces.pieces in
+    let pieces = c.in_ok-pieces.ensures.pieces pools in
+    let body : NumberedCode = record { registers = shape.registers; ins = shape.ins; outs = shape.outs; pieces = pieces.pieces } in
+    let first = subst (λ bytes. IsTriesFault ((ts : List NumberedTry) → TriesAt c.starts-starts.result c.len-types.result bytes c.args.off ts → ⊥) fault) c.bytes.ensures.bytes c.in_err-tries.ensures.fault in
+    let none = subst (λ (n : ℕ). IsTriesFault ((ts : List NumberedTry) → TriesAt c.starts-starts.result n c.args.frame.now c.args.off ts → ⊥) fault) c.len-types.ensures first in
+    rw (p.1, p.2) (tries_fault c.args.frame.now c.args.off c.args.pools.now pools (subst AreRising c.numbering.ensures c.is_numbering.ensures.rising) c.starts-starts.result
+    (subst (AreStartsAt c.args.frame.now c.args.off) (sym c.starts-starts.ensures) c.in_ok-pieces.ensures.starts) body pieces.at fault none)
+
+pub returns-in_err-program-clause-refused : goal.returns-in_err-program-clause-refused
+returns-in_err-program-clause-refused c = λ pools.
+    let p = err_from_is_err_and c.from_residual-in_err-program.result c.from_residual-in_err-program.ensures.1 in
+    rw (p.1, p.2) (program_fault c.args.frame.now c.args.off c.args.pools.now c.in_ok-pieces.pieces (c.in_ok-pieces.ensures.pieces pools) c.in_err-program.field-0.0 (c.in_err-program.ensures.refused pools))
+
+pub returns-clause-code : goal.returns-clause-code
+returns-clause-code c = λ pools.
+    let shape = c.in_ok-pieces.pieces in
+    let first = subst (λ bytes. HaveTriesOf c.starts-starts.result c.len-types.result bytes c.args.off c.in_ok-tries.tries) c.bytes.ensures.bytes c.in_ok-tries.ensures.tries in
+    let tries = subst (λ (n : ℕ). HaveTriesOf c.starts-starts.result n c.args.frame.now c.args.off c.in_ok-tries.tries) c.len-types.ensures first in
+    let units : c.from.result ≡ shape.units = c.from.ensures ∙ c.units.ensures in
+    subst (λ (n : ℕ). HasCodeOf c.args.frame.now c.args.off (24 + 2 * n + c.in_ok-tries.tries + c.in_ok-program.program)) (sym units)
+    (code_weighed c.code_weight_law.ensures c.args.frame.now c.args.off c.args.pools.now pools (subst AreRising c.numbering.ensures c.is_numbering.ensures.rising) c.starts-starts.result
+    (subst (AreStartsAt c.args.frame.now c.args.off) (sym c.starts-starts.ensures) c.in_ok-pieces.ensures.starts) shape (c.in_ok-pieces.ensures.pieces pools) c.in_ok-tries.tries c.in_ok-program.program tries (c.in_ok-program.ensures.program pools))

@@ -1,0 +1,88 @@
+//! Code items checked, with nothing kept of them.
+
+ghost use Rattle.std.specs.Prelude.{◌≡◌, ◌^◌, ◌<◌, ◌≤◌, ◌+◌, ◌*◌, length, List, IfOk, IfErr};
+ghost use Rattle.dexspec.specs.Bytes.{uint_at};
+ghost use Rattle.dexpool.specs.Pools.{ArePools};
+ghost use Rattle.dexcode.specs.Checking.{HasCodeOf, HasProgramOf, HaveTriesOf, IsProgramFault};
+ghost use Rattle.dexcode.specs.Numbered.{NumberedTry};
+ghost use Rattle.dexcode.specs.Reading.{IsCodeFault, IsTriesFault, TriesAt};
+
+use crate::code_laws::code_weight_law;
+use crate::code_reading::read_tries;
+use crate::code_weight::tries_weight;
+use crate::debug_reading::check_debug;
+use dexhead::{Frame, u32_at};
+use dexinsn::{InstructionStarts, Scratch, check_pieces};
+use dexpool::{ItemFault, Pools, SymbolKind};
+use std::alloc::Global;
+
+/// What was found of a code_item.
+#[derive(Clone, Copy, Debug, PartialEq, Eq)]
+pub struct CodeShape {
+    /// What it weighs with its debug program.
+    pub weight: u64,
+}
+
+// Checks the tries of the code_item at an offset, whose units are in the data, and returns what they weigh.
+fn check_tries(
+    alloc: Global,
+    bytes: &[u8],
+    off: usize,
+    starts: &InstructionStarts<'_>,
+    types: usize,
+) -> Result<u64, ItemFault>
+    requires { off + 16 + 2 * uint_at bytes.now (off + 12) ≤ length bytes.now }
+    ensures tries { IfOk result (HaveTriesOf starts.now types bytes.now off) }
+    ensures light { IfOk result (λ weight. weight < 2 ^ 20) }
+    ensures fault { IfErr result (IsTriesFault ((ts : List NumberedTry) → TriesAt starts.now types bytes.now off ts → ⊥)) }
+{
+    match read_tries(alloc, bytes, off, starts, types) {
+        Ok(tries) => Ok(tries_weight(&tries)),
+        Err(fault) => Err(fault),
+    }
+}
+
+// Checks the debug program of the code_item at an offset, and returns what it weighs; 0 where there is none.
+fn check_program(frame: &Frame<'_>, pools: &Pools<'_>, off: u32) -> Result<u64, ItemFault>
+    requires { off + 16 ≤ length frame.now }
+    ensures program { ArePools frame.now pools.now → IfOk result (HasProgramOf frame.now off) }
+    ensures light { IfOk result (λ weight. weight < 2 ^ 36) }
+    ensures refused { ArePools frame.now pools.now → IfErr result (IsProgramFault frame.now off) }
+{
+    let debug_off = u32_at(frame.bytes(), off as usize + 8);
+    if debug_off == 0 {
+        return Ok(0);
+    }
+    match check_debug(frame, pools, debug_off) {
+        Ok(shape) => Ok(shape.weight),
+        Err(fault) => Err(fault),
+    }
+}
+
+/// Checks the code_item at an offset, whose indices count in the pools: those of the file. It returns what the code_item
+/// weighs with its debug program, and leaves in the scratch at which units instructions begin. Nothing else is kept.
+///
+/// Error: as of [`read_code`](crate::read_code).
+///
+/// Source: "code_item".
+pub fn check_code(
+    alloc: Global,
+    frame: &Frame<'_>,
+    pools: &Pools<'_>,
+    off: u32,
+    scratch: &mut Scratch,
+) -> Result<CodeShape, ItemFault>
+    ensures code { ArePools frame.now pools.now → IfOk result (λ shape. HasCodeOf frame.now off shape.weight) }
+    ensures refused { ArePools frame.now pools.now → IfErr result (IsCodeFault frame.now off) }
+{
+    code_weight_law();
+    pools.numbering().is_numbering();
+    let pieces = check_pieces(frame, pools, off, scratch)?;
+    let types = pools.len(SymbolKind::Typ);
+    let starts = scratch.starts();
+    let tries = check_tries(alloc, frame.bytes(), off as usize, &starts, types)?;
+    let program = check_program(frame, pools, off)?;
+    Ok(CodeShape {
+        weight: 24 + 2 * u64::from(pieces.units()) + tries + program,
+    })
+}

@@ -30,3 +30,4 @@ pub mod NextBits
 pub mod Leading
 pub mod BuiltIndices
 pub mod BlankUnits
+pub mod Plain

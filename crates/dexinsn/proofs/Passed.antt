@@ -13,7 +13,7 @@ use Rattle.dexinsn.specs.LongSwitches.{HasBit}
 use Rattle.dexinsn.specs.Stored.{FitsAt}
 use Rattle.dexinsn.specs.Reading.{IsInRange, indices_at, with_index_at}
 use Rattle.dexinsn.specs.Split.{IsPieceAt, starts_with, units_of_all}
-use Rattle.dexinsn.specs.Checking.{AreBitsOf, AreCutWith, ArePassed, HasNoCode, IndexCount, IsOutside, begins_instruction, is_noted}
+use Rattle.dexinsn.specs.Checking.{AreBitsOf, AreCutWith, ArePassed, HasNoCode, HasNoStep, IndexCount, IsOutside, begins_instruction, is_noted}
 use Rattle.dexinsn.proofs.Cuts.{AreCut-push, units_of_all-push}
 use Rattle.dexinsn.proofs.CodeRead.{broken_is_none}
 use Rattle.dexinsn.proofs.IndicesRead.{indices_push}
@@ -56,6 +56,21 @@ bits_grow test us cs c words new passes inside long here others before = record 
     | inr other ↦ before.inside k ((others k (λ e. other (sym e))).0 has)
   ];
 }
+
+-- with the same bits in other words
+bits_same : (test : ℕ → Bool) (us : List ℕ) (cs : List Cut) (words new : List ℕ) → length new ≡ length words → ((k : ℕ) → HasBit new k ↔ HasBit words k) → AreBitsOf test us cs words → AreBitsOf test us cs new
+bits_same test us cs words new long same before = record {
+  room = long ∙ before.room;
+  each = λ k. (λ has. (before.each k).0 ((same k).0 has), λ e. (same k).1 ((before.each k).1 e));
+  inside = λ k has. before.inside k ((same k).0 has);
+}
+
+-- a piece has a bit if its first unit passes the test
+pub bits_put : (test : ℕ → Bool) (us : List ℕ) (cs : List Cut) (c : Cut) (words new : List ℕ) (bit : Bool) → bit ≡ test (slice_index us c.unit) → c.unit < length us → length new ≡ length words → (bit ≡ true → HasBit new c.unit)
+    → ((k : ℕ) → (k ≡ c.unit → bit ≡ true → ⊥) → HasBit new k ↔ HasBit words k) → AreBitsOf test us cs words → AreBitsOf test us (cs ++ c ∷ []) new
+bits_put test us cs c words new true is inside long here others before = bits_grow test us cs c words new (sym is) inside long (here refl) (λ k other. others k (λ e t. other e)) before
+bits_put test us cs c words new false is inside long here others before =
+    bits_stay test us cs c new (sym is) (bits_same test us cs words new long (λ k. others k (λ e t. absurd cc)) before)
 
 -- ---- pieces
 
@@ -114,15 +129,20 @@ one_passed us m starts noted news newn at indices size count h more is some inde
     }
 
 -- where no piece begins there is no code
-pub no_piece : (us : List ℕ) (m : Mentions) (starts noted : List ℕ) (at indices : ℕ) → ArePassed us m starts noted at indices → at < length us → piece_size at (drop at us) ≡ None → HasNoCode us m
+no_piece : (us : List ℕ) (m : Mentions) (starts noted : List ℕ) (at indices : ℕ) → ArePassed us m starts noted at indices → at < length us → piece_size at (drop at us) ≡ None → HasNoCode us m
 no_piece us m starts noted at indices h more none = λ cuts code all. broken_is_none us at (record { cuts = h.cuts; within = more; cut = h.cut; none = none }) cuts code
 
 -- where an index is out of range there is none with all in range
-pub no_index : (us : List ℕ) (m : Mentions) (starts noted : List ℕ) (at indices : ℕ) → ArePassed us m starts noted at indices → at < length us → IsOutside us m at → HasNoCode us m
+no_index : (us : List ℕ) (m : Mentions) (starts noted : List ℕ) (at indices : ℕ) → ArePassed us m starts noted at indices → at < length us → IsOutside us m at → HasNoCode us m
 no_index us m starts noted at indices h more outside = λ cuts code all.
     let some : 0 < length (drop at us) = omega (arith, length-drop at us) in
     let found = next_in (IsInRange us m) 0 us (drop at us) h.cuts cuts h.cut code.cut some all in
     outside found.0 (omega (arith, found.1, h.reached)) found.2
+
+-- by what is missing
+pub no_step : (us : List ℕ) (m : Mentions) (starts noted : List ℕ) (at indices : ℕ) → ArePassed us m starts noted at indices → at < length us → HasNoStep us m at → HasNoCode us m
+no_step us m starts noted at indices h more (inl none) = no_piece us m starts noted at indices h more none
+no_step us m starts noted at indices h more (inr outside) = no_index us m starts noted at indices h more outside
 
 pub all_cut : (us : List ℕ) (m : Mentions) (starts noted : List ℕ) (indices : ℕ) → (h : ArePassed us m starts noted (length us) indices) → AreCut 0 us h.cuts []
 all_cut us m starts noted indices h = subst (λ (rest : List ℕ). AreCut 0 us h.cuts rest) (drop_all (length us) us (omega arith)) h.cut

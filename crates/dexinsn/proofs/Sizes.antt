@@ -11,7 +11,7 @@ use Rattle.dexspec.specs.Pieces.{piece_size, payload_size, payload_units, is_pay
 abbrev pub Fits : List ℕ → ℕ → Type 0
 Fits us n = (0 < n) × (n ≤ length us)
 
-units_in-some : (f : Format) → 0 < units_in f
+pub units_in-some : (f : Format) → 0 < units_in f
 units_in-some F10x = omega arith
 units_in-some F12x = omega arith
 units_in-some F11n = omega arith

@@ -1,28 +1,36 @@
 -- The tables of the code are those of the definitions, opcode by opcode: by computation.
-use Rattle.std.proofs.Common.{◌≡◌, ℕ, ◌<◌, List, map, get_or, Option, None, refl, ap, sym, ◌∙◌, zero-add}
+use Rattle.std.proofs.Common.{◌≡◌, ℕ, ◌<◌, List, map, get_or, refl, ap, sym, ◌∙◌, zero-add}
 use Rattle.std.specs.Borrow.{Bor}
-use Rattle.std.specs.Option.{option_map}
 use Rattle.std.specs.List.{range_with_len}
 use Rattle.std.proofs.Math.ListN.{get_or-map}
 use Rattle.std.proofs.lemmas.List.FromFn.{get_or-map-range_with_len}
 use Rattle.dexspec.specs.Opcodes.{opcode_of, opcode_runs}
-use Rattle.dexinsn.specs.Opcode.{FormatRow, meant, indexed_format_of, mnemonic_of, AreFormats, AreMnemonics}
-use Rattle.dexinsn.specs.declared.opcodes.TheConstants.{FORMATS, MNEMONICS}
+use Rattle.dexinsn.specs.Opcode.{AreMnemonics, AreRows, IsRowOf, meant, mnemonic_of, row_meant}
+use Rattle.dexinsn.specs.declared.opcodes.TheConstants.{MNEMONICS, ROWS}
+use Rattle.dexinsn.specs.declared.opcodes.Row.{Row}
 
-pub formats_are : map (option_map meant) FORMATS ≡ map indexed_format_of (range_with_len 0 256)
+pub rows_are : map meant ROWS ≡ map row_meant (range_with_len 0 256)
 unfolding opcode_of opcode_runs
-formats_are = refl
+rows_are = refl
 
 pub mnemonics_are : map (λ text. text.now) MNEMONICS ≡ map mnemonic_of (range_with_len 0 256)
 unfolding opcode_of opcode_runs
 mnemonics_are = refl
 
--- the row at an opcode says what its format is
-pub format_is : (rows : List (Option FormatRow)) → AreFormats rows → (op : ℕ) → op < 256 → option_map meant (get_or rows op None) ≡ indexed_format_of op
-format_is rows table op small =
-    sym (get_or-map (option_map meant) rows op None)
-    ∙ ap (λ all. get_or all op None) table.each
-    ∙ get_or-map-range_with_len indexed_format_of 0 256 op op None small (zero-add op)
+-- the row at an opcode says what it is
+row_says : (rows : List Row) (d : Row) → AreRows rows → (op : ℕ) → op < 256 → meant (get_or rows op d) ≡ row_meant op
+row_says rows d table op small =
+    sym (get_or-map meant rows op d)
+    ∙ ap (λ all. get_or all op (meant d)) table.each
+    ∙ get_or-map-range_with_len row_meant 0 256 op op (meant d) small (zero-add op)
+
+pub row_is : (rows : List Row) (d : Row) → AreRows rows → (op : ℕ) → op < 256 → IsRowOf op (get_or rows op d)
+row_is rows d table op small = let says = row_says rows d table op small in record {
+  format = ap (λ x. x.0) says;
+  index = ap (λ x. x.1) says;
+  units = ap (λ x. x.2) says;
+  greatest = ap (λ x. x.3) says;
+}
 
 -- the text at an opcode is its mnemonic
 pub mnemonic_is : (texts : List (Bor (List ℕ))) (d : Bor (List ℕ)) → AreMnemonics texts → (op : ℕ) → op < 256 → (get_or texts op d).now ≡ mnemonic_of op

@@ -1,5 +1,5 @@
 -- Units that are judged in one pass, with a bit for each unit.
-use Rattle.std.specs.Prelude.{◌≡◌, ◌↔◌, ℕ, ◌+◌, ◌*◌, ◌/◌, ◌^◌, ◌<◌, ◌≤◌, ◌||◌, pos, Bool, true, false, not, List, [], length, drop, All, IsTrue}
+use Rattle.std.specs.Prelude.{◌≡◌, ◌↔◌, ◌⊎◌, ℕ, ◌+◌, ◌*◌, ◌/◌, ◌^◌, ◌<◌, ◌≤◌, ◌||◌, pos, Bool, true, false, not, List, [], length, drop, slice_index, All, IsTrue, Option, Some, None}
 use Rattle.std.specs.Option.{IsSome, option_map_or}
 use Rattle.dexspec.specs.Mentions.{Mentions}
 use Rattle.dexspec.specs.Opcodes.{Format, F10t, F20t, F21t, F22t, F30t, F31t, opcode_of}
@@ -8,6 +8,11 @@ use Rattle.dexinsn.specs.LongSwitches.{HasBit}
 use Rattle.dexinsn.specs.Stored.{FitsAt}
 use Rattle.dexspec.specs.Bytes.{uint_at}
 use Rattle.dexspec.specs.Code.{RegistersAt, code_units}
+use Rattle.dexpool.specs.Pools.{count_of}
+use Rattle.dexpool.specs.declared.symbols.SymbolKind.{SymbolKind}
+use Rattle.dexpool.specs.declared.symbols.SymbolKind.TheVariants as kinds
+use Rattle.dexinsn.specs.declared.piece_step.Limits.{Limits}
+use Rattle.dexinsn.specs.declared.piece_step.Step.{Step}
 use Rattle.dexinsn.specs.declared.pieces.Index.{Index}
 use Rattle.dexinsn.specs.declared.shape.PiecesShape.{PiecesShape}
 use Rattle.dexinsn.specs.Numbered.{NumberedPiece, numbered_bytes, uses_of}
@@ -82,6 +87,43 @@ pub record IndexCount (us : List ℕ) (m : Mentions) (at count : ℕ) : Type 0 w
   pub counted : (n : ℕ) → length (with_index_at (index_pool (drop at us)) us (record { unit = at; units = n }) []) ≡ count
   pub few : count ≤ 1
   pub fit : (n : ℕ) → All (FitsAt us) (with_index_at (index_pool (drop at us)) us (record { unit = at; units = n }) [])
+
+-- ---- a piece at a time
+
+-- how many indices there are of this kind: one or none
+abbrev pub count_of_index : Option SymbolKind → ℕ
+count_of_index None = 0
+count_of_index (Some kind) = 1
+
+-- the number below which an index of this kind is; where there is none, that below which a unit is
+abbrev pub limit_of : Mentions → Option SymbolKind → ℕ
+limit_of m None = 2 ^ 16
+limit_of m (Some kind) = count_of kind m
+
+-- where it is among the limits
+abbrev pub slot_of : Option SymbolKind → ℕ
+slot_of (Some kinds.Text) = 0
+slot_of (Some kinds.Typ) = 1
+slot_of (Some kinds.Proto) = 2
+slot_of (Some kinds.Field) = 3
+slot_of (Some kinds.Method) = 4
+slot_of None = 5
+
+-- the limits are those of the symbols
+abbrev pub AreLimits : Mentions → Limits → Type 0
+AreLimits m l = (index : Option SymbolKind) → slice_index l.below (slot_of index) ≡ limit_of m index
+
+-- what there is of the piece that begins at the unit, which is in range
+pub record IsStep (us : List ℕ) (m : Mentions) (at : ℕ) (s : Step) : Type 0 where
+  pub size : piece_size at (drop at us) ≡ Some s.units
+  pub some : 0 < s.units
+  pub index : IndexCount us m at s.indices
+  pub start_is : s.is_instruction ≡ begins_instruction (slice_index us at)
+  pub noted_is : s.is_noted ≡ is_noted (slice_index us at)
+
+-- no piece that is in range begins there
+abbrev pub HasNoStep : List ℕ → Mentions → ℕ → Type 0
+HasNoStep us m at = (piece_size at (drop at us) ≡ None) ⊎ IsOutside us m at
 
 -- ---- the pass
 

@@ -2,10 +2,11 @@
 use Rattle.std.specs.Prelude.{◌≡◌, ℕ, List, [], map, Option}
 use Rattle.std.specs.List.{range_with_len}
 use Rattle.std.specs.Borrow.{Bor}
-use Rattle.std.specs.Option.{option_map, option_map_or}
-use Rattle.dexspec.specs.Opcodes.{opcode_of, Format as Meant, F10x, F12x, F11n, F11x, F10t, F20t, F22x, F21t, F21s, F21h, F21c, F23x, F22b, F22s, F22t, F22c, F30t, F32x, F31i, F31t, F31c, F35c, F3rc, F51l}
+use Rattle.std.specs.Option.{option_and_then, option_map, option_map_or}
+use Rattle.dexspec.specs.Opcodes.{opcode_of, units_in, Format as Meant, F10x, F12x, F11n, F11x, F10t, F20t, F22x, F21t, F21s, F21h, F21c, F23x, F22b, F22s, F22t, F22c, F30t, F32x, F31i, F31t, F31c, F35c, F3rc, F51l}
 use Rattle.dexinsn.specs.declared.format.Format.{Format}
 use Rattle.dexinsn.specs.declared.format.Format.TheVariants.{Format10x, Format12x, Format11n, Format11x, Format10t, Format20t, Format22x, Format21t, Format21s, Format21h, Format21c, Format23x, Format22b, Format22s, Format22t, Format22c, Format30t, Format32x, Format31i, Format31t, Format31c, Format35c, Format3rc, Format51l}
+use Rattle.dexinsn.specs.declared.opcodes.Row.{Row}
 use Rattle.dexpool.specs.declared.symbols.SymbolKind.{SymbolKind}
 use Rattle.dexinsn.specs.Numbered.{kind_of_pool}
 
@@ -36,21 +37,46 @@ format_of Format35c = F35c
 format_of Format3rc = F3rc
 format_of Format51l = F51l
 
--- a row of the code's table of formats: an opcode's format, and the kind of symbol that its index names
-abbrev pub FormatRow : Type 0
-FormatRow = Format × Option SymbolKind
+-- The greatest first unit of an instruction of this format, if each first unit up to it with the opcode begins one and
+-- an index has 16 bits; 0 for the one format whose index has 32.
+abbrev pub greatest_first : Meant → ℕ
+greatest_first F10x = 0x00ff
+greatest_first F20t = 0x00ff
+greatest_first F30t = 0x00ff
+greatest_first F32x = 0x00ff
+greatest_first F35c = 0x5fff
+greatest_first F31c = 0
+greatest_first _ = 0xffff
 
--- what the row says
-abbrev pub meant : FormatRow → Meant × Option SymbolKind
-meant row = (format_of row.0, row.1)
+-- of an opcode: the number of units, and the greatest first unit; 0 where it is unused
+abbrev pub units_at : ℕ → ℕ
+units_at op = option_map_or (λ o. units_in o.format) (opcode_of op) 0
+
+abbrev pub greatest_at : ℕ → ℕ
+greatest_at op = option_map_or (λ o. greatest_first o.format) (opcode_of op) 0
+
+-- of an opcode: the kind of symbol that its index names, if it has one
+abbrev pub kind_at : ℕ → Option SymbolKind
+kind_at op = option_map kind_of_pool (option_and_then (λ o. o.index) (opcode_of op))
+
+-- what a row says
+abbrev pub meant : Row → Option Meant × Option SymbolKind × ℕ × ℕ
+meant row = (option_map format_of row.format, row.index, row.units, row.greatest)
 
 -- what it is to say of an opcode
-abbrev pub indexed_format_of : ℕ → Option (Meant × Option SymbolKind)
-indexed_format_of op = option_map (λ o. (o.format, option_map kind_of_pool o.index)) (opcode_of op)
+abbrev pub row_meant : ℕ → Option Meant × Option SymbolKind × ℕ × ℕ
+row_meant op = (option_map (λ o. o.format) (opcode_of op), kind_at op, units_at op, greatest_at op)
+
+-- the row says so
+pub record IsRowOf (op : ℕ) (row : Row) : Type 0 where
+  pub format : option_map format_of row.format ≡ option_map (λ o. o.format) (opcode_of op)
+  pub index : row.index ≡ kind_at op
+  pub units : row.units ≡ units_at op
+  pub greatest : row.greatest ≡ greatest_at op
 
 -- the table says so of each opcode
-pub record AreFormats (rows : List (Option FormatRow)) : Type 0 where
-  pub each : map (option_map meant) rows ≡ map indexed_format_of (range_with_len 0 256)
+pub record AreRows (rows : List Row) : Type 0 where
+  pub each : map meant rows ≡ map row_meant (range_with_len 0 256)
 
 -- the mnemonic of an opcode; empty where the opcode is unused
 abbrev pub mnemonic_of : ℕ → List ℕ

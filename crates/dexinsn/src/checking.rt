@@ -19,19 +19,19 @@ use crate::indexed::{index_at, kind_at};
 use crate::instruction::branch_offset;
 use crate::long_switches::{LongSwitches, targets_at};
 use crate::payload::PayloadKind;
-use crate::piece::piece_size;
+use crate::piece_step::{Limits, step_at};
 use crate::reading::units_at;
 use crate::scratch::{Scratch, wipe};
 use crate::shape::PiecesShape;
-use crate::start_bits::{groups_lead_right, has_place, next_bit, set_bit};
+use crate::start_bits::{groups_lead_right, has_place, next_bit, put_bit, set_bit};
 use crate::units::{int_at, opcode_in};
 use dexhead::{Condition, Frame, u16_at};
 use dexpool::{ItemFault, Pools};
 use std::alloc::{AllocError, Global};
 
 impl Format {
-    // Whether an instruction of the format leads to another place.
-    fn branches(self) -> bool
+    /// Whether an instruction of the format leads to another place.
+    pub(crate) fn branches(self) -> bool
         ensures { result ≡ branches (format_of self) }
     {
         matches!(
@@ -46,8 +46,8 @@ impl Format {
     }
 }
 
-// Whether an instruction that begins with this unit leads to another place.
-fn leads(first: u16) -> bool
+/// Whether an instruction that begins with this unit leads to another place.
+pub(crate) fn leads(first: u16) -> bool
     ensures { result ≡ leads first }
 {
     match Format::of(opcode_in(first)) {
@@ -56,9 +56,14 @@ fn leads(first: u16) -> bool
     }
 }
 
-// How many indices the piece at a unit has, one or none, if what it has is in range.
+/// How many indices the piece at a unit has, one or none, if what it has is in range.
 #[tactic(auto, using(crate::proofs::IndexRoom::room_behind, crate::proofs::IndexRoom::wide_room_behind))]
-fn index_count(units: &Units<'_>, at: usize, size: usize, pools: &Pools<'_>) -> Option<usize>
+pub(crate) fn index_count(
+    units: &Units<'_>,
+    at: usize,
+    size: usize,
+    pools: &Pools<'_>,
+) -> Option<usize>
     requires { IsPieceAt units.now (record { unit = at; units = size }) }
     ensures { MatchOption result (IsOutside units.now pools.now at) (IndexCount units.now pools.now at) }
 {
@@ -105,20 +110,18 @@ fn pass(
     requires noted { AreBitsOf is_noted units.now [] noted.old.items }
     ensures { MatchOption result (HasNoCode units.now pools.now) (ArePassed units.now pools.now starts.new.items noted.new.items (length units.now)) }
 {
+    let limits = Limits::of(pools);
     let mut at = 0;
     let mut indices = 0;
     while at < units.len() {
-        let size = match piece_size(at, &units.rest(at)) {
-            Some(size) => size,
+        let step = match step_at(units, pools, &limits, at) {
+            Some(step) => step,
             None => return None,
         };
-        let count = match index_count(units, at, size, pools) {
-            Some(count) => count,
-            None => return None,
-        };
-        note(units, at, starts, noted);
-        indices += count;
-        at += size;
+        put_bit(starts, at, step.is_instruction);
+        put_bit(noted, at, step.is_noted);
+        indices += step.indices;
+        at += step.units;
     }
     Some(indices)
 }

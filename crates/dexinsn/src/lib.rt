@@ -37,6 +37,7 @@ mod numbers;
 mod opcodes;
 mod payload;
 mod piece;
+mod piece_step;
 mod pieces;
 mod put;
 mod reading;

@@ -2,7 +2,7 @@ ghost use Rattle.std.specs.Prelude.{◌≡◌, Option};
 ghost use Rattle.std.specs.Option.{option_map, option_and_then};
 ghost use Rattle.dexspec.specs.Opcodes.{opcode_of};
 ghost use Rattle.dexinsn.specs.Numbered.{kind_of_pool};
-ghost use Rattle.dexinsn.specs.Opcode.{AreFormats, AreMnemonics, format_of, indexed_format_of, meant, mnemonic_of};
+ghost use Rattle.dexinsn.specs.Opcode.{AreMnemonics, AreRows, IsRowOf, format_of, mnemonic_of};
 
 use crate::format::Format;
 use crate::format::Format::{
@@ -13,283 +13,379 @@ use crate::format::Format::{
 use dexpool::SymbolKind;
 use dexpool::SymbolKind::{Field, Method, Text, Typ};
 
-/// A format, and the pool of the index, if it has one.
-type IndexedFormat = (Format, Option<SymbolKind>);
+/// What version 035 makes of an opcode.
+#[derive(Clone, Copy)]
+pub(crate) struct Row {
+    /// The format of its instructions; `None` where the opcode is unused.
+    pub(crate) format: Option<Format>,
+    /// The kind of symbol that their index names, if they have one.
+    pub(crate) index: Option<SymbolKind>,
+    /// How many units they have; 0 where the opcode is unused.
+    pub(crate) units: u8,
+    /// A first unit up to this one begins an instruction with no index or one of 16 bits, if its units are there.
+    pub(crate) greatest: u16,
+}
 
-/// The formats of the opcodes of version 035, by number; `None` for the unused.
-static FORMATS: [Option<IndexedFormat>; 256] = [
+/// Any first unit begins an instruction.
+const ANY: u16 = 0xffff;
+
+/// The high byte of the first unit is zero.
+const ZERO_BYTE: u16 = 0x00ff;
+
+/// The highest four bits of the first unit count up to five registers.
+const COUNTED: u16 = 0x5fff;
+
+// The row of the opcodes with a format, an index, so many units, and a greatest first unit.
+macro_rules! row {
+    ($format:expr, $index:expr, $units:expr, $greatest:expr) => {
+        Row {
+            format: Some($format),
+            index: $index,
+            units: $units,
+            greatest: $greatest,
+        }
+    };
+}
+
+const UNUSED: Row = Row {
+    format: None,
+    index: None,
+    units: 0,
+    greatest: 0,
+};
+
+const FORMAT_10X: Row = row!(Format10x, None, 1, ZERO_BYTE);
+
+const FORMAT_12X: Row = row!(Format12x, None, 1, ANY);
+
+const FORMAT_11N: Row = row!(Format11n, None, 1, ANY);
+
+const FORMAT_11X: Row = row!(Format11x, None, 1, ANY);
+
+const FORMAT_10T: Row = row!(Format10t, None, 1, ANY);
+
+const FORMAT_20T: Row = row!(Format20t, None, 2, ZERO_BYTE);
+
+const FORMAT_22X: Row = row!(Format22x, None, 2, ANY);
+
+const FORMAT_21T: Row = row!(Format21t, None, 2, ANY);
+
+const FORMAT_21S: Row = row!(Format21s, None, 2, ANY);
+
+const FORMAT_21H: Row = row!(Format21h, None, 2, ANY);
+
+const FORMAT_21C_TEXT: Row = row!(Format21c, Some(Text), 2, ANY);
+
+const FORMAT_21C_TYP: Row = row!(Format21c, Some(Typ), 2, ANY);
+
+const FORMAT_21C_FIELD: Row = row!(Format21c, Some(Field), 2, ANY);
+
+const FORMAT_23X: Row = row!(Format23x, None, 2, ANY);
+
+const FORMAT_22B: Row = row!(Format22b, None, 2, ANY);
+
+const FORMAT_22S: Row = row!(Format22s, None, 2, ANY);
+
+const FORMAT_22T: Row = row!(Format22t, None, 2, ANY);
+
+const FORMAT_22C_TYP: Row = row!(Format22c, Some(Typ), 2, ANY);
+
+const FORMAT_22C_FIELD: Row = row!(Format22c, Some(Field), 2, ANY);
+
+const FORMAT_30T: Row = row!(Format30t, None, 3, ZERO_BYTE);
+
+const FORMAT_32X: Row = row!(Format32x, None, 3, ZERO_BYTE);
+
+const FORMAT_31I: Row = row!(Format31i, None, 3, ANY);
+
+const FORMAT_31T: Row = row!(Format31t, None, 3, ANY);
+
+const FORMAT_31C_TEXT: Row = row!(Format31c, Some(Text), 3, 0);
+
+const FORMAT_35C_TYP: Row = row!(Format35c, Some(Typ), 3, COUNTED);
+
+const FORMAT_35C_METHOD: Row = row!(Format35c, Some(Method), 3, COUNTED);
+
+const FORMAT_3RC_TYP: Row = row!(Format3rc, Some(Typ), 3, ANY);
+
+const FORMAT_3RC_METHOD: Row = row!(Format3rc, Some(Method), 3, ANY);
+
+const FORMAT_51L: Row = row!(Format51l, None, 5, ANY);
+
+/// The rows of the opcodes of version 035, by number.
+static ROWS: [Row; 256] = [
     // 0x00
-    Some((Format10x, None)),
-    Some((Format12x, None)),
-    Some((Format22x, None)),
-    Some((Format32x, None)),
-    Some((Format12x, None)),
-    Some((Format22x, None)),
-    Some((Format32x, None)),
-    Some((Format12x, None)),
-    Some((Format22x, None)),
-    Some((Format32x, None)),
-    Some((Format11x, None)),
-    Some((Format11x, None)),
-    Some((Format11x, None)),
-    Some((Format11x, None)),
-    Some((Format10x, None)),
-    Some((Format11x, None)),
+    FORMAT_10X,
+    FORMAT_12X,
+    FORMAT_22X,
+    FORMAT_32X,
+    FORMAT_12X,
+    FORMAT_22X,
+    FORMAT_32X,
+    FORMAT_12X,
+    FORMAT_22X,
+    FORMAT_32X,
+    FORMAT_11X,
+    FORMAT_11X,
+    FORMAT_11X,
+    FORMAT_11X,
+    FORMAT_10X,
+    FORMAT_11X,
     // 0x10
-    Some((Format11x, None)),
-    Some((Format11x, None)),
-    Some((Format11n, None)),
-    Some((Format21s, None)),
-    Some((Format31i, None)),
-    Some((Format21h, None)),
-    Some((Format21s, None)),
-    Some((Format31i, None)),
-    Some((Format51l, None)),
-    Some((Format21h, None)),
-    Some((Format21c, Some(Text))),
-    Some((Format31c, Some(Text))),
-    Some((Format21c, Some(Typ))),
-    Some((Format11x, None)),
-    Some((Format11x, None)),
-    Some((Format21c, Some(Typ))),
+    FORMAT_11X,
+    FORMAT_11X,
+    FORMAT_11N,
+    FORMAT_21S,
+    FORMAT_31I,
+    FORMAT_21H,
+    FORMAT_21S,
+    FORMAT_31I,
+    FORMAT_51L,
+    FORMAT_21H,
+    FORMAT_21C_TEXT,
+    FORMAT_31C_TEXT,
+    FORMAT_21C_TYP,
+    FORMAT_11X,
+    FORMAT_11X,
+    FORMAT_21C_TYP,
     // 0x20
-    Some((Format22c, Some(Typ))),
-    Some((Format12x, None)),
-    Some((Format21c, Some(Typ))),
-    Some((Format22c, Some(Typ))),
-    Some((Format35c, Some(Typ))),
-    Some((Format3rc, Some(Typ))),
-    Some((Format31t, None)),
-    Some((Format11x, None)),
-    Some((Format10t, None)),
-    Some((Format20t, None)),
-    Some((Format30t, None)),
-    Some((Format31t, None)),
-    Some((Format31t, None)),
-    Some((Format23x, None)),
-    Some((Format23x, None)),
-    Some((Format23x, None)),
+    FORMAT_22C_TYP,
+    FORMAT_12X,
+    FORMAT_21C_TYP,
+    FORMAT_22C_TYP,
+    FORMAT_35C_TYP,
+    FORMAT_3RC_TYP,
+    FORMAT_31T,
+    FORMAT_11X,
+    FORMAT_10T,
+    FORMAT_20T,
+    FORMAT_30T,
+    FORMAT_31T,
+    FORMAT_31T,
+    FORMAT_23X,
+    FORMAT_23X,
+    FORMAT_23X,
     // 0x30
-    Some((Format23x, None)),
-    Some((Format23x, None)),
-    Some((Format22t, None)),
-    Some((Format22t, None)),
-    Some((Format22t, None)),
-    Some((Format22t, None)),
-    Some((Format22t, None)),
-    Some((Format22t, None)),
-    Some((Format21t, None)),
-    Some((Format21t, None)),
-    Some((Format21t, None)),
-    Some((Format21t, None)),
-    Some((Format21t, None)),
-    Some((Format21t, None)),
-    None,
-    None,
+    FORMAT_23X,
+    FORMAT_23X,
+    FORMAT_22T,
+    FORMAT_22T,
+    FORMAT_22T,
+    FORMAT_22T,
+    FORMAT_22T,
+    FORMAT_22T,
+    FORMAT_21T,
+    FORMAT_21T,
+    FORMAT_21T,
+    FORMAT_21T,
+    FORMAT_21T,
+    FORMAT_21T,
+    UNUSED,
+    UNUSED,
     // 0x40
-    None,
-    None,
-    None,
-    None,
-    Some((Format23x, None)),
-    Some((Format23x, None)),
-    Some((Format23x, None)),
-    Some((Format23x, None)),
-    Some((Format23x, None)),
-    Some((Format23x, None)),
-    Some((Format23x, None)),
-    Some((Format23x, None)),
-    Some((Format23x, None)),
-    Some((Format23x, None)),
-    Some((Format23x, None)),
-    Some((Format23x, None)),
+    UNUSED,
+    UNUSED,
+    UNUSED,
+    UNUSED,
+    FORMAT_23X,
+    FORMAT_23X,
+    FORMAT_23X,
+    FORMAT_23X,
+    FORMAT_23X,
+    FORMAT_23X,
+    FORMAT_23X,
+    FORMAT_23X,
+    FORMAT_23X,
+    FORMAT_23X,
+    FORMAT_23X,
+    FORMAT_23X,
     // 0x50
-    Some((Format23x, None)),
-    Some((Format23x, None)),
-    Some((Format22c, Some(Field))),
-    Some((Format22c, Some(Field))),
-    Some((Format22c, Some(Field))),
-    Some((Format22c, Some(Field))),
-    Some((Format22c, Some(Field))),
-    Some((Format22c, Some(Field))),
-    Some((Format22c, Some(Field))),
-    Some((Format22c, Some(Field))),
-    Some((Format22c, Some(Field))),
-    Some((Format22c, Some(Field))),
-    Some((Format22c, Some(Field))),
-    Some((Format22c, Some(Field))),
-    Some((Format22c, Some(Field))),
-    Some((Format22c, Some(Field))),
+    FORMAT_23X,
+    FORMAT_23X,
+    FORMAT_22C_FIELD,
+    FORMAT_22C_FIELD,
+    FORMAT_22C_FIELD,
+    FORMAT_22C_FIELD,
+    FORMAT_22C_FIELD,
+    FORMAT_22C_FIELD,
+    FORMAT_22C_FIELD,
+    FORMAT_22C_FIELD,
+    FORMAT_22C_FIELD,
+    FORMAT_22C_FIELD,
+    FORMAT_22C_FIELD,
+    FORMAT_22C_FIELD,
+    FORMAT_22C_FIELD,
+    FORMAT_22C_FIELD,
     // 0x60
-    Some((Format21c, Some(Field))),
-    Some((Format21c, Some(Field))),
-    Some((Format21c, Some(Field))),
-    Some((Format21c, Some(Field))),
-    Some((Format21c, Some(Field))),
-    Some((Format21c, Some(Field))),
-    Some((Format21c, Some(Field))),
-    Some((Format21c, Some(Field))),
-    Some((Format21c, Some(Field))),
-    Some((Format21c, Some(Field))),
-    Some((Format21c, Some(Field))),
-    Some((Format21c, Some(Field))),
-    Some((Format21c, Some(Field))),
-    Some((Format21c, Some(Field))),
-    Some((Format35c, Some(Method))),
-    Some((Format35c, Some(Method))),
+    FORMAT_21C_FIELD,
+    FORMAT_21C_FIELD,
+    FORMAT_21C_FIELD,
+    FORMAT_21C_FIELD,
+    FORMAT_21C_FIELD,
+    FORMAT_21C_FIELD,
+    FORMAT_21C_FIELD,
+    FORMAT_21C_FIELD,
+    FORMAT_21C_FIELD,
+    FORMAT_21C_FIELD,
+    FORMAT_21C_FIELD,
+    FORMAT_21C_FIELD,
+    FORMAT_21C_FIELD,
+    FORMAT_21C_FIELD,
+    FORMAT_35C_METHOD,
+    FORMAT_35C_METHOD,
     // 0x70
-    Some((Format35c, Some(Method))),
-    Some((Format35c, Some(Method))),
-    Some((Format35c, Some(Method))),
-    None,
-    Some((Format3rc, Some(Method))),
-    Some((Format3rc, Some(Method))),
-    Some((Format3rc, Some(Method))),
-    Some((Format3rc, Some(Method))),
-    Some((Format3rc, Some(Method))),
-    None,
-    None,
-    Some((Format12x, None)),
-    Some((Format12x, None)),
-    Some((Format12x, None)),
-    Some((Format12x, None)),
-    Some((Format12x, None)),
+    FORMAT_35C_METHOD,
+    FORMAT_35C_METHOD,
+    FORMAT_35C_METHOD,
+    UNUSED,
+    FORMAT_3RC_METHOD,
+    FORMAT_3RC_METHOD,
+    FORMAT_3RC_METHOD,
+    FORMAT_3RC_METHOD,
+    FORMAT_3RC_METHOD,
+    UNUSED,
+    UNUSED,
+    FORMAT_12X,
+    FORMAT_12X,
+    FORMAT_12X,
+    FORMAT_12X,
+    FORMAT_12X,
     // 0x80
-    Some((Format12x, None)),
-    Some((Format12x, None)),
-    Some((Format12x, None)),
-    Some((Format12x, None)),
-    Some((Format12x, None)),
-    Some((Format12x, None)),
-    Some((Format12x, None)),
-    Some((Format12x, None)),
-    Some((Format12x, None)),
-    Some((Format12x, None)),
-    Some((Format12x, None)),
-    Some((Format12x, None)),
-    Some((Format12x, None)),
-    Some((Format12x, None)),
-    Some((Format12x, None)),
-    Some((Format12x, None)),
+    FORMAT_12X,
+    FORMAT_12X,
+    FORMAT_12X,
+    FORMAT_12X,
+    FORMAT_12X,
+    FORMAT_12X,
+    FORMAT_12X,
+    FORMAT_12X,
+    FORMAT_12X,
+    FORMAT_12X,
+    FORMAT_12X,
+    FORMAT_12X,
+    FORMAT_12X,
+    FORMAT_12X,
+    FORMAT_12X,
+    FORMAT_12X,
     // 0x90
-    Some((Format23x, None)),
-    Some((Format23x, None)),
-    Some((Format23x, None)),
-    Some((Format23x, None)),
-    Some((Format23x, None)),
-    Some((Format23x, None)),
-    Some((Format23x, None)),
-    Some((Format23x, None)),
-    Some((Format23x, None)),
-    Some((Format23x, None)),
-    Some((Format23x, None)),
-    Some((Format23x, None)),
-    Some((Format23x, None)),
-    Some((Format23x, None)),
-    Some((Format23x, None)),
-    Some((Format23x, None)),
+    FORMAT_23X,
+    FORMAT_23X,
+    FORMAT_23X,
+    FORMAT_23X,
+    FORMAT_23X,
+    FORMAT_23X,
+    FORMAT_23X,
+    FORMAT_23X,
+    FORMAT_23X,
+    FORMAT_23X,
+    FORMAT_23X,
+    FORMAT_23X,
+    FORMAT_23X,
+    FORMAT_23X,
+    FORMAT_23X,
+    FORMAT_23X,
     // 0xa0
-    Some((Format23x, None)),
-    Some((Format23x, None)),
-    Some((Format23x, None)),
-    Some((Format23x, None)),
-    Some((Format23x, None)),
-    Some((Format23x, None)),
-    Some((Format23x, None)),
-    Some((Format23x, None)),
-    Some((Format23x, None)),
-    Some((Format23x, None)),
-    Some((Format23x, None)),
-    Some((Format23x, None)),
-    Some((Format23x, None)),
-    Some((Format23x, None)),
-    Some((Format23x, None)),
-    Some((Format23x, None)),
+    FORMAT_23X,
+    FORMAT_23X,
+    FORMAT_23X,
+    FORMAT_23X,
+    FORMAT_23X,
+    FORMAT_23X,
+    FORMAT_23X,
+    FORMAT_23X,
+    FORMAT_23X,
+    FORMAT_23X,
+    FORMAT_23X,
+    FORMAT_23X,
+    FORMAT_23X,
+    FORMAT_23X,
+    FORMAT_23X,
+    FORMAT_23X,
     // 0xb0
-    Some((Format12x, None)),
-    Some((Format12x, None)),
-    Some((Format12x, None)),
-    Some((Format12x, None)),
-    Some((Format12x, None)),
-    Some((Format12x, None)),
-    Some((Format12x, None)),
-    Some((Format12x, None)),
-    Some((Format12x, None)),
-    Some((Format12x, None)),
-    Some((Format12x, None)),
-    Some((Format12x, None)),
-    Some((Format12x, None)),
-    Some((Format12x, None)),
-    Some((Format12x, None)),
-    Some((Format12x, None)),
+    FORMAT_12X,
+    FORMAT_12X,
+    FORMAT_12X,
+    FORMAT_12X,
+    FORMAT_12X,
+    FORMAT_12X,
+    FORMAT_12X,
+    FORMAT_12X,
+    FORMAT_12X,
+    FORMAT_12X,
+    FORMAT_12X,
+    FORMAT_12X,
+    FORMAT_12X,
+    FORMAT_12X,
+    FORMAT_12X,
+    FORMAT_12X,
     // 0xc0
-    Some((Format12x, None)),
-    Some((Format12x, None)),
-    Some((Format12x, None)),
-    Some((Format12x, None)),
-    Some((Format12x, None)),
-    Some((Format12x, None)),
-    Some((Format12x, None)),
-    Some((Format12x, None)),
-    Some((Format12x, None)),
-    Some((Format12x, None)),
-    Some((Format12x, None)),
-    Some((Format12x, None)),
-    Some((Format12x, None)),
-    Some((Format12x, None)),
-    Some((Format12x, None)),
-    Some((Format12x, None)),
+    FORMAT_12X,
+    FORMAT_12X,
+    FORMAT_12X,
+    FORMAT_12X,
+    FORMAT_12X,
+    FORMAT_12X,
+    FORMAT_12X,
+    FORMAT_12X,
+    FORMAT_12X,
+    FORMAT_12X,
+    FORMAT_12X,
+    FORMAT_12X,
+    FORMAT_12X,
+    FORMAT_12X,
+    FORMAT_12X,
+    FORMAT_12X,
     // 0xd0
-    Some((Format22s, None)),
-    Some((Format22s, None)),
-    Some((Format22s, None)),
-    Some((Format22s, None)),
-    Some((Format22s, None)),
-    Some((Format22s, None)),
-    Some((Format22s, None)),
-    Some((Format22s, None)),
-    Some((Format22b, None)),
-    Some((Format22b, None)),
-    Some((Format22b, None)),
-    Some((Format22b, None)),
-    Some((Format22b, None)),
-    Some((Format22b, None)),
-    Some((Format22b, None)),
-    Some((Format22b, None)),
+    FORMAT_22S,
+    FORMAT_22S,
+    FORMAT_22S,
+    FORMAT_22S,
+    FORMAT_22S,
+    FORMAT_22S,
+    FORMAT_22S,
+    FORMAT_22S,
+    FORMAT_22B,
+    FORMAT_22B,
+    FORMAT_22B,
+    FORMAT_22B,
+    FORMAT_22B,
+    FORMAT_22B,
+    FORMAT_22B,
+    FORMAT_22B,
     // 0xe0
-    Some((Format22b, None)),
-    Some((Format22b, None)),
-    Some((Format22b, None)),
-    None,
-    None,
-    None,
-    None,
-    None,
-    None,
-    None,
-    None,
-    None,
-    None,
-    None,
-    None,
-    None,
+    FORMAT_22B,
+    FORMAT_22B,
+    FORMAT_22B,
+    UNUSED,
+    UNUSED,
+    UNUSED,
+    UNUSED,
+    UNUSED,
+    UNUSED,
+    UNUSED,
+    UNUSED,
+    UNUSED,
+    UNUSED,
+    UNUSED,
+    UNUSED,
+    UNUSED,
     // 0xf0
-    None,
-    None,
-    None,
-    None,
-    None,
-    None,
-    None,
-    None,
-    None,
-    None,
-    None,
-    None,
-    None,
-    None,
-    None,
-    None,
+    UNUSED,
+    UNUSED,
+    UNUSED,
+    UNUSED,
+    UNUSED,
+    UNUSED,
+    UNUSED,
+    UNUSED,
+    UNUSED,
+    UNUSED,
+    UNUSED,
+    UNUSED,
+    UNUSED,
+    UNUSED,
+    UNUSED,
+    UNUSED,
 ];
 
 /// The mnemonics of the opcodes of version 035, by number; empty for the unused.
@@ -575,7 +671,7 @@ impl Format {
     pub fn of(op: u8) -> Option<Format>
         ensures { option_map format_of result ≡ option_map (λ o. o.format) (opcode_of op) }
     {
-        indexed_format(op).map(|(format, _)| format)
+        row_of(op).format
     }
 }
 
@@ -594,22 +690,22 @@ pub fn mnemonic(op: u8) -> Option<&'static str>
 pub fn index_kind(op: u8) -> Option<SymbolKind>
     ensures { result ≡ option_map kind_of_pool (option_and_then (λ o. o.index) (opcode_of op)) }
 {
-    indexed_format(op).and_then(|(_, index)| index)
+    row_of(op).index
 }
 
-/// What the table has of an opcode's format.
-fn indexed_format(op: u8) -> Option<IndexedFormat>
-    ensures { option_map meant result ≡ indexed_format_of op }
+/// What the table has of an opcode.
+pub(crate) fn row_of(op: u8) -> Row
+    ensures { IsRowOf op result }
 {
-    format_in(&FORMATS, op)
+    row_in(&ROWS, op)
 }
 
-/// What a table that is right has of an opcode's format.
-fn format_in(formats: &[Option<IndexedFormat>; 256], op: u8) -> Option<IndexedFormat>
-    requires { AreFormats formats.now }
-    ensures { option_map meant result ≡ indexed_format_of op }
+/// What a table that is right has of an opcode.
+fn row_in(rows: &[Row; 256], op: u8) -> Row
+    requires { AreRows rows.now }
+    ensures { IsRowOf op result }
 {
-    formats[op as usize]
+    rows[op as usize]
 }
 
 /// The mnemonic of an opcode, or nothing where the opcode is unused.

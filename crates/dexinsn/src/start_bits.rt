@@ -17,6 +17,19 @@ pub(crate) fn set_bit(words: &mut Vec<u64>, unit: usize)
     words[unit / 64] |= 1 << (unit % 64) as u32;
 }
 
+/// Sets the bit of a unit, if it is to be set.
+#[inline(always)]
+pub(crate) fn put_bit(words: &mut Vec<u64>, unit: usize, bit: bool)
+    requires { unit / 64 < length words.old.items }
+    ensures len { length words.new.items ≡ length words.old.items }
+    ensures set { bit ≡ true → HasBit words.new.items unit }
+    ensures others { (k : ℕ) → (k ≡ unit → bit ≡ true → ⊥) → HasBit words.new.items k ↔ HasBit words.old.items k }
+{
+    if bit {
+        set_bit(words, unit);
+    }
+}
+
 // The bits of 64 units, from one on.
 fn bits_from(words: &[u64], unit: usize) -> u64
     requires { unit / 64 + 1 < length words.now }

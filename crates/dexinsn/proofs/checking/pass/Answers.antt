@@ -1,18 +1,29 @@
-use Rattle.std.proofs.Common.{◌≡◌, Some, None, drop, ap, sym, ◌∙◌, arith}
-use Rattle.dexspec.specs.Pieces.{piece_size}
-use Rattle.dexinsn.proofs.Passed.{one_passed, no_piece, no_index}
+use Rattle.std.proofs.Common.{drop, arith, length-drop}
+use Rattle.dexinsn.specs.Checking.{begins_instruction, is_noted}
+use Rattle.dexinsn.proofs.Sizes.{piece_size-fits}
+use Rattle.dexinsn.proofs.Passed.{bits_put, no_step, one_passed}
 use Rattle.dexinsn.proofs.checking.pass.Goals as goal
 
-pub returns-in-None : goal.returns-in-None
-returns-in-None c =
-    let none : piece_size c.loop-at.at (drop c.loop-at.at c.args.units.now) ≡ None = ap (piece_size c.loop-at.at) (sym c.rest.ensures) ∙ sym c.in-None.ensures.size in
-    no_piece c.args.units.now c.args.pools.now c.loop-at.starts.items c.loop-at.noted.items c.loop-at.at c.loop-at.indices c.loop-at.invariant (omega arith) none
+pub put_bit-requires : goal.put_bit-requires
+put_bit-requires c = omega (arith, c.loop-at.invariant.starts_are.room)
 
-pub returns-in-None-index_count : goal.returns-in-None-index_count
-returns-in-None-index_count c = no_index c.args.units.now c.args.pools.now c.loop-at.starts.items c.loop-at.noted.items c.loop-at.at c.loop-at.indices c.loop-at.invariant (omega arith) c.in-None-index_count.ensures
+pub put_bit-requires-in-loop-at : goal.put_bit-requires-in-loop-at
+put_bit-requires-in-loop-at c = omega (arith, c.loop-at.invariant.noted_are.room)
+
+pub returns-in-None : goal.returns-in-None
+returns-in-None c = no_step c.args.units.now c.args.pools.now c.loop-at.starts.items c.loop-at.noted.items c.loop-at.at c.loop-at.indices c.loop-at.invariant (omega arith) c.in-None.ensures
 
 pub loop-at-preserved : goal.loop-at-preserved
 loop-at-preserved c =
-    let size : piece_size c.loop-at.at (drop c.loop-at.at c.args.units.now) ≡ Some c.in-Some.size = ap (piece_size c.loop-at.at) (sym c.rest.ensures) ∙ sym c.in-Some.ensures.size in
-    one_passed c.args.units.now c.args.pools.now c.loop-at.starts.items c.loop-at.noted.items c.note.new.starts.items c.note.new.noted.items c.loop-at.at c.loop-at.indices c.in-Some.size c.in-Some-index_count.count c.loop-at.invariant (omega arith) size c.in-Some.ensures.some c.in-Some-index_count.ensures
-    c.note.ensures.starts c.note.ensures.noted
+    let us = c.args.units.now in
+    let at = c.loop-at.at in
+    let is = c.in-Some.ensures in
+    one_passed us c.args.pools.now c.loop-at.starts.items c.loop-at.noted.items c.put_bit.new.words.items c.put_bit-in-loop-at.new.words.items at c.loop-at.indices c.in-Some.step.units c.in-Some.step.indices c.loop-at.invariant (omega arith) is.size is.some is.index
+    (λ cs n. bits_put begins_instruction us cs (record { unit = at; units = n }) c.loop-at.starts.items c.put_bit.new.words.items c.in-Some.step.is_instruction is.start_is (omega arith) c.put_bit.ensures.len c.put_bit.ensures.set c.put_bit.ensures.others)
+    (λ cs n. bits_put is_noted us cs (record { unit = at; units = n }) c.loop-at.noted.items c.put_bit-in-loop-at.new.words.items c.in-Some.step.is_noted is.noted_is (omega arith) c.put_bit-in-loop-at.ensures.len c.put_bit-in-loop-at.ensures.set c.put_bit-in-loop-at.ensures.others)
+
+pub overflow_add-at : goal.overflow_add-at
+overflow_add-at c =
+    let us = c.args.units.now in
+    let at = c.loop-at.at in
+    omega (arith, (piece_size-fits at (drop at us) c.in-Some.step.units c.in-Some.ensures.size).1, length-drop at us, c.requires.few)

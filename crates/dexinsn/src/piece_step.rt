@@ -1,0 +1,167 @@
+//! One piece of code units at a time, told in the fewest tests.
+
+ghost use Rattle.std.specs.Prelude.{◌≡◌, ◌^◌, ◌+◌, ◌<◌, false, length, IfSome, MatchOption};
+ghost use Rattle.std.specs.Option.{option_map, option_map_or};
+ghost use Rattle.dexspec.specs.Mentions.{Mentions};
+ghost use Rattle.dexinsn.specs.Opcode.{format_of};
+ghost use Rattle.dexinsn.specs.Checking.{AreLimits, HasNoStep, IsStep, branches, count_of_index, limit_of, slot_of};
+
+use crate::checking::{index_count, leads};
+use crate::code_units::Units;
+use crate::opcodes::{Row, row_of};
+use crate::payload::PayloadKind;
+use crate::piece::piece_size;
+use crate::units::opcode_in;
+use dexpool::{Pools, SymbolKind};
+
+/// What there is of a piece.
+#[derive(Clone, Copy)]
+pub(crate) struct Step {
+    /// How many units it has.
+    pub(crate) units: usize,
+    /// How many indices it has: one or none.
+    pub(crate) indices: usize,
+    /// Whether it is an instruction, and no payload.
+    pub(crate) is_instruction: bool,
+    /// Whether it is a payload, or an instruction that leads to another place.
+    pub(crate) is_noted: bool,
+}
+
+/// The numbers below which indices are: how many symbols there are of each kind, and 2^16 where there is no index.
+#[derive(Clone, Copy)]
+pub(crate) struct Limits {
+    below: [usize; 6],
+}
+
+// Where the limit of an index is.
+#[inline(always)]
+fn slot_of(index: Option<SymbolKind>) -> usize
+    ensures slot { result ≡ slot_of index }
+    ensures within { result < 6 }
+{
+    match index {
+        Some(SymbolKind::Text) => 0,
+        Some(SymbolKind::Typ) => 1,
+        Some(SymbolKind::Proto) => 2,
+        Some(SymbolKind::Field) => 3,
+        Some(SymbolKind::Method) => 4,
+        None => 5,
+    }
+}
+
+// How many indices there are: one or none.
+#[inline(always)]
+fn count_of_index(index: Option<SymbolKind>) -> usize
+    ensures { result ≡ count_of_index index }
+{
+    match index {
+        Some(_) => 1,
+        None => 0,
+    }
+}
+
+impl Limits {
+    /// Those of the pools.
+    pub(crate) fn of(pools: &Pools<'_>) -> Limits
+        ensures { AreLimits pools.now result }
+    {
+        Limits {
+            below: [
+                pools.len(SymbolKind::Text),
+                pools.len(SymbolKind::Typ),
+                pools.len(SymbolKind::Proto),
+                pools.len(SymbolKind::Field),
+                pools.len(SymbolKind::Method),
+                0x1_0000,
+            ],
+        }
+    }
+
+    // The number below which an index of the kind is.
+    #[inline(always)]
+    fn limit(&self, index: Option<SymbolKind>) -> usize
+        ensures { (m : Mentions) → AreLimits m self.now → result ≡ limit_of m index }
+    {
+        self.below[slot_of(index)]
+    }
+}
+
+impl Row {
+    // Whether an instruction of the opcode leads to another place.
+    #[inline(always)]
+    fn branches(self) -> bool
+        ensures { result ≡ option_map_or branches (option_map format_of self.format) false }
+    {
+        match self.format {
+            Some(format) => format.branches(),
+            None => false,
+        }
+    }
+}
+
+// The piece at a unit, if it is an instruction with no index or one of 16 bits, in range, and a unit follows it.
+#[inline(always)]
+fn plain_step(units: &Units<'_>, limits: &Limits, at: usize) -> Option<Step>
+    requires { at < length units.now }
+    ensures { (m : Mentions) → AreLimits m limits.now → IfSome result (IsStep units.now m at) }
+{
+    let first = units.at(at);
+    let row = row_of(opcode_in(first));
+    let size = usize::from(row.units);
+    if units.len() - at <= size {
+        return None;
+    }
+    if row.greatest < first {
+        return None;
+    }
+    if limits.limit(row.index) <= usize::from(units.at(at + 1)) {
+        return None;
+    }
+    Some(Step {
+        units: size,
+        indices: count_of_index(row.index),
+        is_instruction: true,
+        is_noted: row.branches(),
+    })
+}
+
+// The piece at a unit, if what it has is in range.
+fn any_step(units: &Units<'_>, pools: &Pools<'_>, at: usize) -> Option<Step>
+    requires { at < length units.now }
+    ensures { MatchOption result (HasNoStep units.now pools.now at) (IsStep units.now pools.now at) }
+{
+    let size = match piece_size(at, &units.rest(at)) {
+        Some(size) => size,
+        None => return None,
+    };
+    let indices = match index_count(units, at, size, pools) {
+        Some(count) => count,
+        None => return None,
+    };
+    let first = units.at(at);
+    let is_instruction = PayloadKind::of(first).is_none();
+    Some(Step {
+        units: size,
+        indices,
+        is_instruction,
+        is_noted: !is_instruction || leads(first),
+    })
+}
+
+/// The piece at a unit, if what it has is in range.
+#[inline(always)]
+pub(crate) fn step_at(
+    units: &Units<'_>,
+    pools: &Pools<'_>,
+    limits: &Limits,
+    at: usize,
+) -> Option<Step>
+    requires within { at < length units.now }
+    requires limits { AreLimits pools.now limits.now }
+    ensures { MatchOption result (HasNoStep units.now pools.now at) (IsStep units.now pools.now at) }
+{
+    match plain_step(units, limits, at) {
+        Some(step) => Some(step),
+        None => any_step(units, pools, at),
+    }
+}

@@ -30,8 +30,10 @@ pub mod RenumberingLists
 pub mod RenumberingOrder
 pub mod RenumberingSteps
 pub mod RowAnnotations
+pub mod RowChecked
 pub mod RowRead
 pub mod RowStands
+pub mod RowSummed
 pub mod RowWeighed
 pub mod SameMembers
 pub mod StaticValuesRead

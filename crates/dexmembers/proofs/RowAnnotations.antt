@@ -47,7 +47,7 @@ module _ (b : List ℕ) (r : ℕ) (m : Mentions) (read : DataRead) (is : IsDataO
   directory_there a (inl h) = absurd (some (off_is ∙ h.0))
   directory_there a (inr h) = subst (λ (o : ℕ). DirectoryAt b o a) (sym off_is) h.1
 
-  directory_here : (a : Directory) → DirectoryAt b off a → OrNone DirectoryAt no_directory b (annotations_off b r) a
+  pub directory_here : (a : Directory) → DirectoryAt b off a → OrNone DirectoryAt no_directory b (annotations_off b r) a
   directory_here a h = inr (λ e. some (off_is ∙ e), subst (λ (o : ℕ). DirectoryAt b o a) off_is h)
 
   -- where no directory stands, condition 22 fails

@@ -25,7 +25,7 @@ use Rattle.dexval.specs.declared.directory.SharedDirectory.{SharedDirectory}
 use Rattle.dexmembers.specs.Weight.{members_weight}
 use Rattle.dexmembers.specs.ClassData.{encoded_field_in, encoded_method_in, class_data_in, IsDataOf}
 use Rattle.dexmembers.specs.MethodCodes.{optional_code_weight, AreCodesAt, HaveCodes, AreCodesOf, AreHeavyCodes}
-use Rattle.dexmembers.specs.Reading.{AreHeavyMembers, IsMembersFault}
+use Rattle.dexmembers.specs.Reading.{MembersRow, AreHeavyMembers, IsMembersFault}
 use Rattle.dexmembers.specs.RowParts.{AreAnnotationsOf, AreHeavyAnnotations, IsAnnotationsFault}
 use Rattle.dexmembers.specs.StaticValues.{HasValuesFor, AreValuesOf, AreHeavyValues, IsValuesFault}
 use Rattle.dexmembers.specs.declared.class_data.EncodedMethod.{EncodedMethod as MethodRead}
@@ -79,7 +79,7 @@ methods_make b m a (x ∷ xs) [] h = absurd h
 methods_make b m a (x ∷ xs) (c ∷ cs) h = (record { name = refl; proto = refl; flags = refl; code = h.0; annotations = refl; parameter_annotations = refl }, methods_make b m a xs cs h.1)
 
 -- code stands for methods by their symbols
-symbols_coded : (b : List ℕ) (m : Mentions) (xs : List MethodRead) (cs : List (Option Code)) → AreCodesAt b xs cs → AllZip (λ (y : EncodedMethod) (c : Option Code). OrNone (SomeAt CodeAt) None b y.code_off c) (map (encoded_method_in m) xs) cs
+pub symbols_coded : (b : List ℕ) (m : Mentions) (xs : List MethodRead) (cs : List (Option Code)) → AreCodesAt b xs cs → AllZip (λ (y : EncodedMethod) (c : Option Code). OrNone (SomeAt CodeAt) None b y.code_off c) (map (encoded_method_in m) xs) cs
 symbols_coded b m [] [] h = tt
 symbols_coded b m [] (c ∷ cs) h = absurd h
 symbols_coded b m (x ∷ xs) [] h = absurd h
@@ -104,27 +104,31 @@ module _ (b : List ℕ) (r : ℕ) (m : Mentions) (read : DataRead) (is : IsDataO
         annotations = λ d declares. (a.directory, a.at, subst (λ (x : ClassData). NamesDeclared a.directory x) (declared_is b r m read is d declares) a.named);
       }
 
+  -- it declares what its parts make
+  pub row_made : MembersRow b r (members_made (class_data_in m read) a.directory direct.0 virtual.0 vs.0)
+  row_made = record {
+    directory = a.directory;
+    directory_is = a.at;
+    declared = class_data_in m read;
+    declared_is = is.declared.is;
+    annotations = refl;
+    static_fields = refl;
+    instance_fields = refl;
+    direct_methods = methods_make b m a.directory read.direct_methods.items direct.0 direct.1;
+    virtual_methods = methods_make b m a.directory read.virtual_methods.items virtual.0 virtual.1;
+    static_values = vs.1.at;
+  }
+
   -- where what its parts make is heavy, so is what it declares
   heavy_row : (most : ℕ) → most < members_weight (members_made (class_data_in m read) a.directory direct.0 virtual.0 vs.0) → AreHeavyMembers b r most
   heavy_row most heavy = record {
     readable = row_readable;
     members = members_made (class_data_in m read) a.directory direct.0 virtual.0 vs.0;
-    row = record {
-      directory = a.directory;
-      directory_is = a.at;
-      declared = class_data_in m read;
-      declared_is = is.declared.is;
-      annotations = refl;
-      static_fields = refl;
-      instance_fields = refl;
-      direct_methods = methods_make b m a.directory read.direct_methods.items direct.0 direct.1;
-      virtual_methods = methods_make b m a.directory read.virtual_methods.items virtual.0 virtual.1;
-      static_values = vs.1.at;
-    };
+    row = row_made;
     heavy = heavy;
   }
 
-  abbrev Coded : EncodedMethod → Option Code → Type 0
+  abbrev pub Coded : EncodedMethod → Option Code → Type 0
   Coded y c = OrNone (SomeAt CodeAt) None b y.code_off c
 
   -- by the code of direct methods

@@ -32,7 +32,7 @@ use Rattle.dexmembers.specs.MethodCodes.{optional_code_weight}
 
 module _ {K Y : Type 0} (R : K → K → Ordering) (o : IsTotalOrder R) where
   -- what rising entries have for the member of one of them is its own
-  entry_found : (es : List (K × List Y)) → Rises R (map (λ (e : K × List Y). e.0) es) → (e : K × List Y) → Contains es e → annotated R es e.0 ≡ e.1
+  pub entry_found : (es : List (K × List Y)) → Rises R (map (λ (e : K × List Y). e.0) es) → (e : K × List Y) → Contains es e → annotated R es e.0 ≡ e.1
   entry_found [] h e c = absurd (Contains-nil e c)
   entry_found (f ∷ es) h e c = elim (Contains-cons_cases f e es c) as (λ _. annotated R (f ∷ es) e.0 ≡ e.1) [
     | inl same ↦
@@ -46,7 +46,7 @@ module _ {K Y : Type 0} (R : K → K → Ordering) (o : IsTotalOrder R) where
   ]
 
   -- a sum over entries, by their members
-  sum_members : (w : List Y → ℕ) (es : List (K × List Y)) (g : K → List Y) → ((e : K × List Y) → Contains es e → g e.0 ≡ e.1) → sum_by (λ (e : K × List Y). w e.1) es ≡ sum_by (λ (k : K). w (g k)) (map (λ (e : K × List Y). e.0) es)
+  pub sum_members : (w : List Y → ℕ) (es : List (K × List Y)) (g : K → List Y) → ((e : K × List Y) → Contains es e → g e.0 ≡ e.1) → sum_by (λ (e : K × List Y). w e.1) es ≡ sum_by (λ (k : K). w (g k)) (map (λ (e : K × List Y). e.0) es)
   sum_members w [] g h = refl
   sum_members w (e ∷ es) g h =
       let first : w (g e.0) ≡ w e.1 = ap w (h e (Contains-first e es)) in
@@ -87,15 +87,15 @@ members_made d a direct virtual vs = record {
 }
 
 -- the sets of fields
-abbrev field_sets : Directory → List EncodedField → ℕ
+abbrev pub field_sets : Directory → List EncodedField → ℕ
 field_sets a xs = sum_by (λ (k : Field). set_weight (annotated field_cmp a.fields k)) (map (λ (x : EncodedField). x.field) xs)
 
 -- the sets of methods
-abbrev method_sets : Directory → List EncodedMethod → ℕ
+abbrev pub method_sets : Directory → List EncodedMethod → ℕ
 method_sets a xs = sum_by (λ (k : Method). set_weight (annotated method_cmp a.methods k)) (map (λ (x : EncodedMethod). x.method) xs)
 
 -- those of their parameters
-abbrev method_lists : Directory → List EncodedMethod → ℕ
+abbrev pub method_lists : Directory → List EncodedMethod → ℕ
 method_lists a xs = sum_by (λ (k : Method). ref_list_weight (annotated method_cmp a.parameters k)) (map (λ (x : EncodedMethod). x.method) xs)
 
 fields_weigh : (a : Directory) (xs : List EncodedField) → field_sets a xs ≤ sum_by field_weight (map (field_def a) xs)

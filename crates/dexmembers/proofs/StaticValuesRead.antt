@@ -134,7 +134,7 @@ module _ (b : List ℕ) (r off : ℕ) (at : off ≡ static_values_off b r) (some
   statics_at m xs are = inr (λ e. some (at ∙ e), (are.at.0, subst (λ o. EncodedArrayItemAt b o (values_in m xs) are.at.0) at are.at.1))
 
   -- where none of so many stand, condition 21 fails
-  none_there : (fields number : ℕ) → number ≡ 21 → ((vs : Values) → HasValuesFor b r fields vs → ⊥) → IsValuesFault b r fields (Refused number)
+  pub none_there : (fields number : ℕ) → number ≡ 21 → ((vs : Values) → HasValuesFor b r fields vs → ⊥) → IsValuesFault b r fields (Refused number)
   none_there fields number is none = (
     is,
     none,

@@ -1,5 +1,6 @@
 pub mod Appending
 pub mod Attaching
+pub mod Checking
 pub mod ClassData
 pub mod Contents
 pub mod DirectoryPut

@@ -5,8 +5,10 @@
 #![tactic(auto)]
 
 mod attaching;
+mod checking;
 mod class_data;
 mod class_data_put;
+mod code_checking;
 mod codes;
 mod copying;
 mod directory_put;
@@ -24,6 +26,7 @@ mod reading;
 mod renumbering;
 mod renumbering_laws;
 mod row_annotations;
+mod row_checking;
 mod row_parts;
 mod same;
 mod short_strings;
@@ -33,6 +36,7 @@ mod taking_back;
 mod uses_laws;
 mod weighing;
 
+pub use checking::{Checks, check_members};
 pub use field_views::{Field, Fields};
 pub use members::Members;
 pub use method_views::{Method, Methods, ParameterSets};

@@ -17,8 +17,8 @@ use dexpool::{ItemFault, Pools};
 use dexval::{SetTable, SharedDirectory, member_counts, read_shared_directory_within};
 use std::alloc::Global;
 
-// Whether the directory at an offset names declared members alone.
-fn names_declared(frame: &Frame<'_>, off: u32, declared: &ClassData) -> bool
+/// Whether the directory at an offset names declared members alone.
+pub(crate) fn names_declared(frame: &Frame<'_>, off: u32, declared: &ClassData) -> bool
     ensures listed { IsTrue result → NamesRead frame.now off declared.now }
     ensures missing { HasMembers frame.now off → ListsRise declared.now → NamesRead frame.now off declared.now → IsTrue result }
 {

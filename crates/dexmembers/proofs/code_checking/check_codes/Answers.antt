@@ -1,0 +1,34 @@
+use Rattle.std.proofs.Common.{List, take, get_or, sym, subst, arith}
+use Rattle.std.proofs.lemmas.List.{take_all, take_more}
+use Rattle.std.proofs.lemmas.List.Elements.{Contains-get_or}
+use Rattle.dexmembers.specs.declared.class_data.EncodedMethod.{EncodedMethod}
+use Rattle.dexmembers.specs.Checking.{HaveCodesOf}
+use Rattle.dexmembers.proofs.CodesOfMethods.{fault_among}
+use Rattle.dexmembers.proofs.RowChecked.{no_codes_of, one_more_code}
+use Rattle.dexmembers.proofs.code_checking.check_codes.Goals as goal
+
+-- in the place of a method that is not there
+abbrev nothing : EncodedMethod
+nothing = record { index = 0; flags = 0; code_off = 0 }
+
+pub returns-in-Err-clause-refused : goal.returns-in-Err-clause-refused
+returns-in-Err-clause-refused c = λ p.
+    let i = c.loop-method.method-index in
+    fault_among c.args.frame.now c.args.methods.now (get_or c.args.methods.now i nothing) c.in-Err.fault (Contains-get_or c.args.methods.now i nothing c.loop-method-test.true) (c.in-Err.ensures.refused p)
+
+pub loop-method-init : goal.loop-method-init
+loop-method-init c = record { checked = c.requires; weighed = λ p. no_codes_of c.args.frame.now }
+
+pub loop-method-preserved : goal.loop-method-preserved
+loop-method-preserved c = record {
+  checked = λ p. c.in-Ok.ensures.checked p;
+  weighed = λ p.
+      let b = c.args.frame.now in
+      let xs = c.args.methods.now in
+      let i = c.loop-method.method-index in
+      subst (λ (l : List EncodedMethod). HaveCodesOf b l c.saturating_add-weight.result) (sym (take_more xs i nothing c.loop-method-test.true))
+      (one_more_code b (take i xs) (get_or xs i nothing) c.loop-method.weight c.in-Ok.code c.saturating_add-weight.result (c.loop-method.invariant.weighed p) (c.in-Ok.ensures.weight p) (omega (arith, c.saturating_add.ensures, c.saturating_add-weight.ensures)));
+}
+
+pub returns-clause-weight : goal.returns-clause-weight
+returns-clause-weight c = λ p. subst (λ (l : List EncodedMethod). HaveCodesOf c.args.frame.now l c.loop-method.weight) (take_all c.loop-method.method-index c.args.methods.now (omega (arith, c.loop-method-test.false))) (c.loop-method.invariant.weighed p)

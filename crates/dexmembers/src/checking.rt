@@ -1,0 +1,100 @@
+//! What class rows declare, checked and not kept.
+
+ghost use Rattle.std.specs.Prelude.{ℕ, List, ◌≡◌, ◌<◌, ◌+◌, ◌-◌, ◌*◌, ◌^◌, min, length, IfOk, IfErr, OnOk};
+ghost use Rattle.dexspec.specs.Header.{ClassDefs, table_size};
+ghost use Rattle.dexspec.specs.Mentions.{Mentions};
+ghost use Rattle.dexspec.specs.Accepted.{HasClass};
+ghost use Rattle.dexpool.specs.Pools.{ArePools};
+ghost use Rattle.dexmembers.specs.Reading.{IsMembersFault};
+ghost use Rattle.dexmembers.specs.Checking.{AreChecks, HasMembersOf};
+
+use crate::class_data::{ClassData, read_class_data};
+use crate::code_checking::{CheckedCodes, check_codes};
+use crate::row_checking::{check_annotations, check_static_values};
+use dexhead::Frame;
+use dexpool::{ItemFault, Pools};
+use dexval::CheckedSets;
+use std::alloc::Global;
+
+/// What was checked of a file, lent from one class row to the next: its code, its sets of annotations and its lists of
+/// sets. Each is checked once, however many rows name it.
+#[derive(Drop)]
+pub struct Checks {
+    pub(crate) sets: CheckedSets,
+    pub(crate) codes: CheckedCodes,
+}
+
+impl Checks {
+    /// Nothing yet. No memory is taken.
+    pub fn none(alloc: Global) -> Checks
+        ensures { (b : List ℕ) (m : Mentions) → AreChecks b m result }
+    {
+        Checks {
+            sets: CheckedSets::none(alloc),
+            codes: CheckedCodes::none(alloc),
+        }
+    }
+}
+
+// What declared fields weigh without their annotations, or 2^64 - 1 where that is more.
+fn fields_weight(declared: &ClassData) -> u64
+    ensures { result ≡ min (2 ^ 64 - 1) (18 * (length declared.now.static_fields.items + length declared.now.instance_fields.items)) }
+{
+    let statics = 18u64.saturating_mul(declared.static_fields.len() as u64);
+    let instances = 18u64.saturating_mul(declared.instance_fields.len() as u64);
+    statics.saturating_add(instances)
+}
+
+/// Checks what class row `row` declares: its members with their code and annotations, its own annotations, and its static
+/// values. It returns what they weigh, in the bytes of [`Members::weight`](crate::Members::weight), or 2^64 - 1 where that
+/// is more. Nothing of them is kept beside `checks` and, while the row is checked, the lists of its members. What is checked
+/// already is not checked again.
+///
+/// Condition: the row is one of the file's, and what is checked already is of this file. What is said of the result is said
+/// of rows that meet condition 16. Error: `Refused` with a number from 17 to 22, a condition that fails at the row; `Memory`
+/// where an allocation failed.
+///
+/// Source: "class_def_item", the fields `annotations_off`, `class_data_off` and `static_values_off`.
+pub fn check_members(
+    alloc: Global,
+    frame: &Frame<'_>,
+    pools: &Pools<'_>,
+    row: u32,
+    checks: &mut Checks,
+) -> Result<u64, ItemFault>
+    requires row { row < table_size frame.now ClassDefs }
+    requires checks { ArePools frame.now pools.now → AreChecks frame.now pools.now checks.old }
+    ensures checks { ArePools frame.now pools.now → OnOk result (AreChecks frame.now pools.now checks.new) }
+    ensures checked { ArePools frame.now pools.now → HasClass frame.now row → IfOk result (HasMembersOf frame.now row) }
+    ensures refused { ArePools frame.now pools.now → HasClass frame.now row → IfErr result (IsMembersFault frame.now row) }
+{
+    pools.numbering().is_numbering();
+    let declared = match read_class_data(alloc, frame, pools, row) {
+        Ok(declared) => declared,
+        Err(fault) => return Err(fault),
+    };
+    let annotations = match check_annotations(frame, pools, row, &declared, &mut checks.sets) {
+        Ok(annotations) => annotations,
+        Err(fault) => return Err(fault),
+    };
+    let codes = &mut checks.codes;
+    let direct = match check_codes(alloc, frame, pools, &declared.direct_methods, codes) {
+        Ok(direct) => direct,
+        Err(fault) => return Err(fault),
+    };
+    let virtuals = match check_codes(alloc, frame, pools, &declared.virtual_methods, codes) {
+        Ok(virtuals) => virtuals,
+        Err(fault) => return Err(fault),
+    };
+    let values = match check_static_values(frame, pools, row, declared.static_fields.len()) {
+        Ok(values) => values,
+        Err(fault) => return Err(fault),
+    };
+    Ok(
+        fields_weight(&declared)
+            .saturating_add(annotations)
+            .saturating_add(direct)
+            .saturating_add(virtuals)
+            .saturating_add(values),
+    )
+}

@@ -20,6 +20,8 @@ pub mod Trimmed
 pub mod RowsKnown
 pub mod RowsBelow
 pub mod RowFaults
+pub mod PoolMentions
+pub mod RowsChecked
 pub mod Summing
 pub mod Mergeable
 pub mod ReadPrograms

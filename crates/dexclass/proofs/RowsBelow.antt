@@ -78,7 +78,7 @@ module _ (b : List ℕ) (classes : HasClasses b) where
       omega (arith, same)
 
   -- so no two rows are the same
-  rows_distinct : (n : ℕ) (D : List Definition) → AreRows b n D → AreDistinct D
+  pub rows_distinct : (n : ℕ) (D : List Definition) → AreRows b n D → AreDistinct D
   rows_distinct n D rows i j d less lt e =
       let same = one_name n D rows i j d (omega (arith, less, lt)) lt (ap (λ (x : Definition). x.0) e) in
       omega (arith, same, less)

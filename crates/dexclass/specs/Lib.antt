@@ -1,3 +1,4 @@
+pub mod Checking
 pub mod Rows
 pub mod Numbered
 pub mod Uses

@@ -4,6 +4,7 @@
 #![tactic(auto)]
 
 mod arranging;
+mod checking;
 mod class_calls;
 mod class_rows;
 mod class_types;
@@ -18,6 +19,7 @@ mod renumbering;
 mod stripping;
 mod trimming;
 
+pub use checking::check;
 pub use classes::Class;
 pub use dexflags::{ClassFlags, FieldFlags, MethodFlags};
 pub use laws::{renumbering_law, same_law, uses_law};

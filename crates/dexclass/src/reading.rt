@@ -22,8 +22,8 @@ use dexmembers::read_members;
 use dexpool::{ItemFault, Numbering, Pools, ReadFault, type_list_len};
 use std::alloc::Global;
 
-// The most that a program may weigh.
-const MOST_WEIGHT: u64 = 1 << 30;
+/// The most that a program may weigh.
+pub(crate) const MOST_WEIGHT: u64 = 1 << 30;
 
 /// Reads a file: the program of its class definitions.
 ///
@@ -55,8 +55,8 @@ fn interfaces_len(frame: &Frame<'_>, off: u32) -> u32
     }
 }
 
-// What class row `r` weighs without what it declares: the row, and the list of its interfaces.
-fn row_weight(frame: &Frame<'_>, r: u32) -> u64
+/// What class row `r` weighs without what it declares: the row, and the list of its interfaces.
+pub(crate) fn row_weight(frame: &Frame<'_>, r: u32) -> u64
     requires row { r < table_size frame.now ClassDefs }
     requires holds { HasClass frame.now r }
     ensures weight { result ≡ 96 + 2 * length (interface_indices frame.now (interfaces_off frame.now r)) }
@@ -66,8 +66,8 @@ fn row_weight(frame: &Frame<'_>, r: u32) -> u64
     96 + 2 * u64::from(interfaces)
 }
 
-// The refusal of class row `r` by condition 23.
-fn too_heavy(r: u32) -> ReadFault
+/// The refusal of class row `r` by condition 23.
+pub(crate) fn too_heavy(r: u32) -> ReadFault
     ensures { result ≡ Refused (record { number = 23; place = r }) }
 {
     ReadFault::Refused(Refusal {
@@ -76,8 +76,8 @@ fn too_heavy(r: u32) -> ReadFault
     })
 }
 
-// The fault of what class row `r` declares.
-fn at_row(fault: ItemFault, r: u32) -> ReadFault
+/// The fault of what class row `r` declares.
+pub(crate) fn at_row(fault: ItemFault, r: u32) -> ReadFault
     ensures { (b : List ℕ) → HoldBelow 17 b → r < table_size b ClassDefs → IsMembersFault b r fault → IsFaultOf b result }
 {
     match fault {

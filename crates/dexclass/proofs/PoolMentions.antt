@@ -1,0 +1,76 @@
+-- What the definitions of readable class rows mention is in the pools, and weighs no more than these.
+use Rattle.std.proofs.Common.{◌≡◌, ℕ, ◌+◌, ◌<◌, ◌≤◌, List, [], ◌∷◌, get_or, subst, inl, inr, arith}
+use Rattle.std.specs.List.{Contains}
+use Rattle.std.proofs.lemmas.List.Elements.{Contains-get_or}
+use Rattle.dexspec.specs.Bytes.{ushort_at}
+use Rattle.dexspec.specs.Symbols.{Proto, Field, Method, Symbol, TextSymbol, TypeSymbol, ProtoSymbol, FieldSymbol, MethodSymbol}
+use Rattle.dexspec.specs.Header.{StringIds, TypeIds, ProtoIds, FieldIds, MethodIds, ClassDefs, table_size}
+use Rattle.dexspec.specs.Rows.{row_at, StringRow, TypeRow, ProtoRow, FieldRow, MethodRow}
+use Rattle.dexspec.specs.Classes.{Definition}
+use Rattle.dexspec.specs.Mentions.{Mentions, mentions, texts_in, types_in, protos_in, fields_in, methods_in}
+use Rattle.dexspec.specs.Weight.{mentions_weight}
+use Rattle.dexspec.specs.Accepted.{HoldBelow, AreRows}
+use Rattle.dexspec.proofs.Members.{Contains-nil, Contains-cons_cases}
+use Rattle.dexspec.proofs.MentionMembers.{Occurs, texts-source, types-source, protos-source, fields-source, methods-source}
+use Rattle.dexspec.proofs.Growth.{AreMentioned, mentions-rising}
+use Rattle.dexspec.proofs.WeightGrowth.{mentions_weight-among}
+use Rattle.dexspec.proofs.OneRow.{one_string, one_type, one_proto, one_field, one_method}
+use Rattle.dexspec.proofs.Fitting.{HasRow, DefinitionsHaveRows, type_rows, text_rows}
+use Rattle.dexspec.proofs.SymbolRows.{row_symbols}
+use Rattle.dexspec.proofs.Readable.{row_of}
+use Rattle.dexspec.proofs.Denoted.{has_classes, AreReadable}
+use Rattle.dexpool.specs.Pools.{AreAll, ArePools}
+use Rattle.dexclass.proofs.RowsBelow.{IsRow}
+
+-- the one member
+only_one : {X : Type 0} (x y : X) → Contains (x ∷ []) y → x ≡ y
+only_one x y c = elim (Contains-cons_cases x y [] c) [ inl e ↦ e | inr l ↦ absurd (Contains-nil y l) ]
+
+-- what a row is, is one of a pool
+in_pool : {X : Type 0} (Row : List ℕ → ℕ → X → Type 0) (b : List ℕ) (one : (i : ℕ) (x y : X) → Row b i x → Row b i y → x ≡ y) (n : ℕ) (xs : List X) → AreAll Row b n xs → (x : X) (i : ℕ) → i < n → Row b i x → Contains xs x
+in_pool Row b one n xs all x i lt row = subst (Contains xs) (one i (get_or xs i x) x (all.each i x lt) row) (Contains-get_or xs i x (omega (arith, lt, all.count)))
+
+module _ (b : List ℕ) (m : Mentions) (pools : ArePools b m) where
+  -- the parts of a symbol that has a row
+  proto_in_pool : (s : Symbol) → HasRow b s → (p : Proto) → Contains (protos_in s) p → Contains m.protos p
+  proto_in_pool (ProtoSymbol q) (i, h) p c = subst (Contains m.protos) (only_one q p c) (in_pool ProtoRow b (one_proto b) (table_size b ProtoIds) m.protos pools.protos_are q i h.row h)
+  proto_in_pool (MethodSymbol x) (i, h) p c =
+      let k = ushort_at b (row_at b MethodIds i + 2) in
+      subst (Contains m.protos) (only_one x.proto p c) (in_pool ProtoRow b (one_proto b) (table_size b ProtoIds) m.protos pools.protos_are x.proto k h.proto.row h.proto)
+  proto_in_pool (TextSymbol s) h p c = absurd (Contains-nil p c)
+  proto_in_pool (TypeSymbol s) h p c = absurd (Contains-nil p c)
+  proto_in_pool (FieldSymbol s) h p c = absurd (Contains-nil p c)
+
+  field_in_pool : (s : Symbol) → HasRow b s → (f : Field) → Contains (fields_in s) f → Contains m.fields f
+  field_in_pool (FieldSymbol g) (i, h) f c = subst (Contains m.fields) (only_one g f c) (in_pool FieldRow b (one_field b) (table_size b FieldIds) m.fields pools.fields_are g i h.row h)
+  field_in_pool (TextSymbol s) h f c = absurd (Contains-nil f c)
+  field_in_pool (TypeSymbol s) h f c = absurd (Contains-nil f c)
+  field_in_pool (ProtoSymbol s) h f c = absurd (Contains-nil f c)
+  field_in_pool (MethodSymbol s) h f c = absurd (Contains-nil f c)
+
+  method_in_pool : (s : Symbol) → HasRow b s → (x : Method) → Contains (methods_in s) x → Contains m.methods x
+  method_in_pool (MethodSymbol y) (i, h) x c = subst (Contains m.methods) (only_one y x c) (in_pool MethodRow b (one_method b) (table_size b MethodIds) m.methods pools.methods_are y i h.row h)
+  method_in_pool (TextSymbol s) h x c = absurd (Contains-nil x c)
+  method_in_pool (TypeSymbol s) h x c = absurd (Contains-nil x c)
+  method_in_pool (ProtoSymbol s) h x c = absurd (Contains-nil x c)
+  method_in_pool (FieldSymbol s) h x c = absurd (Contains-nil x c)
+
+  module _ (D : List Definition) (have : DefinitionsHaveRows b D) where
+    -- a symbol that occurs has a row
+    row_for : {X : Type 0} (parts : Symbol → List X) (x : X) (w : Occurs parts D x) → HasRow b w.symbol
+    row_for parts x w = have w.definition w.member w.symbol w.occurs
+
+    mentioned_in_pools : AreMentioned (mentions D) m
+    mentioned_in_pools = record {
+      texts = λ t c. let w = texts-source D t c in let r = text_rows b w.symbol (row_for texts_in t w) t w.part in in_pool StringRow b (one_string b) (table_size b StringIds) m.texts pools.texts_are t r.0 r.1.row r.1;
+      types = λ t c. let w = types-source D t c in let r = type_rows b w.symbol (row_for types_in t w) t w.part in in_pool TypeRow b (one_type b) (table_size b TypeIds) m.types pools.types_are t r.0 r.1.row r.1;
+      protos = λ p c. let w = protos-source D p c in proto_in_pool w.symbol (row_for protos_in p w) p w.part;
+      fields = λ f c. let w = fields-source D f c in field_in_pool w.symbol (row_for fields_in f w) f w.part;
+      methods = λ x c. let w = methods-source D x c in method_in_pool w.symbol (row_for methods_in x w) x w.part;
+    }
+
+  -- what readable rows mention weighs no more than the pools
+  pub mentions_light : HoldBelow 17 b → (D : List Definition) → AreReadable b → AreRows b (table_size b ClassDefs) D → mentions_weight (mentions D) ≤ mentions_weight m
+  mentions_light h D readable rows =
+      let have : DefinitionsHaveRows b D = λ d c. let s = row_of (IsRow b) (table_size b ClassDefs) 0 D rows d c in row_symbols b (has_classes b h).few s.0 d.0 d.1 s.3 (readable s.0 (omega (arith, s.2))).members in
+      mentions_weight-among (mentions D) m (mentions-rising D) (mentioned_in_pools D have)

@@ -1,0 +1,108 @@
+//! Checking a whole file.
+
+ghost use Rattle.std.specs.Prelude.{◌+◌, ◌<◌, ◌≤◌, IsTrue, IfOk, IfErr, OnOk};
+ghost use Rattle.dexspec.specs.Header.{ClassDefs, table_size};
+ghost use Rattle.dexspec.specs.Weight.{mentions_weight, most_weight};
+ghost use Rattle.dexspec.specs.Accepted.{HoldBelow};
+ghost use Rattle.dexpool.specs.Pools.{ArePools};
+ghost use Rattle.dexmembers.specs.Checking.{AreChecks};
+ghost use Rattle.dexclass.specs.Programs.{IsFaultOf};
+ghost use Rattle.dexclass.specs.Checking.{HaveBodiesOf, IsCheckedAs};
+
+use crate::judging::judge_classes;
+use crate::reading::{MOST_WEIGHT, at_row, read, row_weight, too_heavy};
+use dexhead::{Frame, Table};
+use dexmembers::{Checks, check_members};
+use dexpool::{Pools, ReadFault};
+use std::alloc::Global;
+
+/// Checks a file, and returns the number of its class definitions: that of the program that [`read`](crate::read) returns.
+/// What a class row declares is not kept once the row is checked.
+///
+/// Error: as of [`read`](crate::read).
+///
+/// Source: "Dalvik Executable format".
+pub fn check(alloc: Global, bytes: &[u8]) -> Result<usize, ReadFault>
+    ensures accepted { IfOk result (IsCheckedAs bytes.now) }
+    ensures refused { IfErr result (IsFaultOf bytes.now) }
+{
+    let frame = Frame::open(bytes)?;
+    let pools = Pools::read(alloc, &frame)?;
+    judge_classes(alloc, &frame, &pools)?;
+    let bodies = check_rows(alloc, &frame, &pools)?;
+    if is_light(&pools, bodies) {
+        return Ok(frame.size(Table::ClassDefs) as usize);
+    }
+    // Of the symbols of the pools only those count that the classes mention.
+    read_len(alloc, bytes)
+}
+
+// Whether classes that weigh this much are light enough with all symbols of the pools.
+fn is_light(pools: &Pools<'_>, bodies: u64) -> bool
+    ensures { IsTrue result → 1024 + mentions_weight pools.now + bodies ≤ most_weight }
+{
+    let weight = pools
+        .numbering()
+        .weight()
+        .saturating_add(bodies)
+        .saturating_add(1024);
+    weight <= MOST_WEIGHT
+}
+
+// The number of class definitions of a file that is read.
+fn read_len(alloc: Global, bytes: &[u8]) -> Result<usize, ReadFault>
+    ensures accepted { IfOk result (IsCheckedAs bytes.now) }
+    ensures refused { IfErr result (IsFaultOf bytes.now) }
+{
+    match read(alloc, bytes) {
+        Ok(program) => Ok(program.len()),
+        Err(fault) => Err(fault),
+    }
+}
+
+// Checks class row `r` after the rows before it, which weigh `before` together. Returns what they weigh with it.
+fn check_row(
+    alloc: Global,
+    frame: &Frame<'_>,
+    pools: &Pools<'_>,
+    r: u32,
+    before: u64,
+    checks: &mut Checks,
+) -> Result<u64, ReadFault>
+    requires pools { ArePools frame.now pools.now }
+    requires holds { HoldBelow 17 frame.now }
+    requires row { r < table_size frame.now ClassDefs }
+    requires before { HaveBodiesOf frame.now r before }
+    requires checks { AreChecks frame.now pools.now checks.old }
+    ensures checks { OnOk result (AreChecks frame.now pools.now checks.new) }
+    ensures accepted { IfOk result (HaveBodiesOf frame.now (r + 1)) }
+    ensures refused { IfErr result (IsFaultOf frame.now) }
+{
+    let members = match check_members(alloc, frame, pools, r, checks) {
+        Ok(members) => members,
+        Err(fault) => return Err(at_row(fault, r)),
+    };
+    let weight = before
+        .saturating_add(row_weight(frame, r))
+        .saturating_add(members);
+    if weight > MOST_WEIGHT {
+        return Err(too_heavy(r));
+    }
+    Ok(weight)
+}
+
+// Checks the class rows of a file of which conditions 1 to 16 hold, from row 0 on, until they weigh too much. Returns what
+// they weigh together.
+fn check_rows(alloc: Global, frame: &Frame<'_>, pools: &Pools<'_>) -> Result<u64, ReadFault>
+    requires pools { ArePools frame.now pools.now }
+    requires holds { HoldBelow 17 frame.now }
+    ensures accepted { IfOk result (HaveBodiesOf frame.now (table_size frame.now ClassDefs)) }
+    ensures refused { IfErr result (IsFaultOf frame.now) }
+{
+    let mut checks = Checks::none(alloc);
+    let mut weight = 0;
+    for r in 0..frame.size(Table::ClassDefs) {
+        weight = check_row(alloc, frame, pools, r, weight, &mut checks)?;
+    }
+    Ok(weight)
+}

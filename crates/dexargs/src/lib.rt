@@ -1,7 +1,9 @@
-//! The arguments of the program `dexkit`: the job that they ask for, and the texts of its help.
+//! The arguments of the program `dexkit`: the job that they ask for, lists of arguments, and the texts of its help.
 #![tactic(auto)]
 
 mod help;
+mod lists;
 mod words;
 
+pub use lists::{ListFault, arguments_in, list_name};
 pub use words::{Job, read_words};

@@ -1,0 +1,70 @@
+//! Lists of arguments: `@FILE` stands for the lines of FILE.
+
+ghost use Rattle.std.specs.Prelude.{◌≡◌, ◌↔◌, map, string_bytes, Err, IfOk, OnOk, option_map};
+ghost use Rattle.std.specs.Str.{IsUtf8};
+ghost use Rattle.dexargs.specs.Lists.{list_arguments, named_list};
+ghost use Rattle.dexargs.specs.declared.lists.ListFault.TheVariants.{NotUtf8, Memory};
+
+use std::alloc::{AllocError, Global};
+use std::str::from_utf8;
+
+/// Why the bytes of a list are no arguments.
+#[derive(Clone, Copy, Debug, PartialEq, Eq)]
+pub enum ListFault {
+    /// They are not UTF-8.
+    NotUtf8,
+    /// Allocation failed.
+    Memory,
+}
+
+impl From<AllocError> for ListFault {
+    ghost from_gives = { λ _ e. e ≡ Memory };
+
+    fn from(_error: AllocError) -> ListFault {
+        ListFault::Memory
+    }
+}
+
+/// Returns the name of the list that an argument stands for: what is after its `@`. Returns `None` where the argument does not
+/// begin with `@` or nothing is after it, so `./@name` is a file of that name.
+///
+/// Source: this project's rule.
+pub fn list_name(argument: &str) -> Option<&str>
+    ensures { option_map (λ name. name.now) result ≡ named_list argument.now }
+{
+    let name = argument.strip_prefix('@')?;
+    if name.is_empty() {
+        return None;
+    }
+    Some(name)
+}
+
+// The lines of a text that are not empty, in order.
+fn arguments_of(alloc: Global, text: &str) -> Result<Vec<String>, AllocError>
+    ensures { IfOk result (λ arguments. map string_bytes arguments.items ≡ list_arguments text.now) }
+{
+    let mut arguments = Vec::new(alloc);
+    for line in text.lines() {
+        if !line.is_empty() {
+            arguments.push(String::from_str(alloc, line)?)?;
+        }
+    }
+    Ok(arguments)
+}
+
+/// Returns the arguments that the bytes of a list stand for: its lines that are not empty, in order, each as it is. A line ends
+/// at a line feed, or at a carriage return and a line feed.
+///
+/// Error: `NotUtf8` if the bytes are not UTF-8; `Memory` if allocation failed.
+///
+/// Source: this project's rule.
+pub fn arguments_in(alloc: Global, bytes: &[u8]) -> Result<Vec<String>, ListFault>
+    ensures listed { IfOk result (λ arguments. map string_bytes arguments.items ≡ list_arguments bytes.now) }
+    ensures text { OnOk result (IsUtf8 bytes.now) }
+    ensures refused { (result ≡ Err NotUtf8) ↔ (¬ IsUtf8 bytes.now) }
+{
+    let Ok(text) = from_utf8(bytes) else {
+        return Err(ListFault::NotUtf8);
+    };
+    Ok(arguments_of(alloc, text)?)
+}

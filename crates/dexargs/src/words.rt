@@ -12,25 +12,25 @@ use std::alloc::{AllocError, Global};
 
 const LEAST_FAN: u16 = 2;
 
-/// What the words ask for. Files are named as they stand in the words.
+/// What the arguments ask for. Files are named as the arguments name them.
 #[derive(Debug, Drop)]
 pub enum Job {
-    /// Tells of each of these files whether it is accepted.
+    /// Reports of each of these files whether it is accepted.
     Check(Vec<String>),
     /// Lists the classes of this file.
     Dump(String),
     /// Writes the canonical file of the first to the second.
     Normalise(String, String),
     /// Writes the merged file to the first: so many of the files at a time, or all at once, under the caps, and without
-    /// debug programs and source texts where it is to be stripped.
+    /// debug programs and source texts if it is to be stripped.
     Merge(String, Option<usize>, Caps, bool, Vec<String>),
-    /// Reports of each of these files whether it is accepted, past those that cannot be read.
+    /// Reports of each of these files whether it is accepted, and goes on after those that cannot be read.
     KeepChecking(Vec<String>),
-    /// Writes the digest of each class of these files.
+    /// Prints the digest of each class of these files.
     Digest(Vec<String>),
-    /// Writes what a merge of these files would hold, beside the greatest caps.
+    /// Prints what a merge of these files would have, beside the greatest caps.
     Count(Vec<String>),
-    /// Writes the first file, with its sums set right, to the second.
+    /// Writes the first file, with its checksum and signature set right, to the second.
     Repair(String, String),
 }
 
@@ -63,14 +63,15 @@ fn fan<'a>(alloc: Global) -> Arg<'a> {
         .value_parser(value_parser!(u16).range(i64::from(LEAST_FAN)..))
 }
 
-fn strip<'a>(alloc: Global) -> Arg<'a> {
-    Arg::new(alloc, "strip")
-        .long("strip")
-        .help(help::STRIP)
+// An option without a value.
+fn flag<'a>(alloc: Global, id: &'a str, help: &'a str) -> Arg<'a> {
+    Arg::new(alloc, id)
+        .long(id)
+        .help(help)
         .action(ArgAction::SetTrue)
 }
 
-// An option that names the most of something, at most so many.
+// An option that names the most of something, at most `greatest`.
 fn most<'a>(alloc: Global, id: &'a str, greatest: u32, help: &'a str) -> Arg<'a> {
     Arg::new(alloc, id)
         .long(id)
@@ -84,30 +85,17 @@ fn check<'a>(alloc: Global) -> Result<Command<'a>, AllocError> {
         .about(help::CHECK)
         .long_about(help::CHECK_LONG)
         .after_long_help(help::REFUSALS)
+        .arg(flag(alloc, "keep-going", help::KEEP_GOING))?
         .arg(files(alloc))
-}
-
-fn dump<'a>(alloc: Global) -> Result<Command<'a>, AllocError> {
-    Command::new(alloc, "dump")
-        .about(help::DUMP)
-        .arg(one(alloc, "file", "FILE", help::FILE))
-}
-
-fn normalise<'a>(alloc: Global) -> Result<Command<'a>, AllocError> {
-    Command::new(alloc, "normalise")
-        .about(help::NORMALISE)
-        .long_about(help::NORMALISE_LONG)
-        .arg(one(alloc, "file", "FILE", help::FILE))?
-        .arg(one(alloc, "out", "OUT", help::OUT))
 }
 
 fn merge<'a>(alloc: Global) -> Result<Command<'a>, AllocError> {
     let mut command = Command::new(alloc, "merge")
         .about(help::MERGE)
         .long_about(help::MERGE_LONG)
-        .arg(one(alloc, "out", "OUT", help::OUT).long("out"))?
-        .arg(fan(alloc))?
-        .arg(strip(alloc))?;
+        .arg(one(alloc, "out", "OUT", help::OUT).short('o').long("out"))?
+        .arg(flag(alloc, "strip", help::STRIP))?
+        .arg(fan(alloc))?;
     let greatest = Caps::greatest();
     for (id, greatest, help) in [
         ("max-types", greatest.types(), help::MAX_TYPES),
@@ -121,22 +109,91 @@ fn merge<'a>(alloc: Global) -> Result<Command<'a>, AllocError> {
     command.arg(files(alloc))
 }
 
-fn command<'a>(alloc: Global) -> Result<Command<'a>, AllocError> {
+// A command that reads one file and writes another.
+fn file_and_out<'a>(
+    alloc: Global,
+    name: &'a str,
+    about: &'a str,
+    long_about: &'a str,
+) -> Result<Command<'a>, AllocError> {
+    Command::new(alloc, name)
+        .about(about)
+        .long_about(long_about)
+        .arg(one(alloc, "file", "FILE", help::FILE))?
+        .arg(one(alloc, "out", "OUT", help::OUT))
+}
+
+fn normalise<'a>(alloc: Global) -> Result<Command<'a>, AllocError> {
+    file_and_out(alloc, "normalise", help::NORMALISE, help::NORMALISE_LONG)?.visible_alias(
+        "normalize",
+    )
+}
+
+// A command that prints something of files.
+fn over_files<'a>(
+    alloc: Global,
+    name: &'a str,
+    about: &'a str,
+    long_about: &'a str,
+) -> Result<Command<'a>, AllocError> {
+    Command::new(alloc, name)
+        .about(about)
+        .long_about(long_about)
+        .arg(files(alloc))
+}
+
+fn dump<'a>(alloc: Global) -> Result<Command<'a>, AllocError> {
+    Command::new(alloc, "dump")
+        .about(help::DUMP)
+        .arg(one(alloc, "file", "FILE", help::FILE))
+}
+
+// The program, so far without commands.
+fn program<'a>(alloc: Global) -> Result<Command<'a>, AllocError> {
     Command::new(alloc, "dexkit")
         .about(help::ABOUT)
         .version(help::VERSION)
-        .after_help(help::STATUSES)
+        .after_help(help::EXAMPLES_AND_STATUSES)
         .bin_name("dexkit")?
         .no_binary_name(true)
         .subcommand_required(true)
-        .subcommand(check(alloc)?)?
+        .subcommand(check(alloc)?)
+}
+
+// The program with the commands that write canonical files.
+fn writing<'a>(alloc: Global) -> Result<Command<'a>, AllocError> {
+    program(alloc)?
+        .subcommand(merge(alloc)?)?
+        .subcommand(normalise(alloc)?)
+}
+
+// The program with the commands that print, too.
+fn printing<'a>(alloc: Global) -> Result<Command<'a>, AllocError> {
+    let digest = over_files(alloc, "digest", help::DIGEST, help::DIGEST_LONG)?;
+    let count = over_files(alloc, "count", help::COUNT, help::COUNT_LONG)?;
+    writing(alloc)?.subcommand(digest)?.subcommand(count)
+}
+
+// The program with all its commands, in the order of their use.
+fn command<'a>(alloc: Global) -> Result<Command<'a>, AllocError> {
+    let repair = file_and_out(alloc, "repair", help::REPAIR, help::REPAIR_LONG)?;
+    printing(alloc)?
         .subcommand(dump(alloc)?)?
-        .subcommand(normalise(alloc)?)?
-        .subcommand(merge(alloc)?)
+        .subcommand(repair)
 }
 
 fn text_of(alloc: Global, matches: &ArgMatches<'_>, id: &str) -> Result<String, AllocError> {
     String::from_str(alloc, matches.get_str(id).unwrap_or(""))
+}
+
+// The file that a command reads, and the one that it writes.
+fn file_and_out_of(
+    alloc: Global,
+    matches: &ArgMatches<'_>,
+) -> Result<(String, String), AllocError> {
+    let file = text_of(alloc, matches, "file")?;
+    let out = text_of(alloc, matches, "out")?;
+    Ok((file, out))
 }
 
 // The files of a command, of which there is one or more.
@@ -170,10 +227,13 @@ fn caps_of(matches: &ArgMatches<'_>) -> Option<Caps>
 fn check_of(alloc: Global, matches: &ArgMatches<'_>) -> Result<Option<Job>, AllocError>
     ensures { IfOk result (λ job. IfSome job IsSound) }
 {
-    match files_of(alloc, matches)? {
-        Some(files) => Ok(Some(Job::Check(files))),
-        None => Ok(None),
+    let Some(files) = files_of(alloc, matches)? else {
+        return Ok(None);
+    };
+    if matches.get_flag("keep-going") {
+        return Ok(Some(Job::KeepChecking(files)));
     }
+    Ok(Some(Job::Check(files)))
 }
 
 fn merge_of(alloc: Global, matches: &ArgMatches<'_>) -> Result<Option<Job>, AllocError>
@@ -195,22 +255,54 @@ fn merge_of(alloc: Global, matches: &ArgMatches<'_>) -> Result<Option<Job>, Allo
     Ok(Some(Job::Merge(out, fan, caps, strip, files)))
 }
 
+fn digest_of(alloc: Global, matches: &ArgMatches<'_>) -> Result<Option<Job>, AllocError>
+    ensures { IfOk result (λ job. IfSome job IsSound) }
+{
+    let Some(files) = files_of(alloc, matches)? else {
+        return Ok(None);
+    };
+    Ok(Some(Job::Digest(files)))
+}
+
+fn count_of(alloc: Global, matches: &ArgMatches<'_>) -> Result<Option<Job>, AllocError>
+    ensures { IfOk result (λ job. IfSome job IsSound) }
+{
+    let Some(files) = files_of(alloc, matches)? else {
+        return Ok(None);
+    };
+    Ok(Some(Job::Count(files)))
+}
+
+fn normalise_of(alloc: Global, matches: &ArgMatches<'_>) -> Result<Option<Job>, AllocError>
+    ensures { IfOk result (λ job. IfSome job IsSound) }
+{
+    let (file, out) = file_and_out_of(alloc, matches)?;
+    Ok(Some(Job::Normalise(file, out)))
+}
+
+fn repair_of(alloc: Global, matches: &ArgMatches<'_>) -> Result<Option<Job>, AllocError>
+    ensures { IfOk result (λ job. IfSome job IsSound) }
+{
+    let (file, out) = file_and_out_of(alloc, matches)?;
+    Ok(Some(Job::Repair(file, out)))
+}
+
 fn job_of(alloc: Global, matches: &ArgMatches<'_>) -> Result<Option<Job>, AllocError>
     ensures { IfOk result (λ job. IfSome job IsSound) }
 {
     match matches.subcommand() {
         Some(("check", found)) => check_of(alloc, found),
-        Some(("dump", found)) => Ok(Some(Job::Dump(text_of(alloc, found, "file")?))),
-        Some(("normalise", found)) => Ok(Some(Job::Normalise(
-            text_of(alloc, found, "file")?,
-            text_of(alloc, found, "out")?,
-        ))),
         Some(("merge", found)) => merge_of(alloc, found),
+        Some(("normalise", found)) => normalise_of(alloc, found),
+        Some(("digest", found)) => digest_of(alloc, found),
+        Some(("count", found)) => count_of(alloc, found),
+        Some(("dump", found)) => Ok(Some(Job::Dump(text_of(alloc, found, "file")?))),
+        Some(("repair", found)) => repair_of(alloc, found),
         _ => Ok(None),
     }
 }
 
-// The job that a command finds in words, if it is one.
+// The job that a command finds in arguments, if it is one.
 fn found_job<'a>(
     alloc: Global,
     command: &mut Command<'a>,
@@ -222,7 +314,7 @@ fn found_job<'a>(
     Ok(job_of(alloc, &matches)?)
 }
 
-// The job that a command finds in words.
+// The job that a command finds in arguments.
 fn job_in<'a>(alloc: Global, command: &mut Command<'a>, words: &'a [&'a str]) -> Result<Job, Error>
     ensures { IfOk result IsSound }
 {
@@ -232,9 +324,9 @@ fn job_in<'a>(alloc: Global, command: &mut Command<'a>, words: &'a [&'a str]) ->
     }
 }
 
-/// Reads the words after the program's name as a command.
+/// Reads the arguments after the program's name as a command.
 ///
-/// Error: that of `clap`, where the words are no command, ask for help, or memory for reading them was refused.
+/// Error: that of `clap`, if the arguments are not a command, ask for help or the version, or allocation failed.
 pub fn read_words(alloc: Global, words: &[&str]) -> Result<Job, Error>
     ensures { IfOk result IsSound }
 {

@@ -1,11 +1,13 @@
 //! Tests of what no line of data shows: devices that fail, the order and the equality of texts, generic functions at
-//! concrete types, and the words of the command line.
+//! concrete types, and the arguments of the program.
 //!
 //! They stand in a crate of their own because a crate that holds tests is proved twice.
 #![tactic(auto)]
 
 #[cfg(test)]
 mod files;
+#[cfg(test)]
+mod lists;
 #[cfg(test)]
 mod runs;
 #[cfg(test)]

@@ -1,9 +1,9 @@
-//! The words of the command line.
+//! The arguments of the program.
 
 use dexcmd::read_words;
 use std::alloc::{AllocError, Global};
 
-// The words of a line, divided by one blank.
+// The arguments of a line, divided by one blank.
 fn words_of(alloc: Global, line: &str) -> Result<Vec<&str>, AllocError> {
     let mut words = Vec::new(alloc);
     for word in line.split(' ') {
@@ -14,7 +14,7 @@ fn words_of(alloc: Global, line: &str) -> Result<Vec<&str>, AllocError> {
     Ok(words)
 }
 
-// Whether the words are read as this job.
+// Whether the arguments are read as this job.
 fn are_read(alloc: Global, words: &str, job: &str) -> Option<bool> {
     let words = words_of(alloc, words).ok()?;
     let read = read_words(alloc, words.as_slice()).ok()?;
@@ -22,16 +22,33 @@ fn are_read(alloc: Global, words: &str, job: &str) -> Option<bool> {
 }
 
 #[test]
-fn words_are_read_as_jobs(rt: HostRuntime) {
+fn files_are_read_as_jobs(rt: HostRuntime) {
     for (words, job) in [
         ("check a.dex", "Check([\"a.dex\"])"),
         (
             "check a.dex b a.dex",
             "Check([\"a.dex\", \"b\", \"a.dex\"])",
         ),
+        ("check -", "Check([\"-\"])"),
+        ("check --keep-going a b", "KeepChecking([\"a\", \"b\"])"),
+        ("check a b --keep-going", "KeepChecking([\"a\", \"b\"])"),
         ("dump a.dex", "Dump(\"a.dex\")"),
+        ("digest a b a", "Digest([\"a\", \"b\", \"a\"])"),
+        ("count a", "Count([\"a\"])"),
+        ("count a -- -b", "Count([\"a\", \"-b\"])"),
+    ] {
+        assert!(rt; are_read(rt.alloc(), words, job) == Some(true), "{words}");
+    }
+}
+
+#[test]
+fn files_and_outputs_are_read_as_jobs(rt: HostRuntime) {
+    for (words, job) in [
         ("normalise a.dex a.dex", "Normalise(\"a.dex\", \"a.dex\")"),
         ("normalise -- -a -b", "Normalise(\"-a\", \"-b\")"),
+        ("normalise - -", "Normalise(\"-\", \"-\")"),
+        ("normalize a b", "Normalise(\"a\", \"b\")"),
+        ("repair a b", "Repair(\"a\", \"b\")"),
         (
             "merge --out out.dex a.dex b a.dex",
             "Merge(\"out.dex\", None, Caps { types: 65535, protos: 65535, fields: 65536, methods: 65536, short_strings: 65536, weight: 1073741824 }, false, [\"a.dex\", \"b\", \"a.dex\"])",
@@ -41,15 +58,19 @@ fn words_are_read_as_jobs(rt: HostRuntime) {
             "Merge(\"o\", Some(65535), Caps { types: 0, protos: 1, fields: 2, methods: 3, short_strings: 65536, weight: 4 }, false, [\"a\", \"b\"])",
         ),
         (
-            "merge --fan 2 --max-types 65535 --max-protos 65535 --max-fields 65536 --max-methods 65536 --max-weight 1073741824 --strip --out o a",
+            "merge --fan 2 --max-types 65535 --max-protos 65535 --max-fields 65536 --max-methods 65536 --max-weight 1073741824 --strip -o o a",
             "Merge(\"o\", Some(2), Caps { types: 65535, protos: 65535, fields: 65536, methods: 65536, short_strings: 65536, weight: 1073741824 }, true, [\"a\"])",
+        ),
+        (
+            "merge a -o - -",
+            "Merge(\"-\", None, Caps { types: 65535, protos: 65535, fields: 65536, methods: 65536, short_strings: 65536, weight: 1073741824 }, false, [\"a\", \"-\"])",
         ),
     ] {
         assert!(rt; are_read(rt.alloc(), words, job) == Some(true), "{words}");
     }
 }
 
-// The exit status where the words are no command.
+// The exit status if the arguments are not a command.
 fn status(alloc: Global, words: &str) -> Option<i32> {
     let words = words_of(alloc, words).ok()?;
     Some(read_words(alloc, words.as_slice()).err()?.exit_code())
@@ -60,15 +81,37 @@ fn other_words_are_refused(rt: HostRuntime) {
     for words in [
         "",
         "check",
+        "check --fan a.dex",
+        "check --keep-going",
+        "check --keep-going --keep-going a",
+        "check --keep-going=yes a",
         "normalise a.dex",
         "normalise a.dex b.dex c.dex",
-        "check --fan a.dex",
+        "normalise --keep-going a b",
+        "normalised a b",
         "dump",
         "dump a.dex b.dex",
         "dump --strip a.dex",
+        "digest",
+        "digest -o o a",
+        "digest --keep-going a",
+        "count",
+        "count --max-types 1 a",
+        "repair a",
+        "repair a b c",
+        "repair -o b a",
+    ] {
+        assert!(rt; status(rt.alloc(), words) == Some(2), "{words}");
+    }
+}
+
+#[test]
+fn other_merges_are_refused(rt: HostRuntime) {
+    for words in [
         "merge --out o",
         "merge a b",
         "merge --out o --out o a",
+        "merge --out o -o o a",
         "merge --out o --fan 0 a",
         "merge --out o --fan 1 a",
         "merge --out o --fan 65536 a",
@@ -92,7 +135,20 @@ fn other_words_are_refused(rt: HostRuntime) {
     ] {
         assert!(rt; status(rt.alloc(), words) == Some(2), "{words}");
     }
-    for words in ["--help", "--version", "check --help", "merge -h"] {
+}
+
+#[test]
+fn help_and_version_are_no_fault(rt: HostRuntime) {
+    for words in [
+        "--help",
+        "-h",
+        "--version",
+        "-V",
+        "help",
+        "help digest",
+        "check --help",
+        "merge -h",
+    ] {
         assert!(rt; status(rt.alloc(), words) == Some(0), "{words}");
     }
 }

@@ -2,7 +2,7 @@
 
 _dexkit() {
     local word=${COMP_WORDS[COMP_CWORD]} before=${COMP_WORDS[COMP_CWORD - 1]}
-    local commands='check dump merge normalise help'
+    local commands='check merge normalise digest count dump repair help'
     COMPREPLY=()
     if ((COMP_CWORD == 1)); then
         mapfile -t COMPREPLY < <(compgen -W "$commands --help --version" -- "$word")
@@ -21,9 +21,15 @@ _dexkit() {
     if [[ $word == -?* ]]; then
         local options=--help
         case ${COMP_WORDS[1]} in
-            merge) options+=' --out --strip --fan --max-types --max-protos --max-fields --max-methods --max-weight' ;;
+            check) options+=' --keep-going' ;;
+            merge) options+=' -o --out --strip --fan --max-types --max-protos --max-fields --max-methods --max-weight' ;;
         esac
         mapfile -t COMPREPLY < <(compgen -W "$options" -- "$word")
+        return
+    fi
+    # After `@` comes the name of a list of arguments.
+    if [[ $word == @* ]]; then
+        mapfile -t COMPREPLY < <(compgen -f -P @ -- "${word#@}")
         return
     fi
     mapfile -t COMPREPLY < <(compgen -d -- "$word"; compgen -f -X '!*.dex' -- "$word")

@@ -4,15 +4,22 @@ complete -c dexkit -f
 complete -c dexkit -n __fish_use_subcommand -s h -l help -d 'Print the use'
 complete -c dexkit -n __fish_use_subcommand -s V -l version -d 'Print the version'
 complete -c dexkit -n __fish_use_subcommand -a check -d 'Report of each file whether it is accepted'
-complete -c dexkit -n __fish_use_subcommand -a dump -d 'List the classes of a file'
 complete -c dexkit -n __fish_use_subcommand -a merge -d 'Write the canonical form of all classes of the files'
 complete -c dexkit -n __fish_use_subcommand -a normalise -d 'Write the canonical form of a file'
+complete -c dexkit -n __fish_use_subcommand -a digest -d 'Print a digest of each class of the files'
+complete -c dexkit -n __fish_use_subcommand -a count -d 'Count what a merge of the files would have'
+complete -c dexkit -n __fish_use_subcommand -a dump -d 'List the classes of a file'
+complete -c dexkit -n __fish_use_subcommand -a repair -d 'Write a file with its checksum and signature set right'
 complete -c dexkit -n __fish_use_subcommand -a help -d 'Print the use of the program or of a command'
 
-set -l files check dump merge normalise
+set -l files check merge normalise normalize digest count dump repair
 complete -c dexkit -n "__fish_seen_subcommand_from $files" -k -a '(__fish_complete_suffix .dex)'
+# After `@` comes the name of a list of arguments.
+complete -c dexkit -n "__fish_seen_subcommand_from $files; and string match -q '@*' -- (commandline -ct)" \
+    -a '@(__fish_complete_path (string sub -s 2 -- (commandline -ct)))'
 complete -c dexkit -n "__fish_seen_subcommand_from $files" -l help -d 'Print the use'
-complete -c dexkit -n '__fish_seen_subcommand_from merge' -l out -r -F -d 'The file to be written'
+complete -c dexkit -n '__fish_seen_subcommand_from check' -l keep-going -d 'Go on after a file that cannot be read'
+complete -c dexkit -n '__fish_seen_subcommand_from merge' -s o -l out -r -F -d 'The file that is written'
 complete -c dexkit -n '__fish_seen_subcommand_from merge' -l strip -d 'Leave out debug programs and source texts'
 complete -c dexkit -n '__fish_seen_subcommand_from merge' -l fan -x -d 'Merge N files at a time'
 complete -c dexkit -n '__fish_seen_subcommand_from merge' -l max-types -x -d 'At most N types'
@@ -20,4 +27,4 @@ complete -c dexkit -n '__fish_seen_subcommand_from merge' -l max-protos -x -d 'A
 complete -c dexkit -n '__fish_seen_subcommand_from merge' -l max-fields -x -d 'At most N fields'
 complete -c dexkit -n '__fish_seen_subcommand_from merge' -l max-methods -x -d 'At most N methods'
 complete -c dexkit -n '__fish_seen_subcommand_from merge' -l max-weight -x -d 'A weight of at most N'
-complete -c dexkit -n '__fish_seen_subcommand_from help' -a 'check dump merge normalise'
+complete -c dexkit -n '__fish_seen_subcommand_from help' -a 'check merge normalise digest count dump repair'

@@ -19,11 +19,6 @@ trap 'cd / && chmod -R u+w "$room" && rm -rf "$room"' EXIT
 cp -r "$examples/dex" "$room/dex"
 cd "$room"
 
-# Lists of arguments (@LIST) are expanded by a script that names the program.
-sed "s|^program=.*|program='$DEXKIT'|" "$examples/dexkit-lists" >"$room/dexkit"
-chmod +x "$room/dexkit"
-DEXKIT=$room/dexkit
-
 # File names of the examples. Names like these are what real tools write.
 dollar='MoreObjects$ToStringHelper$ValueHolder.dex'
 iterator='AbstractMapBasedMultimap$WrappedList$WrappedListIterator.dex'

@@ -30,3 +30,4 @@ pub mod ProgramClasses
 pub mod EmptyPrograms
 pub mod OneOrder
 pub mod ProgramsOf
+pub mod PartsOf

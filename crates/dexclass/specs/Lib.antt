@@ -7,3 +7,4 @@ pub mod Parents
 pub mod Programs
 pub mod Reading
 pub mod Stripped
+pub mod Parts

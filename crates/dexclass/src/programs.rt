@@ -235,8 +235,10 @@ impl<'a> Program<'a> {
     }
 }
 
-// The same classes, with lists of their own.
-fn copied<'a>(alloc: Global, classes: &[Class<'a>]) -> Result<Vec<Class<'a>>, AllocError>
+/// The same classes, with lists of their own.
+///
+/// Error: the memory for them was refused.
+pub(crate) fn copied<'a>(alloc: Global, classes: &[Class<'a>]) -> Result<Vec<Class<'a>>, AllocError>
     ensures { IfOk result (λ copy. copy.items ≡ classes.now) }
 {
     let mut copy = Vec::with_capacity(alloc, classes.len())?;

@@ -1,0 +1,130 @@
+-- Some of the classes that can be merged, and the classes of a program, can be merged.
+use Rattle.std.proofs.Common.{◌≡◌, ◌≢◌, ℕ, ◌+◌, ◌<◌, List, [], ◌∷◌, ◌++◌, length, get_or, map, take, drop, sym, ap, ◌∙◌, subst, arith, inl, inr, append-nil}
+use Rattle.std.specs.Prelude.{All}
+use Rattle.std.specs.List.{Contains, flat_map}
+use Rattle.std.proofs.lemmas.Bool.{cases_order}
+use Rattle.std.proofs.lemmas.List.{length-map, get_or-map, get_or-take, get_or-drop, length-take, length-drop, take-map, drop-map, take-append-drop, map-append, append_assoc}
+use Rattle.std.proofs.lemmas.Grind.{flat_map-append}
+use Rattle.std.proofs.lemmas.List.Elements.{All-take, All-drop, Contains-append_left, Contains-append_right}
+use Rattle.dexspec.specs.Lists.{AreDistinct}
+use Rattle.dexspec.specs.Classes.{Definition}
+use Rattle.dexspec.specs.Files.{Collection, definitions}
+use Rattle.dexspec.specs.Mentions.{Mentions, mentions}
+use Rattle.dexspec.specs.Depth.{in_class_order}
+use Rattle.dexspec.specs.WellFormed.{AreWellFormed}
+use Rattle.dexspec.specs.Merging.{IsGood, greatest_caps}
+use Rattle.dexspec.proofs.Absorption.{IsGood-within}
+use Rattle.dexspec.proofs.Growth.{mentions-same}
+use Rattle.dexspec.proofs.ClassOrder.{definitions-distinct}
+use Rattle.dexspec.proofs.ClassPlaces.{in_class_order-only, in_class_order-has, class_names-apart}
+use Rattle.dexpool.specs.Numberings.{IsNumbering}
+use Rattle.dexclass.specs.Numbered.{NumberedClass, definition_of}
+use Rattle.dexclass.specs.Uses.{IsKnownClass}
+use Rattle.dexclass.specs.Parts.{AreGoodClasses}
+use Rattle.dexclass.specs.Programs.{AreClassesOf, AreMergeable}
+use Rattle.dexclass.proofs.Mergeable.{AreTrimmed, trimmed_mergeable}
+use Rattle.dexclass.proofs.Ordered.{names_apart}
+use Rattle.dexclass.proofs.ProgramsOf.{named}
+
+-- ---- lists
+
+-- a prefix of a list of different members has different members
+AreDistinct-take : {X : Type 0} (n : ℕ) (xs : List X) → AreDistinct xs → AreDistinct (take n xs)
+AreDistinct-take n xs h i j d less lt e =
+    let few = length-take n xs in
+    h i j d less (omega (arith, lt, few)) (sym (get_or-take n xs i d (omega (arith, less, lt, few))) ∙ e ∙ get_or-take n xs j d (omega (arith, lt, few)))
+
+-- and so has a suffix
+AreDistinct-drop : {X : Type 0} (n : ℕ) (xs : List X) → AreDistinct xs → AreDistinct (drop n xs)
+AreDistinct-drop n xs h i j d less lt e =
+    let few = length-drop n xs in
+    h (n + i) (n + j) d (omega (arith, less)) (omega (arith, lt, few)) (sym (get_or-drop n xs i d) ∙ e ∙ get_or-drop n xs j d)
+
+-- definitions of different names stand at one place each
+one_place : (D : List Definition) → ((i j : ℕ) (d : Definition) → i < j → j < length D → (get_or D i d).0 ≢ (get_or D j d).0) → (i j : ℕ) (d : Definition) → i < length D → j < length D → (get_or D i d).0 ≡ (get_or D j d).0 → i ≡ j
+one_place D apart i j d li lj e = elim (cases_order i j) [
+  | inl is ↦ is
+  | inr other ↦ elim other [
+    | inl less ↦ absurd (apart i j d less lj e)
+    | inr more ↦ absurd (apart j i d more li (sym e))
+  ]
+]
+
+-- different names, of the definitions at two places
+names_differ : (D : List Definition) → AreDistinct (map (λ d. d.0) D) → (i j : ℕ) (d : Definition) → i < j → j < length D → (get_or D i d).0 ≢ (get_or D j d).0
+names_differ D names i j d less lt e =
+    let few = length-map D (λ (x : Definition). x.0) in
+    let at : (k : ℕ) → k < length D → get_or (map (λ (x : Definition). x.0) D) k d.0 ≡ (get_or D k d).0 = λ k within. get_or-map (λ (x : Definition). x.0) D k d d.0 within in
+    names i j d.0 less (omega (arith, lt, few)) (at i (omega (arith, less, lt)) ∙ e ∙ sym (at j lt))
+
+-- ---- some of the classes
+
+module _ (m : Mentions) (cs : List NumberedClass) where
+  abbrev D : List Definition
+  D = map (definition_of m) cs
+
+  -- those that can be merged are good
+  pub all_good : AreMergeable m cs → IsNumbering m → AreGoodClasses m cs
+  all_good h numbering = record { known = h.known; names_differ = names_apart m cs (named m cs h numbering); good = h.good; formed = h.formed }
+
+  -- the first ones are among all
+  front_within : (n : ℕ) (d : Definition) → Contains (map (definition_of m) (take n cs)) d → Contains D d
+  front_within n d c =
+      let there : Contains (take n D) d = subst (λ (l : List Definition). Contains l d) (sym (take-map (definition_of m) n cs)) c in
+      subst (λ (l : List Definition). Contains l d) (take-append-drop n D) (Contains-append_left (take n D) (drop n D) d there)
+
+  -- and so are the others
+  back_within : (n : ℕ) (d : Definition) → Contains (map (definition_of m) (drop n cs)) d → Contains D d
+  back_within n d c =
+      let there : Contains (drop n D) d = subst (λ (l : List Definition). Contains l d) (sym (drop-map (definition_of m) n cs)) c in
+      subst (λ (l : List Definition). Contains l d) (take-append-drop n D) (Contains-append_right (take n D) (drop n D) d there)
+
+  -- the first of good classes are good
+  pub front_good : AreGoodClasses m cs → (n : ℕ) → AreGoodClasses m (take n cs)
+  front_good h n = record {
+    known = All-take (IsKnownClass m) n cs h.known;
+    names_differ = subst AreDistinct (take-map (λ (d : Definition). d.0) n D ∙ ap (map (λ (d : Definition). d.0)) (take-map (definition_of m) n cs)) (AreDistinct-take n (map (λ (d : Definition). d.0) D) h.names_differ);
+    good = IsGood-within (map (definition_of m) (take n cs)) D (front_within n) greatest_caps h.good;
+    formed = λ d c. h.formed d (front_within n d c);
+  }
+
+  -- and so are the others
+  pub back_good : AreGoodClasses m cs → (n : ℕ) → AreGoodClasses m (drop n cs)
+  back_good h n = record {
+    known = All-drop (IsKnownClass m) n cs h.known;
+    names_differ = subst AreDistinct (drop-map (λ (d : Definition). d.0) n D ∙ ap (map (λ (d : Definition). d.0)) (drop-map (definition_of m) n cs)) (AreDistinct-drop n (map (λ (d : Definition). d.0) D) h.names_differ);
+    good = IsGood-within (map (definition_of m) (drop n cs)) D (back_within n) greatest_caps h.good;
+    formed = λ d c. h.formed d (back_within n d c);
+  }
+
+  -- trimmed, good classes can be merged
+  pub trimmed_good : AreGoodClasses m cs → (n : Mentions) (new : List NumberedClass) → n ≡ mentions D → map (definition_of n) new ≡ D → All (IsKnownClass n) new → AreMergeable n new
+  trimmed_good h n new is same known = trimmed_mergeable D n new (record { mentions_are = is; same = same; known = known }) (one_place D (names_differ D h.names_differ)) h.good h.formed
+
+-- one more part of the first of the classes
+pub one_more_part : (f : NumberedClass → Definition) (parts : List (List Definition)) (part : List Definition) (cs front back : List NumberedClass) (n : ℕ) (whole : List Definition) → flat_map (λ p. p) parts ++ map f cs ≡ whole → front ≡ take n cs → back ≡ drop n cs → part ≡ map f front
+    → flat_map (λ p. p) (parts ++ part ∷ []) ++ map f back ≡ whole
+one_more_part f parts part cs front back n whole joined first second is =
+    ap (λ z. z ++ map f back) (flat_map-append (λ (p : List Definition). p) parts (part ∷ []) ∙ ap (λ z. flat_map (λ (p : List Definition). p) parts ++ z) (append-nil part ∙ is ∙ ap (map f) first))
+    ∙ append_assoc (flat_map (λ (p : List Definition). p) parts) (map f (take n cs)) (map f back)
+    ∙ ap (λ z. flat_map (λ (p : List Definition). p) parts ++ z) (ap (λ z. map f (take n cs) ++ map f z) second ∙ sym (map-append f (take n cs) (drop n cs)) ∙ ap (map f) (take-append-drop n cs))
+    ∙ joined
+
+-- ---- the classes of a program
+
+-- they can be merged
+pub program_mergeable : (K : Collection) (n : Mentions) (cs : List NumberedClass) → n ≡ mentions (definitions K) → AreClassesOf K cs → IsGood greatest_caps (definitions K) → AreWellFormed (definitions K) → AreMergeable n cs
+program_mergeable K n cs e of good formed =
+    let E = in_class_order (definitions K) in
+    let only : (d : Definition) → Contains E d → Contains (definitions K) d = λ d c. in_class_order-only (definitions K) d c in
+    let has : (d : Definition) → Contains (definitions K) d → Contains E d = λ d c. in_class_order-has (definitions K) d (definitions-distinct K) c in
+    let trimmed : AreTrimmed E n cs = record {
+      mentions_are = e ∙ mentions-same (definitions K) E has only;
+      same = ap (λ (m : Mentions). map (definition_of m) cs) e ∙ of.are;
+      known = subst (λ (m : Mentions). All (IsKnownClass m) cs) (sym e) of.known;
+    } in
+    trimmed_mergeable E n cs trimmed (one_place E (class_names-apart (definitions K))) (IsGood-within E (definitions K) only greatest_caps good) (λ d c. formed d (only d c))
+
+-- and are its definitions in order
+pub program_part : (K : Collection) (n : Mentions) (cs : List NumberedClass) → n ≡ mentions (definitions K) → AreClassesOf K cs → map (definition_of n) cs ≡ in_class_order (definitions K)
+program_part K n cs e of = ap (λ (m : Mentions). map (definition_of m) cs) e ∙ of.are

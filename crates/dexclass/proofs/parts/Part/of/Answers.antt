@@ -1,0 +1,9 @@
+use Rattle.std.proofs.Common.{sym, subst, ◌∙◌}
+use Rattle.dexclass.specs.Programs.{AreClassesOf}
+use Rattle.dexclass.proofs.PartsOf.{program_mergeable}
+use Rattle.dexclass.proofs.parts.Part.of.Goals as goal
+
+pub invariant_of-result : goal.invariant_of-result
+invariant_of-result c =
+    let K = c.args.program.now in
+    program_mergeable K c.in_ok-copy.field-0 c.in_ok-copied.field-0.items (c.in_ok-copy.ensures ∙ c.numbering.ensures) (subst (AreClassesOf K) (sym c.in_ok-copied.ensures) c.classes-classes.ensures) c.is_good.ensures.good c.is_good.ensures.formed

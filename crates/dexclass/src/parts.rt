@@ -1,0 +1,123 @@
+//! Parts of a program: some of its classes, over the numbering of just what these mention.
+
+ghost use Rattle.std.specs.Prelude.{◌≡◌, ◌<◌, ◌≤◌, All, length, map, IfOk};
+ghost use Rattle.std.specs.List.{flat_map};
+ghost use Rattle.dexspec.specs.Files.{definitions, IsCollectionOf};
+ghost use Rattle.dexspec.specs.Depth.{in_class_order};
+ghost use Rattle.dexclass.specs.Numbered.{definition_of};
+ghost use Rattle.dexclass.specs.Parts.{AreGoodClasses};
+
+use crate::classes::Class;
+use crate::programs::{Program, copied};
+use crate::trimming::trim;
+use dexpool::Numbering;
+use std::alloc::{AllocError, Global};
+use std::marker::Model;
+
+/// Some classes of a program, in the program's order, over the numbering of just what they mention. Contracts see the list of
+/// their definitions.
+pub struct Part<'a> {
+    numbering: Numbering<'a>,
+    classes: Vec<Class<'a>>,
+}
+
+// So that a part is dropped by one call, in the crates above too.
+impl Drop for Part<'_> {
+    fn drop(self) {
+        let Part {
+            numbering: _,
+            classes: _,
+        } = self;
+    }
+}
+
+impl<'a> Model for Part<'a> {
+    ghost use Rattle.std.specs.Prelude.{List, map};
+    ghost use Rattle.std.specs.Coded.{coded_list};
+    ghost use Rattle.dexspec.specs.Classes.{Definition};
+    ghost use Rattle.dexspec.specs.Aside.Codes.{definition_code};
+    ghost use Rattle.dexclass.specs.Numbered.{definition_of};
+    ghost use Rattle.dexclass.specs.Programs.{AreMergeable};
+
+    ghost Value = { List Definition };
+
+    ghost coded = { coded_list definition_code };
+
+    ghost view = { λ p. map (definition_of p.numbering) p.classes.items };
+
+    ghost invariant = { λ p. AreMergeable p.numbering p.classes.items };
+}
+
+impl<'a> Part<'a> {
+    /// All classes of a program, by depth and then by name, in memory of their own.
+    ///
+    /// Error: the memory for them was refused.
+    pub fn of(program: &Program<'a>) -> Result<Part<'a>, AllocError>
+        ensures { IfOk result (λ part. part ≡ in_class_order (definitions program.now)) }
+    {
+        program.is_good();
+        let classes = program.classes();
+        Ok(Part {
+            numbering: program.numbering().copy()?,
+            classes: copied(*program.classes.allocator(), classes)?,
+        })
+    }
+
+    /// The number of classes. No memory is taken.
+    pub fn len(&self) -> usize
+        ensures { result ≡ length self.now }
+    {
+        self.classes.len()
+    }
+
+    /// The classes in parts of `size` each, but for the last, which may have fewer. All parts together cost what this part takes
+    /// for each of them, and no more than that.
+    ///
+    /// Condition: `size` is not 0. Error: the memory for the numberings of the parts was refused.
+    ///
+    /// Source: this project's rule, that a file has the symbols that its classes mention and no others.
+    pub fn split(self, alloc: Global, size: usize) -> Result<Vec<Part<'a>>, AllocError>
+        requires { 0 < size }
+        ensures joined { IfOk result (λ parts. flat_map (λ part. part) parts.items ≡ self.entry) }
+        ensures short { IfOk result (λ parts. All (λ part. length part ≤ size) parts.items) }
+    {
+        let Part {
+            numbering,
+            mut classes,
+        } = self;
+        numbering.is_numbering();
+        let mut parts = Vec::new(alloc);
+        while !classes.is_empty() {
+            let others = classes.split_off(size.min(classes.len()))?;
+            parts.push(Part::trimmed(alloc, &numbering, classes)?)?;
+            classes = others;
+        }
+        Ok(parts)
+    }
+
+    // These classes, over the numbering of just what they mention.
+    fn trimmed(
+        alloc: Global,
+        numbering: &Numbering<'a>,
+        mut classes: Vec<Class<'a>>,
+    ) -> Result<Part<'a>, AllocError>
+        requires { AreGoodClasses numbering.now classes.items }
+        ensures { IfOk result (λ part. part ≡ map (definition_of numbering.now) classes.entry.items) }
+    {
+        let trimmed = trim(alloc, numbering, &mut classes)?;
+        Ok(Part {
+            numbering: trimmed,
+            classes,
+        })
+    }
+
+    /// The program of the classes.
+    ///
+    /// Error: the memory for their order was refused.
+    pub fn into_program(self, alloc: Global) -> Result<Program<'a>, AllocError>
+        ensures { IfOk result (IsCollectionOf self.entry) }
+    {
+        let Part { numbering, classes } = self;
+        Program::of(alloc, numbering, classes)
+    }
+}

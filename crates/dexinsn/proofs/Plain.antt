@@ -12,9 +12,9 @@ use Rattle.dexspec.specs.Opcodes.{Format, Opcode, opcode_of, opcode_runs, units_
 use Rattle.dexspec.specs.Pieces.{index_in, index_pool, instruction_size, is_first_unit, is_payload_ident, is_wide_index, low_byte, payload_size, piece_size, two_units}
 use Rattle.dexpool.specs.Pools.{count_of}
 use Rattle.dexpool.specs.declared.symbols.SymbolKind.{SymbolKind}
-use Rattle.dexinsn.specs.Checking.{IndexCount, IsStep, branches, count_of_index, limit_of}
+use Rattle.dexinsn.specs.Checking.{IndexCount, IsStep, count_of_index, limit_of}
 use Rattle.dexinsn.specs.Numbered.{index_room, kind_of_pool}
-use Rattle.dexinsn.specs.Opcode.{IsRowOf, format_of, greatest_at, greatest_first}
+use Rattle.dexinsn.specs.Opcode.{IsRowOf, greatest_at, greatest_first, kind_of_index}
 use Rattle.dexinsn.specs.Reading.{with_index_at}
 use Rattle.dexinsn.specs.Stored.{FitsAt}
 use Rattle.dexinsn.specs.declared.opcodes.Row.{Row}
@@ -155,8 +155,8 @@ some_units u row row_is least =
     let units : row.units ≡ units_in there.0.format = row_is.units ∙ ap (λ (x : Option Opcode). option_map_or (λ (p : Opcode). units_in p.format) x 0) there.1 in
     omega (arith, units, units_in-some there.0.format)
 
-pub plain_step : (us : List ℕ) (m : Mentions) (at : ℕ) (row : Row) (size count : ℕ) (noted : Bool) → IsRowOf (low_byte (slice_index us at)) row → size ≡ row.units → at + size < length us → slice_index us at ≤ row.greatest → slice_index us (at + 1) < limit_of m row.index → slice_index us (at + 1) < 2 ^ 16
-    → count ≡ count_of_index row.index → noted ≡ option_map_or branches (option_map format_of row.format) false → IsStep us m at (record { units = size; indices = count; is_instruction = true; is_noted = noted })
+pub plain_step : (us : List ℕ) (m : Mentions) (at : ℕ) (row : Row) (size count : ℕ) (noted : Bool) → IsRowOf (low_byte (slice_index us at)) row → size ≡ row.units → at + size < length us → slice_index us at ≤ row.greatest → slice_index us (at + 1) < limit_of m (kind_of_index row.index) → slice_index us (at + 1) < 2 ^ 16
+    → count ≡ count_of_index (kind_of_index row.index) → noted ≡ row.branches → IsStep us m at (record { units = size; indices = count; is_instruction = true; is_noted = noted })
 plain_step us m at row size count noted row_is size_is within least below small count_is leads =
     let u = slice_index us at in
     let least_at : u ≤ greatest_at (low_byte u) = omega (arith, least, row_is.greatest) in
@@ -168,7 +168,7 @@ plain_step us m at row size count noted row_is size_is within least below small 
     let here : slice_index (drop at us) 0 ≡ u = get_or-drop at us 0 0 ∙ ap (slice_index us) (add-zero at) in
     let piece = plain_size us at o (omega (arith, within, units)) there.1 ident (begins o.format u (omega (arith, least, greatest))) in
     let pool : index_pool (drop at us) ≡ option_and_then (λ (p : Opcode). p.index) (opcode_of (low_byte u)) = pool_of_first (drop at us) ∙ ap (λ (v : ℕ). option_and_then (λ (p : Opcode). p.index) (opcode_of (low_byte v))) here in
-    let index : row.index ≡ option_map kind_of_pool (index_pool (drop at us)) = row_is.index ∙ ap (option_map kind_of_pool) (sym pool) in
+    let index : kind_of_index row.index ≡ option_map kind_of_pool (index_pool (drop at us)) = row_is.index ∙ ap (option_map kind_of_pool) (sym pool) in
     let narrow : is_wide_index (drop at us) ≡ false = ap (λ (v : ℕ). low_byte v == 0x1b) here ∙ not_jumbo u (low_byte u == 0x1b) least_at refl in
     let counted = counted_by us m at (index_pool (drop at us)) refl narrow (subst (λ (i : Option SymbolKind). slice_index us (at + 1) < limit_of m i) index below) small in
     record {
@@ -176,5 +176,5 @@ plain_step us m at row size count noted row_is size_is within least below small 
       some = omega (arith, units, units_in-some o.format);
       index = subst (λ (n : ℕ). IndexCount us m at n) (ap count_of_index (sym index) ∙ sym count_is) counted;
       start_is = rw ident refl;
-      noted_is = leads ∙ ap (λ (f : Option Format). option_map_or branches f false) row_is.format ∙ rw (ident, there.1) refl;
+      noted_is = leads ∙ row_is.branches ∙ rw ident refl;
     }

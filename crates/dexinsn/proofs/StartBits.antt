@@ -2,8 +2,8 @@
 use Rattle.std.proofs.Common.{◌≡◌, ℕ, ◌+◌, ◌-◌, ◌*◌, ◌/◌, ◌%◌, ◌^◌, ◌<◌, ◌≤◌, ℤ, pos, ◌+ℤ◌, ◌<ℤ◌, to_z, of_z, w32, Bool, true, false, not, ◌&&◌, ◌||◌, List, length, set, slice_index, replicate, inl, inr, refl, ap, sym, ◌∙◌, subst, arith, w64}
 use lib.IntN.{negsuc}
 use mir.Val.{SFits}
-use Rattle.std.specs.Prelude.{◌↔◌, ◌⊎◌, bit_and, bit_or}
-use Rattle.std.specs.Int.{bit_at, bit_not}
+use Rattle.std.specs.Prelude.{◌↔◌, ◌⊎◌, bit_and, bit_or, max}
+use Rattle.std.specs.Int.{bit_at, bit_not, from_bool}
 use Rattle.std.proofs.lemmas.Int.{ints}
 use Rattle.std.proofs.lemmas.Bool.{cases_eq, cases_lt}
 use Rattle.std.specs.List.{All}
@@ -154,6 +154,43 @@ pub others_stay : (words : List ℕ) (unit k : ℕ) → unit / 64 < length words
 unfolding HasBit
 others_stay words unit k within other =
     let same = same_bit words unit k within other in
+    (λ e. sym same ∙ e, λ e. same ∙ e)
+
+-- ---- a bit is put
+
+-- the words with the bit of a unit put
+abbrev pub with_put : List ℕ → ℕ → Bool → List ℕ
+with_put words unit bit = set words (unit / 64) (bit_or (slice_index words (unit / 64)) (from_bool bit * 2 ^ (unit % 64) % 2 ^ 64))
+
+-- the words with the bits of a mask
+abbrev with_mask : List ℕ → ℕ → ℕ → List ℕ
+with_mask words unit mask = set words (unit / 64) (bit_or (slice_index words (unit / 64)) mask)
+
+blank_or : (a mask i : ℕ) → mask ≡ 0 → bit_at (bit_or a mask) i ≡ bit_at a i
+blank_or a mask i none =
+    let zero : bit_at mask i ≡ 0 = ap (λ m. bit_at m i) none ∙ bit_at-zero i in
+    bit_at_or a mask i ∙ ap (max (bit_at a i)) zero ∙ omega arith
+
+blank_bit : (words : List ℕ) (unit k mask : ℕ) → mask ≡ 0 → unit / 64 < length words → bit_at (slice_index (with_mask words unit mask) (k / 64)) (k % 64) ≡ bit_at (slice_index words (k / 64)) (k % 64)
+blank_bit words unit k mask none within = elim (cases_eq (k / 64) (unit / 64)) [
+  | inl same ↦
+      ap (λ j. bit_at (slice_index (with_mask words unit mask) j) (k % 64)) same
+      ∙ ap (λ w. bit_at w (k % 64)) (get_or-set_same words (unit / 64) (bit_or (slice_index words (unit / 64)) mask) 0 within)
+      ∙ blank_or (slice_index words (unit / 64)) mask (k % 64) none
+      ∙ ap (λ j. bit_at (slice_index words j) (k % 64)) (sym same)
+  | inr apart ↦ ap (λ w. bit_at w (k % 64)) (get_or-set_other words (unit / 64) (k / 64) (bit_or (slice_index words (unit / 64)) mask) 0 apart)
+]
+
+pub bit_is_put : (words : List ℕ) (unit : ℕ) (bit : Bool) → unit / 64 < length words → bit ≡ true → HasBit (with_put words unit bit) unit
+bit_is_put words unit true within e = bit_is_set words unit within
+bit_is_put words unit false within e = absurd cc
+
+pub others_kept : (words : List ℕ) (unit k : ℕ) (bit : Bool) → unit / 64 < length words → (k ≡ unit → bit ≡ true → ⊥) → HasBit (with_put words unit bit) k ↔ HasBit words k
+unfolding HasBit
+others_kept words unit k true within other = others_stay words unit k within (λ e. other e refl)
+others_kept words unit k false within other =
+    let none : 0 * 2 ^ (unit % 64) % 2 ^ 64 ≡ 0 = omega arith in
+    let same = blank_bit words unit k (0 * 2 ^ (unit % 64) % 2 ^ 64) none within in
     (λ e. sym same ∙ e, λ e. same ∙ e)
 
 -- ---- the bits of pieces

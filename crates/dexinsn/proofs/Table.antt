@@ -29,7 +29,8 @@ row_is rows d table op small = let says = row_says rows d table op small in reco
   format = ap (λ x. x.0) says;
   index = ap (λ x. x.1) says;
   units = ap (λ x. x.2) says;
-  greatest = ap (λ x. x.3) says;
+  branches = ap (λ x. x.3) says;
+  greatest = ap (λ x. x.4) says;
 }
 
 -- the text at an opcode is its mnemonic

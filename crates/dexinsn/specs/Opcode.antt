@@ -1,12 +1,16 @@
 -- The enums of the code, as what they mean.
-use Rattle.std.specs.Prelude.{◌≡◌, ℕ, List, [], map, Option}
+use Rattle.std.specs.Prelude.{◌≡◌, ℕ, Bool, false, List, [], map, Option, Some, None}
 use Rattle.std.specs.List.{range_with_len}
 use Rattle.std.specs.Borrow.{Bor}
 use Rattle.std.specs.Option.{option_and_then, option_map, option_map_or}
 use Rattle.dexspec.specs.Opcodes.{opcode_of, units_in, Format as Meant, F10x, F12x, F11n, F11x, F10t, F20t, F22x, F21t, F21s, F21h, F21c, F23x, F22b, F22s, F22t, F22c, F30t, F32x, F31i, F31t, F31c, F35c, F3rc, F51l}
 use Rattle.dexinsn.specs.declared.format.Format.{Format}
 use Rattle.dexinsn.specs.declared.format.Format.TheVariants.{Format10x, Format12x, Format11n, Format11x, Format10t, Format20t, Format22x, Format21t, Format21s, Format21h, Format21c, Format23x, Format22b, Format22s, Format22t, Format22c, Format30t, Format32x, Format31i, Format31t, Format31c, Format35c, Format3rc, Format51l}
+use Rattle.dexinsn.specs.declared.opcodes.IndexKind.{IndexKind}
+use Rattle.dexinsn.specs.declared.opcodes.IndexKind.TheVariants as indices
 use Rattle.dexinsn.specs.declared.opcodes.Row.{Row}
+use Rattle.dexinsn.specs.Checking.{branches}
+use Rattle.dexpool.specs.declared.symbols.SymbolKind.TheVariants as kinds
 use Rattle.dexpool.specs.declared.symbols.SymbolKind.{SymbolKind}
 use Rattle.dexinsn.specs.Numbered.{kind_of_pool}
 
@@ -59,19 +63,33 @@ greatest_at op = option_map_or (λ o. greatest_first o.format) (opcode_of op) 0
 abbrev pub kind_at : ℕ → Option SymbolKind
 kind_at op = option_map kind_of_pool (option_and_then (λ o. o.index) (opcode_of op))
 
+-- whether instructions of an opcode lead to another place
+abbrev pub branches_at : ℕ → Bool
+branches_at op = option_map_or (λ o. branches o.format) (opcode_of op) false
+
+-- the kind of symbol that an index names, if there is one
+abbrev pub kind_of_index : IndexKind → Option SymbolKind
+kind_of_index indices.Text = Some kinds.Text
+kind_of_index indices.Typ = Some kinds.Typ
+kind_of_index indices.Proto = Some kinds.Proto
+kind_of_index indices.Field = Some kinds.Field
+kind_of_index indices.Method = Some kinds.Method
+kind_of_index indices.Absent = None
+
 -- what a row says
-abbrev pub meant : Row → Option Meant × Option SymbolKind × ℕ × ℕ
-meant row = (option_map format_of row.format, row.index, row.units, row.greatest)
+abbrev pub meant : Row → Option Meant × Option SymbolKind × ℕ × Bool × ℕ
+meant row = (option_map format_of row.format, kind_of_index row.index, row.units, row.branches, row.greatest)
 
 -- what it is to say of an opcode
-abbrev pub row_meant : ℕ → Option Meant × Option SymbolKind × ℕ × ℕ
-row_meant op = (option_map (λ o. o.format) (opcode_of op), kind_at op, units_at op, greatest_at op)
+abbrev pub row_meant : ℕ → Option Meant × Option SymbolKind × ℕ × Bool × ℕ
+row_meant op = (option_map (λ o. o.format) (opcode_of op), kind_at op, units_at op, branches_at op, greatest_at op)
 
 -- the row says so
 pub record IsRowOf (op : ℕ) (row : Row) : Type 0 where
   pub format : option_map format_of row.format ≡ option_map (λ o. o.format) (opcode_of op)
-  pub index : row.index ≡ kind_at op
+  pub index : kind_of_index row.index ≡ kind_at op
   pub units : row.units ≡ units_at op
+  pub branches : row.branches ≡ branches_at op
   pub greatest : row.greatest ≡ greatest_at op
 
 -- the table says so of each opcode

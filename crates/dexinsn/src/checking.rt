@@ -30,8 +30,8 @@ use dexpool::{ItemFault, Pools};
 use std::alloc::{AllocError, Global};
 
 impl Format {
-    /// Whether an instruction of the format leads to another place.
-    pub(crate) fn branches(self) -> bool
+    // Whether an instruction of the format leads to another place.
+    fn branches(self) -> bool
         ensures { result ≡ branches (format_of self) }
     {
         matches!(

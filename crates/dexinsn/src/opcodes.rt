@@ -2,7 +2,7 @@ ghost use Rattle.std.specs.Prelude.{◌≡◌, Option};
 ghost use Rattle.std.specs.Option.{option_map, option_and_then};
 ghost use Rattle.dexspec.specs.Opcodes.{opcode_of};
 ghost use Rattle.dexinsn.specs.Numbered.{kind_of_pool};
-ghost use Rattle.dexinsn.specs.Opcode.{AreMnemonics, AreRows, IsRowOf, format_of, mnemonic_of};
+ghost use Rattle.dexinsn.specs.Opcode.{AreMnemonics, AreRows, IsRowOf, format_of, kind_of_index, mnemonic_of};
 
 use crate::format::Format;
 use crate::format::Format::{
@@ -10,18 +10,48 @@ use crate::format::Format::{
     Format21h, Format21s, Format21t, Format22b, Format22c, Format22s, Format22t, Format22x,
     Format23x, Format30t, Format31c, Format31i, Format31t, Format32x, Format35c, Format51l,
 };
+use crate::opcodes::IndexKind::{Absent, Field, Method, Text, Typ};
 use dexpool::SymbolKind;
-use dexpool::SymbolKind::{Field, Method, Text, Typ};
+
+/// The kind of symbol that an index names. It has one byte, which an `Option<SymbolKind>` does not.
+#[derive(Clone, Copy)]
+pub(crate) enum IndexKind {
+    Text,
+    Typ,
+    Proto,
+    Field,
+    Method,
+    /// There is no index.
+    Absent,
+}
+
+impl IndexKind {
+    /// The kind of symbol, if there is an index.
+    fn symbol(self) -> Option<SymbolKind>
+        ensures { result ≡ kind_of_index self }
+    {
+        match self {
+            Text => Some(SymbolKind::Text),
+            Typ => Some(SymbolKind::Typ),
+            IndexKind::Proto => Some(SymbolKind::Proto),
+            Field => Some(SymbolKind::Field),
+            Method => Some(SymbolKind::Method),
+            Absent => None,
+        }
+    }
+}
 
 /// What version 035 makes of an opcode.
 #[derive(Clone, Copy)]
 pub(crate) struct Row {
     /// The format of its instructions; `None` where the opcode is unused.
     pub(crate) format: Option<Format>,
-    /// The kind of symbol that their index names, if they have one.
-    pub(crate) index: Option<SymbolKind>,
+    /// What their index names, if they have one.
+    pub(crate) index: IndexKind,
     /// How many units they have; 0 where the opcode is unused.
     pub(crate) units: u8,
+    /// Whether they lead to another place.
+    pub(crate) branches: bool,
     /// A first unit up to this one begins an instruction with no index or one of 16 bits, if its units are there.
     pub(crate) greatest: u16,
 }
@@ -35,13 +65,14 @@ const ZERO_BYTE: u16 = 0x00ff;
 /// The highest four bits of the first unit count up to five registers.
 const COUNTED: u16 = 0x5fff;
 
-// The row of the opcodes with a format, an index, so many units, and a greatest first unit.
+// The row of the opcodes with a format, an index, so many units, whether they branch, and a greatest first unit.
 macro_rules! row {
-    ($format:expr, $index:expr, $units:expr, $greatest:expr) => {
+    ($format:expr, $index:expr, $units:expr, $branches:expr, $greatest:expr) => {
         Row {
             format: Some($format),
             index: $index,
             units: $units,
+            branches: $branches,
             greatest: $greatest,
         }
     };
@@ -49,68 +80,69 @@ macro_rules! row {
 
 const UNUSED: Row = Row {
     format: None,
-    index: None,
+    index: Absent,
     units: 0,
+    branches: false,
     greatest: 0,
 };
 
-const FORMAT_10X: Row = row!(Format10x, None, 1, ZERO_BYTE);
+const FORMAT_10X: Row = row!(Format10x, Absent, 1, false, ZERO_BYTE);
 
-const FORMAT_12X: Row = row!(Format12x, None, 1, ANY);
+const FORMAT_12X: Row = row!(Format12x, Absent, 1, false, ANY);
 
-const FORMAT_11N: Row = row!(Format11n, None, 1, ANY);
+const FORMAT_11N: Row = row!(Format11n, Absent, 1, false, ANY);
 
-const FORMAT_11X: Row = row!(Format11x, None, 1, ANY);
+const FORMAT_11X: Row = row!(Format11x, Absent, 1, false, ANY);
 
-const FORMAT_10T: Row = row!(Format10t, None, 1, ANY);
+const FORMAT_10T: Row = row!(Format10t, Absent, 1, true, ANY);
 
-const FORMAT_20T: Row = row!(Format20t, None, 2, ZERO_BYTE);
+const FORMAT_20T: Row = row!(Format20t, Absent, 2, true, ZERO_BYTE);
 
-const FORMAT_22X: Row = row!(Format22x, None, 2, ANY);
+const FORMAT_22X: Row = row!(Format22x, Absent, 2, false, ANY);
 
-const FORMAT_21T: Row = row!(Format21t, None, 2, ANY);
+const FORMAT_21T: Row = row!(Format21t, Absent, 2, true, ANY);
 
-const FORMAT_21S: Row = row!(Format21s, None, 2, ANY);
+const FORMAT_21S: Row = row!(Format21s, Absent, 2, false, ANY);
 
-const FORMAT_21H: Row = row!(Format21h, None, 2, ANY);
+const FORMAT_21H: Row = row!(Format21h, Absent, 2, false, ANY);
 
-const FORMAT_21C_TEXT: Row = row!(Format21c, Some(Text), 2, ANY);
+const FORMAT_21C_TEXT: Row = row!(Format21c, Text, 2, false, ANY);
 
-const FORMAT_21C_TYP: Row = row!(Format21c, Some(Typ), 2, ANY);
+const FORMAT_21C_TYP: Row = row!(Format21c, Typ, 2, false, ANY);
 
-const FORMAT_21C_FIELD: Row = row!(Format21c, Some(Field), 2, ANY);
+const FORMAT_21C_FIELD: Row = row!(Format21c, Field, 2, false, ANY);
 
-const FORMAT_23X: Row = row!(Format23x, None, 2, ANY);
+const FORMAT_23X: Row = row!(Format23x, Absent, 2, false, ANY);
 
-const FORMAT_22B: Row = row!(Format22b, None, 2, ANY);
+const FORMAT_22B: Row = row!(Format22b, Absent, 2, false, ANY);
 
-const FORMAT_22S: Row = row!(Format22s, None, 2, ANY);
+const FORMAT_22S: Row = row!(Format22s, Absent, 2, false, ANY);
 
-const FORMAT_22T: Row = row!(Format22t, None, 2, ANY);
+const FORMAT_22T: Row = row!(Format22t, Absent, 2, true, ANY);
 
-const FORMAT_22C_TYP: Row = row!(Format22c, Some(Typ), 2, ANY);
+const FORMAT_22C_TYP: Row = row!(Format22c, Typ, 2, false, ANY);
 
-const FORMAT_22C_FIELD: Row = row!(Format22c, Some(Field), 2, ANY);
+const FORMAT_22C_FIELD: Row = row!(Format22c, Field, 2, false, ANY);
 
-const FORMAT_30T: Row = row!(Format30t, None, 3, ZERO_BYTE);
+const FORMAT_30T: Row = row!(Format30t, Absent, 3, true, ZERO_BYTE);
 
-const FORMAT_32X: Row = row!(Format32x, None, 3, ZERO_BYTE);
+const FORMAT_32X: Row = row!(Format32x, Absent, 3, false, ZERO_BYTE);
 
-const FORMAT_31I: Row = row!(Format31i, None, 3, ANY);
+const FORMAT_31I: Row = row!(Format31i, Absent, 3, false, ANY);
 
-const FORMAT_31T: Row = row!(Format31t, None, 3, ANY);
+const FORMAT_31T: Row = row!(Format31t, Absent, 3, true, ANY);
 
-const FORMAT_31C_TEXT: Row = row!(Format31c, Some(Text), 3, 0);
+const FORMAT_31C_TEXT: Row = row!(Format31c, Text, 3, false, 0);
 
-const FORMAT_35C_TYP: Row = row!(Format35c, Some(Typ), 3, COUNTED);
+const FORMAT_35C_TYP: Row = row!(Format35c, Typ, 3, false, COUNTED);
 
-const FORMAT_35C_METHOD: Row = row!(Format35c, Some(Method), 3, COUNTED);
+const FORMAT_35C_METHOD: Row = row!(Format35c, Method, 3, false, COUNTED);
 
-const FORMAT_3RC_TYP: Row = row!(Format3rc, Some(Typ), 3, ANY);
+const FORMAT_3RC_TYP: Row = row!(Format3rc, Typ, 3, false, ANY);
 
-const FORMAT_3RC_METHOD: Row = row!(Format3rc, Some(Method), 3, ANY);
+const FORMAT_3RC_METHOD: Row = row!(Format3rc, Method, 3, false, ANY);
 
-const FORMAT_51L: Row = row!(Format51l, None, 5, ANY);
+const FORMAT_51L: Row = row!(Format51l, Absent, 5, false, ANY);
 
 /// The rows of the opcodes of version 035, by number.
 static ROWS: [Row; 256] = [
@@ -690,7 +722,7 @@ pub fn mnemonic(op: u8) -> Option<&'static str>
 pub fn index_kind(op: u8) -> Option<SymbolKind>
     ensures { result ≡ option_map kind_of_pool (option_and_then (λ o. o.index) (opcode_of op)) }
 {
-    row_of(op).index
+    row_of(op).index.symbol()
 }
 
 /// What the table has of an opcode.

@@ -1,14 +1,13 @@
 //! One piece of code units at a time, told in the fewest tests.
 
-ghost use Rattle.std.specs.Prelude.{◌≡◌, ◌^◌, ◌+◌, ◌<◌, false, length, IfSome, MatchOption};
-ghost use Rattle.std.specs.Option.{option_map, option_map_or};
+ghost use Rattle.std.specs.Prelude.{◌≡◌, ◌<◌, length, IfSome, MatchOption};
 ghost use Rattle.dexspec.specs.Mentions.{Mentions};
-ghost use Rattle.dexinsn.specs.Opcode.{format_of};
-ghost use Rattle.dexinsn.specs.Checking.{AreLimits, HasNoStep, IsStep, branches, count_of_index, limit_of, slot_of};
+ghost use Rattle.dexinsn.specs.Opcode.{kind_of_index};
+ghost use Rattle.dexinsn.specs.Checking.{AreLimits, HasNoStep, IsStep, count_of_index, limit_of, slot_of};
 
 use crate::checking::{index_count, leads};
 use crate::code_units::Units;
-use crate::opcodes::{Row, row_of};
+use crate::opcodes::{IndexKind, row_of};
 use crate::payload::PayloadKind;
 use crate::piece::piece_size;
 use crate::units::opcode_in;
@@ -35,28 +34,28 @@ pub(crate) struct Limits {
 
 // Where the limit of an index is.
 #[inline(always)]
-fn slot_of(index: Option<SymbolKind>) -> usize
-    ensures slot { result ≡ slot_of index }
+fn slot_of(index: IndexKind) -> usize
+    ensures slot { result ≡ slot_of (kind_of_index index) }
     ensures within { result < 6 }
 {
     match index {
-        Some(SymbolKind::Text) => 0,
-        Some(SymbolKind::Typ) => 1,
-        Some(SymbolKind::Proto) => 2,
-        Some(SymbolKind::Field) => 3,
-        Some(SymbolKind::Method) => 4,
-        None => 5,
+        IndexKind::Text => 0,
+        IndexKind::Typ => 1,
+        IndexKind::Proto => 2,
+        IndexKind::Field => 3,
+        IndexKind::Method => 4,
+        IndexKind::Absent => 5,
     }
 }
 
 // How many indices there are: one or none.
 #[inline(always)]
-fn count_of_index(index: Option<SymbolKind>) -> usize
-    ensures { result ≡ count_of_index index }
+fn count_of_index(index: IndexKind) -> usize
+    ensures { result ≡ count_of_index (kind_of_index index) }
 {
     match index {
-        Some(_) => 1,
-        None => 0,
+        IndexKind::Absent => 0,
+        _ => 1,
     }
 }
 
@@ -79,23 +78,10 @@ impl Limits {
 
     // The number below which an index of the kind is.
     #[inline(always)]
-    fn limit(&self, index: Option<SymbolKind>) -> usize
-        ensures { (m : Mentions) → AreLimits m self.now → result ≡ limit_of m index }
+    fn limit(&self, index: IndexKind) -> usize
+        ensures { (m : Mentions) → AreLimits m self.now → result ≡ limit_of m (kind_of_index index) }
     {
         self.below[slot_of(index)]
-    }
-}
-
-impl Row {
-    // Whether an instruction of the opcode leads to another place.
-    #[inline(always)]
-    fn branches(self) -> bool
-        ensures { result ≡ option_map_or branches (option_map format_of self.format) false }
-    {
-        match self.format {
-            Some(format) => format.branches(),
-            None => false,
-        }
     }
 }
 
@@ -121,7 +107,7 @@ fn plain_step(units: &Units<'_>, limits: &Limits, at: usize) -> Option<Step>
         units: size,
         indices: count_of_index(row.index),
         is_instruction: true,
-        is_noted: row.branches(),
+        is_noted: row.branches,
     })
 }
 

@@ -25,9 +25,7 @@ pub(crate) fn put_bit(words: &mut Vec<u64>, unit: usize, bit: bool)
     ensures set { bit ≡ true → HasBit words.new.items unit }
     ensures others { (k : ℕ) → (k ≡ unit → bit ≡ true → ⊥) → HasBit words.new.items k ↔ HasBit words.old.items k }
 {
-    if bit {
-        set_bit(words, unit);
-    }
+    words[unit / 64] |= u64::from(bit) << (unit % 64) as u32;
 }
 
 // The bits of 64 units, from one on.

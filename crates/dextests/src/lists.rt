@@ -22,7 +22,10 @@ fn lists_stand_for_their_lines(rt: HostRuntime) {
         ("a\rb\r\r\n\u{e9}\n", "[\"a\\rb\\r\", \"\u{e9}\"]"),
         ("a\r", "[\"a\\r\"]"),
     ] {
-        assert!(rt; are_listed(rt.alloc(), bytes, arguments) == Some(true), "{bytes:?}");
+        assert!(rt;
+            are_listed(rt.alloc(), bytes, arguments) == Some(true),
+            "{bytes:?}"
+        );
     }
 }
 

@@ -1,4 +1,4 @@
-//! The words of the command line.
+//! The commands of the program, and the job that its arguments ask for.
 
 ghost use Rattle.std.specs.Prelude.{◌<◌, vec_len, IfOk, IfSome};
 ghost use Rattle.dexspec.specs.Merging.{AreCaps};
@@ -324,9 +324,12 @@ fn job_in<'a>(alloc: Global, command: &mut Command<'a>, words: &'a [&'a str]) ->
     }
 }
 
-/// Reads the arguments after the program's name as a command.
+/// Returns the job that the arguments after the program's name ask for. Lists among them are expanded before, by
+/// [`list_name`](crate::list_name) and [`arguments_in`](crate::arguments_in).
 ///
 /// Error: that of `clap`, if the arguments are not a command, ask for help or the version, or allocation failed.
+///
+/// Source: this project's rule.
 pub fn read_words(alloc: Global, words: &[&str]) -> Result<Job, Error>
     ensures { IfOk result IsSound }
 {

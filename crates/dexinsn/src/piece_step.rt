@@ -38,14 +38,7 @@ fn slot_of(index: IndexKind) -> usize
     ensures slot { result ≡ slot_of (kind_of_index index) }
     ensures within { result < 6 }
 {
-    match index {
-        IndexKind::Text => 0,
-        IndexKind::Typ => 1,
-        IndexKind::Proto => 2,
-        IndexKind::Field => 3,
-        IndexKind::Method => 4,
-        IndexKind::Absent => 5,
-    }
+    index as usize
 }
 
 // How many indices there are: one or none.

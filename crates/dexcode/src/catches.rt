@@ -18,6 +18,7 @@ use std::alloc::Global;
 const FEW_CATCHES: usize = 16;
 
 // The address at a place, if an instruction begins there, and how many bytes spell it.
+#[inline(always)]
 fn read_address(bytes: &[u8], at: usize, starts: &InstructionStarts<'_>) -> Option<(u32, usize)>
     requires { at ≤ length bytes.now }
     ensures none { IfNone result ((a n : ℕ) → Uleb128At bytes.now at a n → IsStart starts.now a → ⊥) }
@@ -37,6 +38,7 @@ fn read_address(bytes: &[u8], at: usize, starts: &InstructionStarts<'_>) -> Opti
 }
 
 // The type that is caught and its address, at a place, and how many bytes spell them.
+#[inline(always)]
 fn read_catch(
     bytes: &[u8],
     at: usize,
@@ -89,6 +91,7 @@ fn read_catches(
 }
 
 // The address for all else, where the size of the handler has room for one, and how many bytes spell it.
+#[inline(always)]
 fn read_catch_all(
     bytes: &[u8],
     at: usize,

@@ -88,6 +88,7 @@ pub(crate) fn read_list(
 }
 
 // The number of the handler that begins so many bytes behind the start of its list.
+#[inline(always)]
 pub(crate) fn handler_at(numbers: &[Option<u32>], off: u16) -> Option<usize>
     ensures { result ≡ slice_index_or numbers.now off None }
 {

@@ -12,6 +12,7 @@ use dexpool::ItemFault;
 use std::alloc::Global;
 
 // The try at a place, where the handlers of the list are numbered by its bytes.
+#[inline(always)]
 fn read_try(bytes: &[u8], at: usize, units: u32, numbers: &[Option<u32>]) -> Option<Try>
     requires { at + 8 ≤ length bytes.now }
     ensures some { IfSome result (λ t. ListedTryAt units numbers.now bytes.now at t 8) }

@@ -3,7 +3,6 @@
 use crate::fault::CaseFault;
 use crate::folder::Folder;
 use crate::outcome::Outcome;
-use crate::tally::Tally;
 use std::fmt;
 use std::rt::Files;
 
@@ -15,17 +14,14 @@ pub trait Cases: Copy + Ord + fmt::Display {
     /// The words that the program is called with.
     const WORDS: &'static str;
 
-    /// The tally of no lines.
-    fn no_lines() -> Tally;
-
     /// The kind of every line of a file of calls, by the file's name; `None` where it is no such file.
     fn of_calls(file_name: &str) -> Option<Self>;
 
     /// The kind of a line of an index, by its first word.
     fn of_case(word: &str) -> Self;
 
-    /// Runs a line of a file that lies in this folder. The line is whole in a file of calls, and what stands behind its
-    /// first word in an index.
+    /// Runs a line of a file of this folder. The line is whole in a file of calls, and in an index it is what follows the
+    /// first word.
     fn run<R: Files + AllocGlobal>(
         self,
         folder: Folder<'_, R>,

@@ -12,13 +12,10 @@ pub enum CaseFault {
     /// The words are not the names of files of right answers; these would be.
     #[error("usage: {0}")]
     Words(&'static str),
-    /// A file cannot be read.
-    #[error("{name}: cannot be read: {error}")]
-    File { name: String, error: io::Error },
     /// A line has not the form of its kind. It counts as failed, and the program goes on.
     #[error("not a line of this kind")]
     Form,
-    /// A line fails before its calls, and this is answered. The program goes on.
+    /// A line fails before its calls, for this reason. The program goes on.
     #[error("{0}")]
     Failed(String),
     /// The output fails.
@@ -42,7 +39,6 @@ impl CaseFault {
         match self {
             CaseFault::Form | CaseFault::Failed(_) => 1,
             CaseFault::Words(_) => 2,
-            CaseFault::File { .. } => 3,
             CaseFault::Output(_) | CaseFault::Memory => 4,
         }
     }

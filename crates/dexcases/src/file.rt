@@ -2,7 +2,7 @@
 
 use crate::cases::Cases;
 use crate::fault::CaseFault;
-use crate::folder::{Folder, unreadable};
+use crate::folder::Folder;
 use crate::outcome::Outcome;
 use crate::tally::Tally;
 use std::collections::BTreeMap;
@@ -43,33 +43,38 @@ impl<'a, K: Cases> Source<'a, K> {
     }
 }
 
-/// Runs each line of a file, prints what failed and, for each kind of line, how many lines went how, and answers how
-/// all of them went. A line that begins with `#` is no case.
+/// Runs each line of a file, prints what failed and, for each kind of line, how many lines passed and failed, and returns
+/// how many did of all kinds. A line that begins with `#` is no case. A file that cannot be read, or has no case, is printed,
+/// and counts as one failure.
 pub fn run_file<K: Cases, R: Files + Print + AllocGlobal>(
     rt: &R,
     name: &str,
 ) -> Result<Tally, CaseFault> {
     let source: Source<'_, K> = Source::of(name).ok_or(CaseFault::Words(K::WORDS))?;
-    let text = text_of(rt, name)?;
-    run_text(rt, name, &source, text.as_str())
-}
-
-// The text of a file.
-fn text_of<R: Files + AllocGlobal>(rt: &R, name: &str) -> Result<String, CaseFault> {
-    match fs::read_to_string(rt, name) {
-        Ok(text) => Ok(text),
-        Err(error) => Err(unreadable(rt.alloc(), name, error)),
+    println!(rt; "{name}")?;
+    let tally = match fs::read_to_string(rt, name) {
+        Ok(text) => run_text(rt, name, &source, text.as_str())?,
+        Err(_) => return without_case(rt, "cannot be read"),
+    };
+    if tally.is_empty() {
+        return without_case(rt, "no case");
     }
+    Ok(tally)
 }
 
-// Prints the name of a file, and runs each line of its text.
+// Prints why a file has no case, and returns the tally of one failure.
+fn without_case<R: Print>(rt: &R, reason: &str) -> Result<Tally, CaseFault> {
+    println!(rt; "  {reason}")?;
+    Ok(Tally::failure())
+}
+
+// Runs each line of a text.
 fn run_text<K: Cases, R: Files + Print + AllocGlobal>(
     rt: &R,
     name: &str,
     source: &Source<'_, K>,
     text: &str,
 ) -> Result<Tally, CaseFault> {
-    println!(rt; "{name}")?;
     let mut tallies: BTreeMap<K, Tally> = BTreeMap::new(rt.alloc());
     for (number, line) in (1u64..).zip(text.lines()) {
         if !line.starts_with('#') {
@@ -94,17 +99,17 @@ fn count_line<K: Cases, R: Files + Print + AllocGlobal>(
     }
     tallies
         .entry(kind)?
-        .or_insert(K::no_lines())
+        .or_insert(Tally::default())
         .count(&outcome);
     Ok(())
 }
 
-// Prints how many lines of each kind went how, and answers how all of them went.
+// Prints how many lines of each kind passed and failed, and returns how many did of all kinds.
 fn print_tallies<K: Cases, R: Print>(
     rt: &R,
     tallies: &BTreeMap<K, Tally>,
 ) -> Result<Tally, CaseFault> {
-    let mut all = K::no_lines();
+    let mut all = Tally::default();
     for (kind, tally) in tallies.iter() {
         println!(rt; "  {kind}: {tally}")?;
         all = all.with(*tally);
@@ -121,7 +126,7 @@ fn print_failed<R: Print>(
     answered: &str,
 ) -> io::Result<()> {
     println!(rt; "  {name}:{number}: {line}")?;
-    println!(rt; "    answered: {answered}")
+    println!(rt; "    returned: {answered}")
 }
 
 // Runs a line: the kind that it is counted as, and how it goes.

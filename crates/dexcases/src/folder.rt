@@ -2,9 +2,9 @@
 
 use crate::fault::CaseFault;
 use std::alloc::{AllocError, Global};
+use std::fs;
 use std::path::Path;
 use std::rt::Files;
-use std::{fs, io};
 
 /// A folder in which files of cases lie, and the host that reads them.
 pub struct Folder<'a, R> {
@@ -26,20 +26,20 @@ impl<R: Files + AllocGlobal> Folder<'_, R> {
         self.rt.alloc()
     }
 
-    /// The bytes of a file of the folder.
+    /// The bytes of a file of the folder. A line whose file cannot be read fails.
     pub fn read(self, name: &str) -> Result<Vec<u8>, CaseFault> {
         let path = self.path.join(self.rt.alloc(), name)?;
         match fs::read(self.rt, path.as_path()) {
             Ok(bytes) => Ok(bytes),
-            Err(error) => Err(unreadable(self.rt.alloc(), path.as_str(), error)),
+            Err(_) => Err(unreadable(self.rt.alloc(), name)),
         }
     }
 }
 
-/// The fault that a file cannot be read.
-pub(crate) fn unreadable(alloc: Global, name: &str, error: io::Error) -> CaseFault {
-    match String::from_str(alloc, name) {
-        Ok(name) => CaseFault::File { name, error },
+// The fault that a file cannot be read.
+fn unreadable(alloc: Global, name: &str) -> CaseFault {
+    match format!(in alloc; "{name}: cannot be read") {
+        Ok(reason) => CaseFault::Failed(reason),
         Err(_) => CaseFault::Memory,
     }
 }

@@ -9,8 +9,6 @@ use std::alloc::{AllocError, Global};
 pub enum Outcome {
     /// The calls answered what the line says.
     Passed,
-    /// No call serves the line yet.
-    Unserved,
     /// The calls answered otherwise; this is what they answered.
     Failed(String),
 }

@@ -8,9 +8,9 @@ use std::env;
 use std::process::ExitCode;
 use std::rt::{Env, Files};
 
-/// Runs the files that the command line names, and answers the status of the program: 0 where no line failed, 1 where
-/// one did, 2 where the words are not the names of files of right answers, 3 where a file cannot be read, and 4 where
-/// the output or memory fails.
+/// Runs the files that the command line names, and returns the status of the program: 0 where no line failed, 1 where
+/// one did, or a file cannot be read or has no case, 2 where the arguments are not the names of files of right answers, and
+/// 4 where the output or memory fails.
 pub fn run<K: Cases, R: Files + Print + Eprint + Env + AllocGlobal>(rt: &R) -> ExitCode {
     match run_files::<K, R>(rt) {
         Ok(all) if all.failed() == 0 => ExitCode::SUCCESS,
@@ -37,7 +37,7 @@ fn run_named<K: Cases, R: Files + Print + AllocGlobal>(
     rt: &R,
     names: &[String],
 ) -> Result<Tally, CaseFault> {
-    let mut all = K::no_lines();
+    let mut all = Tally::default();
     for name in names {
         all = all.with(run_file::<K, R>(rt, name.as_str())?);
     }

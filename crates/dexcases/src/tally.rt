@@ -6,22 +6,21 @@ ghost use Rattle.dexcases.specs.Outcomes.{is_failed};
 use crate::outcome::Outcome;
 use std::fmt;
 
-/// So many lines passed, so many are not served yet, and so many failed. A tally without a number of lines that are not
-/// served does not print that there are none.
+/// How many lines passed, and how many failed.
 #[derive(Clone, Copy, Debug, Default, PartialEq, Eq)]
 pub struct Tally {
     passed: u32,
-    unserved: Option<u32>,
     failed: u32,
 }
 
 impl Tally {
-    /// The tally of no lines, which prints that none is not served.
-    pub fn with_unserved() -> Tally {
+    /// The tally of a file that has no case: one failure.
+    pub fn failure() -> Tally
+        ensures { 0 < result.failed }
+    {
         Tally {
             passed: 0,
-            unserved: Some(0),
-            failed: 0,
+            failed: 1,
         }
     }
 
@@ -32,6 +31,13 @@ impl Tally {
         self.failed
     }
 
+    /// Whether no line was counted.
+    pub fn is_empty(self) -> bool
+        ensures { IsTrue result ↔ ((self.passed ≡ 0) × (self.failed ≡ 0)) }
+    {
+        self.passed == 0 && self.failed == 0
+    }
+
     /// One line more.
     pub fn count(&mut self, outcome: &Outcome)
         ensures failed { IsTrue (is_failed outcome.now) → 0 < self.new.failed }
@@ -39,7 +45,6 @@ impl Tally {
     {
         match outcome {
             Outcome::Passed => self.passed = self.passed.saturating_add(1),
-            Outcome::Unserved => self.unserved = sum(self.unserved, Some(1)),
             Outcome::Failed(_) => self.failed = self.failed.saturating_add(1),
         }
     }
@@ -50,32 +55,14 @@ impl Tally {
     {
         Tally {
             passed: self.passed.saturating_add(other.passed),
-            unserved: sum(self.unserved, other.unserved),
             failed: self.failed.saturating_add(other.failed),
         }
     }
 }
 
-// What the numbers come to that there are.
-fn sum(number: Option<u32>, other: Option<u32>) -> Option<u32> {
-    match (number, other) {
-        (Some(number), Some(other)) => Some(number.saturating_add(other)),
-        (Some(number), None) => Some(number),
-        (None, other) => other,
-    }
-}
-
 impl fmt::Display for Tally {
     fn fmt<W: fmt::Write>(&self, f: &mut fmt::Formatter<W>) -> fmt::Result {
-        let Tally {
-            passed,
-            unserved,
-            failed,
-        } = self;
-        write!(f, "{passed} passed")?;
-        if let Some(unserved) = unserved {
-            write!(f, ", {unserved} not yet served")?;
-        }
-        write!(f, ", {failed} failed")
+        let Tally { passed, failed } = self;
+        write!(f, "{passed} passed, {failed} failed")
     }
 }

@@ -1,6 +1,6 @@
-//! Items that are put just as they stand in their file: a word and `FILE OFFSET`, the item of that kind there, and
-//! `FILE COUNT`, every item that the class rows of a canonical file lead to, so many in all: code, debug programs, sets
-//! and their annotations, arrays of values, class data and directories.
+//! Items that are put just as they are in their file: a word and `FILE OFFSET BYTES`, the item of that kind there, which has
+//! so many bytes, and `FILE COUNT BYTES`, every item that the class rows of a canonical file refer to, so many with so many
+//! bytes in all: code, debug programs, sets and their annotations, arrays of values, class data and directories.
 
 ghost use Rattle.std.specs.Prelude.{◌<◌};
 ghost use Rattle.dexpool.specs.Pools.{ArePools};
@@ -20,31 +20,39 @@ use dexhead::Table;
 use dexmembers::{Fields, Members, Methods};
 use std::alloc::{AllocError, Global};
 
-// How many items are put as they stand in the file, and why the first that is not so fails the line.
+// How many items are put as they are in the file, with how many bytes, and why the first that is not so fails the line.
 #[derive(Drop)]
 struct Count {
     items: u32,
+    bytes: usize,
     fault: Option<CaseFault>,
 }
 
 impl Count {
-    // Counts an item, if it is put as it stands.
-    fn add(&mut self, answer: Result<(), CaseFault>) {
+    // Counts an item, if it is put as it is in the file: it is given by the number of its bytes.
+    fn add(&mut self, put: Result<usize, CaseFault>) {
         if self.fault.is_some() {
             return;
         }
-        match answer {
-            Ok(()) => self.items = self.items.saturating_add(1),
+        match put {
+            Ok(bytes) => {
+                self.items = self.items.saturating_add(1);
+                self.bytes = self.bytes.saturating_add(bytes);
+            }
             Err(fault) => self.fault = Some(fault),
         }
     }
 
-    // How many there are, if each is put as it stands.
-    fn finish(self) -> Result<u32, CaseFault> {
-        let Count { items, fault } = self;
+    // How many there are, and how many bytes they have, if each is put as it is in the file.
+    fn finish(self) -> Result<(u32, usize), CaseFault> {
+        let Count {
+            items,
+            bytes,
+            fault,
+        } = self;
         match fault {
             Some(fault) => Err(fault),
-            None => Ok(items),
+            None => Ok((items, bytes)),
         }
     }
 }
@@ -59,27 +67,29 @@ pub fn run_item(alloc: Global, file: &DexFile<'_>, line: Line<'_>) -> Result<Out
         _ => return Err(CaseFault::Form),
     };
     let put = Put::of_word(line.word, debug_off)?;
-    stands(alloc, file, put, line.place, line.place)?;
-    Ok(Outcome::Passed)
+    let bytes = stands(alloc, file, put, line.place, line.place)?;
+    Ok(Outcome::of(format!(in alloc; "{bytes}")?, line.rest))
 }
 
 /// Runs a line that asks for every item.
 pub fn run(alloc: Global, file: &DexFile<'_>, line: Line<'_>) -> Result<Outcome, CaseFault>
     requires { ArePools file.now.frame file.now.pools }
 {
-    let items = count_classes(alloc, file)?;
-    if items == line.place {
-        return Ok(Outcome::Passed);
+    let (items, bytes) = count_classes(alloc, file)?;
+    if items != line.place {
+        return Ok(Outcome::Failed(format!(in alloc; "{items} items")?));
     }
-    Ok(Outcome::Failed(format!(in alloc; "{items} items")?))
+    Ok(Outcome::of(format!(in alloc; "{bytes}")?, line.rest))
 }
 
-// How many items the class rows lead to, if each is put as it stands; else the line fails.
-fn count_classes(alloc: Global, file: &DexFile<'_>) -> Result<u32, CaseFault>
+// How many items the class rows refer to, and how many bytes they have, if each is put as it is in the file; else the line
+// fails.
+fn count_classes(alloc: Global, file: &DexFile<'_>) -> Result<(u32, usize), CaseFault>
     requires { ArePools file.now.frame file.now.pools }
 {
     let mut count = Count {
         items: 0,
+        bytes: 0,
         fault: None,
     };
     for row in 0..file.frame.size(Table::ClassDefs) {
@@ -88,8 +98,14 @@ fn count_classes(alloc: Global, file: &DexFile<'_>) -> Result<u32, CaseFault>
     count.finish()
 }
 
-// Fails the line unless the item at an offset is put as the bytes that stand at a place.
-fn stands(alloc: Global, file: &DexFile<'_>, put: Put, off: u32, at: u32) -> Result<(), CaseFault>
+// The number of bytes that the item at an offset is put as. The line fails unless they are at a place of the file.
+fn stands(
+    alloc: Global,
+    file: &DexFile<'_>,
+    put: Put,
+    off: u32,
+    at: u32,
+) -> Result<usize, CaseFault>
     requires { ArePools file.now.frame file.now.pools }
 {
     let bytes = put.bytes_at(alloc, file, off)?;
@@ -173,14 +189,14 @@ fn count_items(alloc: Global, file: &DexFile<'_>, kind: ItemKind, offs: &[u32], 
     }
 }
 
-// Fails the line unless the class data of members is put as it stands at an offset.
+// The number of bytes that the class data of members is put as. The line fails unless they are at an offset of the file.
 fn class_data_stands(
     alloc: Global,
     file: &DexFile<'_>,
     off: u32,
     members: &Members<'_>,
     code_offs: &[u32],
-) -> Result<(), CaseFault> {
+) -> Result<usize, CaseFault> {
     members.are_few();
     if code_offs.len() != members.direct_methods().len() + members.virtual_methods().len() {
         return Err(CaseFault::Form);
@@ -252,14 +268,14 @@ fn method_numbers(alloc: Global, members: &Members<'_>) -> Result<Vec<u32>, Allo
     Ok(numbers)
 }
 
-// Fails the line unless the directory of members is put as it stands at an offset.
+// The number of bytes that the directory of members is put as. The line fails unless they are at an offset of the file.
 fn directory_stands(
     alloc: Global,
     file: &DexFile<'_>,
     off: u32,
     members: &Members<'_>,
     offs: &DirectoryOffs,
-) -> Result<(), CaseFault> {
+) -> Result<usize, CaseFault> {
     let mut out = Vec::new(alloc);
     put_counted(members, offs, &mut out)?;
     check_bytes(alloc, file.frame.bytes(), off, &out)

@@ -13,15 +13,15 @@ use crate::item_kind::ItemKind;
 use dexcases::CaseFault;
 use dexcode::{
     Code, Debug, code_cut_law, code_meaning_law, code_uses_law, debug_meaning_law, debug_uses_law,
-    read_code, read_debug,
+    read_code, read_debug, renumber as renumber_code,
 };
 use dexhead::Table;
 use dexmembers::{Members, read_members};
 use dexpool::{ItemFault, Marks, Numbering, Remap};
 use dexval::{
     AnnotationSet, Directory, Value, copied_values, mark_values, marks_law, parameter_sets_weight,
-    read_directory, read_set, read_statics, read_value, renumber_values, same_values_mapped,
-    statics_weight, values_fit,
+    read_directory, read_set, read_statics, read_value, renumber, renumber_set, renumber_values,
+    same_values_mapped, statics_weight, values_fit,
 };
 use std::alloc::{AllocError, Global};
 
@@ -175,7 +175,7 @@ impl<'a> Item<'a> {
                 if !value.fits(remap) {
                     return false;
                 }
-                value.renumber(remap);
+                renumber(value, remap);
                 true
             }
             Item::Statics(values) => {
@@ -189,7 +189,7 @@ impl<'a> Item<'a> {
                 if !set.fits(remap) {
                     return false;
                 }
-                set.renumber(remap);
+                renumber_set(set, remap);
                 true
             }
             Item::Code(code) => is_code_led(code, remap),
@@ -260,6 +260,6 @@ fn is_code_led(code: &mut Code<'_>, remap: &Remap) -> bool
     }
     code.numbers_fit();
     code_cut_law();
-    code.renumber(remap);
+    renumber_code(code, remap);
     true
 }

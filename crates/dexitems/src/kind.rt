@@ -5,8 +5,8 @@ ghost use Rattle.dexpool.specs.Pools.{ArePools};
 use crate::dex_file::DexFile;
 use crate::item_kind::ItemKind;
 use crate::line::Line;
-use crate::{canonical, puts, reads, sameness, texts};
-use dexcases::{CaseFault, Cases, Folder, Outcome, Tally};
+use crate::{canonical, checked, puts, reads, sameness, texts, units, weights};
+use dexcases::{CaseFault, Cases, Folder, Outcome};
 use std::alloc::Global;
 use std::fmt;
 use std::rt::Files;
@@ -16,10 +16,14 @@ use std::rt::Files;
 pub enum Kind {
     /// An item read.
     Read(ItemKind),
+    /// An item checked.
+    Checked,
     /// An item put.
     Put,
     /// What an item weighs.
     Weight,
+    /// The units of code.
+    Units,
     /// The symbols of an item.
     Marks,
     /// Two items compared.
@@ -39,7 +43,7 @@ impl Kind {
     fn names_an_item(self) -> bool {
         matches!(
             self,
-            Kind::Put | Kind::Weight | Kind::Marks | Kind::Same | Kind::Stands
+            Kind::Checked | Kind::Put | Kind::Weight | Kind::Marks | Kind::Same | Kind::Stands
         )
     }
 
@@ -55,11 +59,14 @@ impl Kind {
     {
         match self {
             Kind::Read(kind) => reads::run(alloc, file, kind, line),
+            Kind::Checked => checked::run(alloc, file, line),
+            Kind::Weight => weights::run(alloc, file, line),
+            Kind::Units => units::run(alloc, file, line),
             Kind::Same => sameness::run(alloc, file, line),
             Kind::Stands => canonical::run_item(alloc, file, line),
             Kind::Canonical => canonical::run(alloc, file, line),
             Kind::Put => puts::run(alloc, file, line),
-            Kind::Weight | Kind::Marks | Kind::Positions => texts::run(alloc, file, self, line),
+            Kind::Marks | Kind::Positions => texts::run(alloc, file, self, line),
             Kind::Unknown => Err(CaseFault::Form),
         }
     }
@@ -69,11 +76,7 @@ impl Cases for Kind {
     const PROGRAM: &'static str = "dexitems";
 
     const WORDS: &'static str =
-        "dexitems FILE.. (value.txt statics.txt set.txt directory.txt debug_info.txt code.txt classdata.txt item_puts.txt index.txt)";
-
-    fn no_lines() -> Tally {
-        Tally::default()
-    }
+        "dexitems FILE.. (value.txt statics.txt set.txt directory.txt debug_info.txt code.txt classdata.txt item_puts.txt checks.txt weights.txt units.txt index.txt)";
 
     fn of_calls(file_name: &str) -> Option<Kind> {
         match file_name {
@@ -85,6 +88,9 @@ impl Cases for Kind {
             "code.txt" => Some(Kind::Read(ItemKind::Code)),
             "classdata.txt" => Some(Kind::Read(ItemKind::Members)),
             "item_puts.txt" => Some(Kind::Put),
+            "checks.txt" => Some(Kind::Checked),
+            "weights.txt" => Some(Kind::Weight),
+            "units.txt" => Some(Kind::Units),
             _ => None,
         }
     }
@@ -126,8 +132,10 @@ impl fmt::Display for Kind {
             Kind::Read(ItemKind::Debug) => "debug programs",
             Kind::Read(ItemKind::Code) => "code items",
             Kind::Read(ItemKind::Members) => "class rows",
+            Kind::Checked => "items checked",
             Kind::Put => "items put",
             Kind::Weight => "weights",
+            Kind::Units => "units",
             Kind::Marks => "marks",
             Kind::Same => "items compared",
             Kind::Positions => "positions",

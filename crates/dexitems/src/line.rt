@@ -34,11 +34,12 @@ impl<'l> Line<'l> {
         })
     }
 
-    /// The kind of the item: a set for its `annotations`, code for what is to be `bare`, and a debug program where there is
-    /// no word.
+    /// The kind of the item: a set for its `annotations`, a directory for its `lists`, code for what is to be `bare`, and a debug
+    /// program where there is no word.
     pub fn item_kind(self) -> Result<ItemKind, CaseFault> {
         match self.word {
             "annotations" => Ok(ItemKind::Set),
+            "lists" => Ok(ItemKind::Directory),
             "bare" => Ok(ItemKind::Code),
             "" => Ok(ItemKind::Debug),
             word => ItemKind::of_word(word).ok_or(CaseFault::Form),

@@ -11,8 +11,8 @@ use dexinsn::Pieces;
 use dexpool::{Marks, Numbering, Remap};
 use std::alloc::{AllocError, Global};
 
-// A map that leads each number of a numbering to itself.
-fn as_it_is(alloc: Global, numbering: &Numbering<'_>) -> Result<Remap, AllocError> {
+/// A map that leads each number of a numbering to itself.
+pub fn as_it_is(alloc: Global, numbering: &Numbering<'_>) -> Result<Remap, AllocError> {
     let mut parts = Vec::new(alloc);
     parts.push(numbering)?;
     let (_, mut remaps) = Numbering::join(alloc, &parts)?;

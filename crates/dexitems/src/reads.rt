@@ -9,16 +9,16 @@ ghost use Rattle.dexitems.specs.Items.{IsKnownItem, item_uses};
 
 use crate::checks::{check, check_bytes};
 use crate::dex_file::DexFile;
-use crate::item::{Item, members_at};
+use crate::item::Item;
 use crate::item_kind::ItemKind;
 use crate::likeness::Likeness;
 use crate::line::Line;
-use crate::numbers::{are_same_pieces, is_led_to, kept};
+use crate::numbers::{are_same_pieces, as_it_is, is_led_to, kept};
+use crate::offsets::number_behind;
 use crate::shown::print_item;
 use dexcases::{CaseFault, Outcome, Printed};
-use dexinsn::{Pieces, put_pieces, read_pieces};
+use dexinsn::{Pieces, put_pieces, read_pieces, renumber};
 use dexpool::{ItemFault, Numbering, Remap};
-use dexval::read_shared_directory_within;
 use std::alloc::{AllocError, Global};
 
 /// Runs a line.
@@ -51,8 +51,8 @@ fn judged(
     Ok(Outcome::of(told, line.rest))
 }
 
-// How a line goes whose item is refused: right is `refused NUMBER | NUMBER ..`, with the number that is told.
-fn refused(alloc: Global, number: u8, right: &str) -> Result<Outcome, CaseFault> {
+/// How a line goes whose item is refused: right is `refused NUMBER | NUMBER ..`, with the number that is reported.
+pub fn refused(alloc: Global, number: u8, right: &str) -> Result<Outcome, CaseFault> {
     if is_listed(number, right.strip_prefix("refused ").unwrap_or("")) {
         return Ok(Outcome::Passed);
     }
@@ -96,7 +96,6 @@ fn check_calls(
     check_copy(alloc, file.pools.numbering(), item)?;
     match item {
         Item::Code(code) => check_pieces(alloc, file, place, code.pieces()),
-        Item::Directory(_) | Item::Members(_) => check_weight(alloc, file, place, item),
         _ => Ok(()),
     }
 }
@@ -165,23 +164,12 @@ fn check_led<'i>(
 ) -> Result<(), CaseFault> {
     let is_led = is_led_to(alloc, item, remap, led, kept)?;
     check(alloc, is_led, "its numbers are led elsewhere")?;
-    let prints_alike = prints_alike(alloc, numbering, item, kept, led)?;
-    check(alloc, prints_alike, "led on it prints otherwise")?;
-    let is_alike = is_led_to(alloc, item, remap, item, numbering)?;
-    check_likeness(alloc, numbering, led, item, is_alike)
-}
-
-// Whether two items, each of a numbering, print the same.
-fn prints_alike(
-    alloc: Global,
-    numbering: &Numbering<'_>,
-    item: &Item<'_>,
-    kept: &Numbering<'_>,
-    led: &Item<'_>,
-) -> Result<bool, AllocError> {
     let text = told(alloc, "", numbering, item)?;
-    let text_led = told(alloc, "", kept, led)?;
-    Ok(text == text_led)
+    let text_kept = told(alloc, "", kept, led)?;
+    check(alloc, text == text_kept, "led on it prints otherwise")?;
+    // By one numbering both print the same just where their numbers are the same.
+    let has_same_numbers = told(alloc, "", numbering, led)? == text;
+    check_likeness(alloc, numbering, led, item, has_same_numbers)
 }
 
 // Fails the line unless the pieces of the code at an offset are read alone, and put as they stand.
@@ -210,77 +198,24 @@ fn check_read_pieces(
     let are_same = are_same_pieces(alloc, numbering, pieces, others)?;
     check(alloc, are_same, "the pieces are others")?;
     let units = copied_units(alloc, numbering, pieces)?;
-    check_bytes(alloc, file.frame.bytes(), off.saturating_add(16), &units)
+    let bytes = file.frame.bytes();
+    let put = check_bytes(alloc, bytes, off.saturating_add(16), &units)?;
+    let is_whole = put as u64 == 2 * u64::from(number_behind(bytes, off, 12));
+    check(alloc, is_whole, "another number of units")
 }
 
-// The units that a copy of pieces is put as.
+// The units that a copy of pieces is put as, whose numbers were led to themselves.
 fn copied_units(
     alloc: Global,
     numbering: &Numbering<'_>,
     pieces: &Pieces<'_>,
 ) -> Result<Vec<u8>, AllocError> {
-    let copy = pieces.copy()?;
+    let remap = as_it_is(alloc, numbering)?;
+    let mut copy = pieces.copy()?;
+    if copy.fits(&remap) {
+        renumber(&mut copy, &remap);
+    }
     let mut out = Vec::new(alloc);
     put_pieces(&copy, numbering, &mut out)?;
     Ok(out)
-}
-
-// Fails the line unless a directory, or what a class row declares, is read just where it may weigh what it weighs.
-fn check_weight(
-    alloc: Global,
-    file: &DexFile<'_>,
-    place: u32,
-    item: &Item<'_>,
-) -> Result<(), CaseFault> {
-    let weight = item.weight();
-    let is_read = is_within(alloc, file, place, item, weight)?;
-    check(alloc, is_read, "it is not read within its weight")?;
-    if weight == 0 {
-        return Ok(());
-    }
-    let is_read = is_within(alloc, file, place, item, weight - 1)?;
-    check(alloc, !is_read, "it is read within less than its weight")
-}
-
-// Whether the item at a place is read where it may weigh so much.
-fn is_within(
-    alloc: Global,
-    file: &DexFile<'_>,
-    place: u32,
-    item: &Item<'_>,
-    most: u64,
-) -> Result<bool, CaseFault> {
-    let is_read = match item {
-        Item::Members(_) => are_members_within(alloc, file, place, most),
-        _ => is_directory_within(alloc, file, place, most),
-    };
-    match is_read {
-        Ok(is_read) => Ok(is_read),
-        Err(ItemFault::Memory) => Err(CaseFault::Memory),
-        Err(ItemFault::Refused(_)) => Ok(false),
-    }
-}
-
-// Whether the directory at an offset is read where it may weigh so much.
-fn is_directory_within(
-    alloc: Global,
-    file: &DexFile<'_>,
-    off: u32,
-    most: u64,
-) -> Result<bool, ItemFault> {
-    let found = read_shared_directory_within(alloc, &file.frame, &file.pools, off, most)?;
-    Ok(found.is_some())
-}
-
-// Whether what a row declares is read where it may weigh so much.
-fn are_members_within(
-    alloc: Global,
-    file: &DexFile<'_>,
-    row: u32,
-    most: u64,
-) -> Result<bool, ItemFault> {
-    match u32::try_from(most) {
-        Ok(most) => Ok(members_at(alloc, file, row, most)?.is_some()),
-        Err(_) => Ok(false),
-    }
 }

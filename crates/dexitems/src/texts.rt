@@ -1,7 +1,6 @@
 //! Items in words.
 //!
-//! `weight KIND FILE PLACE WEIGHT` asks what an item weighs, and for `annotations` how many bytes each annotation of a set
-//! takes, joined by commas. `marks KIND FILE OFFSET TEXTS TYPES PROTOS FIELDS METHODS` asks for the numbers of the symbols of
+//! `marks KIND FILE OFFSET TEXTS TYPES PROTOS FIELDS METHODS` asks for the numbers of the symbols of
 //! each kind that occur, joined by commas, or `-` for none, and `positions FILE OFFSET ADDRESS:LINE,ADDRESS:LINE,..` for the
 //! positions of a debug program, or `-` for none.
 
@@ -15,7 +14,6 @@ use crate::line::Line;
 use dexcases::{CaseFault, Outcome, Printed};
 use dexcode::{Debug, positions};
 use dexpool::{Marks, Numbering};
-use dexval::annotation_size;
 use std::alloc::{AllocError, Global};
 
 /// Runs a line.
@@ -57,31 +55,8 @@ fn text_of(
     match kind {
         Kind::Marks => marks_text(alloc, numbering, item),
         Kind::Positions => positions_text(alloc, item),
-        _ if line.word == "annotations" => sizes_text(alloc, item),
-        _ => weight_text(alloc, item),
+        _ => Err(CaseFault::Form),
     }
-}
-
-// What an item weighs.
-fn weight_text(alloc: Global, item: &Item<'_>) -> Result<String, CaseFault> {
-    let mut text = Printed::new(alloc);
-    text.add_shown(&item.weight());
-    Ok(text.finish()?)
-}
-
-// How many bytes each annotation of a set takes.
-fn sizes_text(alloc: Global, item: &Item<'_>) -> Result<String, CaseFault> {
-    let Item::Set(set) = item else {
-        return Err(CaseFault::Form);
-    };
-    let mut text = Printed::new(alloc);
-    let mut mark = "";
-    for annotation in set.annotations() {
-        text.add(mark);
-        text.add_shown(&annotation_size(annotation));
-        mark = ",";
-    }
-    Ok(text.finish()?)
 }
 
 // The numbers of the symbols that occur in an item. Directories and members are not asked.

@@ -38,7 +38,7 @@ fn compare(alloc: Global, kind: Kind, bytes: &[u8], right: &[u8]) -> Result<Outc
         Kind::Normalise => normalise::run(alloc, bytes, right),
         Kind::Strip => strip::run(alloc, bytes, right),
         Kind::Dump => dump::run(alloc, bytes, right),
-        _ => Ok(Outcome::Unserved),
+        _ => Err(CaseFault::Form),
     }
 }
 
@@ -50,6 +50,6 @@ fn ask(alloc: Global, kind: Kind, bytes: &[u8], asked: &str) -> Result<Outcome, 
         Kind::Symbol => symbol::run(alloc, bytes, asked),
         Kind::Weight => weight::run(alloc, bytes, asked),
         Kind::Slices => slices::run(alloc, bytes, asked),
-        _ => Ok(Outcome::Unserved),
+        _ => Err(CaseFault::Form),
     }
 }

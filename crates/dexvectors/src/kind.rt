@@ -2,7 +2,7 @@
 
 use crate::calls::run_call;
 use crate::index::run_case;
-use dexcases::{CaseFault, Cases, Folder, Outcome, Tally};
+use dexcases::{CaseFault, Cases, Folder, Outcome};
 use std::fmt;
 use std::rt::Files;
 
@@ -75,10 +75,6 @@ impl Cases for Kind {
     const PROGRAM: &'static str = "dexvectors";
 
     const WORDS: &'static str = "dexvectors FILE.. (calls/NAME.txt or FOLDER/index.txt)";
-
-    fn no_lines() -> Tally {
-        Tally::with_unserved()
-    }
 
     fn of_calls(file_name: &str) -> Option<Kind> {
         match file_name {

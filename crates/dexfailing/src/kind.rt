@@ -1,0 +1,59 @@
+//! The kinds of lines: `bytes FILE COUNT`, the number of bytes of a file.
+
+use dexcases::{CaseFault, Cases, Folder, Outcome, first_word};
+use std::fmt;
+use std::rt::Files;
+
+/// What a line asks for.
+#[derive(Clone, Copy, PartialEq, Eq, PartialOrd, Ord)]
+pub enum Kind {
+    /// How many bytes a file has.
+    Bytes,
+    /// Nothing that this program knows.
+    Unknown,
+}
+
+impl Cases for Kind {
+    const PROGRAM: &'static str = "dexfailing";
+
+    const WORDS: &'static str = "dexfailing FILE.. (bytes.txt or FOLDER/index.txt)";
+
+    fn of_calls(file_name: &str) -> Option<Kind> {
+        match file_name {
+            "bytes.txt" => Some(Kind::Bytes),
+            _ => None,
+        }
+    }
+
+    fn of_case(word: &str) -> Kind {
+        match word {
+            "bytes" => Kind::Bytes,
+            _ => Kind::Unknown,
+        }
+    }
+
+    fn run<R: Files + AllocGlobal>(
+        self,
+        folder: Folder<'_, R>,
+        case: &str,
+    ) -> Result<Outcome, CaseFault> {
+        match self {
+            Kind::Bytes => {
+                let (name, right) = first_word(case)?;
+                let bytes = folder.read(name)?;
+                let count = bytes.len();
+                Ok(Outcome::of(format!(in folder.alloc(); "{count}")?, right))
+            }
+            Kind::Unknown => Err(CaseFault::Form),
+        }
+    }
+}
+
+impl fmt::Display for Kind {
+    fn fmt<W: fmt::Write>(&self, f: &mut fmt::Formatter<W>) -> fmt::Result {
+        f.write_str(match self {
+            Kind::Bytes => "bytes",
+            Kind::Unknown => "unknown",
+        })
+    }
+}

@@ -1,0 +1,109 @@
+//! Items that are checked and not kept: a word for the kind, and `FILE OFFSET ok NUMBERS`, or `FILE OFFSET refused NUMBER |
+//! NUMBER ..`, any of which is right. The numbers are of a `value` its bytes and its weight; of `statics` the values, the bytes and
+//! the weight; of a `set` the annotations and the weight; of a `directory` the fields, the methods and the methods with parameters
+//! that it names, and the weight; of a `debug` program the weight; of `pieces` the registers, those of arguments and of calls, the
+//! units and the indices.
+
+ghost use Rattle.dexpool.specs.Pools.{ArePools};
+
+use crate::dex_file::DexFile;
+use crate::line::Line;
+use crate::reads::refused;
+use dexcases::{CaseFault, Outcome, Printed};
+use dexcode::check_debug;
+use dexinsn::{Scratch, check_pieces};
+use dexpool::ItemFault;
+use dexval::{CheckedSets, check_directory, check_set, check_statics, check_value};
+use std::alloc::Global;
+
+/// Runs a line.
+pub fn run(alloc: Global, file: &DexFile<'_>, line: Line<'_>) -> Result<Outcome, CaseFault>
+    requires { ArePools file.now.frame file.now.pools }
+{
+    let mut text = Printed::new(alloc);
+    text.add("ok");
+    let checked = match line.word {
+        "value" => print_value(file, line.place, &mut text),
+        "statics" => print_statics(file, line.place, &mut text),
+        "set" => print_set(file, line.place, &mut text),
+        "directory" => print_directory(alloc, file, line.place, &mut text),
+        "debug" => print_debug(file, line.place, &mut text),
+        "pieces" => print_pieces(alloc, file, line.place, &mut text),
+        _ => return Err(CaseFault::Form),
+    };
+    match checked {
+        Ok(()) => Ok(Outcome::of(text.finish()?, line.rest)),
+        Err(ItemFault::Refused(number)) => refused(alloc, number, line.rest),
+        Err(ItemFault::Memory) => Err(CaseFault::Memory),
+    }
+}
+
+// Prints numbers, each after a blank.
+fn print_numbers(numbers: &[u64], out: &mut Printed) {
+    for number in numbers {
+        out.add(" ");
+        out.add_shown(number);
+    }
+}
+
+// Prints what is found of the value at an offset.
+fn print_value(file: &DexFile<'_>, off: u32, out: &mut Printed) -> Result<(), ItemFault> {
+    let shape = check_value(&file.frame, &file.pools, off)?;
+    print_numbers(&[u64::from(shape.size), shape.weight], out);
+    Ok(())
+}
+
+// Prints what is found of the array of static values at an offset.
+fn print_statics(file: &DexFile<'_>, off: u32, out: &mut Printed) -> Result<(), ItemFault> {
+    let shape = check_statics(&file.frame, &file.pools, off)?;
+    let (count, size) = (u64::from(shape.count), u64::from(shape.size));
+    print_numbers(&[count, size, shape.weight], out);
+    Ok(())
+}
+
+// Prints what is found of the set at an offset.
+fn print_set(file: &DexFile<'_>, off: u32, out: &mut Printed) -> Result<(), ItemFault> {
+    let shape = check_set(&file.frame, &file.pools, off)?;
+    print_numbers(&[u64::from(shape.count), shape.weight], out);
+    Ok(())
+}
+
+// Prints what is found of the directory at an offset, the second time by what the first check kept of its sets.
+fn print_directory(
+    alloc: Global,
+    file: &DexFile<'_>,
+    off: u32,
+    out: &mut Printed,
+) -> Result<(), ItemFault> {
+    let mut sets = CheckedSets::none(alloc);
+    check_directory(&file.frame, &file.pools, off, &mut sets)?;
+    let shape = check_directory(&file.frame, &file.pools, off, &mut sets)?;
+    let (fields, methods) = (
+        u64::from(shape.counts.fields),
+        u64::from(shape.counts.methods),
+    );
+    let parameters = u64::from(shape.counts.parameters);
+    print_numbers(&[fields, methods, parameters, shape.weight], out);
+    Ok(())
+}
+
+// Prints what is found of the debug program at an offset.
+fn print_debug(file: &DexFile<'_>, off: u32, out: &mut Printed) -> Result<(), ItemFault> {
+    let shape = check_debug(&file.frame, &file.pools, off)?;
+    print_numbers(&[shape.weight], out);
+    Ok(())
+}
+
+// Prints what is found of the pieces of the code at an offset.
+fn print_pieces(
+    alloc: Global,
+    file: &DexFile<'_>,
+    off: u32,
+    out: &mut Printed,
+) -> Result<(), ItemFault> {
+    let shape = check_pieces(&file.frame, &file.pools, off, &mut Scratch::new(alloc))?;
+    let (registers, ins) = (u64::from(shape.registers()), u64::from(shape.ins()));
+    let (outs, units) = (u64::from(shape.outs()), u64::from(shape.units()));
+    print_numbers(&[registers, ins, outs, units, shape.indices() as u64], out);
+    Ok(())
+}

@@ -66,6 +66,7 @@ pub fn check_run<R: Source, W: Sink>(
     ensures begun { IfErr result (λ _. AreBegun (All R.tells inputs.old) (W.tells out.old) (map (λ name. name.now) names.now)
         (map (λ input. bytes_read (R.to_come input)) inputs.old) (W.taken out.old) (W.taken out.new)) }
     ensures no_further { AllZip (IsReadNoFurther R.tells R.to_come R.has_failed) inputs.old inputs.new }
+    ensures tells { W.tells out.old → W.tells out.new }
 
     // The faults of the devices are told exactly where they are.
     ensures readers { OnOk result (AllWork R.has_failed inputs.new) }

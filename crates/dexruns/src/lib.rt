@@ -16,6 +16,6 @@ pub use dumping::dump_run;
 pub use explaining::explain;
 pub use fanning::fan_plan;
 pub use faults::{MergeCause, RunFault};
-pub use inputs::MOST_READ;
+pub use inputs::{InputFault, MOST_READ, read_whole};
 pub use merging::{merge_run, merge_strip_run};
 pub use normalising::normalise_run;

@@ -120,3 +120,6 @@ returns-in-Err-clause-fault g c = (All-set (λ s. g.R.Source.has_failed s ≡ fa
 
 pub returns-in-Err-write_whole-clause-fault : goal.returns-in-Err-write_whole-clause-fault
 returns-in-Err-write_whole-clause-fault g c = (All-set (λ s. g.R.Source.has_failed s ≡ false) _ _ _ c.in-Ok.ensures.works c.loop-i.invariant.readers, c.in-Err-write_whole.ensures.fails)
+
+pub returns-in-Err-write_whole-clause-tells : goal.returns-in-Err-write_whole-clause-tells
+returns-in-Err-write_whole-clause-tells g c = λ w. c.in-Err-write_whole.ensures.tells (c.loop-i.invariant.tells w)

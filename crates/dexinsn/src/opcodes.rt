@@ -50,7 +50,7 @@ pub(crate) struct Row {
     pub(crate) index: IndexKind,
     /// How many units they have; 0 where the opcode is unused.
     pub(crate) units: u8,
-    /// Whether they lead to another place.
+    /// Whether they have a branch offset.
     pub(crate) branches: bool,
     /// A first unit up to this one begins an instruction with no index or one of 16 bits, if its units are there.
     pub(crate) greatest: u16,
@@ -65,7 +65,7 @@ const ZERO_BYTE: u16 = 0x00ff;
 /// The highest four bits of the first unit count up to five registers.
 const COUNTED: u16 = 0x5fff;
 
-// The row of the opcodes with a format, an index, so many units, whether they branch, and a greatest first unit.
+// The row of opcodes: their format, index, number of units, whether they branch, and greatest first unit.
 macro_rules! row {
     ($format:expr, $index:expr, $units:expr, $branches:expr, $greatest:expr) => {
         Row {
@@ -725,14 +725,14 @@ pub fn index_kind(op: u8) -> Option<SymbolKind>
     row_of(op).index.symbol()
 }
 
-/// What the table has of an opcode.
+/// The row of an opcode.
 pub(crate) fn row_of(op: u8) -> Row
     ensures { IsRowOf op result }
 {
     row_in(&ROWS, op)
 }
 
-/// What a table that is right has of an opcode.
+/// The row of an opcode in a table that is right.
 fn row_in(rows: &[Row; 256], op: u8) -> Row
     requires { AreRows rows.now }
     ensures { IsRowOf op result }

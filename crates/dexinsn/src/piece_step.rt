@@ -1,4 +1,4 @@
-//! One piece of code units at a time, told in the fewest tests.
+//! One piece of code units at a time, found in few tests.
 
 ghost use Rattle.std.specs.Prelude.{◌≡◌, ◌<◌, length, IfSome, MatchOption};
 ghost use Rattle.dexspec.specs.Mentions.{Mentions};
@@ -13,7 +13,7 @@ use crate::piece::piece_size;
 use crate::units::opcode_in;
 use dexpool::{Pools, SymbolKind};
 
-/// What there is of a piece.
+/// What the pass over units asks of a piece.
 #[derive(Clone, Copy)]
 pub(crate) struct Step {
     /// How many units it has.
@@ -22,7 +22,7 @@ pub(crate) struct Step {
     pub(crate) indices: usize,
     /// Whether it is an instruction, and no payload.
     pub(crate) is_instruction: bool,
-    /// Whether it is a payload, or an instruction that leads to another place.
+    /// Whether it is a payload, or an instruction with a branch offset.
     pub(crate) is_noted: bool,
 }
 
@@ -104,7 +104,7 @@ fn plain_step(units: &Units<'_>, limits: &Limits, at: usize) -> Option<Step>
     })
 }
 
-// The piece at a unit, if what it has is in range.
+// The piece at a unit, if its index is in range or it has none.
 fn any_step(units: &Units<'_>, pools: &Pools<'_>, at: usize) -> Option<Step>
     requires { at < length units.now }
     ensures { MatchOption result (HasNoStep units.now pools.now at) (IsStep units.now pools.now at) }
@@ -127,7 +127,7 @@ fn any_step(units: &Units<'_>, pools: &Pools<'_>, at: usize) -> Option<Step>
     })
 }
 
-/// The piece at a unit, if what it has is in range.
+/// The piece at a unit, if its index is in range or it has none.
 #[inline(always)]
 pub(crate) fn step_at(
     units: &Units<'_>,

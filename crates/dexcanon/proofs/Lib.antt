@@ -4,6 +4,7 @@ pub mod ClassUses
 pub mod CodeItems
 pub mod Counted
 pub mod DebugItems
+pub mod Digested
 pub mod DirectoryItems
 pub mod DirectorySections
 pub mod ItemLengths

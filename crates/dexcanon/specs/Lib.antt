@@ -2,6 +2,7 @@ pub mod Annotations
 pub mod ClassItems
 pub mod ClassRows
 pub mod Codes
+pub mod Digests
 pub mod Directories
 pub mod Ready
 pub mod RefLists

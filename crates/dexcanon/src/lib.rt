@@ -11,6 +11,7 @@ mod class_defs;
 mod codes;
 mod contents;
 mod debugs;
+mod digest;
 mod directories;
 mod faults;
 mod files;
@@ -30,5 +31,6 @@ mod value_items;
 mod writing;
 
 pub use dexlayout::Layout;
+pub use digest::digests;
 pub use faults::StoreFault;
 pub use writing::{to_bytes, write_to};

@@ -1,4 +1,4 @@
-//! Ways to take the bytes of a file: into its two sums, and to a writer.
+//! Ways to take the bytes of a file: into its two sums, into its signature, and to a writer.
 
 ghost use Rattle.std.specs.Prelude.{◌≡◌, ◌+◌, length, false, true};
 ghost use Rattle.sha1.specs.Sha1.{Holds};
@@ -18,6 +18,9 @@ pub(crate) struct Sums {
 /// Takes bytes into the two sums.
 pub(crate) struct Adds;
 
+/// Takes bytes into the message of the signature.
+pub(crate) struct Hashes;
+
 /// Takes bytes to a writer.
 pub(crate) struct Writes;
 
@@ -31,6 +34,20 @@ impl Takes<Sums> for Adds {
     fn take(sums: &mut Sums, gathered: &mut Vec<u8>) -> Result<(), DeviceFault> {
         sums.message.update(gathered);
         sums.adler.update(gathered);
+        gathered.clear();
+        Ok(())
+    }
+}
+
+impl Takes<Sha1> for Hashes {
+    ghost holds = { λ message bytes. Holds message bytes };
+
+    ghost has_failed = { λ _. false };
+
+    ghost empties = { true };
+
+    fn take(message: &mut Sha1, gathered: &mut Vec<u8>) -> Result<(), DeviceFault> {
+        message.update(gathered);
         gathered.clear();
         Ok(())
     }

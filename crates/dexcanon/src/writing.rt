@@ -26,8 +26,8 @@ use dexlayout::Layout;
 use sha1::Sha1;
 use std::alloc::{AllocError, Global};
 
-// A writer is given no more bytes at a time, but for longer items.
-const PIECE: usize = 65536;
+/// A writer is given no more bytes at a time, but for longer items.
+pub(crate) const PIECE: usize = 65536;
 
 /// The canonical file of a program. It is accepted, and stands for just the program's definitions. The memory for it is
 /// reserved at once, before its first byte is made; the layout takes some 8 bytes for each use and item besides.

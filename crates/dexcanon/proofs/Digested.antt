@@ -1,0 +1,97 @@
+-- Signatures of files, and the digests of classes.
+use Rattle.std.proofs.Common.{◌≡◌, ℕ, List, [], ◌∷◌, ◌++◌, length, take, drop, map, sym, ap, ◌∙◌, subst, arith, inl, inr}
+use Rattle.std.specs.List.{Contains}
+use Rattle.std.proofs.lemmas.List.{take_at, drop_at}
+use Rattle.std.proofs.Math.Seq.{drop-append-add}
+use Rattle.sha1.specs.Sha1.{sha1}
+use Rattle.dexspec.specs.Bytes.{uint}
+use Rattle.dexspec.specs.Header.{adler_32}
+use Rattle.dexspec.specs.Classes.{Definition}
+use Rattle.dexspec.specs.Files.{Collection, definitions, Defines, Denotes, IsCollectionOf}
+use Rattle.dexspec.specs.WellFormed.{AreWellFormed}
+use Rattle.dexspec.specs.Merging.{IsConsistent, IsGood, greatest_caps}
+use Rattle.dexspec.specs.Accepted.{IsAccepted}
+use Rattle.dexspec.specs.Placing.{Ordered}
+use Rattle.dexspec.specs.Canonical.{magic, unsigned_file, with_sums, canonical}
+use Rattle.dexspec.proofs.Absorption.{IsGood-within}
+use Rattle.dexspec.proofs.ByteNumbers.{length-uint}
+use Rattle.dexspec.proofs.Collections.{collection-is, collection-one, collection-consistent, definitions-same}
+use Rattle.dexspec.proofs.Members.{Contains-nil, Contains-first, Contains-cons_cases}
+use Rattle.dexspec.proofs.Sums.{length-sha1}
+use Rattle.dexhead.specs.declared.head.Head.{Head}
+use Rattle.dexhead.specs.Sums.{with_sums_set}
+use Rattle.dexhead.specs.Laid.{TellsLayout, behind_header}
+use Rattle.dexhead.specs.Written.{field_bytes, head_bytes}
+use Rattle.dexcanon.specs.Digests.{class_alone, class_digest, IsFileAlone}
+use Rattle.dexcanon.proofs.Told.{behind_signature}
+
+-- ---- signatures
+
+-- the signature of a file is the digest of what follows it
+signature_is : (rest : List ℕ) → take 20 (drop 12 (with_sums rest)) ≡ sha1 rest
+unfolding with_sums
+signature_is rest =
+    let body = sha1 rest ++ rest in
+    let n = adler_32 body in
+    ap (take 20) (drop-append-add magic (uint n ++ body) 4 ∙ drop_at (uint n) body 4 (length-uint n)) ∙ take_at (sha1 rest) rest 20 (length-sha1 rest)
+
+-- the digest of the file behind its signature is the signature of the file
+pub signed_is : (l : Head) (K : Ordered) → length l.signature ≡ 20 → TellsLayout l K
+    → ((k : Head) (rest : List ℕ) → length k.signature ≡ 20 → with_sums_set (head_bytes k ++ rest) ≡ with_sums (field_bytes k ++ rest))
+    → ((k : Head) (O : Ordered) → length k.signature ≡ 20 → TellsLayout k O → with_sums_set (head_bytes k ++ behind_header O) ≡ with_sums (unsigned_file O))
+    → (signature : List ℕ) → signature ≡ sha1 (drop 32 (head_bytes l) ++ behind_header K) → signature ≡ take 20 (drop 12 (with_sums (unsigned_file K)))
+signed_is l K twenty tells set law signature e =
+    let rest = behind_header K in
+    e ∙ ap (λ z. sha1 (z ++ rest)) (behind_signature l twenty)
+    ∙ sym (signature_is (field_bytes l ++ rest))
+    ∙ ap (λ z. take 20 (drop 12 z)) (sym (set l rest twenty) ∙ law l K twenty tells)
+
+-- ---- one class
+
+-- the only member of a list of one
+only_member : (d e : Definition) → Contains (d ∷ []) e → d ≡ e
+only_member d e c = elim (Contains-cons_cases d e [] c) [
+  | inl is ↦ is
+  | inr none ↦ absurd (Contains-nil e none)
+]
+
+-- the collection of one definition
+one_collection : (d : Definition) (K : Collection) → IsCollectionOf (d ∷ []) K → K ≡ class_alone d
+one_collection d K is = collection-one (d ∷ []) K (class_alone d) is (collection-is (d ∷ []) (collection-consistent (d ∷ []) K is))
+
+-- the digest of a part of one class
+digest_of : (d : Definition) (K : Collection) (signature : List ℕ) → IsCollectionOf (d ∷ []) K → signature ≡ take 20 (drop 12 (canonical K)) → signature ≡ class_digest d
+unfolding class_digest
+digest_of d K signature is e = e ∙ ap (λ L. take 20 (drop 12 (canonical L))) (one_collection d K is)
+
+-- it is appended
+pub one_digest : (part : List Definition) (K : Collection) (signature : List ℕ) (old new : List (List ℕ)) → length part ≡ 1 → IsCollectionOf part K → signature ≡ take 20 (drop 12 (canonical K)) → new ≡ old ++ signature ∷ [] → new ≡ old ++ map class_digest part
+one_digest [] K signature old new count is e put = absurd (omega (arith, count))
+one_digest (d ∷ []) K signature old new count is e put = put ∙ ap (λ x. old ++ x ∷ []) (digest_of d K signature is e)
+one_digest (d ∷ f ∷ rest) K signature old new count is e put = absurd (omega (arith, count))
+
+-- ---- files of one class
+
+-- the file of a class alone is accepted, and denotes the class alone
+pub file_alone : (K : Collection) (d : Definition) → IsGood greatest_caps (definitions K) → AreWellFormed (definitions K)
+    → ((L : Collection) → IsGood greatest_caps (definitions L) → AreWellFormed (definitions L) → IsAccepted (canonical L))
+    → ((L : Collection) → IsGood greatest_caps (definitions L) → AreWellFormed (definitions L) → Denotes (canonical L) L)
+    → Contains (definitions K) d → IsFileAlone d
+file_alone K d good formed accepted denotes member =
+    let one : (e : Definition) → Contains (d ∷ []) e → Contains (definitions K) e = λ e c. subst (Contains (definitions K)) (only_member d e c) member in
+    let alone = collection-is (d ∷ []) (λ name x y c e. good.consistent name x y (one (name, x) c) (one (name, y) e)) in
+    let within : (e : Definition) → Contains (definitions (class_alone d)) e → Contains (definitions K) e = λ e c. one e ((definitions-same (d ∷ []) (class_alone d) alone e).0 c) in
+    let fine = IsGood-within (definitions (class_alone d)) (definitions K) within greatest_caps good in
+    let right : AreWellFormed (definitions (class_alone d)) = λ e c. formed e (within e c) in
+    record { accepted = accepted (class_alone d) fine right; denotes = denotes (class_alone d) fine right }
+
+-- a list of one definition is consistent
+one_consistent : (d : Definition) → IsConsistent (d ∷ [])
+one_consistent d name x y c e = ap (λ (z : Definition). z.1) (sym (only_member d (name, x) c) ∙ only_member d (name, y) e)
+
+-- different definitions have different files
+pub one_file : (d e : Definition) → IsFileAlone d → IsFileAlone e → canonical (class_alone d) ≡ canonical (class_alone e) → d ≡ e
+one_file d e first second same =
+    let member = (collection-is (d ∷ []) (one_consistent d) d.0 d.1).1 (Contains-first d []) in
+    let defined = subst (λ b. Defines b d.0 d.1) same ((first.denotes d.0 d.1).0 member) in
+    sym (only_member e d ((collection-is (e ∷ []) (one_consistent e) d.0 d.1).0 ((second.denotes d.0 d.1).1 defined)))

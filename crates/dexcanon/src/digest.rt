@@ -1,0 +1,92 @@
+//! The digest of each class of a program: the signature of the canonical file of the class alone.
+
+ghost use Rattle.std.specs.Prelude.{◌≡◌, ◌++◌, true, map, take, drop, vec_len, IfOk, OnOk};
+ghost use Rattle.std.specs.List.{Contains};
+ghost use Rattle.dexspec.specs.Classes.{Definition};
+ghost use Rattle.dexspec.specs.Files.{definitions};
+ghost use Rattle.dexspec.specs.Depth.{in_class_order};
+ghost use Rattle.dexspec.specs.Canonical.{canonical, with_sums, unsigned_file};
+ghost use Rattle.dexcanon.specs.Ready.{CanBeMade, ordered_in};
+ghost use Rattle.dexcanon.specs.Taking.{HasRoom};
+ghost use Rattle.dexcanon.specs.Digests.{class_alone, class_digest, IsFileAlone};
+
+use crate::contents::Contents;
+use crate::files::put_file;
+use crate::makings::Hashes;
+use crate::writing::PIECE;
+use dexclass::{Part, Program};
+use dexlayout::Layout;
+use sha1::Sha1;
+use std::alloc::{AllocError, Global};
+
+// How many parts a part is split into. With more of them a class is renumbered fewer times, and the tables of a part are read more
+// often.
+const WAYS: usize = 8;
+
+/// The digest of each class, in the order of [`Program::classes`]: the signature of the canonical file of the class alone. This
+/// file is accepted, and denotes the class alone. Equal definitions have equal digests in whatever program they stand. Different
+/// ones have different files; that their digests differ too rests on SHA-1 alone.
+///
+/// The classes are split into parts, these into parts again, and so on, each over the numbering of just what its classes mention:
+/// no class costs tables as long as the program's.
+///
+/// Error: the memory for the digests, or for a part of the program, was refused.
+///
+/// Source: "header_item", the field `signature`; the digest is this project's rule.
+#[tactic(auto, using(crate::proofs::Digested::one_file))]
+pub fn digests(alloc: Global, program: &Program<'_>) -> Result<Vec<[u8; 20]>, AllocError>
+    ensures digests { IfOk result (λ digests. digests.items ≡ map class_digest (in_class_order (definitions program.now))) }
+    ensures files { (d : Definition) → Contains (definitions program.now) d → IsFileAlone d }
+    ensures one { (d e : Definition) → IsFileAlone d → IsFileAlone e → canonical (class_alone d) ≡ canonical (class_alone e) → d ≡ e }
+{
+    dexlaws_normal::normal_form();
+    program.is_good();
+    let mut digests = Vec::with_capacity(alloc, program.len())?;
+    put_digests(alloc, Part::of(program)?, &mut digests)?;
+    Ok(digests)
+}
+
+// Appends the digest of each class of a part.
+fn put_digests(alloc: Global, part: Part<'_>, digests: &mut Vec<[u8; 20]>) -> Result<(), AllocError>
+    ensures { OnOk result (digests.new.items ≡ digests.old.items ++ map class_digest part.entry) }
+{
+    let count = part.len();
+    if count == 0 {
+        return Ok(());
+    }
+    if count == 1 {
+        let program = part.into_program(alloc)?;
+        digests.push(signature(alloc, &program)?)?;
+        return Ok(());
+    }
+    let parts = part.split(alloc, (count - 1) / WAYS + 1)?;
+    for smaller in parts {
+        put_digests(alloc, smaller, digests)?;
+    }
+    Ok(())
+}
+
+// The signature of the canonical file of a program.
+fn signature(alloc: Global, program: &Program<'_>) -> Result<[u8; 20], AllocError>
+    ensures { IfOk result (λ signature. signature ≡ take 20 (drop 12 (canonical program.now))) }
+{
+    let layout = Layout::of(alloc, program)?;
+    let contents = Contents::of(program, &layout);
+    let mut gathered = Vec::with_capacity(alloc, contents.limit.max(PIECE))?;
+    Ok(signed(&contents, &mut gathered))
+}
+
+// The signature of the file of its contents, which is made through a vector with room.
+fn signed(contents: &Contents<'_, '_, '_, '_>, gathered: &mut Vec<u8>) -> [u8; 20]
+    requires ready { CanBeMade contents.now }
+    requires room { HasRoom true contents.now.limit gathered.old }
+    requires empty { vec_len gathered.old ≡ 0 }
+    ensures { result ≡ take 20 (drop 12 (with_sums (unsigned_file (ordered_in contents.now)))) }
+{
+    dexhead::laws::file_law();
+    dexhead::laws::sums_law();
+    let head = contents.layout.head();
+    let mut message = Sha1::new();
+    put_file::<Sha1, Hashes>(&head, 32, contents, gathered, &mut message).unwrap();
+    message.finalize()
+}

@@ -3,3 +3,4 @@ pub mod Lines
 pub mod Runs
 pub mod Merges
 pub mod Fans
+pub mod Repairs

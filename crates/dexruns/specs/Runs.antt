@@ -43,6 +43,15 @@ IsLeft old new (Read i) = new ≡ old
 IsLeft old new Write = Unit {0}
 IsLeft old new Memory = new ≡ old
 
+-- after a fault of the writer this is so, and after any other it is as it was
+abbrev pub IsLeftWith : {W : Type 0} → Type 0 → W → W → RunFault → Type 0
+IsLeftWith P old new (Input i refusal) = new ≡ old
+IsLeftWith P old new Plan = new ≡ old
+IsLeftWith P old new (Merge told) = new ≡ old
+IsLeftWith P old new (Read i) = new ≡ old
+IsLeftWith P old new Write = P
+IsLeftWith P old new Memory = new ≡ old
+
 -- ---- files checked
 
 -- the verdict is right of the bytes

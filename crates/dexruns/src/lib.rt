@@ -10,6 +10,7 @@ mod inputs;
 mod lines;
 mod merging;
 mod normalising;
+mod repairing;
 
 pub use checking::check_run;
 pub use dumping::dump_run;
@@ -19,3 +20,4 @@ pub use faults::{MergeCause, RunFault};
 pub use inputs::{InputFault, MOST_READ, read_whole};
 pub use merging::{merge_run, merge_strip_run};
 pub use normalising::normalise_run;
+pub use repairing::repair_run;

@@ -1,0 +1,49 @@
+-- A repaired file differs from the file in its two sums alone.
+use Rattle.std.proofs.Common.{◌≡◌, ℕ, ◌+◌, ◌≤◌, Bool, true, false, if◌then◌else◌, nat_lt, List, ◌++◌, length, take, drop, refl, sym, ap, subst, ◌∙◌, arith, length-append, length-take-le}
+use Rattle.std.proofs.lemmas.Bool.{ltb-false}
+use Rattle.std.proofs.lemmas.List.{take_at, drop_at, length-drop}
+use Rattle.std.proofs.Math.Seq.{drop-append-add}
+use Rattle.dexspec.specs.Accepted.{IsAccepted}
+use Rattle.dexspec.proofs.ByteNumbers.{length-uint}
+use Rattle.dexspec.proofs.Sums.{length-sha1}
+use Rattle.dexhead.specs.Sums.{signed, with_sums_set}
+use Rattle.dexruns.specs.Repairs.{repaired, AreEqualButForSums}
+
+-- the rest after a part and so many more
+drop_after : (part rest : List ℕ) (n m : ℕ) → length part ≡ n → drop (n + m) (part ++ rest) ≡ drop m rest
+drop_after part rest n m e = ap (λ k. drop (k + m) (part ++ rest)) (sym e) ∙ drop-append-add part rest m
+
+-- the sums are the bytes 8 to 31
+set_only : (b first sum signature rest : List ℕ) → length first ≡ 8 → length sum ≡ 4 → length signature ≡ 20 → length b ≡ 32 + length rest → first ≡ take 8 b → rest ≡ drop 32 b →
+    AreEqualButForSums b (first ++ (sum ++ (signature ++ rest)))
+set_only b first sum signature rest eight four twenty long before after = record {
+  count = omega (arith, eight, four, twenty, long, length-append first (sum ++ (signature ++ rest)), length-append sum (signature ++ rest), length-append signature rest);
+  before = take_at first (sum ++ (signature ++ rest)) 8 eight ∙ before;
+  after = drop_after first (sum ++ (signature ++ rest)) 8 24 eight ∙ drop_after sum (signature ++ rest) 4 20 four ∙ drop_at signature rest 20 twenty ∙ after;
+}
+
+-- where there are sums to set
+set_sums_only : (b : List ℕ) → 32 ≤ length b → AreEqualButForSums b (with_sums_set b)
+unfolding with_sums_set signed
+set_sums_only b long =
+    set_only b (take 8 b) _ _ (drop 32 b) (length-take-le 8 b (omega (arith, long))) (length-uint _) (length-sha1 (drop 32 b)) (omega (arith, long, length-drop 32 b)) refl refl
+
+by_length : (b : List ℕ) (is_short : Bool) → nat_lt (length b) 32 ≡ is_short → AreEqualButForSums b (if is_short then b else with_sums_set b)
+by_length b true is = record { count = refl; before = refl; after = refl }
+by_length b false is = set_sums_only b (ltb-false (length b) 32 is)
+
+pub repaired_only : (b : List ℕ) → AreEqualButForSums b (repaired b)
+unfolding repaired
+repaired_only b = by_length b (nat_lt (length b) 32) refl
+
+-- what was made of the bytes that were read is the repaired file
+pub repaired_is : (file bytes b : List ℕ) → file ≡ repaired bytes → bytes ≡ b → file ≡ repaired b
+repaired_is file bytes b made same = made ∙ ap repaired same
+
+-- so that file is accepted
+pub accepted_is : (file bytes b : List ℕ) → file ≡ repaired bytes → bytes ≡ b → IsAccepted file → IsAccepted (repaired b)
+accepted_is file bytes b made same accepted = subst (λ x. IsAccepted x) (repaired_is file bytes b made same) accepted
+
+-- and a prefix that was written is one of it
+pub front_is : (file bytes b old new : List ℕ) → file ≡ repaired bytes → bytes ≡ b → ((n : ℕ) × (new ≡ old ++ take n file)) → (n : ℕ) × (new ≡ old ++ take n (repaired b))
+front_is file bytes b old new made same front = (front.0, front.1 ∙ ap (λ x. old ++ take front.0 x) (repaired_is file bytes b made same))

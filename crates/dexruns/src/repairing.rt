@@ -1,0 +1,86 @@
+//! The run of `repair`.
+
+ghost use Rattle.std.specs.Prelude.{◌≡◌, ◌++◌, ◌↔◌, true, false, OnOk, IfErr, IsErrOf};
+ghost use Rattle.dexspec.specs.Accepted.{IsAccepted};
+ghost use Rattle.dexclass.specs.Programs.{IsFaultOf};
+ghost use Rattle.dexruns.specs.Inputs.{bytes_read, IsReadNoFurther};
+ghost use Rattle.dexruns.specs.Repairs.{repaired, AreEqualButForSums, IsRepairedFront};
+ghost use Rattle.dexruns.specs.Runs.{IsOfInput, IsLeftWith};
+ghost use Rattle.dexruns.specs.declared.faults.RunFault.TheVariants.{Read, Write};
+
+use crate::faults::RunFault;
+use crate::inputs::{InputFault, read_whole};
+use dexhead::{Sink, Source, set_sums, write_whole};
+use dexpool::ReadFault;
+use std::alloc::Global;
+
+// Where the part of a file begins that its sums are taken of and that does not hold them.
+const SUMS_END: usize = 32;
+
+// A file with its signature and its checksum set right, where it is long enough to have them.
+#[tactic(auto, unfolding(crate::specs::Repairs::repaired))]
+fn repaired(mut file: Vec<u8>) -> Vec<u8>
+    ensures { result.items ≡ repaired file.items }
+{
+    if file.len() >= SUMS_END {
+        set_sums(file.as_mut_slice());
+    }
+    file
+}
+
+// Whether bytes are accepted.
+fn check(alloc: Global, bytes: &[u8]) -> Result<(), ReadFault>
+    ensures accepted { OnOk result (IsAccepted bytes.now) }
+    ensures refused { IfErr result (IsFaultOf bytes.now) }
+{
+    let _program = dexclass::read(alloc, bytes)?;
+    Ok(())
+}
+
+/// Writes an input with its signature and its checksum set right and nothing else changed, where what comes out is
+/// accepted: bytes 12 to 31 are the SHA-1 of the bytes after them, and then bytes 8 to 11 the Adler-32 of the bytes after
+/// these. An input of fewer than 32 bytes is left as it is, and is refused.
+///
+/// Condition: neither device has failed. Error: `Input` with number 0 where what would come out is refused, with what
+/// [`dexclass::read`] reports of it; `Read` with number 0 exactly where the reader failed in this call, and `Write` exactly
+/// where the writer did; `Memory` where an allocation failed; no other. After `Write` a prefix of the repaired file was
+/// written, and after any other error nothing. `2^30 + 1` bytes of the input are read and no more.
+///
+/// Source: "Dalvik Executable format", "header_item", the fields `checksum` and `signature`; that nothing else changes is
+/// this project's rule.
+pub fn repair_run<R: Source, W: Sink>(
+    alloc: Global,
+    input: &mut R,
+    out: &mut W,
+) -> Result<(), RunFault>
+    requires input { R.has_failed input.old ≡ false }
+    requires out { W.has_failed out.old ≡ false }
+    ensures accepted { OnOk result (R.tells input.old → IsAccepted (repaired (bytes_read (R.to_come input.old)))) }
+    ensures written { OnOk result (R.tells input.old → W.tells out.old →
+        W.taken out.new ≡ W.taken out.old ++ repaired (bytes_read (R.to_come input.old))) }
+    ensures only_sums { AreEqualButForSums (bytes_read (R.to_come input.old)) (repaired (bytes_read (R.to_come input.old))) }
+    ensures fault { IfErr result (IsOfInput (R.tells input.old) (repaired (bytes_read (R.to_come input.old)))) }
+    ensures left { IfErr result (IsLeftWith (IsRepairedFront (R.tells input.old) (W.tells out.old) (W.taken out.old) (W.taken out.new)
+        (bytes_read (R.to_come input.old))) out.old out.new) }
+    ensures tells { W.tells out.old → W.tells out.new }
+    ensures no_further { IsReadNoFurther R.tells R.to_come R.has_failed input.old input.new }
+
+    // The faults of the devices are reported exactly where they are.
+    ensures read { IsErrOf result (Read 0) ↔ (R.has_failed input.new ≡ true) }
+    ensures write { IsErrOf result Write ↔ (W.has_failed out.new ≡ true) }
+{
+    let file = match read_whole(alloc, input) {
+        Ok(bytes) => repaired(bytes),
+        Err(InputFault::Read) => return Err(RunFault::Read(0)),
+        Err(InputFault::Memory) => return Err(RunFault::Memory),
+    };
+    match check(alloc, file.as_slice()) {
+        Ok(()) => {}
+        Err(ReadFault::Refused(refusal)) => return Err(RunFault::Input(0, refusal)),
+        Err(ReadFault::Memory) => return Err(RunFault::Memory),
+    }
+    match write_whole(out, file.as_slice()) {
+        Ok(()) => Ok(()),
+        Err(_) => Err(RunFault::Write),
+    }
+}

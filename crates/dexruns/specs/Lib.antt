@@ -4,3 +4,4 @@ pub mod Runs
 pub mod Merges
 pub mod Fans
 pub mod Repairs
+pub mod Counts

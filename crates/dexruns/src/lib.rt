@@ -2,6 +2,7 @@
 #![tactic(auto)]
 
 mod checking;
+mod counting;
 mod dumping;
 mod explaining;
 mod fanning;
@@ -13,6 +14,7 @@ mod normalising;
 mod repairing;
 
 pub use checking::check_run;
+pub use counting::count_run;
 pub use dumping::dump_run;
 pub use explaining::explain;
 pub use fanning::fan_plan;

@@ -20,8 +20,8 @@ use dexmerge::{Caps, MergeFault, Plan, PlanFault, is_plan_for, merge_files};
 use dexpool::ReadFault;
 use std::alloc::{AllocError, Global};
 
-// A place for the bytes of each input.
-fn places(alloc: Global, count: usize) -> Result<Vec<Vec<u8>>, AllocError>
+/// A place for the bytes of each input.
+pub(crate) fn places(alloc: Global, count: usize) -> Result<Vec<Vec<u8>>, AllocError>
     ensures { IfOk result (λ places. length places.items ≡ count) }
 {
     let mut places = Vec::new(alloc);
@@ -31,8 +31,8 @@ fn places(alloc: Global, count: usize) -> Result<Vec<Vec<u8>>, AllocError>
     Ok(places)
 }
 
-// Reads one input after the other, and judges it. The programs borrow from the bytes.
-fn read_each<'a, R: Source>(
+/// Reads one input after the other, and judges it. The programs borrow from the bytes.
+pub(crate) fn read_each<'a, R: Source>(
     alloc: Global,
     inputs: &mut [R],
     places: &'a mut [Vec<u8>],

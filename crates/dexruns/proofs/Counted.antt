@@ -1,0 +1,34 @@
+-- Why definitions have no numbers: a cap is never the cause.
+use Rattle.std.proofs.Common.{ℕ, suc, List, length, arith}
+use Rattle.std.proofs.lemmas.List.Sums.{count_by-le-length}
+use Rattle.std.specs.Ordering.{is_lt}
+use Rattle.dexspec.specs.Classes.{Definition}
+use Rattle.dexspec.specs.Texts.{text_cmp}
+use Rattle.dexspec.specs.Mentions.{mentions}
+use Rattle.dexspec.specs.Weight.{weight}
+use Rattle.dexspec.specs.Merging.{Caps, Cap, Types, Protos, Fields, Methods, ShortStrings, Weight, Exceeds, IsFirstCause}
+use Rattle.dexspec.proofs.WeightGrowth.{weight-within}
+use Rattle.dexmerge.specs.Faults.{IsOfCap}
+
+-- the caps that the definitions just keep
+abbrev ample : List Definition → Caps
+ample D = record {
+  types = length (mentions D).types;
+  protos = length (mentions D).protos;
+  fields = length (mentions D).fields;
+  methods = length (mentions D).methods;
+  short_strings = suc (length (mentions D).texts);
+  weight = weight D;
+}
+
+none_exceeded : (D : List Definition) (cap : Cap) → Exceeds (ample D) D cap → ⊥
+none_exceeded D Types more = omega (arith, more)
+none_exceeded D Protos more = omega (arith, more)
+none_exceeded D Fields more = omega (arith, more)
+none_exceeded D Methods more = omega (arith, more)
+none_exceeded D ShortStrings more = omega (arith, more.2, count_by-le-length (λ t. is_lt (text_cmp t more.0)) (mentions D).texts)
+none_exceeded D Weight more = omega (arith, more.3, weight-within more.0 D more.1 more.2)
+
+-- no cap is a cause under any caps
+pub no_cap : (D : List Definition) (number : ℕ) → ((caps : Caps) → IsOfCap (IsFirstCause caps D) number) → ⊥
+no_cap D number told = let here = told (ample D) in none_exceeded D here.cap here.holds.is

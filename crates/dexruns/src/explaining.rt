@@ -5,7 +5,7 @@ ghost use Rattle.dexruns.specs.Lines.{HasName, exit_status, fault_line, hexadeci
 
 use crate::faults::{MergeCause, RunFault};
 use crate::lines::{refusal_text, text_at};
-use dexstr::Name;
+use dexstr::{Name, Text};
 use std::alloc::{AllocError, Global};
 
 const REFUSED: u8 = 1;
@@ -36,7 +36,8 @@ fn cap_name(number: u8) -> &'static str
     text_at(&CAPS, usize::from(number), UNKNOWN)
 }
 
-fn hexadecimal_digit(number: u16) -> u8
+/// The digit of a number's last four bits, in hexadecimal.
+pub(crate) fn hexadecimal_digit(number: u16) -> u8
     ensures is { result ≡ hexadecimal_digit number }
     ensures ascii { result < 128 }
 {
@@ -44,8 +45,8 @@ fn hexadecimal_digit(number: u16) -> u8
     if digit < 10 { digit + 48 } else { digit + 87 }
 }
 
-// Appends a sign of ASCII.
-fn push_sign(sign: u8, text: &mut String) -> Result<(), AllocError>
+/// Appends a sign of ASCII.
+pub(crate) fn push_sign(sign: u8, text: &mut String) -> Result<(), AllocError>
     requires { sign < 128 }
     ensures { OnOk result (string_bytes text.new ≡ string_bytes text.old ++ sign ∷ []) }
 {
@@ -93,14 +94,22 @@ fn push_unit(unit: u16, text: &mut String) -> Result<(), AllocError>
     Ok(())
 }
 
+/// Appends the name of a class as it is printed.
+pub(crate) fn push_text(name: &Text<'_>, text: &mut String) -> Result<(), AllocError>
+    ensures { OnOk result (string_bytes text.new ≡ string_bytes text.old ++ class_text name.now) }
+{
+    for unit in name.units() {
+        push_unit(unit, text)?;
+    }
+    Ok(())
+}
+
 // The name of a class as it is printed.
 fn class_text(alloc: Global, name: &Name) -> Result<String, AllocError>
     ensures { IfOk result (λ text. string_bytes text ≡ class_text name.now) }
 {
     let mut text = String::new(alloc);
-    for unit in name.text().units() {
-        push_unit(unit, &mut text)?;
-    }
+    push_text(&name.text(), &mut text)?;
     Ok(text)
 }
 

@@ -4,16 +4,20 @@ use Rattle.std.proofs.Math.Seq.{take-append-add}
 use Rattle.std.proofs.lemmas.List.{take_more, drop_more, take_all, length-take-le, get_or-map}
 use Rattle.std.specs.Prelude.{All}
 use Rattle.std.specs.List.{AllZip}
-use Rattle.dexspec.specs.Files.{Collection, definitions}
+use Rattle.dexspec.proofs.Denoted.{denotes_some}
 use Rattle.dexclass.specs.Programs.{IsReadAs}
+use Rattle.dexclass.specs.Checking.{IsCheckedAs}
 use Rattle.dexruns.specs.declared.lines.Verdict.{Verdict}
 use Rattle.dexruns.specs.declared.lines.Verdict.TheVariants.{Accepted}
 use Rattle.dexruns.specs.Lines.{check_line, check_lines, status_after}
 use Rattle.dexruns.specs.Runs.{IsVerdict, AreChecked, AreBegun}
 
--- an accepted file has as many classes as the collection that was read
-pub accepted_is : (b bytes : List ℕ) (L : Collection) (n : ℕ) → bytes ≡ b → IsReadAs bytes L → n ≡ length (definitions L) → IsVerdict b (Accepted n)
-accepted_is b bytes L n same stands count = (L, subst (λ x. IsReadAs x L) same stands, count)
+-- an accepted file has as many classes as were counted
+pub accepted_is : (b bytes : List ℕ) (n : ℕ) → bytes ≡ b → IsCheckedAs bytes n → IsVerdict b (Accepted n)
+accepted_is b bytes n same is =
+    let denoted = denotes_some bytes is.accepted in
+    let read : IsReadAs bytes denoted.0 = record { accepted = is.accepted; denotes = denoted.1 } in
+    (denoted.0, subst (λ x. IsReadAs x denoted.0) same read, sym (is.counted denoted.0 denoted.1))
 
 -- one more verdict, right of one more file
 pub zip_more : {A B : Type 0} (P : A → B → Type 0) (xs : List A) (ys : List B) (x : A) (y : B) → AllZip P xs ys → P x y → AllZip P (xs ++ x ∷ []) (ys ++ y ∷ [])

@@ -26,8 +26,8 @@ fn judge<R: Source>(alloc: Global, input: &mut R) -> Result<Verdict, InputFault>
     ensures fault { IfErr result (TellsOf (R.has_failed input.new)) }
 {
     let bytes = read_whole(alloc, input)?;
-    match dexclass::read(alloc, bytes.as_slice()) {
-        Ok(program) => Ok(Verdict::Accepted(program.len())),
+    match dexclass::check(alloc, bytes.as_slice()) {
+        Ok(classes) => Ok(Verdict::Accepted(classes)),
         Err(ReadFault::Refused(refusal)) => Ok(Verdict::Refused(refusal)),
         Err(ReadFault::Memory) => Err(InputFault::Memory),
     }

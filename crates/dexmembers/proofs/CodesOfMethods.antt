@@ -1,5 +1,5 @@
 -- The code of methods, one after the other.
-use Rattle.std.proofs.Common.{◌≡◌, ◌≢◌, ℕ, ◌+◌, ◌-◌, ◌<◌, ◌≤◌, List, [], ◌∷◌, ◌++◌, length, take, drop, get_or, inl, inr, Option, Some, None, sym, subst, refl, ap, ◌∙◌, arith}
+use Rattle.std.proofs.Common.{◌≡◌, ◌≢◌, ℕ, ◌+◌, ◌-◌, ◌<◌, ◌≤◌, List, [], ◌∷◌, ◌++◌, length, take, drop, get_or, inr, Option, Some, None, sym, subst, ap, ◌∙◌, arith}
 use Rattle.std.specs.Prelude.{sum_by}
 use Rattle.std.specs.List.{AllZip, Contains}
 use Rattle.std.proofs.lemmas.List.{take_all, take-append-drop, drop_more, length-drop}
@@ -13,7 +13,7 @@ use Rattle.dexpool.specs.declared.faults.ItemFault.TheVariants.{Refused, Memory}
 use Rattle.dexcode.specs.Numbered.{NumberedItem, StandsForCode}
 use Rattle.dexcode.specs.Reading.{IsCodeAt}
 use Rattle.dexmembers.specs.declared.class_data.EncodedMethod.{EncodedMethod}
-use Rattle.dexmembers.specs.MethodCodes.{AreCodesAt, HaveCodes, HasCodeOrNone, IsCodeOrNone, IsCodeOrNoneFault, AreCodesOf, AreHeavyCodes, IsCodesFault, optional_code_weight}
+use Rattle.dexmembers.specs.MethodCodes.{AreCodesAt, HaveCodes, IsCodeOrNone, IsCodeOrNoneFault, AreCodesOf, AreHeavyCodes, IsCodesFault, optional_code_weight}
 
 -- related lists are so with one more member each
 pub zip_more : {A B : Type 0} (R : A → B → Type 0) (xs : List A) (ys : List B) (x : A) (y : B) → AllZip R xs ys → R x y → AllZip R (xs ++ x ∷ []) (ys ++ y ∷ [])
@@ -32,18 +32,6 @@ zip_append R (a ∷ xs) (b ∷ ys) us vs all more = (all.0, zip_append R xs ys u
 -- code that was read is code or none
 pub some_code : (b : List ℕ) (off : ℕ) (m : Mentions) (code : NumberedItem) → off ≢ 0 → IsCodeAt b off m code → IsCodeOrNone b off m (Some code)
 some_code b off m code some is = record { symbolic = Some is.symbolic; at = inr (some, is.at); stands = is.stands }
-
--- the offset 0 has none
-pub none_at_0 : (b : List ℕ) → HasCodeOrNone b 0
-none_at_0 b = (None, inl (refl, refl))
-
--- what was read is there
-pub has_read : (b : List ℕ) (off : ℕ) (m : Mentions) (code : Option NumberedItem) → IsCodeOrNone b off m code → HasCodeOrNone b off
-has_read b off m code is = (is.symbolic, is.at)
-
--- one method more has code or none
-pub have_more : (b : List ℕ) (xs : List EncodedMethod) (x : EncodedMethod) → HaveCodes b xs → HasCodeOrNone b x.code_off → HaveCodes b (xs ++ x ∷ [])
-have_more b xs x have has = (have.0 ++ has.0 ∷ [], zip_more (λ (x : EncodedMethod) c. OrNone (SomeAt CodeAt) None b x.code_off c) xs have.0 x has.0 have.1 has.1)
 
 -- a fault at the offset of one of the methods is one of their faults
 pub fault_among : (b : List ℕ) (xs : List EncodedMethod) (x : EncodedMethod) (fault : ItemFault) → Contains xs x → IsCodeOrNoneFault b x.code_off fault → IsCodesFault b xs fault

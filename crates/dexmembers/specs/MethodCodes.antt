@@ -23,10 +23,6 @@ AreCodesAt b xs codes = AllZip (λ x c. OrNone (SomeAt CodeAt) None b x.code_off
 abbrev pub HaveCodes : List ℕ → List EncodedMethod → Type 0
 HaveCodes b xs = (codes : List (Option Code)) × AreCodesAt b xs codes
 
--- at the offset stands code, or the offset is 0 and there is none
-abbrev pub HasCodeOrNone : List ℕ → ℕ → Type 0
-HasCodeOrNone b off = (code : Option Code) × OrNone (SomeAt CodeAt) None b off code
-
 -- at the offset stands the code, or the offset is 0 and there is none
 pub record IsCodeOrNone (b : List ℕ) (off : ℕ) (m : Mentions) (code : Option NumberedItem) : Type 0 where
   pub symbolic : Option Code

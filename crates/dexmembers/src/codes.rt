@@ -1,6 +1,6 @@
 //! The code of methods.
 
-ghost use Rattle.std.specs.Prelude.{◌≡◌, ◌+◌, ◌<◌, Option, IfOk, IfErr, OnOk, MatchOption};
+ghost use Rattle.std.specs.Prelude.{◌≡◌, ◌+◌, ◌<◌, Option, IfOk, IfErr, MatchOption};
 ghost use Rattle.dexspec.specs.Lists.{BothOrNone};
 ghost use Rattle.dexspec.specs.Code as symbolic;
 ghost use Rattle.dexspec.specs.Mentions.{Mentions};
@@ -8,14 +8,14 @@ ghost use Rattle.dexpool.specs.Numberings.{AreRising};
 ghost use Rattle.dexpool.specs.Pools.{ArePools};
 ghost use Rattle.dexcode.specs.Checking.{one_code_weight};
 ghost use Rattle.dexcode.specs.Numbered.{StandsForCode};
-ghost use Rattle.dexmembers.specs.MethodCodes.{HasCodeOrNone, IsCodeOrNone, IsCodeOrNoneFault, HaveCodes, AreCodesOf, AreHeavyCodes, IsCodesFault, optional_code_weight};
+ghost use Rattle.dexmembers.specs.MethodCodes.{IsCodeOrNone, IsCodeOrNoneFault, AreCodesOf, AreHeavyCodes, IsCodesFault, optional_code_weight};
 
 use crate::class_data::EncodedMethod;
+use crate::code_checking::{CheckedCodes, check_codes};
 use crate::encoded_lists::room;
 use dexcode::{Code, debug_bare_law, read_code};
 use dexhead::Frame;
 use dexpool::{ItemFault, Pools};
-use indexmap::IndexSet;
 use std::alloc::Global;
 
 // The code at an offset, or none at 0.
@@ -59,45 +59,6 @@ fn left_behind_any(left: u64, code: &Option<Code<'_>>) -> Option<u64>
     }
 }
 
-// Judges the code at an offset, and keeps none of it.
-fn judge_code(
-    alloc: Global,
-    frame: &Frame<'_>,
-    pools: &Pools<'_>,
-    off: u32,
-) -> Result<(), ItemFault>
-    ensures judged { ArePools frame.now pools.now → OnOk result (HasCodeOrNone frame.now off) }
-    ensures refused { ArePools frame.now pools.now → IfErr result (IsCodeOrNoneFault frame.now off) }
-{
-    match code_or_none(alloc, frame, pools, off) {
-        Ok(_) => Ok(()),
-        Err(fault) => Err(fault),
-    }
-}
-
-// Judges the code of the methods, and keeps none of it. Code at one offset is read once.
-fn judge_codes(
-    alloc: Global,
-    frame: &Frame<'_>,
-    pools: &Pools<'_>,
-    methods: &[EncodedMethod],
-) -> Result<(), ItemFault>
-    ensures judged { ArePools frame.now pools.now → OnOk result (HaveCodes frame.now methods.now) }
-    ensures refused { ArePools frame.now pools.now → IfErr result (IsCodesFault frame.now methods.now) }
-{
-    let mut judged = IndexSet::new(alloc);
-    for method in methods {
-        let (_, is_new) = judged.insert_full(method.code_off)?;
-        if is_new {
-            match judge_code(alloc, frame, pools, method.code_off) {
-                Ok(()) => {}
-                Err(fault) => return Err(fault),
-            }
-        }
-    }
-    Ok(())
-}
-
 /// Reads the code of the methods, each with its debug program; a method whose offset is 0 has none. From the method on with
 /// which the code weighs more than `most`, it is judged only, and none is answered.
 ///
@@ -125,10 +86,13 @@ pub(crate) fn read_codes<'a>(
         };
         match left_behind_any(left, &code) {
             Some(rest) => left = rest,
-            None => match judge_codes(alloc, frame, pools, &methods[i + 1..]) {
-                Ok(()) => return Ok(None),
-                Err(fault) => return Err(fault),
-            },
+            None => {
+                let mut checked = CheckedCodes::none(alloc);
+                match check_codes(alloc, frame, pools, &methods[i + 1..], &mut checked) {
+                    Ok(_) => return Ok(None),
+                    Err(fault) => return Err(fault),
+                }
+            }
         }
         codes.push(code)?;
     }

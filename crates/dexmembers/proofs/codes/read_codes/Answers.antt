@@ -15,21 +15,22 @@ nothing = record { index = 0; flags = 0; code_off = 0 }
 pub returns-in-Err-clause-refused : goal.returns-in-Err-clause-refused
 returns-in-Err-clause-refused c = λ pools. fault_among c.args.frame.now c.args.methods.now (get_or c.args.methods.now c.loop-i.i nothing) c.in-Err.fault (Contains-get_or c.args.methods.now c.loop-i.i nothing c.loop-i-test.true) (c.in-Err.ensures.refused pools)
 
-pub returns-in-Ok-judge_codes-clause-read : goal.returns-in-Ok-judge_codes-clause-read
-returns-in-Ok-judge_codes-clause-read c = λ pools.
+pub returns-in-Ok-check_codes-clause-read : goal.returns-in-Ok-check_codes-clause-read
+returns-in-Ok-check_codes-clause-read c = λ pools.
     let b = c.args.frame.now in
     let m = c.args.pools.now in
     let xs = c.args.methods.now in
     let i = c.loop-i.i in
     let rising = subst AreRising c.numbering.ensures c.is_numbering.ensures.rising in
     let is = c.in-Ok.ensures.read pools in
-    let rest = subst (HaveCodes b) (rest_here xs (i + 1) (omega (arith, c.loop-i-test.true))) (c.in-Ok-judge_codes.ensures.judged pools) in
+    let h = c.in-Ok-check_codes.ensures.weight pools in
+    let rest = subst (HaveCodes b) (rest_here xs (i + 1) (omega (arith, c.loop-i-test.true))) (h.item, h.is_read) in
     subst (λ (l : List EncodedMethod). AreHeavyCodes b l c.args.most) (split_here xs i nothing c.loop-i-test.true)
     (heavy_read b m (take i xs) c.args.most c.loop-i.left c.loop-i.codes.items (get_or xs i nothing) c.in-Ok.code (drop (i + 1) xs) (c.loop-i.invariant.read pools) is
     (c.in-None.ensures m is.symbolic rising is.stands) rest)
 
-pub returns-in-Err-judge_codes-clause-refused : goal.returns-in-Err-judge_codes-clause-refused
-returns-in-Err-judge_codes-clause-refused c = λ pools. fault_behind c.args.frame.now c.args.methods.now c.loop-i.i nothing c.in-Err-judge_codes.fault c.loop-i-test.true (c.in-Err-judge_codes.ensures.refused pools)
+pub returns-in-Err-check_codes-clause-refused : goal.returns-in-Err-check_codes-clause-refused
+returns-in-Err-check_codes-clause-refused c = λ pools. fault_behind c.args.frame.now c.args.methods.now c.loop-i.i nothing c.in-Err-check_codes.fault c.loop-i-test.true (c.in-Err-check_codes.ensures.refused pools)
 
 pub loop-i-preserved : goal.loop-i-preserved
 loop-i-preserved c = record {

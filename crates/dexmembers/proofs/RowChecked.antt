@@ -92,7 +92,7 @@ module _ (b : List ℕ) (r : ℕ) (m : Mentions) (read : DataRead) (is : IsDataO
 module _ (b : List ℕ) (r : ℕ) where
   -- of a row that has none
   pub no_values : static_values_off b r ≡ 0 → (fields : ℕ) → HasValuesOf b r fields 0
-  no_values none fields = record { item = NoValues; is_read = record { at = inl (none, refl); few = omega arith }; weight_is = refl }
+  no_values none fields = record { values = NoValues; are = record { at = inl (none, refl); few = omega arith }; weighs = refl }
 
   module _ (off : ℕ) (at : off ≡ static_values_off b r) (some : off ≢ 0) (m : Mentions) (count n weight : ℕ) (h : HasStaticsOf b off m count n weight) where
     abbrev found : Values
@@ -109,8 +109,8 @@ module _ (b : List ℕ) (r : ℕ) where
     too_many_values fields more = none_there b r off at some fields 21 refl (λ vs has. let same = ap count_values (same_values vs has.at) in absurd (omega (arith, more, has.few, same, h.counted)))
 
     -- no more than there are
-    pub values_of : (fields : ℕ) → count ≤ fields → weight < 2 ^ 64 → HasValuesOf b r fields weight
-    values_of fields few fits = record { item = found; is_read = record { at = statics_here; few = omega (arith, few, h.counted) }; weight_is = omega (arith, h.weighs, fits) }
+    pub values_of : (fields : ℕ) → count ≤ fields → HasValuesOf b r fields weight
+    values_of fields few = record { values = found; are = record { at = statics_here; few = omega (arith, few, h.counted) }; weighs = h.weighs }
 
 -- ---- all of it
 
@@ -123,11 +123,11 @@ module _ (b : List ℕ) (r : ℕ) (m : Mentions) (pools : ArePools b m) (rising 
       let directory : HasDirectory b r m read = record { directory = a.item; at = a.is_read.at; named = a.is_read.named } in
       let direct_codes : HaveCodes b read.direct_methods.items = (ds.item, ds.is_read) in
       let virtual_codes : HaveCodes b read.virtual_methods.items = (vs.item, vs.is_read) in
-      let statics : (x : Values) × HasValuesFor b r (length read.static_fields.items) x = (xs.item, xs.is_read) in
+      let statics : (x : Values) × HasValuesFor b r (length read.static_fields.items) x = (xs.values, xs.are) in
       let rise = directory_rises b m pools rising (annotations_off b r) a.item a.is_read.at in
       record {
         readable = row_readable b r m read is directory direct_codes virtual_codes statics;
-        members = members_made d a.item ds.item vs.item xs.item;
+        members = members_made d a.item ds.item vs.item xs.values;
         row = row_made b r m read is directory direct_codes virtual_codes statics;
         weight_is = omega (
           arith,
@@ -136,10 +136,10 @@ module _ (b : List ℕ) (r : ℕ) (m : Mentions) (pools : ArePools b m) (rising 
           a.weight_is,
           ds.weight_is,
           vs.weight_is,
-          xs.weight_is,
+          xs.weighs,
           length-map read.static_fields.items (encoded_field_in m),
           length-map read.instance_fields.items (encoded_field_in m),
-          parts_sum _ d a.item ds.item vs.item xs.item (symbols_coded b m read.direct_methods.items ds.item ds.is_read) (symbols_coded b m read.virtual_methods.items vs.item vs.is_read)
+          parts_sum _ d a.item ds.item vs.item xs.values (symbols_coded b m read.direct_methods.items ds.item ds.is_read) (symbols_coded b m read.virtual_methods.items vs.item vs.is_read)
               a.is_read.named rise.0 rise.1 rise.2 (declared_fields_apart b r m rising read is) (declared_methods_apart b r m rising read is),
         );
       }

@@ -3,6 +3,7 @@ use Rattle.std.specs.Prelude.{◌≡◌, ℕ, ◌+◌, ◌-◌, ◌^◌, min, Li
 use Rattle.std.specs.HashMap.{get}
 use Rattle.dexspec.specs.Lists.{OrNone, SomeAt}
 use Rattle.dexspec.specs.Code.{Code, CodeAt}
+use Rattle.dexspec.specs.Values.{Values}
 use Rattle.dexspec.specs.Annotations.{Directory, DirectoryAt, no_directory}
 use Rattle.dexspec.specs.Classes.{annotations_off}
 use Rattle.dexspec.specs.Accepted.{NamesDeclared, IsReadable}
@@ -54,8 +55,10 @@ abbrev pub HasAnnotationsOf : List ℕ → ℕ → Mentions → DataRead → ℕ
 HasAnnotationsOf b r m d = IsWeighed (IsDirectoryOf b r m d) directory_weight
 
 -- class row r has static values of that weight, or none, and no more than so many fields
-abbrev pub HasValuesOf : List ℕ → ℕ → ℕ → ℕ → Type 0
-HasValuesOf b r fields = IsWeighed (HasValuesFor b r fields) static_values_weight
+pub record HasValuesOf (b : List ℕ) (r fields weight : ℕ) : Type 0 where
+  pub values : Values
+  pub are : HasValuesFor b r fields values
+  pub weighs : static_values_weight values ≡ weight
 
 -- ---- all of it
 

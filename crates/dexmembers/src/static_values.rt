@@ -8,13 +8,14 @@ ghost use Rattle.dexval.specs.Numbered.{values_of_list};
 ghost use Rattle.dexmembers.specs.StaticValues.{AreValuesOf, AreHeavyValues, IsValuesFault};
 
 use crate::class_data::row_number;
-use dexhead::{Condition, Frame};
+use crate::row_checking::check_static_values;
+use dexhead::Frame;
 use dexpool::{ItemFault, Pools};
-use dexval::{Value, read_statics, statics_weight};
+use dexval::{Value, read_statics};
 use std::alloc::Global;
 
 /// Reads the values that the static fields of class row `row` begin with, or none where its offset is 0. Where they
-/// weigh more than `most`, they are read and dropped, and none is answered.
+/// weigh more than `most`, they are checked only, and none is answered.
 ///
 /// Condition: the row is one of the file's. Error: `Refused(21)` exactly where no encoded_array_item stands there, or it
 /// has more values than `fields`, the number of static fields; `Memory` where a growth was refused.
@@ -32,8 +33,13 @@ pub(crate) fn read_static_values(
     ensures read { ArePools frame.now pools.now → IfOk result (λ values. MatchOption values (AreHeavyValues frame.now row fields most) (λ values. AreValuesOf frame.now row pools.now fields most (values_of_list (map value_of values.items)))) }
     ensures refused { ArePools frame.now pools.now → IfErr result (IsValuesFault frame.now row fields) }
 {
-    // The clause of `bytes` bounds the file, so that the weight is exact.
-    let _bytes = frame.bytes();
+    let weight = match check_static_values(frame, pools, row, fields) {
+        Ok(weight) => weight,
+        Err(fault) => return Err(fault),
+    };
+    if weight > most {
+        return Ok(None);
+    }
     let off = row_number(frame, row, 28);
     if off == 0 {
         return Ok(Some(Vec::new(alloc)));
@@ -42,11 +48,5 @@ pub(crate) fn read_static_values(
         Ok(values) => values,
         Err(fault) => return Err(fault),
     };
-    if values.len() > fields {
-        return Err(ItemFault::Refused(Condition::Values as u8));
-    }
-    if statics_weight(&values) > most {
-        return Ok(None);
-    }
     Ok(Some(values))
 }

@@ -21,4 +21,4 @@ pub returns-clause-weight : goal.returns-clause-weight
 returns-clause-weight c = λ pools.
     let some : c.row_number-off.result ≢ 0 = omega arith in
     let s = c.in-Ok.shape in
-    values_of c.args.frame.now c.args.row c.row_number-off.result c.row_number-off.ensures some c.args.pools.now s.count s.size s.weight (c.in-Ok.ensures.values pools) c.args.fields (omega arith) (omega arith)
+    values_of c.args.frame.now c.args.row c.row_number-off.result c.row_number-off.ensures some c.args.pools.now s.count s.size s.weight (c.in-Ok.ensures.values pools) c.args.fields (omega arith)

@@ -11,7 +11,7 @@ ghost use Rattle.dexmembers.specs.Checking.{HasAnnotationsOf, HasValuesOf};
 
 use crate::class_data::{ClassData, row_number};
 use crate::row_annotations::names_declared;
-use dexhead::Frame;
+use dexhead::{Condition, Frame};
 use dexpool::{ItemFault, Pools};
 use dexval::{CheckedSets, check_directory, check_statics};
 
@@ -46,7 +46,7 @@ pub(crate) fn check_annotations(
         Err(fault) => return Err(fault),
     };
     if !names_declared(frame, off, declared) {
-        return Err(ItemFault::Refused(22));
+        return Err(ItemFault::Refused(Condition::Annotations as u8));
     }
     Ok(shape.weight)
 }
@@ -77,7 +77,7 @@ pub(crate) fn check_static_values(
         Err(fault) => return Err(fault),
     };
     if shape.count as usize > fields {
-        return Err(ItemFault::Refused(21));
+        return Err(ItemFault::Refused(Condition::Values as u8));
     }
     Ok(shape.weight)
 }

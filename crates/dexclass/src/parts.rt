@@ -70,8 +70,8 @@ impl<'a> Part<'a> {
         self.classes.len()
     }
 
-    /// The classes in parts of `size` each, but for the last, which may have fewer. All parts together cost what this part takes
-    /// for each of them, and no more than that.
+    /// The classes in parts of `size` each, and fewer in the last, in their order. The time for each part grows with the tables of
+    /// this one and with what the part's classes mention.
     ///
     /// Condition: `size` is not 0. Error: the memory for the numberings of the parts was refused.
     ///

@@ -1,8 +1,6 @@
 -- Lists that are equal, mapped.
-use Rattle.std.proofs.Common.{◌≡◌, ℕ, ◌+◌, ◌<◌, List, [], ◌∷◌, ◌++◌, length, drop, take, map, get_or, set, ap, sym, ◌∙◌, subst, arith}
-use Rattle.std.specs.List.{All}
-use Rattle.std.proofs.lemmas.List.{drop-drop, get_or-drop, get_or-map, take_more_set, map_more, drop-set-lt, length-set}
-use Rattle.std.proofs.lemmas.List.Elements.{All-get_or}
+use Rattle.std.proofs.Common.{◌≡◌, ℕ, ◌<◌, List, length, map, get_or, ap, sym, ◌∙◌}
+use Rattle.std.proofs.lemmas.List.{get_or-map}
 
 -- ---- lists that are the same, mapped
 

@@ -1,5 +1,5 @@
 -- Static values of a row, checked and then read.
-use Rattle.std.proofs.Common.{◌≡◌, ◌≢◌, ℕ, ◌-◌, ◌<◌, ◌≤◌, List, map, inl, inr, ap, sym, subst, ◌∙◌, arith}
+use Rattle.std.proofs.Common.{◌≡◌, ◌≢◌, ℕ, ◌<◌, ◌≤◌, List, map, inl, inr, ap, sym, subst, ◌∙◌, arith}
 use Rattle.dexspec.specs.Lists.{OrNone}
 use Rattle.dexspec.specs.Mentions.{Mentions}
 use Rattle.dexspec.specs.Values.{Values, NoValues, count_values, EncodedArrayItemAt}

@@ -6,7 +6,7 @@ use Rattle.dexspec.specs.Canonical.{canonical}
 use Rattle.dexclass.specs.Programs.{IsReadAs}
 
 -- what was read is what the bytes denote
-read_is : (one : (b : List ℕ) (K L : Collection) → Denotes b K → Denotes b L → K ≡ L) (b bytes : List ℕ) (K L : Collection) →
+pub read_is : (one : (b : List ℕ) (K L : Collection) → Denotes b K → Denotes b L → K ≡ L) (b bytes : List ℕ) (K L : Collection) →
     bytes ≡ b → IsReadAs bytes L → Denotes b K → L ≡ K
 read_is one b bytes K L same stands denotes = one b L K (subst (λ x. Denotes x L) same stands.denotes) denotes
 

@@ -5,3 +5,4 @@ pub mod Merges
 pub mod Fans
 pub mod Repairs
 pub mod Counts
+pub mod Digests

@@ -3,6 +3,7 @@
 
 mod checking;
 mod counting;
+mod digesting;
 mod dumping;
 mod explaining;
 mod fanning;
@@ -15,6 +16,7 @@ mod repairing;
 
 pub use checking::check_run;
 pub use counting::count_run;
+pub use digesting::digest_run;
 pub use dumping::dump_run;
 pub use explaining::explain;
 pub use fanning::fan_plan;

@@ -1,0 +1,66 @@
+-- The lines of the classes of a program, one after the other.
+use Rattle.std.proofs.Common.{◌≡◌, ℕ, ◌+◌, ◌<◌, List, [], ◌∷◌, ◌++◌, length, get_or, take, map, sym, ap, subst, ◌∙◌, append-nil, arith}
+use Rattle.std.proofs.lemmas.Grind.{flat_map-append}
+use Rattle.std.proofs.lemmas.List.{get_or-map, length-map, take_all, take_more}
+use Rattle.std.specs.Prelude.{All}
+use Rattle.dexspec.specs.Files.{Collection, Denotes}
+use Rattle.dexspec.specs.Classes.{Definition}
+use Rattle.dexspec.specs.Mentions.{Mentions}
+use Rattle.dexclass.specs.Numbered.{NumberedClass, definition_of, type_at}
+use Rattle.dexclass.specs.Programs.{IsReadAs}
+use Rattle.dexclass.specs.Uses.{IsKnownClass}
+use Rattle.dexcanon.specs.Digests.{class_digest}
+use Rattle.dexruns.specs.Digests.{digest_line, digest_lines, digest_lines_of}
+use Rattle.dexruns.proofs.Normalised.{read_is}
+
+-- ---- the lines as they are made
+
+-- one more line
+lines_more : (file : List ℕ) (D : List Definition) (i : ℕ) (d : Definition) → i < length D →
+    digest_lines_of file (take (i + 1) D) ≡ digest_lines_of file (take i D) ++ digest_line file (class_digest (get_or D i d)) (get_or D i d).0
+lines_more file D i d lt =
+    ap (digest_lines_of file) (take_more D i d lt) ∙ flat_map-append (λ e. digest_line file (class_digest e) e.0) (take i D) (get_or D i d ∷ [])
+    ∙ ap (λ line. digest_lines_of file (take i D) ++ line) (append-nil (digest_line file (class_digest (get_or D i d)) (get_or D i d).0))
+
+-- there is a definition and a digest for each class
+module _ (m : Mentions) (cs : List NumberedClass) (D : List Definition) (are : map (definition_of m) cs ≡ D) where
+  many : length D ≡ length cs
+  many = ap (λ l. length l) (sym are) ∙ length-map cs (definition_of m)
+
+  pub digests_count : (digests : List (List ℕ)) → digests ≡ map class_digest D → length digests ≡ length cs
+  digests_count digests is = ap (λ l. length l) is ∙ length-map D class_digest ∙ many
+
+  -- the line of one more class is appended
+  pub line_more : (file : List ℕ) (digests : List (List ℕ)) (i : ℕ) (c : NumberedClass) (digest name old new : List ℕ) → digests ≡ map class_digest D →
+      i < length cs → c ≡ get_or cs i c → digest ≡ get_or digests i digest → name ≡ type_at m c.name →
+      old ≡ digest_lines_of file (take i D) → new ≡ old ++ digest_line file digest name → new ≡ digest_lines_of file (take (i + 1) D)
+  line_more file digests i c digest name old new is lt at here named before after =
+      let there : definition_of m c ≡ get_or D i (definition_of m c) = ap (definition_of m) at ∙ sym (get_or-map (definition_of m) cs i c (definition_of m c) lt) ∙ ap (λ l. get_or l i (definition_of m c)) are in
+      let last : digest ≡ class_digest (get_or D i (definition_of m c)) =
+      here ∙ ap (λ l. get_or l i digest) is ∙ get_or-map class_digest D i (definition_of m c) digest (omega (arith, lt, many)) in
+      let title : name ≡ (get_or D i (definition_of m c)).0 = named ∙ ap (λ (d : Definition). d.0) there in
+      after ∙ ap (λ l. l ++ digest_line file digest name) before ∙ ap (λ x. digest_lines_of file (take i D) ++ digest_line file x name) last
+      ∙ ap (λ x. digest_lines_of file (take i D) ++ digest_line file (class_digest (get_or D i (definition_of m c))) x) title
+      ∙ sym (lines_more file D i (definition_of m c) (omega (arith, lt, many)))
+
+  -- all lines are there
+  pub all_lines : (file : List ℕ) (i : ℕ) (text : List ℕ) → i ≡ length cs → text ≡ digest_lines_of file (take i D) → text ≡ digest_lines_of file D
+  all_lines file i text end before = before ∙ ap (digest_lines_of file) (take_all i D (omega (arith, end, many)))
+
+-- a class of known ones has a name
+pub name_in : (m : Mentions) (cs : List NumberedClass) (i : ℕ) (c : NumberedClass) → All (IsKnownClass m) cs → i < length cs → c ≡ get_or cs i c → c.name < length m.types
+name_in m cs i c known lt at = let here : IsKnownClass m c = subst (λ x. IsKnownClass m x) (sym at) (known i c lt) in here.types_in 0 c.name (omega arith)
+
+-- ---- the lines as they are written
+
+pub written_is : (one : (b : List ℕ) (K L : Collection) → Denotes b K → Denotes b L → K ≡ L) (file b bytes lines : List ℕ) (K L : Collection) (old new : List ℕ) →
+    bytes ≡ b → IsReadAs bytes L → Denotes b K → lines ≡ digest_lines file L → new ≡ old ++ lines → new ≡ old ++ digest_lines file K
+written_is one file b bytes lines K L old new same stands denotes made written =
+    written ∙ ap (λ x. old ++ x) made ∙ ap (λ J. old ++ digest_lines file J) (read_is one b bytes K L same stands denotes)
+
+pub front_is : (one : (b : List ℕ) (K L : Collection) → Denotes b K → Denotes b L → K ≡ L) (file b bytes lines : List ℕ) (K L : Collection) (old new : List ℕ) →
+    bytes ≡ b → IsReadAs bytes L → Denotes b K → lines ≡ digest_lines file L → ((n : ℕ) × (new ≡ old ++ take n lines)) → (n : ℕ) × (new ≡ old ++ take n (digest_lines file K))
+front_is one file b bytes lines K L old new same stands denotes made front = (
+  front.0,
+  front.1 ∙ ap (λ x. old ++ take front.0 x) made ∙ ap (λ J. old ++ take front.0 (digest_lines file J)) (read_is one b bytes K L same stands denotes),
+)

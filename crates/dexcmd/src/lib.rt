@@ -1,8 +1,23 @@
-//! The program `dexkit` as a library: its runs, its arguments, and its jobs.
+//! The jobs of the program `dexkit` over devices that have names, the devices of the system, and the program's arguments.
 #![tactic(auto)]
 
+mod arguments;
+mod devices;
+mod each_file;
+mod files;
+mod jobs;
+mod reports;
+mod runs;
+mod system;
+
+pub use arguments::{ListsFault, expand_arguments, explain_lists};
+pub use devices::Devices;
 pub use dexargs::{Job, read_words};
 pub use dexruns::{
     MOST_READ, MergeCause, RunFault, check_run, dump_run, explain, fan_plan, merge_run,
     merge_strip_run, normalise_run,
 };
+pub use files::{NewFile, OldFile, file_len};
+pub use jobs::run_job;
+pub use reports::Report;
+pub use system::{NamedInput, NamedOutput, SystemDevices};

@@ -1,0 +1,60 @@
+-- What the runs leave over given devices: the clauses of each run, as one record of its devices before and after it, and
+-- its outcome.
+use Rattle.std.specs.Prelude.{◌≡◌, ◌↔◌, ◌++◌, ℕ, Bool, true, false, List, map, All, Result, OnOk, IfOk, IfErr, IsErrOf}
+use Rattle.std.specs.List.{AllZip}
+use Rattle.dexspec.specs.Files.{Collection, Denotes}
+use Rattle.dexspec.specs.Accepted.{IsAccepted}
+use Rattle.dexspec.specs.Canonical.{canonical}
+use Rattle.dexspec.specs.Merging.{Caps, Plan}
+use Rattle.dexspec.specs.Stripping.{strip_collection}
+use Rattle.dexruns.specs.declared.faults.RunFault.{RunFault}
+use Rattle.dexruns.specs.declared.faults.RunFault.TheVariants.{Read, Write}
+use Rattle.dexruns.specs.Inputs.{bytes_read, IsReadNoFurther}
+use Rattle.dexruns.specs.Runs.{AreChecked, AreBegun, AllWork, IsOfCheck, IsOfInput, HasLeft, IsLeft}
+use Rattle.dexruns.specs.Merges.{IsAppended, IsFrontAppended, IsMergedFile, IsMergeFault, AreUncalled, IsOfDevices}
+
+-- what is kept of a union: all of it, or what is left without debug programs and source texts
+abbrev pub kept : Bool → Collection → Collection
+kept true whole = strip_collection whole
+kept false whole = whole
+
+module _ {R W : Type 0} (tells : R → Type 0) (to_come : R → List ℕ) (reader_failed : R → Bool) (writes : W → Type 0) (taken : W → List ℕ) (writer_failed : W → Bool) where
+  -- `check_run` over inputs of these names
+  pub record IsCheckRun (names : List (List ℕ)) (inputs left : List R) (out written : W) (outcome : Result ℕ RunFault) : Type 0 where
+    pub lines : IfOk outcome (AreChecked (All tells inputs) (writes out) names (map (λ input. bytes_read (to_come input)) inputs) (taken out) (taken written))
+    pub begun : IfErr outcome (λ _. AreBegun (All tells inputs) (writes out) names (map (λ input. bytes_read (to_come input)) inputs) (taken out) (taken written))
+    pub no_further : AllZip (IsReadNoFurther tells to_come reader_failed) inputs left
+    pub goes_on_telling : writes out → writes written
+    pub readers : OnOk outcome (AllWork reader_failed left)
+    pub writer : OnOk outcome (writer_failed written ≡ false)
+    pub fault : IfErr outcome (IsOfCheck reader_failed left (writer_failed written))
+
+  -- `dump_run`
+  pub record IsDumpRun (input left : R) (out written : W) (outcome : Result (Unit {0}) RunFault) : Type 0 where
+    pub accepted : OnOk outcome (tells input → IsAccepted (bytes_read (to_come input)))
+    pub fault : IfErr outcome (IsOfInput (tells input) (bytes_read (to_come input)))
+    pub unwritten : IfErr outcome (IsLeft out written)
+    pub no_further : IsReadNoFurther tells to_come reader_failed input left
+    pub read : IsErrOf outcome (Read 0) ↔ (reader_failed left ≡ true)
+    pub write : IsErrOf outcome Write ↔ (writer_failed written ≡ true)
+
+  -- `normalise_run`
+  pub record IsNormaliseRun (input left : R) (out written : W) (outcome : Result (Unit {0}) RunFault) : Type 0 where
+    pub accepted : OnOk outcome (tells input → IsAccepted (bytes_read (to_come input)))
+    pub canonical_file : OnOk outcome (tells input → writes out → (K : Collection) → Denotes (bytes_read (to_come input)) K → taken written ≡ taken out ++ canonical K)
+    pub fault : IfErr outcome (IsOfInput (tells input) (bytes_read (to_come input)))
+    pub unwritten : IfErr outcome (HasLeft (tells input) (writes out) out written taken (bytes_read (to_come input)))
+    pub no_further : IsReadNoFurther tells to_come reader_failed input left
+    pub read : IsErrOf outcome (Read 0) ↔ (reader_failed left ≡ true)
+    pub write : IsErrOf outcome Write ↔ (writer_failed written ≡ true)
+
+  -- `merge_run`, or `merge_strip_run` where what is merged is stripped
+  pub record IsMergeRun (plan : Plan) (caps : Caps) (is_stripped : Bool) (inputs left : List R) (out written : W) (outcome : Result (Unit {0}) RunFault) : Type 0 where
+    pub merged : OnOk outcome (IsMergedFile tells to_come inputs caps plan (kept is_stripped) (IsAppended (writes out) (taken out) (taken written)))
+    pub fault : IfErr outcome (IsMergeFault tells to_come inputs caps plan (kept is_stripped) (IsFrontAppended (writes out) (taken out) (taken written)))
+    pub unwritten : IfErr outcome (IsLeft out written)
+    pub uncalled : IfErr outcome (AreUncalled inputs left)
+    pub no_further : AllZip (IsReadNoFurther tells to_come reader_failed) inputs left
+    pub readers : OnOk outcome (AllWork reader_failed left)
+    pub writer : OnOk outcome (writer_failed written ≡ false)
+    pub devices : IfErr outcome (IsOfDevices reader_failed left (writer_failed written))

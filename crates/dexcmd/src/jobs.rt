@@ -1,0 +1,151 @@
+//! The jobs of the program.
+
+ghost use Rattle.std.specs.Prelude.{◌≡◌, ◌≤◌, ◌<◌, false, length, map, All, IfOk, IfSome, string_bytes, vec_len};
+ghost use Rattle.std.specs.List.{AllZip};
+ghost use Rattle.dexargs.specs.Words.{IsSound, IsSoundMerge};
+ghost use Rattle.dexcmd.specs.Jobs.{HasChecked, HasDumped, HasNormalised, HasMerged, IsDone};
+
+use crate::devices::Devices;
+use crate::each_file::{Task, run_over_each};
+use crate::reports::{Report, STANDARD_OUTPUT, done, report_of};
+use crate::runs::merge_or_strip;
+use dexargs::Job;
+use dexhead::{Sink, Source};
+use dexmerge::Caps;
+use dexruns::{check_run, dump_run, fan_plan, normalise_run};
+use std::alloc::{AllocError, Global};
+
+// The names as texts.
+fn texts<'a>(alloc: Global, names: &'a [String]) -> Result<Vec<&'a str>, AllocError>
+    ensures { IfOk result (λ texts. map (λ text. text.now) texts.items ≡ map string_bytes names.now) }
+{
+    let mut texts = Vec::with_capacity(alloc, names.len())?;
+    for name in names {
+        texts.push(name.as_str())?;
+    }
+    Ok(texts)
+}
+
+// The input of each name.
+fn inputs_of<'a, D: Devices<'a>>(
+    alloc: Global,
+    devices: &D,
+    names: &[&'a str],
+) -> Result<Vec<D::Input>, AllocError>
+    ensures named { IfOk result (λ inputs. AllZip (D.is_input devices.now) (map (λ name. name.now) names.now) inputs.items) }
+    ensures count { IfOk result (λ inputs. length inputs.items ≡ length names.now) }
+    ensures works { IfOk result (λ inputs. All (λ input. D.Input.has_failed input ≡ false) inputs.items) }
+{
+    let mut inputs = Vec::with_capacity(alloc, names.len())?;
+    for name in names {
+        inputs.push(devices.input(name))?;
+    }
+    Ok(inputs)
+}
+
+fn check<'a, D: Devices<'a>>(
+    alloc: Global,
+    devices: &D,
+    files: &'a [String],
+) -> Result<Report, AllocError>
+    ensures { IfOk result (HasChecked (D.is_input devices.now) (D.is_output devices.now) (D.is_standard devices.now) D.is_closed
+        D.Input.tells D.Input.to_come D.Input.has_failed D.Output.tells D.Output.taken D.Output.has_failed (map string_bytes files.now)) }
+{
+    let texts = texts(alloc, files)?;
+    let names = texts.as_slice();
+    let mut inputs = inputs_of(alloc, devices, names)?;
+    let mut out = devices.standard();
+    let outcome = check_run(alloc, names, inputs.as_mut_slice(), &mut out);
+    let is_closed = devices.close(out);
+    report_of(alloc, outcome, names, STANDARD_OUTPUT, is_closed)
+}
+
+fn dump<'a, D: Devices<'a>>(alloc: Global, devices: &D, file: &'a str) -> Result<Report, AllocError>
+    ensures { IfOk result (HasDumped (D.is_input devices.now) (D.is_output devices.now) (D.is_standard devices.now) D.is_closed
+        D.Input.tells D.Input.to_come D.Input.has_failed D.Output.tells D.Output.taken D.Output.has_failed file.now) }
+{
+    let mut input = devices.input(file);
+    let mut out = devices.standard();
+    let outcome = done(dump_run(alloc, &mut input, &mut out));
+    let is_closed = devices.close(out);
+    report_of(alloc, outcome, &[file], STANDARD_OUTPUT, is_closed)
+}
+
+fn normalise<'a, D: Devices<'a>>(
+    alloc: Global,
+    devices: &D,
+    file: &'a str,
+    target: &'a str,
+) -> Result<Report, AllocError>
+    ensures { IfOk result (HasNormalised (D.is_input devices.now) (D.is_output devices.now) (D.is_standard devices.now) D.is_closed
+        D.Input.tells D.Input.to_come D.Input.has_failed D.Output.tells D.Output.taken D.Output.has_failed file.now target.now) }
+{
+    let mut input = devices.input(file);
+    let mut out = devices.output(target);
+    let outcome = done(normalise_run(alloc, &mut input, &mut out));
+    let is_closed = devices.close(out);
+    report_of(alloc, outcome, &[file], target, is_closed)
+}
+
+fn merge<'a, D: Devices<'a>>(
+    alloc: Global,
+    devices: &D,
+    target: &'a str,
+    fan: Option<usize>,
+    caps: &Caps,
+    is_stripped: bool,
+    files: &'a [String],
+) -> Result<Report, AllocError>
+    requires files { 1 ≤ length files.now }
+    requires fan { IfSome fan (λ fan. 2 ≤ fan) }
+    ensures { IfOk result (HasMerged (D.is_input devices.now) (D.is_output devices.now) (D.is_standard devices.now) D.is_closed
+        D.Input.tells D.Input.to_come D.Input.has_failed D.Output.tells D.Output.taken D.Output.has_failed
+        target.now fan caps.now is_stripped (map string_bytes files.now)) }
+{
+    let plan = fan_plan(alloc, files.len(), fan)?;
+    let texts = texts(alloc, files)?;
+    let names = texts.as_slice();
+    let mut inputs = inputs_of(alloc, devices, names)?;
+    let mut out = devices.output(target);
+    let outcome = done(merge_or_strip(
+        alloc,
+        inputs.as_mut_slice(),
+        &plan,
+        caps,
+        is_stripped,
+        &mut out,
+    ));
+    let is_closed = devices.close(out);
+    report_of(alloc, outcome, names, target, is_closed)
+}
+
+/// Does a job over the devices of its names, and returns what is to be reported of it: the exit status, and for each fault
+/// a line.
+///
+/// Condition: the job is one that arguments ask for. Error: memory was refused before the job's run, or for its report.
+pub fn run_job<'a, D: Devices<'a>>(
+    alloc: Global,
+    devices: &D,
+    job: &'a Job,
+) -> Result<Report, AllocError>
+    requires { IsSound job.now }
+    ensures { IfOk result (IsDone (D.is_input devices.now) (D.is_output devices.now) (D.is_standard devices.now) D.is_closed
+        D.Input.tells D.Input.to_come D.Input.has_failed D.Output.tells D.Output.taken D.Output.has_failed job.now) }
+{
+    match job {
+        Job::Check(files) => check(alloc, devices, files.as_slice()),
+        Job::Dump(file) => dump(alloc, devices, file.as_str()),
+        Job::Normalise(file, out) => normalise(alloc, devices, file.as_str(), out.as_str()),
+        Job::Merge(out, fan, caps, is_stripped, files) => merge(
+            alloc,
+            devices,
+            out.as_str(),
+            *fan,
+            caps,
+            *is_stripped,
+            files.as_slice(),
+        ),
+        Job::KeepChecking(files) => run_over_each(alloc, devices, Task::Check, files.as_slice()),
+        Job::Digest(_) | Job::Count(_) | Job::Repair(_, _) => Err(AllocError),
+    }
+}

@@ -1,59 +1,119 @@
-//! The program `dexkit`: checks, lists, normalises and merges DEX files.
+//! The program `dexkit`: checks, lists, normalises, merges, repairs and counts DEX files, and writes digests of their classes.
 //!
-//! `check FILE...` tells of each file whether it is accepted; `dump FILE` lists its classes; `normalise FILE OUT` writes the
-//! canonical form of FILE to OUT; `merge --out OUT FILE...` writes the canonical form of all classes of the files to OUT,
-//! under the caps of `--max-types` and its like, with `--fan N` by merging N at a time, and with `--strip` without debug
-//! programs and source texts. The status is 0 where all was done, or help or the version was asked for, 1 where a file or a
-//! merge was refused, 2 where the words are no command, 3 where input or output failed, and 4 where memory did.
+//! Its arguments are those of `dexargs`, with lists of arguments expanded, and what it does for them is `run_job` of
+//! `dexcmd`. The exit status is 0 if all was done, or help or the version was asked for, 1 if a file or a merge was refused,
+//! 2 for a usage error, 3 if input or output failed, and 4 if it ran out of memory.
 #![tactic(auto)]
 
-mod files;
-mod jobs;
-
+use clap::Error;
 use clap::error::ErrorKind;
-use dexcmd::read_words;
-use jobs::do_job;
+use dexcmd::{Report, SystemDevices, expand_arguments, explain_lists, read_words, run_job};
 use std::alloc::{AllocError, Global};
+use std::env::FillError;
+use std::io::Input;
 use std::process::ExitCode;
 use std::rt::{Env, Files};
+use std::str::from_utf8;
 use std::{env, io};
 
 const DONE: u8 = 0;
 
-const NO_COMMAND: u8 = 2;
+const USAGE: u8 = 2;
+
+const DEVICE: u8 = 3;
 
 const MEMORY: u8 = 4;
 
-// Does what the words behind the program's name ask for, and answers the exit status.
-fn start<R: Files + Print + Eprint + Env>(
-    rt: &R,
-    alloc: Global,
-    words: &[String],
-) -> Result<u8, AllocError> {
-    let mut texts = Vec::new(alloc);
-    for word in words.iter().skip(1) {
-        texts.push(word.as_str())?;
+// Prints the lines of a report on standard error, and returns its exit status.
+fn print(rt: &impl Eprint, report: &Report) -> u8 {
+    for line in &report.lines {
+        let _ = eprintln!(rt; "{line}");
     }
-    match read_words(alloc, texts.as_slice()) {
-        Ok(job) => do_job(rt, alloc, &job),
-        Err(error) if error.kind() == ErrorKind::OutOfMemory => Err(AllocError),
+    report.status
+}
+
+// Prints the help, the version, or the fault of a usage, and returns the exit status.
+fn print_usage<R: Print + Eprint>(rt: &R, error: &Error) -> u8 {
+    let printed = error.print(rt);
+    if error.use_stderr() {
+        return USAGE;
+    }
+    match printed {
+        Ok(()) => DONE,
         Err(error) => {
-            let _ = error.print(rt);
-            Ok(if error.use_stderr() { NO_COMMAND } else { DONE })
+            if error.kind() != io::ErrorKind::BrokenPipe {
+                let _ = eprintln!(rt; "dexkit: standard output: cannot be written");
+            }
+            DEVICE
         }
     }
 }
 
-// Does what the command line asks for, and answers the exit status.
+// Does what the arguments ask for, and returns the exit status.
+fn start<R: Files + Print + Eprint + Input>(
+    rt: &R,
+    alloc: Global,
+    arguments: &[String],
+) -> Result<u8, AllocError> {
+    let expanded = match expand_arguments(alloc, &SystemDevices::new(rt), arguments) {
+        Ok(expanded) => expanded,
+        Err(fault) => {
+            let report = explain_lists(alloc, fault)?;
+            return Ok(print(rt, &report));
+        }
+    };
+    let mut texts = Vec::new(alloc);
+    for argument in &expanded {
+        texts.push(argument.as_str())?;
+    }
+    match read_words(alloc, texts.as_slice()) {
+        Ok(job) => {
+            let report = run_job(alloc, &SystemDevices::new(rt), &job)?;
+            Ok(print(rt, &report))
+        }
+        Err(error) if error.kind() == ErrorKind::OutOfMemory => Err(AllocError),
+        Err(error) => Ok(print_usage(rt, &error)),
+    }
+}
+
+// Whether an argument is UTF-8, if there is one with this number.
+fn is_text(rt: &impl Env, alloc: Global, i: usize) -> Result<Option<bool>, AllocError> {
+    let mut room: usize = 256;
+    for _ in 0..usize::BITS {
+        let mut bytes = vec![in alloc; 0u8; room]?;
+        match rt.arg(i, bytes.as_mut_slice()) {
+            Ok(len) => return Ok(Some(from_utf8(&bytes[..len]).is_ok())),
+            Err(FillError::NotPresent) => return Ok(None),
+            Err(FillError::TooLong) => room = room.saturating_mul(2),
+        }
+    }
+    Err(AllocError)
+}
+
+// The number of the first argument that is not UTF-8; the program's name has the number 0.
+fn first_bad(rt: &impl Env, alloc: Global) -> Result<usize, AllocError> {
+    let mut number = 0;
+    for i in 0..usize::MAX {
+        number = i;
+        if is_text(rt, alloc, i)? != Some(true) {
+            break;
+        }
+    }
+    Ok(number)
+}
+
+// Does what the command line asks for, and returns the exit status.
 fn run(rt: &HostRuntime) -> Result<u8, AllocError> {
     match env::args(rt) {
-        Ok(args) => {
-            let words: Vec<String> = args.collect(rt.alloc())?;
-            start(rt, rt.alloc(), words.as_slice())
+        Ok(mut args) => {
+            let _name = args.next();
+            let arguments: Vec<String> = args.collect(rt.alloc())?;
+            start(rt, rt.alloc(), arguments.as_slice())
         }
         Err(error) if error.kind() == io::ErrorKind::InvalidData => {
-            let _ = eprintln!(rt; "dexkit: an argument is not UTF-8");
-            Ok(NO_COMMAND)
+            let number = first_bad(rt, rt.alloc())?;
+            let _ = eprintln!(rt; "dexkit: argument {number} is not UTF-8");
+            Ok(USAGE)
         }
         Err(_) => Err(AllocError),
     }

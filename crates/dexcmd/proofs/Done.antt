@@ -13,9 +13,10 @@ use Rattle.dexruns.specs.Fans.{IsFanPlan}
 use Rattle.dexruns.specs.Lines.{HasName}
 use Rattle.dexruns.specs.Runs.{IsOfCheck, IsOfInput}
 use Rattle.dexruns.specs.Merges.{IsMergeFault}
+use Rattle.dexruns.specs.Counts.{IsCountFault}
 use Rattle.dexcmd.specs.Reports.{standard_name, done}
-use Rattle.dexcmd.specs.Ran.{IsCheckRun, IsDumpRun, IsNormaliseRun, IsMergeRun}
-use Rattle.dexcmd.specs.Jobs.{IsReportOf, HasChecked, HasDumped, HasNormalised, HasMerged}
+use Rattle.dexcmd.specs.Ran.{IsCheckRun, IsDumpRun, IsNormaliseRun, IsMergeRun, IsRepairRun, IsCountRun}
+use Rattle.dexcmd.specs.Jobs.{IsReportOf, HasChecked, HasDumped, HasNormalised, HasMerged, HasCounted, HasRepaired}
 
 -- ---- faults name files of which there is a name
 
@@ -53,6 +54,19 @@ module _ {R : Type 0} (tells : R → Type 0) (to_come : R → List ℕ) (inputs 
 
   pub merge_named : (outcome : Result (Unit {0}) RunFault) (told : Result ℕ RunFault) → told ≡ done outcome → IfErr outcome (IsMergeFault tells to_come inputs caps plan kept Written) → IfErr told (HasName names)
   merge_named outcome told is h = subst (λ r. IfErr r (HasName names)) (sym is) (each_named outcome h)
+
+module _ {R : Type 0} (tells : R → Type 0) (to_come : R → List ℕ) (inputs : List R) (Written : List ℕ → Type 0) (names : ℕ) (same : length inputs ≡ names) where
+  counts_named : (outcome : Result (Unit {0}) RunFault) → IfErr outcome (IsCountFault tells to_come inputs Written) → IfErr (done outcome) (HasName names)
+  counts_named (Ok u) h = tt
+  counts_named (Err (fault.Input i refusal)) h = omega (arith, same, h.within)
+  counts_named (Err fault.Plan) h = absurd h
+  counts_named (Err (fault.Merge cause)) h = tt
+  counts_named (Err (fault.Read i)) h = omega (arith, same, h.within)
+  counts_named (Err fault.Write) h = tt
+  counts_named (Err fault.Memory) h = tt
+
+  pub count_named : (outcome : Result (Unit {0}) RunFault) (told : Result ℕ RunFault) → told ≡ done outcome → IfErr outcome (IsCountFault tells to_come inputs Written) → IfErr told (HasName names)
+  count_named outcome told is h = subst (λ r. IfErr r (HasName names)) (sym is) (counts_named outcome h)
 
 -- ---- reports
 
@@ -138,3 +152,38 @@ module _ {In Out : Type 0} (is_input : List ℕ → In → Type 0) (is_output : 
         ran = ran;
         reported = reported_is names target closed (is_closed written) told (done outcome) report same is h;
       }) reported)
+
+  pub counted : (files names : List (List ℕ)) (inputs items left : List In) (outcome : Result (Unit {0}) RunFault) (told : Result ℕ RunFault) → told ≡ done outcome → names ≡ files → inputs ≡ items →
+      AllZip is_input names items → is_standard out → IsCountRun tells to_come reader_failed writes taken writer_failed inputs left out written outcome →
+      IfOk result (IsReportOf names standard_name closed told) → IfOk result (HasCounted is_input is_output is_standard is_closed tells to_come reader_failed writes taken writer_failed files)
+  counted files names inputs items left outcome told is files_are are named standard ran reported =
+      subst (λ l. IfOk result (HasCounted is_input is_output is_standard is_closed tells to_come reader_failed writes taken writer_failed l)) files_are
+      (IfOk-weaker result (IsReportOf names standard_name closed told) (HasCounted is_input is_output is_standard is_closed tells to_come reader_failed writes taken writer_failed names)
+      (λ report h. record {
+        inputs = inputs;
+        left = left;
+        out = out;
+        written = written;
+        outcome = outcome;
+        named = subst (AllZip is_input names) (sym are) named;
+        standard = standard;
+        ran = ran;
+        reported = reported_is names standard_name closed (is_closed written) told (done outcome) report same is h;
+      }) reported)
+
+  pub repaired : (file target : List ℕ) (input left : In) (outcome : Result (Unit {0}) RunFault) (told : Result ℕ RunFault) → told ≡ done outcome → is_input file input → is_output target out →
+      IsRepairRun tells to_come reader_failed writes taken writer_failed input left out written outcome → IfOk result (IsReportOf (file ∷ []) target closed told) →
+      IfOk result (HasRepaired is_input is_output is_standard is_closed tells to_come reader_failed writes taken writer_failed file target)
+  repaired file target input left outcome told is named to ran reported =
+      IfOk-weaker result (IsReportOf (file ∷ []) target closed told) (HasRepaired is_input is_output is_standard is_closed tells to_come reader_failed writes taken writer_failed file target)
+      (λ report h. record {
+        input = input;
+        left = left;
+        out = out;
+        written = written;
+        outcome = outcome;
+        named = named;
+        to = to;
+        ran = ran;
+        reported = reported_is (file ∷ []) target closed (is_closed written) told (done outcome) report same is h;
+      }) reported

@@ -5,7 +5,7 @@ use Rattle.std.proofs.lemmas.List.{drop_more, drop-map}
 use Rattle.std.proofs.lemmas.Bool.{false≢true}
 use Rattle.dexruns.specs.declared.faults.RunFault.{RunFault}
 use Rattle.dexcmd.specs.declared.reports.Report.{Report}
-use Rattle.dexcmd.specs.Reports.{standard_name, outcome_status, outcome_lines}
+use Rattle.dexcmd.specs.Reports.{standard_name, done, outcome_status, outcome_lines}
 use Rattle.dexcmd.specs.EachFile.{goes_on, AreRunOver, IsFileChecked}
 use Rattle.dexruns.specs.declared.faults.RunFault.TheVariants as fault
 use Rattle.dexcmd.specs.declared.each_file.Task.TheVariants as task
@@ -25,6 +25,17 @@ check_works has_failed left writer_failed (Err (fault.Merge cause)) works h on =
 check_works has_failed left writer_failed (Err (fault.Read i)) works h on = h.1
 check_works has_failed left writer_failed (Err fault.Write) works h on = absurd (false≢true on)
 check_works has_failed left writer_failed (Err fault.Memory) works h on = h.1
+
+not_true : (b : Bool) → (b ≡ true → ⊥) → b ≡ false
+not_true true h = absurd (h refl)
+not_true false h = refl
+
+no_write : (outcome : Result (Unit {0}) RunFault) → outcome ≡ Err fault.Write → goes_on task.Digest (done outcome) ≡ true → ⊥
+no_write outcome is on = false≢true (subst (λ r. goes_on task.Digest (done r) ≡ true) is on)
+
+pub digest_works : (writer_failed : Bool) (outcome : Result (Unit {0}) RunFault) (told : Result ℕ RunFault) → told ≡ done outcome → (outcome ≡ Err fault.Write) ↔ (writer_failed ≡ true) →
+    goes_on task.Digest told ≡ true → writer_failed ≡ false
+digest_works writer_failed outcome told is write on = not_true writer_failed (λ failed. no_write outcome (write.1 failed) (subst (λ r. goes_on task.Digest r ≡ true) is on))
 
 -- ---- one file checked
 

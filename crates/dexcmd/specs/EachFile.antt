@@ -3,10 +3,10 @@ use Rattle.std.specs.Prelude.{◌≡◌, ℕ, Bool, true, false, List, [], ◌�
 use Rattle.dexruns.specs.declared.faults.RunFault.{RunFault}
 use Rattle.dexruns.specs.declared.faults.RunFault.TheVariants.{Input, Plan, Merge, Read, Write, Memory}
 use Rattle.dexcmd.specs.declared.each_file.Task.{Task}
-use Rattle.dexcmd.specs.declared.each_file.Task.TheVariants.{Check}
+use Rattle.dexcmd.specs.declared.each_file.Task.TheVariants.{Check, Digest}
 use Rattle.dexcmd.specs.declared.reports.Report.{Report}
-use Rattle.dexcmd.specs.Ran.{IsCheckRun}
-use Rattle.dexcmd.specs.Reports.{standard_name, outcome_status, outcome_lines, IsReport}
+use Rattle.dexcmd.specs.Ran.{IsCheckRun, IsDigestRun}
+use Rattle.dexcmd.specs.Reports.{standard_name, done, outcome_status, outcome_lines, IsReport}
 
 -- whether the next file is run over after a fault: for a check after a file that cannot be read, and for digests after a
 -- file that is refused
@@ -17,6 +17,12 @@ passes Check (Merge cause) = false
 passes Check (Read i) = true
 passes Check Write = false
 passes Check Memory = false
+passes Digest (Input i refusal) = true
+passes Digest Plan = false
+passes Digest (Merge cause) = false
+passes Digest (Read i) = false
+passes Digest Write = false
+passes Digest Memory = false
 
 -- whether the next file is run over after an outcome
 abbrev pub goes_on : Task → Result ℕ RunFault → Bool
@@ -42,9 +48,19 @@ module _ {In Out : Type 0} (is_input : List ℕ → In → Type 0) (is_standard 
     pub named : is_input file input
     pub ran : IsCheckRun tells to_come reader_failed writes taken writer_failed (file ∷ []) (input ∷ []) left out written outcome
 
+  -- `digest_run` over the file
+  pub record IsFileDigested (file : List ℕ) (out written : Out) (outcome : Result ℕ RunFault) : Type 0 where
+    pub input : In
+    pub left : In
+    pub ended : Result (Unit {0}) RunFault
+    pub named : is_input file input
+    pub ran : IsDigestRun tells to_come reader_failed writes taken writer_failed file input left out written ended
+    pub is : outcome ≡ done ended
+
   -- the task's run over the file
   abbrev pub IsFileRun : Task → List ℕ → Out → Out → Result ℕ RunFault → Type 0
   IsFileRun Check file out written outcome = IsFileChecked file out written outcome
+  IsFileRun Digest file out written outcome = IsFileDigested file out written outcome
 
   -- the task's runs over the files, from standard output on, and the report of their outcomes
   pub record HasRunOverEach (task : Task) (files : List (List ℕ)) (report : Report) : Type 0 where

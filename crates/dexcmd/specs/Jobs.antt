@@ -10,7 +10,7 @@ use Rattle.dexargs.specs.declared.words.Job.TheVariants.{Check, Dump, Normalise,
 use Rattle.dexcmd.specs.declared.reports.Report.{Report}
 use Rattle.dexcmd.specs.EachFile.{HasRunOverEach}
 use Rattle.dexcmd.specs.declared.each_file.Task.TheVariants as each
-use Rattle.dexcmd.specs.Ran.{IsCheckRun, IsDumpRun, IsNormaliseRun, IsMergeRun}
+use Rattle.dexcmd.specs.Ran.{IsCheckRun, IsDumpRun, IsNormaliseRun, IsMergeRun, IsRepairRun, IsCountRun}
 use Rattle.dexcmd.specs.Reports.{standard_name, done, outcome_status, outcome_lines, IsReport}
 
 -- the report of an outcome
@@ -69,6 +69,30 @@ module _ {In Out : Type 0} (is_input : List ℕ → In → Type 0) (is_output : 
     pub ran : IsMergeRun tells to_come reader_failed writes taken writer_failed plan caps is_stripped inputs left out written outcome
     pub reported : IsReportOf files target (is_closed written) (done outcome) report
 
+  -- what a merge of the files would hold was written to standard output
+  pub record HasCounted (files : List (List ℕ)) (report : Report) : Type 0 where
+    pub inputs : List In
+    pub left : List In
+    pub out : Out
+    pub written : Out
+    pub outcome : Result (Unit {0}) RunFault
+    pub named : AllZip is_input files inputs
+    pub standard : is_standard out
+    pub ran : IsCountRun tells to_come reader_failed writes taken writer_failed inputs left out written outcome
+    pub reported : IsReportOf files standard_name (is_closed written) (done outcome) report
+
+  -- the file with its sums set right was written to the output of the other name
+  pub record HasRepaired (file target : List ℕ) (report : Report) : Type 0 where
+    pub input : In
+    pub left : In
+    pub out : Out
+    pub written : Out
+    pub outcome : Result (Unit {0}) RunFault
+    pub named : is_input file input
+    pub to : is_output target out
+    pub ran : IsRepairRun tells to_come reader_failed writes taken writer_failed input left out written outcome
+    pub reported : IsReportOf (file ∷ []) target (is_closed written) (done outcome) report
+
   -- the job was done, and this is its report
   abbrev pub IsDone : Job → Report → Type 0
   IsDone (Check files) report = HasChecked (map string_bytes files.items) report
@@ -76,6 +100,6 @@ module _ {In Out : Type 0} (is_input : List ℕ → In → Type 0) (is_output : 
   IsDone (Normalise file out) report = HasNormalised (string_bytes file) (string_bytes out) report
   IsDone (Merge out fan caps is_stripped files) report = HasMerged (string_bytes out) fan caps is_stripped (map string_bytes files.items) report
   IsDone (KeepChecking files) report = HasRunOverEach is_input is_standard is_closed tells to_come reader_failed writes taken writer_failed each.Check (map string_bytes files.items) report
-  IsDone (Digest files) report = ⊥
-  IsDone (Count files) report = ⊥
-  IsDone (Repair file out) report = ⊥
+  IsDone (Digest files) report = HasRunOverEach is_input is_standard is_closed tells to_come reader_failed writes taken writer_failed each.Digest (map string_bytes files.items) report
+  IsDone (Count files) report = HasCounted (map string_bytes files.items) report
+  IsDone (Repair file out) report = HasRepaired (string_bytes file) (string_bytes out) report

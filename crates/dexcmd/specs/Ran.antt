@@ -10,8 +10,11 @@ use Rattle.dexspec.specs.Stripping.{strip_collection}
 use Rattle.dexruns.specs.declared.faults.RunFault.{RunFault}
 use Rattle.dexruns.specs.declared.faults.RunFault.TheVariants.{Read, Write}
 use Rattle.dexruns.specs.Inputs.{bytes_read, IsReadNoFurther}
-use Rattle.dexruns.specs.Runs.{AreChecked, AreBegun, AllWork, IsOfCheck, IsOfInput, HasLeft, IsLeft}
+use Rattle.dexruns.specs.Runs.{AreChecked, AreBegun, AllWork, IsOfCheck, IsOfInput, HasLeft, IsLeft, IsLeftWith}
 use Rattle.dexruns.specs.Merges.{IsAppended, IsFrontAppended, IsMergedFile, IsMergeFault, AreUncalled, IsOfDevices}
+use Rattle.dexruns.specs.Repairs.{repaired, AreEqualButForSums, IsRepairedFront}
+use Rattle.dexruns.specs.Counts.{AreCounted, IsCountFault}
+use Rattle.dexruns.specs.Digests.{digest_lines, IsDigestFront}
 
 -- what is kept of a union: all of it, or what is left without debug programs and source texts
 abbrev pub kept : Bool → Collection → Collection
@@ -58,3 +61,35 @@ module _ {R W : Type 0} (tells : R → Type 0) (to_come : R → List ℕ) (reade
     pub readers : OnOk outcome (AllWork reader_failed left)
     pub writer : OnOk outcome (writer_failed written ≡ false)
     pub devices : IfErr outcome (IsOfDevices reader_failed left (writer_failed written))
+
+  -- `repair_run`
+  pub record IsRepairRun (input left : R) (out written : W) (outcome : Result (Unit {0}) RunFault) : Type 0 where
+    pub accepted : OnOk outcome (tells input → IsAccepted (repaired (bytes_read (to_come input))))
+    pub repaired_file : OnOk outcome (tells input → writes out → taken written ≡ taken out ++ repaired (bytes_read (to_come input)))
+    pub only_sums : AreEqualButForSums (bytes_read (to_come input)) (repaired (bytes_read (to_come input)))
+    pub fault : IfErr outcome (IsOfInput (tells input) (repaired (bytes_read (to_come input))))
+    pub unwritten : IfErr outcome (IsLeftWith (IsRepairedFront (tells input) (writes out) (taken out) (taken written) (bytes_read (to_come input))) out written)
+    pub no_further : IsReadNoFurther tells to_come reader_failed input left
+    pub read : IsErrOf outcome (Read 0) ↔ (reader_failed left ≡ true)
+    pub write : IsErrOf outcome Write ↔ (writer_failed written ≡ true)
+
+  -- `count_run`
+  pub record IsCountRun (inputs left : List R) (out written : W) (outcome : Result (Unit {0}) RunFault) : Type 0 where
+    pub counted : OnOk outcome (AreCounted tells to_come inputs (IsAppended (writes out) (taken out) (taken written)))
+    pub fault : IfErr outcome (IsCountFault tells to_come inputs (IsFrontAppended (writes out) (taken out) (taken written)))
+    pub unwritten : IfErr outcome (IsLeft out written)
+    pub no_further : AllZip (IsReadNoFurther tells to_come reader_failed) inputs left
+    pub readers : OnOk outcome (AllWork reader_failed left)
+    pub writer : OnOk outcome (writer_failed written ≡ false)
+    pub devices : IfErr outcome (IsOfDevices reader_failed left (writer_failed written))
+
+  -- `digest_run` of a file of this name
+  pub record IsDigestRun (name : List ℕ) (input left : R) (out written : W) (outcome : Result (Unit {0}) RunFault) : Type 0 where
+    pub accepted : OnOk outcome (tells input → IsAccepted (bytes_read (to_come input)))
+    pub lines : OnOk outcome (tells input → writes out → (K : Collection) → Denotes (bytes_read (to_come input)) K → taken written ≡ taken out ++ digest_lines name K)
+    pub fault : IfErr outcome (IsOfInput (tells input) (bytes_read (to_come input)))
+    pub goes_on_telling : writes out → writes written
+    pub unwritten : IfErr outcome (IsLeftWith (IsDigestFront (tells input) (writes out) name (taken out) (taken written) (bytes_read (to_come input))) out written)
+    pub no_further : IsReadNoFurther tells to_come reader_failed input left
+    pub read : IsErrOf outcome (Read 0) ↔ (reader_failed left ≡ true)
+    pub write : IsErrOf outcome Write ↔ (writer_failed written ≡ true)

@@ -2,13 +2,13 @@
 
 ghost use Rattle.std.specs.Prelude.{◌≡◌, true, false, map, IfOk, IfErr, string_bytes};
 ghost use Rattle.dexruns.specs.Lines.{HasName};
-ghost use Rattle.dexcmd.specs.EachFile.{passes, goes_on, IsFileChecked, IsFileRun, HasRunOverEach};
-ghost use Rattle.dexcmd.specs.declared.each_file.Task.TheVariants.{Check};
+ghost use Rattle.dexcmd.specs.EachFile.{passes, goes_on, IsFileChecked, IsFileDigested, IsFileRun, HasRunOverEach};
+ghost use Rattle.dexcmd.specs.declared.each_file.Task.TheVariants.{Check, Digest};
 
 use crate::devices::Devices;
-use crate::reports::{Report, STANDARD_OUTPUT, add_outcome, empty_report};
+use crate::reports::{Report, STANDARD_OUTPUT, add_outcome, done, empty_report};
 use dexhead::{Sink, Source};
-use dexruns::{RunFault, check_run};
+use dexruns::{RunFault, check_run, digest_run};
 use std::alloc::{AllocError, Global};
 
 /// What is done with each of some files.
@@ -16,6 +16,8 @@ use std::alloc::{AllocError, Global};
 pub(crate) enum Task {
     /// It is checked.
     Check,
+    /// The digests of its classes are written.
+    Digest,
 }
 
 // Whether the next file is run over after a fault.
@@ -24,6 +26,7 @@ fn passes(task: Task, fault: &RunFault) -> bool
 {
     match task {
         Task::Check => matches!(fault, RunFault::Read(_)),
+        Task::Digest => matches!(fault, RunFault::Input(_, _)),
     }
 }
 
@@ -55,6 +58,23 @@ fn check_file<'a, D: Devices<'a>>(
     check_run(alloc, &[file], inputs.as_mut_slice(), out)
 }
 
+// Writes the digests of a file's classes.
+fn digest_file<'a, D: Devices<'a>>(
+    alloc: Global,
+    devices: &D,
+    file: &'a str,
+    out: &mut D::Output,
+) -> Result<u8, RunFault>
+    requires { D.Output.has_failed out.old ≡ false }
+    ensures ran { IsFileDigested (D.is_input devices.now) (D.is_standard devices.now) D.is_closed
+        D.Input.tells D.Input.to_come D.Input.has_failed D.Output.tells D.Output.taken D.Output.has_failed file.now out.old out.new result }
+    ensures named { IfErr result (HasName 1) }
+    ensures works { goes_on Digest result ≡ true → D.Output.has_failed out.new ≡ false }
+{
+    let mut input = devices.input(file);
+    done(digest_run(alloc, file, &mut input, out))
+}
+
 // Runs over a file.
 fn run_over<'a, D: Devices<'a>>(
     alloc: Global,
@@ -71,6 +91,7 @@ fn run_over<'a, D: Devices<'a>>(
 {
     match task {
         Task::Check => check_file(alloc, devices, file, out),
+        Task::Digest => digest_file(alloc, devices, file, out),
     }
 }
 

@@ -3,7 +3,7 @@
 ghost use Rattle.std.specs.Prelude.{◌≡◌, ◌≤◌, ◌<◌, false, length, map, All, IfOk, IfSome, string_bytes, vec_len};
 ghost use Rattle.std.specs.List.{AllZip};
 ghost use Rattle.dexargs.specs.Words.{IsSound, IsSoundMerge};
-ghost use Rattle.dexcmd.specs.Jobs.{HasChecked, HasDumped, HasNormalised, HasMerged, IsDone};
+ghost use Rattle.dexcmd.specs.Jobs.{HasChecked, HasDumped, HasNormalised, HasMerged, HasCounted, HasRepaired, IsDone};
 
 use crate::devices::Devices;
 use crate::each_file::{Task, run_over_each};
@@ -12,7 +12,7 @@ use crate::runs::merge_or_strip;
 use dexargs::Job;
 use dexhead::{Sink, Source};
 use dexmerge::Caps;
-use dexruns::{check_run, dump_run, fan_plan, normalise_run};
+use dexruns::{check_run, count_run, dump_run, fan_plan, normalise_run, repair_run};
 use std::alloc::{AllocError, Global};
 
 // The names as texts.
@@ -119,6 +119,39 @@ fn merge<'a, D: Devices<'a>>(
     report_of(alloc, outcome, names, target, is_closed)
 }
 
+fn count<'a, D: Devices<'a>>(
+    alloc: Global,
+    devices: &D,
+    files: &'a [String],
+) -> Result<Report, AllocError>
+    ensures { IfOk result (HasCounted (D.is_input devices.now) (D.is_output devices.now) (D.is_standard devices.now) D.is_closed
+        D.Input.tells D.Input.to_come D.Input.has_failed D.Output.tells D.Output.taken D.Output.has_failed (map string_bytes files.now)) }
+{
+    let texts = texts(alloc, files)?;
+    let names = texts.as_slice();
+    let mut inputs = inputs_of(alloc, devices, names)?;
+    let mut out = devices.standard();
+    let outcome = done(count_run(alloc, inputs.as_mut_slice(), &mut out));
+    let is_closed = devices.close(out);
+    report_of(alloc, outcome, names, STANDARD_OUTPUT, is_closed)
+}
+
+fn repair<'a, D: Devices<'a>>(
+    alloc: Global,
+    devices: &D,
+    file: &'a str,
+    target: &'a str,
+) -> Result<Report, AllocError>
+    ensures { IfOk result (HasRepaired (D.is_input devices.now) (D.is_output devices.now) (D.is_standard devices.now) D.is_closed
+        D.Input.tells D.Input.to_come D.Input.has_failed D.Output.tells D.Output.taken D.Output.has_failed file.now target.now) }
+{
+    let mut input = devices.input(file);
+    let mut out = devices.output(target);
+    let outcome = done(repair_run(alloc, &mut input, &mut out));
+    let is_closed = devices.close(out);
+    report_of(alloc, outcome, &[file], target, is_closed)
+}
+
 /// Does a job over the devices of its names, and returns what is to be reported of it: the exit status, and for each fault
 /// a line.
 ///
@@ -146,6 +179,8 @@ pub fn run_job<'a, D: Devices<'a>>(
             files.as_slice(),
         ),
         Job::KeepChecking(files) => run_over_each(alloc, devices, Task::Check, files.as_slice()),
-        Job::Digest(_) | Job::Count(_) | Job::Repair(_, _) => Err(AllocError),
+        Job::Digest(files) => run_over_each(alloc, devices, Task::Digest, files.as_slice()),
+        Job::Count(files) => count(alloc, devices, files.as_slice()),
+        Job::Repair(file, out) => repair(alloc, devices, file.as_str(), out.as_str()),
     }
 }

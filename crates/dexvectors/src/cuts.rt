@@ -58,6 +58,9 @@ pub fn run(alloc: Global, bytes: &[u8], case: &str) -> Result<Outcome, CaseFault
     let (mended, right) = first_word(rest)?;
     let lens = first.parse()?..=last.parse()?;
     let mended = Mended::of_word(mended).ok_or(CaseFault::Form)?;
+    if lens.is_empty() {
+        return Err(CaseFault::Form);
+    }
     run_cuts(alloc, bytes, lens, mended, right)
 }
 

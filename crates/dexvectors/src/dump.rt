@@ -1,27 +1,25 @@
-//! Files listed: `dump FILE LISTING`. The listing is written to a device.
+//! Files listed: `dump FILE LISTING`. The file is read from a device, and its listing is written to one.
 
-use crate::program::program_of;
 use dexcases::{CaseFault, Outcome};
-use dexclass::Program;
 use dexhead::Device;
-use dexlisting::{ListingFault, write_listing};
-use std::alloc::{AllocError, Global};
+use dexruns::{RunFault, dump_run};
+use std::alloc::Global;
 
 /// Runs a line, given the file and the bytes of its listing: how it goes.
 pub fn run(alloc: Global, bytes: &[u8], right: &[u8]) -> Result<Outcome, CaseFault> {
-    let program = program_of(alloc, bytes)?;
-    if is_listed_as(alloc, &program, right)? {
+    if is_listed_as(alloc, bytes, right)? {
         return Ok(Outcome::Passed);
     }
     Err(CaseFault::failed(alloc, "another listing"))
 }
 
-// Whether a device is given these bytes as the listing of the program.
-fn is_listed_as(alloc: Global, program: &Program<'_>, right: &[u8]) -> Result<bool, AllocError> {
+// Whether a device is given these bytes as the listing of a file.
+fn is_listed_as(alloc: Global, bytes: &[u8], right: &[u8]) -> Result<bool, CaseFault> {
+    let mut input = Device::new(bytes);
     let mut out = Device::new(Vec::new(alloc));
-    match write_listing(alloc, program, &mut out) {
+    match dump_run(alloc, &mut input, &mut out) {
         Ok(()) => Ok(out.into_inner().as_slice() == right),
-        Err(ListingFault::Memory) => Err(AllocError),
-        Err(ListingFault::Io) => Ok(false),
+        Err(RunFault::Memory) => Err(CaseFault::Memory),
+        Err(_) => Ok(false),
     }
 }

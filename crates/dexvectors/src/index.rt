@@ -1,8 +1,10 @@
 //! Lines of an index: cases over the files that lie beside it.
 
 use crate::kind::Kind;
-use crate::merge::After;
-use crate::{check, cuts, dump, merge, normalise, regroup, slices, strip, symbol, weight};
+use crate::{
+    check, check_run, class, cuts, dump, join, measure, merge, normalise, regroup, slices, strip,
+    symbol, weight,
+};
 use dexcases::{CaseFault, Folder, Outcome, first_word};
 use std::alloc::Global;
 use std::rt::Files;
@@ -14,9 +16,12 @@ pub fn run_case<R: Files + AllocGlobal>(
     case: &str,
 ) -> Result<Outcome, CaseFault> {
     match kind {
-        Kind::Merge => merge::run(folder, case, After::Merged),
-        Kind::MergeStrip => merge::run(folder, case, After::Stripped),
+        Kind::Merge => merge::run(folder, case),
+        Kind::MergeStrip => merge::run_stripped(folder, case),
+        Kind::Measure => measure::run(folder, case),
+        Kind::Join => join::run(folder, case),
         Kind::Regroup => regroup::run(folder, case),
+        Kind::Slices => slices::run(folder, case),
         Kind::Unknown => Err(CaseFault::Form),
         _ => {
             let (name, asked) = first_word(case)?;
@@ -26,6 +31,7 @@ pub fn run_case<R: Files + AllocGlobal>(
                     let right = folder.read(asked)?;
                     compare(folder.alloc(), kind, &bytes, &right)
                 }
+                Kind::CheckRun => check_run::run(folder.alloc(), name, &bytes, asked),
                 _ => ask(folder.alloc(), kind, &bytes, asked),
             }
         }
@@ -49,7 +55,7 @@ fn ask(alloc: Global, kind: Kind, bytes: &[u8], asked: &str) -> Result<Outcome, 
         Kind::Cuts => cuts::run(alloc, bytes, asked),
         Kind::Symbol => symbol::run(alloc, bytes, asked),
         Kind::Weight => weight::run(alloc, bytes, asked),
-        Kind::Slices => slices::run(alloc, bytes, asked),
+        Kind::Class => class::run(alloc, bytes, asked),
         _ => Err(CaseFault::Form),
     }
 }

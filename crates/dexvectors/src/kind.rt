@@ -29,8 +29,14 @@ pub enum Kind {
     Flags,
     /// The symbol of a row of a pool.
     Symbol,
+    /// A class of a file.
+    Class,
+    /// The pools of files, joined.
+    Join,
     /// A file that is accepted or refused.
     Check,
+    /// The line that is written of a file, and the status.
+    CheckRun,
     /// A file that is refused however it is cut.
     Cuts,
     /// The weight of a file's classes.
@@ -49,6 +55,8 @@ pub enum Kind {
     Regroup,
     /// Files merged by a plan under caps, and then stripped.
     MergeStrip,
+    /// What files hold together.
+    Measure,
     /// Nothing that this program knows.
     Unknown,
 }
@@ -94,7 +102,10 @@ impl Cases for Kind {
     fn of_case(word: &str) -> Kind {
         match word {
             "symbol" => Kind::Symbol,
+            "class" => Kind::Class,
+            "join" => Kind::Join,
             "check" => Kind::Check,
+            "checkrun" => Kind::CheckRun,
             "cuts" => Kind::Cuts,
             "weight" => Kind::Weight,
             "normalise" => Kind::Normalise,
@@ -104,6 +115,7 @@ impl Cases for Kind {
             "merge" => Kind::Merge,
             "regroup" => Kind::Regroup,
             "mergestrip" => Kind::MergeStrip,
+            "measure" => Kind::Measure,
             _ => Kind::Unknown,
         }
     }
@@ -133,7 +145,10 @@ impl fmt::Display for Kind {
             Kind::Sums => "sums",
             Kind::Flags => "flags",
             Kind::Symbol => "symbol",
+            Kind::Class => "class",
+            Kind::Join => "join",
             Kind::Check => "check",
+            Kind::CheckRun => "checkrun",
             Kind::Cuts => "cuts",
             Kind::Weight => "weight",
             Kind::Normalise => "normalise",
@@ -143,6 +158,7 @@ impl fmt::Display for Kind {
             Kind::Merge => "merge",
             Kind::Regroup => "regroup",
             Kind::MergeStrip => "mergestrip",
+            Kind::Measure => "measure",
             Kind::Unknown => "unknown",
         })
     }

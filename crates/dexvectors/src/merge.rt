@@ -1,13 +1,18 @@
 //! Files merged: `merge PLAN caps T P F M S W files FILE.. ok CANON`, `.. fault CAUSE | CAUSE ..`, any of
-//! which is right, or `.. badplan`; no files are `-`.
+//! which is right, or `.. badplan`; no files are `-`. The programs are merged, and so are devices over the files; for `mergestrip`
+//! devices are merged and stripped, and CANON is the file that is left.
 
+use crate::devices::devices;
+use crate::files::files_of;
 use crate::normalise::is_written_as;
 use crate::plans::{caps_in, plan_in};
+use crate::program::program_of;
 use crate::words::print_name;
 use dexcases::{CaseFault, Folder, Outcome, Printed};
-use dexclass::{Program, into_stripped, read};
+use dexclass::Program;
+use dexhead::Device;
 use dexmerge::{Caps, MergeFault, Plan, PlanFault, merge_files, merge_plan};
-use dexpool::ReadFault;
+use dexruns::{MergeCause, RunFault, merge_run, merge_strip_run};
 use dexstr::Name;
 use std::alloc::{AllocError, Global};
 use std::rt::Files;
@@ -17,34 +22,10 @@ use std::rt::Files;
 enum RightAnswer<'a> {
     /// These bytes are written.
     Written(Vec<u8>),
-    /// One of these causes is told.
+    /// One of these causes is reported.
     Causes(&'a str),
     /// The plan is refused.
     BadPlan,
-}
-
-/// What becomes of the merged program before it is written.
-#[derive(Clone, Copy)]
-pub(crate) enum After {
-    /// It is written as it is.
-    Merged,
-    /// It is stripped.
-    Stripped,
-}
-
-impl After {
-    // Whether what is written of the program then has these bytes.
-    fn is_written_as(
-        self,
-        alloc: Global,
-        program: Program<'_>,
-        right: &[u8],
-    ) -> Result<bool, AllocError> {
-        match self {
-            After::Merged => is_written_as(alloc, &program, right),
-            After::Stripped => is_written_as(alloc, &into_stripped(alloc, program)?, right),
-        }
-    }
 }
 
 /// Files to be merged under caps, and what is right.
@@ -55,16 +36,34 @@ pub(crate) struct Merge<'a> {
     right: RightAnswer<'a>,
 }
 
-/// Runs a line, given what stands in it behind the word of its kind, and what becomes of the merged program: how it goes.
+/// Runs a line that merges, given what follows the word of its kind: how it goes.
 pub fn run<R: Files + AllocGlobal>(
     folder: Folder<'_, R>,
     case: &str,
-    after: After,
 ) -> Result<Outcome, CaseFault> {
-    let (plan, rest) = case.split_once(" caps ").ok_or(CaseFault::Form)?;
-    let merge = Merge::of(folder, rest)?;
-    merge.run(folder.alloc(), plan, after)?;
+    let (plan, merge) = planned(folder, case)?;
+    merge.check_programs(folder.alloc(), &plan)?;
+    merge.check_devices(folder.alloc(), &plan, false)?;
     Ok(Outcome::Passed)
+}
+
+/// Runs a line that merges and strips, given what follows the word of its kind: how it goes.
+pub fn run_stripped<R: Files + AllocGlobal>(
+    folder: Folder<'_, R>,
+    case: &str,
+) -> Result<Outcome, CaseFault> {
+    let (plan, merge) = planned(folder, case)?;
+    merge.check_devices(folder.alloc(), &plan, true)?;
+    Ok(Outcome::Passed)
+}
+
+// The plan of a line, and the rest.
+fn planned<'a, R: Files + AllocGlobal>(
+    folder: Folder<'_, R>,
+    case: &'a str,
+) -> Result<(Plan, Merge<'a>), CaseFault> {
+    let (plan, rest) = case.split_once(" caps ").ok_or(CaseFault::Form)?;
+    Ok((plan_in(folder.alloc(), plan)?, Merge::of(folder, rest)?))
 }
 
 impl<'a> Merge<'a> {
@@ -80,32 +79,51 @@ impl<'a> Merge<'a> {
         Ok(Merge { files, caps, right })
     }
 
-    // Fails the line unless the plan that these words stand for answers what is right.
-    fn run(&self, alloc: Global, plan: &str, after: After) -> Result<(), CaseFault> {
-        let plan = plan_in(alloc, plan)?;
-        self.run_plan(alloc, &plan, after)
+    // Fails the line unless the programs are merged to what is right: lent to the merge, and then given to it.
+    fn check_programs(&self, alloc: Global, plan: &Plan) -> Result<(), CaseFault> {
+        let programs = self.programs(alloc)?;
+        self.check_plan(alloc, &programs, plan)?;
+        self.check(alloc, merge_files(alloc, programs, plan, &self.caps))
     }
 
-    // The same of a plan: the programs are lent to the merge, and then given to it.
-    fn run_plan(&self, alloc: Global, plan: &Plan, after: After) -> Result<(), CaseFault> {
-        let programs = self.programs(alloc)?;
-        self.check_plan(alloc, &programs, plan, after)?;
-        self.check(alloc, merge_files(alloc, programs, plan, &self.caps), after)
+    // Fails the line unless the run over devices writes what is right, or reports it and writes nothing.
+    fn check_devices(
+        &self,
+        alloc: Global,
+        plan: &Plan,
+        is_stripped: bool,
+    ) -> Result<(), CaseFault> {
+        let mut inputs = devices(alloc, &self.files)?;
+        let inputs = inputs.as_mut_slice();
+        let mut out = Device::new(Vec::new(alloc));
+        let answer = if is_stripped {
+            merge_strip_run(alloc, inputs, plan, &self.caps, &mut out)
+        } else {
+            merge_run(alloc, inputs, plan, &self.caps, &mut out)
+        };
+        self.check_run(alloc, answer, out.into_inner().as_slice())
+    }
+
+    // Fails the line unless this answer of a run that wrote these bytes is right.
+    fn check_run(
+        &self,
+        alloc: Global,
+        answer: Result<(), RunFault>,
+        written: &[u8],
+    ) -> Result<(), CaseFault> {
+        match answer {
+            Ok(()) => self.check_written(alloc, written),
+            Err(RunFault::Memory) => Err(CaseFault::Memory),
+            Err(_) if !written.is_empty() => Err(CaseFault::failed(alloc, "bytes and a fault")),
+            Err(RunFault::Plan) => self.check_bad_plan(alloc),
+            Err(RunFault::Merge(cause)) => self.check_cause(alloc, &cause),
+            Err(_) => Err(CaseFault::failed(alloc, "a file is refused, or a device fails")),
+        }
     }
 
     /// The programs of the files. A line of which a file is refused fails.
     pub(crate) fn programs(&self, alloc: Global) -> Result<Vec<Program<'_>>, CaseFault> {
-        let mut programs = Vec::new(alloc);
-        for file in &self.files {
-            match read(alloc, file) {
-                Ok(program) => programs.push(program)?,
-                Err(ReadFault::Refused(_)) => {
-                    return Err(CaseFault::failed(alloc, "a file is refused"));
-                }
-                Err(ReadFault::Memory) => return Err(CaseFault::Memory),
-            }
-        }
-        Ok(programs)
+        programs_of(alloc, &self.files)
     }
 
     /// Fails the line unless the programs that are merged by this plan give what is right.
@@ -114,9 +132,8 @@ impl<'a> Merge<'a> {
         alloc: Global,
         programs: &[Program<'_>],
         plan: &Plan,
-        after: After,
     ) -> Result<(), CaseFault> {
-        self.check(alloc, merge_plan(alloc, programs, plan, &self.caps), after)
+        self.check(alloc, merge_plan(alloc, programs, plan, &self.caps))
     }
 
     // Fails the line unless this answer is right.
@@ -124,65 +141,61 @@ impl<'a> Merge<'a> {
         &self,
         alloc: Global,
         answer: Result<Program<'_>, PlanFault>,
-        after: After,
     ) -> Result<(), CaseFault> {
         match answer {
-            Ok(program) => self.check_program(alloc, program, after),
-            Err(PlanFault::BadPlan) => match self.right {
-                RightAnswer::BadPlan => Ok(()),
-                _ => Err(CaseFault::failed(alloc, "badplan")),
-            },
-            Err(PlanFault::Merge(fault)) => check_cause(alloc, &fault, &self.right),
+            Ok(program) => self.check_program(alloc, &program),
+            Err(PlanFault::BadPlan) => self.check_bad_plan(alloc),
+            Err(PlanFault::Merge(fault)) => self.check_cause(alloc, &cause_in(fault)?),
         }
     }
 
-    // Fails the line unless this merged program is right.
-    fn check_program(
-        &self,
-        alloc: Global,
-        program: Program<'_>,
-        after: After,
-    ) -> Result<(), CaseFault> {
-        let right = match &self.right {
-            RightAnswer::Written(right) => right,
-            _ => return Err(CaseFault::failed(alloc, "ok")),
-        };
-        if after.is_written_as(alloc, program, right)? {
-            return Ok(());
+    // Fails the line unless the canonical file of this merged program is right.
+    fn check_program(&self, alloc: Global, program: &Program<'_>) -> Result<(), CaseFault> {
+        match &self.right {
+            RightAnswer::Written(right) if is_written_as(alloc, program, right)? => Ok(()),
+            RightAnswer::Written(_) => Err(CaseFault::failed(alloc, "other bytes")),
+            _ => Err(CaseFault::failed(alloc, "ok")),
         }
-        Err(CaseFault::failed(alloc, "other bytes"))
     }
-}
 
-// Fails the line unless this cause, for which its files are not merged, is right.
-fn check_cause(
-    alloc: Global,
-    fault: &MergeFault,
-    right: &RightAnswer<'_>,
-) -> Result<(), CaseFault> {
-    let told = cause_of(alloc, fault)?;
-    if let RightAnswer::Causes(causes) = right {
-        for cause in causes.split(" | ") {
-            if cause == told.as_str() {
-                return Ok(());
+    // Fails the line unless these bytes are right.
+    fn check_written(&self, alloc: Global, written: &[u8]) -> Result<(), CaseFault> {
+        match &self.right {
+            RightAnswer::Written(right) if right.as_slice() == written => Ok(()),
+            RightAnswer::Written(_) => Err(CaseFault::failed(alloc, "other bytes by devices")),
+            _ => Err(CaseFault::failed(alloc, "ok")),
+        }
+    }
+
+    // Fails the line unless it is right that the plan is refused.
+    fn check_bad_plan(&self, alloc: Global) -> Result<(), CaseFault> {
+        match self.right {
+            RightAnswer::BadPlan => Ok(()),
+            _ => Err(CaseFault::failed(alloc, "badplan")),
+        }
+    }
+
+    // Fails the line unless this cause, for which its files are not merged, is right.
+    fn check_cause(&self, alloc: Global, cause: &MergeCause) -> Result<(), CaseFault> {
+        let cause = cause_text(alloc, cause)?;
+        if let RightAnswer::Causes(causes) = self.right {
+            for right in causes.split(" | ") {
+                if right == cause.as_str() {
+                    return Ok(());
+                }
             }
         }
+        Err(CaseFault::Failed(cause))
     }
-    Err(CaseFault::Failed(told))
 }
 
-// The bytes of the files of these names.
-fn files_of<R: Files + AllocGlobal>(
-    folder: Folder<'_, R>,
-    names: &str,
-) -> Result<Vec<Vec<u8>>, CaseFault> {
-    let mut files = Vec::new(folder.alloc());
-    for name in names.split(' ') {
-        if name != "-" {
-            files.push(folder.read(name)?)?;
-        }
+/// The programs of files. A line of which a file is refused fails.
+pub(crate) fn programs_of(alloc: Global, files: &[Vec<u8>]) -> Result<Vec<Program<'_>>, CaseFault> {
+    let mut programs = Vec::new(alloc);
+    for file in files {
+        programs.push(program_of(alloc, file)?)?;
     }
-    Ok(files)
+    Ok(programs)
 }
 
 // The names of the files, and what is right.
@@ -202,17 +215,26 @@ fn answer_in<'a, R: Files + AllocGlobal>(
     }
 }
 
-// A cause, in the words of a line.
-fn cause_of(alloc: Global, fault: &MergeFault) -> Result<String, AllocError> {
-    let mut words = Printed::new(alloc);
+/// The cause that a merge reports.
+pub(crate) fn cause_in(fault: MergeFault) -> Result<MergeCause, AllocError> {
     match fault {
-        MergeFault::Conflict(name) => print_named("conflict ", name, &mut words),
-        MergeFault::Cycle(name) => print_named("cycle ", name, &mut words),
-        MergeFault::Cap(cap) => {
+        MergeFault::Conflict(name) => Ok(MergeCause::Conflict(name)),
+        MergeFault::Cycle(name) => Ok(MergeCause::Cycle(name)),
+        MergeFault::Cap(cap) => Ok(MergeCause::Cap(cap)),
+        MergeFault::Memory => Err(AllocError),
+    }
+}
+
+/// A cause, in the words of a line.
+pub(crate) fn cause_text(alloc: Global, cause: &MergeCause) -> Result<String, AllocError> {
+    let mut words = Printed::new(alloc);
+    match cause {
+        MergeCause::Conflict(name) => print_named("conflict ", name, &mut words),
+        MergeCause::Cycle(name) => print_named("cycle ", name, &mut words),
+        MergeCause::Cap(cap) => {
             words.add("cap ");
             words.add(kind_of_cap(*cap));
         }
-        MergeFault::Memory => return Err(AllocError),
     }
     words.finish()
 }

@@ -1,12 +1,12 @@
-//! Files normalised: `normalise FILE CANON`. The program is made to bytes, and a copy of it is written to a
-//! device.
+//! Files normalised: `normalise FILE CANON`. The program is made to bytes, a copy of it is written to a device, and its layout is
+//! measured.
 
 ghost use Rattle.std.specs.Prelude.{◌≡◌, IfOk, IsTrue};
 ghost use Rattle.dexspec.specs.Canonical.{canonical};
 ghost use Rattle.dexvectors.specs.Told.{Normalises};
 
 use crate::program::program_of;
-use dexcanon::{StoreFault, to_bytes, write_to};
+use dexcanon::{Layout, StoreFault, to_bytes, write_to};
 use dexcases::{CaseFault, Outcome};
 use dexclass::Program;
 use dexhead::Device;
@@ -27,7 +27,7 @@ pub fn run(alloc: Global, bytes: &[u8], right: &[u8]) -> Result<Outcome, CaseFau
 fn is_canonical(alloc: Global, program: &Program<'_>, right: &[u8]) -> Result<bool, AllocError>
     ensures { IfOk result (λ is. IsTrue is → right.now ≡ canonical program.now) }
 {
-    if !is_given_copied(alloc, program, right)? {
+    if !is_given_copied(alloc, program, right)? || !is_as_long(alloc, program, right)? {
         return Ok(false);
     }
     is_written_as(alloc, program, right)
@@ -39,6 +39,12 @@ pub fn is_written_as(alloc: Global, program: &Program<'_>, right: &[u8]) -> Resu
 {
     let written = to_bytes(alloc, program)?;
     Ok(right == written.as_slice())
+}
+
+// Whether the canonical file of the program is laid out with the length of these bytes.
+fn is_as_long(alloc: Global, program: &Program<'_>, right: &[u8]) -> Result<bool, AllocError> {
+    let layout = Layout::of(alloc, program)?;
+    Ok(layout.len() as usize == right.len())
 }
 
 // Whether a device is given these bytes as the canonical file of a copy of the program.

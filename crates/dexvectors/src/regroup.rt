@@ -1,7 +1,7 @@
 //! Files merged in many orders and groupings: `regroup ROUNDS caps T P F M S W files FILE.. ok CANON`, or `.. fault CAUSE |
 //! CAUSE ..`. Each round draws a plan that names each file once and some more than once; each has to be answered so.
 
-use crate::merge::{After, Merge};
+use crate::merge::Merge;
 use crate::open_plan::OpenPlan;
 use crate::random::Random;
 use dexcases::{CaseFault, Folder, Outcome};
@@ -27,6 +27,9 @@ pub fn run<R: Files + AllocGlobal>(
 // Runs as many rounds as a word says.
 fn run_rounds(alloc: Global, rounds: &str, merge: &Merge<'_>) -> Result<(), CaseFault> {
     let rounds: u32 = rounds.parse()?;
+    if rounds == 0 {
+        return Err(CaseFault::Form);
+    }
     let programs = merge.programs(alloc)?;
     let mut random = Random::new(1);
     for _ in 0..rounds {
@@ -43,7 +46,7 @@ fn run_round(
     random: &mut Random,
 ) -> Result<(), CaseFault> {
     let plan = random_plan(alloc, random, programs.len())?;
-    merge.check_plan(alloc, programs, &plan, After::Merged)
+    merge.check_plan(alloc, programs, &plan)
 }
 
 // The numbers of so many files in a random order, each once and some more than once.

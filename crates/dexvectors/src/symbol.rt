@@ -73,7 +73,7 @@ fn rank_in(pools: &Pools<'_>, symbol: &Symbol) -> Result<usize, AllocError> {
 fn rank(numbering: &Numbering<'_>, symbol: &Symbol) -> usize {
     match symbol {
         Symbol::Text(name) => numbering.rank_string(&name.text()),
-        Symbol::Typ(name) => numbering.rank_type(&name.text()),
+        Symbol::Typ(name) => numbering.rank_typ(&name.text()),
         Symbol::Proto(proto) => numbering.rank_proto(proto),
         Symbol::Field(field) => numbering.rank_field(field),
         Symbol::Method(method) => numbering.rank_method(method),

@@ -1,12 +1,12 @@
-//! What a text may name: `UNITS KIND MEMBER`, the kind of type descriptor or `None`, and 1 where a member
-//! may be named so, else 0. The text is read from an item that the line's units are spelled in, and is put as that item.
+//! What a text may name: `UNITS None MEMBER`, or `UNITS KIND MEMBER LETTER` of a type descriptor: its kind, 1 where a member
+//! may be named so, else 0, and the letter of a shorty for the type. The text is read from an item that the line's units are spelled in, and is put as that item.
 
 ghost use Rattle.std.specs.Prelude.{◌≡◌, ◌++◌, IfOk, OnOk};
 ghost use Rattle.dexspec.specs.Texts.{form, string_data};
 
 use dexcases::CaseFault;
 use dexleb::put_u;
-use dexstr::{Text, descriptor_kind, is_member_name, put_text};
+use dexstr::{Text, descriptor_kind, is_member_name, put_text, shorty_letter};
 use std::alloc::{AllocError, Global};
 
 /// What is told of a text of these units.
@@ -37,7 +37,16 @@ fn is_put_as(alloc: Global, text: &Text<'_>, item: &[u8]) -> Result<bool, AllocE
 fn told_of(alloc: Global, text: &Text<'_>) -> Result<String, AllocError> {
     let member = u8::from(is_member_name(text));
     match descriptor_kind(text) {
-        Some(kind) => format!(in alloc; "{kind:?} {member}"),
+        Some(kind) => {
+            let letter = shorty_letter(kind, text);
+            match u8::try_from(letter) {
+                Ok(letter) => {
+                    let letter = char::from(letter);
+                    format!(in alloc; "{kind:?} {member} {letter}")
+                }
+                Err(_) => format!(in alloc; "{kind:?} {member} {letter:04x}"),
+            }
+        }
         None => format!(in alloc; "None {member}"),
     }
 }

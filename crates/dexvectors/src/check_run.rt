@@ -1,0 +1,37 @@
+//! Files checked as the program does: `checkrun FILE STATUS LINE`, the line that is written of the file, and the status.
+
+use dexcases::{CaseFault, Outcome, first_word};
+use dexhead::Device;
+use dexruns::{RunFault, check_run};
+use std::alloc::Global;
+
+/// Runs a line, given the name of the file, its bytes and what follows in the line: how it goes.
+pub fn run(alloc: Global, name: &str, bytes: &[u8], right: &str) -> Result<Outcome, CaseFault> {
+    let (status, line) = first_word(right)?;
+    if is_checked_as(alloc, name, bytes, status.parse()?, line)? {
+        return Ok(Outcome::Passed);
+    }
+    Err(CaseFault::failed(alloc, "another line or status"))
+}
+
+// Whether a file of this name is checked with this status, and just this line is written.
+fn is_checked_as(
+    alloc: Global,
+    name: &str,
+    bytes: &[u8],
+    right: u8,
+    line: &str,
+) -> Result<bool, CaseFault> {
+    let mut inputs = [Device::new(bytes)];
+    let mut out = Device::new(Vec::new(alloc));
+    match check_run(alloc, &[name], &mut inputs, &mut out) {
+        Ok(status) => Ok(status == right && is_line(out.into_inner().as_slice(), line)),
+        Err(RunFault::Memory) => Err(CaseFault::Memory),
+        Err(_) => Ok(false),
+    }
+}
+
+// Whether bytes are a line, with its end.
+fn is_line(bytes: &[u8], line: &str) -> bool {
+    bytes.strip_suffix(b"\n") == Some(line.as_bytes())
+}

@@ -1,0 +1,51 @@
+//! Unions measured: `measure files FILE.. is T P F M S W C N`, the types, protos, fields, methods, short strings, weight, classes
+//! and strings of what the files hold together, or `.. is conflict CLASS`, `.. is cycle CLASS`; no files are `-`.
+
+use crate::files::files_of;
+use crate::merge::{cause_in, cause_text, programs_of};
+use dexcases::{CaseFault, Folder, Outcome};
+use dexclass::Program;
+use dexmerge::{Counts, measure};
+use std::alloc::{AllocError, Global};
+use std::rt::Files;
+
+/// Runs a line, given what follows the word of its kind: how it goes.
+pub fn run<R: Files + AllocGlobal>(
+    folder: Folder<'_, R>,
+    case: &str,
+) -> Result<Outcome, CaseFault> {
+    let files = case.strip_prefix("files ").ok_or(CaseFault::Form)?;
+    let (names, right) = files.split_once(" is ").ok_or(CaseFault::Form)?;
+    let files = files_of(folder, names)?;
+    let programs = programs_of(folder.alloc(), &files)?;
+    Ok(Outcome::of(measured(folder.alloc(), &programs)?, right))
+}
+
+// What is said of a union.
+fn measured(alloc: Global, programs: &[Program<'_>]) -> Result<String, AllocError> {
+    let mut parts = Vec::new(alloc);
+    for program in programs {
+        parts.push(program)?;
+    }
+    match measure(alloc, &parts) {
+        Ok(counts) => text_of(alloc, counts),
+        Err(fault) => cause_text(alloc, &cause_in(fault)?),
+    }
+}
+
+// The counts of a union.
+fn text_of(alloc: Global, counts: Counts) -> Result<String, AllocError> {
+    let Counts {
+        types,
+        protos,
+        fields,
+        methods,
+        short_strings,
+        weight,
+        classes,
+        strings,
+    } = counts;
+    format!(in alloc;
+        "{types} {protos} {fields} {methods} {short_strings} {weight} {classes} {strings}"
+    )
+}

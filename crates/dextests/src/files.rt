@@ -63,6 +63,15 @@ pub(crate) fn final_a(alloc: Global) -> Option<Vec<u8>> {
     Some(file)
 }
 
+/// The file of `LA;` whose checksum and signature are zeros.
+pub(crate) fn unsigned_a(alloc: Global) -> Option<Vec<u8>> {
+    let file = letter_a(alloc)?;
+    let mut unsigned = Vec::from_slice(alloc, file.get(..8)?).ok()?;
+    unsigned.resize(32, 0).ok()?;
+    unsigned.extend_from_slice(file.get(32..)?).ok()?;
+    Some(unsigned)
+}
+
 /// The file of `LA;` without its last byte.
 pub(crate) fn cut_a(alloc: Global) -> Option<Vec<u8>> {
     let mut file = letter_a(alloc)?;

@@ -1,9 +1,10 @@
-//! Normalising, listing, checking and merging over devices that move few bytes, or fail.
+//! Normalising, listing, checking, merging, repairing, counting and digesting over devices that move few bytes, or fail.
 
-use crate::files::{cut_a, final_a, letter_a, source_of_a, unused_beside_a};
+use crate::files::{cut_a, final_a, letter_a, source_of_a, unsigned_a, unused_beside_a};
 use crate::scripts::{Script, Scripted, WHOLE, by, failing};
 use dexcmd::{
-    MergeCause, RunFault, check_run, dump_run, explain, merge_run, merge_strip_run, normalise_run,
+    MergeCause, RunFault, check_run, count_run, digest_run, dump_run, explain, merge_run,
+    merge_strip_run, normalise_run, repair_run,
 };
 use dexhead::{Device, DeviceFault, Sink, Source};
 use dexmerge::{Caps, Plan};
@@ -78,6 +79,36 @@ fn listed(alloc: Global, file: &[u8], reads: Script, writes: Script) -> Ran {
     ended(status(answer), (input.into_inner().calls, read_failed), out)
 }
 
+// Repairs a file.
+fn repaired(alloc: Global, file: &[u8], reads: Script, writes: Script) -> Ran {
+    let mut input = Device::new(Scripted::new(file, reads));
+    let mut out = Device::new(Scripted::new(Vec::new(alloc), writes));
+    let answer = repair_run(alloc, &mut input, &mut out);
+    let read_failed = Source::failed(&input);
+    ended(status(answer), (input.into_inner().calls, read_failed), out)
+}
+
+// Digests the classes of a file.
+fn digested(alloc: Global, file: &[u8], reads: Script, writes: Script) -> Ran {
+    let mut input = Device::new(Scripted::new(file, reads));
+    let mut out = Device::new(Scripted::new(Vec::new(alloc), writes));
+    let answer = digest_run(alloc, "a b", &mut input, &mut out);
+    let read_failed = Source::failed(&input);
+    ended(status(answer), (input.into_inner().calls, read_failed), out)
+}
+
+// Counts what two files hold together.
+fn counted(alloc: Global, files: [(&[u8], Script); 2], writes: Script) -> Option<Ran> {
+    let mut inputs = Vec::new(alloc);
+    for (file, reads) in files {
+        inputs.push(Device::new(Scripted::new(file, reads))).ok()?;
+    }
+    let mut out = Device::new(Scripted::new(Vec::new(alloc), writes));
+    let answer = count_run(alloc, inputs.as_mut_slice(), &mut out);
+    let read_failed = inputs.iter().any(Source::failed);
+    Some(ended(status(answer), (calls_of(inputs), read_failed), out))
+}
+
 // Checks files of these names, each read as is said for it.
 fn checked(alloc: Global, files: &[(&str, &[u8], Script)], writes: Script) -> Option<Ran> {
     let mut names = Vec::new(alloc);
@@ -125,14 +156,20 @@ enum Run {
     Check,
     Merge,
     MergeStrip,
+    Repair,
+    Count,
+    Digest,
 }
 
-const RUNS: [Run; 5] = [
+const RUNS: [Run; 8] = [
     Run::Normalise,
     Run::List,
     Run::Check,
     Run::Merge,
     Run::MergeStrip,
+    Run::Repair,
+    Run::Count,
+    Run::Digest,
 ];
 
 const LISTING: &[u8] = b"class LA; flags=0x1(public) super=Ljava/lang/Object;\n";
@@ -141,11 +178,17 @@ const FIRST_LINE: &[u8] = b"a: ok classes=1\n";
 
 const LINES: &[u8] = b"a: ok classes=1\nb: ok classes=1\n";
 
+const COUNTS: &[u8] = b"types 2 of 65535\nprotos 0 of 65535\nfields 0 of 65536\nmethods 0 of 65536\nshort-strings 0 of 65536\n\
+    weight 1211 of 1073741824\nclasses 1\nstrings 2\n";
+
+const DIGEST: &[u8] = b"9c62f0a840d5e9ec28ed4ee1ded1977522fda2c3\tLA;\ta b\n";
+
 impl Run {
-    // The file: one with texts that nothing uses, or with a source text where that is to go.
+    // The file: one with texts that nothing uses, or with a source text where that is to go, or with sums that are wrong.
     fn file(self, alloc: Global) -> Option<Vec<u8>> {
         match self {
             Run::MergeStrip => source_of_a(alloc),
+            Run::Repair => unsigned_a(alloc),
             _ => unused_beside_a(alloc),
         }
     }
@@ -155,6 +198,8 @@ impl Run {
         match self {
             Run::List => Vec::from_slice(alloc, LISTING).ok(),
             Run::Check => Vec::from_slice(alloc, LINES).ok(),
+            Run::Count => Vec::from_slice(alloc, COUNTS).ok(),
+            Run::Digest => Vec::from_slice(alloc, DIGEST).ok(),
             _ => letter_a(alloc),
         }
     }
@@ -162,9 +207,9 @@ impl Run {
     // The number of the last reader, how often the one before it is called, and what is written before it is.
     fn before_last(self) -> (usize, usize, &'static [u8]) {
         match self {
-            Run::Normalise | Run::List => (0, 0, b""),
+            Run::Normalise | Run::List | Run::Repair | Run::Digest => (0, 0, b""),
             Run::Check => (1, 2, FIRST_LINE),
-            Run::Merge | Run::MergeStrip => (1, 2, b""),
+            Run::Merge | Run::MergeStrip | Run::Count => (1, 2, b""),
         }
     }
 
@@ -180,6 +225,9 @@ impl Run {
             Run::Check => checked(alloc, &[("a", file, WHOLE), ("b", file, reads)], writes),
             Run::Merge => merged(alloc, files, [0, 1], false, writes),
             Run::MergeStrip => merged(alloc, files, [0, 1], true, writes),
+            Run::Repair => Some(repaired(alloc, file, reads, writes)),
+            Run::Count => counted(alloc, files, writes),
+            Run::Digest => Some(digested(alloc, file, reads, writes)),
         }
     }
 }
@@ -421,4 +469,59 @@ fn is_stripped_behind_the_merge(alloc: Global) -> Option<bool> {
 #[test]
 fn a_merge_is_judged_before_it_is_stripped(rt: HostRuntime) {
     assert!(rt; is_stripped_behind_the_merge(rt.alloc()) == Some(true));
+}
+
+// Whether files that no sums make acceptable are refused for what is wrong with them, and nothing is written: one that is
+// cut, one of 31 bytes, which has no room for its sums, and one without bytes.
+fn is_beyond_repair(alloc: Global) -> Option<bool> {
+    let cut = cut_a(alloc)?;
+    for (file, number) in [(cut.as_slice(), 4), (cut.get(..31)?, 1), (cut.get(..0)?, 1)] {
+        let ran = repaired(alloc, file, WHOLE, WHOLE);
+        if !matches!(ran.answer, Err(RunFault::Input(0, refusal)) if refusal.number == number) {
+            return Some(false);
+        }
+        if ran.writes != 0 {
+            return Some(false);
+        }
+    }
+    Some(true)
+}
+
+#[test]
+fn a_repair_sets_sums_alone_right(rt: HostRuntime) {
+    assert!(rt; is_beyond_repair(rt.alloc()) == Some(true));
+}
+
+// Whether two different classes of one name are not counted, and a file that is cut neither.
+fn is_uncounted(alloc: Global) -> Option<bool> {
+    let (first, second, cut) = (letter_a(alloc)?, final_a(alloc)?, cut_a(alloc)?);
+    let first = (first.as_slice(), WHOLE);
+    let unlike = counted(alloc, [first, (second.as_slice(), WHOLE)], WHOLE)?;
+    let refused = counted(alloc, [first, (cut.as_slice(), WHOLE)], WHOLE)?;
+    Some(
+        unlike.writes == 0
+            && matches!(unlike.answer, Err(RunFault::Merge(MergeCause::Conflict(_))))
+            && refused.writes == 0
+            && matches!(refused.answer, Err(RunFault::Input(1, refusal)) if refusal.number == 4),
+    )
+}
+
+#[test]
+fn a_count_is_of_a_union(rt: HostRuntime) {
+    assert!(rt; is_uncounted(rt.alloc()) == Some(true));
+}
+
+// Whether a file that is refused has no digests.
+fn is_undigested(alloc: Global) -> Option<bool> {
+    let cut = cut_a(alloc)?;
+    let ran = digested(alloc, &cut, WHOLE, WHOLE);
+    Some(
+        matches!(ran.answer, Err(RunFault::Input(0, refusal)) if refusal.number == 4)
+            && ran.writes == 0,
+    )
+}
+
+#[test]
+fn a_file_that_is_cut_has_no_digests(rt: HostRuntime) {
+    assert!(rt; is_undigested(rt.alloc()) == Some(true));
 }

@@ -10,14 +10,8 @@ use crate::devices::Devices;
 use crate::reports::Report;
 use dexargs::{ListFault, arguments_in, list_name};
 use dexhead::{Sink, Source};
-use dexruns::{InputFault, read_whole};
+use dexruns::{ExitStatus, InputFault, read_whole};
 use std::alloc::{AllocError, AllocFailed, Global};
-
-const USAGE: u8 = 2;
-
-const DEVICE: u8 = 3;
-
-const MEMORY: u8 = 4;
 
 /// Why arguments were not expanded.
 #[derive(Clone, Copy, Debug, PartialEq, Eq)]
@@ -108,9 +102,18 @@ pub fn explain_lists(alloc: Global, fault: ListsFault<'_>) -> Result<Report, All
     ensures { IfOk result (IsReport (lists_status fault.entry) (lists_line fault.entry ∷ [])) }
 {
     let (status, line) = match fault {
-        ListsFault::Read(name) => (DEVICE, format!(in alloc; "dexkit: {name}: cannot be read")?),
-        ListsFault::NotUtf8(name) => (USAGE, format!(in alloc; "dexkit: {name}: not UTF-8")?),
-        ListsFault::Memory => (MEMORY, String::from_str(alloc, "dexkit: out of memory")?),
+        ListsFault::Read(name) => (
+            ExitStatus::Device as u8,
+            format!(in alloc; "dexkit: {name}: cannot be read")?,
+        ),
+        ListsFault::NotUtf8(name) => (
+            ExitStatus::Usage as u8,
+            format!(in alloc; "dexkit: {name}: not UTF-8")?,
+        ),
+        ListsFault::Memory => (
+            ExitStatus::Memory as u8,
+            String::from_str(alloc, "dexkit: out of memory")?,
+        ),
     };
     let mut lines = Vec::new(alloc);
     lines.push(line)?;

@@ -14,8 +14,8 @@ pub use arguments::{ListsFault, expand_arguments, explain_lists};
 pub use devices::Devices;
 pub use dexargs::{Job, read_words};
 pub use dexruns::{
-    MOST_READ, MergeCause, RunFault, check_run, count_run, digest_run, dump_run, explain, fan_plan,
-    merge_run, merge_strip_run, normalise_run, repair_run,
+    ExitStatus, MOST_READ, MergeCause, RunFault, check_run, count_run, digest_run, dump_run,
+    explain, fan_plan, merge_run, merge_strip_run, normalise_run, repair_run,
 };
 pub use files::{NewFile, OldFile, file_len};
 pub use jobs::run_job;

@@ -4,10 +4,8 @@ ghost use Rattle.std.specs.Prelude.{◌≡◌, ◌++◌, [], length, map, max, O
 ghost use Rattle.dexruns.specs.Lines.{HasName, exit_status};
 ghost use Rattle.dexcmd.specs.Reports.{IsReport, is_reported, fault_lines, outcome_status, outcome_lines, done};
 
-use dexruns::{RunFault, explain};
+use dexruns::{ExitStatus, RunFault, explain};
 use std::alloc::{AllocError, Global};
-
-const DONE: u8 = 0;
 
 /// The name of standard output in the line of a fault.
 pub(crate) const STANDARD_OUTPUT: &str = "standard output";
@@ -26,7 +24,7 @@ pub(crate) fn done(outcome: Result<(), RunFault>) -> Result<u8, RunFault>
     ensures { result ≡ done outcome }
 {
     match outcome {
-        Ok(()) => Ok(DONE),
+        Ok(()) => Ok(ExitStatus::Done as u8),
         Err(fault) => Err(fault),
     }
 }
@@ -36,7 +34,7 @@ pub(crate) fn empty_report(alloc: Global) -> Report
     ensures { IsReport 0 [] result }
 {
     Report {
-        status: DONE,
+        status: ExitStatus::Done as u8,
         lines: Vec::new(alloc),
     }
 }

@@ -7,7 +7,9 @@
 
 use clap::Error;
 use clap::error::ErrorKind;
-use dexcmd::{Report, SystemDevices, expand_arguments, explain_lists, read_words, run_job};
+use dexcmd::{
+    ExitStatus, Report, SystemDevices, expand_arguments, explain_lists, read_words, run_job,
+};
 use std::alloc::{AllocError, Global};
 use std::env::FillError;
 use std::io::Input;
@@ -15,14 +17,6 @@ use std::process::ExitCode;
 use std::rt::{Env, Files};
 use std::str::from_utf8;
 use std::{env, io};
-
-const DONE: u8 = 0;
-
-const USAGE: u8 = 2;
-
-const DEVICE: u8 = 3;
-
-const MEMORY: u8 = 4;
 
 // Prints the lines of a report on standard error, and returns its exit status.
 fn print(rt: &impl Eprint, report: &Report) -> u8 {
@@ -36,15 +30,15 @@ fn print(rt: &impl Eprint, report: &Report) -> u8 {
 fn print_usage<R: Print + Eprint>(rt: &R, error: &Error) -> u8 {
     let printed = error.print(rt);
     if error.use_stderr() {
-        return USAGE;
+        return ExitStatus::Usage as u8;
     }
     match printed {
-        Ok(()) => DONE,
+        Ok(()) => ExitStatus::Done as u8,
         Err(error) => {
             if error.kind() != io::ErrorKind::BrokenPipe {
                 let _ = eprintln!(rt; "dexkit: standard output: cannot be written");
             }
-            DEVICE
+            ExitStatus::Device as u8
         }
     }
 }
@@ -113,7 +107,7 @@ fn run(rt: &HostRuntime) -> Result<u8, AllocError> {
         Err(error) if error.kind() == io::ErrorKind::InvalidData => {
             let number = first_bad(rt, rt.alloc())?;
             let _ = eprintln!(rt; "dexkit: argument {number} is not UTF-8");
-            Ok(USAGE)
+            Ok(ExitStatus::Usage as u8)
         }
         Err(_) => Err(AllocError),
     }
@@ -124,7 +118,7 @@ fn main(rt: HostRuntime) -> ExitCode {
         Ok(status) => ExitCode::from(status),
         Err(_) => {
             let _ = eprintln!(rt; "dexkit: out of memory");
-            ExitCode::from(MEMORY)
+            ExitCode::from(ExitStatus::Memory as u8)
         }
     }
 }

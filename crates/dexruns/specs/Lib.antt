@@ -6,3 +6,4 @@ pub mod Fans
 pub mod Repairs
 pub mod Counts
 pub mod Digests
+pub mod Statuses

@@ -9,13 +9,10 @@ ghost use Rattle.dexruns.specs.Runs.{IsVerdict, AreChecked, AreBegun, AllWork, I
 use crate::faults::RunFault;
 use crate::inputs::{InputFault, read_whole};
 use crate::lines::{Verdict, check_line};
+use crate::status::ExitStatus;
 use dexhead::{Sink, Source, write_whole};
 use dexpool::ReadFault;
 use std::alloc::Global;
-
-const DONE: u8 = 0;
-
-const REFUSED: u8 = 1;
 
 // What is said of an input.
 fn judge<R: Source>(alloc: Global, input: &mut R) -> Result<Verdict, InputFault>
@@ -39,7 +36,7 @@ fn status_after(status: u8, verdict: &Verdict) -> u8
 {
     match verdict {
         Verdict::Accepted(_) => status,
-        Verdict::Refused(_) => REFUSED,
+        Verdict::Refused(_) => ExitStatus::Refused as u8,
     }
 }
 
@@ -73,7 +70,7 @@ pub fn check_run<R: Source, W: Sink>(
     ensures writer { OnOk result (W.has_failed out.new ≡ false) }
     ensures fault { IfErr result (IsOfCheck R.has_failed inputs.new (W.has_failed out.new)) }
 {
-    let mut status = DONE;
+    let mut status = ExitStatus::Done as u8;
     for i in 0..inputs.len() {
         let verdict = match judge(alloc, &mut inputs[i]) {
             Ok(verdict) => verdict,

@@ -5,14 +5,9 @@ ghost use Rattle.dexruns.specs.Lines.{HasName, exit_status, fault_line, hexadeci
 
 use crate::faults::{MergeCause, RunFault};
 use crate::lines::{refusal_text, text_at};
+use crate::status::ExitStatus;
 use dexstr::{Name, Text};
 use std::alloc::{AllocError, Global};
-
-const REFUSED: u8 = 1;
-
-const DEVICE: u8 = 3;
-
-const MEMORY: u8 = 4;
 
 const UNKNOWN: &str = "unknown";
 
@@ -138,9 +133,9 @@ fn exit_status(fault: &RunFault) -> u8
     ensures { result ≡ exit_status fault.now }
 {
     match fault {
-        RunFault::Input(_, _) | RunFault::Plan | RunFault::Merge(_) => REFUSED,
-        RunFault::Read(_) | RunFault::Write => DEVICE,
-        RunFault::Memory => MEMORY,
+        RunFault::Input(_, _) | RunFault::Plan | RunFault::Merge(_) => ExitStatus::Refused as u8,
+        RunFault::Read(_) | RunFault::Write => ExitStatus::Device as u8,
+        RunFault::Memory => ExitStatus::Memory as u8,
     }
 }
 

@@ -13,6 +13,7 @@ mod lines;
 mod merging;
 mod normalising;
 mod repairing;
+mod status;
 
 pub use checking::check_run;
 pub use counting::count_run;
@@ -25,3 +26,4 @@ pub use inputs::{InputFault, MOST_READ, read_whole};
 pub use merging::{merge_run, merge_strip_run};
 pub use normalising::normalise_run;
 pub use repairing::repair_run;
+pub use status::ExitStatus;

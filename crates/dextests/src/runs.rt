@@ -1,12 +1,14 @@
 //! Normalising, listing, checking, merging, repairing, counting and digesting over devices that move few bytes, or fail.
 
-use crate::files::{cut_a, final_a, letter_a, source_of_a, unsigned_a, unused_beside_a};
+use crate::files::{
+    cut_a, final_a, letter_a, letter_b, letters_a_and_b, source_of_a, unsigned_a, unused_beside_a,
+};
 use crate::scripts::{Script, Scripted, WHOLE, by, failing};
 use dexcmd::{
     MergeCause, RunFault, check_run, count_run, digest_run, dump_run, explain, merge_run,
     merge_strip_run, normalise_run, repair_run,
 };
-use dexhead::{Device, DeviceFault, Sink, Source};
+use dexhead::{Device, DeviceFault, Refusal, Sink, Source};
 use dexmerge::{Caps, Plan};
 use std::alloc::Global;
 use std::io::ErrorKind;
@@ -148,7 +150,7 @@ fn merged(
     Some(ended(status(answer), (calls_of(inputs), read_failed), out))
 }
 
-// A run, of one file or of the same file twice.
+// A run: of one file, of the same file twice, or of the files of two classes.
 #[derive(Clone, Copy)]
 enum Run {
     Normalise,
@@ -178,26 +180,37 @@ const FIRST_LINE: &[u8] = b"a: ok classes=1\n";
 
 const LINES: &[u8] = b"a: ok classes=1\nb: ok classes=1\n";
 
-const COUNTS: &[u8] = b"types 2 of 65535\nprotos 0 of 65535\nfields 0 of 65536\nmethods 0 of 65536\nshort-strings 0 of 65536\n\
+const COUNTS: &[u8] =
+    b"types 2 of 65535\nprotos 0 of 65535\nfields 0 of 65536\nmethods 0 of 65536\nshort-strings 0 of 65536\n\
     weight 1211 of 1073741824\nclasses 1\nstrings 2\n";
 
 const DIGEST: &[u8] = b"9c62f0a840d5e9ec28ed4ee1ded1977522fda2c3\tLA;\ta b\n";
 
 impl Run {
-    // The file: one with texts that nothing uses, or with a source text where that is to go, or with sums that are wrong.
-    fn file(self, alloc: Global) -> Option<Vec<u8>> {
+    // The last file: one with texts that nothing uses, or with a source text where that is to go, or with sums that are wrong.
+    fn last_file(self, alloc: Global) -> Option<Vec<u8>> {
         match self {
+            Run::Merge => letter_b(alloc),
             Run::MergeStrip => source_of_a(alloc),
             Run::Repair => unsigned_a(alloc),
             _ => unused_beside_a(alloc),
         }
     }
 
-    // What is written of it.
+    // The file before it, where there are two.
+    fn first_file(self, alloc: Global) -> Option<Vec<u8>> {
+        match self {
+            Run::Merge => letter_a(alloc),
+            _ => self.last_file(alloc),
+        }
+    }
+
+    // What is written of them.
     fn right(self, alloc: Global) -> Option<Vec<u8>> {
         match self {
             Run::List => Vec::from_slice(alloc, LISTING).ok(),
             Run::Check => Vec::from_slice(alloc, LINES).ok(),
+            Run::Merge => letters_a_and_b(alloc),
             Run::Count => Vec::from_slice(alloc, COUNTS).ok(),
             Run::Digest => Vec::from_slice(alloc, DIGEST).ok(),
             _ => letter_a(alloc),
@@ -213,32 +226,51 @@ impl Run {
         }
     }
 
-    // Does it where the last reader and the writer follow scripts. Another reader tells its file at the first call, and
-    // the end at the second.
+    // Does it where the last reader and the writer follow scripts. Another reader gives its file at the first call, and the
+    // end at the second.
     fn done(self, alloc: Global, reads: Script, writes: Script) -> Option<Ran> {
-        let file = self.file(alloc)?;
-        let file = file.as_slice();
-        let files = [(file, WHOLE), (file, reads)];
+        self.done_by(alloc, [WHOLE, reads], writes)
+    }
+
+    // Does it where all devices follow scripts.
+    fn done_by(self, alloc: Global, reads: [Script; 2], writes: Script) -> Option<Ran> {
+        let (first, last) = (self.first_file(alloc)?, self.last_file(alloc)?);
+        let (first, last) = ((first.as_slice(), reads[0]), (last.as_slice(), reads[1]));
+        let files = [first, last];
         match self {
-            Run::Normalise => Some(normalised(alloc, file, reads, writes)),
-            Run::List => Some(listed(alloc, file, reads, writes)),
-            Run::Check => checked(alloc, &[("a", file, WHOLE), ("b", file, reads)], writes),
+            Run::Normalise => Some(normalised(alloc, last.0, last.1, writes)),
+            Run::List => Some(listed(alloc, last.0, last.1, writes)),
+            Run::Check => {
+                let files = [("a", first.0, first.1), ("b", last.0, last.1)];
+                checked(alloc, &files, writes)
+            }
             Run::Merge => merged(alloc, files, [0, 1], false, writes),
             Run::MergeStrip => merged(alloc, files, [0, 1], true, writes),
-            Run::Repair => Some(repaired(alloc, file, reads, writes)),
+            Run::Repair => Some(repaired(alloc, last.0, last.1, writes)),
             Run::Count => counted(alloc, files, writes),
-            Run::Digest => Some(digested(alloc, file, reads, writes)),
+            Run::Digest => Some(digested(alloc, last.0, last.1, writes)),
         }
     }
 }
 
-// Whether the reader's fault is told exactly where it fails, at one of the four calls that it gets; it is called no more
-// then, and nothing else is written.
+// How many calls a reader gets for a file, at so many bytes a call: the last finds the end.
+fn calls_of_file(len: usize, most: usize) -> usize {
+    let mut calls: usize = 1;
+    let mut left = len;
+    while left > 0 {
+        left = left.saturating_sub(most.max(1));
+        calls = calls.saturating_add(1);
+    }
+    calls
+}
+
+// Whether the reader's fault is reported exactly where it fails, at one of the calls that it gets; it is called no more then,
+// and nothing else is written.
 fn tells_the_reader(alloc: Global, run: Run, reads: Script) -> Option<bool> {
     let right = run.right(alloc)?;
     let ran = run.done(alloc, reads, WHOLE)?;
     let (last, calls, written) = run.before_last();
-    if reads.failing >= 4 {
+    if reads.failing >= calls_of_file(run.last_file(alloc)?.len(), reads.most) {
         return Some(!ran.read_failed && is_done(&ran, &right));
     }
     Some(
@@ -250,20 +282,22 @@ fn tells_the_reader(alloc: Global, run: Run, reads: Script) -> Option<bool> {
     )
 }
 
-// It moves 100 bytes a call, so that the fourth finds the end.
+// It moves 100 bytes a call, so that one of the first five finds the end, or one byte.
 #[test]
 fn readers_fail_at_each_call(rt: HostRuntime) {
     for run in RUNS {
-        for kind in [ErrorKind::BrokenPipe, ErrorKind::Interrupted] {
-            for call in 0..5 {
-                let reads = Script {
-                    fault: Some(kind),
-                    ..failing(100, call)
-                };
-                assert!(rt;
-                    tells_the_reader(rt.alloc(), run, reads) == Some(true),
-                    "call {call}"
-                );
+        for (most, calls) in [(100, 6), (1, 290)] {
+            for kind in [ErrorKind::BrokenPipe, ErrorKind::Interrupted] {
+                for call in 0..calls {
+                    let reads = Script {
+                        fault: Some(kind),
+                        ..failing(most, call)
+                    };
+                    assert!(rt;
+                        tells_the_reader(rt.alloc(), run, reads) == Some(true),
+                        "call {call}"
+                    );
+                }
             }
         }
     }
@@ -296,7 +330,7 @@ fn writers_fail_at_each_call(rt: HostRuntime) {
                 Some(ErrorKind::Interrupted),
                 None,
             ] {
-                for failing in 0..266 {
+                for failing in 0..310 {
                     let writes = Script {
                         most,
                         failing,
@@ -314,7 +348,7 @@ fn writers_fail_at_each_call(rt: HostRuntime) {
 
 fn is_done_by_single_bytes(alloc: Global, run: Run) -> Option<bool> {
     let right = run.right(alloc)?;
-    Some(is_done(&run.done(alloc, by(1), by(1))?, &right))
+    Some(is_done(&run.done_by(alloc, [by(1), by(1)], by(1))?, &right))
 }
 
 #[test]
@@ -359,14 +393,17 @@ fn a_file_of_known_length_is_read_in_one_call(rt: HostRuntime) {
     }
 }
 
+// What is reported of a file without its last byte.
+const TOO_SHORT: Refusal = Refusal {
+    number: 4,
+    place: 0,
+};
+
 // Whether a file that is refused is told, and nothing is written.
 fn is_refused(alloc: Global) -> Option<bool> {
     let cut = cut_a(alloc)?;
     let ran = listed(alloc, &cut, WHOLE, WHOLE);
-    Some(
-        matches!(ran.answer, Err(RunFault::Input(0, refusal)) if refusal.number == 4)
-            && ran.writes == 0,
-    )
+    Some(matches!(ran.answer, Err(RunFault::Input(0, TOO_SHORT))) && ran.writes == 0)
 }
 
 #[test]
@@ -394,7 +431,7 @@ fn each_file_has_its_line(rt: HostRuntime) {
 
 // Merges a file that is cut and one whose reader fails, or the other way round.
 fn cut_and_failing(alloc: Global, is_cut_first: bool) -> Option<Ran> {
-    let (cut, whole) = (cut_a(alloc)?, letter_a(alloc)?);
+    let (cut, whole) = (cut_a(alloc)?, letter_b(alloc)?);
     let cut = (cut.as_slice(), WHOLE);
     let whole = (whole.as_slice(), failing(100, 0));
     let files = if is_cut_first {
@@ -410,7 +447,7 @@ fn the_first_file_that_fails_is_told(rt: HostRuntime) {
     let first = cut_and_failing(rt.alloc(), true);
     assert!(rt;
         first.is_some_and(|merged| merged.writes == 0
-            && matches!(merged.answer, Err(RunFault::Input(0, refusal)) if refusal.number == 4))
+            && matches!(merged.answer, Err(RunFault::Input(0, TOO_SHORT))))
     );
     let second = cut_and_failing(rt.alloc(), false);
     assert!(rt;

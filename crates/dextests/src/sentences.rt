@@ -24,7 +24,6 @@ fn fault(case: u8) -> (RunFault, u8, &'static str)
         number: 3,
         place: 38,
     };
-    let cap = MergeCause::Cap(5);
     match case {
         0 => (
             RunFault::Input(1, refusal),
@@ -32,16 +31,22 @@ fn fault(case: u8) -> (RunFault, u8, &'static str)
             "dexkit: b c: refused 3 Version at 38",
         ),
         1 => (RunFault::Plan, 1, "dexkit: bad plan"),
-        2 => (RunFault::Merge(cap), 1, "dexkit: cap short-strings"),
+        2 => (
+            RunFault::Merge(MergeCause::Cap(5)),
+            1,
+            "dexkit: cap short-strings",
+        ),
         3 => (RunFault::Read(0), 3, "dexkit: a.dex: cannot be read"),
         4 => (RunFault::Write, 3, "dexkit: out.dex: cannot be written"),
+        5 => (RunFault::Merge(MergeCause::Cap(1)), 1, "dexkit: cap types"),
+        6 => (RunFault::Merge(MergeCause::Cap(6)), 1, "dexkit: cap weight"),
         _ => (RunFault::Memory, 4, "dexkit: out of memory"),
     }
 }
 
 #[test]
 fn faults_have_a_status_and_a_line(rt: HostRuntime) {
-    for case in 0..6 {
+    for case in 0..8 {
         let (fault, status, line) = fault(case);
         let told = is_told(rt.alloc(), &fault, status, line);
         assert!(rt; told == Some(true), "{line}");

@@ -210,9 +210,9 @@ impl Run {
         match self {
             Run::List => Vec::from_slice(alloc, LISTING).ok(),
             Run::Check => Vec::from_slice(alloc, LINES).ok(),
-            Run::Merge => letters_a_and_b(alloc),
             Run::Count => Vec::from_slice(alloc, COUNTS).ok(),
             Run::Digest => Vec::from_slice(alloc, DIGEST).ok(),
+            Run::Merge => letters_a_and_b(alloc),
             _ => letter_a(alloc),
         }
     }
@@ -235,33 +235,34 @@ impl Run {
     // Does it where all devices follow scripts.
     fn done_by(self, alloc: Global, reads: [Script; 2], writes: Script) -> Option<Ran> {
         let (first, last) = (self.first_file(alloc)?, self.last_file(alloc)?);
-        let (first, last) = ((first.as_slice(), reads[0]), (last.as_slice(), reads[1]));
-        let files = [first, last];
+        let first = (first.as_slice(), reads[0]);
+        let last = (last.as_slice(), reads[1]);
+        self.done_with(alloc, [first, last], writes)
+    }
+
+    // Does it with these files, read as is said for each: the last one alone, or both.
+    fn done_with(self, alloc: Global, files: [(&[u8], Script); 2], writes: Script) -> Option<Ran> {
+        let [(first, first_reads), (last, reads)] = files;
         match self {
-            Run::Normalise => Some(normalised(alloc, last.0, last.1, writes)),
-            Run::List => Some(listed(alloc, last.0, last.1, writes)),
+            Run::Normalise => Some(normalised(alloc, last, reads, writes)),
+            Run::List => Some(listed(alloc, last, reads, writes)),
             Run::Check => {
-                let files = [("a", first.0, first.1), ("b", last.0, last.1)];
+                let files = [("a", first, first_reads), ("b", last, reads)];
                 checked(alloc, &files, writes)
             }
             Run::Merge => merged(alloc, files, [0, 1], false, writes),
             Run::MergeStrip => merged(alloc, files, [0, 1], true, writes),
-            Run::Repair => Some(repaired(alloc, last.0, last.1, writes)),
+            Run::Repair => Some(repaired(alloc, last, reads, writes)),
             Run::Count => counted(alloc, files, writes),
-            Run::Digest => Some(digested(alloc, last.0, last.1, writes)),
+            Run::Digest => Some(digested(alloc, last, reads, writes)),
         }
     }
 }
 
 // How many calls a reader gets for a file, at so many bytes a call: the last finds the end.
 fn calls_of_file(len: usize, most: usize) -> usize {
-    let mut calls: usize = 1;
-    let mut left = len;
-    while left > 0 {
-        left = left.saturating_sub(most.max(1));
-        calls = calls.saturating_add(1);
-    }
-    calls
+    let most = most.max(1);
+    (len.saturating_add(most - 1) / most).saturating_add(1)
 }
 
 // Whether the reader's fault is reported exactly where it fails, at one of the calls that it gets; it is called no more then,

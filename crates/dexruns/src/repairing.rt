@@ -33,7 +33,7 @@ fn check(alloc: Global, bytes: &[u8]) -> Result<(), ReadFault>
     ensures accepted { OnOk result (IsAccepted bytes.now) }
     ensures refused { IfErr result (IsFaultOf bytes.now) }
 {
-    let _program = dexclass::read(alloc, bytes)?;
+    let _classes = dexclass::check(alloc, bytes)?;
     Ok(())
 }
 

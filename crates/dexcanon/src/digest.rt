@@ -39,7 +39,7 @@ pub fn digests(alloc: Global, program: &Program<'_>) -> Result<Vec<[u8; 20]>, Al
     ensures files { (d : Definition) → Contains (definitions program.now) d → IsFileAlone d }
     ensures one { (d e : Definition) → IsFileAlone d → IsFileAlone e → canonical (class_alone d) ≡ canonical (class_alone e) → d ≡ e }
 {
-    dexlaws_normal::normal_form();
+    dexlaws::normal::normal_form();
     program.is_good();
     let mut digests = Vec::with_capacity(alloc, program.len())?;
     put_digests(alloc, Part::of(program)?, &mut digests)?;

@@ -40,7 +40,7 @@ pub fn to_bytes(alloc: Global, program: &Program<'_>) -> Result<Vec<u8>, AllocEr
     ensures accepted { (K : Collection) → IsGood greatest_caps (definitions K) → AreWellFormed (definitions K) → IsAccepted (canonical K) }
     ensures denotes { (K : Collection) → IsGood greatest_caps (definitions K) → AreWellFormed (definitions K) → Denotes (canonical K) K }
 {
-    dexlaws_normal::normal_form();
+    dexlaws::normal::normal_form();
     let layout = Layout::of(alloc, program)?;
     let contents = Contents::of(program, &layout);
     whole_file(alloc, &contents)

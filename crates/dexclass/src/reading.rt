@@ -17,7 +17,7 @@ use crate::judging::judge_classes;
 use crate::programs::Program;
 use crate::trimming::trim;
 use dexhead::{Condition, Frame, Refusal, Table};
-use dexlaws_denotes::good::denoted_is_good;
+use dexlaws::denotes::good::denoted_is_good;
 use dexmembers::read_members;
 use dexpool::{ItemFault, Numbering, Pools, ReadFault, type_list_len};
 use std::alloc::Global;

@@ -6,13 +6,13 @@ ghost use Rattle.dexspec.specs.Files.{Collection, IsCollectionOf, definitions};
 ghost use Rattle.dexspec.specs.Merging.{Caps, IsGood, Plan, union};
 ghost use Rattle.dexspec.specs.Stripping as stripping;
 ghost use Rattle.dexspec.specs.Stripping.{strip_collection};
-ghost use Rattle.dexlaws_strip.specs.Laws.{StripCommutes};
+ghost use Rattle.dexlaws.specs.Strip.{StripCommutes};
 ghost use Rattle.dexclass.specs.Stripped.{stripped_class};
 
 use crate::classes::Class;
 use crate::programs::Program;
 use crate::trimming::trim;
-use dexlaws_strip::{strip_collection_law, strip_good, strip_merge_law};
+use dexlaws::strip::{strip_collection_law, strip_good, strip_merge_law};
 use dexmembers::members_stripped_law;
 use std::alloc::{AllocError, Global};
 

@@ -17,7 +17,7 @@ pub fn with_code()
     ensures accepted { IsAccepted (canonical (from_entries (class_p (codes "hi") ∷ []))) }
     ensures denotes { Denotes (canonical (from_entries (class_p (codes "hi") ∷ []))) (from_entries (class_p (codes "hi") ∷ [])) }
 {
-    dexlaws_normal::normal_form();
+    dexlaws::normal::normal_form();
 }
 
 /// A class with an annotation and a static value.
@@ -27,7 +27,7 @@ pub fn with_annotations()
     ensures accepted { IsAccepted (canonical (from_entries (class_f ∷ []))) }
     ensures denotes { Denotes (canonical (from_entries (class_f ∷ []))) (from_entries (class_f ∷ [])) }
 {
-    dexlaws_normal::normal_form();
+    dexlaws::normal::normal_form();
 }
 
 /// A class with two equal debug programs.
@@ -37,7 +37,7 @@ pub fn with_equal_debug()
     ensures accepted { IsAccepted (canonical (from_entries (class_debug_twice ∷ []))) }
     ensures denotes { Denotes (canonical (from_entries (class_debug_twice ∷ []))) (from_entries (class_debug_twice ∷ [])) }
 {
-    dexlaws_normal::normal_form();
+    dexlaws::normal::normal_form();
 }
 
 /// Six classes that were made without this project, with tries, debug programs, payloads, and annotations of classes,
@@ -48,5 +48,5 @@ pub fn of_all_kinds()
     ensures accepted { IsAccepted (canonical (from_entries varied)) }
     ensures denotes { Denotes (canonical (from_entries varied)) (from_entries varied) }
 {
-    dexlaws_normal::normal_form();
+    dexlaws::normal::normal_form();
 }

@@ -1,5 +1,15 @@
-//! The laws of the definitions: public functions with empty bodies, whose contracts are the laws. A
-//! function that needs one calls it.
+//! The laws of the definitions. Each is the contract of a public function with an empty body; a function that
+//! needs a law calls it. The definitions that state the laws are in `specs`, one module for each module here.
 #![tactic(auto)]
 
+pub mod causes;
+pub mod denotes;
+pub mod frame;
+pub mod growth;
+pub mod items;
+pub mod merge;
+pub mod normal;
 pub mod numbers;
+pub mod size;
+pub mod strip;
+pub mod written;

@@ -18,7 +18,7 @@ use crate::sets::Sets;
 use crate::type_lists::TypeLists;
 use dexclass::Program;
 use dexhead::{Head, MapEntry};
-use dexlaws_size::fitting_size_law;
+use dexlaws::size::fitting_size_law;
 use std::alloc::{AllocError, Global};
 use std::marker::Model;
 

@@ -5,7 +5,7 @@ ghost use Rattle.std.specs.List.{flat_map};
 ghost use Rattle.dexspec.specs.Classes.{Definition};
 ghost use Rattle.dexspec.specs.Files.{definitions, AreWithin};
 ghost use Rattle.dexspec.specs.Merging.{Cause, IsCause, IsFirstCause, IsGood};
-ghost use Rattle.dexlaws_growth.specs.Laws.{Absorbs};
+ghost use Rattle.dexlaws.specs.Growth.{Absorbs};
 ghost use Rattle.dexclass.specs.Parents.{AreDepthsByName};
 ghost use Rattle.dexmerge.specs.Faults.{IsMerged, Tells};
 ghost use Rattle.dexmerge.specs.Unions.{IsJoined, IsJudged};
@@ -128,7 +128,7 @@ pub fn merge<'a>(
     ensures law { (part whole : List Definition) → AreWithin part whole → Absorbs part whole }
     ensures apart { (classes : List Definition) (cause : Cause) → IsGood caps.now classes → IsCause caps.now classes cause → ⊥ }
 {
-    dexlaws_causes::good_or_first_cause();
-    dexlaws_growth::absorption_law();
+    dexlaws::causes::good_or_first_cause();
+    dexlaws::growth::absorption_law();
     merge_all(alloc, Vec::new(alloc), parts, caps)
 }

@@ -102,7 +102,7 @@ pub fn merge_plan<'a>(
     ensures fault { IfErr result (IsPlanFault caps.now files.now (plan_of plan.now)) }
     ensures apart { (classes : List Definition) (cause : Cause) → IsGood caps.now classes → IsCause caps.now classes cause → ⊥ }
 {
-    dexlaws_causes::good_or_first_cause();
+    dexlaws::causes::good_or_first_cause();
     if !is_plan_for(alloc, plan, files.len())? {
         return Err(PlanFault::BadPlan);
     }
@@ -134,7 +134,7 @@ pub fn merge_files<'a>(
     ensures fault { IfErr result (IsPlanFault caps.now files.entry.items (plan_of plan.now)) }
     ensures apart { (classes : List Definition) (cause : Cause) → IsGood caps.now classes → IsCause caps.now classes cause → ⊥ }
 {
-    dexlaws_causes::good_or_first_cause();
+    dexlaws::causes::good_or_first_cause();
     if !is_flat(plan) {
         return merge_plan(alloc, &files, plan, caps);
     }

@@ -16,7 +16,7 @@ use crate::inputs::{InputFault, read_whole};
 use dexcanon::digests;
 use dexclass::Program;
 use dexhead::{Sink, Source, write_whole};
-use dexlaws_denotes::collections::one_collection;
+use dexlaws::denotes::collections::one_collection;
 use dexpool::ReadFault;
 use dexstr::Text;
 use std::alloc::{AllocError, Global};

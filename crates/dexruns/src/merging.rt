@@ -15,7 +15,7 @@ use crate::inputs::{InputFault, read_whole};
 use dexcanon::{StoreFault, write_to};
 use dexclass::{Program, into_stripped};
 use dexhead::{Sink, Source};
-use dexlaws_normal::normal_form;
+use dexlaws::normal::normal_form;
 use dexmerge::{Caps, MergeFault, Plan, PlanFault, is_plan_for, merge_files};
 use dexpool::ReadFault;
 use std::alloc::{AllocError, Global};

@@ -12,7 +12,7 @@ use crate::faults::RunFault;
 use crate::inputs::{InputFault, read_whole};
 use dexcanon::{StoreFault, write_to};
 use dexhead::{Sink, Source};
-use dexlaws_denotes::collections::one_collection;
+use dexlaws::denotes::collections::one_collection;
 use dexpool::ReadFault;
 use std::alloc::Global;
 

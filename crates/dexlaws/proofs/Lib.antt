@@ -1,0 +1,4 @@
+pub mod Deepest
+pub mod SameUnions
+pub mod Shared
+pub mod UnionForm

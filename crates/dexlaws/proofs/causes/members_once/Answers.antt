@@ -1,0 +1,7 @@
+use Rattle.dexspec.proofs.Decided.{definition_same_or_not}
+use Rattle.dexspec.proofs.Searches.{once_of}
+use Rattle.dexspec.proofs.Exceeding.{weight-once}
+use Rattle.dexlaws.proofs.causes.members_once.Goals as goal
+
+pub returns : goal.returns
+returns c = λ D. let o = once_of definition_same_or_not D in record { once = o.once; distinct = o.distinct; same = λ d. (o.only d, o.has d); most = weight-once D }

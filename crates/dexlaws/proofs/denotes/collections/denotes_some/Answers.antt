@@ -1,0 +1,5 @@
+use Rattle.dexspec.proofs.Denoted.{denotes_some}
+use Rattle.dexlaws.proofs.denotes.collections.denotes_some.Goals as goal
+
+pub returns : goal.returns
+returns c = denotes_some

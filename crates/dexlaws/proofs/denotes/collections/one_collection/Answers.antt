@@ -1,0 +1,5 @@
+use Rattle.dexspec.proofs.OneCollection.{one_collection}
+use Rattle.dexlaws.proofs.denotes.collections.one_collection.Goals as goal
+
+pub returns : goal.returns
+returns c = one_collection

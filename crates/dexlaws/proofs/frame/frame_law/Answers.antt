@@ -1,0 +1,23 @@
+use Rattle.dexspec.specs.Header.{StringIds, TypeIds, ProtoIds, FieldIds, MethodIds, ClassDefs}
+use Rattle.dexspec.specs.Files.{Collection, definitions}
+use Rattle.dexspec.specs.Mentions.{mentions}
+use Rattle.dexspec.specs.Canonical.{ordered}
+use Rattle.dexspec.proofs.HeaderLaws.{AreFew}
+use Rattle.dexspec.proofs.Frames.{canonical_frame, fitting_frame}
+use Rattle.dexlaws.specs.Frame.{HasFewSymbols}
+use Rattle.dexlaws.proofs.frame.frame_law.Goals as goal
+
+-- no table has too many rows
+few_rows : (K : Collection) → HasFewSymbols (mentions (definitions K)) → AreFew (ordered (definitions K))
+few_rows K h StringIds = tt
+few_rows K h TypeIds = h.types
+few_rows K h ProtoIds = h.protos
+few_rows K h FieldIds = h.fields
+few_rows K h MethodIds = h.methods
+few_rows K h ClassDefs = tt
+
+pub returns-clause-frame : goal.returns-clause-frame
+returns-clause-frame c = λ K few most. canonical_frame K (few_rows K few) most
+
+pub returns-clause-fits : goal.returns-clause-fits
+returns-clause-fits c = fitting_frame

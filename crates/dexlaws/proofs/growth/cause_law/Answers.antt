@@ -1,0 +1,5 @@
+use Rattle.dexspec.proofs.Absorption.{IsGood-apart}
+use Rattle.dexlaws.proofs.growth.cause_law.Goals as goal
+
+pub returns : goal.returns
+returns c = IsGood-apart

@@ -1,0 +1,5 @@
+use Rattle.dexspec.proofs.OneDebug.{one_debug}
+use Rattle.dexlaws.proofs.items.debug.debug_is_determined.Goals as goal
+
+pub returns : goal.returns
+returns c = one_debug

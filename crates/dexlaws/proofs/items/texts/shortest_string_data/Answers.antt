@@ -1,0 +1,5 @@
+use Rattle.dexspec.proofs.OneText.{string_data_is}
+use Rattle.dexlaws.proofs.items.texts.shortest_string_data.Goals as goal
+
+pub returns : goal.returns
+returns c = string_data_is

@@ -1,0 +1,5 @@
+use Rattle.dexspec.proofs.OneValue.{one_array}
+use Rattle.dexlaws.proofs.items.values.encoded_array_is_determined.Goals as goal
+
+pub returns : goal.returns
+returns c = one_array

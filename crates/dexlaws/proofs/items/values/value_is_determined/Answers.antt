@@ -1,0 +1,5 @@
+use Rattle.dexspec.proofs.OneValue.{one_value}
+use Rattle.dexlaws.proofs.items.values.value_is_determined.Goals as goal
+
+pub returns : goal.returns
+returns c = one_value

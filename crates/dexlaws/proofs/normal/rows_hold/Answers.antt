@@ -1,0 +1,5 @@
+use Rattle.dexspec.proofs.NormalForm.{canonical_rows_hold}
+use Rattle.dexlaws.proofs.normal.rows_hold.Goals as goal
+
+pub returns : goal.returns
+returns c = canonical_rows_hold

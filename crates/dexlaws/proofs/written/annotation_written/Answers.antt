@@ -1,0 +1,5 @@
+use Rattle.dexspec.proofs.ValuesWritten.{annotation_written}
+use Rattle.dexlaws.proofs.written.annotation_written.Goals as goal
+
+pub returns : goal.returns
+returns c = annotation_written

@@ -1,0 +1,5 @@
+use Rattle.dexspec.proofs.ClassDataWritten.{class_data_written}
+use Rattle.dexlaws.proofs.written.class_data_written.Goals as goal
+
+pub returns : goal.returns
+returns c = class_data_written

@@ -1,0 +1,5 @@
+use Rattle.dexspec.proofs.CodeWritten as code
+use Rattle.dexlaws.proofs.written.code_written.Goals as goal
+
+pub returns : goal.returns
+returns c = code.code_written

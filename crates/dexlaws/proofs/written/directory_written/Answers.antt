@@ -1,0 +1,5 @@
+use Rattle.dexspec.proofs.DirectoriesWritten.{directory_written}
+use Rattle.dexlaws.proofs.written.directory_written.Goals as goal
+
+pub returns : goal.returns
+returns c = directory_written

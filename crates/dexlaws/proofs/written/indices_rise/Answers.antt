@@ -1,0 +1,5 @@
+use Rattle.dexspec.proofs.MemberRanks as ranks
+use Rattle.dexlaws.proofs.written.indices_rise.Goals as goal
+
+pub returns : goal.returns
+returns c = ranks.indices_rise

@@ -1,0 +1,76 @@
+-- The statements of the laws of canonical files.
+use Rattle.std.specs.Prelude.{◌≡◌, ℕ, ◌+◌, ◌%◌, ◌<◌, ◌≤◌, List, ◌++◌, length, slice_index, slice_index_or}
+use Rattle.std.specs.List.{Contains}
+use Rattle.dexspec.specs.Bytes.{uint, Stands, round_up}
+use Rattle.dexspec.specs.Texts.{Text}
+use Rattle.dexspec.specs.Symbols.{Proto, Field, Method, Symbol, TextSymbol, TypeSymbol, ProtoSymbol, FieldSymbol, MethodSymbol}
+use Rattle.dexspec.specs.Header.{Table, StringIds, TypeIds, ProtoIds, FieldIds, MethodIds, ClassDefs, table_size, data_off, data_size, file_size, map_off, header_length, HasSize, HasMagic, HasVersion, HasLengths, HasEndian, HasNoLink, HasChecksum, HasSignature}
+use Rattle.dexspec.specs.Sections.{IsInData, Section, MapEntry, type_code}
+use Rattle.dexspec.specs.Rows.{row_at}
+use Rattle.dexspec.specs.Classes.{Definition}
+use Rattle.dexspec.specs.Mentions.{Mentions}
+use Rattle.dexspec.specs.Spellings.{text_index}
+use Rattle.dexspec.specs.Placing.{Ordered, Placed, offsets}
+use Rattle.dexspec.specs.Canonical.{table_count, data_start, ClassOffsets, layout, map_of, map_bytes, proto_row_bytes, field_row_bytes, method_row_bytes, class_row_bytes}
+
+-- no pool has more symbols than its indices can name
+pub record HasFewSymbols (m : Mentions) : Type 0 where
+  pub types : length m.types ≤ 65535
+  pub protos : length m.protos ≤ 65535
+  pub fields : length m.fields ≤ 65536
+  pub methods : length m.methods ≤ 65536
+
+-- the header has the sizes, and the offsets of data and map
+pub record HasFields (K : Ordered) (b : List ℕ) : Type 0 where
+  pub file : file_size b ≡ length b
+  pub tables : (t : Table) → table_size b t ≡ table_count K t
+  pub data_begins : data_off b ≡ data_start K
+  pub data_ends : data_off b + data_size b ≡ length b
+  pub map_begins : map_off b ≡ round_up 4 (layout K).data_end
+
+-- each row of each table is at the offset that the header gives
+pub record HasRows (K : Ordered) (b : List ℕ) : Type 0 where
+  pub strings : (i : ℕ) → i < length K.pools.texts → Stands b (row_at b StringIds i) (uint (slice_index (layout K).strings i))
+  pub types : (i : ℕ) (d : Text) → i < length K.pools.types → Stands b (row_at b TypeIds i) (uint (text_index K.pools (slice_index_or K.pools.types i d)))
+  pub protos : (i : ℕ) (d : Proto) → i < length K.pools.protos → Stands b (row_at b ProtoIds i) (proto_row_bytes K.pools (slice_index_or K.pools.protos i d) (slice_index (layout K).parameters i))
+  pub fields : (i : ℕ) (d : Field) → i < length K.pools.fields → Stands b (row_at b FieldIds i) (field_row_bytes K.pools (slice_index_or K.pools.fields i d))
+  pub methods : (i : ℕ) (d : Method) → i < length K.pools.methods → Stands b (row_at b MethodIds i) (method_row_bytes K.pools (slice_index_or K.pools.methods i d))
+  pub classes : (r : ℕ) (d : Definition) (e : ClassOffsets) → r < length K.classes → Stands b (row_at b ClassDefs r) (class_row_bytes K.pools (slice_index_or K.classes r d) (slice_index_or (layout K).classes r e))
+
+-- the bytes are at the offset, in the data, at a multiple of the alignment
+pub record StandsAligned (b : List ℕ) (align o : ℕ) (x : List ℕ) : Type 0 where
+  pub stands : Stands b o x
+  pub in_data : IsInData b o (length x)
+  pub multiple : o % align ≡ 0
+
+-- each item of each section is at its offset, and the map after them
+pub record HasItems (K : Ordered) (b : List ℕ) : Type 0 where
+  pub items : (p : Placed) → Contains (layout K).sections p → (i : ℕ) (d : List ℕ) → i < length p.items → StandsAligned b p.align (slice_index (offsets p) i) (slice_index_or p.items i d)
+  pub map_list : StandsAligned b 4 (map_off b) (map_bytes (map_of K (layout K) (map_off b)))
+
+-- the five numbers after the signature of a header, and the rest of it
+abbrev pub opening : ℕ → List ℕ → List ℕ
+opening size tail = uint size ++ (uint header_length ++ (uint 0x12345678 ++ (uint 0 ++ (uint 0 ++ tail))))
+
+-- with its two sums it meets conditions 1 to 8
+pub record IsOpened (b : List ℕ) : Type 0 where
+  pub bytes : HasSize b
+  pub magic : HasMagic b
+  pub version : HasVersion b
+  pub lengths : HasLengths b
+  pub endian : HasEndian b
+  pub link : HasNoLink b
+  pub checksum : HasChecksum b
+  pub signature : HasSignature b
+
+-- an entry of a map by its section
+abbrev pub entry_of : Section × ℕ × ℕ → MapEntry
+entry_of e = record { kind = type_code e.0; size = e.1; off = e.2 }
+
+-- the symbol is one of those of its pool
+abbrev pub IsMentioned : Mentions → Symbol → Type 0
+IsMentioned m (TextSymbol s) = Contains m.texts s
+IsMentioned m (TypeSymbol t) = Contains m.types t
+IsMentioned m (ProtoSymbol p) = Contains m.protos p
+IsMentioned m (FieldSymbol f) = Contains m.fields f
+IsMentioned m (MethodSymbol x) = Contains m.methods x

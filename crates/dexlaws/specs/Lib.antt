@@ -1,0 +1,10 @@
+pub mod Causes
+pub mod Denotes
+pub mod Frame
+pub mod Growth
+pub mod Items
+pub mod Merge
+pub mod Normal
+pub mod Size
+pub mod Strip
+pub mod Written

@@ -1,0 +1,66 @@
+//! Class definitions can be merged, or there is a cause why not, and of all such causes a first one.
+ghost use Rattle.std.specs.Prelude.{◌≡◌, ◌⊎◌, ◌+◌, ◌<◌, List, length, map, true};
+ghost use Rattle.std.specs.List.{Contains};
+ghost use Rattle.std.specs.FinMap as map;
+ghost use Rattle.dexspec.specs.Texts.{Text};
+ghost use Rattle.dexspec.specs.Classes.{Definition};
+ghost use Rattle.dexspec.specs.Files.{Collection, definitions, AreSame, IsCollectionOf};
+ghost use Rattle.dexspec.specs.Depth.{is_defined, above, is_below, HasDepth, IsAcyclic, depth};
+ghost use Rattle.dexspec.specs.Merging.{Caps, Cap, Exceeds, Fits, IsConflict, IsConsistent, IsCycle, IsGood, Cause, IsCause, IsFirstCause};
+ghost use Rattle.dexlaws.specs.Causes.{HasLeast, greatest, IsDepth, IsLessDeep, HasFirstExceeded, HasMembersOnce, HasFirstCause, AreDefinitionsOf};
+
+/// No name has two definitions, or some name has a conflict, and a least one, and never both.
+pub fn consistent_or_conflict()
+    ensures decided { (D : List Definition) → IsConsistent D ⊎ HasLeast (IsConflict D) }
+    ensures apart { (D : List Definition) (name : Text) → IsConsistent D → IsConflict D name → ⊥ }
+{}
+
+/// Every defined name has a depth, or some has none, and a least one, and never both.
+pub fn acyclic_or_cycle()
+    ensures decided { (D : List Definition) → IsAcyclic D ⊎ HasLeast (IsCycle D) }
+    ensures apart { (D : List Definition) (name : Text) → IsAcyclic D → IsCycle D name → ⊥ }
+{}
+
+/// A depth is found within as many rounds as there are definitions; it is one more than the greatest
+/// among the defined parents, and 0 where there are none. So a defined parent is less deep. Depths depend
+/// on the members alone.
+pub fn depth_is_found()
+    ensures rounds { (D : List Definition) (name : Text) → is_defined D name ≡ true → HasDepth D name → is_below D (length D) name ≡ true }
+    ensures depth { (D : List Definition) (name : Text) → HasDepth D name → IsDepth D name (depth D name) }
+    ensures one_more { (D : List Definition) (name : Text) → HasDepth D name → depth D name ≡ greatest (map (λ parent. depth D parent + 1) (above D name)) }
+    ensures bound { (D : List Definition) (name : Text) → is_defined D name ≡ true → HasDepth D name → depth D name < length D }
+    ensures parents { (D : List Definition) (name parent : Text) → HasDepth D name → Contains (above D name) parent → IsLessDeep D parent name }
+    ensures alone { (D E : List Definition) (name : Text) → AreSame D E → HasDepth D name → depth D name ≡ depth E name }
+{}
+
+/// Each list of definitions has one of the same members without repeats, which weighs as much as any
+/// of them can.
+pub fn members_once()
+    ensures { (D : List Definition) → HasMembersOnce D }
+{}
+
+/// The definitions fit the caps, or exceed some cap, and a first one, and never both.
+pub fn fits_or_exceeds()
+    ensures decided { (caps : Caps) (D : List Definition) → Fits caps D ⊎ HasFirstExceeded caps D }
+    ensures apart { (caps : Caps) (D : List Definition) (cap : Cap) → Fits caps D → Exceeds caps D cap → ⊥ }
+{}
+
+/// Definitions can be merged or have a first cause why not, and never both; this is one cause, and
+/// depends on the members alone. Of each cause it is decided whether it is true of them.
+pub fn good_or_first_cause()
+    ensures decided { (caps : Caps) (D : List Definition) → IsGood caps D ⊎ HasFirstCause caps D }
+    ensures apart { (caps : Caps) (D : List Definition) (cause : Cause) → IsGood caps D → IsCause caps D cause → ⊥ }
+    ensures each { (caps : Caps) (D : List Definition) (cause : Cause) → IsCause caps D cause ⊎ (IsCause caps D cause → ⊥) }
+    ensures one { (caps : Caps) (D : List Definition) (c d : Cause) → IsFirstCause caps D c → IsFirstCause caps D d → c ≡ d }
+    ensures alone { (caps : Caps) (D E : List Definition) (cause : Cause) → AreSame D E → IsFirstCause caps D cause → IsFirstCause caps E cause }
+{}
+
+/// Definitions of which no name has two are a collection, and one only; its definitions are the
+/// members of the list, by name. Others are none, and each collection is that of its definitions.
+pub fn collection_of()
+    ensures is { (D : List Definition) → IsConsistent D → IsCollectionOf D (map.from_entries D) }
+    ensures one { (D : List Definition) (K L : Collection) → IsCollectionOf D K → IsCollectionOf D L → K ≡ L }
+    ensures members { (D : List Definition) (K : Collection) → IsCollectionOf D K → AreDefinitionsOf D K }
+    ensures consistent { (D : List Definition) (K : Collection) → IsCollectionOf D K → IsConsistent D }
+    ensures own { (K : Collection) → IsCollectionOf (definitions K) K }
+{}

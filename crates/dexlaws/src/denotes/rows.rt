@@ -1,0 +1,26 @@
+//! Rows of the five pools: they are in the order of what they name, and each symbol of a definition has one.
+ghost use Rattle.std.specs.Prelude.{◌≡◌, ℕ, ◌<◌, List};
+ghost use Rattle.std.specs.List.{Contains};
+ghost use Rattle.std.specs.declared.cmp.Ordering.TheVariants.{Less};
+ghost use Rattle.dexspec.specs.Texts.{Text, text_cmp};
+ghost use Rattle.dexspec.specs.Symbols.{Symbol, proto_cmp, field_cmp, method_cmp};
+ghost use Rattle.dexspec.specs.Rows.{StringRow, TypeRow, ProtoRow, FieldRow, MethodRow, SymbolRow};
+ghost use Rattle.dexspec.specs.Classes.{Body, ClassRow};
+ghost use Rattle.dexspec.specs.Mentions.{symbols_of};
+ghost use Rattle.dexspec.specs.Accepted.{HasMembers, HoldBelow};
+ghost use Rattle.dexlaws.specs.Denotes.{StandInOrder};
+
+/// Where the first sixteen conditions hold, the rows of each pool are in order.
+pub fn rows_stand_in_order()
+    ensures texts { (b : List ℕ) → HoldBelow 17 b → StandInOrder text_cmp (StringRow b) }
+    ensures types { (b : List ℕ) → HoldBelow 17 b → StandInOrder text_cmp (TypeRow b) }
+    ensures protos { (b : List ℕ) → HoldBelow 17 b → StandInOrder proto_cmp (ProtoRow b) }
+    ensures fields { (b : List ℕ) → HoldBelow 17 b → StandInOrder field_cmp (FieldRow b) }
+    ensures methods { (b : List ℕ) → HoldBelow 17 b → StandInOrder method_cmp (MethodRow b) }
+{}
+
+/// Where the first sixteen conditions and that on members hold, each symbol of a class row's definition
+/// has a row.
+pub fn symbols_have_rows()
+    ensures { (b : List ℕ) (r : ℕ) (name : Text) (c : Body) (s : Symbol) → HoldBelow 17 b → HasMembers b r → ClassRow b r name c → Contains (symbols_of (name, c)) s → (i : ℕ) × SymbolRow b i s }
+{}

@@ -1,0 +1,8 @@
+//! The bytes of a file determine its items, and equal items are written once.
+pub mod debug;
+pub mod numbers;
+pub mod rows;
+pub mod sharing;
+pub mod texts;
+pub mod values;
+pub mod widths;

@@ -1,0 +1,70 @@
+//! What is written has at most as many bytes as it weighs, item by item, section by section and as a whole,
+//! and no more than if equal items were not shared.
+ghost use Rattle.std.specs.Prelude.{◌≡◌, ℕ, ◌+◌, ◌*◌, ◌<◌, ◌≤◌, List, length, map, sum_by};
+ghost use Rattle.dexspec.specs.Lists.{AreDistinct};
+ghost use Rattle.dexspec.specs.Texts.{Text, string_data};
+ghost use Rattle.dexspec.specs.Debug.{Debug};
+ghost use Rattle.dexspec.specs.Classes.{Definition};
+ghost use Rattle.dexspec.specs.Files.{Collection, definitions};
+ghost use Rattle.dexspec.specs.Mentions.{Mentions, mentions};
+ghost use Rattle.dexspec.specs.Weight.{text_weight, debug_weight, weight};
+ghost use Rattle.dexspec.specs.Spellings.{debug_bytes, offsets_bytes};
+ghost use Rattle.dexspec.specs.Placing.{end_from, bytes_from, Ordered};
+ghost use Rattle.dexspec.specs.Depth.{in_class_order};
+ghost use Rattle.dexspec.specs.Canonical.{unsigned_file, with_sums, ordered, canonical};
+ghost use Rattle.dexspec.specs.Merging.{Caps, AreCaps, Fits};
+ghost use Rattle.dexspec.specs.Header.{HasSize};
+ghost use Rattle.dexlaws.specs.Size.{unshared, HasFewTypes, ValuesAreWithin, CodeIsWithin, HandlersAreWithin, ClassDataIsWithin, DirectoryIsWithin, TypeListHas, EndsWithin, PartsAreWithin};
+
+/// Each item has at most as many bytes as it weighs, or as its number of members says: a text without
+/// its row, code with the bytes of its alignment, the others without.
+pub fn item_size_law()
+    ensures texts { (s : Text) → length (string_data s) + 4 ≤ text_weight s }
+    ensures debugs { (m : Mentions) (d : Debug) → length (debug_bytes m d) ≤ debug_weight d }
+    ensures values { (m : Mentions) → ValuesAreWithin m }
+    ensures codes { (m : Mentions) → HasFewTypes m → CodeIsWithin m }
+    ensures handlers { (m : Mentions) → HasFewTypes m → HandlersAreWithin m }
+    ensures class_data { (m : Mentions) → ClassDataIsWithin m }
+    ensures directories { (m : Mentions) → DirectoryIsWithin m }
+    ensures sets_and_lists { (offs : List ℕ) → length (offsets_bytes offs) ≡ 4 + 4 * length offs }
+    ensures type_lists { (m : Mentions) (ts : List Text) → TypeListHas m ts }
+{}
+
+/// The bytes of a section reach from its start to its end, which is no later than its items, each with
+/// the bytes of its alignment, reach.
+pub fn section_size_law()
+    ensures bytes { (align from : ℕ) (items : List (List ℕ)) → from + length (bytes_from align from items) ≡ end_from align from items }
+    ensures end { (align from : ℕ) (items : List (List ℕ)) → 0 < align → EndsWithin align from items }
+{}
+
+/// Definitions of different names are in their order each once, so any sum over them is the same. Those of
+/// a collection have different names.
+pub fn class_order_law()
+    ensures names { (K : Collection) → AreDistinct (map (λ d. d.0) (definitions K)) }
+    ensures sums { (f : Definition → ℕ) (D : List Definition) → AreDistinct (map (λ d. d.0) D) → sum_by f (in_class_order D) ≡ sum_by f D }
+{}
+
+/// All rows and sections have at most as many bytes as their contents weigh.
+pub fn parts_size_law()
+    ensures { (K : Ordered) → HasFewTypes K.pools → PartsAreWithin K }
+{}
+
+/// The canonical file has at most as many bytes as its class definitions weigh.
+pub fn size_law()
+    ensures ordered { (D : List Definition) → HasFewTypes (mentions D) → length (with_sums (unsigned_file (ordered D))) ≤ weight D }
+    ensures canonical { (K : Collection) → HasFewTypes (mentions (definitions K)) → length (canonical K) ≤ weight (definitions K) }
+{}
+
+/// The canonical file is at most as long as the file of the same definitions in which each use of a type list,
+/// of a debug program and of an annotation set has an item of its own.
+pub fn sharing_law()
+    ensures ordered { (D : List Definition) → length (with_sums (unsigned_file (ordered D))) ≤ length (with_sums (unsigned_file (unshared D))) }
+    ensures canonical { (K : Collection) → length (canonical K) ≤ length (with_sums (unsigned_file (unshared (definitions K)))) }
+{}
+
+/// Definitions of which no two are the same and that fit caps have a canonical file of no more bytes than
+/// the cap on weight. That of a collection has a size with which a file is read.
+pub fn fitting_size_law()
+    ensures ordered { (caps : Caps) (D : List Definition) → AreCaps caps → AreDistinct D → Fits caps D → length (with_sums (unsigned_file (ordered D))) ≤ caps.weight }
+    ensures canonical { (caps : Caps) (K : Collection) → AreCaps caps → Fits caps (definitions K) → HasSize (canonical K) }
+{}

@@ -1,5 +1,0 @@
-use Rattle.dexspec.proofs.OneCode.{one_code_item}
-use Rattle.dexlaws_denotes.proofs.code.code_is_determined.Goals as goal
-
-pub returns : goal.returns
-returns c = one_code_item

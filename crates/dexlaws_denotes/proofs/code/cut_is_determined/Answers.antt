@@ -1,5 +1,0 @@
-use Rattle.dexspec.proofs.OneCode.{one_cut}
-use Rattle.dexlaws_denotes.proofs.code.cut_is_determined.Goals as goal
-
-pub returns : goal.returns
-returns c = one_cut

@@ -1,8 +1,0 @@
-use Rattle.dexspec.proofs.OneCode.{one_catch, one_handler}
-use Rattle.dexlaws_denotes.proofs.code.handler_is_determined.Goals as goal
-
-pub returns-clause-catch : goal.returns-clause-catch
-returns-clause-catch c = one_catch
-
-pub returns-clause-handler : goal.returns-clause-handler
-returns-clause-handler c = one_handler

@@ -1,5 +1,0 @@
-use Rattle.dexspec.proofs.Denoted.{has_classes, denotes_readable}
-use Rattle.dexlaws_denotes.proofs.collections.denotes_readable.Goals as goal
-
-pub returns : goal.returns
-returns c = λ b h readable. denotes_readable b (has_classes b h) readable

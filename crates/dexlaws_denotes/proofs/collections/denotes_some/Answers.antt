@@ -1,5 +1,0 @@
-use Rattle.dexspec.proofs.Denoted.{denotes_some}
-use Rattle.dexlaws_denotes.proofs.collections.denotes_some.Goals as goal
-
-pub returns : goal.returns
-returns c = denotes_some

@@ -1,5 +1,0 @@
-use Rattle.dexspec.proofs.OneCollection.{one_collection}
-use Rattle.dexlaws_denotes.proofs.collections.one_collection.Goals as goal
-
-pub returns : goal.returns
-returns c = one_collection

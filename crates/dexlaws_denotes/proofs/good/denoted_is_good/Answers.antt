@@ -1,9 +1,0 @@
-use Rattle.dexspec.proofs.ShortStrings.{denoted_good}
-use Rattle.dexspec.proofs.FormedCode.{denoted_well_formed}
-use Rattle.dexlaws_denotes.proofs.good.denoted_is_good.Goals as goal
-
-pub returns-clause-good : goal.returns-clause-good
-returns-clause-good c = λ b K bytes h denotes. denoted_good b bytes h K denotes
-
-pub returns-clause-formed : goal.returns-clause-formed
-returns-clause-formed c = λ b K bytes h denotes. denoted_well_formed b bytes h K denotes

@@ -1,5 +1,0 @@
-use Rattle.dexspec.proofs.Absorption.{IsGood-within, IsCause-within}
-use Rattle.dexlaws_growth.proofs.absorption_law.Goals as goal
-
-pub returns : goal.returns
-returns c = λ D E h. record { good = IsGood-within D E h; causes = IsCause-within D E h }

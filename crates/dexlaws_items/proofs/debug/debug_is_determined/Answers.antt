@@ -1,5 +1,0 @@
-use Rattle.dexspec.proofs.OneDebug.{one_debug}
-use Rattle.dexlaws_items.proofs.debug.debug_is_determined.Goals as goal
-
-pub returns : goal.returns
-returns c = one_debug

@@ -1,5 +1,0 @@
-use Rattle.dexspec.proofs.OneRow.{one_symbol}
-use Rattle.dexlaws_items.proofs.rows.symbol_row_is_determined.Goals as goal
-
-pub returns : goal.returns
-returns c = one_symbol

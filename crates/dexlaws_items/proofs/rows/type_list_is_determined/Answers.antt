@@ -1,5 +1,0 @@
-use Rattle.dexspec.proofs.OneRow.{one_type_list}
-use Rattle.dexlaws_items.proofs.rows.type_list_is_determined.Goals as goal
-
-pub returns : goal.returns
-returns c = one_type_list

@@ -1,5 +1,0 @@
-use Rattle.dexspec.proofs.OneText.{string_data_is}
-use Rattle.dexlaws_items.proofs.texts.shortest_string_data.Goals as goal
-
-pub returns : goal.returns
-returns c = string_data_is

@@ -1,6 +1,0 @@
-use Rattle.std.proofs.Common.{drop}
-use Rattle.dexspec.proofs.OneText.{one_string_data}
-use Rattle.dexlaws_items.proofs.texts.string_data_is_determined.Goals as goal
-
-pub returns : goal.returns
-returns c = λ b o. one_string_data (drop o b)

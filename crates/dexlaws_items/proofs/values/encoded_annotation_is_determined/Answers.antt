@@ -1,5 +1,0 @@
-use Rattle.dexspec.proofs.OneValue.{one_annotation}
-use Rattle.dexlaws_items.proofs.values.encoded_annotation_is_determined.Goals as goal
-
-pub returns : goal.returns
-returns c = one_annotation

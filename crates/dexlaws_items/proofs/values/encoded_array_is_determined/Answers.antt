@@ -1,5 +1,0 @@
-use Rattle.dexspec.proofs.OneValue.{one_array}
-use Rattle.dexlaws_items.proofs.values.encoded_array_is_determined.Goals as goal
-
-pub returns : goal.returns
-returns c = one_array

@@ -1,8 +1,0 @@
-use Rattle.dexspec.proofs.OneValue.{one_values, one_elements}
-use Rattle.dexlaws_items.proofs.values.members_are_determined.Goals as goal
-
-pub returns-clause-values : goal.returns-clause-values
-returns-clause-values c = one_values
-
-pub returns-clause-elements : goal.returns-clause-elements
-returns-clause-elements c = one_elements

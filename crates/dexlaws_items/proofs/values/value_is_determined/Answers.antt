@@ -1,5 +1,0 @@
-use Rattle.dexspec.proofs.OneValue.{one_value}
-use Rattle.dexlaws_items.proofs.values.value_is_determined.Goals as goal
-
-pub returns : goal.returns
-returns c = one_value

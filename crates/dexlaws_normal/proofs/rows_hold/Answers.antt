@@ -1,5 +1,0 @@
-use Rattle.dexspec.proofs.NormalForm.{canonical_rows_hold}
-use Rattle.dexlaws_normal.proofs.rows_hold.Goals as goal
-
-pub returns : goal.returns
-returns c = canonical_rows_hold

@@ -1,5 +1,0 @@
-use Rattle.dexspec.proofs.ValuesWritten.{annotation_written}
-use Rattle.dexlaws_written.proofs.annotation_written.Goals as goal
-
-pub returns : goal.returns
-returns c = annotation_written

@@ -1,5 +1,0 @@
-use Rattle.dexspec.proofs.ClassDataWritten.{class_data_written}
-use Rattle.dexlaws_written.proofs.class_data_written.Goals as goal
-
-pub returns : goal.returns
-returns c = class_data_written

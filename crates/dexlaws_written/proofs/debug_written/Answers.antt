@@ -1,8 +1,0 @@
-use Rattle.dexspec.proofs.DebugWritten.{operation_written, debug_written}
-use Rattle.dexlaws_written.proofs.debug_written.Goals as goal
-
-pub returns-clause-operation : goal.returns-clause-operation
-returns-clause-operation c = operation_written
-
-pub returns-clause-program : goal.returns-clause-program
-returns-clause-program c = debug_written

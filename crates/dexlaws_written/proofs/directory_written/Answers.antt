@@ -1,5 +1,0 @@
-use Rattle.dexspec.proofs.DirectoriesWritten.{directory_written}
-use Rattle.dexlaws_written.proofs.directory_written.Goals as goal
-
-pub returns : goal.returns
-returns c = directory_written

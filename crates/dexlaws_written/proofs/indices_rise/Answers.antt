@@ -1,5 +1,0 @@
-use Rattle.dexspec.proofs.MemberRanks as ranks
-use Rattle.dexlaws_written.proofs.indices_rise.Goals as goal
-
-pub returns : goal.returns
-returns c = ranks.indices_rise

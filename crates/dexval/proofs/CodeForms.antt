@@ -1,12 +1,12 @@
 -- What each variant of a value of the code is, as contracts see it.
-use Rattle.std.proofs.Common.{◌≡◌, ℕ, Bool, map, sym, ap, ◌∙◌, Vec, Global}
+use Rattle.std.proofs.Common.{◌≡◌, ℕ, map, sym, ap, ◌∙◌, Vec, Global}
 use Rattle.std.specs.Prelude.{ℤ}
 use Rattle.dexval.specs.declared.value.Value.{Value}
 use Rattle.dexval.specs.declared.value.Element.{Element}
 use Rattle.dexval.specs.declared.value.Value.TheVariants as variants
 use Rattle.dexval.specs.declared.value.Value.TheOpen as layers
 use Rattle.dexval.specs.declared.value.Value.TheFolds.{fold-roll-Value, fold_out-Element}
-use Rattle.dexval.specs.Numbered.{NumberedValue, Plain, Named, Array, Annotated, ByteLiteral, ShortLiteral, CharLiteral, IntLiteral, LongLiteral, FloatLiteral, DoubleLiteral, NullLiteral, BooleanLiteral, StringReference, TypeReference, FieldReference, MethodReference, EnumReference, values_of_list, elements_of_list}
+use Rattle.dexval.specs.Numbered.{NumberedValue, Plain, Named, Array, Annotated, ByteLiteral, ShortLiteral, CharLiteral, IntLiteral, LongLiteral, FloatLiteral, DoubleLiteral, StringReference, TypeReference, FieldReference, MethodReference, EnumReference, values_of_list, elements_of_list}
 use Rattle.dexval.specs.Code.{value_step, element_step, value_of, element_of}
 
 pub byte_is : (z : ℤ) → value_of (variants.Byte z) ≡ Plain (ByteLiteral z)
@@ -50,12 +50,6 @@ array_is values = ap value_of (sym (variants.rolls-Array values)) ∙ fold-roll-
 
 pub annotation_is : (t : ℕ) (elements : Vec Element Global) → value_of (variants.Annotation t elements) ≡ Annotated t (elements_of_list (map element_of elements.items))
 annotation_is t elements = ap value_of (sym (variants.rolls-Annotation t elements)) ∙ fold-roll-Value NumberedValue (ℕ × NumberedValue) value_step element_step (layers.Annotation t elements)
-
-pub null_is : value_of variants.Null ≡ Plain NullLiteral
-null_is = ap value_of (sym variants.rolls-Null) ∙ fold-roll-Value NumberedValue (ℕ × NumberedValue) value_step element_step layers.Null
-
-pub boolean_is : (is : Bool) → value_of (variants.Boolean is) ≡ Plain (BooleanLiteral is)
-boolean_is is = ap value_of (sym (variants.rolls-Boolean is)) ∙ fold-roll-Value NumberedValue (ℕ × NumberedValue) value_step element_step (layers.Boolean is)
 
 -- an element is its name and its value
 pub element_is : (e : Element) → element_of e ≡ (e.name, value_of e.value)

@@ -1,18 +1,14 @@
 -- What is read at an offset of a file.
-use Rattle.std.proofs.Common.{◌≡◌, ℕ, ◌^◌, ◌<◌, ◌≤◌, List, [], ◌∷◌, length, take, drop, refl, zero, suc, arith, subst}
-use Rattle.std.proofs.lemmas.List.{length-drop}
+use Rattle.std.proofs.Common.{◌≡◌, ℕ, ◌^◌, ◌≤◌, List, [], ◌∷◌, length, take, refl, zero, suc, arith, subst}
 use Rattle.dexspec.specs.Numbers.{BeginsWith, IsUleb128, IsChain}
-use Rattle.dexspec.specs.Header.{data_off}
 use Rattle.dexspec.specs.Conditions.{Condition}
 use Rattle.dexspec.specs.Accepted.{IsFrame}
-use Rattle.dexspec.specs.Values.{Value, Values, EncodedValueAt, EncodedArrayItemAt, most_depth, count_values}
+use Rattle.dexspec.specs.Values.{Value, Values, EncodedValueAt, EncodedArrayItemAt, most_depth}
 use Rattle.dexspec.specs.Mentions.{Mentions}
 use Rattle.dexpool.specs.Pools.{ArePools}
 use Rattle.dexpool.specs.Numberings.{IsNumbering}
-use Rattle.dexval.specs.Numbered.{NumberedValue, NumberedValues}
-use Rattle.dexval.specs.Scalars.{NoValueAt, IsReadAt}
-use Rattle.dexval.specs.Nesting.{AreFilePools, NoArrayAt, AreReadAt}
-use Rattle.dexval.specs.Reading.{IsValueAt, AreStaticsAt}
+use Rattle.dexval.specs.Scalars.{NoValueAt}
+use Rattle.dexval.specs.Nesting.{AreFilePools, NoArrayAt}
 
 -- a file has 2 ^ 30 bytes at most
 pub few_bytes : (b : List ℕ) → IsFrame b → length b ≤ 2 ^ 30
@@ -22,14 +18,8 @@ few_bytes b frame = (frame Condition.Size (omega arith) 0 (omega arith)).most
 pub file_pools : (b : List ℕ) (m n : Mentions) → n ≡ m → IsNumbering n → ArePools b m → AreFilePools b m
 file_pools b m n e is pools = record { pools = pools; rising = (subst IsNumbering e is).rising }
 
-pub value_read : (b : List ℕ) (off : ℕ) (m : Mentions) (x : NumberedValue) (n : ℕ) → data_off b ≤ off → IsReadAt b off m most_depth x n → IsValueAt b off m x n
-value_read b off m x n in_data r = record { known = r.known; at = record { in_data = in_data; stands = r.stands; shallow = r.shallow } }
-
 pub no_value : (b : List ℕ) (off : ℕ) → NoValueAt b off most_depth → (v : Value) (n : ℕ) → EncodedValueAt b off v n → ⊥
 no_value b off none v n h = none v n h.stands h.shallow
-
-pub statics_read : (b : List ℕ) (off : ℕ) (m : Mentions) (xs : NumberedValues) (n : ℕ) → data_off b ≤ off → AreReadAt b off m most_depth xs n → AreStaticsAt b off m xs
-statics_read b off m xs n in_data r = record { known = r.known; at = (n, record { in_data = in_data; array = r.stands; shallow = r.shallow }) }
 
 pub no_statics : (b : List ℕ) (off : ℕ) → NoArrayAt b off most_depth → (vs : Values) (n : ℕ) → EncodedArrayItemAt b off vs n → ⊥
 no_statics b off none vs n h = none vs n h.array h.shallow
@@ -42,7 +32,3 @@ take-nil (suc n) = refl
 some_bytes : (bytes : List ℕ) (v n : ℕ) → length bytes ≡ 0 → BeginsWith IsUleb128 bytes v n → ⊥
 some_bytes [] v n e h = (subst IsChain (take-nil n) h.spelled.chain)
 some_bytes (b ∷ bs) v n e h = absurd (omega arith)
-
--- behind the end stands no number
-pub no_statics_behind : (b : List ℕ) (off : ℕ) → length b < off → NoArrayAt b off most_depth
-no_statics_behind b off lt vs n h shallow = some_bytes (drop off b) (count_values vs) h.0 (omega (arith, length-drop off b)) h.2

@@ -1,5 +1,5 @@
 -- What was read, noted and looked up.
-use Rattle.std.proofs.Common.{◌≡◌, ◌⊎◌, ℕ, ◌<◌, List, true, false, Some, length, nat_eq, sym, ap, subst, ◌∙◌, inl, inr, ne_eqb}
+use Rattle.std.proofs.Common.{◌≡◌, ◌⊎◌, ℕ, List, true, false, Some, nat_eq, sym, ap, subst, ◌∙◌, inl, inr, ne_eqb}
 use Rattle.std.proofs.lemmas.Bool.{cases_eq}
 use Rattle.std.specs.HashMap.{get}
 use Rattle.std.specs.HashSet.{contains}
@@ -60,40 +60,7 @@ module _ (j k : Judged) (o : ℕ) where
     passed_lists_from = λ q e. inl (ap (λ l. contains nat_eq l q) (sym passed_lists) ∙ e);
   }
 
-  pub set_passed : Extends j.table k.table → contains nat_eq k.passed_sets o ≡ true → ((q : ℕ) → nat_eq o q ≡ false → contains nat_eq k.passed_sets q ≡ contains nat_eq j.passed_sets q) → k.sets ≡ j.sets → k.lists ≡ j.lists → k.passed_lists ≡ j.passed_lists
-      → Notes NoneNew NoneNew (λ q. o ≡ q) NonePassed j k
-  set_passed extended here others sets lists passed_lists = record {
-    extended = extended;
-    sets_from = λ q place e. inl (ap (λ l. get nat_eq l q) (sym sets) ∙ e);
-    lists_from = λ q place e. inl (ap (λ l. get nat_eq l q) (sym lists) ∙ e);
-    passed_from = λ q e. elim (from_before (λ n. contains nat_eq j.passed_sets n) (λ n. contains nat_eq k.passed_sets n) o true here others q true e) [ inl before ↦ inl before | inr new ↦ inr new.0 ];
-    passed_lists_from = λ q e. inl (ap (λ l. contains nat_eq l q) (sym passed_lists) ∙ e);
-  }
-
-  pub list_passed : Extends j.table k.table → contains nat_eq k.passed_lists o ≡ true → ((q : ℕ) → nat_eq o q ≡ false → contains nat_eq k.passed_lists q ≡ contains nat_eq j.passed_lists q) → k.sets ≡ j.sets → k.lists ≡ j.lists → k.passed_sets ≡ j.passed_sets
-      → Notes NoneNew NoneNew NonePassed (λ q. o ≡ q) j k
-  list_passed extended here others sets lists passed = record {
-    extended = extended;
-    sets_from = λ q place e. inl (ap (λ l. get nat_eq l q) (sym sets) ∙ e);
-    lists_from = λ q place e. inl (ap (λ l. get nat_eq l q) (sym lists) ∙ e);
-    passed_from = λ q e. inl (ap (λ l. contains nat_eq l q) (sym passed) ∙ e);
-    passed_lists_from = λ q e. elim (from_before (λ n. contains nat_eq j.passed_lists n) (λ n. contains nat_eq k.passed_lists n) o true here others q true e) [ inl before ↦ inl before | inr new ↦ inr new.0 ];
-  }
-
 -- ---- what is known of it
-
--- what was noted is held, and what is new
-pub all_held : {NS NL : ℕ → ℕ → Type 0} {NP NPL : ℕ → Type 0} (j k : Judged) → Notes NS NL NP NPL j k → ((q place : ℕ) → NS q place → place < length k.table.sets) → ((q place : ℕ) → NL q place → place < length k.table.lists) → AreHeld j → AreHeld k
-all_held j k notes new_set new_list h = record {
-  sets_held = λ q place e. elim (notes.sets_from q place e) [
-    | inl before ↦ notes.extended.sets_hold (Some place) (h.sets_held q place before)
-    | inr new ↦ new_set q place new
-  ];
-  lists_held = λ q place e. elim (notes.lists_from q place e) [
-    | inl before ↦ notes.extended.lists_hold (Some place) (h.lists_held q place before)
-    | inr new ↦ new_list q place new
-  ];
-}
 
 -- what was noted stands where it stood, and so does what is new
 pub all_judged : {NS NL : ℕ → ℕ → Type 0} {NP NPL : ℕ → Type 0} (b : List ℕ) (m : Mentions) (j k : Judged) → Notes NS NL NP NPL j k → ((q place : ℕ) → NS q place → IsSetAt b q m (set_at k.table.sets (Some place)))

@@ -61,17 +61,6 @@ known_kept {X} Read weighs most before after item r passed counted =
       whole = λ within. refl;
     }
 
--- what is not kept was read before, once the weight had passed
-pub passed_kept : {X : Type 0} (Read : X → Type 0) (weighs : X → ℕ) (most weight : ℕ) (item kept : X) → Read item → most < weight → IsKept Read weighs most weight weight kept
-passed_kept Read weighs most weight item kept r over = record {
-  item = item;
-  is_read = r;
-  early = λ within. within;
-  grown = λ within. absurd (omega (arith, over, within));
-  heavy = λ lt. omega (arith, over);
-  whole = λ within. absurd (omega (arith, over, within));
-}
-
 -- one more was read, and kept where the running weight allows it
 pub one_kept : {X : Type 0} (Read Next : List X → Type 0) (weighs : List X → ℕ) (one : X → ℕ) (most before old new : ℕ) (kept next : List X) (x y : X)
     → ((xs : List X) → Read xs → Next (xs ++ x ∷ [])) → ((xs : List X) → weighs (xs ++ x ∷ []) ≡ weighs xs + one x)

@@ -2,13 +2,13 @@
 use Rattle.std.proofs.Common.{◌≡◌, ℕ, ◌+◌, ◌<◌, List, [], ◌∷◌, ◌++◌, length, take, map, get_or, refl, ap, sym, ◌∙◌, subst, append_assoc}
 use Rattle.std.specs.List.{All, flat_map}
 use Rattle.std.proofs.lemmas.List.{take_more, append-nil}
-use Rattle.std.proofs.lemmas.List.Elements.{All-head, All-get_or}
+use Rattle.std.proofs.lemmas.List.Elements.{All-get_or}
 use Rattle.dexpool.specs.declared.marks.Marks.{Marks}
 use Rattle.dexval.specs.declared.annotation.Annotation.{Annotation}
 use Rattle.dexval.specs.declared.value.Value.{Value}
 use Rattle.dexval.specs.declared.value.Element.{Element}
 use Rattle.dexval.specs.Code.{value_of, element_of, annotation_of}
-use Rattle.dexval.specs.Numbered.{NumberedValue, Reference, Named, kind_of_reference, values_of_list, elements_of_list}
+use Rattle.dexval.specs.Numbered.{NumberedValue, values_of_list, elements_of_list}
 use Rattle.dexpool.specs.Uses.{Use, HasMark, AreMarkedToo}
 use Rattle.dexval.specs.Uses.{value_uses, values_uses, element_uses, elements_uses, annotation_uses, set_uses}
 use Rattle.dexpool.proofs.Parts.{all_parts}
@@ -66,7 +66,3 @@ uses_of_annotations [] = refl
 uses_of_annotations (x ∷ xs) = ap (λ l. note_uses x ++ l) (uses_of_annotations xs)
 
 -- ---- what a value names
-
--- there is a mark for the symbol that a value names
-pub named_has_mark : (marks : Marks) (v : Value) (r : Reference) (i : ℕ) → value_of v ≡ Named r i → All (HasMark marks) (code_uses v) → HasMark marks (record { kind = kind_of_reference r; number = i })
-named_has_mark marks v r i e all = All-head (HasMark marks) (record { kind = kind_of_reference r; number = i }) [] (subst (λ x. All (HasMark marks) (value_uses x)) e all)

@@ -1,7 +1,7 @@
 -- Values and annotations that are checked one within the other: what a reader would have read is there.
-use Rattle.std.proofs.Common.{◌≡◌, ◌≢◌, ℕ, zero, suc, ◌+◌, ◌-◌, ◌<◌, ◌≤◌, List, [], ◌∷◌, ◌++◌, length, refl, ap, arith}
+use Rattle.std.proofs.Common.{◌≡◌, ◌≢◌, ℕ, ◌+◌, ◌-◌, ◌<◌, ◌≤◌, List, [], ◌∷◌, ◌++◌, length, refl, ap, arith}
 use Rattle.std.specs.Prelude.{slice_index}
-use Rattle.dexspec.specs.Numbers.{BeginsWith, IsUleb128, Uleb128At}
+use Rattle.dexspec.specs.Numbers.{Uleb128At}
 use Rattle.dexspec.specs.Values.{value_depth}
 use Rattle.dexspec.specs.Mentions.{Mentions}
 use Rattle.dexpool.specs.Pools.{ArePools}
@@ -13,11 +13,6 @@ use Rattle.dexval.specs.Spelled.{values_count, numbered_weight, numbered_values_
 use Rattle.dexval.proofs.ElementsRead.{HaveReadOf, no_element_read, one_element_more, no_next_element, all_elements_read, annotation_read}
 use Rattle.dexval.proofs.NestedRead.{array_stands, annotation_stands}
 use Rattle.dexval.proofs.ValuesRead.{HaveRead, none_read, one_more, no_next, no_values, all_read}
-
--- a number has a byte at least
-pub number_some : (bytes : List ℕ) (v n : ℕ) → BeginsWith IsUleb128 bytes v n → 1 ≤ n
-number_some bytes v zero h = absurd h.spelled.chain
-number_some bytes v (suc n) h = omega arith
 
 -- a value that holds no other weighs 9
 flat_weight : (m : Mentions) (x : NumberedValue) → value_depth (value_in m x) ≤ 0 → numbered_weight x ≡ 9

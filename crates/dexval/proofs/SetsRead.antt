@@ -23,7 +23,7 @@ use Rattle.dexval.specs.Numbered.{NumberedAnnotation, NumberedElements, IsKnownS
 use Rattle.dexval.specs.Nesting.{AreFilePools, NoAnnotationAt, IsAnnotationReadAt}
 use Rattle.dexval.specs.Items.{IsItemAt, NoItemAt, NoSetAt, HasOffsets}
 use Rattle.dexval.specs.Reading.{IsSetAt}
-use Rattle.dexval.proofs.Shapes.{first_is, stands_byte, within_is}
+use Rattle.dexval.proofs.Shapes.{first_is, stands_byte}
 
 -- ---- one annotation
 
@@ -33,9 +33,6 @@ module _ (b : List ℕ) (off : ℕ) (m : Mentions) where
     known = record { type_in = r.type_known; elements_known = r.known };
     at = record { in_data = in_data; known = known; visibility = stands_byte b off visibility lt is; annotation = (n, r.stands); shallow = r.shallow };
   }
-
-  pub no_item_behind : length b ≤ off → NoItemAt b off
-  no_item_behind le a h = omega (arith, within_is b off a.visibility [] h.visibility)
 
   pub no_visibility : (v : ℕ) → slice_index b off ≡ v → 2 < v → NoItemAt b off
   no_visibility v is lt a h = omega (arith, h.known, first_is b off a.visibility [] h.visibility)

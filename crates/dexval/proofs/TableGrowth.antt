@@ -1,10 +1,10 @@
 -- Tables of sets to which sets and lists are added.
-use Rattle.std.proofs.Common.{◌≡◌, ◌⊎◌, ℕ, ◌+◌, ◌<◌, List, [], ◌∷◌, ◌++◌, length, map, refl, ap, ◌∙◌, inl, inr, arith, Option, Some, None, slice_index_or, length-append}
-use Rattle.std.specs.List.{All, Contains}
+use Rattle.std.proofs.Common.{◌≡◌, ℕ, ◌+◌, List, [], ◌∷◌, ◌++◌, length, map, refl, ap, ◌∙◌, inl, inr, arith, Option, Some, None, slice_index_or, length-append}
+use Rattle.std.specs.List.{All}
 use Rattle.std.proofs.lemmas.List.{get_or_append_left, get_or-append-add}
-use Rattle.std.proofs.lemmas.List.Elements.{Contains-append_left, Contains-push}
+use Rattle.std.proofs.lemmas.List.Elements.{Contains-append_left}
 use Rattle.dexval.specs.Numbered.{NumberedSet}
-use Rattle.dexval.specs.Tables.{NumberedTable, IsPlaceIn, HoldsLists, IsListed, Extends, AreNewNamed, set_at, places_at, sets_at}
+use Rattle.dexval.specs.Tables.{NumberedTable, IsPlaceIn, HoldsLists, Extends, AreNewNamed, set_at, places_at, sets_at}
 use Rattle.dexval.proofs.Tables.{place_later, map_stays}
 
 -- ---- growth
@@ -59,10 +59,6 @@ list_added t l = record {
   listed_stay = λ i listed. (listed.0, Contains-append_left t.lists (l ∷ []) listed.0 listed.1, listed.2);
 }
 
--- what the last list names is listed
-pub last_listed : (t : NumberedTable) (l : List (Option ℕ)) (i : ℕ) → Contains l (Some i) → IsListed (record { sets = t.sets; lists = t.lists ++ l ∷ [] }) i
-last_listed t l i h = (l, Contains-push t.lists l, h)
-
 -- ---- names of what is new
 
 pub none_new : (S L : ℕ → Type 0) (t : NumberedTable) → AreNewNamed S L t t
@@ -80,23 +76,6 @@ new_then t u v s1 l1 s2 l2 h g = record {
     | inl before ↦ elim (h.list_named i before) [ inl old ↦ inl old | inr name ↦ inr (l1 i name) ]
     | inr name ↦ inr (l2 i name)
   ];
-}
-
-one_more_than : {X : Type 0} (xs : List X) (x : X) (i : ℕ) → i < length (xs ++ x ∷ []) → (i < length xs) ⊎ (length xs ≡ i)
-one_more_than xs x i lt = let e : length (xs ++ x ∷ []) ≡ length xs + 1 = length-append xs (x ∷ []) in grind (arith, e, lt)
-
--- a set that was added is the one that is new
-pub added_set_named : (t : NumberedTable) (s : NumberedSet) (place : ℕ) → place ≡ length t.sets → AreNewNamed (λ i. Some place ≡ Some i) (λ i. ⊥) t (record { sets = t.sets ++ s ∷ []; lists = t.lists })
-added_set_named t s place e = record {
-  set_named = λ i lt. elim (one_more_than t.sets s i lt) [ inl old ↦ inl old | inr last ↦ inr (ap Some (e ∙ last)) ];
-  list_named = λ i lt. inl lt;
-}
-
--- and so is a list
-pub added_list_named : (t : NumberedTable) (l : List (Option ℕ)) (place : ℕ) → place ≡ length t.lists → AreNewNamed (λ i. ⊥) (λ i. Some place ≡ Some i) t (record { sets = t.sets; lists = t.lists ++ l ∷ [] })
-added_list_named t l place e = record {
-  set_named = λ i lt. inl lt;
-  list_named = λ i lt. elim (one_more_than t.lists l i lt) [ inl old ↦ inl old | inr last ↦ inr (ap Some (e ∙ last)) ];
 }
 
 -- the last of a list

@@ -15,10 +15,6 @@ pub place_later : {X Y : Type 0} (xs : List X) (ys : List Y) → length xs ≤ l
 place_later xs ys le None h = tt
 place_later xs ys le (Some i) h = omega (arith, le, h)
 
--- and so are the places of lists
-pub lists_later : {X Y : Type 0} (xs : List X) (ys : List Y) → length xs ≤ length ys → (lists : List (List (Option ℕ))) → All (All (IsPlaceIn xs)) lists → All (All (IsPlaceIn ys)) lists
-lists_later xs ys le lists h = λ k d lt i e inside. place_later xs ys le _ (h k d lt i e inside)
-
 -- what two functions make of a list is the same where they are the same at each member
 pub map_stays : {A X : Type 0} (f g : A → X) (P : A → Type 0) → ((a : A) → P a → g a ≡ f a) → (xs : List A) → All P xs → map g xs ≡ map f xs
 map_stays f g P same [] h = refl

@@ -14,10 +14,6 @@ pub record AreSettled (r : Maps) (i : ℕ) (old new : List AnnotationSet) : Type
   pub rest : (k : ℕ) (d : AnnotationSet) → i ≤ k → get_or new k d ≡ get_or old k d
   pub size : length new ≡ length old
 
--- none is yet
-pub none_settled : (r : Maps) (old : List AnnotationSet) → AreSettled r 0 old old
-none_settled r old = record { done = λ k d lt inside. absurd (omega arith); rest = λ k d le. refl; size = refl }
-
 -- one more, which stays since it has no places
 pub settled_stays : (r : Maps) (old new : List AnnotationSet) (i : ℕ) (x : AnnotationSet) → AreSettled r i old new → i < length old → x ≡ get_or new i x → (SetHasPlaces r (set_of x) → ⊥) → AreSettled r (i + 1) old new
 settled_stays r old new i x h lt e none = record {

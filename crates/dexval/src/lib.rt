@@ -29,6 +29,7 @@ pub use sizes::{annotation_size, ref_list_size, set_size, statics_size};
 pub use value::{Element, Value};
 pub use value_checking::{StaticsShape, ValueShape, check_statics, check_value};
 pub use value_reading::{read_statics, read_value};
+pub use visiting::visit_values;
 pub use weight::{parameter_sets_weight, statics_weight};
 
 mod annotation;

@@ -8,8 +8,6 @@ pub mod Entered
 pub mod FewMembers
 pub mod FittingMembers
 pub mod HeldMembers
-pub mod Joining
-pub mod Settling
 pub mod Images
 pub mod Judged
 pub mod Made

@@ -1,4 +1,3 @@
-pub mod Appending
 pub mod Attaching
 pub mod Checking
 pub mod ClassData
@@ -18,4 +17,5 @@ pub mod Uses
 pub mod Weighing
 pub mod Weight
 pub mod Fitting
+pub mod FormedDirectory
 pub mod Stripped

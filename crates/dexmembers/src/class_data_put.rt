@@ -1,14 +1,12 @@
 //! Class data written.
 
-ghost use Rattle.std.specs.Prelude.{⊤, ◌≡◌, ◌+◌, ◌*◌, ◌^◌, ◌<◌, ◌≤◌, ◌++◌, take, drop, length, IsOk, vec_len, vec_capacity};
-ghost use Rattle.dexspec.specs.Numbers.{uleb128};
+ghost use Rattle.std.specs.Prelude.{◌≡◌, ◌+◌, ◌*◌, ◌≤◌, length, IsOk, vec_len, vec_capacity};
 ghost use Rattle.dexspec.specs.Texts.{Text};
 ghost use Rattle.dexspec.specs.Classes.{Body};
 ghost use Rattle.dexspec.specs.Mentions.{Mentions};
 ghost use Rattle.dexspec.specs.Spellings.{class_data_bytes};
 ghost use Rattle.dexspec.specs.Aside.Writing.{Puts};
 ghost use Rattle.dexpool.specs.Numberings.{AreRising};
-ghost use Rattle.dexmembers.specs.Appending.{Appends};
 ghost use Rattle.dexmembers.specs.Numbered.{AreKnownMembers, AreOfClass, fields_of, methods_of, members_in, members_of};
 ghost use Rattle.dexmembers.specs.Spelled.{numbered_field_bytes, numbered_fields_bytes, numbered_method_bytes, numbered_methods_bytes, numbered_class_data_bytes};
 
@@ -16,113 +14,120 @@ use crate::field_views::{Field, Fields};
 use crate::members::Members;
 use crate::method_views::{Method, Methods};
 use crate::put_laws::members_bytes_law;
-use crate::taking_back::taken_back_on_error;
-use dexleb::put_u;
+use dexhead::{Encode, Output, encoded_len, put_encoded};
 use std::alloc::AllocError;
 
-// Appends a uleb128. Where memory is wanting, as with all that follow here, a part of the item may stand.
-#[tactic(auto, using(crate::proofs::Partways::puts_appends_too))]
-fn append_number(value: u32, out: &mut Vec<u8>) -> Result<(), AllocError>
-    ensures { Appends ⊤ (uleb128 value) out.old out.new result }
+// Writes an encoded_field after one with the number `last`.
+fn encode_field<O: Output>(field: &Field<'_>, last: u32, out: &mut O)
+    ensures { O.gives (numbered_field_bytes last field.now) out.old out.new }
 {
-    put_u(value, out)
+    out.uleb(field.number().saturating_sub(last));
+    out.uleb(field.flags().bits());
 }
 
-// Appends an encoded_field behind one with the number `last`.
-fn append_field(field: &Field<'_>, last: u32, out: &mut Vec<u8>) -> Result<(), AllocError>
-    ensures { Appends ⊤ (numbered_field_bytes last field.now) out.old out.new result }
-{
-    append_number(field.number().saturating_sub(last), out)?;
-    append_number(field.flags().bits(), out)
-}
-
-// Appends encoded_fields.
-fn append_fields(fields: &Fields<'_>, out: &mut Vec<u8>) -> Result<(), AllocError>
-    ensures { Appends ⊤ (numbered_fields_bytes 0 fields.now) out.old out.new result }
+// Writes encoded_fields.
+fn encode_fields<O: Output>(fields: &Fields<'_>, out: &mut O)
+    ensures { O.gives (numbered_fields_bytes 0 fields.now) out.old out.new }
 {
     let mut last = 0;
     for i in 0..fields.len() {
         let field = fields.get(i);
-        append_field(&field, last, out)?;
+        encode_field(&field, last, out);
         last = field.number();
     }
-    Ok(())
 }
 
-// Appends an encoded_method behind one with the number `last`, with the offset of its code.
-fn append_method(
-    method: &Method<'_, '_>,
-    last: u32,
-    code_off: u32,
-    out: &mut Vec<u8>,
-) -> Result<(), AllocError>
-    ensures { Appends ⊤ (numbered_method_bytes last method.now code_off) out.old out.new result }
+// Writes an encoded_method after one with the number `last`, with the offset of its code.
+fn encode_method<O: Output>(method: &Method<'_, '_>, last: u32, code_off: u32, out: &mut O)
+    ensures { O.gives (numbered_method_bytes last method.now code_off) out.old out.new }
 {
-    append_number(method.number().saturating_sub(last), out)?;
-    append_number(method.flags().bits(), out)?;
-    append_number(code_off, out)
+    out.uleb(method.number().saturating_sub(last));
+    out.uleb(method.flags().bits());
+    out.uleb(code_off);
 }
 
-// Appends encoded_methods, each with the offset of its code.
-fn append_methods(
-    methods: &Methods<'_, '_>,
-    code_offs: &[u32],
-    out: &mut Vec<u8>,
-) -> Result<(), AllocError>
+// Writes encoded_methods, each with the offset of its code.
+fn encode_methods<O: Output>(methods: &Methods<'_, '_>, code_offs: &[u32], out: &mut O)
     requires { length code_offs.now ≡ length methods.now }
-    ensures { Appends ⊤ (numbered_methods_bytes 0 methods.now code_offs.now) out.old out.new result }
+    ensures { O.gives (numbered_methods_bytes 0 methods.now code_offs.now) out.old out.new }
 {
     let mut last = 0;
     for i in 0..methods.len() {
         let method = methods.get(i);
-        append_method(&method, last, code_offs[i], out)?;
+        encode_method(&method, last, code_offs[i], out);
         last = method.number();
     }
+}
+
+// The members of a class, to be encoded as a class_data_item, with the offset of the code of each method.
+#[derive(Drop)]
+struct ClassDataItem<'i, 'a> {
+    members: &'i Members<'a>,
+    code_offs: &'i [u32],
+}
+
+impl Encode for ClassDataItem<'_, '_> {
+    ghost formed = { λ i. length i.code_offs.now ≡ length (methods_of i.members.now) };
+
+    ghost bytes = { λ i. numbered_class_data_bytes i.members.now i.code_offs.now };
+
+    fn encode<O: Output>(&self, out: &mut O) {
+        let members = self.members;
+        members.are_few();
+        let static_fields = members.static_fields();
+        let instance_fields = members.instance_fields();
+        let direct_methods = members.direct_methods();
+        let virtual_methods = members.virtual_methods();
+        out.uleb(static_fields.len() as u32);
+        out.uleb(instance_fields.len() as u32);
+        out.uleb(direct_methods.len() as u32);
+        out.uleb(virtual_methods.len() as u32);
+        encode_fields(&static_fields, out);
+        encode_fields(&instance_fields, out);
+        let (direct_offs, virtual_offs) = self.code_offs.split_at(direct_methods.len());
+        encode_methods(&direct_methods, direct_offs, out);
+        encode_methods(&virtual_methods, virtual_offs, out);
+    }
+}
+
+// Appends an item of at most `most` bytes. It is measured only where there is no room for so many.
+fn put_within<T: Encode>(item: &T, most: usize, out: &mut Vec<u8>) -> Result<(), AllocError>
+    requires formed { T.formed item.now }
+    requires most { length (T.bytes item.now) ≤ most }
+    ensures { Puts (T.bytes item.now) out.old out.new result }
+{
+    if most > out.capacity() - out.len() {
+        return put_encoded(item, out);
+    }
+    item.encode(out);
     Ok(())
 }
 
-// Appends the four counts and the four lists of a class_data_item.
-fn append_lists(
-    static_fields: &Fields<'_>,
-    instance_fields: &Fields<'_>,
-    direct_methods: &Methods<'_, '_>,
-    virtual_methods: &Methods<'_, '_>,
-    code_offs: &[u32],
-    out: &mut Vec<u8>,
-) -> Result<(), AllocError>
-    requires static_fields { length static_fields.now < 2 ^ 32 }
-    requires instance_fields { length instance_fields.now < 2 ^ 32 }
-    requires direct_methods { length direct_methods.now < 2 ^ 32 }
-    requires virtual_methods { length virtual_methods.now < 2 ^ 32 }
-    requires offsets { length code_offs.now ≡ length direct_methods.now + length virtual_methods.now }
-    ensures { Appends ⊤ (uleb128 (length static_fields.now) ++ (uleb128 (length instance_fields.now) ++ (uleb128 (length direct_methods.now) ++ (uleb128 (length virtual_methods.now) ++ (numbered_fields_bytes 0 static_fields.now ++ (numbered_fields_bytes 0 instance_fields.now ++ (numbered_methods_bytes 0 direct_methods.now (take (length direct_methods.now) code_offs.now) ++ numbered_methods_bytes 0 virtual_methods.now (drop (length direct_methods.now) code_offs.now)))))))) out.old out.new result }
-{
-    append_number(static_fields.len() as u32, out)?;
-    append_number(instance_fields.len() as u32, out)?;
-    append_number(direct_methods.len() as u32, out)?;
-    append_number(virtual_methods.len() as u32, out)?;
-    append_fields(static_fields, out)?;
-    append_fields(instance_fields, out)?;
-    let (direct_offs, virtual_offs) = code_offs.split_at(direct_methods.len());
-    append_methods(direct_methods, direct_offs, out)?;
-    append_methods(virtual_methods, virtual_offs, out)
-}
-
 impl Members<'_> {
-    // Appends the class_data_item.
-    fn append_class_data(&self, code_offs: &[u32], out: &mut Vec<u8>) -> Result<(), AllocError>
-        requires offsets { length code_offs.now ≡ length (methods_of self.now) }
-        ensures { Appends ⊤ (numbered_class_data_bytes self.now code_offs.now) out.old out.new result }
+    // No class data of as many members has more bytes.
+    fn most_class_data_len(&self) -> usize
+        ensures { result ≡ 20 + 10 * length (fields_of self.now) + 15 * length (methods_of self.now) }
     {
         self.are_few();
-        append_lists(
-            &self.static_fields(),
-            &self.instance_fields(),
-            &self.direct_methods(),
-            &self.virtual_methods(),
+        20 + 10 * self.field_count() + 15 * self.method_count()
+    }
+
+    /// How many bytes [`put_class_data`](Members::put_class_data) appends. `code_offs` has the offset of the code of each
+    /// method, the direct ones first, and 0 where there is none. [`members_bytes_law`](crate::members_bytes_law) says of which
+    /// symbols they are the bytes. No memory is taken.
+    ///
+    /// Condition: there is an offset for each method.
+    ///
+    /// Source: "class_data_item", "encoded_field format" and "encoded_method format".
+    pub fn class_data_len(&self, code_offs: &[u32]) -> usize
+        requires { length code_offs.now ≡ length (methods_of self.now) }
+        ensures { result ≡ length (numbered_class_data_bytes self.now code_offs.now) }
+    {
+        self.are_few();
+        encoded_len(&ClassDataItem {
+            members: self,
             code_offs,
-            out,
-        )
+        })
     }
 
     /// Appends the class_data_item: the counts of the four lists, and then each field as the difference of its number to that
@@ -131,8 +136,8 @@ impl Members<'_> {
     ///
     /// A class without members has no item in the canonical file: the caller leaves it out.
     ///
-    /// It fails only for want of memory, and not where the spare room is at least 20 bytes, ten for each field and 15 for each
-    /// method; the vector is then as it was. Condition: there is an offset for each method. No memory is taken beside the vector's.
+    /// Error: the allocation failed; the vector is then as it was. It does not fail where the spare room is at least 20 bytes,
+    /// ten for each field and 15 for each method. Condition: there is an offset for each method. Nothing else is allocated.
     ///
     /// Source: "class_data_item", "encoded_field format" and "encoded_method format".
     pub fn put_class_data(&self, code_offs: &[u32], out: &mut Vec<u8>) -> Result<(), AllocError>
@@ -142,8 +147,11 @@ impl Members<'_> {
         ensures room { vec_len out.old + (20 + 10 * length (fields_of self.now) + 15 * length (methods_of self.now)) ≤ vec_capacity out.old → IsOk result }
     {
         members_bytes_law();
-        let start = out.len();
-        let answer = self.append_class_data(code_offs, out);
-        taken_back_on_error(start, answer, out)
+        let most = self.most_class_data_len();
+        let item = ClassDataItem {
+            members: self,
+            code_offs,
+        };
+        put_within(&item, most, out)
     }
 }

@@ -1,23 +1,11 @@
 //! Copies of what classes declare.
 
-ghost use Rattle.std.specs.Prelude.{◌≡◌, IfOk, map};
-ghost use Rattle.dexval.specs.Code.{value_of};
+ghost use Rattle.std.specs.Prelude.{◌≡◌, IfOk};
 
 use crate::members::{Contents, DeclaredField, DeclaredMethod, Members};
 use dexcode::Code;
-use dexval::Value;
+use dexval::copied_values;
 use std::alloc::AllocError;
-
-// The same values.
-fn copied_values(values: &Vec<Value>) -> Result<Vec<Value>, AllocError>
-    ensures { IfOk result (λ copy. map value_of copy.items ≡ map value_of values.now.items) }
-{
-    let mut copy = Vec::with_capacity(*values.allocator(), values.len())?;
-    for value in values {
-        copy.push(value.copy()?)?;
-    }
-    Ok(copy)
-}
 
 // The same fields.
 fn copied_fields(fields: &Vec<DeclaredField>) -> Result<Vec<DeclaredField>, AllocError>

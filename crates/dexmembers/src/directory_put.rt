@@ -9,35 +9,26 @@ ghost use Rattle.dexspec.specs.Aside.Writing.{Puts};
 ghost use Rattle.dexpool.specs.Numberings.{AreRising};
 ghost use Rattle.dexmembers.specs.Numbered.{fields_of, methods_of, members_in, members_of, AreKnownMembers, AreOrdered, AreOfClass};
 ghost use Rattle.dexspec.specs.Bytes.{uint};
-ghost use Rattle.dexmembers.specs.Appending.{Appends};
 ghost use Rattle.dexmembers.specs.DirectoryPut.{pair_bytes, count_placed, both_bytes, field_numbers, method_numbers, numbered_directory_bytes};
+ghost use Rattle.dexmembers.specs.FormedDirectory.{IsFormedDirectory};
 
 use crate::members::{DeclaredField, DeclaredMethod, Members};
 use crate::put_laws::members_bytes_law;
-use crate::taking_back::taken_back_on_error;
-use dexhead::put_u32;
+use dexhead::{Encode, Output};
 use std::alloc::AllocError;
 
 // Greater than the number of each member.
 const NONE_LEFT: u64 = 0x1_0000_0000;
 
-// Appends a number of four bytes. Where memory is wanting, as with all that follow here, a part of the item may stand.
-#[tactic(auto, using(crate::proofs::Partways::puts_appends_too))]
-fn append_u32(value: u32, out: &mut Vec<u8>) -> Result<(), AllocError>
-    ensures { Appends ⊤ (uint value) out.old out.new result }
-{
-    put_u32(value, out)
-}
-
-// Appends an index and an offset, unless the offset is 0.
-fn append_pair(index: u32, offset: u32, out: &mut Vec<u8>) -> Result<(), AllocError>
-    ensures { Appends ⊤ (pair_bytes (index, offset)) out.old out.new result }
+// Writes an index and an offset, unless the offset is 0.
+fn encode_pair<O: Output>(index: u32, offset: u32, out: &mut O)
+    ensures { O.gives (pair_bytes (index, offset)) out.old out.new }
 {
     if offset == 0 {
-        return Ok(());
+        return;
     }
-    append_u32(index, out)?;
-    append_u32(offset, out)
+    out.u32(index);
+    out.u32(offset);
 }
 
 // 1 for an offset that is not 0, and else 0.
@@ -48,8 +39,8 @@ fn one_if_placed(offset: u32) -> u32
     if offset == 0 { 0 } else { 1 }
 }
 
-/// How many offsets are not 0. No memory is taken.
-pub(crate) fn placed(offsets: &[u32]) -> u32
+// How many offsets are not 0.
+fn placed(offsets: &[u32]) -> u32
     requires { length offsets.now < 2 ^ 32 }
     ensures { result ≡ count_placed offsets.now }
 {
@@ -97,15 +88,10 @@ fn next_number<T: HasNumber>(members: &[T], place: usize) -> u64
     }
 }
 
-// Appends the pairs of two lists of members by index.
-fn append_pairs<T: HasNumber>(
-    first: &[T],
-    second: &[T],
-    offsets: &[u32],
-    out: &mut Vec<u8>,
-) -> Result<(), AllocError>
+// Writes the pairs of two lists of members by index.
+fn encode_pairs<T: HasNumber, O: Output>(first: &[T], second: &[T], offsets: &[u32], out: &mut O)
     requires { length offsets.now ≡ length first.now + length second.now }
-    ensures { Appends ⊤ (both_bytes (map T.number_of first.now) (map T.number_of second.now) offsets.now) out.old out.new result }
+    ensures { O.gives (both_bytes (map T.number_of first.now) (map T.number_of second.now) offsets.now) out.old out.new }
 {
     let (first_offsets, second_offsets) = offsets.split_at(first.len());
     let mut i = 0;
@@ -114,17 +100,16 @@ fn append_pairs<T: HasNumber>(
         let one = next_number(first, i);
         let other = next_number(second, j);
         if one < other {
-            append_pair(one as u32, first_offsets[i], out)?;
+            encode_pair(one as u32, first_offsets[i], out);
             i += 1;
         } else {
-            append_pair(other as u32, second_offsets[j], out)?;
+            encode_pair(other as u32, second_offsets[j], out);
             j += 1;
         }
     }
-    Ok(())
 }
 
-// Where the sets of a class and of its members stand, and the lists of those of parameters.
+// Where the sets of a class and of its members are, and the lists of those of parameters.
 #[derive(Clone, Copy)]
 struct SetOffs<'o> {
     own: u32,
@@ -133,40 +118,131 @@ struct SetOffs<'o> {
     parameters: &'o [u32],
 }
 
+// How many members of each kind have a set or a list.
+#[derive(Clone, Copy)]
+struct EntryCounts {
+    fields: u32,
+    methods: u32,
+    parameters: u32,
+}
+
+impl SetOffs<'_> {
+    // How many of the offsets of each kind are not 0.
+    fn entry_counts(&self) -> EntryCounts
+        requires fields { length self.now.fields.now < 2 ^ 32 }
+        requires methods { length self.now.methods.now < 2 ^ 32 }
+        requires parameters { length self.now.parameters.now < 2 ^ 32 }
+        ensures fields { result.fields ≡ count_placed self.now.fields.now }
+        ensures methods { result.methods ≡ count_placed self.now.methods.now }
+        ensures parameters { result.parameters ≡ count_placed self.now.parameters.now }
+    {
+        EntryCounts {
+            fields: placed(self.fields),
+            methods: placed(self.methods),
+            parameters: placed(self.parameters),
+        }
+    }
+}
+
+impl EntryCounts {
+    // How many bytes a directory with so many entries has.
+    fn directory_len(&self) -> usize
+        ensures { result ≡ 16 + 8 * (self.now.fields + self.now.methods + self.now.parameters) }
+    {
+        16 + 8 * (self.fields as usize + self.methods as usize + self.parameters as usize)
+    }
+}
+
+// Writes what is before the pairs: the offset of the class's own set, and how many pairs of each kind follow.
+fn encode_head<O: Output>(own_off: u32, counts: &EntryCounts, out: &mut O)
+    ensures { O.gives (uint own_off ++ (uint counts.now.fields ++ (uint counts.now.methods ++ uint counts.now.parameters))) out.old out.new }
+{
+    out.u32(own_off);
+    out.u32(counts.fields);
+    out.u32(counts.methods);
+    out.u32(counts.parameters);
+}
+
 impl Members<'_> {
-    // Appends the pairs of the fields.
-    fn append_fields(&self, offsets: &[u32], out: &mut Vec<u8>) -> Result<(), AllocError>
+    // Writes the pairs of the fields.
+    fn encode_field_pairs<O: Output>(&self, offsets: &[u32], out: &mut O)
         requires { length offsets.now ≡ length (fields_of self.now) }
-        ensures { Appends ⊤ (both_bytes (field_numbers self.now.static_fields) (field_numbers self.now.instance_fields) offsets.now) out.old out.new result }
+        ensures { O.gives (both_bytes (field_numbers self.now.static_fields) (field_numbers self.now.instance_fields) offsets.now) out.old out.new }
     {
         let own = &self.contents;
-        append_pairs(&own.static_fields, &own.instance_fields, offsets, out)
+        encode_pairs(&own.static_fields, &own.instance_fields, offsets, out);
     }
 
-    // Appends pairs of the methods.
-    fn append_methods(&self, offsets: &[u32], out: &mut Vec<u8>) -> Result<(), AllocError>
+    // Writes pairs of the methods.
+    fn encode_method_pairs<O: Output>(&self, offsets: &[u32], out: &mut O)
         requires { length offsets.now ≡ length (methods_of self.now) }
-        ensures { Appends ⊤ (both_bytes (method_numbers self.now.direct_methods) (method_numbers self.now.virtual_methods) offsets.now) out.old out.new result }
+        ensures { O.gives (both_bytes (method_numbers self.now.direct_methods) (method_numbers self.now.virtual_methods) offsets.now) out.old out.new }
     {
         let own = &self.contents;
-        append_pairs(&own.direct_methods, &own.virtual_methods, offsets, out)
+        encode_pairs(&own.direct_methods, &own.virtual_methods, offsets, out);
     }
+}
 
+// The members of a class, to be encoded as an annotations_directory_item.
+#[derive(Drop)]
+struct DirectoryItem<'i, 'a> {
+    members: &'i Members<'a>,
+    offs: SetOffs<'i>,
+    counts: EntryCounts,
+}
+
+impl Encode for DirectoryItem<'_, '_> {
+    ghost formed = { IsFormedDirectory };
+
+    ghost bytes = { λ d. numbered_directory_bytes d.members.now d.offs.own d.offs.fields.now d.offs.methods.now d.offs.parameters.now };
+
+    fn encode<O: Output>(&self, out: &mut O) {
+        let (members, offs) = (self.members, self.offs);
+        encode_head(offs.own, &self.counts, out);
+        members.encode_field_pairs(offs.fields, out);
+        members.encode_method_pairs(offs.methods, out);
+        members.encode_method_pairs(offs.parameters, out);
+    }
+}
+
+impl DirectoryItem<'_, '_> {
     // Appends the annotations_directory_item.
-    fn append_directory(&self, offs: &SetOffs<'_>, out: &mut Vec<u8>) -> Result<(), AllocError>
-        requires fields { length offs.now.fields.now ≡ length (fields_of self.now) }
-        requires methods { length offs.now.methods.now ≡ length (methods_of self.now) }
-        requires parameters { length offs.now.parameters.now ≡ length (methods_of self.now) }
-        ensures { Appends ⊤ (numbered_directory_bytes self.now offs.now.own offs.now.fields.now offs.now.methods.now offs.now.parameters.now) out.old out.new result }
+    fn put(&self, out: &mut Vec<u8>) -> Result<(), AllocError>
+        requires { IsFormedDirectory self.now }
+        ensures { Puts (numbered_directory_bytes self.now.members.now self.now.offs.own self.now.offs.fields.now self.now.offs.methods.now self.now.offs.parameters.now) out.old out.new result }
+    {
+        out.reserve(self.counts.directory_len())?;
+        self.encode(out);
+        Ok(())
+    }
+}
+
+impl Members<'_> {
+    /// How many bytes [`put_directory`](Members::put_directory) appends, for the same offsets.
+    /// [`members_bytes_law`](crate::members_bytes_law) says of which symbols they are the bytes. No memory is taken.
+    ///
+    /// Condition: there is an offset for each field and each method.
+    ///
+    /// Source: "annotations_directory_item".
+    pub fn directory_len(
+        &self,
+        field_offs: &[u32],
+        method_offs: &[u32],
+        parameter_offs: &[u32],
+    ) -> usize
+        requires fields { length field_offs.now ≡ length (fields_of self.now) }
+        requires methods { length method_offs.now ≡ length (methods_of self.now) }
+        requires parameters { length parameter_offs.now ≡ length (methods_of self.now) }
+        ensures { (own_off : ℕ) → result ≡ length (numbered_directory_bytes self.now own_off field_offs.now method_offs.now parameter_offs.now) }
     {
         self.are_few();
-        append_u32(offs.own, out)?;
-        append_u32(placed(offs.fields), out)?;
-        append_u32(placed(offs.methods), out)?;
-        append_u32(placed(offs.parameters), out)?;
-        self.append_fields(offs.fields, out)?;
-        self.append_methods(offs.methods, out)?;
-        self.append_methods(offs.parameters, out)
+        let offs = SetOffs {
+            own: 0,
+            fields: field_offs,
+            methods: method_offs,
+            parameters: parameter_offs,
+        };
+        offs.entry_counts().directory_len()
     }
 
     /// Appends the annotations_directory_item: the offset of the class's own set, the counts of annotated fields, of annotated
@@ -177,8 +253,8 @@ impl Members<'_> {
     ///
     /// A class with no offset but 0 has no item in the canonical file: the caller leaves it out.
     ///
-    /// It fails only for want of memory, and not where the spare room is at least 16 bytes and eight for each member that is put;
-    /// the vector is then as it was. Condition: there is an offset for each field and each method. No memory is taken beside the vector's.
+    /// Error: the allocation failed; the vector is then as it was. It does not fail where the spare room is at least 16 bytes and
+    /// eight for each member that is put. Condition: there is an offset for each field and each method. Nothing else is allocated.
     ///
     /// Source: "annotations_directory_item", "field_annotation format", "method_annotation format" and
     /// "parameter_annotation format".
@@ -198,14 +274,18 @@ impl Members<'_> {
         ensures room { vec_len out.old + (16 + 8 * (count_placed field_offs.now + count_placed method_offs.now + count_placed parameter_offs.now)) ≤ vec_capacity out.old → IsOk result }
     {
         members_bytes_law();
-        let start = out.len();
+        self.are_few();
         let offs = SetOffs {
             own: own_off,
             fields: field_offs,
             methods: method_offs,
             parameters: parameter_offs,
         };
-        let answer = self.append_directory(&offs, out);
-        taken_back_on_error(start, answer, out)
+        let item = DirectoryItem {
+            members: self,
+            offs,
+            counts: offs.entry_counts(),
+        };
+        item.put(out)
     }
 }

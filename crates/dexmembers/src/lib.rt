@@ -17,7 +17,6 @@ mod encoded_lists;
 mod field_views;
 mod fitting;
 mod marking;
-mod measuring;
 mod members;
 mod method_views;
 mod naming;
@@ -32,7 +31,6 @@ mod same;
 mod short_strings;
 mod static_values;
 mod stripping;
-mod taking_back;
 mod uses_laws;
 mod weighing;
 

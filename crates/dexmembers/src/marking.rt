@@ -1,39 +1,58 @@
-//! Marks on the symbols that occur in what classes declare.
+//! Visits of the symbols that occur in what classes declare, and marks on them.
 
-ghost use Rattle.std.specs.Prelude.{◌≡◌, [], All, IfSome, MatchOption, Option, Some, None, option_to_list};
-ghost use Rattle.std.specs.List.{flat_map};
+ghost use Rattle.std.specs.Prelude.{◌≡◌, [], ◌++◌, All, IfSome, MatchOption, Option, Some, None, option_to_list};
+ghost use Rattle.std.specs.List.{FoldsTo, flat_map};
 ghost use Rattle.dexpool.specs.Uses.{HasMark, AreMarkedToo};
 ghost use Rattle.dexval.specs.Code.{set_of};
 ghost use Rattle.dexval.specs.Numbered.{NumberedSet};
 ghost use Rattle.dexval.specs.Uses.{set_uses};
 ghost use Rattle.dexcode.specs.Numbered.{NumberedItem};
 ghost use Rattle.dexcode.specs.Renumbering.{item_uses};
+ghost use Rattle.dexmembers.specs.Numbered.{fields_of, methods_of};
 ghost use Rattle.dexmembers.specs.Uses.{field_uses, method_uses, members_uses};
 
 use crate::field_views::{Field, Fields};
 use crate::members::Members;
 use crate::method_views::{Method, Methods, ParameterSets};
 use dexcode::Code;
-use dexpool::{Marks, SymbolKind};
-use dexval::{AnnotationSet, mark_values};
+use dexpool::{Marks, SymbolKind, Symbols, Visitor};
+use dexval::{AnnotationSet, visit_values};
 
-// Marks the symbols of a set, if there is one.
-fn mark_set(set: Option<&AnnotationSet>, marks: &mut Marks)
-    requires { IfSome set (λ set. All (HasMark marks.old) (set_uses (set_of set.now))) }
-    ensures { (marked : NumberedSet) → MatchOption set.entry (marked ≡ []) (λ set. set_of set.now ≡ marked) → AreMarkedToo (set_uses marked) marks.old marks.new }
+// Passes the symbols of a set, if there is one, to the visitor.
+fn visit_set<V: Visitor>(set: Option<&AnnotationSet>, visitor: &mut V)
+    ensures { (visited : NumberedSet) → MatchOption set.entry (visited ≡ []) (λ set. set_of set.now ≡ visited) → FoldsTo V.step visitor.old (set_uses visited) visitor.new }
 {
     if let Some(set) = set {
-        set.mark(marks);
+        set.visit(visitor);
     }
 }
 
-// Marks the symbols of sets.
-fn mark_sets(sets: &ParameterSets<'_>, marks: &mut Marks)
-    requires { All (HasMark marks.old) (flat_map set_uses sets.now) }
-    ensures { AreMarkedToo (flat_map set_uses sets.now) marks.old marks.new }
-{
-    for i in 0..sets.len() {
-        mark_set(sets.get(i), marks);
+impl Symbols for ParameterSets<'_> {
+    ghost uses = { λ sets. flat_map set_uses sets };
+
+    fn visit<V: Visitor>(&self, visitor: &mut V) {
+        for i in 0..self.len() {
+            visit_set(self.get(i), visitor);
+        }
+    }
+}
+
+impl Symbols for Field<'_> {
+    ghost uses = { field_uses };
+
+    fn visit<V: Visitor>(&self, visitor: &mut V) {
+        visitor.symbol(SymbolKind::Field, self.number());
+        visit_set(self.annotations(), visitor);
+    }
+}
+
+impl Symbols for Fields<'_> {
+    ghost uses = { λ fields. flat_map field_uses fields };
+
+    fn visit<V: Visitor>(&self, visitor: &mut V) {
+        for i in 0..self.len() {
+            self.get(i).visit(visitor);
+        }
     }
 }
 
@@ -47,13 +66,16 @@ fn mark_code(code: Option<&Code<'_>>, marks: &mut Marks)
     }
 }
 
-// Marks fields, and the symbols of their sets.
-fn mark_fields(fields: &Fields<'_>, marks: &mut Marks)
-    requires { All (HasMark marks.old) (flat_map field_uses fields.now) }
-    ensures { AreMarkedToo (flat_map field_uses fields.now) marks.old marks.new }
-{
-    for i in 0..fields.len() {
-        fields.get(i).mark(marks);
+impl Method<'_, '_> {
+    // Marks the method, and the symbols of its code and its sets.
+    fn mark(&self, marks: &mut Marks)
+        requires { All (HasMark marks.old) (method_uses self.now) }
+        ensures { AreMarkedToo (method_uses self.now) marks.old marks.new }
+    {
+        marks.symbol(SymbolKind::Method, self.number());
+        mark_code(self.code(), marks);
+        visit_set(self.annotations(), marks);
+        self.parameter_annotations().visit(marks);
     }
 }
 
@@ -67,31 +89,25 @@ fn mark_methods(methods: &Methods<'_, '_>, marks: &mut Marks)
     }
 }
 
-impl Field<'_> {
-    // Marks the field, and the symbols of its set.
-    fn mark(&self, marks: &mut Marks)
-        requires { All (HasMark marks.old) (field_uses self.now) }
-        ensures { AreMarkedToo (field_uses self.now) marks.old marks.new }
-    {
-        marks.mark(SymbolKind::Field, self.number() as usize);
-        mark_set(self.annotations(), marks);
-    }
-}
-
-impl Method<'_, '_> {
-    // Marks the method, and the symbols of its code and its sets.
-    fn mark(&self, marks: &mut Marks)
-        requires { All (HasMark marks.old) (method_uses self.now) }
-        ensures { AreMarkedToo (method_uses self.now) marks.old marks.new }
-    {
-        marks.mark(SymbolKind::Method, self.number() as usize);
-        mark_code(self.code(), marks);
-        mark_set(self.annotations(), marks);
-        mark_sets(&self.parameter_annotations(), marks);
-    }
-}
-
 impl<'a> Members<'a> {
+    // Passes the symbols of the class's own set and of its fields to the visitor.
+    fn visit_fields<V: Visitor>(&self, visitor: &mut V)
+        ensures { FoldsTo V.step visitor.old (set_uses self.now.annotations ++ flat_map field_uses (fields_of self.now)) visitor.new }
+    {
+        visit_set(self.annotations(), visitor);
+        self.static_fields().visit(visitor);
+        self.instance_fields().visit(visitor);
+    }
+
+    // Marks the methods, and the symbols of their code and their sets.
+    fn mark_methods(&self, marks: &mut Marks)
+        requires { All (HasMark marks.old) (flat_map method_uses (methods_of self.now)) }
+        ensures { AreMarkedToo (flat_map method_uses (methods_of self.now)) marks.old marks.new }
+    {
+        mark_methods(&self.direct_methods(), marks);
+        mark_methods(&self.virtual_methods(), marks);
+    }
+
     /// Marks each field and method, and each symbol that occurs in code, in annotations and in what static fields begin
     /// with. No memory is taken.
     ///
@@ -102,11 +118,8 @@ impl<'a> Members<'a> {
         requires { All (HasMark marks.old) (members_uses self.now) }
         ensures { AreMarkedToo (members_uses self.now) marks.old marks.new }
     {
-        mark_set(self.annotations(), marks);
-        mark_fields(&self.static_fields(), marks);
-        mark_fields(&self.instance_fields(), marks);
-        mark_methods(&self.direct_methods(), marks);
-        mark_methods(&self.virtual_methods(), marks);
-        mark_values(self.static_values(), marks);
+        self.visit_fields(marks);
+        self.mark_methods(marks);
+        visit_values(self.static_values(), marks);
     }
 }

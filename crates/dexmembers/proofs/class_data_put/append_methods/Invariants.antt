@@ -1,7 +1,0 @@
-use Rattle.std.proofs.Common.{drop}
-use Rattle.dexmembers.specs.Spelled.{numbered_methods_bytes}
-use Rattle.dexmembers.proofs.Partways.{Partway}
-use Rattle.dexmembers.proofs.class_data_put.append_methods.Given as goal
-
-abbrev pub invariant-loop-i : goal.invariant-loop-i
-invariant-loop-i l = Partway (numbered_methods_bytes l.last (drop l.i l.methods) (drop l.i l.code_offs)) (numbered_methods_bytes 0 l.methods l.code_offs) l.initial.out l.out

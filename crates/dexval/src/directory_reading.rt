@@ -18,6 +18,7 @@ ghost use Rattle.dexval.specs.Tables.{NumberedTable, Extends, IsListed, IsPlaceI
 
 use crate::budget::Budget;
 use crate::directory::{Directory, MemberCounts, SharedDirectory};
+use crate::file_source::FileSource;
 use crate::judged::{Judged, count_list, counted_set_at, note_list};
 use crate::set_reading::count_at;
 use dexhead::{Condition, Frame, u32_at};
@@ -97,30 +98,28 @@ pub(crate) fn list_weight(count: u32) -> u64
 // The places of the sets of the annotation_set_ref_list at an offset, counted one by one, while the budget lasts. Error: no
 // list stands there.
 fn listed_sets_at(
-    alloc: Global,
-    frame: &Frame<'_>,
-    pools: &Pools<'_>,
+    source: &FileSource<'_, '_, '_>,
     off: u32,
     judged: &mut Judged,
     budget: &mut Budget,
 ) -> Result<Vec<Option<u32>>, ItemFault>
     requires held { AreHeld judged.old }
-    requires judged { AreFilePools frame.now pools.now → AreJudged frame.now pools.now judged.old }
+    requires judged { AreFilePools source.now.frame.now source.now.pools.now → AreJudged source.now.frame.now source.now.pools.now judged.old }
     ensures most { budget.new.most ≡ budget.old.most }
     ensures grows { budget.old.weight ≤ budget.new.weight }
     ensures noted { IfOk result (λ places. IsNoted (λ i. Contains places.items (Some i)) (λ _. ⊥) (All (IsPlaceIn judged.new.table.sets) places.items) (budget.new.weight ≤ budget.new.most) judged.old judged.new) }
-    ensures judged { AreFilePools frame.now pools.now → OnOk result (AreJudged frame.now pools.now judged.new) }
-    ensures read { AreFilePools frame.now pools.now → IfOk result (λ places. IsKept (IsRefListAt frame.now off pools.now) (sets_weight_in pools.now) budget.old.most budget.old.weight budget.new.weight (map (set_at judged.new.table.sets) places.items)) }
-    ensures refused { AreFilePools frame.now pools.now → IfErr result (IsRefusal (NoRefListAt frame.now off)) }
+    ensures judged { AreFilePools source.now.frame.now source.now.pools.now → OnOk result (AreJudged source.now.frame.now source.now.pools.now judged.new) }
+    ensures read { AreFilePools source.now.frame.now source.now.pools.now → IfOk result (λ places. IsKept (IsRefListAt source.now.frame.now off source.now.pools.now) (sets_weight_in source.now.pools.now) budget.old.most budget.old.weight budget.new.weight (map (set_at judged.new.table.sets) places.items)) }
+    ensures refused { AreFilePools source.now.frame.now source.now.pools.now → IfErr result (IsRefusal (NoRefListAt source.now.frame.now off)) }
 {
-    let count = count_at(frame, off)?;
-    let bytes = frame.bytes();
+    let count = count_at(source.frame, off)?;
+    let bytes = source.frame.bytes();
     let list = list_weight(count);
     budget.add(list);
-    let mut places = Vec::with_capacity(alloc, room(count, budget))?;
+    let mut places = Vec::with_capacity(source.alloc, room(count, budget))?;
     for i in 0..count {
         let set_off = u32_at(bytes, off as usize + 4 + 4 * i as usize);
-        let place = counted_set_at(alloc, frame, pools, set_off, judged, budget)?;
+        let place = counted_set_at(source, set_off, judged, budget)?;
         if budget.is_within() {
             places.push(place)?;
         }
@@ -131,22 +130,20 @@ fn listed_sets_at(
 // The place of the annotation_set_ref_list at an offset, counted with its sets, if it is kept. It is kept while the budget
 // lasts. Error: none stands there.
 fn counted_list_at(
-    alloc: Global,
-    frame: &Frame<'_>,
-    pools: &Pools<'_>,
+    source: &FileSource<'_, '_, '_>,
     off: u32,
     judged: &mut Judged,
     budget: &mut Budget,
 ) -> Result<Option<u32>, ItemFault>
     requires held { AreHeld judged.old }
-    requires judged { AreFilePools frame.now pools.now → AreJudged frame.now pools.now judged.old }
+    requires judged { AreFilePools source.now.frame.now source.now.pools.now → AreJudged source.now.frame.now source.now.pools.now judged.old }
     ensures most { budget.new.most ≡ budget.old.most }
     ensures grows { budget.old.weight ≤ budget.new.weight }
     ensures kept { IfOk result (λ place. budget.new.weight ≤ budget.new.most → IsSome place) }
     ensures noted { IfOk result (λ place. IsNoted (IsListed judged.new.table) (λ i. place ≡ Some i) (IsPlaceIn judged.new.table.lists place) (budget.new.weight ≤ budget.new.most) judged.old judged.new) }
-    ensures judged { AreFilePools frame.now pools.now → OnOk result (AreJudged frame.now pools.now judged.new) }
-    ensures read { AreFilePools frame.now pools.now → IfOk result (λ place. IsKept (IsRefListAt frame.now off pools.now) (sets_weight_in pools.now) budget.old.most budget.old.weight budget.new.weight (sets_at judged.new.table place)) }
-    ensures refused { AreFilePools frame.now pools.now → IfErr result (IsRefusal (NoRefListAt frame.now off)) }
+    ensures judged { AreFilePools source.now.frame.now source.now.pools.now → OnOk result (AreJudged source.now.frame.now source.now.pools.now judged.new) }
+    ensures read { AreFilePools source.now.frame.now source.now.pools.now → IfOk result (λ place. IsKept (IsRefListAt source.now.frame.now off source.now.pools.now) (sets_weight_in source.now.pools.now) budget.old.most budget.old.weight budget.new.weight (sets_at judged.new.table place)) }
+    ensures refused { AreFilePools source.now.frame.now source.now.pools.now → IfErr result (IsRefusal (NoRefListAt source.now.frame.now off)) }
 {
     if let Some(place) = judged.lists.get(&off) {
         let place = *place;
@@ -156,7 +153,7 @@ fn counted_list_at(
     if !budget.is_within() && judged.passed_lists.contains(&off) {
         return Ok(None);
     }
-    let places = listed_sets_at(alloc, frame, pools, off, judged, budget)?;
+    let places = listed_sets_at(source, off, judged, budget)?;
     Ok(note_list(off, places, judged, budget)?)
 }
 
@@ -188,23 +185,21 @@ trait OfMember {
     // The place of what stands at an offset other than 0, counted. It is kept while the budget lasts. Error: nothing stands
     // there.
     fn counted_at(
-        alloc: Global,
-        frame: &Frame<'_>,
-        pools: &Pools<'_>,
+        source: &FileSource<'_, '_, '_>,
         off: u32,
         judged: &mut Judged,
         budget: &mut Budget,
     ) -> Result<Option<u32>, ItemFault>
         requires other { off ≢ 0 }
         requires held { AreHeld judged.old }
-        requires judged { AreFilePools frame.now pools.now → AreJudged frame.now pools.now judged.old }
+        requires judged { AreFilePools source.now.frame.now source.now.pools.now → AreJudged source.now.frame.now source.now.pools.now judged.old }
         ensures most { budget.new.most ≡ budget.old.most }
         ensures grows { budget.old.weight ≤ budget.new.weight }
         ensures kept { IfOk result (λ place. budget.new.weight ≤ budget.new.most → IsSome place) }
         ensures noted { IfOk result (λ place. IsNoted (names_set judged.new.table place) (names_list place) (is_held judged.new.table place) (budget.new.weight ≤ budget.new.most) judged.old judged.new) }
-        ensures judged { AreFilePools frame.now pools.now → OnOk result (AreJudged frame.now pools.now judged.new) }
-        ensures read { AreFilePools frame.now pools.now → IfOk result (λ place. IsKept (IsKnownAt (is_known pools.now) (inside pools.now) (stands frame.now off)) (weighs pools.now) budget.old.most budget.old.weight budget.new.weight (of judged.new.table place)) }
-        ensures refused { AreFilePools frame.now pools.now → IfErr result (IsRefusal ((meant : Meant) → stands frame.now off meant → ⊥)) };
+        ensures judged { AreFilePools source.now.frame.now source.now.pools.now → OnOk result (AreJudged source.now.frame.now source.now.pools.now judged.new) }
+        ensures read { AreFilePools source.now.frame.now source.now.pools.now → IfOk result (λ place. IsKept (IsKnownAt (is_known source.now.pools.now) (inside source.now.pools.now) (stands source.now.frame.now off)) (weighs source.now.pools.now) budget.old.most budget.old.weight budget.new.weight (of judged.new.table place)) }
+        ensures refused { AreFilePools source.now.frame.now source.now.pools.now → IfErr result (IsRefusal ((meant : Meant) → stands source.now.frame.now off meant → ⊥)) };
 
     // In a table that grew, a place holds and names what it did.
     ghost stays: { (t u : NumberedTable) (place : Option ℕ) → Extends t u → is_held t place → is_held u place × (of u place ≡ of t place) };
@@ -237,14 +232,12 @@ impl OfMember for SetOfMember {
     ghost weighs = { set_weight_in };
 
     fn counted_at(
-        alloc: Global,
-        frame: &Frame<'_>,
-        pools: &Pools<'_>,
+        source: &FileSource<'_, '_, '_>,
         off: u32,
         judged: &mut Judged,
         budget: &mut Budget,
     ) -> Result<Option<u32>, ItemFault> {
-        counted_set_at(alloc, frame, pools, off, judged, budget)
+        counted_set_at(source, off, judged, budget)
     }
 
     ghost stays = { λ t u place extended held. (extended.sets_hold place held, extended.sets_stay place held) };
@@ -277,14 +270,12 @@ impl OfMember for ListOfMember {
     ghost weighs = { sets_weight_in };
 
     fn counted_at(
-        alloc: Global,
-        frame: &Frame<'_>,
-        pools: &Pools<'_>,
+        source: &FileSource<'_, '_, '_>,
         off: u32,
         judged: &mut Judged,
         budget: &mut Budget,
     ) -> Result<Option<u32>, ItemFault> {
-        counted_list_at(alloc, frame, pools, off, judged, budget)
+        counted_list_at(source, off, judged, budget)
     }
 
     ghost stays = { λ t u place extended held. (extended.lists_hold place held, extended.lists_stay place held) };
@@ -292,34 +283,38 @@ impl OfMember for ListOfMember {
     ghost naming_stays = { λ t u place i extended named. extended.listed_stay i named };
 }
 
-// So many members from a place on, by their numbers, which are below the limit, with the place of what the directory says of
-// each, while the budget lasts. Error: they do not stand there.
-fn members_at<T: OfMember>(
-    alloc: Global,
-    frame: &Frame<'_>,
-    pools: &Pools<'_>,
+// Pairs of a member and an offset: `count` from a place on, each with a number of a member below the limit.
+#[derive(Clone, Copy)]
+struct PairRange {
     at: usize,
     count: u32,
     limit: usize,
+}
+
+// The members of these pairs, by their numbers, with the place of what the directory says of each, while the budget lasts.
+// Error: they are not there.
+fn members_at<T: OfMember>(
+    source: &FileSource<'_, '_, '_>,
+    pairs: &PairRange,
     judged: &mut Judged,
     budget: &mut Budget,
 ) -> Result<Vec<(u32, u32)>, ItemFault>
-    requires within { at + 8 * count ≤ length frame.now }
-    requires fits { at < 2 ^ 40 }
+    requires within { pairs.now.at + 8 * pairs.now.count ≤ length source.now.frame.now }
+    requires fits { pairs.now.at < 2 ^ 40 }
     requires held { AreHeld judged.old }
-    requires judged { AreFilePools frame.now pools.now → AreJudged frame.now pools.now judged.old }
+    requires judged { AreFilePools source.now.frame.now source.now.pools.now → AreJudged source.now.frame.now source.now.pools.now judged.old }
     ensures most { budget.new.most ≡ budget.old.most }
     ensures grows { budget.old.weight ≤ budget.new.weight }
     ensures noted { IfOk result (λ members. IsNoted (IsNamedOf (T.names_set judged.new.table) members.items) (IsNamedOf T.names_list members.items) (All (λ e. T.is_held judged.new.table (Some e.1)) members.items) (budget.new.weight ≤ budget.new.most) judged.old judged.new) }
-    ensures judged { AreFilePools frame.now pools.now → OnOk result (AreJudged frame.now pools.now judged.new) }
-    ensures read { AreFilePools frame.now pools.now → IfOk result (λ members. IsKept (ArePairsAt (T.is_known pools.now) (T.inside pools.now) T.stands frame.now at count limit) (sum_by (λ e. T.weighs pools.now e.1)) budget.old.most budget.old.weight budget.new.weight (map (λ e. (e.0, T.of judged.new.table (Some e.1))) members.items)) }
-    ensures refused { AreFilePools frame.now pools.now → IfErr result (IsRefusal (NoPairsAt T.stands frame.now at count limit)) }
+    ensures judged { AreFilePools source.now.frame.now source.now.pools.now → OnOk result (AreJudged source.now.frame.now source.now.pools.now judged.new) }
+    ensures read { AreFilePools source.now.frame.now source.now.pools.now → IfOk result (λ members. IsKept (ArePairsAt (T.is_known source.now.pools.now) (T.inside source.now.pools.now) T.stands source.now.frame.now pairs.now.at pairs.now.count pairs.now.limit) (sum_by (λ e. T.weighs source.now.pools.now e.1)) budget.old.most budget.old.weight budget.new.weight (map (λ e. (e.0, T.of judged.new.table (Some e.1))) members.items)) }
+    ensures refused { AreFilePools source.now.frame.now source.now.pools.now → IfErr result (IsRefusal (NoPairsAt T.stands source.now.frame.now pairs.now.at pairs.now.count pairs.now.limit)) }
 {
-    let mut members = Vec::with_capacity(alloc, room(count, budget))?;
+    let mut members = Vec::with_capacity(source.alloc, room(pairs.count, budget))?;
     let mut least = 0;
-    for i in 0..count {
-        let (number, off) = pair_at(frame, at + 8 * i as usize, least, limit)?;
-        let place = T::counted_at(alloc, frame, pools, off, judged, budget)?;
+    for i in 0..pairs.count {
+        let (number, off) = pair_at(source.frame, pairs.at + 8 * i as usize, least, pairs.limit)?;
+        let place = T::counted_at(source, off, judged, budget)?;
         least = u64::from(number) + 1;
         if let Some(place) = place {
             members.push((number, place))?;
@@ -340,65 +335,48 @@ struct Places {
 // The places that the annotations_directory_item at an offset names, its sets counted one by one, while the budget lasts, of
 // which nothing is used before. Error: none stands there.
 fn counted_directory_at(
-    alloc: Global,
-    frame: &Frame<'_>,
-    pools: &Pools<'_>,
+    source: &FileSource<'_, '_, '_>,
     off: u32,
     judged: &mut Judged,
     budget: &mut Budget,
 ) -> Result<Places, ItemFault>
     requires unused { budget.old.weight ≡ 0 }
     requires held { AreHeld judged.old }
-    requires judged { AreFilePools frame.now pools.now → AreJudged frame.now pools.now judged.old }
+    requires judged { AreFilePools source.now.frame.now source.now.pools.now → AreJudged source.now.frame.now source.now.pools.now judged.old }
     requires none { judged.old.table ≡ record { sets = []; lists = [] } }
     ensures most { budget.new.most ≡ budget.old.most }
     ensures held { IfOk result (λ places. HoldsPlaces judged.new.table places.own places.fields.items places.methods.items places.parameters.items) }
     ensures named { IfOk result (λ places. budget.new.weight ≤ budget.new.most → NamesAll judged.new.table places.own places.fields.items places.methods.items places.parameters.items) }
-    ensures read { AreFilePools frame.now pools.now → IfOk result (λ places. IsKept (IsDirectoryAt frame.now off pools.now) (λ d. directory_weight (directory_in pools.now d)) budget.old.most 0 budget.new.weight (looked_up judged.new.table places.own places.fields.items places.methods.items places.parameters.items)) }
-    ensures refused { AreFilePools frame.now pools.now → IfErr result (IsDirectoryFault frame.now off) }
+    ensures read { AreFilePools source.now.frame.now source.now.pools.now → IfOk result (λ places. IsKept (IsDirectoryAt source.now.frame.now off source.now.pools.now) (λ d. directory_weight (directory_in source.now.pools.now d)) budget.old.most 0 budget.new.weight (looked_up judged.new.table places.own places.fields.items places.methods.items places.parameters.items)) }
+    ensures refused { AreFilePools source.now.frame.now source.now.pools.now → IfErr result (IsDirectoryFault source.now.frame.now off) }
 {
-    let counts = match member_counts(frame, off) {
+    let counts = match member_counts(source.frame, off) {
         Some(counts) => counts,
         None => return Err(ItemFault::Refused(Condition::Annotations as u8)),
     };
-    let bytes = frame.bytes();
+    let bytes = source.frame.bytes();
     let own_off = u32_at(bytes, off as usize);
-    let own = counted_set_at(alloc, frame, pools, own_off, judged, budget)?;
-    let fields_at = off as usize + 16;
-    let limit = pools.len(SymbolKind::Field);
-    let fields = members_at::<SetOfMember>(
-        alloc,
-        frame,
-        pools,
-        fields_at,
-        counts.fields,
+    let own = counted_set_at(source, own_off, judged, budget)?;
+    let limit = source.pools.len(SymbolKind::Field);
+    let field_pairs = PairRange {
+        at: off as usize + 16,
+        count: counts.fields,
         limit,
-        judged,
-        budget,
-    )?;
-    let methods_at = fields_at + 8 * counts.fields as usize;
-    let limit = pools.len(SymbolKind::Method);
-    let methods = members_at::<SetOfMember>(
-        alloc,
-        frame,
-        pools,
-        methods_at,
-        counts.methods,
+    };
+    let fields = members_at::<SetOfMember>(source, &field_pairs, judged, budget)?;
+    let limit = source.pools.len(SymbolKind::Method);
+    let method_pairs = PairRange {
+        at: field_pairs.at + 8 * counts.fields as usize,
+        count: counts.methods,
         limit,
-        judged,
-        budget,
-    )?;
-    let parameters_at = methods_at + 8 * counts.methods as usize;
-    let parameters = members_at::<ListOfMember>(
-        alloc,
-        frame,
-        pools,
-        parameters_at,
-        counts.parameters,
+    };
+    let methods = members_at::<SetOfMember>(source, &method_pairs, judged, budget)?;
+    let parameter_pairs = PairRange {
+        at: method_pairs.at + 8 * counts.methods as usize,
+        count: counts.parameters,
         limit,
-        judged,
-        budget,
-    )?;
+    };
+    let parameters = members_at::<ListOfMember>(source, &parameter_pairs, judged, budget)?;
     Ok(Places {
         own,
         fields,
@@ -422,7 +400,12 @@ fn directory_at(
 {
     let mut judged = Judged::none(alloc);
     let mut budget = Budget { weight: 0, most };
-    let places = counted_directory_at(alloc, frame, pools, off, &mut judged, &mut budget)?;
+    let source = FileSource {
+        alloc,
+        frame,
+        pools,
+    };
+    let places = counted_directory_at(&source, off, &mut judged, &mut budget)?;
     let directory = SharedDirectory {
         table: judged.table,
         own: places.own,

@@ -13,11 +13,11 @@ ghost use Rattle.dexval.specs.Judged.{AreHeld, AreJudged, IsNoted};
 ghost use Rattle.dexval.specs.Tables.{IsListed, IsPlaceIn, set_at, sets_at};
 
 use crate::budget::Budget;
+use crate::file_source::FileSource;
 use crate::set::AnnotationSet;
 use crate::set_reading::read_set;
 use crate::set_table::SetTable;
-use dexhead::Frame;
-use dexpool::{ItemFault, Pools};
+use dexpool::ItemFault;
 use std::alloc::{AllocError, Global};
 use std::collections::{HashMap, HashSet};
 
@@ -109,22 +109,20 @@ fn note_set(
 /// The place of the set of the annotation_set_item at an offset, counted, if it is kept; none at 0. It is kept while the
 /// budget lasts. Error: none stands there.
 pub(crate) fn counted_set_at(
-    alloc: Global,
-    frame: &Frame<'_>,
-    pools: &Pools<'_>,
+    source: &FileSource<'_, '_, '_>,
     off: u32,
     judged: &mut Judged,
     budget: &mut Budget,
 ) -> Result<Option<u32>, ItemFault>
     requires held { AreHeld judged.old }
-    requires judged { AreFilePools frame.now pools.now → AreJudged frame.now pools.now judged.old }
+    requires judged { AreFilePools source.now.frame.now source.now.pools.now → AreJudged source.now.frame.now source.now.pools.now judged.old }
     ensures most { budget.new.most ≡ budget.old.most }
     ensures grows { budget.old.weight ≤ budget.new.weight }
     ensures kept { off ≢ 0 → IfOk result (λ place. budget.new.weight ≤ budget.new.most → IsSome place) }
     ensures noted { IfOk result (λ place. IsNoted (λ i. place ≡ Some i) (λ _. ⊥) (IsPlaceIn judged.new.table.sets place) (budget.new.weight ≤ budget.new.most) judged.old judged.new) }
-    ensures judged { AreFilePools frame.now pools.now → OnOk result (AreJudged frame.now pools.now judged.new) }
-    ensures read { AreFilePools frame.now pools.now → IfOk result (λ place. IsKept (IsSetOrEmptyAt frame.now off pools.now) (set_weight_in pools.now) budget.old.most budget.old.weight budget.new.weight (set_at judged.new.table.sets place)) }
-    ensures refused { AreFilePools frame.now pools.now → IfErr result (IsRefusal (NoSetOrEmptyAt frame.now off)) }
+    ensures judged { AreFilePools source.now.frame.now source.now.pools.now → OnOk result (AreJudged source.now.frame.now source.now.pools.now judged.new) }
+    ensures read { AreFilePools source.now.frame.now source.now.pools.now → IfOk result (λ place. IsKept (IsSetOrEmptyAt source.now.frame.now off source.now.pools.now) (set_weight_in source.now.pools.now) budget.old.most budget.old.weight budget.new.weight (set_at judged.new.table.sets place)) }
+    ensures refused { AreFilePools source.now.frame.now source.now.pools.now → IfErr result (IsRefusal (NoSetOrEmptyAt source.now.frame.now off)) }
 {
     let within = budget.is_within();
     if off == 0 {
@@ -138,7 +136,7 @@ pub(crate) fn counted_set_at(
     if !within && judged.passed_sets.contains(&off) {
         return Ok(None);
     }
-    let set = read_set(alloc, frame, pools, off)?;
+    let set = read_set(source.alloc, source.frame, source.pools, off)?;
     Ok(note_set(off, set, judged, budget)?)
 }
 

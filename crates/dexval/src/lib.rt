@@ -40,6 +40,7 @@ mod directory_checking;
 mod directory_reading;
 mod encoding;
 mod equality;
+mod file_source;
 mod fitting;
 mod hashing;
 mod head;

@@ -15,31 +15,31 @@ use Rattle.dexval.proofs.Refusals.{directory_refused}
 use Rattle.dexval.proofs.directory_reading.counted_directory_at.Goals as goal
 
 pub returns-in-None-clause-refused : goal.returns-in-None-clause-refused
-returns-in-None-clause-refused c = λ p. (refl, no_members c.args.frame.now c.args.off c.in-None.ensures.none)
+returns-in-None-clause-refused c = λ p. (refl, no_members c.args.source.now.frame.now c.args.off c.in-None.ensures.none)
 
 pub returns-in_err-own-clause-refused : goal.returns-in_err-own-clause-refused
 returns-in_err-own-clause-refused c = λ p.
-    let b = c.args.frame.now in
+    let b = c.args.source.now.frame.now in
     let e = err_from_is_err_and c.from_residual.result c.from_residual.ensures.1 in
     rw (e.1, e.2) (directory_refused b c.args.off (λ none. no_own b c.args.off (subst (NoSetOrEmptyAt b) (c.u32_at-own_off.ensures ∙ ap (λ (x : List ℕ). uint_at x c.args.off) c.bytes-bytes.ensures.bytes) none)) c.in_err-own.field-0.0 (c.in_err-own.ensures.refused p))
 
 pub returns-in_err-fields-clause-refused : goal.returns-in_err-fields-clause-refused
 returns-in_err-fields-clause-refused c = λ p.
-    let b = c.args.frame.now in
+    let b = c.args.source.now.frame.now in
     let e = err_from_is_err_and c.from_residual-in_err-fields.result c.from_residual-in_err-fields.ensures.1 in
-    rw (e.1, e.2) (directory_refused b c.args.off (λ none. no_fields b c.args.off c.args.pools.now p (no_pairs_moved SetAt b (omega arith) c.in-Some.ensures.some.1 c.len-limit.ensures none)) c.in_err-fields.field-0.0 (c.in_err-fields.ensures.refused p))
+    rw (e.1, e.2) (directory_refused b c.args.off (λ none. no_fields b c.args.off c.args.source.now.pools.now p (no_pairs_moved SetAt b (omega arith) c.in-Some.ensures.some.1 c.len-limit.ensures none)) c.in_err-fields.field-0.0 (c.in_err-fields.ensures.refused p))
 
 pub returns-in_err-methods-clause-refused : goal.returns-in_err-methods-clause-refused
 returns-in_err-methods-clause-refused c = λ p.
-    let b = c.args.frame.now in
+    let b = c.args.source.now.frame.now in
     let e = err_from_is_err_and c.from_residual-in_err-methods.result c.from_residual-in_err-methods.ensures.1 in
-    rw (e.1, e.2) (directory_refused b c.args.off (λ none. no_methods b c.args.off c.args.pools.now p (no_pairs_moved SetAt b (omega (arith, c.in-Some.ensures.some.1)) c.in-Some.ensures.some.2 c.len-limit-2.ensures none)) c.in_err-methods.field-0.0 (c.in_err-methods.ensures.refused p))
+    rw (e.1, e.2) (directory_refused b c.args.off (λ none. no_methods b c.args.off c.args.source.now.pools.now p (no_pairs_moved SetAt b (omega (arith, c.in-Some.ensures.some.1)) c.in-Some.ensures.some.2 c.len-limit-2.ensures none)) c.in_err-methods.field-0.0 (c.in_err-methods.ensures.refused p))
 
 pub returns-in_err-parameters-clause-refused : goal.returns-in_err-parameters-clause-refused
 returns-in_err-parameters-clause-refused c = λ p.
-    let b = c.args.frame.now in
+    let b = c.args.source.now.frame.now in
     let e = err_from_is_err_and c.from_residual-in_err-parameters.result c.from_residual-in_err-parameters.ensures.1 in
-    rw (e.1, e.2) (directory_refused b c.args.off (λ none. no_parameters b c.args.off c.args.pools.now p (no_pairs_moved RefListAt b (omega (arith, c.in-Some.ensures.some.1, c.in-Some.ensures.some.2)) c.in-Some.ensures.some.3 c.len-limit-2.ensures none)) c.in_err-parameters.field-0.0 (c.in_err-parameters.ensures.refused p))
+    rw (e.1, e.2) (directory_refused b c.args.off (λ none. no_parameters b c.args.off c.args.source.now.pools.now p (no_pairs_moved RefListAt b (omega (arith, c.in-Some.ensures.some.1, c.in-Some.ensures.some.2)) c.in-Some.ensures.some.3 c.len-limit-2.ensures none)) c.in_err-parameters.field-0.0 (c.in_err-parameters.ensures.refused p))
 
 pub returns-clause-held : goal.returns-clause-held
 returns-clause-held c =
@@ -56,8 +56,8 @@ returns-clause-named c = λ fourth.
 
 pub returns-clause-read : goal.returns-clause-read
 returns-clause-read c = λ p.
-    let b = c.args.frame.now in
-    let m = c.args.pools.now in
+    let b = c.args.source.now.frame.now in
+    let m = c.args.source.now.pools.now in
     let o = c.args.off in
     let most = c.args.budget.now.most in
     let first = c.counted_set_at.new.judged in

@@ -7,8 +7,8 @@ use Rattle.dexval.proofs.directory_reading.counted_list_at.Goals as goal
 
 pub returns-in-Some-clause-read : goal.returns-in-Some-clause-read
 returns-in-Some-clause-read c = λ p.
-    let b = c.args.frame.now in
-    let m = c.args.pools.now in
+    let b = c.args.source.now.frame.now in
+    let m = c.args.source.now.pools.now in
     let off = c.args.off in
     let place = c.in-Some.place.now in
     let here = (c.requires.judged p).lists_judged off place (sym c.in-Some.ensures.value) in
@@ -30,15 +30,15 @@ returns-clause-noted c =
 
 pub returns-clause-judged : goal.returns-clause-judged
 returns-clause-judged c = λ p.
-    let b = c.args.frame.now in
-    let m = c.args.pools.now in
+    let b = c.args.source.now.frame.now in
+    let m = c.args.source.now.pools.now in
     let Read = IsRefListAt b c.args.off m in
     c.in_ok-note_list.ensures.judged b m c.args.budget.now.weight (kept_moved Read Read (sets_weight_in m) (sym c.in_ok-places.ensures.most) (λ x k. k) (c.in_ok-places.ensures.read p)) (c.in_ok-places.ensures.judged p)
 
 pub returns-clause-read : goal.returns-clause-read
 returns-clause-read c = λ p.
-    let b = c.args.frame.now in
-    let m = c.args.pools.now in
+    let b = c.args.source.now.frame.now in
+    let m = c.args.source.now.pools.now in
     let Read = IsRefListAt b c.args.off m in
     kept_moved Read Read (sets_weight_in m) c.in_ok-places.ensures.most (λ x k. k)
     (c.in_ok-note_list.ensures.read b m c.args.budget.now.weight (kept_moved Read Read (sets_weight_in m) (sym c.in_ok-places.ensures.most) (λ x k. k) (c.in_ok-places.ensures.read p)))

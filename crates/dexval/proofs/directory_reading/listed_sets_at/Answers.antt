@@ -21,11 +21,11 @@ use Rattle.dexval.proofs.directory_reading.listed_sets_at.Goals as goal
 pub returns-in_err-count-clause-refused : goal.returns-in_err-count-clause-refused
 returns-in_err-count-clause-refused c = λ p.
     let e = err_from_is_err_and c.from_residual.result c.from_residual.ensures.1 in
-    rw (e.1, e.2) (refused_so (no_list_room c.args.frame.now c.args.off) c.in_err-count.field-0.0 c.in_err-count.ensures.refused)
+    rw (e.1, e.2) (refused_so (no_list_room c.args.source.now.frame.now c.args.off) c.in_err-count.field-0.0 c.in_err-count.ensures.refused)
 
 pub returns-in_err-place-clause-refused : goal.returns-in_err-place-clause-refused
 returns-in_err-place-clause-refused c = λ p.
-    let b = c.args.frame.now in
+    let b = c.args.source.now.frame.now in
     let place : c.u32_at-set_off.result ≡ uint_at b (c.args.off + 4 + 4 * c.loop-i.i) = c.u32_at-set_off.ensures ∙ ap (λ (x : List ℕ). uint_at x (c.args.off + 4 + 4 * c.loop-i.i)) c.bytes-bytes.ensures.bytes in
     let e = err_from_is_err_and c.from_residual-in_err-place.result c.from_residual-in_err-place.ensures.1 in
     rw (e.1, e.2) (refused_so (λ none. no_set_next b c.args.off c.loop-i.i (omega (arith, c.in_ok-count.ensures.count.1)) (subst (NoSetOrEmptyAt b) place none)) c.in_err-place.field-0.0 (c.in_err-place.ensures.refused p))
@@ -41,8 +41,8 @@ loop-i-init c =
       noted = subst Noted (sym c.in_ok-places.ensures.items) (record { extended = extends_same table; noted_held = c.requires.held; held = All-nil (IsPlaceIn table.sets); named = λ within. none_new (λ i. Contains [] (Some i)) (λ i. ⊥) table });
       judged = c.requires.judged;
       read = λ p.
-          let b = c.args.frame.now in
-          let m = c.args.pools.now in
+          let b = c.args.source.now.frame.now in
+          let m = c.args.source.now.pools.now in
           let most = c.args.budget.now.most in
           let weight = c.args.budget.now.weight in
           let Read = HaveReadList b (c.args.off + 4) m 0 in
@@ -53,8 +53,8 @@ loop-i-init c =
 
 pub loop-i-preserved : goal.loop-i-preserved
 loop-i-preserved c =
-    let b = c.args.frame.now in
-    let m = c.args.pools.now in
+    let b = c.args.source.now.frame.now in
+    let m = c.args.source.now.pools.now in
     let p4 = c.args.off + 4 in
     let i = c.loop-i.i in
     let list = c.list_weight-list.result in
@@ -95,8 +95,8 @@ loop-i-preserved c =
 
 pub returns-clause-read : goal.returns-clause-read
 returns-clause-read c = λ p.
-    let b = c.args.frame.now in
-    let m = c.args.pools.now in
+    let b = c.args.source.now.frame.now in
+    let m = c.args.source.now.pools.now in
     let list = c.list_weight-list.result in
     let i = c.loop-i.i in
     let count : i ≡ uint_at b c.args.off = omega (arith, c.in_ok-count.ensures.count.1) in

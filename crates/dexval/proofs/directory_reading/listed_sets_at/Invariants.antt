@@ -12,6 +12,6 @@ invariant-loop-i l = record {
   bound : l.budget.most ≡ l.fn.budget.most;
   grows : l.fn.budget.weight ≤ l.budget.weight;
   noted : IsNoted (λ i. Contains l.places.items (Some i)) (λ i. ⊥) (All (IsPlaceIn l.judged.table.sets) l.places.items) (l.budget.weight ≤ l.budget.most) l.fn.judged l.judged;
-  judged : AreFilePools l.frame l.pools → AreJudged l.frame l.pools l.judged;
-  read : AreFilePools l.frame l.pools → IsKept (HaveReadList l.frame (l.off + 4) l.pools l.i) (λ ss. l.list + sum_by (set_weight_in l.pools) ss) l.fn.budget.most l.fn.budget.weight l.budget.weight (map (set_at l.judged.table.sets) l.places.items);
+  judged : AreFilePools l.source.frame.now l.source.pools.now → AreJudged l.source.frame.now l.source.pools.now l.judged;
+  read : AreFilePools l.source.frame.now l.source.pools.now → IsKept (HaveReadList l.source.frame.now (l.off + 4) l.source.pools.now l.i) (λ ss. l.list + sum_by (set_weight_in l.source.pools.now) ss) l.fn.budget.most l.fn.budget.weight l.budget.weight (map (set_at l.judged.table.sets) l.places.items);
 }

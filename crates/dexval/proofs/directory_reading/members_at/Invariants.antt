@@ -12,6 +12,6 @@ invariant-loop-i g l = record {
   bound : l.budget.most ≡ l.fn.budget.most;
   grows : l.fn.budget.weight ≤ l.budget.weight;
   noted : AreNoted g.T.OfMember.is_held g.T.OfMember.names_set g.T.OfMember.names_list (l.budget.weight ≤ l.budget.most) l.fn.judged l.judged l.members.items;
-  judged : AreFilePools l.frame l.pools → AreJudged l.frame l.pools l.judged;
-  read : AreFilePools l.frame l.pools → IsKept (HaveReadPairs (g.T.OfMember.is_known l.pools) (g.T.OfMember.inside l.pools) g.T.OfMember.stands l.frame l.at l.limit l.i l.least) (sum_by (λ e. g.T.OfMember.weighs l.pools e.1)) l.fn.budget.most l.fn.budget.weight l.budget.weight (map (λ e. (e.0, g.T.OfMember.of l.judged.table (Some e.1))) l.members.items);
+  judged : AreFilePools l.source.frame.now l.source.pools.now → AreJudged l.source.frame.now l.source.pools.now l.judged;
+  read : AreFilePools l.source.frame.now l.source.pools.now → IsKept (HaveReadPairs (g.T.OfMember.is_known l.source.pools.now) (g.T.OfMember.inside l.source.pools.now) g.T.OfMember.stands l.source.frame.now l.pairs.at l.pairs.limit l.i l.least) (sum_by (λ e. g.T.OfMember.weighs l.source.pools.now e.1)) l.fn.budget.most l.fn.budget.weight l.budget.weight (map (λ e. (e.0, g.T.OfMember.of l.judged.table (Some e.1))) l.members.items);
 }

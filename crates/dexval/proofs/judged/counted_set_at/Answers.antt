@@ -7,14 +7,14 @@ use Rattle.dexval.proofs.judged.counted_set_at.Goals as goal
 
 pub returns-then-off-eq0-clause-read : goal.returns-then-off-eq0-clause-read
 returns-then-off-eq0-clause-read c = λ p.
-    let m = c.args.pools.now in
+    let m = c.args.source.now.pools.now in
     let weight = c.args.budget.now.weight in
-    new_kept (IsSetOrEmptyAt c.args.frame.now c.args.off m) (set_weight_in m) c.args.budget.now.most weight weight [] [] (empty_set c.args.frame.now c.args.off m c.if-off-eq0.true) (omega arith) (omega (arith, c.is_within-within.ensures.fits)) (λ le. refl)
+    new_kept (IsSetOrEmptyAt c.args.source.now.frame.now c.args.off m) (set_weight_in m) c.args.budget.now.most weight weight [] [] (empty_set c.args.source.now.frame.now c.args.off m c.if-off-eq0.true) (omega arith) (omega (arith, c.is_within-within.ensures.fits)) (λ le. refl)
 
 pub returns-in-Some-clause-read : goal.returns-in-Some-clause-read
 returns-in-Some-clause-read c = λ p.
-    let b = c.args.frame.now in
-    let m = c.args.pools.now in
+    let b = c.args.source.now.frame.now in
+    let m = c.args.source.now.pools.now in
     let off = c.args.off in
     let place = c.in-Some.place.now in
     let set = set_at c.args.judged.now.table.sets (Some place) in

@@ -17,10 +17,10 @@ refused_where (Err fault) so h = refused_so so fault h
 
 pub returns-clause-read : goal.returns-clause-read
 returns-clause-read c = λ p.
-    let b = c.args.frame.now in
-    let m = c.args.pools.now in
+    let b = c.args.source.now.frame.now in
+    let m = c.args.source.now.pools.now in
     let off = c.args.off in
     if_ok_map _ _ c.counted_set_at.result (λ x k. kept_moved (IsSetOrEmptyAt b off m) (IsKnownAt (IsKnownSet m) (set_in m) (SetAt b off)) (set_weight_in m) refl (λ s h. set_is b off m s c.requires.other h) k) (c.counted_set_at.ensures.read p)
 
 pub returns-clause-refused : goal.returns-clause-refused
-returns-clause-refused c = λ p. refused_where c.counted_set_at.result (no_set_is c.args.frame.now c.args.off c.requires.other) (c.counted_set_at.ensures.refused p)
+returns-clause-refused c = λ p. refused_where c.counted_set_at.result (no_set_is c.args.source.now.frame.now c.args.off c.requires.other) (c.counted_set_at.ensures.refused p)

@@ -1,5 +1,5 @@
 -- The parts of a debug program, written one after the other.
-use Rattle.std.proofs.Common.{◌≡◌, ℕ, ◌+◌, List, [], ◌∷◌, ◌++◌, length, ap, ◌∙◌, append_assoc}
+use Rattle.std.proofs.Common.{◌≡◌, ℕ, List, [], ◌∷◌, ◌++◌, length, ap, ◌∙◌, append_assoc}
 use Rattle.std.specs.List.{flat_map}
 use Rattle.dexspec.specs.Numbers.{uleb128, uleb128p1}
 use Rattle.dexcode.specs.Debug.{NumberedDebug, numbered_operation_bytes, numbered_debug_bytes}

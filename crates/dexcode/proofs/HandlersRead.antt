@@ -1,6 +1,7 @@
 -- Where parts of a handler are missing, no handler stands.
-use Rattle.std.proofs.Common.{◌≡◌, ℕ, ◌+◌, ◌≤◌, Bool, List, length, Option, ap, sym, subst, ◌∙◌, arith}
+use Rattle.std.proofs.Common.{◌≡◌, ℕ, ◌+◌, ◌≤◌, Bool, List, [], ◌∷◌, ◌++◌, length, Option, ap, sym, subst, ◌∙◌, arith}
 use Rattle.std.specs.Prelude.{ℤ, nat_abs}
+use Rattle.std.proofs.lemmas.List.{length-append}
 use Rattle.dexspec.specs.Lists.{Sequence}
 use Rattle.dexspec.specs.Numbers.{Uleb128At, Sleb128At}
 use Rattle.dexspec.proofs.OneNumber.{one_uleb128, one_sleb128}
@@ -9,7 +10,9 @@ use Rattle.dexpool.specs.declared.faults.ItemFault.{ItemFault}
 use Rattle.dexpool.specs.declared.faults.ItemFault.TheVariants.{Refused, Memory}
 use Rattle.dexcode.specs.declared.handlers.Catch.{Catch}
 use Rattle.dexcode.specs.Numbered.{NumberedHandler}
+use Rattle.dexcode.specs.NamedHandlers.{HaveCatches}
 use Rattle.dexcode.specs.Reading.{IsStart, IsTriesFault, CatchAt, CatchesRead, CatchAllAt, HandlerAt}
+use Rattle.dexcode.proofs.Fronts.{sequence_more}
 use Rattle.dexcode.proofs.OneHandler.{one_catch}
 
 -- a fault has another reason that follows
@@ -46,3 +49,14 @@ module _ (starts : List Bool) (types : ℕ) (b : List ℕ) (o typ index_size : �
   no_address none c n at =
       let e = one_uleb128 b o typ c.typ index_size at.index_size index_is at.index_is in
       none c.addr at.address_size (subst (λ (k : ℕ). Uleb128At b (o + k) c.addr at.address_size) (sym e.1) at.address_is) at.start
+
+-- one catch more stands behind them
+pub one_catch_more : (starts : List Bool) (types : ℕ) (b : List ℕ) (o count size n : ℕ) (c : Catch) → HaveCatches starts types b o count size → CatchAt starts types b (o + size) c n → o + size + n ≤ length b → HaveCatches starts types b o (count + 1) (size + n)
+one_catch_more starts types b o count size n c h at within = record {
+  catches = h.catches ++ c ∷ [];
+  read = record {
+    stand = sequence_more (CatchAt starts types) b o h.catches c size n h.read.stand at;
+    many = omega (arith, length-append h.catches (c ∷ []), h.read.many);
+    within = omega (arith, within);
+  };
+}

@@ -1,5 +1,5 @@
 -- Handlers one after the other, and their numbers by the bytes of their list.
-use Rattle.std.proofs.Common.{◌≡◌, ◌≢◌, ◌⊎◌, ℕ, zero, suc, ◌+◌, ◌<◌, ◌≤◌, ◌^◌, Bool, List, [], ◌∷◌, ◌++◌, length, take, get_or, Option, Some, None, refl, ap, sym, subst, ◌∙◌, inl, inr, arith}
+use Rattle.std.proofs.Common.{◌≡◌, ◌≢◌, ◌⊎◌, ℕ, zero, suc, ◌+◌, ◌-◌, ◌<◌, ◌≤◌, ◌^◌, Bool, List, [], ◌∷◌, ◌++◌, length, take, get_or, Option, Some, None, refl, ap, sym, subst, ◌∙◌, inl, inr, arith}
 use Rattle.std.specs.Prelude.{ℤ, unwrap_or}
 use Rattle.std.proofs.lemmas.Bool.{cases_eq}
 use Rattle.std.proofs.lemmas.List.{length-append, get_or_past, take-append-le, take_all}
@@ -7,7 +7,9 @@ use Rattle.dexspec.specs.Lists.{Sequence}
 use Rattle.dexspec.specs.Numbers.{Sleb128At}
 use Rattle.dexspec.proofs.Sequences.{one_sequence}
 use Rattle.dexcode.specs.Numbered.{NumberedHandler}
-use Rattle.dexcode.specs.Reading.{HandlerAt, BeginsAt, AreNumbered, IsNumberPut}
+use Rattle.dexcode.specs.NamedHandlers.{HasHandler}
+use Rattle.dexcode.specs.Reading.{HandlerAt, HandlersRead, BeginsAt, AreNumbered, IsNumberPut}
+use Rattle.dexcode.proofs.Fronts.{sequence_more}
 use Rattle.dexcode.proofs.OneHandler.{one_handler}
 
 -- one number is less than another, or is not
@@ -16,7 +18,8 @@ below_or_not i zero = inr (omega arith)
 below_or_not zero (suc j) = inl (omega arith)
 below_or_not (suc i) (suc j) = elim (below_or_not i j) [ inl lt ↦ inl (omega (arith, lt)) | inr le ↦ inr (omega (arith, le)) ]
 
-sleb_some : (b : List ℕ) (o : ℕ) (v : ℤ) (n : ℕ) → Sleb128At b o v n → 0 < n
+-- a number with a sign takes a byte or more
+pub sleb_some : (b : List ℕ) (o : ℕ) (v : ℤ) (n : ℕ) → Sleb128At b o v n → 0 < n
 sleb_some b o v zero h = absurd h.spelled.chain
 sleb_some b o v (suc n) h = omega arith
 
@@ -25,7 +28,7 @@ is_some None = Bool.false
 is_some (Some n) = Bool.true
 
 -- where nothing is, no number is
-no_number : (i : ℕ) → None ≡ Some i → ⊥
+pub no_number : (i : ℕ) → None ≡ Some i → ⊥
 no_number i e = let f : Bool.false ≡ Bool.true = ap is_some e in cc
 
 module _ (starts : List Bool) (types : ℕ) where
@@ -91,4 +94,17 @@ module _ (starts : List Bool) (types : ℕ) where
       next = record {
         within = omega (arith, length-append hs (h ∷ []));
         stands = subst (λ (gs : List NumberedHandler). Sequence (HandlerAt starts types) b first gs n) (sym (before_next hs h)) stand;
+      }
+
+  -- one handler more was numbered
+  pub one_handler_more : (b : List ℕ) (o first count size n : ℕ) (hs : List NumberedHandler) (numbers numbers' : List (Option ℕ)) → o ≤ first → HandlersRead starts types b o first count hs numbers size → (more : HasHandler starts types b (first + size) n)
+      → IsNumberPut (first + size - o) count numbers numbers' → HandlersRead starts types b o first (count + 1) (hs ++ more.handler ∷ []) numbers' (size + n)
+  one_handler_more b o first count size n hs numbers numbers' order read more put =
+      let place : o + (first + size - o) ≡ first + size = omega (arith, order) in
+      record {
+        stand = sequence_more (HandlerAt starts types) b first hs more.handler size n read.stand more.stands;
+        many = omega (arith, length-append hs (more.handler ∷ []), read.many);
+        within = omega (arith, more.within);
+        short = omega (arith, put.short, handler_some b (first + size) more.handler n more.stands);
+        numbered = numbered_more b o first size (first + size - o) hs more.handler numbers numbers' read.stand place (omega (arith, read.short)) read.numbered (subst (λ (k : ℕ). IsNumberPut (first + size - o) k numbers numbers') (sym read.many) put);
       }

@@ -1,16 +1,20 @@
 -- Tries and the list of the handlers that they name.
-use Rattle.std.proofs.Common.{◌≡◌, ℕ, zero, suc, ◌+◌, ◌<◌, ◌||◌, Bool, true, false, List, [], ◌∷◌, ◌++◌, length, map, get_or, slice_set, All, Option, Some, None, refl, ap, sym, ◌∙◌, subst, inl, inr, take, if◌then◌else◌, arith}
+use Rattle.std.proofs.Common.{◌≡◌, ℕ, zero, suc, ◌+◌, ◌<◌, ◌||◌, Bool, true, false, List, [], ◌∷◌, ◌++◌, length, map, get_or, All, Option, None, refl, ap, sym, ◌∙◌, subst, inl, inr, take, if◌then◌else◌, arith}
 use Rattle.std.specs.Prelude.{unwrap_or}
 use Rattle.std.specs.Bool.{Decides}
 use Rattle.std.specs.List.{list_any}
 use Rattle.std.proofs.lemmas.Bool.{cases_eq}
-use Rattle.std.proofs.lemmas.List.{length-set, length-append, get_or-set_same, get_or-set_other, get_or_append_left, map-append, map_more}
+use Rattle.std.proofs.lemmas.List.{length-append, get_or_append_left, map-append, map_more}
 use Rattle.std.proofs.lemmas.List.Elements.{All-nil, All-cons, All-head, All-tail, All-push}
 use Rattle.indexmap.specs.IndexSet.{insert_key}
 use Rattle.dexcode.specs.declared.tries.Try.{Try}
 use Rattle.dexspec.specs.Lists.{distinct}
-use Rattle.dexcode.specs.Numbered.{NumberedHandler, NumberedTry, AreKnown, AreLeft, no_handler, named, all_named, handlers_of, same_handler}
+use Rattle.dexcode.specs.Numbered.{NumberedHandler, NumberedTry, IsFormedHandler, no_handler, named, all_named, handlers_of, same_handler}
 use Rattle.dexcode.specs.Equality.{handler_decides}
+use Rattle.dexcode.specs.NamedHandlers.{AreKnown, IsHandlerAt, IsPutAt}
+use Rattle.dexcode.specs.Reading.{HandlerAt}
+use Rattle.dexcode.proofs.Listed.{no_number}
+use Rattle.dexcode.proofs.OneHandler.{one_handler}
 use Rattle.dexspec.proofs.Distinct.{insert_grows, distinct_more}
 
 module _ {X : Type 0} (same : X → X → Bool) (decides : (x y : X) → Decides (same x y) (x ≡ y)) where
@@ -28,30 +32,18 @@ module _ {X : Type 0} (same : X → X → Bool) (decides : (x y : X) → Decides
   insert_there ks x k d lt e = ap (λ b. if b then ks else ks ++ x ∷ []) (present ks x k d lt e)
 
 -- a handler that is behind those known is known too
-pub known_more : (listed hs hs' more : List NumberedHandler) (numbers : List (Option ℕ)) (place number : ℕ) → AreKnown listed hs numbers → hs' ≡ hs ++ more → place < length listed → number < length hs'
-    → get_or hs' number no_handler ≡ get_or listed place no_handler → AreKnown listed hs' (slice_set numbers place (Some number))
-known_more listed hs hs' more numbers place number known grown within lt is = record {
-  count = length-set numbers place (Some number) ∙ known.count;
-  each = λ p k e. elim (cases_eq p place) [
-    | inl here ↦ let set : get_or (slice_set numbers place (Some number)) place None ≡ Some number = get_or-set_same numbers place (Some number) None (omega (arith, within, known.count)) in
-        let same : number ≡ k = ap (λ o. unwrap_or o 0) (sym set ∙ ap (λ (q : ℕ). get_or (slice_set numbers place (Some number)) q None) (sym here) ∙ e) in
-        (subst (λ (q : ℕ). q < length hs') same lt, subst (λ (q : ℕ). get_or hs' q no_handler ≡ get_or listed place no_handler) same is ∙ ap (λ (q : ℕ). get_or listed q no_handler) (sym here))
-    | inr other ↦ let old = known.each p k (sym (get_or-set_other numbers place p (Some number) None other) ∙ e) in (
+pub known_more : (starts : List Bool) (types : ℕ) (b : List ℕ) (list : ℕ) (h : NumberedHandler) {off : ℕ} → IsHandlerAt starts types b (list + off) h → (hs hs' more : List NumberedHandler) (numbers numbers' : List (Option ℕ)) (number : ℕ) → AreKnown starts types b list hs numbers → hs' ≡ hs ++ more
+    → IsPutAt off number numbers numbers' → number < length hs' → get_or hs' number no_handler ≡ h → AreKnown starts types b list hs' numbers'
+known_more starts types b list h {off} there hs hs' more numbers numbers' number known grown put lt is = record {
+  each = λ p k e. elim (cases_eq p off) [
+    | inl here ↦
+        let same : number ≡ k = ap (λ o. unwrap_or o 0) (sym put.here ∙ ap (λ (q : ℕ). get_or numbers' q None) (sym here) ∙ e) in
+        let one : (g : NumberedHandler) → IsHandlerAt starts types b (list + p) g → h ≡ g = λ g at. (one_handler starts types b (list + off) h g there.size at.size there.stands (subst (λ (q : ℕ). HandlerAt starts types b (list + q) g at.size) here at.stands)).0 in
+        (subst (λ (q : ℕ). q < length hs') same lt, λ g at. subst (λ (q : ℕ). get_or hs' q no_handler ≡ h) same is ∙ one g at)
+    | inr other ↦ let old = known.each p k (sym (put.others p other) ∙ e) in (
       omega (arith, old.0, ap length grown, length-append hs more),
-      ap (λ gs. get_or gs k no_handler) grown ∙ get_or_append_left hs more no_handler k old.0 ∙ old.1,
+      λ g at. ap (λ gs. get_or gs k no_handler) grown ∙ get_or_append_left hs more no_handler k old.0 ∙ old.1 g at,
     )
-  ];
-}
-
--- what is taken out of its place has its number from then on
-pub left_more : (listed rest : List NumberedHandler) (numbers : List (Option ℕ)) (place number : ℕ) (h : NumberedHandler) → AreLeft listed rest numbers → place < length numbers → AreLeft listed (slice_set rest place h) (slice_set numbers place (Some number))
-left_more listed rest numbers place number h left lt = record {
-  count = length-set rest place h ∙ left.count;
-  each = λ p e. elim (cases_eq p place) [
-    | inl here ↦ let set = get_or-set_same numbers place (Some number) None lt in
-        let none : None ≡ Some number = sym e ∙ ap (λ (q : ℕ). get_or (slice_set numbers place (Some number)) q None) here ∙ set in
-        absurd cc
-    | inr other ↦ get_or-set_other rest place p h no_handler other ∙ left.each p (sym (get_or-set_other numbers place p (Some number) None other) ∙ e)
   ];
 }
 
@@ -95,3 +87,20 @@ names_more listed hs hs' tries numbered numbered' i k d lt inserted within is us
       ap (all_named hs') pushed ∙ map-append (named hs') numbered (new ∷ []) ∙ (λ j. old j ++ named_new j ∷ []) ∙ sym (map_more (named listed) tries i d lt),
       subst (All (λ x. x.handler < length hs')) (sym pushed) (All-push (λ (x : Try). x.handler < length hs') numbered new kept within),
     )
+
+-- the first of the tries have the numbers of their handlers
+pub record NamedSoFar (starts : List Bool) (types : ℕ) (b : List ℕ) (list : ℕ) (listed hs : List NumberedHandler) (numbers : List (Option ℕ)) (numbered tries : List Try) : Type 0 where
+  pub known : AreKnown starts types b list hs numbers
+  pub used : hs ≡ handlers_of (all_named listed tries)
+  pub names : all_named hs numbered ≡ all_named listed tries
+  pub within : All (λ t. t.handler < length hs) numbered
+  pub formed : All IsFormedHandler hs
+
+pub none_named : (starts : List Bool) (types : ℕ) (b : List ℕ) (list : ℕ) (listed hs : List NumberedHandler) (numbers : List (Option ℕ)) (numbered tries : List Try) → hs ≡ [] → numbers ≡ [] → numbered ≡ [] → tries ≡ [] → NamedSoFar starts types b list listed hs numbers numbered tries
+none_named starts types b list listed hs numbers numbered tries e n m t = record {
+  known = record { each = λ off k some. absurd (no_number k (sym (ap (λ (xs : List (Option ℕ)). get_or xs off None) n) ∙ some)) };
+  used = e ∙ sym (ap (λ ts. handlers_of (all_named listed ts)) t);
+  names = (λ i. all_named (e i) (m i)) ∙ sym (ap (all_named listed) t);
+  within = subst (All (λ x. x.handler < length hs)) (sym m) (All-nil (λ (x : Try). x.handler < length hs));
+  formed = subst (All IsFormedHandler) (sym e) (All-nil IsFormedHandler);
+}

@@ -11,7 +11,9 @@ use Rattle.dexspec.proofs.OneNumber.{one_uleb128}
 use Rattle.dexspec.proofs.Sequences.{one_sequence}
 use Rattle.dexcode.specs.declared.tries.Try.{Try}
 use Rattle.dexcode.specs.Numbered.{NumberedHandler, NumberedTry, IsFormedHandler, no_handler, named, all_named, handlers_of, handlers_weight}
+use Rattle.dexcode.specs.NamedHandlers.{IsHandlerAt, AreListed}
 use Rattle.dexcode.specs.Reading.{HandlerAt, IsListAt, TryAt, ListedTryAt, AreApart, AreApartFrom, TriesRead, TryItemsAt}
+use Rattle.dexcode.proofs.Listed.{handler_some, sleb_some}
 use Rattle.dexcode.proofs.OneHandler.{one_handler}
 use Rattle.dexcode.proofs.TriesListed.{one_listed_try}
 use Rattle.dexcode.proofs.Whole.{all_formed}
@@ -105,6 +107,31 @@ module _ (starts : List Bool) (types units : ℕ) (b : List ℕ) (list : ℕ) (h
         let rest = tries_listed (o + h.0) ss h.1 h.3 in
         (first.0 ∷ rest.0, (h.0, h.1, first.1, rest.1, h.4), λ j. first.2 j ∷ rest.2 j)
 
+-- ---- handlers where try_items say
+
+-- the tries stand eight bytes apart
+tries_at : (units : ℕ) (numbers : List (Option ℕ)) (b : List ℕ) (o : ℕ) (ts : List Try) (n : ℕ) → Sequence (ListedTryAt units numbers) b o ts n → (j : ℕ) (d : Try) → j < length ts → ListedTryAt units numbers b (o + 8 * j) (get_or ts j d) 8
+tries_at units numbers b o [] n h j d lt = absurd (omega (arith, lt))
+tries_at units numbers b o (t ∷ ts) n h zero d lt =
+    subst (λ (p : ℕ). ListedTryAt units numbers b p t 8) (omega arith) (subst (ListedTryAt units numbers b o t) h.2.size h.2)
+tries_at units numbers b o (t ∷ ts) n h (suc j) d lt =
+    let place : o + h.0 + 8 * j ≡ o + 8 * suc j = omega (arith, h.2.size) in
+    subst (λ (p : ℕ). ListedTryAt units numbers b p (get_or ts j d) 8) place (tries_at units numbers b (o + h.0) ts h.1 h.3 j d (omega (arith, lt)))
+
+module _ (starts : List Bool) (types : ℕ) (b : List ℕ) where
+  -- a handler of a list stands where those before it end
+  stands_behind : (first : ℕ) (hs : List NumberedHandler) (n : ℕ) → Sequence (HandlerAt starts types) b first hs n → (i before : ℕ) (d : NumberedHandler) → i < length hs → Sequence (HandlerAt starts types) b first (take i hs) before → IsHandlerAt starts types b (first + before) (get_or hs i d)
+  stands_behind first [] n h i before d lt g = absurd (omega (arith, lt))
+  stands_behind first (x ∷ hs) n h zero before d lt g = record { size = h.0; stands = subst (λ (p : ℕ). HandlerAt starts types b p x h.0) (omega (arith, g)) h.2 }
+  stands_behind first (x ∷ hs) n h (suc i) before d lt g =
+      let same = (one_handler starts types b first x x g.0 h.0 g.2 h.2).1 in
+      let there = stands_behind (first + h.0) hs h.1 h.3 i g.1 d (omega (arith, lt)) (subst (λ (k : ℕ). Sequence (HandlerAt starts types) b (first + k) (take i hs) g.1) same g.3) in
+      subst (λ (p : ℕ). IsHandlerAt starts types b p (get_or hs i d)) (omega (arith, same, g.4)) there
+
+  -- a handler begins within the file
+  pub begins_within : (o : ℕ) (h : NumberedHandler) → IsHandlerAt starts types b o h → o ≤ length b
+  begins_within o h at = omega (arith, handler_some starts types b o h at.size at.stands, at.stands.count_is.within, length-drop o b, sleb_some b o at.stands.count at.stands.count_size at.stands.count_is)
+
 module _ (starts : List Bool) (types units : ℕ) (b : List ℕ) (o count : ℕ) where
   -- what was read stands there
   pub found_tries : (hs : List NumberedHandler) (numbers : List (Option ℕ)) (ts : List Try) (to : ℕ) → IsListAt starts types b (o + 8 * count) hs numbers → TriesRead units numbers b o count ts to → handlers_weight (handlers_of (all_named hs ts)) ≤ most_handlers
@@ -122,12 +149,25 @@ module _ (starts : List Bool) (types units : ℕ) (b : List ℕ) (o count : ℕ)
   }
 
   -- each names a handler
-  pub found_within : (hs : List NumberedHandler) (numbers : List (Option ℕ)) (ts : List Try) (to : ℕ) → IsListAt starts types b (o + 8 * count) hs numbers → TriesRead units numbers b o count ts to → All (λ t. t.handler < length hs) ts
+  found_within : (hs : List NumberedHandler) (numbers : List (Option ℕ)) (ts : List Try) (to : ℕ) → IsListAt starts types b (o + 8 * count) hs numbers → TriesRead units numbers b o count ts to → All (λ t. t.handler < length hs) ts
   found_within hs numbers ts to at read = handlers_named starts types units b (o + 8 * count) hs numbers at o ts (8 * count) read.stand
 
   -- and each is formed
-  pub found_formed : (hs : List NumberedHandler) (numbers : List (Option ℕ)) → IsListAt starts types b (o + 8 * count) hs numbers → All IsFormedHandler hs
+  found_formed : (hs : List NumberedHandler) (numbers : List (Option ℕ)) → IsListAt starts types b (o + 8 * count) hs numbers → All IsFormedHandler hs
   found_formed hs numbers at = all_formed starts types b (o + 8 * count + at.count_size) hs at.size at.stand
+
+  -- the handlers that tries name stand where these say
+  pub found_listed : (hs : List NumberedHandler) (numbers : List (Option ℕ)) (ts : List Try) (to : ℕ) → IsListAt starts types b (o + 8 * count) hs numbers → TriesRead units numbers b o count ts to → AreListed starts types b o (o + 8 * count) hs ts
+  found_listed hs numbers ts to at read = record {
+    each = λ j d lt.
+        let t = get_or ts j d in
+        let item = tries_at units numbers b o ts (8 * count) read.stand j d lt in
+        let begins = at.numbered.begins (ushort_at b (o + 8 * j + 6)) t.handler item.named in
+        let place : o + 8 * count + at.count_size + begins.0 ≡ o + 8 * count + ushort_at b (o + 8 * j + 6) = omega (arith, begins.2) in
+        subst (λ (p : ℕ). IsHandlerAt starts types b p (get_or hs t.handler no_handler)) place (stands_behind starts types b (o + 8 * count + at.count_size) hs at.size at.stand t.handler begins.0 no_handler begins.1.within begins.1.stands);
+    formed = found_formed hs numbers at;
+    within = found_within hs numbers ts to at read;
+  }
 
   -- what stands there names handlers of the list that was read
   back : ((i : ℕ) → get_or b i 0 < 256) → (hs : List NumberedHandler) (numbers : List (Option ℕ)) → IsListAt starts types b (o + 8 * count) hs numbers → (ss : List NumberedTry) → TryItemsAt starts types units b o count ss

@@ -5,6 +5,7 @@ pub mod DebugEquality
 pub mod DebugReading
 pub mod Equality
 pub mod Meaning
+pub mod NamedHandlers
 pub mod Numbered
 pub mod Reading
 pub mod Renumbering

@@ -1,9 +1,10 @@
 //! Handlers read from a file.
 
-ghost use Rattle.std.specs.Prelude.{◌≡◌, ◌<◌, ◌≤◌, ◌+◌, ℕ, ℤ, List, Option, length, nat_abs, IfOk, IfErr, IfSome, IfNone};
+ghost use Rattle.std.specs.Prelude.{◌≡◌, ◌<◌, ◌≤◌, ◌+◌, ℕ, ℤ, List, Option, length, nat_abs, IfOk, IfErr, IfSome, IfNone, MatchOption};
 ghost use Rattle.dexspec.specs.Lists.{Sequence};
 ghost use Rattle.dexcode.specs.Numbered.{NumberedHandler};
 ghost use Rattle.dexspec.specs.Numbers.{Uleb128At};
+ghost use Rattle.dexcode.specs.NamedHandlers.{HasHandler, HaveCatches};
 ghost use Rattle.dexcode.specs.Reading.{IsStart, CatchAt, CatchesRead, CatchAllAt, HandlerAt, IsTriesFault};
 ghost use Rattle.dexcode.specs.declared.handlers.Catch.{Catch as Caught};
 
@@ -13,9 +14,6 @@ use dexinsn::InstructionStarts;
 use dexleb::{read_s, read_u};
 use dexpool::ItemFault;
 use std::alloc::Global;
-
-// Most handlers have no more catches than these.
-const FEW_CATCHES: usize = 16;
 
 // The address at a place, if an instruction begins there, and how many bytes spell it.
 #[inline(always)]
@@ -64,7 +62,28 @@ fn read_catch(
     Some((Catch { typ, addr }, index_size + addr_size))
 }
 
-// So many catches from a place on, and how many bytes spell them.
+// How many bytes spell so many catches from a place on, if they stand there. Nothing is kept of them.
+fn catches_len(
+    bytes: &[u8],
+    at: usize,
+    count: usize,
+    starts: &InstructionStarts<'_>,
+    types: usize,
+) -> Option<usize>
+    requires { at ≤ length bytes.now }
+    ensures { MatchOption result ((cs : List Caught) (n : ℕ) → length cs ≡ count → Sequence (CatchAt starts.now types) bytes.now at cs n → ⊥) (HaveCatches starts.now types bytes.now at count) }
+{
+    let mut size = 0;
+    for _ in 0..count {
+        match read_catch(bytes, at + size, starts, types) {
+            Some((_, len)) => size += len,
+            None => return None,
+        }
+    }
+    Some(size)
+}
+
+// So many catches from a place on, in exactly the memory that they take, and how many bytes spell them.
 fn read_catches(
     alloc: Global,
     bytes: &[u8],
@@ -77,7 +96,7 @@ fn read_catches(
     ensures catches { IfOk result (λ x. CatchesRead starts.now types bytes.now at count x.0.items x.1) }
     ensures fault { IfErr result (IsTriesFault ((cs : List Caught) (n : ℕ) → length cs ≡ count → Sequence (CatchAt starts.now types) bytes.now at cs n → ⊥)) }
 {
-    let mut catches = Vec::with_capacity(alloc, count.min(FEW_CATCHES))?;
+    let mut catches = Vec::with_capacity(alloc, count)?;
     let mut size = 0;
     for _ in 0..count {
         let (caught, len) = match read_catch(bytes, at + size, starts, types) {
@@ -108,6 +127,32 @@ fn read_catch_all(
     }
     match read_address(bytes, at, starts) {
         Some((addr, len)) => Some((Some(addr), len)),
+        None => None,
+    }
+}
+
+// How many bytes spell the handler at a place, if one stands there. Nothing is kept of it.
+pub(crate) fn handler_len(
+    bytes: &[u8],
+    at: usize,
+    starts: &InstructionStarts<'_>,
+    types: usize,
+) -> Option<usize>
+    requires { at ≤ length bytes.now }
+    ensures { MatchOption result ((h : NumberedHandler) (n : ℕ) → HandlerAt starts.now types bytes.now at h n → ⊥) (HasHandler starts.now types bytes.now at) }
+{
+    let (count, count_size) = match read_s(bytes, at) {
+        Ok(read) => read,
+        Err(_) => return None,
+    };
+    let first = at + count_size;
+    let many = count.unsigned_abs() as usize;
+    let catches_size = match catches_len(bytes, first, many, starts, types) {
+        Some(size) => size,
+        None => return None,
+    };
+    match read_catch_all(bytes, first + catches_size, count, starts) {
+        Some((_, all_size)) => Some(count_size + catches_size + all_size),
         None => None,
     }
 }

@@ -1,16 +1,16 @@
 //! Code items checked, with nothing kept of them.
 
-ghost use Rattle.std.specs.Prelude.{◌≡◌, ◌^◌, ◌<◌, ◌≤◌, ◌+◌, ◌*◌, length, List, IfOk, IfErr};
+ghost use Rattle.std.specs.Prelude.{◌≡◌, ◌^◌, ◌<◌, ◌≤◌, ◌+◌, ◌*◌, length, List, IfOk, IfErr, OnOk};
 ghost use Rattle.dexspec.specs.Bytes.{uint_at};
 ghost use Rattle.dexpool.specs.Pools.{ArePools};
-ghost use Rattle.dexcode.specs.Checking.{HasCodeOf, HasProgramOf, HaveTriesOf, IsProgramFault};
+ghost use Rattle.dexcode.specs.Checking.{AreCheckedDebugs, HasCodeOf, HasProgramOf, HaveTriesOf, IsProgramFault};
 ghost use Rattle.dexcode.specs.Numbered.{NumberedTry};
 ghost use Rattle.dexcode.specs.Reading.{IsCodeFault, IsTriesFault, TriesAt};
 
+use crate::checked_debugs::{CheckedDebugs, checked_debug_at};
 use crate::code_laws::code_weight_law;
 use crate::code_reading::read_tries;
 use crate::code_weight::tries_weight;
-use crate::debug_reading::check_debug;
 use dexhead::{Frame, u32_at};
 use dexinsn::{InstructionStarts, Scratch, check_pieces};
 use dexpool::{ItemFault, Pools, SymbolKind};
@@ -43,18 +43,24 @@ fn check_tries(
 }
 
 // Checks the debug program of the code_item at an offset, and returns what it weighs; 0 where there is none.
-fn check_program(frame: &Frame<'_>, pools: &Pools<'_>, off: u32) -> Result<u64, ItemFault>
-    requires { off + 16 ≤ length frame.now }
+fn check_program(
+    frame: &Frame<'_>,
+    pools: &Pools<'_>,
+    off: u32,
+    checked: &mut CheckedDebugs,
+) -> Result<u64, ItemFault>
+    requires within { off + 16 ≤ length frame.now }
+    requires checked { ArePools frame.now pools.now → AreCheckedDebugs frame.now checked.old }
+    ensures checked { ArePools frame.now pools.now → OnOk result (AreCheckedDebugs frame.now checked.new) }
     ensures program { ArePools frame.now pools.now → IfOk result (HasProgramOf frame.now off) }
-    ensures light { IfOk result (λ weight. weight < 2 ^ 36) }
     ensures refused { ArePools frame.now pools.now → IfErr result (IsProgramFault frame.now off) }
 {
     let debug_off = u32_at(frame.bytes(), off as usize + 8);
     if debug_off == 0 {
         return Ok(0);
     }
-    match check_debug(frame, pools, debug_off) {
-        Ok(shape) => Ok(shape.weight),
+    match checked_debug_at(frame, pools, debug_off, checked) {
+        Ok(weight) => Ok(weight),
         Err(fault) => Err(fault),
     }
 }
@@ -75,14 +81,40 @@ pub fn check_code(
     ensures code { ArePools frame.now pools.now → IfOk result (λ shape. HasCodeOf frame.now off shape.weight) }
     ensures refused { ArePools frame.now pools.now → IfErr result (IsCodeFault frame.now off) }
 {
+    let mut checked = CheckedDebugs::none(alloc);
+    check_code_once(alloc, frame, pools, off, scratch, &mut checked)
+}
+
+/// As [`check_code`], where a debug program that is checked already is not checked again. What was checked is kept for the
+/// next code_item of the file.
+///
+/// Condition: what is checked already is of this file, whose pools these are.
+///
+/// Error: as of [`read_code`](crate::read_code). What is checked is then not told.
+///
+/// Source: "code_item".
+pub fn check_code_once(
+    alloc: Global,
+    frame: &Frame<'_>,
+    pools: &Pools<'_>,
+    off: u32,
+    scratch: &mut Scratch,
+    checked: &mut CheckedDebugs,
+) -> Result<CodeShape, ItemFault>
+    requires { ArePools frame.now pools.now → AreCheckedDebugs frame.now checked.old }
+    ensures checked { ArePools frame.now pools.now → OnOk result (AreCheckedDebugs frame.now checked.new) }
+    ensures code { ArePools frame.now pools.now → IfOk result (λ shape. HasCodeOf frame.now off shape.weight) }
+    ensures refused { ArePools frame.now pools.now → IfErr result (IsCodeFault frame.now off) }
+{
     code_weight_law();
     pools.numbering().is_numbering();
     let pieces = check_pieces(frame, pools, off, scratch)?;
     let types = pools.len(SymbolKind::Typ);
     let starts = scratch.starts();
     let tries = check_tries(alloc, frame.bytes(), off as usize, &starts, types)?;
-    let program = check_program(frame, pools, off)?;
+    let program = check_program(frame, pools, off, checked)?;
+    let bare = 24 + 2 * u64::from(pieces.units()) + tries;
     Ok(CodeShape {
-        weight: 24 + 2 * u64::from(pieces.units()) + tries + program,
+        weight: bare.saturating_add(program),
     })
 }

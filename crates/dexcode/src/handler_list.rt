@@ -4,10 +4,10 @@ ghost use Rattle.std.specs.Prelude.{◌≡◌, ◌≤◌, ◌+◌, ℕ, List, le
 ghost use Rattle.dexspec.specs.Lists.{Sequence};
 ghost use Rattle.dexspec.specs.Numbers.{Uleb128At};
 ghost use Rattle.dexcode.specs.Numbered.{NumberedHandler};
-ghost use Rattle.dexcode.specs.Reading.{HandlerAt, HandlersRead, IsListAt, IsNumberPut, IsTriesFault};
+ghost use Rattle.dexcode.specs.NamedHandlers.{HasList};
+ghost use Rattle.dexcode.specs.Reading.{HandlerAt, HandlersRead, IsNumberPut, IsTriesFault};
 
-use crate::catches::read_handler;
-use crate::handlers::Handler;
+use crate::catches::handler_len;
 use dexhead::Condition;
 use dexinsn::InstructionStarts;
 use dexleb::read_u;
@@ -16,16 +16,6 @@ use std::alloc::{AllocError, Global};
 
 // The last byte of a list that the offset of a try can name.
 const LAST_OFFSET: usize = 65_535;
-
-// Most lists have no more handlers than these.
-const FEW_HANDLERS: usize = 16;
-
-// The handlers of a list, and, by the bytes of the list, the number of the handler that begins there.
-#[derive(Drop)]
-pub(crate) struct HandlerList {
-    pub(crate) handlers: Vec<Handler>,
-    pub(crate) numbers: Vec<Option<u32>>,
-}
 
 // Puts the number of a handler where it begins, so many bytes behind the start of its list.
 fn put_number(numbers: &mut Vec<Option<u32>>, place: usize, number: u32) -> Result<(), AllocError>
@@ -40,7 +30,8 @@ fn put_number(numbers: &mut Vec<Option<u32>>, place: usize, number: u32) -> Resu
     Ok(())
 }
 
-// So many handlers from a place on, of the list at another.
+// So many handlers from a place on, of the list at another: by the bytes of the list, the number of the handler that begins
+// there.
 fn read_handlers(
     alloc: Global,
     bytes: &[u8],
@@ -49,35 +40,36 @@ fn read_handlers(
     count: u32,
     starts: &InstructionStarts<'_>,
     types: usize,
-) -> Result<HandlerList, ItemFault>
+) -> Result<Vec<Option<u32>>, ItemFault>
     requires order { list ≤ first }
     requires within { first ≤ length bytes.now }
-    ensures handlers { IfOk result (λ read. (size : ℕ) × HandlersRead starts.now types bytes.now list first count read.handlers.items read.numbers.items size) }
+    ensures handlers { IfOk result (λ numbers. (hs : List NumberedHandler) × (size : ℕ) × HandlersRead starts.now types bytes.now list first count hs numbers.items size) }
     ensures fault { IfErr result (IsTriesFault ((hs : List NumberedHandler) (n : ℕ) → length hs ≡ count → Sequence (HandlerAt starts.now types) bytes.now first hs n → ⊥)) }
 {
-    let mut handlers = Vec::with_capacity(alloc, (count as usize).min(FEW_HANDLERS))?;
     let mut numbers = Vec::new(alloc);
     let mut size = 0;
     for number in 0..count {
         let place = first + size;
-        let (handler, len) = read_handler(alloc, bytes, place, starts, types)?;
-        handlers.push(handler)?;
+        let len = match handler_len(bytes, place, starts, types) {
+            Some(len) => len,
+            None => return Err(ItemFault::Refused(Condition::Tries as u8)),
+        };
         put_number(&mut numbers, place - list, number)?;
         size += len;
     }
-    Ok(HandlerList { handlers, numbers })
+    Ok(numbers)
 }
 
-// The list of handlers at a place.
+// The list of handlers at a place: by its bytes, the number of the handler that begins there. No handler is kept.
 pub(crate) fn read_list(
     alloc: Global,
     bytes: &[u8],
     at: usize,
     starts: &InstructionStarts<'_>,
     types: usize,
-) -> Result<HandlerList, ItemFault>
+) -> Result<Vec<Option<u32>>, ItemFault>
     requires { at ≤ length bytes.now }
-    ensures list { IfOk result (λ list. IsListAt starts.now types bytes.now at list.handlers.items list.numbers.items) }
+    ensures list { IfOk result (λ numbers. HasList starts.now types bytes.now at numbers.items) }
     ensures fault { IfErr result (IsTriesFault ((hs : List NumberedHandler) (size n : ℕ) → Uleb128At bytes.now at (length hs) size → Sequence (HandlerAt starts.now types) bytes.now (at + size) hs n → ⊥)) }
 {
     let (count, count_size) = match read_u(bytes, at) {

@@ -8,7 +8,6 @@ ghost use Rattle.std.proofs.Common.{rules};
 use std::alloc::AllocError;
 use std::hash::{Hash, Hasher};
 use std::marker::Model;
-use std::mem;
 
 /// A type that is caught, and the address of the code for it.
 ///
@@ -120,17 +119,6 @@ impl Handler {
         ensures { result ≡ self.now.catch_all_addr }
     {
         self.catch_all_addr
-    }
-
-    // The handler, which is taken out and leaves one without catches.
-    pub(crate) fn take(&mut self) -> Handler
-        ensures { result ≡ self.old }
-    {
-        let none = Vec::new(*self.catches.allocator());
-        Handler {
-            catches: mem::replace(&mut self.catches, none),
-            catch_all_addr: self.catch_all_addr,
-        }
     }
 
     /// The same handler, with a list of its own.

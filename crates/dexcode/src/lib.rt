@@ -4,8 +4,9 @@
 //! "encoded_catch_handler_list", "encoded_catch_handler", "encoded_type_addr_pair" and "debug_info_item".
 #![tactic(auto)]
 
+pub use checked_debugs::CheckedDebugs;
 pub use code::Code;
-pub use code_checking::{CodeShape, check_code};
+pub use code_checking::{CodeShape, check_code, check_code_once};
 pub use code_laws::{code_bytes_law, code_types_law, code_weight_law};
 pub use code_numbers::renumber;
 pub use code_numbers_laws::{
@@ -28,6 +29,7 @@ pub use meaning_laws::{code_led_law, code_meaning_law, debug_led_law, debug_mean
 pub use tries::{Tries, Try};
 
 mod catches;
+mod checked_debugs;
 mod code;
 mod code_checking;
 mod code_laws;
@@ -51,6 +53,7 @@ mod debug_same;
 mod handler_list;
 mod handlers;
 mod meaning_laws;
+mod named_handlers;
 mod tries;
 mod tries_numbers;
 mod tries_same;

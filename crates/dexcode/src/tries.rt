@@ -1,10 +1,16 @@
 //! Tries: the units that are covered, and their handlers.
 
-ghost use Rattle.std.specs.Prelude.{◌≡◌, ◌↔◌, ◌^◌, ◌<◌, ◌≤◌, IsTrue, List, [], All, length, IfOk, IfSome, IfNone};
+ghost use Rattle.std.specs.Prelude.{◌≡◌, ◌↔◌, ◌^◌, ◌<◌, ◌≤◌, ◌+◌, ◌*◌, IsTrue, List, [], All, length, IfOk, IfErr, IfSome, IfNone};
 ghost use Rattle.dexspec.specs.Code.{most_handlers};
-ghost use Rattle.dexcode.specs.Numbered.{NumberedHandler, AreKnown, AreLeft, AreStored, IsFormedHandler, IsNumberOf, all_named, handlers_of, handlers_weight};
+ghost use Rattle.dexcode.specs.Numbered.{NumberedHandler, AreStored, IsFormedHandler, all_named, handlers_of, handlers_weight};
+ghost use Rattle.dexcode.specs.NamedHandlers.{AreListed, HaveListed};
+ghost use Rattle.dexcode.specs.Reading.{IsTriesFault};
 
 use crate::handlers::Handler;
+use crate::named_handlers::number_of;
+use dexhead::u16_at;
+use dexinsn::InstructionStarts;
+use dexpool::ItemFault;
 use indexmap::IndexSet;
 use std::alloc::{AllocError, Global};
 use std::marker::Model;
@@ -107,29 +113,47 @@ impl Tries {
         }
     }
 
-    // Tries that name handlers of a list, or `None` where those that they name weigh more than they may.
+    // Tries with the handlers that their try_items at a place name, or `None` where these weigh more than they may. A
+    // handler that no try names is not kept.
     pub(crate) fn of(
         alloc: Global,
+        bytes: &[u8],
+        at: usize,
+        list: usize,
         tries: &[Try],
-        mut listed: Vec<Handler>,
-    ) -> Result<Option<Tries>, AllocError>
-        requires within { All (λ t. t.handler < length listed.items) tries.now }
-        requires formed { All IsFormedHandler listed.items }
+        starts: &InstructionStarts<'_>,
+        types: usize,
+    ) -> Result<Option<Tries>, ItemFault>
+        requires listed { HaveListed starts.now types bytes.now at list tries.now }
+        requires room { at + 8 * length tries.now ≤ length bytes.now }
         requires few { length tries.now < 2 ^ 16 }
-        ensures some { IfOk result (λ all. IfSome all (λ some. some ≡ all_named listed.items tries.now)) }
-        ensures light { IfOk result (λ all. IfSome all (λ some. handlers_weight (handlers_of some) ≤ most_handlers)) }
-        ensures heavy { IfOk result (λ all. IfNone all (most_handlers < handlers_weight (handlers_of (all_named listed.items tries.now)))) }
+        ensures some { (all : List NumberedHandler) → AreListed starts.now types bytes.now at list all tries.now → IfOk result (λ found. IfSome found (λ some. some ≡ all_named all tries.now)) }
+        ensures light { IfOk result (λ found. IfSome found (λ some. handlers_weight (handlers_of some) ≤ most_handlers)) }
+        ensures heavy { (all : List NumberedHandler) → AreListed starts.now types bytes.now at list all tries.now → IfOk result (λ found. IfNone found (most_handlers < handlers_weight (handlers_of (all_named all tries.now)))) }
+        ensures fault { IfErr result (IsTriesFault ⊥) }
     {
-        let mut numbers = vec![in alloc; None; listed.len()]?;
+        let mut numbers = Vec::new(alloc);
         let mut handlers = IndexSet::new(alloc);
         let mut numbered = Vec::with_capacity(alloc, tries.len())?;
+        let mut place = at;
         for item in tries {
-            let handler = number_of(&mut handlers, &mut numbers, &mut listed, item.handler)?;
+            let off = u16_at(bytes, place + 6);
+            let handler = number_of(
+                alloc,
+                bytes,
+                list,
+                off,
+                starts,
+                types,
+                &mut handlers,
+                &mut numbers,
+            )?;
             numbered.push(Try {
                 start_addr: item.start_addr,
                 insn_count: item.insn_count,
                 handler,
             })?;
+            place += 8;
         }
         let handlers = listed_in(alloc, handlers)?;
         if !are_light(&handlers) {
@@ -161,27 +185,6 @@ fn are_light(handlers: &[Handler]) -> bool
         }
     }
     true
-}
-
-// The number of a handler of the list among those that are named, of which it is one from now on. It is moved there.
-fn number_of(
-    handlers: &mut IndexSet<Handler>,
-    numbers: &mut Vec<Option<usize>>,
-    listed: &mut Vec<Handler>,
-    place: usize,
-) -> Result<usize, AllocError>
-    requires within { place < length listed.old.items }
-    requires count { length numbers.old.items ≡ length listed.old.items }
-    ensures { (all : List NumberedHandler) → AreKnown all handlers.old.keys numbers.old.items → AreLeft all listed.old.items numbers.old.items → IfOk result (IsNumberOf all place handlers.old.keys handlers.new.keys listed.new.items numbers.new.items) }
-{
-    match numbers[place] {
-        Some(number) => Ok(number),
-        None => {
-            let (number, _) = handlers.insert_full(listed[place].take())?;
-            numbers[place] = Some(number);
-            Ok(number)
-        }
-    }
 }
 
 // The handlers of a set, in its order.

@@ -4,7 +4,7 @@ ghost use Rattle.std.specs.Prelude.{◌≤◌, List, length, IfOk, IfErr};
 ghost use Rattle.dexcode.specs.Numbered.{NumberedTry};
 ghost use Rattle.dexcode.specs.Reading.{TryItemsAt, IsTriesFault};
 
-use crate::handler_list::{HandlerList, read_list};
+use crate::handler_list::read_list;
 use crate::tries::Tries;
 use crate::try_items::read_try_items;
 use dexhead::Condition;
@@ -31,12 +31,9 @@ pub(crate) fn read_try_table(
         return Err(ItemFault::Refused(Condition::Tries as u8));
     }
     let list_at = at + size;
-    let HandlerList { handlers, numbers } = read_list(alloc, bytes, list_at, starts, types)?;
+    let numbers = read_list(alloc, bytes, list_at, starts, types)?;
     let items = read_try_items(alloc, bytes, at, count, units, &numbers)?;
-    let tries = match Tries::of(alloc, &items, handlers) {
-        Ok(tries) => tries,
-        Err(_) => return Err(ItemFault::Memory),
-    };
+    let tries = Tries::of(alloc, bytes, at, list_at, &items, starts, types)?;
     match tries {
         Some(tries) => Ok(tries),
         None => Err(ItemFault::Refused(Condition::Tries as u8)),

@@ -7,7 +7,7 @@ use Rattle.dexcode.proofs.code_checking.check_program.Goals as goal
 pub returns-in-Ok-clause-program : goal.returns-in-Ok-clause-program
 returns-in-Ok-clause-program c = λ pools.
     let at : c.u32_at-debug_off.result ≡ uint_at c.args.frame.now (c.args.off + 8) = c.u32_at-debug_off.ensures ∙ ap (λ (bytes : List ℕ). uint_at bytes (c.args.off + 8)) c.bytes.ensures.bytes in
-    program_found c.args.frame.now c.args.off c.u32_at-debug_off.result c.args.pools.now c.in-Ok.shape.weight at (λ e. grind (arith, common_steps)) (c.in-Ok.ensures.debug pools)
+    program_found c.args.frame.now c.args.off c.u32_at-debug_off.result c.in-Ok.weight at (λ e. grind (arith, common_steps)) (c.in-Ok.ensures.debug pools)
 
 pub returns-in-Err-clause-refused : goal.returns-in-Err-clause-refused
 returns-in-Err-clause-refused c = λ pools.

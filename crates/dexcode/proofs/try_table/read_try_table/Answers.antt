@@ -2,60 +2,63 @@ use Rattle.std.proofs.Common.{◌≡◌, ◌+◌, ◌*◌, ◌<◌, ◌≤◌, r
 use Rattle.std.proofs.lemmas.Result.{err_from_is_err_and}
 use Rattle.dexspec.specs.Code.{most_handlers}
 use Rattle.dexcode.specs.Numbered.{all_named, handlers_of, handlers_weight}
-use Rattle.dexcode.specs.Reading.{IsListAt, TriesRead, TryItemsAt, IsTriesFault}
+use Rattle.dexcode.specs.NamedHandlers.{HasList}
+use Rattle.dexcode.specs.Reading.{TriesRead, TryItemsAt, IsTriesFault}
 use Rattle.dexcode.proofs.HandlersRead.{fault_so}
-use Rattle.dexcode.proofs.TryTables.{NoTries, found_tries, found_within, found_formed, no_tries, too_heavy}
+use Rattle.dexcode.proofs.TryTables.{NoTries, found_tries, found_listed, no_tries, too_heavy}
 use Rattle.dexcode.proofs.try_table.read_try_table.Goals as goal
 
 pub returns-in_err-items-clause-fault : goal.returns-in_err-items-clause-fault
 returns-in_err-items-clause-fault c =
     let p = err_from_is_err_and c.from_residual-in_err-items.result c.from_residual-in_err-items.ensures.1 in
-    let hs = c.in_ok-handlers.field-0.handlers.items in
-    let numbers = c.in_ok-handlers.field-0.numbers.items in
-    let list = subst (λ n. IsListAt c.args.starts.now c.args.types c.args.bytes.now (c.args.at + 8 * n) hs numbers) c.from-size.ensures c.in_ok-handlers.ensures.list in
+    let numbers = c.in_ok-numbers.numbers.items in
+    let list = subst (λ n. HasList c.args.starts.now c.args.types c.args.bytes.now (c.args.at + 8 * n) numbers) c.from-size.ensures c.in_ok-numbers.ensures.list in
     let fault = subst (λ ns. IsTriesFault (NoTries c.args.units ns c.args.bytes.now c.args.at c.args.count) c.in_err-items.field-0.0) c.deref.ensures.value c.in_err-items.ensures.fault in
-    rw (p.1, p.2) (fault_so (no_tries c.args.starts.now c.args.types c.args.units c.args.bytes.now c.args.at c.args.count (λ i. (c.type_inv.bytes i).fits) hs numbers list) c.in_err-items.field-0.0 fault)
+    rw (p.1, p.2) (fault_so (no_tries c.args.starts.now c.args.types c.args.units c.args.bytes.now c.args.at c.args.count (λ i. (c.type_inv.bytes i).fits) list.handlers numbers list.is) c.in_err-items.field-0.0 fault)
+
+pub of-requires-clause-listed : goal.of-requires-clause-listed
+of-requires-clause-listed c =
+    let numbers = c.in_ok-numbers.numbers.items in
+    let ts = c.in_ok-items.items.items in
+    let to = c.in_ok-items.ensures.tries.0 in
+    let list = subst (λ n. HasList c.args.starts.now c.args.types c.args.bytes.now (c.args.at + 8 * n) numbers) c.from-size.ensures c.in_ok-numbers.ensures.list in
+    let read = subst (λ ns. TriesRead c.args.units ns c.args.bytes.now c.args.at c.args.count ts to) c.deref.ensures.value c.in_ok-items.ensures.tries.1 in
+    let listed = found_listed c.args.starts.now c.args.types c.args.units c.args.bytes.now c.args.at c.args.count list.handlers numbers ts to list.is read in
+    rw c.deref-2.ensures.value (rw c.from-size.ensures (record { handlers = list.handlers; are = listed }))
 
 pub of-requires-clause-few : goal.of-requires-clause-few
 of-requires-clause-few c = rw c.deref-2.ensures.value (omega (arith, c.in_ok-items.ensures.tries.1.many, c.ranges.count))
 
-pub of-requires-clause-within : goal.of-requires-clause-within
-of-requires-clause-within c =
-    let hs = c.in_ok-handlers.field-0.handlers.items in
-    let numbers = c.in_ok-handlers.field-0.numbers.items in
-    let ts = c.in_ok-items.items.items in
-    let to = c.in_ok-items.ensures.tries.0 in
-    let list = subst (λ n. IsListAt c.args.starts.now c.args.types c.args.bytes.now (c.args.at + 8 * n) hs numbers) c.from-size.ensures c.in_ok-handlers.ensures.list in
-    let read = subst (λ ns. TriesRead c.args.units ns c.args.bytes.now c.args.at c.args.count ts to) c.deref.ensures.value c.in_ok-items.ensures.tries.1 in
-    rw c.deref-2.ensures.value (found_within c.args.starts.now c.args.types c.args.units c.args.bytes.now c.args.at c.args.count hs numbers ts to list read)
-
-pub of-requires-clause-formed : goal.of-requires-clause-formed
-of-requires-clause-formed c =
-    let hs = c.in_ok-handlers.field-0.handlers.items in
-    let numbers = c.in_ok-handlers.field-0.numbers.items in
-    let list = subst (λ n. IsListAt c.args.starts.now c.args.types c.args.bytes.now (c.args.at + 8 * n) hs numbers) c.from-size.ensures c.in_ok-handlers.ensures.list in
-    found_formed c.args.starts.now c.args.types c.args.units c.args.bytes.now c.args.at c.args.count hs numbers list
+pub of-requires-clause-room : goal.of-requires-clause-room
+of-requires-clause-room c = rw c.deref-2.ensures.value (omega (arith, c.in_ok-items.ensures.tries.1.many))
 
 pub returns-in-Some-clause-tries : goal.returns-in-Some-clause-tries
 returns-in-Some-clause-tries c =
-    let hs = c.in_ok-handlers.field-0.handlers.items in
-    let numbers = c.in_ok-handlers.field-0.numbers.items in
+    let numbers = c.in_ok-numbers.numbers.items in
     let ts = c.in_ok-items.items.items in
     let to = c.in_ok-items.ensures.tries.0 in
-    let list = subst (λ n. IsListAt c.args.starts.now c.args.types c.args.bytes.now (c.args.at + 8 * n) hs numbers) c.from-size.ensures c.in_ok-handlers.ensures.list in
+    let list = subst (λ n. HasList c.args.starts.now c.args.types c.args.bytes.now (c.args.at + 8 * n) numbers) c.from-size.ensures c.in_ok-numbers.ensures.list in
     let read = subst (λ ns. TriesRead c.args.units ns c.args.bytes.now c.args.at c.args.count ts to) c.deref.ensures.value c.in_ok-items.ensures.tries.1 in
-    let is : c.in-Some.tries ≡ all_named hs ts = (rw c.in-Some.is at c.in-Ok.ensures.some) ∙ (λ i. all_named hs (c.deref-2.ensures.value i)) in
-    let light = subst (λ all. handlers_weight (handlers_of all) ≤ most_handlers) is (rw c.in-Some.is at c.in-Ok.ensures.light) in
+    let listed = found_listed c.args.starts.now c.args.types c.args.units c.args.bytes.now c.args.at c.args.count list.handlers numbers ts to list.is read in
+    let hs = list.handlers in
+    let is : c.in-Some.tries ≡ all_named hs ts = (rw c.in-Some.is at c.in_ok-tries.ensures.some hs (rw c.deref-2.ensures.value (rw c.from-size.ensures listed))) ∙ (λ i. all_named hs (c.deref-2.ensures.value i)) in
+    let light = subst (λ all. handlers_weight (handlers_of all) ≤ most_handlers) is (rw c.in-Some.is at c.in_ok-tries.ensures.light) in
     subst (TryItemsAt c.args.starts.now c.args.types c.args.units c.args.bytes.now c.args.at c.args.count) (sym is)
-    (found_tries c.args.starts.now c.args.types c.args.units c.args.bytes.now c.args.at c.args.count hs numbers ts to list read light)
+    (found_tries c.args.starts.now c.args.types c.args.units c.args.bytes.now c.args.at c.args.count hs numbers ts to list.is read light)
+
+pub returns-in_err-tries-clause-fault : goal.returns-in_err-tries-clause-fault
+returns-in_err-tries-clause-fault c =
+    let p = err_from_is_err_and c.from_residual-in_err-tries.result c.from_residual-in_err-tries.ensures.1 in
+    rw (p.1, p.2) (fault_so (λ none ts h. none) c.in_err-tries.field-0.0 c.in_err-tries.ensures.fault)
 
 pub returns-clause-fault : goal.returns-clause-fault
 returns-clause-fault c =
-    let hs = c.in_ok-handlers.field-0.handlers.items in
-    let numbers = c.in_ok-handlers.field-0.numbers.items in
+    let numbers = c.in_ok-numbers.numbers.items in
     let ts = c.in_ok-items.items.items in
     let to = c.in_ok-items.ensures.tries.0 in
-    let list = subst (λ n. IsListAt c.args.starts.now c.args.types c.args.bytes.now (c.args.at + 8 * n) hs numbers) c.from-size.ensures c.in_ok-handlers.ensures.list in
+    let list = subst (λ n. HasList c.args.starts.now c.args.types c.args.bytes.now (c.args.at + 8 * n) numbers) c.from-size.ensures c.in_ok-numbers.ensures.list in
     let read = subst (λ ns. TriesRead c.args.units ns c.args.bytes.now c.args.at c.args.count ts to) c.deref.ensures.value c.in_ok-items.ensures.tries.1 in
-    let weighs = subst (λ us. most_handlers < handlers_weight (handlers_of (all_named hs us))) c.deref-2.ensures.value (rw c.in-None.is at c.in-Ok.ensures.heavy) in
-    (refl, too_heavy c.args.starts.now c.args.types c.args.units c.args.bytes.now c.args.at c.args.count (λ i. (c.type_inv.bytes i).fits) hs numbers ts to list read weighs)
+    let listed = found_listed c.args.starts.now c.args.types c.args.units c.args.bytes.now c.args.at c.args.count list.handlers numbers ts to list.is read in
+    let hs = list.handlers in
+    let weighs = subst (λ us. most_handlers < handlers_weight (handlers_of (all_named hs us))) c.deref-2.ensures.value (rw c.in-None.is at c.in_ok-tries.ensures.heavy hs (rw c.deref-2.ensures.value (rw c.from-size.ensures listed))) in
+    (refl, too_heavy c.args.starts.now c.args.types c.args.units c.args.bytes.now c.args.at c.args.count (λ i. (c.type_inv.bytes i).fits) hs numbers ts to list.is read weighs)

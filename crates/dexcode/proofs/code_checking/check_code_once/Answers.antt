@@ -1,4 +1,4 @@
-use Rattle.std.proofs.Common.{◌≡◌, ◌+◌, ◌*◌, ℕ, List, ap, sym, subst, ◌∙◌}
+use Rattle.std.proofs.Common.{◌≡◌, ◌+◌, ◌*◌, ℕ, List, sym, subst, ◌∙◌, arith}
 use Rattle.std.proofs.lemmas.Result.{err_from_is_err_and}
 use Rattle.dexpool.specs.Numberings.{AreRising}
 use Rattle.dexinsn.specs.Numbered.{NumberedCode}
@@ -8,7 +8,7 @@ use Rattle.dexcode.specs.Numbered.{NumberedTry}
 use Rattle.dexcode.specs.Reading.{IsTriesFault, TriesAt}
 use Rattle.dexcode.proofs.CodesChecked.{code_weighed, program_fault}
 use Rattle.dexcode.proofs.CodesRead.{tries_fault}
-use Rattle.dexcode.proofs.code_checking.check_code.Goals as goal
+use Rattle.dexcode.proofs.code_checking.check_code_once.Goals as goal
 
 pub returns-in_err-tries-clause-refused : goal.returns-in_err-tries-clause-refused
 returns-in_err-tries-clause-refused c = λ pools.
@@ -32,7 +32,9 @@ returns-clause-code c = λ pools.
     let shape = c.in_ok-pieces.pieces in
     let first = subst (λ bytes. HaveTriesOf c.starts-starts.result c.len-types.result bytes c.args.off c.in_ok-tries.tries) c.bytes.ensures.bytes c.in_ok-tries.ensures.tries in
     let tries = subst (λ (n : ℕ). HaveTriesOf c.starts-starts.result n c.args.frame.now c.args.off c.in_ok-tries.tries) c.len-types.ensures first in
+    let program = c.in_ok-program.ensures.program pools in
     let units : c.from.result ≡ shape.units = c.from.ensures ∙ c.units.ensures in
-    subst (λ (n : ℕ). HasCodeOf c.args.frame.now c.args.off (24 + 2 * n + c.in_ok-tries.tries + c.in_ok-program.program)) (sym units)
+    let weight : 24 + 2 * shape.units + c.in_ok-tries.tries + c.in_ok-program.program ≡ c.saturating_add.result = omega (arith, units, program.light, c.in_ok-tries.ensures.light, c.saturating_add.ensures, c.ranges) in
+    subst (λ (n : ℕ). HasCodeOf c.args.frame.now c.args.off n) weight
     (code_weighed c.code_weight_law.ensures c.args.frame.now c.args.off c.args.pools.now pools (subst AreRising c.numbering.ensures c.is_numbering.ensures.rising) c.starts-starts.result
-    (subst (AreStartsAt c.args.frame.now c.args.off) (sym c.starts-starts.ensures) c.in_ok-pieces.ensures.starts) shape (c.in_ok-pieces.ensures.pieces pools) c.in_ok-tries.tries c.in_ok-program.program tries (c.in_ok-program.ensures.program pools))
+    (subst (AreStartsAt c.args.frame.now c.args.off) (sym c.starts-starts.ensures) c.in_ok-pieces.ensures.starts) shape (c.in_ok-pieces.ensures.pieces pools) c.in_ok-tries.tries c.in_ok-program.program tries program)

@@ -1,0 +1,36 @@
+use Rattle.std.proofs.Common.{◌+◌, ap, sym, subst, ◌∙◌, refl, arith, w32}
+use Rattle.std.specs.Prelude.{nat_abs}
+use Rattle.std.proofs.lemmas.Int.{to_z-of_z}
+use Rattle.dexcode.specs.Reading.{CatchAllAt}
+use Rattle.dexcode.proofs.HandlersRead.{no_catches, no_catch_all}
+use Rattle.dexcode.proofs.catches.handler_len.Goals as goal
+
+pub returns-in-None : goal.returns-in-None
+returns-in-None c =
+    no_catches c.args.starts.now c.args.types c.args.bytes.now c.args.at c.in-Ok.read.0 c.in-Ok.read.1 c.in-Ok.ensures.found c.unsigned_abs-many.result (c.unsigned_abs-many.ensures.value ∙ ap nat_abs (to_z-of_z w32 c.in-Ok.read.0 c.in-Ok.ensures.found.spelled.in_range)) c.in-None.ensures
+
+pub returns-in-None-read_catch_all : goal.returns-in-None-read_catch_all
+returns-in-None-read_catch_all c =
+    let same = to_z-of_z w32 c.in-Ok.read.0 c.in-Ok.ensures.found.spelled.in_range in
+    no_catch_all c.args.starts.now c.args.types c.args.bytes.now c.args.at c.in-Ok.read.0 c.in-Ok.read.1 c.in-Ok.ensures.found c.unsigned_abs-many.result (c.unsigned_abs-many.ensures.value ∙ ap nat_abs same) c.in-Some.ensures.catches c.in-Some.size c.in-Some.ensures.read
+    (λ a n there. c.in-None-read_catch_all.ensures.none a n (subst (λ z. CatchAllAt c.args.starts.now z c.args.bytes.now (c.args.at + c.in-Ok.read.1 + c.in-Some.size) a n) (sym same) there))
+
+pub returns-in-Some-read_catch_all : goal.returns-in-Some-read_catch_all
+returns-in-Some-read_catch_all c =
+    let same = to_z-of_z w32 c.in-Ok.read.0 c.in-Ok.ensures.found.spelled.in_range in
+    let read = c.in-Some.ensures.read in
+    record {
+      handler = record { catches = c.in-Some.ensures.catches; catch_all_addr = c.in-Some-read_catch_all.field-0-0 };
+      stands = record {
+        count = c.in-Ok.read.0;
+        count_size = c.in-Ok.read.1;
+        catches_size = c.in-Some.size;
+        all_size = c.in-Some-read_catch_all.all_size;
+        count_is = c.in-Ok.ensures.found;
+        many = sym (read.many ∙ c.unsigned_abs-many.ensures.value ∙ ap nat_abs same);
+        catches_are = read.stand;
+        all = subst (λ z. CatchAllAt c.args.starts.now z c.args.bytes.now (c.args.at + c.in-Ok.read.1 + c.in-Some.size) c.in-Some-read_catch_all.field-0-0 c.in-Some-read_catch_all.all_size) same c.in-Some-read_catch_all.ensures.some;
+        size = refl;
+      };
+      within = omega (arith, read.within, c.in-Some-read_catch_all.ensures.within);
+    }

@@ -1,0 +1,54 @@
+//! Debug programs that were checked, each once.
+
+ghost use Rattle.std.specs.Prelude.{ℕ, List, IfOk, IfErr, OnOk};
+ghost use Rattle.dexpool.specs.Pools.{ArePools};
+ghost use Rattle.dexcode.specs.Checking.{AreCheckedDebugs, HasDebugAt};
+ghost use Rattle.dexcode.specs.DebugReading.{IsDebugFault};
+
+use crate::debug_reading::check_debug;
+use dexhead::Frame;
+use dexpool::{ItemFault, Pools};
+use std::alloc::Global;
+use std::collections::HashMap;
+
+/// The debug programs of a file that were checked, each by its offset with its weight. Each is checked once, however
+/// many code items name it.
+#[derive(Drop)]
+pub struct CheckedDebugs {
+    // What each weighs.
+    pub(crate) weights: HashMap<u32, u64>,
+}
+
+impl CheckedDebugs {
+    /// Nothing yet. No memory is taken.
+    pub fn none(alloc: Global) -> CheckedDebugs
+        ensures { (b : List ℕ) → AreCheckedDebugs b result }
+    {
+        CheckedDebugs {
+            weights: HashMap::new(alloc),
+        }
+    }
+}
+
+// What the debug program at an offset weighs. One that is checked already is not checked again.
+pub(crate) fn checked_debug_at(
+    frame: &Frame<'_>,
+    pools: &Pools<'_>,
+    off: u32,
+    checked: &mut CheckedDebugs,
+) -> Result<u64, ItemFault>
+    requires { ArePools frame.now pools.now → AreCheckedDebugs frame.now checked.old }
+    ensures checked { ArePools frame.now pools.now → OnOk result (AreCheckedDebugs frame.now checked.new) }
+    ensures debug { ArePools frame.now pools.now → IfOk result (HasDebugAt frame.now off) }
+    ensures refused { ArePools frame.now pools.now → IfErr result (IsDebugFault frame.now off) }
+{
+    if let Some(weight) = checked.weights.get(&off) {
+        return Ok(*weight);
+    }
+    let shape = match check_debug(frame, pools, off) {
+        Ok(shape) => shape,
+        Err(fault) => return Err(fault),
+    };
+    checked.weights.insert(off, shape.weight)?;
+    Ok(shape.weight)
+}

@@ -1,0 +1,60 @@
+//! The handlers that tries name, each once.
+
+ghost use Rattle.std.specs.Prelude.{◌≡◌, ◌+◌, ◌≤◌, length, slice_index_or, None, IfOk, IfErr, OnOk};
+ghost use Rattle.dexcode.specs.Numbered.{NumberedHandler};
+ghost use Rattle.dexcode.specs.NamedHandlers.{AreKnown, IsHandlerAt, IsNumberOf, IsPutAt};
+ghost use Rattle.dexcode.specs.Reading.{IsTriesFault};
+
+use crate::catches::read_handler;
+use crate::handlers::Handler;
+use dexinsn::InstructionStarts;
+use dexpool::ItemFault;
+use indexmap::IndexSet;
+use std::alloc::{AllocError, Global};
+
+// The number at a place, if there is one.
+fn number_at(numbers: &Vec<Option<usize>>, place: u16) -> Option<usize>
+    ensures { result ≡ slice_index_or numbers.now.items place None }
+{
+    match numbers.get(usize::from(place)) {
+        Some(number) => *number,
+        None => None,
+    }
+}
+
+// Puts a number at a place.
+fn put_at(numbers: &mut Vec<Option<usize>>, place: u16, number: usize) -> Result<(), AllocError>
+    ensures { OnOk result (IsPutAt place number numbers.old.items numbers.new.items) }
+{
+    let place = usize::from(place);
+    if numbers.len() <= place {
+        numbers.resize(place + 1, None)?;
+    }
+    numbers[place] = Some(number);
+    Ok(())
+}
+
+// The number of the handler at an offset behind the start of the list among those that are named, of which it is one from
+// now on.
+pub(crate) fn number_of(
+    alloc: Global,
+    bytes: &[u8],
+    list: usize,
+    off: u16,
+    starts: &InstructionStarts<'_>,
+    types: usize,
+    handlers: &mut IndexSet<Handler>,
+    numbers: &mut Vec<Option<usize>>,
+) -> Result<usize, ItemFault>
+    requires { list + off ≤ length bytes.now }
+    ensures number { (h : NumberedHandler) → IsHandlerAt starts.now types bytes.now (list + off) h → AreKnown starts.now types bytes.now list handlers.old.keys numbers.old.items → IfOk result (IsNumberOf starts.now types bytes.now list h handlers.old.keys handlers.new.keys numbers.new.items) }
+    ensures fault { IfErr result (IsTriesFault ((h : NumberedHandler) → IsHandlerAt starts.now types bytes.now (list + off) h → ⊥)) }
+{
+    if let Some(number) = number_at(numbers, off) {
+        return Ok(number);
+    }
+    let (handler, _) = read_handler(alloc, bytes, list + usize::from(off), starts, types)?;
+    let (number, _) = handlers.insert_full(handler)?;
+    put_at(numbers, off, number)?;
+    Ok(number)
+}

@@ -23,7 +23,7 @@ above D name = filter (is_defined D) (flat_map (λ d. parents d.1) (filter (λ d
 
 -- Its depth is less than n. No depth is less than 0, and it is less than n + 1 where that of each defined parent is
 -- less than n. So the depth of a name without defined parents is 0, and that of another one more than the greatest
--- among its defined parents, where each of these has one; the law `depth_is_found` of `dexlaws_causes` says so.
+-- among its defined parents, where each of these has one; the law `depth_is_found` of `dexlaws` says so.
 abbrev pub is_below : List Definition → ℕ → Text → Bool
 is_below D zero name = false
 is_below D (suc n) name = list_all (is_below D n) (above D name)

@@ -4,7 +4,7 @@
 #   make unproved           builds crates/dexkit/out/dexkit-unproved: the program with checks at run time and no proof
 #   make                    proves the program and all that it stands on, crate by crate, and builds crates/dexkit/out/dexkit;
 #                           what is proved is kept, so a run that was interrupted goes on where it was
-#   make check              the gate: proves everything from nothing and runs all cases
+#   make check              the gate: proves what it has not passed on this machine, and runs all cases
 #   make documents          checks links, sizes, names and versions in the documents
 #   make install PREFIX=..  installs the proved program, its manual, completions and notices; PREFIX is /usr/local if not given
 #   make dist               packs them as a tar file and a Debian package in dist/
@@ -56,7 +56,7 @@ documents:
 	[ ! -x tests/cases/run ] || tests/cases/run
 
 $(PROGRAM):
-	@echo "$(PROGRAM) is not there: prove and build it with make (more than an hour)" >&2
+	@echo "$(PROGRAM) is not there: prove and build it with make (an hour or more)" >&2
 	@exit 1
 
 install: $(PROGRAM)

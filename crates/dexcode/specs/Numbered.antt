@@ -1,9 +1,8 @@
 -- Tries and handlers whose types are numbers.
-use Rattle.std.specs.Prelude.{◌≡◌, ℕ, ◌+◌, ◌*◌, ◌^◌, ◌<◌, ◌≤◌, Bool, ◌&&◌, ◌==◌, List, [], length, map, sum_by, All, slice_index_or, Option, Some, None}
+use Rattle.std.specs.Prelude.{◌≡◌, ℕ, ◌+◌, ◌*◌, ◌^◌, ◌<◌, ◌≤◌, Bool, ◌&&◌, ◌==◌, List, [], length, map, sum_by, All, slice_index_or, Option, None}
 use Rattle.std.specs.Option.{option_eq}
 use Rattle.std.specs.Cmp.Lexicographic.{pointwise}
 use Rattle.std.specs.List.{AllZip}
-use Rattle.indexmap.specs.IndexSet.{insert_key}
 use Rattle.dexspec.specs.Lists.{distinct, BothOrNone}
 use Rattle.dexspec.specs.Mentions.{Mentions}
 use Rattle.dexspec.specs.Code as symbolic
@@ -71,24 +70,6 @@ pub record AreStored (hs : List NumberedHandler) (ts : List Try) : Type 0 where
   pub few : length ts < 2 ^ 16
   pub light : handlers_weight hs ≤ symbolic.most_handlers
   pub formed : All IsFormedHandler hs
-
--- the handlers whose numbers are known are where they are
-pub record AreKnown (listed hs : List NumberedHandler) (numbers : List (Option ℕ)) : Type 0 where
-  pub count : length numbers ≡ length listed
-  pub each : (p k : ℕ) → slice_index_or numbers p None ≡ Some k → (k < length hs) × (slice_index_or hs k no_handler ≡ slice_index_or listed p no_handler)
-
--- each of them that has no number yet stands in its place still
-pub record AreLeft (listed rest : List NumberedHandler) (numbers : List (Option ℕ)) : Type 0 where
-  pub count : length rest ≡ length listed
-  pub each : (p : ℕ) → slice_index_or numbers p None ≡ None → slice_index_or rest p no_handler ≡ slice_index_or listed p no_handler
-
--- the handler at a place has the number k, which is behind the old handlers where none of these is the same
-pub record IsNumberOf (listed : List NumberedHandler) (place : ℕ) (old new rest : List NumberedHandler) (numbers : List (Option ℕ)) (k : ℕ) : Type 0 where
-  pub known : AreKnown listed new numbers
-  pub left : AreLeft listed rest numbers
-  pub keys : new ≡ insert_key same_handler old (slice_index_or listed place no_handler)
-  pub number : k < length new
-  pub is : slice_index_or new k no_handler ≡ slice_index_or listed place no_handler
 
 -- ---- what numbers stand for
 

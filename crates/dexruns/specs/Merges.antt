@@ -7,6 +7,7 @@ use Rattle.dexspec.specs.Accepted.{IsAccepted, IsRefused}
 use Rattle.dexspec.specs.Merging.{Caps, Cause, IsGood, Plan, IsPlanFor}
 use Rattle.dexspec.specs.Merging as merging
 use Rattle.dexspec.specs.Canonical.{canonical}
+use Rattle.dexspec.specs.Stripping.{strip_collection}
 use Rattle.dexclass.specs.Programs.{IsReadAs}
 use Rattle.dexmerge.specs.Faults.{IsOfCap, planned, IsPlanned, IsPlannedCause}
 use Rattle.dexruns.specs.declared.faults.MergeCause.{MergeCause}
@@ -89,6 +90,11 @@ IsUnitedFault tells to_come inputs caps plan run.Write = ⊥
 IsUnitedFault tells to_come inputs caps plan run.Memory = Unit {0}
 
 -- ---- what is written
+
+-- what is kept of a union: all of it, or what is left without debug programs and source texts
+abbrev pub kept : Bool → Collection → Collection
+kept true whole = strip_collection whole
+kept false whole = whole
 
 -- the canonical file of the collection is accepted, and denotes just the collection
 pub record IsFileOf (whole : Collection) : Type 0 where

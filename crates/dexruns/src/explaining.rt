@@ -4,31 +4,25 @@ ghost use Rattle.std.specs.Prelude.{◌≡◌, ◌<◌, ◌++◌, ◌∷◌, [],
 ghost use Rattle.dexruns.specs.Lines.{HasName, exit_status, fault_line, hexadecimal_digit, escaped, needs_backslash, unit_text, class_text, cap_name, cause_text};
 
 use crate::faults::{MergeCause, RunFault};
-use crate::lines::{refusal_text, text_at};
+use crate::lines::refusal_text;
 use crate::status::ExitStatus;
+use dexmerge::CapKind;
 use dexstr::{Name, Text};
 use std::alloc::{AllocError, Global};
 
 const UNKNOWN: &str = "unknown";
 
-// The names of the caps, each at its number.
-const CAPS: [&str; 7] = [
-    UNKNOWN,
-    "types",
-    "protos",
-    "fields",
-    "methods",
-    "short-strings",
-    "weight",
-];
-
 const BACKSLASH: u8 = 0x5c;
 
+// The name of the cap with a number.
 #[tactic(auto, unfolding(crate::specs::Lines::cap_name))]
 fn cap_name(number: u8) -> &'static str
     ensures { result.now ≡ cap_name number }
 {
-    text_at(&CAPS, usize::from(number), UNKNOWN)
+    match CapKind::of(number) {
+        Some(kind) => kind.name(),
+        None => UNKNOWN,
+    }
 }
 
 /// The digit of a number's last four bits, in hexadecimal.

@@ -1,9 +1,9 @@
 //! The lines that `check` writes.
 
-ghost use Rattle.std.specs.Prelude.{◌≡◌, slice_index_or, map, IfOk, string_bytes};
+ghost use Rattle.std.specs.Prelude.{◌≡◌, IfOk, string_bytes};
 ghost use Rattle.dexruns.specs.Lines.{condition_name, refusal_text, check_line};
 
-use dexhead::Refusal;
+use dexhead::{Condition, Refusal};
 use std::alloc::{AllocError, Global};
 
 /// What is said of a file that is checked.
@@ -17,49 +17,15 @@ pub enum Verdict {
 
 const UNKNOWN: &str = "Unknown";
 
-// The names of the conditions, each at its number.
-const NAMES: [&str; 24] = [
-    UNKNOWN,
-    "Size",
-    "Magic",
-    "Version",
-    "Lengths",
-    "Endian",
-    "Link",
-    "Checksum",
-    "Signature",
-    "Layout",
-    "Map",
-    "Strings",
-    "Types",
-    "Protos",
-    "Fields",
-    "Methods",
-    "Classes",
-    "Members",
-    "Code",
-    "Tries",
-    "Debug",
-    "Values",
-    "Annotations",
-    "Weight",
-];
-
-// The text with a number, or the default one behind the end.
-pub(crate) fn text_at<'a>(texts: &[&'a str], i: usize, default: &'a str) -> &'a str
-    ensures { result.now ≡ slice_index_or (map (λ text. text.now) texts.now) i default.now }
-{
-    match texts.get(i) {
-        Some(text) => text,
-        None => default,
-    }
-}
-
+// The name of the condition with a number.
 #[tactic(auto, unfolding(crate::specs::Lines::condition_name))]
 fn condition_name(number: u8) -> &'static str
     ensures { result.now ≡ condition_name number }
 {
-    text_at(&NAMES, usize::from(number), UNKNOWN)
+    match Condition::of(number) {
+        Some(condition) => condition.name(),
+        None => UNKNOWN,
+    }
 }
 
 /// A refusal as the program prints it: its number, the name of the condition, and the place.

@@ -1,13 +1,13 @@
 //! The runs that merge.
 
-ghost use Rattle.std.specs.Prelude.{◌≡◌, false, length, IfOk, OnOk, IfErr};
+ghost use Rattle.std.specs.Prelude.{◌≡◌, true, false, length, IfOk, OnOk, IfErr};
 ghost use Rattle.std.specs.List.{AllZip};
 ghost use Rattle.dexspec.specs.Canonical.{canonical};
 ghost use Rattle.dexspec.specs.Stripping.{strip_collection};
 ghost use Rattle.dexmerge.specs.Faults.{IsPlanned};
 ghost use Rattle.dexmerge.specs.Plans.{plan_of};
 ghost use Rattle.dexruns.specs.Inputs.{IsReadNoFurther};
-ghost use Rattle.dexruns.specs.Merges.{AreReadFrom, IsReadEachFault, IsUnionFault, IsUnited, IsUnitedFault, IsFileOf, IsAppended, IsFrontAppended, IsMergedFile, IsMergeFault, IsWriteFault, AreUncalled, IsOfWriter, IsOfDevices};
+ghost use Rattle.dexruns.specs.Merges.{AreReadFrom, IsReadEachFault, IsUnionFault, IsUnited, IsUnitedFault, IsFileOf, IsAppended, IsFrontAppended, IsMergedFile, IsMergeFault, IsWriteFault, AreUncalled, IsOfWriter, IsOfDevices, kept};
 ghost use Rattle.dexruns.specs.Runs.{AllWork, IsLeft};
 
 use crate::faults::{MergeCause, RunFault};
@@ -130,6 +130,53 @@ fn write_program<W: Sink>(alloc: Global, program: &Program<'_>, out: &mut W) -> 
     }
 }
 
+// What is kept of a union: all of it, or what is left without debug programs and source texts.
+fn kept<'a>(alloc: Global, whole: Program<'a>, is_stripped: bool) -> Result<Program<'a>, AllocError>
+    ensures { IfOk result (λ program. program ≡ kept is_stripped whole.entry) }
+{
+    if is_stripped {
+        return into_stripped(alloc, whole);
+    }
+    Ok(whole)
+}
+
+/// Does what [`merge_run`] does, or [`merge_strip_run`] if the union is to be stripped.
+///
+/// Condition and errors: those of [`merge_run`], with the stripped file in the place of the merged one where it is stripped.
+///
+/// Source: "Dalvik Executable format"; merging, stripping and the canonical form are this project's rules.
+pub fn merge_or_strip_run<R: Source, W: Sink>(
+    alloc: Global,
+    inputs: &mut [R],
+    plan: &Plan,
+    caps: &Caps,
+    is_stripped: bool,
+    out: &mut W,
+) -> Result<(), RunFault>
+    requires inputs { AllWork R.has_failed inputs.old }
+    requires out { W.has_failed out.old ≡ false }
+    ensures merged { OnOk result (IsMergedFile R.tells R.to_come inputs.old caps.now (plan_of plan.now) (kept is_stripped)
+        (IsAppended (W.tells out.old) (W.taken out.old) (W.taken out.new))) }
+    ensures fault { IfErr result (IsMergeFault R.tells R.to_come inputs.old caps.now (plan_of plan.now) (kept is_stripped)
+        (IsFrontAppended (W.tells out.old) (W.taken out.old) (W.taken out.new))) }
+    ensures left { IfErr result (IsLeft out.old out.new) }
+    ensures uncalled { IfErr result (AreUncalled inputs.old inputs.new) }
+    ensures no_further { AllZip (IsReadNoFurther R.tells R.to_come R.has_failed) inputs.old inputs.new }
+
+    // The faults of the devices are reported exactly where they are.
+    ensures readers { OnOk result (AllWork R.has_failed inputs.new) }
+    ensures writer { OnOk result (W.has_failed out.new ≡ false) }
+    ensures devices { IfErr result (IsOfDevices R.has_failed inputs.new (W.has_failed out.new)) }
+{
+    let mut files = places(alloc, inputs.len())?;
+    let whole = match read_united(alloc, inputs, plan, caps, files.as_mut_slice()) {
+        Ok(whole) => whole,
+        Err(fault) => return Err(fault),
+    };
+    let program = kept(alloc, whole, is_stripped)?;
+    write_program(alloc, &program, out)
+}
+
 /// Writes the canonical file of the union of inputs, merged by a plan. The file is accepted, and stands for just the
 /// union.
 ///
@@ -165,12 +212,7 @@ pub fn merge_run<R: Source, W: Sink>(
     ensures writer { OnOk result (W.has_failed out.new ≡ false) }
     ensures devices { IfErr result (IsOfDevices R.has_failed inputs.new (W.has_failed out.new)) }
 {
-    let mut files = places(alloc, inputs.len())?;
-    let program = match read_united(alloc, inputs, plan, caps, files.as_mut_slice()) {
-        Ok(program) => program,
-        Err(fault) => return Err(fault),
-    };
-    write_program(alloc, &program, out)
+    merge_or_strip_run(alloc, inputs, plan, caps, false, out)
 }
 
 /// Writes the canonical file of the union of inputs without its debug programs and source texts, exactly where
@@ -202,11 +244,5 @@ pub fn merge_strip_run<R: Source, W: Sink>(
     ensures writer { OnOk result (W.has_failed out.new ≡ false) }
     ensures devices { IfErr result (IsOfDevices R.has_failed inputs.new (W.has_failed out.new)) }
 {
-    let mut files = places(alloc, inputs.len())?;
-    let whole = match read_united(alloc, inputs, plan, caps, files.as_mut_slice()) {
-        Ok(whole) => whole,
-        Err(fault) => return Err(fault),
-    };
-    let stripped = into_stripped(alloc, whole)?;
-    write_program(alloc, &stripped, out)
+    merge_or_strip_run(alloc, inputs, plan, caps, true, out)
 }

@@ -1,31 +1,30 @@
-use Rattle.dexspec.specs.Stripping.{strip_collection}
 use Rattle.dexspec.specs.Canonical.{canonical}
 use Rattle.dexmerge.specs.Plans.{plan_of}
-use Rattle.dexruns.specs.Merges.{IsAppended, IsOfWriter, IsWriteFault}
+use Rattle.dexruns.specs.Merges.{IsAppended, IsOfWriter, IsWriteFault, kept}
 use Rattle.dexruns.proofs.Merged.{if_err, on_ok, merged_by_writing, fault_of_writing, left_by_writing, uncalled_by_writing, devices_of_writing}
 use Rattle.dexruns.proofs.Moved.{none_moved}
-use Rattle.dexruns.proofs.merging.merge_strip_run.Goals as goal
+use Rattle.dexruns.proofs.merging.merge_or_strip_run.Goals as goal
 
 pub returns-in_err-files-clause-no_further : goal.returns-in_err-files-clause-no_further
 returns-in_err-files-clause-no_further g c = none_moved _ _ _ c.args.inputs.now
 
 pub returns-clause-merged : goal.returns-clause-merged
 returns-clause-merged g c =
-    on_ok (IsAppended (g.W.Sink.tells c.args.out.now) (g.W.Sink.taken c.args.out.now) (g.W.Sink.taken c.write_program.new.out) (canonical c.in_ok-stripped.stripped)) _ c.write_program.result
-    (λ h. merged_by_writing g.R.Source.tells g.R.Source.to_come c.args.inputs.now c.args.caps.now (plan_of c.args.plan.now) strip_collection _ c.in-Ok.whole c.in_ok-stripped.stripped c.in-Ok.ensures.united c.in_ok-stripped.ensures c.write_program.ensures.read_back h)
+    on_ok (IsAppended (g.W.Sink.tells c.args.out.now) (g.W.Sink.taken c.args.out.now) (g.W.Sink.taken c.write_program.new.out) (canonical c.in_ok-program.program)) _ c.write_program.result
+    (λ h. merged_by_writing g.R.Source.tells g.R.Source.to_come c.args.inputs.now c.args.caps.now (plan_of c.args.plan.now) (kept c.args.is_stripped) _ c.in-Ok.whole c.in_ok-program.program c.in-Ok.ensures.united c.in_ok-program.ensures c.write_program.ensures.read_back h)
     c.write_program.ensures.written
 
 pub returns-clause-fault : goal.returns-clause-fault
 returns-clause-fault g c =
-    if_err (IsWriteFault g.W.Sink.tells g.W.Sink.taken c.args.out.now c.write_program.new.out (canonical c.in_ok-stripped.stripped)) _ c.write_program.result
-    (λ f h. fault_of_writing g.R.Source.tells g.R.Source.to_come c.args.inputs.now c.args.caps.now (plan_of c.args.plan.now) strip_collection g.W.Sink.tells g.W.Sink.taken c.args.out.now c.write_program.new.out
-    c.in-Ok.whole c.in_ok-stripped.stripped f c.in-Ok.ensures.united c.in_ok-stripped.ensures c.write_program.ensures.read_back h)
+    if_err (IsWriteFault g.W.Sink.tells g.W.Sink.taken c.args.out.now c.write_program.new.out (canonical c.in_ok-program.program)) _ c.write_program.result
+    (λ f h. fault_of_writing g.R.Source.tells g.R.Source.to_come c.args.inputs.now c.args.caps.now (plan_of c.args.plan.now) (kept c.args.is_stripped) g.W.Sink.tells g.W.Sink.taken c.args.out.now c.write_program.new.out
+    c.in-Ok.whole c.in_ok-program.program f c.in-Ok.ensures.united c.in_ok-program.ensures c.write_program.ensures.read_back h)
     c.write_program.ensures.fault
 
 pub returns-clause-left : goal.returns-clause-left
 returns-clause-left g c =
-    if_err (IsWriteFault g.W.Sink.tells g.W.Sink.taken c.args.out.now c.write_program.new.out (canonical c.in_ok-stripped.stripped)) _ c.write_program.result
-    (λ f h. left_by_writing g.W.Sink.tells g.W.Sink.taken c.args.out.now c.write_program.new.out (canonical c.in_ok-stripped.stripped) f h)
+    if_err (IsWriteFault g.W.Sink.tells g.W.Sink.taken c.args.out.now c.write_program.new.out (canonical c.in_ok-program.program)) _ c.write_program.result
+    (λ f h. left_by_writing g.W.Sink.tells g.W.Sink.taken c.args.out.now c.write_program.new.out (canonical c.in_ok-program.program) f h)
     c.write_program.ensures.fault
 
 pub returns-clause-uncalled : goal.returns-clause-uncalled

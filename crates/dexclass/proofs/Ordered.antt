@@ -1,6 +1,6 @@
 -- Classes in the order of their definitions.
-use Rattle.std.proofs.Common.{◌≡◌, ℕ, suc, ◌+◌, ◌<◌, true, List, [], ◌∷◌, length, get_or, map, refl, sym, ap, ◌∙◌, subst, arith, Option, Some, None, Ok, Err}
-use Rattle.std.specs.Prelude.{All, Result, IfOk}
+use Rattle.std.proofs.Common.{◌≡◌, ℕ, suc, ◌+◌, ◌<◌, true, List, [], ◌∷◌, length, get_or, map, refl, sym, ap, ◌∙◌, subst, arith, Option, Some, None}
+use Rattle.std.specs.Prelude.{All}
 use Rattle.std.specs.List.{Contains, range_with_len}
 use Rattle.std.specs.List.Sorted.{IsPermutation}
 use Rattle.std.proofs.lemmas.List.{length-map, get_or-map, get_or_default}
@@ -26,11 +26,6 @@ use Rattle.dexclass.specs.Parents.{no_class, name_number, IsHierarchy, AreNamed,
 use Rattle.dexclass.proofs.Classed.{name_is, one_number, classes_of}
 use Rattle.dexclass.proofs.NamesOf.{names_of}
 use Rattle.dexclass.proofs.Places.{parents_are}
-
--- what follows from what an answer gives
-pub if_ok_each : {A E : Type 0} (P Q : A → Type 0) (r : Result A E) → ((x : A) → P x → Q x) → IfOk r P → IfOk r Q
-if_ok_each P Q (Ok x) f h = f x h
-if_ok_each P Q (Err e) f h = h
 
 -- a number of the first n
 below : (n i : ℕ) → Contains (range_with_len 0 n) i → i < n

@@ -1,5 +1,5 @@
 -- The numbers of a class row, and of what it declares, are those of symbols of the pools.
-use Rattle.std.proofs.Common.{◌≡◌, ◌≢◌, ℕ, ◌<◌, List, [], length, sym, subst, arith, inl, inr, refl}
+use Rattle.std.proofs.Common.{◌≡◌, ◌≢◌, ℕ, ◌<◌, ◌-◌, ◌^◌, min, List, [], length, sym, subst, arith, inl, inr, refl}
 use Rattle.std.specs.Prelude.{All, Option, Some, None, option_to_list}
 use Rattle.std.proofs.lemmas.Bool.{cases_eq, ne_eqb}
 use Rattle.std.proofs.lemmas.List.Elements.{All-nil, All-cons, All-append}
@@ -8,12 +8,13 @@ use Rattle.dexspec.specs.Texts.{Text}
 use Rattle.dexspec.specs.Rows.{StringRow, type_indices}
 use Rattle.dexspec.specs.Classes.{ClassTypeRow, ClassListAt, IndexOrNone, class_idx, superclass_idx, interfaces_off, source_file_idx, no_index}
 use Rattle.dexspec.specs.Mentions.{Mentions}
+use Rattle.dexspec.specs.Weight.{body_weight}
 use Rattle.dexspec.specs.Accepted.{HasClass}
 use Rattle.dexpool.specs.Pools.{ArePools}
 use Rattle.dexmembers.specs.Numbered.{NumberedMembers}
 use Rattle.dexmembers.specs.Reading.{AreMembersOf}
 use Rattle.dexclass.specs.Rows.{interface_indices}
-use Rattle.dexclass.specs.Numbered.{type_at, number_of, class_of_row}
+use Rattle.dexclass.specs.Numbered.{type_at, number_of, definition_of, class_of_row}
 use Rattle.dexclass.specs.Uses.{IsKnownClass}
 use Rattle.dexclass.proofs.Indices.{class_in_range}
 use Rattle.dexclass.proofs.Interfaces.{of_classes, listed_interfaces}
@@ -44,8 +45,8 @@ module _ (b : List ℕ) (m : Mentions) (pools : ArePools b m) where
       (λ k d lt. omega (arith, class_in_range b _ (of_classes b (type_indices b o) ts list.1.list.types list.1.classes k d lt), pools.types_are.count))
 
   -- the class of a row that meets condition 16, with what is read of it
-  pub row_known : (r most : ℕ) (x : NumberedMembers) → HasClass b r → AreMembersOf b r m most x → IsKnownClass m (class_of_row b r x)
-  row_known r most x h are = record {
+  pub row_known : (r most : ℕ) (x : NumberedMembers) (weight : ℕ) → HasClass b r → AreMembersOf b r m most x → weight ≡ min (2 ^ 64 - 1) (body_weight (definition_of m (class_of_row b r x weight)).1) → IsKnownClass m (class_of_row b r x weight)
+  row_known r most x weight h are weighed = record {
     types_in = All-cons (λ j. j < length m.types) (class_idx b r) _ (omega (arith, h.is.row.row, pools.types_are.count))
         (All-append (λ j. j < length m.types) (option_to_list (number_of (superclass_idx b r))) (interface_indices b (interfaces_off b r))
         (optional_in (length m.types) (superclass_idx b r) (parent_in (superclass_idx b r) h.superclass.0 h.superclass.1))
@@ -54,4 +55,5 @@ module _ (b : List ℕ) (m : Mentions) (pools : ArePools b m) where
     members_known = are.known;
     members_ordered = are.ordered;
     members_own = are.of_class (type_at m (class_idx b r)) (row_name b m pools r h);
+    weighed = weighed;
   }

@@ -1,6 +1,6 @@
 -- Classes that are led on stand for the same definitions; led into one numbering they are the same just where their
 -- definitions are.
-use Rattle.std.proofs.Common.{◌≡◌, ℕ, ◌<◌, List, [], ◌∷◌, ◌++◌, length, map, option_to_list, sym, ap, ◌∙◌, subst}
+use Rattle.std.proofs.Common.{◌≡◌, ℕ, ◌-◌, ◌^◌, ◌<◌, min, List, [], ◌∷◌, ◌++◌, length, map, option_to_list, sym, ap, ◌∙◌, subst}
 use Rattle.std.specs.Prelude.{◌↔◌, IsSome}
 use Rattle.std.specs.List.{All, AllZip}
 use Rattle.std.proofs.lemmas.List.Elements.{All-nil, All-cons, All-head, All-tail}
@@ -8,6 +8,7 @@ use Rattle.dexspec.specs.Texts.{Text}
 use Rattle.dexspec.specs.Symbols.{Symbol, TextSymbol, TypeSymbol, ProtoSymbol, FieldSymbol, MethodSymbol}
 use Rattle.dexspec.specs.Classes.{Definition}
 use Rattle.dexspec.specs.Mentions.{Mentions}
+use Rattle.dexspec.specs.Weight.{body_weight}
 use Rattle.dexpool.specs.declared.symbols.SymbolKind.{SymbolKind}
 use Rattle.dexpool.specs.declared.symbols.SymbolKind.TheVariants as kinds
 use Rattle.dexpool.specs.Pools.{count_of}
@@ -123,6 +124,7 @@ module _ (m n : Mentions) (r : Maps) (h : AllLead m n r) (c : NumberedClass) (le
         members_known = stay.known;
         members_ordered = stay.ordered;
         members_own = subst (λ t. AreOfClass n t (renumbered_members r c.members)) (sym name_led) stay.own;
+        weighed = known.weighed ∙ ap (λ (d : Definition). min (2 ^ 64 - 1) (body_weight d.1)) (sym definition_led);
       };
     }
 
@@ -157,7 +159,8 @@ module _ (m n whole : Mentions) (r s : Maps) (c d : NumberedClass) (rising : Are
       let source = one_optional whole.texts rising.texts_rise x.source y.source mine.known.texts_in theirs.known.texts_in (ap (λ (z : Definition). z.1.source) there) in
       let own : AreOfClass n (type_at m c.name) d.members = subst (λ t. AreOfClass n t d.members) (sym (ap (λ (z : Definition). z.0) e)) g.known.members_own in
       let declared = members (type_at m c.name) f.known.members_own own (ap (λ (z : Definition). members_of z.1) e) in
-      λ i. record { name = name i; flags = flags i; superclass = superclass i; interfaces = interfaces i; source = source i; members = declared i }
+      let weight = mine.known.weighed ∙ ap (λ (z : Definition). min (2 ^ 64 - 1) (body_weight z.1)) there ∙ sym theirs.known.weighed in
+      λ i. record { name = name i; flags = flags i; superclass = superclass i; interfaces = interfaces i; source = source i; members = declared i; weight = weight i }
 
   -- led into one numbering, they are the same just where their definitions are
   pub same_classes : (renumbered r c ≡ renumbered s d) ↔ (definition_of m c ≡ definition_of n d)

@@ -1,5 +1,5 @@
 -- Classes without their debug programs and source texts make the stripped program.
-use Rattle.std.proofs.Common.{◌≡◌, ℕ, ◌<◌, List, [], ◌∷◌, length, get_or, map, sym, ap, ◌∙◌, subst, arith, inl, inr}
+use Rattle.std.proofs.Common.{◌≡◌, ℕ, ◌+◌, ◌-◌, ◌*◌, ◌^◌, ◌<◌, min, List, [], ◌∷◌, ◌++◌, length, get_or, map, refl, sym, ap, ◌∙◌, subst, arith, sum_by, inl, inr}
 use Rattle.std.specs.Prelude.{All}
 use Rattle.std.specs.List.{Contains}
 use Rattle.std.proofs.lemmas.Bool.{cases_order}
@@ -8,6 +8,7 @@ use Rattle.std.proofs.lemmas.List.Elements.{All-nil, All-map}
 use Rattle.dexspec.specs.Classes.{Definition}
 use Rattle.dexspec.specs.Files.{Collection, definitions, IsCollectionOf}
 use Rattle.dexspec.specs.Mentions.{Mentions, mentions}
+use Rattle.dexspec.specs.Weight.{body_weight, set_weight, field_weight, method_weight, static_values_weight}
 use Rattle.dexspec.specs.Depth.{in_class_order}
 use Rattle.dexspec.specs.WellFormed.{AreWellFormed}
 use Rattle.dexspec.specs.Merging.{Caps, IsGood, greatest_caps}
@@ -20,6 +21,8 @@ use Rattle.dexspec.proofs.StripCollection.{definitions-strip_collection}
 use Rattle.dexspec.proofs.StripGood.{IsGood-strip}
 use Rattle.dexmembers.specs.Numbered.{members_in, AreKnownMembers, AreOrdered, AreOfClass}
 use Rattle.dexmembers.specs.Stripped.{stripped_members, strip_members}
+use Rattle.dexmembers.specs.Weight.{members_weight}
+use Rattle.dexmembers.specs.Weighing.{numbered_members_weight}
 use Rattle.dexclass.specs.Numbered.{NumberedClass, type_at, definition_of}
 use Rattle.dexclass.specs.Uses.{IsKnownClass}
 use Rattle.dexclass.specs.Programs.{AreClassesOf, AreMergeable}
@@ -42,14 +45,24 @@ class_stripped m c e = λ i. (
   },
 )
 
+-- what a class weighs
+class_weighs : (m : Mentions) (c : NumberedClass) → body_weight (definition_of m c).1 ≡ 96 + 2 * length c.interfaces + members_weight (members_in m c.members)
+class_weighs m c =
+    let z = members_in m c.members in
+    let parts : body_weight (definition_of m c).1
+    ≡ 96 + 2 * length (map (type_at m) c.interfaces) + set_weight z.annotations + sum_by field_weight (z.static_fields ++ z.instance_fields) + sum_by method_weight (z.direct_methods ++ z.virtual_methods) + static_values_weight z.static_values = refl in
+    omega (arith, parts, length-map c.interfaces (type_at m))
+
 -- its numbers are those of symbols
-pub class_known : (m : Mentions) (c : NumberedClass) → IsKnownClass m c → AreKnownMembers m (stripped_members c.members) → AreOrdered (stripped_members c.members) → AreOfClass m (type_at m c.name) (stripped_members c.members) → IsKnownClass m (stripped_class c)
-class_known m c h known ordered own = record {
+pub class_known : (m : Mentions) (c : NumberedClass) → IsKnownClass m c → AreKnownMembers m (stripped_members c.members) → AreOrdered (stripped_members c.members) → AreOfClass m (type_at m c.name) (stripped_members c.members)
+    → numbered_members_weight (stripped_members c.members) ≡ members_weight (members_in m (stripped_members c.members)) → IsKnownClass m (stripped_class c)
+class_known m c h known ordered own weighs = record {
   types_in = h.types_in;
   texts_in = All-nil (λ i. i < length m.texts);
   members_known = known;
   members_ordered = ordered;
   members_own = own;
+  weighed = ap (λ (n : ℕ). min (2 ^ 64 - 1) n) (omega (arith, weighs, class_weighs m (stripped_class c)));
 }
 
 -- ---- classes

@@ -7,7 +7,8 @@ use Rattle.dexspec.specs.Mentions.{Mentions}
 use Rattle.dexmembers.specs.Numbered.{NumberedMembers, members_in}
 use Rattle.dexclass.specs.Rows.{interface_indices}
 
--- A class: the numbers of its type, of its superclass, of its interfaces and of its source text, and what it declares.
+-- A class: the numbers of its type, of its superclass, of its interfaces and of its source text, what it declares, and what
+-- it weighs without the symbols that it names.
 pub record NumberedClass : Type 0 where
   pub name : ℕ
   pub flags : ℕ
@@ -15,6 +16,7 @@ pub record NumberedClass : Type 0 where
   pub interfaces : List ℕ
   pub source : Option ℕ
   pub members : NumberedMembers
+  pub weight : ℕ
 
 -- the text of a number
 abbrev pub text_at : Mentions → ℕ → Text
@@ -46,13 +48,14 @@ definition_of m c = (
 abbrev pub number_of : ℕ → Option ℕ
 number_of i = if i == no_index then None else Some i
 
--- class row r with the indices of the file as numbers, and what it declares
-abbrev pub class_of_row : List ℕ → ℕ → NumberedMembers → NumberedClass
-class_of_row b r x = record {
+-- class row r with the indices of the file as numbers, what it declares, and its weight
+abbrev pub class_of_row : List ℕ → ℕ → NumberedMembers → ℕ → NumberedClass
+class_of_row b r x weight = record {
   name = class_idx b r;
   flags = access_flags b r;
   superclass = number_of (superclass_idx b r);
   interfaces = interface_indices b (interfaces_off b r);
   source = number_of (source_file_idx b r);
   members = x;
+  weight = weight;
 }

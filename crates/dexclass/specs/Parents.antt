@@ -16,7 +16,7 @@ parent_numbers c = parent_types c.superclass c.interfaces
 
 -- a class of nothing
 abbrev pub no_class : NumberedClass
-no_class = record { name = 0; flags = 0; superclass = None; interfaces = []; source = None; members = no_members }
+no_class = record { name = 0; flags = 0; superclass = None; interfaces = []; source = None; members = no_members; weight = 0 }
 
 -- the name of class i
 abbrev pub name_number : List NumberedClass → ℕ → ℕ

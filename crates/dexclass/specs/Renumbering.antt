@@ -1,8 +1,10 @@
 -- Classes whose numbers are led to those of another numbering.
-use Rattle.std.specs.Prelude.{◌≡◌, ℕ, List, map, All, Option, unwrap_or}
+use Rattle.std.specs.Prelude.{◌≡◌, ℕ, ◌<◌, List, map, All, Option, Some, unwrap_or}
 use Rattle.std.specs.Option.{option_map}
 use Rattle.dexspec.specs.Mentions.{Mentions}
-use Rattle.dexpool.specs.Numberings.{Maps, AllLead, image}
+use Rattle.dexpool.specs.declared.symbols.SymbolKind.{SymbolKind}
+use Rattle.dexpool.specs.Pools.{count_of}
+use Rattle.dexpool.specs.Numberings.{Maps, AllLead, image, image_of}
 use Rattle.dexpool.specs.Laws.{LeadsAll}
 use Rattle.dexpool.specs.Uses.{IsLedUse}
 use Rattle.dexmembers.specs.Renumbering.{renumbered_members, MembersHavePlaces}
@@ -22,6 +24,7 @@ renumbered r c = record {
   interfaces = map (led r.types) c.interfaces;
   source = option_map (led r.texts) c.source;
   members = renumbered_members r c.members;
+  weight = c.weight;
 }
 
 -- each number in what the class declares leads to one that fits its place; the others have room for any
@@ -47,3 +50,8 @@ pub record IsPartClass (whole m : Mentions) (r : Maps) (c : NumberedClass) : Typ
   pub lead : AllLead m whole r
   pub led : IsLedClass r c
   pub known : IsKnownClass m c
+
+-- each symbol of the kind keeps its number, and there is no other
+pub record Stays (kind : SymbolKind) (m n : Mentions) (r : Maps) : Type 0 where
+  pub count : count_of kind n ≡ count_of kind m
+  pub each : (i : ℕ) → i < count_of kind m → image_of r kind i ≡ Some i

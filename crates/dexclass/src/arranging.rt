@@ -20,6 +20,7 @@ fn nothing<'a>(alloc: Global) -> Class<'a>
         interfaces: Vec::new(alloc),
         source: None,
         members: Members::empty(alloc),
+        weight: 0,
     }
 }
 

@@ -22,10 +22,7 @@ impl<'a> Class<'a> {
     pub fn weight(&self) -> u64
         ensures { (m : Mentions) → AreRising m → IsKnownClass m self.now → result ≡ min (2 ^ 64 - 1) (body_weight (definition_of m self.now).1) }
     {
-        let interfaces = 2u64.saturating_mul(self.interfaces.len() as u64);
-        interfaces
-            .saturating_add(96)
-            .saturating_add(self.members.weight())
+        self.weight
     }
 
     /// The same class, with lists of its own. The units of code are borrowed as before.
@@ -42,6 +39,7 @@ impl<'a> Class<'a> {
             interfaces,
             source: self.source,
             members: self.members.copy()?,
+            weight: self.weight,
         })
     }
 
@@ -54,6 +52,9 @@ impl<'a> Class<'a> {
             return false;
         }
         if self.flags != other.flags {
+            return false;
+        }
+        if self.weight != other.weight {
             return false;
         }
         if optional_type_number(mine, self.superclass)

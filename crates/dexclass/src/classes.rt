@@ -25,6 +25,8 @@ pub struct Class<'a> {
     pub(crate) interfaces: Vec<usize>,
     pub(crate) source: Option<usize>,
     pub(crate) members: Members<'a>,
+    // What the class weighs without the symbols that it names, found once, as it is read.
+    pub(crate) weight: u64,
 }
 
 // So that a class is let go by one call, in the crates above too.
@@ -37,6 +39,7 @@ impl Drop for Class<'_> {
             interfaces: _,
             source: _,
             members: _,
+            weight: _,
         } = self;
     }
 }
@@ -50,7 +53,7 @@ impl<'a> Model for Class<'a> {
 
     ghost coded = { Prim.hlevel (codes, elements_code, values_code) };
 
-    ghost view = { λ c. record { name = c.name; flags = c.flags; superclass = c.superclass; interfaces = c.interfaces.items; source = c.source; members = c.members } };
+    ghost view = { λ c. record { name = c.name; flags = c.flags; superclass = c.superclass; interfaces = c.interfaces.items; source = c.source; members = c.members; weight = c.weight } };
 }
 
 impl<'a> Class<'a> {
@@ -157,9 +160,9 @@ fn interfaces_at(alloc: Global, frame: &Frame<'_>, off: u32) -> Result<Vec<usize
     Ok(interfaces)
 }
 
-/// The class of row `r`, with the indices of the file as numbers, and with what it declares.
+/// The class of row `r`, with the indices of the file as numbers, with what it declares and with its weight.
 ///
-/// Condition: the row meets condition 16. Error: the memory for its interfaces was refused.
+/// Condition: the row meets condition 16. Error: `AllocError` where the memory for its interfaces is refused.
 ///
 /// Source: "class_def_item" and "type_list".
 pub(crate) fn class_at<'a>(
@@ -167,10 +170,11 @@ pub(crate) fn class_at<'a>(
     frame: &Frame<'a>,
     r: u32,
     members: Members<'a>,
+    weight: u64,
 ) -> Result<Class<'a>, AllocError>
     requires row { r < table_size frame.now ClassDefs }
     requires holds { HasClass frame.now r }
-    ensures { IfOk result (λ class. class ≡ class_of_row frame.now r members.entry) }
+    ensures { IfOk result (λ class. class ≡ class_of_row frame.now r members.entry weight) }
 {
     let row = row_fields(frame, r);
     Ok(Class {
@@ -180,5 +184,6 @@ pub(crate) fn class_at<'a>(
         interfaces: interfaces_at(alloc, frame, row.interfaces_off)?,
         source: number_of(row.source_file),
         members,
+        weight,
     })
 }

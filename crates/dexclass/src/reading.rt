@@ -110,8 +110,8 @@ fn read_row<'a>(
     ensures refused { IfErr result (IsFaultOf frame.now) }
 {
     pools.numbering().is_numbering();
-    let before = bodies.weight + row_weight(frame, r);
-    let most = MOST_WEIGHT.saturating_sub(before) as u32;
+    let row = row_weight(frame, r);
+    let most = MOST_WEIGHT.saturating_sub(bodies.weight + row) as u32;
     let found = match read_members(alloc, frame, pools, r, most) {
         Ok(found) => found,
         Err(fault) => return Err(at_row(fault, r)),
@@ -120,11 +120,14 @@ fn read_row<'a>(
         Some(found) => found,
         None => return Err(too_heavy(r)),
     };
-    let weight = before + u64::from(weight);
+    let body = row + u64::from(weight);
+    let weight = bodies.weight + body;
     if weight > MOST_WEIGHT {
         return Err(too_heavy(r));
     }
-    bodies.classes.push(class_at(alloc, frame, r, members)?)?;
+    bodies
+        .classes
+        .push(class_at(alloc, frame, r, members, body)?)?;
     bodies.weight = weight;
     Ok(())
 }

@@ -1,19 +1,20 @@
 //! Programs without debug programs and source texts.
 
-ghost use Rattle.std.specs.Prelude.{◌≡◌, List, map, IfOk};
+ghost use Rattle.std.specs.Prelude.{◌≡◌, ◌+◌, ◌-◌, ◌*◌, ◌^◌, min, length, List, map, IfOk};
 ghost use Rattle.dexspec.specs.Classes.{Definition};
 ghost use Rattle.dexspec.specs.Files.{Collection, IsCollectionOf, definitions};
 ghost use Rattle.dexspec.specs.Merging.{Caps, IsGood, Plan, union};
 ghost use Rattle.dexspec.specs.Stripping as stripping;
 ghost use Rattle.dexspec.specs.Stripping.{strip_collection};
 ghost use Rattle.dexlaws.specs.Strip.{StripCommutes};
+ghost use Rattle.dexmembers.specs.Weighing.{numbered_members_weight};
 ghost use Rattle.dexclass.specs.Stripped.{stripped_class};
 
 use crate::classes::Class;
 use crate::programs::Program;
 use crate::trimming::trim;
 use dexlaws::strip::{strip_collection_law, strip_good, strip_merge_law};
-use dexmembers::members_stripped_law;
+use dexmembers::{Members, members_stripped_law, members_weight_law};
 use std::alloc::{AllocError, Global};
 
 // Drops the class's source text and its methods' debug programs.
@@ -22,6 +23,16 @@ fn strip_class(class: &mut Class<'_>)
 {
     class.source = None;
     class.members.drop_debug();
+    class.weight = body_weight(&class.interfaces, &class.members);
+}
+
+// What a class with these interfaces and members weighs without the symbols that it names, or 2^64 - 1 where that is more.
+fn body_weight(interfaces: &[usize], members: &Members<'_>) -> u64
+    ensures { result ≡ min (2 ^ 64 - 1) (96 + 2 * length interfaces.now + numbered_members_weight members.now) }
+{
+    2u64.saturating_mul(interfaces.len() as u64)
+        .saturating_add(96)
+        .saturating_add(members.weight())
 }
 
 // Drops the source texts and the debug programs of the classes.
@@ -44,8 +55,10 @@ pub fn into_stripped<'a>(alloc: Global, program: Program<'a>) -> Result<Program<
     strip_collection_law();
     strip_good();
     members_stripped_law();
+    members_weight_law();
     program.is_good();
     let (numbering, mut classes) = program.into_parts();
+    numbering.is_numbering();
     strip_all(&mut classes);
     let trimmed = trim(alloc, &numbering, &mut classes)?;
     Program::of(alloc, trimmed, classes)

@@ -1,18 +1,18 @@
 //! Classes over a numbering of just what they mention.
 
-ghost use Rattle.std.specs.Prelude.{◌≡◌, All, IfOk, map};
+ghost use Rattle.std.specs.Prelude.{◌≡◌, All, IfOk, IsTrue, map};
 ghost use Rattle.std.specs.List.{flat_map};
 ghost use Rattle.dexspec.specs.Mentions.{mentions};
-ghost use Rattle.dexpool.specs.Numberings.{AreMarksOf};
+ghost use Rattle.dexpool.specs.Numberings.{AllLead, AreMarksOf};
 ghost use Rattle.dexpool.specs.Orderly.{LeadDown};
 ghost use Rattle.dexclass.specs.Numbered.{definition_of};
 ghost use Rattle.dexclass.specs.Uses.{IsKnownClass, HaveMarked, class_uses};
-ghost use Rattle.dexclass.specs.Renumbering.{renumbered, IsLedClass};
+ghost use Rattle.dexclass.specs.Renumbering.{renumbered, IsLedClass, Stays};
 
 use crate::classes::Class;
 use crate::laws::{renumbering_law, uses_law};
 use dexmembers::members_cut_law;
-use dexpool::{Marks, Numbering, Remap};
+use dexpool::{Marks, Numbering, Remap, SymbolKind};
 use std::alloc::{AllocError, Global};
 
 // Marks what the classes name.
@@ -57,9 +57,50 @@ fn cut_all(remap: &Remap, classes: &mut Vec<Class<'_>>)
     }
 }
 
-/// The numbering of just what the classes mention, to which their numbers are led.
+// Whether each symbol of a kind is kept, with its number.
+fn stays(
+    kind: SymbolKind,
+    numbering: &Numbering<'_>,
+    trimmed: &Numbering<'_>,
+    remap: &Remap,
+) -> bool
+    ensures { IsTrue result → Stays kind numbering.now trimmed.now remap.now }
+{
+    let count = numbering.count(kind);
+    if trimmed.count(kind) != count {
+        return false;
+    }
+    for i in 0..count {
+        if remap.image(kind, i) != Some(i) {
+            return false;
+        }
+    }
+    true
+}
+
+// Whether the numbering is kept whole, so that no number changes. A file that was written by rule has no symbol that its
+// classes do not mention.
+fn is_whole(numbering: &Numbering<'_>, trimmed: &Numbering<'_>, remap: &Remap) -> bool
+    ensures { AllLead numbering.now trimmed.now remap.now → IsTrue result → trimmed.now ≡ numbering.now }
+{
+    if !stays(SymbolKind::Text, numbering, trimmed, remap) {
+        return false;
+    }
+    if !stays(SymbolKind::Typ, numbering, trimmed, remap) {
+        return false;
+    }
+    if !stays(SymbolKind::Proto, numbering, trimmed, remap) {
+        return false;
+    }
+    if !stays(SymbolKind::Field, numbering, trimmed, remap) {
+        return false;
+    }
+    stays(SymbolKind::Method, numbering, trimmed, remap)
+}
+
+/// The numbering of just what the classes mention, to which their numbers are remapped.
 ///
-/// Condition: the classes' numbers are those of the numbering. Error: the memory for the new numbering was
+/// Condition: the classes' numbers are those of the numbering. Error: `AllocError` where the memory for the new numbering is
 /// refused.
 pub(crate) fn trim<'a>(
     alloc: Global,
@@ -76,6 +117,9 @@ pub(crate) fn trim<'a>(
     numbering.is_numbering();
     let marks = marked(alloc, numbering, classes)?;
     let (trimmed, remap) = numbering.keep(alloc, &marks)?;
+    if is_whole(numbering, &trimmed, &remap) {
+        return Ok(trimmed);
+    }
     cut_all(&remap, classes);
     Ok(trimmed)
 }

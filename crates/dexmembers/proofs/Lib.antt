@@ -1,5 +1,6 @@
 pub mod Attachments
 pub mod ClassDataSpelled
+pub mod CodesApart
 pub mod CodesOfMethods
 pub mod DataCounts
 pub mod DataOfFile

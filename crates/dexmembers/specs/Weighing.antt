@@ -1,5 +1,5 @@
 -- What a class declares weighs, by its numbers.
-use Rattle.std.specs.Prelude.{ℕ, ◌+◌, sum_by, option_to_list}
+use Rattle.std.specs.Prelude.{ℕ, ◌+◌, List, Option, map, sum_by, option_to_list}
 use Rattle.dexspec.specs.Weight.{debug_weight}
 use Rattle.dexval.specs.Spelled.{numbered_set_weight, numbered_sets_weight, numbered_statics_weight}
 use Rattle.dexcode.specs.Debug.{NumberedDebug, bare}
@@ -26,3 +26,25 @@ numbered_method_weight x = 31 + sum_by numbered_whole_weight (option_to_list x.c
 -- all that a class declares
 abbrev pub numbered_members_weight : NumberedMembers → ℕ
 numbered_members_weight x = numbered_set_weight x.annotations + sum_by numbered_field_weight (fields_of x) + sum_by numbered_method_weight (methods_of x) + numbered_statics_weight x.static_values
+
+-- ---- code apart
+
+-- code of methods with its debug programs
+abbrev pub codes_weight : List (Option NumberedItem) → ℕ
+codes_weight codes = sum_by (λ code. sum_by numbered_whole_weight (option_to_list code)) codes
+
+-- the code of each method
+abbrev pub codes_of : NumberedMembers → List (Option NumberedItem)
+codes_of x = map (λ y. y.code) (methods_of x)
+
+-- the code of a declared method with its debug program
+abbrev pub method_code_weight : NumberedMethod → ℕ
+method_code_weight x = sum_by numbered_whole_weight (option_to_list x.code)
+
+-- a declared method without its code
+abbrev pub bare_method_weight : NumberedMethod → ℕ
+bare_method_weight x = 31 + numbered_set_weight x.annotations + numbered_sets_weight x.parameter_annotations
+
+-- all that a class declares, without code
+abbrev pub bare_members_weight : NumberedMembers → ℕ
+bare_members_weight x = numbered_set_weight x.annotations + sum_by numbered_field_weight (fields_of x) + sum_by bare_method_weight (methods_of x) + numbered_statics_weight x.static_values

@@ -1,6 +1,6 @@
 //! The code of methods.
 
-ghost use Rattle.std.specs.Prelude.{◌≡◌, ◌+◌, ◌<◌, Option, IfOk, IfErr, MatchOption};
+ghost use Rattle.std.specs.Prelude.{◌≡◌, ◌+◌, ◌<◌, [], ◌∷◌, Option, IfOk, IfErr, IfSome, MatchOption};
 ghost use Rattle.dexspec.specs.Lists.{BothOrNone};
 ghost use Rattle.dexspec.specs.Code as symbolic;
 ghost use Rattle.dexspec.specs.Mentions.{Mentions};
@@ -8,6 +8,7 @@ ghost use Rattle.dexpool.specs.Numberings.{AreRising};
 ghost use Rattle.dexpool.specs.Pools.{ArePools};
 ghost use Rattle.dexcode.specs.Checking.{one_code_weight};
 ghost use Rattle.dexcode.specs.Numbered.{StandsForCode};
+ghost use Rattle.dexmembers.specs.Weighing.{numbered_whole_weight, codes_weight};
 ghost use Rattle.dexmembers.specs.MethodCodes.{IsCodeOrNone, IsCodeOrNoneFault, AreCodesOf, AreHeavyCodes, IsCodesFault, optional_code_weight};
 
 use crate::class_data::EncodedMethod;
@@ -39,7 +40,8 @@ fn code_or_none<'a>(
 
 // What is left of a weight behind the code with its debug program, or `None` where the code weighs more.
 fn left_behind(left: u64, code: &Code<'_>) -> Option<u64>
-    ensures { (m : Mentions) (x : symbolic.Code) → AreRising m → StandsForCode m code.now x → MatchOption result (left < one_code_weight x) (λ rest. rest + one_code_weight x ≡ left) }
+    ensures symbolic { (m : Mentions) (x : symbolic.Code) → AreRising m → StandsForCode m code.now x → MatchOption result (left < one_code_weight x) (λ rest. rest + one_code_weight x ≡ left) }
+    ensures numbered { IfSome result (λ rest. rest + numbered_whole_weight code.now ≡ left) }
 {
     debug_bare_law();
     let rest = left.checked_sub(code.weight())?;
@@ -51,7 +53,8 @@ fn left_behind(left: u64, code: &Code<'_>) -> Option<u64>
 
 // The same behind the code of a method that may have none.
 fn left_behind_any(left: u64, code: &Option<Code<'_>>) -> Option<u64>
-    ensures { (m : Mentions) (x : Option symbolic.Code) → AreRising m → BothOrNone (StandsForCode m) code.now x → MatchOption result (left < optional_code_weight x) (λ rest. rest + optional_code_weight x ≡ left) }
+    ensures symbolic { (m : Mentions) (x : Option symbolic.Code) → AreRising m → BothOrNone (StandsForCode m) code.now x → MatchOption result (left < optional_code_weight x) (λ rest. rest + optional_code_weight x ≡ left) }
+    ensures numbered { IfSome result (λ rest. rest + codes_weight (code.now ∷ []) ≡ left) }
 {
     match code {
         Some(code) => left_behind(left, code),
@@ -59,11 +62,14 @@ fn left_behind_any(left: u64, code: &Option<Code<'_>>) -> Option<u64>
     }
 }
 
-/// Reads the code of the methods, each with its debug program; a method whose offset is 0 has none. From the method on with
-/// which the code weighs more than `most`, it is judged only, and none is answered.
+/// The code of methods, and what it weighs.
+pub(crate) type WeighedCodes<'a> = (Vec<Option<Code<'a>>>, u64);
+
+/// Reads the code of the methods, each with its debug program, and returns it with what it weighs; a method whose offset is 0
+/// has none. From the method on with which the code weighs more than `most`, it is checked only, and `None` is returned.
 ///
-/// Error: `Refused` with 18, 19 or 20, a condition that fails for the code of one of the methods; the memory for what is kept
-/// was refused.
+/// Error: `Refused` with 18, 19 or 20, a condition that fails for the code of one of the methods; `Memory` where the memory
+/// for what is kept is refused.
 ///
 /// Source: "encoded_method format", the field `code_off`, and "code_item".
 pub(crate) fn read_codes<'a>(
@@ -72,8 +78,9 @@ pub(crate) fn read_codes<'a>(
     pools: &Pools<'_>,
     methods: &[EncodedMethod],
     most: u64,
-) -> Result<Option<Vec<Option<Code<'a>>>>, ItemFault>
-    ensures read { ArePools frame.now pools.now → IfOk result (λ codes. MatchOption codes (AreHeavyCodes frame.now methods.now most) (λ codes. AreCodesOf frame.now pools.now methods.now most codes.items)) }
+) -> Result<Option<WeighedCodes<'a>>, ItemFault>
+    ensures read { ArePools frame.now pools.now → IfOk result (λ codes. MatchOption codes (AreHeavyCodes frame.now methods.now most) (λ codes. AreCodesOf frame.now pools.now methods.now most codes.0.items)) }
+    ensures weight { IfOk result (λ codes. IfSome codes (λ codes. codes.1 ≡ codes_weight codes.0.items)) }
     ensures refused { ArePools frame.now pools.now → IfErr result (IsCodesFault frame.now methods.now) }
 {
     pools.numbering().is_numbering();
@@ -96,5 +103,5 @@ pub(crate) fn read_codes<'a>(
         }
         codes.push(code)?;
     }
-    Ok(Some(codes))
+    Ok(Some((codes, most - left)))
 }

@@ -45,3 +45,4 @@ pub use renumbering_laws::{
 };
 pub use stripping::members_stripped_law;
 pub use uses_laws::members_uses_law;
+pub use weighing::members_weight_law;

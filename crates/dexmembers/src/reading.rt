@@ -1,6 +1,6 @@
 //! What class rows declare, read from a file.
 
-ghost use Rattle.std.specs.Prelude.{◌≡◌, ◌<◌, ◌≤◌, IfOk, IfErr, MatchOption};
+ghost use Rattle.std.specs.Prelude.{◌≡◌, ◌-◌, ◌^◌, ◌<◌, ◌≤◌, min, IfOk, IfErr, MatchOption};
 ghost use Rattle.dexspec.specs.Header.{ClassDefs, table_size};
 ghost use Rattle.dexspec.specs.Mentions.{Mentions};
 ghost use Rattle.dexspec.specs.Accepted.{HasClass};
@@ -8,29 +8,28 @@ ghost use Rattle.dexpool.specs.Numberings.{AreRising};
 ghost use Rattle.dexpool.specs.Pools.{ArePools};
 ghost use Rattle.dexmembers.specs.Numbered.{AreKnownMembers, members_in};
 ghost use Rattle.dexmembers.specs.Weight.{members_weight};
+ghost use Rattle.dexmembers.specs.Weighing.{codes_weight, codes_of};
 ghost use Rattle.dexmembers.specs.Reading.{AreReadWithin, IsMembersFault};
 ghost use Rattle.dexmembers.specs.Contents.{contents_in, AreHeld};
 
 use crate::class_data::read_class_data;
 use crate::members::{Contents, Members};
 use crate::row_parts::{attach, read_parts};
-use dexcode::{code_meaning_law, code_weight_law, debug_bare_law, debug_meaning_law};
+use crate::weighing::members_weight_law;
+use dexcode::code_meaning_law;
 use dexhead::Frame;
 use dexpool::{ItemFault, Pools};
 use std::alloc::Global;
 
-// The members and what they weigh, or none where that is more than they may.
+// The members, whose code weighs `codes`, and what they weigh, or none where that is more than they may.
 //
 // Condition: their places are their table's.
-fn within(unweighed: Contents<'_>, most: u32) -> Option<(Members<'_>, u32)>
+fn within(unweighed: Contents<'_>, codes: u64, most: u32) -> Option<(Members<'_>, u32)>
     requires { AreHeld unweighed }
-    ensures { (m : Mentions) → AreRising m → AreKnownMembers m (contents_in unweighed.entry) → MatchOption result (most < members_weight (members_in m (contents_in unweighed.entry))) (λ x. (x.0 ≡ contents_in unweighed.entry) × (x.1 ≡ members_weight (members_in m (contents_in unweighed.entry))) × (x.1 ≤ most)) }
+    ensures { (m : Mentions) → AreRising m → AreKnownMembers m (contents_in unweighed.entry) → codes ≡ min (2 ^ 64 - 1) (codes_weight (codes_of (contents_in unweighed.entry))) → MatchOption result (most < members_weight (members_in m (contents_in unweighed.entry))) (λ x. (x.0 ≡ contents_in unweighed.entry) × (x.1 ≡ members_weight (members_in m (contents_in unweighed.entry))) × (x.1 ≤ most)) }
 {
-    code_weight_law();
-    code_meaning_law();
-    debug_bare_law();
-    debug_meaning_law();
-    let weight = unweighed.weight();
+    members_weight_law();
+    let weight = unweighed.weight_with(codes);
     if weight > u64::from(most) {
         return None;
     }
@@ -74,6 +73,7 @@ pub fn read_members<'a>(
         Some(parts) => parts,
         None => return Ok(None),
     };
+    let codes = parts.codes_weight;
     let unweighed = attach(alloc, &declared, parts)?;
-    Ok(within(unweighed, most))
+    Ok(within(unweighed, codes, most))
 }

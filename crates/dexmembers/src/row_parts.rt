@@ -1,6 +1,6 @@
 //! What stands at a class row beside its class data: annotations, code and static values.
 
-ghost use Rattle.std.specs.Prelude.{◌≡◌, ◌<◌, IfOk, IfErr, IfSome, MatchOption, map};
+ghost use Rattle.std.specs.Prelude.{◌≡◌, ◌+◌, ◌-◌, ◌^◌, ◌<◌, min, IfOk, IfErr, IfSome, MatchOption, map};
 ghost use Rattle.dexspec.specs.Header.{ClassDefs, table_size};
 ghost use Rattle.dexpool.specs.Pools.{ArePools};
 ghost use Rattle.dexval.specs.Code.{value_of};
@@ -9,6 +9,7 @@ ghost use Rattle.dexmembers.specs.ClassData.{IsDataOf};
 ghost use Rattle.dexmembers.specs.Reading.{AreHeavyMembers, IsMembersFault};
 ghost use Rattle.dexval.specs.Shared.{shared_directory_of};
 ghost use Rattle.dexmembers.specs.Contents.{contents_in, AreHeld};
+ghost use Rattle.dexmembers.specs.Weighing.{codes_weight};
 ghost use Rattle.dexmembers.specs.RowParts.{ArePartsOf, AreAttachable, IsHeldDirectory, attached};
 
 use crate::attaching::{attach_fields, attach_methods};
@@ -30,6 +31,8 @@ pub(crate) struct Parts<'a> {
     pub(crate) directory: SharedDirectory,
     pub(crate) direct_codes: Vec<Option<Code<'a>>>,
     pub(crate) virtual_codes: Vec<Option<Code<'a>>>,
+    /// What the code weighs together, or 2^64 - 1 where that is more.
+    pub(crate) codes_weight: u64,
     pub(crate) static_values: Vec<Value>,
 }
 
@@ -52,6 +55,7 @@ pub(crate) fn read_parts<'a>(
     requires row { row < table_size frame.now ClassDefs }
     ensures read { ArePools frame.now pools.now → IsDataOf frame.now row pools.now declared.now → IfOk result (λ parts. MatchOption parts (AreHeavyMembers frame.now row most) (λ x. ArePartsOf frame.now row pools.now declared.now most x.directory x.direct_codes.items x.virtual_codes.items (values_of_list (map value_of x.static_values.items)))) }
     ensures held { IfOk result (λ parts. IfSome parts (λ x. IsHeldDirectory x.directory)) }
+    ensures weight { IfOk result (λ parts. IfSome parts (λ x. x.codes_weight ≡ min (2 ^ 64 - 1) (codes_weight x.direct_codes.items + codes_weight x.virtual_codes.items))) }
     ensures refused { ArePools frame.now pools.now → IsDataOf frame.now row pools.now declared.now → IfErr result (IsMembersFault frame.now row) }
 {
     pools.numbering().is_numbering();
@@ -76,11 +80,11 @@ pub(crate) fn read_parts<'a>(
         Some(directory) => directory,
         None => return Ok(None),
     };
-    let direct_codes = match direct {
+    let (direct_codes, direct_weight) = match direct {
         Some(codes) => codes,
         None => return Ok(None),
     };
-    let virtual_codes = match virtuals {
+    let (virtual_codes, virtual_weight) = match virtuals {
         Some(codes) => codes,
         None => return Ok(None),
     };
@@ -89,6 +93,7 @@ pub(crate) fn read_parts<'a>(
             directory,
             direct_codes,
             virtual_codes,
+            codes_weight: direct_weight.saturating_add(virtual_weight),
             static_values,
         })),
         None => Ok(None),
@@ -113,6 +118,7 @@ pub(crate) fn attach<'a>(
         directory,
         direct_codes,
         virtual_codes,
+        codes_weight: _,
         static_values,
     } = parts;
     let SharedDirectory {

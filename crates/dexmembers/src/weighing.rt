@@ -7,10 +7,10 @@ ghost use Rattle.dexval.specs.Code.{set_of, value_of};
 ghost use Rattle.dexcode.specs.Numbered.{NumberedItem};
 ghost use Rattle.dexval.specs.Numbered.{NumberedSet, values_of_list};
 ghost use Rattle.dexval.specs.Spelled.{numbered_set_weight, numbered_sets_weight, numbered_statics_weight};
-ghost use Rattle.dexmembers.specs.Numbered.{AreKnownMembers, members_in};
+ghost use Rattle.dexmembers.specs.Numbered.{NumberedMembers, AreKnownMembers, members_in};
 ghost use Rattle.dexmembers.specs.Weight.{members_weight};
 ghost use Rattle.dexmembers.specs.Contents.{contents_in, AreHeld};
-ghost use Rattle.dexmembers.specs.Weighing.{numbered_field_weight, numbered_whole_weight, numbered_method_weight, numbered_members_weight};
+ghost use Rattle.dexmembers.specs.Weighing.{numbered_field_weight, numbered_whole_weight, numbered_members_weight, method_code_weight, bare_method_weight, bare_members_weight};
 
 use crate::field_views::{Field, Fields};
 use crate::members::{Contents, Members};
@@ -89,13 +89,24 @@ fn fields_weight(fields: &Fields<'_>) -> u64
     weight
 }
 
-// What methods weigh.
+// What methods weigh without their code.
 fn methods_weight(methods: &Methods<'_, '_>) -> u64
-    ensures { result ≡ min (2 ^ 64 - 1) (sum_by numbered_method_weight methods.now) }
+    ensures { result ≡ min (2 ^ 64 - 1) (sum_by bare_method_weight methods.now) }
 {
     let mut weight: u64 = 0;
     for i in 0..methods.len() {
         weight = weight.saturating_add(methods.get(i).weight());
+    }
+    weight
+}
+
+// What the code of methods weighs.
+fn codes_weight(methods: &Methods<'_, '_>) -> u64
+    ensures { result ≡ min (2 ^ 64 - 1) (sum_by method_code_weight methods.now) }
+{
+    let mut weight: u64 = 0;
+    for i in 0..methods.len() {
+        weight = weight.saturating_add(methods.get(i).code_weight());
     }
     weight
 }
@@ -110,14 +121,20 @@ impl Field<'_> {
 }
 
 impl Method<'_, '_> {
-    // What the method weighs.
+    // What the method weighs without its code.
     fn weight(&self) -> u64
-        ensures { result ≡ min (2 ^ 64 - 1) (numbered_method_weight self.now) }
+        ensures { result ≡ min (2 ^ 64 - 1) (bare_method_weight self.now) }
     {
         31u64
-            .saturating_add(code_weight(self.code()))
             .saturating_add(optional_weight(self.annotations()))
             .saturating_add(sets_weight(&self.parameter_annotations()))
+    }
+
+    // What its code weighs.
+    fn code_weight(&self) -> u64
+        ensures { result ≡ min (2 ^ 64 - 1) (method_code_weight self.now) }
+    {
+        code_weight(self.code())
     }
 }
 
@@ -135,14 +152,23 @@ impl<'a> Members<'a> {
     /// Source: "class_data_item", "annotations_directory_item", "code_item" and "encoded_array_item", the sizes of their
     /// fields; the weight is this project's rule.
     pub fn weight(&self) -> u64
-        ensures { (m : Mentions) → AreRising m → AreKnownMembers m self.now → result ≡ min (2 ^ 64 - 1) (members_weight (members_in m self.now)) }
+        ensures numbered { result ≡ min (2 ^ 64 - 1) (numbered_members_weight self.now) }
+        ensures symbolic { (m : Mentions) → AreRising m → AreKnownMembers m self.now → result ≡ min (2 ^ 64 - 1) (members_weight (members_in m self.now)) }
     {
-        code_weight_law();
-        code_meaning_law();
-        debug_bare_law();
-        debug_meaning_law();
+        members_weight_law();
         self.numbered_weight()
     }
+}
+
+/// Members weigh by their numbers what they denote weighs. It does nothing: its contract is the law, for the callers that
+/// cite it.
+pub fn members_weight_law()
+    ensures { (m : Mentions) (x : NumberedMembers) → AreRising m → AreKnownMembers m x → numbered_members_weight x ≡ members_weight (members_in m x) }
+{
+    code_weight_law();
+    code_meaning_law();
+    debug_bare_law();
+    debug_meaning_law();
 }
 
 impl Contents<'_> {
@@ -153,7 +179,20 @@ impl Contents<'_> {
         requires { AreHeld self.now }
         ensures { result ≡ min (2 ^ 64 - 1) (numbered_members_weight (contents_in self.now)) }
     {
-        optional_weight(self.annotations())
+        let direct = codes_weight(&self.direct_methods());
+        let virtuals = codes_weight(&self.virtual_methods());
+        self.weight_with(direct.saturating_add(virtuals))
+    }
+
+    /// The same, where the code of the methods weighs `codes`, which is not weighed again. No memory is taken.
+    ///
+    /// Condition: the places are the table's.
+    pub(crate) fn weight_with(&self, codes: u64) -> u64
+        requires { AreHeld self.now }
+        ensures { result ≡ min (2 ^ 64 - 1) (codes + bare_members_weight (contents_in self.now)) }
+    {
+        codes
+            .saturating_add(optional_weight(self.annotations()))
             .saturating_add(fields_weight(&self.static_fields()))
             .saturating_add(fields_weight(&self.instance_fields()))
             .saturating_add(methods_weight(&self.direct_methods()))

@@ -1,8 +1,9 @@
-use Rattle.dexclass.proofs.Ordered.{are_within, depths_are, if_ok_each}
+use Rattle.dexpool.proofs.TypeLists.{if_ok_map}
+use Rattle.dexclass.proofs.Ordered.{are_within, depths_are}
 use Rattle.dexclass.proofs.ordering.depths_of.Goals as goal
 
 pub depths-requires : goal.depths-requires
 depths-requires c = are_within c.requires.0 c.args.classes.now c.requires.2 c.in_ok-of.field-0 c.in_ok-of.ensures
 
 pub returns : goal.returns
-returns c = if_ok_each _ _ c.depths-2.result (λ depths a m named acyclic. depths_are m c.args.classes.now named c.in_ok-of.field-0 c.in_ok-of.ensures depths.items a acyclic) c.depths-2.ensures
+returns c = if_ok_map _ _ c.depths-2.result (λ depths a m named acyclic. depths_are m c.args.classes.now named c.in_ok-of.field-0 c.in_ok-of.ensures depths.items a acyclic) c.depths-2.ensures

@@ -6,20 +6,19 @@ use Rattle.dexspec.specs.Accepted.{HasClass}
 use Rattle.dexmembers.specs.Numbered.{members_in}
 use Rattle.dexmembers.specs.Weight.{members_weight}
 use Rattle.dexmembers.specs.Reading.{AreReadWithin, AreHeavyMembers}
-use Rattle.dexclass.specs.Numbered.{class_of_row}
 use Rattle.dexclass.specs.Rows.{interface_indices}
 use Rattle.dexclass.specs.Programs.{IsFaultOf}
 use Rattle.dexclass.proofs.RowFaults.{members_heavy}
 use Rattle.dexclass.proofs.Summing.{class_heavy, class_more}
 use Rattle.dexclass.proofs.reading.read_row.Goals as goal
-use Rattle.dexclass.proofs.reading.read_row.Goals.{After-is_numbering, After-row_weight, After-saturating_sub-most}
+use Rattle.dexclass.proofs.reading.read_row.Goals.{After-is_numbering}
 
 -- condition 16 holds of the row
 has_class : (c : After-is_numbering) → HasClass c.args.frame.now c.args.r
 has_class c = c.requires.before Condition.Classes (omega arith) c.args.r c.requires.row
 
-pub row_weight-requires-clause-holds : goal.row_weight-requires-clause-holds
-row_weight-requires-clause-holds c = has_class c
+pub row_weight-row-requires-clause-holds : goal.row_weight-row-requires-clause-holds
+row_weight-row-requires-clause-holds c = has_class c
 
 pub class_at-requires-clause-holds : goal.class_at-requires-clause-holds
 class_at-requires-clause-holds c = c.requires.before Condition.Classes (omega arith) c.args.r c.requires.row
@@ -35,7 +34,7 @@ returns-in-None-clause-refused c =
     let r = c.args.r in
     let most = c.saturating_sub-most.result in
     let heavy : AreHeavyMembers b r most = subst (AreReadWithin b r m most) c.in-None.is (c.in-Ok.ensures.read c.requires.pools (c.requires.before Condition.Classes (omega arith) r c.requires.row)) in
-    let left : most ≡ most_weight - c.args.bodies.now.weight - (96 + 2 * length (interface_indices b (interfaces_off b r))) = omega (arith, c.saturating_sub-most.ensures, c.row_weight.ensures.weight) in
+    let left : most ≡ most_weight - c.args.bodies.now.weight - (96 + 2 * length (interface_indices b (interfaces_off b r))) = omega (arith, c.saturating_sub-most.ensures, c.row_weight-row.ensures.weight) in
     subst (IsFaultOf b) (sym c.too_heavy.ensures) (members_heavy b m c.requires.pools c.requires.before r c.args.bodies.now c.requires.bodies c.requires.row most left heavy)
 
 pub returns-then-weight-gt-MOST_WEIGHT-clause-refused : goal.returns-then-weight-gt-MOST_WEIGHT-clause-refused
@@ -45,11 +44,11 @@ returns-then-weight-gt-MOST_WEIGHT-clause-refused c =
     let r = c.args.r in
     let most = c.saturating_sub-most.result in
     let x = c.in-Some.found in
-    let old = c.args.bodies.now in
+    let w = c.row_weight-row.result + c.from.result in
     let read = subst (AreReadWithin b r m most) c.in-Some.is (c.in-Ok.ensures.read c.requires.pools (c.requires.before Condition.Classes (omega arith) r c.requires.row)) in
-    let more : old.weight + c.row_weight.result + c.from.result ≡ old.weight + (96 + 2 * length (interface_indices b (interfaces_off b r))) + members_weight (members_in m x.0) = omega (arith, c.row_weight.ensures.weight, c.from.ensures, read.1) in
+    let weighs : w ≡ 96 + 2 * length (interface_indices b (interfaces_off b r)) + members_weight (members_in m x.0) = omega (arith, c.row_weight-row.ensures.weight, c.from.ensures, read.1) in
     subst (IsFaultOf b) (sym c.too_heavy-then-weight-gt-MOST_WEIGHT.ensures)
-    (class_heavy b m c.requires.pools c.requires.before r c.requires.row most x.0 read.0 (class_of_row b r x.0) refl old c.requires.bodies (old.weight + c.row_weight.result + c.from.result) more c.if-weight-gt-MOST_WEIGHT.true)
+    (class_heavy b m c.requires.pools c.requires.before r c.requires.row most x.0 read.0 w weighs c.args.bodies.now c.requires.bodies c.if-weight-gt-MOST_WEIGHT.true)
 
 pub returns-clause-accepted : goal.returns-clause-accepted
 returns-clause-accepted c =
@@ -59,7 +58,8 @@ returns-clause-accepted c =
     let most = c.saturating_sub-most.result in
     let x = c.in-Some.found in
     let old = c.args.bodies.now in
+    let w = c.row_weight-row.result + c.from.result in
     let read = subst (AreReadWithin b r m most) c.in-Some.is (c.in-Ok.ensures.read c.requires.pools (c.requires.before Condition.Classes (omega arith) r c.requires.row)) in
-    let more : old.weight + c.row_weight.result + c.from.result ≡ old.weight + (96 + 2 * length (interface_indices b (interfaces_off b r))) + members_weight (members_in m x.0) = omega (arith, c.row_weight.ensures.weight, c.from.ensures, read.1) in
-    class_more b m c.requires.pools c.requires.before r c.requires.row most x.0 read.0 c.in_ok-class_at.field-0 c.in_ok-class_at.ensures old c.requires.bodies (old.weight + c.row_weight.result + c.from.result) more c.if-weight-gt-MOST_WEIGHT.false
-    (record { classes = c.push.new.self; weight = old.weight + c.row_weight.result + c.from.result }) c.in_ok-push.ensures.items refl
+    let weighs : w ≡ 96 + 2 * length (interface_indices b (interfaces_off b r)) + members_weight (members_in m x.0) = omega (arith, c.row_weight-row.ensures.weight, c.from.ensures, read.1) in
+    class_more b m c.requires.pools c.requires.before r c.requires.row most x.0 read.0 w weighs old c.requires.bodies c.if-weight-gt-MOST_WEIGHT.false c.in_ok-class_at.field-0 c.in_ok-class_at.ensures
+    (record { classes = c.push.new.self; weight = old.weight + w }) c.in_ok-push.ensures.items refl

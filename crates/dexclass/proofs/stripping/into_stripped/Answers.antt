@@ -5,10 +5,12 @@ use Rattle.dexspec.specs.Depth.{in_class_order}
 use Rattle.dexspec.specs.Mentions.{Mentions, mentions}
 use Rattle.dexspec.specs.Merging.{greatest_caps}
 use Rattle.dexspec.specs.Stripping.{strip}
+use Rattle.dexmembers.specs.Stripped.{stripped_members}
+use Rattle.dexpool.specs.Numberings.{AreRising}
+use Rattle.dexpool.proofs.TypeLists.{if_ok_map}
 use Rattle.dexclass.specs.Numbered.{type_at}
 use Rattle.dexclass.specs.Uses.{IsKnownClass}
 use Rattle.dexclass.proofs.Mergeable.{AreTrimmed, are_trimmed}
-use Rattle.dexclass.proofs.Ordered.{if_ok_each}
 use Rattle.dexclass.proofs.StrippedPrograms.{class_stripped, class_known, all_known, all_stripped, stripped_mergeable, stripped_collection}
 use Rattle.dexclass.proofs.stripping.into_stripped.Goals as goal
 use Rattle.dexclass.proofs.stripping.into_stripped.Goals.{In_ok-trimmed}
@@ -18,7 +20,8 @@ trim-requires c =
     let law = c.members_stripped_law.ensures in
     let m = mentions (definitions c.args.program) in
     subst (λ (n : Mentions). All (IsKnownClass n) c.strip_all.new.classes.items) (sym c.into_parts-numbering.ensures.numbering)
-    (all_known m c.into_parts-numbering.result.1.items (λ x h. class_known m x h (law.known m x.members h.members_known) (law.ordered x.members h.members_ordered) (law.own m (type_at m x.name) x.members h.members_own))
+    (all_known m c.into_parts-numbering.result.1.items (λ x h. class_known m x h (law.known m x.members h.members_known) (law.ordered x.members h.members_ordered) (law.own m (type_at m x.name) x.members h.members_own)
+    (c.members_weight_law.ensures m (stripped_members x.members) (subst AreRising c.into_parts-numbering.ensures.numbering c.is_numbering.ensures.rising) (law.known m x.members h.members_known)))
     c.into_parts-numbering.ensures.classes.known c.strip_all.new.classes.items c.strip_all.ensures)
 
 -- the classes as they are trimmed
@@ -38,4 +41,4 @@ of-requires c =
 pub returns : goal.returns
 returns c =
     let K = c.args.program in
-    if_ok_each _ _ c.of.result (λ L is. stripped_collection K c.in_ok-trimmed.trimmed c.trim.new.classes.items (trimmed (goal.at.returns c).In_ok-trimmed) (c.strip_collection_law.ensures.listed (in_class_order (definitions K)) K) L is) c.of.ensures
+    if_ok_map _ _ c.of.result (λ L is. stripped_collection K c.in_ok-trimmed.trimmed c.trim.new.classes.items (trimmed (goal.at.returns c).In_ok-trimmed) (c.strip_collection_law.ensures.listed (in_class_order (definitions K)) K) L is) c.of.ensures

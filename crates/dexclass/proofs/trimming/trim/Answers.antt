@@ -1,8 +1,9 @@
-use Rattle.std.proofs.Common.{subst}
-use Rattle.std.specs.Prelude.{List}
+use Rattle.std.proofs.Common.{ap, map, sym, subst}
+use Rattle.std.specs.Prelude.{All, List}
 use Rattle.std.specs.List.{flat_map}
-use Rattle.dexclass.specs.Numbered.{NumberedClass}
-use Rattle.dexclass.specs.Uses.{HaveMarked, class_uses}
+use Rattle.dexspec.specs.Mentions.{Mentions}
+use Rattle.dexclass.specs.Numbered.{NumberedClass, definition_of}
+use Rattle.dexclass.specs.Uses.{HaveMarked, IsKnownClass, class_uses}
 use Rattle.dexclass.proofs.Trimmed.{trimmed_mentions, all_lead, trimmed_same, trimmed_known}
 use Rattle.dexclass.proofs.trimming.trim.Goals as goal
 
@@ -41,3 +42,17 @@ returns-clause-same c =
     let marked = subst (λ (l : List NumberedClass). HaveMarked (flat_map class_uses l) c.in_ok-marks.marks) c.deref.ensures.value c.in_ok-marks.ensures.marked in
     let led = all_lead m cs c.requires (λ class known. c.uses_law.ensures.uses m class c.is_numbering.ensures.rising known) c.in_ok-marks.marks marked r c.in_ok-trimmed.ensures.marked in
     trimmed_same m n r cs c.cut_all.new.classes.items (λ class leads known. c.renumbering_law.ensures.same m n r class c.in_ok-trimmed.ensures.map leads known) led c.requires c.cut_all.ensures
+
+pub returns-then-is_whole-clause-mentions : goal.returns-then-is_whole-clause-mentions
+returns-then-is_whole-clause-mentions c =
+    let m = c.args.numbering.now in
+    let marked = subst (λ (l : List NumberedClass). HaveMarked (flat_map class_uses l) c.in_ok-marks.marks) c.deref.ensures.value c.in_ok-marks.ensures.marked in
+    trimmed_mentions m c.args.classes.now.items c.requires (λ class known. c.uses_law.ensures.uses m class c.is_numbering.ensures.rising known) c.in_ok-marks.marks marked c.in_ok-trimmed.trimmed c.in_ok-trimmed.ensures.kept
+
+pub returns-then-is_whole-clause-numbers : goal.returns-then-is_whole-clause-numbers
+returns-then-is_whole-clause-numbers c =
+    subst (λ (n : Mentions). All (IsKnownClass n) c.args.classes.now.items) (sym (c.is_whole.ensures c.in_ok-trimmed.ensures.map c.if-is_whole.true)) c.requires
+
+pub returns-then-is_whole-clause-same : goal.returns-then-is_whole-clause-same
+returns-then-is_whole-clause-same c =
+    ap (λ (n : Mentions). map (definition_of n) c.args.classes.now.items) (c.is_whole.ensures c.in_ok-trimmed.ensures.map c.if-is_whole.true)

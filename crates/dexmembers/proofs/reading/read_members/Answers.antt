@@ -1,12 +1,15 @@
-use Rattle.std.proofs.Common.{◌≡◌, ◌<◌, ◌≤◌, ℕ, map, sym, subst}
-use Rattle.std.specs.Prelude.{MatchOption}
+use Rattle.std.proofs.Common.{◌≡◌, ◌+◌, ◌-◌, ◌^◌, ◌<◌, ◌≤◌, min, ℕ, map, sym, ap, ◌∙◌, subst}
+use Rattle.std.specs.Prelude.{IfSome, MatchOption}
 use Rattle.dexpool.specs.Numberings.{AreRising}
 use Rattle.dexval.specs.Code.{value_of}
 use Rattle.dexval.specs.Numbered.{values_of_list}
 use Rattle.dexmembers.specs.Reading.{AreHeavyMembers, AreReadWithin}
 use Rattle.dexmembers.specs.RowParts.{ArePartsOf}
 use Rattle.dexmembers.specs.Contents.{contents_in}
-use Rattle.dexmembers.specs.Numbered.{AreKnownMembers, members_in}
+use Rattle.dexmembers.specs.Numbered.{NumberedMembers, AreKnownMembers, members_in}
+use Rattle.dexmembers.specs.Weighing.{codes_weight, codes_of}
+use Rattle.dexval.specs.Shared.{shared_directory_of}
+use Rattle.dexmembers.proofs.CodesApart.{attached_codes}
 use Rattle.dexmembers.specs.Weight.{members_weight}
 use Rattle.dexmembers.proofs.Judged.{data_refused}
 use Rattle.dexmembers.proofs.RowStands.{some_kept}
@@ -33,6 +36,11 @@ returns-clause-read c = λ pools class.
     let meant = c.code_meaning_law.ensures.meant m in
     let same = c.in_ok-unweighed.ensures.attached (parts_attachable b r m rising d is most p.directory p.direct_codes.items p.virtual_codes.items vs parts) in
     let made_known = parts_known b r m rising d is most p.directory p.direct_codes.items p.virtual_codes.items vs parts known meant in
-    let weighed = c.within.ensures m rising (subst (AreKnownMembers m) (sym same) made_known) in
+    let attachable = parts_attachable b r m rising d is most p.directory p.direct_codes.items p.virtual_codes.items vs parts in
+    let codes : p.codes_weight ≡ min (2 ^ 64 - 1) (codes_weight p.direct_codes.items + codes_weight p.virtual_codes.items) =
+    subst (λ found. IfSome found (λ x. x.codes_weight ≡ min (2 ^ 64 - 1) (codes_weight x.direct_codes.items + codes_weight x.virtual_codes.items))) c.in-Some.is c.in-Ok-read_parts.ensures.weight in
+    let codes_are : p.codes_weight ≡ min (2 ^ 64 - 1) (codes_weight (codes_of made)) =
+    codes ∙ ap (λ (n : ℕ). min (2 ^ 64 - 1) n) (sym (ap (λ (x : NumberedMembers). codes_weight (codes_of x)) same ∙ attached_codes d (shared_directory_of p.directory) p.direct_codes.items p.virtual_codes.items vs attachable.direct_many attachable.virtual_many)) in
+    let weighed = c.within.ensures m rising (subst (AreKnownMembers m) (sym same) made_known) codes_are in
     let weighed_so = subst (λ (n : ℕ). MatchOption c.within.result (n < members_weight (members_in m made)) (λ x. (x.0 ≡ made) × (x.1 ≡ members_weight (members_in m made)) × (x.1 ≤ n))) (sym c.from.ensures) weighed in
     subst (λ (n : ℕ). AreReadWithin b r m n c.within.result) c.from.ensures (parts_answer b r m rising d is most p.directory p.direct_codes.items p.virtual_codes.items vs parts known meant made same c.within.result weighed_so)

@@ -13,9 +13,9 @@ use Rattle.dexmembers.proofs.Judged.{direct_refused, virtual_refused}
 use Rattle.dexmembers.proofs.RowStands.{annotations_refused, values_refused, any_directory, any_codes, any_values, annotations_heavy, direct_heavy, virtual_heavy, values_heavy, codes_here, values_here, none_kept}
 use Rattle.dexmembers.proofs.row_parts.read_parts.Goals as goal
 
--- the items of a vector of code
-abbrev code_items : Vec (Option NumberedItem) → List (Option NumberedItem)
-code_items v = v.items
+-- the items of a vector of code, which stands beside its weight
+abbrev code_items : Vec (Option NumberedItem) × ℕ → List (Option NumberedItem)
+code_items v = v.0.items
 
 -- the values of a vector
 abbrev value_items : Vec ValueRead → NumberedValues
@@ -63,7 +63,7 @@ returns-in-None-direct-clause-read c = λ pools is.
     let values = any_values value_items b r m (length d.static_fields.items) most c.in-Ok-read_static_values.values
     (values_here value_items b r m c.len-fields.result (length d.static_fields.items) most c.in-Ok-read_static_values.values (c.len-fields.ensures ∙ c.args.declared.now.static_fields.ok.0) (c.in-Ok-read_static_values.ensures.read pools)) in
     direct_heavy b r m d is most (any_directory b r m d most c.in-Ok.found (c.in-Ok.ensures.read pools is))
-    (none_kept (AreHeavyCodes b d.direct_methods.items most) (λ (v : Vec (Option NumberedItem)). AreCodesOf b m d.direct_methods.items most v.items) c.in-Ok-read_codes.codes c.in-None-direct.is direct) virtual values
+    (none_kept (AreHeavyCodes b d.direct_methods.items most) (λ (v : Vec (Option NumberedItem) × ℕ). AreCodesOf b m d.direct_methods.items most v.0.items) c.in-Ok-read_codes.codes c.in-None-direct.is direct) virtual values
 
 pub returns-in-None-virtuals-clause-read : goal.returns-in-None-virtuals-clause-read
 returns-in-None-virtuals-clause-read c = λ pools is.
@@ -77,7 +77,7 @@ returns-in-None-virtuals-clause-read c = λ pools is.
     let values = any_values value_items b r m (length d.static_fields.items) most c.in-Ok-read_static_values.values
     (values_here value_items b r m c.len-fields.result (length d.static_fields.items) most c.in-Ok-read_static_values.values (c.len-fields.ensures ∙ c.args.declared.now.static_fields.ok.0) (c.in-Ok-read_static_values.ensures.read pools)) in
     virtual_heavy b r m d is most (any_directory b r m d most c.in-Ok.found (c.in-Ok.ensures.read pools is)) direct
-    (none_kept (AreHeavyCodes b d.virtual_methods.items most) (λ (v : Vec (Option NumberedItem)). AreCodesOf b m d.virtual_methods.items most v.items) c.in-Ok-read_codes-2.codes c.in-None-virtuals.is virtual) values
+    (none_kept (AreHeavyCodes b d.virtual_methods.items most) (λ (v : Vec (Option NumberedItem) × ℕ). AreCodesOf b m d.virtual_methods.items most v.0.items) c.in-Ok-read_codes-2.codes c.in-None-virtuals.is virtual) values
 
 pub returns-clause-read : goal.returns-clause-read
 returns-clause-read c = λ pools is.

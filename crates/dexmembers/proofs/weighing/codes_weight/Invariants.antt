@@ -1,0 +1,6 @@
+use Rattle.std.proofs.Common.{◌≡◌, ◌-◌, ◌^◌, min, sum_by, take}
+use Rattle.dexmembers.specs.Weighing.{method_code_weight}
+use Rattle.dexmembers.proofs.weighing.codes_weight.Given as goal
+
+abbrev pub invariant-loop-i : goal.invariant-loop-i
+invariant-loop-i l = l.weight ≡ min (2 ^ 64 - 1) (sum_by method_code_weight (take l.i l.methods))

@@ -13,7 +13,7 @@ use Rattle.dexspec.specs.Placing.{bytes_from}
 use Rattle.dexmembers.proofs.RenumberingLists.{all_left, all_right}
 use Rattle.dexval.specs.Numbered.{NumberedSet, annotation_in, set_in}
 use Rattle.dexcanon.specs.Annotations.{annotation_item, set_annotations}
-use Rattle.dexcanon.specs.Taking.{AreWithin}
+use Rattle.dexcanon.specs.Output.{AreWithin}
 use Rattle.dexcanon.proofs.Aligned.{short_at}
 use Rattle.dexcanon.proofs.Rows.{rows_next, bytes_plain}
 

@@ -9,7 +9,7 @@ use Rattle.dexspec.specs.Spellings.{debug_bytes}
 use Rattle.dexspec.specs.Placing.{bytes_from}
 use Rattle.dexcode.specs.Debug.{NumberedDebug}
 use Rattle.dexcode.specs.Meaning.{debug_in}
-use Rattle.dexcanon.specs.Taking.{AreWithin}
+use Rattle.dexcanon.specs.Output.{AreWithin}
 use Rattle.dexcanon.proofs.Rows.{rows_next, bytes_plain}
 
 -- a debug_info_item of numbers

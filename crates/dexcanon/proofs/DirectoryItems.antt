@@ -1,7 +1,6 @@
 -- Annotations directories, class by class.
 use Rattle.std.proofs.Common.{◌≡◌, ℕ, ◌+◌, ◌<◌, ◌≤◌, List, ◌∷◌, ◌++◌, Bool, true, false, length, get_or, take, drop, Option, Some, None, ap, sym, ◌∙◌, arith}
 use Rattle.std.specs.Prelude.{slice_index, ◌==◌, ◌&&◌, if◌then◌else◌}
-use Rattle.std.specs.Global.{Vec}
 use Rattle.std.proofs.lemmas.Bool.{cond-false, cond-true}
 use Rattle.std.proofs.lemmas.List.{drop_more, drop-drop, get_or-drop, length-append, length-drop, length-take}
 use Rattle.dexspec.specs.Bytes.{round_up, padding}
@@ -9,24 +8,25 @@ use Rattle.dexspec.specs.Lists.{present}
 use Rattle.dexmembers.specs.DirectoryPut.{numbered_directory_bytes}
 use Rattle.dexmembers.specs.Numbered.{NumberedMembers, fields_of, methods_of}
 use Rattle.dexclass.specs.Numbered.{NumberedClass}
+use Rattle.dexcanon.specs.declared.output.Out.{Out}
 use Rattle.dexcanon.specs.Codes.{class_methods}
 use Rattle.dexcanon.specs.Directories.{HaveOffsets, directory_use, class_directories, class_fields}
-use Rattle.dexcanon.specs.Taking.{Adds, AreWithin}
+use Rattle.dexcanon.specs.Output.{Adds, AreWithin}
 use Rattle.dexcanon.proofs.Aligned.{Aligned, aligned_as, aligned_more, aligned_none}
 
 -- A front of the directories was added, and those of the classes from the i-th on are left, with enough offsets.
-pub record Filing {S : Type 0} (holds : S → List ℕ → Type 0) (has_failed : S → Bool) (empties : Bool) (limit : ℕ) (s : S) (v : Vec ℕ) (t : S) (w : Vec ℕ) (from : ℕ) (cs : List NumberedClass) (own all_fields all_methods all_lists : List ℕ) (at i : ℕ) (fs ms ls : List ℕ) : Type 0 where
-  pub made : Aligned holds has_failed empties limit s v t w 4 from (present (class_directories cs own all_fields all_methods all_lists)) at (present (class_directories (drop i cs) (drop i own) fs ms ls))
+pub record Filing {T : Type 0} (gives gives_prefix : List ℕ → T → T → Type 0) (has_failed : T → Bool) (limit : ℕ) (old new : Out T) (from : ℕ) (cs : List NumberedClass) (own all_fields all_methods all_lists : List ℕ) (at i : ℕ) (fs ms ls : List ℕ) : Type 0 where
+  pub made : Aligned gives gives_prefix has_failed limit old new 4 from (present (class_directories cs own all_fields all_methods all_lists)) at (present (class_directories (drop i cs) (drop i own) fs ms ls))
   pub enough_fields : length (class_fields (drop i cs)) ≤ length fs
   pub enough_methods : length (class_methods (drop i cs)) ≤ length ms
   pub enough_lists : length (class_methods (drop i cs)) ≤ length ls
 
 -- at the start all are left
-pub filing_none : {S : Type 0} {holds : S → List ℕ → Type 0} {has_failed : S → Bool} {empties : Bool} {limit : ℕ} (s : S) (v : Vec ℕ) (from : ℕ) (cs : List NumberedClass) (own fs ms ls : List ℕ) → has_failed s ≡ false
+pub filing_none : {T : Type 0} {gives gives_prefix : List ℕ → T → T → Type 0} {has_failed : T → Bool} {limit : ℕ} (old : Out T) (from : ℕ) (cs : List NumberedClass) (own fs ms ls : List ℕ) → 4 ≤ limit
     → AreWithin limit (present (class_directories cs own fs ms ls)) → length (class_fields cs) ≤ length fs → length (class_methods cs) ≤ length ms → length (class_methods cs) ≤ length ls
-    → Filing holds has_failed empties limit s v s v from cs own fs ms ls from 0 fs ms ls
-filing_none s v from cs own fs ms ls works within enough_fs enough_ms enough_ls = record {
-  made = aligned_none s v 4 from (present (class_directories cs own fs ms ls)) works within;
+    → Filing gives gives_prefix has_failed limit old old from cs own fs ms ls from 0 fs ms ls
+filing_none old from cs own fs ms ls least within enough_fs enough_ms enough_ls = record {
+  made = aligned_none old 4 from (present (class_directories cs own fs ms ls)) least within;
   enough_fields = enough_fs;
   enough_methods = enough_ms;
   enough_lists = enough_ls;
@@ -62,8 +62,8 @@ module _ (cs : List NumberedClass) (i : ℕ) (c : NumberedClass) (x : NumberedMe
       ∷ class_directories (drop (i + 1) cs) os (drop (length (fields_of y)) fs) (drop (length (methods_of y)) ms) (drop (length (methods_of y)) ls) in
       ap (λ ds. class_directories ds (drop i own) fs ms ls) next_class ∙ (λ j. step (sym members j) (there j) (behind j))
 
-module _ {S : Type 0} {holds : S → List ℕ → Type 0} {has_failed : S → Bool} {empties : Bool} {limit : ℕ} {s t : S} {v w : Vec ℕ} {from at i n k : ℕ} {cs : List NumberedClass} {own all_fields all_methods all_lists fs ms ls ffs fms fls ofs oms ols : List ℕ} (c : NumberedClass) (x : NumberedMembers)
-    (h : Filing holds has_failed empties limit s v t w from cs own all_fields all_methods all_lists at i fs ms ls) (lt : i < length cs) (is : c ≡ get_or cs i c) (members : x ≡ c.members) (many_fields : n ≡ length (fields_of x)) (many_methods : k ≡ length (methods_of x))
+module _ {T : Type 0} {gives gives_prefix : List ℕ → T → T → Type 0} {has_failed : T → Bool} {limit : ℕ} {old new : Out T} {from at i n k : ℕ} {cs : List NumberedClass} {own all_fields all_methods all_lists fs ms ls ffs fms fls ofs oms ols : List ℕ} (c : NumberedClass) (x : NumberedMembers)
+    (h : Filing gives gives_prefix has_failed limit old new from cs own all_fields all_methods all_lists at i fs ms ls) (lt : i < length cs) (is : c ≡ get_or cs i c) (members : x ≡ c.members) (many_fields : n ≡ length (fields_of x)) (many_methods : k ≡ length (methods_of x))
     (front_fields : ffs ≡ take n fs) (front_methods : fms ≡ take k ms) (front_lists : fls ≡ take k ls) (back_fields : ofs ≡ drop n fs) (back_methods : oms ≡ drop k ms) (back_lists : ols ≡ drop k ls) where
   -- its bytes
   abbrev here : List ℕ
@@ -104,7 +104,7 @@ module _ {S : Type 0} {holds : S → List ℕ → Type 0} {has_failed : S → Bo
 
   module _ (b : Bool) (whether : b ≡ empty) where
     -- an empty one is passed over
-    pub filing_skip : b ≡ true → Filing holds has_failed empties limit s v t w from cs own all_fields all_methods all_lists at (i + 1) ofs oms ols
+    pub filing_skip : b ≡ true → Filing gives gives_prefix has_failed limit old new from cs own all_fields all_methods all_lists at (i + 1) ofs oms ols
     filing_skip e = record {
       made = aligned_as _ (ap present left_is ∙ use_passed empty here (class_directories (drop (i + 1) cs) (drop (i + 1) own) ofs oms ols) (sym whether ∙ e)) h.made;
       enough_fields = more_fields;
@@ -117,5 +117,5 @@ module _ {S : Type 0} {holds : S → List ℕ → Type 0} {has_failed : S → Bo
     next_directory e = ap present left_is ∙ use_next empty here (class_directories (drop (i + 1) cs) (drop (i + 1) own) ofs oms ols) (sym whether ∙ e)
 
     -- it was added
-    pub filing_more : {u : S} {z : Vec ℕ} (end : ℕ) → b ≡ false → end ≡ round_up 4 at + length here → Adds holds has_failed empties limit t w u z (padding 4 at ++ here) → Filing holds has_failed empties limit s v u z from cs own all_fields all_methods all_lists end (i + 1) ofs oms ols
+    pub filing_more : {next : Out T} (end : ℕ) → b ≡ false → end ≡ round_up 4 at + length here → ((n : ℕ) → 4 ≤ n → length here ≤ n → Adds gives gives_prefix has_failed n new next (padding 4 at ++ here)) → Filing gives gives_prefix has_failed limit old next from cs own all_fields all_methods all_lists end (i + 1) ofs oms ols
     filing_more end e is_end a = record { made = aligned_more h.made (next_directory e) end is_end a; enough_fields = more_fields; enough_methods = more_methods; enough_lists = more_lists }

@@ -1,5 +1,6 @@
 pub mod Aligned
 pub mod AnnotationItems
+pub mod Buffered
 pub mod ClassUses
 pub mod CodeItems
 pub mod Counted
@@ -9,7 +10,6 @@ pub mod DirectoryItems
 pub mod DirectorySections
 pub mod ItemLengths
 pub mod JoinedSums
-pub mod Made
 pub mod OwnUses
 pub mod Plainly
 pub mod RefListSections
@@ -26,4 +26,5 @@ pub mod Told
 pub mod TypeLists
 pub mod WholeBody
 pub mod WholeFile
-pub mod WithRoom
+pub mod Finished
+pub mod Written

@@ -1,6 +1,5 @@
 -- Lists of sets of parameters, list by list.
-use Rattle.std.proofs.Common.{◌≡◌, ℕ, zero, suc, ◌+◌, ◌<◌, ◌≤◌, List, [], ◌∷◌, ◌++◌, Bool, false, length, get_or, map, take, drop, Result, Err, IsErr, IsErrAnd, ap, refl, sym, ◌∙◌, arith, append_assoc}
-use Rattle.std.specs.Global.{Vec}
+use Rattle.std.proofs.Common.{◌≡◌, ℕ, zero, suc, ◌+◌, ◌<◌, ◌≤◌, List, [], ◌∷◌, ◌++◌, Bool, length, get_or, map, take, drop, ap, refl, sym, ◌∙◌, arith, append_assoc}
 use Rattle.std.proofs.lemmas.List.{drop_more, length-drop, map-append}
 use Rattle.std.proofs.Math.Seq.{drop-nil}
 use Rattle.dexspec.specs.Lists.{chunks, present}
@@ -9,10 +8,10 @@ use Rattle.dexspec.specs.Placing.{unless_empty, bytes_from, end_from}
 use Rattle.dexspec.specs.Spellings.{offsets_bytes}
 use Rattle.dexmembers.specs.Numbered.{NumberedMethod, NumberedMembers, methods_of}
 use Rattle.dexclass.specs.Numbered.{NumberedClass}
-use Rattle.dexcanon.specs.declared.faults.StoreFault.{StoreFault}
-use Rattle.dexcanon.specs.Taking.{Adds, AreWithin, FitFrom, Outcome}
+use Rattle.dexcanon.specs.declared.output.Out.{Out}
+use Rattle.dexcanon.specs.Output.{Adds, AreWithin, FitFrom}
 use Rattle.dexcanon.specs.RefLists.{parameter_counts, class_parameter_counts, total, ref_lists}
-use Rattle.dexcanon.proofs.Aligned.{Aligned, aligned_none, aligned_as, aligned_more, front_fit, aligned_join, aligned_join_fault}
+use Rattle.dexcanon.proofs.Aligned.{Aligned, aligned_none, aligned_as, aligned_more, front_fit, aligned_joined}
 
 -- ---- lists of offsets
 
@@ -49,19 +48,19 @@ total_append (m ∷ ms) ns = omega (arith, total_append ms ns)
 -- ---- how far a loop has come
 
 -- A front of the lists was added, and those of so many sets each are left, with enough offsets.
-pub record Listing {S : Type 0} (holds : S → List ℕ → Type 0) (has_failed : S → Bool) (empties : Bool) (limit : ℕ) (s : S) (v : Vec ℕ) (t : S) (w : Vec ℕ) (from : ℕ) (ns offs : List ℕ) (at : ℕ) (left rest : List ℕ) : Type 0 where
-  pub made : Aligned holds has_failed empties limit s v t w 4 from (ref_lists ns offs) at (ref_lists left rest)
+pub record Listing {T : Type 0} (gives gives_prefix : List ℕ → T → T → Type 0) (has_failed : T → Bool) (limit : ℕ) (old new : Out T) (from : ℕ) (ns offs : List ℕ) (at : ℕ) (left rest : List ℕ) : Type 0 where
+  pub made : Aligned gives gives_prefix has_failed limit old new 4 from (ref_lists ns offs) at (ref_lists left rest)
   pub enough : total left ≤ length rest
   pub behind : drop (total left) rest ≡ drop (total ns) offs
 
-module _ {S : Type 0} {holds : S → List ℕ → Type 0} {has_failed : S → Bool} {empties : Bool} {limit : ℕ} where
+module _ {T : Type 0} {gives gives_prefix : List ℕ → T → T → Type 0} {has_failed : T → Bool} {limit : ℕ} where
   -- at the start all are left
-  pub listing_none : (p : S) (q : Vec ℕ) (ns os : List ℕ) (o : ℕ) → has_failed p ≡ false → AreWithin limit (ref_lists ns os) → total ns ≤ length os → Listing holds has_failed empties limit p q p q o ns os o ns os
-  listing_none p q ns os o works within enough = record { made = aligned_none p q 4 o (ref_lists ns os) works within; enough = enough; behind = refl }
+  pub listing_none : (old : Out T) (ns os : List ℕ) (o : ℕ) → 4 ≤ limit → AreWithin limit (ref_lists ns os) → total ns ≤ length os → Listing gives gives_prefix has_failed limit old old o ns os o ns os
+  listing_none old ns os o least within enough = record { made = aligned_none old 4 o (ref_lists ns os) least within; enough = enough; behind = refl }
 
-module _ {S : Type 0} {holds : S → List ℕ → Type 0} {has_failed : S → Bool} {empties : Bool} {limit : ℕ} {s t : S} {v w : Vec ℕ} {from at : ℕ} {all offs left rest : List ℕ} where
+module _ {T : Type 0} {gives gives_prefix : List ℕ → T → T → Type 0} {has_failed : T → Bool} {limit : ℕ} {old new : Out T} {from at : ℕ} {all offs left rest : List ℕ} where
   -- the next count
-  module _ {n : ℕ} {ns others list : List ℕ} (h : Listing holds has_failed empties limit s v t w from all offs at left rest) (e : left ≡ n ∷ ns) (front : list ≡ take n rest) (back : others ≡ drop n rest) where
+  module _ {n : ℕ} {ns others list : List ℕ} (h : Listing gives gives_prefix has_failed limit old new from all offs at left rest) (e : left ≡ n ∷ ns) (front : list ≡ take n rest) (back : others ≡ drop n rest) where
     -- enough offsets are left behind it
     enough_left : total ns ≤ length others
     enough_left = omega (arith, h.enough, ap total e, ap (λ (os : List ℕ). length os) back, length-drop n rest)
@@ -81,15 +80,15 @@ module _ {S : Type 0} {holds : S → List ℕ → Type 0} {has_failed : S → Bo
     next_list some = ap (λ ms. ref_lists ms rest) e ∙ list_next n ns rest list front some ∙ ap (λ os. offsets_bytes list ∷ ref_lists ns os) (sym back)
 
     -- an empty one is passed over
-    pub listing_skip : length list ≡ 0 → Listing holds has_failed empties limit s v t w from all offs at ns others
+    pub listing_skip : length list ≡ 0 → Listing gives gives_prefix has_failed limit old new from all offs at ns others
     listing_skip none = record { made = aligned_as (ref_lists ns others) (skipped none) h.made; enough = enough_left; behind = same_behind }
 
     -- it was added
-    pub listing_more : {u : S} {z : Vec ℕ} (end : ℕ) → 0 < length list → end ≡ round_up 4 at + length (offsets_bytes list) → Adds holds has_failed empties limit t w u z (padding 4 at ++ offsets_bytes list) → Listing holds has_failed empties limit s v u z from all offs end ns others
+    pub listing_more : {next : Out T} (end : ℕ) → 0 < length list → end ≡ round_up 4 at + length (offsets_bytes list) → ((n : ℕ) → 4 ≤ n → length (offsets_bytes list) ≤ n → Adds gives gives_prefix has_failed n new next (padding 4 at ++ offsets_bytes list)) → Listing gives gives_prefix has_failed limit old next from all offs end ns others
     listing_more end some is a = record { made = aligned_more h.made (next_list some) end is a; enough = enough_left; behind = same_behind }
 
   -- the counts of the next methods
-  module _ (ms ns : List ℕ) (h : Listing holds has_failed empties limit s v t w from all offs at left rest) (e : left ≡ ms ++ ns) where
+  module _ (ms ns : List ℕ) (h : Listing gives gives_prefix has_failed limit old new from all offs at left rest) (e : left ≡ ms ++ ns) where
     -- their lists
     pub next_lists : (os : List ℕ) → os ≡ drop (total ms) rest → ref_lists left rest ≡ ref_lists ms rest ++ ref_lists ns os
     next_lists os back = ap (λ ks. ref_lists ks rest) e ∙ lists_append ms ns rest ∙ ap (λ ks. ref_lists ms rest ++ ref_lists ns ks) (sym back)
@@ -102,18 +101,13 @@ module _ {S : Type 0} {holds : S → List ℕ → Type 0} {has_failed : S → Bo
     lists_enough = omega (arith, h.enough, ap total e, total_append ms ns)
 
     -- they were added
-    pub listing_join : {u : S} {z : Vec ℕ} (end : ℕ) (os : List ℕ) → end ≡ end_from 4 at (ref_lists ms rest) → os ≡ drop (total ms) rest → Adds holds has_failed empties limit t w u z (bytes_from 4 at (ref_lists ms rest))
-        → Listing holds has_failed empties limit s v u z from all offs end ns os
-    listing_join end os is back a = record {
-      made = aligned_join (ref_lists ms rest) (ref_lists ns os) h.made (next_lists os back) end is a;
+    pub listing_join : {next : Out T} → FitFrom limit from (ref_lists all offs) → (end : ℕ) (os : List ℕ) → end ≡ end_from 4 at (ref_lists ms rest) → os ≡ drop (total ms) rest → ((n : ℕ) → FitFrom n at (ref_lists ms rest) → Adds gives gives_prefix has_failed n new next (bytes_from 4 at (ref_lists ms rest)))
+        → Listing gives gives_prefix has_failed limit old next from all offs end ns os
+    listing_join fit end os is back a = record {
+      made = aligned_joined (ref_lists ms rest) (ref_lists ns os) h.made (next_lists os back) fit end is a;
       enough = omega (arith, h.enough, ap total e, total_append ms ns, ap (λ (ks : List ℕ). length ks) back, length-drop (total ms) rest);
       behind = ap (drop (total ns)) back ∙ drop_twice (total ms) (total ns) rest ∙ ap (λ k. drop k rest) (sym (ap total e ∙ total_append ms ns)) ∙ h.behind;
     }
-
-    -- the state failed in their midst
-    pub listing_fault : {T U : Type 0} {u : S} {z : Vec ℕ} {f : StoreFault} {r : Result T StoreFault} → Outcome {T = U} holds has_failed empties limit t w u z (bytes_from 4 at (ref_lists ms rest)) (Err f) → IsErr r → IsErrAnd r (λ k. k ≡ f)
-        → Outcome holds has_failed empties limit s v u z (bytes_from 4 from (ref_lists all offs)) r
-    listing_fault o is and = aligned_join_fault (ref_lists ms rest) (ref_lists ns (drop (total ms) rest)) h.made (next_lists (drop (total ms) rest) refl) o is and
 
 -- ---- methods and classes
 

@@ -4,10 +4,12 @@ pub mod ClassRows
 pub mod Codes
 pub mod Digests
 pub mod Directories
+pub mod Output
 pub mod Ready
 pub mod RefLists
 pub mod Sets
-pub mod Taking
+pub mod Sums
+pub mod Took
 pub mod TypeLists
 pub mod ValueItems
 pub mod Written

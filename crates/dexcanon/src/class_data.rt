@@ -10,12 +10,11 @@ ghost use Rattle.dexspec.specs.Spellings.{class_data_bytes};
 ghost use Rattle.dexclass.specs.Numbered.{definition_of};
 ghost use Rattle.dexcanon.specs.ClassItems.{IsFitClass};
 ghost use Rattle.dexcanon.specs.Ready.{CanBeMade, ordered_in};
-ghost use Rattle.dexcanon.specs.Taking.{Outcome};
+ghost use Rattle.dexcanon.specs.Output.{Adds};
 
 use crate::contents::Contents;
-use crate::faults::StoreFault;
 use crate::items::Item;
-use crate::taking::{Takes, pass};
+use crate::output::{Out, Target};
 use dexclass::Class;
 use dexpool::{Numbering, number_law};
 use std::alloc::AllocError;
@@ -57,14 +56,9 @@ fn is_bare(class: &Class<'_>) -> bool
 }
 
 /// The class data.
-pub(crate) fn put_class_data<S, M: Takes<S>>(
-    contents: &Contents<'_, '_, '_, '_>,
-    gathered: &mut Vec<u8>,
-    state: &mut S,
-) -> Result<(), StoreFault>
-    requires works { M.has_failed state.old ≡ false }
-    requires ready { CanBeMade contents.now }
-    ensures { Outcome M.holds M.has_failed M.empties contents.now.limit state.old gathered.old state.new gathered.new (section_bytes (class_data_section (ordered_in contents.now))) result }
+pub(crate) fn put_class_data<T: Target>(contents: &Contents<'_, '_, '_, '_>, out: &mut Out<T>)
+    requires { CanBeMade contents.now }
+    ensures { Adds T.gives T.gives_prefix T.has_failed contents.now.limit out.old out.new (section_bytes (class_data_section (ordered_in contents.now))) }
 {
     let numbering = contents.numbering;
     let mut rest = contents.layout.codes().offsets();
@@ -79,7 +73,6 @@ pub(crate) fn put_class_data<S, M: Takes<S>>(
             class,
             code_offs: own,
         };
-        pass::<ClassData, S, M>(&item, contents.limit, gathered, state)?;
+        out.put(&item);
     }
-    Ok(())
 }

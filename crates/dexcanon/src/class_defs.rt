@@ -9,12 +9,11 @@ ghost use Rattle.dexspec.specs.Classes.{no_index};
 ghost use Rattle.dexspec.specs.Canonical.{class_offsets, layout};
 ghost use Rattle.dexcanon.specs.ClassRows.{class_row, rows_with};
 ghost use Rattle.dexcanon.specs.Ready.{CanBeMade, ordered_in};
-ghost use Rattle.dexcanon.specs.Taking.{Outcome};
+ghost use Rattle.dexcanon.specs.Output.{Adds};
 
 use crate::contents::Contents;
-use crate::faults::StoreFault;
 use crate::items::Numbers;
-use crate::taking::{Takes, pass};
+use crate::output::{Out, Target};
 use dexclass::Class;
 use dexpool::{SymbolKind, number_law};
 
@@ -87,14 +86,9 @@ fn row_of(class: &Class<'_>, places: &ClassPlaces<'_>, r: usize) -> [u32; 8]
 }
 
 /// The rows of the classes.
-pub(crate) fn put_class_defs<S, M: Takes<S>>(
-    contents: &Contents<'_, '_, '_, '_>,
-    gathered: &mut Vec<u8>,
-    state: &mut S,
-) -> Result<(), StoreFault>
-    requires works { M.has_failed state.old ≡ false }
-    requires ready { CanBeMade contents.now }
-    ensures { Outcome M.holds M.has_failed M.empties contents.now.limit state.old gathered.old state.new gathered.new (concat (rows_with contents.now.numbering.now contents.now.classes.now (layout (ordered_in contents.now)).classes)) result }
+pub(crate) fn put_class_defs<T: Target>(contents: &Contents<'_, '_, '_, '_>, out: &mut Out<T>)
+    requires { CanBeMade contents.now }
+    ensures { Adds T.gives T.gives_prefix T.has_failed contents.now.limit out.old out.new (concat (rows_with contents.now.numbering.now contents.now.classes.now (layout (ordered_in contents.now)).classes)) }
 {
     let classes = contents.classes;
     contents.numbering.is_numbering();
@@ -102,7 +96,6 @@ pub(crate) fn put_class_defs<S, M: Takes<S>>(
     let places = ClassPlaces::of(contents);
     for r in 0..classes.len() {
         let row = row_of(&classes[r], &places, r);
-        pass::<Numbers, S, M>(&Numbers(&row), contents.limit, gathered, state)?;
+        out.put(&Numbers(&row));
     }
-    Ok(())
 }

@@ -2,7 +2,7 @@
 //!
 //! Source: the heading "code_item" of the Android page "Dalvik Executable format".
 
-ghost use Rattle.std.specs.Prelude.{◌≡◌, ◌≤◌, false, length, All, IfOk};
+ghost use Rattle.std.specs.Prelude.{◌≡◌, ℕ, ◌≤◌, length, All};
 ghost use Rattle.dexspec.specs.Spellings.{code_bytes};
 ghost use Rattle.dexspec.specs.Placing.{bytes_from, end_from, section_bytes};
 ghost use Rattle.dexspec.specs.Canonical.{code_section};
@@ -10,12 +10,11 @@ ghost use Rattle.dexcode.specs.Meaning.{code_in};
 ghost use Rattle.dexmembers.specs.Numbered.{IsKnownMethod};
 ghost use Rattle.dexcanon.specs.Codes.{IsFitCode, method_codes};
 ghost use Rattle.dexcanon.specs.Ready.{CanBeMade, ordered_in};
-ghost use Rattle.dexcanon.specs.Taking.{FitFrom, Outcome};
+ghost use Rattle.dexcanon.specs.Output.{FitFrom, Adds};
 
 use crate::contents::Contents;
-use crate::faults::StoreFault;
 use crate::items::Item;
-use crate::taking::{Takes, pass_aligned};
+use crate::output::{Out, Target};
 use dexcode::{Code, code_meaning_law, code_types_law, put_code};
 use dexmembers::Methods;
 use dexpool::Numbering;
@@ -48,22 +47,19 @@ impl Item for CodeItem<'_, '_> {
 }
 
 // The code of methods, from a place on, with the offset of the debug program of each. Where it ends is answered.
-fn put_method_codes<S, M: Takes<S>>(
+fn put_method_codes<T: Target>(
     numbering: &Numbering<'_>,
     methods: &Methods<'_, '_>,
     debug_offs: &[u32],
     from: u32,
-    limit: usize,
-    gathered: &mut Vec<u8>,
-    state: &mut S,
-) -> Result<u32, StoreFault>
-    requires works { M.has_failed state.old ≡ false }
+    out: &mut Out<T>,
+) -> u32
     requires known { All (IsKnownMethod numbering.now) methods.now }
     requires types { length numbering.now.types ≤ 65536 }
     requires offsets { length debug_offs.now ≡ length methods.now }
-    requires fit { FitFrom limit from (method_codes numbering.now methods.now debug_offs.now) }
-    ensures end { IfOk result (λ end. end ≡ end_from 4 from (method_codes numbering.now methods.now debug_offs.now)) }
-    ensures outcome { Outcome M.holds M.has_failed M.empties limit state.old gathered.old state.new gathered.new (bytes_from 4 from (method_codes numbering.now methods.now debug_offs.now)) result }
+    requires fit { (limit : ℕ) × FitFrom limit from (method_codes numbering.now methods.now debug_offs.now) }
+    ensures end { result ≡ end_from 4 from (method_codes numbering.now methods.now debug_offs.now) }
+    ensures adds { (limit : ℕ) → FitFrom limit from (method_codes numbering.now methods.now debug_offs.now) → Adds T.gives T.gives_prefix T.has_failed limit out.old out.new (bytes_from 4 from (method_codes numbering.now methods.now debug_offs.now)) }
 {
     let mut at = from;
     for i in 0..methods.len() {
@@ -77,23 +73,17 @@ fn put_method_codes<S, M: Takes<S>>(
             code,
             debug_off,
         };
-        at = pass_aligned::<CodeItem, S, M>(&item, at, limit, gathered, state)?;
+        at = out.put_aligned(&item, at);
     }
-    Ok(at)
+    at
 }
 
 /// The code of the methods of the classes, the direct ones of each first.
-pub(crate) fn put_codes<S, M: Takes<S>>(
-    contents: &Contents<'_, '_, '_, '_>,
-    gathered: &mut Vec<u8>,
-    state: &mut S,
-) -> Result<(), StoreFault>
-    requires works { M.has_failed state.old ≡ false }
-    requires ready { CanBeMade contents.now }
-    ensures { Outcome M.holds M.has_failed M.empties contents.now.limit state.old gathered.old state.new gathered.new (section_bytes (code_section (ordered_in contents.now))) result }
+pub(crate) fn put_codes<T: Target>(contents: &Contents<'_, '_, '_, '_>, out: &mut Out<T>)
+    requires { CanBeMade contents.now }
+    ensures { Adds T.gives T.gives_prefix T.has_failed contents.now.limit out.old out.new (section_bytes (code_section (ordered_in contents.now))) }
 {
     let numbering = contents.numbering;
-    let limit = contents.limit;
     let places = contents.layout.debugs().places();
     let mut rest = places.offsets();
     let mut at = places.end();
@@ -102,10 +92,9 @@ pub(crate) fn put_codes<S, M: Takes<S>>(
         let direct = members.direct_methods();
         let virtuals = members.virtual_methods();
         let (own, others) = rest.split_at(direct.len());
-        at = put_method_codes::<S, M>(numbering, &direct, own, at, limit, gathered, state)?;
+        at = put_method_codes(numbering, &direct, own, at, out);
         let (own, others) = others.split_at(virtuals.len());
-        at = put_method_codes::<S, M>(numbering, &virtuals, own, at, limit, gathered, state)?;
+        at = put_method_codes(numbering, &virtuals, own, at, out);
         rest = others;
     }
-    Ok(())
 }

@@ -8,12 +8,11 @@ ghost use Rattle.dexspec.specs.Placing.{section_bytes};
 ghost use Rattle.dexspec.specs.Canonical.{debug_section};
 ghost use Rattle.dexcode.specs.Meaning.{debug_in, IsKnownDebug};
 ghost use Rattle.dexcanon.specs.Ready.{CanBeMade, ordered_in};
-ghost use Rattle.dexcanon.specs.Taking.{Outcome};
+ghost use Rattle.dexcanon.specs.Output.{Adds};
 
 use crate::contents::Contents;
-use crate::faults::StoreFault;
 use crate::items::Item;
-use crate::taking::{Takes, pass};
+use crate::output::{Out, Target};
 use dexcode::{Debug, debug_meaning_law, put_debug};
 use dexpool::Numbering;
 use std::alloc::AllocError;
@@ -43,20 +42,14 @@ impl Item for DebugProgram<'_, '_> {
 }
 
 /// The debug programs.
-pub(crate) fn put_debugs<S, M: Takes<S>>(
-    contents: &Contents<'_, '_, '_, '_>,
-    gathered: &mut Vec<u8>,
-    state: &mut S,
-) -> Result<(), StoreFault>
-    requires works { M.has_failed state.old ≡ false }
-    requires ready { CanBeMade contents.now }
-    ensures { Outcome M.holds M.has_failed M.empties contents.now.limit state.old gathered.old state.new gathered.new (section_bytes (debug_section (ordered_in contents.now))) result }
+pub(crate) fn put_debugs<T: Target>(contents: &Contents<'_, '_, '_, '_>, out: &mut Out<T>)
+    requires { CanBeMade contents.now }
+    ensures { Adds T.gives T.gives_prefix T.has_failed contents.now.limit out.old out.new (section_bytes (debug_section (ordered_in contents.now))) }
 {
     let numbering = contents.numbering;
     let written = contents.layout.debugs().written();
     for debug in written {
         let item = DebugProgram { numbering, debug };
-        pass::<DebugProgram, S, M>(&item, contents.limit, gathered, state)?;
+        out.put(&item);
     }
-    Ok(())
 }

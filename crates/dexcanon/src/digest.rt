@@ -1,18 +1,17 @@
 //! The digest of each class of a program: the signature of the canonical file of the class alone.
 
-ghost use Rattle.std.specs.Prelude.{◌≡◌, ◌++◌, true, map, take, drop, vec_len, IfOk, OnOk};
+ghost use Rattle.std.specs.Prelude.{◌≡◌, ◌≤◌, ◌++◌, map, take, drop, vec_len, vec_capacity, IfOk, OnOk};
 ghost use Rattle.std.specs.List.{Contains};
 ghost use Rattle.dexspec.specs.Classes.{Definition};
 ghost use Rattle.dexspec.specs.Files.{definitions};
 ghost use Rattle.dexspec.specs.Depth.{in_class_order};
 ghost use Rattle.dexspec.specs.Canonical.{canonical, with_sums, unsigned_file};
 ghost use Rattle.dexcanon.specs.Ready.{CanBeMade, ordered_in};
-ghost use Rattle.dexcanon.specs.Taking.{HasRoom};
 ghost use Rattle.dexcanon.specs.Digests.{class_alone, class_digest, IsFileAlone};
 
 use crate::contents::Contents;
-use crate::files::put_file;
-use crate::makings::Hashes;
+use crate::files::{put_head, write_body};
+use crate::output::Out;
 use crate::writing::PIECE;
 use dexclass::{Part, Program};
 use dexlayout::Layout;
@@ -72,21 +71,33 @@ fn signature(alloc: Global, program: &Program<'_>) -> Result<[u8; 20], AllocErro
 {
     let layout = Layout::of(alloc, program)?;
     let contents = Contents::of(program, &layout);
-    let mut gathered = Vec::with_capacity(alloc, contents.limit.max(PIECE))?;
-    Ok(signed(&contents, &mut gathered))
+    let buffer = Vec::with_capacity(alloc, contents.limit.max(PIECE))?;
+    Ok(signed(&contents, buffer))
 }
 
-// The signature of the file of its contents, which is made through a vector with room.
-fn signed(contents: &Contents<'_, '_, '_, '_>, gathered: &mut Vec<u8>) -> [u8; 20]
+// The signature of the file of its contents, which is made in a buffer with room.
+fn signed(contents: &Contents<'_, '_, '_, '_>, mut buffer: Vec<u8>) -> [u8; 20]
     requires ready { CanBeMade contents.now }
-    requires room { HasRoom true contents.now.limit gathered.old }
-    requires empty { vec_len gathered.old ≡ 0 }
+    requires room { contents.now.limit ≤ vec_capacity buffer }
+    requires empty { vec_len buffer ≡ 0 }
     ensures { result ≡ take 20 (drop 12 (with_sums (unsigned_file (ordered_in contents.now)))) }
 {
     dexhead::laws::file_law();
     dexhead::laws::sums_law();
     let head = contents.layout.head();
-    let mut message = Sha1::new();
-    put_file::<Sha1, Hashes>(&head, 32, contents, gathered, &mut message).unwrap();
+    put_head(&head, 32, &mut buffer);
+    let mut out = Out {
+        buffer,
+        limit: contents.limit,
+        fault: None,
+        target: Sha1::new(),
+    };
+    write_body(contents, &mut out);
+    let Out {
+        buffer: _,
+        limit: _,
+        fault: _,
+        target: message,
+    } = out;
     message.finalize()
 }

@@ -8,12 +8,11 @@ ghost use Rattle.dexspec.specs.Canonical.{directory_section};
 ghost use Rattle.dexmembers.specs.DirectoryPut.{numbered_directory_bytes};
 ghost use Rattle.dexcanon.specs.Directories.{HaveOffsets};
 ghost use Rattle.dexcanon.specs.Ready.{CanBeMade, ordered_in};
-ghost use Rattle.dexcanon.specs.Taking.{Outcome};
+ghost use Rattle.dexcanon.specs.Output.{Adds};
 
 use crate::contents::Contents;
-use crate::faults::StoreFault;
 use crate::items::Item;
-use crate::taking::{Takes, pass_aligned};
+use crate::output::{Out, Target};
 use dexmembers::Members;
 use dexpool::number_law;
 use std::alloc::AllocError;
@@ -63,14 +62,9 @@ impl DirectoryItem<'_, '_> {
 }
 
 /// The directories of the classes.
-pub(crate) fn put_directories<S, M: Takes<S>>(
-    contents: &Contents<'_, '_, '_, '_>,
-    gathered: &mut Vec<u8>,
-    state: &mut S,
-) -> Result<(), StoreFault>
-    requires works { M.has_failed state.old ≡ false }
-    requires ready { CanBeMade contents.now }
-    ensures { Outcome M.holds M.has_failed M.empties contents.now.limit state.old gathered.old state.new gathered.new (section_bytes (directory_section (ordered_in contents.now))) result }
+pub(crate) fn put_directories<T: Target>(contents: &Contents<'_, '_, '_, '_>, out: &mut Out<T>)
+    requires { CanBeMade contents.now }
+    ensures { Adds T.gives T.gives_prefix T.has_failed contents.now.limit out.old out.new (section_bytes (directory_section (ordered_in contents.now))) }
 {
     number_law();
     let classes = contents.classes;
@@ -100,7 +94,6 @@ pub(crate) fn put_directories<S, M: Takes<S>>(
         if item.is_empty() {
             continue;
         }
-        at = pass_aligned::<DirectoryItem, S, M>(&item, at, contents.limit, gathered, state)?;
+        at = out.put_aligned(&item, at);
     }
-    Ok(())
 }

@@ -1,49 +1,34 @@
 //! A file from a place in its header on.
 
-ghost use Rattle.std.specs.Prelude.{◌≡◌, ◌<◌, ◌≤◌, ◌++◌, false, true, drop, vec_len, vec_capacity, OnOk, OnErr};
+ghost use Rattle.std.specs.Prelude.{◌≡◌, ◌≤◌, ◌++◌, [], None, drop, vec_len, vec_capacity};
 ghost use Rattle.dexhead.specs.Laid.{behind_header};
 ghost use Rattle.dexhead.specs.Written.{head_bytes};
 ghost use Rattle.dexcanon.specs.Ready.{CanBeMade, ordered_in};
-ghost use Rattle.dexcanon.specs.Taking.{Outcome};
+ghost use Rattle.dexcanon.specs.Output.{Adds};
 
 use crate::body::put_body;
 use crate::contents::Contents;
-use crate::faults::StoreFault;
-use crate::taking::Takes;
+use crate::output::{Out, Target};
 use dexhead::Head;
-use std::alloc::AllocError;
 
-// A header from a place in it on, into a vector that is empty.
-fn put_head(head: &Head, from: usize, gathered: &mut Vec<u8>) -> Result<(), AllocError>
+/// Puts a header from a place in it on, into a buffer that is empty and has room for it.
+pub(crate) fn put_head(head: &Head, from: usize, buffer: &mut Vec<u8>)
     requires within { from ≤ 112 }
-    requires empty { vec_len gathered.old ≡ 0 }
-    ensures items { OnOk result (gathered.new.items ≡ drop from (head_bytes head.now)) }
-    ensures len { OnOk result (vec_len gathered.new ≤ 112) }
-    ensures room { OnErr result (vec_capacity gathered.old < 112) }
-    ensures capacity { OnOk result (vec_capacity gathered.old ≤ vec_capacity gathered.new) }
+    requires empty { vec_len buffer.old ≡ 0 }
+    requires room { 112 ≤ vec_capacity buffer.old }
+    ensures items { buffer.new.items ≡ drop from (head_bytes head.now) }
+    ensures capacity { vec_capacity buffer.old ≤ vec_capacity buffer.new }
 {
-    head.put(gathered)?;
-    gathered.drain(..from);
-    Ok(())
+    head.put(buffer).unwrap();
+    buffer.drain(..from);
 }
 
-/// The file with a header, from a place in the header on, through a vector that is empty. All of it is taken.
-pub(crate) fn put_file<S, M: Takes<S>>(
-    head: &Head,
-    from: usize,
-    contents: &Contents<'_, '_, '_, '_>,
-    gathered: &mut Vec<u8>,
-    state: &mut S,
-) -> Result<(), StoreFault>
-    requires works { M.has_failed state.old ≡ false }
-    requires within { from ≤ 112 }
-    requires empty { vec_len gathered.old ≡ 0 }
-    requires ready { CanBeMade contents.now }
-    ensures outcome { Outcome M.holds M.has_failed M.empties contents.now.limit state.old gathered.old state.new gathered.new (drop from (head_bytes head.now) ++ behind_header (ordered_in contents.now)) result }
-    ensures emptied { OnOk result (M.empties ≡ true → vec_len gathered.new ≡ 0) }
+/// Writes all that stands behind the header of a file, and flushes it.
+pub(crate) fn write_body<T: Target>(contents: &Contents<'_, '_, '_, '_>, out: &mut Out<T>)
+    requires { CanBeMade contents.now }
+    ensures adds { Adds T.gives T.gives_prefix T.has_failed contents.now.limit out.old out.new (behind_header (ordered_in contents.now)) }
+    ensures empty { out.new.fault ≡ None → vec_len out.new.buffer ≡ 0 }
 {
-    put_head(head, from, gathered)?;
-    put_body::<S, M>(contents, gathered, state)?;
-    M::take(state, gathered)?;
-    Ok(())
+    put_body(contents, out);
+    out.flush();
 }

@@ -4,6 +4,7 @@
 //! project's rule.
 #![tactic(auto)]
 
+mod adler_combine;
 mod annotations;
 mod body;
 mod class_data;
@@ -16,16 +17,14 @@ mod directories;
 mod faults;
 mod files;
 mod items;
-mod joined;
-mod kept;
-mod makings;
 mod map;
+mod output;
 mod ref_lists;
 mod sets;
 mod static_values;
 mod strings;
 mod tables;
-mod taking;
+mod targets;
 mod type_lists;
 mod value_items;
 mod writing;

@@ -2,35 +2,31 @@
 //!
 //! Source: the heading "annotation_set_ref_list" of the Android page "Dalvik Executable format".
 
-ghost use Rattle.std.specs.Prelude.{◌≡◌, ◌≤◌, false, length, drop, IfOk};
+ghost use Rattle.std.specs.Prelude.{◌≡◌, ℕ, ◌≤◌, length, drop};
 ghost use Rattle.dexspec.specs.Placing.{bytes_from, end_from, section_bytes};
 ghost use Rattle.dexspec.specs.Canonical.{ref_list_section};
 ghost use Rattle.dexcanon.specs.Ready.{CanBeMade, ordered_in};
 ghost use Rattle.dexcanon.specs.RefLists.{parameter_counts, ref_lists, total};
-ghost use Rattle.dexcanon.specs.Taking.{FitFrom, Outcome};
+ghost use Rattle.dexcanon.specs.Output.{FitFrom, Adds};
 
 use crate::contents::Contents;
-use crate::faults::StoreFault;
 use crate::items::OffsetList;
-use crate::taking::{Takes, pass_aligned};
+use crate::output::{Out, Target};
 use dexmembers::Methods;
 
 // The lists of methods, from a place on, from the offsets of all sets in turn. Where they end is answered, and the
 // offsets that are left.
-fn put_method_lists<'o, S, M: Takes<S>>(
+fn put_method_lists<'o, T: Target>(
     methods: &Methods<'_, '_>,
     set_offs: &'o [u32],
     from: u32,
-    limit: usize,
-    gathered: &mut Vec<u8>,
-    state: &mut S,
-) -> Result<(u32, &'o [u32]), StoreFault>
-    requires works { M.has_failed state.old ≡ false }
+    out: &mut Out<T>,
+) -> (u32, &'o [u32])
     requires offsets { total (parameter_counts methods.now) ≤ length set_offs.now }
-    requires fit { FitFrom limit from (ref_lists (parameter_counts methods.now) set_offs.now) }
-    ensures end { IfOk result (λ p. p.0 ≡ end_from 4 from (ref_lists (parameter_counts methods.now) set_offs.now)) }
-    ensures left { IfOk result (λ p. p.1.now ≡ drop (total (parameter_counts methods.now)) set_offs.now) }
-    ensures outcome { Outcome M.holds M.has_failed M.empties limit state.old gathered.old state.new gathered.new (bytes_from 4 from (ref_lists (parameter_counts methods.now) set_offs.now)) result }
+    requires fit { (limit : ℕ) × FitFrom limit from (ref_lists (parameter_counts methods.now) set_offs.now) }
+    ensures end { result.0 ≡ end_from 4 from (ref_lists (parameter_counts methods.now) set_offs.now) }
+    ensures left { result.1.now ≡ drop (total (parameter_counts methods.now)) set_offs.now }
+    ensures adds { (limit : ℕ) → FitFrom limit from (ref_lists (parameter_counts methods.now) set_offs.now) → Adds T.gives T.gives_prefix T.has_failed limit out.old out.new (bytes_from 4 from (ref_lists (parameter_counts methods.now) set_offs.now)) }
 {
     let mut at = from;
     let mut rest = set_offs;
@@ -41,22 +37,16 @@ fn put_method_lists<'o, S, M: Takes<S>>(
         if list.is_empty() {
             continue;
         }
-        at = pass_aligned::<OffsetList, S, M>(&OffsetList(list), at, limit, gathered, state)?;
+        at = out.put_aligned(&OffsetList(list), at);
     }
-    Ok((at, rest))
+    (at, rest)
 }
 
 /// The lists of the sets of the parameters of the methods of the classes.
-pub(crate) fn put_ref_lists<S, M: Takes<S>>(
-    contents: &Contents<'_, '_, '_, '_>,
-    gathered: &mut Vec<u8>,
-    state: &mut S,
-) -> Result<(), StoreFault>
-    requires works { M.has_failed state.old ≡ false }
-    requires ready { CanBeMade contents.now }
-    ensures { Outcome M.holds M.has_failed M.empties contents.now.limit state.old gathered.old state.new gathered.new (section_bytes (ref_list_section (ordered_in contents.now))) result }
+pub(crate) fn put_ref_lists<T: Target>(contents: &Contents<'_, '_, '_, '_>, out: &mut Out<T>)
+    requires { CanBeMade contents.now }
+    ensures { Adds T.gives T.gives_prefix T.has_failed contents.now.limit out.old out.new (section_bytes (ref_list_section (ordered_in contents.now))) }
 {
-    let limit = contents.limit;
     let sets = contents.layout.sets();
     let mut rest = sets.parameters();
     let mut at = sets.end();
@@ -64,8 +54,7 @@ pub(crate) fn put_ref_lists<S, M: Takes<S>>(
         let members = class.members();
         let direct = members.direct_methods();
         let virtuals = members.virtual_methods();
-        (at, rest) = put_method_lists::<S, M>(&direct, rest, at, limit, gathered, state)?;
-        (at, rest) = put_method_lists::<S, M>(&virtuals, rest, at, limit, gathered, state)?;
+        (at, rest) = put_method_lists(&direct, rest, at, out);
+        (at, rest) = put_method_lists(&virtuals, rest, at, out);
     }
-    Ok(())
 }

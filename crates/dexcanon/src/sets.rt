@@ -10,12 +10,11 @@ ghost use Rattle.dexval.specs.Code.{set_of};
 ghost use Rattle.dexval.specs.Numbered.{set_in};
 ghost use Rattle.dexcanon.specs.Sets.{IsFitSet, offsets_of_set};
 ghost use Rattle.dexcanon.specs.Ready.{CanBeMade, ordered_in};
-ghost use Rattle.dexcanon.specs.Taking.{Outcome};
+ghost use Rattle.dexcanon.specs.Output.{Adds};
 
 use crate::contents::Contents;
-use crate::faults::StoreFault;
 use crate::items::Item;
-use crate::taking::{Takes, pass_aligned};
+use crate::output::{Out, Target};
 use dexpool::Numbering;
 use dexval::{AnnotationSet, put_set, set_size};
 use std::alloc::AllocError;
@@ -44,14 +43,9 @@ impl Item for SetItem<'_, '_> {
 }
 
 /// The sets of annotations.
-pub(crate) fn put_sets<S, M: Takes<S>>(
-    contents: &Contents<'_, '_, '_, '_>,
-    gathered: &mut Vec<u8>,
-    state: &mut S,
-) -> Result<(), StoreFault>
-    requires works { M.has_failed state.old ≡ false }
-    requires ready { CanBeMade contents.now }
-    ensures { Outcome M.holds M.has_failed M.empties contents.now.limit state.old gathered.old state.new gathered.new (section_bytes (set_section (ordered_in contents.now))) result }
+pub(crate) fn put_sets<T: Target>(contents: &Contents<'_, '_, '_, '_>, out: &mut Out<T>)
+    requires { CanBeMade contents.now }
+    ensures { Adds T.gives T.gives_prefix T.has_failed contents.now.limit out.old out.new (section_bytes (set_section (ordered_in contents.now))) }
 {
     let numbering = contents.numbering;
     let places = contents.layout.annotations();
@@ -64,7 +58,6 @@ pub(crate) fn put_sets<S, M: Takes<S>>(
             set,
             first: firsts[i],
         };
-        at = pass_aligned::<SetItem, S, M>(&item, at, contents.limit, gathered, state)?;
+        at = out.put_aligned(&item, at);
     }
-    Ok(())
 }

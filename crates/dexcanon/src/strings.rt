@@ -6,28 +6,21 @@ ghost use Rattle.std.specs.Prelude.{◌≡◌, false};
 ghost use Rattle.dexspec.specs.Placing.{section_bytes};
 ghost use Rattle.dexspec.specs.Canonical.{string_section};
 ghost use Rattle.dexcanon.specs.Ready.{CanBeMade, ordered_in};
-ghost use Rattle.dexcanon.specs.Taking.{Outcome};
+ghost use Rattle.dexcanon.specs.Output.{Adds};
 
 use crate::contents::Contents;
-use crate::faults::StoreFault;
 use crate::items::StringData;
-use crate::taking::{Takes, pass};
+use crate::output::{Out, Target};
 use dexpool::SymbolKind;
 
 /// The data of the texts.
-pub(crate) fn put_strings<S, M: Takes<S>>(
-    contents: &Contents<'_, '_, '_, '_>,
-    gathered: &mut Vec<u8>,
-    state: &mut S,
-) -> Result<(), StoreFault>
-    requires works { M.has_failed state.old ≡ false }
-    requires ready { CanBeMade contents.now }
-    ensures { Outcome M.holds M.has_failed M.empties contents.now.limit state.old gathered.old state.new gathered.new (section_bytes (string_section (ordered_in contents.now))) result }
+pub(crate) fn put_strings<T: Target>(contents: &Contents<'_, '_, '_, '_>, out: &mut Out<T>)
+    requires { CanBeMade contents.now }
+    ensures { Adds T.gives T.gives_prefix T.has_failed contents.now.limit out.old out.new (section_bytes (string_section (ordered_in contents.now))) }
 {
     let numbering = contents.numbering;
     for i in 0..numbering.count(SymbolKind::Text) {
         let data = StringData(numbering.string(i));
-        pass::<StringData, S, M>(&data, contents.limit, gathered, state)?;
+        out.put(&data);
     }
-    Ok(())
 }

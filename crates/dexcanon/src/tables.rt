@@ -10,60 +10,42 @@ ghost use Rattle.dexspec.specs.Bytes.{uint};
 ghost use Rattle.dexspec.specs.Spellings.{text_index};
 ghost use Rattle.dexspec.specs.Canonical.{layout, proto_row_bytes, field_row_bytes, method_row_bytes};
 ghost use Rattle.dexcanon.specs.Ready.{CanBeMade, ordered_in};
-ghost use Rattle.dexcanon.specs.Taking.{Outcome};
+ghost use Rattle.dexcanon.specs.Output.{Adds};
 
 use crate::contents::Contents;
-use crate::faults::StoreFault;
 use crate::items::{MemberRow, Number, Numbers};
-use crate::taking::{Takes, pass};
+use crate::output::{Out, Target};
 use dexpool::{SymbolKind, number_law};
 
 /// The rows of the texts, from where each stands.
-pub(crate) fn put_string_ids<S, M: Takes<S>>(
-    contents: &Contents<'_, '_, '_, '_>,
-    gathered: &mut Vec<u8>,
-    state: &mut S,
-) -> Result<(), StoreFault>
-    requires works { M.has_failed state.old ≡ false }
-    requires ready { CanBeMade contents.now }
-    ensures { Outcome M.holds M.has_failed M.empties contents.now.limit state.old gathered.old state.new gathered.new (flat_map uint (layout (ordered_in contents.now)).strings) result }
+pub(crate) fn put_string_ids<T: Target>(contents: &Contents<'_, '_, '_, '_>, out: &mut Out<T>)
+    requires { CanBeMade contents.now }
+    ensures { Adds T.gives T.gives_prefix T.has_failed contents.now.limit out.old out.new (flat_map uint (layout (ordered_in contents.now)).strings) }
 {
     let offsets = contents.layout.strings().offsets();
     for off in offsets {
-        pass::<Number, S, M>(&Number(*off), contents.limit, gathered, state)?;
+        out.put(&Number(*off));
     }
-    Ok(())
 }
 
 /// The rows of the types.
-pub(crate) fn put_type_ids<S, M: Takes<S>>(
-    contents: &Contents<'_, '_, '_, '_>,
-    gathered: &mut Vec<u8>,
-    state: &mut S,
-) -> Result<(), StoreFault>
-    requires works { M.has_failed state.old ≡ false }
-    requires ready { CanBeMade contents.now }
-    ensures { Outcome M.holds M.has_failed M.empties contents.now.limit state.old gathered.old state.new gathered.new (flat_map (λ t. uint (text_index contents.now.numbering.now t)) contents.now.numbering.now.types) result }
+pub(crate) fn put_type_ids<T: Target>(contents: &Contents<'_, '_, '_, '_>, out: &mut Out<T>)
+    requires { CanBeMade contents.now }
+    ensures { Adds T.gives T.gives_prefix T.has_failed contents.now.limit out.old out.new (flat_map (λ t. uint (text_index contents.now.numbering.now t)) contents.now.numbering.now.types) }
 {
     let numbering = contents.numbering;
     numbering.is_numbering();
     number_law();
     for i in 0..numbering.count(SymbolKind::Typ) {
         let row = Number(numbering.descriptor(i) as u32);
-        pass::<Number, S, M>(&row, contents.limit, gathered, state)?;
+        out.put(&row);
     }
-    Ok(())
 }
 
 /// The rows of the protos, from where the parameters of each are listed.
-pub(crate) fn put_proto_ids<S, M: Takes<S>>(
-    contents: &Contents<'_, '_, '_, '_>,
-    gathered: &mut Vec<u8>,
-    state: &mut S,
-) -> Result<(), StoreFault>
-    requires works { M.has_failed state.old ≡ false }
-    requires ready { CanBeMade contents.now }
-    ensures { Outcome M.holds M.has_failed M.empties contents.now.limit state.old gathered.old state.new gathered.new (concat (zip_with (proto_row_bytes contents.now.numbering.now) contents.now.numbering.now.protos (layout (ordered_in contents.now)).parameters)) result }
+pub(crate) fn put_proto_ids<T: Target>(contents: &Contents<'_, '_, '_, '_>, out: &mut Out<T>)
+    requires { CanBeMade contents.now }
+    ensures { Adds T.gives T.gives_prefix T.has_failed contents.now.limit out.old out.new (concat (zip_with (proto_row_bytes contents.now.numbering.now) contents.now.numbering.now.protos (layout (ordered_in contents.now)).parameters)) }
 {
     let numbering = contents.numbering;
     numbering.is_numbering();
@@ -82,20 +64,14 @@ pub(crate) fn put_proto_ids<S, M: Takes<S>>(
             proto.return_type() as u32,
             list_offs[i],
         ];
-        pass::<Numbers, S, M>(&Numbers(&row), contents.limit, gathered, state)?;
+        out.put(&Numbers(&row));
     }
-    Ok(())
 }
 
 /// The rows of the fields.
-pub(crate) fn put_field_ids<S, M: Takes<S>>(
-    contents: &Contents<'_, '_, '_, '_>,
-    gathered: &mut Vec<u8>,
-    state: &mut S,
-) -> Result<(), StoreFault>
-    requires works { M.has_failed state.old ≡ false }
-    requires ready { CanBeMade contents.now }
-    ensures { Outcome M.holds M.has_failed M.empties contents.now.limit state.old gathered.old state.new gathered.new (flat_map (field_row_bytes contents.now.numbering.now) contents.now.numbering.now.fields) result }
+pub(crate) fn put_field_ids<T: Target>(contents: &Contents<'_, '_, '_, '_>, out: &mut Out<T>)
+    requires { CanBeMade contents.now }
+    ensures { Adds T.gives T.gives_prefix T.has_failed contents.now.limit out.old out.new (flat_map (field_row_bytes contents.now.numbering.now) contents.now.numbering.now.fields) }
 {
     let numbering = contents.numbering;
     numbering.is_numbering();
@@ -107,20 +83,14 @@ pub(crate) fn put_field_ids<S, M: Takes<S>>(
             second: field.typ as u16,
             name: field.name as u32,
         };
-        pass::<MemberRow, S, M>(&row, contents.limit, gathered, state)?;
+        out.put(&row);
     }
-    Ok(())
 }
 
 /// The rows of the methods.
-pub(crate) fn put_method_ids<S, M: Takes<S>>(
-    contents: &Contents<'_, '_, '_, '_>,
-    gathered: &mut Vec<u8>,
-    state: &mut S,
-) -> Result<(), StoreFault>
-    requires works { M.has_failed state.old ≡ false }
-    requires ready { CanBeMade contents.now }
-    ensures { Outcome M.holds M.has_failed M.empties contents.now.limit state.old gathered.old state.new gathered.new (flat_map (method_row_bytes contents.now.numbering.now) contents.now.numbering.now.methods) result }
+pub(crate) fn put_method_ids<T: Target>(contents: &Contents<'_, '_, '_, '_>, out: &mut Out<T>)
+    requires { CanBeMade contents.now }
+    ensures { Adds T.gives T.gives_prefix T.has_failed contents.now.limit out.old out.new (flat_map (method_row_bytes contents.now.numbering.now) contents.now.numbering.now.methods) }
 {
     let numbering = contents.numbering;
     numbering.is_numbering();
@@ -132,7 +102,6 @@ pub(crate) fn put_method_ids<S, M: Takes<S>>(
             second: method.proto as u16,
             name: method.name as u32,
         };
-        pass::<MemberRow, S, M>(&row, contents.limit, gathered, state)?;
+        out.put(&row);
     }
-    Ok(())
 }

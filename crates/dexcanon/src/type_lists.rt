@@ -10,13 +10,12 @@ ghost use Rattle.dexspec.specs.Placing.{section_bytes};
 ghost use Rattle.dexspec.specs.Canonical.{type_list_section};
 ghost use Rattle.dexspec.specs.Aside.Writing.{Puts};
 ghost use Rattle.dexcanon.specs.Ready.{CanBeMade, ordered_in};
-ghost use Rattle.dexcanon.specs.Taking.{Outcome};
+ghost use Rattle.dexcanon.specs.Output.{Adds};
 ghost use Rattle.dexcanon.specs.TypeLists.{types_at, list_bytes, AreFewTypes};
 
 use crate::contents::Contents;
-use crate::faults::StoreFault;
 use crate::items::Item;
-use crate::taking::{Takes, pass_aligned};
+use crate::output::{Out, Target};
 use dexhead::{push_u16, push_u32};
 use dexpool::Numbering;
 use dexrows::TypeNumbers;
@@ -73,21 +72,15 @@ impl Item for TypeList<'_, '_> {
 }
 
 /// The type lists.
-pub(crate) fn put_type_lists<S, M: Takes<S>>(
-    contents: &Contents<'_, '_, '_, '_>,
-    gathered: &mut Vec<u8>,
-    state: &mut S,
-) -> Result<(), StoreFault>
-    requires works { M.has_failed state.old ≡ false }
-    requires ready { CanBeMade contents.now }
-    ensures { Outcome M.holds M.has_failed M.empties contents.now.limit state.old gathered.old state.new gathered.new (section_bytes (type_list_section (ordered_in contents.now))) result }
+pub(crate) fn put_type_lists<T: Target>(contents: &Contents<'_, '_, '_, '_>, out: &mut Out<T>)
+    requires { CanBeMade contents.now }
+    ensures { Adds T.gives T.gives_prefix T.has_failed contents.now.limit out.old out.new (section_bytes (type_list_section (ordered_in contents.now))) }
 {
     let numbering = contents.numbering;
     let written = contents.layout.type_lists().written();
     let mut at = contents.layout.head().data_off;
     for types in written {
         let list = TypeList { numbering, types };
-        at = pass_aligned::<TypeList, S, M>(&list, at, contents.limit, gathered, state)?;
+        at = out.put_aligned(&list, at);
     }
-    Ok(())
 }

@@ -1,6 +1,6 @@
 //! The canonical file as bytes, and written to a device.
 
-ghost use Rattle.std.specs.Prelude.{◌≡◌, ◌↔◌, ◌≤◌, ◌++◌, true, false, IfOk, OnOk, IfErr, IsErrOf, vec_len};
+ghost use Rattle.std.specs.Prelude.{◌≡◌, ◌↔◌, ◌≤◌, ◌++◌, true, false, IfOk, OnOk, IfErr, IsErrOf, None, vec_len, vec_capacity};
 ghost use Rattle.dexspec.specs.Files.{Collection, definitions, Denotes};
 ghost use Rattle.dexspec.specs.WellFormed.{AreWellFormed};
 ghost use Rattle.dexspec.specs.Merging.{IsGood, greatest_caps};
@@ -9,17 +9,17 @@ ghost use Rattle.dexspec.specs.Canonical.{canonical, with_sums, unsigned_file};
 ghost use Rattle.dexhead.specs.Laid.{behind_header};
 ghost use Rattle.dexhead.specs.Written.{head_bytes};
 ghost use Rattle.dexcanon.specs.Ready.{CanBeMade, ordered_in};
-ghost use Rattle.dexcanon.specs.Taking.{HasRoom};
+ghost use Rattle.dexcanon.specs.Output.{HasRoom};
 ghost use Rattle.dexcanon.specs.Written.{HasLeft};
 ghost use Rattle.dexcanon.specs.declared.faults.StoreFault.TheVariants.{Io};
 
+use crate::adler_combine::adler_combine;
 use crate::body::put_body;
 use crate::contents::Contents;
 use crate::faults::StoreFault;
-use crate::files::put_file;
-use crate::joined::joined_adler;
-use crate::kept::{Keeps, Nothing};
-use crate::makings::{Adds, Sums, Writes};
+use crate::files::{put_head, write_body};
+use crate::output::Out;
+use crate::targets::{InMemory, Sums, Writer};
 use dexclass::Program;
 use dexhead::{Adler, Head, Sink, adler, set_sums, write_whole};
 use dexlayout::Layout;
@@ -52,19 +52,31 @@ fn whole_file(alloc: Global, contents: &Contents<'_, '_, '_, '_>) -> Result<Vec<
     ensures { IfOk result (λ file. file.items ≡ with_sums (unsigned_file (ordered_in contents.now))) }
 {
     dexhead::laws::file_law();
-    let mut file = Vec::with_capacity(alloc, contents.layout.len() as usize)?;
-    contents.layout.head().put(&mut file)?;
-    match put_body::<Nothing, Keeps>(contents, &mut file, &mut Nothing) {
-        Ok(()) => {}
-        Err(_) => return Err(AllocError),
+    let mut buffer = Vec::with_capacity(alloc, contents.layout.len() as usize)?;
+    contents.layout.head().put(&mut buffer)?;
+    let mut out = Out {
+        buffer,
+        limit: 0,
+        fault: None,
+        target: InMemory,
+    };
+    put_body(contents, &mut out);
+    let Out {
+        buffer: mut file,
+        limit: _,
+        fault,
+        target: _,
+    } = out;
+    if fault.is_some() {
+        return Err(AllocError);
     }
     set_sums(&mut file);
     Ok(file)
 }
 
 /// Writes the canonical file of a program. A file of more than 65,536 bytes is made twice: for its two sums, both in one
-/// making, and for the writer. Its bytes gather in one vector, which has its room before anything is written; the writer is
-/// given no slice that is longer than 65,536 bytes, or than the longest item of the file where that has more.
+/// making, and for the writer. Its bytes are buffered in one vector, which has its room before anything is written; the writer
+/// is given no slice that is longer than 65,536 bytes, or than the longest item of the file where that has more.
 ///
 /// Condition: the writer has not failed. Error: `Memory` where a growth was refused, and then nothing was written;
 /// `Io` exactly where the writer failed in this call, and then a front of the file was written.
@@ -89,47 +101,91 @@ pub fn write_to<W: Sink>(
 fn write_contents<W: Sink>(
     alloc: Global,
     contents: &Contents<'_, '_, '_, '_>,
-    out: &mut W,
+    sink: &mut W,
 ) -> Result<(), StoreFault>
     requires ready { CanBeMade contents.now }
-    requires works { W.has_failed out.old ≡ false }
-    ensures written { OnOk result (W.tells out.old → W.taken out.new ≡ W.taken out.old ++ with_sums (unsigned_file (ordered_in contents.now))) }
-    ensures left { IfErr result (HasLeft (W.tells out.old) out.old out.new W.taken (with_sums (unsigned_file (ordered_in contents.now)))) }
-    ensures device { IsErrOf result Io ↔ (W.has_failed out.new ≡ true) }
+    requires works { W.has_failed sink.old ≡ false }
+    ensures written { OnOk result (W.tells sink.old → W.taken sink.new ≡ W.taken sink.old ++ with_sums (unsigned_file (ordered_in contents.now))) }
+    ensures left { IfErr result (HasLeft (W.tells sink.old) sink.old sink.new W.taken (with_sums (unsigned_file (ordered_in contents.now)))) }
+    ensures device { IsErrOf result Io ↔ (W.has_failed sink.new ≡ true) }
 {
     if contents.layout.len() as usize <= PIECE {
         let file = whole_file(alloc, contents)?;
-        write_whole(out, &file)?;
+        write_whole(sink, &file)?;
         return Ok(());
     }
-    let mut gathered = Vec::with_capacity(alloc, contents.limit.max(PIECE))?;
-    let head = sealed_head(contents, &mut gathered);
-    put_file::<W, Writes>(&head, 0, contents, &mut gathered, out)
+    let buffer = Vec::with_capacity(alloc, contents.limit.max(PIECE))?;
+    let (head, mut buffer) = sealed_head(contents, buffer);
+    put_head(&head, 0, &mut buffer);
+    let mut out = Out {
+        buffer,
+        limit: contents.limit,
+        fault: None,
+        target: Writer { sink },
+    };
+    let result = write_through(contents, &mut out);
+    let Out {
+        buffer: _,
+        limit: _,
+        fault: _,
+        target: Writer { sink: _sink },
+    } = out;
+    result
 }
 
-// The header of a file with its two sums, for which the file is made through a vector with room.
-fn sealed_head(contents: &Contents<'_, '_, '_, '_>, gathered: &mut Vec<u8>) -> Head
+// Writes what is buffered and all that stands behind the header to a writer.
+fn write_through<W: Sink>(
+    contents: &Contents<'_, '_, '_, '_>,
+    out: &mut Out<Writer<'_, W>>,
+) -> Result<(), StoreFault>
     requires ready { CanBeMade contents.now }
-    requires room { HasRoom true contents.now.limit gathered.old }
-    requires empty { vec_len gathered.old ≡ 0 }
-    ensures bytes { head_bytes result ++ behind_header (ordered_in contents.now) ≡ with_sums (unsigned_file (ordered_in contents.now)) }
-    ensures room { HasRoom true contents.now.limit gathered.new }
-    ensures empty { vec_len gathered.new ≡ 0 }
+    requires fresh { out.old.fault ≡ None }
+    requires room { HasRoom contents.now.limit out.old }
+    requires works { W.has_failed out.old.target.sink.now ≡ false }
+    ensures same { out.new.target.sink.ghost_name ≡ out.old.target.sink.ghost_name }
+    ensures written { OnOk result (W.tells out.old.target.sink.now → W.taken out.new.target.sink.now ≡ W.taken out.old.target.sink.now ++ (out.old.buffer.items ++ behind_header (ordered_in contents.now))) }
+    ensures left { IfErr result (HasLeft (W.tells out.old.target.sink.now) out.old.target.sink.now out.new.target.sink.now W.taken (out.old.buffer.items ++ behind_header (ordered_in contents.now))) }
+    ensures device { IsErrOf result Io ↔ (W.has_failed out.new.target.sink.now ≡ true) }
+{
+    write_body(contents, out);
+    out.result()
+}
+
+// The header of a file with its two sums, for which the file is made in a buffer with room. The buffer is empty again.
+fn sealed_head(contents: &Contents<'_, '_, '_, '_>, mut buffer: Vec<u8>) -> (Head, Vec<u8>)
+    requires ready { CanBeMade contents.now }
+    requires room { contents.now.limit ≤ vec_capacity buffer }
+    requires empty { vec_len buffer ≡ 0 }
+    ensures bytes { head_bytes result.0 ++ behind_header (ordered_in contents.now) ≡ with_sums (unsigned_file (ordered_in contents.now)) }
+    ensures room { contents.now.limit ≤ vec_capacity result.1 }
+    ensures empty { vec_len result.1 ≡ 0 }
 {
     dexhead::laws::fields_law();
     dexhead::laws::file_law();
     dexhead::laws::sums_law();
     let mut head = contents.layout.head();
-    let mut sums = Sums {
+    put_head(&head, 32, &mut buffer);
+    let sums = Sums {
         message: Sha1::new(),
         adler: Adler::new(),
     };
-    put_file::<Sums, Adds>(&head, 32, contents, gathered, &mut sums).unwrap();
-    let Sums {
-        message,
-        adler: back,
-    } = sums;
+    let mut out = Out {
+        buffer,
+        limit: contents.limit,
+        fault: None,
+        target: sums,
+    };
+    write_body(contents, &mut out);
+    let Out {
+        buffer,
+        limit: _,
+        fault: _,
+        target: Sums {
+            message,
+            adler: rest,
+        },
+    } = out;
     head.signature = message.finalize();
-    head.checksum = joined_adler(adler(&head.signature), back.value(), head.file_size - 32);
-    head
+    head.checksum = adler_combine(adler(&head.signature), rest.value(), head.file_size - 32);
+    (head, buffer)
 }

@@ -7,18 +7,18 @@ use Rattle.dexclass.specs.Numbered.{definition_of}
 use Rattle.dexlayout.specs.Places.{ItemPlaces}
 use Rattle.dexlayout.specs.Laid.{ordered_of}
 use Rattle.dexcanon.specs.ClassItems.{data_item, data_uses}
-use Rattle.dexcanon.specs.Taking.{AreWithin}
+use Rattle.dexcanon.specs.Output.{AreWithin}
 use Rattle.dexcanon.proofs.ClassUses.{data_some, data_none}
 use Rattle.dexcanon.proofs.CodeItems.{class_rest}
-use Rattle.dexcanon.proofs.Made.{whole_as}
-use Rattle.dexcanon.proofs.Plainly.{plainly_none, plainly_skip, plainly_short, plainly_more, plainly_fault, plainly_all}
+use Rattle.dexcanon.proofs.Written.{adds_as}
+use Rattle.dexcanon.proofs.Plainly.{plainly_none, plainly_skip, plainly_short, plainly_more, plainly_all}
 use Rattle.dexcanon.proofs.SectionItems.{class_data_within, count_code_offsets}
 use Rattle.dexcanon.proofs.class_data.put_class_data.Goals as goal
 
 pub loop-class-init : goal.loop-class-init
 loop-class-init g c = record {
-  made = plainly_none c.args.state.now c.args.gathered.now (data_uses c.args.contents.now.numbering.now c.args.contents.now.classes.now c.offsets-rest.result.now) c.requires.works (subst (AreWithin c.args.contents.now.limit) (sym (ap (λ offs. map (data_item c.args.contents.now.numbering.now) (present (data_uses c.args.contents.now.numbering.now c.args.contents.now.classes.now offs))) (c.offsets-rest.ensures ∙ ap (λ (p : ItemPlaces). p.offsets) c.codes.ensures ∙ c.requires.ready.laid.codes_are.offsets_are))) (class_data_within c.requires.ready));
-  count = ap (λ (os : List ℕ). length os) (c.offsets-rest.ensures ∙ ap (λ (p : ItemPlaces). p.offsets) c.codes.ensures ∙ c.requires.ready.laid.codes_are.offsets_are) ∙ count_code_offsets c.args.contents.now.numbering.now c.args.contents.now.classes.now;
+  made = plainly_none c.args.out.now (data_uses c.args.contents.now.numbering.now c.args.contents.now.classes.now c.offsets-rest.result.now) (subst (AreWithin c.args.contents.now.limit) (sym (ap (λ offs. map (data_item c.args.contents.now.numbering.now) (present (data_uses c.args.contents.now.numbering.now c.args.contents.now.classes.now offs))) (c.offsets-rest.ensures ∙ ap (λ (p : ItemPlaces). p.offsets) c.codes.ensures ∙ c.requires.laid.codes_are.offsets_are))) (class_data_within c.requires));
+  count = ap (λ (os : List ℕ). length os) (c.offsets-rest.ensures ∙ ap (λ (p : ItemPlaces). p.offsets) c.codes.ensures ∙ c.requires.laid.codes_are.offsets_are) ∙ count_code_offsets c.args.contents.now.numbering.now c.args.contents.now.classes.now;
 }
 
 pub loop-class-preserved-then-is_bare : goal.loop-class-preserved-then-is_bare
@@ -27,17 +27,11 @@ loop-class-preserved-then-is_bare g c = record {
   count = class_rest c.args.contents.now.classes.now c.loop-class.class-index c.class-item.result c.members.result.now c.loop-class-test.true c.class-item.is c.members.ensures c.method_count.result c.loop-class.rest.now c.split_at.result.1.now c.method_count.ensures c.split_at.ensures.back c.loop-class.invariant.count;
 }
 
-pub pass-requires-clause-within : goal.pass-requires-clause-within
-pass-requires-clause-within g c = plainly_short c.loop-class.invariant.made (definition_of c.args.contents.now.numbering.now c.class-item.result, c.split_at.result.0.now) (data_uses c.args.contents.now.numbering.now (drop (c.loop-class.class-index + 1) c.args.contents.now.classes.now) c.split_at.result.1.now) (data_some c.args.contents.now.numbering.now c.args.contents.now.classes.now c.loop-class.rest.now c.split_at.result.0.now c.split_at.result.1.now c.loop-class.class-index c.method_count.result c.class-item.result c.members.result.now c.loop-class-test.true c.class-item.is c.members.ensures c.method_count.ensures c.split_at.ensures.front c.split_at.ensures.back (sym (c.is_bare.ensures c.args.contents.now.numbering.now) ∙ c.if-is_bare.false))
-
-pub returns-in_err-pass : goal.returns-in_err-pass
-returns-in_err-pass g c = whole_as (ap (bytes_from 1 (code_end (ordered_of c.args.contents.now.numbering.now c.args.contents.now.classes.now))) (ap (λ offs. map (data_item c.args.contents.now.numbering.now) (present (data_uses c.args.contents.now.numbering.now c.args.contents.now.classes.now offs))) (c.offsets-rest.ensures ∙ ap (λ (p : ItemPlaces). p.offsets) c.codes.ensures ∙ c.requires.ready.laid.codes_are.offsets_are))) (plainly_fault c.loop-class.invariant.made (definition_of c.args.contents.now.numbering.now c.class-item.result, c.split_at.result.0.now) (data_uses c.args.contents.now.numbering.now (drop (c.loop-class.class-index + 1) c.args.contents.now.classes.now) c.split_at.result.1.now) (data_some c.args.contents.now.numbering.now c.args.contents.now.classes.now c.loop-class.rest.now c.split_at.result.0.now c.split_at.result.1.now c.loop-class.class-index c.method_count.result c.class-item.result c.members.result.now c.loop-class-test.true c.class-item.is c.members.ensures c.method_count.ensures c.split_at.ensures.front c.split_at.ensures.back (sym (c.is_bare.ensures c.args.contents.now.numbering.now) ∙ c.if-is_bare.false)) c.in_err-pass.ensures.outcome c.from_residual.ensures.0 c.from_residual.ensures.1 (code_end (ordered_of c.args.contents.now.numbering.now c.args.contents.now.classes.now)))
-
 pub loop-class-preserved : goal.loop-class-preserved
 loop-class-preserved g c = record {
-  made = plainly_more c.loop-class.invariant.made (definition_of c.args.contents.now.numbering.now c.class-item.result, c.split_at.result.0.now) (data_uses c.args.contents.now.numbering.now (drop (c.loop-class.class-index + 1) c.args.contents.now.classes.now) c.split_at.result.1.now) (data_some c.args.contents.now.numbering.now c.args.contents.now.classes.now c.loop-class.rest.now c.split_at.result.0.now c.split_at.result.1.now c.loop-class.class-index c.method_count.result c.class-item.result c.members.result.now c.loop-class-test.true c.class-item.is c.members.ensures c.method_count.ensures c.split_at.ensures.front c.split_at.ensures.back (sym (c.is_bare.ensures c.args.contents.now.numbering.now) ∙ c.if-is_bare.false)) c.in_ok-pass.ensures.outcome.ok;
+  made = plainly_more c.loop-class.invariant.made (definition_of c.args.contents.now.numbering.now c.class-item.result, c.split_at.result.0.now) (data_uses c.args.contents.now.numbering.now (drop (c.loop-class.class-index + 1) c.args.contents.now.classes.now) c.split_at.result.1.now) (data_some c.args.contents.now.numbering.now c.args.contents.now.classes.now c.loop-class.rest.now c.split_at.result.0.now c.split_at.result.1.now c.loop-class.class-index c.method_count.result c.class-item.result c.members.result.now c.loop-class-test.true c.class-item.is c.members.ensures c.method_count.ensures c.split_at.ensures.front c.split_at.ensures.back (sym (c.is_bare.ensures c.args.contents.now.numbering.now) ∙ c.if-is_bare.false)) c.put.ensures.adds;
   count = class_rest c.args.contents.now.classes.now c.loop-class.class-index c.class-item.result c.members.result.now c.loop-class-test.true c.class-item.is c.members.ensures c.method_count.result c.loop-class.rest.now c.split_at.result.1.now c.method_count.ensures c.split_at.ensures.back c.loop-class.invariant.count;
 }
 
 pub returns : goal.returns
-returns g c = whole_as (ap (bytes_from 1 (code_end (ordered_of c.args.contents.now.numbering.now c.args.contents.now.classes.now))) (ap (λ offs. map (data_item c.args.contents.now.numbering.now) (present (data_uses c.args.contents.now.numbering.now c.args.contents.now.classes.now offs))) (c.offsets-rest.ensures ∙ ap (λ (p : ItemPlaces). p.offsets) c.codes.ensures ∙ c.requires.ready.laid.codes_are.offsets_are))) (plainly_all c.loop-class.invariant.made (ap (λ cs. data_uses c.args.contents.now.numbering.now cs c.loop-class.rest.now) (drop_all c.loop-class.class-index c.args.contents.now.classes.now c.loop-class-test.false)) (code_end (ordered_of c.args.contents.now.numbering.now c.args.contents.now.classes.now)))
+returns g c = adds_as (ap (bytes_from 1 (code_end (ordered_of c.args.contents.now.numbering.now c.args.contents.now.classes.now))) (ap (λ offs. map (data_item c.args.contents.now.numbering.now) (present (data_uses c.args.contents.now.numbering.now c.args.contents.now.classes.now offs))) (c.offsets-rest.ensures ∙ ap (λ (p : ItemPlaces). p.offsets) c.codes.ensures ∙ c.requires.laid.codes_are.offsets_are))) (plainly_all c.loop-class.invariant.made (ap (λ cs. data_uses c.args.contents.now.numbering.now cs c.loop-class.rest.now) (drop_all c.loop-class.class-index c.args.contents.now.classes.now c.loop-class-test.false)) (code_end (ordered_of c.args.contents.now.numbering.now c.args.contents.now.classes.now)))

@@ -6,7 +6,7 @@ use Rattle.dexcanon.proofs.class_data.put_class_data.Given as goal
 
 abbrev pub invariant-loop-class : goal.invariant-loop-class
 invariant-loop-class g l = record {
-  made : Plainly g.M.Takes.holds g.M.Takes.has_failed g.M.Takes.empties l.contents.limit l.fn.state l.fn.gathered l.state l.gathered (data_item l.contents.numbering.now) (data_uses l.contents.numbering.now l.contents.classes.now l.initial.rest)
+  made : Plainly g.T.Target.gives g.T.Target.gives_prefix g.T.Target.has_failed l.contents.limit l.fn.out l.out (data_item l.contents.numbering.now) (data_uses l.contents.numbering.now l.contents.classes.now l.initial.rest)
       (data_uses l.contents.numbering.now (drop l.class-index l.contents.classes.now) l.rest);
   count : length l.rest ≡ length (class_methods (drop l.class-index l.contents.classes.now));
 }

@@ -1,11 +1,11 @@
 use Rattle.std.proofs.Common.{drop}
 use Rattle.std.specs.List.{concat}
-use Rattle.dexcanon.proofs.Made.{Making}
+use Rattle.dexcanon.proofs.Written.{Writing}
 use Rattle.dexcanon.proofs.RowsOfClasses.{rows_of}
 use Rattle.dexcanon.proofs.class_defs.put_class_defs.Given as goal
 
 abbrev pub invariant-loop-r : goal.invariant-loop-r
 invariant-loop-r g l =
-    Making g.M.Takes.holds g.M.Takes.has_failed g.M.Takes.empties l.contents.limit l.fn.state l.fn.gathered l.state l.gathered
+    Writing g.T.Target.gives g.T.Target.gives_prefix g.T.Target.has_failed l.contents.limit l.fn.out l.out
     (concat (rows_of l.contents.numbering.now l.contents.classes.now l.places.interfaces.now l.places.annotations.now l.places.class_data.now l.places.static_values.now))
     (concat (drop l.r (rows_of l.contents.numbering.now l.contents.classes.now l.places.interfaces.now l.places.annotations.now l.places.class_data.now l.places.static_values.now)))

@@ -5,7 +5,7 @@ use Rattle.dexcanon.proofs.codes.put_codes.Given as goal
 
 abbrev pub invariant-loop-class : goal.invariant-loop-class
 invariant-loop-class g l = record {
-  made : Aligned g.M.Takes.holds g.M.Takes.has_failed g.M.Takes.empties l.contents.limit l.fn.state l.fn.gathered l.state l.gathered 4 l.initial.at (method_codes l.contents.numbering.now (class_methods l.contents.classes.now) l.initial.rest) l.at
+  made : Aligned g.T.Target.gives g.T.Target.gives_prefix g.T.Target.has_failed l.contents.limit l.fn.out l.out 4 l.initial.at (method_codes l.contents.numbering.now (class_methods l.contents.classes.now) l.initial.rest) l.at
       (method_codes l.contents.numbering.now (class_methods (drop l.class-index l.contents.classes.now)) l.rest);
   count : length l.rest ≡ length (class_methods (drop l.class-index l.contents.classes.now));
 }

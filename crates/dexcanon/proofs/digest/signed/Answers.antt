@@ -1,13 +1,16 @@
-use Rattle.std.proofs.Common.{◌≡◌, [], length, refl, sym, ap, subst, ◌∙◌}
+use Rattle.std.proofs.Common.{◌≡◌, [], ◌++◌, ◌≤◌, length, drop, refl, sym, ap, subst, ◌∙◌, arith}
+use Rattle.std.specs.Prelude.{vec_capacity}
+use Rattle.sha1.specs.Sha1.{sha1}
 use Rattle.dexhead.specs.declared.head.Head.{Head}
-use Rattle.dexhead.specs.Laid.{TellsLayout}
+use Rattle.dexhead.specs.Laid.{TellsLayout, behind_header}
 use Rattle.dexlayout.specs.Laid.{ordered_of}
+use Rattle.dexcanon.specs.Sums.{hashed_nothing}
 use Rattle.dexcanon.proofs.Digested.{signed_is}
-use Rattle.dexcanon.proofs.WithRoom.{all_taken, surely, surely_is, surely_ok}
+use Rattle.dexcanon.proofs.Finished.{sure}
 use Rattle.dexcanon.proofs.digest.signed.Goals as goal
 
-pub unwrap-requires : goal.unwrap-requires
-unwrap-requires c = surely_is c.put_file.result c.put_file.ensures.outcome c.requires.room
+pub put_head-requires-clause-room : goal.put_head-requires-clause-room
+put_head-requires-clause-room c = omega (arith, c.requires.room, c.requires.ready.least)
 
 pub returns : goal.returns
 returns c =
@@ -16,7 +19,6 @@ returns c =
     let laid = c.requires.ready.laid in
     let twenty : length l.signature ≡ 20 = ap (λ (h : Head). length h.signature) c.head-head.ensures ∙ laid.signature_length in
     let tells : TellsLayout l K = subst (λ h. TellsLayout h K) (sym c.head-head.ensures) laid.head_tells in
-    let adds = surely c.put_file.result c.put_file.ensures.outcome c.requires.room in
-    let emptied = surely_ok c.put_file.result c.put_file.ensures.outcome c.requires.room c.put_file.ensures.emptied refl in
-    let taken = all_taken [] adds c.requires.empty emptied c.new-message.ensures in
-    signed_is l K twenty tells c.sums_law.ensures.head c.file_law.ensures.set c.finalize.result (c.finalize.ensures _ taken)
+    let enough : c.args.contents.now.limit ≤ vec_capacity c.put_head.new.buffer = omega (arith, c.requires.room, c.put_head.ensures.capacity) in
+    let given = sure c.write_body.ensures.adds refl (omega arith) enough (hashed_nothing c.new.result) c.write_body.ensures.empty in
+    signed_is l K twenty tells c.sums_law.ensures.head c.file_law.ensures.set c.finalize.result (c.finalize.ensures _ (given [] c.new.ensures) ∙ ap (λ z. sha1 (z ++ behind_header K)) c.put_head.ensures.items)

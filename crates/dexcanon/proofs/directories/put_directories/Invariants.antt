@@ -3,4 +3,4 @@ use Rattle.dexcanon.proofs.directories.put_directories.Given as goal
 
 abbrev pub invariant-loop-i : goal.invariant-loop-i
 invariant-loop-i g l =
-    Filing g.M.Takes.holds g.M.Takes.has_failed g.M.Takes.empties l.contents.limit l.fn.state l.fn.gathered l.state l.gathered l.initial.at l.contents.classes.now l.own_offs l.initial.fields l.initial.methods l.initial.lists l.at l.i l.fields l.methods l.lists
+    Filing g.T.Target.gives g.T.Target.gives_prefix g.T.Target.has_failed l.contents.limit l.fn.out l.out l.initial.at l.contents.classes.now l.own_offs l.initial.fields l.initial.methods l.initial.lists l.at l.i l.fields l.methods l.lists

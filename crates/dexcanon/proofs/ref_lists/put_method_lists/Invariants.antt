@@ -1,8 +1,9 @@
-use Rattle.std.proofs.Common.{drop}
-use Rattle.dexcanon.specs.RefLists.{parameter_counts}
+use Rattle.std.proofs.Common.{ℕ, drop}
+use Rattle.dexcanon.specs.Output.{FitFrom}
+use Rattle.dexcanon.specs.RefLists.{parameter_counts, ref_lists}
 use Rattle.dexcanon.proofs.RefLists.{Listing}
 use Rattle.dexcanon.proofs.ref_lists.put_method_lists.Given as goal
 
 abbrev pub invariant-loop-i : goal.invariant-loop-i
 invariant-loop-i g l =
-    Listing g.M.Takes.holds g.M.Takes.has_failed g.M.Takes.empties l.limit l.fn.state l.fn.gathered l.state l.gathered l.from (parameter_counts l.methods) l.set_offs l.at (parameter_counts (drop l.i l.methods)) l.rest
+    (limit : ℕ) → FitFrom limit l.from (ref_lists (parameter_counts l.methods) l.set_offs) → Listing g.T.Target.gives g.T.Target.gives_prefix g.T.Target.has_failed limit l.fn.out l.out l.from (parameter_counts l.methods) l.set_offs l.at (parameter_counts (drop l.i l.methods)) l.rest

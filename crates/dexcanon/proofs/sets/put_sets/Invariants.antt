@@ -7,5 +7,5 @@ use Rattle.dexcanon.proofs.sets.put_sets.Given as goal
 
 abbrev pub invariant-loop-i : goal.invariant-loop-i
 invariant-loop-i g l =
-    Aligned g.M.Takes.holds g.M.Takes.has_failed g.M.Takes.empties l.contents.limit l.fn.state l.fn.gathered l.state l.gathered 4 l.initial.at (map offsets_bytes (rows (λ s. set_of s.now) l.contents.numbering.now l.firsts l.written)) l.at
+    Aligned g.T.Target.gives g.T.Target.gives_prefix g.T.Target.has_failed l.contents.limit l.fn.out l.out 4 l.initial.at (map offsets_bytes (rows (λ s. set_of s.now) l.contents.numbering.now l.firsts l.written)) l.at
     (drop l.i (map offsets_bytes (rows (λ s. set_of s.now) l.contents.numbering.now l.firsts l.written)))

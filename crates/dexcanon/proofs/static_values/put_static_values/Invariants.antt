@@ -6,5 +6,5 @@ use Rattle.dexcanon.proofs.static_values.put_static_values.Given as goal
 
 abbrev pub invariant-loop-class : goal.invariant-loop-class
 invariant-loop-class g l =
-    Plainly g.M.Takes.holds g.M.Takes.has_failed g.M.Takes.empties l.contents.limit l.fn.state l.fn.gathered l.state l.gathered (encoded_array_bytes l.contents.numbering.now) (map (values_use l.contents.numbering.now) l.contents.classes.now)
+    Plainly g.T.Target.gives g.T.Target.gives_prefix g.T.Target.has_failed l.contents.limit l.fn.out l.out (encoded_array_bytes l.contents.numbering.now) (map (values_use l.contents.numbering.now) l.contents.classes.now)
     (map (values_use l.contents.numbering.now) (drop l.class-index l.contents.classes.now))

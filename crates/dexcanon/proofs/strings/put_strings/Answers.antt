@@ -5,35 +5,23 @@ use Rattle.dexspec.specs.Texts.{string_data}
 use Rattle.dexspec.specs.Canonical.{array_end}
 use Rattle.dexlayout.specs.Laid.{ordered_of}
 use Rattle.dexcanon.proofs.Aligned.{short_at}
-use Rattle.dexcanon.proofs.Made.{made_all, made_fault, made_more, made_none, whole_as}
+use Rattle.dexcanon.proofs.Written.{written_all, written_more, written_none, adds_as}
 use Rattle.dexcanon.proofs.Rows.{rows_next, bytes_plain}
 use Rattle.dexcanon.proofs.SectionItems.{strings_within}
 use Rattle.dexcanon.proofs.strings.put_strings.Goals as goal
-
-pub pass-requires-clause-within : goal.pass-requires-clause-within
-pass-requires-clause-within g c = let s = c.string.result.now in short_at string_data c.args.contents.now.limit c.args.contents.now.numbering.now.texts c.loop-i.i s (strings_within c.requires.ready) c.string.ensures.within (c.string.ensures.is s)
-
-pub returns-in_err-pass : goal.returns-in_err-pass
-returns-in_err-pass g c =
-    let from = array_end (ordered_of c.args.contents.now.numbering.now c.args.contents.now.classes.now) in
-    let xs = c.args.contents.now.numbering.now.texts in
-    let s = c.string.result.now in
-    let i = c.loop-i.i in
-    whole_as (sym (bytes_plain string_data from xs)) (made_fault (flat_map string_data (drop (i + 1) xs)) c.loop-i.invariant (rows_next string_data xs i s c.string.ensures.within (c.string.ensures.is s)) c.in_err-pass.ensures.outcome
-    c.from_residual.ensures.0 c.from_residual.ensures.1)
 
 pub loop-i-preserved : goal.loop-i-preserved
 loop-i-preserved g c =
     let xs = c.args.contents.now.numbering.now.texts in
     let s = c.string.result.now in
     let i = c.loop-i.i in
-    made_more (flat_map string_data (drop (i + 1) xs)) c.loop-i.invariant (rows_next string_data xs i s c.string.ensures.within (c.string.ensures.is s)) c.in_ok-pass.ensures.outcome.ok
+    written_more (flat_map string_data (drop (i + 1) xs)) c.loop-i.invariant (rows_next string_data xs i s c.string.ensures.within (c.string.ensures.is s)) (c.put.ensures.adds c.args.contents.now.limit (let s = c.string.result.now in short_at string_data c.args.contents.now.limit c.args.contents.now.numbering.now.texts c.loop-i.i s (strings_within c.requires) c.string.ensures.within (c.string.ensures.is s)))
 
 pub returns : goal.returns
 returns g c =
     let from = array_end (ordered_of c.args.contents.now.numbering.now c.args.contents.now.classes.now) in
     let xs = c.args.contents.now.numbering.now.texts in
-    whole_as (sym (bytes_plain string_data from xs)) (made_all c.loop-i.invariant (ap (flat_map string_data) (drop_all c.loop-i.i xs (omega (arith, c.loop-i-test.false, c.count-i-end.ensures)))))
+    adds_as (sym (bytes_plain string_data from xs)) (written_all c.loop-i.invariant (ap (flat_map string_data) (drop_all c.loop-i.i xs (omega (arith, c.loop-i-test.false, c.count-i-end.ensures)))))
 
 pub loop-i-init : goal.loop-i-init
-loop-i-init g c = made_none _ _ _ c.requires.works
+loop-i-init g c = written_none _ _

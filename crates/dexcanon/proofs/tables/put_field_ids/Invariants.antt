@@ -1,9 +1,9 @@
 use Rattle.std.proofs.Common.{drop}
 use Rattle.std.specs.List.{flat_map}
 use Rattle.dexspec.specs.Canonical.{field_row_bytes}
-use Rattle.dexcanon.proofs.Made.{Making}
+use Rattle.dexcanon.proofs.Written.{Writing}
 use Rattle.dexcanon.proofs.tables.put_field_ids.Given as goal
 
 abbrev pub invariant-loop-i : goal.invariant-loop-i
 invariant-loop-i g l =
-    Making g.M.Takes.holds g.M.Takes.has_failed g.M.Takes.empties l.contents.limit l.fn.state l.fn.gathered l.state l.gathered (flat_map (field_row_bytes l.contents.numbering.now) l.contents.numbering.now.fields) (flat_map (field_row_bytes l.contents.numbering.now) (drop l.i l.contents.numbering.now.fields))
+    Writing g.T.Target.gives g.T.Target.gives_prefix g.T.Target.has_failed l.contents.limit l.fn.out l.out (flat_map (field_row_bytes l.contents.numbering.now) l.contents.numbering.now.fields) (flat_map (field_row_bytes l.contents.numbering.now) (drop l.i l.contents.numbering.now.fields))

@@ -6,5 +6,5 @@ use Rattle.dexcanon.proofs.type_lists.put_type_lists.Given as goal
 
 abbrev pub invariant-loop-types : goal.invariant-loop-types
 invariant-loop-types g l =
-    Aligned g.M.Takes.holds g.M.Takes.has_failed g.M.Takes.empties l.contents.limit l.fn.state l.fn.gathered l.state l.gathered 4 l.initial.at (map (type_list_bytes l.contents.numbering.now) (map (types_at l.contents.numbering.now) l.written)) l.at
+    Aligned g.T.Target.gives g.T.Target.gives_prefix g.T.Target.has_failed l.contents.limit l.fn.out l.out 4 l.initial.at (map (type_list_bytes l.contents.numbering.now) (map (types_at l.contents.numbering.now) l.written)) l.at
     (drop l.types-index (map (type_list_bytes l.contents.numbering.now) (map (types_at l.contents.numbering.now) l.written)))

@@ -1,17 +1,24 @@
-use Rattle.std.proofs.Common.{◌≡◌, ◌++◌, subst, OnOk, IfErr}
+use Rattle.std.proofs.Common.{rules, ◌≡◌, ◌++◌, OnOk, IfErr, ap, arith, subst, ◌∙◌}
+use Rattle.dexspec.specs.Canonical.{with_sums, unsigned_file}
+use Rattle.dexhead.specs.Laid.{behind_header}
+use Rattle.dexcanon.specs.Ready.{ordered_in}
 use Rattle.dexcanon.specs.Written.{HasLeft}
-use Rattle.dexcanon.proofs.WithRoom.{written_all, written_front, told_failed}
 use Rattle.dexcanon.proofs.writing.write_contents.Goals as goal
+use Rattle.dexcanon.proofs.writing.write_contents.Goals.{After-put_head}
+
+pub put_head-requires-clause-room : goal.put_head-requires-clause-room
+put_head-requires-clause-room g c = omega (arith, c.sealed_head-buffer.ensures.room, c.requires.ready.least)
+
+-- the file is what is buffered and what follows
+whole : (g : _) (c : After-put_head g) → c.put_head.new.buffer.items ++ behind_header (ordered_in c.args.contents.now) ≡ with_sums (unsigned_file (ordered_in c.args.contents.now))
+whole g c = ap (λ z. z ++ behind_header (ordered_in c.args.contents.now)) c.put_head.ensures.items ∙ c.sealed_head-buffer.ensures.bytes
 
 pub returns-clause-written : goal.returns-clause-written
 returns-clause-written g c =
-    subst (λ z. OnOk c.put_file.result (g.W.Sink.tells c.args.out.now → g.W.Sink.taken c.put_file.new.state ≡ g.W.Sink.taken c.args.out.now ++ z)) c.sealed_head-head.ensures.bytes
-    (written_all g.W.Sink.tells g.W.Sink.taken c.put_file.result c.put_file.ensures.outcome c.sealed_head-head.ensures.empty c.put_file.ensures.emptied)
+    let written = subst (λ z. OnOk c.write_through-result.result (g.W.Sink.tells c.args.sink.now → g.W.Sink.taken c.write_through-result.new.out.target.sink.now ≡ g.W.Sink.taken c.args.sink.now ++ z)) (whole g (goal.at.returns-clause-written g c).After-put_head) c.write_through-result.ensures.written in
+    search rules
 
 pub returns-clause-left : goal.returns-clause-left
 returns-clause-left g c =
-    subst (λ z. IfErr c.put_file.result (HasLeft (g.W.Sink.tells c.args.out.now) c.args.out.now c.put_file.new.state g.W.Sink.taken z)) c.sealed_head-head.ensures.bytes
-    (written_front g.W.Sink.tells g.W.Sink.taken c.put_file.result c.put_file.ensures.outcome c.sealed_head-head.ensures.empty c.sealed_head-head.ensures.room)
-
-pub returns-clause-device : goal.returns-clause-device
-returns-clause-device g c = told_failed g.W.Sink.tells g.W.Sink.taken c.put_file.result c.put_file.ensures.outcome c.sealed_head-head.ensures.room
+    let left = subst (λ z. IfErr c.write_through-result.result (HasLeft (g.W.Sink.tells c.args.sink.now) c.args.sink.now c.write_through-result.new.out.target.sink.now g.W.Sink.taken z)) (whole g (goal.at.returns-clause-left g c).After-put_head) c.write_through-result.ensures.left in
+    search rules

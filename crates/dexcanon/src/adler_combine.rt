@@ -9,7 +9,7 @@ const MODULUS: u64 = 65521;
 /// The Adler-32 of bytes and more behind them, from that of each and the number of those behind.
 ///
 /// Source: "Dalvik Executable format", "header_item", the field `checksum`.
-pub(crate) fn joined_adler(front: u32, back: u32, len: u32) -> u32
+pub(crate) fn adler_combine(front: u32, back: u32, len: u32) -> u32
     ensures { (xs ys : List ℕ) → front ≡ adler_32 xs → back ≡ adler_32 ys → len ≡ length ys → result ≡ adler_32 (xs ++ ys) }
 {
     let (front_first, front_second) = halves(front);

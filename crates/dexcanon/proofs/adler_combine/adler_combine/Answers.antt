@@ -1,6 +1,6 @@
 use Rattle.std.proofs.Common.{◌∙◌}
 use Rattle.dexcanon.proofs.JoinedSums as sums
-use Rattle.dexcanon.proofs.joined.joined_adler.Goals as goal
+use Rattle.dexcanon.proofs.adler_combine.adler_combine.Goals as goal
 
 pub returns : goal.returns
 returns c = λ xs ys front back len.

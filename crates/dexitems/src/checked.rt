@@ -2,7 +2,7 @@
 //! NUMBER ..`, any of which is right. The numbers are of a `value` its bytes and its weight; of `statics` the values, the bytes and
 //! the weight; of a `set` the annotations and the weight; of a `directory` the fields, the methods and the methods with parameters
 //! that it names, and the weight; of a `debug` program the weight; of `pieces` the registers, those of arguments and of calls, the
-//! units and the indices.
+//! units and the indices; of `code` the weight with its debug program; of the `members` that a class row declares the weight.
 
 ghost use Rattle.dexpool.specs.Pools.{ArePools};
 
@@ -10,8 +10,10 @@ use crate::dex_file::DexFile;
 use crate::line::Line;
 use crate::reads::refused;
 use dexcases::{CaseFault, Outcome, Printed};
-use dexcode::check_debug;
+use dexcode::{check_code, check_debug};
+use dexhead::Table;
 use dexinsn::{Scratch, check_pieces};
+use dexmembers::{Checks, check_members};
 use dexpool::ItemFault;
 use dexval::{CheckedSets, check_directory, check_set, check_statics, check_value};
 use std::alloc::Global;
@@ -29,6 +31,8 @@ pub fn run(alloc: Global, file: &DexFile<'_>, line: Line<'_>) -> Result<Outcome,
         "directory" => print_directory(alloc, file, line.place, &mut text),
         "debug" => print_debug(file, line.place, &mut text),
         "pieces" => print_pieces(alloc, file, line.place, &mut text),
+        "code" => print_code(alloc, file, line.place, &mut text),
+        "members" => print_members(alloc, file, line.place, &mut text),
         _ => return Err(CaseFault::Form),
     };
     match checked {
@@ -105,5 +109,41 @@ fn print_pieces(
     let (registers, ins) = (u64::from(shape.registers()), u64::from(shape.ins()));
     let (outs, units) = (u64::from(shape.outs()), u64::from(shape.units()));
     print_numbers(&[registers, ins, outs, units, shape.indices() as u64], out);
+    Ok(())
+}
+
+// Prints what is found of the code at an offset.
+fn print_code(
+    alloc: Global,
+    file: &DexFile<'_>,
+    off: u32,
+    out: &mut Printed,
+) -> Result<(), ItemFault> {
+    let mut scratch = Scratch::new(alloc);
+    let shape = check_code(alloc, &file.frame, &file.pools, off, &mut scratch)?;
+    print_numbers(&[shape.weight], out);
+    Ok(())
+}
+
+// Prints what a class row declares weighs, and once more where a second check by what the first kept finds another weight.
+// `Refused(0)` says that there is no such row.
+fn print_members(
+    alloc: Global,
+    file: &DexFile<'_>,
+    row: u32,
+    out: &mut Printed,
+) -> Result<(), ItemFault>
+    requires { ArePools file.now.frame file.now.pools }
+{
+    if row >= file.frame.size(Table::ClassDefs) {
+        return Err(ItemFault::Refused(0));
+    }
+    let mut checks = Checks::none(alloc);
+    let weight = check_members(alloc, &file.frame, &file.pools, row, &mut checks)?;
+    let again = check_members(alloc, &file.frame, &file.pools, row, &mut checks)?;
+    print_numbers(&[weight], out);
+    if again != weight {
+        print_numbers(&[again], out);
+    }
     Ok(())
 }

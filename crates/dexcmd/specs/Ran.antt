@@ -6,20 +6,14 @@ use Rattle.dexspec.specs.Files.{Collection, Denotes}
 use Rattle.dexspec.specs.Accepted.{IsAccepted}
 use Rattle.dexspec.specs.Canonical.{canonical}
 use Rattle.dexspec.specs.Merging.{Caps, Plan}
-use Rattle.dexspec.specs.Stripping.{strip_collection}
 use Rattle.dexruns.specs.declared.faults.RunFault.{RunFault}
 use Rattle.dexruns.specs.declared.faults.RunFault.TheVariants.{Read, Write}
 use Rattle.dexruns.specs.Inputs.{bytes_read, IsReadNoFurther}
 use Rattle.dexruns.specs.Runs.{AreChecked, AreBegun, AllWork, IsOfCheck, IsOfInput, HasLeft, IsLeft, IsLeftWith}
-use Rattle.dexruns.specs.Merges.{IsAppended, IsFrontAppended, IsMergedFile, IsMergeFault, AreUncalled, IsOfDevices}
+use Rattle.dexruns.specs.Merges.{IsAppended, IsFrontAppended, IsMergedFile, IsMergeFault, AreUncalled, IsOfDevices, kept}
 use Rattle.dexruns.specs.Repairs.{repaired, AreEqualButForSums, IsRepairedFront}
 use Rattle.dexruns.specs.Counts.{AreCounted, IsCountFault}
 use Rattle.dexruns.specs.Digests.{digest_lines, IsDigestFront}
-
--- what is kept of a union: all of it, or what is left without debug programs and source texts
-abbrev pub kept : Bool → Collection → Collection
-kept true whole = strip_collection whole
-kept false whole = whole
 
 module _ {R W : Type 0} (tells : R → Type 0) (to_come : R → List ℕ) (reader_failed : R → Bool) (writes : W → Type 0) (taken : W → List ℕ) (writer_failed : W → Bool) where
   -- `check_run` over inputs of these names
@@ -51,7 +45,7 @@ module _ {R W : Type 0} (tells : R → Type 0) (to_come : R → List ℕ) (reade
     pub read : IsErrOf outcome (Read 0) ↔ (reader_failed left ≡ true)
     pub write : IsErrOf outcome Write ↔ (writer_failed written ≡ true)
 
-  -- `merge_run`, or `merge_strip_run` where what is merged is stripped
+  -- `merge_or_strip_run`
   pub record IsMergeRun (plan : Plan) (caps : Caps) (is_stripped : Bool) (inputs left : List R) (out written : W) (outcome : Result (Unit {0}) RunFault) : Type 0 where
     pub merged : OnOk outcome (IsMergedFile tells to_come inputs caps plan (kept is_stripped) (IsAppended (writes out) (taken out) (taken written)))
     pub fault : IfErr outcome (IsMergeFault tells to_come inputs caps plan (kept is_stripped) (IsFrontAppended (writes out) (taken out) (taken written)))

@@ -8,11 +8,12 @@ ghost use Rattle.dexcmd.specs.Jobs.{HasChecked, HasDumped, HasNormalised, HasMer
 use crate::devices::Devices;
 use crate::each_file::{Task, run_over_each};
 use crate::reports::{Report, STANDARD_OUTPUT, done, report_of};
-use crate::runs::merge_or_strip;
 use dexargs::Job;
 use dexhead::{Sink, Source};
 use dexmerge::Caps;
-use dexruns::{check_run, count_run, dump_run, fan_plan, normalise_run, repair_run};
+use dexruns::{
+    check_run, count_run, dump_run, fan_plan, merge_or_strip_run, normalise_run, repair_run,
+};
 use std::alloc::{AllocError, Global};
 
 // The names as texts.
@@ -107,7 +108,7 @@ fn merge<'a, D: Devices<'a>>(
     let names = texts.as_slice();
     let mut inputs = inputs_of(alloc, devices, names)?;
     let mut out = devices.output(target);
-    let outcome = done(merge_or_strip(
+    let outcome = done(merge_or_strip_run(
         alloc,
         inputs.as_mut_slice(),
         &plan,

@@ -7,7 +7,6 @@ mod each_file;
 mod files;
 mod jobs;
 mod reports;
-mod runs;
 mod system;
 
 pub use arguments::{ListsFault, expand_arguments, explain_lists};
@@ -15,7 +14,7 @@ pub use devices::Devices;
 pub use dexargs::{Job, read_words};
 pub use dexruns::{
     ExitStatus, MOST_READ, MergeCause, RunFault, check_run, count_run, digest_run, dump_run,
-    explain, fan_plan, merge_run, merge_strip_run, normalise_run, repair_run,
+    explain, fan_plan, merge_or_strip_run, merge_run, merge_strip_run, normalise_run, repair_run,
 };
 pub use files::{NewFile, OldFile, file_len};
 pub use jobs::run_job;

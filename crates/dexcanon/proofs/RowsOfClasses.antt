@@ -5,7 +5,6 @@ use Rattle.std.specs.List.{concat}
 use Rattle.std.specs.Option.{option_map, option_map_or}
 use Rattle.std.proofs.lemmas.List.{length-append, get_or-map, get_or_default, length-map, drop_all, drop_more}
 use Rattle.std.proofs.lemmas.List.Elements.{All-head, All-tail}
-use Rattle.dexspec.specs.Lists.{zip_with}
 use Rattle.dexspec.specs.Bytes.{uint}
 use Rattle.dexspec.specs.Classes.{no_index}
 use Rattle.dexspec.specs.Mentions.{Mentions}

@@ -1,6 +1,5 @@
 //! All that stands behind the header of a file.
 
-ghost use Rattle.std.specs.Prelude.{◌≡◌, false};
 ghost use Rattle.std.specs.List.{flat_map};
 ghost use Rattle.dexspec.specs.Placing.{section_bytes};
 ghost use Rattle.dexspec.specs.Canonical.{data_sections, layout, table_bytes};

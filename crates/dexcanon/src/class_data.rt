@@ -2,7 +2,7 @@
 //!
 //! Source: the heading "class_data_item" of the Android page "Dalvik Executable format".
 
-ghost use Rattle.std.specs.Prelude.{◌≡◌, false};
+ghost use Rattle.std.specs.Prelude.{◌≡◌};
 ghost use Rattle.dexspec.specs.Mentions.{Mentions};
 ghost use Rattle.dexspec.specs.Placing.{is_empty_class, section_bytes};
 ghost use Rattle.dexspec.specs.Canonical.{class_data_section};

@@ -2,7 +2,7 @@
 //!
 //! Source: the heading "class_def_item" of the Android page "Dalvik Executable format".
 
-ghost use Rattle.std.specs.Prelude.{◌≡◌, ◌<◌, ◌^◌, false, length, unwrap_or, slice_index, IfSome};
+ghost use Rattle.std.specs.Prelude.{◌≡◌, ◌<◌, ◌^◌, length, unwrap_or, slice_index, IfSome};
 ghost use Rattle.std.specs.List.{concat, flat_map};
 ghost use Rattle.dexspec.specs.Bytes.{uint};
 ghost use Rattle.dexspec.specs.Classes.{no_index};

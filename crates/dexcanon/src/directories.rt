@@ -2,7 +2,7 @@
 //!
 //! Source: the heading "annotations_directory_item" of the Android page "Dalvik Executable format".
 
-ghost use Rattle.std.specs.Prelude.{◌≡◌, ◌==◌, ◌&&◌, false, length};
+ghost use Rattle.std.specs.Prelude.{◌≡◌, ◌==◌, ◌&&◌, length};
 ghost use Rattle.dexspec.specs.Placing.{section_bytes};
 ghost use Rattle.dexspec.specs.Canonical.{directory_section};
 ghost use Rattle.dexmembers.specs.DirectoryPut.{numbered_directory_bytes};

@@ -1,6 +1,6 @@
 //! A file from a place in its header on.
 
-ghost use Rattle.std.specs.Prelude.{◌≡◌, ◌≤◌, ◌++◌, [], None, drop, vec_len, vec_capacity};
+ghost use Rattle.std.specs.Prelude.{◌≡◌, ◌≤◌, None, drop, vec_len, vec_capacity};
 ghost use Rattle.dexhead.specs.Laid.{behind_header};
 ghost use Rattle.dexhead.specs.Written.{head_bytes};
 ghost use Rattle.dexcanon.specs.Ready.{CanBeMade, ordered_in};

@@ -2,7 +2,7 @@
 //!
 //! Source: the heading "map_list" of the Android page "Dalvik Executable format".
 
-ghost use Rattle.std.specs.Prelude.{◌≡◌, ◌++◌, false};
+ghost use Rattle.std.specs.Prelude.{◌++◌};
 ghost use Rattle.dexspec.specs.Bytes.{padding};
 ghost use Rattle.dexspec.specs.Canonical.{layout};
 ghost use Rattle.dexhead.specs.Laid.{map_list};

@@ -2,7 +2,6 @@
 //!
 //! Source: the heading "annotation_set_item" of the Android page "Dalvik Executable format".
 
-ghost use Rattle.std.specs.Prelude.{◌≡◌, false};
 ghost use Rattle.dexspec.specs.Spellings.{offsets_bytes};
 ghost use Rattle.dexspec.specs.Placing.{section_bytes};
 ghost use Rattle.dexspec.specs.Canonical.{set_section};

@@ -2,7 +2,6 @@
 //!
 //! Source: the heading "encoded_array_item" of the Android page "Dalvik Executable format".
 
-ghost use Rattle.std.specs.Prelude.{◌≡◌, false};
 ghost use Rattle.dexspec.specs.Placing.{section_bytes};
 ghost use Rattle.dexspec.specs.Canonical.{array_section};
 ghost use Rattle.dexcanon.specs.Ready.{CanBeMade, ordered_in};

@@ -2,7 +2,6 @@
 //!
 //! Source: the heading "string_data_item" of the Android page "Dalvik Executable format".
 
-ghost use Rattle.std.specs.Prelude.{◌≡◌, false};
 ghost use Rattle.dexspec.specs.Placing.{section_bytes};
 ghost use Rattle.dexspec.specs.Canonical.{string_section};
 ghost use Rattle.dexcanon.specs.Ready.{CanBeMade, ordered_in};

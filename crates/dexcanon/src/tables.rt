@@ -3,7 +3,6 @@
 //! Source: the headings "string_id_item", "type_id_item", "proto_id_item", "field_id_item" and "method_id_item" of the Android page
 //! "Dalvik Executable format".
 
-ghost use Rattle.std.specs.Prelude.{◌≡◌, false};
 ghost use Rattle.std.specs.List.{flat_map, concat};
 ghost use Rattle.dexspec.specs.Lists.{zip_with};
 ghost use Rattle.dexspec.specs.Bytes.{uint};

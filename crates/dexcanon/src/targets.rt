@@ -1,6 +1,6 @@
 //! Targets of the bytes of a file: its two sums, its signature, a writer, and none.
 
-ghost use Rattle.std.specs.Prelude.{◌≡◌, [], List, ℕ, ◌++◌, false, true, refl};
+ghost use Rattle.std.specs.Prelude.{◌≡◌, [], false, true, refl};
 ghost use Rattle.dexcanon.specs.Sums.{Hashed, hashed_nothing, hashed_both, Summed, summed_nothing, summed_both, kept_both};
 
 use crate::output::Target;

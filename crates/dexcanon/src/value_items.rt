@@ -2,9 +2,8 @@
 //!
 //! Source: the headings "annotation_item" and "encoded_array_item" of the Android page "Dalvik Executable format".
 
-ghost use Rattle.std.specs.Prelude.{◌≡◌, ℕ, map};
+ghost use Rattle.std.specs.Prelude.{map};
 ghost use Rattle.dexspec.specs.Spellings.{annotation_bytes, encoded_array_bytes};
-ghost use Rattle.dexspec.specs.Aside.Writing.{Puts};
 ghost use Rattle.dexval.specs.Code.{annotation_of, value_of};
 ghost use Rattle.dexval.specs.Numbered.{annotation_in, values_in, values_of_list};
 ghost use Rattle.dexcanon.specs.ValueItems.{IsFitAnnotation, AreFitValues};

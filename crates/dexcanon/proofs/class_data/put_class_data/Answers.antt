@@ -11,7 +11,7 @@ use Rattle.dexcanon.specs.Output.{AreWithin}
 use Rattle.dexcanon.proofs.ClassUses.{data_some, data_none}
 use Rattle.dexcanon.proofs.CodeItems.{class_rest}
 use Rattle.dexcanon.proofs.Written.{adds_as}
-use Rattle.dexcanon.proofs.Plainly.{plainly_none, plainly_skip, plainly_short, plainly_more, plainly_all}
+use Rattle.dexcanon.proofs.Plainly.{plainly_none, plainly_skip, plainly_more, plainly_all}
 use Rattle.dexcanon.proofs.SectionItems.{class_data_within, count_code_offsets}
 use Rattle.dexcanon.proofs.class_data.put_class_data.Goals as goal
 

@@ -1,4 +1,4 @@
-use Rattle.std.proofs.Common.{◌≡◌, [], ◌++◌, None, length, arith, ap, sym, refl, ◌∙◌}
+use Rattle.std.proofs.Common.{◌≡◌, ◌++◌, None, length, arith, ap, sym, refl, ◌∙◌}
 use Rattle.std.proofs.lemmas.List.{length-append}
 use Rattle.dexhead.specs.Sums.{with_sums_set}
 use Rattle.dexhead.specs.Laid.{behind_header}

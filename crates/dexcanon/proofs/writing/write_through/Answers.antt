@@ -1,4 +1,4 @@
-use Rattle.std.proofs.Common.{◌≡◌, ◌++◌, Some, None, false, sym, ◌∙◌}
+use Rattle.std.proofs.Common.{◌≡◌, ◌++◌, Some, None, sym, ◌∙◌}
 use Rattle.dexhead.specs.Laid.{behind_header}
 use Rattle.dexlayout.specs.Laid.{ordered_of}
 use Rattle.dexcanon.specs.declared.faults.StoreFault.TheVariants.{Io}

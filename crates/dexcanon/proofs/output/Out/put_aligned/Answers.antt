@@ -1,5 +1,5 @@
 use Rattle.std.proofs.Common.{◌≡◌, ℕ, ◌+◌, ◌-◌, ◌*◌, ◌/◌, ap, arith}
-use Rattle.std.specs.Prelude.{replicate, ◌%◌, ◌≤◌, length}
+use Rattle.std.specs.Prelude.{replicate, ◌%◌, ◌≤◌}
 use Rattle.std.proofs.lemmas.List.{length-replicate}
 use Rattle.dexcanon.proofs.Written.{adds_as, adds_more}
 use Rattle.dexcanon.proofs.output.Out.put_aligned.Goals as goal

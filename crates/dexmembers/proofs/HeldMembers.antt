@@ -1,5 +1,5 @@
 -- Members as they are held, led on and stripped: what is looked up for them then.
-use Rattle.std.proofs.Common.{◌≡◌, ℕ, List, [], ◌∷◌, length, map, refl, sym, ap, ◌∙◌, subst, arith, Bor, Option, Some, None}
+use Rattle.std.proofs.Common.{◌≡◌, ℕ, List, [], ◌∷◌, length, map, refl, ap, ◌∙◌, subst, arith, Bor, Option, Some, None}
 use Rattle.std.specs.Prelude.{MatchOption, IfSome, option_to_list}
 use Rattle.std.specs.List.{All, flat_map}
 use Rattle.std.proofs.lemmas.List.{length-map, append-nil}
@@ -119,11 +119,6 @@ method_numbers_held t [] = refl
 method_numbers_held t (x ∷ xs) = ap (λ (l : List ℕ). x.number ∷ l) (method_numbers_held t xs)
 
 -- ---- what may be there
-
--- what holds of a set that is empty where none is there
-pub set_there : {X : Type 0} (of : X → NumberedSet) (P : NumberedSet → Type 0) (o : Option X) (s : NumberedSet) → MatchOption o (s ≡ []) (λ (x : X). of x ≡ s) → P s → IfSome o (λ (x : X). P (of x))
-set_there of P None s h p = tt
-set_there of P (Some x) s h p = subst P (sym h) p
 
 -- what holds of the symbols of code, where there is some
 pub code_marked : (P : Use → Type 0) (o : Option (Bor NumberedItem)) (c : Option NumberedItem) → MatchOption o (c ≡ None) (λ x. c ≡ Some x.now) → All P (flat_map item_uses (option_to_list c)) → IfSome o (λ x. All P (item_uses x.now))

@@ -5,7 +5,7 @@ use Rattle.std.specs.List.{flat_map, zip}
 use Rattle.std.specs.Ordering.{nat_cmp}
 use Rattle.std.specs.FinMap.Entries.{by_order}
 use Rattle.std.proofs.lemmas.Bool.{cases_lt, lt-ltb, le-ltb}
-use Rattle.std.proofs.lemmas.List.{length-append, length-drop, drop_more, drop_all, get_or-drop, take_more, take_all}
+use Rattle.std.proofs.lemmas.List.{length-append, length-drop, drop_more, drop_all, get_or-drop, take_more}
 use Rattle.std.proofs.lemmas.List.Elements.{All-nil, All-cons, All-head, All-tail}
 use Rattle.dexspec.specs.Lists.{in_order, add_in_order}
 use Rattle.dexspec.specs.Bytes.{uint}
@@ -283,6 +283,3 @@ placed_more os i lt =
     let last : ℕ = slice_index os i in
     let one : count_placed (take (i + 1) os) ≡ count_placed (take i os ++ last ∷ []) = ap count_placed (take_more os i 0 lt) in
     omega (arith, one, placed_append (take i os) (last ∷ []))
-
-pub placed_all : (os : List ℕ) (i : ℕ) → length os ≤ i → count_placed (take i os) ≡ count_placed os
-placed_all os i le = ap count_placed (take_all i os le)

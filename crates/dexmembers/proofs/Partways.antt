@@ -1,5 +1,5 @@
 -- Items that are written one by one, and where this has come to.
-use Rattle.std.proofs.Common.{◌≡◌, ℕ, List, [], ◌++◌, sym, ap, ◌∙◌, refl, subst, append_assoc}
+use Rattle.std.proofs.Common.{◌≡◌, ℕ, List, [], ◌++◌, sym, ap, ◌∙◌, subst, append_assoc}
 use Rattle.std.proofs.lemmas.List.{append-nil}
 
 -- of these bytes all but the rest are written
@@ -9,10 +9,6 @@ pub record Partway {O : Type 0} (gives : List ℕ → O → O → Type 0) (rest 
   pub given : gives done old now
 
 module _ {O : Type 0} (gives : List ℕ → O → O → Type 0) where
-  -- nothing is written yet
-  pub partway_first : ((a : O) → gives [] a a) → (all : List ℕ) (a : O) → Partway gives all all a a
-  partway_first nothing all a = record { done = []; whole = refl; given = nothing a }
-
   -- one item more
   pub partway_next : ((x y : List ℕ) (a b c : O) → gives x a b → gives y b c → gives (x ++ y) a c) → (item rest all bytes : List ℕ) (a b c : O) → bytes ≡ item ++ rest → Partway gives bytes all a b → gives item b c → Partway gives rest all a c
   partway_next both item rest all bytes a b c e p h = record {

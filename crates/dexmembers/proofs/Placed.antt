@@ -92,9 +92,6 @@ both_greatest ns ks g h is are = both_by ns ks g h (max g h) (nat_lt g h) refl r
 pub left_greatest : (ns ks : List ℕ) (g : Option ℕ) → IsGreatest ns g → IsGreatest ks None → IsGreatest (ns ++ ks) g
 left_greatest ns ks g is none = subst (λ l. IsGreatest l g) (sym (append-nil ns) ∙ ap (λ l. ns ++ l) (sym none)) is
 
-pub right_greatest : (ns ks : List ℕ) (h : Option ℕ) → IsGreatest ns None → IsGreatest ks h → IsGreatest (ns ++ ks) h
-right_greatest ns ks h none are = subst (λ l. IsGreatest (l ++ ks) h) (sym none) are
-
 one_greatest : (n : ℕ) → IsGreatest (n ∷ []) (Some n)
 one_greatest n = (Contains-first n [], All-cons (λ k. k ≤ n) n [] (omega arith) (All-nil (λ k. k ≤ n)))
 

@@ -117,10 +117,7 @@ fn head_at(bytes: &[u8], at: usize, last: Option<u32>) -> Option<(u32, u32, usiz
         Ok(read) => read,
         Err(_) => return None,
     };
-    let index = match next_index(last, difference) {
-        Some(index) => index,
-        None => return None,
-    };
+    let index = next_index(last, difference)?;
     let (flags, flags_size) = match read_u(bytes, at + index_size) {
         Ok(read) => read,
         Err(_) => return None,

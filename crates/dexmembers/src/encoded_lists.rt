@@ -83,14 +83,8 @@ pub(crate) fn read_lists<T: Encoded>(
     ensures fault { IfErr result (IsDataRefusal (NoLists (T.stands owner.entry.pools.now owner.entry.class) T.index_of bytes.now at count other_count)) }
 {
     T::law();
-    let (members, size) = match read_list(alloc, owner, bytes, at, count) {
-        Ok(read) => read,
-        Err(fault) => return Err(fault),
-    };
-    let (others, others_size) = match read_list(alloc, owner, bytes, at + size, other_count) {
-        Ok(read) => read,
-        Err(fault) => return Err(fault),
-    };
+    let (members, size) = read_list(alloc, owner, bytes, at, count)?;
+    let (others, others_size) = read_list(alloc, owner, bytes, at + size, other_count)?;
     if !are_apart::<T>(&members, &others) {
         return Err(ItemFault::Refused(Condition::Members as u8));
     }

@@ -12,7 +12,7 @@ ghost use Rattle.dexval.specs.Reading.{IsDirectoryFault};
 ghost use Rattle.dexval.specs.CheckedSets.{AreChecked, IsWeighed, HasDirectoryOf};
 
 use crate::directory::MemberCounts;
-use crate::directory_reading::{list_weight, member_counts, pair_at};
+use crate::directory_reading::{PairRange, list_weight, member_counts, pair_at};
 use crate::set_checking::check_set;
 use crate::set_reading::count_at;
 use dexhead::{Condition, Frame, u32_at};
@@ -70,10 +70,7 @@ fn checked_set_at(
     if let Some(weight) = checked.sets.get(&off) {
         return Ok(*weight);
     }
-    let shape = match check_set(frame, pools, off) {
-        Ok(shape) => shape,
-        Err(fault) => return Err(fault),
-    };
+    let shape = check_set(frame, pools, off)?;
     checked.sets.insert(off, shape.weight)?;
     Ok(shape.weight)
 }
@@ -91,19 +88,13 @@ fn listed_weight(
     ensures weight { AreFilePools frame.now pools.now → IfOk result (IsWeighed (IsRefListAt frame.now off pools.now) (sets_weight_in pools.now)) }
     ensures refused { AreFilePools frame.now pools.now → IfErr result (IsRefusal (NoRefListAt frame.now off)) }
 {
-    let count = match count_at(frame, off) {
-        Ok(count) => count,
-        Err(fault) => return Err(fault),
-    };
+    let count = count_at(frame, off)?;
     let bytes = frame.bytes();
     let list = list_weight(count);
     let mut weight = list;
     for i in 0..count {
         let set_off = u32_at(bytes, off as usize + 4 + 4 * i as usize);
-        let set = match checked_set_at(frame, pools, set_off, checked) {
-            Ok(set) => set,
-            Err(fault) => return Err(fault),
-        };
+        let set = checked_set_at(frame, pools, set_off, checked)?;
         weight = weight.saturating_add(set);
     }
     Ok(weight)
@@ -124,10 +115,7 @@ fn checked_list_at(
     if let Some(weight) = checked.lists.get(&off) {
         return Ok(*weight);
     }
-    let weight = match listed_weight(frame, pools, off, checked) {
-        Ok(weight) => weight,
-        Err(fault) => return Err(fault),
-    };
+    let weight = listed_weight(frame, pools, off, checked)?;
     checked.lists.insert(off, weight)?;
     Ok(weight)
 }
@@ -214,34 +202,25 @@ impl CheckedMember for CheckedList {
     }
 }
 
-// What `count` members from a place on weigh, or 2^64 - 1 where that is more: their numbers are below the limit. Error: there
-// are none.
+// What the members of these pairs weigh, or 2^64 - 1 where that is more. Error: they are not there.
 fn members_weight<T: CheckedMember>(
     frame: &Frame<'_>,
     pools: &Pools<'_>,
-    at: usize,
-    count: u32,
-    limit: usize,
+    pairs: &PairRange,
     checked: &mut CheckedSets,
 ) -> Result<u64, ItemFault>
-    requires within { at + 8 * count ≤ length frame.now }
-    requires fits { at < 2 ^ 40 }
+    requires within { pairs.now.at + 8 * pairs.now.count ≤ length frame.now }
+    requires fits { pairs.now.at < 2 ^ 40 }
     requires checked { AreFilePools frame.now pools.now → AreChecked frame.now pools.now checked.old }
     ensures checked { AreFilePools frame.now pools.now → OnOk result (AreChecked frame.now pools.now checked.new) }
-    ensures weight { AreFilePools frame.now pools.now → IfOk result (IsWeighed (ArePairsAt (T.is_known pools.now) (T.inside pools.now) T.stands frame.now at count limit) (sum_by (λ e. T.weighs pools.now e.1))) }
-    ensures refused { AreFilePools frame.now pools.now → IfErr result (IsRefusal (NoPairsAt T.stands frame.now at count limit)) }
+    ensures weight { AreFilePools frame.now pools.now → IfOk result (IsWeighed (ArePairsAt (T.is_known pools.now) (T.inside pools.now) T.stands frame.now pairs.now.at pairs.now.count pairs.now.limit) (sum_by (λ e. T.weighs pools.now e.1))) }
+    ensures refused { AreFilePools frame.now pools.now → IfErr result (IsRefusal (NoPairsAt T.stands frame.now pairs.now.at pairs.now.count pairs.now.limit)) }
 {
     let mut weight: u64 = 0;
     let mut least = 0;
-    for i in 0..count {
-        let (number, off) = match pair_at(frame, at + 8 * i as usize, least, limit) {
-            Ok(pair) => pair,
-            Err(fault) => return Err(fault),
-        };
-        let item = match T::checked_at(frame, pools, off, checked) {
-            Ok(item) => item,
-            Err(fault) => return Err(fault),
-        };
+    for i in 0..pairs.count {
+        let (number, off) = pair_at(frame, pairs.at + 8 * i as usize, least, pairs.limit)?;
+        let item = T::checked_at(frame, pools, off, checked)?;
         least = u64::from(number) + 1;
         weight = weight.saturating_add(item);
     }
@@ -275,48 +254,27 @@ pub fn check_directory(
         None => return Err(ItemFault::Refused(Condition::Annotations as u8)),
     };
     let own_off = u32_at(frame.bytes(), off as usize);
-    let own = match checked_set_at(frame, pools, own_off, checked) {
-        Ok(own) => own,
-        Err(fault) => return Err(fault),
-    };
-    let fields_at = off as usize + 16;
+    let own = checked_set_at(frame, pools, own_off, checked)?;
     let limit = pools.len(SymbolKind::Field);
-    let fields = match members_weight::<CheckedSet>(
-        frame,
-        pools,
-        fields_at,
-        counts.fields,
+    let field_pairs = PairRange {
+        at: off as usize + 16,
+        count: counts.fields,
         limit,
-        checked,
-    ) {
-        Ok(fields) => fields,
-        Err(fault) => return Err(fault),
     };
-    let methods_at = fields_at + 8 * counts.fields as usize;
+    let fields = members_weight::<CheckedSet>(frame, pools, &field_pairs, checked)?;
     let limit = pools.len(SymbolKind::Method);
-    let methods = match members_weight::<CheckedSet>(
-        frame,
-        pools,
-        methods_at,
-        counts.methods,
+    let method_pairs = PairRange {
+        at: field_pairs.at + 8 * counts.fields as usize,
+        count: counts.methods,
         limit,
-        checked,
-    ) {
-        Ok(methods) => methods,
-        Err(fault) => return Err(fault),
     };
-    let parameters_at = methods_at + 8 * counts.methods as usize;
-    let parameters = match members_weight::<CheckedList>(
-        frame,
-        pools,
-        parameters_at,
-        counts.parameters,
+    let methods = members_weight::<CheckedSet>(frame, pools, &method_pairs, checked)?;
+    let parameter_pairs = PairRange {
+        at: method_pairs.at + 8 * counts.methods as usize,
+        count: counts.parameters,
         limit,
-        checked,
-    ) {
-        Ok(parameters) => parameters,
-        Err(fault) => return Err(fault),
     };
+    let parameters = members_weight::<CheckedList>(frame, pools, &parameter_pairs, checked)?;
     let weight = own
         .saturating_add(fields)
         .saturating_add(methods)

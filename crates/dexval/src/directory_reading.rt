@@ -283,12 +283,12 @@ impl OfMember for ListOfMember {
     ghost naming_stays = { λ t u place i extended named. extended.listed_stay i named };
 }
 
-// Pairs of a member and an offset: `count` from a place on, each with a number of a member below the limit.
+/// Pairs of a member and an offset: `count` from a place on, each with a number of a member below the limit.
 #[derive(Clone, Copy)]
-struct PairRange {
-    at: usize,
-    count: u32,
-    limit: usize,
+pub(crate) struct PairRange {
+    pub(crate) at: usize,
+    pub(crate) count: u32,
+    pub(crate) limit: usize,
 }
 
 // The members of these pairs, by their numbers, with the place of what the directory says of each, while the budget lasts.

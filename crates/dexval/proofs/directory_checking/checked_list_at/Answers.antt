@@ -1,4 +1,5 @@
 use Rattle.std.proofs.Common.{refl, sym}
+use Rattle.std.proofs.lemmas.Result.{err_from_is_err_and}
 use Rattle.dexval.specs.declared.directory_checking.CheckedSets.{CheckedSets}
 use Rattle.dexval.proofs.DirectoryChecked.{list_added}
 use Rattle.dexval.proofs.directory_checking.checked_list_at.Goals as goal
@@ -10,4 +11,9 @@ pub returns-clause-checked : goal.returns-clause-checked
 returns-clause-checked c = λ p.
     let mid = c.listed_weight.new.checked in
     let new : CheckedSets = record { sets = mid.sets; lists = c.insert.new.self } in
-    list_added c.args.frame.now c.args.pools.now mid new c.args.off c.in-Ok.weight (c.in-Ok.ensures.checked p) (c.in-Ok.ensures.weight p) c.in_ok-insert.ensures.updates.1 c.in_ok-insert.ensures.updates.2 refl
+    list_added c.args.frame.now c.args.pools.now mid new c.args.off c.in_ok-weight.weight (c.in_ok-weight.ensures.checked p) (c.in_ok-weight.ensures.weight p) c.in_ok-insert.ensures.updates.1 c.in_ok-insert.ensures.updates.2 refl
+
+pub returns-in_err-weight-clause-refused : goal.returns-in_err-weight-clause-refused
+returns-in_err-weight-clause-refused c = λ p.
+    let e = err_from_is_err_and c.from_residual.result c.from_residual.ensures.1 in
+    rw (e.1, e.2) (c.in_err-weight.ensures.refused p)

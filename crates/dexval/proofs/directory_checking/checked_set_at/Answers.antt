@@ -1,4 +1,5 @@
 use Rattle.std.proofs.Common.{[], refl, sym, arith}
+use Rattle.std.proofs.lemmas.Result.{err_from_is_err_and}
 use Rattle.dexval.specs.declared.directory_checking.CheckedSets.{CheckedSets}
 use Rattle.dexval.specs.Directories.{IsSetOrEmptyAt, set_weight_in}
 use Rattle.dexval.specs.Reading.{IsSetAt}
@@ -17,17 +18,19 @@ returns-in-Some-clause-weight c = λ p.
     let off = c.args.off in
     weighed_as (IsSetAt b off m) (IsSetOrEmptyAt b off m) (set_weight_in m) (set_weight_in m) (λ s h. some_set b off m s (omega arith) h) (λ s h. refl) ((c.requires p).sets_checked off c.in-Some.weight.now (sym c.in-Some.ensures.value))
 
-pub returns-in-Err-clause-refused : goal.returns-in-Err-clause-refused
-returns-in-Err-clause-refused c = λ p. refused_set c.args.frame.now c.args.off (no_set c.args.frame.now c.args.off (omega arith)) c.in-Err.fault (c.in-Err.ensures.refused p.pools)
+pub returns-in_err-shape-clause-refused : goal.returns-in_err-shape-clause-refused
+returns-in_err-shape-clause-refused c = λ p.
+    let e = err_from_is_err_and c.from_residual.result c.from_residual.ensures.1 in
+    rw (e.1, e.2) (refused_set c.args.frame.now c.args.off (no_set c.args.frame.now c.args.off (omega arith)) c.in_err-shape.field-0.0 (c.in_err-shape.ensures.refused p.pools))
 
 pub returns-clause-checked : goal.returns-clause-checked
 returns-clause-checked c = λ p.
     let new : CheckedSets = record { sets = c.insert.new.self; lists = c.args.checked.now.lists } in
-    set_added c.args.frame.now c.args.pools.now c.args.checked.now new c.args.off c.in-Ok.shape.weight (c.requires p) (set_weighed c.args.frame.now c.args.off c.args.pools.now c.in-Ok.shape.count c.in-Ok.shape.weight (omega arith) (c.in-Ok.ensures.set p.pools)) c.in_ok-insert.ensures.updates.1 c.in_ok-insert.ensures.updates.2 refl
+    set_added c.args.frame.now c.args.pools.now c.args.checked.now new c.args.off c.in_ok-shape.shape.weight (c.requires p) (set_weighed c.args.frame.now c.args.off c.args.pools.now c.in_ok-shape.shape.count c.in_ok-shape.shape.weight (omega arith) (c.in_ok-shape.ensures.set p.pools)) c.in_ok-insert.ensures.updates.1 c.in_ok-insert.ensures.updates.2 refl
 
 pub returns-clause-weight : goal.returns-clause-weight
 returns-clause-weight c = λ p.
     let b = c.args.frame.now in
     let m = c.args.pools.now in
     let off = c.args.off in
-    weighed_as (IsSetAt b off m) (IsSetOrEmptyAt b off m) (set_weight_in m) (set_weight_in m) (λ s h. some_set b off m s (omega arith) h) (λ s h. refl) (set_weighed b off m c.in-Ok.shape.count c.in-Ok.shape.weight (omega arith) (c.in-Ok.ensures.set p.pools))
+    weighed_as (IsSetAt b off m) (IsSetOrEmptyAt b off m) (set_weight_in m) (set_weight_in m) (λ s h. some_set b off m s (omega arith) h) (λ s h. refl) (set_weighed b off m c.in_ok-shape.shape.count c.in_ok-shape.shape.weight (omega arith) (c.in_ok-shape.ensures.set p.pools))

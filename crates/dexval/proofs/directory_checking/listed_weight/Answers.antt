@@ -1,4 +1,5 @@
 use Rattle.std.proofs.Common.{◌≡◌, ◌+◌, ◌*◌, ◌∙◌, ℕ, List, [], sum_by, ap, subst, arith}
+use Rattle.std.proofs.lemmas.Result.{err_from_is_err_and}
 use Rattle.dexspec.specs.Bytes.{uint_at}
 use Rattle.dexval.specs.Numbered.{NumberedSet}
 use Rattle.dexval.specs.Directories.{IsSetOrEmptyAt, NoSetOrEmptyAt, IsRefListAt, set_weight_in, sets_weight_in}
@@ -8,14 +9,17 @@ use Rattle.dexval.proofs.Keeping.{list_adds, list_weighs}
 use Rattle.dexval.proofs.Refusals.{refused_so}
 use Rattle.dexval.proofs.directory_checking.listed_weight.Goals as goal
 
-pub returns-in-Err-clause-refused : goal.returns-in-Err-clause-refused
-returns-in-Err-clause-refused c = λ p. refused_so (no_list_room c.args.frame.now c.args.off) c.in-Err.fault c.in-Err.ensures.refused
+pub returns-in_err-count-clause-refused : goal.returns-in_err-count-clause-refused
+returns-in_err-count-clause-refused c = λ p.
+    let e = err_from_is_err_and c.from_residual.result c.from_residual.ensures.1 in
+    rw (e.1, e.2) (refused_so (no_list_room c.args.frame.now c.args.off) c.in_err-count.field-0.0 c.in_err-count.ensures.refused)
 
-pub returns-in-Err-checked_set_at-clause-refused : goal.returns-in-Err-checked_set_at-clause-refused
-returns-in-Err-checked_set_at-clause-refused c = λ p.
+pub returns-in_err-set-clause-refused : goal.returns-in_err-set-clause-refused
+returns-in_err-set-clause-refused c = λ p.
     let b = c.args.frame.now in
     let place : c.u32_at-set_off.result ≡ uint_at b (c.args.off + 4 + 4 * c.loop-i.i) = c.u32_at-set_off.ensures ∙ ap (λ (x : List ℕ). uint_at x (c.args.off + 4 + 4 * c.loop-i.i)) c.bytes-bytes.ensures.bytes in
-    refused_so (λ none. no_set_next b c.args.off c.loop-i.i (omega (arith, c.in-Ok.ensures.count.1)) (subst (NoSetOrEmptyAt b) place none)) c.in-Err-checked_set_at.fault (c.in-Err-checked_set_at.ensures.refused p)
+    let e = err_from_is_err_and c.from_residual-in_err-set.result c.from_residual-in_err-set.ensures.1 in
+    rw (e.1, e.2) (refused_so (λ none. no_set_next b c.args.off c.loop-i.i (omega (arith, c.in_ok-count.ensures.count.1)) (subst (NoSetOrEmptyAt b) place none)) c.in_err-set.field-0.0 (c.in_err-set.ensures.refused p))
 
 pub loop-i-init : goal.loop-i-init
 loop-i-init c = record {
@@ -32,9 +36,9 @@ loop-i-preserved c =
     let list = c.list_weight-list.result in
     let stand : c.u32_at-set_off.result ≡ uint_at b (c.args.off + 4 + 4 * i) = c.u32_at-set_off.ensures ∙ ap (λ (x : List ℕ). uint_at x (c.args.off + 4 + 4 * i)) c.bytes-bytes.ensures.bytes in
     record {
-      checked = λ p. c.in-Ok-checked_set_at.ensures.checked p;
+      checked = λ p. c.in_ok-set.ensures.checked p;
       weighed = λ p.
-          let r = c.in-Ok-checked_set_at.ensures.weight p in
+          let r = c.in_ok-set.ensures.weight p in
           let stands : IsSetOrEmptyAt b (uint_at b (c.args.off + 4 + 4 * i)) m r.item = subst (λ (x : ℕ). IsSetOrEmptyAt b x m r.item) stand r.is_read in
           one_weighed (HaveReadList b p4 m i) (HaveReadList b p4 m (i + 1)) (λ (ss : List NumberedSet). list + sum_by (set_weight_in m) ss) (set_weight_in m) r.item (λ ss k. one_set_more b p4 m i ss r.item k stands) (list_adds m list r.item) (c.loop-i.invariant.weighed p) r.weight_is (omega (arith, c.saturating_add-weight.ensures));
     }
@@ -45,8 +49,8 @@ returns-clause-weight c = λ p.
     let m = c.args.pools.now in
     let list = c.list_weight-list.result in
     let i = c.loop-i.i in
-    let count : i ≡ uint_at b c.args.off = omega (arith, c.in-Ok.ensures.count.1) in
-    let is_count : i ≡ c.in-Ok.count = omega arith in
-    weighed_as (HaveReadList b (c.args.off + 4) m i) (IsRefListAt b c.args.off m) (λ (ss : List NumberedSet). list + sum_by (set_weight_in m) ss) (sets_weight_in m) (λ ss k. list_read b c.args.off m i ss c.in-Ok.ensures.count.0 count k)
+    let count : i ≡ uint_at b c.args.off = omega (arith, c.in_ok-count.ensures.count.1) in
+    let is_count : i ≡ c.in_ok-count.count = omega arith in
+    weighed_as (HaveReadList b (c.args.off + 4) m i) (IsRefListAt b c.args.off m) (λ (ss : List NumberedSet). list + sum_by (set_weight_in m) ss) (sets_weight_in m) (λ ss k. list_read b c.args.off m i ss c.in_ok-count.ensures.count.0 count k)
     (λ ss k. list_weighs b (c.args.off + 4) m i list ss (λ e. c.list_weight-list.ensures.none (omega (arith, e, is_count))) (λ lt. omega (arith, is_count, c.list_weight-list.ensures.some (omega (arith, lt, is_count)))) k)
     (c.loop-i.invariant.weighed p)

@@ -32,3 +32,4 @@ pub mod MeaningDebug
 pub mod Meanings
 pub mod MeaningRanked
 pub mod CodesChecked
+pub mod KeptOperations

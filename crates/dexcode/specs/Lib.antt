@@ -7,5 +7,6 @@ pub mod Equality
 pub mod Meaning
 pub mod NamedHandlers
 pub mod Numbered
+pub mod Operations
 pub mod Reading
 pub mod Renumbering

@@ -2,7 +2,7 @@
 
 ghost use Rattle.std.specs.Prelude.{◌≡◌};
 
-use crate::debug_operation::Operation;
+use crate::operations::{OperationIter, Operations};
 use std::marker::Model;
 
 /// A debug_info_item: the line that it starts at, the names of parameters, and operations. Its texts and types are
@@ -15,7 +15,7 @@ pub struct Debug {
     /// The number of the text that is each parameter's name, or `None`, which is NO_INDEX.
     pub(crate) parameter_names: Vec<Option<u32>>,
     /// The operations, without `DBG_END_SEQUENCE`.
-    pub(crate) operations: Vec<Operation>,
+    pub(crate) operations: Operations,
 }
 
 // So that a debug program is let go by one call.
@@ -34,9 +34,9 @@ impl Model for Debug {
 
     ghost Value = { NumberedDebug };
 
-    ghost view = { λ d. record { line_start = d.line_start; parameter_names = d.parameter_names.items; operations = d.operations.items } };
+    ghost view = { λ d. record { line_start = d.line_start; parameter_names = d.parameter_names.items; operations = d.operations } };
 
-    ghost invariant = { λ d. IsFormedDebug (record { line_start = d.line_start; parameter_names = d.parameter_names.items; operations = d.operations.items }) };
+    ghost invariant = { λ d. IsFormedDebug (record { line_start = d.line_start; parameter_names = d.parameter_names.items; operations = d.operations }) };
 }
 
 impl Debug {
@@ -58,12 +58,12 @@ impl Debug {
         &self.parameter_names
     }
 
-    /// The operations, in order and without the end.
+    /// The operations, in order and without the end. No memory is taken.
     ///
     /// Source: "debug_info_item", "State machine".
-    pub fn operations(&self) -> &[Operation]
-        ensures { result.now ≡ self.now.operations }
+    pub fn operations(&self) -> OperationIter<'_>
+        ensures { result ≡ self.now.operations }
     {
-        &self.operations
+        self.operations.iter()
     }
 }

@@ -1,18 +1,21 @@
 //! Debug programs that are the same are equal, and are hashed alike.
 
 ghost use Rattle.std.specs.Cmp.{partial_equiv_from_equiv};
+ghost use Rattle.dexcode.specs.contracts.operations.EntryEq.TheImpl.Laws as equal_entries;
+ghost use Rattle.dexcode.specs.contracts.operations.EntryHash.TheImpl.Laws as hashed_entries;
 ghost use Rattle.dexcode.specs.contracts.debug_operation.OperationEq.TheImpl.Laws as equal;
 ghost use Rattle.dexcode.specs.contracts.debug_operation.OperationHash.TheImpl.Laws as hashed;
 ghost use Rattle.dexcode.specs.DebugEquality.{same_debug, debug_input, debug_equiv, debugs_alike};
 
 use crate::debug::Debug;
 use crate::debug_operation::Operation;
+use crate::operations::Entry;
 use std::hash::{Hash, Hasher};
 
 impl PartialEq for Debug {
-    ghost eq = { same_debug ⟦<Operation as PartialEq>⟧.eq };
+    ghost eq = { same_debug ⟦<Entry as PartialEq>⟧.eq ⟦<Operation as PartialEq>⟧.eq };
 
-    ghost laws = { partial_equiv_from_equiv (debug_equiv equal.laws-law) };
+    ghost laws = { partial_equiv_from_equiv (debug_equiv equal_entries.laws-law equal.laws-law) };
 
     fn eq(&self, other: &Debug) -> bool {
         self.line_start == other.line_start
@@ -22,13 +25,13 @@ impl PartialEq for Debug {
 }
 
 impl Eq for Debug {
-    ghost laws = { debug_equiv equal.laws-law };
+    ghost laws = { debug_equiv equal_entries.laws-law equal.laws-law };
 }
 
 impl Hash for Debug {
-    ghost hash_input = { debug_input ⟦<Operation as Hash>⟧.hash_input };
+    ghost hash_input = { debug_input ⟦<Entry as Hash>⟧.hash_input ⟦<Operation as Hash>⟧.hash_input };
 
-    ghost respects_eq = { debugs_alike ⟦<Operation as PartialEq>⟧.eq ⟦<Operation as Hash>⟧.hash_input hashed.respects_eq-law };
+    ghost respects_eq = { debugs_alike ⟦<Entry as PartialEq>⟧.eq ⟦<Operation as PartialEq>⟧.eq ⟦<Entry as Hash>⟧.hash_input ⟦<Operation as Hash>⟧.hash_input hashed_entries.respects_eq-law hashed.respects_eq-law };
 
     fn hash<H: Hasher>(&self, state: &mut H) {
         self.line_start.hash(state);

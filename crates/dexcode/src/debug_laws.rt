@@ -15,6 +15,7 @@ ghost use Rattle.dexcode.specs.Debug.{NumberedDebug, IsFormedDebug, StandsForDeb
 
 use crate::debug::Debug;
 use crate::debug_operation::Operation;
+use crate::operations::entry_equality_law;
 
 /// Where the symbols rise, the bytes of a numbered debug program are those of the one that it stands for, each index
 /// the rank of its symbol. They are no more than it weighs.
@@ -58,5 +59,6 @@ pub fn operation_equality_law()
 pub fn debug_equality_law()
     ensures { (d e : NumberedDebug) → IsTrue (⟦<Debug as PartialEq>⟧.eq d e) ↔ (d ≡ e) }
 {
+    entry_equality_law();
     operation_equality_law();
 }

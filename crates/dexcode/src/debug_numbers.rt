@@ -9,20 +9,19 @@ ghost use Rattle.dexcode.specs.Debug.{bare, number_uses, operation_uses, operati
 
 use crate::debug::Debug;
 use crate::debug_operation::Operation;
-use dexpool::{
-    Marks, Remap, Renumber, SymbolKind, Symbols, Visitor, mark, renumber_all, visit_all,
-};
+use crate::operations::Operations;
+use dexpool::{Marks, Remap, Renumber, SymbolKind, Symbols, Visitor, mark};
 use std::alloc::AllocError;
 
 // What operations weigh.
-fn operations_weight(operations: &[Operation]) -> u64
+fn operations_weight(operations: &Operations) -> u64
     requires { length operations.now < 2 ^ 30 }
     ensures sum { result ≡ sum_by operation_weight operations.now }
     ensures bound { result ≤ 21 * length operations.now }
 {
     let mut weight = 0;
-    for operation in operations {
-        weight += 1 + 5 * operation.operands();
+    for i in 0..operations.len() {
+        weight += 1 + 5 * operations.at(i).operands();
     }
     weight
 }
@@ -109,7 +108,7 @@ impl Symbols for Debug {
 
     fn visit<V: Visitor>(&self, visitor: &mut V) {
         visit_names(&self.parameter_names, visitor);
-        visit_all(&self.operations, visitor);
+        self.operations.visit(visitor);
     }
 }
 
@@ -137,7 +136,7 @@ impl Debug {
         ensures { self.new ≡ renumbered_debug remap.now self.old }
     {
         renumber_names(&mut self.parameter_names, remap);
-        renumber_all(&mut self.operations, remap);
+        self.operations.renumber(remap);
     }
 
     /// Marks each symbol that occurs. No memory is taken.
@@ -158,7 +157,7 @@ impl Debug {
     {
         let alloc = *self.parameter_names.allocator();
         let parameter_names = Vec::from_slice(alloc, &self.parameter_names)?;
-        let operations = Vec::from_slice(alloc, &self.operations)?;
+        let operations = self.operations.copy()?;
         Ok(Debug {
             line_start: self.line_start,
             parameter_names,

@@ -49,6 +49,7 @@ pub enum Operation {
 
 impl Operation {
     ghost use Rattle.dexcode.specs.Debug.{name_of, type_of, signature_of, with_numbers, bare_operation, operation_uses};
+    ghost use Rattle.dexcode.specs.Operations.{has_places};
 
     /// The number of the name of a local variable or of a source file.
     pub fn name_idx(&self) -> Option<u32>
@@ -85,7 +86,8 @@ impl Operation {
 
     // Whether there are places in it for the numbers of symbols.
     pub(crate) fn has_places(&self) -> bool
-        ensures { result ≡ false → operation_uses self.now ≡ [] }
+        ensures places { result ≡ has_places self.now }
+        ensures none { result ≡ false → operation_uses self.now ≡ [] }
     {
         match self {
             Operation::StartLocal { .. } => true,

@@ -6,6 +6,7 @@ ghost use Rattle.dexcode.specs.Debug.{bare, bare_operation, IsSpecial, IsFormedO
 
 use crate::debug::Debug;
 use crate::debug_operation::Operation;
+use crate::operations::Operations;
 use std::alloc::{AllocError, Global};
 
 // By how much an operation moves the address.
@@ -76,7 +77,7 @@ fn keep(
 fn positions_from(
     alloc: Global,
     line_start: u32,
-    operations: &[Operation],
+    operations: &Operations,
 ) -> Result<Vec<(u64, i64)>, AllocError>
     requires few { length operations.now < 2 ^ 30 }
     requires formed { All IsFormedOperation operations.now }
@@ -85,10 +86,11 @@ fn positions_from(
     let mut found = Vec::new(alloc);
     let mut address = 0;
     let mut line = i64::from(line_start);
-    for operation in operations {
-        address += address_step(operation);
-        line = next_line(line, operation);
-        keep(&mut found, is_special(operation), address, line)?;
+    for i in 0..operations.len() {
+        let operation = operations.at(i);
+        address += address_step(&operation);
+        line = next_line(line, &operation);
+        keep(&mut found, is_special(&operation), address, line)?;
     }
     Ok(found)
 }

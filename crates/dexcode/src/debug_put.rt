@@ -20,7 +20,8 @@ use crate::debug_opcodes::{
     DBG_START_LOCAL_EXTENDED,
 };
 use crate::debug_operation::Operation;
-use dexhead::{Count, Encode, Output, encode_all};
+use crate::operations::Operations;
+use dexhead::{Count, Encode, Output};
 use dexpool::Numbering;
 use std::alloc::AllocError;
 
@@ -116,6 +117,16 @@ fn encode_names<O: Output>(names: &[Option<u32>], out: &mut O)
     }
 }
 
+// Writes operations.
+fn encode_operations<O: Output>(operations: &Operations, out: &mut O)
+    requires { All IsFormedOperation operations.now }
+    ensures { O.gives (flat_map numbered_operation_bytes operations.now) out.old out.new }
+{
+    for i in 0..operations.len() {
+        operations.at(i).encode(out);
+    }
+}
+
 impl Debug {
     // Writes the debug_info_item.
     fn encode<O: Output>(&self, out: &mut O)
@@ -125,7 +136,7 @@ impl Debug {
         out.uleb(self.line_start);
         out.uleb(self.parameter_names.len() as u32);
         encode_names(&self.parameter_names, out);
-        encode_all(&self.operations, out);
+        encode_operations(&self.operations, out);
         out.byte(DBG_END_SEQUENCE);
     }
 

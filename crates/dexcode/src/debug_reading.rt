@@ -15,6 +15,7 @@ use crate::debug_opcodes::{
     DBG_START_LOCAL_EXTENDED,
 };
 use crate::debug_operation::Operation;
+use crate::operations::{Operations, entry_of, keep_named};
 use dexhead::{Condition, Frame};
 use dexleb::{read_p1, read_s, read_u};
 use dexpool::{ItemFault, Pools, SymbolKind};
@@ -291,19 +292,22 @@ fn build_operations(
     from: usize,
     count: usize,
     counts: Counts,
-) -> Result<Vec<Operation>, AllocError>
+) -> Result<Operations, AllocError>
     requires within { from ≤ length bytes.now }
+    requires few { count < 2 ^ 30 }
     requires stand { HaveOperations counts bytes.now from count }
-    ensures { IfOk result (λ ops. AreTheOperations counts bytes.now from count ops.items) }
+    ensures { IfOk result (λ ops. AreTheOperations counts bytes.now from count ops) }
 {
-    let mut operations = Vec::with_capacity(alloc, count)?;
+    let mut entries = Vec::with_capacity(alloc, count)?;
+    let mut named = Vec::new(alloc);
     let mut at = from;
     for _ in 0..count {
         let (operation, len) = operation_at(bytes, at + 1, bytes[at], counts).unwrap();
-        operations.push(operation).unwrap();
+        entries.push(entry_of(operation, named.len())).unwrap();
+        keep_named(&mut named, operation)?;
         at += 1 + len;
     }
-    Ok(operations)
+    Ok(Operations { entries, named })
 }
 
 // The debug program that stands at a place, in exactly the memory that it takes.

@@ -6,6 +6,7 @@ ghost use Rattle.dexcode.specs.Debug.{image_or_none, renumbered_operation, renum
 
 use crate::debug::Debug;
 use crate::debug_operation::Operation;
+use crate::operations::Operations;
 use dexpool::{Remap, SymbolKind};
 
 // The number that a number leads to, if there is one.
@@ -83,17 +84,17 @@ fn same_names(mine: &Remap, names: &[Option<u32>], theirs: &Remap, others: &[Opt
 // Whether the operations are the same, one for one, their numbers led on.
 fn same_operations(
     mine: &Remap,
-    operations: &[Operation],
+    operations: &Operations,
     theirs: &Remap,
-    others: &[Operation],
+    others: &Operations,
 ) -> bool
     ensures { IsTrue result ↔ (map (renumbered_operation mine.now) operations.now ≡ map (renumbered_operation theirs.now) others.now) }
 {
     if operations.len() != others.len() {
         return false;
     }
-    for (i, operation) in operations.iter().enumerate() {
-        if !operations_alike(mine, operation, theirs, &others[i]) {
+    for i in 0..operations.len() {
+        if !operations_alike(mine, &operations.at(i), theirs, &others.at(i)) {
             return false;
         }
     }

@@ -26,6 +26,7 @@ pub use debug_put::put_debug;
 pub use debug_reading::{DebugShape, build_debug, check_debug, read_debug};
 pub use handlers::{Catch, Handler};
 pub use meaning_laws::{code_led_law, code_meaning_law, debug_led_law, debug_meaning_law};
+pub use operations::OperationIter;
 pub use tries::{Tries, Try};
 
 mod catches;
@@ -54,6 +55,7 @@ mod handler_list;
 mod handlers;
 mod meaning_laws;
 mod named_handlers;
+mod operations;
 mod tries;
 mod tries_numbers;
 mod tries_same;

@@ -83,7 +83,7 @@ pub fn print_debug(debug: &Debug, numbering: &Numbering<'_>, out: &mut Printed) 
     let mut mark = " ";
     for operation in debug.operations() {
         out.add(mark);
-        print_operation(operation, numbering, out);
+        print_operation(&operation, numbering, out);
         mark = ", ";
     }
 }

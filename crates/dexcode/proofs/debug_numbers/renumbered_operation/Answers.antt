@@ -15,4 +15,4 @@ pub renumbered-sig_idx-requires : goal.renumbered-sig_idx-requires
 renumbered-sig_idx-requires c = subst (λ i. All (HasPlace c.args.remap.now) (number_uses kinds.Text i)) (sym c.sig_idx.ensures) (signature_part (HasPlace c.args.remap.now) c.args.operation c.requires)
 
 pub returns-then-not-has_places : goal.returns-then-not-has_places
-returns-then-not-has_places c = stays c.args.remap.now c.args.operation (c.has_places.ensures c.if-not-has_places.true)
+returns-then-not-has_places c = stays c.args.remap.now c.args.operation (c.has_places.ensures.none c.if-not-has_places.true)

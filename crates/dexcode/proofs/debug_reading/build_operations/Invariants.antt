@@ -1,11 +1,11 @@
 use Rattle.std.proofs.Common.{◌≡◌, ◌≤◌}
 use Rattle.std.specs.Prelude.{vec_len, vec_capacity}
-use Rattle.dexcode.proofs.DebugRuns.{OperationsBuilt}
+use Rattle.dexcode.proofs.KeptOperations.{KeptSoFar}
 use Rattle.dexcode.proofs.debug_reading.build_operations.Given as goal
 
 abbrev pub invariant-loop : goal.invariant-loop
 invariant-loop l = record {
-  len : vec_len l.operations ≡ l.counter;
-  room : l.count ≤ vec_capacity l.operations;
-  built : OperationsBuilt l.counts l.bytes l.from l.count l.counter l.at l.operations.items;
+  len : vec_len l.entries ≡ l.counter;
+  room : l.count ≤ vec_capacity l.entries;
+  kept : KeptSoFar l.counts l.bytes l.from l.count l.counter l.at l.entries.items l.named.items;
 }

@@ -9,6 +9,5 @@ pub returns : goal.returns
 returns g c =
     let step = g.V.Visitor.step in
     let names = subst (λ xs. FoldsTo step c.args.visitor.now (flat_map (number_uses kinds.Text) xs) c.visit_names.new.visitor) c.deref.ensures.value c.visit_names.ensures in
-    let operations = subst (λ xs. FoldsTo step c.visit_names.new.visitor (flat_map operation_uses xs) c.visit_all.new.visitor) c.deref-2.ensures.value c.visit_all.ensures in
-    subst (λ d. FoldsTo step c.args.visitor.now (debug_uses d) c.visit_all.new.visitor) c.self.view_is
-    (visited_both step c.args.visitor.now (flat_map (number_uses kinds.Text) c.self.inside.parameter_names.items) c.visit_names.new.visitor (flat_map operation_uses c.self.inside.operations.items) c.visit_all.new.visitor names operations)
+    subst (λ d. FoldsTo step c.args.visitor.now (debug_uses d) c.visit.new.visitor) c.self.view_is
+    (visited_both step c.args.visitor.now (flat_map (number_uses kinds.Text) c.self.inside.parameter_names.items) c.visit_names.new.visitor (flat_map operation_uses c.self.inside.operations) c.visit.new.visitor names c.visit.ensures)

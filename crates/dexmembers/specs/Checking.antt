@@ -9,7 +9,7 @@ use Rattle.dexspec.specs.Classes.{annotations_off}
 use Rattle.dexspec.specs.Accepted.{NamesDeclared, IsReadable}
 use Rattle.dexspec.specs.Mentions.{Mentions}
 use Rattle.dexspec.specs.Weight.{static_values_weight}
-use Rattle.dexcode.specs.Checking.{HasCodeOf}
+use Rattle.dexcode.specs.Checking.{HasCodeOf, AreCheckedDebugs}
 use Rattle.dexval.specs.CheckedSets.{IsWeighed, AreChecked}
 use Rattle.dexval.specs.Directories.{directory_weight}
 use Rattle.dexmembers.specs.Numbered.{Members}
@@ -25,9 +25,10 @@ use Rattle.dexmembers.specs.declared.checking.Checks.{Checks}
 
 -- ---- code
 
--- at each offset that was checked there is code of that weight
-abbrev pub AreCheckedCodes : List ℕ → CheckedCodes → Type 0
-AreCheckedCodes b checked = (off weight : ℕ) → get nat_eq checked.weights off ≡ Some weight → HasCodeOf b off weight
+-- at each offset that was checked there is code of that weight, and so of the debug programs
+pub record AreCheckedCodes (b : List ℕ) (checked : CheckedCodes) : Type 0 where
+  pub codes : (off weight : ℕ) → get nat_eq checked.weights off ≡ Some weight → HasCodeOf b off weight
+  pub programs : AreCheckedDebugs b checked.debugs
 
 -- at the offset is code of that weight, or the offset is 0, and there is none
 pub record HasCodeOrNoneOf (b : List ℕ) (off weight : ℕ) : Type 0 where

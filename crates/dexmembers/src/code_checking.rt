@@ -6,7 +6,7 @@ ghost use Rattle.dexmembers.specs.MethodCodes.{IsCodeOrNoneFault, IsCodesFault};
 ghost use Rattle.dexmembers.specs.Checking.{AreCheckedCodes, HasCodeOrNoneOf, HaveCodesOf};
 
 use crate::class_data::EncodedMethod;
-use dexcode::check_code;
+use dexcode::{CheckedDebugs, check_code_once};
 use dexhead::Frame;
 use dexinsn::Scratch;
 use dexpool::{ItemFault, Pools};
@@ -19,6 +19,8 @@ use std::collections::HashMap;
 pub(crate) struct CheckedCodes {
     // What each weighs with its debug program.
     weights: HashMap<u32, u64>,
+    // Their debug programs: each is checked once, however many code items name it.
+    debugs: CheckedDebugs,
     // Room for the bits of the one that is checked.
     scratch: Scratch,
 }
@@ -30,6 +32,7 @@ impl CheckedCodes {
     {
         CheckedCodes {
             weights: HashMap::new(alloc),
+            debugs: CheckedDebugs::none(alloc),
             scratch: Scratch::new(alloc),
         }
     }
@@ -54,7 +57,8 @@ fn checked_code_at(
     if let Some(weight) = checked.weights.get(&off) {
         return Ok(*weight);
     }
-    let shape = match check_code(alloc, frame, pools, off, &mut checked.scratch) {
+    let scratch = &mut checked.scratch;
+    let shape = match check_code_once(alloc, frame, pools, off, scratch, &mut checked.debugs) {
         Ok(shape) => shape,
         Err(fault) => return Err(fault),
     };

@@ -17,6 +17,9 @@ nothing = record { index = 0; flags = 0; code_off = 0 }
 pub returns-in-Err-clause-refused : goal.returns-in-Err-clause-refused
 returns-in-Err-clause-refused c = λ pools. fault_among c.args.frame.now c.args.methods.now (get_or c.args.methods.now c.loop-i.i nothing) c.in-Err.fault (Contains-get_or c.args.methods.now c.loop-i.i nothing c.loop-i-test.true) (c.in-Err.ensures.refused pools)
 
+pub check_codes-requires : goal.check_codes-requires
+check_codes-requires c = λ pools. c.none-checked.ensures c.args.frame.now
+
 pub returns-in-Ok-check_codes-clause-read : goal.returns-in-Ok-check_codes-clause-read
 returns-in-Ok-check_codes-clause-read c = λ pools.
     let b = c.args.frame.now in

@@ -1,11 +1,11 @@
 //! Files checked: `check FILE ok CLASSES`, or `check FILE refused NUMBER PLACE | NUMBER PLACE ..`, any of
-//! which is right.
+//! which is right. The file is read, and then it is checked without being read.
 
 ghost use Rattle.std.specs.Prelude.{◌≡◌, IfOk, IsTrue};
 ghost use Rattle.dexvectors.specs.Told.{Agree, IsRight, IsTold};
 
 use dexcases::{CaseFault, Outcome, first_word};
-use dexclass::read;
+use dexclass::{check, read};
 use dexhead::Refusal;
 use dexpool::ReadFault;
 use std::alloc::{AllocError, Global};
@@ -39,10 +39,15 @@ fn judged(alloc: Global, bytes: &[u8], right: &RightAnswer) -> Result<Outcome, C
     ensures { IfOk result (λ outcome. outcome ≡ Outcome.Passed → IsRight bytes.now right.now) }
 {
     let told = answer_to(alloc, bytes)?;
-    if agree(right, told) {
+    if !agree(right, told) {
+        return Ok(Outcome::Failed(words_of(alloc, told)?));
+    }
+    let checked = answer_of_check(alloc, bytes)?;
+    if agree(right, checked) {
         return Ok(Outcome::Passed);
     }
-    Ok(Outcome::Failed(words_of(alloc, told)?))
+    let words = words_of(alloc, checked)?;
+    Ok(Outcome::Failed(format!(in alloc; "by the check {words}")?))
 }
 
 // What is told of a file.
@@ -51,6 +56,15 @@ fn answer_to(alloc: Global, bytes: &[u8]) -> Result<Answer, CaseFault>
 {
     match read(alloc, bytes) {
         Ok(program) => Ok(Answer::Accepted(program.len())),
+        Err(ReadFault::Refused(refusal)) => Ok(Answer::Refused(refusal)),
+        Err(ReadFault::Memory) => Err(CaseFault::Memory),
+    }
+}
+
+// What is told of a file by the check that keeps nothing of it.
+fn answer_of_check(alloc: Global, bytes: &[u8]) -> Result<Answer, CaseFault> {
+    match check(alloc, bytes) {
+        Ok(classes) => Ok(Answer::Accepted(classes)),
         Err(ReadFault::Refused(refusal)) => Ok(Answer::Refused(refusal)),
         Err(ReadFault::Memory) => Err(CaseFault::Memory),
     }

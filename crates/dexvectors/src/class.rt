@@ -1,13 +1,16 @@
-//! Classes of a file: `class FILE I NAME SUPERCLASS`, class `I` in the order of the canonical file and its superclass, or `-` for
-//! none.
+//! Classes of a file: `class FILE I NAME SUPERCLASS`, class `I` in the order of the canonical file and its superclass, or
+//! `-` for none. The same has to be said of a copy that is renumbered to just the symbols that occur in it.
 
 ghost use Rattle.std.specs.Prelude.{◌<◌, length};
 ghost use Rattle.dexspec.specs.Files.{definitions};
+ghost use Rattle.dexclass.specs.Uses.{IsKnownClass};
 
 use crate::program::program_of;
 use dexcases::{CaseFault, Outcome, Printed, first_word};
-use dexclass::Program;
-use dexpool::{Numbering, SymbolKind};
+use dexclass::{Class, Program, renumber, uses_law};
+use dexcode::code_kept_law;
+use dexmembers::members_cut_law;
+use dexpool::{Marks, Numbering, SymbolKind};
 use dexstr::Text;
 use std::alloc::{AllocError, Global};
 
@@ -19,19 +22,58 @@ pub fn run(alloc: Global, bytes: &[u8], asked: &str) -> Result<Outcome, CaseFaul
     if i >= program.len() {
         return Err(CaseFault::failed(alloc, "no class"));
     }
-    Ok(Outcome::of(text_of(alloc, &program, i)?, right))
+    Ok(outcome_of(alloc, &program, i, right)?)
 }
 
-// The name of a class and that of its superclass.
-fn text_of(alloc: Global, program: &Program<'_>, i: usize) -> Result<String, AllocError>
+// How a line goes that asks for a class of a program.
+fn outcome_of(
+    alloc: Global,
+    program: &Program<'_>,
+    i: usize,
+    right: &str,
+) -> Result<Outcome, AllocError>
     requires { i < length (definitions program.now) }
 {
     let class = program.class(i);
+    let text = text_of(alloc, program.numbering(), class)?;
+    let renumbered = renumbered_text(alloc, program.numbering(), class)?;
+    match Outcome::of(text, right) {
+        Outcome::Passed => Ok(Outcome::of(renumbered, right)),
+        failed => Ok(failed),
+    }
+}
+
+// The name of a class and that of its superclass.
+fn text_of(
+    alloc: Global,
+    numbering: &Numbering<'_>,
+    class: &Class<'_>,
+) -> Result<String, AllocError> {
     let mut text = Printed::new(alloc);
-    print_type(program.numbering(), Some(class.name()), &mut text);
+    print_type(numbering, Some(class.name()), &mut text);
     text.add(" ");
-    print_type(program.numbering(), class.superclass(), &mut text);
+    print_type(numbering, class.superclass(), &mut text);
     text.finish()
+}
+
+// The same of a copy that is renumbered to just the symbols that occur in it.
+fn renumbered_text(
+    alloc: Global,
+    numbering: &Numbering<'_>,
+    class: &Class<'_>,
+) -> Result<String, AllocError>
+    requires { IsKnownClass numbering.now class.now }
+{
+    uses_law();
+    code_kept_law();
+    members_cut_law();
+    let mut marks = Marks::none(alloc, numbering)?;
+    class.mark(&mut marks);
+    let (kept, remap) = numbering.keep(alloc, &marks)?;
+    class.members().numbers_fit();
+    let mut copy = class.copy()?;
+    renumber(&mut copy, &remap);
+    text_of(alloc, &kept, &copy)
 }
 
 // Prints the descriptor of a type, or `-` for none; its rank, where this is not its number.

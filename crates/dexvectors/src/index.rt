@@ -2,8 +2,8 @@
 
 use crate::kind::Kind;
 use crate::{
-    check, check_run, class, cuts, dump, join, measure, merge, normalise, regroup, slices, strip,
-    symbol, weight,
+    check, check_run, class, count_run, cuts, digest_run, dump, join, measure, merge, normalise,
+    regroup, repair_run, slices, strip, symbol, weight,
 };
 use dexcases::{CaseFault, Folder, Outcome, first_word};
 use std::alloc::Global;
@@ -19,6 +19,8 @@ pub fn run_case<R: Files + AllocGlobal>(
         Kind::Merge => merge::run(folder, case),
         Kind::MergeStrip => merge::run_stripped(folder, case),
         Kind::Measure => measure::run(folder, case),
+        Kind::CountRun => count_run::run(folder, case),
+        Kind::RepairRun => repair_run::run(folder, case),
         Kind::Join => join::run(folder, case),
         Kind::Regroup => regroup::run(folder, case),
         Kind::Slices => slices::run(folder, case),
@@ -32,6 +34,7 @@ pub fn run_case<R: Files + AllocGlobal>(
                     compare(folder.alloc(), kind, &bytes, &right)
                 }
                 Kind::CheckRun => check_run::run(folder.alloc(), name, &bytes, asked),
+                Kind::DigestRun => digest_run::run(folder.alloc(), name, &bytes, asked),
                 _ => ask(folder.alloc(), kind, &bytes, asked),
             }
         }

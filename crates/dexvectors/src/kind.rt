@@ -57,6 +57,12 @@ pub enum Kind {
     MergeStrip,
     /// What files hold together.
     Measure,
+    /// What is written of what files hold together.
+    CountRun,
+    /// What is written of the classes of a file.
+    DigestRun,
+    /// The file with its sums set right.
+    RepairRun,
     /// Nothing that this program knows.
     Unknown,
 }
@@ -116,6 +122,9 @@ impl Cases for Kind {
             "regroup" => Kind::Regroup,
             "mergestrip" => Kind::MergeStrip,
             "measure" => Kind::Measure,
+            "countrun" => Kind::CountRun,
+            "digestrun" => Kind::DigestRun,
+            "repairrun" => Kind::RepairRun,
             _ => Kind::Unknown,
         }
     }
@@ -159,6 +168,9 @@ impl fmt::Display for Kind {
             Kind::Regroup => "regroup",
             Kind::MergeStrip => "mergestrip",
             Kind::Measure => "measure",
+            Kind::CountRun => "countrun",
+            Kind::DigestRun => "digestrun",
+            Kind::RepairRun => "repairrun",
             Kind::Unknown => "unknown",
         })
     }

@@ -1,6 +1,8 @@
-//! Unions measured: `measure files FILE.. is T P F M S W C N`, the types, protos, fields, methods, short strings, weight, classes
-//! and strings of what the files hold together, or `.. is conflict CLASS`, `.. is cycle CLASS`; no files are `-`.
+//! Unions measured: `measure files FILE.. is T P F M S W C N`, the types, protos, fields, methods, short strings, weight,
+//! classes and strings of what the files hold together, or `.. is conflict CLASS`, `.. is cycle CLASS`; no files are `-`.
+//! The programs are measured, and then devices over the files are counted as the program does.
 
+use crate::count_run;
 use crate::files::files_of;
 use crate::merge::{cause_in, cause_text, programs_of};
 use dexcases::{CaseFault, Folder, Outcome};
@@ -18,7 +20,10 @@ pub fn run<R: Files + AllocGlobal>(
     let (names, right) = files.split_once(" is ").ok_or(CaseFault::Form)?;
     let files = files_of(folder, names)?;
     let programs = programs_of(folder.alloc(), &files)?;
-    Ok(Outcome::of(measured(folder.alloc(), &programs)?, right))
+    match Outcome::of(measured(folder.alloc(), &programs)?, right) {
+        Outcome::Passed => count_run::run_over(folder.alloc(), &files, right),
+        failed => Ok(failed),
+    }
 }
 
 // What is said of a union.

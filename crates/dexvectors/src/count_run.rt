@@ -1,0 +1,62 @@
+//! Unions counted as the program does: `countrun files FILE.. is T P F M S W C N`, the types, protos, fields, methods,
+//! short strings, weight, classes and strings of what the files hold together, or `.. is CAUSE`; no files are `-`.
+
+use crate::devices::devices;
+use crate::files::files_of;
+use crate::run_answer::RunAnswer;
+use dexcases::{CaseFault, Folder, Outcome, Printed};
+use dexhead::Device;
+use dexruns::count_run;
+use std::alloc::{AllocError, Global};
+use std::rt::Files;
+
+// What each line begins with, and what follows its number.
+const LINES: [(&str, &str); 8] = [
+    ("types ", " of 65535\n"),
+    ("protos ", " of 65535\n"),
+    ("fields ", " of 65536\n"),
+    ("methods ", " of 65536\n"),
+    ("short-strings ", " of 65536\n"),
+    ("weight ", " of 1073741824\n"),
+    ("classes ", "\n"),
+    ("strings ", "\n"),
+];
+
+/// Runs a line, given what follows the word of its kind: how it goes.
+pub fn run<R: Files + AllocGlobal>(
+    folder: Folder<'_, R>,
+    case: &str,
+) -> Result<Outcome, CaseFault> {
+    let files = case.strip_prefix("files ").ok_or(CaseFault::Form)?;
+    let (names, right) = files.split_once(" is ").ok_or(CaseFault::Form)?;
+    let files = files_of(folder, names)?;
+    run_over(folder.alloc(), &files, right)
+}
+
+/// Counts what files hold together: how a line goes of which this is right.
+pub fn run_over(alloc: Global, files: &[Vec<u8>], right: &str) -> Result<Outcome, CaseFault> {
+    let right = answer_in(alloc, right)?;
+    let mut inputs = devices(alloc, files)?;
+    let mut out = Device::new(Vec::new(alloc));
+    let returned = count_run(alloc, inputs.as_mut_slice(), &mut out);
+    right.outcome(alloc, &returned, out.into_inner().as_slice())
+}
+
+// What is right, in the words of a line.
+fn answer_in(alloc: Global, right: &str) -> Result<RunAnswer<'_>, AllocError> {
+    if right.starts_with(|letter: char| letter.is_ascii_digit()) {
+        return Ok(RunAnswer::Written(lines_of(alloc, right)?.into_bytes()));
+    }
+    Ok(RunAnswer::Cause(right))
+}
+
+// The lines of these numbers.
+fn lines_of(alloc: Global, counts: &str) -> Result<String, AllocError> {
+    let mut lines = Printed::new(alloc);
+    for ((name, cap), count) in LINES.iter().zip(counts.split(' ')) {
+        lines.add(name);
+        lines.add(count);
+        lines.add(cap);
+    }
+    lines.finish()
+}

@@ -1,0 +1,37 @@
+//! Files repaired as the program does: `repairrun FILE ok REPAIRED`, the file with its checksum and its signature set
+//! right and nothing else changed, or `repairrun FILE fault CAUSE`.
+
+use crate::run_answer::RunAnswer;
+use dexcases::{CaseFault, Folder, Outcome, first_word};
+use dexhead::Device;
+use dexruns::repair_run;
+use std::rt::Files;
+
+/// Runs a line, given what follows the word of its kind: how it goes.
+pub fn run<R: Files + AllocGlobal>(
+    folder: Folder<'_, R>,
+    case: &str,
+) -> Result<Outcome, CaseFault> {
+    let (name, right) = first_word(case)?;
+    let bytes = folder.read(name)?;
+    let right = answer_in(folder, right)?;
+    let alloc = folder.alloc();
+    let mut input = Device::new(bytes.as_slice());
+    let mut out = Device::new(Vec::new(alloc));
+    let returned = repair_run(alloc, &mut input, &mut out);
+    right.outcome(alloc, &returned, out.into_inner().as_slice())
+}
+
+// What is right, in the words of a line.
+fn answer_in<'a, R: Files + AllocGlobal>(
+    folder: Folder<'_, R>,
+    right: &'a str,
+) -> Result<RunAnswer<'a>, CaseFault> {
+    if let Some(repaired) = right.strip_prefix("ok ") {
+        return Ok(RunAnswer::Written(folder.read(repaired)?));
+    }
+    match right.strip_prefix("fault ") {
+        Some(cause) => Ok(RunAnswer::Cause(cause)),
+        None => Err(CaseFault::Form),
+    }
+}

@@ -7,6 +7,8 @@
 #[cfg(test)]
 mod files;
 #[cfg(test)]
+mod jobs;
+#[cfg(test)]
 mod lists;
 #[cfg(test)]
 mod runs;
@@ -14,6 +16,8 @@ mod runs;
 mod scripts;
 #[cfg(test)]
 mod sentences;
+#[cfg(test)]
+mod system;
 #[cfg(test)]
 mod tables;
 #[cfg(test)]

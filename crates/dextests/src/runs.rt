@@ -63,38 +63,25 @@ fn is_done(ran: &Ran, right: &[u8]) -> bool {
     matches!(ran.answer, Ok(0)) && ran.written.as_slice() == right
 }
 
-// Normalises a file.
-fn normalised(alloc: Global, file: &[u8], reads: Script, writes: Script) -> Ran {
-    let mut input = Device::new(Scripted::new(file, reads));
-    let mut out = Device::new(Scripted::new(Vec::new(alloc), writes));
-    let answer = normalise_run(alloc, &mut input, &mut out);
-    let read_failed = Source::failed(&input);
-    ended(status(answer), (input.into_inner().calls, read_failed), out)
+// A run over one file.
+#[derive(Clone, Copy)]
+enum FileRun {
+    Normalise,
+    List,
+    Repair,
+    Digest,
 }
 
-// Lists a file.
-fn listed(alloc: Global, file: &[u8], reads: Script, writes: Script) -> Ran {
+// Does a run over a file.
+fn over_file(alloc: Global, run: FileRun, file: &[u8], reads: Script, writes: Script) -> Ran {
     let mut input = Device::new(Scripted::new(file, reads));
     let mut out = Device::new(Scripted::new(Vec::new(alloc), writes));
-    let answer = dump_run(alloc, &mut input, &mut out);
-    let read_failed = Source::failed(&input);
-    ended(status(answer), (input.into_inner().calls, read_failed), out)
-}
-
-// Repairs a file.
-fn repaired(alloc: Global, file: &[u8], reads: Script, writes: Script) -> Ran {
-    let mut input = Device::new(Scripted::new(file, reads));
-    let mut out = Device::new(Scripted::new(Vec::new(alloc), writes));
-    let answer = repair_run(alloc, &mut input, &mut out);
-    let read_failed = Source::failed(&input);
-    ended(status(answer), (input.into_inner().calls, read_failed), out)
-}
-
-// Digests the classes of a file.
-fn digested(alloc: Global, file: &[u8], reads: Script, writes: Script) -> Ran {
-    let mut input = Device::new(Scripted::new(file, reads));
-    let mut out = Device::new(Scripted::new(Vec::new(alloc), writes));
-    let answer = digest_run(alloc, "a b", &mut input, &mut out);
+    let answer = match run {
+        FileRun::Normalise => normalise_run(alloc, &mut input, &mut out),
+        FileRun::List => dump_run(alloc, &mut input, &mut out),
+        FileRun::Repair => repair_run(alloc, &mut input, &mut out),
+        FileRun::Digest => digest_run(alloc, "a b", &mut input, &mut out),
+    };
     let read_failed = Source::failed(&input);
     ended(status(answer), (input.into_inner().calls, read_failed), out)
 }
@@ -153,25 +140,22 @@ fn merged(
 // A run: of one file, of the same file twice, or of the files of two classes.
 #[derive(Clone, Copy)]
 enum Run {
-    Normalise,
-    List,
+    File(FileRun),
     Check,
     Merge,
     MergeStrip,
-    Repair,
     Count,
-    Digest,
 }
 
 const RUNS: [Run; 8] = [
-    Run::Normalise,
-    Run::List,
+    Run::File(FileRun::Normalise),
+    Run::File(FileRun::List),
+    Run::File(FileRun::Repair),
+    Run::File(FileRun::Digest),
     Run::Check,
     Run::Merge,
     Run::MergeStrip,
-    Run::Repair,
     Run::Count,
-    Run::Digest,
 ];
 
 const LISTING: &[u8] = b"class LA; flags=0x1(public) super=Ljava/lang/Object;\n";
@@ -192,7 +176,7 @@ impl Run {
         match self {
             Run::Merge => letter_b(alloc),
             Run::MergeStrip => source_of_a(alloc),
-            Run::Repair => unsigned_a(alloc),
+            Run::File(FileRun::Repair) => unsigned_a(alloc),
             _ => unused_beside_a(alloc),
         }
     }
@@ -208,10 +192,10 @@ impl Run {
     // What is written of them.
     fn right(self, alloc: Global) -> Option<Vec<u8>> {
         match self {
-            Run::List => Vec::from_slice(alloc, LISTING).ok(),
+            Run::File(FileRun::List) => Vec::from_slice(alloc, LISTING).ok(),
             Run::Check => Vec::from_slice(alloc, LINES).ok(),
             Run::Count => Vec::from_slice(alloc, COUNTS).ok(),
-            Run::Digest => Vec::from_slice(alloc, DIGEST).ok(),
+            Run::File(FileRun::Digest) => Vec::from_slice(alloc, DIGEST).ok(),
             Run::Merge => letters_a_and_b(alloc),
             _ => letter_a(alloc),
         }
@@ -220,7 +204,7 @@ impl Run {
     // The number of the last reader, how often the one before it is called, and what is written before it is.
     fn before_last(self) -> (usize, usize, &'static [u8]) {
         match self {
-            Run::Normalise | Run::List | Run::Repair | Run::Digest => (0, 0, b""),
+            Run::File(_) => (0, 0, b""),
             Run::Check => (1, 2, FIRST_LINE),
             Run::Merge | Run::MergeStrip | Run::Count => (1, 2, b""),
         }
@@ -244,17 +228,14 @@ impl Run {
     fn done_with(self, alloc: Global, files: [(&[u8], Script); 2], writes: Script) -> Option<Ran> {
         let [(first, first_reads), (last, reads)] = files;
         match self {
-            Run::Normalise => Some(normalised(alloc, last, reads, writes)),
-            Run::List => Some(listed(alloc, last, reads, writes)),
+            Run::File(run) => Some(over_file(alloc, run, last, reads, writes)),
             Run::Check => {
                 let files = [("a", first, first_reads), ("b", last, reads)];
                 checked(alloc, &files, writes)
             }
             Run::Merge => merged(alloc, files, [0, 1], false, writes),
             Run::MergeStrip => merged(alloc, files, [0, 1], true, writes),
-            Run::Repair => Some(repaired(alloc, last, reads, writes)),
             Run::Count => counted(alloc, files, writes),
-            Run::Digest => Some(digested(alloc, last, reads, writes)),
         }
     }
 }
@@ -403,7 +384,7 @@ const TOO_SHORT: Refusal = Refusal {
 // Whether a file that is refused is told, and nothing is written.
 fn is_refused(alloc: Global) -> Option<bool> {
     let cut = cut_a(alloc)?;
-    let ran = listed(alloc, &cut, WHOLE, WHOLE);
+    let ran = over_file(alloc, FileRun::List, &cut, WHOLE, WHOLE);
     Some(matches!(ran.answer, Err(RunFault::Input(0, TOO_SHORT))) && ran.writes == 0)
 }
 
@@ -514,7 +495,7 @@ fn a_merge_is_judged_before_it_is_stripped(rt: HostRuntime) {
 fn is_beyond_repair(alloc: Global) -> Option<bool> {
     let cut = cut_a(alloc)?;
     for (file, number) in [(cut.as_slice(), 4), (cut.get(..31)?, 1), (cut.get(..0)?, 1)] {
-        let ran = repaired(alloc, file, WHOLE, WHOLE);
+        let ran = over_file(alloc, FileRun::Repair, file, WHOLE, WHOLE);
         if !matches!(ran.answer, Err(RunFault::Input(0, refusal)) if refusal.number == number) {
             return Some(false);
         }
@@ -552,7 +533,7 @@ fn a_count_is_of_a_union(rt: HostRuntime) {
 // Whether a file that is refused has no digests.
 fn is_undigested(alloc: Global) -> Option<bool> {
     let cut = cut_a(alloc)?;
-    let ran = digested(alloc, &cut, WHOLE, WHOLE);
+    let ran = over_file(alloc, FileRun::Digest, &cut, WHOLE, WHOLE);
     Some(
         matches!(ran.answer, Err(RunFault::Input(0, refusal)) if refusal.number == 4)
             && ran.writes == 0,

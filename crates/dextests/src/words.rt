@@ -4,7 +4,7 @@ use dexcmd::read_words;
 use std::alloc::{AllocError, Global};
 
 // The arguments of a line, divided by one blank.
-fn words_of(alloc: Global, line: &str) -> Result<Vec<&str>, AllocError> {
+pub(crate) fn words_of(alloc: Global, line: &str) -> Result<Vec<&str>, AllocError> {
     let mut words = Vec::new(alloc);
     for word in line.split(' ') {
         if !word.is_empty() {

@@ -1,0 +1,88 @@
+//! The jobs of the program over a system in memory.
+
+use crate::system::{Log, System, file};
+use crate::words::words_of;
+use dexcmd::{Report, SystemDevices, read_words, run_job};
+use std::alloc::Global;
+
+// What is reported of the job that arguments ask for.
+fn report(alloc: Global, system: &System<'_>, words: &str) -> Option<Report> {
+    let words = words_of(alloc, words).ok()?;
+    match read_words(alloc, words.as_slice()) {
+        Ok(job) => run_job(alloc, &SystemDevices::new(system), &job).ok(),
+        Err(_) => None,
+    }
+}
+
+// Whether bytes are those of the file of a name, or this text where no file has it.
+fn are_bytes(alloc: Global, bytes: &[u8], name: &str) -> bool {
+    match file(alloc, name) {
+        Some(file) => bytes == file.as_slice(),
+        None => bytes == name.as_bytes(),
+    }
+}
+
+// Whether arguments end with this status, these lines and these calls of files, and write the file of this name, or this text.
+fn have_outcome(alloc: Global, words: &str, outcome: &str, written: &str) -> Option<bool> {
+    let log = Log::new(alloc);
+    let system = System { alloc, log: &log };
+    let report = report(alloc, &system, words)?;
+    let (status, lines) = (report.status, &report.lines);
+    let (opened, made) = (log.opened.get(), log.made.get());
+    let line = format!(in alloc; "{status} {lines:?} opened {opened} made {made}").ok()?;
+    let bytes = log.written.try_borrow().ok()?;
+    Some(line.as_str() == outcome && are_bytes(alloc, bytes.as_slice(), written))
+}
+
+#[test]
+fn jobs_read_and_write_the_files_of_their_names(rt: HostRuntime) {
+    for (words, outcome, written) in [
+        ("normalise unused o", "0 [] opened 1 made 1", "a"),
+        ("normalise o o", "0 [] opened 1 made 1", "a"),
+        ("normalise - -", "0 [] opened 0 made 0", "a"),
+        ("merge -o o a b a", "0 [] opened 3 made 1", "both"),
+        ("merge -o o source", "0 [] opened 1 made 1", "source"),
+        ("merge -o o --strip source", "0 [] opened 1 made 1", "a"),
+        (
+            "check a cut b",
+            "1 [] opened 3 made 0",
+            "a: ok classes=1\ncut: refused 4 Lengths at 0\nb: ok classes=1\n",
+        ),
+    ] {
+        assert!(rt;
+            have_outcome(rt.alloc(), words, outcome, written) == Some(true),
+            "{words}"
+        );
+    }
+}
+
+#[test]
+fn jobs_that_fail_leave_the_output_alone(rt: HostRuntime) {
+    for (words, outcome) in [
+        (
+            "normalise cut o",
+            "1 [\"dexkit: cut: refused 4 Lengths at 0\"] opened 1 made 0",
+        ),
+        (
+            "normalise a b",
+            "3 [\"dexkit: b: cannot be written\"] opened 2 made 0",
+        ),
+        (
+            "merge -o o missing a",
+            "3 [\"dexkit: missing: cannot be read\"] opened 1 made 0",
+        ),
+        (
+            "merge -o o --max-types 2 a b",
+            "1 [\"dexkit: cap types\"] opened 2 made 0",
+        ),
+        (
+            "merge -o o a source",
+            "1 [\"dexkit: conflict LA;\"] opened 2 made 0",
+        ),
+    ] {
+        assert!(rt;
+            have_outcome(rt.alloc(), words, outcome, "") == Some(true),
+            "{words}"
+        );
+    }
+}

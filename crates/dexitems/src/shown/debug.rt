@@ -80,10 +80,14 @@ pub fn print_debug(debug: &Debug, numbering: &Numbering<'_>, out: &mut Printed) 
         mark = ", ";
     }
     out.add(")");
-    let mut mark = " ";
+    let mut is_first = true;
     for operation in debug.operations() {
-        out.add(mark);
+        if is_first {
+            out.add(" ");
+        } else {
+            out.add(", ");
+        }
         print_operation(&operation, numbering, out);
-        mark = ", ";
+        is_first = false;
     }
 }

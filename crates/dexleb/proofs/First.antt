@@ -1,4 +1,4 @@
--- The number that stands first: its groups, found one after the other.
+-- The first number of a list of bytes: finds its groups one after the other.
 use Rattle.std.proofs.Common.{◌≡◌, ℕ, zero, suc, ◌+◌, ◌*◌, ◌%◌, ◌^◌, ◌<◌, ◌≤◌, List, [], ◌∷◌, length, take, get_or, All, ◌⊎◌, inl, inr, arith, length-take, add-one}
 use Rattle.std.proofs.Math.Pow.{shl_exact}
 use Rattle.std.proofs.lemmas.List.{take-take}
@@ -12,13 +12,13 @@ chain_up_to [] i within high last = absurd (omega arith)
 chain_up_to (b ∷ bs) zero within high last = last
 chain_up_to (b ∷ bs) (suc i) within high last = chain_cons b (take (suc i) bs) (high 0 0 (omega arith)) (chain_up_to bs i (omega arith) (λ k d lt. high (suc k) d (omega arith)) last)
 
--- a group more adds its seven bits, above those before
+-- one more group adds its seven bits above the earlier ones
 sum_up_to : (l : List ℕ) (i : ℕ) → i < length l → sum_of_groups (take (suc i) l) ≡ sum_of_groups (take i l) + get_or l i 0 % 128 * 2 ^ (7 * i)
 sum_up_to [] i within = absurd (omega arith)
 sum_up_to (b ∷ bs) zero within = omega arith
 sum_up_to (b ∷ bs) (suc i) within = rw sevens (omega (arith, sum_up_to bs i (omega arith)))
 
--- the sum with one group more
+-- the sum with one more group
 pub sum_more : (l : List ℕ) (i sum low : ℕ) → i < length l → i < 5 → low ≡ get_or l i 0 % 128 → sum_of_groups (take i l) ≡ sum
     → sum_of_groups (take (i + 1) l) ≡ sum + low * 2 ^ (7 * i) % 2 ^ 64
 sum_more l i sum low within few is so_far =
@@ -26,7 +26,7 @@ sum_more l i sum low within few is so_far =
     let exact : low * 2 ^ (7 * i) % 2 ^ 64 ≡ low * 2 ^ (7 * i) = shl_exact 7 (7 * i) 64 lt (omega arith) in
     rw (exact, add-one, is, ← so_far) (sum_up_to l i within)
 
--- which fits the machine number
+-- the sum with one more group fits the machine number
 pub sum_more_fits : (l : List ℕ) (i sum low : ℕ) → i < length l → i < 5 → low ≡ get_or l i 0 % 128 → sum_of_groups (take i l) ≡ sum
     → sum + low * 2 ^ (7 * i) % 2 ^ 64 < 2 ^ 64
 sum_more_fits l i sum low within few is so_far =
@@ -42,7 +42,7 @@ first_here l i sum low within few is so_far high last = record {
   value = sum_more l i sum low within few is so_far;
 }
 
--- where none of the first m bytes ends a number, none does
+-- if none of the first m bytes ends a number, no number ends
 pub no_first : (l : List ℕ) (m : ℕ) → (5 ≤ m) ⊎ (length l ≤ m) → All (λ byte. 128 ≤ byte) (take m l) → HasNoFirst l
 no_first l m long high n few le chain =
     let le_m : n ≤ m = elim long [ inl h ↦ omega arith | inr h ↦ omega arith ] in

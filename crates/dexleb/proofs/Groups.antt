@@ -1,10 +1,10 @@
--- Writing one group after the other.
+-- Writes one group after the other.
 use Rattle.std.proofs.Common.{◌≡◌, ℕ, suc, ◌+◌, ◌-◌, ◌*◌, ◌/◌, ◌%◌, ◌^◌, ◌<◌, List, ◌++◌, length, take, set, arith, add-one, append_assoc}
 use Rattle.std.proofs.Math.Seq.{take-suc-set}
 use Rattle.dexspec.specs.Numbers.{groups}
 use Rattle.dexspec.proofs.Groups.{group_less}
 
--- with one byte more written, one group less is left
+-- after one more byte, one fewer group is left
 pub one_more : (bytes target : List ℕ) (i n rest : ℕ) → i < length bytes → suc i < n → take i bytes ++ groups (n - i) rest ≡ target
     → take (i + 1) (set bytes i (128 + rest % 128)) ++ groups (n - (i + 1)) (rest / 128) ≡ target
 one_more bytes target i n rest within more so_far =

@@ -1,10 +1,10 @@
--- What the readers of numbers answer.
+-- What the readers of numbers return.
 use Rattle.std.specs.Prelude.{◌≡◌, ◌↔◌, ℕ, ◌≤◌, List, length, take, Result, Ok, Err, IfOk}
 use Rattle.dexspec.specs.Numbers.{IsChain, sum_of_groups, BeginsWith, IsCutOff}
 use Rattle.dexleb.specs.declared.read.LebFault.{LebFault}
 use Rattle.dexleb.specs.declared.read.LebFault.TheVariants.{Short, Range}
 
--- what a reader says of the bytes: the value that stands first and how many bytes spell it, or why there is none
+-- the result of a reader: the value that the bytes begin with and how many bytes encode it, or why there is none
 pub record Reads {V : Type 0} (Says : List ℕ → V → Type 0) (bytes : List ℕ) (r : Result (V × ℕ) LebFault) : Type 0 where
   pub found : IfOk r (λ x. BeginsWith Says bytes x.0 x.1)
   pub only : (v : V) (n : ℕ) → BeginsWith Says bytes v n → r ≡ Ok (v, n)
@@ -18,6 +18,6 @@ pub record IsFirst (bytes : List ℕ) (sum n : ℕ) : Type 0 where
   pub chain : IsChain (take n bytes)
   pub value : sum_of_groups (take n bytes) ≡ sum
 
--- no number of at most five bytes stands first
+-- the bytes begin with no number of at most five bytes
 abbrev pub HasNoFirst : List ℕ → Type 0
 HasNoFirst bytes = (n : ℕ) → n ≤ 5 → n ≤ length bytes → ¬ IsChain (take n bytes)

@@ -1,9 +1,8 @@
-//! LEB128: numbers as one to five bytes of seven bits each, the lowest group first, the top bit set in
-//! each byte but the last. Three kinds are read and written: unsigned, signed, and unsigned plus one,
-//! where 0 stands for no number.
+//! LEB128: numbers as one to five bytes of seven bits each, the lowest group first, the top bit set in each byte but
+//! the last. Three kinds are read and written: unsigned, signed, and unsigned plus one, where 0 encodes no number.
 //!
-//! A reader takes spellings that are longer than they have to be, as long as the exact value lies in
-//! the range of its 32-bit type. A writer makes the shortest spelling.
+//! A reader accepts encodings that are longer than needed if the exact value is in the range of its 32-bit type. A
+//! writer appends the shortest encoding.
 //!
 //! Source: the heading "LEB128" of the Android page "Dalvik Executable format".
 #![tactic(auto)]
@@ -14,5 +13,5 @@ pub use read::{LebFault, read_p1, read_s, read_u};
 mod put;
 mod read;
 
-/// The most bytes of a number.
+/// The maximum length of a number in bytes.
 const MAX_LEN: usize = 5;

@@ -5,12 +5,9 @@ ghost use Rattle.dexspec.specs.Aside.Writing.{Puts};
 use crate::MAX_LEN;
 use std::alloc::AllocError;
 
-/// Appends the shortest spelling of an unsigned number (uleb128), one to five bytes.
+/// Appends the shortest encoding of an unsigned number (uleb128), one to five bytes.
 ///
-/// It fails only for want of memory, and not where the spare room is at least five bytes; the items
-/// are then as they were.
-///
-/// Source: the heading "LEB128" of the Android page "Dalvik Executable format".
+/// On error the vector is unchanged. There is no error if the spare capacity is at least five bytes.
 pub fn put_u(value: u32, out: &mut Vec<u8>) -> Result<(), AllocError>
     ensures puts { Puts (uleb128 value) out.old out.new result }
     ensures bound { length (uleb128 value) ≤ 5 }
@@ -19,13 +16,10 @@ pub fn put_u(value: u32, out: &mut Vec<u8>) -> Result<(), AllocError>
     put_groups(u64::from(value), len_u(value), out)
 }
 
-/// Appends the shortest spelling of an unsigned number plus one (uleb128p1), one to five bytes, where
-/// `None` stands for -1, which is NO_INDEX. The number must be below 2^32 - 1.
+/// Appends the shortest encoding of an unsigned number plus one (uleb128p1), one to five bytes, where `None` denotes
+/// -1, which is NO_INDEX. The number must be below 2^32 - 1.
 ///
-/// It fails only for want of memory, and not where the spare room is at least five bytes; the items
-/// are then as they were.
-///
-/// Source: the heading "LEB128" of the Android page "Dalvik Executable format".
+/// On error the vector is unchanged. There is no error if the spare capacity is at least five bytes.
 pub fn put_p1(value: Option<u32>, out: &mut Vec<u8>) -> Result<(), AllocError>
     requires { plus_one value < 2 ^ 32 }
     ensures puts { Puts (uleb128p1 value) out.old out.new result }
@@ -35,12 +29,9 @@ pub fn put_p1(value: Option<u32>, out: &mut Vec<u8>) -> Result<(), AllocError>
     put_u(value.map_or(0, |number| number + 1), out)
 }
 
-/// Appends the shortest spelling of a signed number (sleb128), one to five bytes.
+/// Appends the shortest encoding of a signed number (sleb128), one to five bytes.
 ///
-/// It fails only for want of memory, and not where the spare room is at least five bytes; the items
-/// are then as they were.
-///
-/// Source: the heading "LEB128" of the Android page "Dalvik Executable format".
+/// On error the vector is unchanged. There is no error if the spare capacity is at least five bytes.
 pub fn put_s(value: i32, out: &mut Vec<u8>) -> Result<(), AllocError>
     ensures puts { Puts (sleb128 value) out.old out.new result }
     ensures bound { length (sleb128 value) ≤ 5 }
@@ -50,9 +41,7 @@ pub fn put_s(value: i32, out: &mut Vec<u8>) -> Result<(), AllocError>
     put_groups(held_in(len, value), len, out)
 }
 
-/// How many bytes [`put_u`] appends for the number, from 1 to 5.
-///
-/// Source: the heading "LEB128" of the Android page "Dalvik Executable format".
+/// The number of bytes that [`put_u`] appends for the value, from 1 to 5.
 pub fn len_u(value: u32) -> usize
     ensures shortest { result ≡ length (uleb128 value) }
     ensures bounds { (1 ≤ result) × (result ≤ 5) }
@@ -66,9 +55,7 @@ pub fn len_u(value: u32) -> usize
     }
 }
 
-/// How many bytes [`put_s`] appends for the number, from 1 to 5.
-///
-/// Source: the heading "LEB128" of the Android page "Dalvik Executable format".
+/// The number of bytes that [`put_s`] appends for the value, from 1 to 5.
 pub fn len_s(value: i32) -> usize
     ensures shortest { result ≡ length (sleb128 value) }
     ensures bounds { (1 ≤ result) × (result ≤ 5) }
@@ -82,7 +69,7 @@ pub fn len_s(value: i32) -> usize
     }
 }
 
-/// The number as so many groups hold it: 2^(7 * len) more where it is negative.
+/// The number in two's complement of `len` groups: if it is negative, 2^(7 * len) is added.
 fn held_in(len: usize, value: i32) -> u64
     requires few { len ≤ 5 }
     requires fits { 2 * magnitude value < 2 ^ (7 * len) }
@@ -95,7 +82,7 @@ fn held_in(len: usize, value: i32) -> u64
     }
 }
 
-/// Appends a number as so many groups of seven bits.
+/// Appends a number as `len` groups of seven bits.
 fn put_groups(value: u64, len: usize, out: &mut Vec<u8>) -> Result<(), AllocError>
     requires some { 0 < len }
     requires few { len ≤ 5 }

@@ -7,21 +7,17 @@ use crate::MAX_LEN;
 /// Why no number is read.
 #[derive(Clone, Copy, Debug, PartialEq, Eq)]
 pub enum LebFault {
-    /// Fewer than five bytes, perhaps none, are left, and each has its top bit set: the number may
-    /// go on behind them.
+    /// Fewer than five bytes, perhaps none, are left, and each has its top bit set: the number may go on after them.
     Short,
-    /// No spelling of a number in range begins here, and the bytes are not `Short`.
+    /// No encoding of a number in range begins here, and the bytes are not `Short`.
     Range,
 }
 
-/// Reads the unsigned number (uleb128) that begins at byte `at`: the number, from 0 to 2^32 - 1, and
-/// how many bytes spell it, from 1 to 5.
+/// Reads the unsigned number (uleb128) that begins at byte `at`. Returns the number, from 0 to 2^32 - 1, and the number
+/// of bytes that encode it, from 1 to 5.
 ///
-/// It fails with [`LebFault::Short`] where fewer than five bytes, perhaps none, are left and each has
-/// its top bit set, and else with [`LebFault::Range`] where no spelling of a number in range begins
-/// at `at`.
-///
-/// Source: the heading "LEB128" of the Android page "Dalvik Executable format".
+/// Errors: [`LebFault::Short`] if fewer than five bytes, perhaps none, are left and each has its top bit set; otherwise
+/// [`LebFault::Range`] if no encoding of a number in range begins at `at`.
 pub fn read_u(b: &[u8], at: usize) -> Result<(u32, usize), LebFault>
     requires { at ≤ length b.now }
     ensures { Reads IsUleb128 (drop at b.now) result }
@@ -33,12 +29,10 @@ pub fn read_u(b: &[u8], at: usize) -> Result<(u32, usize), LebFault>
     }
 }
 
-/// Reads the unsigned number plus one (uleb128p1) that begins at byte `at`: the number, from 0 to
-/// 2^32 - 2, or `None` for -1, which is NO_INDEX, and how many bytes spell it, from 1 to 5.
+/// Reads the unsigned number plus one (uleb128p1) that begins at byte `at`. Returns the number, from 0 to 2^32 - 2, or
+/// `None` for -1, which is NO_INDEX, and the number of bytes that encode it, from 1 to 5.
 ///
-/// It fails as [`read_u`] does.
-///
-/// Source: the heading "LEB128" of the Android page "Dalvik Executable format".
+/// Errors: as [`read_u`].
 pub fn read_p1(b: &[u8], at: usize) -> Result<(Option<u32>, usize), LebFault>
     requires { at ≤ length b.now }
     ensures { Reads IsUleb128p1 (drop at b.now) result }
@@ -47,14 +41,10 @@ pub fn read_p1(b: &[u8], at: usize) -> Result<(Option<u32>, usize), LebFault>
     Ok((value.checked_sub(1), len))
 }
 
-/// Reads the signed number (sleb128) that begins at byte `at`: the number, from -2^31 to 2^31 - 1,
-/// and how many bytes spell it, from 1 to 5.
+/// Reads the signed number (sleb128) that begins at byte `at`. Returns the number, from -2^31 to 2^31 - 1, and the
+/// number of bytes that encode it, from 1 to 5.
 ///
-/// It fails with [`LebFault::Short`] where fewer than five bytes, perhaps none, are left and each has
-/// its top bit set, and else with [`LebFault::Range`] where no spelling of a number in range begins
-/// at `at`.
-///
-/// Source: the heading "LEB128" of the Android page "Dalvik Executable format".
+/// Errors: as [`read_u`].
 pub fn read_s(b: &[u8], at: usize) -> Result<(i32, usize), LebFault>
     requires { at ≤ length b.now }
     ensures { Reads IsSleb128 (drop at b.now) result }
@@ -67,7 +57,7 @@ pub fn read_s(b: &[u8], at: usize) -> Result<(i32, usize), LebFault>
     }
 }
 
-/// The sum of the groups of the number that stands first, whatever its range, and how many there are.
+/// The sum of the groups of the first number, whatever its range, and the number of groups.
 fn first_groups(bytes: &[u8]) -> Result<(u64, usize), LebFault>
     ensures first { IfOk result (λ groups. IsFirst bytes.now groups.0 groups.1) }
     ensures none { OnErr result (HasNoFirst bytes.now) }
@@ -88,7 +78,7 @@ fn first_groups(bytes: &[u8]) -> Result<(u64, usize), LebFault>
     }
 }
 
-/// The signed number: 2^(7 * len) less than the sum where bit 6 of the last byte is set.
+/// The signed number: the sum, less 2^(7 * len) if bit 6 of the last byte is set.
 fn with_sign(bytes: &[u8], sum: u64, len: usize) -> i64
     requires { IsFirst bytes.now sum len }
     ensures { result ≡ signed_sum (take len bytes.now) }

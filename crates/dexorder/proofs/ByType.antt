@@ -1,4 +1,4 @@
--- Which class has a type as its name, and which classes are parents, one by one.
+-- For each type the class that it names, and the parents of a class, one element at a time.
 use Rattle.std.proofs.Common.{◌≡◌, ℕ, ◌+◌, ◌<◌, List, [], ◌∷◌, ◌++◌, length, get_or, take, refl, sym, ap, ◌∙◌, subst, arith, inl, inr, length-take}
 use Rattle.std.specs.Prelude.{map, Option, Some, None, IsSome, slice_set}
 use Rattle.std.proofs.lemmas.Bool.{cases_eq, cases_lt}
@@ -9,7 +9,7 @@ use Rattle.dexorder.specs.Parents.{AreByType, classes_of_types}
 some_is : (m n : ℕ) → Some m ≡ Some n → m ≡ n
 some_is m n e = cc
 
--- ---- one class more
+-- ---- one more class
 
 module _ (names : List ℕ) (by_type : List (Option ℕ)) (name : ℕ) (h : AreByType names by_type) (lt : name < length by_type) where
   now : List (Option ℕ)
@@ -60,7 +60,7 @@ by_type_next name_of cs by_type i name d lt h e less =
     subst (λ (l : List ℕ). AreByType l (slice_set by_type name (Some i))) (sym all)
     (subst (λ (k : ℕ). AreByType (before ++ name ∷ []) (slice_set by_type name (Some k))) count (by_type_more before by_type name h less))
 
--- ---- one parent more
+-- ---- one more parent
 
 pub present-append : (os ps : List (Option ℕ)) → present (os ++ ps) ≡ present os ++ present ps
 present-append [] ps = refl

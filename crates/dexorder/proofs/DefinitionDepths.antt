@@ -17,18 +17,18 @@ use Rattle.dexorder.specs.Depths.{parents_of, is_under, IsDepth, HasNone, IsAnsw
 use Rattle.dexorder.specs.Definitions.{name_at, AreClassesOf}
 use Rattle.dexorder.proofs.DepthLaws.{less_than, parent_within}
 
--- tests that pass together are the same
+-- two tests that imply each other are equal
 same_tests : (a b : Bool) → (a ≡ true → b ≡ true) → (b ≡ true → a ≡ true) → a ≡ b
 same_tests true b f g = sym (f refl)
 same_tests false true f g = g refl
 same_tests false false f g = refl
 
--- a text is the same as one that equals it
+-- equal texts are the same
 pub same_from_equal : (s t : Text) → s ≡ t → same_text s t ≡ true
 same_from_equal s t e = (slice_eq-Decides Decides-eqb s t (same_text s t) refl).1 e
 
 module _ (D : List Definition) (classes : List (List ℕ)) (h : AreClassesOf D classes) where
-  -- a bound on the depth of a class is one on that of its definition
+  -- a bound on the depth of a class is a bound on the depth of its definition
   pub same_under : (n i : ℕ) → i < length classes → is_under classes n i ≡ is_below D n (name_at D i)
   same_under zero i lt = refl
   same_under (suc n) i lt =
@@ -41,7 +41,7 @@ module _ (D : List Definition) (classes : List (List ℕ)) (h : AreClassesOf D c
       same_under n p (parent_within classes h.within i p lt c)
       ∙ list_all-member (is_below D n) (above D (name_at D i)) (name_at D p) e ((both (name_at D p)).0 (Contains-map (name_at D) (parents_of classes i) p c))))
 
-  -- a class that has a depth is a definition that has it
+  -- if a class has a depth, its definition has the same depth
   pub has_depth : (i d : ℕ) → i < length classes → IsDepth classes i d → HasDepth D (name_at D i)
   has_depth i d lt k = (suc d, sym (same_under (suc d) i lt) ∙ k.under)
 
@@ -59,14 +59,14 @@ module _ (D : List Definition) (classes : List (List ℕ)) (h : AreClassesOf D c
   names_len : length (map (λ (d : Definition). d.0) D) ≡ length classes
   names_len = map-length (λ (d : Definition). d.0) D ∙ sym h.count
 
-  -- a defined name is that of a class
+  -- a defined name is the name of a class
   pub class_of : (name : Text) → is_defined D name ≡ true → (i : ℕ) × (i < length classes) × (name_at D i ≡ name)
   class_of name e =
       let c = is_defined-name D name e in
       let lt : c.0 < length (map (λ (d : Definition). d.0) D) = c.1 in
       (c.0, omega (arith, lt, names_len), get_or_default (map (λ (d : Definition). d.0) D) c.0 [] name lt ∙ c.2)
 
-  -- where each class has a depth, the definitions have no cycle
+  -- if each class has a depth, the definitions have no cycle
   pub no_cycle : (answers : List (Option ℕ)) → AreDepths classes answers → All (λ a. IsSome a) answers → IsAcyclic D
   no_cycle answers a some name e =
       let s = class_of name e in
@@ -83,14 +83,14 @@ module _ (D : List Definition) (classes : List (List ℕ)) (h : AreClassesOf D c
       let s = Contains-map_source (λ (d : Definition). d.0) D (name_at D i) (Contains-get_or names i [] (omega (arith, lt, names_len))) in
       list_any-member (λ (d : Definition). same_text d.0 (name_at D i)) D s.0 s.1 (same_from_equal s.0.0 (name_at D i) s.2)
 
-  -- a class without a depth is a definition on a cycle, or below one
+  -- a class without a depth is a definition on a cycle, or below a cycle
   pub is_cycle : (i : ℕ) → i < length classes → HasNone classes i → IsCycle D (name_at D i)
   is_cycle i lt none = record {
     defined = class_defined i lt;
     deep = λ w. let t : is_below D w.0 (name_at D i) ≡ false = sym (same_under w.0 i lt) ∙ none w.0 in let u = w.1 in absurd cc;
   }
 
-  -- and each such definition is a class without one
+  -- each definition on or below a cycle is a class without a depth
   pub cycle_class : (answers : List (Option ℕ)) (name : Text) → AreDepths classes answers → IsCycle D name → (i : ℕ) × (i < length classes) × (name_at D i ≡ name) × (get_or answers i None ≡ None)
   cycle_class answers name a x =
       let s = class_of name x.defined in
@@ -100,7 +100,7 @@ module _ (D : List Definition) (classes : List (List ℕ)) (h : AreClassesOf D c
       by i None lt e k = refl
       by i (Some d) lt e k = absurd (x.deep (subst (HasDepth D) e (has_depth i d lt k)))
 
-  -- so where there is no cycle each class has a depth
+  -- if there is no cycle, each class has a depth
   pub all_known : (answers : List (Option ℕ)) → AreDepths classes answers → IsAcyclic D → All (λ a. IsSome a) answers
   all_known answers a acyclic =
       All-from_get_or (λ o. IsSome o) answers None (λ i lt. by i (get_or answers i None) (omega (arith, lt, a.count)) (a.answer i (omega (arith, lt, a.count))))

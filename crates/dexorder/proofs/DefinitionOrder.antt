@@ -32,7 +32,7 @@ use Rattle.dexorder.proofs.PlaceLaws.{class_total}
 place_total : IsTotalOrder place_cmp
 place_total = then_total (on_total (λ (x : ℕ × Text). x.0) nat_cmp_total) (on_total (λ (x : ℕ × Text). x.1) text_total)
 
--- what is less by two orders is less by the first, or ties there and is less by the second
+-- less by two orders: less by the first, or equal by the first and less by the second
 less_cases : (a b : Ordering) → ordering_then a b ≡ Less → (a ≡ Less) ⊎ ((a ≡ Equal) × (b ≡ Less))
 less_cases Less b e = inl refl
 less_cases Equal b e = inr (refl, e)
@@ -41,14 +41,14 @@ less_cases Greater b e = absurd cc
 less_number : (m n : ℕ) → nat_cmp m n ≡ Less → m < n
 less_number m n e = subst (λ o. MatchOrdering o (m < n) (m ≡ n) (n < m)) e (ranked m n (nat_cmp m n) refl)
 
--- by the same first, and a second that is less where the other is
+-- less by the same first order and a second that implies the other
 less_along : (a b c : Ordering) → (b ≡ Less → c ≡ Less) → ordering_then a b ≡ Less → ordering_then a c ≡ Less
 less_along a b c f e = elim (less_cases a b e) [
   | inl l ↦ ap (λ o. ordering_then o c) l
   | inr t ↦ ap (λ o. ordering_then o c) t.0 ∙ f t.1
 ]
 
--- a rising list that is mapped from numbers to another order
+-- a rising list of numbers that is mapped to another order
 Rises-along : {X Y : Type 0} (R : X → X → Ordering) (S : Y → Y → Ordering) (f : ℕ → X) (g : ℕ → Y) (ks : List ℕ) → ((i j : ℕ) → Contains ks i → Contains ks j → R (f i) (f j) ≡ Less → S (g i) (g j) ≡ Less) → Rises R (map f ks) → Rises S (map g ks)
 Rises-along R S f g [] h r = tt
 Rises-along R S f g (k ∷ ks) h r = (
@@ -73,7 +73,7 @@ range_below n i c =
 -- ---- names
 
 module _ (D : List Definition) (names : List ℕ) (h : AreNamesOf D names) where
-  -- numbers of names that differ differ
+  -- the numbers of different names are different
   pub names_distinct : AreDistinct (map (λ d. d.0) D) → AreDistinct names
   names_distinct distinct i j d ij lt e =
       let few : length (map (λ (x : Definition). x.0) D) ≡ length D = map-length (λ (x : Definition). x.0) D in
@@ -96,7 +96,7 @@ definition_cmp D x y = place_cmp (definition_place D x) (definition_place D y)
 definition_total : (D : List Definition) → IsTotalOrder (definition_cmp D)
 definition_total D = on_total (definition_place D) place_total
 
--- where each class has a depth, the depths are those of the definitions
+-- if each class has a depth, the depths are those of the definitions
 pub own_depths : (D : List Definition) (classes : List (List ℕ)) (depths : List (Option ℕ)) → AreClassesOf D classes → AreDepths classes depths → All (λ o. IsSome o) depths → AreDepthsOf D depths
 own_depths D classes depths h a some = record {
   count = a.count ∙ h.count;
@@ -115,7 +115,7 @@ module _ (D : List Definition) (depths : List (Option ℕ)) (names : List ℕ) (
   own_name : (i : ℕ) → i < length D → name_at D i ≡ (get_or D i d).0
   own_name i lt = get_or-map (λ (x : Definition). x.0) D i d [] lt
 
-  -- a class of a lesser place is a definition of a lesser place
+  -- a class before another is a definition before the other's
   lesser_place : (i j : ℕ) → i < length D → j < length D → class_cmp (class_place depths names i) (class_place depths names j) ≡ Less → definition_cmp D (get_or D i d) (get_or D j d) ≡ Less
   lesser_place i j lt less e =
       let m = own_name i lt in
@@ -127,7 +127,7 @@ module _ (D : List Definition) (depths : List (Option ℕ)) (names : List ℕ) (
       less_along (nat_cmp (depth D (get_or D i d).0) (depth D (get_or D j d).0)) (nat_cmp (get_or names i 0) (get_or names j 0)) (text_cmp (get_or D i d).0 (get_or D j d).0) names_less
       (ap (λ o. ordering_then o (nat_cmp (get_or names i 0) (get_or names j 0))) (sym first) ∙ e)
 
-  -- so the definitions in the order of the classes are the definitions in their order
+  -- the definitions, mapped from the classes in order, are in order
   pub same_order : (order : List ℕ) → AreDistinct (map (λ x. x.0) D) → IsPermutation (range_with_len 0 (length D)) order → rises class_cmp (map (class_place depths names) order) ≡ true → map (λ i. get_or D i d) order ≡ in_class_order D
   same_order order distinct p r =
       let below : (i : ℕ) → Contains order i → i < length D = λ i c. range_below (length D) i (Contains-permutation order (range_with_len 0 (length D)) i (IsPermutation-sym (range_with_len 0 (length D)) order p) c) in

@@ -1,4 +1,4 @@
--- What is less than a depth, and the bound that the number of classes is.
+-- Bounds on depths, and that each depth is less than the number of classes.
 use Rattle.std.proofs.Common.{◌≡◌, ℕ, zero, suc, ◌+◌, ◌<◌, ◌≤◌, Bool, true, false, ◌&&◌, cond, List, [], ◌∷◌, length, count_by, refl, ap, ◌∙◌, subst, arith, inl, inr, All}
 use Rattle.std.specs.List.{Contains, list_all, range_with_len}
 use Rattle.std.proofs.lemmas.Bool.{cases_lt}
@@ -14,7 +14,7 @@ module _ (classes : List (List ℕ)) where
   is_under-suc zero i e = absurd cc
   is_under-suc (suc n) i e = list_all-from_members (is_under classes (suc n)) (parents_of classes i) (λ p c. is_under-suc n p (list_all-member (is_under classes n) (parents_of classes i) p e c))
 
-  -- less than m is less than what is not less than m
+  -- less than m is less than a number that is not less than m
   pub is_under-later : (m n i : ℕ) → m ≤ n → is_under classes m i ≡ true → is_under classes n i ≡ true
   is_under-later m zero i le h = let z : m ≡ 0 = omega arith in subst (λ k. is_under classes k i ≡ true) z h
   is_under-later m (suc n) i le h = elim (cases_lt m (suc n)) [
@@ -22,7 +22,7 @@ module _ (classes : List (List ℕ)) where
     | inr ge ↦ let z : m ≡ suc n = omega arith in subst (λ k. is_under classes k i ≡ true) z h
   ]
 
-  -- what is less than n and not less than m
+  -- less than n and not less than m
   pub less_than : (m n i : ℕ) → is_under classes m i ≡ false → is_under classes n i ≡ true → m < n
   less_than m n i e f = elim (cases_lt m n) [
     | inl lt ↦ lt
@@ -35,7 +35,7 @@ module _ (classes : List (List ℕ)) where
 
 -- ---- the bound
 
--- what fails a test that not all pass
+-- if not all elements pass a test, one fails it
 pub not_all : {X : Type 0} (p : X → Bool) (xs : List X) → list_all p xs ≡ false → (x : X) × Contains xs x × (p x ≡ false)
 not_all p [] e = absurd cc
 not_all {X} p (x ∷ xs) e = by (p x) refl (not_all p xs) e
@@ -49,7 +49,7 @@ module _ {X : Type 0} where
   count-cons : (p : X → Bool) (x : X) (xs : List X) (b : Bool) → p x ≡ b → count_by p (x ∷ xs) ≡ cond b 1 0 + count_by p xs
   count-cons p x xs b e = sum_by-cons (λ y. cond (p y) 1 0) x xs ∙ ap (λ c. cond c 1 0 + count_by p xs) e
 
-  -- by a weaker test no fewer pass
+  -- a weaker test passes no fewer elements
   no_fewer : (p q : X → Bool) → ((x : X) → p x ≡ true → q x ≡ true) → (xs : List X) → count_by p xs ≤ count_by q xs
   no_fewer p q w [] = omega arith
   no_fewer p q w (x ∷ xs) = by (p x) (q x) refl refl (no_fewer p q w xs)
@@ -60,7 +60,7 @@ module _ {X : Type 0} where
       by false true e f le = omega (arith, count-cons p x xs false e, count-cons q x xs true f)
       by false false e f le = omega (arith, count-cons p x xs false e, count-cons q x xs false f)
 
-  -- and more do, if one passes that one alone
+  -- it passes more, if one element passes it alone
   more : (p q : X → Bool) → ((x : X) → p x ≡ true → q x ≡ true) → (xs : List X) (y : X) → Contains xs y → p y ≡ false → q y ≡ true → count_by p xs < count_by q xs
   more p q w [] y c e f = absurd (Contains-nil y c)
   more p q w (x ∷ xs) y c e f = elim (Contains-cons_cases x y xs c) [
@@ -97,7 +97,7 @@ module _ (classes : List (List ℕ)) (within : AreWithin classes) where
     | inr ge ↦ let z : suc d ≡ k = omega arith in (i, lt, subst (IsDepth classes i) z h)
   ]
 
-  -- so there are as many classes of lesser depth
+  -- so at least k classes have a depth below k
   counted : (d i k : ℕ) → i < length classes → IsDepth classes i d → k ≤ suc d → k ≤ count_by (is_under classes k) (range_with_len 0 (length classes))
   counted d i zero lt h le = omega arith
   counted d i (suc k) lt h le =
@@ -115,7 +115,7 @@ module _ (classes : List (List ℕ)) (within : AreWithin classes) where
 -- ---- parents
 
 module _ (classes : List (List ℕ)) where
-  -- what is under n has a depth below n
+  -- a class that is under n has a depth below n
   least : (n i : ℕ) → is_under classes n i ≡ true → (d : ℕ) × IsDepth classes i d × (d < n)
   least zero i e = absurd cc
   least (suc n) i e = by (is_under classes n i) refl (least n i)
@@ -128,7 +128,7 @@ module _ (classes : List (List ℕ)) where
   pub parent_less : (i p d : ℕ) → IsDepth classes i d → Contains (parents_of classes i) p → (e : ℕ) × IsDepth classes p e × (e < d)
   parent_less i p d h c = least d p (list_all-member (is_under classes d) (parents_of classes i) p h.under c)
 
-  -- and one parent a depth that is one less
+  -- one parent has a depth that is one less
   pub parent_greatest : (i d : ℕ) → IsDepth classes i (suc d) → (p : ℕ) × Contains (parents_of classes i) p × IsDepth classes p d
   parent_greatest i d h =
       let s = not_all (is_under classes d) (parents_of classes i) h.not_under in

@@ -20,7 +20,7 @@ filter-none p [] h = refl
 filter-none p (x ∷ xs) h =
     ap (λ b. cond b (x ∷ filter p xs) (filter p xs)) (h x (Contains-first x xs)) ∙ filter-none p xs (λ y c. h y (Contains-later x y xs c))
 
--- texts that differ are told apart
+-- different texts are not the same
 other_text : (s t : Text) → s ≢ t → same_text s t ≡ false
 other_text s t ne = by (same_text s t) refl
   where
@@ -32,7 +32,7 @@ other_text s t ne = by (same_text s t) refl
 abbrev has_name : Text → Definition → Bool
 has_name name x = same_text x.0 name
 
--- of definitions of different names one has the name of each
+-- if names are different, one definition has a given name
 only_one : (D : List Definition) (i : ℕ) (d : Definition) → AreDistinct (map (λ x. x.0) D) → i < length D → filter (has_name (get_or D i d).0) D ≡ get_or D i d ∷ []
 only_one [] i d distinct lt = absurd (omega arith)
 only_one (e ∷ D) zero d distinct lt =
@@ -46,14 +46,14 @@ only_one (e ∷ D) (suc i) d distinct lt =
     let ne : e.0 ≢ own.0 = λ same. AreDistinct-first e.0 names distinct own.0 (Contains-map (λ (y : Definition). y.0) D own (Contains-get_or D i d less)) (sym same) in
     ap (λ b. cond b (e ∷ filter (has_name own.0) D) (filter (has_name own.0) D)) (other_text e.0 own.0 ne) ∙ only_one D i d (AreDistinct-rest e.0 names distinct) less
 
--- so what is above its name are its own defined parents
+-- the names above a definition's name are its own defined parents
 pub own_parents : (D : List Definition) (i : ℕ) (d : Definition) → AreDistinct (map (λ x. x.0) D) → i < length D → above D (name_at D i) ≡ filter (is_defined D) (parents (get_or D i d).1)
 own_parents D i d distinct lt =
     let named : name_at D i ≡ (get_or D i d).0 = get_or-map (λ (x : Definition). x.0) D i d [] lt in
     let all = λ (xs : List Definition). filter (is_defined D) (flat_map (λ (x : Definition). parents x.1) xs) in
     ap (above D) named ∙ ap all (only_one D i d distinct lt) ∙ ap (filter (is_defined D)) (append-nil (parents (get_or D i d).1))
 
--- classes whose parents are the numbers of these, in their order
+-- classes whose parents are the numbers of these parents, in their order
 pub classes_of_parents : (D : List Definition) (classes : List (List ℕ)) (d : Definition) → AreDistinct (map (λ x. x.0) D) → length classes ≡ length D → AreWithin classes → ((i : ℕ) → i < length D → map (name_at D) (parents_of classes i) ≡ filter (is_defined D) (parents (get_or D i d).1)) → AreClassesOf D classes
 classes_of_parents D classes d distinct count within h =
     let same : (i : ℕ) → i < length classes → map (name_at D) (parents_of classes i) ≡ above D (name_at D i) = λ i lt. let less : i < length D = omega (arith, lt, count) in

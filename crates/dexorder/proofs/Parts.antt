@@ -22,12 +22,12 @@ parts-append xs ys (s ∷ ss) h =
     let rest = parts-append xs ys ss (All-tail (IsPart (length xs)) s ss h) in
     λ i. one i ∷ rest i
 
--- what is added is the part from the old end to the new one
+-- the added elements are the part from the old end to the new end
 part-added : (xs ys : List ℕ) (s : Span) → s.start ≡ length xs → s.end ≡ length (xs ++ ys) → part (xs ++ ys) s ≡ ys
 part-added xs ys s e f =
     ap (λ n. take (s.end - s.start) (drop n (xs ++ ys))) e ∙ ap (take (s.end - s.start)) (drop-append_seam xs ys) ∙ take_all (s.end - s.start) ys (omega (arith, e, f, length-append xs ys))
 
--- one part more: what was added
+-- one more part: the added elements
 pub parts_pushed : (xs ys zs : List ℕ) (ss ts : List Span) (s : Span) → All (IsPart (length xs)) ss → zs ≡ xs ++ ys → ts ≡ ss ++ s ∷ [] → s.start ≡ length xs → s.end ≡ length zs → map (part zs) ts ≡ map (part xs) ss ++ ys ∷ []
 parts_pushed xs ys zs ss ts s h grown more e f =
     let all : map (part zs) ts ≡ map (part (xs ++ ys)) (ss ++ s ∷ []) = λ i. map (part (grown i)) (more i) in
@@ -35,6 +35,6 @@ parts_pushed xs ys zs ss ts s h grown more e f =
     let new = part-added xs ys s e (f ∙ ap length grown) in
     all ∙ map-append (part (xs ++ ys)) ss (s ∷ []) ∙ (λ i. old i ++ new i ∷ [])
 
--- no part more
+-- no further part
 pub parts_kept : (xs ys zs : List ℕ) (ss ts : List Span) → All (IsPart (length xs)) ss → zs ≡ xs ++ ys → ts ≡ ss → map (part zs) ts ≡ map (part xs) ss
 parts_kept xs ys zs ss ts h grown same = (λ i. map (part (grown i)) (same i)) ∙ parts-append xs ys ss h

@@ -29,11 +29,11 @@ rises_adjacent R (x ∷ y ∷ ys) h =
 pub class_total : IsTotalOrder class_cmp
 class_total = then_total (on_total (λ (p : ℕ × ℕ). p.0) nat_cmp_total) (on_total (λ (p : ℕ × ℕ). p.1) nat_cmp_total)
 
--- unlike numbers do not tie
+-- different numbers are not equal by order
 unlike : (m n : ℕ) → m ≢ n → nat_cmp m n ≢ Equal
 unlike m n ne e = ne (subst (λ o. MatchOrdering o (m < n) (m ≡ n) (n < m)) e (ranked m n (nat_cmp m n) refl))
 
--- where the second decides, no third is asked
+-- if the second order decides, the third does not count
 third_unasked : (a b c : Ordering) → b ≢ Equal → ordering_then a (ordering_then b c) ≡ ordering_then a b
 third_unasked Less b c h = refl
 third_unasked Greater b c h = refl
@@ -41,13 +41,13 @@ third_unasked Equal Less c h = refl
 third_unasked Equal Greater c h = refl
 third_unasked Equal Equal c h = absurd (h refl)
 
--- what ties together ties by the second
+-- equal by both orders is equal by the second
 tied_second : (a b : Ordering) → ordering_then a b ≡ Equal → b ≡ Equal
 tied_second Less b e = absurd cc
 tied_second Equal b e = e
 tied_second Greater b e = absurd cc
 
--- what is not less, and does not tie, is greater
+-- neither less nor equal is greater
 greater : (o : Ordering) → is_lt o ≡ false → o ≢ Equal → o ≡ Greater
 greater Less e h = absurd cc
 greater Equal e h = absurd (h refl)
@@ -63,7 +63,7 @@ pair p = (p.depth, p.name)
 abbrev place_cmp : Place → Place → Ordering
 place_cmp x y = ordering_then (nat_cmp x.depth y.depth) (ordering_then (nat_cmp x.name y.name) (nat_cmp x.class y.class))
 
--- of two places of unlike names, the one that is not greater is less
+-- of two places with different names, the one that is not greater is less
 pair_less : (x y : Place) → x.name ≢ y.name → is_lt (place_cmp y x) ≡ false → class_cmp (pair x) (pair y) ≡ Less
 unfolding pair
 pair_less x y ne e =
@@ -95,7 +95,7 @@ module _ (depths : List (Option ℕ)) (names : List ℕ) where
   are_places : (ks : List ℕ) → All IsPlace (map (place_of depths names) ks)
   are_places ks = All-map IsPlace (place_of depths names) ks (λ k d lt. refl)
 
-  -- so the pairs are those of the classes
+  -- so the pairs are the pairs of the classes
   pairs_of : (ys : List Place) → All IsPlace ys → map (class_place depths names) (map (λ (p : Place). p.class) ys) ≡ map pair ys
   unfolding pair
   pairs_of [] h = refl

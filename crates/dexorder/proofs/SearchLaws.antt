@@ -15,7 +15,7 @@ use Rattle.dexorder.specs.Depths.{parents_of, is_under, AreWithin, IsDepth, HasN
 use Rattle.dexorder.specs.Searching.{is_under_all, IsVisit, IsWaitingFor, IsOn, IsSearch, work_left, work_unseen}
 use Rattle.dexorder.proofs.DepthLaws.{is_under-suc, is_under-later, parent_within}
 
--- a class that is seen has its steps no more before it
+-- after a class is seen, the bound no longer counts its steps
 pub work_unseen-set : (classes : List (List ℕ)) (seen : List Bool) (i : ℕ) → i < length classes → length seen ≡ length classes → get_or seen i false ≡ false → work_unseen classes (set seen i true) + (2 + length (parents_of classes i)) ≡ work_unseen classes seen
 work_unseen-set [] seen i lt same fresh = absurd (omega arith)
 work_unseen-set (ps ∷ classes) [] i lt same fresh = absurd (omega arith)
@@ -24,7 +24,7 @@ work_unseen-set (ps ∷ classes) (s ∷ seen) zero lt same fresh =
     omega (arith, e)
 work_unseen-set (ps ∷ classes) (s ∷ seen) (suc i) lt same fresh = omega (arith, work_unseen-set classes seen i (omega arith) (omega arith) fresh)
 
--- so the first visit of a class takes fewer steps than are left
+-- so the first visit of a class takes fewer steps than were left
 pub begun_nearer : (classes : List (List ℕ)) (seen now : List Bool) (path visits : List Visit) (v : Visit) (i : ℕ) → i < length classes → length seen ≡ length classes → get_or seen i false ≡ false → now ≡ set seen i true → visits ≡ path ++ v ∷ [] → v.left.now ≡ parents_of classes i → work_unseen classes now + work_left visits < work_unseen classes seen + work_left path
 begun_nearer classes seen now path visits v i lt same fresh written grown rest =
     let less : work_unseen classes now ≡ work_unseen classes (set seen i true) = ap (work_unseen classes) written in
@@ -38,7 +38,7 @@ pub empty_is : {X : Type 0} (xs : List X) → length xs ≡ 0 → xs ≡ []
 empty_is [] e = refl
 empty_is (x ∷ xs) e = absurd (omega arith)
 
--- not all pass where a member does not
+-- if a member fails a test, not all members pass it
 pub list_all-fails : {X : Type 0} (p : X → Bool) (xs : List X) (x : X) → Contains xs x → p x ≡ false → list_all p xs ≡ false
 list_all-fails p xs x c e = by (list_all p xs) refl
   where
@@ -47,7 +47,7 @@ list_all-fails p xs x c e = by (list_all p xs) refl
     by false f = f
 
 module _ (classes : List (List ℕ)) where
-  -- a class is under n where its parents are
+  -- a class is under n if its parents are
   under_parents : (n i : ℕ) → is_under classes n i ≡ is_under_all classes n (parents_of classes i)
   under_parents zero i = refl
   under_parents (suc n) i = refl
@@ -57,7 +57,7 @@ module _ (classes : List (List ℕ)) where
   more_parents zero ps qs e = refl
   more_parents (suc n) ps qs e = list_all-append (is_under classes n) ps qs ∙ ap (λ b. b && list_all (is_under classes n) qs) e
 
-  -- the depth with one parent more, of depth d
+  -- the depth with one more parent, of depth d
   deeper_under : (m n d p : ℕ) (ps : List ℕ) → n ≤ m → suc d ≤ m → is_under_all classes (suc n) ps ≡ true → IsDepth classes p d → is_under_all classes (suc m) (ps ++ p ∷ []) ≡ true
   deeper_under m n d p ps le lt h k =
       list_all-from_members (is_under classes m) (ps ++ p ∷ []) (λ x c. elim (Contains-append_cases ps (p ∷ []) x c) [
@@ -79,7 +79,7 @@ module _ (classes : List (List ℕ)) where
     last_visit : IsVisit classes v
     last_visit = subst (IsVisit classes) (get_or-append_seam path v [] v) (h.visits (length path) v (omega (arith, length-append path (v ∷ []))))
 
-    -- those before
+    -- the visits before it
     front_visits : All (IsVisit classes) path
     front_visits k d lt = subst (IsVisit classes) (get_or-append path (v ∷ []) d k lt) (h.visits k d (omega (arith, length-append path (v ∷ []))))
 
@@ -97,7 +97,7 @@ module _ (classes : List (List ℕ)) where
         let other = get_or-append_seam path v [] d in
         subst (λ w. IsWaitingFor classes w.class (get_or path k d)) other (subst (IsWaitingFor classes (get_or (path ++ v ∷ []) (length path) d).class) one (h.waiting k (length path) d lt (omega (arith, length-append path (v ∷ [])))))
 
-    -- ---- where the last has no parent left
+    -- ---- the last visit has no parent left
 
     -- its class has the depth
     finished : v.left.now ≡ [] → IsDepth classes v.class v.depth
@@ -108,7 +108,7 @@ module _ (classes : List (List ℕ)) where
           not_under = under_parents v.depth v.class ∙ ap (is_under_all classes v.depth) same ∙ last_visit.not_under;
         }
 
-    -- one that is on the path is before the last, or is its class
+    -- a class on the path is before the last visit, or is its class
     on_cases : (i : ℕ) → IsOn (path ++ v ∷ []) i → IsOn path i ⊎ (v.class ≡ i)
     on_cases i (u, c, e) = elim (Contains-append_cases path (v ∷ []) u c) [
       | inl l ↦ inl (u, l, e)
@@ -143,7 +143,7 @@ module _ (classes : List (List ℕ)) where
         }
 
     module _ (p : ℕ) (left : List ℕ) (next : v.left.now ≡ p ∷ left) where
-      -- ---- where it waits for a parent
+      -- ---- the last visit waits for a parent
 
       is_parent : Contains (parents_of classes v.class) p
       is_parent = subst (λ ps. Contains ps p) (sym (last_visit.parents ∙ ap (λ ps. last_visit.passed ++ ps) next)) (Contains-append_right last_visit.passed (p ∷ left) p (Contains-first p left))
@@ -159,7 +159,7 @@ module _ (classes : List (List ℕ)) where
       pub all_wait_next : All (IsWaitingFor classes p) (path ++ v ∷ [])
       all_wait_next = All-push (IsWaitingFor classes p) path v (λ k d lt n e. waits_next n (waits_last k d lt n e)) waits_next
 
-      -- ---- which has a depth
+      -- ---- the parent has a depth
 
       deeper : (d : ℕ) (w : Visit) → IsDepth classes p d → w.class ≡ v.class → w.left.now ≡ left → w.depth ≡ max v.depth (suc d) → IsVisit classes w
       deeper d w k class rest depth =
@@ -189,9 +189,9 @@ module _ (classes : List (List ℕ)) where
             waiting = all_pairs_push (λ u x. IsWaitingFor classes x.class u) path w front_waiting (λ k e lt. subst (λ c. IsWaitingFor classes c (get_or path k e)) (sym class) (waits_last k e lt));
           })
 
-      -- ---- which has none, and was seen
+      -- ---- the parent has no depth, and was seen
 
-      -- what is on the path and waited for by the last makes a cycle
+      -- a class on the path that the last visit waits for makes a cycle
       cyclic : (n : ℕ) → (i : ℕ) → ((m : ℕ) → is_under classes m p ≡ true → is_under classes m v.class ≡ true) → is_under classes n v.class ≡ true → ⊥
       cyclic zero i back e = absurd cc
       cyclic (suc n) i back e = cyclic n i back (back n (list_all-member (is_under classes n) (parents_of classes v.class) p e is_parent))

@@ -1,4 +1,4 @@
--- Numbers of definitions: what the depths and the order of numbered classes say of class definitions.
+-- Numbers of definitions: how depths and order of numbered classes relate to class definitions.
 use Rattle.std.specs.Prelude.{◌≡◌, ◌↔◌, ℕ, ◌<◌, List, [], length, map, slice_index, slice_index_or, Option, None, Some}
 use Rattle.std.specs.List.{Contains}
 use Rattle.std.specs.declared.cmp.Ordering.TheVariants.{Less}
@@ -22,7 +22,7 @@ pub record AreDepthsOf (D : List Definition) (depths : List (Option ℕ)) : Type
   pub count : length depths ≡ length D
   pub each : (i : ℕ) → i < length D → slice_index_or depths i None ≡ Some (depth D (name_at D i))
 
--- number i is that of the name of definition i: it is less where the name is
+-- number i is that of the name of definition i, and a lesser name has a lesser number
 pub record AreNamesOf (D : List Definition) (names : List ℕ) : Type 0 where
   pub count : length names ≡ length D
   pub order : (i j : ℕ) → i < length D → j < length D → (slice_index names i < slice_index names j) ↔ (text_cmp (name_at D i) (name_at D j) ≡ Less)

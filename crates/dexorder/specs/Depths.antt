@@ -1,6 +1,5 @@
--- The depths of numbered classes.
--- Source: "Dalvik Executable format", "class_defs": a superclass and interfaces stand before the class. Depths are
--- a word of this project.
+-- The depths of numbered classes. Source: "Dalvik Executable format", "class_defs": a class comes after its superclass
+-- and interfaces. Depth is a term of this project.
 use Rattle.std.specs.Prelude.{◌≡◌, ℕ, zero, suc, ◌<◌, Bool, true, false, List, [], length, All, Option, None, Some, slice_index_or}
 use Rattle.std.specs.List.{list_all}
 
@@ -12,8 +11,8 @@ parents_of classes i = slice_index_or classes i []
 abbrev pub AreWithin : List (List ℕ) → Type 0
 AreWithin classes = All (λ parents. All (λ p. p < length classes) parents) classes
 
--- Its depth is less than n: that of a class without parents is 0, and that of another one more than the greatest
--- depth among its parents, where each of these has one.
+-- The depth is less than n. A class without parents has depth 0. The depth of another class is one more than the
+-- greatest depth of its parents, if each of them has one.
 abbrev pub is_under : List (List ℕ) → ℕ → ℕ → Bool
 is_under classes zero i = false
 is_under classes (suc n) i = list_all (is_under classes n) (parents_of classes i)
@@ -27,12 +26,12 @@ pub record IsDepth (classes : List (List ℕ)) (i d : ℕ) : Type 0 where
 abbrev pub HasNone : List (List ℕ) → ℕ → Type 0
 HasNone classes i = (n : ℕ) → is_under classes n i ≡ false
 
--- the depth of class i where it has one, else none
+-- the depth of class i, or none if it has none
 abbrev pub IsAnswer : List (List ℕ) → ℕ → Option ℕ → Type 0
 IsAnswer classes i None = HasNone classes i
 IsAnswer classes i (Some d) = IsDepth classes i d
 
--- one answer for each class
+-- one result for each class
 pub record AreDepths (classes : List (List ℕ)) (answers : List (Option ℕ)) : Type 0 where
   pub count : length answers ≡ length classes
   pub answer : (i : ℕ) → i < length classes → IsAnswer classes i (slice_index_or answers i None)

@@ -3,20 +3,20 @@
 use Rattle.std.specs.Prelude.{◌≡◌, ℕ, ◌<◌, List, ◌++◌, length, map, All, Option, None, Some, IsSome, option_to_list, slice_index_or}
 use Rattle.dexspec.specs.Lists.{present}
 
--- for each type a class that has it as its name, if one has
+-- for each type a class that has it as its name, or none
 pub record AreByType (names : List ℕ) (by_type : List (Option ℕ)) : Type 0 where
   pub some : (t i : ℕ) → slice_index_or by_type t None ≡ Some i → (i < length names) × (slice_index_or names i 0 ≡ t)
   pub all : (i : ℕ) → i < length names → IsSome (slice_index_or by_type (slice_index_or names i 0) None)
 
--- the types that are parents: the superclass, and then the interfaces
+-- the types of the parents: the superclass, then the interfaces
 abbrev pub parent_types : Option ℕ → List ℕ → List ℕ
 parent_types superclass interfaces = option_to_list superclass ++ interfaces
 
--- the classes of types, of those that have one
+-- the classes of the types, without the types that have no class
 abbrev pub classes_of_types : List (Option ℕ) → List ℕ → List ℕ
 classes_of_types by_type types = present (map (λ t. slice_index_or by_type t None) types)
 
--- classes of these names and parents, each with those of its parents that are among them
+-- the classes of these names and parents: for each class the parents that are classes
 pub record IsHierarchyOf (names : List ℕ) (parents : List (List ℕ)) (classes : List (List ℕ)) : Type 0 where
   pub by_type : List (Option ℕ)
   pub are : AreByType names by_type

@@ -1,16 +1,15 @@
--- The places of numbered classes: by depth, and then by name.
--- Source: "Dalvik Executable format", "class_defs": a superclass and interfaces stand before the class. By depth and
--- then by name is this project's rule.
+-- The places of numbered classes: by depth, then by name. Source: "Dalvik Executable format", "class_defs": a class
+-- comes after its superclass and interfaces. The order by depth, then by name, is this project's rule.
 use Rattle.std.specs.Prelude.{ℕ, List, Option, None, unwrap_or, slice_index, slice_index_or}
 use Rattle.std.specs.Ordering.{nat_cmp, ordering_then}
 use Rattle.std.specs.declared.cmp.Ordering.{Ordering}
 use Rattle.dexorder.specs.declared.order.Place.{Place}
 
--- the depth of class i, 0 where it has none, and the number of its name
+-- the depth of class i, or 0 if it has none, and the number of its name
 abbrev pub class_place : List (Option ℕ) → List ℕ → ℕ → ℕ × ℕ
 class_place depths names i = (unwrap_or (slice_index_or depths i None) 0, slice_index names i)
 
--- by depth, and then by the number of the name
+-- by depth, then by the number of the name
 abbrev pub class_cmp : ℕ × ℕ → ℕ × ℕ → Ordering
 class_cmp x y = ordering_then (nat_cmp x.0 y.0) (nat_cmp x.1 y.1)
 

@@ -1,4 +1,4 @@
--- Parts of a list, by their bounds.
+-- Parts of a list, given by their bounds.
 use Rattle.std.specs.Prelude.{ℕ, ◌≤◌, List, slice_range}
 use Rattle.dexorder.specs.declared.hierarchy.Span.{Span}
 

@@ -8,29 +8,29 @@ ghost use Rattle.dexorder.specs.Searching.{IsSearch, IsWaitingFor, AreStillSeen,
 use crate::hierarchy::Hierarchy;
 use std::alloc::{AllocError, Global};
 
-/// The visit of a class: it waits for the depth of one of its parents after the other.
+/// The visit of a class. It waits for the depth of each parent in turn.
 #[derive(Clone, Copy)]
 struct Visit<'a> {
     class: usize,
-    /// The parents from the one on that it waits for.
+    /// The parent that it waits for, and the parents after it.
     left: &'a [usize],
-    /// One more than the greatest depth among the parents before, 0 where there are none.
+    /// One more than the greatest depth of the parents before, or 0 if there are none.
     depth: usize,
 }
 
-/// How far a search has come.
+/// The state of a search.
 #[derive(Drop)]
 struct Search<'a> {
     /// The depths that are known.
     depths: Vec<Option<usize>>,
-    /// The classes whose visit was begun.
+    /// The classes whose visit began.
     is_seen: Vec<bool>,
-    /// The visits that are not over. Each but the last waits for the class of the next.
+    /// The visits that are not over. Each visit but the last waits for the class of the next.
     path: Vec<Visit<'a>>,
 }
 
 impl<'a> Search<'a> {
-    /// Begins the visit of a class for which each visit waits.
+    /// Begins the visit of a class that each visit waits for.
     fn begin(&mut self, classes: &'a Hierarchy, class: usize) -> Result<(), AllocError>
         requires search { IsSearch classes.now self.old self.old.path.items }
         requires within { class < length classes.now }
@@ -50,9 +50,9 @@ impl<'a> Search<'a> {
         Ok(())
     }
 
-    /// Goes on with the visit that was last on the path. It is over where all its parents have a depth, and then
-    /// its class has one; and where it waits for a class without a depth that was seen: then its class is
-    /// above itself, or below a class that is.
+    /// Continues the last visit of the path. The visit is over if all its parents have a depth: its class then has one
+    /// too. It is also over if it waits for a class that was seen and has no depth: its class is then above itself, or
+    /// below a class that is.
     fn step(&mut self, classes: &'a Hierarchy, visit: Visit<'a>) -> Result<(), AllocError>
         requires within { AreWithin classes.now }
         requires search { IsSearch classes.now self.old (self.old.path.items ++ visit ∷ []) }
@@ -104,15 +104,10 @@ impl<'a> Search<'a> {
 }
 
 impl Hierarchy {
-    /// For each class its depth, or none where it has none: where it is above itself, or below a class that is. The
-    /// depth of a class without parents is 0, and that of another one more than the greatest depth among its
-    /// parents.
+    /// The depth of each class, or none if the class is above itself or below a class that is. A class without parents
+    /// has depth 0. The depth of another class is one more than the greatest depth of its parents.
     ///
     /// Condition: each parent is the number of a class. The time is linear in the number of classes and parents.
-    ///
-    /// Error: the memory for it was refused.
-    ///
-    /// Source: "class_defs", a superclass and interfaces stand before the class.
     pub fn depths(&self, alloc: Global) -> Result<Vec<Option<usize>>, AllocError>
         requires { AreWithin self.now }
         ensures { IfOk result (λ depths. AreDepths self.now depths.items) }
@@ -132,7 +127,7 @@ impl Hierarchy {
     }
 }
 
-/// The first class that has no depth in what [`Hierarchy::depths`] answered, if there is one. No memory is taken.
+/// The first class without a depth in the result of [`Hierarchy::depths`], if there is one.
 pub fn first_without_depth(depths: &[Option<usize>]) -> Option<usize>
     ensures { MatchOption result (AllHaveDepths depths.now) (IsFirstWithout depths.now) }
 {

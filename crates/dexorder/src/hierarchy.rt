@@ -12,8 +12,8 @@ struct Span {
     end: usize,
 }
 
-/// Classes, numbered from 0 on, each with the numbers of its parents: of its superclass and interfaces, those that
-/// are defined. Contracts see a list of lists: at the place of a class its parents.
+/// Classes, numbered from 0 on, each with the numbers of its parents: its superclass and interfaces, if they are
+/// defined. Contracts see a list of lists: for each class its parents.
 ///
 /// A class may have a parent twice, and may be its own parent.
 ///
@@ -21,7 +21,7 @@ struct Span {
 #[derive(Drop)]
 pub struct Hierarchy {
     spans: Vec<Span>,
-    // The parents of all classes, one class after the other.
+    // The parents of all classes, class by class.
     parents: Vec<usize>,
 }
 
@@ -37,7 +37,7 @@ impl Model for Hierarchy {
 }
 
 impl Hierarchy {
-    /// No class. No memory is taken.
+    /// No class.
     pub fn new(alloc: Global) -> Hierarchy
         ensures { result ≡ [] }
     {
@@ -47,21 +47,21 @@ impl Hierarchy {
         }
     }
 
-    /// The number of classes. No memory is taken.
+    /// The number of classes.
     pub fn len(&self) -> usize
         ensures { result ≡ length self.now }
     {
         self.spans.len()
     }
 
-    /// Whether there is no class. No memory is taken.
+    /// Whether there is no class.
     pub fn is_empty(&self) -> bool
         ensures { IsTrue result ↔ (self.now ≡ []) }
     {
         self.spans.is_empty()
     }
 
-    /// The parents of a class. No memory is taken.
+    /// The parents of a class.
     ///
     /// Condition: `class` is below the number of classes.
     pub fn parents(&self, class: usize) -> &[usize]
@@ -72,10 +72,10 @@ impl Hierarchy {
         &self.parents[start..end]
     }
 
-    /// Adds a class with these parents, which may be numbers of classes that are still to be added. Its number is
-    /// the number of classes before it.
+    /// Adds a class with these parents. A parent may be the number of a class that is added later. The number of the
+    /// class is the number of classes before it.
     ///
-    /// Error: the memory for it was refused. The classes are then those from before.
+    /// On error the classes are unchanged.
     pub fn push(&mut self, parents: &[usize]) -> Result<(), AllocError>
         ensures added { OnOk result (self.new ≡ self.old ++ parents.now ∷ []) }
         ensures err { OnErr result (self.new ≡ self.old) }

@@ -1,4 +1,4 @@
-//! What depths and order of numbered classes say of class definitions. Each function does nothing: its contract is
+//! What depths and order of numbered classes mean for class definitions. Each function does nothing: its contract is
 //! the law, for the callers that cite it.
 
 ghost use Rattle.std.specs.Prelude.{◌≡◌, ◌<◌, ℕ, suc, List, length, map, All, Option, None, IsSome, true, slice_index_or};
@@ -13,8 +13,8 @@ ghost use Rattle.dexorder.specs.Depths.{AreDepths, AreWithin, IsDepth, HasNone, 
 ghost use Rattle.dexorder.specs.Definitions.{AreClassesOf, AreDepthsOf, AreNamesOf, IsCycleClass, name_at};
 ghost use Rattle.dexorder.specs.Places.{class_cmp, class_place};
 
-/// The depth of a class is greater than the depths of its parents, which all have one, and where it is not 0 it is one
-/// more than that of a parent. A class has one depth at most, and it is less than the number of classes.
+/// The depth of a class is greater than the depths of its parents, which all have one. If it is not 0, it is one more
+/// than the depth of some parent. A class has at most one depth, and it is less than the number of classes.
 pub fn depths_of_classes()
     ensures parents { (classes : List (List ℕ)) (i p d : ℕ) → IsDepth classes i d → Contains (parents_of classes i) p → (e : ℕ) × IsDepth classes p e × (e < d) }
     ensures greatest { (classes : List (List ℕ)) (i d : ℕ) → IsDepth classes i (suc d) → (p : ℕ) × Contains (parents_of classes i) p × IsDepth classes p d }
@@ -23,15 +23,15 @@ pub fn depths_of_classes()
     ensures bound { (classes : List (List ℕ)) (i d : ℕ) → AreWithin classes → i < length classes → IsDepth classes i d → d < length classes }
 {}
 
-/// Definitions of different names are numbered by classes where the parents of each class are the numbers of its
-/// superclass and interfaces, those that are defined, in their order.
+/// Definitions of different names are numbered by classes if the parents of each class are the numbers of its defined
+/// superclass and interfaces, in their order.
 pub fn classes_of_definitions()
     ensures { (definitions : List Definition) (classes : List (List ℕ)) (e : Definition) → AreDistinct (map (λ d. d.0) definitions) → length classes ≡ length definitions → AreWithin classes → ((i : ℕ) → i < length definitions → map (name_at definitions) (parents_of classes i) ≡ filter (is_defined definitions) (parents (slice_index_or definitions i e).1)) → AreClassesOf definitions classes }
 {}
 
-/// Numbered classes have the depths of the definitions that they number, and a class without one is a definition
-/// whose name is on a cycle, or below one. Each such definition is a class without a depth; so where all classes have
-/// one they are the depths of the definitions and there is no cycle, and where there is none all have one.
+/// Numbered classes have the depths of the definitions that they number. A class without a depth is a definition whose
+/// name is on or below a cycle, and each such definition is a class without a depth. So if all classes have depths,
+/// there is no cycle and the depths are those of the definitions; if there is no cycle, all classes have depths.
 pub fn depths_of_definitions()
     ensures depth { (definitions : List Definition) (classes : List (List ℕ)) → AreClassesOf definitions classes → (i d : ℕ) → i < length classes → IsDepth classes i d → HasDepth definitions (name_at definitions i) × (depth definitions (name_at definitions i) ≡ d) }
     ensures cycle { (definitions : List Definition) (classes : List (List ℕ)) → AreClassesOf definitions classes → (i : ℕ) → i < length classes → HasNone classes i → IsCycle definitions (name_at definitions i) }

@@ -1,8 +1,8 @@
-//! The depths of classes below their defined superclasses and interfaces, and the order of the classes of a
-//! file: by depth, and then by name. Classes and names are numbers here.
+//! The depths of classes below their defined superclasses and interfaces, and the order of the classes of a file: by
+//! depth, then by name. Classes and names are numbers here.
 //!
-//! Source: the Android page "Dalvik Executable format", under the heading "class_defs": a superclass and
-//! interfaces stand before the class. By depth and then by name is this project's rule.
+//! Source: the Android page "Dalvik Executable format", under the heading "class_defs": a class comes after its
+//! superclass and interfaces. The order by depth, then by name, is this project's rule.
 #![tactic(auto)]
 
 mod depths;

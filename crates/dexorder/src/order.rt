@@ -1,4 +1,4 @@
-//! The order of classes: by depth, and then by name.
+//! The order of classes: by depth, then by name.
 
 ghost use Rattle.std.specs.Prelude.{◌≡◌, length, map, true, IfOk};
 ghost use Rattle.std.specs.List.{range_with_len};
@@ -8,7 +8,7 @@ ghost use Rattle.dexorder.specs.Places.{class_place, class_cmp, place_of};
 
 use std::alloc::{AllocError, Global};
 
-/// A class with what orders it.
+/// A class with its depth and name.
 #[derive(Clone, Copy, PartialEq, Eq, PartialOrd, Ord)]
 struct Place {
     depth: usize,
@@ -16,7 +16,7 @@ struct Place {
     class: usize,
 }
 
-/// The place of each class before they are put in order.
+/// The place of each class before sorting.
 fn places(
     alloc: Global,
     depths: &[Option<usize>],
@@ -43,16 +43,12 @@ fn classes(alloc: Global, places: &[Place]) -> Result<Vec<usize>, AllocError>
     places.iter().map(|place| place.class).collect(alloc)
 }
 
-/// The classes in their order: by depth, and then by name. A class without a depth counts as one of depth 0.
+/// The classes in order: by depth, then by name. A class without a depth counts as one of depth 0.
 ///
-/// `depths` has the depth of each class and `names` the number of its name, where a number is less if the name is.
-/// The answer has the number of each class once.
+/// `depths` has the depth of each class. `names` has the number of its name: a lesser name has a lesser number. The
+/// result has the number of each class once.
 ///
-/// Conditions: as many names as depths, no two of them the same.
-///
-/// Error: the memory for it was refused.
-///
-/// Source: "class_defs", a superclass and interfaces stand before the class.
+/// Conditions: `names` is as long as `depths` and has no number twice.
 pub fn class_order(
     alloc: Global,
     depths: &[Option<usize>],

@@ -1,4 +1,4 @@
-//! Classes that name their parents by types, and the classes that are parents among them.
+//! Classes that name their parents by types, and the parents that are classes among them.
 
 ghost use Rattle.std.specs.Prelude.{◌≡◌, ◌<◌, ◌++◌, ◌∷◌, [], ℕ, List, Option, None, All, IfOk, OnOk, length, map, slice_index, slice_index_or};
 ghost use Rattle.dexorder.specs.Parents.{AreByType, IsHierarchyOf, classes_of_types, parent_types};
@@ -16,19 +16,19 @@ pub trait HasParents {
 
     ghost interfaces_of: { Self → List ℕ };
 
-    /// The number of its type. No memory is taken.
+    /// The number of its type.
     fn name(&self) -> usize
         ensures { result ≡ name_of self.now };
 
-    /// The number of the superclass's type, if there is one. No memory is taken.
+    /// The number of the superclass's type, if there is one.
     fn superclass(&self) -> Option<usize>
         ensures { result ≡ superclass_of self.now };
 
-    /// The number of interfaces. No memory is taken.
+    /// The number of interfaces.
     fn interface_count(&self) -> usize
         ensures { result ≡ length (interfaces_of self.now) };
 
-    /// The number of the type of interface `k`. No memory is taken.
+    /// The number of the type of interface `k`.
     ///
     /// Condition: `k` is below the number of interfaces.
     fn interface(&self, k: usize) -> usize
@@ -36,12 +36,10 @@ pub trait HasParents {
         ensures { result ≡ slice_index (interfaces_of self.now) k };
 }
 
-/// For each type the number of a class that has it as its name, if one has.
+/// For each type the number of a class that has it as its name, or none.
 ///
 /// Condition: the name of each class is below `types`, the number of types. The time is linear in the number of types and
 /// classes.
-///
-/// Error: the memory for it was refused.
 pub fn classes_by_type<C: HasParents>(
     alloc: Global,
     classes: &[C],
@@ -58,7 +56,7 @@ pub fn classes_by_type<C: HasParents>(
     Ok(by_type)
 }
 
-/// The class of a type in what [`classes_by_type`] answered, if it has one. No memory is taken.
+/// The class of a type in the result of [`classes_by_type`], if it has one.
 pub fn class_of_type(by_type: &[Option<usize>], typ: usize) -> Option<usize>
     ensures { result ≡ slice_index_or by_type.now typ None }
 {
@@ -83,7 +81,7 @@ fn push_class(
     Ok(())
 }
 
-// The classes that are parents of a class, in the place of what the list held.
+// Replaces the list by the classes that are parents of a class.
 fn collect_parents<C: HasParents>(
     by_type: &[Option<usize>],
     class: &C,
@@ -102,13 +100,11 @@ fn collect_parents<C: HasParents>(
 }
 
 impl Hierarchy {
-    /// The classes, each with those of its parents that are among them: the class of its superclass, and then those of its
-    /// interfaces, in their order.
+    /// The classes, each with those of its parents that are classes: the class of its superclass, then the classes of
+    /// its interfaces, in their order.
     ///
     /// Condition: the name of each class is below `types`, the number of types. The time is linear in the number of types,
     /// classes and parents.
-    ///
-    /// Error: the memory for it was refused.
     pub fn of<C: HasParents>(
         alloc: Global,
         classes: &[C],

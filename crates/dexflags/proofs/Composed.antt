@@ -1,4 +1,4 @@
--- One item after the other.
+-- Appends one item after another.
 use Rattle.std.proofs.Common.{ℕ, Bool, true, false, refl, get_or, drop, [], ◌∷◌, ◌<◌, ◌≡◌, ◌≤◌, ◌+◌, ◌∙◌, List, ◌++◌, length, take, map, sym, ap, arith, append_assoc, subst, rules}
 use Rattle.std.proofs.lemmas.List.{append-nil, take-append-le, drop_more, drop-map, drop_all, length-map}
 use Rattle.std.proofs.Math.ListN.{get_or-map}
@@ -11,7 +11,7 @@ use Rattle.dexspec.specs.Flags.{has_bit}
 use Rattle.dexflags.specs.FlagNames.{Grows, listed, set_names, shown_name}
 use Rattle.dexflags.proofs.Growing.{Growing, kept_on, front_of_front}
 
--- an item after others
+-- an item after other items
 pub after : {T E : Type 0} (old mid new : Vec ℕ) (before item : List ℕ) (r : Result T E) → Growing old mid before → Grows item mid new r → Grows (before ++ item) old new r
 after old mid new before item (Ok v) g s = record {
   ok = s.ok ∙ rw (g.items, append_assoc) refl;
@@ -30,7 +30,7 @@ after old mid new before item (Err e) g s = record {
   capacity = omega (arith, s.capacity, g.capacity);
 }
 
--- a name behind a comma
+-- a name after a comma
 pub after_comma : {T E : Type 0} (old mid new : Vec ℕ) (name : List ℕ) (is_first : Bool) (r : Result T E) → is_first ≡ false → mid.items ≡ old.items ++ (0x2c ∷ []) → vec_len mid ≡ vec_len old + 1
     → vec_capacity old ≤ vec_capacity mid → Grows name mid new r → Grows (listed is_first name) old new r
 after_comma old mid new name is_first r is items len capacity s = rw is (after old mid new (0x2c ∷ []) name r (record { items = items; len = len; capacity = capacity }) s)
@@ -39,7 +39,7 @@ after_comma old mid new name is_first r is items len capacity s = rw is (after o
 pub no_comma : {T E : Type 0} (old new : Vec ℕ) (name : List ℕ) (is_first : Bool) (r : Result T E) → is_first ≡ true → Grows name old new r → Grows (listed is_first name) old new r
 no_comma old new name is_first r is s = rw is s
 
--- where an item is begun and not ended, and others may stand before it
+-- an item was begun and not finished, perhaps after other items
 pub stopped : {T E : Type 0} (old mid new : Vec ℕ) (before item whole : List ℕ) (r : Result T E) → Growing old mid before → IsErr r
     → take (vec_len mid) new.items ≡ mid.items → vec_len mid ≤ vec_len new → vec_capacity mid ≤ vec_capacity new → vec_capacity mid < vec_len mid + length item
     → length before + length item ≤ length whole → Grows whole old new r
@@ -60,14 +60,14 @@ rest_text true names = join_with_byte 0x2c names
 rest_text false [] = []
 rest_text false (name ∷ names) = 0x2c ∷ join_with_byte 0x2c (name ∷ names)
 
--- one name and then the others
+-- one name, then the others
 rest_one : (is_first : Bool) (name : List ℕ) (names : List (List ℕ)) → rest_text is_first (name ∷ names) ≡ listed is_first name ++ rest_text false names
 rest_one true name [] = sym (append-nil name)
 rest_one true name (other ∷ names) = refl
 rest_one false name [] = sym (append-nil (0x2c ∷ name))
 rest_one false name (other ∷ names) = refl
 
--- the whole will stand once the names that are left are there
+-- once the names that are left are appended, the whole text is complete
 pub record Listing (old now : Vec ℕ) (is_first : Bool) (names : List (List ℕ)) (whole : List ℕ) : Type 0 where
   pub text : now.items ++ rest_text is_first names ≡ old.items ++ whole
   pub size : vec_len now + length (rest_text is_first names) ≡ vec_len old + length whole
@@ -85,7 +85,7 @@ pub skip : (old now : Vec ℕ) (is_first : Bool) (row : Row) (rows : List Row) (
     → Listing old now is_first (set_names (row ∷ rows) n) whole → Listing old now is_first (set_names rows n) whole
 skip old now is_first row rows n whole e l = rw (sym (skipped row rows n e)) l
 
--- a name more
+-- one more name
 pub one_name_more : (old mid new : Vec ℕ) (is_first : Bool) (row : Row) (rows : List Row) (n : ℕ) (whole : List ℕ) → has_bit n row.1 ≡ true
     → Listing old mid is_first (set_names (row ∷ rows) n) whole → new.items ≡ mid.items ++ listed is_first (shown_name row)
     → vec_len new ≡ vec_len mid + length (listed is_first (shown_name row)) → vec_capacity mid ≤ vec_capacity new
@@ -104,7 +104,7 @@ one_name_more old mid new is_first row rows n whole e l items len capacity =
       capacity = omega (arith, l.capacity, capacity);
     }
 
--- a name that found no room
+-- a name for which allocation failed
 pub no_more : {T S E F : Type 0} (old mid new : Vec ℕ) (is_first : Bool) (row : Row) (rows : List Row) (n : ℕ) (whole : List ℕ) (s : Result S F) (r : Result T E)
     → has_bit n row.1 ≡ true → Listing old mid is_first (set_names (row ∷ rows) n) whole → Grows (listed is_first (shown_name row)) mid new s → IsErr s → IsErr r
     → Grows whole old new r

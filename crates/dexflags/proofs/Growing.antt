@@ -1,4 +1,4 @@
--- What stood before an item is kept while the item is appended.
+-- The earlier contents are unchanged while an item is appended.
 use Rattle.std.proofs.Common.{ℕ, zero, suc, refl, [], ◌∷◌, ◌<◌, map, get_or, ◌≡◌, ◌≤◌, ◌+◌, ◌∙◌, List, ◌++◌, length, take, sym, ap, arith, append_assoc, rules}
 use Rattle.std.proofs.lemmas.List.{take_all, take-append-le, take_more, length-map, append-nil, length-take-le}
 use Rattle.std.specs.Prelude.{vec_len, vec_capacity, Result, IsErr}
@@ -7,7 +7,7 @@ use Rattle.std.proofs.Math.ListN.{length-append}
 use Rattle.std.proofs.lemmas.List.{map-append}
 use Rattle.dexflags.specs.FlagNames.{shown_byte, Grows}
 
--- so many bytes stand behind what stood
+-- the vector has the old contents, then these bytes
 pub record Growing (old new : Vec ℕ) (so_far : List ℕ) : Type 0 where
   pub items : new.items ≡ old.items ++ so_far
   pub len : vec_len new ≡ vec_len old + length so_far
@@ -16,7 +16,7 @@ pub record Growing (old new : Vec ℕ) (so_far : List ℕ) : Type 0 where
 front : (n : ℕ) (xs ys : List ℕ) → n ≡ length xs → take n (xs ++ ys) ≡ xs
 front n xs ys e = take-append-le n xs ys (omega arith) ∙ take_all n xs (omega arith)
 
--- what stood is the front of what stands
+-- the old contents are a prefix of the new contents
 pub kept : (old new : Vec ℕ) (more : List ℕ) → new.items ≡ old.items ++ more → take (vec_len old) new.items ≡ old.items
 kept old new more e = rw e (front (vec_len old) old.items more old.ok.0)
 
@@ -26,16 +26,16 @@ front_of_front (suc n) zero xs le = absurd (omega arith)
 front_of_front (suc n) (suc m) [] le = refl
 front_of_front (suc n) (suc m) (x ∷ xs) le = ap (λ l. x ∷ l) (front_of_front n m xs (omega arith))
 
--- and it is so after a further call that kept what it found
+-- they are still after a further call that keeps its old contents
 pub kept_on : (old mid new : Vec ℕ) (more : List ℕ) → mid.items ≡ old.items ++ more → vec_len old ≤ vec_len mid
     → take (vec_len mid) new.items ≡ mid.items → take (vec_len old) new.items ≡ old.items
 kept_on old mid new more e le k = sym (front_of_front (vec_len old) (vec_len mid) new.items le) ∙ (ap (λ xs. take (vec_len old) xs) k ∙ kept old mid more e)
 
--- nothing stands behind it yet
+-- no byte is appended yet
 pub nothing_yet : (old : Vec ℕ) → Growing old old []
 nothing_yet old = record { items = sym (append-nil old.items); len = omega arith; capacity = omega arith }
 
--- one byte of a name more
+-- one more byte of a name
 pub one_byte_more : (old mid new : Vec ℕ) (name : List ℕ) (i d : ℕ) → i < length name → Growing old mid (map shown_byte (take i name))
     → new.items ≡ mid.items ++ (shown_byte (get_or name i d) ∷ []) → vec_len new ≡ vec_len mid + 1 → vec_capacity mid ≤ vec_capacity new
     → Growing old new (map shown_byte (take (i + 1) name))
@@ -48,11 +48,11 @@ one_byte_more old mid new name i d within g items len capacity =
       capacity = omega (arith, capacity, g.capacity);
     })
 
--- the whole of a name
+-- all bytes of a name
 pub grown : (old new : Vec ℕ) (name : List ℕ) (i : ℕ) → length name ≤ i → Growing old new (map shown_byte (take i name)) → Growing old new (map shown_byte name)
 grown old new name i whole g = rw (sym (take_all i name whole)) g
 
--- a byte of a name that found no room
+-- a byte of a name for which allocation failed
 pub cut_short : {T E : Type 0} (old mid new : Vec ℕ) (name : List ℕ) (i : ℕ) (r : Result T E) → i < length name → Growing old mid (map shown_byte (take i name))
     → new.items ≡ mid.items → vec_len new ≡ vec_len mid → vec_capacity mid ≤ vec_capacity new → vec_capacity mid ≤ vec_len mid → IsErr r
     → Grows (map shown_byte name) old new r

@@ -1,10 +1,10 @@
--- Writing a number in hexadecimal from its last digit on.
+-- Writes a number in hexadecimal, from its last digit to its first.
 use Rattle.std.proofs.Common.{ℕ, suc, zero, [], ◌≡◌, ◌==◌, ◌<◌, ◌≤◌, ◌^◌, ◌/◌, ◌%◌, ◌+◌, ◌-◌, ◌∙◌, List, ◌∷◌, refl, sym, arith, false, length, take, drop, set}
 use Rattle.std.proofs.lemmas.Bool.{ne_eqb}
 use Rattle.std.proofs.lemmas.List.{drop-set, take_all, length-drop, length-set}
 use Rattle.std.specs.Fmt.{digits, digits_onto, digit_glyph}
 
--- what stands from the digit that is set on
+-- the digits from the one that is set on
 from_set : (ds : List ℕ) (i d : ℕ) → i < length ds → drop i (set ds i d) ≡ d ∷ drop (i + 1) ds
 from_set ds i d within = drop-set ds i d within
 

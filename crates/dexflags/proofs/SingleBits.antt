@@ -8,13 +8,13 @@ use Rattle.std.specs.Int.RustNames.{bit_and}
 use Rattle.dexspec.specs.Flags.{has_bit}
 use Rattle.dexflags.specs.FlagNames.{IsSingleBit}
 
--- none or one of a number that is above 0 is all of it where it is one
+-- 0 or 1 times a positive number is the number exactly if the factor is 1
 all_or_none : (x p : ℕ) → x < 2 → 0 < p → (x * p == p) ≡ (x == 1)
 all_or_none zero p small above = grind (arith, common_steps)
 all_or_none (suc zero) p small above = grind (arith, common_steps)
 all_or_none (suc (suc x)) p small above = absurd (omega arith)
 
--- a number has all of a single bit where the bit is set
+-- all bits of a single-bit mask are set exactly if the bit is set
 pub single_bit : (n bits : ℕ) → IsSingleBit bits → (bit_and n bits == bits) ≡ has_bit n bits
 single_bit n bits (k, e) =
     let one : (bit_and n (2 ^ k) == 2 ^ k) ≡ (bit_at n k == 1) = rw (and_pow n k) (all_or_none (bit_at n k) (2 ^ k) (omega arith) (pow_pos k)) in

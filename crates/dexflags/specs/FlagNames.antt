@@ -19,7 +19,7 @@ shown_name row = map shown_byte row.0
 abbrev pub set_names : List Row → ℕ → List (List ℕ)
 set_names table flags = map shown_name (filter (λ row. has_bit flags row.1) table)
 
--- a name, behind a comma where it is not the first
+-- a name, after a comma unless it is the first
 abbrev pub listed : Bool → List ℕ → List ℕ
 listed true name = name
 listed false name = 0x2c ∷ name
@@ -36,8 +36,8 @@ IsSingleBit bits = (k : ℕ) × (bits ≡ 2 ^ k)
 abbrev pub HasSingleBits : List Row → Type 0
 HasSingleBits table = All (λ row. IsSingleBit row.1) table
 
--- the item stands at the end, or what stood stands with something behind it; where there was room for the item the
--- call succeeds
+-- On success the item is appended. On failure the old contents are kept, perhaps with more bytes after them. The call
+-- succeeds if the spare capacity is enough for the item.
 pub record Grows {T E : Type 0} (item : List ℕ) (old new : Vec ℕ) (r : Result T E) : Type 0 where
   pub ok : OnOk r (new.items ≡ old.items ++ item)
   pub len : OnOk r (vec_len new ≡ vec_len old + length item)

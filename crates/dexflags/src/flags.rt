@@ -9,8 +9,6 @@ use bitflags::{Flag, Flags, bitflag_items};
 use std::alloc::AllocError;
 
 /// The access flags of a class: 32 bits. The bits 0x40 and 0x80 have no names. Bits without a name are kept.
-///
-/// Source: "Dalvik Executable format", "access_flags definitions".
 #[derive(Clone, Copy, PartialEq, Eq, Debug)]
 pub struct ClassFlags(u32);
 
@@ -57,25 +55,24 @@ impl Flags for ClassFlags {
 }
 
 impl ClassFlags {
-    /// The flags with these 32 bits, of which bits without a name are kept. No memory is taken.
+    /// The flags with these 32 bits. Bits without a name are kept.
     pub const fn from_bits_retain(bits: u32) -> ClassFlags
         ensures { result.0 ≡ bits }
     {
         ClassFlags(bits)
     }
 
-    /// The 32 bits. No memory is taken.
+    /// The 32 bits.
     pub const fn bits(&self) -> u32
         ensures { result ≡ self.now.0 }
     {
         self.0
     }
 
-    /// Appends the flags as text: `0x` and the number in hexadecimal, and in round brackets the names of the
-    /// bits that are set, from the lowest, joined by commas.
+    /// Appends the flags as text: `0x`, the number in hexadecimal, and in round brackets the names of the bits that are
+    /// set, from the lowest, joined by commas. The form is this project's rule.
     ///
-    /// It fails only for want of memory, and not where there is room for the text; the items are then as they
-    /// were. The form is this project's rule.
+    /// On error the vector is unchanged. There is no error if the spare capacity is enough for the text.
     #[tactic(auto, using(crate::proofs::FlagTables::class_text))]
     pub fn put_flags(&self, out: &mut Vec<u8>) -> Result<(), AllocError>
         ensures { Puts (flags_text OfClass self.now.0) out.old out.new result }
@@ -85,8 +82,6 @@ impl ClassFlags {
 }
 
 /// The access flags of a field: 32 bits. Bits without a name are kept.
-///
-/// Source: "Dalvik Executable format", "access_flags definitions".
 #[derive(Clone, Copy, PartialEq, Eq, Debug)]
 pub struct FieldFlags(u32);
 
@@ -135,25 +130,24 @@ impl Flags for FieldFlags {
 }
 
 impl FieldFlags {
-    /// The flags with these 32 bits, of which bits without a name are kept. No memory is taken.
+    /// The flags with these 32 bits. Bits without a name are kept.
     pub const fn from_bits_retain(bits: u32) -> FieldFlags
         ensures { result.0 ≡ bits }
     {
         FieldFlags(bits)
     }
 
-    /// The 32 bits. No memory is taken.
+    /// The 32 bits.
     pub const fn bits(&self) -> u32
         ensures { result ≡ self.now.0 }
     {
         self.0
     }
 
-    /// Appends the flags as text: `0x` and the number in hexadecimal, and in round brackets the names of the
-    /// bits that are set, from the lowest, joined by commas.
+    /// Appends the flags as text: `0x`, the number in hexadecimal, and in round brackets the names of the bits that are
+    /// set, from the lowest, joined by commas. The form is this project's rule.
     ///
-    /// It fails only for want of memory, and not where there is room for the text; the items are then as they
-    /// were. The form is this project's rule.
+    /// On error the vector is unchanged. There is no error if the spare capacity is enough for the text.
     #[tactic(auto, using(crate::proofs::FlagTables::field_text))]
     pub fn put_flags(&self, out: &mut Vec<u8>) -> Result<(), AllocError>
         ensures { Puts (flags_text OfField self.now.0) out.old out.new result }
@@ -163,8 +157,6 @@ impl FieldFlags {
 }
 
 /// The access flags of a method: 32 bits. Bits without a name are kept.
-///
-/// Source: "Dalvik Executable format", "access_flags definitions".
 #[derive(Clone, Copy, PartialEq, Eq, Debug)]
 pub struct MethodFlags(u32);
 
@@ -213,25 +205,24 @@ impl Flags for MethodFlags {
 }
 
 impl MethodFlags {
-    /// The flags with these 32 bits, of which bits without a name are kept. No memory is taken.
+    /// The flags with these 32 bits. Bits without a name are kept.
     pub const fn from_bits_retain(bits: u32) -> MethodFlags
         ensures { result.0 ≡ bits }
     {
         MethodFlags(bits)
     }
 
-    /// The 32 bits. No memory is taken.
+    /// The 32 bits.
     pub const fn bits(&self) -> u32
         ensures { result ≡ self.now.0 }
     {
         self.0
     }
 
-    /// Appends the flags as text: `0x` and the number in hexadecimal, and in round brackets the names of the
-    /// bits that are set, from the lowest, joined by commas.
+    /// Appends the flags as text: `0x`, the number in hexadecimal, and in round brackets the names of the bits that are
+    /// set, from the lowest, joined by commas. The form is this project's rule.
     ///
-    /// It fails only for want of memory, and not where there is room for the text; the items are then as they
-    /// were. The form is this project's rule.
+    /// On error the vector is unchanged. There is no error if the spare capacity is enough for the text.
     #[tactic(auto, using(crate::proofs::FlagTables::method_text))]
     pub fn put_flags(&self, out: &mut Vec<u8>) -> Result<(), AllocError>
         ensures { Puts (flags_text OfMethod self.now.0) out.old out.new result }

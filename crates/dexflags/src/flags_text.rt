@@ -10,7 +10,7 @@ ghost use Rattle.dexflags.specs.FlagNames.{Grows, listed, shown_byte, set_names,
 use bitflags::{Flag, Flags};
 use std::alloc::AllocError;
 
-// How many hexadecimal digits a number has at most.
+// The most hexadecimal digits of a number.
 const MAX_DIGITS: usize = 8;
 
 // The digit of a number below 16.
@@ -54,7 +54,7 @@ fn shown_byte(byte: u8) -> u8
 }
 
 #[tactic(auto, using(crate::proofs::Growing::nothing_yet, crate::proofs::Growing::one_byte_more, crate::proofs::Growing::grown, crate::proofs::Growing::cut_short))]
-// Appends a constant's name as the text shows it. Where memory is wanting a part of it may stand.
+// Appends a constant's name as the text shows it. On error a part of it may be appended.
 fn grow_by_name(name: &str, out: &mut Vec<u8>) -> Result<(), AllocError>
     ensures { Grows (map shown_byte name.now) out.old out.new result }
 {
@@ -64,7 +64,7 @@ fn grow_by_name(name: &str, out: &mut Vec<u8>) -> Result<(), AllocError>
     Ok(())
 }
 
-// Appends a name, behind a comma where it is not the first. Where memory is wanting a part of it may stand.
+// Appends a name, after a comma unless it is the first. On error a part of it may be appended.
 #[tactic(auto, using(crate::proofs::Composed::after_comma, crate::proofs::Composed::no_comma))]
 fn grow_by_item(is_first: bool, name: &str, out: &mut Vec<u8>) -> Result<(), AllocError>
     ensures { Grows (listed is_first (map shown_byte name.now)) out.old out.new result }
@@ -75,7 +75,7 @@ fn grow_by_item(is_first: bool, name: &str, out: &mut Vec<u8>) -> Result<(), All
     grow_by_name(name, out)
 }
 
-// Whether flags have the one bit of a named flag.
+// Whether the bit of a named flag is set.
 #[tactic(auto, using(crate::proofs::SingleBits::single_bit))]
 fn has_flag<F: Flags>(flags: &F, flag: &Flag<F>) -> bool
     requires exact { F.exact }
@@ -85,7 +85,7 @@ fn has_flag<F: Flags>(flags: &F, flag: &Flag<F>) -> bool
     flags.contains(F::from_bits_retain(flag.value().bits()))
 }
 
-// Appends the names of the flags, joined by commas. Where memory is wanting a part of them may stand.
+// Appends the names of the flags, joined by commas. On error a part of them may be appended.
 fn grow_by_names<F: Flags>(flags: &F, out: &mut Vec<u8>) -> Result<(), AllocError>
     requires exact { F.exact }
     requires single { HasSingleBits F.table }
@@ -103,7 +103,7 @@ fn grow_by_names<F: Flags>(flags: &F, out: &mut Vec<u8>) -> Result<(), AllocErro
 }
 
 #[tactic(auto, using(crate::proofs::Composed::stopped, crate::proofs::Composed::after))]
-// Appends the text of flags. Where memory is wanting a part of it may stand.
+// Appends the text of flags. On error a part of it may be appended.
 fn grow_by_text<F: Flags<Bits = u32>>(flags: &F, out: &mut Vec<u8>) -> Result<(), AllocError>
     requires exact { F.exact }
     requires single { HasSingleBits F.table }
@@ -119,7 +119,7 @@ fn grow_by_text<F: Flags<Bits = u32>>(flags: &F, out: &mut Vec<u8>) -> Result<()
 
 /// Appends the text of flags: the number in hexadecimal, and in brackets the names of its bits in the table.
 ///
-/// It fails only for want of memory; the vector is then as it was.
+/// On error the vector is unchanged.
 pub(crate) fn put_text<F: Flags<Bits = u32>>(flags: &F, out: &mut Vec<u8>) -> Result<(), AllocError>
     requires exact { F.exact }
     requires single { HasSingleBits F.table }

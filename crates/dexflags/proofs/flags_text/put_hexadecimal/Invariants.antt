@@ -2,7 +2,7 @@ use Rattle.std.proofs.Common.{◌≡◌, ◌<◌, ◌+◌, ◌^◌, suc, drop, l
 use Rattle.std.specs.Fmt.{digits, digits_onto}
 use Rattle.dexflags.proofs.flags_text.put_hexadecimal.Given as goal
 
--- the digits behind the place stand; there is a place for each digit that is left
+-- the digits after the place are written; there is a place for each digit that is left
 abbrev pub invariant-loop-rest : goal.invariant-loop-rest
 invariant-loop-rest l = record {
   len : length l.digits ≡ 8;

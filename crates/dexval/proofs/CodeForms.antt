@@ -1,4 +1,4 @@
--- What each variant of a value of the code is, as contracts see it.
+-- Each variant of a value of the code, as contracts see it.
 use Rattle.std.proofs.Common.{◌≡◌, ℕ, map, sym, ap, ◌∙◌, Vec, Global}
 use Rattle.std.specs.Prelude.{ℤ}
 use Rattle.dexval.specs.declared.value.Value.{Value}

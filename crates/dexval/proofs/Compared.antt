@@ -1,4 +1,4 @@
--- Lists that are the same member by member, once the numbers in them are led on.
+-- Lists that are equal member by member, once their numbers are remapped.
 use Rattle.std.proofs.Common.{◌≡◌, ℕ, ◌<◌, ◌≤◌, List, [], ◌∷◌, length, take, map, get_or, refl, ap, sym, ◌∙◌, arith}
 use Rattle.std.proofs.lemmas.List.{take_all, get_or-map, length-map}
 use Rattle.dexpool.specs.Numberings.{Maps}
@@ -6,7 +6,7 @@ use Rattle.dexval.specs.Numbered.{NumberedValue, NumberedValues, NumberedElement
 use Rattle.dexval.specs.Renumbering.{renumbered, renumbered_values, renumbered_elements, renumbered_element}
 use Rattle.dexval.proofs.Renumbered.{values_renumbered, elements_renumbered}
 
--- ---- lists that are the same, mapped
+-- ---- lists that are equal once mapped
 
 module _ {X Y Z : Type 0} (of : X → Y) (f g : Y → Z) (xs ys : List X) where
   pub same_count : map f (map of xs) ≡ map g (map of ys) → length xs ≡ length ys
@@ -34,11 +34,11 @@ values_listed : (xs : List NumberedValue) → list_of_values (values_of_list xs)
 values_listed [] = refl
 values_listed (x ∷ xs) = ap (λ l. x ∷ l) (values_listed xs)
 
--- values that are the same are so as lists
+-- equal values are equal as lists
 pub values_same : (r q : Maps) (xs ys : List NumberedValue) → renumbered_values r (values_of_list xs) ≡ renumbered_values q (values_of_list ys) → map (renumbered r) xs ≡ map (renumbered q) ys
 values_same r q xs ys e = sym (values_listed (map (renumbered r) xs)) ∙ ap list_of_values (values_renumbered r xs ∙ e ∙ sym (values_renumbered q ys)) ∙ values_listed (map (renumbered q) ys)
 
--- and the other way round
+-- and conversely
 pub same_values : (r q : Maps) (xs ys : List NumberedValue) → map (renumbered r) xs ≡ map (renumbered q) ys → renumbered_values r (values_of_list xs) ≡ renumbered_values q (values_of_list ys)
 same_values r q xs ys e = sym (values_renumbered r xs) ∙ ap values_of_list e ∙ values_renumbered q ys
 

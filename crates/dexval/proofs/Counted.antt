@@ -1,4 +1,4 @@
--- What weighs little has few members.
+-- An item of small weight has few members.
 use Rattle.std.proofs.Common.{All, ℕ, ◌+◌, ◌^◌, ◌<◌, ◌≤◌, List, [], ◌∷◌, length, arith, sum_by}
 use Rattle.std.proofs.lemmas.List.Sums.{sum_by-cons}
 use Rattle.std.proofs.lemmas.List.Elements.{All-cons}
@@ -14,19 +14,19 @@ use Rattle.dexval.proofs.Weights.{weight_is, values_weight_is, elements_weight_i
 
 -- ---- values
 
--- a value weighs something
+-- a value weighs at least 1
 some_weight : (x : NumberedValue) → 1 ≤ numbered_weight x
 some_weight (Plain literal) = omega arith
 some_weight (Named reference i) = omega arith
 some_weight (Array xs) = omega arith
 some_weight (Annotated t es) = omega arith
 
--- values are no more than they weigh
+-- there are at most as many values as they weigh
 values_few : (xs : NumberedValues) → values_count xs ≤ numbered_values_weight xs
 values_few NoValue = omega arith
 values_few (ThenNext x xs) = omega (arith, some_weight x, values_few xs)
 
--- nor are elements
+-- there are at most as many elements as they weigh
 elements_few : (es : NumberedElements) → elements_count es ≤ numbered_elements_weight es
 elements_few NoElement = omega arith
 elements_few (ThenNamed name x es) = omega (arith, elements_few es)
@@ -67,7 +67,7 @@ annotation_is_counted m a lt = annotation_counted a (omega (arith, lt, elements_
 
 -- ---- sets
 
--- one that weighs little has few bytes
+-- the annotations of a set of small weight begin at offsets below 2 ^ 32
 heavy_offsets : (m : Mentions) (from : ℕ) (s : NumberedSet) → from + sum_by (λ (a : NumberedAnnotation). 4 + numbered_annotation_weight a) s < 2 ^ 32 → All (λ n. n < 2 ^ 32) (numbered_offsets from s)
 heavy_offsets m from [] lt = λ i d none. absurd (omega arith)
 heavy_offsets m from (a ∷ s) lt =

@@ -1,4 +1,4 @@
--- Sets, lists of sets and directories, as they are checked once each.
+-- Sets, lists of sets and directories that are each checked once.
 use Rattle.std.proofs.Common.{◌≡◌, ℕ, ◌+◌, ◌-◌, ◌*◌, ◌^◌, ◌<◌, min, false, List, [], ◌∷◌, ◌++◌, nat_eq, map, sum_by, length, Some, subst, inl, inr, arith}
 use Rattle.std.specs.Prelude.{All}
 use Rattle.std.specs.HashMap.{get}
@@ -16,13 +16,13 @@ use Rattle.dexval.proofs.DirectoryRead.{directory_read}
 use Rattle.dexval.proofs.JudgedSets.{from_before}
 use Rattle.dexval.proofs.Keeping.{parts_weigh}
 
--- ---- what is weighed
+-- ---- weights
 
--- what was read is something else as well, and weighs as much
+-- an item that was read is also an item of another kind, of the same weight
 pub weighed_as : {X : Type 0} (Read Now : X → Type 0) (weighs heavy : X → ℕ) {weight : ℕ} → ((x : X) → Read x → Now x) → ((x : X) → Read x → weighs x ≡ heavy x) → IsWeighed Read weighs weight → IsWeighed Now heavy weight
 weighed_as Read Now weighs heavy goes same h = record { item = h.item; is_read = goes h.item h.is_read; weight_is = omega (arith, h.weight_is, same h.item h.is_read) }
 
--- one more was read
+-- one more item was read
 pub one_weighed : {X : Type 0} (Read Next : List X → Type 0) (weighs : List X → ℕ) (one : X → ℕ) {old weight new : ℕ} (x : X) → ((xs : List X) → Read xs → Next (xs ++ x ∷ [])) → ((xs : List X) → weighs (xs ++ x ∷ []) ≡ weighs xs + one x)
     → IsWeighed Read weighs old → weight ≡ min (2 ^ 64 - 1) (one x) → new ≡ min (2 ^ 64 - 1) (old + weight) → IsWeighed Next weighs new
 one_weighed Read Next weighs one x goes adds h is sum = record { item = h.item ++ x ∷ []; is_read = goes h.item h.is_read; weight_is = omega (arith, h.weight_is, adds h.item, is, sum) }
@@ -31,13 +31,13 @@ one_weighed Read Next weighs one x goes adds h is sum = record { item = h.item +
 pub set_weighed : (b : List ℕ) (off : ℕ) (m : Mentions) (count weight : ℕ) → weight < 2 ^ 64 → HasSetOf b off m count weight → IsWeighed (IsSetAt b off m) (set_weight_in m) weight
 set_weighed b off m count weight fits h = record { item = h.set; is_read = h.at; weight_is = omega (arith, h.weighs, fits) }
 
--- ---- what was checked
+-- ---- checked items
 
 same_some : {X : Type 0} {x y : X} → Some x ≡ Some y → x ≡ y
 same_some e = cc
 
 module _ (b : List ℕ) (m : Mentions) (j k : CheckedSets) (o weight : ℕ) where
-  -- a set more
+  -- one more set
   pub set_added : AreChecked b m j → IsWeighed (IsSetAt b o m) (set_weight_in m) weight → get nat_eq k.sets o ≡ Some weight → ((q : ℕ) → nat_eq o q ≡ false → get nat_eq k.sets q ≡ get nat_eq j.sets q) → k.lists ≡ j.lists → AreChecked b m k
   set_added h new here others lists = record {
     sets_checked = λ q w e. elim (from_before (λ n. get nat_eq j.sets n) (λ n. get nat_eq k.sets n) o (Some weight) here others q (Some w) e) [
@@ -47,7 +47,7 @@ module _ (b : List ℕ) (m : Mentions) (j k : CheckedSets) (o weight : ℕ) wher
     lists_checked = λ q w e. h.lists_checked q w (subst (λ l. get nat_eq l q ≡ Some w) lists e);
   }
 
-  -- a list more
+  -- one more list
   pub list_added : AreChecked b m j → IsWeighed (IsRefListAt b o m) (sets_weight_in m) weight → get nat_eq k.lists o ≡ Some weight → ((q : ℕ) → nat_eq o q ≡ false → get nat_eq k.lists q ≡ get nat_eq j.lists q) → k.sets ≡ j.sets → AreChecked b m k
   list_added h new here others sets = record {
     sets_checked = λ q w e. h.sets_checked q w (subst (λ l. get nat_eq l q ≡ Some w) sets e);

@@ -25,16 +25,16 @@ use Rattle.dexval.proofs.SetsRead.{uints_more, zip_more}
 pub empty_set : (b : List ℕ) (off : ℕ) (m : Mentions) → off ≡ 0 → IsSetOrEmptyAt b off m []
 empty_set b off m e = record { known = All-nil _; at = inl (e, refl) }
 
--- a set that stands elsewhere
+-- a set at an offset other than 0
 pub some_set : (b : List ℕ) (off : ℕ) (m : Mentions) (s : NumberedSet) → off ≢ 0 → IsSetAt b off m s → IsSetOrEmptyAt b off m s
 some_set b off m s other h = record { known = h.known; at = inr (other, h.at) }
 
--- none stands elsewhere
+-- no set at an offset other than 0
 pub no_set : (b : List ℕ) (off : ℕ) → off ≢ 0 → NoSetAt b off → NoSetOrEmptyAt b off
 no_set b off other none s (inl h) = other h.0
 no_set b off other none s (inr h) = none s h.1
 
--- a set that stands elsewhere is none that is empty
+-- a set at an offset other than 0 is an annotation_set_item
 pub set_is : (b : List ℕ) (off : ℕ) (m : Mentions) (s : NumberedSet) → off ≢ 0 → IsSetOrEmptyAt b off m s → IsKnownAt (IsKnownSet m) (set_in m) (SetAt b off) s
 set_is b off m s other h = record {
   known = h.known;
@@ -49,7 +49,7 @@ no_set_is b off other none s h = none s (inr (other, h))
 
 -- ---- lists of sets
 
--- what stands for a key
+-- a member that has the property R
 record MemberAt {X : Type 0} (R : X → Type 0) : Type 0 where
   member : X
   stands : R member
@@ -72,7 +72,7 @@ pub record HaveReadList (b : List ℕ) (p : ℕ) (m : Mentions) (i : ℕ) (ss : 
 pub no_list_yet : (b : List ℕ) (p : ℕ) (m : Mentions) → HaveReadList b p m 0 []
 no_list_yet b p m = record { known = All-nil (IsKnownSet m); stand = tt }
 
--- one set more was read
+-- one more set was read
 pub one_set_more : (b : List ℕ) (p : ℕ) (m : Mentions) (i : ℕ) (ss : List NumberedSet) (s : NumberedSet) → HaveReadList b p m i ss → IsSetOrEmptyAt b (uint_at b (p + 4 * i)) m s → HaveReadList b p m (i + 1) (ss ++ s ∷ [])
 one_set_more b p m i ss s h r =
     let R = OrNone SetAt [] b in
@@ -83,7 +83,7 @@ one_set_more b p m i ss s h r =
           (subst (λ (l : List AnnotationSet). AllZip R (uints_at b p i ++ uint_at b (p + 4 * i) ∷ []) l) (sym (map-append (set_in m) ss (s ∷ []))) (zip_more R (uints_at b p i) (map (set_in m) ss) (uint_at b (p + 4 * i)) (set_in m s) h.stand r.at));
     }
 
--- what comes next is no set
+-- the next offset has no set
 pub no_set_next : (b : List ℕ) (o i : ℕ) → i < uint_at b o → NoSetOrEmptyAt b (uint_at b (o + 4 + 4 * i)) → NoRefListAt b o
 no_set_next b o i lt none ss h =
     let x = one_of (OrNone SetAt [] b) b (o + 4) (uint_at b o) i ss lt h.sets in
@@ -100,7 +100,7 @@ list_read b o m i ss has e h = record {
   };
 }
 
--- where there is no room for the offsets, no list stands
+-- without room for the offsets there is no list
 pub no_list_room : (b : List ℕ) (o : ℕ) → (HasOffsets b o → ⊥) → NoRefListAt b o
 no_list_room b o none ss h = none (record { in_data = h.in_data; aligned = h.aligned })
 
@@ -162,7 +162,7 @@ rise_at b p (suc (suc n)) (suc i) lt h =
     let less = rise_at b (p + 8) (suc n) i (omega arith) (and_second (is_lt (nat_cmp (uint_at b p) (uint_at b (p + 8)))) (rises nat_cmp (indices_at b (p + 8) (suc n))) h) in
     subst (λ (o : ℕ). uint_at b (p + 8 * suc i) < uint_at b o) two (subst (λ (o : ℕ). uint_at b o < uint_at b (p + 8 + 8 * suc i)) one less)
 
--- the least number that the next index may be
+-- the least value of the next index
 abbrev pub least_behind : List ℕ → ℕ → ℕ → ℕ
 least_behind b p zero = 0
 least_behind b p (suc k) = uint_at b (p + 8 * k) + 1
@@ -186,7 +186,7 @@ no_pair_yet Known inside At b p limit = record {
   least_is = refl;
 }
 
--- one pair more was read
+-- one more pair was read
 pub one_pair_more : {X Y : Type 0} (Known : X → Type 0) (inside : X → Y) (At : List ℕ → ℕ → Y → Type 0) (b : List ℕ) (p limit i least : ℕ) (xs : List (ℕ × X)) (number : ℕ) (x : X)
     → HaveReadPairs Known inside At b p limit i least xs → HasPair b (p + 8 * i) least limit → number ≡ uint_at b (p + 8 * i) → Known x → At b (uint_at b (p + 8 * i + 4)) (inside x)
     → HaveReadPairs Known inside At b p limit (i + 1) (number + 1) (xs ++ (number, x) ∷ [])
@@ -213,14 +213,14 @@ one_pair_more {X} {Y} Known inside At b p limit i least xs number x h pair is kn
       least_is = ap (λ (k : ℕ). k + 1) is;
     })
 
--- what comes next is no pair
+-- the next entry is no pair
 pub no_pair_next : {X Y : Type 0} (Known : X → Type 0) (inside : X → Y) (At : List ℕ → ℕ → Y → Type 0) (b : List ℕ) (p n limit i least : ℕ) (xs : List (ℕ × X)) → i < n → HaveReadPairs Known inside At b p limit i least xs
     → (HasPair b (p + 8 * i) least limit → ⊥) → NoPairsAt At b p n limit
 no_pair_next Known inside At b p n limit i least xs lt h none entries g =
     let x = pair_of (PairAt (IsIndexBelow limit) At b) b p n i entries lt g.pairs in
     none (record { above = least_at b p n i least lt h.least_is g.rise; below = x.stands.0.below; offset = x.stands.1 })
 
--- or nothing stands at its offset
+-- or its offset has no item
 pub no_item_next : {Y : Type 0} (At : List ℕ → ℕ → Y → Type 0) (b : List ℕ) (p n limit i : ℕ) → i < n → ((y : Y) → At b (uint_at b (p + 8 * i + 4)) y → ⊥) → NoPairsAt At b p n limit
 no_item_next At b p n limit i lt none entries g =
     let x = pair_of (PairAt (IsIndexBelow limit) At b) b p n i entries lt g.pairs in
@@ -230,7 +230,7 @@ no_item_next At b p n limit i lt none entries g =
 pub pairs_end : {X Y : Type 0} (Known : X → Type 0) (inside : X → Y) (At : List ℕ → ℕ → Y → Type 0) (b : List ℕ) (p n limit i least : ℕ) (xs : List (ℕ × X)) → i ≡ n → HaveReadPairs Known inside At b p limit i least xs → ArePairsAt Known inside At b p n limit xs
 pairs_end Known inside At b p n limit i least xs e h = subst (λ (k : ℕ). ArePairsAt Known inside At b p k limit xs) e h.pairs_read
 
--- the same place, and as many
+-- equal places and counts
 pub pairs_moved : {X Y : Type 0} (Known : X → Type 0) (inside : X → Y) (At : List ℕ → ℕ → Y → Type 0) (b : List ℕ) {p q n k limit most : ℕ} {xs : List (ℕ × X)} → p ≡ q → n ≡ k → limit ≡ most → ArePairsAt Known inside At b p n limit xs → ArePairsAt Known inside At b q k most xs
 pairs_moved Known inside At b {p} {q} {n} {k} {limit} {most} {xs} place count bound h =
     subst (λ (x : ℕ). ArePairsAt Known inside At b q k x xs) bound (subst (λ (x : ℕ). ArePairsAt Known inside At b q x limit xs) count (subst (λ (x : ℕ). ArePairsAt Known inside At b x n limit xs) place h))
@@ -250,7 +250,7 @@ rows_stand Row member inside At b limit row (p ∷ ps) [] h = absurd h
 rows_stand Row member inside At b limit row (p ∷ ps) (x ∷ xs) h =
     ((subst (λ (i : ℕ). Row b p.0 (member i)) (sym h.0.0.is) (row p.0 h.0.0.below), h.0.1, h.0.2), rows_stand Row member inside At b limit row ps xs h.1)
 
--- their numbers in the place of members
+-- members by number
 abbrev numbered : {M Y : Type 0} → List (ℕ × ℕ) → List (M × Y) → List (ℕ × Y)
 numbered [] es = []
 numbered (p ∷ ps) [] = []
@@ -272,11 +272,11 @@ no_rows Row At b p n limit below none es h = none (numbered (pairs_at b p n) es)
 
 -- ---- directories
 
--- where there is no room for the pairs, no directory stands
+-- without room for the pairs there is no directory
 pub no_members : (b : List ℕ) (o : ℕ) → (HasMembers b o → ⊥) → NoDirectoryAt b o
 no_members b o none d h = none (record { in_data = h.in_data; aligned = h.aligned })
 
--- nor where the set of the class is none
+-- without the set of the class there is no directory
 pub no_own : (b : List ℕ) (o : ℕ) → NoSetOrEmptyAt b (uint_at b o) → NoDirectoryAt b o
 no_own b o none d h = none d.own h.own
 

@@ -1,5 +1,5 @@
--- Elements one after the other, as they are read: their names rise as their numbers do, those that were read stand there,
--- and the rest of what stands there stands behind them.
+-- Elements that are read one after the other: the numbers of their names rise as the names do, the elements that were
+-- read are in the file, and the other elements come after them.
 use Rattle.std.proofs.Common.{◌≡◌, ℕ, suc, ◌+◌, ◌-◌, ◌<◌, ◌≤◌, max, true, List, [], ◌∷◌, ◌++◌, length, refl, ap, sym, subst, ◌∙◌, arith}
 use Rattle.std.specs.Ordering.{is_lt, nat_cmp}
 use Rattle.std.proofs.lemmas.List.{length-append}
@@ -23,7 +23,7 @@ abbrev pub IsAbove : List ℕ → ℕ → Elements → Type 0
 IsAbove b least NoElements = Unit {0}
 IsAbove b least (ThenElement name v es) = (index : ℕ) → StringRow b index name → least ≤ index
 
--- so many elements stand there, whose names rise from this number on, and whose values nest at most so deep
+-- `count` elements are at the offset: their names rise from `least` on, and their values nest at most `depth` deep
 pub record RestOf (b : List ℕ) (o depth count least : ℕ) : Type 0 where
   pub elements : Elements
   pub size : ℕ
@@ -33,8 +33,8 @@ pub record RestOf (b : List ℕ) (o depth count least : ℕ) : Type 0 where
   pub above : IsAbove b least elements
   pub shallow : elements_depth elements ≤ depth
 
--- the first i of so many elements were read, and have names of lesser numbers; whatever so many elements stand there, the
--- rest of them stands behind these
+-- the first i of `count` elements were read, and the numbers of their names are below `least`; if `count` elements are
+-- in the file, the other elements come after these
 pub record HaveReadOf (b : List ℕ) (o : ℕ) (m : Mentions) (depth count i least : ℕ) (es : List (ℕ × NumberedValue)) (k : ℕ) : Type 0 where
   pub number : length es ≡ i
   pub known : HaveKnown m (elements_of_list es)
@@ -81,7 +81,7 @@ module _ (b : List ℕ) (m : Mentions) (file : AreFilePools b m) where
   number_is [] = refl
   number_is (e ∷ es) = ap suc (number_is es)
 
-  -- one text more behind rising ones
+  -- rising texts with one more text at the end
   rises_more : (ns : List Text) (s t : Text) → rises text_cmp (ns ++ s ∷ []) ≡ true → is_lt (text_cmp s t) ≡ true → rises text_cmp ((ns ++ s ∷ []) ++ t ∷ []) ≡ true
   rises_more [] s t h lt = and_both (is_lt (text_cmp s t)) true lt refl
   rises_more (n ∷ []) s t h lt = and_both (is_lt (text_cmp n s)) (rises text_cmp (s ∷ t ∷ [])) (and_first (is_lt (text_cmp n s)) true h) (and_both (is_lt (text_cmp s t)) true lt refl)
@@ -115,7 +115,7 @@ module _ (b : List ℕ) (m : Mentions) (file : AreFilePools b m) where
         omega (arith, h.8),
       )
 
-  -- the element that comes next, and those behind it
+  -- the next element, and the elements after it
   record Next (o depth left least : ℕ) : Type 0 where
     name : Text
     value : Value
@@ -159,7 +159,7 @@ module _ (b : List ℕ) (m : Mentions) (file : AreFilePools b m) where
   next : (o depth left least : ℕ) → 0 < left → RestOf b o depth left least → Next o depth left least
   next o depth left least lt r = next_of o depth left least r.size r.elements lt r.stand r.number r.rise r.above r.shallow
 
-  -- nothing was read yet
+  -- no element was read yet
   pub no_element_read : (o depth count : ℕ) → HaveReadOf b o m depth count 0 0 [] 0
   no_element_read o depth count = record {
     number = refl;
@@ -171,7 +171,7 @@ module _ (b : List ℕ) (m : Mentions) (file : AreFilePools b m) where
     rest = λ r. let at : o ≡ o + 0 = omega arith in let left : count ≡ count - 0 = omega arith in subst (λ (p : ℕ). RestOf b p depth (count - 0) 0) at (subst (λ (c : ℕ). RestOf b o depth c 0) left r);
   }
 
-  -- one element more was read
+  -- one more element was read
   pub one_element_more : (o depth count i least : ℕ) (es : List (ℕ × NumberedValue)) (k : ℕ) (e : ℕ × NumberedValue) (j : ℕ) → i < count → HaveReadOf b o m depth count i least es k → IsElementReadAt b (o + k) m depth least e j
       → HaveReadOf b o m depth count (i + 1) (e.0 + 1) (es ++ e ∷ []) (k + j)
   one_element_more o depth count i least es k e j lt h r =
@@ -194,7 +194,7 @@ module _ (b : List ℕ) (m : Mentions) (file : AreFilePools b m) where
             (subst (λ (c : ℕ). RestOf b (o + (k + j)) depth c (n.index + 1)) left (subst (λ (p : ℕ). RestOf b p depth (count - i - 1) (n.index + 1)) place n.behind));
       }
 
-  -- what comes next is no element
+  -- the next bytes are no element
   pub no_next_element : (o depth count i least : ℕ) (es : List (ℕ × NumberedValue)) (k : ℕ) → i < count → HaveReadOf b o m depth count i least es k → NoElementAt b (o + k) depth least → NoElementsAt b o depth count
   no_next_element o depth count i least es k lt h none fs n stand number rise shallow =
       let all : RestOf b o depth count 0 = record { elements = fs; size = n; stand = stand; number = number; rise = rise; above = above_all fs; shallow = shallow } in
@@ -217,7 +217,7 @@ module _ (b : List ℕ) (m : Mentions) (file : AreFilePools b m) where
 
   -- ---- one element
 
-  -- a name that is no number, or one of no text, or too small
+  -- a name that is no number, has no text, or is too small
   pub no_name : (o depth least : ℕ) → ((index i : ℕ) → Uleb128At b o index i → ⊥) → NoElementAt b o depth least
   no_name o depth least none index name v i j u row above h shallow = none index i u
 
@@ -226,7 +226,7 @@ module _ (b : List ℕ) (m : Mentions) (file : AreFilePools b m) where
       let same = one_uleb128 b o other index i head w u in
       none (omega (arith, above, same.0)) (omega (arith, row_within other name row, same.0))
 
-  -- a value that is none
+  -- the bytes of the value are no value
   pub no_value : (o depth least index head : ℕ) → Uleb128At b o index head → ((v : Value) (n : ℕ) → ValueAt b (o + head) v n → value_depth v ≤ depth → ⊥) → NoElementAt b o depth least
   no_value o depth least index head u none other name v i j w row above h shallow =
       let same = one_uleb128 b o other index i head w u in

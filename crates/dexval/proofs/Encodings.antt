@@ -14,7 +14,7 @@ module _ {O : Type 0} (gives : List ℕ → O → O → Type 0) where
   pub unsigned_given : (v : Value) (code i : ℕ) {n : ℕ} {a b : O} → numbered_bytes (value_of v) ≡ unsigned_bytes code i → gives (unsigned_bytes code n) a b → n ≡ i → gives (numbered_bytes (value_of v)) a b
   unsigned_given v code i {n} {a} {b} e h same = subst (λ bs. gives bs a b) (ap (unsigned_bytes code) same ∙ sym e) h
 
-  -- of a signed one
+  -- a value of a signed kind
   pub signed_given : (v : Value) (code : ℕ) (z : ℤ) {n : ℤ} {a b : O} → numbered_bytes (value_of v) ≡ signed_bytes code z → gives (signed_bytes code n) a b → n ≡ z → gives (numbered_bytes (value_of v)) a b
   signed_given v code z {n} {a} {b} e h same = subst (λ bs. gives bs a b) (ap (signed_bytes code) same ∙ sym e) h
 
@@ -23,11 +23,11 @@ module _ {O : Type 0} (gives : List ℕ → O → O → Type 0) where
   bits_given v code width i {n} {a} {b} e h same = subst (λ bs. gives bs a b) (ap (bits_bytes code width) same ∙ sym e) h
 
 module _ {O : Type 0} (gives : List ℕ → O → O → Type 0) (both : (x y : List ℕ) (a b c : O) → gives x a b → gives y b c → gives (x ++ y) a c) where
-  -- one value more
+  -- one more value
   pub value_given : (xs : List Value) (i : ℕ) (d : Value) (a b c : O) → i < length xs → d ≡ get_or xs i d → gives (values_spelled (take i xs)) a b → gives (numbered_bytes (value_of d)) b c → gives (values_spelled (take (i + 1) xs)) a c
   value_given xs i d a b c lt e before more = subst (λ bs. gives bs a c) (sym (one_value xs i d lt e)) (both (values_spelled (take i xs)) (numbered_bytes (value_of d)) a b c before more)
 
-  -- one element more
+  -- one more element
   pub element_given : (xs : List Element) (i : ℕ) (d : Element) (a b c : O) → i < length xs → d ≡ get_or xs i d → gives (elements_spelled (take i xs)) a b → gives (element_spelled d) b c → gives (elements_spelled (take (i + 1) xs)) a c
   element_given xs i d a b c lt e before more = subst (λ bs. gives bs a c) (sym (one_element xs i d lt e)) (both (elements_spelled (take i xs)) (element_spelled d) a b c before more)
 

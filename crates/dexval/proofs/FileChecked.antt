@@ -1,4 +1,4 @@
--- What is checked at an offset of a file.
+-- Items that are checked at an offset of a file.
 use Rattle.std.proofs.Common.{◌≡◌, ◌≢◌, ℕ, zero, suc, ◌+◌, ◌≤◌, List, refl, ap, sym, ◌∙◌, arith}
 use Rattle.dexspec.specs.Header.{data_off}
 use Rattle.dexspec.specs.Values.{most_depth, count_values}
@@ -28,7 +28,7 @@ no_statics : (m : Mentions) (xs : NumberedValues) → values_count xs ≡ 0 → 
 no_statics m NoValue none = refl
 no_statics m (ThenNext x xs) none = absurd (omega (arith, none))
 
--- the weight of static values, of which there are none or some
+-- the weight of static values, perhaps none
 pub statics_checked : (b : List ℕ) (off : ℕ) (m : Mentions) (count n weight total : ℕ) → data_off b ≤ off → (count ≡ 0 → total ≡ 0) → (count ≢ 0 → total ≡ 6 + weight) → HasArray b off m most_depth count n weight → HasStaticsOf b off m count n total
 statics_checked b off m count n weight total in_data none some h = record {
   values = h.values;

@@ -1,4 +1,4 @@
--- What is read at an offset of a file.
+-- Items that are read at an offset of a file.
 use Rattle.std.proofs.Common.{◌≡◌, ℕ, ◌^◌, ◌≤◌, List, [], ◌∷◌, length, take, refl, zero, suc, arith, subst}
 use Rattle.dexspec.specs.Numbers.{BeginsWith, IsUleb128, IsChain}
 use Rattle.dexspec.specs.Conditions.{Condition}
@@ -10,7 +10,7 @@ use Rattle.dexpool.specs.Numberings.{IsNumbering}
 use Rattle.dexval.specs.Scalars.{NoValueAt}
 use Rattle.dexval.specs.Nesting.{AreFilePools, NoArrayAt}
 
--- a file has 2 ^ 30 bytes at most
+-- a file has at most 2 ^ 30 bytes
 pub few_bytes : (b : List ℕ) → IsFrame b → length b ≤ 2 ^ 30
 few_bytes b frame = (frame Condition.Size (omega arith) 0 (omega arith)).most
 
@@ -28,7 +28,7 @@ take-nil : (n : ℕ) → take {A = ℕ} n [] ≡ []
 take-nil zero = refl
 take-nil (suc n) = refl
 
--- no bytes are no number
+-- the empty list of bytes is no number
 some_bytes : (bytes : List ℕ) (v n : ℕ) → length bytes ≡ 0 → BeginsWith IsUleb128 bytes v n → ⊥
 some_bytes [] v n e h = (subst IsChain (take-nil n) h.spelled.chain)
 some_bytes (b ∷ bs) v n e h = absurd (omega arith)

@@ -1,4 +1,4 @@
--- What a hasher is fed of values and annotations, member by member.
+-- The hash input of values and annotations, member by member.
 use Rattle.std.proofs.Common.{◌≡◌, ℕ, ◌+◌, ◌<◌, ◌≤◌, List, [], ◌∷◌, ◌++◌, get_or, length, take, map, fold, refl, sym, ap, ◌∙◌, append_assoc}
 use Rattle.std.proofs.lemmas.List.{take_all, take_more, map-append, append-nil, length-map}
 use Rattle.std.proofs.lemmas.Grind.{flat_map-append}
@@ -23,7 +23,7 @@ values_input_both [] ys = refl
 values_input_both (x ∷ xs) ys =
     ap (λ (l : fed.HashWrites). value_input x ++ l) (values_input_both xs ys) ∙ sym (append_assoc (value_input x) (values_input (values_of_list xs)) (values_input (values_of_list ys)))
 
--- what is fed of values of the code
+-- the hash input of values of the code
 abbrev pub values_fed : List Value → fed.HashWrites
 values_fed xs = values_input (values_of_list (map value_of xs))
 
@@ -39,7 +39,7 @@ elements_input_both [] ys = refl
 elements_input_both ((n, x) ∷ xs) ys =
     ap (λ (l : fed.HashWrites). (fed.u32 n ++ value_input x) ++ l) (elements_input_both xs ys) ∙ sym (append_assoc (fed.u32 n ++ value_input x) (elements_input (elements_of_list xs)) (elements_input (elements_of_list ys)))
 
--- what is fed of elements of the code
+-- the hash input of elements of the code
 abbrev pub elements_fed : List Element → fed.HashWrites
 elements_fed xs = elements_input (elements_of_list (map element_of xs))
 
@@ -51,7 +51,7 @@ one_element xs i d lt e =
 
 -- ---- annotations
 
--- what is fed of annotations of the code
+-- the hash input of annotations of the code
 abbrev pub annotations_fed : List Annotation → fed.HashWrites
 annotations_fed xs = flat_map annotation_input (map annotation_of xs)
 
@@ -81,20 +81,20 @@ module _ {S : Type 0} (write : S → List ℕ → S) where
   pub elements_done : (xs : List Element) (i : ℕ) (s t : S) → length xs ≤ i → t ≡ fold write s (elements_fed (take i xs)) → t ≡ fold write s (elements_fed xs)
   elements_done xs i s t end p = p ∙ ap (λ (l : List Element). fold write s (elements_fed l)) (take_all i xs end)
 
-  -- annotations, behind their number
+  -- annotations, after their count
   pub annotation_next : (n : ℕ) (xs : List Annotation) (i : ℕ) (d : Annotation) (s t u : S) → i < length xs → d ≡ get_or xs i d → t ≡ fold write s (fed.usize n ++ annotations_fed (take i xs)) → u ≡ fold write t (annotation_input (annotation_of d))
       → u ≡ fold write s (fed.usize n ++ annotations_fed (take (i + 1) xs))
   annotation_next n xs i d s t u lt e p q =
       fed.fed_along write s u (ap (λ (l : fed.HashWrites). fed.usize n ++ l) (one_annotation xs i d lt e)) (fed.fed_then write s t u (fed.usize n ++ annotations_fed (take i xs)) (annotation_input (annotation_of d)) p q)
 
-  -- an array, behind its type code and its length
+  -- an array, after its type code and its length
   pub array_whole : (v : Value) (values : Vec Value) (n : ℕ) {xs : List Value} (s t u : S) → v ≡ variants.Array values → xs ≡ values.items → n ≡ length xs → t ≡ fold write s (fed.u8 0x1c ++ fed.usize n) → u ≡ fold write t (values_fed xs) → u ≡ fold write s (value_input (value_of v))
   array_whole v values n {xs} s t u e same size p q =
       fed.fed_along write s u
       (ap (λ (k : ℕ). fed.u8 0x1c ++ (fed.usize k ++ values_fed xs)) (size ∙ sym (count_values_is xs)) ∙ ap (λ (l : List Value). value_input (Array (values_of_list (map value_of l)))) same ∙ ap value_input (sym (array_is v values e)))
       (fed.fed_then write s t u (fed.u8 0x1c ++ fed.usize n) (values_fed xs) p q)
 
-  -- an annotation, behind its type code, its type and the number of its elements
+  -- an annotation, after its type code, its type and the number of its elements
   pub annotation_whole : (v : Value) (typ : ℕ) (elements : Vec Element) (n : ℕ) {xs : List Element} (s t m u : S) → v ≡ variants.Annotation typ elements → xs ≡ elements.items → n ≡ length xs → t ≡ fold write s (fed.u8 0x1d ++ fed.u32 typ) → m ≡ fold write t (fed.usize n) → u ≡ fold write m (elements_fed xs)
       → u ≡ fold write s (value_input (value_of v))
   annotation_whole v typ elements n {xs} s t m u e same size p k q =

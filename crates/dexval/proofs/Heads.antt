@@ -1,4 +1,4 @@
--- A value is what it is apart from what it holds, and what it holds.
+-- A value is determined by its head and its contents.
 use Rattle.std.proofs.Common.{◌≡◌, ◌+◌, ◌<◌, refl, ap, sym, ◌∙◌, arith}
 use Rattle.dexpool.specs.Numberings.{Maps}
 use Rattle.dexval.specs.declared.head.Head.{Head}
@@ -45,12 +45,12 @@ made_again (Named EnumReference i) = refl
 made_again (Array xs) = refl
 made_again (Annotated t es) = refl
 
--- values that are the same in both are the same
+-- values with equal heads and equal contents are equal
 same_parts : (x y : NumberedValue) → head_of x ≡ head_of y → held_values x ≡ held_values y → held_elements x ≡ held_elements y → x ≡ y
 same_parts x y h v e =
     sym (made_again x) ∙ ap (λ (k : Head). made k (held_values x) (held_elements x)) h ∙ ap (λ (xs : NumberedValues). made (head_of y) xs (held_elements x)) v ∙ ap (made (head_of y) (held_values y)) e ∙ made_again y
 
--- ---- what a value holds, led on
+-- ---- the contents of a value, remapped
 
 values_led : (r : Maps) (x : NumberedValue) → held_values (renumbered r x) ≡ renumbered_values r (held_values x)
 values_led r (Plain literal) = refl
@@ -65,21 +65,21 @@ elements_led r (Array xs) = refl
 elements_led r (Annotated t es) = refl
 
 module _ (r q : Maps) (x y : NumberedValue) where
-  -- values that are the same once they are led on hold the same values
+  -- values that are equal once remapped hold equal values
   pub held_values_same : (xs ys : NumberedValues) → xs ≡ held_values x → ys ≡ held_values y → renumbered r x ≡ renumbered q y → renumbered_values r xs ≡ renumbered_values q ys
   held_values_same xs ys is was e = ap (renumbered_values r) is ∙ sym (values_led r x) ∙ ap held_values e ∙ values_led q y ∙ ap (renumbered_values q) (sym was)
 
-  -- and the same elements
+  -- and equal elements
   pub held_elements_same : (es fs : NumberedElements) → es ≡ held_elements x → fs ≡ held_elements y → renumbered r x ≡ renumbered q y → renumbered_elements r es ≡ renumbered_elements q fs
   held_elements_same es fs is was e = ap (renumbered_elements r) is ∙ sym (elements_led r x) ∙ ap held_elements e ∙ elements_led q y ∙ ap (renumbered_elements q) (sym was)
 
-  -- and the other way round
+  -- and conversely
   pub parts_same : (xs ys : NumberedValues) (es fs : NumberedElements) → xs ≡ held_values x → ys ≡ held_values y → es ≡ held_elements x → fs ≡ held_elements y → head_of (renumbered r x) ≡ head_of (renumbered q y) → renumbered_values r xs ≡ renumbered_values q ys → renumbered_elements r es ≡ renumbered_elements q fs → renumbered r x ≡ renumbered q y
   parts_same xs ys es fs vx vy ex ey h v e =
       same_parts (renumbered r x) (renumbered q y) h (values_led r x ∙ ap (renumbered_values r) (sym vx) ∙ v ∙ ap (renumbered_values q) vy ∙ sym (values_led q y))
       (elements_led r x ∙ ap (renumbered_elements r) (sym ex) ∙ e ∙ ap (renumbered_elements q) ey ∙ sym (elements_led q y))
 
--- ---- it is lighter
+-- ---- contents weigh less than the value
 
 pub held_values_lighter : (x : NumberedValue) → numbered_values_weight (held_values x) + 1 < numbered_weight x
 held_values_lighter (Plain literal) = omega arith

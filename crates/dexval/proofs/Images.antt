@@ -1,4 +1,5 @@
--- Where the numbers in values lead: all that occur, in a map that has an image for each, and to ones of 32 bits.
+-- The images of the numbers in values: all numbers that occur have one, in a map that has an image for each number; and
+-- which images have 32 bits.
 use Rattle.std.proofs.Common.{◌≡◌, ℕ, ◌^◌, ◌≤◌, List, [], ◌∷◌, ◌++◌, Option, Some, None, refl, sym, subst, arith}
 use Rattle.std.specs.Prelude.{IsSome}
 use Rattle.std.specs.List.{All, flat_map}
@@ -21,7 +22,7 @@ use Rattle.dexpool.proofs.Parts.{all_front, all_back}
 abbrev use_of : SymbolKind → ℕ → Use
 use_of kind i = record { kind = kind; number = i }
 
--- ---- maps whose numbers of 32 bits lead to such
+-- ---- maps from numbers of 32 bits to numbers of 32 bits
 
 pub cut_within : (r : Maps) → LeadDown r → LeadsNarrow r
 cut_within r down kind i j e lt = omega (arith, down kind i j e, lt)
@@ -39,7 +40,7 @@ module _ (r : Maps) (within : LeadsNarrow r) where
   leads_on : (kind : SymbolKind) (i : ℕ) → IsSome (image_of r kind i) → LeadsOn r kind i
   leads_on kind i h = let at = some_of (image_of r kind i) h in (at.0, at.1, λ lt. within kind i at.0 at.1 lt)
 
-  -- where each number that occurs leads somewhere, each leads on
+  -- if each number that occurs has an image, each maps to a place
   pub uses_placed : (us : List Use) → All (IsLedUse r) us → All (LeadsUse r) us
   uses_placed [] h = All-nil (LeadsUse r)
   uses_placed (u ∷ us) h = All-cons (LeadsUse r) u us (leads_on u.kind u.number (All-head (IsLedUse r) u us h)) (uses_placed us (All-tail (IsLedUse r) u us h))
@@ -54,7 +55,7 @@ pub uses_led : (r : Maps) (us : List Use) → All (LeadsUse r) us → All (IsLed
 uses_led r [] h = All-nil (IsLedUse r)
 uses_led r (u ∷ us) h = All-cons (IsLedUse r) u us (subst IsSome (sym (All-head (LeadsUse r) u us h).1) refl) (uses_led r us (All-tail (LeadsUse r) u us h))
 
--- ---- numbers of symbols, in a map that has an image for each
+-- ---- numbers of symbols, in a map that has an image for each number
 
 module _ (m : Mentions) (r : Maps) (all : LeadsAll m r) where
   mutual
@@ -82,7 +83,7 @@ module _ (m : Mentions) (r : Maps) (all : LeadsAll m r) where
   known_set_led (x ∷ xs) h =
       All-append (IsLedUse r) (annotation_uses x) (set_uses xs) (known_annotation_led x (All-head (IsKnownAnnotation m) x xs h)) (known_set_led xs (All-tail (IsKnownAnnotation m) x xs h))
 
--- each number of a value leads to one of 32 bits
+-- each number of a value maps to a number of 32 bits
 pub value_has_places : (m n : Mentions) (r : Maps) (x : NumberedValue) → LeadsWithin n r → LeadsAll m r → ((kind : SymbolKind) → count_of kind n ≤ 2 ^ 32) → IsKnown m x → HasPlaces r x
 value_has_places m n r x within all few known = uses_placed r (join_within n r within few) (value_uses x) (known_value_led m r all x known)
 

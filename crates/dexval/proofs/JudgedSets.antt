@@ -1,4 +1,4 @@
--- What was read, noted and looked up.
+-- The cache of directories: what was read, noted and looked up.
 use Rattle.std.proofs.Common.{◌≡◌, ◌⊎◌, ℕ, List, true, false, Some, nat_eq, sym, ap, subst, ◌∙◌, inl, inr, ne_eqb}
 use Rattle.std.proofs.lemmas.Bool.{cases_eq}
 use Rattle.std.specs.HashMap.{get}
@@ -10,9 +10,9 @@ use Rattle.dexval.specs.Judged.{HasSet, HasRefList, AreHeld, AreJudged}
 use Rattle.dexval.specs.Reading.{IsSetAt}
 use Rattle.dexval.specs.Tables.{Extends, set_at, sets_at}
 
--- ---- what is new
+-- ---- new entries
 
--- what is noted was noted before, or is new
+-- each entry was noted before, or is new
 pub record Notes (NewSet NewList : ℕ → ℕ → Type 0) (NewPassed NewPassedList : ℕ → Type 0) (j k : Judged) : Type 0 where
   pub extended : Extends j.table k.table
   pub sets_from : (q place : ℕ) → get nat_eq k.sets q ≡ Some place → (get nat_eq j.sets q ≡ Some place) ⊎ NewSet q place
@@ -20,7 +20,7 @@ pub record Notes (NewSet NewList : ℕ → ℕ → Type 0) (NewPassed NewPassedL
   pub passed_from : (q : ℕ) → contains nat_eq k.passed_sets q ≡ true → (contains nat_eq j.passed_sets q ≡ true) ⊎ NewPassed q
   pub passed_lists_from : (q : ℕ) → contains nat_eq k.passed_lists q ≡ true → (contains nat_eq j.passed_lists q ≡ true) ⊎ NewPassedList q
 
--- where one value is put, each of the others was there before
+-- if one value is inserted, each of the others was there before
 pub from_before : {X : Type 0} (f g : ℕ → X) (o : ℕ) (v : X) → g o ≡ v → ((q : ℕ) → nat_eq o q ≡ false → g q ≡ f q) → (q : ℕ) (w : X) → g q ≡ w → (f q ≡ w) ⊎ ((o ≡ q) × (v ≡ w))
 from_before {X} f g o v here others q w e = elim (cases_eq o q) [
   | inl same ↦ inr (same, sym here ∙ subst (λ (n : ℕ). g n ≡ w) (sym same) e)
@@ -60,9 +60,9 @@ module _ (j k : Judged) (o : ℕ) where
     passed_lists_from = λ q e. inl (ap (λ l. contains nat_eq l q) (sym passed_lists) ∙ e);
   }
 
--- ---- what is known of it
+-- ---- what the entries say
 
--- what was noted stands where it stood, and so does what is new
+-- an old entry is still at its offset, and a new entry is at its offset
 pub all_judged : {NS NL : ℕ → ℕ → Type 0} {NP NPL : ℕ → Type 0} (b : List ℕ) (m : Mentions) (j k : Judged) → Notes NS NL NP NPL j k → ((q place : ℕ) → NS q place → IsSetAt b q m (set_at k.table.sets (Some place)))
     → ((q place : ℕ) → NL q place → IsRefListAt b q m (sets_at k.table (Some place))) → ((q : ℕ) → NP q → HasSet b m q) → ((q : ℕ) → NPL q → HasRefList b m q) → AreHeld j → AreJudged b m j → AreJudged b m k
 all_judged b m j k notes new_set new_list new_passed new_passed_list held h = record {

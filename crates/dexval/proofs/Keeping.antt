@@ -1,4 +1,4 @@
--- What of a directory is kept while it is read.
+-- What is kept of a directory while it is read.
 use Rattle.std.proofs.Common.{◌≡◌, ℕ, ◌+◌, ◌-◌, ◌*◌, ◌^◌, ◌<◌, ◌≤◌, min, List, [], ◌∷◌, ◌++◌, length, map, sum_by, refl, ap, sym, subst, ◌∙◌, arith, inl, inr}
 use Rattle.std.proofs.lemmas.Bool.{cases_lt}
 use Rattle.std.specs.Prelude.{◌↔◌, Bool, true, false, IsTrue, All}
@@ -20,7 +20,7 @@ use Rattle.dexval.proofs.DirectoryRead.{HaveReadList, directory_read}
 
 -- ---- steps
 
--- the first of a list are none
+-- the empty prefix of a list
 pub none_kept : {X : Type 0} (Read : List X → Type 0) (weighs : List X → ℕ) (most before after : ℕ) → Read [] → before ≤ after → after ≡ min (2 ^ 64 - 1) (before + weighs []) → IsKept Read weighs most before after []
 none_kept Read weighs most before after r le e = record {
   item = [];
@@ -31,7 +31,7 @@ none_kept Read weighs most before after r le e = record {
   whole = λ within. refl;
 }
 
--- something was read for the first time
+-- an item that is read for the first time
 pub new_kept : {X : Type 0} (Read : X → Type 0) (weighs : X → ℕ) (most before after : ℕ) (item kept : X) → Read item → before ≤ after → after ≡ min (2 ^ 64 - 1) (before + weighs item) → (after ≤ most → kept ≡ item) → IsKept Read weighs most before after kept
 new_kept Read weighs most before after item kept r le e same = record {
   item = item;
@@ -42,7 +42,7 @@ new_kept Read weighs most before after item kept r le e same = record {
   whole = same;
 }
 
--- what was read before is counted once more, but not where the weight has passed
+-- an item that was read before is counted again, unless the weight exceeds the bound
 pub known_kept : {X : Type 0} (Read : X → Type 0) (weighs : X → ℕ) (most before after : ℕ) (item : X) → Read item → (most < before → after ≡ before) → (before ≤ most → after ≡ min (2 ^ 64 - 1) (before + weighs item)) → IsKept Read weighs most before after item
 known_kept {X} Read weighs most before after item r passed counted =
     let early : after ≤ most → before ≤ most = λ within. elim (cases_lt most before) [
@@ -61,7 +61,7 @@ known_kept {X} Read weighs most before after item r passed counted =
       whole = λ within. refl;
     }
 
--- one more was read, and kept where the running weight allows it
+-- one more item was read, and is kept if the running weight allows it
 pub one_kept : {X : Type 0} (Read Next : List X → Type 0) (weighs : List X → ℕ) (one : X → ℕ) (most before old new : ℕ) (kept next : List X) (x y : X)
     → ((xs : List X) → Read xs → Next (xs ++ x ∷ [])) → ((xs : List X) → weighs (xs ++ x ∷ []) ≡ weighs xs + one x)
     → IsKept Read weighs most before old kept → (new ≤ most → old ≤ most) → (new ≤ most → new ≡ min (2 ^ 64 - 1) (old + one x)) → (most < new → most < old + one x)
@@ -79,7 +79,7 @@ one_kept {X} Read Next weighs one most before old new kept next x y goes adds h 
       whole = λ le. pushed le ∙ ap (λ (l : List X). l ++ y ∷ []) (h.whole (early le)) ∙ ap (λ (z : X). h.item ++ z ∷ []) (same le);
     }
 
--- what was read is something else as well, and weighs as much
+-- an item that was read is also an item of another kind, of the same weight
 pub kept_as : {X : Type 0} (Read Now : X → Type 0) (weighs heavy : X → ℕ) (most before after : ℕ) (kept : X) → ((x : X) → Read x → Now x) → ((x : X) → Read x → weighs x ≡ heavy x)
     → IsKept Read weighs most before after kept → IsKept Now heavy most before after kept
 kept_as Read Now weighs heavy most before after kept goes same h = record {
@@ -102,7 +102,7 @@ kept_moved {X} Read Now weighs {most} {bound} {before} {after} {kept} e goes h =
   whole = h.whole;
 })
 
--- what is not within the bound is not
+-- a result of `false` denies the bound
 pub not_within : {P : Type 0} (r : Bool) → (IsTrue r ↔ P) → r ≡ false → P → ⊥
 not_within r h e p =
     let both : false ≡ true = sym e ∙ h.1 p in
@@ -110,7 +110,7 @@ not_within r h e p =
 
 -- ---- lists of sets
 
--- one set more
+-- one more set
 pub list_adds : (m : Mentions) (list : ℕ) (s : NumberedSet) (ss : List NumberedSet) → list + sum_by (set_weight_in m) (ss ++ s ∷ []) ≡ list + sum_by (set_weight_in m) ss + set_weight_in m s
 list_adds m list s ss = omega (arith, sum_by-append (set_weight_in m) ss (s ∷ []), sum_by-cons (set_weight_in m) s [])
 
@@ -127,7 +127,7 @@ list_weighs b p m i list ss none some h =
 
 -- ---- members
 
--- one member more
+-- one more member
 pub members_add : {X : Type 0} (weighs : X → ℕ) (x : ℕ × X) (xs : List (ℕ × X)) → sum_by (λ e. weighs e.1) (xs ++ x ∷ []) ≡ sum_by (λ e. weighs e.1) xs + weighs x.1
 members_add weighs x xs = omega (arith, sum_by-append (λ e. weighs e.1) xs (x ∷ []), sum_by-cons (λ e. weighs e.1) x [])
 
@@ -148,7 +148,7 @@ directory_parts own fields methods parameters = record { own = own; fields = fie
 pub same_parts : {a b : NumberedSet} {c d e f : List (ℕ × NumberedSet)} {g h : List (ℕ × List NumberedSet)} → a ≡ b → c ≡ d → e ≡ f → g ≡ h → directory_parts a c e g ≡ directory_parts b d f h
 same_parts own fields methods parameters = cc
 
--- all parts were read, and kept where the weight of all allows it
+-- all parts were read, and kept if the weight of all allows it
 pub directory_kept : (b : List ℕ) (o : ℕ) (m : Mentions) → AreFilePools b m → (most w1 w2 w3 w4 : ℕ) (own : NumberedSet) (fields methods : List (ℕ × NumberedSet)) (parameters : List (ℕ × List NumberedSet)) → HasMembers b o
     → IsKept (IsSetOrEmptyAt b (uint_at b o) m) (set_weight_in m) most 0 w1 own
     → IsKept (ArePairsAt (IsKnownSet m) (set_in m) SetAt b (o + 16) (fields_count b o) (length m.fields)) (sum_by (λ e. set_weight_in m e.1)) most w1 w2 fields

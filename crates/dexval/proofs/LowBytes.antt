@@ -1,4 +1,4 @@
--- Numbers written in their lowest bytes.
+-- Numbers written as their lowest bytes.
 use Rattle.std.proofs.Common.{◌≡◌, ℕ, zero, suc, ◌+◌, ◌-◌, ◌*◌, ◌/◌, ◌%◌, ◌^◌, ◌<◌, ◌≤◌, List, ◌∷◌, ◌++◌, length, take, ◌⊎◌, inl, inr, refl, ap, sym, ◌∙◌, subst, arith}
 use Rattle.std.specs.Prelude.{ℤ, pos, negsuc, ◌≢◌, FitsSigned}
 use Rattle.std.specs.Int.{w64}
@@ -38,7 +38,7 @@ low_bytes n v r few =
     let whole : v / 256 ^ 0 ≡ v = omega arith in
     take-append-le n (little_bytes 8 v) r (omega (arith, size, few)) ∙ take-bytes_low_first 0 8 n v few ∙ low_first 0 n v ∙ ap (bytes_of n) whole
 
--- a multiple of 256 ^ n more has the same n lowest bytes
+-- adding a multiple of 256 ^ n keeps the n lowest bytes
 bytes_of-more : (n v k : ℕ) → bytes_of n (v + 256 ^ n * k) ≡ bytes_of n v
 unfolding bytes_of
 bytes_of-more zero v k = refl
@@ -49,7 +49,7 @@ bytes_of-more (suc n) v k =
     let high : (v + 256 ^ suc n * k) / 256 ≡ v / 256 + 256 ^ n * k = omega (arith, more) in
     ap (λ (b : ℕ). b ∷ bytes_of n ((v + 256 ^ suc n * k) / 256)) low ∙ ap (λ (r : ℕ). v % 256 ∷ bytes_of n r) high ∙ ap (λ (l : List ℕ). v % 256 ∷ l) (bytes_of-more n (v / 256) k)
 
--- a number times one less
+-- a product with one factor reduced by one
 one_less : (a b : ℕ) → 0 < b → a * b ≡ a + a * (b - 1)
 one_less a zero some = absurd (omega arith)
 one_less a (suc b) some =
@@ -67,7 +67,7 @@ low_complement n (negsuc v) few room =
     let is : 256 ^ 8 - suc v ≡ (256 ^ n - suc v) + 256 ^ n * (256 ^ (8 - n) - 1) = omega (arith, whole, less, room) in
     ap (bytes_of n) is ∙ bytes_of-more n (256 ^ n - suc v) (256 ^ (8 - n) - 1)
 
--- a number with a sign, its lowest bytes in its least width
+-- a signed number: its lowest bytes in its least width
 pub signed_is : (code : ℕ) (z : ℤ) (width : ℕ) → 2 * magnitude z < 256 ^ 8 → width ≤ 8 → width ≡ unsigned_width (2 * magnitude z) → value_byte (width - 1) code ∷ bytes_of width (complement 8 z) ≡ signed_bytes code z
 signed_is code z width room few is =
     let same : width ≡ signed_width z = is in
@@ -76,7 +76,7 @@ signed_is code z width room few is =
 
 -- ---- bit patterns
 
--- a zero byte less
+-- one zero byte fewer
 pub zero_less : (width left v rest : ℕ) → 1 < left → left ≤ width → v ≡ 256 ^ (width - left) * rest → rest % 256 ≡ 0 → v ≡ 256 ^ (width - (left - 1)) * (rest / 256)
 zero_less width left v rest more few is none =
     let next : width - (left - 1) ≡ suc (width - left) = omega arith in
@@ -84,7 +84,7 @@ zero_less width left v rest more few is none =
     let power : 256 ^ suc (width - left) ≡ 256 ^ (width - left) * 256 = omega arith in
     is ∙ ap (λ (r : ℕ). 256 ^ (width - left) * r) whole ∙ sym (mul_assoc (256 ^ (width - left)) 256 (rest / 256)) ∙ ap (λ (p : ℕ). p * (rest / 256)) (sym power) ∙ ap (λ (k : ℕ). 256 ^ k * (rest / 256)) (sym next)
 
--- a number with more zeros ends in one more
+-- a number with more zeros than another ends in one more
 ends_in_zero : (width n w v rest : ℕ) → n ≤ width → w < n → v ≡ 256 ^ (width - n) * rest → v % 256 ^ (width - w) ≡ 0 → rest % 256 ≡ 0
 ends_in_zero width n w v rest few less is none =
     let k = width - n in
@@ -100,7 +100,7 @@ ends_in_zero width n w v rest few less is none =
     let last : 256 ^ suc j * q ≡ 256 * (256 ^ j * q) = ap (λ (x : ℕ). x * q) one_more ∙ mul_assoc 256 (256 ^ j) q in
     omega (arith, rest_is, last)
 
--- the number of bytes that are left when the zeros at the low end are gone is the least
+-- after the zeros at the low end are dropped, the number of bytes left is the least
 pub left_is : (width n v rest : ℕ) → 1 ≤ n → n ≤ width → width ≤ 8 → v ≡ 256 ^ (width - n) * rest → (n ≤ 1) ⊎ (rest % 256 ≢ 0) → n ≡ bits_width width v
 left_is width n v rest some few most is end =
     let width_is = bits_width_is width v (omega arith) most in
@@ -119,12 +119,12 @@ pub bits_shifted : (code width n v : ℕ) → n ≡ bits_width width v → value
 bits_shifted code width n v is =
     ap (λ (p : ℕ). value_byte (n - 1) code ∷ bytes_of n (v / p)) (pow_256 (width - n)) ∙ ap (λ (k : ℕ). value_byte (k - 1) code ∷ bytes_of k (v / 256 ^ (width - k))) is
 
--- a number of 64 bits has room in eight bytes
+-- a number of 64 bits fits in eight bytes
 pub long_room : (z : ℤ) → FitsSigned w64 z → 2 * magnitude z < 256 ^ 8
 long_room (pos n) fits = omega (arith, ints)
 long_room (negsuc n) fits = omega (arith, ints)
 
--- the number with a sign
+-- the signed number
 pub signed_spelled : (code : ℕ) (z : ℤ) (width bits : ℕ) → 2 * magnitude z < 256 ^ 8 → width ≡ signed_width z → width ≤ 8 → bits ≡ complement 8 z
     → value_byte (width - 1) code ∷ bytes_of width bits ≡ signed_bytes code z
 signed_spelled code z width bits room width_is few bits_is = ap (λ (b : ℕ). value_byte (width - 1) code ∷ bytes_of width b) bits_is ∙ signed_is code z width room few width_is

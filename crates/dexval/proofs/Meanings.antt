@@ -1,4 +1,4 @@
--- What values stand for: the same under other numbers, and the symbols that occur in them.
+-- What values denote: the same under other numbers. And the symbols that occur in them.
 use Rattle.std.proofs.Common.{◌≡◌, ℕ, ◌<◌, List, [], ◌∷◌, ◌++◌, length, get_or, Option, Some, None, refl, ap, sym, ◌∙◌, subst, arith}
 use Rattle.std.specs.Prelude.{unwrap_or}
 use Rattle.std.specs.List.{All, AllZip}
@@ -36,7 +36,7 @@ annotation_with v t es = record { visibility = v; type = t; elements = es }
 
 -- ---- other numbers
 
--- a number that leads on is that of the same member
+-- a number is mapped to the number of the same member
 led_on : {X : Type 0} (from to : List X) (images : List (Option ℕ)) (i j : ℕ) (d : X) → Leads from to images → image images i ≡ Some j
     → (unwrap_or (image images i) i < length to) × (get_or to (unwrap_or (image images i) i) d ≡ get_or from i d)
 led_on from to images i j d l e =
@@ -113,7 +113,7 @@ module _ (m n : Mentions) (r : Maps) (leads : AllLead m n r) where
       let rest = set_led xs (all_back (IsLedUse r) (annotation_uses x) (set_uses xs) h) in
       (All-cons (IsKnownAnnotation n) (renumbered_annotation r x) (renumbered_set r xs) first.0 rest.0, ap (λ (a : Annotation). a ∷ set_in n (renumbered_set r xs)) first.1 ∙ ap (λ (l : AnnotationSet). annotation_in m x ∷ l) rest.1)
 
--- a value stands for what it stood for
+-- a remapped value denotes the same value
 pub value_keeps : (m n : Mentions) (r : Maps) (x : NumberedValue) (v : Value) → AllLead m n r → All (IsLedUse r) (value_uses x) → StandsFor m x v → StandsFor n (renumbered r x) v
 value_keeps m n r x v leads images h = let t = value_led m n r leads x images in record { known = t.0; means = t.1 ∙ h.means }
 
@@ -179,7 +179,7 @@ module _ (m : Mentions) where
   set_used (x ∷ xs) h =
       zip_both (IsUseOf m) (annotation_uses x) (set_uses xs) (annotation_symbols (annotation_in m x)) (set_symbols (set_in m xs)) (annotation_used x (All-head (IsKnownAnnotation m) x xs h)) (set_used xs (All-tail (IsKnownAnnotation m) x xs h))
 
--- those of a value, one for one
+-- the symbols of a value, one for one
 pub value_stands : (m : Mentions) (x : NumberedValue) (v : Value) → StandsFor m x v → AllZip (IsUseOf m) (value_uses x) (value_symbols v)
 value_stands m x v h = subst (λ (w : Value). AllZip (IsUseOf m) (value_uses x) (value_symbols w)) h.means (value_used m x h.known)
 

@@ -1,4 +1,4 @@
--- The bytes of values and elements, one after the other.
+-- The bytes of values and elements in sequence.
 use Rattle.std.proofs.Common.{◌≡◌, ℕ, zero, suc, ◌+◌, ◌<◌, ◌≤◌, List, [], ◌∷◌, ◌++◌, get_or, length, take, map, refl, sym, ap, ◌∙◌, subst, arith, append_assoc}
 use Rattle.std.proofs.lemmas.List.{append-nil, length-map, get_or-map}
 use Rattle.dexspec.specs.Numbers.{uleb128}
@@ -11,7 +11,7 @@ use Rattle.dexval.proofs.Growing.{element_is, values_more, elements_more}
 
 -- ---- values
 
--- the bytes of some, and then of others
+-- the bytes of two lists of values
 values_bytes_both : (xs ys : List NumberedValue) → numbered_values_bytes (values_of_list (xs ++ ys)) ≡ numbered_values_bytes (values_of_list xs) ++ numbered_values_bytes (values_of_list ys)
 values_bytes_both [] ys = refl
 values_bytes_both (x ∷ xs) ys =
@@ -31,7 +31,7 @@ pub count_of_list : (ys : List NumberedValue) → values_count (values_of_list y
 count_of_list [] = refl
 count_of_list (y ∷ ys) = omega (arith, count_of_list ys)
 
--- how many values there are
+-- the number of values
 pub count_values_is : (xs : List Value) → values_count (values_of_list (map value_of xs)) ≡ length xs
 count_values_is xs = count_of_list (map value_of xs) ∙ length-map xs value_of
 
@@ -62,18 +62,18 @@ elements_count_of_list : (ys : List (ℕ × NumberedValue)) → elements_count (
 elements_count_of_list [] = refl
 elements_count_of_list ((n, y) ∷ ys) = omega (arith, elements_count_of_list ys)
 
--- how many elements there are
+-- the number of elements
 pub count_elements_is : (xs : List Element) → elements_count (elements_of_list (map element_of xs)) ≡ length xs
 count_elements_is xs = elements_count_of_list (map element_of xs) ∙ length-map xs element_of
 
--- ---- what is lighter
+-- ---- weights of members
 
 light_at : (ys : List NumberedValue) (i : ℕ) (y : NumberedValue) → i < length ys → numbered_weight (get_or ys i y) ≤ numbered_values_weight (values_of_list ys)
 light_at [] i y lt = absurd (omega arith)
 light_at (x ∷ xs) zero y lt = omega arith
 light_at (x ∷ xs) (suc i) y lt = omega (arith, light_at xs i y (omega arith))
 
--- a value weighs no more than all of them
+-- a value weighs at most as much as all values
 pub value_lighter : (xs : List Value) (i : ℕ) (d : Value) → i < length xs → d ≡ get_or xs i d → numbered_weight (value_of d) ≤ numbered_values_weight (values_of_list (map value_of xs))
 value_lighter xs i d lt e =
     subst (λ (x : NumberedValue). numbered_weight x ≤ numbered_values_weight (values_of_list (map value_of xs))) (get_or-map value_of xs i d (value_of d) lt ∙ ap value_of (sym e))
@@ -84,7 +84,7 @@ light_element_at [] i y lt = absurd (omega arith)
 light_element_at ((n, x) ∷ xs) zero y lt = omega arith
 light_element_at ((n, x) ∷ xs) (suc i) y lt = omega (arith, light_element_at xs i y (omega arith))
 
--- an element's value weighs no more than all elements
+-- the value of an element weighs at most as much as all elements
 pub element_lighter : (xs : List Element) (i : ℕ) (d : Element) → i < length xs → d ≡ get_or xs i d → numbered_weight (value_of d.value) ≤ numbered_elements_weight (elements_of_list (map element_of xs))
 element_lighter xs i d lt e =
     subst (λ (x : ℕ × NumberedValue). numbered_weight x.1 ≤ numbered_elements_weight (elements_of_list (map element_of xs))) (get_or-map element_of xs i d (element_of d) lt ∙ ap element_of (sym e) ∙ element_is d)

@@ -1,4 +1,4 @@
--- What was read of a directory, and what of it has a name in the table.
+-- The items of a directory that were read, and their places in the table.
 use Rattle.std.proofs.Common.{◌≡◌, ◌⊎◌, ℕ, ◌<◌, List, [], ◌∷◌, ◌++◌, length, ap, sym, subst, inl, inr, arith, Option, Some}
 use Rattle.std.specs.List.{All, Contains}
 use Rattle.std.proofs.lemmas.List.Elements.{All-append, All-cons, All-nil, Contains-append_left, Contains-push}
@@ -13,7 +13,7 @@ use Rattle.dexval.proofs.Tables.{map_stays, all_as}
 
 -- ---- lists of sets
 
--- one set more is read, and its place is put into the list, or not all is kept
+-- one more set is read, and its place is put into the list, or not all is kept
 pub list_step : {W V : Type 0} (old mid new : Judged) (ps qs : List (Option ℕ)) (place : Option ℕ) → (V → W)
     → IsNoted (λ i. Contains ps (Some i)) (λ i. ⊥) (All (IsPlaceIn mid.table.sets) ps) W old mid → IsNoted (λ i. place ≡ Some i) (λ i. ⊥) (IsPlaceIn new.table.sets place) V mid new
     → (qs ≡ ps ++ place ∷ []) ⊎ ((qs ≡ ps) × (V → ⊥)) → IsNoted (λ i. Contains qs (Some i)) (λ i. ⊥) (All (IsPlaceIn new.table.sets) qs) V old new
@@ -33,13 +33,13 @@ list_step {W} {V} old mid new ps qs place early h g next =
 
 -- ---- members
 
--- so it is for these members
+-- the property holds for each of these members
 abbrev pub AreNoted : (NumberedTable → Option ℕ → Type 0) → (NumberedTable → Option ℕ → ℕ → Type 0) → (Option ℕ → ℕ → Type 0) → Type 0 → Judged → Judged → List (ℕ × ℕ) → Type 0
 AreNoted is_held names_set names_list W old new es = IsNoted (IsNamedOf (names_set new.table) es) (IsNamedOf names_list es) (All (λ e. is_held new.table (Some e.1)) es) W old new
 
 module _ (is_held : NumberedTable → Option ℕ → Type 0) (names_set : NumberedTable → Option ℕ → ℕ → Type 0) (names_list : Option ℕ → ℕ → Type 0) (holds : (t u : NumberedTable) (place : Option ℕ) → Extends t u → is_held t place → is_held u place)
     (names : (t u : NumberedTable) (place : Option ℕ) (i : ℕ) → Extends t u → names_set t place i → names_set u place i) where
-  -- one member more is read, and put among them, or not all is kept
+  -- one more member is read and added, or not all is kept
   pub members_step : {W V : Type 0} (old mid new : Judged) (es fs : List (ℕ × ℕ)) (number : ℕ) (place : Option ℕ) → (V → W) → AreNoted is_held names_set names_list W old mid es → IsNoted (names_set new.table place) (names_list place) (is_held new.table place) V mid new
       → ((p : ℕ) × (place ≡ Some p) × (fs ≡ es ++ (number, p) ∷ [])) ⊎ ((fs ≡ es) × (V → ⊥)) → AreNoted is_held names_set names_list V old new fs
   members_step {W} {V} old mid new es fs number place early h g next =
@@ -121,7 +121,7 @@ module _ (old first second third new : Judged) (own : Option ℕ) (fields method
     ];
   }
 
-  -- what was looked up while it was read is looked up so at the end
+  -- an item that was looked up during reading is the same at the end
   pub own_stays : set_at new.table.sets own ≡ set_at first.table.sets own
   own_stays = from_first.sets_stay own of_own.held
 

@@ -1,4 +1,4 @@
--- Values and annotations that are checked one within the other: what a reader would have read is there.
+-- Nested values and annotations that are checked: each item that a reader would read is there.
 use Rattle.std.proofs.Common.{◌≡◌, ◌≢◌, ℕ, ◌+◌, ◌-◌, ◌<◌, ◌≤◌, List, [], ◌∷◌, ◌++◌, length, refl, ap, arith}
 use Rattle.std.specs.Prelude.{slice_index}
 use Rattle.dexspec.specs.Numbers.{Uleb128At}
@@ -14,7 +14,7 @@ use Rattle.dexval.proofs.ElementsRead.{HaveReadOf, no_element_read, one_element_
 use Rattle.dexval.proofs.NestedRead.{array_stands, annotation_stands}
 use Rattle.dexval.proofs.ValuesRead.{HaveRead, none_read, one_more, no_next, no_values, all_read}
 
--- a value that holds no other weighs 9
+-- a value that holds no other value weighs 9
 flat_weight : (m : Mentions) (x : NumberedValue) → value_depth (value_in m x) ≤ 0 → numbered_weight x ≡ 9
 flat_weight m (Plain literal) flat = refl
 flat_weight m (Named reference i) flat = refl
@@ -34,7 +34,7 @@ module _ (b : List ℕ) (o : ℕ) (m : Mentions) (depth : ℕ) (pools : ArePools
 
 -- ---- values
 
--- the weight of one value more
+-- the weight of one more value
 values_weight_then : (xs : List NumberedValue) (x : NumberedValue) → numbered_values_weight (values_of_list (xs ++ x ∷ [])) ≡ numbered_values_weight (values_of_list xs) + numbered_weight x
 values_weight_then [] x = omega arith
 values_weight_then (y ∷ ys) x = omega (arith, values_weight_then ys x)
@@ -56,7 +56,7 @@ module _ (b : List ℕ) (m : Mentions) (o depth count : ℕ) where
     weighed = omega (arith, values_weight_then h.values r.value, h.weighed, r.weighs);
   }
 
--- where the next is no value there is no array
+-- if the next is no value, there is no array
 pub no_value_next : (b : List ℕ) (m : Mentions) (o depth count head i k weight : ℕ) → Uleb128At b o count head → i < count → ValuesChecked b (o + head) m depth count i k weight → NoValueAt b (o + head + k) depth → NoArrayAt b o depth
 no_value_next b m o depth count head i k weight number lt h none = no_values b m o depth count head number (no_next b m (o + head) depth count i h.values k lt h.so_far none)
 
@@ -75,12 +75,12 @@ values_checked b m o depth count head i k weight number all h = record {
 
 -- ---- elements
 
--- the weight of one element more
+-- the weight of one more element
 elements_weight_then : (es : List (ℕ × NumberedValue)) (e : ℕ × NumberedValue) → numbered_elements_weight (elements_of_list (es ++ e ∷ [])) ≡ numbered_elements_weight (elements_of_list es) + (5 + numbered_weight e.1)
 elements_weight_then [] (n, x) = omega arith
 elements_weight_then ((m, y) ∷ es) e = omega (arith, elements_weight_then es e)
 
--- the first i of `count` elements were checked, and have names of lesser numbers
+-- the first i of `count` elements were checked, and the numbers of their names are below `least`
 pub record ElementsChecked (b : List ℕ) (o : ℕ) (m : Mentions) (depth count i least k weight : ℕ) : Type 0 where
   pub elements : List (ℕ × NumberedValue)
   pub so_far : HaveReadOf b o m depth count i least elements k

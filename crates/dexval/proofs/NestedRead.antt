@@ -9,16 +9,16 @@ use Rattle.dexval.specs.Scalars.{NoValueAt, IsReadAt}
 use Rattle.dexval.specs.Nesting.{NoArrayAt, AreReadAt, NoAnnotationAt, IsAnnotationReadAt}
 use Rattle.dexval.proofs.Shapes.{stands_byte, value_within, array_only, annotation_only}
 
--- an answer is no error
+-- a result is not both a value and an error
 pub ok_no_err : {A E : Type 0} (r : Result A E) (x : A) (e : E) → r ≡ Ok x → r ≡ Err e → ⊥
 ok_no_err r x e p q = absurd cc
 
 module _ (b : List ℕ) (o depth : ℕ) (m : Mentions) (p : ArePools b m) where
-  -- behind the end stands nothing
+  -- there is no value after the end
   pub nothing_behind : length b ≤ o → NoValueAt b o depth
   nothing_behind le v n h d = omega (arith, value_within b o m v n p h)
 
-  -- what is not to nest holds no other value
+  -- without depth there is no value that holds other values
   pub no_deep_array : slice_index b o ≡ 28 → depth ≡ 0 → NoValueAt b o depth
   no_deep_array is none v n h d =
       let a = array_only b o m v n p is h in
@@ -31,7 +31,7 @@ module _ (b : List ℕ) (o depth : ℕ) (m : Mentions) (p : ArePools b m) where
       let deep = subst (λ (x : Value). value_depth x ≤ depth) a.2 d in
       omega (arith, deep)
 
-  -- an array behind its first byte
+  -- an array after its first byte
   pub array_stands : (xs : NumberedValues) (n : ℕ) → o < length b → slice_index b o ≡ 28 → depth ≢ 0 → AreReadAt b (o + 1) m (depth - 1) xs n → IsReadAt b o m depth (Array xs) (1 + n)
   array_stands xs n lt is some r = record { known = r.known; stands = (stands_byte b o 28 lt is, n, r.stands, refl); shallow = omega (arith, r.shallow, some) }
 
@@ -42,7 +42,7 @@ module _ (b : List ℕ) (o depth : ℕ) (m : Mentions) (p : ArePools b m) where
       let deep = subst (λ (x : Value). value_depth x ≤ depth) a.1 d in
       none a.0 w.1 w.2 (omega (arith, deep))
 
-  -- an annotation behind its first byte
+  -- an annotation after its first byte
   pub annotation_stands : (t : ℕ) (es : NumberedElements) (n : ℕ) → o < length b → slice_index b o ≡ 29 → depth ≢ 0 → IsAnnotationReadAt b (o + 1) m (depth - 1) t es n → IsReadAt b o m depth (Annotated t es) (1 + n)
   annotation_stands t es n lt is some r = record { known = (r.type_known, r.known); stands = (stands_byte b o 29 lt is, n, r.stands, refl); shallow = omega (arith, r.shallow, some) }
 
@@ -53,7 +53,7 @@ module _ (b : List ℕ) (o depth : ℕ) (m : Mentions) (p : ArePools b m) where
       let deep = subst (λ (x : Value). value_depth x ≤ depth) a.2 d in
       none a.0 a.1 w.1 w.2 (omega (arith, deep))
 
-  -- a value that holds no other nests no deeper than any depth
+  -- a value that holds no other value nests at most as deep as any bound
   pub deeper : {X : Type 0} (x_of : X → NumberedValue) (n_of : X → ℕ) (r : Option X) → MatchOption r ((d : ℕ) → NoValueAt b o d) (λ x. IsReadAt b o m 0 (x_of x) (n_of x)) → MatchOption r (NoValueAt b o depth) (λ x. IsReadAt b o m depth (x_of x) (n_of x))
   deeper x_of n_of None h = h depth
   deeper x_of n_of (Some x) h = record { known = h.known; stands = h.stands; shallow = omega (arith, h.shallow) }

@@ -23,34 +23,34 @@ use Rattle.dexval.specs.Numbered.{NumberedAnnotation, NumberedSet, IsKnownSet, a
 use Rattle.dexval.specs.Spelled.{elements_count, count_bytes, numbered_elements_bytes, numbered_annotation_bytes, numbered_offsets, numbered_set_bytes, numbered_annotation_weight, numbered_set_weight}
 use Rattle.dexval.proofs.Spelling.{annotation_lengths_are}
 
--- ---- items one after the other
+-- ---- items in sequence
 
 pub here : (at : ℕ) → round_up 1 at ≡ at
 here at = omega arith
 
--- one item more has an offset more
+-- one more item has one more offset
 offsets_behind : (from : ℕ) (xs : List (List ℕ)) (x : List ℕ) → offsets_from 1 from (xs ++ x ∷ []) ≡ offsets_from 1 from xs ++ end_from 1 from xs ∷ []
 offsets_behind from [] x = ap (λ (n : ℕ). n ∷ []) (here from)
 offsets_behind from (y ∷ ys) x = ap (λ (l : List ℕ). round_up 1 from ∷ l) (offsets_behind (round_up 1 from + length y) ys x)
 
--- and ends so much later
+-- and moves the end by its length
 end_behind : (from : ℕ) (xs : List (List ℕ)) (x : List ℕ) → end_from 1 from (xs ++ x ∷ []) ≡ end_from 1 from xs + length x
 end_behind from [] x = ap (λ (n : ℕ). n + length x) (here from)
 end_behind from (y ∷ ys) x = end_behind (round_up 1 from + length y) ys x
 
--- an item begins where those before it end
+-- an item begins at the end of the items before it
 offset_at : (from i : ℕ) (xs : List (List ℕ)) → i < length xs → get_or (offsets_from 1 from xs) i 0 ≡ end_from 1 from (take i xs)
 offset_at from i [] lt = absurd (omega arith)
 offset_at from zero (x ∷ xs) lt = here from
 offset_at from (suc i) (x ∷ xs) lt = offset_at (round_up 1 from + length x) i xs (omega arith)
 
--- ---- annotations one after the other
+-- ---- annotations in sequence
 
 -- the annotation_items of annotations of the code
 abbrev pub items_of : List Annotation → List (List ℕ)
 items_of xs = map numbered_annotation_bytes (map annotation_of xs)
 
--- where they end
+-- the end of the items
 abbrev pub end_of : ℕ → List Annotation → ℕ
 end_of first xs = end_from 1 first (items_of xs)
 
@@ -64,7 +64,7 @@ one_item xs i d lt e =
     ∙ ap (map numbered_annotation_bytes) (map-append annotation_of (take i xs) (d ∷ []))
     ∙ map-append numbered_annotation_bytes (map annotation_of (take i xs)) (annotation_of d ∷ [])
 
--- one annotation more has an offset more
+-- one more annotation has one more offset
 pub one_offset : (first : ℕ) (xs : List Annotation) (i : ℕ) (d : Annotation) → i < length xs → d ≡ get_or xs i d → offsets_spelled first (take (i + 1) xs) ≡ offsets_spelled first (take i xs) ++ uint (end_of first (take i xs))
 one_offset first xs i d lt e =
     let before = items_of (take i xs) in
@@ -73,11 +73,11 @@ one_offset first xs i d lt e =
     ∙ flat_map-append uint (offsets_from 1 first before) (end_from 1 first before ∷ [])
     ∙ ap (λ (l : List ℕ). flat_map uint (offsets_from 1 first before) ++ l) (append-nil (uint (end_from 1 first before)))
 
--- and ends so much later
+-- and moves the end by its length
 pub next_offset : (first : ℕ) (xs : List Annotation) (i : ℕ) (d : Annotation) → i < length xs → d ≡ get_or xs i d → end_of first (take (i + 1) xs) ≡ end_of first (take i xs) + length (numbered_annotation_bytes (annotation_of d))
 next_offset first xs i d lt e = ap (λ (l : List (List ℕ)). end_from 1 first l) (one_item xs i d lt e) ∙ end_behind first (items_of (take i xs)) (numbered_annotation_bytes (annotation_of d))
 
--- where all offsets are below 2 ^ 32, the end of those before one is
+-- if all offsets are below 2 ^ 32, so is the end of the items before one of them
 pub offset_fits : (first : ℕ) (xs : List Annotation) (i : ℕ) → i < length xs → All (λ n. n < 2 ^ 32) (numbered_offsets first (map annotation_of xs)) → end_of first (take i xs) < 2 ^ 32
 offset_fits first xs i lt all =
     let count : length (items_of xs) ≡ length xs = length-map (map annotation_of xs) numbered_annotation_bytes ∙ length-map xs annotation_of in
@@ -85,7 +85,7 @@ offset_fits first xs i lt all =
     let items : take i (items_of xs) ≡ items_of (take i xs) = take-map numbered_annotation_bytes i (map annotation_of xs) ∙ ap (map numbered_annotation_bytes) (take-map annotation_of i xs) in
     subst (λ (n : ℕ). n < 2 ^ 32) (offset_at first i (items_of xs) (omega (arith, lt, count)) ∙ ap (λ (l : List (List ℕ)). end_from 1 first l) items) at
 
--- an annotation_item has two bytes and more
+-- an annotation_item has at least two bytes
 two_bytes : (a : NumberedAnnotation) → 2 ≤ length (numbered_annotation_bytes a)
 two_bytes a = omega (arith, length-append (uleb128 a.type) (count_bytes (elements_count a.elements) ++ numbered_elements_bytes a.elements), (uleb128_bounds a.type).0)
 
@@ -93,7 +93,7 @@ far : (from : ℕ) (s : NumberedSet) → from + 2 * length s ≤ end_from 1 from
 far from [] = omega arith
 far from (a ∷ s) = omega (arith, two_bytes a, here from, far (round_up 1 from + length (numbered_annotation_bytes a)) s)
 
--- so they are fewer than 2 ^ 32
+-- so there are fewer than 2 ^ 32 annotations
 pub annotations_few : (first : ℕ) (xs : List Annotation) → All (λ n. n < 2 ^ 32) (numbered_offsets first (map annotation_of xs)) → length xs < 2 ^ 31 + 1
 annotations_few first [] all = omega arith
 annotations_few first (x ∷ xs) all =
@@ -107,11 +107,11 @@ offsets_end first xs i end = ap (offsets_spelled first) (take_all i xs end)
 
 -- ---- the item of a set
 
--- has four bytes, and four for each annotation
+-- the item has four bytes, and four for each annotation
 pub set_size : (first : ℕ) (s : NumberedSet) → length (numbered_set_bytes first s) ≡ 4 + 4 * length s
 set_size first s = omega (arith, offsets_bytes-size (numbered_offsets first s), length-offsets_from 1 first (map numbered_annotation_bytes s), length-map s numbered_annotation_bytes)
 
--- and begins with their number
+-- it begins with the number of annotations
 pub set_begins : (first : ℕ) (xs : List Annotation) → uint (length xs) ++ offsets_spelled first xs ≡ numbered_set_bytes first (map annotation_of xs)
 set_begins first xs =
     let count = length-offsets_from 1 first (items_of xs) ∙ length-map (map annotation_of xs) numbered_annotation_bytes ∙ length-map xs annotation_of in
@@ -121,12 +121,12 @@ heavy : (s : NumberedSet) → 4 * length s ≤ sum_by (λ (a : NumberedAnnotatio
 heavy [] = omega arith
 heavy (a ∷ s) = omega (arith, sum_by-cons (λ (x : NumberedAnnotation). 4 + numbered_annotation_weight x) a s, heavy s)
 
--- which is no more than the set weighs, if it has an annotation
+-- if the set has an annotation, the item has at most as many bytes as the set weighs
 pub set_size_is : (first : ℕ) (s : NumberedSet) → 0 < length s → length (numbered_set_bytes first s) ≤ numbered_set_weight s
 set_size_is first [] some = absurd (omega arith)
 set_size_is first (a ∷ s) some = omega (arith, set_size first (a ∷ s), heavy (a ∷ s))
 
--- and offsets that are those of the set that the numbers stand for
+-- the offsets are those of the set that the numbers denote
 offsets_are : (m : Mentions) (from : ℕ) (s : NumberedSet) → AreRising m → IsKnownSet m s → numbered_offsets from s ≡ offsets_from 1 from (map (annotation_bytes m) (set_in m s))
 offsets_are m from [] rising known = refl
 offsets_are m from (a ∷ s) rising known =
@@ -134,7 +134,7 @@ offsets_are m from (a ∷ s) rising known =
     let rest = offsets_are m (round_up 1 from + length (annotation_bytes m (annotation_in m a))) s rising (λ i d lt. known (suc i) d (omega (arith, lt))) in
     ap (λ (l : List ℕ). round_up 1 from ∷ l) (ap (λ (n : ℕ). numbered_offsets (round_up 1 from + n) s) size ∙ rest)
 
--- the set that the numbers stand for
+-- the set that the numbers denote
 pub set_put_is : {T E : Type 0} {u w : Vec ℕ} {r : Result T E} (m : Mentions) (first : ℕ) (x : NumberedSet) → AreRising m → Puts (numbered_set_bytes first x) u w r → (s : AnnotationSet) → StandsForSet m x s
     → Puts (offsets_bytes (offsets_from 1 first (map (annotation_bytes m) s))) u w r
 set_put_is {u = u} {w = w} {r = r} m first x rising h s stands =

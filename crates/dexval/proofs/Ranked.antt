@@ -1,4 +1,4 @@
--- Numbers are determined by what they stand for: each is the rank of its symbol.
+-- A value determines its numbers: each number is the rank of its symbol.
 use Rattle.std.proofs.Common.{◌≡◌, ℕ, [], ◌∷◌, map, refl, ap, sym, ◌∙◌, subst}
 use Rattle.std.specs.Prelude.{◌↔◌, All}
 use Rattle.std.proofs.lemmas.List.Elements.{All-head, All-tail}
@@ -16,7 +16,7 @@ use Rattle.dexval.specs.Renumbering.{renumbered, renumbered_values, renumbered_s
 use Rattle.dexval.specs.Uses.{value_uses, values_uses, set_uses}
 use Rattle.dexval.proofs.Meanings.{value_keeps, values_keep, set_keeps}
 
--- ---- values with the rank of each symbol in its place
+-- ---- values with symbols replaced by their ranks
 
 abbrev mutual
   ranked : Mentions → Value → NumberedValue
@@ -100,7 +100,7 @@ module _ (m : Mentions) (ranks : RanksAreNumbers m) where
   set_ranked (x ∷ xs) h =
       ap (λ (a : NumberedAnnotation). a ∷ map (ranked_annotation m) (set_in m xs)) (annotation_ranked x (All-head (IsKnownAnnotation m) x xs h)) ∙ ap (λ (l : NumberedSet). x ∷ l) (set_ranked xs (All-tail (IsKnownAnnotation m) x xs h))
 
-  -- what stands for the same value is the same
+  -- numbered values that denote the same value are equal
   one_value : (x y : NumberedValue) (v : Value) → StandsFor m x v → StandsFor m y v → x ≡ y
   one_value x y v h k = sym (value_ranked x h.known) ∙ ap (ranked m) (h.means ∙ sym k.means) ∙ value_ranked y k.known
 
@@ -110,7 +110,7 @@ module _ (m : Mentions) (ranks : RanksAreNumbers m) where
   one_set : (xs ys : NumberedSet) (s : AnnotationSet) → StandsForSet m xs s → StandsForSet m ys s → xs ≡ ys
   one_set xs ys s h k = sym (set_ranked xs h.known) ∙ ap (map (ranked_annotation m)) (h.means ∙ sym k.means) ∙ set_ranked ys k.known
 
--- ---- values of two numberings, led to a third
+-- ---- values of two numberings, remapped to a third
 
 module _ (m n whole : Mentions) (r s : Maps) (ranks : RanksAreNumbers whole) (from_first : AllLead m whole r) (from_second : AllLead n whole s) where
   pub same_value : (x y : NumberedValue) (v w : Value) → All (IsLedUse r) (value_uses x) → All (IsLedUse s) (value_uses y) → StandsFor m x v → StandsFor n y w → (renumbered r x ≡ renumbered s y) ↔ (v ≡ w)

@@ -1,4 +1,4 @@
--- Lists whose members are renumbered one by one.
+-- Lists whose members are renumbered one at a time.
 use Rattle.std.proofs.Common.{◌≡◌, ℕ, ◌+◌, ◌<◌, ◌≤◌, List, [], ◌∷◌, ◌++◌, length, drop, take, map, get_or, set, refl, ap, sym, ◌∙◌, subst, arith}
 use Rattle.std.specs.List.{All}
 use Rattle.std.proofs.lemmas.List.{drop-drop, get_or-drop, get_or-map, take_more_set, map-append, map_more, take_all, drop-set-lt, length-set, length-map}
@@ -12,7 +12,7 @@ use Rattle.dexpool.proofs.Parts.{all_front, all_back}
 
 -- ---- a list that is changed member by member
 
--- what the first i members stand for is changed, and the others are as they were
+-- the models of the first i members are changed, the other members are unchanged
 pub record AreLed {X Y : Type 0} (of : X → Y) (f : Y → Y) (i : ℕ) (old new : List X) : Type 0 where
   pub front : map of (take i new) ≡ map f (map of (take i old))
   pub rest : drop i new ≡ drop i old
@@ -23,17 +23,17 @@ same_member xs ys i d e =
     let z : i + 0 ≡ i = omega arith in
     ap (λ (k : ℕ). get_or xs k d) (sym z) ∙ sym (get_or-drop i xs 0 d) ∙ ap (λ zs. get_or zs 0 d) e ∙ get_or-drop i ys 0 d ∙ ap (λ (k : ℕ). get_or ys k d) z
 
--- the next member is the one that was there
+-- the next member is the old one
 pub next_is : {X Y : Type 0} (of : X → Y) (f : Y → Y) (old new : List X) (i : ℕ) (x : X) → AreLed of f i old new → x ≡ get_or new i x → x ≡ get_or old i x
 next_is of f old new i x h e = e ∙ same_member new old i x h.rest
 
--- what held of all that members stood for holds of the next one
+-- a property of all old models holds for the next one
 pub next_member : {X Y : Type 0} (of : X → Y) (f : Y → Y) (P : Y → Type 0) (old new : List X) (i : ℕ) (x : X) → AreLed of f i old new → i < length old → All P (map of old) → x ≡ get_or new i x → P (of x)
 next_member of f P old new i x h lt all e =
     let inside : i < length (map of old) = omega (arith, length-map old of) in
     subst P (get_or-map of old i x (of x) lt ∙ ap of (sym (next_is of f old new i x h e))) (All-get_or P (map of old) i (of x) inside all)
 
--- one member more
+-- one more member
 pub led_more : {X Y : Type 0} (of : X → Y) (f : Y → Y) (old new : List X) (i : ℕ) (x y : X) → AreLed of f i old new → i < length old → x ≡ get_or new i x → of y ≡ f (of x) → AreLed of f (i + 1) old (set new i y)
 led_more of f old new i x y h lt e is =
     let inside : i < length new = omega (arith, h.size) in

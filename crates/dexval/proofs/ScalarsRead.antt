@@ -1,4 +1,5 @@
--- Values that hold no other value, as they are read: what is read stands there, and where nothing is read nothing stands.
+-- Values that hold no other value, as they are read: a value that is read is at the offset, and if none is read, none
+-- is at the offset.
 use Rattle.std.proofs.Common.{◌≡◌, ◌≢◌, ℕ, ◌%◌, List, [], Some, None, refl, ap, sym, subst, ◌∙◌, arith}
 use Rattle.std.specs.Prelude.{slice_index}
 use Rattle.dexspec.specs.Bytes.{number_of}
@@ -16,7 +17,7 @@ module _ (b : List ℕ) (o : ℕ) (m : Mentions) (p : ArePools b m) where
       let same : width ≡ wide = let both : Some width ≡ Some wide = sym w ∙ ap width_of e ∙ x in cc in
       subst (λ (k : ℕ). SizedAt c k b o bytes n) same (subst (λ (k : ℕ). SizedAt k width b o bytes n) e h)
 
-  -- what the bytes spell stands there
+  -- the value of the bytes is at the offset
   pub spelled_stands : (code width : ℕ) (bytes : List ℕ) (n : ℕ) (x : NumberedValue) → width_of code ≡ Some width → SizedAt code width b o bytes n → Spells m code bytes x → IsReadAt b o m 0 x n
   spelled_stands code width bytes n (Plain (ByteLiteral z)) w h s = record { known = tt; stands = (bytes, as_code code 0x00 width 1 bytes n s.0 w refl h, s.1); shallow = omega arith }
   spelled_stands code width bytes n (Plain (ShortLiteral z)) w h s = record { known = tt; stands = (bytes, as_code code 0x02 width 2 bytes n s.0 w refl h, s.1); shallow = omega arith }
@@ -36,18 +37,18 @@ module _ (b : List ℕ) (o : ℕ) (m : Mentions) (p : ArePools b m) where
   spelled_stands code width bytes n (Annotated t es) w h s = absurd s
 
   module _ (c : slice_index b o ≢ 0x1c) (d : slice_index b o ≢ 0x1d) (e : slice_index b o ≢ 0x1e) (f : slice_index b o ≢ 0x1f) (t : slice_index b o ≢ 0x3f) (depth : ℕ) where
-    -- a type code that counts no bytes
+    -- a type code that has no width
     pub no_width : width_of (slice_index b o % 32) ≡ None → NoValueAt b o depth
     no_width none v n h shallow = let s = sized_only b o m v n p c d e f t h in let w = s.wide in cc
 
-    -- bytes that are too many, or not there
+    -- too many bytes, or too few in the file
     pub no_number : (width : ℕ) → width_of (slice_index b o % 32) ≡ Some width → ((xs : List ℕ) (n : ℕ) → SizedAt (slice_index b o % 32) width b o xs n → ⊥) → NoValueAt b o depth
     no_number width w none v n h shallow =
         let s = sized_only b o m v n p c d e f t h in
         let same : s.width ≡ width = let both : Some s.width ≡ Some width = sym s.wide ∙ w in cc in
         none s.bytes n (subst (λ (k : ℕ). SizedAt (slice_index b o % 32) k b o s.bytes n) same s.stands)
 
-    -- the number of no symbol
+    -- the bytes are the number of no symbol
     pub no_symbol : (width : ℕ) (xs : List ℕ) (k : ℕ) → width_of (slice_index b o % 32) ≡ Some width → SizedAt (slice_index b o % 32) width b o xs k → IsUnknown m (slice_index b o % 32) xs → NoValueAt b o depth
     no_symbol width xs k w g u v n h shallow =
         let s = sized_only b o m v n p c d e f t h in

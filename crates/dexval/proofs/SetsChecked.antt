@@ -1,4 +1,4 @@
--- The annotations of a set, as they are checked one after the other.
+-- The annotations of a set, checked one after the other.
 use Rattle.std.proofs.Common.{◌≡◌, ℕ, ◌+◌, ◌*◌, ◌<◌, ◌≤◌, List, [], ◌∷◌, ◌++◌, length, sum_by, refl, sym, subst, ◌∙◌, arith}
 use Rattle.std.proofs.lemmas.List.{length-map}
 use Rattle.std.proofs.lemmas.List.Sums.{sum_by-append, sum_by-cons}
@@ -17,7 +17,7 @@ use Rattle.dexval.specs.Spelled.{numbered_annotation_weight, numbered_set_weight
 use Rattle.dexval.proofs.SetsRead.{HaveReadSet, item_read, none_read, one_more, no_next, no_order, all_read}
 use Rattle.dexval.proofs.Weights.{set_weight_is}
 
--- an annotation_item is there, and what it weighs
+-- an annotation_item is at the offset; its weight
 pub item_checked : (b : List ℕ) (off : ℕ) (m : Mentions) (visibility typ n weight : ℕ) → data_off b ≤ off → off < length b → slice_index b off ≡ visibility → visibility ≤ 2 → HasAnnotation b (off + 1) m most_depth typ n weight → HasItem b off m typ weight
 item_checked b off m visibility typ n weight in_data lt is known h = record {
   item = record { visibility = visibility; type = typ; elements = h.elements };
@@ -26,11 +26,11 @@ item_checked b off m visibility typ n weight in_data lt is known h = record {
   weighs = h.weighs;
 }
 
--- what an annotation of a set weighs with its offset
+-- the weight of an annotation in a set, with its offset
 abbrev pub listed : NumberedAnnotation → ℕ
 listed a = 4 + numbered_annotation_weight a
 
--- the first i of `count` annotations were checked, and have types of lesser numbers
+-- the first i of `count` annotations were checked, and the numbers of their types are below `least`
 pub record SetChecked (b : List ℕ) (p : ℕ) (m : Mentions) (count i least weight : ℕ) : Type 0 where
   pub annotations : NumberedSet
   pub so_far : HaveReadSet b p m count i least annotations
@@ -55,7 +55,7 @@ module _ (b : List ℕ) (m : Mentions) (file : AreFilePools b m) where
     weighed = omega (arith, sum_by-append listed h.annotations (r.item ∷ []), sum_by-cons listed r.item [], h.weighed, r.weighs);
   }
 
-  -- where the next is no annotation, or one whose type does not come after, there is no set
+  -- if the next is no annotation, or its type is not greater, there is no set
   pub no_item_next : (o i least weight : ℕ) → i < uint_at b o → SetChecked b (o + 4) m (uint_at b o) i least weight → NoItemAt b (uint_at b (o + 4 + 4 * i)) → NoSetAt b o
   no_item_next o i least weight lt h none = no_next b m file o i least h.annotations lt h.so_far none
 

@@ -1,5 +1,5 @@
--- The annotations of a set, as they are read: their types rise as their numbers do, those that were read stand there, and
--- the rest of what stands there stands behind them.
+-- The annotations of a set that are read one after the other: the numbers of their types rise as the types do, the
+-- annotations that were read are in the file, and the other annotations come after them.
 use Rattle.std.proofs.Common.{◌≡◌, ℕ, zero, suc, ◌+◌, ◌-◌, ◌*◌, ◌<◌, ◌≤◌, true, List, [], ◌∷◌, ◌++◌, length, map, refl, ap, sym, subst, ◌∙◌, arith}
 use Rattle.std.specs.Prelude.{slice_index}
 use Rattle.std.specs.List.{AllZip}
@@ -54,7 +54,7 @@ zip_more R [] (y ∷ ys) a x h r = absurd h
 zip_more R (c ∷ cs) [] a x h r = absurd h
 zip_more R (c ∷ cs) (y ∷ ys) a x h r = (h.0, zip_more R cs ys a x h.1 r)
 
--- one text more behind rising ones
+-- rising texts with one more text at the end
 rises_more : (ns : List Text) (s t : Text) → rises text_cmp (ns ++ s ∷ []) ≡ true → is_lt (text_cmp s t) ≡ true → rises text_cmp ((ns ++ s ∷ []) ++ t ∷ []) ≡ true
 rises_more [] s t h lt = and_both (is_lt (text_cmp s t)) true lt refl
 rises_more (n ∷ []) s t h lt = and_both (is_lt (text_cmp n s)) (rises text_cmp (s ∷ t ∷ [])) (and_first (is_lt (text_cmp n s)) true h) (and_both (is_lt (text_cmp s t)) true lt refl)
@@ -67,15 +67,15 @@ abbrev pub IsAbove : List ℕ → ℕ → AnnotationSet → Type 0
 IsAbove b least [] = Unit {0}
 IsAbove b least (a ∷ s) = (index : ℕ) → TypeRow b index a.type → least ≤ index
 
--- so many annotations stand at the offsets from here on, and their types rise from this number on
+-- `count` annotations are at the offsets from here on, and their types rise from `least` on
 pub record RestOf (b : List ℕ) (p count least : ℕ) : Type 0 where
   pub set : AnnotationSet
   pub stand : AllZip (AnnotationAt b) (uints_at b p count) set
   pub rise : rises text_cmp (map (λ a. a.type) set) ≡ true
   pub above : IsAbove b least set
 
--- the first i of so many annotations were read, and have types of lesser numbers; whatever so many annotations stand there,
--- the rest of them stands behind these
+-- the first i of `count` annotations were read, and the numbers of their types are below `least`; if `count`
+-- annotations are in the file, the other annotations come after these
 pub record HaveReadSet (b : List ℕ) (p : ℕ) (m : Mentions) (count i least : ℕ) (xs : List NumberedAnnotation) : Type 0 where
   pub known : IsKnownSet m xs
   pub stand : AllZip (AnnotationAt b) (uints_at b p i) (set_in m xs)
@@ -110,7 +110,7 @@ module _ (b : List ℕ) (m : Mentions) (file : AreFilePools b m) where
   rise_next t [] h = refl
   rise_next t (a ∷ s) h = and_second (is_lt (text_cmp t a.type)) (rises text_cmp (a.type ∷ map (λ a. a.type) s)) h
 
-  -- the annotation that comes next, and those behind it
+  -- the next annotation, and the annotations after it
   record Next (p left least : ℕ) : Type 0 where
     first : Annotation
     index : ℕ
@@ -147,7 +147,7 @@ module _ (b : List ℕ) (m : Mentions) (file : AreFilePools b m) where
     rest = λ r. let at : p ≡ p + 4 * 0 = omega arith in let left : count ≡ count - 0 = omega arith in subst (λ (o : ℕ). RestOf b o (count - 0) 0) at (subst (λ (c : ℕ). RestOf b p c 0) left r);
   }
 
-  -- one annotation more was read
+  -- one more annotation was read
   pub one_more : (p count i least : ℕ) (xs : List NumberedAnnotation) (x : NumberedAnnotation) → i < count → least ≤ x.type → HaveReadSet b p m count i least xs → IsItemAt b (uint_at b (p + 4 * i)) m x → HaveReadSet b p m count (i + 1) (x.type + 1) (xs ++ x ∷ [])
   one_more p count i least xs x lt le h r =
       let types = map (λ (y : NumberedAnnotation). type_at m y.type) in
@@ -182,13 +182,13 @@ module _ (b : List ℕ) (m : Mentions) (file : AreFilePools b m) where
   rest_of : (o : ℕ) (s : AnnotationSet) → SetAt b o s → RestOf b (o + 4) (uint_at b o) 0
   rest_of o s h = record { set = s; stand = h.annotations; rise = h.rise; above = all_above s }
 
-  -- what comes next is no annotation
+  -- the next item is no annotation
   pub no_next : (o i least : ℕ) (xs : List NumberedAnnotation) → i < uint_at b o → HaveReadSet b (o + 4) m (uint_at b o) i least xs → NoItemAt b (uint_at b (o + 4 + 4 * i)) → NoSetAt b o
   no_next o i least xs lt h none s set =
       let n = next (o + 4 + 4 * i) (uint_at b o - i) least (omega arith) (h.rest (rest_of o s set)) in
       none n.first n.stands
 
-  -- or one whose type does not come behind
+  -- or its type is not greater
   pub no_order : (o i least : ℕ) (xs : List NumberedAnnotation) (x : NumberedAnnotation) → i < uint_at b o → HaveReadSet b (o + 4) m (uint_at b o) i least xs → IsItemAt b (uint_at b (o + 4 + 4 * i)) m x → x.type < least → NoSetAt b o
   no_order o i least xs x lt h r less s set =
       let n = next (o + 4 + 4 * i) (uint_at b o - i) least (omega arith) (h.rest (rest_of o s set)) in
@@ -219,6 +219,6 @@ module _ (b : List ℕ) (m : Mentions) (file : AreFilePools b m) where
       types_of [] = refl
       types_of (y ∷ ys) = ap (λ (l : List Text). type_at m y.type ∷ l) (types_of ys)
 
--- where there is no room for the offsets, no set stands
+-- without room for the offsets there is no set
 pub no_room : (b : List ℕ) (o : ℕ) → (HasOffsets b o → ⊥) → NoSetAt b o
 no_room b o none s h = none (record { in_data = h.in_data; aligned = h.aligned })

@@ -1,4 +1,4 @@
--- What value can stand at an offset, by its first byte.
+-- The values that may be at an offset, by the first byte.
 use Rattle.std.proofs.Common.{◌≡◌, ◌≢◌, ◌⊎◌, ℕ, suc, ◌-◌, ◌%◌, ◌<◌, List, [], ◌∷◌, length, drop, take, get_or, Some, None, refl, ap, subst, ◌∙◌, arith, inl, inr}
 use Rattle.std.specs.Prelude.{true, false, slice_index}
 use Rattle.std.proofs.Math.Seq.{drop-cons}
@@ -14,21 +14,21 @@ use Rattle.dexval.specs.Scalars.{width_of, kind_of_code}
 
 -- ---- the first byte
 
--- what stands at an offset begins there
+-- bytes that are at an offset begin there
 pub within_is : (b : List ℕ) (o x : ℕ) (xs : List ℕ) → Stands b o (x ∷ xs) → o < length b
 within_is b o x xs h = omega (arith, stands_within h)
 
--- it begins with the byte that is there
+-- the first of them is the byte at the offset
 pub first_is : (b : List ℕ) (o x : ℕ) (xs : List ℕ) → Stands b o (x ∷ xs) → slice_index b o ≡ x
 first_is b o x xs h =
     let own : Stands b o (get_or b o 0 ∷ []) = record { here = ap (take 1) (drop-cons b o 0 (within_is b o x xs h)) } in
     same_first (get_or b o 0) x [] xs own h
 
--- and a byte that is there stands there
+-- a single byte is at its offset
 pub stands_byte : (b : List ℕ) (o x : ℕ) → o < length b → slice_index b o ≡ x → Stands b o (x ∷ [])
 stands_byte b o x lt e = record { here = ap (take 1) (drop-cons b o 0 lt) ∙ ap (λ (y : ℕ). y ∷ []) e }
 
--- the bytes that an argument counts are those that stand there
+-- the bytes of the number are the bytes of the file at the offset
 pub one_number : (code width wide : ℕ) (b : List ℕ) (o : ℕ) (xs ys : List ℕ) (n k : ℕ) → SizedAt code width b o xs n → SizedAt code wide b o ys k → xs ≡ ys
 one_number code width wide b o xs ys n k h g =
     let first = same_first (value_byte (length xs - 1) code) (value_byte (length ys - 1) code) xs ys h.stands g.stands in
@@ -41,14 +41,14 @@ one_number code width wide b o xs ys n k h g =
 abbrev pub IsFixed : ℕ → Type 0
 IsFixed first = (first ≡ 0x1e) ⊎ (first ≡ 0x1f) ⊎ (first ≡ 0x3f)
 
--- a value is a number of some bytes, which is that of a symbol if it names one, a byte alone, an array, or an annotation
+-- a value is a number of some bytes (perhaps that of a symbol), a single byte, an array, or an annotation
 data Shape (b : List ℕ) (o : ℕ) (m : Mentions) (v : Value) (n : ℕ) : Type 0 where
   sized : (code width : ℕ) (bytes : List ℕ) → code < 32 → width_of code ≡ Some width → SizedAt code width b o bytes n → ((kind : SymbolKind) → kind_of_code code ≡ Some kind → number_of bytes < count_of kind m) → Shape b o m v n
   fixed : (first : ℕ) → IsFixed first → Stands b o (first ∷ []) → Shape b o m v n
   array : (vs : Values) → v ≡ ArrayValue vs → Stands b o (0x1c ∷ []) → Shape b o m v n
   annotation : (t : Text) (es : Elements) → v ≡ AnnotationValue t es → Stands b o (0x1d ∷ []) → Shape b o m v n
 
--- a number that names nothing
+-- a number that denotes no symbol
 plain : {b : List ℕ} {o : ℕ} {m : Mentions} {v : Value} {n : ℕ} (code width : ℕ) (bytes : List ℕ) → code < 32 → width_of code ≡ Some width → kind_of_code code ≡ None → SizedAt code width b o bytes n → Shape b o m v n
 plain code width bytes lt w none h = sized code width bytes lt w h (λ kind e. absurd cc)
 
@@ -56,7 +56,7 @@ plain code width bytes lt w none h = sized code width bytes lt w h (λ kind e. a
 naming : {b : List ℕ} {o : ℕ} {m : Mentions} {v : Value} {n : ℕ} (code : ℕ) (kind : SymbolKind) (bytes : List ℕ) (i : ℕ) → code < 32 → width_of code ≡ Some 4 → kind_of_code code ≡ Some kind → SizedAt code 4 b o bytes n → i ≡ number_of bytes → i < count_of kind m → Shape b o m v n
 naming {m = m} code kind bytes i lt w named h is known = sized code 4 bytes lt w h (λ other e. let same : kind ≡ other = cc in subst (λ (k : SymbolKind). number_of bytes < count_of k m) same (subst (λ (x : ℕ). x < count_of kind m) is known))
 
--- each value that stands in a file has its shape
+-- each value in a file has its shape
 shape : (b : List ℕ) (o : ℕ) (m : Mentions) (v : Value) (n : ℕ) → ArePools b m → ValueAt b o v n → Shape b o m v n
 shape b o m (ByteValue z) n p h = plain byte_value_type 1 h.0 (omega arith) refl refl h.1
 shape b o m (ShortValue z) n p h = plain short_value_type 2 h.0 (omega arith) refl refl h.1
@@ -78,11 +78,11 @@ shape b o m (BooleanValue true) n p h = fixed 0x3f (inr (inr refl)) h.0
 
 -- ---- what follows from the first byte
 
--- a byte of an array, of an annotation or of a fixed value has no width
+-- the first byte of an array, an annotation or a fixed value has no width
 no_width_of : (first code width len : ℕ) → code < 32 → first ≡ value_byte (len - 1) code → width_of code ≡ Some width → (c : ℕ) → first % 32 ≡ c → width_of c ≡ Some width
 no_width_of first code width len lt e w c is = let same : code ≡ c = omega arith in subst (λ (k : ℕ). width_of k ≡ Some width) same w
 
--- a value begins where there is a byte
+-- a value begins inside the file
 pub value_within : (b : List ℕ) (o : ℕ) (m : Mentions) (v : Value) (n : ℕ) → ArePools b m → ValueAt b o v n → o < length b
 value_within b o m v n p h =
     elim (shape b o m v n p h) [
@@ -102,7 +102,7 @@ array_only b o m v n p is h =
       | annotation t es e s ↦ absurd (let e = first_is b o 0x1d [] s in omega arith)
     ]
 
--- nor is that of an annotation
+-- the first byte of an annotation is that of no other value
 pub annotation_only : (b : List ℕ) (o : ℕ) (m : Mentions) (v : Value) (n : ℕ) → ArePools b m → slice_index b o ≡ 0x1d → ValueAt b o v n → (t : Text) × (es : Elements) × (v ≡ AnnotationValue t es)
 annotation_only b o m v n p is h =
     elim (shape b o m v n p h) [
@@ -112,7 +112,7 @@ annotation_only b o m v n p is h =
       | annotation t es e s ↦ (t, es, e)
     ]
 
--- a number behind a first byte
+-- a number after a first byte
 pub record IsSized (b : List ℕ) (o : ℕ) (m : Mentions) (n : ℕ) : Type 0 where
   pub width : ℕ
   pub bytes : List ℕ
@@ -120,7 +120,7 @@ pub record IsSized (b : List ℕ) (o : ℕ) (m : Mentions) (n : ℕ) : Type 0 wh
   pub stands : SizedAt (slice_index b o % 32) width b o bytes n
   pub known : (kind : SymbolKind) → kind_of_code (slice_index b o % 32) ≡ Some kind → number_of bytes < count_of kind m
 
--- behind any other first byte stands a number
+-- after any other first byte comes a number
 pub sized_only : (b : List ℕ) (o : ℕ) (m : Mentions) (v : Value) (n : ℕ) → ArePools b m → slice_index b o ≢ 0x1c → slice_index b o ≢ 0x1d → slice_index b o ≢ 0x1e → slice_index b o ≢ 0x1f → slice_index b o ≢ 0x3f → ValueAt b o v n → IsSized b o m n
 sized_only b o m v n p c d e f t h =
     elim (shape b o m v n p h) [

@@ -19,7 +19,7 @@ unfolding number_of
 number_is [] = refl
 number_is (a ∷ bytes) = ap (λ (x : ℕ). a + 256 * x) (little_from-cons 0 (length bytes) a bytes ∙ number_is bytes)
 
--- half of the room of n bytes
+-- half of the range of n bytes
 half : (n : ℕ) → 0 < n → 2 ^ (8 * n) ≡ 2 * 2 ^ (8 * n - 1)
 half n some = let e : 8 * n ≡ suc (8 * n - 1) = omega arith in ap (λ (k : ℕ). 2 ^ k) e ∙ omega (arith, pow-suc 2 (8 * n - 1))
 
@@ -37,15 +37,15 @@ signed_is bytes some = complement_is (length bytes) (little_number (length bytes
 
 -- ---- how large they are
 
--- a list of bytes, in which each place has one
+-- a list in which each element is a byte
 are : (bytes : List ℕ) → ((i : ℕ) → get_or bytes i 0 < 256) → All (λ x. x < 256) bytes
 are bytes each i d lt = subst (λ (x : ℕ). x < 256) (get_or_default bytes i 0 d lt) (each i)
 
--- an unsigned number has room in as many bytes, and in more
+-- an unsigned number fits in its bytes, and in more bytes
 pub number_room : (bytes : List ℕ) (n : ℕ) → ((i : ℕ) → get_or bytes i 0 < 256) → length bytes ≤ n → number_of bytes < 256 ^ n
 number_room bytes n each le = let grows : 256 ^ length bytes ≤ 256 ^ n = pow-le-pow_right (omega arith) le in omega (arith, grows, number_bound bytes (are bytes each))
 
--- so has a signed one
+-- a signed number fits too
 pub signed_room : (bytes : List ℕ) (z : ℤ) (n : ℕ) → ((i : ℕ) → get_or bytes i 0 < 256) → 0 < length bytes → z ≡ signed_in (length bytes) (number_of bytes) → length bytes ≤ n → 2 * magnitude z < 256 ^ n
 signed_room bytes z n each some is le = let grows : 256 ^ length bytes ≤ 256 ^ n = pow-le-pow_right (omega arith) le in omega (arith, grows, signed_in_room bytes z (are bytes each) some (sym is))
 

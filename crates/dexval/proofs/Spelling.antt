@@ -1,4 +1,5 @@
--- What is spelled with numbers is what is spelled for the symbols that they stand for, and is no longer than it weighs.
+-- The encoding of numbered items is the encoding of the symbols that the numbers denote, and is at most as long as the
+-- items weigh.
 use Rattle.std.proofs.Common.{◌≡◌, ℕ, suc, ◌+◌, ◌^◌, ◌<◌, ◌≤◌, List, [], ◌∷◌, ◌++◌, length, refl, sym, ap, ◌∙◌, subst, arith}
 use Rattle.std.specs.Prelude.{Result}
 use Rattle.std.specs.Global.{Vec}
@@ -63,11 +64,11 @@ elements_count_is : (m : Mentions) (es : NumberedElements) → elements_count es
 elements_count_is m NoElement = refl
 elements_count_is m (ThenNamed name x es) = omega (arith, elements_count_is m es)
 
--- of values with their count, where those of the values are
+-- values with their count, if each value has its bytes
 array_by : (m : Mentions) (xs : NumberedValues) → values_count xs < 2 ^ 32 → numbered_values_bytes xs ≡ values_bytes m (values_in m xs) → numbered_array_bytes xs ≡ encoded_array_bytes m (values_in m xs)
 array_by m xs few e = ap (λ (l : List ℕ). l ++ numbered_values_bytes xs) (count_is (values_count xs) few) ∙ ap (λ (n : ℕ). uleb128 n ++ numbered_values_bytes xs) (values_count_is m xs) ∙ ap (λ (l : List ℕ). uleb128 (count_values (values_in m xs)) ++ l) e
 
--- of a type and elements with their count, where those of the elements are
+-- a type and elements with their count, if each element has its bytes
 annotation_by : (m : Mentions) (t : ℕ) (es : NumberedElements) → AreRising m → t < length m.types → elements_count es < 2 ^ 32 → numbered_elements_bytes es ≡ elements_bytes m (elements_in m es)
     → encoded_annotation_bytes t es ≡ uleb128 (type_index m (type_at m t)) ++ (uleb128 (length (names_of (elements_in m es))) ++ elements_bytes m (elements_in m es))
 annotation_by m t es r lt few e =
@@ -77,20 +78,20 @@ annotation_by m t es r lt few e =
     ∙ ap (λ (l : List ℕ). uleb128 (type_index m (type_at m t)) ++ (uleb128 (length (names_of (elements_in m es))) ++ l)) e
 
 mutual
-  -- of a value
+  -- a value
   pub bytes_are : (m : Mentions) (x : NumberedValue) → AreRising m → IsCounted x → IsKnown m x → numbered_bytes x ≡ value_bytes m (value_in m x)
   bytes_are m (Plain l) r few h = literal_is m l
   bytes_are m (Named k i) r few h = named_is m k i r h
   bytes_are m (Array xs) r few h = ap (λ (l : List ℕ). 28 ∷ l) (array_by m xs few.0 (values_bytes_are m xs r few.1 h))
   bytes_are m (Annotated t es) r few h = ap (λ (l : List ℕ). 29 ∷ l) (annotation_by m t es r h.0 few.0 (elements_bytes_are m es r few.1 h.1))
 
-  -- of values
+  -- values
   values_bytes_are : (m : Mentions) (xs : NumberedValues) → AreRising m → AreCounted xs → AreKnown m xs → numbered_values_bytes xs ≡ values_bytes m (values_in m xs)
   values_bytes_are m NoValue r few h = refl
   values_bytes_are m (ThenNext x xs) r few h =
       ap (λ (l : List ℕ). l ++ numbered_values_bytes xs) (bytes_are m x r few.0 h.0) ∙ ap (λ (l : List ℕ). value_bytes m (value_in m x) ++ l) (values_bytes_are m xs r few.1 h.1)
 
-  -- of elements
+  -- elements
   elements_bytes_are : (m : Mentions) (es : NumberedElements) → AreRising m → HaveCounted es → HaveKnown m es → numbered_elements_bytes es ≡ elements_bytes m (elements_in m es)
   elements_bytes_are m NoElement r few h = refl
   elements_bytes_are m (ThenNamed name x es) r few h =
@@ -98,15 +99,15 @@ mutual
       ∙ ap (λ (l : List ℕ). uleb128 (text_index m (text_at m name)) ++ (l ++ numbered_elements_bytes es)) (bytes_are m x r few.0 h.1)
       ∙ ap (λ (l : List ℕ). uleb128 (text_index m (text_at m name)) ++ (value_bytes m (value_in m x) ++ l)) (elements_bytes_are m es r few.1 h.2)
 
--- of values with their count
+-- values with their count
 array_bytes_are : (m : Mentions) (xs : NumberedValues) → AreRising m → values_count xs < 2 ^ 32 → AreCounted xs → AreKnown m xs → numbered_array_bytes xs ≡ encoded_array_bytes m (values_in m xs)
 array_bytes_are m xs rising few counted known = array_by m xs few (values_bytes_are m xs rising counted known)
 
--- of an annotation
+-- an annotation
 annotation_bytes_are : (m : Mentions) (x : NumberedAnnotation) → AreRising m → IsCountedAnnotation x → IsKnownAnnotation m x → numbered_annotation_bytes x ≡ annotation_bytes m (annotation_in m x)
 annotation_bytes_are m x rising counted known = ap (λ (l : List ℕ). x.visibility ∷ l) (annotation_by m x.type x.elements rising known.type_in counted.0 (elements_bytes_are m x.elements rising counted.1 known.elements_known))
 
--- ---- what was put
+-- ---- appended bytes
 
 pub value_put_is : {T E : Type 0} {u w : Vec ℕ} {r : Result T E} (m : Mentions) (x : NumberedValue) → AreRising m → Puts (numbered_bytes x) u w r → (v : Value) → IsCounted x → StandsFor m x v → Puts (value_bytes m v) u w r
 value_put_is {u = u} {w = w} {r = r} m x rising h v counted stands = subst (λ (l : List ℕ). Puts l u w r) (bytes_are m x rising counted stands.known ∙ ap (value_bytes m) stands.means) h

@@ -1,4 +1,4 @@
--- Tables of sets to which sets and lists are added.
+-- Sets and lists added to tables of sets.
 use Rattle.std.proofs.Common.{◌≡◌, ℕ, ◌+◌, List, [], ◌∷◌, ◌++◌, length, map, refl, ap, ◌∙◌, inl, inr, arith, Option, Some, None, slice_index_or, length-append}
 use Rattle.std.specs.List.{All}
 use Rattle.std.proofs.lemmas.List.{get_or_append_left, get_or-append-add}
@@ -27,7 +27,7 @@ extends_then t u v f g = record {
   listed_stay = λ i h. g.listed_stay i (f.listed_stay i h);
 }
 
--- a set behind the others leaves them where they are
+-- adding a set at the end keeps the places of the others
 set_stays : (sets : List NumberedSet) (s : NumberedSet) (place : Option ℕ) → IsPlaceIn sets place → set_at (sets ++ s ∷ []) place ≡ set_at sets place
 set_stays sets s None h = refl
 set_stays sets s (Some i) h = get_or_append_left sets (s ∷ []) [] i h
@@ -59,12 +59,12 @@ list_added t l = record {
   listed_stay = λ i listed. (listed.0, Contains-append_left t.lists (l ∷ []) listed.0 listed.1, listed.2);
 }
 
--- ---- names of what is new
+-- ---- names of new items
 
 pub none_new : (S L : ℕ → Type 0) (t : NumberedTable) → AreNewNamed S L t t
 none_new S L t = record { set_named = λ i lt. inl lt; list_named = λ i lt. inl lt }
 
--- what is new in two steps has the names of both
+-- the items that are new in two steps have the names of both steps
 pub new_then : {S1 L1 S2 L2 S L : ℕ → Type 0} (t u v : NumberedTable) → ((i : ℕ) → S1 i → S i) → ((i : ℕ) → L1 i → L i) → ((i : ℕ) → S2 i → S i) → ((i : ℕ) → L2 i → L i)
     → AreNewNamed S1 L1 t u → AreNewNamed S2 L2 u v → AreNewNamed S L t v
 new_then t u v s1 l1 s2 l2 h g = record {
@@ -78,13 +78,13 @@ new_then t u v s1 l1 s2 l2 h g = record {
   ];
 }
 
--- the last of a list
+-- the last element of a list
 last_is : {X : Type 0} (xs : List X) (x : X) (i : ℕ) (d : X) → i ≡ length xs → slice_index_or (xs ++ x ∷ []) i d ≡ x
 last_is xs x i d e =
     let place : i ≡ length xs + 0 = omega (arith, e) in
     ap (λ (k : ℕ). slice_index_or (xs ++ x ∷ []) k d) place ∙ get_or-append-add xs (x ∷ []) 0 d
 
--- what was added is what stands at the place that is new
+-- the added item is at the new place
 pub set_is_added : (t u : NumberedTable) (s : NumberedSet) (i : ℕ) → i ≡ length t.sets → u ≡ record { sets = t.sets ++ s ∷ []; lists = t.lists } → set_at u.sets (Some i) ≡ s
 set_is_added t u s i e is = ap (λ (v : NumberedTable). set_at v.sets (Some i)) is ∙ last_is t.sets s i [] e
 

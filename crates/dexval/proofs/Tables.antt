@@ -1,4 +1,4 @@
--- Tables of sets: what is looked up in them.
+-- Lookups in tables of sets.
 use Rattle.std.proofs.Common.{◌≡◌, ℕ, ◌<◌, ◌≤◌, List, [], ◌∷◌, length, map, get_or, refl, ap, sym, subst, ◌∙◌, arith, Option, Some, None}
 use Rattle.std.specs.Prelude.{IsSome}
 use Rattle.std.specs.List.{All}
@@ -6,25 +6,25 @@ use Rattle.std.proofs.lemmas.List.{get_or-map, length-map}
 use Rattle.std.proofs.lemmas.List.Elements.{All-get_or, All-head, All-tail}
 use Rattle.dexval.specs.Tables.{IsPlaceIn}
 
--- what holds of all that members stand for holds of one of them
+-- a property of all models holds for the model of one member
 pub mapped_at : {X Y : Type 0} (of : X → Y) (P : Y → Type 0) (xs : List X) (i : ℕ) (x : X) → i < length xs → x ≡ get_or xs i x → All P (map of xs) → P (of x)
 mapped_at of P xs i x lt e all = subst P (get_or-map of xs i x (of x) lt ∙ ap of (sym e)) (All-get_or P (map of xs) i (of x) (omega (arith, lt, length-map xs of)) all)
 
--- a place is one of a longer list
+-- a place of a list is a place of a longer list
 pub place_later : {X Y : Type 0} (xs : List X) (ys : List Y) → length xs ≤ length ys → (place : Option ℕ) → IsPlaceIn xs place → IsPlaceIn ys place
 place_later xs ys le None h = tt
 place_later xs ys le (Some i) h = omega (arith, le, h)
 
--- what two functions make of a list is the same where they are the same at each member
+-- two functions that are equal at each member map a list to equal lists
 pub map_stays : {A X : Type 0} (f g : A → X) (P : A → Type 0) → ((a : A) → P a → g a ≡ f a) → (xs : List A) → All P xs → map g xs ≡ map f xs
 map_stays f g P same [] h = refl
 map_stays f g P same (x ∷ xs) h = ap (λ y. y ∷ map g xs) (same x (All-head P x xs h)) ∙ ap (λ ys. f x ∷ ys) (map_stays f g P same xs (All-tail P x xs h))
 
--- what holds of all members holds of them in another way
+-- a property of all members implies another
 pub all_as : {A : Type 0} (P Q : A → Type 0) → ((a : A) → P a → Q a) → (xs : List A) → All P xs → All Q xs
 all_as P Q goes xs h = λ k d lt. goes _ (h k d lt)
 
--- no place is none
+-- the absent place is not present
 pub not_some : (o : Option ℕ) → o ≡ None → IsSome o → ⊥
 not_some None e h = absurd cc
 not_some (Some i) e h = absurd cc

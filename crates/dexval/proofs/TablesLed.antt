@@ -1,4 +1,4 @@
--- Sets of a table that are led on one by one, where they fit.
+-- Sets of a table that are remapped one at a time, if they fit.
 use Rattle.std.proofs.Common.{◌≡◌, ℕ, zero, suc, ◌+◌, ◌<◌, ◌≤◌, List, [], ◌∷◌, length, map, get_or, set, refl, ap, sym, ◌∙◌, subst, arith, inl, inr, Option, Some, None}
 use Rattle.std.proofs.lemmas.Bool.{cases_lt}
 use Rattle.std.proofs.lemmas.List.{length-set}
@@ -8,13 +8,13 @@ use Rattle.dexval.specs.Renumbering.{renumbered_set, SetHasPlaces}
 use Rattle.dexval.specs.Tables.{IsLedSet, set_at}
 use Rattle.dexval.specs.declared.set.AnnotationSet.{AnnotationSet}
 
--- the first i sets are led on, and the others are as they were
+-- the first i sets are remapped, and the others are unchanged
 pub record AreSettled (r : Maps) (i : ℕ) (old new : List AnnotationSet) : Type 0 where
   pub done : (k : ℕ) (d : AnnotationSet) → k < i → k < length old → IsLedSet r (set_of (get_or old k d)) (set_of (get_or new k d))
   pub rest : (k : ℕ) (d : AnnotationSet) → i ≤ k → get_or new k d ≡ get_or old k d
   pub size : length new ≡ length old
 
--- one more, which stays since it has no places
+-- one more set, which is unchanged since its numbers have no places
 pub settled_stays : (r : Maps) (old new : List AnnotationSet) (i : ℕ) (x : AnnotationSet) → AreSettled r i old new → i < length old → x ≡ get_or new i x → (SetHasPlaces r (set_of x) → ⊥) → AreSettled r (i + 1) old new
 settled_stays r old new i x h lt e none = record {
   done = λ k d less inside. elim (cases_lt k i) [
@@ -33,7 +33,7 @@ settled_stays r old new i x h lt e none = record {
     default (x ∷ xs) zero d e lt = refl
     default (x ∷ xs) (suc n) d e lt = default xs n d e (omega arith)
 
--- one more, which is led on
+-- one more set, which is remapped
 pub settled_led : (r : Maps) (old new : List AnnotationSet) (i : ℕ) (x y : AnnotationSet) → AreSettled r i old new → i < length old → x ≡ get_or new i x → SetHasPlaces r (set_of x) → set_of y ≡ renumbered_set r (set_of x) → AreSettled r (i + 1) old (set new i y)
 settled_led r old new i x y h lt e fits is =
     let inside_new : i < length new = omega (arith, h.size, lt) in
@@ -84,7 +84,7 @@ all_settled r old new i h le (Some k) = at old new h.size k (λ d lt. h.done k d
     at (x ∷ xs) (y ∷ ys) size zero each = each x (omega arith)
     at (x ∷ xs) (y ∷ ys) size (suc k) each = at xs ys (omega (arith, size)) k (λ d lt. each d (omega (arith, lt)))
 
--- what stands at a place is one set
+-- there is one set at a place
 pub one_here : (xs : List AnnotationSet) (i : ℕ) (x y : AnnotationSet) → x ≡ get_or xs i x → y ≡ get_or xs i y → i < length xs → x ≡ y
 one_here xs i x y e f lt = e ∙ default xs i x y lt ∙ sym f
   where

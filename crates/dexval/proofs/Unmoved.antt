@@ -1,4 +1,4 @@
--- Where no number leads anywhere, all stays as it is.
+-- A map without images changes nothing.
 use Rattle.std.proofs.Common.{◌≡◌, ℕ, Bool, true, false, [], ◌∷◌, refl, ap, sym, ◌∙◌}
 use Rattle.std.specs.Prelude.{IsTrue, ◌↔◌}
 use Rattle.std.specs.Bool.{Decides}
@@ -8,7 +8,7 @@ use Rattle.dexpool.specs.Numberings.{Maps}
 use Rattle.dexval.specs.Numbered.{NumberedValue, NumberedValues, NumberedElements, NumberedAnnotation, NumberedSet, Plain, Named, Array, Annotated, NoValue, ThenNext, NoElement, ThenNamed, kind_of_reference}
 use Rattle.dexval.specs.Renumbering.{led, renumbered, renumbered_values, renumbered_elements, renumbered_set}
 
--- no number leads anywhere
+-- the map without images
 abbrev pub nowhere : Maps
 nowhere = record { texts = []; types = []; protos = []; fields = []; methods = [] }
 
@@ -42,13 +42,13 @@ pub set_stays : (s : NumberedSet) → renumbered_set nowhere s ≡ s
 set_stays [] = refl
 set_stays (a ∷ s) = ap (λ (b : NumberedAnnotation). b ∷ renumbered_set nowhere s) (ap (annotation_with a.visibility a.type) (elements_stay a.elements)) ∙ ap (λ (l : NumberedSet). a ∷ l) (set_stays s)
 
--- two answers to one question
+-- two results that decide the same statement are equal
 by_answer : {P : Type 0} (r b : Bool) → (IsTrue r ↔ P) → Decides b P → r ≡ b
 by_answer true true h k = refl
 by_answer false false h k = refl
 by_answer true false h k = sym (k.1 (h.0 refl))
 by_answer false true h k = h.1 (k.0 refl)
 
--- whether two sets are the same
+-- whether two sets are equal
 pub same_answer : (s t : NumberedSet) (r b : Bool) → (IsTrue r ↔ (renumbered_set nowhere s ≡ renumbered_set nowhere t)) → Decides b (s ≡ t) → r ≡ b
 same_answer s t r b h k = by_answer r b ((λ e. sym (set_stays s) ∙ h.0 e ∙ set_stays t), (λ e. h.1 (ap (renumbered_set nowhere) e))) k

@@ -14,11 +14,11 @@ use Rattle.dexval.specs.Spelled.{numbered_weight, numbered_values_weight, number
 pub array_is : (v : Value) (values : Vec Value) → v ≡ variants.Array values → value_of v ≡ Array (values_of_list (map value_of values.items))
 array_is v values e = ap value_of (e ∙ sym (variants.rolls-Array values)) ∙ fold-roll-Value NumberedValue (ℕ × NumberedValue) value_step element_step (layers.Array values)
 
--- an annotation that of its type and elements
+-- an annotation is the annotation of its type and elements
 pub annotation_is : (v : Value) (t : ℕ) (elements : Vec Element) → v ≡ variants.Annotation t elements → value_of v ≡ Annotated t (elements_of_list (map element_of elements.items))
 annotation_is v t elements e = ap value_of (e ∙ sym (variants.rolls-Annotation t elements)) ∙ fold-roll-Value NumberedValue (ℕ × NumberedValue) value_step element_step (layers.Annotation t elements)
 
--- ---- what is lighter
+-- ---- weights of contents
 
 -- the values of an array
 pub array_lighter : (v : Value) (values : Vec Value) {xs : List Value} → v ≡ variants.Array values → xs ≡ values.items → numbered_values_weight (values_of_list (map value_of xs)) + 2 < numbered_weight (value_of v)

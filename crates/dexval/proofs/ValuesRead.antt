@@ -1,5 +1,5 @@
--- Values one after the other, as they are read: those that were read stand there, and the rest of what stands there
--- stands behind them.
+-- Values that are read one after the other: the values that were read are in the file, and the other values come after
+-- them.
 use Rattle.std.proofs.Common.{◌≡◌, ℕ, ◌+◌, ◌-◌, ◌<◌, ◌≤◌, max, List, [], ◌∷◌, ◌++◌, length, refl, subst, arith}
 use Rattle.std.proofs.lemmas.List.{length-append}
 use Rattle.dexspec.specs.Numbers.{Uleb128At}
@@ -11,7 +11,7 @@ use Rattle.dexval.specs.Numbered.{NumberedValue, AreKnown, IsKnown, values_in, v
 use Rattle.dexval.specs.Scalars.{NoValueAt, IsReadAt}
 use Rattle.dexval.specs.Nesting.{NoArrayAt, AreReadAt}
 
--- so many values stand there, which nest at most so deep
+-- `count` values are at the offset, and nest at most `depth` deep
 pub record Rest (b : List ℕ) (o depth count : ℕ) : Type 0 where
   pub values : Values
   pub size : ℕ
@@ -19,7 +19,7 @@ pub record Rest (b : List ℕ) (o depth count : ℕ) : Type 0 where
   pub number : count_values values ≡ count
   pub shallow : values_depth values ≤ depth
 
--- the first i of so many values were read; whatever so many values stand there, the rest of them stands behind these
+-- the first i of `count` values were read; if `count` values are in the file, the other values come after these
 pub record HaveRead (b : List ℕ) (o : ℕ) (m : Mentions) (depth count i : ℕ) (xs : List NumberedValue) (k : ℕ) : Type 0 where
   pub number : length xs ≡ i
   pub known : AreKnown m (values_of_list xs)
@@ -44,7 +44,7 @@ module _ (b : List ℕ) (m : Mentions) where
   count_is [] = refl
   count_is (x ∷ xs) = omega (arith, count_is xs)
 
-  -- the value that comes next, and those behind it
+  -- the next value, and the values after it
   record Next (o depth left : ℕ) : Type 0 where
     value : Value
     size : ℕ
@@ -65,7 +65,7 @@ module _ (b : List ℕ) (m : Mentions) where
   next : (o depth left : ℕ) → 0 < left → Rest b o depth left → Next o depth left
   next o depth left lt r = next_of o depth left r.size r.values lt r.stand r.number r.shallow
 
-  -- nothing was read yet
+  -- no value was read yet
   pub none_read : (o depth count : ℕ) → HaveRead b o m depth count 0 [] 0
   none_read o depth count = record {
     number = refl;
@@ -75,7 +75,7 @@ module _ (b : List ℕ) (m : Mentions) where
     rest = λ r. let at : o ≡ o + 0 = omega arith in let left : count ≡ count - 0 = omega arith in subst (λ (p : ℕ). Rest b p depth (count - 0)) at (subst (λ (c : ℕ). Rest b o depth c) left r);
   }
 
-  -- one value more was read
+  -- one more value was read
   pub one_more : (o depth count i : ℕ) (xs : List NumberedValue) (k : ℕ) (x : NumberedValue) (j : ℕ) → i < count → HaveRead b o m depth count i xs k → IsReadAt b (o + k) m depth x j → HaveRead b o m depth count (i + 1) (xs ++ x ∷ []) (k + j)
   one_more o depth count i xs k x j lt h r = record {
     number = simp length-append (omega (arith, h.number));
@@ -90,17 +90,17 @@ module _ (b : List ℕ) (m : Mentions) where
         subst (λ (c : ℕ). Rest b (o + (k + j)) depth c) left (subst (λ (p : ℕ). Rest b p depth (count - i - 1)) place n.behind);
   }
 
-  -- what comes next is no value
+  -- the next bytes are no value
   pub no_next : (o depth count i : ℕ) (xs : List NumberedValue) (k : ℕ) → i < count → HaveRead b o m depth count i xs k → NoValueAt b (o + k) depth → Rest b o depth count → ⊥
   no_next o depth count i xs k lt h none all =
       let n = next (o + k) depth (count - i) (omega arith) (h.rest all) in
       none n.value n.size n.stands n.shallow
 
-  -- where no count stands, no array does
+  -- without a count there is no array
   pub no_count : (o depth : ℕ) → ((count i : ℕ) → Uleb128At b o count i → ⊥) → NoArrayAt b o depth
   no_count o depth none vs n h shallow = none (count_values vs) h.0 h.2
 
-  -- where not so many values stand behind the count, no array does
+  -- without `count` values after the count there is no array
   pub no_values : (o depth count head : ℕ) → Uleb128At b o count head → (Rest b (o + head) depth count → ⊥) → NoArrayAt b o depth
   no_values o depth count head u none vs n h shallow =
       let same = one_uleb128 b o (count_values vs) count h.0 head h.2 u in

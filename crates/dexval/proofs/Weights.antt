@@ -1,4 +1,4 @@
--- What numbers weigh is what they stand for weighs.
+-- The weight of a numbered item is the weight of the item that it denotes.
 use Rattle.std.proofs.Common.{◌≡◌, ◌<◌, ℕ, ◌+◌, ◌*◌, List, [], ◌∷◌, length, map, refl, sym, ap, arith, sum_by, Option}
 use Rattle.std.proofs.lemmas.List.Sums.{sum_by-cons}
 use Rattle.dexspec.specs.Mentions.{Mentions}
@@ -62,17 +62,17 @@ sets_sum_is m [] = refl
 sets_sum_is m (x ∷ xs) =
     omega (arith, sum_by-cons (λ s. 4 + numbered_set_weight (set_of s)) x xs, sum_by-cons set_weight (set_in m (set_of x)) (map (set_in m) (map set_of xs)), set_weight_is m (set_of x), sets_sum_is m xs)
 
--- sets, of which there is one
+-- sets, at least one
 pub sets_weight_is : (m : Mentions) (xs : List AnnotationSet) → 0 < length xs → 8 + sum_by (λ s. 4 + numbered_set_weight (set_of s)) xs ≡ ref_list_weight (map (set_in m) (map set_of xs))
 sets_weight_is m [] some = absurd (omega arith)
 sets_weight_is m (x ∷ xs) some = omega (arith, sets_sum_is m (x ∷ xs))
 
--- static values, of which there is one
+-- static values, at least one
 pub statics_weight_is : (m : Mentions) (xs : List Value) → 0 < length xs → 6 + numbered_values_weight (values_of_list (map value_of xs)) ≡ static_values_weight (values_in m (values_of_list (map value_of xs)))
 statics_weight_is m [] some = absurd (omega arith)
 statics_weight_is m (x ∷ xs) some = ap (λ (n : ℕ). 6 + n) (values_weight_is m (values_of_list (map value_of (x ∷ xs))))
 
--- the annotations of the code, of which there is one
+-- the annotations of the code, at least one
 annotations_sum : (xs : List CodeAnnotation) → sum_by (λ a. 4 + numbered_annotation_weight (annotation_of a)) xs ≡ sum_by (λ (a : NumberedAnnotation). 4 + numbered_annotation_weight a) (map annotation_of xs)
 annotations_sum [] = refl
 annotations_sum (x ∷ xs) =
@@ -87,7 +87,7 @@ places_sum m sets [] = refl
 places_sum m sets (p ∷ ps) =
     omega (arith, sum_by-cons (λ p. 4 + set_weight (set_in m (set_at sets p))) p ps, sum_by-cons set_weight (set_in m (set_at sets p)) (map (set_in m) (map (set_at sets) ps)), places_sum m sets ps)
 
--- the sets of a list by their places, of which there is one
+-- the sets of a list by their places, at least one
 pub places_weigh : (m : Mentions) (sets : List NumberedSet) (ps : List (Option ℕ)) → 0 < length ps → 8 + sum_by (λ p. 4 + set_weight (set_in m (set_at sets p))) ps ≡ ref_list_weight (map (set_in m) (map (set_at sets) ps))
 places_weigh m sets [] some = absurd (omega arith)
 places_weigh m sets (p ∷ ps) some = omega (arith, places_sum m sets (p ∷ ps))

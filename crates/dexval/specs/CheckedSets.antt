@@ -1,4 +1,4 @@
--- Sets, lists of sets and directories that a check found, and what they weigh.
+-- Sets, lists of sets and directories that were checked, and their weights.
 use Rattle.std.specs.Prelude.{◌≡◌, ℕ, ◌-◌, ◌^◌, min, List, Some, nat_eq}
 use Rattle.std.specs.HashMap.{get}
 use Rattle.dexspec.specs.Mentions.{Mentions}
@@ -7,13 +7,13 @@ use Rattle.dexval.specs.Directories.{IsRefListAt, directory_weight, set_weight_i
 use Rattle.dexval.specs.Numbered.{NumberedDirectory, directory_in}
 use Rattle.dexval.specs.Reading.{IsSetAt, IsDirectoryAt}
 
--- something was read that weighs as much, or more than 2^64 - 1
+-- an item that was read weighs `weight`, or 2^64 - 1 if it weighs more
 pub record IsWeighed {X : Type 0} (Read : X → Type 0) (weighs : X → ℕ) (weight : ℕ) : Type 0 where
   pub item : X
   pub is_read : Read item
   pub weight_is : weight ≡ min (2 ^ 64 - 1) (weighs item)
 
--- what was checked at an offset is there, and weighs as much
+-- each checked item is at its offset and has the recorded weight
 pub record AreChecked (b : List ℕ) (m : Mentions) (checked : CheckedSets) : Type 0 where
   pub sets_checked : (off weight : ℕ) → get nat_eq checked.sets off ≡ Some weight → IsWeighed (IsSetAt b off m) (set_weight_in m) weight
   pub lists_checked : (off weight : ℕ) → get nat_eq checked.lists off ≡ Some weight → IsWeighed (IsRefListAt b off m) (sets_weight_in m) weight

@@ -1,4 +1,4 @@
--- What a check finds in a file and does not keep: that it is there, and how large and how heavy it is.
+-- Results of a check, which keeps nothing: an item is in the file, and its size and weight.
 use Rattle.std.specs.Prelude.{◌≡◌, ℕ, ◌+◌, List, length}
 use Rattle.dexspec.specs.Values.{EncodedArrayItemAt, count_values}
 use Rattle.dexspec.specs.Mentions.{Mentions}
@@ -12,7 +12,7 @@ use Rattle.dexval.specs.Spelled.{values_count, numbered_weight, numbered_values_
 
 -- ---- within a value
 
--- a value of that many bytes and that weight is at the offset, and nests no deeper
+-- a value of that many bytes and that weight is at the offset, and nests at most `depth` deep
 pub record HasValue (b : List ℕ) (o : ℕ) (m : Mentions) (depth n weight : ℕ) : Type 0 where
   pub value : NumberedValue
   pub read : IsReadAt b o m depth value n

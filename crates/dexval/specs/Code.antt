@@ -12,7 +12,7 @@ use Rattle.dexval.specs.declared.directory.Directory.{Directory}
 use Rattle.dexval.specs.Numbered.{NumberedValue, NumberedAnnotation, NumberedSet, NumberedDirectory, Plain, Named, Annotated, ByteLiteral, ShortLiteral, CharLiteral, IntLiteral, LongLiteral, FloatLiteral, DoubleLiteral, NullLiteral, BooleanLiteral, StringReference, TypeReference, FieldReference, MethodReference, EnumReference, values_of_list, elements_of_list}
 use Rattle.dexval.specs.Numbered as numbered
 
--- one value, with that of each value in it in its place
+-- one value, whose inner values are models
 abbrev pub value_step : Value-F NumberedValue (ℕ × NumberedValue) → NumberedValue
 value_step (Byte z) = Plain (ByteLiteral z)
 value_step (Short z) = Plain (ShortLiteral z)

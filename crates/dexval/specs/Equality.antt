@@ -1,4 +1,4 @@
--- Sets of annotations that are the same are equal, and are hashed alike.
+-- Sets of annotations that are the same are equal by `==`, and have equal hash input.
 use Rattle.std.specs.Prelude.{◌≡◌, ℕ, ◌==◌, ◌&&◌, ◌++◌, Bool, true, false, IsTrue, []}
 use Rattle.std.proofs.Common.{refl, ap, ◌∙◌, subst}
 use Rattle.std.specs.Bool.{Decides}
@@ -66,7 +66,7 @@ same_annotation a b = a.visibility == b.visibility && (a.type == b.type && same_
 abbrev pub same_set : NumberedSet → NumberedSet → Bool
 same_set = pointwise same_annotation
 
--- ---- they are the same then
+-- ---- equal results mean equal items
 
 no_answer : false ≡ true → ⊥
 no_answer e = cc
@@ -187,9 +187,9 @@ equal_sets x y = same_set (set_of x) (set_of y)
 pub equal_sets_equiv : IsEquivalence equal_sets
 equal_sets_equiv = on_equiv set_of (decided same_set set_decides)
 
--- ---- what a hasher is fed
+-- ---- hash input
 
--- of a literal: its type code and its number
+-- a literal: its type code and its number
 abbrev pub literal_input : Literal → fed.HashWrites
 literal_input (ByteLiteral z) = fed.u8 0x00 ++ fed.i8 z
 literal_input (ShortLiteral z) = fed.u8 0x02 ++ fed.i16 z
@@ -202,28 +202,28 @@ literal_input NullLiteral = fed.u8 0x1e
 literal_input (BooleanLiteral is) = fed.u8 0x1f ++ fed.bool is
 
 abbrev mutual
-  -- of a value: its type code, and its number or what it holds
+  -- a value: its type code, and its number or its contents
   pub value_input : NumberedValue → fed.HashWrites
   value_input (Plain l) = literal_input l
   value_input (Named k i) = fed.u8 (code_of_reference k) ++ fed.u32 i
   value_input (Array xs) = fed.u8 0x1c ++ (fed.usize (values_count xs) ++ values_input xs)
   value_input (Annotated t es) = fed.u8 0x1d ++ (fed.u32 t ++ (fed.usize (elements_count es) ++ elements_input es))
 
-  -- of values
+  -- values
   pub values_input : NumberedValues → fed.HashWrites
   values_input NoValue = []
   values_input (ThenNext x xs) = value_input x ++ values_input xs
 
-  -- of elements: each name and its value
+  -- elements: each name and its value
   pub elements_input : NumberedElements → fed.HashWrites
   elements_input NoElement = []
   elements_input (ThenNamed name x es) = (fed.u32 name ++ value_input x) ++ elements_input es
 
--- of an annotation
+-- an annotation
 abbrev pub annotation_input : NumberedAnnotation → fed.HashWrites
 annotation_input a = fed.u8 a.visibility ++ (fed.u32 a.type ++ (fed.usize (elements_count a.elements) ++ elements_input a.elements))
 
--- of a set
+-- a set
 abbrev pub set_input : AnnotationSet → fed.HashWrites
 set_input s = fed.slice annotation_input (set_of s)
 

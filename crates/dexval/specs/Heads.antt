@@ -1,10 +1,10 @@
--- Values apart from what they hold.
+-- Values without their contents.
 use Rattle.std.specs.Prelude.{ℕ}
 use Rattle.dexval.specs.declared.head.Head.{Head}
 use Rattle.dexval.specs.declared.head.Head.TheVariants as heads
 use Rattle.dexval.specs.Numbered.{NumberedValue, NumberedValues, NumberedElements, NoValue, NoElement, Plain, Named, Array, Annotated, Literal, ByteLiteral, ShortLiteral, CharLiteral, IntLiteral, LongLiteral, FloatLiteral, DoubleLiteral, NullLiteral, BooleanLiteral, Reference, StringReference, TypeReference, FieldReference, MethodReference, EnumReference}
 
--- what a literal is
+-- the head of a literal
 abbrev pub literal_head : Literal → Head
 literal_head (ByteLiteral z) = heads.Byte z
 literal_head (ShortLiteral z) = heads.Short z
@@ -16,7 +16,7 @@ literal_head (DoubleLiteral bits) = heads.Double bits
 literal_head NullLiteral = heads.Null
 literal_head (BooleanLiteral is) = heads.Boolean is
 
--- what a reference is to the symbol of a number
+-- the head of a reference to the symbol of a number
 abbrev pub reference_head : Reference → ℕ → Head
 reference_head StringReference i = heads.String i
 reference_head TypeReference i = heads.Typ i
@@ -24,7 +24,7 @@ reference_head FieldReference i = heads.Field i
 reference_head MethodReference i = heads.Method i
 reference_head EnumReference i = heads.Enum i
 
--- what a value is, apart from the values that it holds
+-- the head of a value: all but the values that it holds
 abbrev pub head_of : NumberedValue → Head
 head_of (Plain literal) = literal_head literal
 head_of (Named reference i) = reference_head reference i

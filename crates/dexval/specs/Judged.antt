@@ -1,4 +1,4 @@
--- What of a directory was read, by its offset.
+-- The cache of directories: the parts that were read, by offset.
 use Rattle.std.specs.Prelude.{◌≡◌, ℕ, ◌<◌, List, true, Option, Some, length, nat_eq}
 use Rattle.std.specs.List.{Contains}
 use Rattle.std.specs.HashMap.{get}
@@ -10,30 +10,30 @@ use Rattle.dexval.specs.Directories.{IsRefListAt}
 use Rattle.dexval.specs.Reading.{IsSetAt}
 use Rattle.dexval.specs.Tables.{Extends, AreNewNamed, set_at, sets_at}
 
--- a set stands at the offset
+-- a set is at the offset
 pub record HasSet (b : List ℕ) (m : Mentions) (off : ℕ) : Type 0 where
   pub item : NumberedSet
   pub is_set : IsSetAt b off m item
 
--- an annotation_set_ref_list stands at the offset
+-- an annotation_set_ref_list is at the offset
 pub record HasRefList (b : List ℕ) (m : Mentions) (off : ℕ) : Type 0 where
   pub item : List NumberedSet
   pub is_list : IsRefListAt b off m item
 
--- each place that is noted is one of the table's
+-- each recorded place is one of the table's
 pub record AreHeld (judged : Judged) : Type 0 where
   pub sets_held : (off place : ℕ) → get nat_eq judged.sets off ≡ Some place → place < length judged.table.sets
   pub lists_held : (off place : ℕ) → get nat_eq judged.lists off ≡ Some place → place < length judged.table.lists
 
--- what is noted at an offset stands there
+-- each recorded item is at its offset
 pub record AreJudged (b : List ℕ) (m : Mentions) (judged : Judged) : Type 0 where
   pub sets_judged : (off place : ℕ) → get nat_eq judged.sets off ≡ Some place → IsSetAt b off m (set_at judged.table.sets (Some place))
   pub lists_judged : (off place : ℕ) → get nat_eq judged.lists off ≡ Some place → IsRefListAt b off m (sets_at judged.table (Some place))
   pub passed_sets_judged : (off : ℕ) → contains nat_eq judged.passed_sets off ≡ true → HasSet b m off
   pub passed_lists_judged : (off : ℕ) → contains nat_eq judged.passed_lists off ≡ true → HasRefList b m off
 
--- Something was read and noted: the table grew, and still holds what is noted, and what was read. If all is kept, what is new
--- in the table is named by it.
+-- An item was read and recorded: the table grew, and still has the recorded places and that of the item. If all is
+-- kept, the item names what is new in the table.
 pub record IsNoted (SetNamed ListNamed : ℕ → Type 0) (Held AllKept : Type 0) (old new : Judged) : Type 0 where
   pub extended : Extends old.table new.table
   pub noted_held : AreHeld new

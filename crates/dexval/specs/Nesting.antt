@@ -1,4 +1,4 @@
--- Arrays, elements and annotations as they are read.
+-- Arrays, elements and annotations, as read.
 use Rattle.std.specs.Prelude.{◌≡◌, ℕ, ◌+◌, ◌<◌, ◌≤◌, IsTrue, List, length}
 use Rattle.dexspec.specs.Lists.{rises}
 use Rattle.dexspec.specs.Numbers.{Uleb128At}
@@ -16,21 +16,21 @@ pub record AreFilePools (b : List ℕ) (m : Mentions) : Type 0 where
   pub pools : ArePools b m
   pub rising : AreRising m
 
--- no encoded_array whose values nest at most so deep stands there
+-- no encoded_array whose values nest at most `depth` deep is at the offset
 abbrev pub NoArrayAt : List ℕ → ℕ → ℕ → Type 0
 NoArrayAt b o depth = (vs : Values) (n : ℕ) → EncodedArrayAt b o vs n → values_depth vs ≤ depth → ⊥
 
--- at the offset stands an encoded_array of the values that the numbers stand for, and they nest no deeper
+-- an encoded_array of the values that the numbers denote is at the offset; the values nest at most `depth` deep
 pub record AreReadAt (b : List ℕ) (o : ℕ) (m : Mentions) (depth : ℕ) (xs : NumberedValues) (n : ℕ) : Type 0 where
   pub known : AreKnown m xs
   pub stands : EncodedArrayAt b o (values_in m xs) n
   pub shallow : values_depth (values_in m xs) ≤ depth
 
--- no element stands there whose name has at least this number, and whose value nests at most so deep
+-- no element whose name has at least the number `least`, and whose value nests at most `depth` deep, is at the offset
 abbrev pub NoElementAt : List ℕ → ℕ → ℕ → ℕ → Type 0
 NoElementAt b o depth least = (index : ℕ) (name : Text) (v : Value) (i j : ℕ) → Uleb128At b o index i → StringRow b index name → least ≤ index → ValueAt b (o + i) v j → value_depth v ≤ depth → ⊥
 
--- at the offset stands an element of the name and the value that the numbers stand for
+-- an element of the name and the value that the numbers denote is at the offset
 pub record IsElementReadAt (b : List ℕ) (o : ℕ) (m : Mentions) (depth least : ℕ) (e : ℕ × NumberedValue) (n : ℕ) : Type 0 where
   pub head : ℕ
   pub size : ℕ
@@ -40,11 +40,12 @@ pub record IsElementReadAt (b : List ℕ) (o : ℕ) (m : Mentions) (depth least 
   pub value : IsReadAt b (o + head) m depth e.1 size
   pub sum : n ≡ head + size
 
--- so many elements do not stand there whose names rise strictly, and whose values nest at most so deep
+-- no `count` elements whose names rise strictly, and whose values nest at most `depth` deep, are at the offset
 abbrev pub NoElementsAt : List ℕ → ℕ → ℕ → ℕ → Type 0
 NoElementsAt b o depth count = (es : Elements) (n : ℕ) → ElementsAt b o es n → length (names_of es) ≡ count → IsTrue (rises text_cmp (names_of es)) → elements_depth es ≤ depth → ⊥
 
--- so many elements stand there, those that the numbers stand for; their names rise, and their values nest no deeper
+-- `count` elements, those that the numbers denote, are at the offset; their names rise, and their values nest at most
+-- `depth` deep
 pub record AreElementsReadAt (b : List ℕ) (o : ℕ) (m : Mentions) (depth count : ℕ) (es : NumberedElements) (n : ℕ) : Type 0 where
   pub known : HaveKnown m es
   pub stands : ElementsAt b o (elements_in m es) n
@@ -52,12 +53,12 @@ pub record AreElementsReadAt (b : List ℕ) (o : ℕ) (m : Mentions) (depth coun
   pub rise : IsTrue (rises text_cmp (names_of (elements_in m es)))
   pub shallow : elements_depth (elements_in m es) ≤ depth
 
--- no encoded_annotation whose values nest at most so deep stands there
+-- no encoded_annotation whose values nest at most `depth` deep is at the offset
 abbrev pub NoAnnotationAt : List ℕ → ℕ → ℕ → Type 0
 NoAnnotationAt b o depth = (t : Text) (es : Elements) (n : ℕ) → EncodedAnnotationAt t b o es n → elements_depth es ≤ depth → ⊥
 
--- at the offset stands an encoded_annotation of the type and the elements that the numbers stand for, and their values
--- nest no deeper
+-- an encoded_annotation of the type and the elements that the numbers denote is at the offset; its values nest at most
+-- `depth` deep
 pub record IsAnnotationReadAt (b : List ℕ) (o : ℕ) (m : Mentions) (depth : ℕ) (t : ℕ) (es : NumberedElements) (n : ℕ) : Type 0 where
   pub type_known : t < length m.types
   pub known : HaveKnown m es

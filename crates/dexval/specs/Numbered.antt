@@ -1,4 +1,4 @@
--- Values, annotations, sets and directories whose symbols are numbers, and what they stand for.
+-- Values, annotations, sets and directories whose symbols are numbers, and what they denote.
 use Rattle.std.specs.Prelude.{◌≡◌, ℕ, ℤ, ◌<◌, Bool, List, [], ◌∷◌, map, length, All, slice_index_or}
 use Rattle.dexspec.specs.Texts.{Text}
 use Rattle.dexspec.specs.Symbols.{Field, Method}
@@ -31,8 +31,8 @@ pub data Reference : Type 0 where
   MethodReference : Reference
   EnumReference : Reference
 
--- A value with numbers in the place of symbols: one that names none, one that names one, an array, or an annotation
--- of a type.
+-- A value with numbers instead of symbols: one that names no symbol, one that names a symbol, an array, or an
+-- annotation of a type.
 mutual
   pub data NumberedValue : Type 0 where
     Plain : (literal : Literal) → NumberedValue
@@ -58,7 +58,7 @@ pub record NumberedAnnotation : Type 0 where
 abbrev pub NumberedSet : Type 0
 NumberedSet = List NumberedAnnotation
 
--- What a class is annotated with, and members, by their numbers.
+-- The annotations of a class, and of its members by their numbers.
 pub record NumberedDirectory : Type 0 where
   pub own : NumberedSet
   pub fields : List (ℕ × NumberedSet)
@@ -67,12 +67,12 @@ pub record NumberedDirectory : Type 0 where
 
 -- ---- lists
 
--- values one after the other
+-- values in sequence
 abbrev pub values_of_list : List NumberedValue → NumberedValues
 values_of_list [] = NoValue
 values_of_list (x ∷ xs) = ThenNext x (values_of_list xs)
 
--- elements one after the other, each a name and a value
+-- elements in sequence, each a name and a value
 abbrev pub elements_of_list : List (ℕ × NumberedValue) → NumberedElements
 elements_of_list [] = NoElement
 elements_of_list ((name, x) ∷ es) = ThenNamed name x (elements_of_list es)
@@ -82,7 +82,7 @@ abbrev pub name_numbers : NumberedElements → List ℕ
 name_numbers NoElement = []
 name_numbers (ThenNamed name x es) = name ∷ name_numbers es
 
--- ---- what numbers stand for
+-- ---- what numbers denote
 
 -- the text of a number
 abbrev pub text_at : Mentions → ℕ → Text
@@ -100,7 +100,7 @@ field_at m i = slice_index_or m.fields i (record { class = []; name = []; type =
 abbrev pub method_at : Mentions → ℕ → Method
 method_at m i = slice_index_or m.methods i (record { class = []; name = []; proto = record { return_type = []; parameters = [] } })
 
--- a value that names no symbol stands for itself
+-- a value that names no symbol denotes itself
 abbrev pub plain_value : Literal → Value
 plain_value (ByteLiteral z) = ByteValue z
 plain_value (ShortLiteral z) = ShortValue z
@@ -112,7 +112,7 @@ plain_value (DoubleLiteral bits) = DoubleValue bits
 plain_value NullLiteral = NullValue
 plain_value (BooleanLiteral is) = BooleanValue is
 
--- one that names the symbol of a number
+-- a value that names the symbol of a number
 abbrev pub named_value : Mentions → Reference → ℕ → Value
 named_value m StringReference i = StringValue (text_at m i)
 named_value m TypeReference i = TypeValue (type_at m i)
@@ -121,32 +121,32 @@ named_value m MethodReference i = MethodValue (method_at m i)
 named_value m EnumReference i = EnumValue (field_at m i)
 
 abbrev mutual
-  -- the value that the numbers stand for
+  -- the value that the numbers denote
   pub value_in : Mentions → NumberedValue → Value
   value_in m (Plain literal) = plain_value literal
   value_in m (Named reference i) = named_value m reference i
   value_in m (Array xs) = ArrayValue (values_in m xs)
   value_in m (Annotated t es) = AnnotationValue (type_at m t) (elements_in m es)
 
-  -- each value
+  -- the values that the numbers denote
   pub values_in : Mentions → NumberedValues → Values
   values_in m NoValue = NoValues
   values_in m (ThenNext x xs) = ThenValue (value_in m x) (values_in m xs)
 
-  -- each name and its value
+  -- the elements: each name and its value
   pub elements_in : Mentions → NumberedElements → Elements
   elements_in m NoElement = NoElements
   elements_in m (ThenNamed name x es) = ThenElement (text_at m name) (value_in m x) (elements_in m es)
 
--- the annotation that the numbers stand for
+-- the annotation that the numbers denote
 abbrev pub annotation_in : Mentions → NumberedAnnotation → Annotation
 annotation_in m a = record { visibility = a.visibility; type = type_at m a.type; elements = elements_in m a.elements }
 
--- the set
+-- the set that the numbers denote
 abbrev pub set_in : Mentions → NumberedSet → AnnotationSet
 set_in m s = map (annotation_in m) s
 
--- the directory
+-- the directory that the numbers denote
 abbrev pub directory_in : Mentions → NumberedDirectory → Directory
 directory_in m d = record {
   own = set_in m d.own;
@@ -173,55 +173,55 @@ abbrev mutual
   IsKnown m (Array xs) = AreKnown m xs
   IsKnown m (Annotated t es) = (t < length m.types) × HaveKnown m es
 
-  -- each of these values
+  -- each number of these values
   pub AreKnown : Mentions → NumberedValues → Type 0
   AreKnown m NoValue = Unit {0}
   AreKnown m (ThenNext x xs) = IsKnown m x × AreKnown m xs
 
-  -- of these elements
+  -- each number of these elements
   pub HaveKnown : Mentions → NumberedElements → Type 0
   HaveKnown m NoElement = Unit {0}
   HaveKnown m (ThenNamed name x es) = (name < length m.texts) × IsKnown m x × HaveKnown m es
 
--- of the annotation
+-- each number of the annotation
 pub record IsKnownAnnotation (m : Mentions) (a : NumberedAnnotation) : Type 0 where
   pub type_in : a.type < length m.types
   pub elements_known : HaveKnown m a.elements
 
--- of the set
+-- each number of the set
 abbrev pub IsKnownSet : Mentions → NumberedSet → Type 0
 IsKnownSet m s = All (IsKnownAnnotation m) s
 
--- of the directory
+-- each number of the directory
 pub record IsKnownDirectory (m : Mentions) (d : NumberedDirectory) : Type 0 where
   pub own_known : IsKnownSet m d.own
   pub fields_known : All (λ e. (e.0 < length m.fields) × IsKnownSet m e.1) d.fields
   pub methods_known : All (λ e. (e.0 < length m.methods) × IsKnownSet m e.1) d.methods
   pub parameters_known : All (λ e. (e.0 < length m.methods) × All (IsKnownSet m) e.1) d.parameters
 
--- ---- standing for
+-- ---- denoting
 
--- the numbers are those of symbols, and stand for the value
+-- the numbers are those of symbols, and denote the value
 pub record StandsFor (m : Mentions) (x : NumberedValue) (v : Value) : Type 0 where
   pub known : IsKnown m x
   pub means : value_in m x ≡ v
 
--- for the values
+-- and denote the values
 pub record StandFor (m : Mentions) (xs : NumberedValues) (vs : Values) : Type 0 where
   pub known : AreKnown m xs
   pub mean : values_in m xs ≡ vs
 
--- for the annotation
+-- and denote the annotation
 pub record StandsForAnnotation (m : Mentions) (x : NumberedAnnotation) (a : Annotation) : Type 0 where
   pub known : IsKnownAnnotation m x
   pub means : annotation_in m x ≡ a
 
--- for the set
+-- and denote the set
 pub record StandsForSet (m : Mentions) (x : NumberedSet) (s : AnnotationSet) : Type 0 where
   pub known : IsKnownSet m x
   pub means : set_in m x ≡ s
 
--- for the directory
+-- and denote the directory
 pub record StandsForDirectory (m : Mentions) (x : NumberedDirectory) (d : Directory) : Type 0 where
   pub known : IsKnownDirectory m x
   pub means : directory_in m x ≡ d

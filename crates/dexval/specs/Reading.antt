@@ -1,4 +1,4 @@
--- Values, sets and directories as they are read from a file.
+-- Values, sets and directories, as read from a file.
 use Rattle.std.specs.Prelude.{◌≡◌, ◌<◌, ◌≤◌, ◌-◌, ◌^◌, ℕ, List, min}
 use Rattle.dexspec.specs.Values.{Value, Values, EncodedValueAt, EncodedArrayItemAt}
 use Rattle.dexspec.specs.Annotations.{AnnotationSet, Directory, SetAt, DirectoryAt}
@@ -8,53 +8,53 @@ use Rattle.dexpool.specs.declared.faults.ItemFault.TheVariants.{Refused, Memory}
 use Rattle.dexval.specs.Directories.{directory_weight}
 use Rattle.dexval.specs.Numbered.{NumberedValue, NumberedValues, NumberedSet, NumberedDirectory, IsKnown, AreKnown, IsKnownSet, IsKnownDirectory, value_in, values_in, set_in, directory_in}
 
--- the numbers are those of symbols, and at the offset stands, in so many bytes, the value that they stand for
+-- the numbers are those of symbols, and the value that they denote is at the offset, in n bytes
 pub record IsValueAt (b : List ℕ) (off : ℕ) (m : Mentions) (x : NumberedValue) (n : ℕ) : Type 0 where
   pub known : IsKnown m x
   pub at : EncodedValueAt b off (value_in m x) n
 
--- no value stands there; a refusal of memory tells nothing
+-- no value is at the offset; a failed allocation says nothing
 abbrev pub IsValueFault : List ℕ → ℕ → ItemFault → Type 0
 IsValueFault b off (Refused number) = (number ≡ 21) × ((v : Value) (n : ℕ) → EncodedValueAt b off v n → ⊥)
 IsValueFault b off Memory = Unit {0}
 
--- at the offset stands an encoded_array_item of the values
+-- an encoded_array_item of the values is at the offset
 pub record AreStaticsAt (b : List ℕ) (off : ℕ) (m : Mentions) (xs : NumberedValues) : Type 0 where
   pub known : AreKnown m xs
   pub at : (n : ℕ) × EncodedArrayItemAt b off (values_in m xs) n
 
--- no encoded_array_item stands there
+-- no encoded_array_item is at the offset
 abbrev pub IsStaticsFault : List ℕ → ℕ → ItemFault → Type 0
 IsStaticsFault b off (Refused number) = (number ≡ 21) × ((vs : Values) (n : ℕ) → EncodedArrayItemAt b off vs n → ⊥)
 IsStaticsFault b off Memory = Unit {0}
 
--- at the offset stands an annotation_set_item of the set
+-- an annotation_set_item of the set is at the offset
 pub record IsSetAt (b : List ℕ) (off : ℕ) (m : Mentions) (s : NumberedSet) : Type 0 where
   pub known : IsKnownSet m s
   pub at : SetAt b off (set_in m s)
 
--- no annotation_set_item stands there
+-- no annotation_set_item is at the offset
 abbrev pub IsSetFault : List ℕ → ℕ → ItemFault → Type 0
 IsSetFault b off (Refused number) = (number ≡ 22) × ((s : AnnotationSet) → SetAt b off s → ⊥)
 IsSetFault b off Memory = Unit {0}
 
--- at the offset stands an annotations_directory_item of the directory
+-- an annotations_directory_item of the directory is at the offset
 pub record IsDirectoryAt (b : List ℕ) (off : ℕ) (m : Mentions) (d : NumberedDirectory) : Type 0 where
   pub known : IsKnownDirectory m d
   pub at : DirectoryAt b off (directory_in m d)
 
--- no annotations_directory_item stands there
+-- no annotations_directory_item is at the offset
 abbrev pub IsDirectoryFault : List ℕ → ℕ → ItemFault → Type 0
 IsDirectoryFault b off (Refused number) = (number ≡ 22) × ((d : Directory) → DirectoryAt b off d → ⊥)
 IsDirectoryFault b off Memory = Unit {0}
 
--- at the offset stands an annotations_directory_item of the directory, whose sets and lists of sets weigh at most so
--- much; 2^64 - 1 is no bound
+-- an annotations_directory_item of the directory is at the offset, and its sets and lists of sets weigh at most `most`;
+-- 2^64 - 1 is no bound
 pub record IsDirectoryWithin (b : List ℕ) (off : ℕ) (m : Mentions) (most : ℕ) (d : NumberedDirectory) : Type 0 where
   pub is : IsDirectoryAt b off m d
   pub within : min (2 ^ 64 - 1) (directory_weight (directory_in m d)) ≤ most
 
--- at the offset stands an annotations_directory_item of a directory whose sets and lists of sets weigh more
+-- an annotations_directory_item of a directory whose sets and lists of sets weigh more than `most` is at the offset
 pub record HasHeavyDirectory (b : List ℕ) (off most : ℕ) : Type 0 where
   pub directory : Directory
   pub at : DirectoryAt b off directory

@@ -1,4 +1,4 @@
--- Values, annotations and sets whose numbers are led to those of another numbering.
+-- Values, annotations and sets whose numbers are remapped to those of another numbering.
 use Rattle.std.specs.Prelude.{◌≡◌, ℕ, ◌^◌, ◌<◌, map, All, Some, unwrap_or}
 use Rattle.dexpool.specs.declared.symbols.SymbolKind.{SymbolKind}
 use Rattle.dexpool.specs.declared.symbols.SymbolKind.TheVariants as kinds
@@ -7,12 +7,12 @@ use Rattle.dexpool.specs.Images.{LeadsUse}
 use Rattle.dexval.specs.Uses.{value_uses, values_uses, element_uses, elements_uses, annotation_uses, set_uses}
 use Rattle.dexval.specs.Numbered.{NumberedValue, NumberedValues, NumberedElements, NumberedAnnotation, NumberedSet, Plain, Named, Array, Annotated, NoValue, ThenNext, NoElement, ThenNamed, kind_of_reference}
 
--- where a number of a kind leads; one that leads nowhere stays
+-- the number that a number of a kind maps to; a number without an image is unchanged
 abbrev pub led : Maps → SymbolKind → ℕ → ℕ
 led r kind i = unwrap_or (image_of r kind i) i
 
 abbrev mutual
-  -- the value with each number led on
+  -- the value with each number remapped
   pub renumbered : Maps → NumberedValue → NumberedValue
   renumbered r (Plain literal) = Plain literal
   renumbered r (Named reference i) = Named reference (led r (kind_of_reference reference) i)
@@ -41,13 +41,13 @@ renumbered_annotation r a = record { visibility = a.visibility; type = led r kin
 abbrev pub renumbered_set : Maps → NumberedSet → NumberedSet
 renumbered_set r s = map (renumbered_annotation r) s
 
--- ---- where numbers lead
+-- ---- images of numbers
 
--- numbers of 32 bits lead to such
+-- numbers of 32 bits map to numbers of 32 bits
 abbrev pub LeadsNarrow : Maps → Type 0
 LeadsNarrow r = (kind : SymbolKind) (i j : ℕ) → image_of r kind i ≡ Some j → i < 2 ^ 32 → j < 2 ^ 32
 
--- each number of the value leads on so
+-- each number of the value has an image of 32 bits
 abbrev pub HasPlaces : Maps → NumberedValue → Type 0
 HasPlaces r x = All (LeadsUse r) (value_uses x)
 
@@ -55,18 +55,18 @@ HasPlaces r x = All (LeadsUse r) (value_uses x)
 abbrev pub HavePlaces : Maps → NumberedValues → Type 0
 HavePlaces r xs = All (LeadsUse r) (values_uses xs)
 
--- of these elements
+-- each number of these elements
 abbrev pub ElementsHavePlaces : Maps → NumberedElements → Type 0
 ElementsHavePlaces r es = All (LeadsUse r) (elements_uses es)
 
--- of one element
+-- each number of one element
 abbrev pub ElementHasPlaces : Maps → ℕ × NumberedValue → Type 0
 ElementHasPlaces r e = All (LeadsUse r) (element_uses e)
 
--- of the annotation
+-- each number of the annotation
 abbrev pub AnnotationHasPlaces : Maps → NumberedAnnotation → Type 0
 AnnotationHasPlaces r a = All (LeadsUse r) (annotation_uses a)
 
--- of the set
+-- each number of the set
 abbrev pub SetHasPlaces : Maps → NumberedSet → Type 0
 SetHasPlaces r s = All (LeadsUse r) (set_uses s)

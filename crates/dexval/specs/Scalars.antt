@@ -8,7 +8,7 @@ use Rattle.dexpool.specs.declared.symbols.SymbolKind.TheVariants as kinds
 use Rattle.dexpool.specs.Pools.{count_of}
 use Rattle.dexval.specs.Numbered.{NumberedValue, Literal, Reference, Plain, Named, Array, Annotated, ByteLiteral, ShortLiteral, CharLiteral, IntLiteral, LongLiteral, FloatLiteral, DoubleLiteral, NullLiteral, BooleanLiteral, StringReference, TypeReference, FieldReference, MethodReference, EnumReference, IsKnown, value_in, kind_of_reference}
 
--- the most bytes of a value of a type code, if an argument counts them
+-- the maximum number of bytes of a value of a type code, if an argument counts them
 abbrev pub width_of : ℕ → Option ℕ
 width_of code =
     if code == 0x00 then Some 1
@@ -35,17 +35,18 @@ kind_of_code code =
     else if code == 0x1b then Some kinds.Field
     else None
 
--- the bytes spell the number of a symbol
+-- the bytes encode the number of a symbol
 pub record HasNumber (m : Mentions) (kind : SymbolKind) (bytes : List ℕ) (i : ℕ) : Type 0 where
   pub is : i ≡ number_of bytes
   pub known : i < count_of kind m
 
--- the bytes spell no number of a symbol of the kind that the type code names, or it names none and counts no bytes
+-- the type code names a kind of symbol and the bytes encode the number of no symbol of it, or the code names no kind
+-- and has no width
 pub record IsUnknown (m : Mentions) (code : ℕ) (bytes : List ℕ) : Type 0 where
   pub unknown : (kind : SymbolKind) → kind_of_code code ≡ Some kind → count_of kind m ≤ number_of bytes
   pub names : (width : ℕ) → width_of code ≡ Some width → (kind : SymbolKind) × (kind_of_code code ≡ Some kind)
 
--- the literal is what the bytes spell behind a first byte of a type code
+-- the bytes after a first byte of a type code encode the literal
 abbrev pub SpellsLiteral : ℕ → List ℕ → Literal → Type 0
 SpellsLiteral code bytes (ByteLiteral z) = (code ≡ 0x00) × (z ≡ signed_in (length bytes) (number_of bytes))
 SpellsLiteral code bytes (ShortLiteral z) = (code ≡ 0x02) × (z ≡ signed_in (length bytes) (number_of bytes))
@@ -57,7 +58,7 @@ SpellsLiteral code bytes (DoubleLiteral bits) = (code ≡ 0x11) × (bits ≡ 256
 SpellsLiteral code bytes NullLiteral = ⊥
 SpellsLiteral code bytes (BooleanLiteral is) = ⊥
 
--- the type code of values that name a symbol so
+-- the type code of values that name a symbol in this way
 abbrev pub code_of_reference : Reference → ℕ
 code_of_reference StringReference = 0x17
 code_of_reference TypeReference = 0x18
@@ -65,18 +66,18 @@ code_of_reference FieldReference = 0x19
 code_of_reference MethodReference = 0x1a
 code_of_reference EnumReference = 0x1b
 
--- the value is what the bytes spell behind a first byte of a type code
+-- the bytes after a first byte of a type code encode the value
 abbrev pub Spells : Mentions → ℕ → List ℕ → NumberedValue → Type 0
 Spells m code bytes (Plain literal) = SpellsLiteral code bytes literal
 Spells m code bytes (Named reference i) = (code ≡ code_of_reference reference) × HasNumber m (kind_of_reference reference) bytes i
 Spells m code bytes (Array xs) = ⊥
 Spells m code bytes (Annotated t es) = ⊥
 
--- no value of at most this depth stands there
+-- no value of at most this depth is at the offset
 abbrev pub NoValueAt : List ℕ → ℕ → ℕ → Type 0
 NoValueAt b o depth = (v : Value) (n : ℕ) → ValueAt b o v n → value_depth v ≤ depth → ⊥
 
--- at the offset stands, in so many bytes, the value that the numbers stand for, and it nests no deeper
+-- the value that the numbers denote is at the offset, in n bytes, and nests at most `depth` deep
 pub record IsReadAt (b : List ℕ) (o : ℕ) (m : Mentions) (depth : ℕ) (x : NumberedValue) (n : ℕ) : Type 0 where
   pub known : IsKnown m x
   pub stands : ValueAt b o (value_in m x) n

@@ -1,4 +1,4 @@
--- Directories whose sets and lists of sets stand in a table.
+-- Directories whose sets and lists of sets are in a table.
 use Rattle.std.specs.Prelude.{◌≡◌, ◌⊎◌, ℕ, ◌<◌, List, length, map, All, Option, Some}
 use Rattle.std.specs.List.{Contains}
 use Rattle.dexval.specs.declared.directory.SharedDirectory.{SharedDirectory}
@@ -13,7 +13,7 @@ sets_of_members t members = map (λ e. (e.0, set_at t.sets (Some e.1))) members
 abbrev pub lists_of_members : NumberedTable → List (ℕ × ℕ) → List (ℕ × List NumberedSet)
 lists_of_members t members = map (λ e. (e.0, sets_at t (Some e.1))) members
 
--- a directory of these places, with each set and each list in the stead of its place in the table
+-- the directory of these places, with each set and each list instead of its place in the table
 abbrev pub looked_up : NumberedTable → Option ℕ → List (ℕ × ℕ) → List (ℕ × ℕ) → List (ℕ × ℕ) → NumberedDirectory
 looked_up t own fields methods parameters = record {
   own = set_at t.sets own;
@@ -33,11 +33,11 @@ pub record HoldsPlaces (t : NumberedTable) (own : Option ℕ) (fields methods pa
   pub methods_held : All (λ e. IsPlaceIn t.sets (Some e.1)) methods
   pub parameters_held : All (λ e. IsPlaceIn t.lists (Some e.1)) parameters
 
--- a member has the place
+-- some member has the place
 abbrev pub IsNamedBy : List (ℕ × ℕ) → ℕ → Type 0
 IsNamedBy members i = (number : ℕ) × Contains members (number, i)
 
--- each set of the table is that of the class, of a field, of a method or of a list, and each list that of a method
+-- each set of the table is that of the class, of a field, of a method or of a list, and each list is that of a method
 pub record NamesAll (t : NumberedTable) (own : Option ℕ) (fields methods parameters : List (ℕ × ℕ)) : Type 0 where
   pub sets_named : (i : ℕ) → i < length t.sets → (own ≡ Some i) ⊎ IsNamedBy fields i ⊎ IsNamedBy methods i ⊎ IsListed t i
   pub lists_named : (i : ℕ) → i < length t.lists → IsNamedBy parameters i

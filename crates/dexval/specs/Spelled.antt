@@ -1,4 +1,4 @@
--- Values, annotations and sets spelled in the fewest bytes, their numbers put in, and what they weigh.
+-- The shortest encodings of values, annotations and sets that have numbers for symbols, and their weights.
 use Rattle.std.specs.Prelude.{ℕ, ◌+◌, ◌-◌, ◌*◌, ◌^◌, ◌<◌, min, List, [], ◌∷◌, ◌++◌, length, map, sum_by, if◌then◌else◌}
 use Rattle.dexspec.specs.Numbers.{uleb128}
 use Rattle.dexspec.specs.Values.{value_byte, byte_value_type, short_value_type, char_value_type, int_value_type, long_value_type, float_value_type, double_value_type, string_value_type, type_value_type, field_value_type, method_value_type, enum_value_type, array_value_type, annotation_value_type, null_value_type, boolean_value_type}
@@ -6,14 +6,14 @@ use Rattle.dexspec.specs.Spellings.{unsigned_bytes, signed_bytes, bits_bytes, of
 use Rattle.dexspec.specs.Placing.{offsets_from}
 use Rattle.dexval.specs.Numbered.{Literal, ByteLiteral, ShortLiteral, CharLiteral, IntLiteral, LongLiteral, FloatLiteral, DoubleLiteral, NullLiteral, BooleanLiteral, Reference, StringReference, TypeReference, FieldReference, MethodReference, EnumReference, NumberedValue, NumberedValues, NumberedElements, NumberedAnnotation, NumberedSet, Plain, Named, Array, Annotated, NoValue, ThenNext, NoElement, ThenNamed}
 
--- ---- how many there are
+-- ---- counts
 
--- how many values
+-- the number of values
 abbrev pub values_count : NumberedValues → ℕ
 values_count NoValue = 0
 values_count (ThenNext x xs) = values_count xs + 1
 
--- how many elements
+-- the number of elements
 abbrev pub elements_count : NumberedElements → ℕ
 elements_count NoElement = 0
 elements_count (ThenNamed name x es) = elements_count es + 1
@@ -26,23 +26,23 @@ abbrev mutual
   IsCounted (Array xs) = (values_count xs < 2 ^ 32) × AreCounted xs
   IsCounted (Annotated t es) = (elements_count es < 2 ^ 32) × HaveCounted es
 
-  -- in each of these values
+  -- each array and annotation in these values
   pub AreCounted : NumberedValues → Type 0
   AreCounted NoValue = Unit {0}
   AreCounted (ThenNext x xs) = IsCounted x × AreCounted xs
 
-  -- in those of these elements
+  -- each array and annotation in these elements
   pub HaveCounted : NumberedElements → Type 0
   HaveCounted NoElement = Unit {0}
   HaveCounted (ThenNamed name x es) = IsCounted x × HaveCounted es
 
--- in the annotation
+-- each array and annotation in the annotation
 abbrev pub IsCountedAnnotation : NumberedAnnotation → Type 0
 IsCountedAnnotation a = (elements_count a.elements < 2 ^ 32) × HaveCounted a.elements
 
 -- ---- bytes
 
--- a count as a uleb128; 2 ^ 32 - 1, the most that one holds, where it is more
+-- a count as a uleb128; a count of more than 2 ^ 32 - 1 is written as 2 ^ 32 - 1
 unfoldable pub count_bytes : ℕ → List ℕ
 count_bytes n = uleb128 (min (2 ^ 32 - 1) n)
 
@@ -74,12 +74,12 @@ abbrev mutual
   numbered_bytes (Array xs) = value_byte 0 array_value_type ∷ (count_bytes (values_count xs) ++ numbered_values_bytes xs)
   numbered_bytes (Annotated t es) = value_byte 0 annotation_value_type ∷ (uleb128 t ++ (count_bytes (elements_count es) ++ numbered_elements_bytes es))
 
-  -- values one after the other
+  -- values in sequence
   pub numbered_values_bytes : NumberedValues → List ℕ
   numbered_values_bytes NoValue = []
   numbered_values_bytes (ThenNext x xs) = numbered_bytes x ++ numbered_values_bytes xs
 
-  -- annotation_elements one after the other
+  -- annotation_elements in sequence
   pub numbered_elements_bytes : NumberedElements → List ℕ
   numbered_elements_bytes NoElement = []
   numbered_elements_bytes (ThenNamed name x es) = uleb128 name ++ (numbered_bytes x ++ numbered_elements_bytes es)
@@ -96,7 +96,7 @@ encoded_annotation_bytes t es = uleb128 t ++ (count_bytes (elements_count es) ++
 abbrev pub numbered_annotation_bytes : NumberedAnnotation → List ℕ
 numbered_annotation_bytes a = a.visibility ∷ encoded_annotation_bytes a.type a.elements
 
--- where the annotations of a set begin that stand one after the other from a place on
+-- the offsets of the annotations of a set that are in sequence from an offset on
 abbrev pub numbered_offsets : ℕ → NumberedSet → List ℕ
 numbered_offsets first s = offsets_from 1 first (map numbered_annotation_bytes s)
 
@@ -133,12 +133,12 @@ abbrev pub numbered_set_weight : NumberedSet → ℕ
 numbered_set_weight [] = 0
 numbered_set_weight (x ∷ xs) = 8 + sum_by (λ a. 4 + numbered_annotation_weight a) (x ∷ xs)
 
--- a set for each parameter; none weigh nothing
+-- a set for each parameter; an empty list weighs nothing
 abbrev pub numbered_sets_weight : List NumberedSet → ℕ
 numbered_sets_weight [] = 0
 numbered_sets_weight (s ∷ ss) = 8 + 4 * length (s ∷ ss) + sum_by numbered_set_weight (s ∷ ss)
 
--- static values; none weigh nothing
+-- static values; an empty list weighs nothing
 abbrev pub numbered_statics_weight : NumberedValues → ℕ
 numbered_statics_weight NoValue = 0
 numbered_statics_weight (ThenNext x xs) = 6 + numbered_values_weight (ThenNext x xs)

@@ -1,12 +1,11 @@
--- Codes of numbered values: one-to-one maps into trees of numbers, by which a value is stored, and told from another
--- one.
+-- Codes of numbered values: injective maps into trees of numbers, by which values are stored and compared.
 use Rattle.std.specs.Prelude.{◌≡◌, ℕ, ◌==◌, T}
 use Rattle.std.proofs.Common.{refl, sym, ap, subst}
 use Rattle.std.specs.Coded.{Coded, coded_ℕ, coded_ℤ, coded_bool}
 use base.Stored.{Gv, gnil, gnum, gcons}
 use Rattle.dexval.specs.Numbered.{Literal, ByteLiteral, ShortLiteral, CharLiteral, IntLiteral, LongLiteral, FloatLiteral, DoubleLiteral, NullLiteral, BooleanLiteral, Reference, StringReference, TypeReference, FieldReference, MethodReference, EnumReference, NumberedValue, NumberedValues, NumberedElements, Plain, Named, Array, Annotated, NoValue, ThenNext, NoElement, ThenNamed}
 
--- the number that a code of several parts begins with
+-- the first number of a code of several parts
 abbrev tag : Gv → ℕ
 tag gnil = 0
 tag (gnum n) = n
@@ -24,13 +23,13 @@ tail gnil = gnil
 tail (gnum n) = gnil
 tail (gcons a b) = b
 
--- a code of several parts is no empty one
+-- a code of several parts is not empty
 abbrev HasParts : Gv → Type 0
 HasParts gnil = ⊥
 HasParts (gnum n) = ⊥
 HasParts (gcons a b) = Unit {0}
 
--- a value that names no symbol is the number of its kind and what it holds
+-- a value that names no symbol: the number of its kind, and its contents
 abbrev literal_tree : Literal → Gv
 literal_tree (ByteLiteral z) = gcons (gnum 0) (coded_ℤ.code z)
 literal_tree (ShortLiteral z) = gcons (gnum 1) (coded_ℤ.code z)
@@ -42,7 +41,7 @@ literal_tree (DoubleLiteral bits) = gcons (gnum 6) (gnum bits)
 literal_tree NullLiteral = gcons (gnum 7) gnil
 literal_tree (BooleanLiteral is) = gcons (gnum 8) (coded_bool.code is)
 
--- no two of these have one code
+-- two such values with equal codes are equal
 pub one_literal : (x y : Literal) → literal_tree x ≡ literal_tree y → x ≡ y
 one_literal (ByteLiteral m) (ByteLiteral n) p = ap ByteLiteral (coded_ℤ.inj m n (ap tail p))
 one_literal (ShortLiteral m) (ShortLiteral n) p = ap ShortLiteral (coded_ℤ.inj m n (ap tail p))
@@ -55,7 +54,7 @@ one_literal NullLiteral NullLiteral p = refl
 one_literal (BooleanLiteral s) (BooleanLiteral t) p = ap BooleanLiteral (coded_bool.inj s t (ap tail p))
 one_literal x y p = absurd (subst (λ g. T (tag (literal_tree x) == tag g)) p tt)
 
--- a kind of value that names a symbol is its place among them
+-- a kind of value that names a symbol: its place among the kinds
 abbrev reference_tree : Reference → Gv
 reference_tree StringReference = gnum 0
 reference_tree TypeReference = gnum 1
@@ -63,7 +62,7 @@ reference_tree FieldReference = gnum 2
 reference_tree MethodReference = gnum 3
 reference_tree EnumReference = gnum 4
 
--- no two kinds have one code
+-- two kinds with equal codes are equal
 pub one_reference : (x y : Reference) → reference_tree x ≡ reference_tree y → x ≡ y
 one_reference StringReference StringReference p = refl
 one_reference TypeReference TypeReference p = refl
@@ -73,25 +72,25 @@ one_reference EnumReference EnumReference p = refl
 one_reference x y p = absurd (subst (λ g. T (tag (reference_tree x) == tag g)) p tt)
 
 abbrev mutual
-  -- a value is the number of its kind and what it holds
+  -- a value: the number of its kind, and its contents
   value_tree : NumberedValue → Gv
   value_tree (Plain literal) = gcons (gnum 0) (literal_tree literal)
   value_tree (Named reference i) = gcons (gnum 1) (gcons (reference_tree reference) (gnum i))
   value_tree (Array xs) = gcons (gnum 2) (values_tree xs)
   value_tree (Annotated t es) = gcons (gnum 3) (gcons (gnum t) (elements_tree es))
 
-  -- values are a list of them
+  -- values: a list of codes
   values_tree : NumberedValues → Gv
   values_tree NoValue = gnil
   values_tree (ThenNext x xs) = gcons (value_tree x) (values_tree xs)
 
-  -- elements are a list of names and values
+  -- elements: a list of names and values
   elements_tree : NumberedElements → Gv
   elements_tree NoElement = gnil
   elements_tree (ThenNamed name x es) = gcons (gnum name) (gcons (value_tree x) (elements_tree es))
 
 mutual
-  -- no two values have one code
+  -- two values with equal codes are equal
   pub one_value : (x y : NumberedValue) → value_tree x ≡ value_tree y → x ≡ y
   one_value (Plain m) (Plain n) p = ap Plain (one_literal m n (ap tail p))
   one_value (Named r i) (Named s j) p = λ k. Named (one_reference r s (ap (λ g. head (tail g)) p) k) (coded_ℕ.inj i j (ap (λ g. tail (tail g)) p) k)
@@ -99,14 +98,14 @@ mutual
   one_value (Annotated t ds) (Annotated u es) p = λ k. Annotated (coded_ℕ.inj t u (ap (λ g. head (tail g)) p) k) (one_elements ds es (ap (λ g. tail (tail g)) p) k)
   one_value x y p = absurd (subst (λ g. T (tag (value_tree x) == tag g)) p tt)
 
-  -- nor have two lists of values
+  -- two lists of values with equal codes are equal
   pub one_values : (x y : NumberedValues) → values_tree x ≡ values_tree y → x ≡ y
   one_values NoValue NoValue p = refl
   one_values (ThenNext x xs) (ThenNext y ys) p = λ k. ThenNext (one_value x y (ap head p) k) (one_values xs ys (ap tail p) k)
   one_values NoValue (ThenNext y ys) p = absurd (subst HasParts (sym p) tt)
   one_values (ThenNext x xs) NoValue p = absurd (subst HasParts p tt)
 
-  -- nor two lists of elements
+  -- two lists of elements with equal codes are equal
   pub one_elements : (x y : NumberedElements) → elements_tree x ≡ elements_tree y → x ≡ y
   one_elements NoElement NoElement p = refl
   one_elements (ThenNamed m x ds) (ThenNamed n y es) p = λ k. ThenNamed (coded_ℕ.inj m n (ap head p) k) (one_value x y (ap (λ g. head (tail g)) p) k) (one_elements ds es (ap (λ g. tail (tail g)) p) k)

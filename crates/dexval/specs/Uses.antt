@@ -6,31 +6,31 @@ use Rattle.dexval.specs.Numbered.{NumberedValue, NumberedValues, NumberedElement
 use Rattle.dexpool.specs.Uses.{Use}
 
 abbrev mutual
-  -- what a value names
+  -- the symbols that a value names
   pub value_uses : NumberedValue → List Use
   value_uses (Plain literal) = []
   value_uses (Named reference i) = record { kind = kind_of_reference reference; number = i } ∷ []
   value_uses (Array xs) = values_uses xs
   value_uses (Annotated t es) = record { kind = kinds.Typ; number = t } ∷ elements_uses es
 
-  -- what values name
+  -- the symbols that values name
   pub values_uses : NumberedValues → List Use
   values_uses NoValue = []
   values_uses (ThenNext x xs) = value_uses x ++ values_uses xs
 
-  -- the names of elements, and what their values name
+  -- the names of elements, and the symbols that their values name
   pub elements_uses : NumberedElements → List Use
   elements_uses NoElement = []
   elements_uses (ThenNamed name x es) = record { kind = kinds.Text; number = name } ∷ (value_uses x ++ elements_uses es)
 
--- one element's name, and what its value names
+-- one element's name, and the symbols that its value names
 abbrev pub element_uses : ℕ × NumberedValue → List Use
 element_uses e = record { kind = kinds.Text; number = e.0 } ∷ value_uses e.1
 
--- an annotation's type, and what its elements name
+-- an annotation's type, and the symbols that its elements name
 abbrev pub annotation_uses : NumberedAnnotation → List Use
 annotation_uses a = record { kind = kinds.Typ; number = a.type } ∷ elements_uses a.elements
 
--- those of its annotations
+-- the symbols of the annotations of a set
 abbrev pub set_uses : NumberedSet → List Use
 set_uses s = flat_map annotation_uses s

@@ -1,21 +1,21 @@
-//! Annotations, with numbers in the place of symbols.
+//! Annotations, with numbers instead of symbols.
 
 use crate::value::Element;
 
-/// Who sees an annotation.
+/// The visibility of an annotation.
 ///
 /// Source: "annotation_item", "Visibility values".
 #[derive(Clone, Copy, Debug, PartialEq, Eq, Hash)]
 pub enum Visibility {
     /// Tools at build time (0).
     Build,
-    /// The program as it runs (1).
+    /// The program at run time (1).
     Runtime,
-    /// The system beneath it (2).
+    /// The underlying system (2).
     System,
 }
 
-/// An annotation: who sees it, the number of its type, and its elements.
+/// An annotation: its visibility, the number of its type, and its elements.
 ///
 /// Source: "annotation_item".
 #[derive(Debug, Drop, PartialEq, Eq, Hash)]

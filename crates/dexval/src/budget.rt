@@ -1,8 +1,8 @@
-//! How much of what is read may be kept.
+//! A bound on the weight of what is kept.
 
 ghost use Rattle.std.specs.Prelude.{◌≡◌, ◌↔◌, ◌+◌, ◌-◌, ◌^◌, ◌<◌, ◌≤◌, min, IsTrue};
 
-/// What was read so far weighs `weight`, or 2^64 - 1 where that is more. It is kept while that is at most `most`.
+/// The items read so far weigh `weight`, or 2^64 - 1 if they weigh more. They are kept while that is at most `most`.
 #[derive(Drop)]
 pub(crate) struct Budget {
     pub(crate) weight: u64,
@@ -10,7 +10,7 @@ pub(crate) struct Budget {
 }
 
 impl Budget {
-    /// Counts what else was read.
+    /// Counts another item.
     pub(crate) fn add(&mut self, weight: u64)
         ensures weight { self.new.weight ≡ min (2 ^ 64 - 1) (self.old.weight + weight) }
         ensures grows { self.old.weight ≤ self.new.weight }
@@ -19,7 +19,7 @@ impl Budget {
         self.weight = self.weight.saturating_add(weight);
     }
 
-    /// Whether all that was read may be kept.
+    /// Whether all items read so far may be kept.
     pub(crate) fn is_within(&self) -> bool
         ensures within { IsTrue result ↔ (self.now.weight ≤ self.now.most) }
         ensures fits { self.now.weight < 2 ^ 64 }

@@ -33,9 +33,7 @@ fn copied_value(value: &Value) -> Result<Value, AllocError>
     })
 }
 
-/// The same values, as those of static fields, with all that they hold.
-///
-/// Error: memory was refused.
+/// The same values, as those of static fields, with copies of all contents.
 ///
 /// Source: "encoded_array format".
 #[cycle(copying)]
@@ -80,9 +78,7 @@ fn copied_annotations(annotations: &Vec<Annotation>) -> Result<Vec<Annotation>, 
 }
 
 impl Value {
-    /// The same value, with all that it holds.
-    ///
-    /// Error: memory was refused.
+    /// The same value, with a copy of its contents.
     pub fn copy(&self) -> Result<Self, AllocError>
         ensures { IfOk result (λ copy. value_of copy ≡ value_of self.now) }
     {
@@ -92,8 +88,6 @@ impl Value {
 
 impl AnnotationSet {
     /// The same set, with annotations of its own.
-    ///
-    /// Error: memory was refused.
     pub fn copy(&self) -> Result<Self, AllocError>
         ensures { IfOk result (λ copy. set_of copy ≡ set_of self.now) }
     {

@@ -1,4 +1,4 @@
-//! What a class and its members are annotated with.
+//! The annotations of a class and its members.
 
 ghost use Rattle.std.specs.Prelude.{◌≡◌, All, IfOk, Some, map};
 ghost use Rattle.dexval.specs.Code.{set_of, directory_of};
@@ -17,23 +17,23 @@ use std::alloc::{AllocError, Global};
 pub struct Directory {
     /// The annotations of the class itself.
     pub own: AnnotationSet,
-    /// Those of fields.
+    /// The annotations of fields.
     pub fields: Vec<(u32, AnnotationSet)>,
-    /// Those of methods.
+    /// The annotations of methods.
     pub methods: Vec<(u32, AnnotationSet)>,
-    /// Those of the parameters of methods, a set for each parameter.
+    /// The annotations of the parameters of methods, a set for each parameter.
     pub parameters: Vec<(u32, Vec<AnnotationSet>)>,
 }
 
-/// The annotations of a class, and for each annotated member a pair of its number and the place of its annotations, in the
-/// order of the numbers. What several of them share is kept once.
+/// The annotations of a class, and for each annotated member a pair of its number and the place of its annotations, in
+/// the order of the numbers. A set or a list that several members share is kept once.
 ///
 /// Source: "annotations_directory_item".
 #[derive(Drop)]
 pub struct SharedDirectory {
     /// The sets, and the lists of sets.
     pub table: SetTable,
-    /// The place of the class's own set, or `None` where it has no annotation.
+    /// The place of the class's own set, or `None` if it has no annotation.
     pub own: Option<u32>,
     /// The places of the sets of fields.
     pub fields: Vec<(u32, u32)>,
@@ -43,7 +43,7 @@ pub struct SharedDirectory {
     pub parameters: Vec<(u32, u32)>,
 }
 
-/// How many members a directory annotates.
+/// How many members of each kind a directory annotates.
 ///
 /// Source: "annotations_directory_item".
 #[derive(Clone, Copy, Debug)]
@@ -88,7 +88,7 @@ fn copied_list(
     Ok(sets)
 }
 
-// Members with their sets in the stead of the places.
+// Members with their sets instead of the places.
 fn copied_sets(
     table: &SetTable,
     members: &Vec<(u32, u32)>,
@@ -105,7 +105,7 @@ fn copied_sets(
     Ok(copies)
 }
 
-// Members with their lists of sets in the stead of the places.
+// Members with their lists of sets instead of the places.
 fn copied_lists(
     table: &SetTable,
     members: &Vec<(u32, u32)>,
@@ -125,7 +125,7 @@ fn copied_lists(
 impl SharedDirectory {
     /// The same directory, with sets of its own for each member.
     ///
-    /// Condition: each place is one of the table's. Error: memory was refused.
+    /// Condition: each place is one of the table's.
     pub(crate) fn unshared(&self) -> Result<Directory, AllocError>
         requires { HoldsPlaces self.now.table self.now.own self.now.fields.items self.now.methods.items self.now.parameters.items }
         ensures { IfOk result (λ directory. directory_of directory ≡ shared_directory_of self.now) }

@@ -1,4 +1,4 @@
-//! Directories of annotations that are checked where they are in a file.
+//! Checks directories of annotations in place in a file.
 
 ghost use Rattle.std.specs.Prelude.{ℕ, List, ◌≡◌, ◌≢◌, ◌<◌, ◌+◌, ◌*◌, ◌^◌, ◌≤◌, All, IfOk, IfErr, OnOk, map, sum_by, length};
 ghost use Rattle.dexspec.specs.Annotations.{AnnotationSet as SetMeant, SetAt, RefListAt, fields_count, methods_count, parameters_count};
@@ -20,18 +20,18 @@ use dexpool::{ItemFault, Pools, SymbolKind};
 use std::alloc::Global;
 use std::collections::HashMap;
 
-/// The sets and the lists of sets of a file that were checked, each by its offset with its weight. Each is checked once,
-/// however many members name it.
+/// The sets and the lists of sets of a file that were checked: the weight of each, by its offset. Each is checked once,
+/// even if several members name it.
 #[derive(Drop)]
 pub struct CheckedSets {
-    // What sets weigh.
+    // The weights of sets.
     pub(crate) sets: HashMap<u32, u64>,
-    // What lists of sets weigh.
+    // The weights of lists of sets.
     pub(crate) lists: HashMap<u32, u64>,
 }
 
 impl CheckedSets {
-    /// Nothing yet. No memory is taken.
+    /// No checked item.
     pub fn none(alloc: Global) -> CheckedSets
         ensures { (b : List ℕ) (m : Mentions) → AreChecked b m result }
     {
@@ -42,17 +42,18 @@ impl CheckedSets {
     }
 }
 
-/// How many members a directory annotates, and how heavy it is.
+/// The members that a directory annotates, and its weight.
 #[derive(Clone, Copy, Debug)]
 pub struct DirectoryShape {
-    /// How many members it annotates.
+    /// The number of members of each kind.
     pub counts: MemberCounts,
-    /// What its sets and its lists of sets weigh together, or 2^64 - 1 where that is more. Each use of a set or a list counts.
+    /// The weight of its sets and its lists of sets together, or 2^64 - 1 if they weigh more. Each use of a set or a
+    /// list counts.
     pub weight: u64,
 }
 
-// What the set of the annotation_set_item at an offset weighs, or 2^64 - 1 where that is more; at 0 there is none, and it
-// weighs nothing. Error: there is none elsewhere.
+// The weight of the set of the annotation_set_item at an offset, or 2^64 - 1 if it weighs more. At offset 0 there is no
+// set, and the weight is 0. Error: another offset has no set.
 fn checked_set_at(
     frame: &Frame<'_>,
     pools: &Pools<'_>,
@@ -75,8 +76,8 @@ fn checked_set_at(
     Ok(shape.weight)
 }
 
-// What the sets of the annotation_set_ref_list at an offset weigh with the list, or 2^64 - 1 where that is more. Error: there is
-// none.
+// The weight of the sets of the annotation_set_ref_list at an offset, with the list, or 2^64 - 1 if they weigh more.
+// Error: there is no list.
 fn listed_weight(
     frame: &Frame<'_>,
     pools: &Pools<'_>,
@@ -100,7 +101,7 @@ fn listed_weight(
     Ok(weight)
 }
 
-// As `listed_weight`, each list once.
+// As `listed_weight`, but each list is checked once.
 fn checked_list_at(
     frame: &Frame<'_>,
     pools: &Pools<'_>,
@@ -120,9 +121,9 @@ fn checked_list_at(
     Ok(weight)
 }
 
-// What a directory has for a member: a set of annotations, or the sets of its parameters.
+// A part of a directory for a member: a set of annotations, or the sets of its parameters.
 trait CheckedMember {
-    // With numbers instead of symbols.
+    // The part with numbers instead of symbols.
     ghost Numbered: { Type 0 };
 
     // What the numbers denote.
@@ -136,7 +137,7 @@ trait CheckedMember {
 
     ghost weighs: { Mentions → Numbered → ℕ };
 
-    // What the item at an offset other than 0 weighs, or 2^64 - 1 where that is more. Error: there is none.
+    // The weight of the item at an offset other than 0, or 2^64 - 1 if it weighs more. Error: there is no item.
     fn checked_at(
         frame: &Frame<'_>,
         pools: &Pools<'_>,
@@ -202,7 +203,7 @@ impl CheckedMember for CheckedList {
     }
 }
 
-// What the members of these pairs weigh, or 2^64 - 1 where that is more. Error: they are not there.
+// The weight of the members of these pairs, or 2^64 - 1 if they weigh more. Error: the pairs are not there.
 fn members_weight<T: CheckedMember>(
     frame: &Frame<'_>,
     pools: &Pools<'_>,
@@ -227,13 +228,14 @@ fn members_weight<T: CheckedMember>(
     Ok(weight)
 }
 
-/// Checks the annotations_directory_item at an offset, and the sets that it refers to. Its indices count in the pools: those of
-/// the file. Whether the members are those of the class is not checked. What is checked already is not checked again, and no
-/// other memory is taken than that of `checked`.
+/// Checks the annotations_directory_item at an offset, and the sets that it refers to. Its indices refer to the pools,
+/// which are those of the file. It does not check that the members are those of the class. Items in `checked` are not
+/// checked again, and no memory is allocated but for `checked`.
 ///
-/// Condition: what is checked already is of this file.
+/// Condition: the items in `checked` are of this file.
 ///
-/// Error: `Refused(22)` exactly where [`read_directory`](crate::read_directory) refuses it; `Memory` where an allocation failed.
+/// Errors: `Refused(22)` exactly if [`read_directory`](crate::read_directory) refuses the directory; `Memory` if an
+/// allocation failed.
 ///
 /// Source: "annotations_directory_item" and "annotation_set_ref_list".
 pub fn check_directory(

@@ -1,4 +1,4 @@
-//! Directories of annotations read from a file.
+//! Reads directories of annotations from a file.
 
 ghost use Rattle.std.specs.Prelude.{ℕ, List, [], ◌^◌, ◌<◌, ◌≡◌, ◌≢◌, ◌+◌, ◌*◌, ◌≤◌, Option, Some, IsSome, All, IfOk, IfErr, OnOk, IfSome, IfNone, MatchOption, length, map, sum_by};
 ghost use Rattle.std.specs.List.{Contains};
@@ -25,10 +25,10 @@ use dexhead::{Condition, Frame, u32_at};
 use dexpool::{ItemFault, Pools, SymbolKind};
 use std::alloc::Global;
 
-// The most members or sets for which room is taken before they are read.
+// The maximum number of members or sets for which capacity is reserved before they are read.
 const MOST_AT_ONCE: usize = 4096;
 
-// For how many of so many room is taken before they are read: for none where none would be kept.
+// The number of items, of `count`, for which capacity is reserved before they are read: none if none would be kept.
 fn room(count: u32, budget: &Budget) -> usize {
     if budget.is_within() {
         (count as usize).min(MOST_AT_ONCE)
@@ -37,8 +37,8 @@ fn room(count: u32, budget: &Budget) -> usize {
     }
 }
 
-/// The counts of the annotations_directory_item at an offset, or `None` where they, and so many pairs, are not wholly in
-/// the data at a multiple of 4. No memory is taken.
+/// The counts of the annotations_directory_item at an offset, or `None` if the counts and all its pairs are not inside
+/// the data at a multiple of 4.
 ///
 /// Source: "annotations_directory_item".
 pub fn member_counts(frame: &Frame<'_>, off: u32) -> Option<MemberCounts>
@@ -63,8 +63,8 @@ pub fn member_counts(frame: &Frame<'_>, off: u32) -> Option<MemberCounts>
     })
 }
 
-/// The number of a member and the offset of what belongs to it, from the pair at a place. Error: the number is less than
-/// this one or not below the limit, or the offset is 0.
+/// The number of a member and the offset of its item, from the pair at an offset. Error: the number is less than
+/// `least` or not below the limit, or the offset is 0.
 pub(crate) fn pair_at(
     frame: &Frame<'_>,
     at: usize,
@@ -84,7 +84,7 @@ pub(crate) fn pair_at(
     Ok((number, off))
 }
 
-/// What a list of `count` sets weighs beside them.
+/// The weight of a list of `count` sets, without the sets.
 pub(crate) fn list_weight(count: u32) -> u64
     ensures none { count ≡ 0 → result ≡ 0 }
     ensures some { 0 < count → result ≡ 8 + 4 * count }
@@ -95,8 +95,8 @@ pub(crate) fn list_weight(count: u32) -> u64
     8 + 4 * u64::from(count)
 }
 
-// The places of the sets of the annotation_set_ref_list at an offset, counted one by one, while the budget lasts. Error: no
-// list stands there.
+// The places of the sets of the annotation_set_ref_list at an offset. Each set is counted, and kept while the budget
+// lasts. Error: there is no list.
 fn listed_sets_at(
     source: &FileSource<'_, '_, '_>,
     off: u32,
@@ -127,8 +127,8 @@ fn listed_sets_at(
     Ok(places)
 }
 
-// The place of the annotation_set_ref_list at an offset, counted with its sets, if it is kept. It is kept while the budget
-// lasts. Error: none stands there.
+// The place of the annotation_set_ref_list at an offset, if it is kept. The list is counted with its sets, and kept
+// while the budget lasts. Error: there is no list.
 fn counted_list_at(
     source: &FileSource<'_, '_, '_>,
     off: u32,
@@ -157,12 +157,12 @@ fn counted_list_at(
     Ok(note_list(off, places, judged, budget)?)
 }
 
-// What a directory says of a member, by its place in the table: a set of annotations, or the sets of its parameters.
+// A part of a directory for a member, by its place in the table: a set of annotations, or the sets of its parameters.
 trait OfMember {
-    // With numbers in the place of symbols.
+    // The part with numbers instead of symbols.
     ghost Numbered: { Type 0 };
 
-    // What the numbers stand for.
+    // What the numbers denote.
     ghost Meant: { Type 0 };
 
     ghost of: { NumberedTable → Option ℕ → Numbered };
@@ -182,8 +182,8 @@ trait OfMember {
 
     ghost weighs: { Mentions → Numbered → ℕ };
 
-    // The place of what stands at an offset other than 0, counted. It is kept while the budget lasts. Error: nothing stands
-    // there.
+    // The place of the item at an offset other than 0. The item is counted, and kept while the budget lasts. Error:
+    // there is no item.
     fn counted_at(
         source: &FileSource<'_, '_, '_>,
         off: u32,
@@ -201,7 +201,7 @@ trait OfMember {
         ensures read { AreFilePools source.now.frame.now source.now.pools.now → IfOk result (λ place. IsKept (IsKnownAt (is_known source.now.pools.now) (inside source.now.pools.now) (stands source.now.frame.now off)) (weighs source.now.pools.now) budget.old.most budget.old.weight budget.new.weight (of judged.new.table place)) }
         ensures refused { AreFilePools source.now.frame.now source.now.pools.now → IfErr result (IsRefusal ((meant : Meant) → stands source.now.frame.now off meant → ⊥)) };
 
-    // In a table that grew, a place holds and names what it did.
+    // After a table grew, a place still holds and names the same item.
     ghost stays: { (t u : NumberedTable) (place : Option ℕ) → Extends t u → is_held t place → is_held u place × (of u place ≡ of t place) };
 
     ghost naming_stays: { (t u : NumberedTable) (place : Option ℕ) (i : ℕ) → Extends t u → names_set t place i → names_set u place i };
@@ -283,7 +283,7 @@ impl OfMember for ListOfMember {
     ghost naming_stays = { λ t u place i extended named. extended.listed_stay i named };
 }
 
-/// Pairs of a member and an offset: `count` from a place on, each with a number of a member below the limit.
+/// Pairs of a member and an offset: `count` pairs from an offset on, each with the number of a member below the limit.
 #[derive(Clone, Copy)]
 pub(crate) struct PairRange {
     pub(crate) at: usize,
@@ -291,8 +291,8 @@ pub(crate) struct PairRange {
     pub(crate) limit: usize,
 }
 
-// The members of these pairs, by their numbers, with the place of what the directory says of each, while the budget lasts.
-// Error: they are not there.
+// The members of these pairs, by their numbers, with the place of the item of each, while the budget lasts. Error: the
+// pairs are not there.
 fn members_at<T: OfMember>(
     source: &FileSource<'_, '_, '_>,
     pairs: &PairRange,
@@ -332,8 +332,8 @@ struct Places {
     parameters: Vec<(u32, u32)>,
 }
 
-// The places that the annotations_directory_item at an offset names, its sets counted one by one, while the budget lasts, of
-// which nothing is used before. Error: none stands there.
+// The places that the annotations_directory_item at an offset names. Its sets are counted one by one, while the budget
+// lasts; no part of the budget is used before. Error: there is no directory.
 fn counted_directory_at(
     source: &FileSource<'_, '_, '_>,
     off: u32,
@@ -385,8 +385,8 @@ fn counted_directory_at(
     })
 }
 
-// The directory of the annotations_directory_item at an offset, whole where its sets weigh at most so much, and what
-// they weigh. Error: none stands there.
+// The directory of the annotations_directory_item at an offset and the weight of its sets. The directory is whole if
+// that weight is at most `most`. Error: there is no directory.
 fn directory_at(
     alloc: Global,
     frame: &Frame<'_>,
@@ -416,15 +416,15 @@ fn directory_at(
     Ok((directory, budget.weight))
 }
 
-/// Reads the annotations_directory_item at an offset, and the sets that it leads to. Its indices count in the pools:
-/// those of the file. Whether the members are those of the class is not judged.
+/// Reads the annotations_directory_item at an offset, and the sets that it refers to. Its indices refer to the pools,
+/// which are those of the file. It does not check that the members are those of the class.
 ///
-/// Each place that names a set has it anew: see [`read_shared_directory_within`] for sets that are kept once, and for a
-/// bound on them.
+/// Each place that names a set has a copy of it. [`read_shared_directory_within`] keeps each set once, and bounds their
+/// weight.
 ///
-/// Error: `Refused(22)` exactly where no such directory stands there: the item is not wholly in the data at a multiple
-/// of 4, a member has an offset of 0, an index that is out of range or not greater than the one before it, or no set
-/// or list of sets stands at an offset; `Memory` where a growth was refused.
+/// Errors: `Refused(22)` exactly if no such directory is at the offset: the item is not inside the data at a multiple
+/// of 4, a member has an offset of 0, an index that is out of range or not greater than the one before it, or an offset
+/// without a set or list of sets; `Memory` if an allocation failed.
 ///
 /// Source: "annotations_directory_item" and "annotation_set_ref_list".
 pub fn read_directory(
@@ -441,15 +441,15 @@ pub fn read_directory(
     Ok(directory.unshared()?)
 }
 
-/// Reads the annotations_directory_item at an offset, as [`read_directory`] does, where its sets and lists of sets weigh at
-/// most `most` together, in the bytes of [`AnnotationSet::weight`] and of
-/// [`parameter_sets_weight`](crate::parameter_sets_weight). `None` says that a directory stands there and that they weigh
-/// more. A bound of 2^64 - 1 is none.
+/// Reads the annotations_directory_item at an offset, as [`read_directory`] does, if its sets and lists of sets weigh
+/// at most `most` together, in the bytes of [`AnnotationSet::weight`] and of
+/// [`parameter_sets_weight`](crate::parameter_sets_weight). Returns `None` if they weigh more. A bound of 2^64 - 1 is
+/// no bound.
 ///
-/// Each place that names a set or a list counts it anew, and it is kept once. From the one on with which all would weigh more
-/// than `most`, the others are judged and not kept, each once.
+/// Each place that names a set or a list counts its weight, and the set or list is kept once. Once the weight exceeds
+/// `most`, the other sets and lists are checked, each once, and not kept.
 ///
-/// Error: as of [`read_directory`].
+/// Errors: as [`read_directory`].
 ///
 /// Source: "annotations_directory_item" and "annotation_set_ref_list".
 pub fn read_shared_directory_within(

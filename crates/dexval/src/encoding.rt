@@ -39,7 +39,7 @@ fn encode_unsigned<O: Output>(code: u8, value: u64, out: &mut O)
     encode_low(code, unsigned_width(value), value, out);
 }
 
-// The number in two's complement.
+// The number in two's complement, as 64 bits.
 fn complement(value: i64) -> u64
     ensures { result ≡ complement 8 value }
 {
@@ -117,7 +117,7 @@ pub(crate) fn encode_array<O: Output>(values: &[Value], out: &mut O)
     encode_values(values, out);
 }
 
-// Writes values, one after the other.
+// Writes values in sequence.
 #[cycle(encoding)]
 fn encode_values<O: Output>(values: &[Value], out: &mut O)
     ensures { O.gives (numbered_values_bytes (values_of_list (map value_of values.now))) out.old out.new }
@@ -137,7 +137,7 @@ fn encode_annotation<O: Output>(typ: u32, elements: &[Element], out: &mut O)
     encode_elements(elements, out);
 }
 
-// Writes elements, one after the other.
+// Writes elements in sequence.
 #[cycle(encoding)]
 fn encode_elements<O: Output>(elements: &[Element], out: &mut O)
     ensures { O.gives (numbered_elements_bytes (elements_of_list (map element_of elements.now))) out.old out.new }

@@ -1,4 +1,4 @@
-//! Sets of annotations that are the same are equal, and are hashed alike.
+//! Sets of annotations that are the same are equal by `==`, and have equal hash input.
 
 ghost use Rattle.std.specs.Prelude.{◌≡◌, ◌↔◌, IsTrue};
 ghost use Rattle.std.specs.Cmp.{partial_equiv_from_equiv};
@@ -35,8 +35,8 @@ impl Hash for AnnotationSet {
     }
 }
 
-/// Sets are equal exactly where their annotations are the same, one for one: visibilities, types, names and values. Then
-/// they are hashed alike.
+/// Sets are equal exactly if their annotations are the same, one for one: visibilities, types, names and values. Equal
+/// sets have equal hash input.
 pub fn set_equality_law()
     ensures equal { (x y : AnnotationSet) → IsTrue (⟦<AnnotationSet as PartialEq>⟧.eq x y) ↔ (set_of x ≡ set_of y) }
     ensures hashed { (x y : AnnotationSet) → set_of x ≡ set_of y → ⟦<AnnotationSet as Hash>⟧.hash_input x ≡ ⟦<AnnotationSet as Hash>⟧.hash_input y }

@@ -1,10 +1,10 @@
-//! What annotations are read from.
+//! The source that annotations are read from.
 
 use dexhead::Frame;
 use dexpool::Pools;
 use std::alloc::Global;
 
-/// A file that annotations are read from: its frame, its pools, and the allocator for what is read.
+/// The file that annotations are read from: its frame, its pools, and the allocator for the items read.
 #[derive(Clone, Copy)]
 pub(crate) struct FileSource<'s, 'f, 'p> {
     pub(crate) alloc: Global,

@@ -1,4 +1,4 @@
-//! Whether the numbers in values and sets of annotations lead to ones of 32 bits.
+//! Whether the numbers in values and sets of annotations map to numbers of 32 bits.
 
 ghost use Rattle.std.specs.Prelude.{◌≡◌, ◌↔◌, IsTrue, map};
 ghost use Rattle.dexval.specs.Code.{value_of, element_of, annotation_of, set_of};
@@ -11,7 +11,7 @@ use crate::value::{Element, Value};
 use crate::visiting::visit_values;
 use dexpool::{Fits, Remap, all_fit};
 
-/// Whether each number of a symbol in values, as those of static fields, leads to one, below 2^32. No memory is taken.
+/// Whether each number of a symbol in values, as those of static fields, maps to a number below 2^32.
 #[tactic(auto, using(dexpool::proofs::Visits::all_fit))]
 pub fn values_fit(values: &[Value], remap: &Remap) -> bool
     ensures { IsTrue result ↔ HavePlaces remap.now (values_of_list (map value_of values.now)) }
@@ -22,7 +22,7 @@ pub fn values_fit(values: &[Value], remap: &Remap) -> bool
 }
 
 impl Value {
-    /// Whether each number of a symbol in the value leads to one, below 2^32. No memory is taken.
+    /// Whether each number of a symbol in the value maps to a number below 2^32.
     #[tactic(auto, using(dexpool::proofs::Visits::all_fit))]
     pub fn fits(&self, remap: &Remap) -> bool
         ensures { IsTrue result ↔ HasPlaces remap.now (value_of self.now) }
@@ -34,7 +34,7 @@ impl Value {
 }
 
 impl Element {
-    /// Whether the number of the name, and each in the value, leads to one, below 2^32. No memory is taken.
+    /// Whether the number of the name, and each number in the value, maps to a number below 2^32.
     #[tactic(auto, using(dexpool::proofs::Visits::all_fit))]
     pub fn fits(&self, remap: &Remap) -> bool
         ensures { IsTrue result ↔ ElementHasPlaces remap.now (element_of self.now) }
@@ -46,7 +46,7 @@ impl Element {
 }
 
 impl Annotation {
-    /// Whether the number of the type, and each in the elements, leads to one, below 2^32. No memory is taken.
+    /// Whether the number of the type, and each number in the elements, maps to a number below 2^32.
     pub fn fits(&self, remap: &Remap) -> bool
         ensures { IsTrue result ↔ AnnotationHasPlaces remap.now (annotation_of self.now) }
     {
@@ -55,7 +55,7 @@ impl Annotation {
 }
 
 impl AnnotationSet {
-    /// Whether each number of a symbol in the annotations leads to one, below 2^32. No memory is taken.
+    /// Whether each number of a symbol in the annotations maps to a number below 2^32.
     pub fn fits(&self, remap: &Remap) -> bool
         ensures { IsTrue result ↔ SetHasPlaces remap.now (set_of self.now) }
     {

@@ -1,4 +1,4 @@
-//! Values and annotations fed to a hasher.
+//! Feeds values and annotations to a hasher.
 
 ghost use Rattle.std.specs.Prelude.{◌≡◌, ◌++◌, fold, length, map};
 ghost use Rattle.std.specs.Hash as fed;
@@ -14,7 +14,7 @@ use crate::type_codes::{
 use crate::value::{Element, Value};
 use std::hash::{Hash, Hasher};
 
-// Feeds a type code and what is hashed behind it.
+// Feeds a type code, then the number.
 fn hash_coded<T: Hash, H: Hasher>(code: u8, number: &T, state: &mut H)
     ensures { state.new ≡ fold H.write state.old (fed.u8 code ++ T.hash_input number.now) }
 {
@@ -85,7 +85,7 @@ fn hash_annotation<H: Hasher>(annotation: &Annotation, state: &mut H)
     hash_elements(&annotation.elements, state);
 }
 
-/// Feeds annotations, with their number.
+/// Feeds annotations, after their count.
 pub(crate) fn hash_annotations<H: Hasher>(annotations: &[Annotation], state: &mut H)
     ensures { state.new ≡ fold H.write state.old (fed.slice annotation_input (map annotation_of annotations.now)) }
 {

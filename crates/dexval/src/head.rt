@@ -1,4 +1,4 @@
-//! Values apart from what they hold.
+//! Values without their contents.
 
 ghost use Rattle.std.specs.Prelude.{◌≡◌, ◌↔◌, IsTrue, map};
 ghost use Rattle.dexval.specs.Code.{value_of, element_of};
@@ -10,7 +10,7 @@ use crate::same::end;
 use crate::value::{Element, Value};
 use dexpool::{Remap, SymbolKind};
 
-/// What a value is, apart from the values that it holds. A number of a symbol is the one that it leads to.
+/// A value without the values that it holds. The number of a symbol is remapped.
 #[derive(Drop, PartialEq, Eq)]
 pub(crate) enum Head {
     Null,
@@ -32,7 +32,7 @@ pub(crate) enum Head {
 }
 
 impl Head {
-    // What the value is, its number led on by the map. A number that leads nowhere stays.
+    // The head of the value, its number remapped. A number without an image is unchanged.
     fn of(value: &Value, remap: &Remap) -> Head
         ensures { result ≡ head_of (renumbered remap.now (value_of value.now)) }
     {
@@ -57,8 +57,7 @@ impl Head {
     }
 }
 
-/// Whether a value and another one are the same, apart from the values that they hold, once the numbers of each are led
-/// on by a map of its own.
+/// Whether the heads of two values are equal, once the numbers of each are remapped by its own map.
 pub(crate) fn heads_alike(value: &Value, mine: &Remap, other: &Value, theirs: &Remap) -> bool
     ensures { IsTrue result ↔ (head_of (renumbered mine.now (value_of value.now)) ≡ head_of (renumbered theirs.now (value_of other.now))) }
 {
@@ -76,7 +75,7 @@ impl Value {
         }
     }
 
-    /// The elements of an annotation. Other values have none.
+    /// The elements of an annotation. Other values hold none.
     pub(crate) fn held_elements(&self) -> &[Element]
         ensures { elements_of_list (map element_of result.now) ≡ held_elements (value_of self.now) }
     {

@@ -1,4 +1,4 @@
-//! What a directory of annotations names, each read once however many members name it.
+//! The sets and lists that a directory of annotations names, each read once even if several members name it.
 
 ghost use Rattle.std.specs.Prelude.{◌≡◌, ◌≢◌, ◌<◌, ◌+◌, ◌-◌, ◌^◌, ◌≤◌, ℕ, List, [], Some, All, length, min, map, IfOk, IfErr, IsSome, OnOk};
 ghost use Rattle.std.specs.List.{Contains};
@@ -21,24 +21,24 @@ use dexpool::ItemFault;
 use std::alloc::{AllocError, Global};
 use std::collections::{HashMap, HashSet};
 
-/// What of a directory was read: all that is kept, and where it stands by its offset, while the budget lasts, and then the
-/// offsets of what was judged.
+/// The cache of a directory: the items that are kept, with their places by offset, while the budget lasts; after that
+/// the offsets of the items that were checked.
 #[derive(Drop)]
 pub(crate) struct Judged {
-    /// What is kept.
+    /// The items that are kept.
     pub(crate) table: SetTable,
-    /// The places of sets.
+    /// The places of sets, by offset.
     pub(crate) sets: HashMap<u32, u32>,
-    /// The places of lists of sets.
+    /// The places of lists of sets, by offset.
     pub(crate) lists: HashMap<u32, u32>,
-    /// Sets that are not kept.
+    /// The offsets of sets that are not kept.
     pub(crate) passed_sets: HashSet<u32>,
-    /// Lists that are not kept.
+    /// The offsets of lists that are not kept.
     pub(crate) passed_lists: HashSet<u32>,
 }
 
 impl Judged {
-    /// Nothing yet.
+    /// An empty cache.
     pub(crate) fn none(alloc: Global) -> Judged
         ensures table { result.table ≡ record { sets = []; lists = [] } }
         ensures held { AreHeld result }
@@ -54,7 +54,7 @@ impl Judged {
     }
 }
 
-// A set of the table, counted once more, but not where the budget has passed.
+// Counts a set of the table again, unless the budget is exceeded.
 fn count_set(table: &SetTable, place: u32, budget: &mut Budget)
     requires { place < length table.now.sets }
     ensures most { budget.new.most ≡ budget.old.most }
@@ -67,7 +67,7 @@ fn count_set(table: &SetTable, place: u32, budget: &mut Budget)
     }
 }
 
-/// A list of the table, counted once more, but not where the budget has passed.
+/// Counts a list of the table again, unless the budget is exceeded.
 pub(crate) fn count_list(table: &SetTable, place: u32, budget: &mut Budget)
     requires { place < length table.now.lists }
     ensures most { budget.new.most ≡ budget.old.most }
@@ -80,7 +80,8 @@ pub(crate) fn count_list(table: &SetTable, place: u32, budget: &mut Budget)
     }
 }
 
-// The set at an offset, read for the first time: counted, and kept where the budget allows it. Its place, if it is kept.
+// Records the set at an offset, which is read for the first time: counts it, and keeps it if the budget allows. Returns
+// its place, if it is kept.
 fn note_set(
     off: u32,
     set: AnnotationSet,
@@ -106,8 +107,8 @@ fn note_set(
     Ok(Some(place))
 }
 
-/// The place of the set of the annotation_set_item at an offset, counted, if it is kept; none at 0. It is kept while the
-/// budget lasts. Error: none stands there.
+/// The place of the set of the annotation_set_item at an offset, if it is kept, or none at offset 0. The set is
+/// counted, and kept while the budget lasts. Error: there is no set.
 pub(crate) fn counted_set_at(
     source: &FileSource<'_, '_, '_>,
     off: u32,
@@ -140,8 +141,8 @@ pub(crate) fn counted_set_at(
     Ok(note_set(off, set, judged, budget)?)
 }
 
-/// The list at an offset, read for the first time, and its sets counted: kept where the budget allows it. Its place, if it
-/// is kept.
+/// Records the list at an offset, which is read for the first time and whose sets are counted: keeps it if the budget
+/// allows. Returns its place, if it is kept.
 pub(crate) fn note_list(
     off: u32,
     places: Vec<Option<u32>>,

@@ -21,29 +21,29 @@ ghost use Rattle.dexval.specs.Uses.{value_uses, values_uses, annotation_uses, se
 
 use dexpool::{number_law, within_law};
 
-/// Under other numbers, where each number leads somewhere, a value, values and a set stand for what they stood for.
+/// If each number has an image, a remapped value, list of values or set denotes the same as before.
 pub fn renumber_law()
     ensures value { (m n : Mentions) (r : Maps) (x : NumberedValue) (v : ValueMeant) → AllLead m n r → All (IsLedUse r) (value_uses x) → StandsFor m x v → StandsFor n (renumbered r x) v }
     ensures values { (m n : Mentions) (r : Maps) (xs : NumberedValues) (vs : ValuesMeant) → AllLead m n r → All (IsLedUse r) (values_uses xs) → StandFor m xs vs → StandFor n (renumbered_values r xs) vs }
     ensures set { (m n : Mentions) (r : Maps) (xs : NumberedSet) (s : SetMeant) → AllLead m n r → All (IsLedUse r) (set_uses xs) → StandsForSet m xs s → StandsForSet n (renumbered_set r xs) s }
 {}
 
-/// The symbols that occur are those of what the numbers stand for, one for one and in their order.
+/// The symbols that occur are those of the items that the numbers denote, one for one and in order.
 pub fn uses_law()
     ensures value { (m : Mentions) (x : NumberedValue) (v : ValueMeant) → StandsFor m x v → AllZip (IsUseOf m) (value_uses x) (value_symbols v) }
     ensures values { (m : Mentions) (xs : NumberedValues) (vs : ValuesMeant) → StandFor m xs vs → AllZip (IsUseOf m) (values_uses xs) (values_symbols vs) }
     ensures set { (m : Mentions) (xs : NumberedSet) (s : SetMeant) → StandsForSet m xs s → AllZip (IsUseOf m) (set_uses xs) (set_symbols s) }
 {}
 
-/// Where there is a mark for each symbol, there is one for each that occurs.
+/// If there is a mark for each symbol, there is a mark for each symbol that occurs.
 pub fn marks_law()
     ensures value { (m : Mentions) (marks : Marks) (x : NumberedValue) → AreMarksOf m marks → IsKnown m x → All (HasMark marks) (value_uses x) }
     ensures values { (m : Mentions) (marks : Marks) (xs : NumberedValues) → AreMarksOf m marks → AreKnown m xs → All (HasMark marks) (values_uses xs) }
     ensures set { (m : Mentions) (marks : Marks) (xs : NumberedSet) → AreMarksOf m marks → IsKnownSet m xs → All (HasMark marks) (set_uses xs) }
 {}
 
-/// In a map that has an image for each number, the numbers of a value, of values and of a set lead somewhere. Those that
-/// may be led on lead somewhere.
+/// In a map that has an image for each number, the numbers of a value, of values and of a set have images. Items that
+/// may be remapped have images for all their numbers.
 pub fn images_law()
     ensures value { (m : Mentions) (r : Maps) (x : NumberedValue) → LeadsAll m r → IsKnown m x → All (IsLedUse r) (value_uses x) }
     ensures values { (m : Mentions) (r : Maps) (xs : NumberedValues) → LeadsAll m r → AreKnown m xs → All (IsLedUse r) (values_uses xs) }
@@ -53,9 +53,10 @@ pub fn images_law()
     ensures placed_set { (r : Maps) (xs : NumberedSet) → SetHasPlaces r xs → All (IsLedUse r) (set_uses xs) }
 {}
 
-/// Numbers of 32 bits lead to such in a map that leads to none greater, as one into a part does, and in a map into a
-/// numbering of at most 2^32 symbols of each kind, as a join may be. Each number of the code has 32 bits: so in such a
-/// map a value, values, an annotation, a set and sets may be led on where each of their numbers leads somewhere.
+/// A map that does not increase numbers, such as a map into a part, maps numbers of 32 bits to numbers of 32 bits. So
+/// does a map into a numbering of at most 2^32 symbols of each kind, such as a join. Each number of the code has 32
+/// bits. So under such a map a value, values, an annotation, a set and sets may be remapped if each of their numbers
+/// has an image.
 pub fn narrow_law()
     ensures cut { (r : Maps) → LeadDown r → LeadsNarrow r }
     ensures join { (n : Mentions) (r : Maps) → LeadsWithin n r → ((kind : SymbolKind) → count_of kind n ≤ 2 ^ 32) → LeadsNarrow r }
@@ -66,8 +67,8 @@ pub fn narrow_law()
     ensures sets { (r : Maps) (ss : List NumberedSet) → LeadsNarrow r → All (IsLedUse r) (flat_map set_uses ss) → All (SetHasPlaces r) ss }
 {}
 
-/// Where each number leads somewhere, as those of a part do when numberings are joined, and no kind has more than 2^32
-/// symbols, a value, values and a set may be led on.
+/// If each number has an image, as those of a part do when numberings are joined, and no kind has more than 2^32
+/// symbols, a value, values and a set may be remapped.
 pub fn places_law()
     ensures value { (m n : Mentions) (r : Maps) (x : NumberedValue) → AllLead m n r → LeadsAll m r → ((kind : SymbolKind) → count_of kind n ≤ 2 ^ 32) → IsKnown m x → HasPlaces r x }
     ensures values { (m n : Mentions) (r : Maps) (xs : NumberedValues) → AllLead m n r → LeadsAll m r → ((kind : SymbolKind) → count_of kind n ≤ 2 ^ 32) → AreKnown m xs → HavePlaces r xs }
@@ -76,8 +77,8 @@ pub fn places_law()
     within_law();
 }
 
-/// What weighs less than 2^32 has few enough members to be put: a value, static values, an annotation, and each
-/// annotation of a set. A set may be put from an offset on with which it weighs less than 2^32 together.
+/// An item that weighs less than 2^32 has few enough members to be put: a value, static values, an annotation, and each
+/// annotation of a set. A set may be put at an offset if the offset and its weight are together less than 2^32.
 pub fn counts_law()
     ensures value { (m : Mentions) (x : NumberedValue) → value_weight (value_in m x) < 2 ^ 32 → IsCounted x }
     ensures statics { (m : Mentions) (xs : List NumberedValue) → static_values_weight (values_in m (values_of_list xs)) < 2 ^ 32 → (length xs < 2 ^ 32) × AreCounted (values_of_list xs) }
@@ -86,8 +87,8 @@ pub fn counts_law()
     ensures offsets { (m : Mentions) (first : ℕ) (s : NumberedSet) → first + set_weight (set_in m s) < 2 ^ 32 → All (λ offset. offset < 2 ^ 32) (numbered_offsets first s) }
 {}
 
-/// Values, lists of values and sets of two numberings, led to a third in which each of their numbers leads somewhere, are
-/// the same there just where they stand for the same.
+/// Values, lists of values and sets of two numberings are remapped to a third in which each of their numbers has an
+/// image. They are equal there exactly if they denote the same.
 pub fn same_law()
     ensures value { (m n whole : Mentions) (r s : Maps) (x y : NumberedValue) (v w : ValueMeant) → AreRising whole → AllLead m whole r → AllLead n whole s → All (IsLedUse r) (value_uses x) → All (IsLedUse s) (value_uses y) → StandsFor m x v → StandsFor n y w → (renumbered r x ≡ renumbered s y) ↔ (v ≡ w) }
     ensures values { (m n whole : Mentions) (r s : Maps) (xs ys : NumberedValues) (vs ws : ValuesMeant) → AreRising whole → AllLead m whole r → AllLead n whole s → All (IsLedUse r) (values_uses xs) → All (IsLedUse s) (values_uses ys) → StandFor m xs vs → StandFor n ys ws → (renumbered_values r xs ≡ renumbered_values s ys) ↔ (vs ≡ ws) }

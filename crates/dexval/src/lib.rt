@@ -1,5 +1,5 @@
-//! Encoded values and annotations: what static fields begin with, and what classes, members and parameters are
-//! annotated with.
+//! Encoded values and annotations: the initial values of static fields, and the annotations of classes, members and
+//! parameters.
 //!
 //! Source: the Android page "Dalvik Executable format", under the headings "encoded_value encoding",
 //! "encoded_array format", "encoded_annotation format", "annotation_item", "annotation_set_item",

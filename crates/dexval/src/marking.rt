@@ -12,7 +12,7 @@ use crate::value::{Element, Value};
 use crate::visiting::visit_values;
 use dexpool::{Marks, mark};
 
-/// Marks each symbol that occurs in values, as those of static fields. No memory is taken.
+/// Marks each symbol that occurs in values, as those of static fields.
 ///
 /// Condition: there is a mark for each of them.
 #[tactic(auto, using(dexpool::proofs::Visits::all_marked))]
@@ -24,7 +24,7 @@ pub fn mark_values(values: &[Value], marks: &mut Marks)
 }
 
 impl Value {
-    /// Marks each symbol that occurs in the value. No memory is taken.
+    /// Marks each symbol that occurs in the value.
     ///
     /// Condition: there is a mark for each of them.
     #[tactic(auto, using(dexpool::proofs::Visits::all_marked))]
@@ -37,7 +37,7 @@ impl Value {
 }
 
 impl Element {
-    /// Marks the name, and each symbol that occurs in the value. No memory is taken.
+    /// Marks the name, and each symbol that occurs in the value.
     ///
     /// Condition: there is a mark for each of them.
     #[tactic(auto, using(dexpool::proofs::Visits::all_marked))]
@@ -50,7 +50,7 @@ impl Element {
 }
 
 impl Annotation {
-    /// Marks the type, and each symbol that occurs in the elements. No memory is taken.
+    /// Marks the type, and each symbol that occurs in the elements.
     ///
     /// Condition: there is a mark for each of them.
     pub fn mark(&self, marks: &mut Marks)
@@ -62,7 +62,7 @@ impl Annotation {
 }
 
 impl AnnotationSet {
-    /// Marks each symbol that occurs in the annotations. No memory is taken.
+    /// Marks each symbol that occurs in the annotations.
     ///
     /// Condition: there is a mark for each of them.
     pub fn mark(&self, marks: &mut Marks)

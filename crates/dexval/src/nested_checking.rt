@@ -1,5 +1,4 @@
-//! Values, arrays and annotations that are checked where they are in a file, one within the other. Nothing is kept of them,
-//! and no memory is taken.
+//! Checks nested values, arrays and annotations in place in a file. Nothing is kept, and no memory is allocated.
 
 ghost use Rattle.std.specs.Prelude.{ℕ, ◌≢◌, ◌+◌, ◌*◌, ◌^◌, ◌<◌, ◌≤◌, MatchOption, IfSome, length, slice_index};
 ghost use Rattle.dexspec.specs.Numbers.{Uleb128At};
@@ -13,14 +12,14 @@ use crate::type_codes::{ANNOTATION, ARRAY};
 use dexleb::read_u;
 use dexpool::{Pools, SymbolKind};
 
-/// How many bytes an item has in the file, and what it weighs.
+/// The size of an item in the file, and its weight.
 #[derive(Clone, Copy)]
 pub(crate) struct Measure {
     pub(crate) size: usize,
     pub(crate) weight: u64,
 }
 
-// The unsigned number at a place, and how many bytes it has.
+// The unsigned number at an offset, and its size.
 #[inline(always)]
 fn number_at(bytes: &[u8], at: usize) -> Option<(u32, usize)>
     requires { at ≤ length bytes.now }
@@ -34,7 +33,7 @@ fn number_at(bytes: &[u8], at: usize) -> Option<(u32, usize)>
     }
 }
 
-// The measure of the value at a place that holds no other value, or `None` where there is none.
+// The measure of the value at an offset that holds no other value, or `None` if there is none.
 fn scalar_measure(bytes: &[u8], pools: &Pools<'_>, at: usize) -> Option<Measure>
     requires within { at < length bytes.now }
     requires array { slice_index bytes.now at ≢ 0x1c }
@@ -50,7 +49,7 @@ fn scalar_measure(bytes: &[u8], pools: &Pools<'_>, at: usize) -> Option<Measure>
     Some(Measure { size, weight: 9 })
 }
 
-/// The measure of the value at a place, or `None` where there is none that nests at most `depth` deep.
+/// The measure of the value at an offset, or `None` if there is none that nests at most `depth` deep.
 #[cycle(checking)]
 pub(crate) fn value_measure(
     bytes: &[u8],
@@ -95,8 +94,8 @@ pub(crate) fn value_measure(
     }
 }
 
-/// How many values the encoded_array at a place has, and its measure: the weight is that of the values alone. `None` where
-/// there is none whose values nest at most `depth` deep.
+/// The number of values of the encoded_array at an offset, and its measure, whose weight is that of the values alone.
+/// `None` if there is no array whose values nest at most `depth` deep.
 #[cycle(checking)]
 pub(crate) fn array_measure(
     bytes: &[u8],
@@ -129,8 +128,8 @@ pub(crate) fn array_measure(
     Some((count, Measure { size, weight }))
 }
 
-// The number of the name of the element at a place, and the element's measure, or `None` where there is none whose name has at
-// least the number `least` and whose value nests at most `depth` deep.
+// The number of the name of the element at an offset, and the element's measure, or `None` if there is no element whose
+// name has at least the number `least` and whose value nests at most `depth` deep.
 #[cycle(checking)]
 fn element_measure(
     bytes: &[u8],
@@ -163,8 +162,8 @@ fn element_measure(
     }
 }
 
-// The measure of `count` elements from a place on, or `None` where there are none whose names rise strictly and whose values
-// nest at most `depth` deep.
+// The measure of `count` elements from an offset on, or `None` if there are no such elements whose names rise strictly
+// and whose values nest at most `depth` deep.
 #[cycle(checking)]
 fn elements_measure(
     bytes: &[u8],
@@ -195,8 +194,8 @@ fn elements_measure(
     Some(Measure { size, weight })
 }
 
-/// The number of the type of the encoded_annotation at a place, and the annotation's measure, or `None` where there is none
-/// whose values nest at most `depth` deep.
+/// The number of the type of the encoded_annotation at an offset, and the annotation's measure, or `None` if there is
+/// no annotation whose values nest at most `depth` deep.
 #[cycle(checking)]
 pub(crate) fn annotation_measure(
     bytes: &[u8],

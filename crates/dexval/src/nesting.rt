@@ -1,4 +1,4 @@
-//! Values, arrays and annotations that stand at a place of a file, one within the other.
+//! Reads nested values, arrays and annotations from a file.
 
 ghost use Rattle.std.specs.Prelude.{◌≡◌, ◌+◌, ◌^◌, ◌<◌, ◌≤◌, MatchOption, IfOk, IfSome, length, map};
 ghost use Rattle.dexval.specs.Code.{value_of, element_of};
@@ -13,17 +13,17 @@ use dexleb::read_u;
 use dexpool::{Pools, SymbolKind};
 use std::alloc::{AllocError, Global};
 
-// The most values for which room is taken before they are read.
+// The maximum number of values for which capacity is reserved before they are read.
 const MOST_AT_ONCE: usize = 4096;
 
-// For how many of so many items room is taken before they are read, where so many bytes are left and each takes one at
-// least. Of items within one another a count that is not true asks for little, and one that is true for no more than it
-// needs.
+// The number of items, of `count`, for which capacity is reserved before they are read. `left` bytes are left, and each
+// item has at least one byte. So for nested items a false count reserves little, and a true count reserves no more than
+// needed.
 fn room(count: u32, left: usize) -> usize {
     (count as usize).min(left).min(MOST_AT_ONCE)
 }
 
-/// The value at a place, and its size, or `None` where none stands there that nests at most so deep.
+/// The value at an offset, and its size, or `None` if there is none that nests at most `depth` deep.
 #[cycle(reading)]
 pub(crate) fn value_at(
     alloc: Global,
@@ -63,8 +63,8 @@ pub(crate) fn value_at(
     }
 }
 
-/// The values of the encoded_array at a place, and its size, or `None` where none stands there whose values nest at
-/// most so deep.
+/// The values of the encoded_array at an offset, and its size, or `None` if there is no array whose values nest at most
+/// `depth` deep.
 #[cycle(reading)]
 pub(crate) fn array_at(
     alloc: Global,
@@ -95,8 +95,8 @@ pub(crate) fn array_at(
     Ok(Some((values, head + size)))
 }
 
-// The element at a place, and its size, or `None` where none stands there whose name has at least this number and whose
-// value nests at most so deep.
+// The element at an offset, and its size, or `None` if there is no element whose name has at least the number `least`
+// and whose value nests at most `depth` deep.
 #[cycle(reading)]
 fn element_at(
     alloc: Global,
@@ -124,8 +124,8 @@ fn element_at(
     }
 }
 
-// So many elements from a place on, and their size, or `None` where none stand there whose names rise strictly and whose
-// values nest at most so deep.
+// `count` elements from an offset on, and their size, or `None` if there are no such elements whose names rise strictly
+// and whose values nest at most `depth` deep.
 #[cycle(reading)]
 fn elements_at(
     alloc: Global,
@@ -155,8 +155,8 @@ fn elements_at(
     Ok(Some((elements, size)))
 }
 
-/// The number of the type and the elements of the encoded_annotation at a place, and its size, or `None` where none
-/// stands there whose values nest at most so deep.
+/// The number of the type and the elements of the encoded_annotation at an offset, and its size, or `None` if there is
+/// no annotation whose values nest at most `depth` deep.
 #[cycle(reading)]
 pub(crate) fn annotation_at(
     alloc: Global,

@@ -6,7 +6,7 @@ ghost use Rattle.dexspec.specs.Numbers.{magnitude};
 
 use byteorder::{ByteOrder, LittleEndian};
 
-/// The number that the bytes spell.
+/// The number that the bytes encode.
 #[tactic(auto, using(crate::proofs::Spelled::number_is))]
 pub(crate) fn unsigned(bytes: &[u8]) -> u64
     requires some { 0 < length bytes.now }
@@ -17,7 +17,7 @@ pub(crate) fn unsigned(bytes: &[u8]) -> u64
     LittleEndian::read_uint(bytes, bytes.len())
 }
 
-/// The number that the bytes spell in two's complement.
+/// The number that the bytes encode in two's complement.
 #[tactic(auto, using(crate::proofs::Spelled::signed_is))]
 pub(crate) fn signed(bytes: &[u8]) -> i64
     requires some { 0 < length bytes.now }
@@ -28,7 +28,7 @@ pub(crate) fn signed(bytes: &[u8]) -> i64
     LittleEndian::read_int(bytes, bytes.len())
 }
 
-/// The bit pattern of so many bytes whose highest these are; the others are zero.
+/// The bit pattern of `width` bytes whose highest bytes these are; the others are zero.
 pub(crate) fn bits(bytes: &[u8], width: usize) -> u64
     requires some { 0 < length bytes.now }
     requires few { length bytes.now ≤ width }

@@ -1,4 +1,4 @@
-//! Values and annotations written.
+//! Writes values and annotations.
 
 ghost use Rattle.std.specs.Prelude.{◌≡◌, ◌+◌, ◌^◌, ◌<◌, ◌≤◌, map, length, IsOk, vec_len, vec_capacity};
 ghost use Rattle.dexspec.specs.Values.{Value as ValueMeant, Values as ValuesMeant};
@@ -18,12 +18,12 @@ use dexhead::put_encoded;
 use dexpool::Numbering;
 use std::alloc::AllocError;
 
-/// Appends a value (an encoded_value), each number and each index in the fewest bytes, and what the value holds in the
-/// order in which it holds it.
+/// Appends a value (an encoded_value) in its shortest encoding: each number and each index in the fewest bytes, and the
+/// contents in their order.
 ///
-/// It fails only for want of memory, and not where the spare room is at least what the value weighs; the vector is then
-/// as it was. An array or an annotation of 2^32 members or more, which no file holds, is put with the count 2^32 - 1, the
-/// most that a count says: what weighs less than 2^32 has none.
+/// On error the vector is unchanged. There is no error if the spare capacity is at least the weight of the value. An
+/// array or an annotation of 2^32 members or more, which no file has, is put with the count 2^32 - 1, the greatest
+/// count. A value that weighs less than 2^32 has none.
 ///
 /// Source: "encoded_value encoding", "encoded_array format" and "encoded_annotation format".
 pub fn put_value(
@@ -40,12 +40,12 @@ pub fn put_value(
     put_encoded(&ValueItem { value }, out)
 }
 
-/// Appends the values with which static fields begin (an encoded_array_item), each as [`put_value`] does.
+/// Appends the initial values of static fields (an encoded_array_item), each as [`put_value`] does. The number of bytes
+/// is [`statics_size`](crate::statics_size).
 ///
-/// It fails only for want of memory, and not where the spare room is at least what the values weigh and there is one; the
-/// vector is then as it was. It appends as many bytes as [`statics_size`](crate::statics_size) says. 2^32 values or more,
-/// and arrays and annotations of so many members among them, which no file holds, are put with the count 2^32 - 1, as
-/// [`put_value`] does.
+/// On error the vector is unchanged. There is no error if the spare capacity is at least the weight of the values, and
+/// there is a value. 2^32 values or more, and arrays and annotations of that many members among them, which no file
+/// has, are put with the count 2^32 - 1, as [`put_value`] does.
 ///
 /// Source: "encoded_array_item" and "encoded_array format".
 pub fn put_statics(
@@ -63,12 +63,11 @@ pub fn put_statics(
 }
 
 /// Appends an annotation (an annotation_item): its visibility, its type, and its elements in their order, each value as
-/// [`put_value`] does.
+/// [`put_value`] does. The number of bytes is [`annotation_size`](crate::annotation_size).
 ///
-/// It fails only for want of memory, and not where the spare room is at least what the annotation weighs; the vector is
-/// then as it was. It appends as many bytes as [`annotation_size`](crate::annotation_size) says. 2^32 elements or more,
-/// and arrays and annotations of so many members among them, which no file holds, are put with the count 2^32 - 1, as
-/// [`put_value`] does.
+/// On error the vector is unchanged. There is no error if the spare capacity is at least the weight of the annotation.
+/// 2^32 elements or more, and arrays and annotations of that many members among them, which no file has, are put with
+/// the count 2^32 - 1, as [`put_value`] does.
 ///
 /// Source: "annotation_item" and "encoded_annotation format".
 pub fn put_annotation(

@@ -1,4 +1,4 @@
-//! Values and sets of annotations whose numbers are led to those of another numbering.
+//! Remaps the numbers of values and sets of annotations to those of another numbering.
 
 ghost use Rattle.std.specs.Prelude.{◌≡◌, ◌<◌, ◌^◌, All, map};
 ghost use Rattle.dexpool.specs.declared.symbols.SymbolKind.TheVariants as kinds;
@@ -12,9 +12,9 @@ use crate::set::AnnotationSet;
 use crate::value::{Element, Value};
 use dexpool::{Remap, SymbolKind};
 
-/// The number that the number of a symbol of a kind leads to. No memory is taken.
+/// The number that the number of a symbol of a kind maps to.
 ///
-/// Condition: it leads to one, below 2^32.
+/// Condition: it maps to a number below 2^32.
 pub fn led(remap: &Remap, kind: SymbolKind, number: u32) -> u32
     requires { LeadsOn remap.now kind number }
     ensures { result ≡ led remap.now kind number }
@@ -25,7 +25,7 @@ pub fn led(remap: &Remap, kind: SymbolKind, number: u32) -> u32
     }
 }
 
-// Puts for each number of elements the one that it leads to.
+// Replaces each number of elements by the one that it maps to.
 #[cycle(renumbering)]
 fn renumber_elements(elements: &mut Vec<Element>, remap: &Remap)
     requires { ElementsHavePlaces remap.now (elements_of_list (map element_of elements.old.items)) }
@@ -36,9 +36,9 @@ fn renumber_elements(elements: &mut Vec<Element>, remap: &Remap)
     }
 }
 
-/// Puts for each number of a symbol in values, as those of static fields, the one that it leads to. No memory is taken.
+/// Replaces each number of a symbol in values, as those of static fields, by the one that it maps to.
 ///
-/// Condition: each number leads to one, below 2^32, which [`values_fit`](crate::values_fit) tells.
+/// Condition: each number maps to a number below 2^32, which [`values_fit`](crate::values_fit) checks.
 #[cycle(renumbering)]
 pub fn renumber_values(values: &mut Vec<Value>, remap: &Remap)
     requires { HavePlaces remap.now (values_of_list (map value_of values.old.items)) }
@@ -50,9 +50,9 @@ pub fn renumber_values(values: &mut Vec<Value>, remap: &Remap)
 }
 
 impl Value {
-    /// Puts for each number of a symbol in the value the one that it leads to. No memory is taken.
+    /// Replaces each number of a symbol in the value by the one that it maps to.
     ///
-    /// Condition: each number leads to one, below 2^32, which [`fits`](Value::fits) tells.
+    /// Condition: each number maps to a number below 2^32, which [`fits`](Value::fits) checks.
     #[cycle(renumbering)]
     pub fn renumber(&mut self, remap: &Remap)
         requires { HasPlaces remap.now (value_of self.old) }
@@ -75,9 +75,9 @@ impl Value {
 }
 
 impl Element {
-    /// Puts for the number of the name, and for each in the value, the one that it leads to. No memory is taken.
+    /// Replaces the number of the name, and each number in the value, by the one that it maps to.
     ///
-    /// Condition: each number leads to one, below 2^32, which [`fits`](Element::fits) tells.
+    /// Condition: each number maps to a number below 2^32, which [`fits`](Element::fits) checks.
     #[cycle(renumbering)]
     pub fn renumber(&mut self, remap: &Remap)
         requires { ElementHasPlaces remap.now (element_of self.old) }
@@ -89,9 +89,9 @@ impl Element {
 }
 
 impl Annotation {
-    /// Puts for the number of the type, and for each in the elements, the one that it leads to. No memory is taken.
+    /// Replaces the number of the type, and each number in the elements, by the one that it maps to.
     ///
-    /// Condition: each number leads to one, below 2^32, which [`fits`](Annotation::fits) tells.
+    /// Condition: each number maps to a number below 2^32, which [`fits`](Annotation::fits) checks.
     pub fn renumber(&mut self, remap: &Remap)
         requires { AnnotationHasPlaces remap.now (annotation_of self.old) }
         ensures { annotation_of self.new ≡ renumbered_annotation remap.now (annotation_of self.old) }
@@ -101,7 +101,7 @@ impl Annotation {
     }
 }
 
-// Puts for each number of annotations the one that it leads to.
+// Replaces each number of annotations by the one that it maps to.
 fn renumber_annotations(annotations: &mut Vec<Annotation>, remap: &Remap)
     requires { SetHasPlaces remap.now (map annotation_of annotations.old.items) }
     ensures { map annotation_of annotations.new.items ≡ renumbered_set remap.now (map annotation_of annotations.old.items) }
@@ -112,9 +112,9 @@ fn renumber_annotations(annotations: &mut Vec<Annotation>, remap: &Remap)
 }
 
 impl AnnotationSet {
-    /// Puts for each number of a symbol in the annotations the one that it leads to. No memory is taken.
+    /// Replaces each number of a symbol in the annotations by the one that it maps to.
     ///
-    /// Condition: each number leads to one, below 2^32, which [`fits`](AnnotationSet::fits) tells.
+    /// Condition: each number maps to a number below 2^32, which [`fits`](AnnotationSet::fits) checks.
     pub fn renumber(&mut self, remap: &Remap)
         requires { SetHasPlaces remap.now (set_of self.old) }
         ensures { set_of self.new ≡ renumbered_set remap.now (set_of self.old) }

@@ -1,4 +1,4 @@
-//! Whether values and sets of annotations are the same, once their numbers are led on.
+//! Whether values and sets of annotations are equal once their numbers are remapped.
 
 ghost use Rattle.std.specs.Prelude.{◌≡◌, ◌↔◌, IsTrue, map};
 ghost use Rattle.dexpool.specs.declared.symbols.SymbolKind.TheVariants as kinds;
@@ -12,7 +12,7 @@ use crate::set::AnnotationSet;
 use crate::value::{Element, Value};
 use dexpool::{Remap, SymbolKind};
 
-/// Where a number leads; one that leads nowhere stays.
+/// The number that a number maps to; a number without an image is unchanged.
 pub(crate) fn end(remap: &Remap, kind: SymbolKind, number: u32) -> usize
     ensures { result ≡ led remap.now kind number }
 {
@@ -22,15 +22,15 @@ pub(crate) fn end(remap: &Remap, kind: SymbolKind, number: u32) -> usize
     }
 }
 
-/// Whether two numbers of symbols of a kind are the same, once each is led on by a map of its own. A number that leads
-/// nowhere stays. No memory is taken.
+/// Whether two numbers of symbols of a kind are equal, once each is remapped by its own map. A number without an image
+/// is unchanged.
 pub fn ends_alike(kind: SymbolKind, mine: &Remap, number: u32, theirs: &Remap, other: u32) -> bool
     ensures { IsTrue result ↔ (led mine.now kind number ≡ led theirs.now kind other) }
 {
     end(mine, kind, number) == end(theirs, kind, other)
 }
 
-// Whether the elements are the same, one for one, their numbers led on.
+// Whether the elements are equal, one for one, once their numbers are remapped.
 #[cycle(comparing)]
 fn same_elements(mine: &Remap, elements: &[Element], theirs: &Remap, others: &[Element]) -> bool
     ensures { IsTrue result ↔ (renumbered_elements mine.now (elements_of_list (map element_of elements.now)) ≡ renumbered_elements theirs.now (elements_of_list (map element_of others.now))) }
@@ -46,8 +46,8 @@ fn same_elements(mine: &Remap, elements: &[Element], theirs: &Remap, others: &[E
     true
 }
 
-/// Whether values, as those of static fields, are the same as others, one for one, once the numbers of each are led on by
-/// a map of its own. A number that leads nowhere stays. No memory is taken.
+/// Whether two lists of values, as those of static fields, are equal, one for one, once the numbers of each are
+/// remapped by its own map. A number without an image is unchanged.
 ///
 /// Source: "encoded_array format".
 #[cycle(comparing)]
@@ -66,10 +66,8 @@ pub fn same_values_mapped(values: &[Value], mine: &Remap, others: &[Value], thei
 }
 
 impl Value {
-    /// Whether this and another value are the same, once the numbers of each are led on by a map of its own. A number
-    /// that leads nowhere stays. No memory is taken.
-    ///
-    /// Source: "encoded_value encoding".
+    /// Whether this and another value are equal, once the numbers of each are remapped by its own map. A number without
+    /// an image is unchanged.
     #[cycle(comparing)]
     pub fn same_mapped(&self, mine: &Remap, other: &Value, theirs: &Remap) -> bool
         ensures { IsTrue result ↔ (renumbered mine.now (value_of self.now) ≡ renumbered theirs.now (value_of other.now)) }
@@ -85,10 +83,8 @@ impl Value {
 }
 
 impl Element {
-    /// Whether this and another element have the same name and value, once the numbers of each are led on by a map of
-    /// its own. A number that leads nowhere stays. No memory is taken.
-    ///
-    /// Source: "annotation_element".
+    /// Whether this and another element have equal names and values, once the numbers of each are remapped by its own
+    /// map. A number without an image is unchanged.
     #[cycle(comparing)]
     pub fn same_mapped(&self, mine: &Remap, other: &Element, theirs: &Remap) -> bool
         ensures { IsTrue result ↔ (renumbered_element mine.now (element_of self.now) ≡ renumbered_element theirs.now (element_of other.now)) }
@@ -101,10 +97,8 @@ impl Element {
 }
 
 impl Annotation {
-    /// Whether this and another annotation have the same visibility, type and elements, once the numbers of each are led
-    /// on by a map of its own. A number that leads nowhere stays. No memory is taken.
-    ///
-    /// Source: "annotation_item".
+    /// Whether this and another annotation have equal visibilities, types and elements, once the numbers of each are
+    /// remapped by its own map. A number without an image is unchanged.
     pub fn same_mapped(&self, mine: &Remap, other: &Annotation, theirs: &Remap) -> bool
         ensures { IsTrue result ↔ (renumbered_annotation mine.now (annotation_of self.now) ≡ renumbered_annotation theirs.now (annotation_of other.now)) }
     {
@@ -118,7 +112,7 @@ impl Annotation {
     }
 }
 
-// Whether the annotations are the same, one for one, their numbers led on.
+// Whether the annotations are equal, one for one, once their numbers are remapped.
 fn same_annotations(
     mine: &Remap,
     annotations: &[Annotation],
@@ -139,10 +133,8 @@ fn same_annotations(
 }
 
 impl AnnotationSet {
-    /// Whether this and another set are the same, once the numbers of each are led on by a map of its own. A number
-    /// that leads nowhere stays. No memory is taken.
-    ///
-    /// Source: "annotation_set_item".
+    /// Whether this and another set are equal, once the numbers of each are remapped by its own map. A number without
+    /// an image is unchanged.
     pub fn same_mapped(&self, mine: &Remap, other: &AnnotationSet, theirs: &Remap) -> bool
         ensures { IsTrue result ↔ (renumbered_set mine.now (set_of self.now) ≡ renumbered_set theirs.now (set_of other.now)) }
     {

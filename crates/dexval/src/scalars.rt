@@ -19,7 +19,7 @@ const FALSE: u8 = BOOLEAN;
 
 const TRUE: u8 = 0x20 + BOOLEAN;
 
-// The most bytes of a value of a type code, if an argument counts them.
+// The maximum number of bytes of a value of a type code, if an argument counts them.
 fn width_of(code: u8) -> Option<usize>
     ensures { result ≡ width_of code }
 {
@@ -40,7 +40,7 @@ fn width_of(code: u8) -> Option<usize>
     }
 }
 
-// The bytes that the argument of a value counts, which stand behind its first byte.
+// The bytes of a number, which are after the first byte of a value.
 fn number_at(bytes: &[u8], at: usize, width: usize) -> Option<&[u8]>
     requires { at < length bytes.now }
     ensures { MatchOption result ((xs : List ℕ) (n : ℕ) → SizedAt (slice_index bytes.now at % 32) width bytes.now at xs n → ⊥) (λ number. SizedAt (slice_index bytes.now at % 32) width bytes.now at number.now (1 + length number.now)) }
@@ -54,7 +54,7 @@ fn number_at(bytes: &[u8], at: usize, width: usize) -> Option<&[u8]>
     Some(number)
 }
 
-// The index of a symbol of a kind, if there is such a symbol.
+// The index of a symbol of a kind, or `None` if the number is that of no symbol.
 fn index_of(number: &[u8], kind: SymbolKind, pools: &Pools<'_>) -> Option<u32>
     requires some { 0 < length number.now }
     requires few { length number.now ≤ 4 }
@@ -68,7 +68,7 @@ fn index_of(number: &[u8], kind: SymbolKind, pools: &Pools<'_>) -> Option<u32>
     }
 }
 
-// The value of a type code and these bytes, unless they are the index of no symbol.
+// The value of a type code and these bytes, or `None` if they are the index of no symbol.
 fn spelled(code: u8, number: &[u8], pools: &Pools<'_>) -> Option<Value>
     requires some { 0 < length number.now }
     requires few { IfSome (width_of code) (λ width. length number.now ≤ width) }
@@ -91,7 +91,7 @@ fn spelled(code: u8, number: &[u8], pools: &Pools<'_>) -> Option<Value>
     }
 }
 
-// The value behind a first byte whose argument counts the bytes of a number, and its size.
+// The value after a first byte whose argument counts the bytes of a number, and its size.
 fn sized_at(bytes: &[u8], pools: &Pools<'_>, at: usize) -> Option<(Value, usize)>
     requires within { at < length bytes.now }
     requires array { slice_index bytes.now at ≢ 0x1c }
@@ -110,10 +110,10 @@ fn sized_at(bytes: &[u8], pools: &Pools<'_>, at: usize) -> Option<(Value, usize)
     Some((value, 1 + number.len()))
 }
 
-/// The value at a place that holds no other value, and its size, or `None` where none stands there. Indices count in
-/// the pools.
+/// The value at an offset that holds no other value, and its size, or `None` if there is none. Indices refer to the
+/// pools.
 ///
-/// Condition: the byte at the place is there, and begins no array and no annotation.
+/// Condition: the byte at the offset exists, and begins no array and no annotation.
 ///
 /// Source: "encoded_value encoding", "Value formats".
 pub(crate) fn scalar_at(bytes: &[u8], pools: &Pools<'_>, at: usize) -> Option<(Value, usize)>

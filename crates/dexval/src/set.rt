@@ -15,9 +15,7 @@ pub struct AnnotationSet {
 }
 
 impl AnnotationSet {
-    /// A set without annotations. No memory is taken.
-    ///
-    /// Source: "annotation_set_item".
+    /// A set without annotations.
     pub fn empty(alloc: Global) -> AnnotationSet
         ensures { set_of result ≡ [] }
     {
@@ -26,9 +24,7 @@ impl AnnotationSet {
         }
     }
 
-    /// Whether the set has no annotation. No memory is taken.
-    ///
-    /// Source: "annotation_set_item".
+    /// Whether the set has no annotation.
     pub fn is_empty(&self) -> bool
         ensures { IsTrue result ↔ (set_of self.now ≡ []) }
     {

@@ -1,4 +1,4 @@
-//! Sets of annotations that are checked where they are in a file.
+//! Checks sets of annotations in place in a file.
 
 ghost use Rattle.std.specs.Prelude.{◌≡◌, ◌*◌, ◌^◌, ◌≤◌, IfOk, IfErr, IfSome, MatchOption};
 ghost use Rattle.dexpool.specs.Pools.{ArePools};
@@ -14,19 +14,19 @@ use crate::value_reading::MOST_DEPTH;
 use dexhead::{Condition, Frame, u32_at};
 use dexpool::{ItemFault, Pools};
 
-/// The greatest number of a visibility.
+/// The greatest visibility.
 const MOST_VISIBILITY: u8 = 2;
 
-/// How many annotations a set has, and how heavy it is.
+/// The number of annotations of a set, and its weight.
 #[derive(Clone, Copy, Debug)]
 pub struct SetShape {
-    /// How many annotations it has.
+    /// The number of annotations.
     pub count: u32,
-    /// What it weighs, as [`AnnotationSet::weight`](crate::AnnotationSet::weight) has it.
+    /// The weight of the set: its [`AnnotationSet::weight`](crate::AnnotationSet::weight).
     pub weight: u64,
 }
 
-// The number of the type of the annotation_item at an offset, and what the annotation weighs, if there is one.
+// The number of the type of the annotation_item at an offset, and its weight, or `None` if there is no such item.
 fn item_weight(frame: &Frame<'_>, pools: &Pools<'_>, off: u32) -> Option<(u32, u64)>
     ensures checked { AreFilePools frame.now pools.now → MatchOption result (NoItemAt frame.now off) (λ item. HasItem frame.now off pools.now item.0 item.1) }
     ensures light { IfSome result (λ item. item.1 ≤ 9 * 2 ^ 30) }
@@ -45,7 +45,7 @@ fn item_weight(frame: &Frame<'_>, pools: &Pools<'_>, off: u32) -> Option<(u32, u
     }
 }
 
-// The shape of the annotation_set_item at an offset, if there is one.
+// The shape of the annotation_set_item at an offset, or `None` if there is no such item.
 fn set_shape(frame: &Frame<'_>, pools: &Pools<'_>, off: u32) -> Option<SetShape>
     ensures { AreFilePools frame.now pools.now → MatchOption result (NoSetAt frame.now off) (λ shape. HasSetOf frame.now off pools.now shape.count shape.weight) }
 {
@@ -74,10 +74,10 @@ fn set_shape(frame: &Frame<'_>, pools: &Pools<'_>, off: u32) -> Option<SetShape>
     Some(SetShape { count, weight })
 }
 
-/// Checks the annotation_set_item at an offset, and the annotations that it refers to. Their indices count in the pools: those
-/// of the file. Nothing is kept of them, and no memory is taken.
+/// Checks the annotation_set_item at an offset, and the annotations that it refers to. Their indices refer to the
+/// pools, which are those of the file. Nothing is kept, and no memory is allocated.
 ///
-/// Error: `Refused(22)` exactly where [`read_set`](crate::read_set) refuses it.
+/// Error: `Refused(22)` exactly if [`read_set`](crate::read_set) refuses the set.
 ///
 /// Source: "annotation_set_item" and "annotation_item".
 pub fn check_set(frame: &Frame<'_>, pools: &Pools<'_>, off: u32) -> Result<SetShape, ItemFault>

@@ -1,4 +1,4 @@
-//! Sets of annotations written.
+//! Writes sets of annotations.
 
 ghost use Rattle.std.specs.Prelude.{◌+◌, ◌*◌, ◌^◌, ◌<◌, ◌≤◌, All, map, length, IsOk, vec_len, vec_capacity};
 ghost use Rattle.std.specs.List.{flat_map};
@@ -20,7 +20,8 @@ use dexhead::Output;
 use dexpool::Numbering;
 use std::alloc::AllocError;
 
-// Writes where each annotation begins, the first at an offset and each other after the one before it.
+// Writes the offset of each annotation: the first annotation is at `first`, and each other one follows the one before
+// it.
 fn encode_offsets<O: Output>(annotations: &[Annotation], first: u32, out: &mut O)
     requires { All (λ offset. offset < 2 ^ 32) (numbered_offsets first (map annotation_of annotations.now)) }
     ensures { O.gives (flat_map uint (numbered_offsets first (map annotation_of annotations.now))) out.old out.new }
@@ -32,7 +33,7 @@ fn encode_offsets<O: Output>(annotations: &[Annotation], first: u32, out: &mut O
     }
 }
 
-// Appends the count of annotations and where each begins.
+// Appends the count of annotations and the offset of each.
 fn put_offsets(annotations: &[Annotation], first: u32, out: &mut Vec<u8>) -> Result<(), AllocError>
     requires { All (λ offset. offset < 2 ^ 32) (numbered_offsets first (map annotation_of annotations.now)) }
     ensures { Puts (numbered_set_bytes first (map annotation_of annotations.now)) out.old out.new result }
@@ -43,16 +44,16 @@ fn put_offsets(annotations: &[Annotation], first: u32, out: &mut Vec<u8>) -> Res
     Ok(())
 }
 
-/// Appends the annotation_set_item of a set whose annotations stand, by type, one after the other from offset `first`
-/// on, each as [`put_annotation`](crate::put_annotation) appends it: their count and the offset of each, in four bytes
-/// each.
+/// Appends the annotation_set_item of a set: the count of its annotations and the offset of each, in four bytes each.
+/// The annotations are, by type, in sequence from offset `first` on, each as [`put_annotation`](crate::put_annotation)
+/// appends it.
 ///
-/// An empty set is put as a count of 0. The canonical file has no item for it: a set that has no annotation and none at
-/// all are the same there, and the caller leaves it out.
+/// An empty set is put as a count of 0. The canonical file has no item for it, since an empty set and no set are the
+/// same there: the caller leaves it out.
 ///
-/// It fails only for want of memory, and not where the spare room is at least four bytes and four for each annotation,
-/// nor where it is at least what the set weighs and there is one; the vector is then as it was. Condition: these offsets
-/// are below 2^32. No memory is taken beside the vector's.
+/// Condition: the offsets are below 2^32. On error the vector is unchanged. There is no error if the spare capacity is
+/// at least four bytes and four for each annotation, or if the set has an annotation and the spare capacity is at least
+/// its weight.
 ///
 /// Source: "annotation_set_item" and "annotation_off_item".
 pub fn put_set(

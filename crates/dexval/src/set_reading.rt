@@ -1,4 +1,4 @@
-//! Sets of annotations read from a file.
+//! Reads sets of annotations from a file.
 
 ghost use Rattle.std.specs.Prelude.{◌≡◌, ◌<◌, IfOk, IfErr, MatchOption};
 ghost use Rattle.dexspec.specs.Bytes.{uint_at};
@@ -29,7 +29,7 @@ fn visibility_of(number: u8) -> Result<Visibility, ItemFault>
     }
 }
 
-// The annotation of the annotation_item at an offset. Error: none stands there.
+// The annotation of the annotation_item at an offset. Error: there is no such item.
 fn item_at(
     alloc: Global,
     frame: &Frame<'_>,
@@ -55,8 +55,8 @@ fn item_at(
     }
 }
 
-/// The number of offsets of an annotation_set_item or an annotation_set_ref_list at an offset, or `None` where it is not wholly
-/// in the data at a multiple of 4.
+/// The number of offsets of an annotation_set_item or an annotation_set_ref_list at an offset, or `None` if the item is
+/// not inside the data at a multiple of 4.
 pub(crate) fn offset_count(frame: &Frame<'_>, off: u32) -> Option<u32>
     ensures { MatchOption result (HasOffsets frame.now off → ⊥) (λ count. HasOffsets frame.now off × (count ≡ uint_at frame.now off)) }
 {
@@ -70,7 +70,7 @@ pub(crate) fn offset_count(frame: &Frame<'_>, off: u32) -> Option<u32>
     Some(count)
 }
 
-/// As [`offset_count`]. Error: it is not wholly in the data at a multiple of 4.
+/// As [`offset_count`]. Error: the item is not inside the data at a multiple of 4.
 pub(crate) fn count_at(frame: &Frame<'_>, off: u32) -> Result<u32, ItemFault>
     ensures count { IfOk result (λ count. HasOffsets frame.now off × (count ≡ uint_at frame.now off)) }
     ensures refused { IfErr result (IsRefusal (HasOffsets frame.now off → ⊥)) }
@@ -81,13 +81,13 @@ pub(crate) fn count_at(frame: &Frame<'_>, off: u32) -> Result<u32, ItemFault>
     }
 }
 
-/// Reads the annotation_set_item at an offset, and the annotations that it leads to. Their indices count in the pools:
-/// those of the file.
+/// Reads the annotation_set_item at an offset, and the annotations that it refers to. Their indices refer to the pools,
+/// which are those of the file.
 ///
-/// Error: `Refused(22)` exactly where no such set stands there: the item is not wholly in the data at a multiple of 4,
+/// Errors: `Refused(22)` exactly if no such set is at the offset: the item is not inside the data at a multiple of 4,
 /// an annotation is not in the data, has an unknown visibility, an index that is out of range, names that do not rise,
-/// or a value that is none or nests deeper than 32, or the types of the annotations do not rise; `Memory` where a
-/// growth was refused.
+/// or a value that is invalid or nests deeper than 32, or the types of the annotations do not rise; `Memory` if an
+/// allocation failed.
 ///
 /// Source: "annotation_set_item" and "annotation_item".
 pub fn read_set(

@@ -11,8 +11,8 @@ use dexpool::Remap;
 use std::alloc::{AllocError, Global};
 use std::marker::Model;
 
-/// Sets of annotations, and lists of sets, as those of a method's parameters, which are named by their places. A list has
-/// the places of its sets, and `None` for an empty one.
+/// Sets of annotations, and lists of sets, as those of a method's parameters, which are named by their places. A list
+/// has the places of its sets, and `None` for an empty set.
 ///
 /// Source: "annotation_set_item" and "annotation_set_ref_list".
 #[derive(Drop)]
@@ -37,7 +37,7 @@ impl Model for SetTable {
     ghost invariant = { λ t. HoldsLists (record { sets = map set_of t.sets.items; lists = map (λ l. l.items) t.lists.items }) };
 }
 
-// Puts for each number of a symbol in the sets the one that it leads to, in each set that fits.
+// Replaces each number of a symbol in the sets by the one that it maps to, in each set that fits.
 fn renumber_sets(sets: &mut Vec<AnnotationSet>, remap: &Remap)
     ensures size { length sets.new.items ≡ length sets.old.items }
     ensures sets { (place : Option ℕ) → IsLedSet remap.now (set_at (map set_of sets.old.items) place) (set_at (map set_of sets.new.items) place) }
@@ -71,7 +71,7 @@ fn copied_lists(lists: &Vec<Vec<Option<u32>>>) -> Result<Vec<Vec<Option<u32>>>, 
     Ok(copy)
 }
 
-// The place after the first `len`. Error: it has more than 32 bits.
+// The place after the first `len` places. Error: it has more than 32 bits.
 fn place_of(len: usize) -> Result<u32, AllocError>
     ensures place { IfOk result (λ place. place ≡ len) }
     ensures below { len < 2 ^ 32 → IsOk result }
@@ -83,7 +83,7 @@ fn place_of(len: usize) -> Result<u32, AllocError>
 }
 
 impl SetTable {
-    /// A table without sets and lists. No memory is taken.
+    /// A table without sets and lists.
     pub fn empty(alloc: Global) -> SetTable
         ensures { result ≡ record { sets = []; lists = [] } }
     {
@@ -93,7 +93,7 @@ impl SetTable {
         }
     }
 
-    /// The set at a place, or `None` where there is no place, which is the empty set. No memory is taken.
+    /// The set at a place, or `None`, which is the empty set, if there is no place.
     ///
     /// Condition: the place is one of the sets'.
     pub fn set(&self, place: Option<u32>) -> Option<&AnnotationSet>
@@ -107,7 +107,7 @@ impl SetTable {
         }
     }
 
-    /// The places of the sets of the list at a place, none where there is no place. No memory is taken.
+    /// The places of the sets of the list at a place, or none if there is no place.
     ///
     /// Condition: the place is one of the lists'.
     pub fn list(&self, place: Option<u32>) -> &[Option<u32>]
@@ -121,7 +121,7 @@ impl SetTable {
         }
     }
 
-    /// What the set at a place weighs, or 2^64 - 1 where that is more. No memory is taken.
+    /// The weight of the set at a place, or 2^64 - 1 if it weighs more.
     ///
     /// Condition: the place is one of the sets'.
     pub(crate) fn set_weight(&self, place: Option<u32>) -> u64
@@ -134,8 +134,7 @@ impl SetTable {
         }
     }
 
-    /// What the list at a place and its sets weigh, each set as often as it is there, or 2^64 - 1 where that is more. No
-    /// memory is taken.
+    /// The weight of the list at a place and its sets, each set as often as it occurs, or 2^64 - 1 if they weigh more.
     ///
     /// Condition: the place is one of the lists'.
     pub(crate) fn list_weight(&self, place: Option<u32>) -> u64
@@ -155,7 +154,7 @@ impl SetTable {
         weight
     }
 
-    /// Adds a set. Its place.
+    /// Adds a set. Returns its place.
     pub(crate) fn add_set(&mut self, set: AnnotationSet) -> Result<u32, AllocError>
         ensures place { IfOk result (λ place. place ≡ length self.old.sets) }
         ensures table { OnOk result (self.new ≡ record { sets = self.old.sets ++ set_of set ∷ []; lists = self.old.lists }) }
@@ -166,7 +165,7 @@ impl SetTable {
         Ok(place)
     }
 
-    /// Adds a list of sets. Its place.
+    /// Adds a list of sets. Returns its place.
     ///
     /// Condition: each place in it is one of the sets'.
     pub(crate) fn add_list(&mut self, list: Vec<Option<u32>>) -> Result<u32, AllocError>
@@ -180,8 +179,8 @@ impl SetTable {
         Ok(place)
     }
 
-    /// Puts for each number of a symbol in the sets the one that it leads to. A set with a number that leads nowhere, or to 2^32
-    /// or more, stays as it is; [`fits`](AnnotationSet::fits) tells it. No memory is taken.
+    /// Replaces each number of a symbol in the sets by the one that it maps to. A set with a number that has no image
+    /// below 2^32 is unchanged; [`fits`](AnnotationSet::fits) reports which sets are remapped.
     pub fn renumber(&mut self, remap: &Remap)
         ensures size { length self.new.sets ≡ length self.old.sets }
         ensures lists { self.new.lists ≡ self.old.lists }
@@ -190,9 +189,7 @@ impl SetTable {
         renumber_sets(&mut self.sets, remap);
     }
 
-    /// The same table, with sets and lists of its own.
-    ///
-    /// Error: memory was refused.
+    /// The same table, with copies of its sets and lists.
     pub fn copy(&self) -> Result<SetTable, AllocError>
         ensures { IfOk result (λ copy. copy ≡ self.now) }
     {

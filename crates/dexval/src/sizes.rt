@@ -1,4 +1,4 @@
-//! How many bytes values and annotations take in their shortest spelling.
+//! The sizes of values and annotations in their shortest encoding.
 
 ghost use Rattle.std.specs.Prelude.{◌≡◌, ℕ, ◌-◌, ◌^◌, List, min, map, length};
 ghost use Rattle.dexspec.specs.Values.{Values as ValuesMeant};
@@ -16,8 +16,8 @@ use crate::set::AnnotationSet;
 use crate::value::Value;
 use dexhead::encoded_len;
 
-/// How many bytes [`put_annotation`](crate::put_annotation) appends for the annotation, or 2^64 - 1 where they are more:
-/// those of the annotation that it stands for in a numbering. No memory is taken.
+/// The number of bytes that [`put_annotation`](crate::put_annotation) appends for the annotation, or 2^64 - 1 if they
+/// are more. It is the size of the annotation that it denotes in a numbering.
 ///
 /// Source: "annotation_item" and "encoded_annotation format".
 pub fn annotation_size(annotation: &Annotation) -> u64
@@ -27,8 +27,8 @@ pub fn annotation_size(annotation: &Annotation) -> u64
     encoded_len(annotation) as u64
 }
 
-/// How many bytes [`put_statics`](crate::put_statics) appends for the values with which static fields begin, or 2^64 - 1
-/// where they are more: those of the values that they stand for in a numbering. No memory is taken.
+/// The number of bytes that [`put_statics`](crate::put_statics) appends for the initial values of static fields, or
+/// 2^64 - 1 if they are more. It is the size of the values that they denote in a numbering.
 ///
 /// Source: "encoded_array_item" and "encoded_array format".
 pub fn statics_size(values: &[Value]) -> u64
@@ -38,8 +38,8 @@ pub fn statics_size(values: &[Value]) -> u64
     encoded_len(&ArrayItem { values }) as u64
 }
 
-/// How many bytes [`put_set`](crate::put_set) appends for the set, wherever its annotations stand: four, and four for
-/// each of them. No memory is taken.
+/// The number of bytes that [`put_set`](crate::put_set) appends for the set, wherever its annotations are: four, and
+/// four for each annotation.
 ///
 /// Source: "annotation_set_item".
 pub fn set_size(set: &AnnotationSet) -> u64
@@ -49,8 +49,7 @@ pub fn set_size(set: &AnnotationSet) -> u64
     4 + 4 * set.annotations().len() as u64
 }
 
-/// How many bytes an annotation_set_ref_list of these sets takes, wherever they stand: four, and four for each of them.
-/// No memory is taken.
+/// The size of an annotation_set_ref_list of these sets, wherever they are: four bytes, and four for each set.
 ///
 /// Source: "annotation_set_ref_list".
 pub fn ref_list_size(sets: &[AnnotationSet]) -> u64

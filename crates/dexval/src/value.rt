@@ -1,7 +1,7 @@
-//! Values, with numbers in the place of symbols.
+//! Values, with numbers instead of symbols.
 
-/// A value: what a static field begins with, or what an element of an annotation has. A number of a symbol counts
-/// in a numbering, or in the pools of the file that the value was read from.
+/// A value: the initial value of a static field, or the value of an element of an annotation. The number of a symbol
+/// refers to a numbering, or to the pools of the file that the value was read from.
 ///
 /// Source: "encoded_value encoding", "Value formats".
 #[derive(Debug, Drop, PartialEq, Eq, Hash)]

@@ -1,4 +1,4 @@
-//! Values that are checked where they are in a file.
+//! Checks values in place in a file.
 
 ghost use Rattle.std.specs.Prelude.{◌≡◌, ℕ, IfOk, IfErr, MatchOption};
 ghost use Rattle.dexspec.specs.Values.{Value, Values, EncodedValueAt, EncodedArrayItemAt};
@@ -12,27 +12,27 @@ use crate::value_reading::MOST_DEPTH;
 use dexhead::{Condition, Frame};
 use dexpool::{ItemFault, Pools};
 
-/// How large and how heavy an encoded_value is.
+/// The size and the weight of an encoded_value.
 #[derive(Clone, Copy, Debug)]
 pub struct ValueShape {
-    /// How many bytes it has in the file.
+    /// The number of bytes in the file.
     pub size: u32,
-    /// What it weighs, as [`Value::weight`](crate::Value::weight) has it.
+    /// The weight of the value: its [`Value::weight`](crate::Value::weight).
     pub weight: u64,
 }
 
-/// How large and how heavy an encoded_array_item is.
+/// The size and the weight of an encoded_array_item.
 #[derive(Clone, Copy, Debug)]
 pub struct StaticsShape {
-    /// How many values it has.
+    /// The number of values.
     pub count: u32,
-    /// How many bytes it has in the file.
+    /// The number of bytes in the file.
     pub size: u32,
-    /// What the values weigh, as [`statics_weight`](crate::statics_weight) has it.
+    /// The weight of the values: their [`statics_weight`](crate::statics_weight).
     pub weight: u64,
 }
 
-// The shape of the encoded_value at an offset, if there is one.
+// The shape of the encoded_value at an offset, or `None` if there is none.
 fn value_shape(frame: &Frame<'_>, pools: &Pools<'_>, off: u32) -> Option<ValueShape>
     ensures { ArePools frame.now pools.now → MatchOption result ((v : Value) (n : ℕ) → EncodedValueAt frame.now off v n → ⊥) (λ shape. HasValueOf frame.now off pools.now shape.size shape.weight) }
 {
@@ -49,10 +49,10 @@ fn value_shape(frame: &Frame<'_>, pools: &Pools<'_>, off: u32) -> Option<ValueSh
     }
 }
 
-/// Checks the encoded_value at an offset, whose indices count in the pools: those of the file. Nothing is kept of it, and no
-/// memory is taken.
+/// Checks the encoded_value at an offset. Its indices refer to the pools, which are those of the file. Nothing is kept,
+/// and no memory is allocated.
 ///
-/// Error: `Refused(21)` exactly where [`read_value`](crate::read_value) refuses it.
+/// Error: `Refused(21)` exactly if [`read_value`](crate::read_value) refuses the value.
 ///
 /// Source: "encoded_value encoding", "encoded_array format" and "encoded_annotation format".
 pub fn check_value(frame: &Frame<'_>, pools: &Pools<'_>, off: u32) -> Result<ValueShape, ItemFault>
@@ -66,7 +66,7 @@ pub fn check_value(frame: &Frame<'_>, pools: &Pools<'_>, off: u32) -> Result<Val
     }
 }
 
-// The shape of the encoded_array_item at an offset, if there is one.
+// The shape of the encoded_array_item at an offset, or `None` if there is none.
 fn statics_shape(frame: &Frame<'_>, pools: &Pools<'_>, off: u32) -> Option<StaticsShape>
     ensures { ArePools frame.now pools.now → MatchOption result ((vs : Values) (n : ℕ) → EncodedArrayItemAt frame.now off vs n → ⊥) (λ shape. HasStaticsOf frame.now off pools.now shape.count shape.size shape.weight) }
 {
@@ -86,10 +86,10 @@ fn statics_shape(frame: &Frame<'_>, pools: &Pools<'_>, off: u32) -> Option<Stati
     }
 }
 
-/// Checks the encoded_array_item at an offset: the values with which the static fields of a class begin. Nothing is kept of
-/// it, and no memory is taken.
+/// Checks the encoded_array_item at an offset: the initial values of the static fields of a class. Nothing is kept, and
+/// no memory is allocated.
 ///
-/// Error: `Refused(21)` exactly where [`read_statics`](crate::read_statics) refuses it.
+/// Error: `Refused(21)` exactly if [`read_statics`](crate::read_statics) refuses the values.
 ///
 /// Source: "encoded_array_item".
 pub fn check_statics(

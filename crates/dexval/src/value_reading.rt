@@ -1,4 +1,4 @@
-//! Values read from a file.
+//! Reads values from a file.
 
 ghost use Rattle.std.specs.Prelude.{IfOk, IfErr, map};
 ghost use Rattle.dexpool.specs.Pools.{ArePools};
@@ -12,16 +12,16 @@ use dexhead::{Condition, Frame};
 use dexpool::{ItemFault, Pools};
 use std::alloc::Global;
 
-/// The deepest that values nest.
+/// The maximum depth of nested values.
 pub(crate) const MOST_DEPTH: u32 = 32;
 
-/// Reads the encoded_value at an offset, whose indices count in the pools: those of the file. Answers the value, and
-/// the number of bytes that it takes. A number may have any width up to that of its type; arrays and annotations nest
-/// 32 deep at most.
+/// Reads the encoded_value at an offset. Its indices refer to the pools, which are those of the file. Returns the value
+/// and its size in bytes. A number may have any width up to that of its type; arrays and annotations nest at most 32
+/// deep.
 ///
-/// Error: `Refused(21)` exactly where no such value stands there, wholly in the data: a type code that is none, a
-/// number of too many bytes, an index that is out of range of its pool, names of elements that do not rise, or values
-/// that nest deeper; `Memory` where a growth was refused.
+/// Errors: `Refused(21)` exactly if no such value is at the offset, inside the data: an unknown type code, a number of
+/// too many bytes, an index that is out of range of its pool, names of elements that do not rise, or values that nest
+/// deeper; `Memory` if an allocation failed.
 ///
 /// Source: "encoded_value encoding", "encoded_array format" and "encoded_annotation format".
 pub fn read_value(
@@ -43,9 +43,9 @@ pub fn read_value(
     }
 }
 
-/// Reads the encoded_array_item at an offset: the values with which the static fields of a class begin.
+/// Reads the encoded_array_item at an offset: the initial values of the static fields of a class.
 ///
-/// Error: as of [`read_value`]; each of the values may nest 32 deep.
+/// Errors: as [`read_value`]; each of the values may nest 32 deep.
 ///
 /// Source: "encoded_array_item".
 pub fn read_statics(

@@ -7,8 +7,6 @@ use crate::annotation::Visibility;
 
 impl Visibility {
     /// The number of the visibility.
-    ///
-    /// Source: "Visibility values".
     pub(crate) fn number(self) -> u8
         ensures { result ≡ visibility_of self }
     {

@@ -1,4 +1,4 @@
-//! Visits of the symbols that occur in values and in sets of annotations.
+//! Visits the symbols that occur in values and in sets of annotations.
 
 ghost use Rattle.std.specs.Prelude.{map};
 ghost use Rattle.std.specs.List.{FoldsTo};

@@ -1,4 +1,4 @@
-//! What values and annotations weigh.
+//! The weights of values and annotations.
 
 ghost use Rattle.std.specs.Prelude.{◌≡◌, ◌+◌, ◌-◌, ◌*◌, ◌^◌, ℕ, min, map, sum_by};
 ghost use Rattle.std.specs.Fn.{FnReturnsAt};
@@ -12,7 +12,7 @@ use crate::annotation::Annotation;
 use crate::set::AnnotationSet;
 use crate::value::{Element, Value};
 
-// What a value weighs, or 2^64 - 1 where that is more.
+// The weight of a value, or 2^64 - 1 if it weighs more.
 #[cycle(weighing)]
 fn value_weight(value: &Value) -> u64
     ensures { result ≡ min (2 ^ 64 - 1) (numbered_weight (value_of value.now)) }
@@ -24,7 +24,7 @@ fn value_weight(value: &Value) -> u64
     }
 }
 
-// What values weigh together.
+// The weight of values together.
 #[cycle(weighing)]
 fn values_weight(values: &[Value]) -> u64
     ensures { result ≡ min (2 ^ 64 - 1) (numbered_values_weight (values_of_list (map value_of values.now))) }
@@ -36,7 +36,7 @@ fn values_weight(values: &[Value]) -> u64
     weight
 }
 
-// What elements weigh together.
+// The weight of elements together.
 #[cycle(weighing)]
 fn elements_weight(elements: &[Element]) -> u64
     ensures { result ≡ min (2 ^ 64 - 1) (numbered_elements_weight (elements_of_list (map element_of elements.now))) }
@@ -50,7 +50,7 @@ fn elements_weight(elements: &[Element]) -> u64
     weight
 }
 
-// What items weigh in a list: 8, and for each 4 for its offset and what it weighs, or 2^64 - 1 where that is more.
+// The weight of items in a list: 8, and for each item its weight and 4 for its offset, or 2^64 - 1 if that is more.
 fn listed_weight<T, F: Fn(&T) -> u64>(items: &[T], weight_of: F) -> u64
     requires { F.IsAlwaysCallable weight_of }
     ensures { (weighs : T → ℕ) → ((item : T) (weight : ℕ) → FnReturnsAt F.Fn weight_of item weight → weight ≡ min (2 ^ 64 - 1) (weighs item)) → result ≡ min (2 ^ 64 - 1) (8 + sum_by (λ item. 4 + weighs item) items.now) }
@@ -62,28 +62,28 @@ fn listed_weight<T, F: Fn(&T) -> u64>(items: &[T], weight_of: F) -> u64
     weight
 }
 
-// What an annotation weighs.
+// The weight of an annotation.
 fn annotation_weight(annotation: &Annotation) -> u64
     ensures { result ≡ min (2 ^ 64 - 1) (numbered_annotation_weight (annotation_of annotation.now)) }
 {
     12u64.saturating_add(elements_weight(&annotation.elements))
 }
 
-// What annotations weigh in a set: each an annotation_item and its offset.
+// The weight of annotations in a set: each has an annotation_item and an offset.
 fn annotations_weight(annotations: &[Annotation]) -> u64
     ensures { result ≡ min (2 ^ 64 - 1) (8 + sum_by (λ a. 4 + numbered_annotation_weight (annotation_of a)) annotations.now) }
 {
     listed_weight(annotations, |annotation| annotation_weight(annotation))
 }
 
-// What sets weigh in a list of them: each its annotations and its offset.
+// The weight of sets in a list: each has its annotations and an offset.
 fn sets_weight(sets: &[AnnotationSet]) -> u64
     ensures { result ≡ min (2 ^ 64 - 1) (8 + sum_by (λ s. 4 + numbered_set_weight (set_of s)) sets.now) }
 {
     listed_weight(sets, |set| set_weight(set))
 }
 
-// What a set weighs.
+// The weight of a set.
 fn set_weight(set: &AnnotationSet) -> u64
     ensures { result ≡ min (2 ^ 64 - 1) (numbered_set_weight (set_of set.now)) }
 {
@@ -94,8 +94,7 @@ fn set_weight(set: &AnnotationSet) -> u64
 }
 
 impl Value {
-    /// What the value weighs, or 2^64 - 1 where that is more: at least the bytes of its shortest spelling. No memory is
-    /// taken.
+    /// The weight of the value, or 2^64 - 1 if it weighs more. It is at least the size of its shortest encoding.
     pub fn weight(&self) -> u64
         ensures { (m : Mentions) → result ≡ min (2 ^ 64 - 1) (value_weight (value_in m (value_of self.now))) }
     {
@@ -104,8 +103,8 @@ impl Value {
 }
 
 impl AnnotationSet {
-    /// What the set weighs, or 2^64 - 1 where that is more: at least the bytes of its item, and those of its annotations.
-    /// An empty set weighs nothing. No memory is taken.
+    /// The weight of the set, or 2^64 - 1 if it weighs more. It is at least the size of its item and of its
+    /// annotations. An empty set weighs nothing.
     pub fn weight(&self) -> u64
         ensures { (m : Mentions) → result ≡ min (2 ^ 64 - 1) (set_weight (set_in m (set_of self.now))) }
     {
@@ -113,8 +112,8 @@ impl AnnotationSet {
     }
 }
 
-/// What the sets of a method's parameters weigh, with the list of them, or 2^64 - 1 where that is more. No sets weigh
-/// nothing. No memory is taken.
+/// The weight of the sets of a method's parameters, with the list of them, or 2^64 - 1 if they weigh more. An empty
+/// list weighs nothing.
 pub fn parameter_sets_weight(sets: &[AnnotationSet]) -> u64
     ensures { (m : Mentions) → result ≡ min (2 ^ 64 - 1) (ref_list_weight (map (set_in m) (map set_of sets.now))) }
 {
@@ -124,8 +123,7 @@ pub fn parameter_sets_weight(sets: &[AnnotationSet]) -> u64
     sets_weight(sets)
 }
 
-/// What the values weigh with which static fields begin, or 2^64 - 1 where that is more. No values weigh nothing. No
-/// memory is taken.
+/// The weight of the initial values of static fields, or 2^64 - 1 if they weigh more. An empty list weighs nothing.
 pub fn statics_weight(values: &[Value]) -> u64
     ensures { (m : Mentions) → result ≡ min (2 ^ 64 - 1) (static_values_weight (values_in m (values_of_list (map value_of values.now)))) }
 {

@@ -1,10 +1,10 @@
-//! The fewest bytes that hold a number.
+//! The minimum number of bytes for a number.
 
 ghost use Rattle.std.specs.Prelude.{◌≡◌, ◌^◌, ◌<◌, ◌≤◌};
 ghost use Rattle.dexspec.specs.Numbers.{magnitude};
 ghost use Rattle.dexspec.specs.Spellings.{unsigned_width, signed_width, bits_width};
 
-/// The fewest bytes that hold a number, one at least.
+/// The minimum number of bytes for a number, at least one.
 pub(crate) fn unsigned_width(value: u64) -> usize
     ensures width { result ≡ unsigned_width value }
     ensures some { 1 ≤ result }
@@ -22,7 +22,7 @@ pub(crate) fn unsigned_width(value: u64) -> usize
     }
 }
 
-/// The number, and where it is negative the one whose bits are all turned.
+/// The number, or for a negative number the number with all its bits inverted.
 pub(crate) fn magnitude(value: i64) -> u64
     ensures size { result ≡ magnitude value }
     ensures bound { result < 2 ^ 63 }
@@ -34,7 +34,7 @@ pub(crate) fn magnitude(value: i64) -> u64
     }
 }
 
-/// The fewest bytes that hold a number and its sign.
+/// The minimum number of bytes for a number and its sign.
 pub(crate) fn signed_width(value: i64) -> usize
     ensures width { result ≡ signed_width value }
     ensures some { 1 ≤ result }
@@ -43,7 +43,7 @@ pub(crate) fn signed_width(value: i64) -> usize
     unsigned_width(2 * magnitude(value))
 }
 
-/// The fewest bytes that hold a bit pattern of so many bytes, the zeros at its low end left out.
+/// The minimum number of bytes for a bit pattern of `width` bytes, without the zeros at its low end.
 pub(crate) fn bits_width(width: usize, bits: u64) -> usize
     requires some { 1 ≤ width }
     requires few { width ≤ 8 }

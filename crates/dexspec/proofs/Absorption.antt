@@ -1,4 +1,4 @@
--- Parts of what can be merged can be merged, and what keeps a part from it keeps the whole from it.
+-- Any part of mergeable definitions is mergeable, and a cause against a part is a cause against the whole.
 use Rattle.std.proofs.Common.{◌≤◌, List, length, arith}
 use Rattle.dexspec.specs.Lists.{rank}
 use Rattle.dexspec.specs.Texts.{Text, text_cmp}
@@ -72,7 +72,7 @@ module _ (D E : List Definition) (h : AreWithin D E) where
   IsCause-within caps (Cycle name) x = record { defined = is_defined-within D E h name x.defined; deep = λ w. x.deep (HasDepth-within D E h name w) }
   IsCause-within caps (Exceeded clause) x = Exceeds-within caps clause x
 
--- what fits exceeds nothing
+-- definitions that fit exceed no cap
 pub Fits-apart : (caps : Caps) (D : List Definition) (clause : Cap) → Fits caps D → Exceeds caps D clause → ⊥
 Fits-apart caps D Types f x = omega (arith, f.types, x)
 Fits-apart caps D Protos f x = omega (arith, f.protos, x)
@@ -81,7 +81,7 @@ Fits-apart caps D Methods f x = omega (arith, f.methods, x)
 Fits-apart caps D ShortStrings f x = omega (arith, f.short_strings x.0 x.1, x.2)
 Fits-apart caps D Weight f x = omega (arith, f.weight x.0 x.1 x.2, x.3)
 
--- what can be merged has no cause against it
+-- mergeable definitions have no cause against them
 pub IsGood-apart : (caps : Caps) (D : List Definition) (cause : Cause) → IsGood caps D → IsCause caps D cause → ⊥
 IsGood-apart caps D (Conflict name) g x = x.unlike (g.consistent name x.one x.other x.one_in x.other_in)
 IsGood-apart caps D (Cycle name) g x = x.deep (g.acyclic name x.defined)

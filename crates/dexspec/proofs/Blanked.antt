@@ -1,4 +1,4 @@
--- Code whose indices are put to zero is cut as the code was, and is the same but for these indices.
+-- Code with zero for its indices is cut in the same way, and is the same except for these indices.
 use Rattle.std.proofs.Common.{◌≡◌, ◌⊎◌, ℕ, zero, suc, ◌+◌, ◌*◌, ◌/◌, ◌%◌, ◌<◌, ◌≤◌, Bool, true, false, ◌&&◌, List, [], ◌∷◌, length, get_or, slice_index, Option, Some, None, refl, sym, ap, ◌∙◌, subst, arith, inl, inr}
 use Rattle.std.specs.Prelude.{if◌then◌else◌, ◌==◌, slice_set, nat_le}
 use Rattle.std.specs.Option.{option_and_then}
@@ -25,13 +25,13 @@ IsZero i s = i ≡ 0
 abbrev pub pool_at : ℕ → Option Pool
 pool_at u = if is_payload_ident u then None else option_and_then (λ op. op.index) (opcode_of (low_byte u))
 
--- the units without an index, beside those with it
+-- the units without an index, related to those with it
 pub record Blank (w x : List ℕ) : Type 0 where
   pub size : length x ≡ length w
   pub first : slice_index x 0 ≡ slice_index w 0
   pub same : pool_at (slice_index w 0) ≡ None → x ≡ w
 
--- units with the index zero put in, wide or not
+-- units with the index zero, wide or not
 abbrev put_zero : List ℕ → Bool → List ℕ
 put_zero w t = if t then slice_set (slice_set w 1 (0 % 65536)) 2 (0 / 65536) else slice_set w 1 0
 
@@ -40,7 +40,7 @@ length_put : (w : List ℕ) (t : Bool) → length (put_zero w t) ≡ length w
 length_put w true = length-set (slice_set w 1 0) 2 0 ∙ length-set w 1 0
 length_put w false = length-set w 1 0
 
--- what units stand for has this
+-- units that encode a piece have this relation
 pub blank : (N : ℕ → Symbol → Type 0) (w : List ℕ) (p : Piece) → StandsForPiece N w p → Blank w (units_of p)
 blank N w (Instruction xs None) h = record { size = ap length h.2; first = ap (λ (ys : List ℕ). slice_index ys 0) h.2; same = λ _. h.2 }
 blank N w (Instruction xs (Some s)) h = record {
@@ -50,18 +50,18 @@ blank N w (Instruction xs (Some s)) h = record {
 }
 blank N w (Payload xs) h = record { size = ap length h.1; first = ap (λ (ys : List ℕ). slice_index ys 0) h.1; same = λ _. h.1 }
 
--- where zero is put, zero is read
+-- a unit that was set to zero is zero
 set_zero : (l : List ℕ) (i : ℕ) → get_or (slice_set l i 0) i 0 ≡ 0
 set_zero l i = elim (cases_lt i (length l)) [
   | inl lt ↦ get_or-set_same l i 0 0 lt
   | inr ge ↦ get_or-eq_default (slice_set l i 0) 0 (omega (arith, ge, length-set l i 0))
 ]
 
--- and to put it once more changes nothing
+-- setting it to zero again changes nothing
 zero_again : (l : List ℕ) (i : ℕ) → get_or l i 0 ≡ 0 → slice_set l i 0 ≡ l
 zero_again l i e = ap (λ (v : ℕ). slice_set l i v) (sym e) ∙ set-get_or l i 0
 
--- the index that was put
+-- the index that was set
 put_index : (w : List ℕ) (t : Bool) → (if t then two_units (put_zero w t) 1 else slice_index (put_zero w t) 1) ≡ 0
 put_index w true =
     let one : get_or (slice_set (slice_set w 1 0) 2 0) 1 0 ≡ 0 = get_or-set_other (slice_set w 1 0) 2 1 0 0 (omega arith) ∙ set_zero w 1 in
@@ -69,7 +69,7 @@ put_index w true =
     omega (arith, one, two)
 put_index w false = set_zero w 1
 
--- and twice is once
+-- setting it twice is setting it once
 put_again : (w : List ℕ) (t : Bool) → put_zero (put_zero w t) t ≡ put_zero w t
 put_again w true =
     let y = slice_set (slice_set w 1 0) 2 0 in
@@ -77,7 +77,7 @@ put_again w true =
     ap (λ (l : List ℕ). slice_set l 2 0) (zero_again y 1 one) ∙ zero_again y 2 (set_zero (slice_set w 1 0) 2)
 put_again w false = zero_again (slice_set w 1 0) 1 (set_zero w 1)
 
--- without its index a piece stands for itself, with zero for the index
+-- without its index a piece encodes itself, with zero for the index
 pub zeroed : (N : ℕ → Symbol → Type 0) (w : List ℕ) (p : Piece) → StandsForPiece N w p → StandsForPiece IsZero (units_of p) p
 zeroed N w (Instruction xs None) h = (subst (λ (ys : List ℕ). is_payload_ident (slice_index ys 0) ≡ false) (sym h.2) h.0, subst (λ (ys : List ℕ). index_pool ys ≡ None) (sym h.2) h.1, refl)
 zeroed N w (Instruction xs (Some s)) h =
@@ -91,22 +91,22 @@ zeroed N w (Payload xs) h = (subst (λ (ys : List ℕ). is_payload_ident (slice_
 
 -- ---- the size of a piece
 
--- a test that passes, and one that does not
+-- the value of a test that passes
 pub if_true : {X : Type 0} (t : Bool) (a b : X) → t ≡ true → (if t then a else b) ≡ a
 if_true true a b e = refl
 if_true false a b e = absurd cc
 
--- the other way
+-- the value of a test that fails
 pub if_false : {X : Type 0} (t : Bool) (a b : X) → t ≡ false → (if t then a else b) ≡ b
 if_false true a b e = absurd cc
 if_false false a b e = refl
 
--- what a test lets through
+-- the result of a guarded option
 some_if : {X : Type 0} (t : Bool) (o : Option X) (x : X) → (if t then o else None) ≡ Some x → (t ≡ true) × (o ≡ Some x)
 some_if true o x e = (refl, e)
 some_if false o x e = absurd cc
 
--- what comes through an option
+-- the result of a chained option
 and_then_some : {X Y : Type 0} (f : X → Option Y) (o : Option X) (y : Y) → option_and_then f o ≡ Some y → (x : X) × (o ≡ Some x) × (f x ≡ Some y)
 and_then_some f None y e = absurd cc
 and_then_some f (Some x) y e = (x, refl, e)
@@ -128,11 +128,11 @@ pub record InstructionPiece (us : List ℕ) (n : ℕ) : Type 0 where
   pub within : n ≤ length us
   pub first : is_first_unit op.format (slice_index us 0) ≡ true
 
--- equal where there is one
+-- equal options have equal values
 same_number : (m n : ℕ) → Some m ≡ Some n → m ≡ n
 same_number m n e = cc
 
--- by whether a payload begins here
+-- case split on whether a payload begins here
 piece_by : (at u : ℕ) (us : List ℕ) (n : ℕ) (t : Bool) → is_payload_ident u ≡ t → (if t then (if at % 2 == 0 then payload_size (u ∷ us) else None) else instruction_size (u ∷ us)) ≡ Some n → PayloadPiece at (u ∷ us) n ⊎ InstructionPiece (u ∷ us) n
 piece_by at u us n true e h =
     let even = some_if (at % 2 == 0) (payload_size (u ∷ us)) n h in
@@ -160,13 +160,13 @@ piece_by at u us n false e h =
       first = and_second (nat_le (units_in s.0.format) (length (u ∷ us))) (is_first_unit s.0.format u) tests.0;
     })
 
--- a piece is one or the other
+-- a piece is a payload or an instruction
 pub piece_is : (at : ℕ) (us : List ℕ) (n : ℕ) → piece_size at us ≡ Some n → PayloadPiece at us n ⊎ InstructionPiece us n
 unfolding piece_size
 piece_is at [] n h = absurd cc
 piece_is at (u ∷ us) n h = piece_by at u us n (is_payload_ident u) refl h
 
--- and the other way round
+-- and conversely
 piece_from : (at : ℕ) (us : List ℕ) (n : ℕ) → 0 < length us → PayloadPiece at us n ⊎ InstructionPiece us n → piece_size at us ≡ Some n
 unfolding piece_size
 piece_from at [] n some h = absurd (omega arith)
@@ -215,7 +215,7 @@ some_units F51l = omega arith
 
 -- ---- what is kept
 
--- the first n units are kept: the first of them, and where there is no index all
+-- the first n units are kept: the first of them, and all of them if there is no index
 pub record Kept (us vs : List ℕ) (n : ℕ) : Type 0 where
   pub first : slice_index vs 0 ≡ slice_index us 0
   pub same : pool_at (slice_index us 0) ≡ None → (j : ℕ) → j < n → slice_index vs j ≡ slice_index us j
@@ -237,13 +237,13 @@ units_by t s a b c = if t then 4 + 2 * a else (if s then 2 + 4 * a else 4 + ((b 
 abbrev order_by : Bool → Bool → List ℕ → Bool
 order_by t s us = if t then true else (if s then rises int_cmp (ints_in us 2 (slice_index us 1)) else list_any (λ width. slice_index us 1 == width) (1 ∷ 2 ∷ 4 ∷ 8 ∷ []))
 
--- two units at least
+-- at least two units
 least_units : (t s : Bool) (a b c : ℕ) → 2 ≤ units_by t s a b c
 least_units true s a b c = omega arith
 least_units false true a b c = omega arith
 least_units false false a b c = omega arith
 
--- both rest on the units of the payload
+-- both depend on the units of the payload
 payload_same : (us vs : List ℕ) (n : ℕ) (t s : Bool) → n ≡ units_by t s (slice_index us 1) (slice_index us 2) (slice_index us 3) → ((j : ℕ) → j < n → slice_index vs j ≡ slice_index us j)
     → (units_by t s (slice_index vs 1) (slice_index vs 2) (slice_index vs 3) ≡ n) × (order_by t s vs ≡ order_by t s us)
 payload_same us vs n true s e f = (omega (arith, e, f 1 (omega arith)), refl)
@@ -257,7 +257,7 @@ payload_same us vs n false false e f =
     let three = f 3 (omega arith) in
     ((λ i. 4 + ((two i + 65536 * three i) * one i + 1) / 2) ∙ sym e, ap (λ (a : ℕ). list_any (λ width. a == width) (1 ∷ 2 ∷ 4 ∷ 8 ∷ [])) one)
 
--- pieces that are kept have their size
+-- pieces whose units are kept have the same size
 pub piece_same : (at n : ℕ) (us vs : List ℕ) → length vs ≡ length us → Kept us vs n → piece_size at us ≡ Some n → piece_size at vs ≡ Some n
 piece_same at n us vs len kept h = elim (piece_is at us n h) [
   | inl p ↦
@@ -280,7 +280,7 @@ piece_same at n us vs len kept h = elim (piece_is at us n h) [
       }))
 ]
 
--- a piece has a unit, and ends with the units
+-- a piece has a unit, and is within the units
 pub piece_bounds : (at n : ℕ) (us : List ℕ) → piece_size at us ≡ Some n → (0 < n) × (n ≤ length us)
 piece_bounds at n us h = elim (piece_is at us n h) [
   | inl p ↦ (omega (arith, p.units, least_units (slice_index us 0 == packed_switch_ident) (slice_index us 0 == sparse_switch_ident) (slice_index us 1) (slice_index us 2) (slice_index us 3)), p.within)

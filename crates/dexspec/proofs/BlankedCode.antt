@@ -17,16 +17,16 @@ use Rattle.std.proofs.lemmas.List.Elements.{All-contains}
 use Rattle.dexspec.proofs.FormedRows.{all_from}
 use Rattle.dexspec.proofs.Blanked.{IsZero, pool_at, blank, zeroed, if_true, if_false, piece_is, Kept, ints_same, units_by, piece_same, piece_bounds}
 
--- ---- pieces one after the other
+-- ---- pieces in sequence
 
--- the units stand for the pieces, one after the other
+-- the units encode the pieces in sequence
 abbrev pub AreStanding : (ℕ → Symbol → Type 0) → List ℕ → List Cut → List Piece → Type 0
 AreStanding N us [] [] = Unit {0}
 AreStanding N us [] (p ∷ ps) = ⊥
 AreStanding N us (c ∷ cs) [] = ⊥
 AreStanding N us (c ∷ cs) (p ∷ ps) = StandsForPiece N (take c.units us) p × AreStanding N (drop c.units us) cs ps
 
--- from the whole to what is left, and back
+-- from the whole to the rest
 pub standing : (N : ℕ → Symbol → Type 0) (all : List ℕ) (at : ℕ) (us : List ℕ) (cs : List Cut) (ps : List Piece) → drop at all ≡ us → AreCut at us cs [] → AllZip (λ c p. StandsForPiece N (cut_units all c) p) cs ps → AreStanding N us cs ps
 standing N all at us [] [] e h g = tt
 standing N all at us [] (p ∷ ps) e h g = absurd g
@@ -36,7 +36,7 @@ standing N all at us (c ∷ cs) (p ∷ ps) e h g = (
   standing N all (at + c.units) (drop c.units us) cs ps (sym (drop-drop c.units at all) ∙ ap (drop c.units) e) h.2 g.1,
 )
 
--- from what is left to the whole
+-- from the rest to the whole
 pub standing_back : (N : ℕ → Symbol → Type 0) (all : List ℕ) (at : ℕ) (us : List ℕ) (cs : List Cut) (ps : List Piece) → drop at all ≡ us → AreCut at us cs [] → AreStanding N us cs ps → AllZip (λ c p. StandsForPiece N (cut_units all c) p) cs ps
 standing_back N all at us [] [] e h g = tt
 standing_back N all at us [] (p ∷ ps) e h g = absurd g
@@ -46,13 +46,13 @@ standing_back N all at us (c ∷ cs) (p ∷ ps) e h g = (
   standing_back N all (at + c.units) (drop c.units us) cs ps (sym (drop-drop c.units at all) ∙ ap (drop c.units) e) h.2 g.1,
 )
 
--- what stands in the first part
+-- an element of the first part
 pub append_left : (xs ys : List ℕ) (i d : ℕ) → i < length xs → get_or (xs ++ ys) i d ≡ get_or xs i d
 append_left [] ys i d lt = absurd (omega arith)
 append_left (x ∷ xs) ys zero d lt = refl
 append_left (x ∷ xs) ys (suc i) d lt = append_left xs ys i d (omega arith)
 
--- the piece is kept, where the units from `at` on are these
+-- the piece is kept, if these are the units from `at` on
 pub record KeptCut (at : ℕ) (us vs : List ℕ) (c : Cut) : Type 0 where
   pub place : at ≤ c.unit
   pub kept : Kept (drop (c.unit - at) us) (drop (c.unit - at) vs) c.units
@@ -125,7 +125,7 @@ blanked N at us (c ∷ cs) (p ∷ ps) h g =
 
 -- ---- the table of opcodes
 
--- what branches by more than its first unit has no index
+-- an instruction that branches by more than its first unit has no index
 abbrev goes_alone : Format → Option Pool → Bool
 goes_alone F20t (Some p) = false
 goes_alone F21t (Some p) = false
@@ -134,27 +134,27 @@ goes_alone F30t (Some p) = false
 goes_alone F31t (Some p) = false
 goes_alone f i = true
 
--- so it is in the whole table
+-- this holds in the whole table
 runs_go_alone : list_all (λ (r : OpcodeRun). goes_alone r.format r.index) opcode_runs ≡ true
 unfolding opcode_runs
 runs_go_alone = refl
 
--- by whether the first is found
+-- case split on whether the first is found
 found_by : {X : Type 0} (p q : X → Bool) (x y : X) (ys : List X) (t : Bool) → (q y && list_all q ys) ≡ true → cond t (Some y) (find p ys) ≡ Some x → (list_all q ys ≡ true → find p ys ≡ Some x → q x ≡ true) → q x ≡ true
 found_by p q x y ys true all e again = let same : y ≡ x = cc in ap q (sym same) ∙ and_first (q y) (list_all q ys) all
 found_by p q x y ys false all e again = again (and_second (q y) (list_all q ys) all) e
 
--- what is found passes what all pass
+-- an element that is found has each property of all
 pub found_passes : {X : Type 0} (p q : X → Bool) (xs : List X) (x : X) → list_all q xs ≡ true → find p xs ≡ Some x → q x ≡ true
 found_passes p q [] x all e = absurd cc
 found_passes p q (y ∷ ys) x all e = found_by p q x y ys (p y) all e (found_passes p q ys x)
 
--- what a mapped option has
+-- the value of a mapped option
 pub mapped_some : {X Y : Type 0} (f : X → Y) (o : Option X) (y : Y) → option_map f o ≡ Some y → (x : X) × (o ≡ Some x) × (f x ≡ y)
 mapped_some f None y e = absurd cc
 mapped_some f (Some x) y e = (x, refl, cc)
 
--- so it is for each opcode
+-- this holds for each opcode
 opcode_goes_alone : (n : ℕ) (op : Opcode) → opcode_of n ≡ Some op → goes_alone op.format op.index ≡ true
 unfolding opcode_of
 opcode_goes_alone n op e =
@@ -163,35 +163,35 @@ opcode_goes_alone n op e =
 
 -- ---- targets
 
--- from a place on
+-- from an index on
 read : (l : List ℕ) (k : ℕ) → slice_index (drop k l) 0 ≡ slice_index l k
 read l k = let z : k + 0 ≡ k = omega arith in get_or-drop k l 0 0 ∙ ap (slice_index l) z
 
--- and further on
+-- and from a later index on
 read_later : (l : List ℕ) (k j n : ℕ) → k + j ≡ n → slice_index (drop k l) j ≡ slice_index l n
 read_later l k j n e = get_or-drop k l j 0 ∙ ap (slice_index l) e
 
--- equal tests have one answer
+-- equal tests give equal results
 any_same : (p q : Cut → Bool) (cs : List Cut) → ((c : Cut) → Contains cs c → p c ≡ q c) → list_any p cs ≡ list_any q cs
 any_same p q [] h = refl
 any_same p q (c ∷ cs) h = let first = h c (Contains-first c cs) in let rest = any_same p q cs (λ d m. h d (Contains-later c d cs m)) in λ i. first i || rest i
 
--- either of two
+-- the left side of a disjunction
 or_left : (a b : Bool) → a ≡ true → (a || b) ≡ true
 or_left true b e = refl
 or_left false b e = absurd cc
 
--- the other of two
+-- the right side of a disjunction
 or_right : (a b : Bool) → b ≡ true → (a || b) ≡ true
 or_right true b e = refl
 or_right false b e = e
 
--- where not the one, the other
+-- if the left side is false, the right side is true
 or_other : (a b : Bool) → a ≡ false → (a || b) ≡ true → b ≡ true
 or_other true b e f = absurd cc
 or_other false b e f = f
 
--- what passes a test passes a weaker one
+-- a value that passes a test passes a weaker one
 all_weaker : {X : Type 0} (p q : X → Bool) (o : Option X) → ((x : X) → p x ≡ true → q x ≡ true) → all_of_option p o ≡ true → all_of_option q o ≡ true
 all_weaker p q None h e = refl
 all_weaker p q (Some x) h e = h x e
@@ -206,7 +206,7 @@ kind_ident false false = refl
 abbrev targets_by : Bool → Bool → List ℕ → ℕ → List ℤ
 targets_by t s us at = if t then ints_in us (at + 4) (slice_index us (at + 1)) else (if s then ints_in us (at + 2 + 2 * slice_index us (at + 1)) (slice_index us (at + 1)) else [])
 
--- they rest on the units of the payload
+-- they depend on the units of the payload
 targets_same_by : (us vs : List ℕ) (at n : ℕ) (t s : Bool) (b c : ℕ) → n ≡ units_by t s (slice_index us (at + 1)) b c → ((k : ℕ) → at ≤ k → k < at + n → slice_index vs k ≡ slice_index us k) → targets_by t s vs at ≡ targets_by t s us at
 targets_same_by us vs at n true s b c e f =
     let one = f (at + 1) (omega arith) (omega arith) in
@@ -216,7 +216,7 @@ targets_same_by us vs at n false true b c e f =
     ap (λ (k : ℕ). ints_in vs (at + 2 + 2 * k) k) one ∙ ints_same us vs (at + 2 + 2 * slice_index us (at + 1)) (slice_index us (at + 1)) (λ k le lt. f k (omega arith) (omega arith))
 targets_same_by us vs at n false false b c e f = refl
 
--- how far a branch goes rests on its units
+-- the distance of a branch depends on its units
 branch_by : (us vs : List ℕ) (at : ℕ) (f : Format) (i : Option Pool) → goes_alone f i ≡ true → slice_index vs at ≡ slice_index us at → (i ≡ None → (k : ℕ) → at ≤ k → k < at + units_in f → slice_index vs k ≡ slice_index us k) → branch_offset f vs at ≡ branch_offset f us at
 branch_by us vs at F10t i alone first h = ap (λ (u : ℕ). Some (signed_in 1 (high_byte u))) first
 branch_by us vs at F20t None alone first h = let one = h refl (at + 1) (omega arith) (omega arith) in ap (λ (u : ℕ). Some (signed_in 2 u)) one
@@ -237,7 +237,7 @@ branch_by us vs at F30t (Some p) alone first h = absurd cc
 branch_by us vs at F31t (Some p) alone first h = absurd cc
 branch_by us vs at f i alone first h = refl
 
--- the piece is kept in the whole
+-- the piece is kept in the whole list
 pub record KeptPiece (us vs : List ℕ) (c : Cut) : Type 0 where
   pub kept : Kept (drop c.unit us) (drop c.unit vs) c.units
   pub piece : piece_size c.unit (drop c.unit us) ≡ Some c.units
@@ -253,7 +253,7 @@ module _ (us vs : List ℕ) (cs : List Cut) (keeps : (c : Cut) → Contains cs c
   unit_at : (c : Cut) → Contains cs c → slice_index vs c.unit ≡ slice_index us c.unit
   unit_at c m = sym (read vs c.unit) ∙ (keeps c m).kept.first ∙ read us c.unit
 
-  -- where there is no index, all its units are
+  -- without an index all its units are kept
   unit_within : (c : Cut) → Contains cs c → pool_at (slice_index us c.unit) ≡ None → (k : ℕ) → c.unit ≤ k → k < c.unit + c.units → slice_index vs k ≡ slice_index us k
   unit_within c m none k le lt =
       let j = k - c.unit in
@@ -266,12 +266,12 @@ module _ (us vs : List ℕ) (cs : List Cut) (keeps : (c : Cut) → Contains cs c
       any_same (λ c. int_eq (pos c.unit) z && not (is_payload_ident (slice_index vs c.unit))) (λ c. int_eq (pos c.unit) z && not (is_payload_ident (slice_index us c.unit))) cs
       (λ c m. ap (λ (u : ℕ). int_eq (pos c.unit) z && not (is_payload_ident u)) (unit_at c m))
 
-  -- so are the starts of payloads
+  -- starts of payloads are the same
   payload_start_same : (ident : ℕ) (z : ℤ) → is_payload_start ident vs cs z ≡ is_payload_start ident us cs z
   payload_start_same ident z =
       any_same (λ c. int_eq (pos c.unit) z && slice_index vs c.unit == ident) (λ c. int_eq (pos c.unit) z && slice_index us c.unit == ident) cs (λ c m. ap (λ (u : ℕ). int_eq (pos c.unit) z && u == ident) (unit_at c m))
 
-  -- so are the targets of a payload
+  -- targets of a payload are the same
   payload_targets_same : (c : Cut) → Contains cs c → is_payload_ident (slice_index us c.unit) ≡ true → payload_targets vs c.unit ≡ payload_targets us c.unit
   payload_targets_same c m ident =
       let none : pool_at (slice_index us c.unit) ≡ None = if_true (is_payload_ident (slice_index us c.unit)) None (option_and_then (λ op. op.index) (opcode_of (low_byte (slice_index us c.unit)))) ident in
@@ -288,7 +288,7 @@ module _ (us vs : List ℕ) (cs : List Cut) (keeps : (c : Cut) → Contains cs c
         | inr p ↦ absurd (let f : false ≡ true = sym p.ident ∙ ap is_payload_ident (read us c.unit) ∙ ident in cc)
       ]
 
-  -- what leads right still does
+  -- valid targets stay valid
   leads_same : (c : Cut) → Contains cs c → (f : Format) (offset : ℤ) → leads_right us cs c.unit f offset ≡ true → leads_right vs cs c.unit f offset ≡ true
   leads_same c m F31t offset e =
       let z = pos c.unit +ℤ offset in
@@ -314,7 +314,7 @@ module _ (us vs : List ℕ) (cs : List Cut) (keeps : (c : Cut) → Contains cs c
   abbrev Right : List ℕ → Cut → Bool
   Right xs c = all_of_option (λ op. all_of_option (leads_right xs cs c.unit op.format) (branch_offset op.format xs c.unit)) (opcode_of (low_byte (slice_index xs c.unit)))
 
-  -- by whether it is a payload
+  -- case split on whether it is a payload
   right_by : (c : Cut) → Contains cs c → (t : Bool) → is_payload_ident (slice_index us c.unit) ≡ t → (is_payload_ident (slice_index us c.unit) || Right us c) ≡ true → (is_payload_ident (slice_index vs c.unit) || Right vs c) ≡ true
   right_by c m true e h = or_left (is_payload_ident (slice_index vs c.unit)) (Right vs c) (ap is_payload_ident (unit_at c m) ∙ e)
   right_by c m false e h = elim (piece_is c.unit (drop c.unit us) c.units (keeps c m).piece) [
@@ -332,7 +332,7 @@ module _ (us vs : List ℕ) (cs : List Cut) (keeps : (c : Cut) → Contains cs c
         or_right (is_payload_ident (slice_index vs c.unit)) (Right vs c) (ap (all_of_option (λ (o : Opcode). all_of_option (leads_right vs cs c.unit o.format) (branch_offset o.format vs c.unit))) is_too ∙ still)
   ]
 
-  -- right targets stay right
+  -- valid targets stay valid
   pub right_same : (c : Cut) → Contains cs c → has_right_targets us cs c ≡ true → has_right_targets vs cs c ≡ true
   unfolding has_right_targets
   right_same c m h = right_by c m (is_payload_ident (slice_index us c.unit)) refl h
@@ -346,7 +346,7 @@ pub record BlankedCode (us : List ℕ) (cs : List Cut) (ps : List Piece) : Type 
   pub pieces : AllZip (λ c p. StandsForPiece IsZero (cut_units (flat_map units_of ps) c) p) cs ps
   pub starts : (z : ℤ) → is_instruction_start (flat_map units_of ps) cs z ≡ is_instruction_start us cs z
 
--- code stays code without its indices
+-- code without its indices is code
 pub blanked_code : (N : ℕ → Symbol → Type 0) (us : List ℕ) (cs : List Cut) (ps : List Piece) → IsCode us cs → AllZip (λ c p. StandsForPiece N (cut_units us c) p) cs ps → BlankedCode us cs ps
 blanked_code N us cs ps code pieces =
     let vs = flat_map units_of ps in

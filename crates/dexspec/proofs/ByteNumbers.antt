@@ -1,4 +1,4 @@
--- Numbers of a fixed number of bytes: what their bytes spell, and what stands where they were written.
+-- Numbers of a fixed number of bytes: what their bytes encode, and how they are read where they were written.
 use Rattle.std.proofs.Common.{◌≡◌, All, ℕ, zero, suc, ◌+◌, ◌-◌, ◌*◌, ◌/◌, ◌%◌, ◌^◌, ◌<◌, List, [], ◌∷◌, length, refl, ap, ◌∙◌, arith, inl, inr}
 use Rattle.std.specs.Int.{w64}
 use Rattle.std.specs.Prelude.{ℤ, FitsSigned, pos, negsuc}
@@ -24,13 +24,13 @@ pow_256_pos n = omega (arith, pow_256 n, pow_pos (8 * n))
 
 -- ---- bytes
 
--- n bytes are n
+-- n bytes have length n
 pub length-bytes_of : (n v : ℕ) → length (bytes_of n v) ≡ n
 unfolding bytes_of
 length-bytes_of zero v = refl
 length-bytes_of (suc n) v = ap suc (length-bytes_of n (v / 256))
 
--- the bytes of a number that they hold spell it
+-- the bytes of a number that fits them encode it
 pub number_of-bytes_of : (n v : ℕ) → v < 256 ^ n → number_of (bytes_of n v) ≡ v
 unfolding bytes_of number_of
 number_of-bytes_of zero v lt = omega arith
@@ -42,7 +42,7 @@ unfolding bytes_of
 are_bytes-bytes_of zero v = All-nil (λ x. x < 256)
 are_bytes-bytes_of (suc n) v = All-cons (λ x. x < 256) (v % 256) (bytes_of n (v / 256)) (omega arith) (are_bytes-bytes_of n (v / 256))
 
--- n bytes spell a number below 256 ^ n
+-- n bytes encode a number below 256 ^ n
 pub number_bound : (bytes : List ℕ) → All (λ x. x < 256) bytes → number_of bytes < 256 ^ length bytes
 unfolding number_of
 number_bound [] are = omega arith
@@ -62,19 +62,19 @@ pub length-uint : (n : ℕ) → length (uint n) ≡ 4
 unfolding uint
 length-uint n = length-bytes_of 4 n
 
--- where a ushort stands, it is read
+-- a ushort is read where it is
 pub ushort_at-stands : {b : List ℕ} {o n : ℕ} → n < 2 ^ 16 → Stands b o (ushort n) → ushort_at b o ≡ n
 unfolding ushort ushort_at bytes_of
 ushort_at-stands {b} {o} {n} lt h = ap number_of h.here ∙ number_of-bytes_of 2 n lt
 
--- where a uint stands, it is read
+-- a uint is read where it is
 pub uint_at-stands : {b : List ℕ} {o n : ℕ} → n < 2 ^ 32 → Stands b o (uint n) → uint_at b o ≡ n
 unfolding uint uint_at bytes_of
 uint_at-stands {b} {o} {n} lt h = ap number_of h.here ∙ number_of-bytes_of 4 n lt
 
 -- ---- signs
 
--- a number with a sign that n bytes have room for is what they are read as
+-- a signed number that fits n bytes is read back from them
 pub signed_in-bytes_of : (n : ℕ) (z : ℤ) → 0 < n → 2 * magnitude z < 256 ^ n → signed_in n (number_of (bytes_of n (complement n z))) ≡ z
 signed_in-bytes_of zero z some lt = absurd (omega arith)
 signed_in-bytes_of (suc n) (pos v) some lt =
@@ -82,7 +82,7 @@ signed_in-bytes_of (suc n) (pos v) some lt =
 signed_in-bytes_of (suc n) (negsuc v) some lt =
     rw (number_of-bytes_of (suc n) (256 ^ suc n - suc v) (omega arith), pow_256 (suc n), le-ltb (2 * (256 ^ suc n - suc v)) (256 ^ suc n) (omega (arith, pow-suc 256 n))) (omega (arith, ints))
 
--- a number that n bytes hold, read with its sign
+-- a number in n bytes, read as signed
 signed_room : (n x : ℕ) (z : ℤ) → x < 256 ^ suc n → signed_in (suc n) x ≡ z → 2 * magnitude z < 256 ^ suc n
 signed_room n x (pos v) lt is =
     elim (cases_lt (2 * x) (256 ^ suc n)) [
@@ -95,12 +95,12 @@ signed_room n x (negsuc v) lt is =
       | inr large ↦ let e = rw (pow_256 (suc n), le-ltb (2 * x) (256 ^ suc n) large) at is in omega (arith, ints, e)
     ]
 
--- bytes that are read as a number with a sign have room for it
+-- a signed number that is read from bytes fits them
 pub signed_in_room : (bytes : List ℕ) (z : ℤ) → All (λ x. x < 256) bytes → 0 < length bytes → signed_in (length bytes) (number_of bytes) ≡ z → 2 * magnitude z < 256 ^ length bytes
 signed_in_room [] z are some is = absurd (omega arith)
 signed_in_room (b ∷ bs) z are some is = signed_room (length bs) (number_of (b ∷ bs)) z (number_bound (b ∷ bs) are) is
 
--- a number with a sign of 64 bits fits 8 bytes
+-- a signed number of 64 bits fits 8 bytes
 pub fits_64 : (z : ℤ) → FitsSigned w64 z → 2 * magnitude z < 256 ^ 8
 fits_64 (pos n) fits = omega (arith, ints)
 fits_64 (negsuc n) fits = omega (arith, ints)

@@ -15,7 +15,7 @@ pub chain_cons : (b : ℕ) (bs : List ℕ) → 128 ≤ b → IsChain bs → IsCh
 chain_cons b [] top chain = absurd chain
 chain_cons b (c ∷ bs) top chain = (top, chain)
 
--- no chain begins another
+-- no chain is a proper prefix of another
 pub chain_same : (l : List ℕ) (n m : ℕ) → IsChain (take n l) → IsChain (take m l) → n ≤ length l → m ≤ length l → n ≡ m
 chain_same l zero m one other le le' = absurd one
 chain_same l (suc n) zero one other le le' = absurd other
@@ -27,7 +27,7 @@ chain_same (b ∷ c ∷ bs) (suc zero) (suc (suc m)) one other le le' = absurd (
 chain_same (b ∷ c ∷ bs) (suc (suc n)) (suc zero) one other le le' = absurd (omega (arith, one.0, other))
 chain_same (b ∷ c ∷ bs) (suc (suc n)) (suc (suc m)) one other le le' = omega (arith, chain_same (c ∷ bs) (suc n) (suc m) one.1 other.1 (omega arith) (omega arith))
 
--- no chain begins bytes that all have their top bits set
+-- bytes that all have their top bits set begin with no chain
 pub no_chain : (l : List ℕ) (n : ℕ) → n ≤ length l → All (λ byte. 128 ≤ byte) l → ¬ IsChain (take n l)
 no_chain l zero le high chain = chain
 no_chain [] (suc n) le high chain = chain
@@ -43,7 +43,7 @@ last_of_chain (b ∷ c ∷ bs) chain = last_of_chain (c ∷ bs) chain.1
 
 -- ---- sums
 
--- one group more holds 128 times as many numbers
+-- one more group has 128 times as many numbers
 pub sevens : (n : ℕ) → 2 ^ (7 * suc n) ≡ 128 * 2 ^ (7 * n)
 sevens n = let e : 7 * suc n ≡ 7 + 7 * n = omega arith in rw (e, pow-add) refl
 

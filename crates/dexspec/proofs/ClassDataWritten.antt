@@ -1,4 +1,4 @@
--- Class data stands where its canonical bytes were written, with each member in the row of its index, and rising indices.
+-- Class data is at the offset of its canonical bytes, if each member is in the row of its index and the indices rise.
 use Rattle.std.proofs.Common.{◌≡◌, ℕ, ◌+◌, ◌-◌, ◌^◌, ◌<◌, ◌≤◌, List, [], ◌∷◌, ◌++◌, length, map, Option, Some, None, refl, sym, ap, ◌∙◌, arith, inl, inr, All, subst, take, drop, length-take, length-drop}
 use Rattle.std.specs.Prelude.{◌==◌, false, nat_lt, IsTrue}
 use Rattle.std.specs.List.{Contains, concat, zip, flat_map}
@@ -27,17 +27,17 @@ use Rattle.dexspec.proofs.NumbersWritten.{front_stands, back_stands, uleb128_wri
 
 -- ---- rising indices and their differences
 
--- the indices rise, from behind one if there is one
+-- the indices rise, after one if there is one
 abbrev AreRising : Option ℕ → List ℕ → Type 0
 AreRising None is = IsTrue (rises nat_cmp is)
 AreRising (Some last) is = IsTrue (rises nat_cmp (last ∷ is))
 
--- what the first difference is from
+-- the base of the first difference
 abbrev from_index : Option ℕ → ℕ
 from_index None = 0
 from_index (Some last) = last
 
--- a number is not less than one that it does not exceed
+-- a number is not less than a number that is at most equal
 not_less : (x y : ℕ) → y ≤ x → is_lt (nat_cmp x y) ≡ false
 not_less x y le = ap is_lt (cond-false (nat_lt x y) Less _ (le-ltb x y le)) ∙ cond_both (x == y) Equal Greater (λ (r : Ordering). is_lt r ≡ false) (λ e. refl) (λ e. refl)
 
@@ -49,12 +49,12 @@ index_less last i is h =
       | inr ge ↦ absurd (true≢false (sym (and_first (is_lt (nat_cmp last i)) (rises nat_cmp (i ∷ is)) h) ∙ not_less last i ge))
     ]
 
--- a difference tells the next index
+-- a difference gives the next index
 next_index : (last : Option ℕ) (i : ℕ) (is : List ℕ) → AreRising last (i ∷ is) → IsNextIndex last (i - from_index last) i
 next_index None i is h = omega arith
 next_index (Some last) i is h = let lt = index_less last i is h in (omega (arith, lt), omega (arith, lt))
 
--- the others rise from behind it
+-- the other indices rise after it
 next_rising : (last : Option ℕ) (i : ℕ) (is : List ℕ) → AreRising last (i ∷ is) → AreRising (Some i) is
 next_rising None i is h = h
 next_rising (Some last) i is h = and_second (is_lt (nat_cmp last i)) (rises nat_cmp (i ∷ is)) h
@@ -77,15 +77,15 @@ module _ (b : List ℕ) (m : Mentions) (name : Text) where
   abbrev method_indices : List MethodDef → List ℕ
   method_indices xs = map (λ x. method_index m (method_of name x)) xs
 
-  -- the bytes of fields, from behind an index
+  -- the bytes of fields, after an index
   abbrev fields_bytes : ℕ → List FieldDef → List ℕ
   fields_bytes last fs = concat (zip_with (λ f difference. uleb128 difference ++ uleb128 f.flags) fs (differences last (field_indices fs)))
 
-  -- the bytes of methods, from behind an index
+  -- the bytes of methods, after an index
   abbrev methods_bytes : ℕ → List MethodDef → List ℕ → List ℕ
   methods_bytes last xs offs = concat (zip_with encoded_method_bytes xs (zip (differences last (method_indices xs)) offs))
 
-  -- fields stand where their bytes do
+  -- fields are at the offset of their bytes
   pub fields_written : (last : Option ℕ) (o : ℕ) (fs : List FieldDef) → AreRising last (field_indices fs) → ((f : FieldDef) → Contains fs f → IsInRow b m (FieldSymbol (field_of name f)))
       → ((f : FieldDef) → Contains fs f → f.flags < 2 ^ 32) → Stands b o (fields_bytes (from_index last) fs) → EncodedFieldsAt b o last (map (encoded_field name) fs) (length (fields_bytes (from_index last) fs))
   fields_written last o [] rise are flags h = refl
@@ -110,7 +110,7 @@ module _ (b : List ℕ) (m : Mentions) (name : Text) where
         omega (arith, length-append (x ++ y) rest, length-append x y),
       )
 
-  -- methods do, with the offsets of their code
+  -- methods are at the offset of their bytes, with the offsets of their code
   pub methods_written : (last : Option ℕ) (o : ℕ) (xs : List MethodDef) (offs : List ℕ) → length offs ≡ length xs → AreRising last (method_indices xs) → ((x : MethodDef) → Contains xs x → IsInRow b m (MethodSymbol (method_of name x)))
       → ((x : MethodDef) → Contains xs x → x.flags < 2 ^ 32) → ((p : ℕ) → Contains offs p → p < 2 ^ 32) → Stands b o (methods_bytes (from_index last) xs offs)
       → EncodedMethodsAt b o last (zip_with (encoded_method name) xs offs) (length (methods_bytes (from_index last) xs offs))
@@ -143,7 +143,7 @@ module _ (b : List ℕ) (m : Mentions) (name : Text) where
 
 -- ---- the symbols of members
 
--- what stands behind a class's own symbols is among its symbols
+-- the symbols after a class's own symbols are among its symbols
 pub own_first : (name : Text) (c : Body) (s : Symbol) → Contains (flat_map (field_symbols name) (declared_fields c) ++ (flat_map (method_symbols name) (declared_methods c) ++ values_symbols c.static_values)) s → Contains (symbols_of (name, c)) s
 unfolding symbols_of
 own_first name c s is =
@@ -164,7 +164,7 @@ field_occurs name c f is =
     let others = flat_map (method_symbols name) (declared_methods c) ++ values_symbols c.static_values in
     own_first name c s (Contains-append_left fields others s (Contains-flat_map (field_symbols name) (declared_fields c) f s is (Contains-first s (set_symbols f.annotations))))
 
--- and so is a declared method
+-- a declared method is among them
 pub method_occurs : (name : Text) (c : Body) (x : MethodDef) → Contains (declared_methods c) x → Contains (symbols_of (name, c)) (MethodSymbol (method_of name x))
 method_occurs name c x is =
     let s = MethodSymbol (method_of name x) in
@@ -190,13 +190,13 @@ abbrev pub IndicesRise : Mentions → Text → Body → Type 0
 IndicesRise m name c = IsTrue (rises nat_cmp (map (λ f. field_index m (field_of name f)) c.static_fields)) × IsTrue (rises nat_cmp (map (λ f. field_index m (field_of name f)) c.instance_fields))
     × IsTrue (rises nat_cmp (map (λ x. method_index m (method_of name x)) c.direct_methods)) × IsTrue (rises nat_cmp (map (λ x. method_index m (method_of name x)) c.virtual_methods))
 
--- as many pairs as members
+-- there are as many pairs as members
 length-zip_with : {X Y Z : Type 0} (f : X → Y → Z) (xs : List X) (ys : List Y) → length ys ≡ length xs → length (zip_with f xs ys) ≡ length xs
 length-zip_with f [] ys e = refl
 length-zip_with f (x ∷ xs) [] e = absurd (omega arith)
 length-zip_with f (x ∷ xs) (y ∷ ys) e = let rest = length-zip_with f xs ys (omega arith) in omega (arith, rest)
 
--- class data stands where its bytes do
+-- class data is at the offset of its bytes
 pub class_data_written : (b : List ℕ) (m : Mentions) (o : ℕ) (name : Text) (c : Body) (code_offs : List ℕ) → IsWellFormed (name, c) → IndicesRise m name c → AreInRows b m (symbols_of (name, c))
     → length code_offs ≡ length (declared_methods c) → All (λ p. p < 2 ^ 32) code_offs → data_off b ≤ o → Stands b o (class_data_bytes m (name, c) code_offs) → ClassDataAt b o (class_data_of name c code_offs)
 unfolding class_data_bytes

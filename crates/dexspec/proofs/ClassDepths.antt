@@ -1,4 +1,4 @@
--- The definitions of a file have depths: a class stands behind those that it is based on.
+-- The definitions of a file have depths: a class comes after its superclass and interfaces.
 use Rattle.std.proofs.Common.{◌≡◌, ◌≢◌, ℕ, zero, suc, ◌<◌, true, List, [], ◌∷◌, Option, Some, None, option_to_list, sym, subst, arith, inl, inr}
 use Rattle.std.specs.Prelude.{if◌then◌else◌, ◌==◌}
 use Rattle.std.specs.List.{Contains, filter, flat_map}
@@ -42,14 +42,14 @@ module _ (b : List ℕ) (h : HasClasses b) where
       let own : TypeRow b i p = elim (Contains-cons_cases x p [] c) [ inl e ↦ subst (TypeRow b i) e row.row | inr l ↦ absurd (Contains-nil p l) ] in
       (i, rw (ne_eqb i no_index some) (Contains-first i []), own)
 
-  -- each interface has one
+  -- each interface has an index
   interface_index : (o : ℕ) (ts : List Text) (p : Text) → OrNone ClassListAt [] b o ts → Contains ts p → (k : ℕ) × Contains (if o == 0 then [] else type_indices b o) k × TypeRow b k p
   interface_index o ts p (inl row) c = absurd (Contains-nil p (subst (λ (us : List Text). Contains us p) row.1 c))
   interface_index o ts p (inr row) c =
       let s = zip_source (TypeRow b) (type_indices b o) ts p row.1.list.types c in
       (s.0, rw (ne_eqb o 0 row.0) s.1, s.2)
 
-  -- so each parent has one
+  -- so each parent has an index
   parent_index : (r : ℕ) (name : Text) (c : Body) (p : Text) → ClassRow b r name c → Contains (parents c) p → (k : ℕ) × Contains (parent_indices b r) k × TypeRow b k p
   parent_index r name c p row m = elim (Contains-append_cases (option_to_list c.superclass) c.interfaces p m) [
     | inl l ↦

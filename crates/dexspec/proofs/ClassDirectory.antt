@@ -1,5 +1,5 @@
--- The sets, ref lists and directory of a class in the file of definitions: they stand where its row leads, for what the class
--- and its members are annotated with.
+-- The sets, ref lists and directory of a class in the file of definitions: they are at the offsets of its row, and hold
+-- the annotations of the class and its members.
 use Rattle.std.proofs.Common.{◌≡◌, ℕ, suc, ◌+◌, ◌-◌, ◌%◌, ◌<◌, ◌^◌, List, [], ◌∷◌, ◌++◌, length, get_or, map, drop, slice_index, refl, sym, ap, ◌∙◌, subst, arith, inl, inr, Some, None}
 use Rattle.std.specs.Prelude.{◌==◌, IsTrue}
 use Rattle.std.specs.List.{Contains, AllZip}
@@ -42,23 +42,23 @@ use Rattle.dexspec.specs.Header.{data_off}
 use Rattle.dexspec.proofs.MemberRanks.{rank_cmp, rises_alike, field_cmp_key, method_cmp_key, symbols_in_rows, field_mentioned, method_mentioned, own_set_occurs, field_set_occurs, method_set_occurs, parameter_set_occurs}
 use Rattle.dexspec.proofs.NormalClasses.{AreNormal, class_member}
 
--- ---- lists place by place
+-- ---- lists, place by place
 
--- what is related at each place
+-- lists that are related at each place
 pub zip_from_places : {X : Type 0} (P : ℕ → X → Type 0) (offs : List ℕ) (xs : List X) → length offs ≡ length xs → ((j : ℕ) (d : X) → j < length xs → P (slice_index offs j) (get_or xs j d)) → AllZip P offs xs
 zip_from_places P [] [] e h = tt
 zip_from_places P [] (x ∷ xs) e h = absurd (omega (arith, e))
 zip_from_places P (o ∷ offs) [] e h = absurd (omega (arith, e))
 zip_from_places P (o ∷ offs) (x ∷ xs) e h = (h 0 x (omega arith), zip_from_places P offs xs (omega (arith, e)) (λ j d lt. h (suc j) d (omega (arith, lt))))
 
--- what is related to the mapped
+-- lists that are related to mapped lists
 pub zip_mapped : {X Y : Type 0} (P : ℕ → Y → Type 0) (f : X → Y) (offs : List ℕ) (xs : List X) → AllZip (λ o x. P o (f x)) offs xs → AllZip P offs (map f xs)
 zip_mapped P f [] [] h = tt
 zip_mapped P f [] (x ∷ xs) h = absurd h
 zip_mapped P f (o ∷ offs) [] h = absurd h
 zip_mapped P f (o ∷ offs) (x ∷ xs) h = (h.0, zip_mapped P f offs xs h.1)
 
--- lists without repeats that share nothing have none together
+-- lists without repeats that share no member have no repeats together
 AreDistinct-append : {X : Type 0} (xs ys : List X) → AreDistinct xs → AreDistinct ys → ShareNone xs ys → AreDistinct (xs ++ ys)
 AreDistinct-append xs ys d e share i j z lt le same =
     elim (cases_lt j (length xs)) [
@@ -78,9 +78,9 @@ AreDistinct-append xs ys d e share i j z lt le same =
           ]
     ]
 
--- ---- members apart
+-- ---- different members
 
--- the fields of a class are unlike
+-- the fields of a class are different
 pub fields_distinct : (name : Text) (c : Body) → IsWellFormed (name, c) → AreDistinct (map (field_of name) (declared_fields c))
 fields_distinct name c is =
     let f = field_of name in
@@ -93,7 +93,7 @@ fields_distinct name c is =
     is.fields_apart (field_key u.0) (Contains-map field_key c.static_fields u.0 u.1) (subst (Contains (map field_key c.instance_fields)) same (Contains-map field_key c.instance_fields v.0 v.1)) in
     subst AreDistinct (sym (map-append f c.static_fields c.instance_fields)) (AreDistinct-append (map f c.static_fields) (map f c.instance_fields) (part c.static_fields is.static_fields) (part c.instance_fields is.instance_fields) share)
 
--- and so are its methods
+-- the methods of a class are different
 pub methods_distinct : (name : Text) (c : Body) → IsWellFormed (name, c) → AreDistinct (map (method_of name) (declared_methods c))
 methods_distinct name c is =
     let f = method_of name in
@@ -106,20 +106,20 @@ methods_distinct name c is =
     is.methods_apart (method_key u.0) (Contains-map method_key c.direct_methods u.0 u.1) (subst (Contains (map method_key c.virtual_methods)) same (Contains-map method_key c.virtual_methods v.0 v.1)) in
     subst AreDistinct (sym (map-append f c.direct_methods c.virtual_methods)) (AreDistinct-append (map f c.direct_methods) (map f c.virtual_methods) (part c.direct_methods is.direct_methods) (part c.virtual_methods is.virtual_methods) share)
 
--- ---- what is written
+-- ---- written items
 
--- what stands if there is something stands or is nothing
+-- an item that is present, or nothing
 pub or_none : {X : Type 0} (At : List ℕ → ℕ → List X → Type 0) (b : List ℕ) (o : ℕ) (xs : List X) → StandsIfSome (At b) o xs → OrNone At [] b o xs
 or_none At b o [] h = inl (h, refl)
 or_none At b o (x ∷ xs) h = inr h
 
--- nothing stands at 0
+-- nothing at offset 0
 none_at : {X : Type 0} (At : ℕ → List X → Type 0) (o : ℕ) (xs : List X) → StandsIfSome At o xs → o ≡ 0 → xs ≡ []
 none_at At o [] h e = refl
 none_at At o (x ∷ xs) h e = absurd (h.0 e)
 
 module _ (b : List ℕ) (m : Mentions) (short : length b < 2 ^ 32) where
-  -- a set stands where it was placed, or is empty
+  -- a set is at its offset, or is empty
   pub set_stands : (o : ℕ) (set : AnnotationSet) → IsSet set → AreInRows b m (set_symbols set) → SetStands b m set o → StandsIfSome (SetAt b) o set
   set_stands o [] is rows h = h
   set_stands o (a ∷ x) is rows h =
@@ -132,7 +132,7 @@ module _ (b : List ℕ) (m : Mentions) (short : length b < 2 ^ 32) where
       annotation_written b m (slice_index h.offs j) k (All-contains IsAnnotation set k is.annotations in_set) (λ s c. rows s (Contains-flat_map annotation_symbols set k s in_set c)) item.in_data.behind item.stands) in
       (h.set.some, set_written b short o h.offs set h.set.in_data.behind h.set.multiple are is.rise h.set.stands)
 
-  -- and so does a ref list
+  -- a ref list is at its offset, or is empty
   pub ref_list_use : (o : ℕ) (offs : List ℕ) (list : List AnnotationSet) → AllZip (OrNone SetAt [] b) offs list → UseStands b 4 offsets_bytes (unless_empty offs) o → StandsIfSome (RefListAt b) o list
   ref_list_use o [] [] are h = h
   ref_list_use o [] (s ∷ list) are h = absurd are
@@ -146,11 +146,11 @@ module _ (D : List Definition) (b : List ℕ) (short : length b < 2 ^ 32) (name 
   abbrev field_indices : List ℕ
   field_indices = map (λ f. field_index (mentions D) (field_of name f)) (declared_fields c)
 
-  -- and the methods
+  -- the methods by their indices
   abbrev method_indices : List ℕ
   method_indices = map (λ x. method_index (mentions D) (method_of name x)) (declared_methods c)
 
-  -- pairs of fields with what stands for each
+  -- pairs of fields with their sets
   field_pairs : (offs : List ℕ) → AllZip (λ o (x : Field × AnnotationSet). StandsIfSome (SetAt b) o x.1) offs (field_sets name c) → ArePairs FieldRow SetAt b (pairs field_indices offs) (entries_of field_cmp (field_sets name c))
   field_pairs offs are =
       let fs = declared_fields c in
@@ -170,7 +170,7 @@ module _ (D : List Definition) (b : List ℕ) (short : length b < 2 ^ 32) (name 
       (pairs_are field_cmp field_total field_exact FieldRow SetAt b index Known compare row (field_sets name c) offs (subst AreDistinct (sym (map-map (λ (x : Field × AnnotationSet). x.0) g fs)) (fields_distinct name c formed))
       (λ x k. subst (λ (l : List Field). Contains l x.0) (map-map (λ (y : Field × AnnotationSet). y.0) g fs) (Contains-map (λ (y : Field × AnnotationSet). y.0) (field_sets name c) x k)) are)
 
-  -- pairs of methods with what stands for each
+  -- pairs of methods with their items
   method_pairs : {X : Type 0} (At : List ℕ → ℕ → List X → Type 0) (has : MethodDef → List X) (offs : List ℕ) → AllZip (λ o (x : Method × List X). StandsIfSome (At b) o x.1) offs (map (λ x. (method_of name x, has x)) (declared_methods c))
       → ArePairs MethodRow At b (pairs method_indices offs) (entries_of method_cmp (map (λ x. (method_of name x, has x)) (declared_methods c)))
   method_pairs {X} At has offs are =
@@ -209,7 +209,7 @@ module _ (D : List Definition) (b : List ℕ) (short : length b < 2 ^ 32) (name 
           | inr none ↦ absurd (let z : Some bytes ≡ None = sym e ∙ cond-true (n == 0) None (Some all) (eq-eqb n 0 (omega (arith, none))) in cc)
         ]
 
-    -- without bytes there is nothing to say
+    -- without bytes the directory is empty
     pub directory_none : directory_bytes (mentions D) (name, c) sets refs ≡ None → own_directory name c ≡ no_directory
     directory_none e =
         let fs = pairs field_indices sets.fields in
@@ -228,7 +228,7 @@ module _ (D : List Definition) (b : List ℕ) (short : length b < 2 ^ 32) (name 
               λ i. record { own = e0 i; fields = e1 i; methods = e2 i; parameters = e3 i }
         ]
 
-    -- a directory stands where it was placed, or there is none
+    -- a directory is at its offset, or there is none
     pub directory_use : (o : ℕ) → UseStands b 4 (λ (x : List ℕ). x) (directory_bytes (mentions D) (name, c) sets refs) o → OrNone DirectoryAt no_directory b o (own_directory name c)
     directory_use o h = by (directory_bytes (mentions D) (name, c) sets refs) refl h
       where
@@ -237,14 +237,14 @@ module _ (D : List Definition) (b : List ℕ) (short : length b < 2 ^ 32) (name 
         by (Some bytes) e k = inr (k.some, directory_put o bytes e k.in_data.behind k.multiple k.stands)
 
 module _ (name : Text) (c : Body) (formed : IsWellFormed (name, c)) where
-  -- what the directory has for a field
+  -- the set of the directory for a field
   pub own_field : (f : FieldDef) → Contains (declared_fields c) f → annotated field_cmp (own_directory name c).fields (field_of name f) ≡ f.annotations
   own_field f k =
       let g : FieldDef → Field × AnnotationSet = λ f. (field_of name f, f.annotations) in
       let fs = declared_fields c in
       own_entry field_cmp field_total field_exact (field_sets name c) (field_of name f) f.annotations (subst AreDistinct (sym (map-map (λ (x : Field × AnnotationSet). x.0) g fs)) (fields_distinct name c formed)) (Contains-map g fs f k)
 
-  -- what its lists have for a method
+  -- the list of the directory for a method
   own_method : {X : Type 0} (has : MethodDef → List X) (x : MethodDef) → Contains (declared_methods c) x → annotated method_cmp (entries_of method_cmp (map (λ x. (method_of name x, has x)) (declared_methods c))) (method_of name x) ≡ has x
   own_method {X} has x k =
       let g : MethodDef → Method × List X = λ x. (method_of name x, has x) in
@@ -340,7 +340,7 @@ module _ (D : List Definition) (b : List ℕ) (n : AreNormal D b) (r : ℕ) (e :
       (set_stands b (mentions D) n.file.laid.small (slice_index offs (suc i)) set (All-contains IsSet list set is.parameters l) (λ s y. rows s (parameter_set_occurs name body x set s k l y)) there))) in
       ref_list_use b (mentions D) n.file.laid.small (slice_index refs j) (drop 1 offs) list are (ref_list_stands n.file.laid r e j lt less)))
 
-  -- the directory stands where the row leads
+  -- the directory is at the offset of the row
   pub directory_there : OrNone DirectoryAt no_directory b (annotations_off b r) (own_directory name body)
   directory_there =
       directory_use D b n.file.laid.small name body in_file formed rows sets refs (record { own = own_set; fields = fields_are; methods = methods_are; parameters = parameters_are }) (annotations_off b r)

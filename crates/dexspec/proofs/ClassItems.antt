@@ -1,5 +1,5 @@
--- What belongs to a class in the file of definitions stands where its row leads: class data, code, debug programs, static values
--- and directory; and all that is to be read of the row is there.
+-- The items of a class in the file of definitions are at the offsets of its row: class data, code, debug programs,
+-- static values and directory; and all items that the row refers to can be read.
 use Rattle.std.proofs.Common.{◌≡◌, ℕ, ◌+◌, ◌<◌, ◌≤◌, ◌^◌, List, [], ◌∷◌, ◌++◌, length, get_or, map, take, drop, slice_index, refl, sym, ap, subst, arith, inl, inr, All, Option, Some, None}
 use Rattle.std.specs.Prelude.{◌==◌, IfSome, option_to_list}
 use Rattle.std.specs.Option.{option_map_or}
@@ -45,13 +45,13 @@ use Rattle.dexspec.proofs.ClassDirectory.{zip_from_places, directory_there, own_
 -- ---- values, debug programs and code
 
 module _ (b : List ℕ) (m : Mentions) (short : length b < 2 ^ 32) where
-  -- static values stand where they were placed, or there are none
+  -- static values are at their offset, or there are none
   values_use : (o : ℕ) (vs : Values) → AreValues vs → values_depth vs ≤ most_depth → count_values vs < 2 ^ 32 → AreInRows b m (values_symbols vs) → UseStands b 1 (encoded_array_bytes m) (values_unless_empty vs) o → OrNone StaticValuesAt NoValues b o vs
   values_use o NoValues are shallow few rows h = inl (h, refl)
   values_use o (ThenValue v vs) are shallow few rows h =
       inr (h.some, (length (encoded_array_bytes m (ThenValue v vs)), record { in_data = h.in_data.behind; array = array_written b m o (ThenValue v vs) are few rows h.stands; shallow = shallow }))
 
-  -- a debug program stands where it was placed, or there is none
+  -- a debug program is at its offset, or there is none
   debug_use : (o : ℕ) (d : Option Debug) → IfSome d IsDebug → ((x : Debug) → d ≡ Some x → AreInRows b m (debug_symbols x)) → UseStands b 1 (debug_bytes m) d o → OrNone (SomeAt DebugAt) None b o d
   debug_use o None is rows h = inl (h, refl)
   debug_use o (Some x) is rows h = inr (h.some, debug_written b m o x is (rows x refl) h.in_data.behind h.stands)
@@ -62,7 +62,7 @@ module _ (b : List ℕ) (m : Mentions) (short : length b < 2 ^ 32) where
       let behind = back_in_rows b m (flat_map handler_symbols (handlers_of c.tries)) (flat_map debug_symbols (option_to_list c.debug)) (back_in_rows b m (flat_map piece_symbols c.pieces) (flat_map handler_symbols (handlers_of c.tries) ++ flat_map debug_symbols (option_to_list c.debug)) rows) in
       λ s k. behind s (subst (λ (o : Option Debug). Contains (flat_map debug_symbols (option_to_list o)) s) (sym e) (Contains-append_left (debug_symbols x) [] s k))
 
-  -- code stands where it was placed, or there is none
+  -- code is at its offset, or there is none
   code_use : (o debug_off : ℕ) (c : Option Code) → length m.types ≤ 65536 → IfSome c IsCodeItem → ((k : Code) → c ≡ Some k → AreInRows b m (code_symbols k) × All (IndexFits m) k.pieces)
       → UseStands b 1 (debug_bytes m) (option_map_or (λ k. k.debug) c None) debug_off → UseStands b 4 (λ (p : Code × ℕ). code_bytes m p.1 p.0) (option_map_or (λ k. Some (k, debug_off)) c None) o → OrNone (SomeAt CodeAt) None b o c
   code_use o debug_off None few is rows d h = inl (h, refl)
@@ -72,7 +72,7 @@ module _ (b : List ℕ) (m : Mentions) (short : length b < 2 ^ 32) where
 
 -- ---- members
 
--- fields are made of what class data and directory have
+-- fields are made of class data and directory
 fields_back : (name : Text) (d : Directory) (fs : List FieldDef) → ((f : FieldDef) → Contains fs f → annotated field_cmp d.fields (field_of name f) ≡ f.annotations) → fs ≡ map (field_def d) (map (encoded_field name) fs)
 fields_back name d [] h = refl
 fields_back name d (f ∷ fs) h =
@@ -84,7 +84,7 @@ fields_back name d (f ∷ fs) h =
 abbrev HasOwn : Text → Directory → MethodDef → Type 0
 HasOwn name d x = (annotated method_cmp d.methods (method_of name x) ≡ x.annotations) × (annotated method_cmp d.parameters (method_of name x) ≡ x.parameter_annotations)
 
--- and so are methods, with their code
+-- methods are made of class data and directory, with their code
 methods_back : (b : List ℕ) (name : Text) (d : Directory) (xs : List MethodDef) (offs : List ℕ) → ((x : MethodDef) → Contains xs x → HasOwn name d x) → AllZip (λ o (x : MethodDef). OrNone (SomeAt CodeAt) None b o x.code) offs xs
     → AllZip (MakesMethod b d) (zip_with (encoded_method name) xs offs) xs
 methods_back b name d [] [] own are = tt
@@ -96,17 +96,17 @@ methods_back b name d (x ∷ xs) (o ∷ offs) own are =
       methods_back b name d xs offs (λ y k. own y (Contains-later x y xs k)) are.1,
     )
 
--- what is related to joined lists is related to both
+-- a list that is related to joined lists has parts that are related to each
 pub zip_split : {X : Type 0} (P : ℕ → X → Type 0) (offs : List ℕ) (xs ys : List X) → AllZip P offs (xs ++ ys) → AllZip P (take (length xs) offs) xs × AllZip P (drop (length xs) offs) ys
 zip_split P offs [] ys h = (tt, h)
 zip_split P [] (x ∷ xs) ys h = absurd h
 zip_split P (o ∷ offs) (x ∷ xs) ys h = let rest = zip_split P offs xs ys h.1 in ((h.0, rest.0), rest.1)
 
--- of no members there is no class data
+-- without members there is no class data
 zip_with-none : {X Y Z : Type 0} (f : X → Y → Z) (xs : List X) (ys : List Y) → xs ≡ [] → zip_with f xs ys ≡ []
 zip_with-none f xs ys e = ap (λ l. zip_with f l ys) e
 
--- class data stands where it was placed, or the class has no members
+-- class data is at its offset, or the class has no members
 class_data_use : (b : List ℕ) (m : Mentions) (o : ℕ) (name : Text) (c : Body) (offs : List ℕ) → (0 < length (declared_fields c) + length (declared_methods c) → data_off b ≤ o → Stands b o (class_data_bytes m (name, c) offs) → ClassDataAt b o (class_data_of name c offs))
     → UseStands b 1 (λ (p : Definition × List ℕ). class_data_bytes m p.0 p.1) (uses.class_data_of (name, c) offs) o → OrNone ClassDataAt no_class_data b o (class_data_of name c offs)
 class_data_use b m o name c offs written h =
@@ -162,11 +162,11 @@ module _ (D : List Definition) (b : List ℕ) (n : AreNormal D b) (fits : Fits g
   rows : AreInRows b (mentions D) (symbols_of (name, body))
   rows = symbols_in_rows D b n.file (name, body) in_file
 
-  -- an offset of code for each method
+  -- there is an offset of code for each method
   codes_count : length codes ≡ length (declared_methods body)
   codes_count = length-class_part K (code_offsets K) r e lt (length-code_offsets K)
 
-  -- the code of each method stands there
+  -- the code of each method is at its offset
   pub code_there : AllZip (λ o (x : MethodDef). OrNone (SomeAt CodeAt) None b o x.code) codes (declared_methods body)
   code_there =
       let xs = declared_methods body in
@@ -181,7 +181,7 @@ module _ (D : List Definition) (b : List ℕ) (n : AreNormal D b) (fits : Fits g
       ))
       (debug_stands n.file.laid r e j d lt less) (code_stands n.file.laid r e j d lt less))
 
-  -- and each offset has 32 bits
+  -- each offset has 32 bits
   codes_small : All (λ p. p < 2 ^ 32) codes
   codes_small = λ j d less.
       let within : j < length (declared_methods body) = omega (arith, less, codes_count) in
@@ -195,20 +195,20 @@ module _ (D : List Definition) (b : List ℕ) (n : AreNormal D b) (fits : Fits g
           by [] same = absurd (omega (arith, within, ap (λ (l : List MethodDef). length l) same))
           by (x ∷ xs) same = use_small b 4 (λ (p : Code × ℕ). code_bytes (mentions D) p.1 p.0) (code_of_method (slice_index (debug_offsets K) (method_place K r j)) (get_or (declared_methods body) j x)) (slice_index codes j) n.file.laid.small (code_stands n.file.laid r e j x lt within)
 
-  -- its class data stands where its row leads
+  -- its class data is at the offset of its row
   pub members_there : OrNone ClassDataAt no_class_data b (class_data_off b r) own_members
   members_there =
       class_data_use b (mentions D) (class_data_off b r) name body codes
       (λ some behind s. class_data_written b (mentions D) (class_data_off b r) name body codes formed (indices_rise D name body in_file formed) rows codes_count codes_small behind s)
       (class_read n.file.laid r e lt).class_data_is
 
-  -- so do its static values
+  -- its static values are at the offset of its row
   pub values_there : OrNone StaticValuesAt NoValues b (static_values_off b r) body.static_values
   values_there =
       values_use b (mentions D) n.file.laid.small (static_values_off b r) body.static_values formed.static_values formed.shallow (omega (arith, formed.few_values, formed.static_fields_count)) (λ s k. rows s (static_values_occur name body s k))
       (class_read n.file.laid r e lt).static_values_are
 
-  -- and all that belongs to it
+  -- all items of the class are at their offsets
   pub belongs : BelongsAt b r body
   belongs =
       let dir = own_directory name body in

@@ -1,4 +1,4 @@
--- Definitions of different names stand in their order each once.
+-- Definitions of different names are in class order, each once.
 use Rattle.std.proofs.Common.{◌≡◌, ◌≢◌, ◌⊎◌, ℕ, zero, suc, ◌+◌, Bool, true, false, ◌&&◌, T, List, [], ◌∷◌, map, length, get_or, ◌<◌, refl, sym, ap, ◌∙◌, subst, arith, inl, inr, sum_by, Ordering, Less, Equal, Greater}
 use Rattle.std.specs.List.{Contains}
 use Rattle.std.specs.Ordering.{ordering_then, nat_cmp, is_lt}
@@ -24,11 +24,11 @@ then_equal Less b e = absurd cc
 then_equal Equal b e = e
 then_equal Greater b e = absurd cc
 
--- only places of one name tie
+-- only places of one name are equal by order
 place_name : (x y : ℕ × Text) → place_cmp x y ≡ Equal → x.1 ≡ y.1
 place_name x y e = text_exact x.1 y.1 (then_equal (nat_cmp x.0 y.0) (text_cmp x.1 y.1) e)
 
--- what is put among others of other places adds its own term
+-- an entry that is put among entries of other places adds its own term
 put_apart : (f : PlacedClass → ℕ) (k : ℕ × Text) (v : Body) (es : List PlacedClass) → ((e : PlacedClass) → Contains es e → place_cmp k e.0 ≢ Equal) → sum_by f (put place_cmp k v es) ≡ f (k, v) + sum_by f es
 put_apart f k v [] h = omega arith
 put_apart f k v (e ∷ es) h = by (place_cmp k e.0) (h e (Contains-first e es)) (put_apart f k v es (λ x c. h x (Contains-later e x es c)))
@@ -45,7 +45,7 @@ HasNamed es name = (x : PlacedClass) × Contains es x × (x.0.1 ≡ name)
 later_named : (e : PlacedClass) (es : List PlacedClass) (name : Text) → HasNamed es name → HasNamed (e ∷ es) name
 later_named e es name (x, c, p) = (x, Contains-later e x es c, p)
 
--- no name comes but those that are put
+-- only names that are put occur
 put_named : (k : ℕ × Text) (v : Body) (es : List PlacedClass) (x : PlacedClass) → Contains (put place_cmp k v es) x → (k.1 ≡ x.0.1) ⊎ HasNamed es x.0.1
 put_named k v [] x c = elim (Contains-cons_cases (k, v) x [] c) [ inl e ↦ inl (ap (λ z. z.0.1) e) | inr l ↦ absurd (Contains-nil x l) ]
 put_named k v (e ∷ es) x c = by (place_cmp k e.0) c (put_named k v es x)
@@ -129,7 +129,7 @@ named_at [] i d = refl
 named_at (e ∷ es) zero d = refl
 named_at (e ∷ es) (suc i) d = named_at es i d
 
--- so no two of them are the same
+-- so no two of them are equal
 pub definitions-different : (K : Collection) → AreDistinct (definitions K)
 definitions-different K i j d lt le e =
     let D = definitions K in

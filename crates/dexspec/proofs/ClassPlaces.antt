@@ -28,13 +28,13 @@ PlacedClass = (ℕ × Text) × Body
 place_total : IsTotalOrder place_cmp
 place_total = then_total (on_total (λ (x : ℕ × Text). x.0) nat_cmp_total) (on_total (λ (x : ℕ × Text). x.1) text_total)
 
--- where the first decides or the second, both tie if they tie together
+-- if one of two orders decides, they are equal together only if both are equal
 both_equal : (a b : Ordering) → ordering_then a b ≡ Equal → (a ≡ Equal) × (b ≡ Equal)
 both_equal Less b e = absurd cc
 both_equal Equal b e = (refl, e)
 both_equal Greater b e = absurd cc
 
--- only equal places tie
+-- only equal places are equal by order
 place_exact : IsAntisymmetric place_cmp
 place_exact x y e =
     let k = both_equal (nat_cmp x.0 y.0) (text_cmp x.1 y.1) e in
@@ -42,7 +42,7 @@ place_exact x y e =
     let names = text_exact x.1 y.1 k.1 in
     λ i. (depths i, names i)
 
--- ---- entries that are put in their places
+-- ---- entries that are put at their places
 
 -- their places are put in order
 keys-put : (k : ℕ × Text) (v : Body) (es : List PlacedClass) → map (λ e. e.0) (put place_cmp k v es) ≡ add_in_order place_cmp k (map (λ e. e.0) es)
@@ -55,7 +55,7 @@ keys-put k v (e ∷ es) = by (place_cmp k e.0) (keys-put k v es)
     by Equal again = refl
     by Greater again = ap (λ ks. e.0 ∷ ks) again
 
--- and so are those of all
+-- and so are the places of all
 keys-put_all : (es : List PlacedClass) → map (λ e. e.0) (put_all es) ≡ in_order place_cmp (map (λ e. e.0) es)
 keys-put_all [] = refl
 keys-put_all (e ∷ es) = keys-put e.0 e.1 (put_all es) ∙ ap (add_in_order place_cmp e.0) (keys-put_all es)
@@ -64,7 +64,7 @@ keys-put_all (e ∷ es) = keys-put e.0 e.1 (put_all es) ∙ ap (add_in_order pla
 put_all-rises : (es : List PlacedClass) → Rises place_cmp (map (λ e. e.0) (put_all es))
 put_all-rises es = subst (Rises place_cmp) (sym (keys-put_all es)) (Rises-in_order place_cmp place_total place_exact (map (λ (e : PlacedClass). e.0) es))
 
--- what is put, or was there
+-- an entry is the one that is put, or was there before
 put-only : (k : ℕ × Text) (v : Body) (es : List PlacedClass) (x : PlacedClass) → Contains (put place_cmp k v es) x → ((k, v) ≡ x) ⊎ Contains es x
 put-only k v [] x c = Contains-cons_cases (k, v) x [] c
 put-only k v (e ∷ es) x c = by (place_cmp k e.0) refl c (put-only k v es x)
@@ -80,7 +80,7 @@ put-only k v (e ∷ es) x c = by (place_cmp k e.0) refl c (put-only k v es x)
       | inr l ↦ elim (again l) [ inl p ↦ inl p | inr m ↦ inr (Contains-later e x es m) ]
     ]
 
--- what is put is there
+-- the entry that is put is there
 put-first : (k : ℕ × Text) (v : Body) (es : List PlacedClass) → Contains (put place_cmp k v es) (k, v)
 put-first k v [] = Contains-first (k, v) []
 put-first k v (e ∷ es) = by (place_cmp k e.0) refl (put-first k v es)
@@ -90,7 +90,7 @@ put-first k v (e ∷ es) = by (place_cmp k e.0) refl (put-first k v es)
     by Equal q again = let t = place_exact k e.0 q in let u : (e.0, v) ≡ (k, v) = λ i. (sym t i, v) in subst (Contains ((e.0, v) ∷ es)) u (Contains-first (e.0, v) es)
     by Greater q again = Contains-later e (k, v) (put place_cmp k v es) again
 
--- and so is what was there, in other places
+-- an entry that was there is still there, if its place is different
 put-later : (k : ℕ × Text) (v : Body) (es : List PlacedClass) (x : PlacedClass) → ((e : PlacedClass) → Contains es e → place_cmp k e.0 ≢ Equal) → Contains es x → Contains (put place_cmp k v es) x
 put-later k v [] x h c = absurd (Contains-nil x c)
 put-later k v (e ∷ es) x h c = by (place_cmp k e.0) (h e (Contains-first e es)) (put-later k v es x (λ y m. h y (Contains-later e y es m)))
@@ -100,7 +100,7 @@ put-later k v (e ∷ es) x h c = by (place_cmp k e.0) (h e (Contains-first e es)
     by Equal other again = absurd (other refl)
     by Greater other again = elim (Contains-cons_cases e x es c) [ inl p ↦ (0, omega arith, p) | inr l ↦ Contains-later e x (put place_cmp k v es) (again l) ]
 
--- what was put for all is one of them
+-- each entry was put
 put_all-only : (es : List PlacedClass) (x : PlacedClass) → Contains (put_all es) x → Contains es x
 put_all-only [] x c = c
 put_all-only (e ∷ es) x c = elim (put-only e.0 e.1 (put_all es) x c) [
@@ -108,7 +108,7 @@ put_all-only (e ∷ es) x c = elim (put-only e.0 e.1 (put_all es) x c) [
   | inr l ↦ Contains-later e x es (put_all-only es x l)
 ]
 
--- and each of other names is put
+-- if the names are different, each entry is put
 put_all-has : (es : List PlacedClass) (x : PlacedClass) → AreDistinct (map (λ e. e.0.1) es) → Contains es x → Contains (put_all es) x
 put_all-has [] x d c = c
 put_all-has (e ∷ es) x d c =
@@ -122,7 +122,7 @@ put_all-has (e ∷ es) x d c =
 
 -- ---- the classes in their order
 
--- a member of the mapped is mapped from one
+-- a member of a mapped list is mapped from a member
 pub Contains-map_source : {X Y : Type 0} (f : X → Y) (xs : List X) (y : Y) → Contains (map f xs) y → (x : X) × Contains xs x × (f x ≡ y)
 Contains-map_source f [] y c = absurd (Contains-nil y c)
 Contains-map_source f (x ∷ xs) y c = elim (Contains-cons_cases (f x) y (map f xs) c) [
@@ -148,7 +148,7 @@ places-kept D (e ∷ es) h =
     λ i. (first i, e.0.1) ∷ rest i
 
 module _ (D : List Definition) where
-  -- each is a definition
+  -- each entry is a definition
   pub in_class_order-only : (d : Definition) → Contains (in_class_order D) d → Contains D d
   unfolding in_class_order
   in_class_order-only d c =
@@ -187,12 +187,12 @@ module _ (D : List Definition) where
       let e : place_cmp (get_or (map (class_place D) cs) i (class_place D d)) (get_or (map (class_place D) cs) j (class_place D d)) ≡ place_cmp (class_place D (get_or cs i d)) (class_place D (get_or cs j d)) = λ k. place_cmp (one k) (other k) in
       sym e ∙ Rises-places place_cmp place_total (map (class_place D) (in_class_order D)) i j (class_place D d) class_places-rise ij (omega (arith, lt, length-map (in_class_order D) (class_place D)))
 
-  -- so no two have one name
+  -- so no two have the same name
   pub class_names-apart : (i j : ℕ) (d : Definition) → i < j → j < length (in_class_order D) → (get_or (in_class_order D) i d).0 ≢ (get_or (in_class_order D) j d).0
   class_names-apart i j d ij lt e =
       irreflexive place_cmp place_total (class_place D (get_or (in_class_order D) i d)) (class_place D (get_or (in_class_order D) j d)) (λ k. (depth D (e k), e k)) (class_places-less i j d ij lt)
 
-  -- and one of a lesser depth is earlier
+  -- a class of a lesser depth is earlier
   pub class_depths-before : (i j : ℕ) (d : Definition) → i < length (in_class_order D) → depth D (get_or (in_class_order D) i d).0 < depth D (get_or (in_class_order D) j d).0 → i < j
   class_depths-before i j d lt less = elim (cases_lt i j) [
     | inl before ↦ before

@@ -1,4 +1,4 @@
--- A code item stands where its canonical bytes were written, with each symbol in the row of its index.
+-- A code item is at the offset of its canonical bytes, if each symbol is in the row of its index.
 use Rattle.std.proofs.Common.{◌≡◌, ◌≢◌, ℕ, ◌+◌, ◌*◌, ◌%◌, ◌<◌, ◌≤◌, ◌^◌, ◌&&◌, List, [], ◌∷◌, ◌++◌, length, nat_abs, All, Option, Some, None, refl, sym, ap, ◌∙◌, subst, arith, inl, inr, length-append}
 use Rattle.std.specs.Prelude.{if◌then◌else◌, ◌==◌, pos, IfSome}
 use Rattle.std.specs.List.{Contains, flat_map}
@@ -48,7 +48,7 @@ units_read b o (u ∷ us) are h =
     let others : ushorts_at b (o + 2) (length us) ≡ us = units_read b (o + 2) us (All-tail unit u us are) (stands_at (omega (arith, length-ushort u)) (back_stands (ushort u) rest h)) in
     λ i. first i ∷ others i
 
--- a debug program stands at an offset of 32 bits, if there is one
+-- the offset of a debug program, if there is one, has 32 bits
 debug_small : (b : List ℕ) (o : ℕ) (d : Option Debug) → length b < 2 ^ 32 → OrNone (SomeAt DebugAt) None b o d → o < 2 ^ 32
 debug_small b o d short (inl h) = omega (arith, h.0)
 debug_small b o None short (inr h) = absurd h.1
@@ -57,7 +57,7 @@ debug_small b o (Some d) short (inr h) = omega (arith, stands_within h.1.end, sh
 -- ---- handlers
 
 module _ (us vs : List ℕ) (cuts : List Cut) (starts : (a : ℕ) → IsStart us cuts a → IsStart vs cuts a) where
-  -- an address that may be left out
+  -- an optional address
   optional_start : (a : Option ℕ) → IfSome a (IsStart us cuts) → IfSome a (IsStart vs cuts)
   optional_start None h = tt
   optional_start (Some a) h = starts a h
@@ -70,7 +70,7 @@ module _ (us vs : List ℕ) (cuts : List Cut) (starts : (a : ℕ) → IsStart us
     some = is.some;
   }
 
--- a start is a place in the units
+-- a start is within the units
 start_within : (vs : List ℕ) (cuts : List Cut) (a : ℕ) → ((c : Cut) → Contains cuts c → c.unit < length vs) → IsStart vs cuts a → a < length vs
 start_within vs cuts a within s =
     let w = list_any-source (λ (c : Cut). int_eq (pos c.unit) (pos a) && not (is_payload_ident (slice_index vs c.unit))) cuts s in
@@ -78,7 +78,7 @@ start_within vs cuts a within s =
     let place : w.0.unit ≡ a = ap nat_abs at in
     omega (arith, place, within w.0 w.1)
 
--- so is an address that may be left out
+-- an optional address is within the units
 optional_within : (vs : List ℕ) (cuts : List Cut) (a : Option ℕ) → length vs < 2 ^ 32 → ((c : Cut) → Contains cuts c → c.unit < length vs) → IfSome a (IsStart vs cuts) → IfSome a (λ p. p < 2 ^ 32)
 optional_within vs cuts None short within s = tt
 optional_within vs cuts (Some a) short within s = omega (arith, start_within vs cuts a within s, short)
@@ -86,7 +86,7 @@ optional_within vs cuts (Some a) short within s = omega (arith, start_within vs 
 -- ---- tries
 
 module _ (b : List ℕ) (m : Mentions) (vs : List ℕ) (cuts : List Cut) (few_types : length m.types ≤ 65536) (short : length vs < 2 ^ 32) (within : (c : Cut) → Contains cuts c → c.unit < length vs) where
-  -- handlers stand where their bytes do
+  -- handlers are at the offset of their bytes
   handlers_written : (o : ℕ) (hs : List Handler) → ((h : Handler) → Contains hs h → IsHandlerOf vs cuts h × (length h.catches < 2 ^ 31) × AreInRows b m (handler_symbols h)) → Stands b o (flat_map (handler_bytes m) hs)
       → Sequence (HandlerAt vs cuts) b o hs (length (flat_map (handler_bytes m) hs))
   handlers_written o hs are h =
@@ -97,7 +97,7 @@ module _ (b : List ℕ) (m : Mentions) (vs : List ℕ) (cuts : List Cut) (few_ty
       (all_from (λ (x : Catch). x.address < 2 ^ 32) k.catches (λ x l. omega (arith, start_within vs cuts x.address within (All-contains (λ (d : Catch). IsStart vs cuts d.address) k.catches x w.0.catches l), short)))
       (optional_within vs cuts k.catch_all short within w.0.catch_all) w.2 s) o h
 
-  -- a try stands where its bytes do
+  -- a try is at the offset of its bytes
   try_written : (list : ℕ) (hs : List Handler) → handlers_weight hs ≤ 65535
       → ((before after : List Handler) (h : Handler) → hs ≡ before ++ h ∷ after → Sequence (HandlerAt vs cuts) b (list + length (uleb128 (length hs))) before (length (flat_map (handler_bytes m) before)))
       → (o : ℕ) (t : Try) → IsTryOf vs cuts t → Contains hs t.handler → Stands b o (try_bytes m hs t) → TryAt vs cuts list (length (uleb128 (length hs))) hs b o t (length (try_bytes m hs t))
@@ -226,7 +226,7 @@ code_read b m o debug_off c is units short small h =
       behind = stands_at (omega (arith, units_size vs)) (back_stands x tries h6);
     }
 
--- tries are in a file as many as are told, behind a gap of a ushort or none
+-- the tries of a code item whose count is not 0, after a gap of one ushort or none
 tries_by : (b : List ℕ) (o n : ℕ) (cuts : List Cut) (ts : List Try) (body : List ℕ) → uint_at b (o + 12) ≡ n → ushort_at b (o + 6) ≢ 0 → Stands b (o + 16 + 2 * n) ((if n % 2 == 1 then ushort 0 else []) ++ body)
     → ((p : ℕ) → Stands b p body → TryItemsAt (code_units b o) cuts b p (ushort_at b (o + 6)) ts) → TriesAt b o cuts ts
 tries_by b o n cuts ts body e some h items =
@@ -245,7 +245,7 @@ tries_by b o n cuts ts body e some h items =
           inr (some, inr (omega (arith, e, is_one), subst (λ (p : ℕ). ushort_at b p ≡ 0) place zero_is, items (o + 18 + 2 * uint_at b (o + 12)) stands))
     ]
 
--- a code item stands where its bytes do, in the data
+-- a code item is at the offset of its bytes, in the data
 pub code_written : (b : List ℕ) (m : Mentions) (o debug_off : ℕ) (c : Code) → length b < 2 ^ 32 → length m.types ≤ 65536 → IsCodeItem c → AreInRows b m (code_symbols c) → All (IndexFits m) c.pieces → data_off b ≤ o → o % 4 ≡ 0
     → OrNone (SomeAt DebugAt) None b debug_off c.debug → Stands b o (code_bytes m debug_off c) → CodeAt b o c
 code_written b m o debug_off c short few_types is rows fits behind aligned debug h =

@@ -1,4 +1,4 @@
--- Definitions of which no two unlike ones have a name are a collection, and only one.
+-- Definitions without two different ones of a name form exactly one collection.
 use Rattle.std.proofs.Common.{◌≡◌, Bool, true, false, cond, T, List, [], ◌∷◌, Option, Some, None, refl, sym, ap, arith, ◌≤◌, ◌∙◌, subst, inl, inr, is_lt, is_eq, Less}
 use Rattle.std.specs.List.{Contains}
 use Rattle.std.specs.FinMap as finite
@@ -20,9 +20,9 @@ use Rattle.dexspec.proofs.InOrder.{Rises, less_is, AreDistinct-from_Rises, irref
 use Rattle.dexspec.proofs.WeightGrowth.{weight-within}
 use Rattle.dexspec.proofs.Depths.{names_in, Contains-map}
 
--- ---- what is found by a name
+-- ---- lookup by name
 
--- by whether the first has the name
+-- case split on whether the first has the name
 find_by : (q : Text) (c : Body) (d : Definition) (ds : List Definition) (b : Bool) → eq_by_cmp text_cmp q d.0 ≡ b → cond b (Some d.1) (find text_cmp q ds) ≡ Some c → (find text_cmp q ds ≡ Some c → Contains ds (q, c)) → Contains (d ∷ ds) (q, c)
 find_by q c d ds true t e again =
     let name = text_exact q d.0 ((Equal-is (text_cmp q d.0)).0 t) in
@@ -30,12 +30,12 @@ find_by q c d ds true t e again =
     subst (Contains (d ∷ ds)) (λ i. (sym name i, body i)) (Contains-first d ds)
 find_by q c d ds false t e again = Contains-later d (q, c) ds (again e)
 
--- what is found is a member
+-- a definition that is found is a member
 pub find-member : (D : List Definition) (q : Text) (c : Body) → find text_cmp q D ≡ Some c → Contains D (q, c)
 find-member [] q c e = absurd cc
 find-member (d ∷ ds) q c e = find_by q c d ds (eq_by_cmp text_cmp q d.0) refl e (find-member ds q c)
 
--- by whether the first has the name
+-- case split on whether the first has the name
 found_by : (q : Text) (c : Body) (d : Definition) (ds : List Definition) (b : Bool) → eq_by_cmp text_cmp q d.0 ≡ b → Contains (d ∷ ds) (q, c) → (Contains ds (q, c) → (x : Body) × (find text_cmp q ds ≡ Some x)) → (x : Body) × (cond b (Some d.1) (find text_cmp q ds) ≡ Some x)
 found_by q c d ds true t m again = (d.1, refl)
 found_by q c d ds false t m again = elim (Contains-cons_cases d (q, c) ds m) [
@@ -48,24 +48,24 @@ found : (D : List Definition) (q : Text) (c : Body) → Contains D (q, c) → (x
 found [] q c m = absurd (Contains-nil (q, c) m)
 found (d ∷ ds) q c m = found_by q c d ds (eq_by_cmp text_cmp q d.0) refl m (found ds q c)
 
--- where no two unlike definitions have a name, the member is found
+-- without two different definitions of a name, lookup finds the member
 pub find-is : (D : List Definition) (q : Text) (c : Body) → IsConsistent D → Contains D (q, c) → find text_cmp q D ≡ Some c
 find-is D q c h m = let f = found D q c m in f.1 ∙ ap Some (h q f.0 c (find-member D q f.0 f.1) m)
 
 -- ---- the collection
 
--- the map of the list, in which its members are found
+-- the map of the list, by lookup
 pub collection-is : (D : List Definition) → IsConsistent D → IsCollectionOf D (finite.from_entries D)
 collection-is D h name c = (
   λ e. find-member D name c (sym (finite.get-from_entries text_total D name) ∙ e),
   λ m. finite.get-from_entries text_total D name ∙ find-is D name c h m,
 )
 
--- a list that is a collection has no two unlike definitions of a name
+-- a list that forms a collection has no two different definitions of a name
 pub collection-consistent : (D : List Definition) (K : Collection) → IsCollectionOf D K → IsConsistent D
 collection-consistent D K h name one other c d = same_Some one other (sym ((h name one).1 c) ∙ (h name other).1 d)
 
--- options that hold the same are the same
+-- options with equal values are equal
 same_options : (o p : Option Body) → ((c : Body) → o ≡ Some c → p ≡ Some c) → ((c : Body) → p ≡ Some c → o ≡ Some c) → o ≡ p
 same_options None None f g = refl
 same_options None (Some c) f g = g c refl
@@ -83,7 +83,7 @@ is_true : (b : Bool) → T b → b ≡ true
 is_true true t = refl
 is_true false t = absurd t
 
--- what is less than all names of a list is less than each
+-- a name that is less than all names of a list is less than each
 below : (n : Text) (es : List Definition) → below_all text_cmp n es ≡ true → (m : Text) → Contains (names_in es) m → text_cmp n m ≡ Less
 below n [] h m c = absurd (Contains-nil m c)
 below n (e ∷ es) h m c = elim (Contains-cons_cases e.0 m (names_in es) c) [
@@ -100,11 +100,11 @@ rising (e ∷ es) h = (below e.0 es (and_first (below_all text_cmp e.0 es) (is_s
 pub names-rise : (K : Collection) → Rises text_cmp (names_in (definitions K))
 names-rise K = rising (definitions K) (is_true (is_sorted text_cmp (definitions K)) (finite.entries_sorted K))
 
--- where the names rise, a later definition has not the name of the first
+-- if the names rise, a later definition does not have the name of the first
 not_later : (e : Definition) (es : List Definition) (name : Text) (one other : Body) → Rises text_cmp (names_in (e ∷ es)) → e ≡ (name, one) → Contains es (name, other) → ⊥
 not_later e es name one other h s l = irreflexive text_cmp text_total e.0 name (ap (λ z. z.0) s) (h.0 name (Contains-map (λ (d : Definition). d.0) es (name, other) l))
 
--- where the names rise no two definitions have one
+-- if the names rise, no two definitions have the same name
 consistent-from_rising : (es : List Definition) → Rises text_cmp (names_in es) → IsConsistent es
 consistent-from_rising [] h name one other c d = absurd (Contains-nil (name, one) c)
 consistent-from_rising (e ∷ es) h name one other c d = elim (Contains-cons_cases e (name, one) es c) [
@@ -118,7 +118,7 @@ consistent-from_rising (e ∷ es) h name one other c d = elim (Contains-cons_cas
   ]
 ]
 
--- a collection is the one of its own definitions
+-- a collection is the collection of its own definitions
 pub definitions-are : (K : Collection) → IsCollectionOf (definitions K) K
 definitions-are K name c = (
   λ e. find-member (definitions K) name c (sym (finite.get-entries K name) ∙ e),
@@ -132,7 +132,7 @@ definitions-same D K h d = (
   λ m. (definitions-are K d.0 d.1).0 ((h d.0 d.1).1 m),
 )
 
--- no two of them are the same
+-- no two of them are equal
 pub definitions-distinct : (K : Collection) → AreDistinct (definitions K)
 definitions-distinct K i j d ij lt e =
     let es = definitions K in
@@ -140,6 +140,6 @@ definitions-distinct K i j d ij lt e =
     let names = AreDistinct-from_Rises text_cmp text_total (names_in es) (names-rise K) in
     names i j (name d) ij (omega (arith, lt, length-map es name)) (get_or-map name es i d (name d) (omega (arith, ij, lt)) ∙ ap name e ∙ sym (get_or-map name es j d (name d) lt))
 
--- members of the list of which no two are the same weigh no more than these
+-- members of the list, no two of them equal, weigh at most as much as these
 pub definitions-weigh_most : (D : List Definition) (K : Collection) → IsCollectionOf D K → (E : List Definition) → AreDistinct E → AreWithin E D → weight E ≤ weight (definitions K)
 definitions-weigh_most D K h E d within = weight-within E (definitions K) d (λ x m. (definitions-same D K h x).1 (within x m))

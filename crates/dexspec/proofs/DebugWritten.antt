@@ -1,4 +1,4 @@
--- A debug program stands where its canonical bytes were written, with each symbol in the row of its index.
+-- A debug program is at the offset of its canonical bytes, if each symbol is in the row of its index.
 use Rattle.std.proofs.Common.{ℕ, ◌+◌, ◌≤◌, List, [], ◌∷◌, ◌++◌, length, Option, Some, None, refl, arith}
 use Rattle.std.specs.List.{flat_map, Contains}
 use Rattle.std.proofs.lemmas.List.{length-append}
@@ -16,7 +16,7 @@ use Rattle.dexspec.specs.WellFormed.{IsOperation, IsDebug}
 use Rattle.dexspec.proofs.Members.{Contains-first, Contains-later, Contains-flat_map}
 use Rattle.dexspec.proofs.NumbersWritten.{front_stands, back_stands, head_stands, tail_stands, uleb128_written, sleb128_written, uleb128p1_written, AreInRows, first_in_row, front_in_rows, back_in_rows}
 
--- the items of a list that stand one after the other, each of which stands where its bytes do
+-- items in sequence, each at the offset of its bytes
 pub sequence_of : {X : Type 0} (At : Item X) (f : X → List ℕ) (b : List ℕ) (xs : List X) → ((o : ℕ) (x : X) → Contains xs x → Stands b o (f x) → At b o x (length (f x)))
     → (o : ℕ) → Stands b o (flat_map f xs) → Sequence At b o xs (length (flat_map f xs))
 sequence_of At f b [] each o h = refl
@@ -30,21 +30,21 @@ sequence_of At f b (x ∷ xs) each o h =
     )
 
 module _ (b : List ℕ) (m : Mentions) where
-  -- a text that may be left out
+  -- an optional text
   optional_text_written : (o : ℕ) (s : Option Text) → AreInRows b m (optional_text s) → Stands b o (optional_text_bytes m s) → OptionalTextAt b o s (length (optional_text_bytes m s))
   optional_text_written o None are h = (None, uleb128p1_written b o None (omega arith) h, tt)
   optional_text_written o (Some s) are h =
       let row = first_in_row b m (TextSymbol s) [] are in
       (Some (text_index m s), uleb128p1_written b o (Some (text_index m s)) row.1 h, row.0)
 
-  -- a type that may be left out
+  -- an optional type
   optional_type_written : (o : ℕ) (t : Option Text) → AreInRows b m (optional_type t) → Stands b o (optional_type_bytes m t) → OptionalTypeAt b o t (length (optional_type_bytes m t))
   optional_type_written o None are h = (None, uleb128p1_written b o None (omega arith) h, tt)
   optional_type_written o (Some t) are h =
       let row = first_in_row b m (TypeSymbol t) [] are in
       (Some (type_index m t), uleb128p1_written b o (Some (type_index m t)) row.1 h, row.0)
 
-  -- an operation stands where its bytes do
+  -- an operation is at the offset of its bytes
   pub operation_written : (o : ℕ) (op : Operation) → IsOperation op → AreInRows b m (operation_symbols op) → Stands b o (operation_bytes m op) → OperationAt b o op (length (operation_bytes m op))
   operation_written o (AdvancePc addresses) is are h =
       let x = uleb128 addresses in
@@ -100,7 +100,7 @@ module _ (b : List ℕ) (m : Mentions) where
       (head_stands 0x09 x h, length x, optional_text_written (o + 1) name are (tail_stands 0x09 x h), omega arith)
   operation_written o (Special opcode) is are h = (h, is.0, is.1, refl)
 
-  -- a debug program does, in the data
+  -- a debug program is at the offset of its bytes, in the data
   pub debug_written : (o : ℕ) (d : Debug) → IsDebug d → AreInRows b m (debug_symbols d) → data_off b ≤ o → Stands b o (debug_bytes m d) → DebugAt b o d
   unfolding debug_bytes
   debug_written o d is are in_data h =

@@ -1,4 +1,4 @@
--- Whether two values of the model are the same is decided, by their codes.
+-- Equality of values of the model is decidable, by their codes.
 use Rattle.std.proofs.Common.{◌≡◌, ◌≢◌, ◌⊎◌, ℕ, refl, ap, subst, inl, inr}
 use Rattle.std.proofs.lemmas.Bool.{cases_eq}
 use Rattle.std.specs.Coded.{Coded}
@@ -14,7 +14,7 @@ use Rattle.dexspec.specs.Classes.{FieldDef, MethodDef, Body, Definition}
 use Rattle.dexspec.specs.Files.{Collection}
 use Rattle.dexspec.specs.Aside.Codes as codes
 
--- two values are the same, or they are not
+-- two values are equal or not
 abbrev pub SameOrNot : {X : Type 0} → X → X → Type 0
 SameOrNot x y = (x ≡ y) ⊎ (x ≢ y)
 
@@ -51,7 +51,7 @@ IsPair gnil = ⊥
 IsPair (gnum n) = ⊥
 IsPair (gcons a b) = Unit {0}
 
--- trees of numbers are the same or not
+-- trees of numbers are equal or not
 pub tree_same_or_not : (g h : Gv) → SameOrNot g h
 tree_same_or_not gnil gnil = inl refl
 tree_same_or_not (gnum m) (gnum n) = elim (cases_eq m n) [ inl e ↦ inl (ap gnum e) | inr d ↦ inr (λ p. d (ap number p)) ]
@@ -63,11 +63,11 @@ tree_same_or_not gnil h = inr (λ p. subst IsNil p tt)
 tree_same_or_not (gnum m) h = inr (λ p. subst IsNumber p tt)
 tree_same_or_not (gcons a b) h = inr (λ p. subst IsPair p tt)
 
--- a type that has a code has a decided equality
+-- a type that has a code has decidable equality
 pub same_or_not : {X : Type 0} → Coded X → (x y : X) → SameOrNot x y
 same_or_not c x y = elim (tree_same_or_not (c.code x) (c.code y)) [ inl e ↦ inl (c.inj x y e) | inr n ↦ inr (λ p. n (ap c.code p)) ]
 
--- so have the types of the model: texts
+-- equality is decidable for the types of the model: texts
 pub text_same_or_not : (x y : Text) → SameOrNot x y
 text_same_or_not = same_or_not codes.text_code
 
@@ -143,7 +143,7 @@ field_def_same_or_not = same_or_not codes.field_def_code
 pub method_def_same_or_not : (x y : MethodDef) → SameOrNot x y
 method_def_same_or_not = same_or_not codes.method_def_code
 
--- classes but for their names
+-- classes without their names
 pub body_same_or_not : (x y : Body) → SameOrNot x y
 body_same_or_not = same_or_not codes.body_code
 
@@ -151,6 +151,6 @@ body_same_or_not = same_or_not codes.body_code
 pub definition_same_or_not : (x y : Definition) → SameOrNot x y
 definition_same_or_not = same_or_not codes.definition_code
 
--- collections of them
+-- collections of definitions
 pub collection_same_or_not : (x y : Collection) → SameOrNot x y
 collection_same_or_not = same_or_not codes.collection_code

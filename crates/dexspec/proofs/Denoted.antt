@@ -15,14 +15,14 @@ use Rattle.dexspec.proofs.PoolRows.{AreStrings, AreTypes, same_type_row, laid_fe
 use Rattle.dexspec.proofs.Readable.{row_there, all_rows, row_of, member_of}
 use Rattle.dexspec.proofs.Collections.{collection-is, definitions-are}
 
--- what the first sixteen conditions say of the tables and the class rows
+-- the first sixteen conditions, for the tables and the class rows
 pub record HasClasses (b : List ℕ) : Type 0 where
   pub few : HasFewRows b
   pub strings : AreStrings b
   pub types : AreTypes b
   pub classes : (r : ℕ) → r < table_size b ClassDefs → HasClass b r
 
--- the first sixteen conditions say it
+-- the first sixteen conditions imply it
 pub has_classes : (b : List ℕ) → HoldBelow 17 b → HasClasses b
 has_classes b h = record {
   few = laid_few b (h Condition.Size (omega arith) 0 (omega arith)) (h Condition.Lengths (omega arith) 0 (omega arith)) (h Condition.Layout (omega arith) 0 (omega arith));
@@ -35,7 +35,7 @@ has_classes b h = record {
 abbrev pub AreReadable : List ℕ → Type 0
 AreReadable b = (r : ℕ) → r < table_size b ClassDefs → IsReadable b r
 
--- those of an accepted file can
+-- those of an accepted file can be read
 pub accepted_readable : (b : List ℕ) → IsAccepted b → AreReadable b
 accepted_readable b h r lt = record {
   members = h Condition.Members r lt;
@@ -56,18 +56,18 @@ module _ (b : List ℕ) (h : HasClasses b) where
         | inr ge ↦ elim (cases_lt s r) [ inl gt ↦ absurd ((h.classes r x.row).first s gt (sym index)) | inr le ↦ omega arith ]
       ]
 
-  -- and one body
+  -- a name has one body
   pub same_body : (r s : ℕ) (name : Text) (c d : Body) → ClassRow b r name c → ClassRow b s name d → c ≡ d
   same_body r s name c d x y =
       (one_class_row b h.few s name name c d (subst (λ (k : ℕ). ClassRow b k name c) (same_class_row r s name c d x y) x) y).1
 
-  -- what all rows are
+  -- the definitions of all rows
   module _ (D : List Definition) (rows : AreRows b (table_size b ClassDefs) D) where
-    -- a member is what a row is
+    -- a member is the definition of a row
     pub rows_define : (name : Text) (c : Body) → Contains D (name, c) → Defines b name c
     rows_define name c m = let s = row_of (λ (r : ℕ) (d : Definition). ClassRow b r d.0 d.1) (table_size b ClassDefs) 0 D rows (name, c) m in (s.0, s.3)
 
-    -- and what a row is, is a member
+    -- the definition of a row is a member
     pub defined_rows : (name : Text) (c : Body) → Defines b name c → Contains D (name, c)
     defined_rows name c (r, x) =
         let s = member_of (λ (k : ℕ) (d : Definition). ClassRow b k d.0 d.1) (table_size b ClassDefs) 0 D rows r (omega arith) (omega (arith, x.row)) in
@@ -81,13 +81,13 @@ module _ (b : List ℕ) (h : HasClasses b) where
         let t = rows_define name other y in
         same_body s.0 t.0 name one other s.1 t.1
 
-    -- their collection is what the file denotes
+    -- their collection is denoted by the file
     pub rows_denote : Denotes b (map.from_entries D)
     rows_denote name c =
         let is = collection-is D rows_consistent name c in
         (λ m. rows_define name c (is.0 m), λ d. is.1 (defined_rows name c d))
 
-    -- the definitions of what the file denotes are those of the rows
+    -- the definitions of the denoted collection are those of the rows
     pub denoted_rows : (K : Collection) → Denotes b K → AreSame (definitions K) D
     denoted_rows K k d =
         let is = definitions-are K d.0 d.1 in

@@ -1,4 +1,4 @@
--- What a file denotes is good under the greatest caps, where its symbols have rows.
+-- The collection that a file denotes is good under the greatest caps, if its symbols have rows.
 use Rattle.std.proofs.Common.{◌≡◌, ℕ, zero, suc, ◌+◌, ◌-◌, ◌<◌, ◌≤◌, List, [], ◌∷◌, refl, subst, arith, inl, inr}
 use Rattle.std.specs.List.{Contains}
 use Rattle.std.proofs.lemmas.Bool.{cases_lt}
@@ -22,7 +22,7 @@ use Rattle.dexspec.proofs.Denoted.{HasClasses, has_classes, accepted_readable, r
 
 -- ---- weight
 
--- nothing weighs little
+-- no definitions have a small weight
 nothing_light : (E : List Definition) → AreWithin E [] → weight E ≤ most_weight
 unfolding weight mentions
 nothing_light [] h = omega arith
@@ -39,11 +39,11 @@ module _ (b : List ℕ) (h : IsAccepted b) where
   pub accepted_classes : HasClasses b
   accepted_classes = has_classes b (λ c lt. h c)
 
-  -- and what they are
+  -- and their definitions
   accepted_rows : (D : List Definition) × AreRows b (table_size b ClassDefs) D
   accepted_rows = readable_rows b accepted_classes (table_size b ClassDefs) (omega arith) (accepted_readable b h)
 
-  -- some of what an accepted file denotes weighs no more than it may
+  -- definitions that an accepted file denotes do not weigh too much
   pub denoted_light : (K : Collection) → Denotes b K → (E : List Definition) → AreDistinct E → AreWithin E (definitions K) → weight E ≤ most_weight
   denoted_light K denotes E distinct within =
       let D = accepted_rows.0 in
@@ -58,11 +58,11 @@ module _ (b : List ℕ) (h : IsAccepted b) where
         | inr none ↦ nothing_light E (subst (AreWithin E) (no_rows b (table_size b ClassDefs) D (omega arith) rows) among)
       ]
 
-  -- a member of what a file denotes is a class row
+  -- a member of the denoted collection is a class row
   pub member_row : (K : Collection) → Denotes b K → (d : Definition) → Contains (definitions K) d → Defines b d.0 d.1
   member_row K denotes d c = (denotes d.0 d.1).0 ((definitions-are K d.0 d.1).1 c)
 
-  -- where symbols have rows, it is good
+  -- if the symbols have rows, the collection is good
   pub good_from_rows : (K : Collection) → Denotes b K → DefinitionsHaveRows b (definitions K) → ((s : Text) → HasShortString (definitions K) s → (i : ℕ) × (i < 65536) × StringRow b i s) → IsGood greatest_caps (definitions K)
   good_from_rows K denotes rows short = record {
     consistent = collection-consistent (definitions K) K (definitions-are K);

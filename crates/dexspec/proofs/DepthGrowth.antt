@@ -1,4 +1,4 @@
--- What has a depth among more definitions has one among fewer, and no greater one.
+-- A name that has a depth among more definitions has a depth among fewer, and it is no greater.
 use Rattle.std.proofs.Common.{◌≡◌, ℕ, zero, suc, true, List}
 use Rattle.std.specs.List.{flat_map, filter}
 use Rattle.dexspec.specs.Texts.{Text, same_text}
@@ -21,7 +21,7 @@ module _ (D E : List Definition) (h : AreWithin D E) where
       AreAmong-filter (is_defined D) (is_defined E) (flat_map parents_of (filter named D)) (flat_map parents_of (filter named E)) is_defined-within
       (AreAmong-flat_map parents_of (filter named D) (filter named E) (AreAmong-filter named named D E (λ d e. e) h))
 
-  -- a bound on the depth stays one with fewer definitions
+  -- a bound on the depth holds for fewer definitions
   pub is_below-within : (n : ℕ) (name : Text) → is_below E n name ≡ true → is_below D n name ≡ true
   is_below-within zero name e = e
   is_below-within (suc n) name e =

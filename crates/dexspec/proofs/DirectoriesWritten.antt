@@ -1,4 +1,4 @@
--- An annotations directory stands where its canonical bytes were written, of offsets at which its sets and ref lists stand.
+-- An annotations directory is at the offset of its canonical bytes, if its sets and ref lists are at their offsets.
 use Rattle.std.proofs.Common.{◌≡◌, ℕ, ◌+◌, ◌-◌, ◌*◌, ◌%◌, ◌^◌, ◌<◌, ◌≤◌, All, List, [], ◌∷◌, ◌++◌, length, map, refl, subst, sym, arith}
 use Rattle.std.specs.Prelude.{IsTrue}
 use Rattle.std.specs.List.{AllZip}
@@ -24,7 +24,7 @@ ArePairs Row At b ps entries = AllZip (PairAt Row At b) ps entries × IsTrue (ri
 pair_size : (p : ℕ × ℕ) → length (uint p.0 ++ uint p.1) ≡ 8
 pair_size p = omega (arith, length-append (uint p.0) (uint p.1), length-uint p.0, length-uint p.1)
 
--- and pairs have as many times that
+-- n pairs have n times eight bytes
 pairs_size : (ps : List (ℕ × ℕ)) → length (pairs_bytes ps) ≡ 8 * length ps
 pairs_size ps = length_rows (λ (p : ℕ × ℕ). uint p.0 ++ uint p.1) 8 pair_size ps
 
@@ -44,7 +44,7 @@ module _ {M X : Type 0} (Row : List ℕ → ℕ → M → Type 0) (At : List ℕ
       let rest : pairs_at b (o + 8) (length ps) ≡ ps = pairs_read (o + 8) ps es are.1 (All-tail fits p ps few) (stands_at (omega (arith, pair_size p)) (back_stands (x ++ y) (pairs_bytes ps) h)) in
       λ i. (first i, second i) ∷ rest i
 
-  -- and they are those of a list of a directory
+  -- they are a list of a directory
   pairs_written : (o n : ℕ) (ps : List (ℕ × ℕ)) (entries : List (M × X)) → ArePairs Row At b ps entries → n ≡ length ps → Stands b o (pairs_bytes ps) → PairsAt Row At b o n entries
   pairs_written o n ps entries are count h =
       let read = pairs_read o ps entries are.0 are.2 h in
@@ -55,7 +55,7 @@ module _ {M X : Type 0} (Row : List ℕ → ℕ → M → Type 0) (At : List ℕ
 abbrev pub directory_of : ℕ → List (ℕ × ℕ) → List (ℕ × ℕ) → List (ℕ × ℕ) → List ℕ
 directory_of own fields methods parameters = uint own ++ (uint (length fields) ++ (uint (length methods) ++ (uint (length parameters) ++ (pairs_bytes fields ++ (pairs_bytes methods ++ pairs_bytes parameters)))))
 
--- a directory stands where its bytes do
+-- a directory is at the offset of its bytes
 pub directory_written : (b : List ℕ) (o own : ℕ) (fs ms ps : List (ℕ × ℕ)) (d : Directory) → length b < 2 ^ 32 → data_off b ≤ o → o % 4 ≡ 0 → OrNone SetAt [] b own d.own → ArePairs FieldRow SetAt b fs d.fields → ArePairs MethodRow SetAt b ms d.methods → ArePairs MethodRow RefListAt b ps d.parameters
     → Stands b o (directory_of own fs ms ps) → DirectoryAt b o d
 directory_written b o own fs ms ps d short behind aligned own_is fields methods parameters h =

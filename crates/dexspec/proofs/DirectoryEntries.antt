@@ -1,5 +1,5 @@
--- The pairs of a directory that is written are those of the entries of its members: in order, named by their indices, and
--- leading to what the members have.
+-- The pairs of a written directory are those of the entries of its members: in order, with the members' indices and the
+-- offsets of their items.
 use Rattle.std.proofs.Common.{◌≡◌, ◌≢◌, ℕ, ◌<◌, ◌^◌, Bool, true, false, cond, List, [], ◌∷◌, ◌++◌, length, map, Option, Some, None, unwrap_or, refl, sym, ap, ◌∙◌, subst, arith, inl, inr, All, Ordering, Less, Equal, Greater}
 use Rattle.std.specs.Prelude.{if◌then◌else◌, ◌==◌, IsTrue, ◌⊎◌}
 use Rattle.std.specs.List.{Contains, AllZip, flat_map, zip}
@@ -21,7 +21,7 @@ use Rattle.dexspec.proofs.DirectoriesWritten.{ArePairs}
 
 -- ---- entries
 
--- a test of keys that are not the same
+-- a test of different keys
 apart : {M : Type 0} (R : M → M → Ordering) → IsAntisymmetric R → (m n : M) → m ≢ n → eq_by_cmp R m n ≡ false
 apart R exact m n ne = by (R m n) refl
   where
@@ -31,7 +31,7 @@ apart R exact m n ne = by (R m n) refl
     by Greater e = ap is_eq e
 
 module _ {M X : Type 0} (R : M → M → Ordering) (o : IsTotalOrder R) (exact : IsAntisymmetric R) where
-  -- what is put, or was there
+  -- an entry is the one that is put, or was there before
   put-source : (k : M) (v : List X) (es : List (M × List X)) (x : M × List X) → Contains (put R k v es) x → ((k, v) ≡ x) ⊎ Contains es x
   put-source k v [] x c = Contains-cons_cases (k, v) x [] c
   put-source k v (e ∷ es) x c = by (R k e.0) refl c (put-source k v es x)
@@ -47,7 +47,7 @@ module _ {M X : Type 0} (R : M → M → Ordering) (o : IsTotalOrder R) (exact :
         | inr l ↦ elim (again l) [ inl p ↦ inl p | inr m ↦ inr (Contains-later e x es m) ]
       ]
 
-  -- an entry is what a member has
+  -- an entry has the list of a member
   pub entries_source : (ms : List (M × List X)) (e : M × List X) → Contains (entries_of R ms) e → Contains ms e
   entries_source [] e c = c
   entries_source ((m, []) ∷ ms) e c = Contains-later (m, []) e ms (entries_source ms e c)
@@ -60,7 +60,7 @@ module _ {M X : Type 0} (R : M → M → Ordering) (o : IsTotalOrder R) (exact :
   abbrev keys : List (M × List X) → List M
   keys ms = map (λ e. e.0) ms
 
-  -- another member has nothing
+  -- other members have no entry
   other_entry : (ms : List (M × List X)) (m : M) → ((n : M) → Contains (keys ms) n → m ≢ n) → find R m (entries_of R ms) ≡ None
   other_entry [] m h = refl
   other_entry ((n, []) ∷ ms) m h = other_entry ms m (λ k c. h k (Contains-later n k (keys ms) c))
@@ -68,7 +68,7 @@ module _ {M X : Type 0} (R : M → M → Ordering) (o : IsTotalOrder R) (exact :
       find-put R o m n (x ∷ xs) (entries_of R ms) ∙ ap (λ (t : Bool). cond t (Some (x ∷ xs)) (find R m (entries_of R ms))) (apart R exact m n (h n (Contains-first n (keys ms))))
       ∙ other_entry ms m (λ k c. h k (Contains-later n k (keys ms) c))
 
-  -- what the entries have for a member
+  -- the list of the entries for a member
   pub own_entry : (ms : List (M × List X)) (m : M) (l : List X) → AreDistinct (keys ms) → Contains ms (m, l) → annotated R (entries_of R ms) m ≡ l
   own_entry [] m l d c = absurd (Contains-nil (m, l) c)
   own_entry ((n, []) ∷ ms) m l d c = elim (Contains-cons_cases (n, []) (m, l) ms c) [
@@ -94,7 +94,7 @@ module _ {M X : Type 0} (R : M → M → Ordering) (o : IsTotalOrder R) (exact :
 
 -- ---- pairs
 
--- the indices of a pair that is added
+-- the indices with one more pair
 indices_add : (p : ℕ × ℕ) (ps : List (ℕ × ℕ)) → map (λ q. q.0) (add_in_order pair_cmp p ps) ≡ add_in_order nat_cmp p.0 (map (λ q. q.0) ps)
 indices_add p [] = refl
 indices_add p (q ∷ ps) = by (nat_cmp p.0 q.0) (indices_add p ps)
@@ -105,7 +105,7 @@ indices_add p (q ∷ ps) = by (nat_cmp p.0 q.0) (indices_add p ps)
     by Equal again = refl
     by Greater again = ap (λ is. q.0 ∷ is) again
 
--- and of all in their order
+-- the indices of all pairs in order
 indices_in_order : (ps : List (ℕ × ℕ)) → map (λ q. q.0) (in_order pair_cmp ps) ≡ in_order nat_cmp (map (λ q. q.0) ps)
 indices_in_order [] = refl
 indices_in_order (p ∷ ps) = indices_add p (in_order pair_cmp ps) ∙ ap (add_in_order nat_cmp p.0) (indices_in_order ps)
@@ -116,7 +116,7 @@ pairs_rise is offs =
     let ps = flat_map (λ (p : ℕ × ℕ). if p.1 == 0 then [] else p ∷ []) (zip is offs) in
     ap (rises nat_cmp) (indices_in_order ps) ∙ rises-in_order nat_cmp nat_cmp_total nat_cmp-IsAntisymmetric (map (λ (p : ℕ × ℕ). p.0) ps)
 
--- what holds of the keys of related places
+-- a property of the keys of related places
 all_keys : {A B : Type 0} (R : A → B → Type 0) (P : A → Type 0) → ((a : A) (x : B) → R a x → P a) → (ks : List A) (xs : List B) → AllZip R ks xs → All P ks
 all_keys R P f [] [] h = All-nil P
 all_keys R P f [] (x ∷ xs) h = absurd h
@@ -131,7 +131,7 @@ zip_weaker R S f (k ∷ ks) [] h = absurd h
 zip_weaker R S f (k ∷ ks) (x ∷ xs) h = (f k x h.0, zip_weaker R S f ks xs h.1)
 
 module _ {M X : Type 0} (R : M → M → Ordering) (exact : IsAntisymmetric R) (index : M → ℕ) (Known : M → Type 0) (compare : (m n : M) → Known m → Known n → nat_cmp (index m) (index n) ≡ R m n) (At : ℕ → List X → Type 0) where
-  -- the pair has the index of the entry's member, and leads to what it has
+  -- the pair has the index of the entry's member, and the offset of its list
   abbrev IsPairOf : ℕ × ℕ → M × List X → Type 0
   IsPairOf p e = (p.0 ≡ index e.0) × Known e.0 × (p.1 ≢ 0) × At p.1 e.1
 
@@ -151,7 +151,7 @@ module _ {M X : Type 0} (R : M → M → Ordering) (exact : IsAntisymmetric R) (
       by Equal other again = absurd (other refl)
       by Greater other again = (are.0, again)
 
-  -- the pairs that are not left out
+  -- the pairs without those at offset 0
   abbrev kept : List ℕ → List ℕ → List (ℕ × ℕ)
   kept is offs = flat_map (λ (p : ℕ × ℕ). if p.1 == 0 then [] else p ∷ []) (zip is offs)
 
@@ -159,7 +159,7 @@ module _ {M X : Type 0} (R : M → M → Ordering) (exact : IsAntisymmetric R) (
   abbrev indices : List (M × List X) → List ℕ
   indices ms = map (λ e. index e.0) ms
 
-  -- the pairs that are written are those of the entries
+  -- the written pairs are those of the entries
   pairs_of : (o : IsTotalOrder R) (ms : List (M × List X)) (offs : List ℕ) → AreDistinct (map (λ e. e.0) ms) → ((e : M × List X) → Contains ms e → Known e.0) → AllZip (λ o e. StandsIfSome At o e.1) offs ms → AllZip IsPairOf (pairs (indices ms) offs) (entries_of R ms)
   pairs_of o [] [] d known are = tt
   pairs_of o [] (p ∷ offs) d known are = absurd are
@@ -191,7 +191,7 @@ pairs_are {M} {X} R o exact Row At b index Known compare row ms offs d known are
       all_keys IsPair (λ (p : ℕ × ℕ). p.0 < 2 ^ 32) (λ p e h. omega (arith, h.0, (row e.0 h.1).1)) (pairs is offs) (entries_of R ms) ps,
     )
 
--- no pairs, no entries
+-- without pairs there are no entries
 pub no_entries : {A B : Type 0} (R : A → B → Type 0) (ks : List A) (xs : List B) → AllZip R ks xs → length ks ≡ 0 → xs ≡ []
 no_entries R [] [] h e = refl
 no_entries R [] (x ∷ xs) h e = absurd h

@@ -1,4 +1,4 @@
--- The distinct members of a list: one member more at its end, what they come from, and where they are led.
+-- The distinct members of a list: with one more member at the end, their sources, and their images.
 use Rattle.std.proofs.Common.{◌≡◌, ◌≢◌, zero, suc, Bool, true, false, cond, not, ◌||◌, if◌then◌else◌, List, [], ◌∷◌, ◌++◌, get_or, map, refl, ap, sym, ◌∙◌, subst, arith, append_assoc, inl, inr}
 use Rattle.std.specs.List.{Contains, filter, list_any}
 use Rattle.std.proofs.lemmas.List.{append-nil, map-append}
@@ -11,8 +11,8 @@ use Rattle.dexspec.proofs.Sources.{distinct_source}
 
 -- ---- one member more
 
--- The members with one more behind them, unless one of them is the same. It is what a set that keeps its order
--- does when a key is put.
+-- The members with one more after them, unless one of them is equal: the result of inserting a key into a set that
+-- keeps its order.
 abbrev pub with_last : {X : Type 0} → (X → X → Bool) → List X → X → List X
 with_last same ks x = if list_any (same x) ks then ks else ks ++ x ∷ []
 
@@ -24,7 +24,7 @@ grows_by false ks x = (x ∷ [], refl)
 pub insert_grows : {X : Type 0} (same : X → X → Bool) (ks : List X) (x : X) → (more : List X) × (with_last same ks x ≡ ks ++ more)
 insert_grows same ks x = grows_by (list_any (same x) ks) ks x
 
--- the members that keys lead to when one is put, where it was there or not
+-- the members of keys after one is inserted, whether it was there or not
 pub inserted : {K X : Type 0} (f : K → X) (test : K → Bool) (ks : List K) (k : K) (b : Bool) → list_any test ks ≡ b → map f (if list_any test ks then ks else ks ++ k ∷ []) ≡ (if b then map f ks else map f ks ++ f k ∷ [])
 inserted f test ks k true e = ap (λ b. map f (if b then ks else ks ++ k ∷ [])) e
 inserted f test ks k false e = ap (λ b. map f (if b then ks else ks ++ k ∷ [])) e ∙ map-append f ks (k ∷ [])
@@ -42,7 +42,7 @@ module _ {X : Type 0} (same : X → X → Bool) (exact : IsEquality same) where
   first_of true y ks x = refl
   first_of false y ks x = refl
 
-  -- what is the same as x is not the same as y, where x is not
+  -- a member equal to x is different from y, if x is
   apart : (x y : X) → same x y ≡ false → (k : X) → same x k ≡ true → not (same y k) ≡ true
   apart x y h k e = by (same y k) refl
     where
@@ -63,7 +63,7 @@ module _ {X : Type 0} (same : X → X → Bool) (exact : IsEquality same) where
   distinct_more [] x = refl
   distinct_more (y ∷ ys) x = ap (λ ds. y ∷ filter (λ z. not (same y z)) ds) (distinct_more ys x) ∙ added_by (same x y) y (distinct same ys) x refl
 
-  -- those of more members are those of the first, and more
+  -- the distinct members of a longer list are those of its prefix, and more
   pub distinct_front : (xs ys : List X) → (more : List X) × (distinct same (xs ++ ys) ≡ distinct same xs ++ more)
   distinct_front xs [] = ([], ap (distinct same) (append-nil xs) ∙ sym (append-nil (distinct same xs)))
   distinct_front xs (y ∷ ys) =
@@ -73,7 +73,7 @@ module _ {X : Type 0} (same : X → X → Bool) (exact : IsEquality same) where
 
 -- ---- each once
 
--- a list without its repeats has each member still
+-- each member is among the distinct members
 pub distinct_has : {X : Type 0} (same : X → X → Bool) → ((x y : X) → same x y ≡ true → x ≡ y) → (xs : List X) (x : X) → Contains xs x → Contains (distinct same xs) x
 distinct_has same one [] x c = c
 distinct_has same one (z ∷ xs) x c = elim (Contains-cons_cases z x xs c) [
@@ -85,13 +85,13 @@ distinct_has same one (z ∷ xs) x c = elim (Contains-cons_cases z x xs c) [
     by true e k = (0, omega arith, one z x e)
     by false e k = Contains-later z x (filter (λ y. not (same z y)) (distinct same xs)) (Contains-filter (λ y. not (same z y)) (distinct same xs) x k (ap not e))
 
--- a list without repeats, and before it what it has not
+-- a list without repeats, after a member that it does not have
 distinct_cons : {X : Type 0} (x : X) (xs : List X) → ((z : X) → Contains xs z → x ≢ z) → AreDistinct xs → AreDistinct (x ∷ xs)
 distinct_cons x xs other rest i zero d lt le = absurd (omega (arith, lt))
 distinct_cons x xs other rest zero (suc j) d lt le = other (get_or xs j d) (Contains-get_or xs j d (omega (arith, le)))
 distinct_cons x xs other rest (suc i) (suc j) d lt le = rest i j d (omega (arith, lt)) (omega (arith, le))
 
--- what a filter keeps of a list without repeats has none
+-- a filtered list without repeats has no repeats
 filter_distinct : {X : Type 0} (p : X → Bool) (xs : List X) → AreDistinct xs → AreDistinct (filter p xs)
 filter_distinct p [] d = d
 filter_distinct p (x ∷ xs) d = by (p x) (filter_distinct p xs (λ i j z lt le. d (suc i) (suc j) z (omega (arith, lt)) (omega (arith, le))))
@@ -100,7 +100,7 @@ filter_distinct p (x ∷ xs) d = by (p x) (filter_distinct p xs (λ i j z lt le.
     by true rest = distinct_cons x (filter p xs) (λ z c e. let was = Contains-filter_source p xs z c in d 0 (suc was.0.0) z (omega arith) (omega (arith, was.0.1)) (e ∙ sym was.0.2)) rest
     by false rest = rest
 
--- no two are equal, where the test passes for equal values
+-- no two are equal, if the test passes for equal values
 pub distinct_once : {X : Type 0} (same : X → X → Bool) → ((x : X) → same x x ≡ true) → (xs : List X) → AreDistinct (distinct same xs)
 distinct_once {X = X} same again [] = λ i j d lt le. absurd (omega (arith, le))
 distinct_once {X = X} same again (x ∷ xs) =
@@ -112,9 +112,9 @@ distinct_once {X = X} same again (x ∷ xs) =
     denied true e f = absurd cc
     denied false e f = absurd cc
 
--- ---- members that are led one to one
+-- ---- members under an injective map
 
--- a filter of what is led
+-- a filter of a mapped list
 filter_led : {X Y : Type 0} (f : X → Y) (p : Y → Bool) (xs : List X) → filter p (map f xs) ≡ map f (filter (λ x. p (f x)) xs)
 filter_led f p [] = refl
 filter_led f p (x ∷ xs) = by (p (f x)) (filter_led f p xs)
@@ -123,14 +123,14 @@ filter_led f p (x ∷ xs) = by (p (f x)) (filter_led f p xs)
     by true again = ap (λ ys. f x ∷ ys) again
     by false again = again
 
--- by a test that agrees on the members
+-- a filter by a test that agrees on the members
 filter_agrees : {X : Type 0} (p q : X → Bool) (xs : List X) → ((x : X) → Contains xs x → p x ≡ q x) → filter p xs ≡ filter q xs
 filter_agrees p q [] e = refl
 filter_agrees p q (x ∷ xs) e =
     ap (λ b. cond b (x ∷ filter p xs) (filter p xs)) (e x (Contains-first x xs))
     ∙ ap (λ ys. cond (q x) (x ∷ ys) ys) (filter_agrees p q xs (λ y c. e y (Contains-later x y xs c)))
 
--- the distinct members of what is led are what they lead to
+-- the distinct members of a mapped list are the images of the distinct members
 pub distinct_led : {X Y : Type 0} (f : X → Y) (same : X → X → Bool) (alike : Y → Y → Bool) (xs : List X) → ((x y : X) → Contains xs x → Contains xs y → alike (f x) (f y) ≡ same x y) → distinct alike (map f xs) ≡ map f (distinct same xs)
 distinct_led f same alike [] e = refl
 distinct_led f same alike (x ∷ xs) e =

@@ -1,4 +1,4 @@
--- Tests that tell equal values: of any type, of lists, of options and of texts.
+-- Tests that decide equality: of any type, of lists, of options and of texts.
 use Rattle.std.proofs.Common.{◌≡◌, Bool, true, Some, None, refl, sym, ap, subst}
 use Rattle.std.specs.Bool.{Decides}
 use Rattle.std.specs.Option.{option_eq}
@@ -11,16 +11,16 @@ use Rattle.dexspec.specs.Texts.{same_text}
 abbrev pub IsEquality : {X : Type 0} → (X → X → Bool) → Type 0
 IsEquality {X} same = (x y : X) → Decides (same x y) (x ≡ y)
 
--- one that passes for equal values alone, and for each value and itself
+-- a test that passes only for equal values, and for each value and itself
 pub tells : {X : Type 0} (same : X → X → Bool) → ((x y : X) → same x y ≡ true → x ≡ y) → ((x : X) → same x x ≡ true) → IsEquality same
 tells same only again x y = (only x y, λ e. subst (λ z. same x z ≡ true) e (again x))
 
 module _ {X : Type 0} (same : X → X → Bool) (exact : IsEquality same) where
-  -- a value is the same as itself
+  -- a value is equal to itself
   pub self : (x : X) → same x x ≡ true
   self x = (exact x x).1 refl
 
-  -- it does not ask for an order
+  -- the order of the arguments does not matter
   pub turned : (x y : X) → same x y ≡ same y x
   turned x y = same_from_decides (same x y) (same y x) (exact x y) ((λ e. sym ((exact y x).0 e)), (λ e. (exact y x).1 (sym e)))
 
@@ -28,7 +28,7 @@ module _ {X : Type 0} (same : X → X → Bool) (exact : IsEquality same) where
 pub lists_decide : {X : Type 0} (same : X → X → Bool) → IsEquality same → IsEquality (pointwise same)
 lists_decide same is xs ys = slice_eq-Decides is xs ys (pointwise same xs ys) refl
 
--- what may be absent
+-- options
 pub options_decide : {X : Type 0} (same : X → X → Bool) → IsEquality same → IsEquality (option_eq same)
 options_decide same is None None = (λ e. refl, λ e. refl)
 options_decide same is None (Some y) = (λ e. absurd cc, λ e. absurd cc)

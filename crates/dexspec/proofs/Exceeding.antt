@@ -1,4 +1,4 @@
--- Whether definitions exceed a cap is decided.
+-- Whether definitions exceed a cap is decidable.
 use Rattle.std.proofs.Common.{◌≡◌, ◌⊎◌, ℕ, ◌<◌, ◌≤◌, ◌==◌, Bool, true, false, cond, List, [], ◌∷◌, length, slice_index, Option, Some, None, option_to_list, refl, sym, ap, subst, arith, inl, inr, eqb-true}
 use Rattle.std.specs.List.{Contains, flat_map}
 use Rattle.std.proofs.lemmas.Bool.{cases_lt}
@@ -28,7 +28,7 @@ abbrev piece_short : Piece → List Text
 piece_short (Instruction us (Some (TextSymbol s))) = short_text s (low_byte (slice_index us 0) == 0x1a)
 piece_short _ = []
 
--- those of code, of a method, of a definition, of all
+-- the texts of code, of a method, of a definition, of all definitions
 abbrev code_shorts : Code → List Text
 code_shorts c = flat_map piece_short c.pieces
 
@@ -45,7 +45,7 @@ shorts D = flat_map definition_shorts D
 abbrev IsShort : Piece → Text → Type 0
 IsShort p s = (us : List ℕ) × (p ≡ Instruction us (Some (TextSymbol s))) × (low_byte (slice_index us 0) ≡ 0x1a)
 
--- by whether it is a const-string that is not jumbo
+-- case split on whether it is a const-string that is not jumbo
 short_by : (us : List ℕ) (s t : Text) (b : Bool) → (low_byte (slice_index us 0) == 0x1a) ≡ b → Contains (short_text s b) t → IsShort (Instruction us (Some (TextSymbol s))) t
 short_by us s t true e c = elim (Contains-cons_cases s t [] c) [
   | inl same ↦ (us, ap (λ z. Instruction us (Some (TextSymbol z))) same, eqb-true (low_byte (slice_index us 0)) 0x1a e)
@@ -53,27 +53,27 @@ short_by us s t true e c = elim (Contains-cons_cases s t [] c) [
 ]
 short_by us s t false e c = absurd (Contains-nil t c)
 
--- what a piece lists is its text
+-- each text in the list of a piece is its text
 piece_short-source : (p : Piece) (t : Text) → Contains (piece_short p) t → IsShort p t
 piece_short-source (Instruction us (Some (TextSymbol s))) t c = short_by us s t (low_byte (slice_index us 0) == 0x1a) refl c
 piece_short-source p t c = absurd (Contains-nil t c)
 
--- and the text of such a piece is listed
+-- the text of such a piece is in its list
 piece_short-has : (p : Piece) (t : Text) → IsShort p t → Contains (piece_short p) t
 piece_short-has p t (us, e, low) =
     let is : (low_byte (slice_index us 0) == 0x1a) ≡ true = ap (λ n. n == 0x1a) low in
     subst (λ q. Contains (piece_short q) t) (sym e) (subst (λ b. Contains (short_text t b) t) (sym is) (Contains-first t []))
 
--- what there is is listed
+-- a present value is in the list
 option_has : {X : Type 0} (o : Option X) (x : X) → o ≡ Some x → Contains (option_to_list o) x
 option_has o x e = subst (λ p. Contains (option_to_list p) x) (sym e) (Contains-first x [])
 
--- and only this
+-- each value in the list is present
 option_source : {X : Type 0} (o : Option X) (x : X) → Contains (option_to_list o) x → o ≡ Some x
 option_source None x c = absurd (Contains-nil x c)
 option_source (Some y) x c = elim (Contains-cons_cases y x [] c) [ inl e ↦ ap Some e | inr none ↦ absurd (Contains-nil x none) ]
 
--- a short string is listed
+-- a short string is in the list
 shorts-has : (D : List Definition) (s : Text) → HasShortString D s → Contains (shorts D) s
 shorts-has D s x =
     let piece = piece_short-has (Instruction x.units (Some (TextSymbol s))) s (x.units, refl, x.short) in
@@ -82,7 +82,7 @@ shorts-has D s x =
     let in_definition = Contains-flat_map method_shorts (declared_methods x.definition.1) x.method s x.declared in_method in
     Contains-flat_map definition_shorts D x.definition s x.member in_definition
 
--- and what is listed is a short string
+-- each text in the list is a short string
 shorts-source : (D : List Definition) (s : Text) → Contains (shorts D) s → HasShortString D s
 shorts-source D s c =
     let d = Contains-flat_map_source definition_shorts D s c in
@@ -104,27 +104,27 @@ shorts-source D s c =
 
 -- ---- the caps
 
--- the definitions, each once, weigh the most
+-- distinct members weigh at most as much as the list without its repeats
 pub weight-once : (D E : List Definition) → AreDistinct E → AreWithin E D → weight E ≤ weight (once_of definition_same_or_not D).once
 weight-once D E d h = let o = once_of definition_same_or_not D in weight-within E o.once d (λ x c. o.has x (h x c))
 
 module _ (caps : Caps) (D : List Definition) where
-  -- an excess is decided
+  -- whether a number exceeds another is decidable
   more_or_not : (m n : ℕ) → (m < n) ⊎ (¬ (m < n))
   more_or_not m n = elim (cases_lt m n) [ inl lt ↦ inl lt | inr ge ↦ inr (λ lt. omega (arith, lt, ge)) ]
 
-  -- whether a text has too great a rank is decided
+  -- whether a text has too great a rank is decidable
   short_or_not : (s : Text) → (caps.short_strings ≤ rank text_cmp s (mentions D).texts) ⊎ (¬ (caps.short_strings ≤ rank text_cmp s (mentions D).texts))
   short_or_not s = elim (cases_lt (rank text_cmp s (mentions D).texts) caps.short_strings) [ inl lt ↦ inr (λ ge. omega (arith, lt, ge)) | inr ge ↦ inl ge ]
 
-  -- the weight of the definitions, each once, decides
+  -- the weight of the distinct definitions decides
   weight_or_not : Exceeds caps D Weight ⊎ (¬ (Exceeds caps D Weight))
   weight_or_not = let o = once_of definition_same_or_not D in elim (cases_lt caps.weight (weight o.once)) [
     | inl lt ↦ inl (o.once, o.distinct, o.only, lt)
     | inr ge ↦ inr (λ x. omega (arith, ge, weight-once D x.0 x.1 x.2, x.3))
   ]
 
-  -- a cap is exceeded, or it is not
+  -- a cap is exceeded or not
   pub exceeds_or_not : (cap : Cap) → Exceeds caps D cap ⊎ (¬ (Exceeds caps D cap))
   exceeds_or_not Types = more_or_not caps.types (length (mentions D).types)
   exceeds_or_not Protos = more_or_not caps.protos (length (mentions D).protos)
@@ -136,15 +136,15 @@ module _ (caps : Caps) (D : List Definition) where
   ]
   exceeds_or_not Weight = weight_or_not
 
-  -- what is not more is at most as much
+  -- not more is at most
   at_most : (m n : ℕ) → (¬ (m < n)) → n ≤ m
   at_most m n never = elim (cases_lt m n) [ inl lt ↦ absurd (never lt) | inr ge ↦ ge ]
 
-  -- what is not at least as much is less
+  -- not at least is less
   less_than : (m n : ℕ) → (¬ (m ≤ n)) → n < m
   less_than m n never = elim (cases_lt n m) [ inl lt ↦ lt | inr ge ↦ absurd (never ge) ]
 
-  -- what exceeds no cap fits
+  -- definitions that exceed no cap fit
   pub fits-from_none : ((cap : Cap) → ¬ (Exceeds caps D cap)) → Fits caps D
   fits-from_none none = record {
     types = at_most caps.types (length (mentions D).types) (none Types);

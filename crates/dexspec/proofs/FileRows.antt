@@ -15,7 +15,7 @@ use Rattle.dexspec.proofs.PoolsStand.{ArePools}
 use Rattle.dexspec.proofs.PoolsInOrder.{string_holds, type_holds, proto_holds, field_holds, method_holds}
 use Rattle.dexspec.proofs.PoolsFormed.{mentions_pools}
 
--- the conditions on the rows of the pools, besides those on the frame
+-- the conditions on the rows of the pools, in addition to those on the frame
 pub laid_rows : {K : Ordered} {b : List ℕ} → Laid K b → AreFew K → ArePools K.pools → IsFrame b → HoldBelow 16 b
 laid_rows {K} {b} h few p frame = each
   where
@@ -44,7 +44,7 @@ laid_rows {K} {b} h few p frame = each
     each Condition.Annotations lt = absurd (omega (arith, lt))
     each Condition.Weight lt = absurd (omega (arith, lt))
 
--- the canonical file of well-formed definitions that fit caps meets all of them
+-- the canonical file of well-formed definitions that fit caps meets all of these conditions
 pub canonical_rows : (caps : Caps) (K : Collection) → AreCaps caps → Fits caps (definitions K) → AreWellFormed (definitions K) → HoldBelow 16 (canonical K)
 canonical_rows caps K are fits formed =
     laid_rows (fitting_laid caps K are fits) (fits_few caps K are fits) (mentions_pools (definitions K) formed) (fitting_frame caps K are fits)

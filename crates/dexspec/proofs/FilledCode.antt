@@ -1,4 +1,4 @@
--- Pieces with their indices put in are code again: cut in the same way, with the same targets, and standing for the pieces.
+-- Pieces with their indices are code: cut in the same way, with the same targets, and encoding the pieces.
 use Rattle.std.proofs.Common.{◌≡◌, ℕ, ◌+◌, ◌-◌, ◌/◌, ◌%◌, ◌<◌, ◌≤◌, ◌^◌, Bool, true, false, List, [], ◌∷◌, ◌++◌, length, take, drop, slice_index, Option, Some, None, refl, sym, ap, ◌∙◌, subst, arith, inl, inr, length-take, length-drop, length-append, take_at, drop_at}
 use Rattle.std.specs.Prelude.{if◌then◌else◌, ◌==◌, ℤ, nat_le, slice_set, slice_index_or, IsTrue}
 use Rattle.std.specs.Option.{option_and_then}
@@ -22,13 +22,13 @@ use Rattle.dexspec.proofs.Blanked.{IsZero, pool_at, Blank, zeroed, if_true, if_f
 use Rattle.dexspec.proofs.BlankedCode.{AreStanding, standing, standing_back, append_left, KeptCut, kept_piece, found_passes, mapped_some, instruction_same, right_same}
 use Rattle.dexspec.proofs.NumbersWritten.{AreInRows, first_in_row, front_in_rows, back_in_rows}
 
--- ---- an index that is put in
+-- ---- an index that is set
 
--- units with an index put in, wide or not
+-- units with an index, wide or not
 abbrev put : List ℕ → Bool → ℕ → List ℕ
 put w t i = if t then slice_set (slice_set w 1 (i % 65536)) 2 (i / 65536) else slice_set w 1 i
 
--- as many units as before
+-- the number of units is unchanged
 length_put : (w : List ℕ) (t : Bool) (i : ℕ) → length (put w t i) ≡ length w
 length_put w true i = length-set (slice_set w 1 (i % 65536)) 2 (i / 65536) ∙ length-set w 1 (i % 65536)
 length_put w false i = length-set w 1 i
@@ -38,7 +38,7 @@ first_put : (w : List ℕ) (t : Bool) (i : ℕ) → slice_index (put w t i) 0 �
 first_put w true i = get_or-set_other (slice_set w 1 (i % 65536)) 2 0 (i / 65536) 0 (omega arith) ∙ get_or-set_other w 1 0 (i % 65536) 0 (omega arith)
 first_put w false i = get_or-set_other w 1 0 i 0 (omega arith)
 
--- the index is read back, where there is room for it
+-- the index is read back, if it fits
 read_put : (w : List ℕ) (t : Bool) (i : ℕ) → 2 ≤ length w → (t ≡ true → 3 ≤ length w) → (if t then two_units (put w t i) 1 else slice_index (put w t i) 1) ≡ i
 read_put w true i two three =
     let x = slice_set w 1 (i % 65536) in
@@ -47,7 +47,7 @@ read_put w true i two three =
     omega (arith, low, high)
 read_put w false i two three = get_or-set_same w 1 i 0 (omega (arith, two))
 
--- zero put in its place is as before
+-- setting it to zero gives the units from before
 zero_put : (w : List ℕ) (t : Bool) (i : ℕ) → put (put w t i) t 0 ≡ put w t 0
 zero_put [] true i = refl
 zero_put (a ∷ []) true i = refl
@@ -64,17 +64,17 @@ units_put w false i are wide short = All-set (λ (u : ℕ). u < 65536) w 1 i (sh
 
 -- ---- room for an index
 
--- what has an index has two units
+-- an instruction with an index has two units
 abbrev has_room : Format → Option Pool → Bool
 has_room f None = true
 has_room f (Some p) = nat_le 2 (units_in f)
 
--- so it is in the whole table
+-- this holds in the whole table
 runs_have_room : list_all (λ (r : OpcodeRun). has_room r.format r.index) opcode_runs ≡ true
 unfolding opcode_runs
 runs_have_room = refl
 
--- so it is for each opcode
+-- this holds for each opcode
 opcode_has_room : (n : ℕ) (op : Opcode) → opcode_of n ≡ Some op → has_room op.format op.index ≡ true
 unfolding opcode_of
 opcode_has_room n op e =
@@ -86,7 +86,7 @@ jumbo_format : (op : Opcode) → opcode_of 0x1b ≡ Some op → op.format ≡ F3
 unfolding opcode_of opcode_runs
 jumbo_format op e = cc
 
--- an index has room in its piece
+-- an index fits its piece
 record HasRoom (n : ℕ) (w : List ℕ) : Type 0 where
   two : 2 ≤ n
   three : is_wide_index w ≡ true → 3 ≤ n
@@ -116,7 +116,7 @@ index_room at n us p h e = elim (piece_is at us n h) [
 -- ---- one piece
 
 module _ (b : List ℕ) (m : Mentions) where
-  -- a piece with its index, beside the units without it
+  -- a piece with its index, related to the units without it
   fill : (w : List ℕ) (p : Piece) → StandsForPiece IsZero w p → Blank w (piece_units m p)
   fill w (Instruction xs None) h = record { size = ap length h.2; first = ap (λ (ys : List ℕ). slice_index ys 0) h.2; same = λ _. h.2 }
   fill w (Instruction xs (Some s)) h =
@@ -127,7 +127,7 @@ module _ (b : List ℕ) (m : Mentions) where
       }
   fill w (Payload xs) h = record { size = ap length h.1; first = ap (λ (ys : List ℕ). slice_index ys 0) h.1; same = λ _. h.1 }
 
-  -- it stands for the piece
+  -- it encodes the piece
   named : (at n : ℕ) (us : List ℕ) (p : Piece) → n ≤ length us → 0 < n → piece_size at us ≡ Some n → StandsForPiece IsZero (take n us) p → AreInRows b m (piece_symbols p) → IndexFits m p → StandsForPiece (SymbolRow b) (piece_units m p) p
   named at n us (Instruction xs None) le some size h are fits = zeroed IsZero (take n us) (Instruction xs None) h
   named at n us (Instruction xs (Some s)) le some size h are fits =
@@ -148,7 +148,7 @@ module _ (b : List ℕ) (m : Mentions) where
       (ap pool_at kept ∙ z.0, subst (λ (k : ℕ). SymbolRow b k s) (sym index) row.0, back)
   named at n us (Payload xs) le some size h are fits = zeroed IsZero (take n us) (Payload xs) h
 
-  -- ---- pieces one after the other
+  -- ---- pieces in sequence
 
   -- the units with indices
   record Filled (at : ℕ) (us vs : List ℕ) (cs : List Cut) (ps : List Piece) : Type 0 where
@@ -228,7 +228,7 @@ pub record FilledCode (b : List ℕ) (us vs : List ℕ) (cs : List Cut) (ps : Li
   pub starts : (z : ℤ) → is_instruction_start vs cs z ≡ is_instruction_start us cs z
   pub within : (c : Cut) → Contains cs c → c.unit < length vs
 
--- code stays code with its indices
+-- code with its indices is code
 pub filled_code : (b : List ℕ) (m : Mentions) (cs : List Cut) (ps : List Piece) → IsCode (flat_map units_of ps) cs → AllZip (λ c p. StandsForPiece IsZero (cut_units (flat_map units_of ps) c) p) cs ps → AreInRows b m (flat_map piece_symbols ps)
     → ((p : Piece) → Contains ps p → IndexFits m p) → FilledCode b (flat_map units_of ps) (flat_map (piece_units m) ps) cs ps
 filled_code b m cs ps code pieces are fits =

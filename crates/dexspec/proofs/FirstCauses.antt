@@ -1,4 +1,4 @@
--- Definitions can be merged, or there is a first cause why not, and only one, which rests on the members alone.
+-- Definitions are mergeable, or there is exactly one first cause against it, which depends on the members alone.
 use Rattle.std.proofs.Common.{◌≡◌, ◌⊎◌, ℕ, zero, suc, ◌<◌, List, [], ◌∷◌, refl, sym, ap, ◌∙◌, arith, inl, inr, Ordering, Less, Equal, Greater, nat_cmp}
 use Rattle.std.specs.List.{Contains}
 use Rattle.std.specs.Ordering.{ordering_reverse}
@@ -19,13 +19,13 @@ use Rattle.dexspec.proofs.Exceeding.{exceeds_or_not, fits-from_none}
 
 -- ---- the least of each kind
 
--- what is true of something, and of nothing lesser
+-- the property holds for this, and for nothing lesser
 pub record IsLeastOf {X : Type 0} (R : X → X → Ordering) (P : X → Type 0) (x : X) : Type 0 where
   pub is : P x
   pub none_less : (y : X) → P y → R y x ≡ Less → ⊥
 
 module _ {X : Type 0} (R : X → X → Ordering) (o : IsTotalOrder R) (P : X → Type 0) (xs : List X) (covers : (x : X) → P x → Contains xs x) where
-  -- where a list has all of which it can be true, it is true of a least one or of none
+  -- if a list has all candidates, the property holds for a least one or for none
   pub least_of_all : ((x : X) → P x ⊎ (¬ (P x))) → ((x : X) × IsLeastOf R P x) ⊎ ((x : X) → ¬ (P x))
   least_of_all decide = elim (least_or_none R o P xs decide) [
     | inl l ↦ inl (l.member, record { is = l.passes; none_less = λ y p. l.none_less y (covers y p) p })
@@ -33,14 +33,14 @@ module _ {X : Type 0} (R : X → X → Ordering) (o : IsTotalOrder R) (P : X →
   ]
 
 module _ (D : List Definition) where
-  -- a least name has a conflict, or none has two definitions
+  -- there is a least name with a conflict, or no name has two definitions
   pub conflict_or_consistent : ((name : Text) × IsLeastOf text_cmp (IsConflict D) name) ⊎ IsConsistent D
   conflict_or_consistent = elim (least_of_all text_cmp text_total (IsConflict D) (names_in D) (conflict-name D) (conflict_or_not D)) [
     | inl l ↦ inl l
     | inr none ↦ inr (consistent-from_none D none)
   ]
 
-  -- a least name has no depth, or all have one
+  -- there is a least name without a depth, or all names have depths
   pub cycle_or_acyclic : ((name : Text) × IsLeastOf text_cmp (IsCycle D) name) ⊎ IsAcyclic D
   cycle_or_acyclic = elim (least_of_all text_cmp text_total (IsCycle D) (names_in D) (λ name x. is_defined-name D name x.defined) (cycle_or_not D)) [
     | inl l ↦ inl l
@@ -51,7 +51,7 @@ module _ (D : List Definition) where
 abbrev pub cap_cmp : Cap → Cap → Ordering
 cap_cmp j k = nat_cmp (cap_number j) (cap_number k)
 
--- they are in a total order
+-- the order of caps is total
 cap_total : IsTotalOrder cap_cmp
 cap_total = on_total cap_number nat_cmp_total
 
@@ -91,7 +91,7 @@ module _ (caps : Caps) (D : List Definition) where
       before (Cycle m) x never = never
       before (Exceeded j) x never = never
 
-  -- where there is no conflict the least cycle is
+  -- without a conflict the least cycle is the first cause
   cycle_first : (name : Text) → IsConsistent D → IsLeastOf text_cmp (IsCycle D) name → IsFirstCause caps D (Cycle name)
   cycle_first name h l = record { is = l.is; first = before }
     where
@@ -100,7 +100,7 @@ module _ (caps : Caps) (D : List Definition) where
       before (Cycle m) x less = l.none_less m x less
       before (Exceeded j) x never = never
 
-  -- where there is no cycle either the least cap is
+  -- without a cycle the least cap is the first cause
   cap_first : (cap : Cap) → IsConsistent D → IsAcyclic D → IsLeastOf cap_cmp (Exceeds caps D) cap → IsFirstCause caps D (Exceeded cap)
   cap_first cap h a l = record { is = l.is; first = before }
     where
@@ -109,7 +109,7 @@ module _ (caps : Caps) (D : List Definition) where
       before (Cycle m) x _ = acyclic-apart D m a x
       before (Exceeded j) x less = l.none_less j x (cap_less j cap less)
 
-  -- definitions can be merged, or a cause is told
+  -- definitions are mergeable, or a cause is reported
   pub first_cause_or_good : ((cause : Cause) × IsFirstCause caps D cause) ⊎ IsGood caps D
   first_cause_or_good = elim (conflict_or_consistent D) [
     | inl l ↦ inl (Conflict l.0, conflict_first l.0 l.1)
@@ -122,9 +122,9 @@ module _ (caps : Caps) (D : List Definition) where
     ]
   ]
 
--- ---- there is one first cause
+-- ---- the first cause is unique
 
--- texts of which neither is less are one
+-- texts of which neither is less are equal
 one_text : (m n : Text) (r : Ordering) → text_cmp m n ≡ r → (text_cmp m n ≡ Less → ⊥) → (text_cmp n m ≡ Less → ⊥) → m ≡ n
 one_text m n Less e f g = absurd (f e)
 one_text m n Equal e f g = text_exact m n e
@@ -140,7 +140,7 @@ numbered (suc (suc (suc (suc zero)))) = Methods
 numbered (suc (suc (suc (suc (suc zero))))) = ShortStrings
 numbered (suc (suc (suc (suc (suc (suc n)))))) = Weight
 
--- its number gives a cap back
+-- a cap is determined by its number
 numbered-is : (cap : Cap) → numbered (cap_number cap) ≡ cap
 numbered-is Types = refl
 numbered-is Protos = refl
@@ -149,18 +149,18 @@ numbered-is Methods = refl
 numbered-is ShortStrings = refl
 numbered-is Weight = refl
 
--- numbers of which neither is less are one
+-- numbers of which neither is less are equal
 one_number : (m n : ℕ) → (m < n → ⊥) → (n < m → ⊥) → m ≡ n
 one_number m n f g = elim (cases_lt m n) [
   | inl lt ↦ absurd (f lt)
   | inr ge ↦ elim (cases_lt n m) [ inl lt ↦ absurd (g lt) | inr le ↦ omega (arith, ge, le) ]
 ]
 
--- caps of which neither has a lesser number are one
+-- caps of which neither has a lesser number are equal
 one_cap : (j k : Cap) → (cap_number j < cap_number k → ⊥) → (cap_number k < cap_number j → ⊥) → j ≡ k
 one_cap j k f g = sym (numbered-is j) ∙ ap numbered (one_number (cap_number j) (cap_number k) f g) ∙ numbered-is k
 
--- of two causes neither of which is told before the other both are one
+-- two causes of which neither is reported before the other are equal
 one_cause : (c d : Cause) → (IsToldBefore c d → ⊥) → (IsToldBefore d c → ⊥) → c ≡ d
 one_cause (Conflict m) (Conflict n) f g = ap Conflict (one_text m n (text_cmp m n) refl f g)
 one_cause (Conflict m) (Cycle n) f g = absurd (f tt)
@@ -176,14 +176,14 @@ one_cause (Exceeded j) (Exceeded k) f g = ap Exceeded (one_cap j k f g)
 pub first_cause-one : (caps : Caps) (D : List Definition) (c d : Cause) → IsFirstCause caps D c → IsFirstCause caps D d → c ≡ d
 first_cause-one caps D c d x y = one_cause c d (y.first c x.is) (x.first d y.is)
 
--- it rests on the members alone
+-- it depends on the members alone
 pub first_cause-same : (caps : Caps) (D E : List Definition) (cause : Cause) → AreSame D E → IsFirstCause caps D cause → IsFirstCause caps E cause
 first_cause-same caps D E cause same x = record {
   is = IsCause-within D E (λ d. (same d).0) caps cause x.is;
   first = λ other y. x.first other (IsCause-within E D (λ d. (same d).1) caps other y);
 }
 
--- a cause is true of the definitions, or it is not
+-- a cause holds for the definitions or not
 pub cause_or_not : (caps : Caps) (D : List Definition) (cause : Cause) → IsCause caps D cause ⊎ (¬ (IsCause caps D cause))
 cause_or_not caps D (Conflict name) = conflict_or_not D name
 cause_or_not caps D (Cycle name) = cycle_or_not D name

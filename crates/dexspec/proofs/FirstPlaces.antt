@@ -5,9 +5,9 @@ use Rattle.std.proofs.lemmas.Bool.{cases_lt}
 use Rattle.std.proofs.lemmas.List.Sums.{fails_before_first}
 use Rattle.dexspec.proofs.Members.{Contains-first, Contains-later}
 
--- ---- where a member passes
+-- ---- some member passes
 
--- the first stands before the end
+-- the first that passes is before the end
 pub position_within : {X : Type 0} (p : X → Bool) (xs : List X) (x : X) → Contains xs x → p x ≡ true → position_or_len p xs < length xs
 position_within p xs x c passes = elim (cases_lt (position_or_len p xs) (length xs)) [
   | inl lt ↦ lt
@@ -31,9 +31,9 @@ none_first p x xs e none = let both : true ≡ false = ap (λ t. t || list_any p
 none_rest : {X : Type 0} (p : X → Bool) (x : X) (xs : List X) → p x ≡ false → list_any p (x ∷ xs) ≡ list_any p xs
 none_rest p x xs e = ap (λ t. t || list_any p xs) e
 
--- ---- more behind
+-- ---- more members after
 
--- the first that passes stays where it is
+-- the first that passes stays at its place
 pub position_stays : {X : Type 0} (p : X → Bool) (xs ys : List X) → position_or_len p xs < length xs → position_or_len p (xs ++ ys) ≡ position_or_len p xs
 position_stays p [] ys lt = absurd (omega (arith, lt))
 position_stays p (x ∷ xs) ys lt = by (p x) refl (position_stays p xs ys)
@@ -42,7 +42,7 @@ position_stays p (x ∷ xs) ys lt = by (p x) refl (position_stays p xs ys)
     by true e rest = stop p x (xs ++ ys) e ∙ sym (stop p x xs e)
     by false e rest = skip p x (xs ++ ys) e ∙ ap suc (rest (omega (arith, lt, skip p x xs e))) ∙ sym (skip p x xs e)
 
--- where none passes the place is behind all
+-- if none passes, the place is the length
 pub position_none : {X : Type 0} (p : X → Bool) (xs : List X) → list_any p xs ≡ false → position_or_len p xs ≡ length xs
 position_none p [] none = refl
 position_none p (x ∷ xs) none = by (p x) refl (position_none p xs)
@@ -51,7 +51,7 @@ position_none p (x ∷ xs) none = by (p x) refl (position_none p xs)
     by true e rest = absurd (none_first p x xs e none)
     by false e rest = skip p x xs e ∙ ap suc (rest (sym (none_rest p x xs e) ∙ none))
 
--- what passes behind others that do not stands at their number
+-- the first member that passes, after others that do not, is at their number
 pub position_last : {X : Type 0} (p : X → Bool) (xs : List X) (y : X) → list_any p xs ≡ false → p y ≡ true → position_or_len p (xs ++ y ∷ []) ≡ length xs
 position_last p [] y none passes = stop p y [] passes
 position_last p (x ∷ xs) y none passes = by (p x) refl (λ n. position_last p xs y n passes)

@@ -36,7 +36,7 @@ range_has (suc n) a i le lt = elim (cases_eq a i) [
   | inr d ↦ Contains-later a i (range_with_len (a + 1) n) (range_has n (a + 1) i (omega arith) (omega arith))
 ]
 
--- and as many as it says
+-- and its length is the given number
 length_range : (n a : ℕ) → length (range_with_len a n) ≡ n
 length_range zero a = refl
 length_range (suc n) a = omega (arith, length_range n (a + 1))
@@ -54,11 +54,11 @@ module _ {X : Type 0} (Row : ℕ → X → Type 0) (one : (i : ℕ) (x y : X) �
   abbrev HavePlaces : List X → Type 0
   HavePlaces xs = (x : X) → Contains xs x → p x ≡ true → (i : ℕ) × (i < n) × Row i x
 
-  -- how many pass, one more looked at
+  -- the count of passing members, with one more member
   count_next : (x : X) (xs : List X) (b : Bool) → p x ≡ b → count_by p (x ∷ xs) ≡ cond b 1 0 + count_by p xs
   count_next x xs b e = sum_by-cons (λ y. cond (p y) 1 0) x xs ∙ ap (λ c. cond c 1 0 + count_by p xs) e
 
-  -- the rows with one more member, by whether it passes
+  -- case split on whether one more member passes
   places_by : (x : X) (xs : List X) (b : Bool) → p x ≡ b → AreDistinct (x ∷ xs) → HavePlaces (x ∷ xs) → Places xs → Places (x ∷ xs)
   places_by x xs true e d h r =
       let w = h x (Contains-first x xs) e in record {
@@ -79,7 +79,7 @@ module _ {X : Type 0} (Row : ℕ → X → Type 0) (one : (i : ℕ) (x y : X) �
     source = λ i c. let s = r.source i c in (s.0, Contains-later x s.0 xs s.1, s.2);
   }
 
-  -- members that pass have rows of their own
+  -- members that pass have different rows
   places : (xs : List X) → AreDistinct xs → HavePlaces xs → Places xs
   places [] d h = record {
     rows = [];
@@ -90,18 +90,18 @@ module _ {X : Type 0} (Row : ℕ → X → Type 0) (one : (i : ℕ) (x y : X) �
   }
   places (x ∷ xs) d h = places_by x xs (p x) refl d h (places xs (AreDistinct-rest x xs d) (λ y c e. h y (Contains-later x y xs c) e))
 
-  -- no more pass than there are rows
+  -- at most as many members pass as there are rows
   passing : (xs : List X) → AreDistinct xs → HavePlaces xs → count_by p xs ≤ n
   passing xs d h =
       let r = places xs d h in
       omega (arith, r.size, length-among r.rows (range_with_len 0 n) r.distinct (λ i c. range_has n 0 i (omega arith) (omega (arith, r.below i c))), length_range n 0)
 
--- all are as many as there are
+-- the count of all members is the length
 count_all : {X : Type 0} (xs : List X) → count_by (λ _. true) xs ≡ length xs
 count_all {X} [] = refl
 count_all {X} (x ∷ xs) = omega (arith, sum_by-cons (λ (y : X). 1) x xs, count_all xs)
 
--- no more values than rows
+-- there are at most as many values as rows
 pub no_more : {X : Type 0} (Row : ℕ → X → Type 0) → ((i : ℕ) (x y : X) → Row i x → Row i y → x ≡ y) → (n : ℕ) (xs : List X) → AreDistinct xs → ((x : X) → Contains xs x → (i : ℕ) × (i < n) × Row i x) → length xs ≤ n
 no_more Row one n xs d h = omega (arith, passing Row one n (λ _. true) xs d (λ x c e. h x c), count_all xs)
 
@@ -119,7 +119,7 @@ HaveRows b ss = (s : Symbol) → Contains ss s → HasRow b s
 abbrev pub DefinitionsHaveRows : List ℕ → List Definition → Type 0
 DefinitionsHaveRows b D = (d : Definition) → Contains D d → HaveRows b (symbols_of d)
 
--- what a list is related to member by member
+-- a member is related to a member of the other list
 pub zip_source : {A X : Type 0} (R : A → X → Type 0) (keys : List A) (xs : List X) (x : X) → AllZip R keys xs → Contains xs x → (a : A) × Contains keys a × R a x
 zip_source R [] [] x h c = absurd (Contains-nil x c)
 zip_source R [] (y ∷ ys) x h c = absurd h
@@ -135,7 +135,7 @@ module _ (b : List ℕ) where
   list_rows o ts (inl h) t c = absurd (Contains-nil t (subst (λ (us : List Text). Contains us t) h.1 c))
   list_rows o ts (inr h) t c = let s = zip_source (TypeRow b) (type_indices b o) ts t h.1.types c in (s.0, s.2)
 
-  -- so have those of a proto
+  -- the types of a proto have rows
   proto_type_rows : (i : ℕ) (p : Proto) → ProtoRow b i p → (t : Text) → Contains (proto_types p) t → (i : ℕ) × TypeRow b i t
   proto_type_rows i p h t c = elim (Contains-cons_cases p.return_type t p.parameters c) [
     | inl e ↦ (uint_at b (row_at b ProtoIds i + 4), subst (TypeRow b (uint_at b (row_at b ProtoIds i + 4))) e h.return_type)
@@ -159,11 +159,11 @@ module _ (b : List ℕ) where
     | inr l ↦ proto_type_rows (ushort_at b (row_at b MethodIds i + 2)) m.proto h.proto t l
   ]
 
-  -- a type's row has the row of its text
+  -- the row of a type has the row of its text
   text_of_type : (t : Text) → (i : ℕ) × TypeRow b i t → (i : ℕ) × StringRow b i t
   text_of_type t (i, h) = (uint_at b (row_at b TypeIds i), h.text)
 
-  -- and its texts
+  -- the texts of a proto have rows
   proto_text_rows : (i : ℕ) (p : Proto) → ProtoRow b i p → (t : Text) → Contains (proto_texts p) t → (i : ℕ) × StringRow b i t
   proto_text_rows i p h t c = elim (Contains-cons_cases (shorty p.return_type p.parameters) t (proto_types p) c) [
     | inl e ↦ (uint_at b (row_at b ProtoIds i), subst (StringRow b (uint_at b (row_at b ProtoIds i))) e h.shorty)
@@ -201,7 +201,7 @@ module _ (b : List ℕ) where
   proto_rows (TypeSymbol s) h p c = absurd (Contains-nil p c)
   proto_rows (FieldSymbol s) h p c = absurd (Contains-nil p c)
 
-  -- so has its field
+  -- the field of a symbol with a row has a row
   field_rows : (s : Symbol) → HasRow b s → (f : Field) → Contains (fields_in s) f → (i : ℕ) × FieldRow b i f
   field_rows (FieldSymbol g) (i, h) f c = elim (Contains-cons_cases g f [] c) [ inl e ↦ (i, subst (FieldRow b i) e h) | inr l ↦ absurd (Contains-nil f l) ]
   field_rows (TextSymbol s) h f c = absurd (Contains-nil f c)
@@ -209,7 +209,7 @@ module _ (b : List ℕ) where
   field_rows (ProtoSymbol s) h f c = absurd (Contains-nil f c)
   field_rows (MethodSymbol s) h f c = absurd (Contains-nil f c)
 
-  -- and its method
+  -- the method of a symbol with a row has a row
   method_rows : (s : Symbol) → HasRow b s → (m : Method) → Contains (methods_in s) m → (i : ℕ) × MethodRow b i m
   method_rows (MethodSymbol n) (i, h) m c = elim (Contains-cons_cases n m [] c) [ inl e ↦ (i, subst (MethodRow b i) e h) | inr l ↦ absurd (Contains-nil m l) ]
   method_rows (TextSymbol s) h m c = absurd (Contains-nil m c)
@@ -217,7 +217,7 @@ module _ (b : List ℕ) where
   method_rows (ProtoSymbol s) h m c = absurd (Contains-nil m c)
   method_rows (FieldSymbol s) h m c = absurd (Contains-nil m c)
 
-  -- ---- what is mentioned
+  -- ---- mentioned symbols
 
   module _ (D : List Definition) (rows : DefinitionsHaveRows b D) where
     -- a symbol that occurs has a row
@@ -228,25 +228,25 @@ module _ (b : List ℕ) where
     text_mentioned : (t : Text) → Contains (mentions D).texts t → (i : ℕ) × StringRow b i t
     text_mentioned t c = let w = texts-source D t c in text_rows w.symbol (occurring texts_in t w) t w.part
 
-    -- no more types are mentioned than there are rows
+    -- at most as many types are mentioned as there are rows
     few_types : length (mentions D).types ≤ table_size b TypeIds
     few_types =
         no_more (TypeRow b) (one_type b) (table_size b TypeIds) (mentions D).types (AreDistinct-from_Rises text_cmp text_total (mentions D).types (mentions-rising D).types)
         (λ t c. let w = types-source D t c in let r = type_rows w.symbol (occurring types_in t w) t w.part in (r.0, r.1.row, r.1))
 
-    -- no more protos
+    -- at most as many protos
     few_protos : length (mentions D).protos ≤ table_size b ProtoIds
     few_protos =
         no_more (ProtoRow b) (one_proto b) (table_size b ProtoIds) (mentions D).protos (AreDistinct-from_Rises proto_cmp proto_total (mentions D).protos (mentions-rising D).protos)
         (λ p c. let w = protos-source D p c in let r = proto_rows w.symbol (occurring protos_in p w) p w.part in (r.0, r.1.row, r.1))
 
-    -- no more fields
+    -- at most as many fields
     few_fields : length (mentions D).fields ≤ table_size b FieldIds
     few_fields =
         no_more (FieldRow b) (one_field b) (table_size b FieldIds) (mentions D).fields (AreDistinct-from_Rises field_cmp field_total (mentions D).fields (mentions-rising D).fields)
         (λ f c. let w = fields-source D f c in let r = field_rows w.symbol (occurring fields_in f w) f w.part in (r.0, r.1.row, r.1))
 
-    -- no more methods
+    -- at most as many methods
     few_methods : length (mentions D).methods ≤ table_size b MethodIds
     few_methods =
         no_more (MethodRow b) (one_method b) (table_size b MethodIds) (mentions D).methods (AreDistinct-from_Rises method_cmp method_total (mentions D).methods (mentions-rising D).methods)

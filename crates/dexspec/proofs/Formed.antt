@@ -1,4 +1,4 @@
--- What well-formed definitions mention is what rows can stand for.
+-- Rows can denote the symbols that well-formed definitions mention.
 use Rattle.std.proofs.Common.{◌≡◌, List, [], ◌∷◌, subst, inl, inr, All}
 use Rattle.std.specs.List.{Contains}
 use Rattle.dexspec.specs.Texts.{Text}
@@ -12,25 +12,25 @@ use Rattle.dexspec.proofs.MentionMembers.{Occurs, texts-source, types-source, pr
 use Rattle.dexspec.proofs.Growth.{mentions-rising}
 use Rattle.dexspec.proofs.PoolsStand.{ArePools}
 
--- what is true of all is true of a member
+-- a property of all members holds for a member
 pub All-member : {X : Type 0} (P : X → Type 0) (xs : List X) (x : X) → All P xs → Contains xs x → P x
 All-member P xs x h c = subst P c.2 (h c.0 x c.1)
 
--- the one member of a list of one
+-- the only member of a list of one
 pub one_member : {X : Type 0} (y x : X) → Contains (y ∷ []) x → y ≡ x
 one_member y x c = elim (Contains-cons_cases y x [] c) [ inl e ↦ e | inr l ↦ absurd (Contains-nil x l) ]
 
--- the type of a value has a descriptor
+-- a value type is a descriptor
 pub value_descriptor : (t : Text) → IsValueType t → IsDescriptor t
 value_descriptor t (inl p) = (PrimitiveType, p)
 value_descriptor t (inr (inl c)) = (ClassType, c)
 value_descriptor t (inr (inr a)) = (ArrayType, a)
 
--- so has a class
+-- a class is a descriptor
 pub class_descriptor : (t : Text) → IsClass t → IsDescriptor t
 class_descriptor t c = (ClassType, c)
 
--- and what a method belongs to
+-- a type that may have methods is a descriptor
 reference_descriptor : (t : Text) → IsReferenceType t → IsDescriptor t
 reference_descriptor t (inl c) = (ClassType, c)
 reference_descriptor t (inr a) = (ArrayType, a)
@@ -80,7 +80,7 @@ symbol_methods (ProtoSymbol q) h m c = absurd (Contains-nil m c)
 symbol_methods (FieldSymbol g) h m c = absurd (Contains-nil m c)
 symbol_methods (MethodSymbol n) h m c = subst IsMethod (one_member n m c) h
 
--- the symbols are such that rows can stand for them
+-- rows can denote the symbols
 pub record AreFormed (m : Mentions) : Type 0 where
   pub texts : (s : Text) → Contains m.texts s → IsText s
   pub types : (t : Text) → Contains m.types t → IsDescriptor t
@@ -88,11 +88,11 @@ pub record AreFormed (m : Mentions) : Type 0 where
   pub fields : (f : Field) → Contains m.fields f → IsField f
   pub methods : (x : Method) → Contains m.methods x → IsMethod x
 
--- the symbol of what occurs
+-- the symbol of a part that occurs
 occurring : {X : Type 0} (parts : Symbol → List X) (D : List Definition) (x : X) → AreWellFormed D → (w : Occurs parts D x) → IsSymbol w.symbol
 occurring parts D x h w = All-member IsSymbol (symbols_of w.definition) w.symbol (h w.definition w.member).symbols w.occurs
 
--- what well-formed definitions mention
+-- the symbols that well-formed definitions mention are well formed
 pub mentions-formed : (D : List Definition) → AreWellFormed D → AreFormed (mentions D)
 mentions-formed D h = record {
   texts = λ s c. let w = texts-source D s c in

@@ -1,4 +1,4 @@
--- Code items of a list of bytes are well formed; so what an accepted file denotes is.
+-- Code items of a list of bytes are well formed; so the collection that an accepted file denotes is well formed.
 use Rattle.std.proofs.Common.{◌≡◌, ℕ, ◌+◌, ◌*◌, ◌/◌, ◌%◌, ◌<◌, ◌≤◌, ◌^◌, Bool, true, false, List, [], ◌∷◌, length, drop, nat_abs, All, Option, Some, None, sym, ◌∙◌, subst, arith, inl, inr}
 use Rattle.std.specs.Prelude.{if◌then◌else◌, IfSome, IfNone, ℤ, pos, negsuc, ◌<ℤ◌, slice_set}
 use Rattle.std.specs.List.{Contains, flat_map}
@@ -42,7 +42,7 @@ operation_some b o SetEpilogueBegin n h = omega (arith, h.1)
 operation_some b o (SetFile name) n h = omega (arith, h.3)
 operation_some b o (Special opcode) n h = omega (arith, h.3)
 
--- operations have as many bytes as there are, or more
+-- operations have at least as many bytes as there are operations
 operations_few : (b : List ℕ) (o : ℕ) (ops : List Operation) (n : ℕ) → Sequence OperationAt b o ops n → length ops ≤ n
 operations_few b o [] n h = omega arith
 operations_few b o (op ∷ ops) n h = omega (arith, h.4, operation_some b o op h.0 h.2, operations_few b (o + h.0) ops h.1 h.3)
@@ -60,7 +60,7 @@ operation_formed b o SetEpilogueBegin n h = tt
 operation_formed b o (SetFile name) n h = tt
 operation_formed b o (Special opcode) n h = (h.1, h.2)
 
--- so is a debug program
+-- a debug program is well formed
 debug_formed : (b : List ℕ) (o : ℕ) (d : Debug) → length b ≤ 2 ^ 30 → DebugAt b o d → IsDebug d
 debug_formed b o d small h =
     let place = o + h.start_size + h.count_size + h.names_size in
@@ -71,7 +71,7 @@ debug_formed b o d small h =
       few = omega (arith, operations_few b place d.operations h.operations_size h.operations, stands_within h.end, small);
     }
 
--- also where there may be none
+-- an optional debug program
 some_debug_formed : (b : List ℕ) (o : ℕ) (d : Option Debug) → length b ≤ 2 ^ 30 → OrNone (SomeAt DebugAt) None b o d → IfSome d IsDebug
 some_debug_formed b o None small h = tt
 some_debug_formed b o (Some d) small (inl h) = absurd (let e : Some d ≡ None = h.1 in cc)
@@ -79,7 +79,7 @@ some_debug_formed b o (Some d) small (inr h) = debug_formed b o d small h.1
 
 -- ---- units
 
--- a list of units with a unit put in
+-- units with zero for an index are units
 put_units : (w : List ℕ) (t : Bool) → AreUnits w → AreUnits (if t then slice_set (slice_set w 1 (0 % 65536)) 2 (0 / 65536) else slice_set w 1 0)
 put_units w true h = All-set (λ (u : ℕ). u < 65536) (slice_set w 1 0) 2 0 (omega arith) (All-set (λ (u : ℕ). u < 65536) w 1 0 (omega arith) h)
 put_units w false h = All-set (λ (u : ℕ). u < 65536) w 1 0 (omega arith) h
@@ -92,18 +92,18 @@ piece_units N w (Payload xs) h units = subst AreUnits (sym h.1) units
 
 -- ---- tries
 
--- more than nothing
+-- a positive count
 count_some : (z : ℤ) (n : ℕ) → pos 0 <ℤ z → nat_abs z ≡ n → 0 < n
 count_some (pos m) n h e = omega (arith, ints, h, e)
 count_some (negsuc m) n h e = absurd (omega (arith, ints, h))
 
 module _ (us vs : List ℕ) (cuts : List Cut) (starts : (address : ℕ) → IsStart us cuts address → IsStart vs cuts address) (b : List ℕ) where
-  -- the address for all else is a start
+  -- the catch-all address is a start
   catch_all_formed : (size : ℤ) (o : ℕ) (a : Option ℕ) (n : ℕ) → CatchAllAt us cuts size b o a n → IfSome a (IsStart vs cuts)
   catch_all_formed size o None n h = tt
   catch_all_formed size o (Some a) n h = starts a h.2
 
-  -- without it there is a catch
+  -- without a catch-all there is a catch
   catches_some : (size : ℤ) (o : ℕ) (a : Option ℕ) (n m : ℕ) → nat_abs size ≡ m → CatchAllAt us cuts size b o a n → IfNone a (0 < m)
   catches_some size o None n m e h = count_some size m h.0 e
   catches_some size o (Some a) n m e h = tt
@@ -116,14 +116,14 @@ module _ (us vs : List ℕ) (cuts : List Cut) (starts : (address : ℕ) → IsSt
     some = catches_some h.count (o + h.count_size + h.catches_size) x.catch_all h.all_size (length x.catches) h.many h.all;
   }
 
-  -- what is owed for tries
+  -- the conditions on tries
   record TriesFormed (ts : List Try) : Type 0 where
     many : FitsUshort (length ts)
     tries : All (IsTryOf vs cuts) ts
     apart : AreApart ts
     few : handlers_weight (handlers_of ts) ≤ most_handlers
 
-  -- so are tries
+  -- tries are well formed
   items_formed : All (λ byte. byte < 256) b → length vs ≡ length us → (o count : ℕ) (ts : List Try) → count < 65536 → TryItemsAt us cuts b o count ts → TriesFormed ts
   items_formed bytes size o count ts small h = record {
     many = omega (arith, h.many, small);
@@ -141,11 +141,11 @@ module _ (us vs : List ℕ) (cuts : List Cut) (starts : (address : ℕ) → IsSt
     few = h.few;
   }
 
-  -- also where there are none
+  -- no tries
   no_tries : TriesFormed []
   no_tries = record { many = omega arith; tries = λ k d lt. absurd (omega arith); apart = tt; few = omega arith }
 
--- so are the tries of a code item
+-- the tries of a code item are well formed
 tries_formed : (b : List ℕ) (vs : List ℕ) (o : ℕ) (cuts : List Cut) (starts : (address : ℕ) → IsStart (code_units b o) cuts address → IsStart vs cuts address)
     → All (λ byte. byte < 256) b → length vs ≡ length (code_units b o) → (ts : List Try) → TriesAt b o cuts ts → TriesFormed (code_units b o) vs cuts starts b ts
 tries_formed b vs o cuts starts bytes size ts (inl h) = subst (TriesFormed (code_units b o) vs cuts starts b) (sym h.1) (no_tries (code_units b o) vs cuts starts b)
@@ -185,13 +185,13 @@ code_formed b o c bytes small h =
       debug = some_debug_formed b (uint_at b (o + 8)) c.debug small h.debug;
     }
 
--- also where there may be none
+-- an optional code item
 some_code_formed : (b : List ℕ) (o : ℕ) (c : Option Code) → All (λ byte. byte < 256) b → length b ≤ 2 ^ 30 → OrNone (SomeAt CodeAt) None b o c → IfSome c IsCodeItem
 some_code_formed b o None bytes small h = tt
 some_code_formed b o (Some c) bytes small (inl h) = absurd (let e : Some c ≡ None = h.1 in cc)
 some_code_formed b o (Some c) bytes small (inr h) = code_formed b o c bytes small h.1
 
--- ---- what is denoted
+-- ---- the denoted collection
 
 -- the code of a class row's methods is well formed
 row_code_formed : (b : List ℕ) → All (λ byte. byte < 256) b → length b ≤ 2 ^ 30 → (r : ℕ) (name : Text) (c : Body) → ClassRow b r name c → (m : MethodDef) → Contains (declared_methods c) m → IfSome m.code IsCodeItem
@@ -200,7 +200,7 @@ row_code_formed b bytes small r name c h m d = elim (Contains-append_cases c.dir
   | inr l ↦ let w = zip_source (MakesMethod b h.directory) h.members.virtual_methods c.virtual_methods m h.virtual_methods l in some_code_formed b w.0.code_off m.code bytes small w.2.code
 ]
 
--- what an accepted list of bytes denotes is well formed
+-- the collection that an accepted list of bytes denotes is well formed
 pub denoted_well_formed : (b : List ℕ) → All (λ byte. byte < 256) b → IsAccepted b → (K : Collection) → Denotes b K → AreWellFormed (definitions K)
 denoted_well_formed b bytes h K denotes d c =
     let w = member_row b h K denotes d c in

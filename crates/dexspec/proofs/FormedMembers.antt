@@ -1,4 +1,4 @@
--- The definition of a class row of a list of bytes is well formed, where its code is.
+-- The definition of a class row of a list of bytes is well formed, if its code is.
 use Rattle.std.proofs.Common.{◌≡◌, ℕ, ◌+◌, ◌<◌, List, [], ◌∷◌, length, map, All, Option, Some, None, refl, sym, ap, ◌∙◌, subst, arith, inl, inr, Ordering, Less, Equal, Greater}
 use Rattle.std.specs.Prelude.{IfSome}
 use Rattle.std.specs.List.{Contains, AllZip}
@@ -36,13 +36,13 @@ use Rattle.dexspec.proofs.FormedValues.{HasSets, AreSets, empty_set, empty_list,
 
 -- ---- keys
 
--- where the first does not decide
+-- the first order does not decide
 rest_less : (a r : Ordering) → a ≡ Equal → ordering_then a r ≡ Less → r ≡ Less
 rest_less Less r e l = absurd cc
 rest_less Equal r e l = l
 rest_less Greater r e l = absurd cc
 
--- one class does not decide
+-- one class does not decide the order
 same_class : (name s t : Text) → s ≡ name → t ≡ name → text_cmp s t ≡ Equal
 same_class name s t e f = subst (λ (u : Text). text_cmp s u ≡ Equal) (e ∙ sym f) (tied_itself text_total s)
 
@@ -51,17 +51,17 @@ abbrev IsAbove : Option ℕ → ℕ → Type 0
 IsAbove None i = Unit {0}
 IsAbove (Some last) i = last < i
 
--- the next index is
+-- the next index is greater
 next_above : (last : Option ℕ) (d i : ℕ) → IsNextIndex last d i → IsAbove last i
 next_above None d i h = tt
 next_above (Some last) d i h = omega (arith, h.0, h.1)
 
--- and so is a greater one
+-- and so is a greater index
 above_later : (last : Option ℕ) (i j : ℕ) → IsAbove last i → i < j → IsAbove last j
 above_later None i j h lt = tt
 above_later (Some last) i j h lt = omega (arith, h)
 
--- what a declared field has: a row behind the one before, and flags
+-- a declared field has a row after the one before, and flags
 fields_have : (b : List ℕ) (o : ℕ) (last : Option ℕ) (xs : List EncodedField) (n : ℕ) (x : EncodedField) → EncodedFieldsAt b o last xs n → Contains xs x → (i : ℕ) × IsAbove last i × FieldRow b i x.field × FitsUint x.flags
 fields_have b o last [] n x h c = absurd (Contains-nil x c)
 fields_have b o last (y ∷ xs) n x h c = elim (Contains-cons_cases y x xs c) [
@@ -77,7 +77,7 @@ methods_have b o last (y ∷ xs) n x h c = elim (Contains-cons_cases y x xs c) [
   | inr l ↦ let s = methods_have b (o + h.0 + h.1 + h.2) (Some h.5) xs h.3 x h.11 l in (s.0, above_later last h.5 s.0 (next_above last h.4 h.5 h.9) s.1, s.2, s.3)
 ]
 
--- what is known of the rows of members
+-- the order of the rows of members
 pub record MembersRise (b : List ℕ) : Type 0 where
   pub fields : (i j : ℕ) (f g : Field) → i < j → FieldRow b i f → FieldRow b j g → field_cmp f g ≡ Less
   pub methods : (i j : ℕ) (f g : Method) → i < j → MethodRow b i f → MethodRow b j g → method_cmp f g ≡ Less
@@ -102,7 +102,7 @@ module _ (b : List ℕ) (rise : MembersRise b) (name : Text) (d : Directory) whe
     field_keys (o + h.0 + h.1) (Some h.4) xs h.2 h.9 (λ y c. own y (Contains-later x y xs c)),
   )
 
-  -- a method has the key of what it is made from
+  -- the key of a method is that of its encoded method
   made_key : (x : EncodedMethod) (m : MethodDef) → MakesMethod b d x m → (x.method.name, x.method.proto) ≡ method_key m
   made_key x m makes = λ i. (sym makes.name i, sym makes.proto i)
 
@@ -123,7 +123,7 @@ module _ (b : List ℕ) (rise : MembersRise b) (name : Text) (d : Directory) whe
     method_keys (o + h.0 + h.1 + h.2) (Some h.5) xs ms h.3 h.11 (λ y c. own y (Contains-later x y xs c)) made.1,
   )
 
--- what class data of a class have
+-- the properties of the class data of a class
 record DataFormed (b : List ℕ) (name : Text) (d : ClassData) : Type 0 where
   field : (x : EncodedField) → Contains (fields_of d) x → (i : ℕ) × FieldRow b i x.field × FitsUint x.flags
   method : (x : EncodedMethod) → Contains (methods_of d) x → (i : ℕ) × MethodRow b i x.method × FitsUint x.flags
@@ -141,7 +141,7 @@ no_method_keys : (b : List ℕ) (a : Directory) (ms : List MethodDef) → AllZip
 no_method_keys b a [] h = tt
 no_method_keys b a (m ∷ ms) h = absurd h
 
--- class data have this
+-- class data has these properties
 data_formed : (b : List ℕ) → MembersRise b → (name : Text) (o : ℕ) (d : ClassData) → OrNone ClassDataAt no_class_data b o d → DataFormed b name d
 data_formed b rise name o d (inl h) = subst (DataFormed b name) (sym h.1) (record {
   field = λ x c. absurd (Contains-nil x c);
@@ -188,7 +188,7 @@ field_formed b d x sets has = record {
   annotations = annotated_source field_cmp x.field IsSet d.fields empty_set sets.fields;
 }
 
--- so is a declared method, where its code is
+-- a declared method is well formed, if its code is
 method_formed : (b : List ℕ) (d : Directory) (x : EncodedMethod) (m : MethodDef) → HasSets d → (i : ℕ) × MethodRow b i x.method × FitsUint x.flags → MakesMethod b d x m → IfSome m.code IsCodeItem → IsMethodDef m
 method_formed b d x m sets has makes code =
     let lists = subst AreSets (sym makes.parameter_annotations) (annotated_source method_cmp x.method AreSets d.parameters empty_list sets.parameters) in
@@ -202,27 +202,27 @@ method_formed b d x m sets has makes code =
       parameters_count = lists.count;
     }
 
--- lists that share no member have keys that share none
+-- lists without common members have no common keys
 keys_apart : {X Y K : Type 0} (f : X → Y) (k : X → K) (xs ys : List X) → ShareNone (map f xs) (map f ys) → ((x y : X) → Contains xs x → Contains ys y → k x ≡ k y → f x ≡ f y) → ShareNone (map k xs) (map k ys)
 keys_apart f k xs ys apart same key c d =
     let s = map_source k xs key c in
     let t = map_source k ys key d in
     apart (f s.0) (Contains-map f xs s.0 s.1) (subst (Contains (map f ys)) (sym (same s.0 t.0 s.1 t.1 (s.2 ∙ sym t.2))) (Contains-map f ys t.0 t.1))
 
--- a declared field's place among those of its class
+-- the key of a declared field among those of its class
 abbrev encoded_field_key : EncodedField → Text × Text
 encoded_field_key x = (x.field.name, x.field.type)
 
--- the same for a method
+-- the key of a declared method among those of its class
 abbrev encoded_method_key : EncodedMethod → Text × Proto
 encoded_method_key x = (x.method.name, x.method.proto)
 
--- what maps to the same
+-- two maps in sequence
 map_map : {X Y Z : Type 0} (f : Y → Z) (g : X → Y) (xs : List X) → map f (map g xs) ≡ map (λ x. f (g x)) xs
 map_map f g [] = refl
 map_map f g (x ∷ xs) = ap (λ zs. f (g x) ∷ zs) (map_map f g xs)
 
--- the keys of methods are those of what they are made from
+-- the keys of methods are those of their encoded methods
 made_keys : (b : List ℕ) (d : Directory) (xs : List EncodedMethod) (ms : List MethodDef) → AllZip (MakesMethod b d) xs ms → map method_key ms ≡ map encoded_method_key xs
 made_keys b d [] [] h = refl
 made_keys b d [] (m ∷ ms) h = absurd h
@@ -231,7 +231,7 @@ made_keys b d (x ∷ xs) (m ∷ ms) h = λ i. (h.0.name i, h.0.proto i) ∷ made
 
 -- ---- class rows
 
--- the definition of a class row is well formed where the code of its methods is
+-- the definition of a class row is well formed if the code of its methods is
 pub row_formed : (b : List ℕ) → All (λ byte. byte < 256) b → HasFewRows b → MembersRise b → (r : ℕ) (name : Text) (c : Body) → ClassRow b r name c → HasMembers b r → HasValues b r → ((m : MethodDef) → Contains (declared_methods c) m → IfSome m.code IsCodeItem) → IsWellFormed (name, c)
 row_formed b bytes few rise r name c h members values code =
     let rows = row_symbols b few r name c h members in

@@ -1,4 +1,4 @@
--- What a row of a list of bytes stands for is well formed: texts, symbols, and a class but for its members.
+-- The contents of a row of a list of bytes are well formed: texts, symbols, and a class without its members.
 use Rattle.std.proofs.Common.{◌≡◌, ℕ, zero, suc, ◌+◌, ◌<◌, ◌≤◌, ◌^◌, List, [], ◌∷◌, length, take, drop, get_or, All, Option, Some, None, refl, sym, ap, subst, arith, inl, inr, length-take}
 use Rattle.std.specs.Prelude.{IfSome}
 use Rattle.std.specs.List.{Contains, AllZip, flat_map}
@@ -17,11 +17,11 @@ use Rattle.dexspec.proofs.Members.{Contains-nil, Contains-flat_map_source}
 use Rattle.dexspec.proofs.ByteNumbers.{number_bound}
 use Rattle.dexspec.proofs.Fitting.{HasRow, HaveRows, text_rows}
 
--- what holds of each member holds of all
+-- a property of each member holds for all
 pub all_from : {X : Type 0} (P : X → Type 0) (xs : List X) → ((x : X) → Contains xs x → P x) → All P xs
 all_from P xs h k d lt = h (get_or xs k d) (Contains-get_or xs k d lt)
 
--- four bytes hold a number of 32 bits
+-- four bytes encode a number of 32 bits
 pub uint_bound : (b : List ℕ) (o : ℕ) → All (λ byte. byte < 256) b → FitsUint (uint_at b o)
 unfolding uint_at
 uint_bound b o bytes =
@@ -30,17 +30,17 @@ uint_bound b o bytes =
     let most : 256 ^ length (take 4 (drop o b)) ≤ 256 ^ 4 = pow-le-pow_right (omega arith) size in
     omega (arith, small, most)
 
--- as many numbers as are read
+-- the number of ushorts that are read
 pub length-ushorts_at : (b : List ℕ) (o n : ℕ) → length (ushorts_at b o n) ≡ n
 length-ushorts_at b o zero = refl
 length-ushorts_at b o (suc n) = omega (arith, length-ushorts_at b (o + 2) n)
 
--- the same for four bytes each
+-- the number of uints that are read
 pub length-uints_at : (b : List ℕ) (o n : ℕ) → length (uints_at b o n) ≡ n
 length-uints_at b o zero = refl
 length-uints_at b o (suc n) = omega (arith, length-uints_at b (o + 4) n)
 
--- related lists are as long
+-- related lists have equal lengths
 pub length-zip : {A X : Type 0} (R : A → X → Type 0) (keys : List A) (xs : List X) → AllZip R keys xs → length keys ≡ length xs
 length-zip R [] [] h = refl
 length-zip R [] (x ∷ xs) h = absurd h
@@ -82,7 +82,7 @@ module _ (b : List ℕ) where
   interfaces_formed o ts (inl h) = subst (λ (us : List Text). All IsClass us) (sym h.1) (all_from IsClass [] (λ t c. absurd (Contains-nil t c)))
   interfaces_formed o ts (inr h) = h.1.classes
 
-  -- how many interfaces
+  -- the number of interfaces
   pub interfaces_few : (o : ℕ) (ts : List Text) → All (λ byte. byte < 256) b → OrNone ClassListAt [] b o ts → FitsUint (length ts)
   interfaces_few o ts bytes (inl h) = let e : length ts ≡ 0 = ap length h.1 in omega (arith, e)
   interfaces_few o ts bytes (inr h) = omega (arith, length-zip (TypeRow b) (type_indices b o) ts h.1.list.types, length-ushorts_at b (o + 4) (uint_at b o), uint_bound b o bytes)

@@ -1,4 +1,4 @@
--- Values and annotations that stand in a list of bytes are well formed.
+-- Values and annotations in a list of bytes are well formed.
 use Rattle.std.proofs.Common.{◌≡◌, ℕ, suc, ◌+◌, ◌-◌, ◌*◌, ◌<◌, ◌≤◌, ◌^◌, List, [], ◌∷◌, length, drop, All, refl, sym, ap, ◌∙◌, subst, arith, inl, inr}
 use Rattle.std.specs.Prelude.{ℤ, pos, negsuc, FitsSigned}
 use Rattle.std.specs.Int.{w8, w16, w32, w64}
@@ -27,7 +27,7 @@ use Rattle.dexspec.proofs.FormedRows.{all_from, uint_bound, length-uints_at, len
 pub empty_set : IsSet []
 empty_set = record { annotations = λ k d lt. absurd (omega arith); rise = refl; count = omega arith }
 
--- so many sets
+-- a list of well-formed sets, whose length fits
 pub record AreSets (list : List AnnotationSet) : Type 0 where
   pub sets : All IsSet list
   pub count : FitsUint (length list)
@@ -45,27 +45,27 @@ pub record HasSets (d : Directory) : Type 0 where
 
 -- ---- numbers in values
 
--- a number with room in bytes fits their type
+-- a number that fits one byte fits their type
 fits_8 : (z : ℤ) → 2 * magnitude z < 256 → FitsSigned w8 z
 fits_8 (pos n) h = omega (arith, ints)
 fits_8 (negsuc n) h = omega (arith, ints)
 
--- the same in two bytes
+-- two bytes
 fits_16 : (z : ℤ) → 2 * magnitude z < 65536 → FitsSigned w16 z
 fits_16 (pos n) h = omega (arith, ints)
 fits_16 (negsuc n) h = omega (arith, ints)
 
--- in four
+-- four bytes
 fits_32 : (z : ℤ) → 2 * magnitude z < 4294967296 → FitsSigned w32 z
 fits_32 (pos n) h = omega (arith, ints)
 fits_32 (negsuc n) h = omega (arith, ints)
 
--- and in eight
+-- eight bytes
 fits_64 : (z : ℤ) → 2 * magnitude z < 18446744073709551616 → FitsSigned w64 z
 fits_64 (pos n) h = omega (arith, ints)
 fits_64 (negsuc n) h = omega (arith, ints)
 
--- a bit pattern of fewer bytes, with zeros behind, is less than what all bytes hold
+-- a bit pattern of fewer bytes, with zeros below, fits all bytes
 shifted : (l w n : ℕ) → l ≤ w → n < 256 ^ l → 256 ^ (w - l) * n < 256 ^ w
 shifted l w n le lt =
     let high = 256 ^ (w - l) in
@@ -75,28 +75,28 @@ shifted l w n le lt =
     omega (arith, room, whole, split, pow_256_pos (w - l))
 
 module _ (b : List ℕ) (bytes : All (λ byte. byte < 256) b) where
-  -- what stands in bytes are bytes
+  -- the bytes at an offset are bytes
   bytes_in : (o first : ℕ) (xs : List ℕ) → Stands b o (first ∷ xs) → All (λ x. x < 256) xs
   bytes_in o first xs h =
       let small = λ (x : ℕ). x < 256 in
       let all : All small (first ∷ xs) = subst (λ (ys : List ℕ). All small ys) h.here (All-take small (length (first ∷ xs)) (drop o b) (All-drop small o b bytes)) in
       λ k d lt. all (suc k) d (omega arith)
 
-  -- a signed number has room in its type's bytes
+  -- a signed number fits the bytes of its type
   signed_room_at : (code width o : ℕ) (z : ℤ) (n : ℕ) → SignedAt code width b o z n → 2 * magnitude z < 256 ^ width
   signed_room_at code width o z n h =
       let own = signed_in_room h.0 z (bytes_in o (value_byte (length h.0 - 1) code) h.0 h.1.stands) h.1.some (sym h.2) in
       let most : 256 ^ length h.0 ≤ 256 ^ width = pow-le-pow_right (omega arith) h.1.few in
       omega (arith, own, most)
 
-  -- so has an unsigned one
+  -- an unsigned number fits
   unsigned_room_at : (code width o v n : ℕ) → UnsignedAt code width b o v n → v < 256 ^ width
   unsigned_room_at code width o v n h =
       let own = number_bound h.0 (bytes_in o (value_byte (length h.0 - 1) code) h.0 h.1.stands) in
       let most : 256 ^ length h.0 ≤ 256 ^ width = pow-le-pow_right (omega arith) h.1.few in
       omega (arith, own, most, h.2)
 
-  -- and a bit pattern
+  -- a bit pattern fits
   bits_room_at : (code width o v n : ℕ) → BitsAt code width b o v n → v < 256 ^ width
   bits_room_at code width o v n h =
       let own = number_bound h.0 (bytes_in o (value_byte (length h.0 - 1) code) h.0 h.1.stands) in
@@ -125,17 +125,17 @@ module _ (b : List ℕ) (bytes : All (λ byte. byte < 256) b) where
     value_formed o NullValue n h = tt
     value_formed o (BooleanValue is) n h = tt
 
-    -- so are values
+    -- values are well formed
     pub values_formed : (o : ℕ) (vs : Values) (n : ℕ) → ValuesAt b o vs n → AreValues vs
     values_formed o NoValues n h = tt
     values_formed o (ThenValue v vs) n h = (value_formed o v h.0 h.2, values_formed (o + h.0) vs h.1 h.3)
 
-    -- and elements
+    -- elements are well formed
     elements_formed : (o : ℕ) (es : Elements) (n : ℕ) → ElementsAt b o es n → AreElements es
     elements_formed o NoElements n h = tt
     elements_formed o (ThenElement name v es) n h = (value_formed (o + h.0) v h.1 h.6, elements_formed (o + h.0 + h.1) es h.2 h.7)
 
-  -- static values, and how deep they nest
+  -- static values are well formed, and their depth is bounded
   pub static_values_formed : (o : ℕ) (vs : Values) → OrNone StaticValuesAt NoValues b o vs → AreValues vs × (values_depth vs ≤ most_depth)
   static_values_formed o vs (inl h) = subst (λ (ws : Values). AreValues ws × (values_depth ws ≤ most_depth)) (sym h.1) (tt, omega arith)
   static_values_formed o vs (inr h) = let a = h.1.1.array in (values_formed (o + a.0) vs a.1 a.3, h.1.1.shallow)
@@ -148,7 +148,7 @@ module _ (b : List ℕ) (bytes : All (λ byte. byte < 256) b) where
       let w = h.annotation.1 in
       record { visibility = h.known; elements = elements_formed (o + 1 + w.0 + w.1) a.elements w.2 w.7; count = w.6.spelled.in_range; rise = w.8; shallow = h.shallow }
 
-  -- so is a set
+  -- a set is well formed
   set_formed : (o : ℕ) (set : AnnotationSet) → SetAt b o set → IsSet set
   set_formed o set h = record {
     annotations = all_from IsAnnotation set (λ a c. let w = zip_source (AnnotationAt b) (uints_at b (o + 4) (uint_at b o)) set a h.annotations c in annotation_formed w.0 a w.2);
@@ -156,19 +156,19 @@ module _ (b : List ℕ) (bytes : All (λ byte. byte < 256) b) where
     count = omega (arith, length-zip (AnnotationAt b) (uints_at b (o + 4) (uint_at b o)) set h.annotations, length-uints_at b (o + 4) (uint_at b o), uint_bound b o bytes);
   }
 
-  -- also where there may be none
+  -- an optional set
   set_or_none_formed : (o : ℕ) (set : AnnotationSet) → OrNone SetAt [] b o set → IsSet set
   set_or_none_formed o set (inl h) = subst IsSet (sym h.1) empty_set
   set_or_none_formed o set (inr h) = set_formed o set h.1
 
-  -- so is a list of sets
+  -- a list of sets is well formed
   ref_list_formed : (o : ℕ) (list : List AnnotationSet) → RefListAt b o list → AreSets list
   ref_list_formed o list h = record {
     sets = all_from IsSet list (λ s c. let w = zip_source (OrNone SetAt [] b) (uints_at b (o + 4) (uint_at b o)) list s h.sets c in set_or_none_formed w.0 s w.2);
     count = omega (arith, length-zip (OrNone SetAt [] b) (uints_at b (o + 4) (uint_at b o)) list h.sets, length-uints_at b (o + 4) (uint_at b o), uint_bound b o bytes);
   }
 
-  -- and what a directory has
+  -- the sets of a directory are well formed
   pub directory_formed : (o : ℕ) (d : Directory) → OrNone DirectoryAt no_directory b o d → HasSets d
   directory_formed o d (inl h) =
       subst HasSets (sym h.1) (record { own = empty_set; fields = λ e c. absurd (Contains-nil e c); methods = λ e c. absurd (Contains-nil e c); parameters = λ e c. absurd (Contains-nil e c) })

@@ -1,4 +1,4 @@
--- A canonical file has a right frame: conditions 1 to 10.
+-- A canonical file has a valid frame: conditions 1 to 10.
 use Rattle.std.proofs.Common.{ℕ, ◌^◌, ◌<◌, ◌≤◌, List, length, arith}
 use Rattle.dexspec.specs.Header.{StringIds, TypeIds, ProtoIds, FieldIds, MethodIds, ClassDefs, HasSize}
 use Rattle.dexspec.specs.Conditions.{Condition}
@@ -17,7 +17,7 @@ use Rattle.dexspec.proofs.MapLaws.{laid_map}
 pub laid_size : {K : Ordered} {b : List ℕ} → Laid K b → length b ≤ 2 ^ 30 → HasSize b
 laid_size {K} {b} h most = record { least = omega (arith, h.size, data_before_map K); most = most }
 
--- the file of classes in order has a right frame
+-- the file of classes in order has a valid frame
 pub file_frame : (K : Ordered) → AreFew K → length (with_sums (unsigned_file K)) ≤ 2 ^ 30 → IsFrame (with_sums (unsigned_file K))
 file_frame K few most = each
   where
@@ -52,7 +52,7 @@ file_frame K few most = each
     each Condition.Annotations lt r at = absurd (omega (arith, lt))
     each Condition.Weight lt r at = absurd (omega (arith, lt))
 
--- what fits caps has few symbols
+-- a collection that fits caps has few symbols
 pub fits_few : (caps : Caps) (K : Collection) → AreCaps caps → Fits caps (definitions K) → AreFew (ordered (definitions K))
 fits_few caps K c f StringIds = tt
 fits_few caps K c f TypeIds = omega (arith, c.types, f.types)
@@ -61,20 +61,20 @@ fits_few caps K c f FieldIds = omega (arith, c.fields, f.fields)
 fits_few caps K c f MethodIds = omega (arith, c.methods, f.methods)
 fits_few caps K c f ClassDefs = tt
 
--- a canonical file is laid so
+-- a canonical file has this layout
 pub canonical_laid : (K : Collection) → length (canonical K) < 2 ^ 32 → Laid (ordered (definitions K)) (canonical K)
 unfolding canonical
 canonical_laid K small = laid (ordered (definitions K)) small
 
--- and has a right frame
+-- a canonical file has a valid frame
 pub canonical_frame : (K : Collection) → AreFew (ordered (definitions K)) → length (canonical K) ≤ 2 ^ 30 → IsFrame (canonical K)
 unfolding canonical
 canonical_frame K few most = file_frame (ordered (definitions K)) few most
 
--- of a collection that fits caps: what stands where
+-- the layout of the file of a collection that fits caps
 pub fitting_laid : (caps : Caps) (K : Collection) → AreCaps caps → Fits caps (definitions K) → Laid (ordered (definitions K)) (canonical K)
 fitting_laid caps K are fits = canonical_laid K (omega (arith, (canonical-has_size caps K are fits).most))
 
--- and that the frame is right
+-- its frame is valid
 pub fitting_frame : (caps : Caps) (K : Collection) → AreCaps caps → Fits caps (definitions K) → IsFrame (canonical K)
 fitting_frame caps K are fits = canonical_frame K (fits_few caps K are fits) (canonical-has_size caps K are fits).most

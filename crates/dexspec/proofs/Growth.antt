@@ -1,4 +1,4 @@
--- What definitions mention does not shrink as these grow.
+-- The mentioned symbols do not become fewer as definitions are added.
 use Rattle.std.proofs.Common.{◌≡◌, List}
 use Rattle.std.specs.List.{flat_map}
 use Rattle.dexspec.specs.Texts.{text_cmp}
@@ -18,7 +18,7 @@ pub record AreRising (m : Mentions) : Type 0 where
   pub fields : Rises field_cmp m.fields
   pub methods : Rises method_cmp m.methods
 
--- each of the five lists of the first is among that of the second
+-- each of the five lists of the first is contained in that of the second
 pub record AreMentioned (m n : Mentions) : Type 0 where
   pub texts : AreAmong m.texts n.texts
   pub types : AreAmong m.types n.types
@@ -61,7 +61,7 @@ pub mentions-among : (D E : List Definition) → AreWithin D E → AreMentioned 
 unfolding mentions
 mentions-among D E h = closed-among (flat_map symbols_of D) (flat_map symbols_of E) (AreAmong-flat_map symbols_of D E h)
 
--- they rest on the members alone
+-- they depend on the members alone
 pub mentions-same : (D E : List Definition) → AreWithin D E → AreWithin E D → mentions D ≡ mentions E
 unfolding mentions
 mentions-same D E f g = closed-same (flat_map symbols_of D) (flat_map symbols_of E) (AreAmong-flat_map symbols_of D E f) (AreAmong-flat_map symbols_of E D g)

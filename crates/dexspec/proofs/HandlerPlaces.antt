@@ -1,4 +1,4 @@
--- The handlers of tries: the tests tell equal ones, and each begins where its offset says.
+-- The handlers of tries: the tests decide equality, and each handler begins at its offset.
 use Rattle.std.proofs.Common.{◌≡◌, ℕ, ◌+◌, ◌*◌, ◌≤◌, Bool, true, false, List, [], ◌∷◌, ◌++◌, length, Option, refl, sym, ap, ◌∙◌, subst, arith, inl, inr, sum_by}
 use Rattle.std.specs.Prelude.{if◌then◌else◌, ◌==◌}
 use Rattle.std.specs.Bool.{Decides}
@@ -19,7 +19,7 @@ use Rattle.dexspec.proofs.Members.{and_first, and_second, and_both, Contains-nil
 
 -- ---- equal handlers
 
--- whether two catches are
+-- of two catches
 catch_decides : (c d : Catch) → Decides (same_catch c d) (c ≡ d)
 catch_decides c d = (
   (λ e.
@@ -31,11 +31,11 @@ catch_decides c d = (
       ((Decides-eqb c.address d.address).1 (ap (λ (x : Catch). x.address) e))),
 )
 
--- whether two addresses are, or there are none
+-- of two optional addresses
 address_decides : (a c : Option ℕ) → Decides (option_eq ◌==◌ a c) (a ≡ c)
 address_decides = options_decide ◌==◌ Decides-eqb
 
--- whether two handlers are
+-- of two handlers
 pub handler_decides : (h k : Handler) → Decides (same_handler h k) (h ≡ k)
 handler_decides h k =
     let first = slice_eq-Decides catch_decides h.catches k.catches (pointwise same_catch h.catches k.catches) refl in
@@ -51,14 +51,14 @@ handler_decides h k =
 
 -- ---- places
 
--- the handler stands behind others
+-- the handler comes after others
 pub record HandlerPlace (m : Mentions) (from : ℕ) (hs : List Handler) (h : Handler) : Type 0 where
   pub before : List Handler
   pub after : List Handler
   pub parts : hs ≡ before ++ h ∷ after
   pub place : handler_off m from hs h ≡ from + length (flat_map (handler_bytes m) before)
 
--- by whether the first is the handler
+-- case split on whether the first is the handler
 place_by : (m : Mentions) (from : ℕ) (k : Handler) (ks : List Handler) (h : Handler) (t : Bool) → same_handler k h ≡ t → (t ≡ false → HandlerPlace m (from + length (handler_bytes m k)) ks h) → HandlerPlace m from (k ∷ ks) h
 place_by m from k ks h true e rest =
     let same : k ≡ h = (handler_decides k h).0 e in
@@ -78,7 +78,7 @@ place_by m from k ks h false e rest =
       place = omega (arith, off, r.place, length-append (handler_bytes m k) (flat_map (handler_bytes m) r.before));
     }
 
--- where a handler of the list begins
+-- the offset of a handler of the list
 pub handler_place : (m : Mentions) (from : ℕ) (hs : List Handler) (h : Handler) → Contains hs h → HandlerPlace m from hs h
 handler_place m from [] h c = absurd (Contains-nil h c)
 handler_place m from (k ∷ ks) h c =
@@ -87,14 +87,14 @@ handler_place m from (k ∷ ks) h c =
       | inr l ↦ handler_place m (from + length (handler_bytes m k)) ks h l
     ])
 
--- ---- how many
+-- ---- counts
 
--- handlers weigh 10 each at least
+-- each handler weighs at least 10
 pub handlers_few : (hs : List Handler) → 10 * length hs ≤ sum_by (λ (h : Handler). 10 + 8 * length h.catches) hs
 handlers_few [] = omega arith
 handlers_few (h ∷ hs) = omega (arith, handlers_few hs, sum_by-cons (λ (k : Handler). 10 + 8 * length k.catches) h hs)
 
--- and one of them 8 for each catch
+-- a handler weighs at least 8 for each catch
 pub catches_few : (hs : List Handler) (h : Handler) → Contains hs h → 10 + 8 * length h.catches ≤ sum_by (λ (k : Handler). 10 + 8 * length k.catches) hs
 catches_few hs h c =
     subst (λ (x : Handler). 10 + 8 * length x.catches ≤ sum_by (λ (k : Handler). 10 + 8 * length k.catches) hs) c.2

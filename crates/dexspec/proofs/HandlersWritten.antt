@@ -1,4 +1,4 @@
--- Handlers stand where their canonical bytes were written, with each caught type in the row of its index.
+-- Handlers are at the offset of their canonical bytes, if each caught type is in the row of its index.
 use Rattle.std.proofs.Common.{◌≡◌, ℕ, ◌+◌, ◌^◌, ◌<◌, All, List, [], ◌∷◌, ◌++◌, length, map, Option, Some, None, refl, arith}
 use Rattle.std.specs.Prelude.{pos, ◌-ℤ◌, nat_abs, ◌≤ℤ◌, FitsSigned, IfSome}
 use Rattle.std.specs.Int.{w32}
@@ -19,7 +19,7 @@ use Rattle.dexspec.proofs.Members.{Contains-first, Contains-later}
 use Rattle.dexspec.proofs.NumbersWritten.{front_stands, back_stands, uleb128_written, sleb128_written, AreInRows, IsInRow, first_in_row, rest_in_rows}
 
 module _ (us : List ℕ) (cuts : List Cut) (b : List ℕ) (m : Mentions) where
-  -- a catch stands where its bytes do
+  -- a catch is at the offset of its bytes
   pub catch_written : (o : ℕ) (c : Catch) → IsInRow b m (TypeSymbol c.type) → c.address < 2 ^ 32 → IsStart us cuts c.address → Stands b o (catch_bytes m c) → CatchAt us cuts b o c (length (catch_bytes m c))
   catch_written o c row lt start h =
       let x = uleb128 (type_index m c.type) in
@@ -35,7 +35,7 @@ module _ (us : List ℕ) (cuts : List Cut) (b : List ℕ) (m : Mentions) where
         size = length-append x y;
       }
 
-  -- and so do catches
+  -- catches are at the offset of their bytes
   catches_written : (o : ℕ) (cs : List Catch) → AreInRows b m (map (λ c. TypeSymbol c.type) cs) → ((c : Catch) → Contains cs c → c.address < 2 ^ 32) → ((c : Catch) → Contains cs c → IsStart us cuts c.address) → Stands b o (flat_map (catch_bytes m) cs)
       → Sequence (CatchAt us cuts) b o cs (length (flat_map (catch_bytes m) cs))
   catches_written o [] are few starts h = refl
@@ -51,11 +51,12 @@ module _ (us : List ℕ) (cuts : List Cut) (b : List ℕ) (m : Mentions) where
         length-append x rest,
       )
 
-  -- a count of catches, fewer than a file has bytes, fits its spelling, and tells the catches
+  -- a count of catches that is less than the number of bytes of a file fits its encoding, and gives the number of
+  -- catches
   count_fits : (n : ℕ) → n < 2 ^ 31 → FitsSigned w32 (pos n) × FitsSigned w32 (pos 0 -ℤ pos n) × (nat_abs (pos 0 -ℤ pos n) ≡ n) × ((pos 0 -ℤ pos n) ≤ℤ pos 0)
   count_fits n lt = (omega (arith, ints), omega (arith, ints), omega (arith, ints), omega (arith, ints))
 
-  -- a handler by its catches and the address for all else
+  -- a handler from its catches and the catch-all address
   handler_by : (o : ℕ) (cs : List Catch) (catch_all : Option ℕ) → IsHandlerOf us cuts (record { catches = cs; catch_all = catch_all }) → length cs < 2 ^ 31 → ((c : Catch) → Contains cs c → c.address < 2 ^ 32) → IfSome catch_all (λ p. p < 2 ^ 32)
       → AreInRows b m (map (λ c. TypeSymbol c.type) cs) → Stands b o (handler_bytes m (record { catches = cs; catch_all = catch_all }))
       → HandlerAt us cuts b o (record { catches = cs; catch_all = catch_all }) (length (handler_bytes m (record { catches = cs; catch_all = catch_all })))
@@ -95,7 +96,7 @@ module _ (us : List ℕ) (cuts : List Cut) (b : List ℕ) (m : Mentions) where
         size = omega (arith, length-append x (y ++ z), length-append y z, size);
       }
 
-  -- a handler stands where its bytes do
+  -- a handler is at the offset of its bytes
   pub handler_written : (o : ℕ) (h : Handler) → IsHandlerOf us cuts h → length h.catches < 2 ^ 31 → All (λ c. c.address < 2 ^ 32) h.catches → IfSome h.catch_all (λ p. p < 2 ^ 32) → AreInRows b m (handler_symbols h) → Stands b o (handler_bytes m h)
       → HandlerAt us cuts b o h (length (handler_bytes m h))
   handler_written o h is few small all are s = handler_by o h.catches h.catch_all is few (λ c l. All-contains (λ (c : Catch). c.address < 2 ^ 32) h.catches c small l) all are s

@@ -1,4 +1,4 @@
--- Lists in order: what `in_order` makes rises, has the members of the list that it is made of, and rests on these alone.
+-- Lists in order: the result of `in_order` rises, has the members of its argument, and depends on these alone.
 use Rattle.std.proofs.Common.{◌≡◌, ◌⊎◌, ℕ, zero, suc, ◌+◌, ◌<◌, ◌≤◌, Bool, true, false, cond, List, [], ◌∷◌, length, get_or, refl, sym, ap, ◌∙◌, subst, arith, inl, inr, Ordering, Less, Equal, Greater}
 use Rattle.std.specs.List.{Contains}
 use Rattle.std.specs.Ordering.{is_lt, ordering_reverse}
@@ -12,7 +12,7 @@ use Rattle.std.proofs.lemmas.List.Sums.{sum_by-cons}
 use Rattle.dexspec.specs.Lists.{rises, add_in_order, in_order, rank, AreDistinct}
 use Rattle.dexspec.proofs.Members.{and_first, and_second, and_both, AreAmong, Contains-nil, Contains-first, Contains-later, Contains-cons_cases, sum_by-among}
 
--- by cases: each is less than all behind it
+-- by cases: each member is less than all members after it
 abbrev pub Rises : {K : Type 0} → (K → K → Ordering) → List K → Type 0
 Rises R [] = Unit {0}
 Rises {K} R (x ∷ xs) = ((y : K) → Contains xs y → R x y ≡ Less) × Rises R xs
@@ -74,7 +74,7 @@ module _ {K : Type 0} (R : K → K → Ordering) where
       | inr l ↦ l
     ]
 
-    -- rising lists of the same members are one
+    -- rising lists of the same members are equal
     pub Rises-same : (xs ys : List K) → Rises R xs → Rises R ys → AreAmong xs ys → AreAmong ys xs → xs ≡ ys
     Rises-same [] [] h k f g = refl
     Rises-same [] (y ∷ ys) h k f g = absurd (Contains-nil y (g y (Contains-first y ys)))
@@ -95,7 +95,7 @@ module _ {K : Type 0} (R : K → K → Ordering) where
         let no_less : is_lt (R x s) ≡ false = ap is_lt (o.antisymm x s ∙ ap ordering_reverse (h x (Contains-first x xs))) in
         omega (arith, rank-cons s x xs false no_less, rank-above s xs (λ y c. h y (Contains-later x y xs c)))
 
-    -- the rank of what stands at a place is the place
+    -- the rank of a member at a place is the place
     pub rank-get_or : (xs : List K) (i : ℕ) (d : K) → Rises R xs → i < length xs → rank R (get_or xs i d) xs ≡ i
     rank-get_or [] i d h lt = absurd (omega arith)
     rank-get_or (x ∷ xs) zero d h lt = omega (arith, rank-cons x x xs false (ap is_lt (tied_itself o x)), rank-above x xs h.0)
@@ -103,7 +103,7 @@ module _ {K : Type 0} (R : K → K → Ordering) where
         let s = get_or xs i d in
         omega (arith, rank-cons s x xs true (ap is_lt (h.0 s (Contains-get_or xs i d (omega arith)))), rank-get_or xs i d h.1 (omega arith))
 
-    -- a member stands at the place that is its rank
+    -- a member is at the place that is its rank
     pub rank-place : (xs : List K) (s d : K) → Rises R xs → Contains xs s → (rank R s xs < length xs) × (get_or xs (rank R s xs) d ≡ s)
     rank-place xs s d h c =
         let e : rank R s xs ≡ c.0 = ap (λ t. rank R t xs) (sym c.2) ∙ rank-get_or xs c.0 s h c.1 in
@@ -168,7 +168,7 @@ module _ {K : Type 0} (R : K → K → Ordering) where
         | inr l ↦ add_in_order-later y (in_order R xs) x (in_order-has xs x l)
       ]
 
-      -- and nothing else is there
+      -- and nothing else is in the result
       pub in_order-only : (xs : List K) → AreAmong (in_order R xs) xs
       in_order-only [] x c = c
       in_order-only (y ∷ xs) x c = elim (add_in_order_cases y (in_order R xs) x c) [
@@ -179,6 +179,6 @@ module _ {K : Type 0} (R : K → K → Ordering) where
       pub in_order-among : (xs ys : List K) → AreAmong xs ys → AreAmong (in_order R xs) (in_order R ys)
       in_order-among xs ys f x c = in_order-has ys x (f x (in_order-only xs x c))
 
-      -- lists of the same members give one list
+      -- lists of the same members have the same result
       pub in_order-same : (xs ys : List K) → AreAmong xs ys → AreAmong ys xs → in_order R xs ≡ in_order R ys
       in_order-same xs ys f g = Rises-same (in_order R xs) (in_order R ys) (Rises-in_order xs) (Rises-in_order ys) (in_order-among xs ys f) (in_order-among ys xs g)

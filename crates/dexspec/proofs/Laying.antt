@@ -1,4 +1,5 @@
--- What stands where in the file of classes in order: `Laid`, which the laws on header, layout, map, rows and items read.
+-- The contents of the file of classes in order, by offset: `Laid`, which the laws on header, layout, map, rows and
+-- items use.
 use Rattle.std.proofs.Common.{◌≡◌, ◌≢◌, ℕ, zero, suc, ◌+◌, ◌-◌, ◌*◌, ◌%◌, ◌^◌, ◌<◌, ◌≤◌, List, [], ◌∷◌, ◌++◌, length, get_or, drop, refl, sym, ap, subst, ◌∙◌, arith}
 use Rattle.std.specs.Prelude.{slice_index, ◌==◌, Bool, true, false, if◌then◌else◌}
 use Rattle.std.specs.List.{flat_map, zip}
@@ -24,11 +25,11 @@ use Rattle.dexspec.proofs.Tables.{stands_next, stands_here, stands_behind, stand
 
 -- ---- the parts of the file
 
--- where the map begins
+-- the offset of the map
 unfoldable pub map_place : Ordered → ℕ
 map_place K = round_up 4 (layout K).data_end
 
--- what the map holds
+-- the entries of the map
 unfoldable pub map_list : Ordered → List (Section × ℕ × ℕ)
 map_list K = map_of K (layout K) (map_place K)
 
@@ -37,11 +38,11 @@ pub map_list_named : (K : Ordered) → map_list K ≡ map_of K (layout K) (map_p
 unfolding map_list
 map_list_named K = refl
 
--- the bytes of the file
+-- the length of the file
 abbrev pub file_length : Ordered → ℕ
 file_length K = map_place K + length (map_bytes (map_list K))
 
--- the parts of the file, each in its place
+-- the parts of the file, each at its offset
 pub record Parts (b : List ℕ) (K : Ordered) : Type 0 where
   pub header : Stands b 32 (header_bytes K (map_place K) (file_length K))
   pub tables : Stands b header_length (table_bytes K (named_layout K))
@@ -49,7 +50,7 @@ pub record Parts (b : List ℕ) (K : Ordered) : Type 0 where
   pub entries : Stands b (map_place K) (map_bytes (map_list K))
   pub size : length b ≡ file_length K
 
--- five parts behind the sums, by their lengths
+-- five parts after the sums, by their lengths
 record Five (b h t s m : List ℕ) (from at : ℕ) : Type 0 where
   one : Stands b 32 h
   two : Stands b header_length t
@@ -57,7 +58,7 @@ record Five (b h t s m : List ℕ) (from at : ℕ) : Type 0 where
   five : Stands b at m
   size : length b ≡ at + length m
 
--- they stand one behind the other
+-- they follow one another
 five_parts : (h t s p m : List ℕ) (from to at : ℕ) → length h ≡ 80 → header_length + length t ≡ from → from + length s ≡ to → to + length p ≡ at
     → Five (with_sums (h ++ (t ++ (s ++ (p ++ m))))) h t s m from at
 five_parts h t s p m from to at eh et es ep =
@@ -76,17 +77,17 @@ five_parts h t s p m from to at eh et es ep =
       size = omega (arith, length-with_sums rest, length-append h (t ++ (s ++ (p ++ m))), length-append t (s ++ (p ++ m)), length-append s (p ++ m), length-append p m);
     }
 
--- the file is made of its parts
+-- the file consists of its parts
 unsigned_is : (K : Ordered) → unsigned_file K ≡ header_bytes K (map_place K) (file_length K) ++ (table_bytes K (named_layout K) ++ (flat_map section_bytes (data_sections K) ++ (padding 4 (directory_end K) ++ map_bytes (map_list K))))
 unfolding unsigned_file map_place map_list
 unsigned_is K = ap (λ (l : Layout). header_bytes K (map_place K) (file_length K) ++ (table_bytes K l ++ (flat_map section_bytes l.sections ++ (padding 4 l.data_end ++ map_bytes (map_list K))))) (layout_is K)
 
--- the map begins behind the sections
+-- the map is after the sections
 pub map_place_is : (K : Ordered) → map_place K ≡ round_up 4 (directory_end K)
 unfolding map_place
 map_place_is K = ap (λ (l : Layout). round_up 4 l.data_end) (layout_is K)
 
--- each of them stands in its place
+-- each of them is at its offset
 pub parts : (K : Ordered) → Parts (with_sums (unsigned_file K)) K
 parts K =
     let h = five_parts (header_bytes K (map_place K) (file_length K)) (table_bytes K (named_layout K)) (flat_map section_bytes (data_sections K)) (padding 4 (directory_end K)) (map_bytes (map_list K))
@@ -95,7 +96,7 @@ parts K =
     (length-sections (data_start K) (data_sections K) (directory_end K) (sections_follow K)) (length-padding 4 (directory_end K) ∙ sym (map_place_is K)) in
     subst (λ rest. Parts (with_sums rest) K) (sym (unsigned_is K)) (record { header = h.one; tables = h.two; sections = h.three; entries = h.five; size = h.size })
 
--- ---- what is read from it
+-- ---- what is read from the file
 
 -- an item: its bytes at an offset in the data, at a multiple of the alignment
 pub record ItemStands (b : List ℕ) (align o : ℕ) (x : List ℕ) : Type 0 where
@@ -104,7 +105,7 @@ pub record ItemStands (b : List ℕ) (align o : ℕ) (x : List ℕ) : Type 0 whe
   pub multiple : o % align ≡ 0
   pub some : o ≢ 0
 
--- each item of a section does
+-- each item of a section is at its offset
 abbrev pub SectionStands : List ℕ → Placed → Type 0
 SectionStands b p = (i : ℕ) (d : List ℕ) → i < length p.items → ItemStands b p.align (slice_index (offsets p) i) (get_or p.items i d)
 
@@ -117,8 +118,8 @@ class_places K r = record {
   static_values = slice_index (array_offsets K) r;
 }
 
--- What stands where in b, the file of K: the header's fields as they are read, each row, each item of each
--- section, and the map.
+-- The contents of b, the file of K: the header's fields as they are read, each row, each item of each section, and the
+-- map.
 pub record Laid (K : Ordered) (b : List ℕ) : Type 0 where
   pub small : length b < 2 ^ 32
   pub size : length b ≡ file_length K
@@ -152,21 +153,21 @@ pub record Laid (K : Ordered) (b : List ℕ) : Type 0 where
   pub entries : Stands b (map_place K) (map_bytes (map_list K))
   pub map_in_data : IsInData b (map_place K) (length (map_bytes (map_list K)))
 
--- what stands at a place of two lists put together
+-- an element of two lists that are combined
 pub get_or-zip_with : {X Y Z : Type 0} (f : X → Y → Z) (xs : List X) (ys : List Y) (i : ℕ) (d : X) (e : Y) (z : Z) → i < length xs → i < length ys → get_or (zip_with f xs ys) i z ≡ f (get_or xs i d) (get_or ys i e)
 get_or-zip_with f [] ys i d e z lt le = absurd (omega arith)
 get_or-zip_with f (x ∷ xs) [] i d e z lt le = absurd (omega arith)
 get_or-zip_with f (x ∷ xs) (y ∷ ys) zero d e z lt le = refl
 get_or-zip_with f (x ∷ xs) (y ∷ ys) (suc i) d e z lt le = get_or-zip_with f xs ys i d e z (omega arith) (omega arith)
 
--- the same of pairs
+-- an element of two lists as pairs
 pub get_or-zip : {X Y : Type 0} (xs : List X) (ys : List Y) (i : ℕ) (d : X) (e : Y) → i < length xs → i < length ys → get_or (zip xs ys) i (d, e) ≡ (get_or xs i d, get_or ys i e)
 get_or-zip [] ys i d e lt le = absurd (omega arith)
 get_or-zip (x ∷ xs) [] i d e lt le = absurd (omega arith)
 get_or-zip (x ∷ xs) (y ∷ ys) zero d e lt le = refl
 get_or-zip (x ∷ xs) (y ∷ ys) (suc i) d e lt le = get_or-zip xs ys i d e (omega arith) (omega arith)
 
--- what the layout has at a class
+-- the offsets of a class in the layout
 pub class_at : (K : Ordered) (r : ℕ) → r < length K.classes → get_or (named_layout K).classes r (class_places K r) ≡ class_places K r
 class_at K r lt =
     let n = length K.pools.protos in
@@ -196,7 +197,7 @@ table_within K FieldIds = omega arith
 table_within K MethodIds = omega arith
 table_within K ClassDefs = omega arith
 
--- and has no more rows than bytes
+-- a table has at most as many rows as bytes
 pub table_few : (K : Ordered) (t : Table) → table_count K t ≤ data_start K
 table_few K StringIds = omega arith
 table_few K TypeIds = omega arith
@@ -205,7 +206,7 @@ table_few K FieldIds = omega arith
 table_few K MethodIds = omega arith
 table_few K ClassDefs = omega arith
 
--- nothing, or the number
+-- zero, or the number
 unless_zero : (c : Bool) (n m : ℕ) → n ≤ m → (if c then 0 else n) ≤ m
 unless_zero true n m le = omega arith
 unless_zero false n m le = le
@@ -218,12 +219,12 @@ not_zero c n lt = cond-false (c == 0) 0 n (ne_eqb c 0 (λ e. omega (arith, e)))
 sections_before_map : (K : Ordered) → directory_end K ≤ map_place K
 sections_before_map K = omega (arith, length-padding 4 (directory_end K), map_place_is K)
 
--- and the data begins before it
+-- the data begins before the map
 pub data_before_map : (K : Ordered) → data_start K ≤ map_place K
 data_before_map K = omega (arith, sections_before_map K, last_end (data_start K) (data_sections K) (directory_end K) (sections_follow K))
 
 module _ (K : Ordered) (b : List ℕ) (p : Parts b K) (small : length b < 2 ^ 32) where
-  -- the data begins before the end
+  -- the data begins before the end of the file
   starts : data_start K ≤ file_length K
   starts = omega (arith, data_before_map K)
 
@@ -234,21 +235,21 @@ module _ (K : Ordered) (b : List ℕ) (p : Parts b K) (small : length b < 2 ^ 32
   data_from_is : data_off b ≡ data_start K
   data_from_is = uint_at-stands (omega (arith, starts, p.size)) fields.data_place
 
-  -- how much data there is
+  -- the size of the data
   data_bytes_is : data_size b ≡ file_length K - data_start K
   data_bytes_is = uint_at-stands (omega (arith, p.size)) fields.data_bytes
 
-  -- sizes and places of tables
+  -- sizes and offsets of tables
   count_is : (t : Table) → table_size b t ≡ table_count K t
   count_is t = uint_at-stands (omega (arith, table_few K t, starts, p.size)) (stands_here (uint (table_count K t)) (uint (table_place K t)) (fields.table t))
 
-  -- where the header has a table
+  -- the offset of a table in the header
   place_is : (t : Table) → table_off b t ≡ table_place K t
   place_is t =
       let le : table_place K t ≤ data_start K = unless_zero (table_count K t == 0) (table_start K t) (data_start K) (omega (arith, table_within K t)) in
       uint_at-stands (omega (arith, le, starts, p.size)) (stands_next (table_count K t) (uint (table_place K t)) (fields.table t))
 
-  -- where a table that has rows begins
+  -- the offset of a table that has rows
   begins_at : (t : Table) → 0 < table_count K t → table_off b t ≡ table_start K t
   begins_at t lt = place_is t ∙ not_zero (table_count K t) (table_start K t) lt
 
@@ -274,7 +275,7 @@ module _ (K : Ordered) (b : List ℕ) (p : Parts b K) (small : length b < 2 ^ 32
         some = λ none. omega (arith, none, between.0, within.behind);
       }
 
-  -- all of it
+  -- all of the contents
   pub laid_parts : Laid K b
   laid_parts = record {
     small = small;
@@ -314,6 +315,6 @@ module _ (K : Ordered) (b : List ℕ) (p : Parts b K) (small : length b < 2 ^ 32
     map_in_data = record { behind = omega (arith, data_from_is, data_before_map K); within = omega (arith, p.size) };
   }
 
--- the file of classes in order is laid so, if it is not too long
+-- the file of classes in order has these contents, if it is not too long
 pub laid : (K : Ordered) → length (with_sums (unsigned_file K)) < 2 ^ 32 → Laid K (with_sums (unsigned_file K))
 laid K small = laid_parts K (with_sums (unsigned_file K)) (parts K) small

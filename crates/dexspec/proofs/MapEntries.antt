@@ -1,4 +1,4 @@
--- Lists of map entries: read back from their bytes, entries that are left out, kinds that differ, offsets that rise.
+-- Lists of map entries: read back from their bytes, without some entries, with different kinds, with rising offsets.
 use Rattle.std.proofs.Common.{◌≡◌, ◌≢◌, ℕ, zero, suc, ◌+◌, ◌*◌, ◌^◌, ◌<◌, ◌≤◌, List, [], ◌∷◌, ◌++◌, length, get_or, map, refl, sym, ap, ◌∙◌, arith}
 use Rattle.std.specs.Prelude.{◌==◌, ◌&&◌, not, Bool, true, false, if◌then◌else◌, nat_lt, IsTrue}
 use Rattle.std.specs.List.{flat_map, All, list_all, Contains}
@@ -78,17 +78,17 @@ entries_at-stands {b} o (e ∷ es) small h0 =
     (uint_at-stands s.count (stands_here (uint e.1) (uint e.2) h2)) (uint_at-stands s.place h3)
     (entries_at-stands (o + 12) es (All-tail IsSmall e es small) (stands_behind (map_entry_bytes e) rest 12 (length-map_entry_bytes e) h0))
 
--- ---- entries that may be left out
+-- ---- optional entries
 
 -- an entry, and whether it is left out
 abbrev pub Candidate : Type 0
 Candidate = Bool × (Section × ℕ × ℕ)
 
--- it, or nothing
+-- the entry, or nothing
 abbrev pub pick : Candidate → List (Section × ℕ × ℕ)
 pick x = if x.0 then [] else x.1 ∷ []
 
--- those that are not left out
+-- the entries that are not left out
 abbrev pub picked : List Candidate → List (Section × ℕ × ℕ)
 picked xs = flat_map pick xs
 
@@ -96,13 +96,13 @@ picked xs = flat_map pick xs
 abbrev pub code_of : Candidate → ℕ
 code_of x = type_code x.1.0
 
--- what holds of each that is not left out
+-- a property of each entry that is not left out
 pub picked_all : (P : Section × ℕ × ℕ → Type 0) (xs : List Candidate) → All (λ x. x.0 ≡ false → P x.1) xs → All P (picked xs)
 picked_all P [] h = All-nil P
 picked_all P ((true, e) ∷ xs) h = picked_all P xs (All-tail (λ x. x.0 ≡ false → P x.1) (true, e) xs h)
 picked_all P ((false, e) ∷ xs) h = All-cons P e (picked xs) (All-head (λ x. x.0 ≡ false → P x.1) (false, e) xs h refl) (picked_all P xs (All-tail (λ x. x.0 ≡ false → P x.1) (false, e) xs h))
 
--- one that is not left out is there
+-- an entry that is not left out is in the list
 pub picked_there : (xs : List Candidate) (i : ℕ) (e : Section × ℕ × ℕ) → i < length xs → get_or xs i (true, e) ≡ (false, e) → Contains (picked xs) e
 picked_there [] i e lt is = absurd (omega arith)
 picked_there ((true, f) ∷ xs) zero e lt is = absurd (true≢false (ap (λ (x : Candidate). x.0) is))
@@ -110,9 +110,9 @@ picked_there ((false, f) ∷ xs) zero e lt is = (0, omega arith, ap (λ (x : Can
 picked_there ((true, f) ∷ xs) (suc i) e lt is = picked_there xs i e (omega arith) is
 picked_there ((false, f) ∷ xs) (suc i) e lt is = let c = picked_there xs i e (omega arith) is in (suc c.0, omega (arith, c.1), c.2)
 
--- ---- kinds that differ
+-- ---- different kinds
 
--- no number stands twice
+-- no number occurs twice
 abbrev pub differ : List ℕ → Bool
 differ [] = true
 differ (x ∷ xs) = list_all (λ y. not (x == y)) xs && differ xs
@@ -124,7 +124,7 @@ others_differ x (y ∷ ys) t =
     let here = not-true (x == code_of y) (and_first (not (x == code_of y)) (list_all (λ y. not (x == y)) (map code_of ys)) t) in
     All-cons (λ y. x ≢ code_of y) y ys (eqb-false x (code_of y) here) (others_differ x ys (and_second (not (x == code_of y)) (list_all (λ y. not (x == y)) (map code_of ys)) t))
 
--- what differs before entries are left out does afterwards
+-- codes that are different stay so without some entries
 pub picked_differ : (xs : List Candidate) → differ (map code_of xs) ≡ true → AreDistinct (map (λ e. e.kind) (map entry_of (picked xs)))
 picked_differ [] t = λ i j d lt less. absurd (omega arith)
 picked_differ ((true, e) ∷ xs) t = picked_differ xs (and_second (list_all (λ y. not (type_code e.0 == y)) (map code_of xs)) (differ (map code_of xs)) t)
@@ -136,7 +136,7 @@ picked_differ ((false, e) ∷ xs) t =
     (All-map (λ y. x ≢ y) (λ (e : MapEntry). e.kind) (map entry_of (picked xs)) (All-map (λ (e : MapEntry). x ≢ e.kind) entry_of (picked xs) others))
     (picked_differ xs (and_second (list_all (λ y. not (x == y)) (map code_of xs)) (differ (map code_of xs)) t))
 
--- the kind of one that is left out is nowhere
+-- the kind of an entry that is left out does not occur
 pub left_out : (xs : List Candidate) (i : ℕ) (d : Candidate) → differ (map code_of xs) ≡ true → i < length xs → (get_or xs i d).0 ≡ true → All (λ e. type_code e.0 ≢ code_of (get_or xs i d)) (picked xs)
 left_out [] i d t lt is = absurd (omega arith)
 left_out ((true, e) ∷ xs) zero d t lt is =
@@ -151,7 +151,7 @@ left_out ((false, e) ∷ xs) (suc i) d t lt is =
     All-cons (λ f. type_code f.0 ≢ code_of (get_or xs i d)) e (picked xs) (apart i d (omega arith))
     (left_out xs i d (and_second (list_all (λ y. not (x == y)) (map code_of xs)) (differ (map code_of xs)) t) (omega arith) is)
 
--- ---- offsets that rise
+-- ---- rising offsets
 
 -- the offsets rise strictly, from a number and below a number
 abbrev pub RisesTo : ℕ → List (Section × ℕ × ℕ) → ℕ → Type 0
@@ -163,7 +163,7 @@ pub rises_from_less : (low low' : ℕ) (es : List (Section × ℕ × ℕ)) (high
 rises_from_less low low' [] high le h = omega (arith, h)
 rises_from_less low low' (e ∷ es) high le h = (omega (arith, h.0), h.1)
 
--- one list and then another
+-- one list, then another
 pub rises_append : (low : ℕ) (es : List (Section × ℕ × ℕ)) (mid : ℕ) (fs : List (Section × ℕ × ℕ)) (high : ℕ) → RisesTo low es mid → RisesTo mid fs high → RisesTo low (es ++ fs) high
 rises_append low [] mid fs high h k = rises_from_less mid low fs high h k
 rises_append low (e ∷ es) mid fs high h k = (h.0, rises_append (e.2 + 1) es mid fs high h.1 k)
@@ -186,7 +186,7 @@ rises_between low (e ∷ es) high h =
     All-cons (IsBetween low high) e es (record { least = h.0; most = omega (arith, rises_ends (e.2 + 1) es high h.1) })
     (λ k d lt. record { least = omega (arith, h.0, (rest k d lt).least); most = (rest k d lt).most })
 
--- a lesser number is less
+-- a lesser number is less by order
 nat_less : (x y : ℕ) → x < y → is_lt (nat_cmp x y) ≡ true
 nat_less x y lt = ap is_lt (cond-true (nat_lt x y) Less _ (lt-ltb x y lt))
 

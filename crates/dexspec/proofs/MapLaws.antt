@@ -25,20 +25,20 @@ use Rattle.dexspec.proofs.HeaderLaws.{tables_end}
 
 -- ---- the entries of tables and of sections
 
--- an empty table has none
+-- an empty table has no entry
 abbrev table_entries : Table × ℕ × ℕ → List (Section × ℕ × ℕ)
 table_entries t = if t.1 == 0 then [] else (TableOf t.0, t.1, t.2) ∷ []
 
--- an empty section has none
+-- an empty section has no entry
 abbrev section_entries : Placed → List (Section × ℕ × ℕ)
 section_entries p = if length p.items == 0 then [] else (p.kind, length p.items, slice_index (offsets p) 0) ∷ []
 
--- what holds of the one entry if it is there
+-- a property of the entry, if there is one
 one_entry : (P : Section × ℕ × ℕ → Type 0) (e : Section × ℕ × ℕ) (empty : Bool) → P e → All P (if empty then [] else e ∷ [])
 one_entry P e true h = All-nil P
 one_entry P e false h = All-cons P e [] h (All-nil P)
 
--- a table's code is one of the least
+-- a table's code is less than 7
 table_code : (t : Table) → type_code (TableOf t) < 7
 table_code StringIds = omega arith
 table_code TypeIds = omega arith
@@ -52,7 +52,7 @@ record IsOfTable (K : Ordered) (e : Section × ℕ × ℕ) : Type 0 where
   kind : type_code e.0 < 7
   count : e.1 ≤ data_start K
 
--- those of tables are
+-- the entries of tables are entries of a table
 tables_are : (K : Ordered) (from : ℕ) (ts : List Table) → All (IsOfTable K) (flat_map table_entries (tables_from K from ts))
 tables_are K from [] = All-nil (IsOfTable K)
 tables_are K from (t ∷ ts) =
@@ -60,7 +60,7 @@ tables_are K from (t ∷ ts) =
     (one_entry (IsOfTable K) (TableOf t, table_count K t, if table_count K t == 0 then 0 else from) (table_count K t == 0) (record { kind = table_code t; count = table_few K t }))
     (tables_are K (from + row_size t * table_count K t) ts)
 
--- a section has no more items than bytes before its end
+-- a section has at most as many items as there are bytes up to its end
 sections_few : (at : ℕ) (ps : List Placed) (last : ℕ) → FollowFrom at ps last → All HasBytes ps → All (λ e. e.1 ≤ last) (flat_map section_entries ps)
 sections_few at [] last h some = All-nil (λ e. e.1 ≤ last)
 sections_few at (p ∷ ps) last h some =
@@ -70,7 +70,7 @@ sections_few at (p ∷ ps) last h some =
     (one_entry (λ e. e.1 ≤ last) (p.kind, length p.items, slice_index (offsets p) 0) (length p.items == 0) (omega (arith, few, less)))
     (sections_few (end p) ps last h.1 (All-tail HasBytes p ps some))
 
--- ---- their offsets rise
+-- ---- the offsets rise
 
 -- rows have bytes
 rows_some : (t : Table) (n : ℕ) → (n ≡ 0 → ⊥) → 0 < row_size t * n
@@ -86,7 +86,7 @@ table_rises : (t : Table) (from n : ℕ) (empty : Bool) → (n == 0) ≡ empty �
 table_rises t from n true is = omega arith
 table_rises t from n false is = (omega arith, omega (arith, rows_some t n (eqb-false n 0 is)))
 
--- those of tables one behind the other
+-- the offsets of consecutive tables
 tables_rise : (K : Ordered) (from : ℕ) (ts : List Table) → RisesTo from (flat_map table_entries (tables_from K from ts)) (tables_end K from ts)
 tables_rise K from [] = omega arith
 tables_rise K from (t ∷ ts) =
@@ -105,7 +105,7 @@ section_rises p false is some align =
     let more : 0 < length (get_or p.items 0 []) = some 0 [] lt in
     (h.behind, omega (arith, h.before, more))
 
--- those of sections one behind the other
+-- the offsets of consecutive sections
 sections_rise : (at : ℕ) (ps : List Placed) (last : ℕ) → FollowFrom at ps last → All HasBytes ps → All (λ p. IsAlign p.align) ps → RisesTo at (flat_map section_entries ps) last
 sections_rise at [] last h some align = omega (arith, h)
 sections_rise at (p ∷ ps) last h some align =
@@ -119,11 +119,11 @@ sections_rise at (p ∷ ps) last h some align =
 abbrev of_tables : Ordered → List (Section × ℕ × ℕ)
 of_tables K = flat_map table_entries (placed_tables K)
 
--- those of sections, and that of the map
+-- the entries of sections, and the entry of the map
 abbrev of_data : Ordered → List (Section × ℕ × ℕ)
 of_data K = flat_map section_entries (data_sections K) ++ (MapList, 1, map_place K) ∷ []
 
--- that of the header, and all others
+-- the entry of the header, and all others
 abbrev all_entries : Ordered → List (Section × ℕ × ℕ)
 all_entries K = (HeaderItem, 1, 0) ∷ (of_tables K ++ of_data K)
 
@@ -132,14 +132,14 @@ map_list_is : (K : Ordered) → map_list K ≡ all_entries K
 unfolding map_list
 map_list_is K = ap (λ (l : Layout). map_of K l (map_place K)) (layout_is K)
 
--- the offsets of the data's rise
+-- the offsets of the entries in the data rise
 data_rises : (K : Ordered) → RisesTo (data_start K) (of_data K) (map_place K + 1)
 data_rises K =
     rises_append (data_start K) (flat_map section_entries (data_sections K)) (directory_end K) ((MapList, 1, map_place K) ∷ []) (map_place K + 1)
     (sections_rise (data_start K) (data_sections K) (directory_end K) (sections_follow K) (sections_have_bytes K) (sections_aligned K))
     (omega (arith, length-padding 4 (directory_end K), map_place_is K), omega arith)
 
--- and so do all
+-- the offsets of all entries rise
 all_rise : (K : Ordered) → RisesTo 0 (all_entries K) (map_place K + 1)
 all_rise K = (
   omega arith,
@@ -169,7 +169,7 @@ all_small K small =
 abbrev table_candidate : Table × ℕ × ℕ → Candidate
 table_candidate t = (t.1 == 0, (TableOf t.0, t.1, t.2))
 
--- the same of a section
+-- an entry of a section, and whether it is left out
 abbrev section_candidate : Placed → Candidate
 section_candidate p = (length p.items == 0, (p.kind, length p.items, slice_index (offsets p) 0))
 
@@ -177,7 +177,7 @@ section_candidate p = (length p.items == 0, (p.kind, length p.items, slice_index
 abbrev all_candidates : List (Table × ℕ × ℕ) → List Placed → ℕ → List Candidate
 all_candidates ts ps at = (false, (HeaderItem, 1, 0)) ∷ (map table_candidate ts ++ (map section_candidate ps ++ (false, (MapList, 1, at)) ∷ []))
 
--- of these, those that are not left out are the entries
+-- the candidates that are not left out are the entries
 picked_is : (ts : List (Table × ℕ × ℕ)) (ps : List Placed) (at : ℕ) → picked (all_candidates ts ps at) ≡ (HeaderItem, 1, 0) ∷ (flat_map table_entries ts ++ (flat_map section_entries ps ++ (MapList, 1, at) ∷ []))
 picked_is ts ps at =
     let last : List Candidate = (false, (MapList, 1, at)) ∷ [] in
@@ -187,15 +187,15 @@ picked_is ts ps at =
     ap (λ es. (HeaderItem, 1, 0) ∷ es)
     (flat_map-append pick (map table_candidate ts) (map section_candidate ps ++ last) ∙ ap (λ es. es ++ picked (map section_candidate ps ++ last)) e1 ∙ ap (λ es. flat_map table_entries ts ++ es) e3)
 
--- those of the file
+-- the candidates of the file
 abbrev candidates : Ordered → List Candidate
 candidates K = all_candidates (placed_tables K) (data_sections K) (map_place K)
 
--- no kind stands twice among them
+-- no kind occurs twice among them
 candidates_differ : (K : Ordered) → differ (map code_of (candidates K)) ≡ true
 candidates_differ K = refl
 
--- which of them is a table's
+-- the number of a table's candidate
 abbrev table_number : Table → ℕ
 table_number StringIds = 1
 table_number TypeIds = 2
@@ -204,7 +204,7 @@ table_number FieldIds = 4
 table_number MethodIds = 5
 table_number ClassDefs = 6
 
--- it is one of them
+-- it is a number of a candidate
 table_number_few : (K : Ordered) (t : Table) → table_number t < length (candidates K)
 table_number_few K StringIds = omega arith
 table_number_few K TypeIds = omega arith
@@ -213,7 +213,7 @@ table_number_few K FieldIds = omega arith
 table_number_few K MethodIds = omega arith
 table_number_few K ClassDefs = omega arith
 
--- that one is the table's
+-- the candidate is the table's
 candidate_at : (K : Ordered) (t : Table) (d : Candidate) → get_or (candidates K) (table_number t) d ≡ (table_count K t == 0, (TableOf t, table_count K t, table_place K t))
 candidate_at K StringIds d = refl
 candidate_at K TypeIds d = refl
@@ -222,13 +222,13 @@ candidate_at K FieldIds d = refl
 candidate_at K MethodIds d = refl
 candidate_at K ClassDefs d = refl
 
--- what is there is there as an entry
+-- an entry is in the list in its other form
 entry_there : (es : List (Section × ℕ × ℕ)) (e : Section × ℕ × ℕ) → Contains es e → Contains (map entry_of es) (entry_of e)
 entry_there es e c = (c.0, omega (arith, c.1, length-map es entry_of), get_or-map entry_of es c.0 e (entry_of e) c.1 ∙ ap entry_of c.2)
 
 -- ---- the map
 
--- the list of entries is right for the file
+-- the list of entries is valid for the file
 record IsMap (b : List ℕ) (es : List MapEntry) : Type 0 where
   known : All IsKnown es
   once : AreDistinct (map (λ e. e.kind) es)
@@ -239,7 +239,7 @@ record IsMap (b : List ℕ) (es : List MapEntry) : Type 0 where
   others : All (IsPlaced b) es
 
 module _ {K : Ordered} {b : List ℕ} (h : Laid K b) where
-  -- all entries in their two forms
+  -- all entries, in both forms
   forms : picked (candidates K) ≡ all_entries K
   forms = picked_is (placed_tables K) (data_sections K) (map_place K)
 
@@ -278,7 +278,7 @@ module _ {K : Ordered} {b : List ℕ} (h : Laid K b) where
       (All-append P (of_tables K) (of_data K) (λ k d lt. inl (tables_are K header_length tables k d lt).kind)
       (λ k d lt. inr (omega (arith, h.data_from, (between k d lt).least), omega (arith, h.file, h.size, length-map_bytes (map_list K), (between k d lt).most)))))
 
-  -- the entries of the file are right
+  -- the entries of the file are valid
   all_right : IsMap b (map entry_of (all_entries K))
   all_right = record {
     known = All-map IsKnown entry_of (all_entries K) (λ k d lt. ((get_or (all_entries K) k d).0, refl));

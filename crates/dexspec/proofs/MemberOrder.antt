@@ -1,4 +1,4 @@
--- The rows of protos, fields and methods stand in the order of what they name.
+-- The rows of protos, fields and methods are in the order of their symbols.
 use Rattle.std.proofs.Common.{◌≡◌, ℕ, ◌+◌, ◌<◌, true, List, [], ◌∷◌, refl, ap, subst, inl, inr, Ordering, Less, Equal, Greater}
 use Rattle.std.specs.Prelude.{if◌then◌else◌, ◌==◌}
 use Rattle.std.specs.List.{AllZip}
@@ -20,18 +20,18 @@ use Rattle.dexspec.proofs.PoolRows.{AreStrings, AreTypes, rows_rise, first_less,
 
 -- ---- keys
 
--- an order that says what another says, where that decides
+-- an order that another order implies, if it decides
 record Follow (r s : Ordering) : Type 0 where
   less : r ≡ Less → s ≡ Less
   equal : r ≡ Equal → s ≡ Equal
 
--- where the first decides or the second
+-- the first order decides, or the second
 then_less : (r s x y : Ordering) → Follow r x → (s ≡ Less → y ≡ Less) → ordering_then r s ≡ Less → ordering_then x y ≡ Less
 then_less Less s x y f g e = rw (f.less refl) refl
 then_less Equal s x y f g e = rw (f.equal refl) (g e)
 then_less Greater s x y f g e = absurd cc
 
--- values follow their rows' indices
+-- values are in the order of their rows' indices
 follow : {X : Type 0} (R : X → X → Ordering) (o : IsTotalOrder R) (Row : ℕ → X → Type 0) → ((i : ℕ) (x y : X) → Row i x → Row i y → x ≡ y) → ((i j : ℕ) (x y : X) → i < j → Row i x → Row j y → R x y ≡ Less)
     → (i j : ℕ) (x y : X) → Row i x → Row j y → Follow (nat_cmp i j) (R x y)
 follow {X} R o Row one rise i j x y h g = record {
@@ -41,30 +41,30 @@ follow {X} R o Row one rise i j x y h g = record {
       subst (λ (z : X). R x z ≡ Equal) same (tied_itself o x);
 }
 
--- every row of protos is one, in order
+-- each row of protos denotes a proto, in order
 abbrev pub AreProtos : List ℕ → Type 0
 AreProtos b = (i : ℕ) → i < table_size b ProtoIds → HasProto b i
 
--- the same for fields
+-- each row of fields
 abbrev pub AreFields : List ℕ → Type 0
 AreFields b = (i : ℕ) → i < table_size b FieldIds → HasField b i
 
--- and for methods
+-- each row of methods
 abbrev pub AreMethods : List ℕ → Type 0
 AreMethods b = (i : ℕ) → i < table_size b MethodIds → HasMethod b i
 
 module _ (b : List ℕ) (strings : AreStrings b) (types : AreTypes b) where
-  -- texts follow the indices of strings
+  -- texts are in the order of their string indices
   texts_follow : (i j : ℕ) (s t : Text) → StringRow b i s → StringRow b j t → Follow (nat_cmp i j) (text_cmp s t)
   texts_follow = follow text_cmp text_total (StringRow b) (one_string b) (strings_rise b strings)
 
-  -- types follow the indices of types
+  -- types are in the order of their type indices
   types_follow : (i j : ℕ) (s t : Text) → TypeRow b i s → TypeRow b j t → Follow (nat_cmp i j) (text_cmp s t)
   types_follow = follow text_cmp text_total (TypeRow b) (one_type b) (types_rise b strings types)
 
   -- ---- protos
 
-  -- lists of types follow the lists of their indices
+  -- lists of types are in the order of their lists of indices
   lists_less : (is js : List ℕ) (ts us : List Text) → AllZip (TypeRow b) is ts → AllZip (TypeRow b) js us → slice_cmp nat_cmp is js ≡ Less → slice_cmp text_cmp ts us ≡ Less
   lists_less [] [] ts us h g e = absurd cc
   lists_less [] (j ∷ js) [] [] h g e = absurd g
@@ -87,7 +87,7 @@ module _ (b : List ℕ) (strings : AreStrings b) (types : AreTypes b) where
       rw (e, h.1) tt
   parameters_are o ts (inr h) = rw (ne_eqb o 0 h.0) h.1.types
 
-  -- protos follow their keys
+  -- protos are in the order of their keys
   proto_next : (i j : ℕ) (p q : Proto) → ProtoRow b i p → ProtoRow b j q
       → ordering_then (nat_cmp (uint_at b (row_at b ProtoIds i + 4)) (uint_at b (row_at b ProtoIds j + 4))) (slice_cmp nat_cmp (parameter_indices (uint_at b (row_at b ProtoIds i + 8))) (parameter_indices (uint_at b (row_at b ProtoIds j + 8)))) ≡ Less
       → proto_cmp p q ≡ Less
@@ -106,13 +106,13 @@ module _ (b : List ℕ) (strings : AreStrings b) (types : AreTypes b) where
       rows_rise proto_cmp proto_total (ProtoRow b) (one_proto b) (table_size b ProtoIds) (λ k less.
       let w = protos k less in record { value = w.proto; is = w.is; follows = λ l before e row. proto_next l k before w.proto row w.is (w.follows l e) }) j i p q lt g.row h g
 
-  -- and their indices
+  -- protos are in the order of their indices
   protos_follow : AreProtos b → (i j : ℕ) (p q : Proto) → ProtoRow b i p → ProtoRow b j q → Follow (nat_cmp i j) (proto_cmp p q)
   protos_follow protos = follow proto_cmp proto_total (ProtoRow b) (one_proto b) (protos_rise protos)
 
   -- ---- fields and methods
 
-  -- fields follow their keys
+  -- fields are in the order of their keys
   field_next : (i j : ℕ) (f g : Field) → FieldRow b i f → FieldRow b j g
       → ordering_then (nat_cmp (ushort_at b (row_at b FieldIds i)) (ushort_at b (row_at b FieldIds j)))
       (ordering_then (nat_cmp (uint_at b (row_at b FieldIds i + 4)) (uint_at b (row_at b FieldIds j + 4))) (ordering_then (nat_cmp (ushort_at b (row_at b FieldIds i + 2)) (ushort_at b (row_at b FieldIds j + 2))) Equal)) ≡ Less
@@ -135,7 +135,7 @@ module _ (b : List ℕ) (strings : AreStrings b) (types : AreTypes b) where
       rows_rise field_cmp field_total (FieldRow b) (one_field b) (table_size b FieldIds) (λ l less.
       let w = fields l less in record { value = w.field; is = w.is; follows = λ m before e row. field_next m l before w.field row w.is (w.follows m e) }) j i f g lt k.row h k
 
-  -- methods follow their keys
+  -- methods are in the order of their keys
   method_next : AreProtos b → (i j : ℕ) (f g : Method) → MethodRow b i f → MethodRow b j g
       → ordering_then (nat_cmp (ushort_at b (row_at b MethodIds i)) (ushort_at b (row_at b MethodIds j)))
       (ordering_then (nat_cmp (uint_at b (row_at b MethodIds i + 4)) (uint_at b (row_at b MethodIds j + 4))) (ordering_then (nat_cmp (ushort_at b (row_at b MethodIds i + 2)) (ushort_at b (row_at b MethodIds j + 2))) Equal)) ≡ Less

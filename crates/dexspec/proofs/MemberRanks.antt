@@ -1,5 +1,5 @@
--- Ranks compare as members do, so the indices of members that rise rise too; each symbol of a definition stands in the
--- row of its index; what occurs where in a definition.
+-- Ranks compare as members do, so the indices of rising members rise too; each symbol of a definition is in the row of
+-- its index; and which symbols occur in which part of a definition.
 use Rattle.std.proofs.Common.{◌≡◌, ℕ, ◌<◌, List, [], ◌∷◌, ◌++◌, map, Option, Some, refl, sym, ap, ◌∙◌, subst, arith, inl, inr, Ordering, Less, Equal}
 use Rattle.std.specs.Prelude.{IsTrue, option_to_list, ◌&&◌}
 use Rattle.std.specs.List.{Contains, flat_map}
@@ -30,11 +30,11 @@ use Rattle.dexspec.proofs.ClassDataWritten.{IndicesRise, own_first, field_occurs
 
 -- ---- ranks
 
--- the lesser number first
+-- a lesser number is less by order
 nat_less : (x y : ℕ) → x < y → nat_cmp x y ≡ Less
 nat_less x y lt = rw (lt-ltb x y lt) refl
 
--- a number ties with itself
+-- a number is equal to itself by order
 nat_tied : (x : ℕ) → nat_cmp x x ≡ Equal
 nat_tied x = rw (le-ltb x x (omega arith), eq-eqb x x refl) refl
 
@@ -58,7 +58,7 @@ rank_cmp R o xs rising s t c d =
       ]
     ]
 
--- lists whose members compare alike rise alike
+-- if the members of two lists compare in the same way, both lists rise or neither does
 pub rises_alike : {A B X : Type 0} (R : A → A → Ordering) (S : B → B → Ordering) (f : X → A) (g : X → B) (xs : List X) → ((x y : X) → Contains xs x → Contains xs y → R (f x) (f y) ≡ S (g x) (g y)) → rises R (map f xs) ≡ rises S (map g xs)
 rises_alike R S f g [] h = refl
 rises_alike R S f g (x ∷ []) h = refl
@@ -73,7 +73,7 @@ rises_alike R S f g (x ∷ y ∷ xs) h =
 pub field_cmp_key : (name : Text) (f g : FieldDef) → field_cmp (field_of name f) (field_of name g) ≡ field_key_cmp (field_key f) (field_key g)
 field_cmp_key name f g = ap (λ (r : Ordering). ordering_then r (field_key_cmp (field_key f) (field_key g))) (tied_itself text_total name)
 
--- and methods by theirs
+-- methods of one class compare by their keys
 pub method_cmp_key : (name : Text) (x y : MethodDef) → method_cmp (method_of name x) (method_of name y) ≡ method_key_cmp (method_key x) (method_key y)
 method_cmp_key name x y = ap (λ (r : Ordering). ordering_then r (method_key_cmp (method_key x) (method_key y))) (tied_itself text_total name)
 
@@ -98,18 +98,18 @@ module _ (D : List Definition) (name : Text) (c : Body) (in_file : Contains D (n
   pub field_mentioned : (f : FieldDef) → Contains (declared_fields c) f → Contains (mentions D).fields (field_of name f)
   field_mentioned f k = mentioned D (name, c) (FieldSymbol (field_of name f)) in_file (field_occurs name c f k)
 
-  -- and so is a declared method
+  -- a declared method is mentioned
   pub method_mentioned : (x : MethodDef) → Contains (declared_methods c) x → Contains (mentions D).methods (method_of name x)
   method_mentioned x k = mentioned D (name, c) (MethodSymbol (method_of name x)) in_file (method_occurs name c x k)
 
-  -- indices of fields that rise rise
+  -- the indices of rising fields rise
   field_indices_rise : (fs : List FieldDef) → ((f : FieldDef) → Contains fs f → Contains (declared_fields c) f) → IsTrue (rises field_key_cmp (map field_key fs)) → IsTrue (rises nat_cmp (map (λ f. field_index (mentions D) (field_of name f)) fs))
   field_indices_rise fs among rise =
       rises_alike nat_cmp field_key_cmp (λ f. field_index (mentions D) (field_of name f)) field_key fs
       (λ f g k l. rank_cmp field_cmp field_total (mentions D).fields (mentions-rising D).fields (field_of name f) (field_of name g) (field_mentioned f (among f k)) (field_mentioned g (among g l)) ∙ field_cmp_key name f g)
       ∙ rise
 
-  -- and those of methods
+  -- the indices of rising methods rise
   method_indices_rise : (xs : List MethodDef) → ((x : MethodDef) → Contains xs x → Contains (declared_methods c) x) → IsTrue (rises method_key_cmp (map method_key xs)) → IsTrue (rises nat_cmp (map (λ x. method_index (mentions D) (method_of name x)) xs))
   method_indices_rise xs among rise =
       rises_alike nat_cmp method_key_cmp (λ x. method_index (mentions D) (method_of name x)) method_key xs
@@ -128,7 +128,7 @@ module _ (D : List Definition) (name : Text) (c : Body) (in_file : Contains D (n
 -- ---- rows
 
 module _ (D : List Definition) (b : List ℕ) (n : IsNormal D b) where
-  -- a mentioned symbol stands in the row of its index, which fits
+  -- a mentioned symbol is in the row of its index, which fits
   pub symbol_in_row : (s : Symbol) → IsMentioned (mentions D) s → IsInRow b (mentions D) s
   symbol_in_row (TextSymbol s) c = let p = rank-place text_cmp text_total (mentions D).texts s s (mentions-rising D).texts c in (string_ranked D b n s c, omega (arith, p.0, count_small D b n StringIds))
   symbol_in_row (TypeSymbol t) c = let p = rank-place text_cmp text_total (mentions D).types t t (mentions-rising D).types c in (type_ranked D b n t c, omega (arith, p.0, count_small D b n TypeIds))
@@ -136,11 +136,11 @@ module _ (D : List Definition) (b : List ℕ) (n : IsNormal D b) where
   symbol_in_row (FieldSymbol f) c = let p = rank-place field_cmp field_total (mentions D).fields f f (mentions-rising D).fields c in (field_ranked D b n f c, omega (arith, p.0, count_small D b n FieldIds))
   symbol_in_row (MethodSymbol x) c = let p = rank-place method_cmp method_total (mentions D).methods x x (mentions-rising D).methods c in (method_ranked D b n x c, omega (arith, p.0, count_small D b n MethodIds))
 
-  -- so do all symbols of a definition
+  -- all symbols of a definition are in the rows of their indices
   pub symbols_in_rows : (d : Definition) → Contains D d → AreInRows b (mentions D) (symbols_of d)
   symbols_in_rows d c = λ s k. symbol_in_row s (mentioned D d s c k)
 
--- ---- what occurs where
+-- ---- the symbols of the parts of a definition
 
 module _ (name : Text) (c : Body) where
   -- the symbols of a class's own set
@@ -156,14 +156,14 @@ module _ (name : Text) (c : Body) where
       (Contains-append_right (optional_type c.superclass) r1 s
       (Contains-append_right (map TypeSymbol c.interfaces) r2 s (Contains-append_right (optional_text c.source) r3 s (Contains-append_left (set_symbols c.annotations) members s is))))
 
-  -- those of a field's set
+  -- the symbols of a field's set
   pub field_set_occurs : (f : FieldDef) (s : Symbol) → Contains (declared_fields c) f → Contains (set_symbols f.annotations) s → Contains (symbols_of (name, c)) s
   field_set_occurs f s k is =
       let fields = flat_map (field_symbols name) (declared_fields c) in
       let others = flat_map (method_symbols name) (declared_methods c) ++ values_symbols c.static_values in
       own_first name c s (Contains-append_left fields others s (Contains-flat_map (field_symbols name) (declared_fields c) f s k (Contains-later (FieldSymbol (field_of name f)) s (set_symbols f.annotations) is)))
 
-  -- those of a method
+  -- the symbols of a method
   in_method : (x : MethodDef) (s : Symbol) → Contains (declared_methods c) x → Contains (flat_map code_symbols (option_to_list x.code) ++ (set_symbols x.annotations ++ flat_map set_symbols x.parameter_annotations)) s → Contains (symbols_of (name, c)) s
   in_method x s k is =
       let fields = flat_map (field_symbols name) (declared_fields c) in
@@ -172,27 +172,27 @@ module _ (name : Text) (c : Body) where
       own_first name c s (Contains-append_right fields (methods ++ values_symbols c.static_values) s
       (Contains-append_left methods (values_symbols c.static_values) s (Contains-flat_map (method_symbols name) (declared_methods c) x s k (Contains-later (MethodSymbol (method_of name x)) s behind is))))
 
-  -- those of its code
+  -- the symbols of its code
   pub code_occurs : (x : MethodDef) (k : Code) (s : Symbol) → Contains (declared_methods c) x → x.code ≡ Some k → Contains (code_symbols k) s → Contains (symbols_of (name, c)) s
   code_occurs x k s l e is =
       let codes = flat_map code_symbols (option_to_list x.code) in
       let here : Contains codes s = subst (λ (o : Option Code). Contains (flat_map code_symbols (option_to_list o)) s) (sym e) (Contains-append_left (code_symbols k) [] s is) in
       in_method x s l (Contains-append_left codes (set_symbols x.annotations ++ flat_map set_symbols x.parameter_annotations) s here)
 
-  -- those of its set
+  -- the symbols of its set
   pub method_set_occurs : (x : MethodDef) (s : Symbol) → Contains (declared_methods c) x → Contains (set_symbols x.annotations) s → Contains (symbols_of (name, c)) s
   method_set_occurs x s l is =
       let codes = flat_map code_symbols (option_to_list x.code) in
       in_method x s l (Contains-append_right codes (set_symbols x.annotations ++ flat_map set_symbols x.parameter_annotations) s (Contains-append_left (set_symbols x.annotations) (flat_map set_symbols x.parameter_annotations) s is))
 
-  -- those of its parameters' sets
+  -- the symbols of its parameters' sets
   pub parameter_set_occurs : (x : MethodDef) (set : AnnotationSet) (s : Symbol) → Contains (declared_methods c) x → Contains x.parameter_annotations set → Contains (set_symbols set) s → Contains (symbols_of (name, c)) s
   parameter_set_occurs x set s l m is =
       let codes = flat_map code_symbols (option_to_list x.code) in
       in_method x s l (Contains-append_right codes (set_symbols x.annotations ++ flat_map set_symbols x.parameter_annotations) s
       (Contains-append_right (set_symbols x.annotations) (flat_map set_symbols x.parameter_annotations) s (Contains-flat_map set_symbols x.parameter_annotations set s m is)))
 
-  -- those of the static values
+  -- the symbols of the static values
   pub static_values_occur : (s : Symbol) → Contains (values_symbols c.static_values) s → Contains (symbols_of (name, c)) s
   static_values_occur s is =
       let fields = flat_map (field_symbols name) (declared_fields c) in

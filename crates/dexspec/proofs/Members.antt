@@ -18,7 +18,7 @@ pub and_both : (a b : Bool) → a ≡ true → b ≡ true → (a && b) ≡ true
 and_both true b e f = f
 and_both false b e f = e
 
--- every member of the first is one of the second
+-- each member of the first list is a member of the second
 abbrev pub AreAmong : {X : Type 0} → List X → List X → Type 0
 AreAmong {X} xs ys = (x : X) → Contains xs x → Contains ys x
 
@@ -32,7 +32,7 @@ module _ {X : Type 0} where
   pub Contains-later : (y x : X) (xs : List X) → Contains xs x → Contains (y ∷ xs) x
   Contains-later y x xs c = (suc c.0, omega (arith, c.1), c.2)
 
-  -- a member is the first or one of the others
+  -- a member is the first or a member of the rest
   pub Contains-cons_cases : (y x : X) (xs : List X) → Contains (y ∷ xs) x → (y ≡ x) ⊎ Contains xs x
   Contains-cons_cases y x xs (zero, lt, e) = inl e
   Contains-cons_cases y x xs (suc k, lt, e) = inr (k, omega arith, e)
@@ -47,7 +47,7 @@ module _ {X : Type 0} where
     | inr l ↦ Contains-append_right (f z) (flat_map f xs) y (Contains-flat_map f xs x y l d)
   ]
 
-  -- a member is one of what some member makes
+  -- a member of a concatenation comes from some member
   pub Contains-flat_map_source : {Y : Type 0} (f : X → List Y) (xs : List X) (y : Y) → Contains (flat_map f xs) y → (x : X) × Contains xs x × Contains (f x) y
   Contains-flat_map_source f [] y c = absurd (Contains-nil y c)
   Contains-flat_map_source f (z ∷ xs) y c = elim (Contains-append_cases (f z) (flat_map f xs) y c) [
@@ -67,7 +67,7 @@ module _ {X : Type 0} where
     | false ↦ λ t. elim (Contains-cons_cases z x xs c) [ inl s ↦ absurd (let k : p z ≡ true = ap p s ∙ e in cc) | inr l ↦ Contains-filter p xs x l e ]
   ] refl
 
-  -- what a filter keeps was there, and passes
+  -- a filtered member was a member, and passes
   pub Contains-filter_source : (p : X → Bool) (xs : List X) (x : X) → Contains (filter p xs) x → Contains xs x × (p x ≡ true)
   Contains-filter_source p [] x c = absurd (Contains-nil x c)
   Contains-filter_source p (z ∷ xs) x c = by (p z) refl c (Contains-filter_source p xs x)
@@ -79,7 +79,7 @@ module _ {X : Type 0} where
       ]
       by false t c again = let r = again c in (Contains-later z x xs r.0, r.1)
 
-  -- a weaker test keeps more of more
+  -- a weaker test keeps more members of a longer list
   pub AreAmong-filter : (p q : X → Bool) (xs ys : List X) → ((x : X) → p x ≡ true → q x ≡ true) → AreAmong xs ys → AreAmong (filter p xs) (filter q ys)
   AreAmong-filter p q xs ys w h x c = let s = Contains-filter_source p xs x c in Contains-filter q ys x (h x s.0) (w x s.1)
 
@@ -108,7 +108,7 @@ module _ {X : Type 0} where
 
   -- ---- sums
 
-  -- the list without one x, with what that leaves of a sum
+  -- the list without one x, and the sum without it
   record Without (f : X → ℕ) (ys : List X) (x : X) : Type 0 where
     rest : List X
     sum : sum_by f ys ≡ f x + sum_by f rest
@@ -134,7 +134,7 @@ module _ {X : Type 0} where
   pub AreDistinct-rest : (x : X) (xs : List X) → AreDistinct (x ∷ xs) → AreDistinct xs
   AreDistinct-rest x xs d i j z lt le = d (suc i) (suc j) z (omega arith) (omega arith)
 
-  -- a sum over some of a list's members, each once, is at most the list's
+  -- a sum over some distinct members is at most the sum over the list
   pub sum_by-among : (f : X → ℕ) (xs ys : List X) → AreDistinct xs → AreAmong xs ys → sum_by f xs ≤ sum_by f ys
   sum_by-among f [] ys d h = omega arith
   sum_by-among f (x ∷ xs) ys d h =
@@ -147,6 +147,6 @@ module _ {X : Type 0} where
   sum_by-one [] = refl
   sum_by-one (x ∷ xs) = omega (arith, sum_by-cons (λ (y : X). 1) x xs, sum_by-one xs)
 
-  -- a list without repeats is at most as long as one that has its members
+  -- a list without repeats is at most as long as a list that has its members
   pub length-among : (xs ys : List X) → AreDistinct xs → AreAmong xs ys → length xs ≤ length ys
   length-among xs ys d h = omega (arith, sum_by-among (λ x. 1) xs ys d h, sum_by-one xs, sum_by-one ys)

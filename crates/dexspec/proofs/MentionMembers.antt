@@ -1,4 +1,4 @@
--- The members of the five lists of mentions, and that these are closed downwards.
+-- The members of the five lists of mentions, and that these lists contain the parts of their members.
 use Rattle.std.proofs.Common.{◌≡◌, List, [], ◌∷◌, refl, sym, ap, subst, arith, inl, inr, Ordering}
 use Rattle.std.specs.List.{Contains, flat_map}
 use Rattle.std.specs.Cmp.{IsTotalOrder}
@@ -75,9 +75,9 @@ module _ (D : List Definition) where
   unfolding mentions
   methods-source x c = source method_cmp method_total method_exact methods_in D x c
 
--- ---- closed downwards
+-- ---- the parts of members
 
--- the one member of a list of one
+-- the only member of a list of one
 only : {X : Type 0} (y x : X) → Contains (y ∷ []) x → y ≡ x
 only y x c = elim (Contains-cons_cases y x [] c) [ inl e ↦ e | inr l ↦ absurd (Contains-nil x l) ]
 
@@ -122,7 +122,7 @@ methods_in-is (TypeSymbol s) m c = absurd (Contains-nil m c)
 methods_in-is (ProtoSymbol p) m c = absurd (Contains-nil m c)
 methods_in-is (FieldSymbol f) m c = absurd (Contains-nil m c)
 
--- another part of the symbol that has this one
+-- another part of the symbol that has this part
 also : {X Y : Type 0} {parts : Symbol → List X} (others : Symbol → List Y) (D : List Definition) (x : X) (y : Y) (w : Occurs parts D x) → Contains (others w.symbol) y → Occurs others D y
 also others D x y w c = record { definition = w.definition; symbol = w.symbol; member = w.member; occurs = w.occurs; part = c }
 

@@ -1,5 +1,5 @@
--- The class rows in the file of definitions: each is the definition of its place, where what belongs to it stands
--- where its row says; condition 16.
+-- The class rows in the file of definitions: each denotes the definition at its place, if the items of the class are at
+-- the offsets of its row; condition 16.
 use Rattle.std.proofs.Common.{◌≡◌, ℕ, ◌<◌, List, [], ◌∷◌, ◌++◌, length, get_or, map, refl, sym, ap, ◌∙◌, subst, arith, inl, inr, All, true}
 use Rattle.std.specs.Prelude.{◌==◌, if◌then◌else◌, Option, Some, None, IfSome, option_to_list}
 use Rattle.std.specs.List.{Contains, AllZip, filter, flat_map}
@@ -38,27 +38,27 @@ use Rattle.dexspec.proofs.PoolsStand.{type_list_or_none}
 use Rattle.dexspec.proofs.NormalRows.{IsNormal, string_ranked, type_ranked}
 use Rattle.dexspec.proofs.ClassPlaces.{in_class_order-only, class_names-apart, class_depths-before}
 
--- ---- what a class row names occurs in the definition
+-- ---- the symbols of a class row occur in the definition
 
 -- the name of a definition occurs in it
 name_occurs : (d : Definition) → Contains (symbols_of d) (TypeSymbol d.0)
 unfolding symbols_of
 name_occurs d = Contains-first (TypeSymbol d.0) _
 
--- and so does its superclass
+-- its superclass occurs in it
 superclass_occurs : (d : Definition) (t : Text) → Contains (option_to_list d.1.superclass) t → Contains (symbols_of d) (TypeSymbol t)
 unfolding symbols_of
 superclass_occurs d t c =
     Contains-later (TypeSymbol d.0) (TypeSymbol t) _ (Contains-append_left (optional_type d.1.superclass) _ (TypeSymbol t) (Contains-map TypeSymbol (option_to_list d.1.superclass) t c))
 
--- and each interface
+-- each interface occurs in it
 interface_occurs : (d : Definition) (t : Text) → Contains d.1.interfaces t → Contains (symbols_of d) (TypeSymbol t)
 unfolding symbols_of
 interface_occurs d t c =
     Contains-later (TypeSymbol d.0) (TypeSymbol t) _ (Contains-append_right (optional_type d.1.superclass) _ (TypeSymbol t)
     (Contains-append_left (map TypeSymbol d.1.interfaces) _ (TypeSymbol t) (Contains-map TypeSymbol d.1.interfaces t c)))
 
--- and its source
+-- its source text occurs in it
 source_occurs : (d : Definition) (s : Text) → Contains (option_to_list d.1.source) s → Contains (symbols_of d) (TextSymbol s)
 unfolding symbols_of
 source_occurs d s c =
@@ -70,11 +70,11 @@ source_occurs d s c =
 type_mentioned : (D : List Definition) (d : Definition) (t : Text) → Contains D d → Contains (symbols_of d) (TypeSymbol t) → Contains (mentions D).types t
 type_mentioned D d t c o = types-listed D t (record { definition = d; symbol = TypeSymbol t; member = c; occurs = o; part = Contains-first t [] })
 
--- and so is a text
+-- a text that occurs is mentioned
 text_mentioned : (D : List Definition) (d : Definition) (s : Text) → Contains D d → Contains (symbols_of d) (TextSymbol s) → Contains (mentions D).texts s
 text_mentioned D d s c o = texts-listed D s (record { definition = d; symbol = TextSymbol s; member = c; occurs = o; part = Contains-first s [] })
 
--- what belongs to a class stands at the offsets of class row r
+-- the items of a class are at the offsets of class row r
 pub record BelongsAt (b : List ℕ) (r : ℕ) (c : Body) : Type 0 where
   pub directory : Directory
   pub directory_is : OrNone DirectoryAt no_directory b (annotations_off b r) directory
@@ -87,7 +87,7 @@ pub record BelongsAt (b : List ℕ) (r : ℕ) (c : Body) : Type 0 where
   pub virtual_methods : AllZip (MakesMethod b directory) members.virtual_methods c.virtual_methods
   pub static_values : OrNone StaticValuesAt NoValues b (static_values_off b r) c.static_values
 
--- a text is the same as itself
+-- a text is equal to itself
 same_itself : (s : Text) → same_text s s ≡ true
 same_itself s = (slice_eq-Decides Decides-eqb s s (same_text s s) refl).1 refl
 
@@ -103,7 +103,7 @@ module _ (D : List Definition) (b : List ℕ) (n : AreNormal D b) where
   pub class_member : (r : ℕ) (d : Definition) → r < length (in_class_order D) → Contains D (get_or (in_class_order D) r d)
   class_member r d lt = in_class_order-only D (get_or (in_class_order D) r d) (Contains-get_or (in_class_order D) r d lt)
 
-  -- an index of what there is, or of nothing
+  -- the index of a value that is present, or NO_INDEX
   abbrev index_of : {X : Type 0} → (X → ℕ) → Option X → ℕ
   index_of f x = option_map_or f x no_index
 
@@ -111,25 +111,25 @@ module _ (D : List Definition) (b : List ℕ) (n : AreNormal D b) where
   pub class_numbers : (r : ℕ) (e : Definition) → r < length (in_class_order D) → ClassRead (ordered D) b r (get_or (in_class_order D) r e)
   class_numbers = class_read n.file.laid
 
-  -- ---- what the numbers name
+  -- ---- the symbols of the numbers
 
-  -- a mentioned class stands at its rank
+  -- a mentioned class is at its rank
   class_ranked : (t : Text) → IsClass t → Contains (mentions D).types t → ClassTypeRow b (type_index (mentions D) t) t
   class_ranked t is c = record { row = type_ranked D b n.file t c; class = is }
 
-  -- a class row is of its class
+  -- a class row has its class
   pub own_class : (r : ℕ) (e : Definition) → r < length (in_class_order D) → ClassTypeRow b (class_idx b r) (get_or (in_class_order D) r e).0
   own_class r e lt =
       let d = get_or (in_class_order D) r e in
       let c = class_member r e lt in
       subst (λ k. ClassTypeRow b k d.0) (sym (class_numbers r e lt).name_is) (class_ranked d.0 (n.formed d c).name (type_mentioned D d d.0 c (name_occurs d)))
 
-  -- an index of a class, or of none
+  -- an index of a class, or none
   optional_class : (d : Definition) (t : Option Text) → Contains D d → IfSome t IsClass → ((s : Text) → Contains (option_to_list t) s → Contains (symbols_of d) (TypeSymbol s)) → IndexOrNone ClassTypeRow b (index_of (type_index (mentions D)) t) t
   optional_class d None c is f = refl
   optional_class d (Some t) c is f = class_ranked t is (type_mentioned D d t c (f t (Contains-first t [])))
 
-  -- an index of a text, or of none
+  -- an index of a text, or none
   optional_string : (d : Definition) (s : Option Text) → Contains D d → ((t : Text) → Contains (option_to_list s) t → Contains (symbols_of d) (TextSymbol t)) → IndexOrNone StringRow b (index_of (text_index (mentions D)) s) s
   optional_string d None c f = refl
   optional_string d (Some s) c f = string_ranked D b n.file s (text_mentioned D d s c (f s (Contains-first s [])))
@@ -141,7 +141,7 @@ module _ (D : List Definition) (b : List ℕ) (n : AreNormal D b) where
       let c = class_member r e lt in
       subst (λ k. IndexOrNone ClassTypeRow b k d.1.superclass) (sym (class_numbers r e lt).superclass_is) (optional_class d d.1.superclass c (n.formed d c).superclass (superclass_occurs d))
 
-  -- and its source
+  -- a class row names its source text
   own_source : (r : ℕ) (e : Definition) → r < length (in_class_order D) → IndexOrNone StringRow b (source_file_idx b r) (get_or (in_class_order D) r e).1.source
   own_source r e lt =
       let d = get_or (in_class_order D) r e in
@@ -152,19 +152,19 @@ module _ (D : List Definition) (b : List ℕ) (n : AreNormal D b) where
   interfaces_mentioned : (d : Definition) → Contains D d → AreAmong d.1.interfaces (mentions D).types
   interfaces_mentioned d c t l = type_mentioned D d t c (interface_occurs d t l)
 
-  -- classes where types are
+  -- a list of types that are classes
   class_list : (o : ℕ) (ts : List Text) → All IsClass ts → OrNone TypeListAt [] b o ts → OrNone ClassListAt [] b o ts
   class_list o ts are (inl h) = inl h
   class_list o ts are (inr h) = inr (h.0, record { list = h.1; classes = are })
 
-  -- a class row leads to its interfaces
+  -- a class row has the offset of its interfaces
   own_interfaces : (r : ℕ) (e : Definition) → r < length (in_class_order D) → OrNone ClassListAt [] b (interfaces_off b r) (get_or (in_class_order D) r e).1.interfaces
   own_interfaces r e lt =
       let d = get_or (in_class_order D) r e in
       let c = class_member r e lt in
       class_list (interfaces_off b r) d.1.interfaces (n.formed d c).interfaces (type_list_or_none n.file.laid n.file.few n.file.pools d.1.interfaces (interfaces_off b r) (interfaces_mentioned d c) (class_numbers r e lt).interfaces_are)
 
-  -- row r is the r-th class, where what belongs to it stands at its offsets
+  -- row r is the r-th class, if its items are at its offsets
   pub class_stands : (r : ℕ) (e : Definition) → r < length (in_class_order D) → BelongsAt b r (get_or (in_class_order D) r e).1
       → ClassRow b r (get_or (in_class_order D) r e).0 (get_or (in_class_order D) r e).1
   class_stands r e lt has =
@@ -190,7 +190,7 @@ module _ (D : List Definition) (b : List ℕ) (n : AreNormal D b) where
 
   -- ---- condition 16
 
-  -- the indices of a list, or of none
+  -- the indices of a list, or none
   list_indices : (o : ℕ) (ts : List Text) → UseStands b 4 (type_list_bytes (mentions D)) (unless_empty ts) o → (if o == 0 then [] else type_indices b o) ≡ map (type_index (mentions D)) ts
   list_indices o [] h = ap (λ k. if k == 0 then [] else type_indices b k) h
   list_indices o (t ∷ ts) item = cond-false (o == 0) [] (type_indices b o) (ne_eqb o 0 item.some) ∙ type_list_indices n.file.laid n.file.few (t ∷ ts) item
@@ -225,7 +225,7 @@ module _ (D : List Definition) (b : List ℕ) (n : AreNormal D b) where
   name_defined : (d : Definition) → Contains D d → is_defined D d.0 ≡ true
   name_defined d c = list_any-member (λ (x : Definition). same_text x.0 d.0) D d c (same_itself d.0)
 
-  -- a parent that is defined is less deep
+  -- a defined parent has a lesser depth
   parent_less : (d p : Definition) → Contains D d → Contains D p → Contains (parents d.1) p.0 → depth D p.0 < depth D d.0
   parent_less d p c m l =
       let named = λ (x : Definition). same_text x.0 d.0 in
@@ -233,7 +233,7 @@ module _ (D : List Definition) (b : List ℕ) (n : AreNormal D b) where
       let listed = Contains-flat_map parents_of (filter named D) d p.0 (Contains-filter named D d c (same_itself d.0)) l in
       depth-parent D d.0 p.0 (n.acyclic d.0 (name_defined d c)) (Contains-filter (is_defined D) (flat_map parents_of (filter named D)) p.0 listed (name_defined p m))
 
-  -- a parent that the file defines stands before
+  -- a parent that the file defines comes before
   parent_before : (r : ℕ) (e : Definition) (t : Text) → r < length (in_class_order D) → Contains (parents (get_or (in_class_order D) r e).1) t → IsDefinedBefore b r (type_index (mentions D) t)
   parent_before r e t lt l k within same =
       let d = get_or (in_class_order D) r e in

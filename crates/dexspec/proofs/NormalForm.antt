@@ -1,4 +1,4 @@
--- The canonical file of a collection is accepted and denotes it, where what belongs to its classes is right.
+-- The canonical file of a collection is accepted and denotes it, if the items of its classes are valid.
 use Rattle.std.proofs.Common.{◌≡◌, ℕ, zero, suc, ◌+◌, ◌<◌, List, [], ◌∷◌, length, get_or, refl, sym, ap, ◌∙◌, subst, arith}
 use Rattle.std.specs.List.{AllZip, Contains, range_with_len}
 use Rattle.std.proofs.lemmas.List.{get_or_default}
@@ -28,23 +28,24 @@ use Rattle.dexspec.proofs.NormalClasses.{BelongsAt, AreNormal, class_stands, has
 abbrev pub some_class : Definition
 some_class = ([], record { flags = 0; superclass = None; interfaces = []; source = None; annotations = []; static_fields = []; instance_fields = []; direct_methods = []; virtual_methods = []; static_values = NoValues })
 
--- what is related to the numbers from one on, by its places
+-- a list that is related to the numbers from one on
 abbrev RelatedFrom : {X : Type 0} → (ℕ → X → Type 0) → ℕ → ℕ → List X → Type 0
 RelatedFrom {X} R from n xs = (k : ℕ) (d : X) → k < n → R (from + k) (get_or xs k d)
 
--- by the first and the others
+-- from the first and the rest
 related : {X : Type 0} (R : ℕ → X → Type 0) (from n : ℕ) (x : X) (xs : List X) → R from x → RelatedFrom R (from + 1) n xs → RelatedFrom R from (suc n) (x ∷ xs)
 related R from n x xs h rest zero d lt = let e : from ≡ from + 0 = omega arith in subst (λ i. R i x) e h
 related R from n x xs h rest (suc k) d lt = let e : from + 1 + k ≡ from + suc k = omega arith in subst (λ i. R i (get_or xs k d)) e (rest k d (omega arith))
 
--- what is related to numbers one by one is so at each place
+-- a list that is related to numbers is related at each place
 rows_at : {X : Type 0} (R : ℕ → X → Type 0) (from n : ℕ) (xs : List X) → AllZip R (range_with_len from n) xs → (length xs ≡ n) × RelatedFrom R from n xs
 rows_at R from zero [] h = (refl, λ k d lt. absurd (omega arith))
 rows_at R from zero (x ∷ xs) h = absurd h
 rows_at R from (suc n) [] h = absurd h
 rows_at R from (suc n) (x ∷ xs) h = let rest = rows_at R (from + 1) n xs h.1 in (ap suc rest.0, related R from n x xs h.0 rest.1)
 
--- what the kinds of item add: what belongs to each class stands where its row says, and each row is readable
+-- the conditions on the items of classes: the items of each class are at the offsets of its row, and each row is
+-- readable
 pub record ItemsAreRight (D : List Definition) (b : List ℕ) : Type 0 where
   pub belong : (r : ℕ) (e : Definition) → r < length (in_class_order D) → BelongsAt b r (get_or (in_class_order D) r e).1
   pub readable : (r : ℕ) → r < table_size b ClassDefs → IsReadable b r
@@ -54,7 +55,7 @@ module _ (D : List Definition) (b : List ℕ) (n : AreNormal D b) (items : Items
   pub class_row_is : (r : ℕ) (e : Definition) → r < length (in_class_order D) → ClassRow b r (get_or (in_class_order D) r e).0 (get_or (in_class_order D) r e).1
   class_row_is r e lt = class_stands D b n r e lt (items.belong r e lt)
 
-  -- and no other
+  -- and no other class
   pub only_class : (r : ℕ) (d : Definition) → ClassRow b r d.0 d.1 → (r < length (in_class_order D)) × (get_or (in_class_order D) r d ≡ d)
   only_class r d h =
       let lt : r < length (in_class_order D) = omega (arith, h.row, n.file.laid.count ClassDefs) in
@@ -77,7 +78,7 @@ module _ (D : List Definition) (b : List ℕ) (n : AreNormal D b) (items : Items
       class_names-apart D i j d ij y.0 (ap (λ (z : Definition). z.0) (one ∙ same ∙ sym other)))
       (λ d c. let x = is c.0 d c.1 in in_class_order-only D d (subst (Contains (in_class_order D)) (x.1 ∙ c.2) (Contains-get_or (in_class_order D) c.0 (get_or E c.0 d) x.0)))
 
-  -- all 23 conditions, where the first 16 hold
+  -- all 23 conditions, if the first 16 hold
   accepted : Fits greatest_caps D → HoldBelow 17 b → IsAccepted b
   accepted fits first Condition.Size = first Condition.Size (omega arith)
   accepted fits first Condition.Magic = first Condition.Magic (omega arith)
@@ -119,11 +120,11 @@ canonical_normal K fits formed =
       pools = mentions-pools (definitions K) formed;
     }
 
--- and of definitions that can be in one file
+-- and the bytes of definitions that can be in one file
 pub canonical_all_normal : (K : Collection) → IsGood greatest_caps (definitions K) → AreWellFormed (definitions K) → AreNormal (definitions K) (canonical K)
 canonical_all_normal K good formed = record { file = canonical_normal K good.fits formed; formed = formed; names = definitions-distinct K; acyclic = good.acyclic }
 
--- conditions 1 to 16 hold of it
+-- it meets conditions 1 to 16
 pub canonical_rows_hold : (K : Collection) → IsGood greatest_caps (definitions K) → AreWellFormed (definitions K) → HoldBelow 17 (canonical K)
 canonical_rows_hold K good formed = each
   where
@@ -158,12 +159,12 @@ canonical_rows_hold K good formed = each
     each Condition.Annotations lt = absurd (omega (arith, lt))
     each Condition.Weight lt = absurd (omega (arith, lt))
 
--- accepted, and denotes the collection
+-- the bytes are accepted, and denote the collection
 pub record IsFileOf (K : Collection) (b : List ℕ) : Type 0 where
   pub accepted : IsAccepted b
   pub denotes : Denotes b K
 
--- the canonical file does, where the items are right
+-- the canonical file has this property, if the items are valid
 pub normal_form : (K : Collection) → IsGood greatest_caps (definitions K) → AreWellFormed (definitions K) → ItemsAreRight (definitions K) (canonical K) → IsFileOf K (canonical K)
 normal_form K good formed items =
     let D = definitions K in

@@ -1,4 +1,4 @@
--- The rows of the five pools in the file of definitions: each is the symbol of its place, in order.
+-- The rows of the five pools in the file of definitions: each denotes the symbol at its place, in order.
 use Rattle.std.proofs.Common.{◌≡◌, ℕ, ◌^◌, ◌<◌, List, length, get_or, arith}
 use Rattle.std.specs.List.{Contains}
 use Rattle.dexspec.specs.Lists.{rank}
@@ -18,20 +18,20 @@ use Rattle.dexspec.proofs.PoolsStand.{ArePools, text_row, type_row, proto_row, f
 use Rattle.dexspec.proofs.PoolsInOrder.{string_holds, type_holds, proto_holds, field_holds, method_holds}
 use Rattle.dexspec.proofs.RankOrder.{at_places}
 
--- what the bytes of a file of definitions are: laid so, with pools whose indices fit
+-- the bytes of a file of definitions: with this layout, and with pools whose indices fit
 pub record IsNormal (D : List Definition) (b : List ℕ) : Type 0 where
   pub laid : Laid (ordered D) b
   pub few : AreFew (ordered D)
   pub pools : ArePools (mentions D)
 
 module _ (D : List Definition) (b : List ℕ) (n : IsNormal D b) where
-  -- no table has more rows than the file has bytes
+  -- a table has at most as many rows as the file has bytes
   pub count_small : (t : Table) → table_count (ordered D) t < 2 ^ 32
   count_small t = omega (arith, table_few (ordered D) t, n.laid.data_from, n.laid.data_to, n.laid.small)
 
   -- ---- texts
 
-  -- a mentioned text stands at its rank
+  -- a mentioned text is at its rank
   pub string_ranked : (s : Text) → Contains (mentions D).texts s → StringRow b (rank text_cmp s (mentions D).texts) s
   string_ranked = text_row n.laid n.few n.pools
 
@@ -39,7 +39,7 @@ module _ (D : List Definition) (b : List ℕ) (n : IsNormal D b) where
   pub string_stands : (i : ℕ) (d : Text) → i < length (mentions D).texts → StringRow b i (get_or (mentions D).texts i d)
   string_stands = at_places text_cmp text_total (mentions D).texts (mentions-rising D).texts (StringRow b) string_ranked
 
-  -- and no other
+  -- and no other text
   pub only_string : (i : ℕ) (s : Text) → StringRow b i s → (i < length (mentions D).texts) × (get_or (mentions D).texts i s ≡ s)
   only_string i s h =
       let lt : i < length (mentions D).texts = omega (arith, h.row, n.laid.count StringIds) in
@@ -51,7 +51,7 @@ module _ (D : List Definition) (b : List ℕ) (n : IsNormal D b) where
 
   -- ---- types
 
-  -- a mentioned type stands at its rank
+  -- a mentioned type is at its rank
   pub type_ranked : (t : Text) → Contains (mentions D).types t → TypeRow b (rank text_cmp t (mentions D).types) t
   type_ranked = type_row n.laid n.few n.pools
 
@@ -59,7 +59,7 @@ module _ (D : List Definition) (b : List ℕ) (n : IsNormal D b) where
   pub type_stands : (i : ℕ) (d : Text) → i < length (mentions D).types → TypeRow b i (get_or (mentions D).types i d)
   type_stands = at_places text_cmp text_total (mentions D).types (mentions-rising D).types (TypeRow b) type_ranked
 
-  -- and no other
+  -- and no other type
   pub only_type : (i : ℕ) (t : Text) → TypeRow b i t → (i < length (mentions D).types) × (get_or (mentions D).types i t ≡ t)
   only_type i t h =
       let lt : i < length (mentions D).types = omega (arith, h.row, n.laid.count TypeIds) in
@@ -71,7 +71,7 @@ module _ (D : List Definition) (b : List ℕ) (n : IsNormal D b) where
 
   -- ---- protos
 
-  -- a mentioned proto stands at its rank
+  -- a mentioned proto is at its rank
   pub proto_ranked : (p : Proto) → Contains (mentions D).protos p → ProtoRow b (rank proto_cmp p (mentions D).protos) p
   proto_ranked = proto_row n.laid n.few n.pools
 
@@ -79,7 +79,7 @@ module _ (D : List Definition) (b : List ℕ) (n : IsNormal D b) where
   pub proto_stands : (i : ℕ) (d : Proto) → i < length (mentions D).protos → ProtoRow b i (get_or (mentions D).protos i d)
   proto_stands = at_places proto_cmp proto_total (mentions D).protos (mentions-rising D).protos (ProtoRow b) proto_ranked
 
-  -- and no other
+  -- and no other proto
   pub only_proto : (i : ℕ) (p : Proto) → ProtoRow b i p → (i < length (mentions D).protos) × (get_or (mentions D).protos i p ≡ p)
   only_proto i p h =
       let lt : i < length (mentions D).protos = omega (arith, h.row, n.laid.count ProtoIds) in
@@ -91,7 +91,7 @@ module _ (D : List Definition) (b : List ℕ) (n : IsNormal D b) where
 
   -- ---- fields
 
-  -- a mentioned field stands at its rank
+  -- a mentioned field is at its rank
   pub field_ranked : (f : Field) → Contains (mentions D).fields f → FieldRow b (rank field_cmp f (mentions D).fields) f
   field_ranked = field_row n.laid n.few n.pools
 
@@ -99,7 +99,7 @@ module _ (D : List Definition) (b : List ℕ) (n : IsNormal D b) where
   pub field_stands : (i : ℕ) (d : Field) → i < length (mentions D).fields → FieldRow b i (get_or (mentions D).fields i d)
   field_stands = at_places field_cmp field_total (mentions D).fields (mentions-rising D).fields (FieldRow b) field_ranked
 
-  -- and no other
+  -- and no other field
   pub only_field : (i : ℕ) (f : Field) → FieldRow b i f → (i < length (mentions D).fields) × (get_or (mentions D).fields i f ≡ f)
   only_field i f h =
       let lt : i < length (mentions D).fields = omega (arith, h.row, n.laid.count FieldIds) in
@@ -111,7 +111,7 @@ module _ (D : List Definition) (b : List ℕ) (n : IsNormal D b) where
 
   -- ---- methods
 
-  -- a mentioned method stands at its rank
+  -- a mentioned method is at its rank
   pub method_ranked : (x : Method) → Contains (mentions D).methods x → MethodRow b (rank method_cmp x (mentions D).methods) x
   method_ranked = method_row n.laid n.few n.pools
 
@@ -119,7 +119,7 @@ module _ (D : List Definition) (b : List ℕ) (n : IsNormal D b) where
   pub method_stands : (i : ℕ) (d : Method) → i < length (mentions D).methods → MethodRow b i (get_or (mentions D).methods i d)
   method_stands = at_places method_cmp method_total (mentions D).methods (mentions-rising D).methods (MethodRow b) method_ranked
 
-  -- and no other
+  -- and no other method
   pub only_method : (i : ℕ) (x : Method) → MethodRow b i x → (i < length (mentions D).methods) × (get_or (mentions D).methods i x ≡ x)
   only_method i x h =
       let lt : i < length (mentions D).methods = omega (arith, h.row, n.laid.count MethodIds) in

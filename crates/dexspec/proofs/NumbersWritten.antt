@@ -1,4 +1,4 @@
--- Numbers as LEB128 stand where their shortest spellings were written; symbols that stand in the rows of their indices.
+-- LEB128 numbers are at the offsets of their shortest encodings; symbols are in the rows of their indices.
 use Rattle.std.proofs.Common.{ℕ, ◌+◌, ◌^◌, ◌<◌, List, [], ◌∷◌, ◌++◌, length, Option, arith}
 use Rattle.std.specs.Prelude.{ℤ, FitsSigned}
 use Rattle.std.specs.Int.{w32}
@@ -15,21 +15,21 @@ use Rattle.dexspec.proofs.Members.{Contains-first, Contains-later}
 use Rattle.dexspec.proofs.Spellings.{uleb128_is, sleb128_is, uleb128p1_is}
 use Rattle.dexspec.proofs.PoolsStand.{begins_with}
 
--- ---- parts of what stands
+-- ---- parts of bytes at an offset
 
--- the front of what stands
+-- the prefix of the bytes at an offset
 pub front_stands : {b : List ℕ} {o : ℕ} (x y : List ℕ) → Stands b o (x ++ y) → Stands b o x
 front_stands x y h = stands_at (omega arith) (stands_in h (stands_first x y))
 
--- what is behind the front
+-- the bytes after the prefix
 pub back_stands : {b : List ℕ} {o : ℕ} (x y : List ℕ) → Stands b o (x ++ y) → Stands b (o + length x) y
 back_stands x y h = stands_at (omega arith) (stands_in h (stands_later x (stands_whole y)))
 
--- the first byte of what stands
+-- the first of the bytes at an offset
 pub head_stands : {b : List ℕ} {o : ℕ} (x : ℕ) (y : List ℕ) → Stands b o (x ∷ y) → Stands b o (x ∷ [])
 head_stands x y h = front_stands (x ∷ []) y h
 
--- what is behind it
+-- the bytes after the first
 pub tail_stands : {b : List ℕ} {o : ℕ} (x : ℕ) (y : List ℕ) → Stands b o (x ∷ y) → Stands b (o + 1) y
 tail_stands x y h = stands_at (omega arith) (back_stands (x ∷ []) y h)
 
@@ -49,27 +49,27 @@ uleb128p1_written b o v lt h = begins_with IsUleb128p1 b o (uleb128p1 v) v h (ul
 
 -- ---- symbols in the rows of their indices
 
--- the symbol stands in the row of its index, and the index plus one fits 32 bits
+-- the symbol is in the row of its index, and the index plus one fits 32 bits
 abbrev pub IsInRow : List ℕ → Mentions → Symbol → Type 0
 IsInRow b m s = SymbolRow b (symbol_index m s) s × (symbol_index m s + 1 < 2 ^ 32)
 
--- each of them does
+-- each symbol is in the row of its index
 abbrev pub AreInRows : List ℕ → Mentions → List Symbol → Type 0
 AreInRows b m ss = (s : Symbol) → Contains ss s → IsInRow b m s
 
 module _ (b : List ℕ) (m : Mentions) where
-  -- the first does
+  -- the first symbol
   pub first_in_row : (s : Symbol) (ss : List Symbol) → AreInRows b m (s ∷ ss) → IsInRow b m s
   first_in_row s ss are = are s (Contains-first s ss)
 
-  -- and the others do
+  -- the other symbols
   pub rest_in_rows : (s : Symbol) (ss : List Symbol) → AreInRows b m (s ∷ ss) → AreInRows b m ss
   rest_in_rows s ss are = λ t c. are t (Contains-later s t ss c)
 
-  -- those of the front do
+  -- the symbols of a prefix
   pub front_in_rows : (ss ts : List Symbol) → AreInRows b m (ss ++ ts) → AreInRows b m ss
   front_in_rows ss ts are = λ t c. are t (Contains-append_left ss ts t c)
 
-  -- and those behind it
+  -- the symbols after the prefix
   pub back_in_rows : (ss ts : List Symbol) → AreInRows b m (ss ++ ts) → AreInRows b m ts
   back_in_rows ss ts are = λ t c. are t (Contains-append_right ss ts t c)

@@ -1,4 +1,4 @@
--- A class row is one definition at most: its annotations, class data and members are determined.
+-- A class row denotes at most one definition: its annotations, class data and members are determined.
 use Rattle.std.proofs.Common.{◌≡◌, ℕ, ◌+◌, ◌*◌, List, [], ◌∷◌, length, map, Option, Some, None, refl, ap, sym, subst, ◌∙◌, arith, ◌≤◌, ◌<◌, All, take, drop, length-take, ◌^◌}
 use Rattle.std.proofs.Math.Nat.{pow-le-pow_right}
 use Rattle.std.proofs.lemmas.List.Elements.{All-take, All-drop}
@@ -39,7 +39,7 @@ pub one_ref_list : (b : List ℕ) (o : ℕ) (x y : List AnnotationSet) → RefLi
 one_ref_list b o x y h g =
     one_all_zip (OrNone SetAt [] b) (λ p s t. one_or_none SetAt [] b p s t (one_set b p s t)) (uints_at b (o + 4) (uint_at b o)) x y h.sets g.sets
 
--- one list of members with what belongs to them
+-- one list of members with their items
 one_pairs : {M X : Type 0} (Row : List ℕ → ℕ → M → Type 0) (At : List ℕ → ℕ → X → Type 0) → ((b : List ℕ) (i : ℕ) (x y : M) → Row b i x → Row b i y → x ≡ y) → ((b : List ℕ) (o : ℕ) (x y : X) → At b o x → At b o y → x ≡ y)
     → (b : List ℕ) (o n : ℕ) (xs ys : List (M × X)) → PairsAt Row At b o n xs → PairsAt Row At b o n ys → xs ≡ ys
 one_pairs {M} {X} Row At one_row one_item b o n xs ys h g =
@@ -61,7 +61,7 @@ one_next : (last : Option ℕ) (d e i j : ℕ) → d ≡ e → IsNextIndex last 
 one_next None d e i j same h g = h ∙ same ∙ sym g
 one_next (Some last) d e i j same h g = omega (arith, same, h.1, g.1)
 
--- as many fields
+-- one list of fields
 pub one_encoded_fields : (b : List ℕ) (o : ℕ) (last : Option ℕ) (xs ys : List EncodedField) (n k : ℕ) → length xs ≡ length ys → EncodedFieldsAt b o last xs n → EncodedFieldsAt b o last ys k → (xs ≡ ys) × (n ≡ k)
 one_encoded_fields b o last [] [] n k len h g = (refl, h ∙ sym g)
 one_encoded_fields b o last [] (y ∷ ys) n k len h g = absurd (omega arith)
@@ -76,7 +76,7 @@ one_encoded_fields b o last (x ∷ xs) (y ∷ ys) n k len h g =
     let rest = one_encoded_fields b (o + g.0 + g.1) (Some g.4) xs ys h.2 g.2 (omega arith) (subst (λ (i : ℕ). EncodedFieldsAt b (o + g.0 + g.1) (Some i) xs h.2) index moved) g.9 in
     ((λ i. record { field = field i; flags = flags.0 i } ∷ rest.0 i), omega (arith, difference.1, flags.1, rest.1, h.10, g.10))
 
--- as many methods
+-- one list of methods
 pub one_encoded_methods : (b : List ℕ) (o : ℕ) (last : Option ℕ) (xs ys : List EncodedMethod) (n k : ℕ) → length xs ≡ length ys → EncodedMethodsAt b o last xs n → EncodedMethodsAt b o last ys k → (xs ≡ ys) × (n ≡ k)
 one_encoded_methods b o last [] [] n k len h g = (refl, h ∙ sym g)
 one_encoded_methods b o last [] (y ∷ ys) n k len h g = absurd (omega arith)
@@ -120,11 +120,11 @@ one_class_data b o x y h g =
 
 -- ---- class rows
 
--- every table has fewer rows than the index that names nothing
+-- each table has fewer rows than NO_INDEX
 abbrev pub HasFewRows : List ℕ → Type 0
 HasFewRows b = (t : Table) → table_size b t ≤ no_index
 
--- a list of bytes has so few rows
+-- a list of bytes has that few rows
 pub few_rows : (b : List ℕ) → All (λ byte. byte < 256) b → HasFewRows b
 unfolding uint_at
 few_rows b bytes t =
@@ -135,7 +135,7 @@ few_rows b bytes t =
     omega (arith, small, most)
 
 module _ (b : List ℕ) (few : HasFewRows b) where
-  -- what an index names, or nothing: no row has the index that names nothing
+  -- the value of an optional index: no row has the index NO_INDEX
   one_index_or_none : {X : Type 0} (Row : List ℕ → ℕ → X → Type 0) → ((b : List ℕ) (i : ℕ) (x y : X) → Row b i x → Row b i y → x ≡ y) → ((i : ℕ) (x : X) → Row b i x → i < no_index)
       → (i : ℕ) (x y : Option X) → IndexOrNone Row b i x → IndexOrNone Row b i y → x ≡ y
   one_index_or_none Row one below i None None h g = refl
@@ -147,15 +147,15 @@ module _ (b : List ℕ) (few : HasFewRows b) where
   pub one_superclass : (i : ℕ) (x y : Option Text) → IndexOrNone ClassTypeRow b i x → IndexOrNone ClassTypeRow b i y → x ≡ y
   one_superclass = one_index_or_none ClassTypeRow (λ b i s t h g. one_type b i s t h.row g.row) (λ i t h. omega (arith, h.row.row, few TypeIds))
 
-  -- one source, or none
+  -- one source text, or none
   pub one_source : (i : ℕ) (x y : Option Text) → IndexOrNone StringRow b i x → IndexOrNone StringRow b i y → x ≡ y
   one_source = one_index_or_none StringRow one_string (λ i t h. omega (arith, h.row, few StringIds))
 
-  -- the directory and the class data of a row
+  -- the directory of a row
   pub one_row_directory : (o : ℕ) (x y : Directory) → OrNone DirectoryAt no_directory b o x → OrNone DirectoryAt no_directory b o y → x ≡ y
   one_row_directory o x y h g = one_or_none DirectoryAt no_directory b o x y (one_directory b o x y) h g
 
-  -- and one class data
+  -- the class data of a row
   pub one_row_data : (o : ℕ) (x y : ClassData) → OrNone ClassDataAt no_class_data b o x → OrNone ClassDataAt no_class_data b o y → x ≡ y
   one_row_data o x y h g = one_or_none ClassDataAt no_class_data b o x y (one_class_data b o x y) h g
 
@@ -170,7 +170,7 @@ module _ (b : List ℕ) (few : HasFewRows b) where
       let parameters : m.parameter_annotations ≡ n.parameter_annotations = h.parameter_annotations ∙ sym g.parameter_annotations in
       λ i. record { name = name i; proto = proto i; flags = flags i; code = code i; annotations = annotations i; parameter_annotations = parameters i }
 
-  -- as many methods
+  -- one list of methods
   one_methods : (d e : Directory) (xs ys : List EncodedMethod) (ms ns : List MethodDef) → d ≡ e → xs ≡ ys → AllZip (MakesMethod b d) xs ms → AllZip (MakesMethod b e) ys ns → ms ≡ ns
   one_methods d e xs ys ms ns same all h g =
       one_all_zip (MakesMethod b e) (one_made e) ys ms ns (subst (λ (zs : List EncodedMethod). AllZip (MakesMethod b e) zs ms) all (subst (λ (a : Directory). AllZip (MakesMethod b a) xs ms) same h)) g
@@ -179,7 +179,7 @@ module _ (b : List ℕ) (few : HasFewRows b) where
   one_static_values : (o : ℕ) (x y : Values) → OrNone StaticValuesAt NoValues b o x → OrNone StaticValuesAt NoValues b o y → x ≡ y
   one_static_values o x y h g = one_or_none StaticValuesAt NoValues b o x y (λ s t. (one_array b o x y s.0 t.0 s.1.array t.1.array).0) h g
 
-  -- a class row is one definition at most
+  -- a class row denotes at most one definition
   pub one_class_row : (r : ℕ) (n m : Text) (c d : Body) → ClassRow b r n c → ClassRow b r m d → (n ≡ m) × (c ≡ d)
   one_class_row r n m c d h g =
       let name = one_type b (class_idx b r) n m h.class.row g.class.row in

@@ -1,4 +1,4 @@
--- At an offset stands one code item at most: its units are cut in one way, and a handler's place tells it.
+-- There is at most one code item at an offset: its units are cut in one way, and the offset of a handler determines it.
 use Rattle.std.proofs.Common.{◌≡◌, ℕ, ◌+◌, ◌*◌, ◌<◌, inl, inr, List, [], ◌∷◌, ◌++◌, length, drop, Option, Some, None, refl, ap, sym, subst, ◌∙◌, arith, zero, suc, slice_index, nat_abs}
 use Rattle.std.specs.Prelude.{ℤ, Bool, true, false, if◌then◌else◌}
 use Rattle.std.specs.Option.{option_and_then}
@@ -20,16 +20,16 @@ use Rattle.dexspec.proofs.OneDebug.{one_debug}
 
 -- ---- cuts
 
--- no piece begins where no unit is left
+-- without units no piece begins
 nothing_left : (at : ℕ) (us : List ℕ) (n : ℕ) → us ≡ [] → piece_size at us ≡ Some n → ⊥
 unfolding piece_size
 nothing_left at us n e s = let z : piece_size at [] ≡ Some n = ap (piece_size at) (sym e) ∙ s in absurd cc
 
--- what an option has
+-- the value of an option
 same_some : {X : Type 0} (o : Option X) (x y : X) → o ≡ Some x → o ≡ Some y → x ≡ y
 same_some o x y e f = let z : Some x ≡ Some y = sym e ∙ f in cc
 
--- units are cut to the end in one way at most
+-- units are cut to the end in at most one way
 pub one_cut : (at : ℕ) (us : List ℕ) (cs ds : List Cut) → AreCut at us cs [] → AreCut at us ds [] → cs ≡ ds
 one_cut at us [] [] h g = refl
 one_cut at us [] (d ∷ ds) h g = absurd (nothing_left at us d.units h g.1)
@@ -46,7 +46,7 @@ one_cut at us (c ∷ cs) (d ∷ ds) h g =
 no_pool : (us : List ℕ) → is_payload_ident (slice_index us 0) ≡ true → index_pool us ≡ None
 no_pool us e = ap (λ (t : Bool). if t then None else option_and_then (λ op. op.index) (opcode_of (low_byte (slice_index us 0)))) e
 
--- units stand for one piece at most
+-- units encode at most one piece
 pub one_piece : (b us : List ℕ) (p q : Piece) → StandsForPiece (SymbolRow b) us p → StandsForPiece (SymbolRow b) us q → p ≡ q
 one_piece b us (Instruction xs None) (Instruction ys None) h g = ap (λ (zs : List ℕ). Instruction zs None) (h.2 ∙ sym g.2)
 one_piece b us (Instruction xs None) (Instruction ys (Some t)) h g = absurd (let z : None ≡ Some (pool_of t) = sym h.1 ∙ g.0 in cc)
@@ -61,7 +61,7 @@ one_piece b us (Payload xs) (Instruction ys None) h g = absurd (let z : false �
 one_piece b us (Payload xs) (Instruction ys (Some t)) h g = absurd (let z : None ≡ Some (pool_of t) = sym (no_pool us h.0) ∙ g.0 in cc)
 one_piece b us (Payload xs) (Payload ys) h g = ap Payload (h.1 ∙ sym g.1)
 
--- at an offset stand the units of one code item at most, cut into pieces in one way
+-- the units at an offset are those of at most one code item, cut into pieces in one way
 pub one_pieces : (b : List ℕ) (o : ℕ) (cs ds : List Cut) (ps qs : List Piece) → PiecesAt b o cs ps → PiecesAt b o ds qs → (cs ≡ ds) × (ps ≡ qs)
 one_pieces b o cs ds ps qs h g =
     let cuts = one_cut 0 (code_units b o) cs ds h.code.cut g.code.cut in
@@ -70,7 +70,7 @@ one_pieces b o cs ds ps qs h g =
 
 -- ---- handlers
 
--- a number has one byte at least
+-- a number has at least one byte
 sleb_some : (b : List ℕ) (o : ℕ) (v : ℤ) (n : ℕ) → Sleb128At b o v n → 0 < n
 sleb_some b o v zero h = absurd h.spelled.chain
 sleb_some b o v (suc n) h = omega arith
@@ -84,7 +84,7 @@ module _ (us : List ℕ) (cuts : List Cut) where
       let address = one_uleb128 b (o + g.index_size) c.address d.address h.address_size g.address_size (subst (λ (i : ℕ). Uleb128At b (o + i) c.address h.address_size) index.1 h.address) g.address in
       ((λ i. record { type = type i; address = address.0 i }), omega (arith, index.1, address.1, h.size, g.size))
 
-  -- one address for all else, or none
+  -- one catch-all address, or none
   one_catch_all : (size : ℤ) (b : List ℕ) (o : ℕ) (c d : Option ℕ) (n k : ℕ) → CatchAllAt us cuts size b o c n → CatchAllAt us cuts size b o d k → (c ≡ d) × (n ≡ k)
   one_catch_all size b o None None n k h g = (refl, h.1 ∙ sym g.1)
   one_catch_all size b o None (Some d) n k h g = absurd (omega (arith, ints, h.0, g.0))
@@ -104,7 +104,7 @@ module _ (us : List ℕ) (cuts : List Cut) where
       (subst (λ (p : ℕ). CatchAllAt us cuts g.count b p x.catch_all h.all_size) place moved) g.all in
       ((λ i. record { catches = catches.0 i; catch_all = all.0 i }), omega (arith, count.1, catches.1, all.1, h.size, g.size))
 
--- of one list the item behind as many bytes of items is one
+-- in one list the item after a number of bytes of items is determined
 one_place : {X : Type 0} (At : Item X) → ((b : List ℕ) (o : ℕ) (x y : X) (n k : ℕ) → At b o x n → At b o y k → (x ≡ y) × (n ≡ k)) → ((b : List ℕ) (o : ℕ) (x : X) (n : ℕ) → At b o x n → 0 < n)
     → (b : List ℕ) (o : ℕ) (xs ys : List X) (x y : X) (more others : List X) (n k : ℕ) → xs ++ x ∷ more ≡ ys ++ y ∷ others → n ≡ k → Sequence At b o xs n → Sequence At b o ys k → x ≡ y
 one_place At one some b o [] [] x y more others n k e is h g = cc
@@ -119,7 +119,7 @@ one_place At one some b o (w ∷ xs) (z ∷ ys) x y more others n k e is h g =
 -- ---- tries
 
 module _ (us : List ℕ) (cuts : List Cut) where
-  -- one handler begins at a place of the list
+  -- one handler begins at an offset of the list
   one_offset : (b : List ℕ) (o size : ℕ) (hs : List Handler) (off : ℕ) (x y : Handler) → IsHandler us cuts b o size hs off x → IsHandler us cuts b o size hs off y → x ≡ y
   one_offset b o size hs off x y h g =
       one_place (HandlerAt us cuts) (one_handler us cuts) (λ b o x n at. omega (arith, at.size, sleb_some b o at.count at.count_size at.count_is))
@@ -133,7 +133,7 @@ module _ (us : List ℕ) (cuts : List Cut) where
       let handler = one_offset b list size hs (ushort_at b (o + 6)) t.handler u.handler h.handler g.handler in
       ((λ i. record { start = start i; count = count i; handler = handler i }), h.size ∙ sym g.size)
 
-  -- as many tries
+  -- one list of tries
   pub one_try_items : (b : List ℕ) (o count : ℕ) (ts vs : List Try) → TryItemsAt us cuts b o count ts → TryItemsAt us cuts b o count vs → ts ≡ vs
   one_try_items b o count ts vs h g =
       let many = one_uleb128 b (o + 8 * count) (length h.handlers) (length g.handlers) h.count_size g.count_size h.list_count g.list_count in
@@ -143,7 +143,7 @@ module _ (us : List ℕ) (cuts : List Cut) where
       let items = subst (λ (hs : List Handler). Sequence (TryAt us cuts (o + 8 * count) g.count_size hs) b o ts (8 * count)) list.0 moved in
       (one_sequence (TryAt us cuts (o + 8 * count) g.count_size g.handlers) (one_try (o + 8 * count) g.count_size g.handlers) b o ts vs (8 * count) (8 * count) (h.many ∙ sym g.many) items g.items).0
 
--- a code item has one list of tries at most
+-- a code item has at most one list of tries
 pub one_tries : (b : List ℕ) (o : ℕ) (cuts : List Cut) (ts vs : List Try) → TriesAt b o cuts ts → TriesAt b o cuts vs → ts ≡ vs
 one_tries b o cuts ts vs (inl h) (inl g) = h.1 ∙ sym g.1
 one_tries b o cuts ts vs (inl h) (inr g) = absurd (g.0 h.0)
@@ -155,13 +155,13 @@ one_tries b o cuts ts vs (inr (c, inr h)) (inr (d, inr g)) = one_try_items (code
 
 -- ---- the whole
 
--- what there is of one kind
+-- one optional item of a kind
 pub one_some : {X : Type 0} (At : List ℕ → ℕ → X → Type 0) → ((b : List ℕ) (o : ℕ) (x y : X) → At b o x → At b o y → x ≡ y) → (b : List ℕ) (o : ℕ) (x y : Option X) → SomeAt At b o x → SomeAt At b o y → x ≡ y
 one_some At one b o None y h g = absurd h
 one_some At one b o (Some x) None h g = absurd g
 one_some At one b o (Some x) (Some y) h g = ap Some (one b o x y h g)
 
--- at an offset stands one code item at most
+-- there is at most one code item at an offset
 pub one_code_item : (b : List ℕ) (o : ℕ) (c d : Code) → CodeAt b o c → CodeAt b o d → c ≡ d
 one_code_item b o c d h g =
     let registers : c.registers ≡ d.registers = sym h.registers.registers_size ∙ g.registers.registers_size in

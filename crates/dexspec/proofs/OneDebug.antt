@@ -1,5 +1,5 @@
--- At an offset stands one operation of a debug program at most, in one size, and one program at most: the
--- opcode tells which kind of operation it is, and the opcode 0 ends the program.
+-- There is at most one operation of a debug program at an offset, in one size, and at most one program: the opcode
+-- determines the kind of operation, and the opcode 0 ends the program.
 use Rattle.std.proofs.Common.{◌≡◌, ℕ, ◌+◌, ◌≤◌, List, [], ◌∷◌, length, Option, Some, None, refl, ap, sym, subst, ◌∙◌, arith}
 use Rattle.std.specs.Prelude.{ℤ, pos, if◌then◌else◌, nat_lt, ◌==◌}
 use Rattle.std.proofs.lemmas.Bool.{le-ltb}
@@ -14,9 +14,9 @@ use Rattle.dexspec.proofs.Sequences.{one_sequence}
 use Rattle.dexspec.proofs.OneNumber.{one_uleb128, one_sleb128, one_uleb128p1}
 use Rattle.dexspec.proofs.OneRow.{one_string, one_type}
 
--- ---- what an index names, or nothing
+-- ---- the value of an optional index
 
--- what a row names, or nothing where there is no index
+-- the value of a row, or nothing without an index
 one_both : {X : Type 0} (R : ℕ → X → Type 0) → ((i : ℕ) (x y : X) → R i x → R i y → x ≡ y) → (i : Option ℕ) (x y : Option X) → BothOrNone R i x → BothOrNone R i y → x ≡ y
 one_both R one None None None h g = refl
 one_both R one None None (Some y) h g = absurd g
@@ -25,7 +25,7 @@ one_both R one (Some i) None y h g = absurd h
 one_both R one (Some i) (Some x) None h g = absurd g
 one_both R one (Some i) (Some x) (Some y) h g = ap Some (one i x y h g)
 
--- an index that may be none names one thing at most
+-- an optional index has at most one value
 one_optional : {X : Type 0} (Row : List ℕ → ℕ → X → Type 0) → ((b : List ℕ) (i : ℕ) (x y : X) → Row b i x → Row b i y → x ≡ y)
     → (b : List ℕ) (o : ℕ) (x y : Option X) (n k : ℕ)
     → (i : Option ℕ) × Uleb128p1At b o i n × BothOrNone (Row b) i x → (i : Option ℕ) × Uleb128p1At b o i k × BothOrNone (Row b) i y → (x ≡ y) × (n ≡ k)
@@ -56,7 +56,7 @@ opcode_of SetEpilogueBegin = 0x08
 opcode_of (SetFile name) = 0x09
 opcode_of (Special opcode) = opcode
 
--- the parts of an operation, at any kind
+-- the parts of an operation of any kind
 abbrev number_part : Operation → ℕ
 number_part (AdvancePc addresses) = addresses
 number_part (StartLocal register name type) = register
@@ -88,7 +88,7 @@ abbrev signature_part : Operation → Option Text
 signature_part (StartLocalExtended register name type signature) = signature
 signature_part _ = None
 
--- the operation of an opcode that has the parts of another
+-- the operation of an opcode with the parts of another
 abbrev with_opcode : ℕ → Operation → Operation
 with_opcode c op =
     if nat_lt c 0x0a then
@@ -103,17 +103,17 @@ with_opcode c op =
     else SetFile (name_part op))
     else Special c
 
--- from 0x0a on an opcode alone tells the operation
+-- from 0x0a on the opcode alone determines the operation
 special_code : (c : ℕ) (op : Operation) → 0x0a ≤ c → with_opcode c op ≡ Special c
 special_code c op high = rw (le-ltb c 0x0a high) refl
 
--- an operation by its opcode: what stands first, and what it is rebuilt from
+-- an operation by its opcode: the first byte, and the operation that is rebuilt from it
 record ByOpcode (b : List ℕ) (o : ℕ) (op : Operation) : Type 0 where
   stands : Stands b o (opcode_of op ∷ [])
   some : 1 ≤ opcode_of op
   own : with_opcode (opcode_of op) op ≡ op
 
--- each operation that stands in a file is told by its opcode
+-- each operation in a file is determined by its opcode
 by_opcode : (b : List ℕ) (o : ℕ) (op : Operation) (n : ℕ) → OperationAt b o op n → ByOpcode b o op
 by_opcode b o (AdvancePc addresses) n h = record { stands = h.0; some = omega arith; own = refl }
 by_opcode b o (AdvanceLine lines) n h = record { stands = h.0; some = omega arith; own = refl }
@@ -126,20 +126,20 @@ by_opcode b o SetEpilogueBegin n h = record { stands = h.0; some = omega arith; 
 by_opcode b o (SetFile name) n h = record { stands = h.0; some = omega arith; own = refl }
 by_opcode b o (Special opcode) n h = record { stands = h.0; some = omega (arith, h.1); own = special_code opcode (Special opcode) h.1 }
 
--- what stands where an operation does is of its kind
+-- operations at one offset have the same kind
 same_kind : (b : List ℕ) (o : ℕ) (x y : Operation) (n k : ℕ) → OperationAt b o x n → OperationAt b o y k → y ≡ with_opcode (opcode_of x) y
 same_kind b o x y n k h g =
     let p = by_opcode b o x n h in
     let q = by_opcode b o y k g in
     sym q.own ∙ ap (λ (c : ℕ). with_opcode c y) (same_first (opcode_of y) (opcode_of x) [] [] q.stands p.stands)
 
--- ---- what stands there
+-- ---- operations at an offset
 
--- an operation of one operand, with its kind known
+-- an operation of one operand, of a known kind
 one_operand : {X : Type 0} (make : X → Operation) (x y : X) (w : Operation) (n k i j : ℕ) → w ≡ make y → n ≡ 1 + i → k ≡ 1 + j → (x ≡ y) × (i ≡ j) → (make x ≡ w) × (n ≡ k)
 one_operand make x y w n k i j e is is' same = (ap make same.0 ∙ sym e, omega (arith, same.1))
 
--- at an offset stands one operation at most
+-- there is at most one operation at an offset
 pub one_operation : (b : List ℕ) (o : ℕ) (x y : Operation) (n k : ℕ) → OperationAt b o x n → OperationAt b o y k → (x ≡ y) × (n ≡ k)
 one_operation b o (AdvancePc addresses) y n k h g =
     let e = same_kind b o (AdvancePc addresses) y n k h g in
@@ -196,7 +196,7 @@ one_operation b o (Special opcode) y n k h g =
 
 -- ---- programs
 
--- no operation stands where a program ends
+-- there is no operation where a program ends
 not_end : (b : List ℕ) (o p : ℕ) (op : Operation) (n : ℕ) → p ≡ o → Stands b p (0x00 ∷ []) → ¬ OperationAt b o op n
 not_end b o p op n e end h =
     let q = by_opcode b o op n h in
@@ -213,7 +213,7 @@ one_program b o (x ∷ xs) (y ∷ ys) n k h g end end' =
     let rest = one_program b (o + g.0) xs ys h.1 g.1 (subst (λ (i : ℕ). Sequence OperationAt b (o + i) xs h.1) first.1 h.3) g.3 (stands_at (omega (arith, first.1, h.4)) end) (stands_at (omega (arith, g.4)) end') in
     ((λ i. first.0 i ∷ rest.0 i), omega (arith, h.4, g.4, first.1, rest.1))
 
--- at an offset stands one debug program at most
+-- there is at most one debug program at an offset
 pub one_debug : (b : List ℕ) (o : ℕ) (d e : Debug) → DebugAt b o d → DebugAt b o e → d ≡ e
 one_debug b o d e h g =
     let start = one_uleb128 b o d.line_start e.line_start h.start_size g.start_size h.line_start g.line_start in

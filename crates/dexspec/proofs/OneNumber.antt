@@ -1,4 +1,4 @@
--- At an offset stands one number at most, in one size.
+-- There is at most one number at an offset, in one size.
 use Rattle.std.proofs.Common.{◌≡◌, ℕ, ◌^◌, ◌<◌, List, drop, Option, sym}
 use Rattle.std.specs.Prelude.{ℤ, FitsSigned}
 use Rattle.std.specs.Int.{w32}

@@ -1,4 +1,4 @@
--- Bytes begin with the spelling of one unit at most, and with one text's item at most.
+-- Bytes begin with the encoding of at most one unit, and with the item of at most one text.
 use Rattle.std.proofs.Common.{◌≡◌, ◌≢◌, ℕ, zero, suc, ◌+◌, ◌/◌, ◌%◌, ◌^◌, ◌≤◌, ◌<◌, ◌⊎◌, inl, inr, List, [], ◌∷◌, ◌++◌, length, take, drop, refl, ap, sym, ◌∙◌, arith, append_assoc, length-append, length-take, take_at, drop_at, take-append-drop}
 use Rattle.std.proofs.lemmas.Bool.{cases_lt, lt-ltb, le-ltb, ne_eqb}
 use Rattle.std.proofs.lemmas.List.{append_cancel_left}
@@ -8,13 +8,13 @@ use Rattle.dexspec.specs.Texts.{Text, AreUnits, form, spelling, IsStringData, st
 use Rattle.dexspec.proofs.Stands.{same_heads}
 use Rattle.dexspec.proofs.Spellings.{same_number, uleb128_is}
 
--- a unit's spelling and what follows, by its bytes
+-- the encoding of a unit and the bytes after it, by cases on the first bytes
 pub data Shape (bytes : List ℕ) (u : ℕ) (rest : List ℕ) : Type 0 where
   One : 0 < u → u < 0x80 → bytes ≡ u ∷ rest → Shape bytes u rest
   Two : (u ≡ 0) ⊎ (0x80 ≤ u) → u < 0x800 → bytes ≡ (0xc0 + u / 64) ∷ (0x80 + u % 64) ∷ rest → Shape bytes u rest
   Three : 0x800 ≤ u → u < 0x10000 → bytes ≡ (0xe0 + u / 4096) ∷ (0x80 + u / 64 % 64) ∷ (0x80 + u % 64) ∷ rest → Shape bytes u rest
 
--- a unit's spelling has one of the three shapes
+-- the encoding of a unit has one of the three shapes
 pub shape_of : (u : ℕ) (rest : List ℕ) → u < 2 ^ 16 → Shape (form u ++ rest) u rest
 shape_of zero rest lt = Two (inl refl) (omega arith) refl
 shape_of (suc n) rest lt =
@@ -27,7 +27,7 @@ shape_of (suc n) rest lt =
       ])
     ]
 
--- two spellings of units at the front of the same bytes
+-- two encodings of units at the start of the same bytes
 same_shape : (bytes : List ℕ) (u v : ℕ) (x y : List ℕ) → Shape bytes u x → Shape bytes v y → u ≡ v
 same_shape bytes u v x y (One a lt e) (One a' lt' f) = (same_heads u v x y (sym e ∙ f)).0
 same_shape bytes u v x y (One a lt e) (Two a' lt' f) =
@@ -54,13 +54,13 @@ same_shape bytes u v x y (Three a lt e) (Three a' lt' f) =
     let middle : u / 64 % 64 ≡ v / 64 % 64 = omega (arith, k.0) in
     omega (arith, high, middle, l)
 
--- no unit's spelling begins another's
+-- no unit's encoding is a proper prefix of another's
 pub one_unit : (u v : ℕ) (x y : List ℕ) → u < 2 ^ 16 → v < 2 ^ 16 → form u ++ x ≡ form v ++ y → (u ≡ v) × (x ≡ y)
 one_unit u v x y lt lt' e =
     let same = same_shape (form u ++ x) u v x y (shape_of u x lt) (rw e (shape_of v y lt')) in
     (same, append_cancel_left (form u) x y (e ∙ ap (λ (w : ℕ). form w ++ y) (sym same)))
 
--- texts of one length whose spellings begin the same bytes
+-- texts of one length whose encodings begin the same bytes
 pub one_text : (s t : Text) (x y : List ℕ) → AreUnits s → AreUnits t → length s ≡ length t → spelling s ++ x ≡ spelling t ++ y → s ≡ t
 one_text [] [] x y us vs len e = refl
 one_text [] (v ∷ t) x y us vs len e = absurd (omega arith)
@@ -73,7 +73,7 @@ one_text (u ∷ s) (v ∷ t) x y us vs len e =
 
 -- ---- items
 
--- an item at the front of bytes, by its parts
+-- an item at the start of bytes, by its parts
 record Parts (bytes : List ℕ) (s : Text) (n : ℕ) : Type 0 where
   size : ℕ
   begins : BeginsWith IsUleb128 bytes (length s) size
@@ -93,7 +93,7 @@ parts bytes s n item =
       whole = omega (arith, item.within, length-take n bytes, ap length item.spelled.parts, length-append first (spelling s ++ 0 ∷ []), length-append (spelling s) (0 ∷ []));
     }
 
--- bytes begin with one text's item at most
+-- bytes begin with the item of at most one text
 pub one_string_data : (bytes : List ℕ) (s t : Text) (n k : ℕ) → BeginsWith IsStringData bytes s n → BeginsWith IsStringData bytes t k → (s ≡ t) × (n ≡ k)
 one_string_data bytes s t n k item other =
     let p = parts bytes s n item in
@@ -103,6 +103,6 @@ one_string_data bytes s t n k item other =
     let same = one_text s t (0 ∷ drop n bytes) (0 ∷ drop k bytes) item.spelled.units other.spelled.units (sym len.0) e in
     (same, omega (arith, p.whole, q.whole, len.1, ap (λ (r : Text). length (spelling r)) same))
 
--- what is written for a text is an item of it
+-- the bytes that are written for a text are an item of it
 pub string_data_is : (s : Text) → AreUnits s → length s < 2 ^ 32 → IsStringData (string_data s) s
 string_data_is s units few = record { count = _; says = (uleb128_is (length s) few).spelled; units = units; parts = refl }

@@ -1,5 +1,5 @@
--- At an offset stands one encoded value at most, in one size: the type code of the first byte tells which
--- kind of value it is, and its argument how many bytes follow.
+-- There is at most one encoded value at an offset, in one size: the type code of the first byte determines the kind of
+-- value, and its argument the number of bytes that follow.
 use Rattle.std.proofs.Common.{◌≡◌, ℕ, suc, ◌+◌, ◌-◌, ◌*◌, ◌%◌, ◌^◌, ◌<◌, List, [], ◌∷◌, length, drop, refl, ap, sym, subst, ◌∙◌, arith}
 use Rattle.std.specs.Prelude.{ℤ, pos, Bool, true, false, if◌then◌else◌, ◌==◌}
 use Rattle.dexspec.specs.Bytes.{number_of, signed_in, Stands}
@@ -12,7 +12,7 @@ use Rattle.dexspec.proofs.Stands.{same_first, same_standing}
 use Rattle.dexspec.proofs.OneNumber.{one_uleb128}
 use Rattle.dexspec.proofs.OneRow.{one_string, one_type, one_field, one_method}
 
--- ---- what stands behind a first byte
+-- ---- the bytes after a first byte
 
 -- a first byte with its type code
 record HasCode (b : List ℕ) (o code : ℕ) : Type 0 where
@@ -21,7 +21,7 @@ record HasCode (b : List ℕ) (o code : ℕ) : Type 0 where
   stands : Stands b o (first ∷ rest)
   is : first % 32 ≡ code
 
--- one type code stands at an offset
+-- there is one type code at an offset
 one_code : (b : List ℕ) (o c d : ℕ) → HasCode b o c → HasCode b o d → c ≡ d
 one_code b o c d h g = sym h.is ∙ ap (λ (x : ℕ). x % 32) (same_first h.first g.first h.rest g.rest h.stands g.stands) ∙ g.is
 
@@ -29,7 +29,7 @@ one_code b o c d h g = sym h.is ∙ ap (λ (x : ℕ). x % 32) (same_first h.firs
 sized_code : (b : List ℕ) (o code width : ℕ) (bytes : List ℕ) (n : ℕ) → code < 32 → SizedAt code width b o bytes n → HasCode b o code
 sized_code b o code width bytes n lt h = record { first = value_byte (length bytes - 1) code; rest = bytes; stands = h.stands; is = omega arith }
 
--- what the bytes behind a first byte are read as
+-- the number in the bytes after a first byte
 one_sized : {X : Type 0} (read : List ℕ → X) (code width : ℕ) (b : List ℕ) (o : ℕ) (x y : X) (n k : ℕ)
     → (bytes : List ℕ) × SizedAt code width b o bytes n × (x ≡ read bytes) → (bytes : List ℕ) × SizedAt code width b o bytes k × (y ≡ read bytes) → (x ≡ y) × (n ≡ k)
 one_sized read code width b o x y n k h g =
@@ -39,7 +39,7 @@ one_sized read code width b o x y n k h g =
     let bytes : h.0 ≡ g.0 = ap (λ (z : List ℕ). drop 1 z) all in
     (h.2 ∙ ap read bytes ∙ sym g.2, omega (arith, len, h.1.size, g.1.size))
 
--- what an index names
+-- the symbol of an index
 one_index : {X : Type 0} (Row : List ℕ → ℕ → X → Type 0) → ((b : List ℕ) (i : ℕ) (x y : X) → Row b i x → Row b i y → x ≡ y)
     → (code : ℕ) (b : List ℕ) (o : ℕ) (x y : X) (n k : ℕ) → IndexAt code Row b o x n → IndexAt code Row b o y k → (x ≡ y) × (n ≡ k)
 one_index Row one code b o x y n k h g =
@@ -74,7 +74,7 @@ code_of (AnnotationValue t es) = annotation_value_type
 code_of NullValue = null_value_type
 code_of (BooleanValue is) = boolean_value_type
 
--- a value that stands in a file has its type code there
+-- a value in a file has its type code there
 value_code : (b : List ℕ) (o : ℕ) (v : Value) (n : ℕ) → ValueAt b o v n → HasCode b o (code_of v)
 value_code b o (ByteValue z) n h = sized_code b o byte_value_type 1 h.0 n (omega arith) h.1
 value_code b o (ShortValue z) n h = sized_code b o short_value_type 2 h.0 n (omega arith) h.1
@@ -94,7 +94,7 @@ value_code b o NullValue n h = record { first = value_byte 0 null_value_type; re
 value_code b o (BooleanValue false) n h = record { first = value_byte 0 boolean_value_type; rest = []; stands = h.0; is = refl }
 value_code b o (BooleanValue true) n h = record { first = value_byte 1 boolean_value_type; rest = []; stands = h.0; is = refl }
 
--- the parts of a value, at any kind
+-- the parts of a value of any kind
 abbrev signed_part : Value → ℤ
 signed_part (ByteValue z) = z
 signed_part (ShortValue z) = z
@@ -142,7 +142,7 @@ abbrev boolean_part : Value → Bool
 boolean_part (BooleanValue is) = is
 boolean_part _ = false
 
--- the value of a type code that has the parts of another
+-- the value of a type code with the parts of another
 abbrev with_code : ℕ → Value → Value
 with_code c v =
     if c == 0x00 then ByteValue (signed_part v)
@@ -181,13 +181,13 @@ with_own_code (AnnotationValue t es) = refl
 with_own_code NullValue = refl
 with_own_code (BooleanValue is) = refl
 
--- what stands where v does is of the kind of v
+-- values at one offset have the same kind
 same_kind : (b : List ℕ) (o : ℕ) (v w : Value) (n k : ℕ) → ValueAt b o v n → ValueAt b o w k → w ≡ with_code (code_of v) w
 same_kind b o v w n k h g = sym (with_own_code w) ∙ ap (λ (c : ℕ). with_code c w) (one_code b o (code_of w) (code_of v) (value_code b o w k g) (value_code b o v n h))
 
--- ---- what stands there
+-- ---- values at an offset
 
--- equal parts, and the end of an equation of kinds
+-- equal parts of one kind
 of_kind : {X : Type 0} (make : X → Value) (x y : X) (w : Value) (n k : ℕ) → w ≡ make y → (x ≡ y) × (n ≡ k) → (make x ≡ w) × (n ≡ k)
 of_kind make x y w n k e same = (ap make same.0 ∙ sym e, same.1)
 
@@ -269,7 +269,7 @@ mutual
       let same = one_boolean b o is (boolean_part w) n k h (subst (λ (x : Value). ValueAt b o x k) e g) in
       (ap BooleanValue same.0 ∙ sym e, same.1)
 
-  -- as many values as others, one after the other
+  -- two lists of values of one length in sequence
   pub one_values : (b : List ℕ) (o : ℕ) (vs ws : Values) (n k : ℕ) → count_values vs ≡ count_values ws → ValuesAt b o vs n → ValuesAt b o ws k → (vs ≡ ws) × (n ≡ k)
   one_values b o NoValues NoValues n k count h g = (refl, h ∙ sym g)
   one_values b o NoValues (ThenValue w ws) n k count h g = absurd (omega arith)
@@ -279,7 +279,7 @@ mutual
       let rest = one_values b (o + g.0) vs ws h.1 g.1 (omega arith) (subst (λ (i : ℕ). ValuesAt b (o + i) vs h.1) first.1 h.3) g.3 in
       ((λ i. ThenValue (first.0 i) (rest.0 i)), omega (arith, first.1, rest.1, h.4, g.4))
 
-  -- as many elements as others, one after the other
+  -- two lists of elements of one length in sequence
   pub one_elements : (b : List ℕ) (o : ℕ) (es fs : Elements) (n k : ℕ) → length (names_of es) ≡ length (names_of fs) → ElementsAt b o es n → ElementsAt b o fs k → (es ≡ fs) × (n ≡ k)
   one_elements b o NoElements NoElements n k count h g = (refl, h ∙ sym g)
   one_elements b o NoElements (ThenElement t w fs) n k count h g = absurd (omega arith)
@@ -292,10 +292,10 @@ mutual
       let rest = one_elements b (o + g.0 + g.1) es fs h.2 g.2 (omega arith) (subst (λ (p : ℕ). ElementsAt b p es h.2) place h.7) g.7 in
       ((λ i. ThenElement (name i) (first.0 i) (rest.0 i)), omega (arith, index.1, first.1, rest.1, h.8, g.8))
 
--- at an offset stands one encoded array at most
+-- there is at most one encoded array at an offset
 pub one_array : (b : List ℕ) (o : ℕ) (vs ws : Values) (n k : ℕ) → EncodedArrayAt b o vs n → EncodedArrayAt b o ws k → (vs ≡ ws) × (n ≡ k)
 one_array b o vs ws n k h g = array_tail b o vs ws n k (λ p. one_values b p vs ws) h g
 
--- at an offset stands one encoded annotation at most, of one type
+-- there is at most one encoded annotation at an offset, of one type
 pub one_annotation : (b : List ℕ) (o : ℕ) (t u : Text) (es fs : Elements) (n k : ℕ) → EncodedAnnotationAt t b o es n → EncodedAnnotationAt u b o fs k → (t ≡ u) × (es ≡ fs) × (n ≡ k)
 one_annotation b o t u es fs n k h g = annotation_tail b o t u es fs n k (λ p. one_elements b p es fs) h g

@@ -1,5 +1,5 @@
--- The ten sections of the data: they follow one another from the end of the tables on, each item has bytes, and each
--- row has its offsets.
+-- The ten sections of the data: they follow one another after the tables, each item has bytes, and each row has its
+-- offsets.
 use Rattle.std.proofs.Common.{◌≡◌, ℕ, zero, suc, ◌+◌, ◌<◌, List, [], ◌∷◌, ◌++◌, length, get_or, map, take, drop, refl, ap, ◌∙◌, arith, inl, inr}
 use Rattle.std.specs.Prelude.{Option, Some, None, IfSome, Bool, true, false, if◌then◌else◌}
 use Rattle.std.specs.List.{flat_map, All, zip}
@@ -34,7 +34,7 @@ named_layout K = record {
   data_end = directory_end K;
 }
 
--- what the layout is
+-- the layout has these parts
 pub layout_is : (K : Ordered) → layout K ≡ named_layout K
 unfolding layout
 layout_is K = refl
@@ -46,7 +46,7 @@ sections_follow K = (refl, (refl, (refl, (refl, (refl, (refl, (refl, (refl, (ref
 
 -- ---- each item has bytes
 
--- a list that begins with bytes has some
+-- a list that begins with bytes has bytes
 append_some : (x y : List ℕ) → 0 < length x → 0 < length (x ++ y)
 append_some x y some = omega (arith, length-append x y)
 
@@ -54,11 +54,11 @@ append_some x y some = omega (arith, length-append x y)
 uint_some : (n : ℕ) → 0 < length (uint n)
 uint_some n = omega (arith, length-uint n)
 
--- and a ushort
+-- a ushort has bytes
 ushort_some : (n : ℕ) → 0 < length (ushort n)
 ushort_some n = omega (arith, length-ushort n)
 
--- and what begins with a uleb128
+-- a list that begins with a uleb128 has bytes
 uleb128_some : (n : ℕ) (y : List ℕ) → 0 < length (uleb128 n ++ y)
 uleb128_some n y = append_some (uleb128 n) y (uleb128_bounds n).0
 
@@ -77,27 +77,27 @@ class_data_some : (m : Mentions) (d : Definition) (offs : List ℕ) → 0 < leng
 unfolding class_data_bytes
 class_data_some m d offs = uleb128_some (length d.1.static_fields) _
 
--- each of the mapped
+-- each of the mapped items has bytes
 map_some : {X : Type 0} (f : X → List ℕ) → ((x : X) → 0 < length (f x)) → (xs : List X) → All (λ x. 0 < length x) (map f xs)
 map_some f each xs = All-map (λ x. 0 < length x) f xs (λ k d lt. each (get_or xs k d))
 
--- what is there has bytes
+-- an item, if present, has bytes
 abbrev IsSomeBytes : Option (List ℕ) → Type 0
 IsSomeBytes o = IfSome o (λ x. 0 < length x)
 
--- of what there is, all have bytes
+-- all present items have bytes
 present_some : (os : List (Option (List ℕ))) → All IsSomeBytes os → All (λ x. 0 < length x) (present os)
 present_some [] h = All-nil (λ x. 0 < length x)
 present_some (None ∷ os) h = present_some os (All-tail IsSomeBytes None os h)
 present_some (Some x ∷ os) h = All-cons (λ x. 0 < length x) x (present os) (All-head IsSomeBytes (Some x) os h) (present_some os (All-tail IsSomeBytes (Some x) os h))
 
--- what two lists are put together to
+-- a property of the elements of two lists that are combined
 zip_with_all : {X Y Z : Type 0} (P : Z → Type 0) (f : X → Y → Z) → ((x : X) (y : Y) → P (f x y)) → (xs : List X) (ys : List Y) → All P (zip_with f xs ys)
 zip_with_all P f each [] ys = All-nil P
 zip_with_all P f each (x ∷ xs) [] = All-nil P
 zip_with_all P f each (x ∷ xs) (y ∷ ys) = All-cons P (f x y) (zip_with f xs ys) (each x y) (zip_with_all P f each xs ys)
 
--- if there is a directory it begins with a number
+-- a directory, if present, begins with a number
 unless_none : (b : Bool) (n : ℕ) (y : List ℕ) → IsSomeBytes (if b then None else Some (uint n ++ y))
 unless_none true n y = tt
 unless_none false n y = append_some (uint n) y (uint_some n)
@@ -106,7 +106,7 @@ unless_none false n y = append_some (uint n) y (uint_some n)
 directory_some : (m : Mentions) (d : Definition) (sets : SetOffsets) (refs : List ℕ) → IsSomeBytes (directory_bytes m d sets refs)
 directory_some m d sets refs = unless_none _ sets.own _
 
--- and so have all directories
+-- all directories have bytes
 directories_some : (K : Ordered) → All (λ x. 0 < length x) (directory_section K).items
 directories_some K =
     present_some (directory_uses K (set_offsets K) (ref_list_offsets K))
@@ -116,7 +116,7 @@ directories_some K =
 abbrev pub HasBytes : Placed → Type 0
 HasBytes p = All (λ x. 0 < length x) p.items
 
--- and so have those of all sections
+-- the items of all sections have bytes
 pub sections_have_bytes : (K : Ordered) → All HasBytes (data_sections K)
 sections_have_bytes K = All-from_recursion HasBytes (data_sections K) (
   map_some (type_list_bytes K.pools) (λ ts. append_some (uint (length ts)) _ (uint_some (length ts))) (type_list_items K).written,
@@ -155,7 +155,7 @@ pub sections_aligned : (K : Ordered) → All (λ p. IsAlign p.align) (data_secti
 sections_aligned K = All-from_recursion (λ p. IsAlign p.align) (data_sections K)
     (inl refl, (inr refl, (inr refl, (inr refl, (inr refl, (inl refl, (inr refl, (inl refl, (inl refl, (inl refl, tt))))))))))
 
--- ---- how many offsets there are
+-- ---- the number of offsets
 
 -- a number or none for each use
 pub length-own_numbers : {X : Type 0} (n : ℕ) (uses : List (Option X)) → length (own_numbers n uses) ≡ length uses
@@ -167,11 +167,11 @@ length-own_numbers n (Some x ∷ uses) = ap suc (length-own_numbers (n + 1) uses
 pub length-uses_offsets : {X : Type 0} (uses : List (Option X)) (offs : List ℕ) → length (uses_offsets (own_items uses).numbers offs) ≡ length uses
 length-uses_offsets uses offs = length-map (own_numbers 0 uses) _ ∙ length-own_numbers 0 uses
 
--- the same of items that may be shared
+-- the same for shared items
 pub length-shared_offsets : {X : Type 0} (same : X → X → Bool) (uses : List (Option X)) (offs : List ℕ) → length (uses_offsets (shared_items same uses).numbers offs) ≡ length uses
 length-shared_offsets same uses offs = length-map (shared_items same uses).numbers _ ∙ length-map uses _
 
--- and either way
+-- the same for both kinds of sharing
 pub length-items_offsets : {X : Type 0} (how : Sharing) (same : X → X → Bool) (uses : List (Option X)) (offs : List ℕ) → length (uses_offsets (items_by how same uses).numbers offs) ≡ length uses
 length-items_offsets EqualOnce same uses offs = length-shared_offsets same uses offs
 length-items_offsets EachForItself same uses offs = length-uses_offsets uses offs
@@ -181,14 +181,14 @@ pub length-chunks : {X : Type 0} (ns : List ℕ) (xs : List X) → length (chunk
 length-chunks [] xs = refl
 length-chunks (n ∷ ns) xs = ap suc (length-chunks ns (drop n xs))
 
--- two lists of one length make one of that length
+-- two lists of one length are combined to a list of that length
 pub length-zip_with : {X Y Z : Type 0} (f : X → Y → Z) (xs : List X) (ys : List Y) (n : ℕ) → length xs ≡ n → length ys ≡ n → length (zip_with f xs ys) ≡ n
 length-zip_with f [] ys n e g = e
 length-zip_with f (x ∷ xs) [] n e g = absurd (omega (arith, e, g))
 length-zip_with f (x ∷ xs) (y ∷ ys) zero e g = absurd (omega (arith, e))
 length-zip_with f (x ∷ xs) (y ∷ ys) (suc n) e g = ap suc (length-zip_with f xs ys n (omega (arith, e)) (omega (arith, g)))
 
--- the same of pairs
+-- the same for pairs
 pub length-zip : {X Y : Type 0} (xs : List X) (ys : List Y) (n : ℕ) → length xs ≡ n → length ys ≡ n → length (zip xs ys) ≡ n
 length-zip [] ys n e g = e
 length-zip (x ∷ xs) [] n e g = absurd (omega (arith, e, g))
@@ -206,7 +206,7 @@ length-type_list_offsets K =
     length-items_offsets K.sharing same_types (type_list_uses K) _ ∙ length-append (map _ K.pools.protos) (map _ K.classes)
     ∙ omega (arith, length-map K.pools.protos (λ p. unless_empty p.parameters), length-map K.classes (λ d. unless_empty d.1.interfaces))
 
--- for each class
+-- an offset of static values for each class
 pub length-array_offsets : (K : Ordered) → length (array_offsets K) ≡ length K.classes
 unfolding array_offsets
 length-array_offsets K = length-uses_offsets (static_values_uses K) _ ∙ length-map K.classes _
@@ -235,7 +235,7 @@ pub record AreFull (K : Ordered) (l : Layout) : Type 0 where
   pub parameters : length l.parameters ≡ length K.pools.protos
   pub classes : length l.classes ≡ length K.classes
 
--- the layout has them
+-- the layout has these offsets
 pub named_layout_full : (K : Ordered) → AreFull K (named_layout K)
 named_layout_full K =
     let n = length K.pools.protos in

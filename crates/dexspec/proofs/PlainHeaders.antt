@@ -1,4 +1,5 @@
--- A header's first fields before any bytes: conditions 1, 4, 5 and 6; and a map that is read where it stands.
+-- A header's first fields, whatever the bytes after them: conditions 1, 4, 5 and 6; and a map that is read at its
+-- offset.
 use Rattle.std.proofs.Common.{◌≡◌, ℕ, ◌+◌, ◌^◌, ◌<◌, ◌≤◌, List, ◌++◌, length, map, refl, ◌∙◌, arith}
 use Rattle.std.specs.Prelude.{All}
 use Rattle.std.specs.List.{flat_map}
@@ -12,11 +13,11 @@ use Rattle.dexspec.proofs.Sums.{with_sums_stands}
 use Rattle.dexspec.proofs.Tables.{stands_here, stands_next}
 use Rattle.dexspec.proofs.MapEntries.{IsSmall, entry_of, entries_at-stands}
 
--- the five numbers that a header begins with behind its signature, and more
+-- the five numbers of a header after its signature, and more bytes
 abbrev pub opening : ℕ → List ℕ → List ℕ
 opening size tail = uint size ++ (uint header_length ++ (uint 0x12345678 ++ (uint 0 ++ (uint 0 ++ tail))))
 
--- what the five numbers give, where they stand
+-- the values of the five numbers that are at their offset
 pub record OpeningStands (b : List ℕ) (size : ℕ) : Type 0 where
   pub file : uint_at b 32 ≡ size
   pub own : uint_at b 36 ≡ header_length
@@ -50,7 +51,7 @@ pub record IsOpened (b : List ℕ) : Type 0 where
   pub endian : HasEndian b
   pub link : HasNoLink b
 
--- they hold where the header tells the length
+-- they hold if the header has the length of the file
 pub opened : (size : ℕ) (tail : List ℕ) → size ≡ length (with_sums (opening size tail)) → 112 ≤ size → size ≤ 2 ^ 30 → IsOpened (with_sums (opening size tail))
 opened size tail is least most =
     let h = opening_stands size tail (omega arith) in
@@ -61,7 +62,7 @@ opened size tail is least most =
       link = record { size = h.link_bytes; off = h.link_place };
     }
 
--- a map that stands somewhere is read there
+-- a map that is at an offset is read there
 pub map_stands : (b : List ℕ) (o : ℕ) (es : List (Section × ℕ × ℕ)) → length es < 2 ^ 32 → All IsSmall es → Stands b o (map_bytes es) → (uint_at b o ≡ length es) × (entries_at b (o + 4) (length es) ≡ map entry_of es)
 map_stands b o es few small h =
     (uint_at-stands few (stands_here (uint (length es)) (flat_map map_entry_bytes es) h), entries_at-stands (o + 4) es small (stands_next (length es) (flat_map map_entry_bytes es) h))

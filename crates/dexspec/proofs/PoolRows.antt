@@ -1,4 +1,4 @@
--- The rows of strings and of types stand in the order of their texts, and a table has few rows.
+-- The rows of strings and of types are in the order of their texts, and a table has few rows.
 use Rattle.std.proofs.Common.{◌≡◌, ℕ, zero, suc, ◌+◌, ◌*◌, ◌<◌, ◌≤◌, List, [], ◌∷◌, refl, sym, subst, arith, inl, inr, Ordering, Less, Equal, Greater}
 use Rattle.std.specs.List.{Contains}
 use Rattle.std.specs.Ordering.{nat_cmp, ordering_then}
@@ -41,17 +41,17 @@ first_less Less e = refl
 first_less Equal e = absurd cc
 first_less Greater e = absurd cc
 
--- what a lesser number is
+-- the meaning of a lesser number
 pub less_number : (x y : ℕ) → nat_cmp x y ≡ Less → x < y
 less_number x y e = ranked x y Less (sym e)
 
 -- ---- strings and types
 
--- every row of strings is one, in order
+-- each row of strings denotes a text, in order
 abbrev pub AreStrings : List ℕ → Type 0
 AreStrings b = (i : ℕ) → i < table_size b StringIds → HasString b i
 
--- every row of types is one, in order
+-- each row of types denotes a type, in order
 abbrev pub AreTypes : List ℕ → Type 0
 AreTypes b = (i : ℕ) → i < table_size b TypeIds → HasType b i
 
@@ -61,7 +61,7 @@ module _ (b : List ℕ) (strings : AreStrings b) where
   strings_rise i j s t lt h g =
       rows_rise text_cmp text_total (StringRow b) (one_string b) (table_size b StringIds) (λ k less. let w = strings k less in record { value = w.text; is = w.is; follows = w.follows }) j i s t lt g.row h g
 
-  -- a lesser string stands before
+  -- a lesser string comes before
   pub string_before : (i j : ℕ) (s t : Text) → text_cmp s t ≡ Less → StringRow b i s → StringRow b j t → i < j
   string_before i j s t less h g = elim (cases_lt i j) [
     | inl lt ↦ lt
@@ -95,9 +95,9 @@ module _ (b : List ℕ) (strings : AreStrings b) where
       ]
     ]
 
--- ---- how many rows
+-- ---- the number of rows
 
--- a row has one byte at least
+-- a row has at least one byte
 row_bytes : (t : Table) (n : ℕ) → n ≤ row_size t * n
 row_bytes StringIds n = omega arith
 row_bytes TypeIds n = omega arith
@@ -106,13 +106,13 @@ row_bytes FieldIds n = omega arith
 row_bytes MethodIds n = omega arith
 row_bytes ClassDefs n = omega arith
 
--- what is laid out ends where the data begin
+-- the tables end at the start of the data
 laid_within : (b : List ℕ) (from : ℕ) (ts : List Table) → AreLaidOut b from ts → from ≤ data_off b
 laid_within b from [] h = h
 laid_within b from (t ∷ ts) (inl h) = laid_within b from ts h.2
 laid_within b from (t ∷ ts) (inr h) = omega (arith, h.2, laid_within b (table_off b t + row_size t * table_size b t) ts h.3)
 
--- no table has more rows than there are bytes before the data
+-- a table has at most as many rows as there are bytes before the data
 laid_size : (b : List ℕ) (from : ℕ) (ts : List Table) (t : Table) → AreLaidOut b from ts → Contains ts t → table_size b t ≤ data_off b
 laid_size b from [] t h c = absurd (Contains-nil t c)
 laid_size b from (u ∷ ts) t (inl h) c = elim (Contains-cons_cases u t ts c) [

@@ -1,4 +1,4 @@
--- What well-formed definitions mention are pools that a file can hold.
+-- The symbols that well-formed definitions mention are pools that a file can have.
 use Rattle.std.proofs.Common.{List, [], ◌∷◌, subst, inl, inr}
 use Rattle.std.specs.List.{Contains, flat_map}
 use Rattle.std.proofs.lemmas.List.Elements.{All-contains}
@@ -13,15 +13,15 @@ use Rattle.dexspec.proofs.Growth.{mentions-rising}
 use Rattle.dexspec.proofs.MentionMembers.{Occurs, texts-source, types-source, protos-source, fields-source, methods-source, type-text, proto-shorty, proto-types, field-class, field-name, field-type, method-class, method-name, method-proto}
 use Rattle.dexspec.proofs.PoolsStand.{ArePools}
 
--- ---- what symbols are made of is formed
+-- ---- the parts of symbols are well formed
 
--- a type of a value is a type
+-- a value type is a type
 value_descriptor : (t : Text) → IsValueType t → IsDescriptor t
 value_descriptor t (inl p) = (PrimitiveType, p)
 value_descriptor t (inr (inl c)) = (ClassType, c)
 value_descriptor t (inr (inr a)) = (ArrayType, a)
 
--- and so is one that a method may belong to
+-- a type that may have methods is a type
 reference_descriptor : (t : Text) → IsReferenceType t → IsDescriptor t
 reference_descriptor t (inl c) = (ClassType, c)
 reference_descriptor t (inr a) = (ArrayType, a)
@@ -33,7 +33,7 @@ proto_descriptor p t is c = elim (Contains-cons_cases p.return_type t p.paramete
   | inr l ↦ value_descriptor t (All-contains IsValueType p.parameters t is.parameters l)
 ]
 
--- those of a symbol
+-- the types of a symbol
 type_formed : (y : Symbol) (t : Text) → IsSymbol y → Contains (types_in y) t → IsDescriptor t
 type_formed (TextSymbol s) t is c = absurd (Contains-nil t c)
 type_formed (TypeSymbol u) t is c = elim (Contains-cons_cases u t [] c) [ inl e ↦ subst IsDescriptor e is | inr l ↦ absurd (Contains-nil t l) ]
@@ -71,18 +71,18 @@ method_formed (ProtoSymbol q) m is c = absurd (Contains-nil m c)
 method_formed (FieldSymbol g) m is c = absurd (Contains-nil m c)
 method_formed (MethodSymbol n) m is c = elim (Contains-cons_cases n m [] c) [ inl e ↦ subst IsMethod e is | inr l ↦ absurd (Contains-nil m l) ]
 
--- ---- what definitions mention
+-- ---- the mentions of definitions
 
 module _ (D : List Definition) (are : AreWellFormed D) where
-  -- a symbol that occurs is one that a row can stand for
+  -- a row can denote a symbol that occurs
   symbol_formed : {X : Type 0} {parts : Symbol → List X} {x : X} (w : Occurs parts D x) → IsSymbol w.symbol
   symbol_formed w = All-contains IsSymbol (symbols_of w.definition) w.symbol (are w.definition w.member).symbols w.occurs
 
-  -- a text that occurs is one
+  -- a text that occurs is well formed
   text_formed : (s : Text) → Occurs texts_in D s → IsText s
   text_formed s w = All-contains IsText (flat_map texts_in (symbols_of w.definition)) s (are w.definition w.member).texts (Contains-flat_map texts_in (symbols_of w.definition) w.symbol s w.occurs w.part)
 
-  -- the pools can be held
+  -- a file can have the pools
   pub mentions_pools : ArePools (mentions D)
   mentions_pools =
       let r = mentions-rising D in

@@ -1,4 +1,4 @@
--- Conditions 11 to 15 of a file that is laid out: its rows stand for symbols, and follow in order.
+-- Conditions 11 to 15 of a file with this layout: its rows denote symbols, in order.
 use Rattle.std.proofs.Common.{◌≡◌, ℕ, zero, suc, ◌+◌, ◌<◌, List, [], ◌∷◌, drop, length, get_or, map, refl, sym, ap, subst, ◌∙◌, arith, inl, inr}
 use Rattle.std.specs.Prelude.{◌==◌, if◌then◌else◌, nat_lt}
 use Rattle.std.specs.List.{Contains}
@@ -30,32 +30,32 @@ use Rattle.dexspec.proofs.PoolsStand.{ArePools, text_row_at, type_row, proto_row
 
 -- ---- ranks are in the order of the symbols
 
--- a lesser number is less
+-- a lesser number is less by order
 nat_less : (x y : ℕ) → x < y → nat_cmp x y ≡ Less
 nat_less x y lt = cond-true (nat_lt x y) Less _ (lt-ltb x y lt)
 
--- equal numbers tie
+-- equal numbers are equal by order
 nat_same : (x y : ℕ) → x ≡ y → nat_cmp x y ≡ Equal
 nat_same x y e = cond-false (nat_lt x y) Less _ (le-ltb x y (omega (arith, e))) ∙ cond-true (x == y) Equal Greater (eq-eqb x y e)
 
--- a greater number is greater
+-- a greater number is greater by order
 nat_more : (x y : ℕ) → y < x → nat_cmp x y ≡ Greater
 nat_more x y lt = cond-false (nat_lt x y) Less _ (le-ltb x y (omega arith)) ∙ cond-false (x == y) Equal Greater (ne_eqb x y (λ e. omega (arith, e)))
 
--- nothing more decides
+-- a further key that is equal does not matter
 then_equal : (o : Ordering) → ordering_then o Equal ≡ o
 then_equal Less = refl
 then_equal Equal = refl
 then_equal Greater = refl
 
--- three keys decide one after the other
+-- three keys in sequence
 three_keys : {o o' p p' q q' : Ordering} → o ≡ o' → p ≡ p' → q ≡ q' → ordering_then o (ordering_then p (ordering_then q Equal)) ≡ ordering_then o' (ordering_then p' q')
 three_keys {o} {o'} {p} {p'} {q} {q'} e f g =
     ap (λ x. ordering_then x (ordering_then p (ordering_then q Equal))) e ∙ ap (λ x. ordering_then o' (ordering_then x (ordering_then q Equal))) f
     ∙ ap (λ x. ordering_then o' (ordering_then p' x)) (then_equal q ∙ g)
 
 module _ {X : Type 0} (R : X → X → Ordering) where
-  -- what stands earlier in a rising list is less
+  -- an earlier member of a rising list is less
   pub rises_at : (xs : List X) (i j : ℕ) (d : X) → Rises R xs → i < j → j < length xs → R (get_or xs i d) (get_or xs j d) ≡ Less
   rises_at [] i j d h lt less = absurd (omega arith)
   rises_at (x ∷ xs) i zero d h lt less = absurd (omega arith)
@@ -79,7 +79,7 @@ module _ {X : Type 0} (R : X → X → Ordering) where
         ]
       ]
 
-  -- and so are lists of ranks
+  -- lists of ranks are in the order of the lists of members
   pub lists_agree : (f : X → ℕ) (xs ys : List X) → ((s t : X) → Contains xs s → Contains ys t → nat_cmp (f s) (f t) ≡ R s t) → slice_cmp nat_cmp (map f xs) (map f ys) ≡ slice_cmp R xs ys
   lists_agree f [] [] h = refl
   lists_agree f [] (y ∷ ys) h = refl
@@ -88,7 +88,7 @@ module _ {X : Type 0} (R : X → X → Ordering) where
       ap (λ o. ordering_then o (slice_cmp nat_cmp (map f xs) (map f ys))) (h x y (Contains-first x xs) (Contains-first y ys))
       ∙ ap (ordering_then (R x y)) (lists_agree f xs ys (λ s t c d. h s t (Contains-later x s xs c) (Contains-later y t ys d)))
 
--- ---- the rows follow in order
+-- ---- the rows are in order
 
 -- the key of a proto's list of types
 key_of_list : {K : Ordered} {b : List ℕ} → Laid K b → AreFew K → (ts : List Text) (o : ℕ) → UseStands b 4 (type_list_bytes K.pools) (unless_empty ts) o
@@ -97,15 +97,15 @@ key_of_list {K} {b} h few [] o s = cond-true (o == 0) [] (type_indices b o) (eq-
 key_of_list {K} {b} h few (t ∷ ts) o s = cond-false (o == 0) [] (type_indices b o) (ne_eqb o 0 s.some) ∙ type_list_indices h few (t ∷ ts) s
 
 module _ {K : Ordered} {b : List ℕ} (h : Laid K b) (few : AreFew K) (p : ArePools K.pools) where
-  -- the numbers of texts are in their order
+  -- the numbers of texts are in the order of the texts
   texts_agree : (s t : Text) → Contains K.pools.texts s → Contains K.pools.texts t → nat_cmp (text_index K.pools s) (text_index K.pools t) ≡ text_cmp s t
   texts_agree s t c d = ranks_agree text_cmp text_total K.pools.texts s t p.texts_rise c d
 
-  -- those of types
+  -- of types
   types_agree : (s t : Text) → Contains K.pools.types s → Contains K.pools.types t → nat_cmp (type_index K.pools s) (type_index K.pools t) ≡ text_cmp s t
   types_agree s t c d = ranks_agree text_cmp text_total K.pools.types s t p.types_rise c d
 
-  -- those of protos
+  -- of protos
   protos_agree : (s t : Proto) → Contains K.pools.protos s → Contains K.pools.protos t → nat_cmp (proto_index K.pools s) (proto_index K.pools t) ≡ proto_cmp s t
   protos_agree s t c d = ranks_agree proto_cmp proto_total K.pools.protos s t p.protos_rise c d
 

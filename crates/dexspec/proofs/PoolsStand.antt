@@ -1,4 +1,4 @@
--- The symbols of the pools of a file that is laid out stand in the rows that their ranks tell.
+-- The symbols of the pools of a file with this layout are in the rows of their ranks.
 use Rattle.std.proofs.Common.{◌≡◌, ℕ, ◌+◌, ◌%◌, ◌^◌, ◌<◌, ◌≤◌, ◌/◌, List, [], ◌∷◌, ◌++◌, drop, length, get_or, map, refl, sym, ap, subst, ◌∙◌, arith, inl, inr}
 use Rattle.std.specs.Prelude.{◌==◌, if◌then◌else◌, nat_lt}
 use Rattle.std.proofs.lemmas.Bool.{cond_both}
@@ -26,7 +26,7 @@ use Rattle.dexspec.proofs.HeaderLaws.{AreFew}
 use Rattle.dexspec.proofs.Uses.{UseStands}
 use Rattle.dexspec.proofs.RowsRead.{text_stands, type_read, ProtoRead, FieldRead, MethodRead, proto_read, field_read, method_read, type_list_indices, type_list_within}
 
--- each pool rises and has what its symbols are made of, and the symbols are formed as the format wants
+-- each pool rises, has the parts of its symbols, and has well-formed symbols
 pub record ArePools (m : Mentions) : Type 0 where
   pub texts_rise : Rises text_cmp m.texts
   pub types_rise : Rises text_cmp m.types
@@ -49,7 +49,7 @@ pub record ArePools (m : Mentions) : Type 0 where
   pub method_name : (x : Method) → Contains m.methods x → Contains m.texts x.name
   pub method_formed : (x : Method) → Contains m.methods x → IsMethod x
 
--- an item that stands is begun with
+-- bytes at an offset are a prefix there
 pub begins_with : {V : Type 0} (Says : List ℕ → V → Type 0) (b : List ℕ) (o : ℕ) (x : List ℕ) (v : V) → Stands b o x → Says x v → BeginsWith Says (drop o b) v (length x)
 begins_with Says b o x v h says = record { within = omega (arith, stands_within h, length-drop o b); spelled = subst (λ y. Says y v) (sym h.here) says }
 
@@ -61,12 +61,12 @@ form_some u =
     (λ e. cond_both (nat_lt u 0x80) (u ∷ []) (if nat_lt u 0x800 then (0xc0 + u / 64) ∷ (0x80 + u % 64) ∷ [] else (0xe0 + u / 4096) ∷ (0x80 + u / 64 % 64) ∷ (0x80 + u % 64) ∷ []) P (λ e. omega arith)
     (λ e. cond_both (nat_lt u 0x800) ((0xc0 + u / 64) ∷ (0x80 + u % 64) ∷ []) ((0xe0 + u / 4096) ∷ (0x80 + u / 64 % 64) ∷ (0x80 + u % 64) ∷ []) P (λ e. omega arith) (λ e. omega arith)))
 
--- so a text has no more units than bytes
+-- a text has at most as many units as bytes
 pub spelling_le : (s : Text) → length s ≤ length (spelling s)
 spelling_le [] = omega arith
 spelling_le (u ∷ s) = omega (arith, form_some u, spelling_le s, length-append (form u) (spelling s))
 
--- the numbers of symbols name them
+-- the indices of symbols denote the symbols
 named_zip : (R : ℕ → Text → Type 0) (f : Text → ℕ) (ts : List Text) → ((t : Text) → Contains ts t → R (f t) t) → AllZip R (map f ts) ts
 named_zip R f [] h = tt
 named_zip R f (t ∷ ts) h = (h t (Contains-first t ts), named_zip R f ts (λ u c. h u (Contains-later t u ts c)))
@@ -84,13 +84,13 @@ module _ {K : Ordered} {b : List ℕ} (h : Laid K b) (few : AreFew K) (p : ArePo
         stands = (length (string_data s), begins_with IsStringData b (uint_at b (row_at b StringIds i)) (string_data s) s item.stands (string_data_is s (p.units s (Contains-get_or K.pools.texts i d lt)) short));
       }
 
-  -- a text stands in the row of its index
+  -- a text is in the row of its index
   pub text_row : (s : Text) → Contains K.pools.texts s → StringRow b (text_index K.pools s) s
   text_row s c =
       let at = rank-place text_cmp text_total K.pools.texts s s p.texts_rise c in
       subst (StringRow b (text_index K.pools s)) at.1 (text_row_at (text_index K.pools s) s at.0)
 
-  -- and so does a type
+  -- a type is in the row of its index
   pub type_row : (t : Text) → Contains K.pools.types t → TypeRow b (type_index K.pools t) t
   type_row t c =
       let i = type_index K.pools t in
@@ -102,7 +102,7 @@ module _ {K : Ordered} {b : List ℕ} (h : Laid K b) (few : AreFew K) (p : ArePo
         descriptor = p.descriptor t c;
       }
 
-  -- a list of types stands where it is used
+  -- a list of types is at the offset of its use
   pub type_list_at : (ts : List Text) (o : ℕ) → ((t : Text) → Contains ts t → Contains K.pools.types t) → ItemStands b 4 o (type_list_bytes K.pools ts) → TypeListAt b o ts
   type_list_at ts o among s = record {
     in_data = type_list_within h few ts s;
@@ -110,12 +110,12 @@ module _ {K : Ordered} {b : List ℕ} (h : Laid K b) (few : AreFew K) (p : ArePo
     types = subst (λ is. AllZip (TypeRow b) is ts) (sym (type_list_indices h few ts s)) (named_zip (TypeRow b) (type_index K.pools) ts (λ t c. type_row t (among t c)));
   }
 
-  -- and an empty one has offset 0
+  -- an empty list of types has offset 0
   pub type_list_or_none : (ts : List Text) (o : ℕ) → ((t : Text) → Contains ts t → Contains K.pools.types t) → UseStands b 4 (type_list_bytes K.pools) (unless_empty ts) o → OrNone TypeListAt [] b o ts
   type_list_or_none [] o among s = inl (s, refl)
   type_list_or_none (t ∷ ts) o among s = inr (s.some, type_list_at (t ∷ ts) o among s)
 
-  -- a proto stands in the row of its index
+  -- a proto is in the row of its index
   pub proto_row : (q : Proto) → Contains K.pools.protos q → ProtoRow b (proto_index K.pools q) q
   proto_row q c =
       let i = proto_index K.pools q in
@@ -129,7 +129,7 @@ module _ {K : Ordered} {b : List ℕ} (h : Laid K b) (few : AreFew K) (p : ArePo
         values = p.proto_values q c;
       }
 
-  -- a field does
+  -- a field is in the row of its index
   pub field_row : (f : Field) → Contains K.pools.fields f → FieldRow b (field_index K.pools f) f
   field_row f c =
       let i = field_index K.pools f in
@@ -143,7 +143,7 @@ module _ {K : Ordered} {b : List ℕ} (h : Laid K b) (few : AreFew K) (p : ArePo
         formed = p.field_formed f c;
       }
 
-  -- and a method does
+  -- a method is in the row of its index
   pub method_row : (x : Method) → Contains K.pools.methods x → MethodRow b (method_index K.pools x) x
   method_row x c =
       let i = method_index K.pools x in

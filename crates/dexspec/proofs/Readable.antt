@@ -1,4 +1,4 @@
--- A class row of which all is there that is to be read is a definition.
+-- A class row whose items can all be read is a definition.
 use Rattle.std.proofs.Common.{◌≢◌, ℕ, zero, suc, ◌+◌, ◌<◌, ◌≤◌, List, [], ◌∷◌, map, Option, Some, None, refl, subst, arith, inl, inr}
 use Rattle.std.specs.List.{Contains, AllZip, range_with_len}
 use Rattle.std.proofs.lemmas.Bool.{cases_eq}
@@ -17,7 +17,7 @@ use Rattle.dexspec.proofs.Members.{Contains-nil, Contains-first, Contains-later,
 
 -- ---- code
 
--- nothing at offset 0, and else what is there
+-- nothing at offset 0, and otherwise the item at the offset
 some_or_none_at : {X : Type 0} (At : List ℕ → ℕ → X → Type 0) (b : List ℕ) (o : ℕ) → (o ≢ 0 → (x : X) × At b o x) → (x : Option X) × OrNone (SomeAt At) None b o x
 some_or_none_at At b o h = elim (cases_eq o 0) [
   | inl e ↦ (None, inl (e, refl))
@@ -35,7 +35,7 @@ code_there b o p t d =
 
 -- ---- methods
 
--- a method whose code is there
+-- a method whose code can be read
 method_there : (b : List ℕ) (d : Directory) (x : EncodedMethod) → (x.code_off ≢ 0 → (c : Code) × CodeAt b x.code_off c) → (m : MethodDef) × MakesMethod b d x m
 method_there b d x h =
     let code = some_or_none_at CodeAt b x.code_off h in (
@@ -50,7 +50,7 @@ method_there b d x h =
       record { name = refl; proto = refl; flags = refl; code = code.1; annotations = refl; parameter_annotations = refl },
     )
 
--- methods whose code is there
+-- methods whose code can be read
 methods_there : (b : List ℕ) (d : Directory) (xs : List EncodedMethod) → ((x : EncodedMethod) → Contains xs x → x.code_off ≢ 0 → (c : Code) × CodeAt b x.code_off c) → (ms : List MethodDef) × AllZip (MakesMethod b d) xs ms
 methods_there b d [] h = ([], tt)
 methods_there b d (x ∷ xs) h =
@@ -130,7 +130,7 @@ module _ {X : Type 0} (P : ℕ → X → Type 0) where
     | inr l ↦ let s = row_of n (a + 1) xs h.1 x l in (s.0, omega (arith, s.1), omega (arith, s.2), s.3)
   ]
 
-  -- and each row has one
+  -- each row has a value
   pub member_of : (n a : ℕ) (xs : List X) → AllZip P (range_with_len a n) xs → (r : ℕ) → a ≤ r → r < a + n → (x : X) × Contains xs x × P r x
   member_of zero a xs h r le lt = absurd (omega arith)
   member_of (suc n) a [] h r le lt = absurd h

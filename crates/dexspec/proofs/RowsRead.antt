@@ -1,4 +1,4 @@
--- What the rows of a file that is laid out are read as: indices, offsets, and what stands there.
+-- The rows of a file with this layout, as they are read: indices, offsets, and the items at the offsets.
 use Rattle.std.proofs.Common.{◌≡◌, ℕ, ◌+◌, ◌*◌, ◌^◌, ◌<◌, ◌≤◌, List, [], ◌∷◌, ◌++◌, length, get_or, map, refl, sym, ap, subst, ◌∙◌, arith}
 use Rattle.std.specs.Prelude.{slice_index, Option, Some, None}
 use Rattle.std.specs.Option.{option_map_or}
@@ -24,9 +24,9 @@ use Rattle.dexspec.proofs.Laying.{ItemStands, Laid, table_few, data_before_map, 
 use Rattle.dexspec.proofs.HeaderLaws.{AreFew}
 use Rattle.dexspec.proofs.Uses.{UseStands, parameters_stand, interfaces_stand, static_values_stand, class_data_stands, directory_stands, class_data_of, class_set_offsets}
 
--- ---- numbers one after the other
+-- ---- numbers in sequence
 
--- those that were written are read
+-- ushorts that were written are read
 pub ushorts_at-stands : {X : Type 0} {b : List ℕ} (f : X → ℕ) → ((x : X) → f x < 2 ^ 16) → (o : ℕ) (xs : List X) → Stands b o (flat_map (λ x. ushort (f x)) xs) → ushorts_at b o (length xs) ≡ map f xs
 ushorts_at-stands f small o [] h = refl
 ushorts_at-stands {b = b} f small o (x ∷ xs) h =
@@ -35,7 +35,7 @@ ushorts_at-stands {b = b} f small o (x ∷ xs) h =
     let others : ushorts_at b (o + 2) (length xs) ≡ map f xs = ushorts_at-stands f small (o + 2) xs (stands_behind (ushort (f x)) rest 2 (length-ushort (f x)) h) in
     ap (λ n. n ∷ ushorts_at b (o + 2) (length xs)) first ∙ ap (λ l. f x ∷ l) others
 
--- the same of four bytes each
+-- uints that were written are read
 pub uints_at-stands : {X : Type 0} {b : List ℕ} (f : X → ℕ) → ((x : X) → f x < 2 ^ 32) → (o : ℕ) (xs : List X) → Stands b o (flat_map (λ x. uint (f x)) xs) → uints_at b o (length xs) ≡ map f xs
 uints_at-stands f small o [] h = refl
 uints_at-stands {b = b} f small o (x ∷ xs) h =
@@ -51,25 +51,25 @@ pub use_small : {X : Type 0} (b : List ℕ) (align : ℕ) (g : X → List ℕ) (
 use_small b align g None o small h = omega (arith, h)
 use_small b align g (Some x) o small h = omega (arith, h.in_data.within)
 
--- what a proto's row is read as
+-- a proto's row, as it is read
 pub record ProtoRead (K : Ordered) (b : List ℕ) (i : ℕ) (p : Proto) : Type 0 where
   pub shorty_is : uint_at b (row_at b ProtoIds i) ≡ text_index K.pools (shorty p.return_type p.parameters)
   pub return_is : uint_at b (row_at b ProtoIds i + 4) ≡ type_index K.pools p.return_type
   pub parameters_are : UseStands b 4 (type_list_bytes K.pools) (unless_empty p.parameters) (uint_at b (row_at b ProtoIds i + 8))
 
--- what a field's row is read as
+-- a field's row, as it is read
 pub record FieldRead (K : Ordered) (b : List ℕ) (i : ℕ) (f : Field) : Type 0 where
   pub class_is : ushort_at b (row_at b FieldIds i) ≡ type_index K.pools f.class
   pub type_is : ushort_at b (row_at b FieldIds i + 2) ≡ type_index K.pools f.type
   pub name_is : uint_at b (row_at b FieldIds i + 4) ≡ text_index K.pools f.name
 
--- what a method's row is read as
+-- a method's row, as it is read
 pub record MethodRead (K : Ordered) (b : List ℕ) (i : ℕ) (x : Method) : Type 0 where
   pub class_is : ushort_at b (row_at b MethodIds i) ≡ type_index K.pools x.class
   pub proto_is : ushort_at b (row_at b MethodIds i + 2) ≡ proto_index K.pools x.proto
   pub name_is : uint_at b (row_at b MethodIds i + 4) ≡ text_index K.pools x.name
 
--- what a class's row is read as
+-- a class's row, as it is read
 pub record ClassRead (K : Ordered) (b : List ℕ) (r : ℕ) (d : Definition) : Type 0 where
   pub name_is : class_idx b r ≡ type_index K.pools d.0
   pub flags_are : d.1.flags < 2 ^ 32 → access_flags b r ≡ d.1.flags
@@ -81,19 +81,19 @@ pub record ClassRead (K : Ordered) (b : List ℕ) (r : ℕ) (d : Definition) : T
   pub static_values_are : UseStands b 1 (encoded_array_bytes K.pools) (values_unless_empty d.1.static_values) (static_values_off b r)
 
 module _ {K : Ordered} {b : List ℕ} (h : Laid K b) where
-  -- a table has no more rows than the file bytes
+  -- a table has at most as many rows as the file has bytes
   rows_few : (t : Table) → table_count K t ≤ length b
   rows_few t = omega (arith, table_few K t, data_before_map K, h.size)
 
-  -- no index is greater than the file is long
+  -- an index of a text is at most the length of the file
   pub text_index_few : (s : Text) → text_index K.pools s ≤ length b
   text_index_few s = omega (arith, count_by-le-length (λ t. is_lt (text_cmp t s)) K.pools.texts, rows_few StringIds)
 
-  -- the same of a type
+  -- an index of a type
   pub type_index_few : (t : Text) → type_index K.pools t ≤ length b
   type_index_few t = omega (arith, count_by-le-length (λ s. is_lt (text_cmp s t)) K.pools.types, rows_few TypeIds)
 
-  -- an index or none fits four bytes
+  -- an optional index fits four bytes
   optional_small : (f : Text → ℕ) → ((s : Text) → f s ≤ length b) → (s : Option Text) → option_map_or f s no_index < 2 ^ 32
   optional_small f few None = omega arith
   optional_small f few (Some s) = omega (arith, few s, h.small)
@@ -119,7 +119,7 @@ module _ {K : Ordered} {b : List ℕ} (h : Laid K b) where
 
   -- ---- protos
 
-  -- what a proto's row is read as
+  -- a proto's row, as it is read
   pub proto_read : (i : ℕ) (d : Proto) → i < length K.pools.protos → ProtoRead K b i (get_or K.pools.protos i d)
   proto_read i d lt =
       let p = get_or K.pools.protos i d in
@@ -139,7 +139,7 @@ module _ {K : Ordered} {b : List ℕ} (h : Laid K b) where
 
   -- ---- classes
 
-  -- what a class's row is read as
+  -- a class's row, as it is read
   pub class_read : (r : ℕ) (d : Definition) → r < length K.classes → ClassRead K b r (get_or K.classes r d)
   class_read r d lt =
       let c = get_or K.classes r d in
@@ -187,18 +187,18 @@ module _ {K : Ordered} {b : List ℕ} (h : Laid K b) where
         static_values_are = subst (λ o. UseStands b 1 g4 u4 o) (sym (uint_at-stands (use_small b 1 g4 u4 offs.static_values h.small values) s7)) values;
       }
 
-  -- ---- what has indices of two bytes
+  -- ---- rows with indices of two bytes
 
   module _ (few : AreFew K) where
     -- an index of a type has two bytes
     pub type_index_small : (t : Text) → type_index K.pools t < 2 ^ 16
     type_index_small t = omega (arith, count_by-le-length (λ s. is_lt (text_cmp s t)) K.pools.types, few TypeIds)
 
-    -- and so has that of a proto
+    -- an index of a proto has two bytes
     pub proto_index_small : (p : Proto) → proto_index K.pools p < 2 ^ 16
     proto_index_small p = omega (arith, count_by-le-length (λ q. is_lt (proto_cmp q p)) K.pools.protos, few ProtoIds)
 
-    -- what a field's row is read as
+    -- a field's row, as it is read
     pub field_read : (i : ℕ) (d : Field) → i < length K.pools.fields → FieldRead K b i (get_or K.pools.fields i d)
     field_read i d lt =
         let f = get_or K.pools.fields i d in
@@ -215,7 +215,7 @@ module _ {K : Ordered} {b : List ℕ} (h : Laid K b) where
           name_is = uint_at-stands (omega (arith, text_index_few f.name, h.small)) s2;
         }
 
-    -- what a method's row is read as
+    -- a method's row, as it is read
     pub method_read : (i : ℕ) (d : Method) → i < length K.pools.methods → MethodRead K b i (get_or K.pools.methods i d)
     method_read i d lt =
         let x = get_or K.pools.methods i d in

@@ -1,4 +1,4 @@
--- All that is to be read of a class row in the file of definitions is there: conditions 17 to 22. So the canonical file of every
+-- All items of a class row in the file of definitions can be read: conditions 17 to 22. So the canonical file of each
 -- collection that can be written is accepted, and denotes it.
 use Rattle.std.proofs.Common.{◌≡◌, ◌≢◌, ℕ, ◌+◌, ◌<◌, ◌≤◌, List, [], ◌∷◌, length, get_or, map, take, drop, sym, ap, ◌∙◌, subst, arith, inl, inr, All, Option, Some, None}
 use Rattle.std.specs.List.{Contains, AllZip}
@@ -40,9 +40,9 @@ use Rattle.dexspec.proofs.NormalForm.{ItemsAreRight, IsFileOf, normal_form, cano
 use Rattle.dexspec.proofs.ClassDirectory.{directory_there}
 use Rattle.dexspec.proofs.ClassItems.{own_members, members_there, values_there, code_there, zip_split, belongs}
 
--- ---- what is put together of two lists
+-- ---- lists that are combined
 
--- a member is put together of two that are related
+-- a member is combined from two related members
 zip_with_source : {X Y : Type 0} (P : ℕ → X → Type 0) (f : X → ℕ → Y) (xs : List X) (offs : List ℕ) (y : Y) → AllZip P offs xs → Contains (zip_with f xs offs) y → (x : X) × (o : ℕ) × Contains xs x × P o x × (f x o ≡ y)
 zip_with_source P f [] [] y h c = absurd (Contains-nil y c)
 zip_with_source P f [] (o ∷ offs) y h c = absurd h
@@ -52,7 +52,7 @@ zip_with_source P f (x ∷ xs) (o ∷ offs) y h c = elim (Contains-cons_cases (f
   | inr l ↦ let w = zip_with_source P f xs offs y h.1 l in (w.0, w.1, Contains-later x w.0 xs w.2, w.3, w.4)
 ]
 
--- each member of the first is in one
+-- each member of the first list is in a combined member
 zip_with_has : {X Y : Type 0} (P : ℕ → X → Type 0) (f : X → ℕ → Y) (xs : List X) (offs : List ℕ) (x : X) → AllZip P offs xs → Contains xs x → (o : ℕ) × Contains (zip_with f xs offs) (f x o)
 zip_with_has P f [] offs x h c = absurd (Contains-nil x c)
 zip_with_has P f (z ∷ xs) [] x h c = absurd h
@@ -61,7 +61,7 @@ zip_with_has P f (z ∷ xs) (o ∷ offs) x h c = elim (Contains-cons_cases z x x
   | inr l ↦ let w = zip_with_has P f xs offs x h.1 l in (w.0, Contains-later (f z o) (f x w.0) (zip_with f xs offs) w.1)
 ]
 
--- ---- what a code item has
+-- ---- the parts of a code item
 
 -- code at an offset that is not 0
 code_at : (b : List ℕ) (o : ℕ) (c : Option Code) → OrNone (SomeAt CodeAt) None b o c → o ≢ 0 → (k : Code) × CodeAt b o k
@@ -75,15 +75,15 @@ debug_at b o d (inl h) some = absurd (some h.0)
 debug_at b o None (inr h) some = absurd h.1
 debug_at b o (Some x) (inr h) some = (x, h.1)
 
--- 18
+-- condition 18
 pieces_hold : (b : List ℕ) (o : ℕ) (k : Code) → CodeAt b o k → HasPiecesAt b o
 pieces_hold b o k h = (h.cuts, k.pieces, h.pieces)
 
--- 19
+-- condition 19
 tries_hold : (b : List ℕ) (o : ℕ) (k : Code) → CodeAt b o k → HasTriesAt b o
 tries_hold b o k h = λ cuts ps g. (k.tries, subst (λ (cs : List Cut). TriesAt b o cs k.tries) (one_pieces b o h.cuts cuts k.pieces ps h.pieces g).0 h.tries)
 
--- 20
+-- condition 20
 debug_holds : (b : List ℕ) (o : ℕ) (k : Code) → CodeAt b o k → HasDebugAt b o
 debug_holds b o k h = λ cuts ps g some. debug_at b (uint_at b (o + 8)) k.debug h.debug some
 
@@ -123,14 +123,14 @@ module _ (D : List Definition) (b : List ℕ) (n : AreNormal D b) (fits : Fits g
   virtual_source : (y : EncodedMethod) → Contains declared.virtual_methods y → (x : MethodDef) × (o : ℕ) × Contains body.virtual_methods x × HasCodeAt o x × (encoded_method name x o ≡ y)
   virtual_source y c = zip_with_source HasCodeAt (encoded_method name) body.virtual_methods (drop (length body.direct_methods) codes) y parts.1 c
 
-  -- of either list
+  -- a method of either list
   method_source : (y : EncodedMethod) → Contains (methods_of declared) y → (x : MethodDef) × (o : ℕ) × HasCodeAt o x × (encoded_method name x o ≡ y)
   method_source y c = elim (Contains-append_cases declared.direct_methods declared.virtual_methods y c) [
     | inl l ↦ let w = direct_source y l in (w.0, w.1, w.3, w.4)
     | inr l ↦ let w = virtual_source y l in (w.0, w.1, w.3, w.4)
   ]
 
-  -- a declared method is one of the class data
+  -- a declared method is in the class data
   method_has : (x : MethodDef) → Contains (declared_methods body) x → Contains (map (λ (y : EncodedMethod). y.method) (methods_of declared)) (method_of name x)
   method_has x c = elim (Contains-append_cases body.direct_methods body.virtual_methods x c) [
     | inl l ↦
@@ -141,7 +141,7 @@ module _ (D : List Definition) (b : List ℕ) (n : AreNormal D b) (fits : Fits g
         Contains-map (λ (y : EncodedMethod). y.method) (methods_of declared) (encoded_method name x w.0) (Contains-append_right declared.direct_methods declared.virtual_methods (encoded_method name x w.0) w.1)
   ]
 
-  -- and so is a declared field
+  -- a declared field is in the class data
   field_has : (f : FieldDef) → Contains (declared_fields body) f → Contains (map (λ (y : EncodedField). y.field) (fields_of declared)) (field_of name f)
   field_has f c =
       let there : Contains (fields_of declared) (encoded_field name f) = elim (Contains-append_cases body.static_fields body.instance_fields f c) [
@@ -164,7 +164,7 @@ module _ (D : List Definition) (b : List ℕ) (n : AreNormal D b) (fits : Fits g
       let v = map_source (encoded_field name) fs w.0 w.1 in
       (v.0, v.1, ap (λ (y : EncodedField). y.field) v.2 ∙ w.2)
 
-  -- the members are those of the class, none twice
+  -- the members are those of the class, none of them twice
   own : BelongTo name declared
   own = record {
     fields = all_from (λ (y : EncodedField). y.field.class ≡ name) (fields_of declared) field_own;
@@ -191,7 +191,7 @@ module _ (D : List Definition) (b : List ℕ) (n : AreNormal D b) (fits : Fits g
       let few : HasFewRows b = λ t. omega (arith, n.file.laid.count t, count_small D b n.file t) in
       one_row_data b few (class_data_off b r) declared d (members_there D b n fits r e lt) h.is
 
-  -- what holds of code items holds at each of them
+  -- a property of code items holds for each code item of the class
   at_all_code : (P : List ℕ → ℕ → Type 0) → ((o : ℕ) (k : Code) → CodeAt b o k → P b o) → AllCode P b r
   at_all_code P f d h =
       subst (λ (z : ClassData). All (λ (m : EncodedMethod). m.code_off ≢ 0 → P b m.code_off) (methods_of z)) (only_members d h)
@@ -201,7 +201,7 @@ module _ (D : List Definition) (b : List ℕ) (n : AreNormal D b) (fits : Fits g
       let k = code_at b w.1 w.0.code w.2 (λ none. some (sym off ∙ none)) in
       subst (P b) off (f w.1 k.0 k.1)))
 
-  -- 21
+  -- condition 21
   values_hold : HasValues b r
   values_hold d h =
       let same = only_members d h in
@@ -223,7 +223,7 @@ module _ (D : List Definition) (b : List ℕ) (n : AreNormal D b) (fits : Fits g
         subst (Contains (map (λ (y : EncodedMethod). y.method) (methods_of declared))) (ap (λ (z : Method × List AnnotationSet). z.0) w.2) (method_has w.0 w.1));
   }
 
-  -- all that is to be read of the row is there
+  -- all items of the row can be read
   pub row_readable : IsReadable b r
   row_readable = record {
     members = (declared, record { name = name; class = own_class D b n r e lt; is = members_there D b n fits r e lt; own = own });
@@ -237,7 +237,7 @@ module _ (D : List Definition) (b : List ℕ) (n : AreNormal D b) (fits : Fits g
 -- ---- canonical files
 
 module _ (K : Collection) (good : IsGood greatest_caps (definitions K)) (formed : AreWellFormed (definitions K)) where
-  -- the items of the canonical file are right
+  -- the items of the canonical file are valid
   pub items_right : ItemsAreRight (definitions K) (canonical K)
   items_right =
       let D = definitions K in

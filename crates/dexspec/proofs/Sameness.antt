@@ -1,4 +1,4 @@
--- The tests of sameness tell equal values.
+-- The tests of sameness decide equality.
 use Rattle.std.proofs.Common.{◌≡◌, Bool, true, false, not, ◌&&◌, ◌==◌, if◌then◌else◌, refl, ap}
 use Rattle.std.specs.Cmp.Lexicographic.{pointwise}
 use Rattle.std.proofs.lemmas.Bool.{eqb-true}
@@ -10,7 +10,7 @@ use Rattle.dexspec.specs.Sameness.{same_types, same_proto, same_field, same_meth
 use Rattle.dexspec.proofs.Members.{and_first, and_second, and_both}
 use Rattle.dexspec.proofs.Equality.{IsEquality, tells, lists_decide, options_decide, text_decides}
 
--- a value is the same as itself
+-- a value is equal to itself
 again : {X : Type 0} {same : X → X → Bool} → IsEquality same → (x : X) → same x x ≡ true
 again is x = (is x x).1 refl
 

@@ -1,4 +1,4 @@
--- Of the members of a list one passes a test, and a least one, or none does; lists without their repeats.
+-- A list has a least member that passes a test, or none; and lists without their repeats.
 use Rattle.std.proofs.Common.{◌≡◌, ◌≢◌, ◌⊎◌, zero, suc, List, [], ◌∷◌, refl, sym, ◌∙◌, subst, arith, inl, inr, Ordering, Less, Equal, Greater}
 use Rattle.std.specs.List.{Contains}
 use Rattle.std.specs.Cmp.{IsTotalOrder}
@@ -29,7 +29,7 @@ module _ {X : Type 0} where
     pub none_less : (y : X) → Contains xs y → P y → R y member ≡ Less → ⊥
 
   module _ (R : X → X → Ordering) (o : IsTotalOrder R) (P : X → Type 0) where
-    -- a member that passes is no more than the first, or the first is least
+    -- a member that passes is at most the first, or the first is the least
     least_first : (x : X) (xs : List X) → P x → ((y : X) → Contains xs y → P y → R y x ≡ Less → ⊥) → Least R P (x ∷ xs)
     least_first x xs p none = record {
       member = x;
@@ -38,7 +38,7 @@ module _ {X : Type 0} where
       none_less = λ y c q l. elim (Contains-cons_cases x y xs c) [ inl e ↦ irreflexive R o y x (sym e) l | inr m ↦ none y m q l ];
     }
 
-    -- a least one of the others is least, where the first does not pass or is not less
+    -- the least member of the rest is the least, if the first does not pass or is not less
     least_later : (x : X) (xs : List X) (l : Least R P xs) → (P x → R x l.member ≡ Less → ⊥) → Least R P (x ∷ xs)
     least_later x xs l never = record {
       member = l.member;
@@ -50,7 +50,7 @@ module _ {X : Type 0} where
       ];
     }
 
-    -- where both pass the order decides
+    -- if both pass, the order decides
     least_of_two : (x : X) (xs : List X) → P x → (l : Least R P xs) (r : Ordering) → R x l.member ≡ r → Least R P (x ∷ xs)
     least_of_two x xs p l Less e = least_first x xs p (λ y m q less. l.none_less y m q (o.trans y x l.member less e))
     least_of_two x xs p l Equal e = least_later x xs l (λ _ less. absurd (let t : Less ≡ Equal = sym less ∙ e in cc))
@@ -72,7 +72,7 @@ module _ {X : Type 0} where
 
   -- ---- lists without their repeats
 
-  -- one more member that is not yet there
+  -- one more member that is not in the list
   pub AreDistinct-cons : (x : X) (xs : List X) → (¬ (Contains xs x)) → AreDistinct xs → AreDistinct (x ∷ xs)
   AreDistinct-cons x xs never d zero zero z lt le e = absurd (omega arith)
   AreDistinct-cons x xs never d zero (suc j) z lt le e = never (subst (Contains xs) (sym e) (Contains-get_or xs j z (omega arith)))
@@ -86,7 +86,7 @@ module _ {X : Type 0} where
     pub has : AreAmong xs once
     pub only : AreAmong once xs
 
-  -- the first is added, if it is not there
+  -- the first is added, if it is not in the list
   once_with : (x : X) (xs : List X) (o : Once xs) → ((y : X) × Contains o.once y × (y ≡ x)) ⊎ ((y : X) → Contains o.once y → y ≡ x → ⊥) → Once (x ∷ xs)
   once_with x xs o (inl s) = record {
     once = o.once;
@@ -101,7 +101,7 @@ module _ {X : Type 0} where
     only = λ y c. elim (Contains-cons_cases x y o.once c) [ inl e ↦ subst (Contains (x ∷ xs)) e (Contains-first x xs) | inr m ↦ Contains-later x y xs (o.only y m) ];
   }
 
-  -- where equality is decided, each list has one
+  -- if equality is decidable, each list has one
   pub once_of : ((x y : X) → (x ≡ y) ⊎ (x ≢ y)) → (xs : List X) → Once xs
   once_of same [] = record { once = []; distinct = λ i j z lt le e. omega (arith, lt, le); has = λ y c. c; only = λ y c. c }
   once_of same (x ∷ xs) = let o = once_of same xs in once_with x xs o (some_or_none (λ y. y ≡ x) o.once (λ y. same y x))

@@ -1,4 +1,5 @@
--- Items one after the other: one list of a given length at most stands there, where at most one item does.
+-- Items in sequence: there is at most one list of a given length at an offset, if there is at most one item at an
+-- offset.
 use Rattle.std.proofs.Common.{◌≡◌, ℕ, ◌+◌, List, [], ◌∷◌, length, refl, sym, subst, ◌∙◌, arith}
 use Rattle.std.specs.List.{flat_map}
 use Rattle.std.proofs.lemmas.List.{length-append}
@@ -6,7 +7,7 @@ use Rattle.dexspec.specs.Lists.{Item, Sequence}
 use Rattle.dexspec.specs.Bytes.{Stands}
 use Rattle.dexspec.proofs.Stands.{stands_first, stands_whole, stands_later, stands_in, stands_at}
 
--- what was written item by item stands so
+-- items that are written one after the other are in sequence
 pub sequence_written : {X : Type 0} (At : Item X) (f : X → List ℕ) → ((b : List ℕ) (o : ℕ) (x : X) → Stands b o (f x) → At b o x (length (f x)))
     → (b : List ℕ) (o : ℕ) (xs : List X) → Stands b o (flat_map f xs) → Sequence At b o xs (length (flat_map f xs))
 sequence_written At f each b o [] h = refl
@@ -19,7 +20,7 @@ sequence_written At f each b o (x ∷ xs) h =
       length-append (f x) rest,
     )
 
--- and only so
+-- and no other items are
 pub one_sequence : {X : Type 0} (At : Item X) → ((b : List ℕ) (o : ℕ) (x y : X) (n k : ℕ) → At b o x n → At b o y k → (x ≡ y) × (n ≡ k))
     → (b : List ℕ) (o : ℕ) (xs ys : List X) (n k : ℕ) → length xs ≡ length ys → Sequence At b o xs n → Sequence At b o ys k → (xs ≡ ys) × (n ≡ k)
 one_sequence At one b o [] [] n k len h g = (refl, h ∙ sym g)

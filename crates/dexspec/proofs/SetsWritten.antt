@@ -1,4 +1,4 @@
--- Annotation sets and ref lists stand where their canonical bytes were written, of offsets at which their members stand.
+-- Annotation sets and ref lists are at the offset of their canonical bytes, if their members are at their offsets.
 use Rattle.std.proofs.Common.{◌≡◌, ℕ, ◌+◌, ◌-◌, ◌*◌, ◌%◌, ◌^◌, ◌<◌, ◌≤◌, List, [], ◌∷◌, length, map, refl, ap, subst, sym, ◌∙◌, arith, inl, inr}
 use Rattle.std.specs.Prelude.{IsTrue}
 use Rattle.std.specs.List.{flat_map, AllZip}
@@ -14,7 +14,7 @@ use Rattle.dexspec.proofs.Stands.{stands_within, stands_at, length_rows}
 use Rattle.dexspec.proofs.ByteNumbers.{length-uint, uint_at-stands}
 use Rattle.dexspec.proofs.NumbersWritten.{front_stands, back_stands}
 
--- offsets at which something stands are read back
+-- offsets of items are read back
 offsets_read : {X : Type 0} (R : ℕ → X → Type 0) → ((p : ℕ) (x : X) → R p x → p < 2 ^ 32) → (b : List ℕ) (o : ℕ) (offs : List ℕ) (xs : List X) → AllZip R offs xs → Stands b o (flat_map uint offs) → uints_at b o (length offs) ≡ offs
 offsets_read R small b o [] [] are h = refl
 offsets_read R small b o [] (x ∷ xs) are h = absurd are
@@ -25,7 +25,7 @@ offsets_read R small b o (p ∷ offs) (x ∷ xs) are h =
     let others : uints_at b (o + 4) (length offs) ≡ offs = offsets_read R small b (o + 4) offs xs are.1 (stands_at (omega (arith, length-uint p)) (back_stands (uint p) rest h)) in
     ap (λ n. n ∷ uints_at b (o + 4) (length offs)) first ∙ ap (λ l. p ∷ l) others
 
--- a count and offsets that were written in the data are there, and are read back
+-- a count and offsets that were written in the data are read back
 record OffsetsAt (b : List ℕ) (o : ℕ) (offs : List ℕ) : Type 0 where
   in_data : IsInData b o (4 + 4 * uint_at b o)
   are : uints_at b (o + 4) (uint_at b o) ≡ offs
@@ -44,22 +44,22 @@ offsets_written R small b o offs xs short behind are h =
     }
 
 module _ (b : List ℕ) (short : length b < 2 ^ 32) where
-  -- an annotation stands at an offset of 32 bits
+  -- the offset of an annotation has 32 bits
   annotation_small : (p : ℕ) (a : Annotation) → AnnotationAt b p a → p < 2 ^ 32
   annotation_small p a h = omega (arith, stands_within h.visibility, short)
 
-  -- and so does a set, or none
+  -- the offset of a set, or 0, has 32 bits
   pub set_small : (p : ℕ) (s : AnnotationSet) → OrNone SetAt [] b p s → p < 2 ^ 32
   set_small p s (inl h) = omega (arith, h.0)
   set_small p s (inr h) = omega (arith, h.1.in_data.within, short)
 
-  -- a set stands where the offsets of its annotations do
+  -- a set is at an offset, if its annotations are at their offsets
   pub set_written : (o : ℕ) (offs : List ℕ) (set : AnnotationSet) → data_off b ≤ o → o % 4 ≡ 0 → AllZip (AnnotationAt b) offs set → IsTrue (rises text_cmp (map (λ a. a.type) set)) → Stands b o (offsets_bytes offs) → SetAt b o set
   set_written o offs set behind aligned are rise h =
       let read = offsets_written (AnnotationAt b) annotation_small b o offs set short behind are h in
       record { in_data = read.in_data; aligned = aligned; annotations = subst (λ ps. AllZip (AnnotationAt b) ps set) (sym read.are) are; rise = rise }
 
-  -- a ref list stands where the offsets of its sets do
+  -- a ref list is at an offset, if its sets are at their offsets
   pub ref_list_written : (o : ℕ) (offs : List ℕ) (list : List AnnotationSet) → data_off b ≤ o → o % 4 ≡ 0 → AllZip (OrNone SetAt [] b) offs list → Stands b o (offsets_bytes offs) → RefListAt b o list
   ref_list_written o offs list behind aligned are h =
       let read = offsets_written (OrNone SetAt [] b) set_small b o offs list short behind are h in

@@ -1,5 +1,5 @@
--- Items that equal uses share: each use has the number of its item, they are numbered in order of first use, and the
--- items count no more than the uses.
+-- Items that equal uses share: each use has the number of its item, the items are numbered in order of first use, and
+-- they count at most as much as the uses.
 use Rattle.std.proofs.Common.{◌≡◌, ℕ, zero, suc, ◌+◌, ◌<◌, ◌≤◌, Bool, true, false, not, if◌then◌else◌, append_assoc, List, [], ◌∷◌, ◌++◌, length, get_or, map, take, drop, refl, sym, ap, ◌∙◌, subst, arith, sum_by, inl, inr}
 use Rattle.std.specs.Prelude.{Option, Some, None}
 use Rattle.std.specs.List.{Contains, filter, list_any, position_or_len}
@@ -16,14 +16,14 @@ use Rattle.dexspec.proofs.Sources.{distinct_source}
 use Rattle.dexspec.proofs.FirstPlaces.{any_alike, position_within, position_stays, position_last, position_mapped, position_agrees}
 use Rattle.dexspec.proofs.Distinct.{with_last, distinct_more, distinct_front, distinct_has, distinct_once}
 
--- ---- what is present
+-- ---- present values
 
 pub present-append : {X : Type 0} (us vs : List (Option X)) → present (us ++ vs) ≡ present us ++ present vs
 present-append [] vs = refl
 present-append (None ∷ us) vs = present-append us vs
 present-append (Some x ∷ us) vs = ap (λ ys. x ∷ ys) (present-append us vs)
 
--- what a use has is present
+-- the value of a use is present
 pub present_has : {X : Type 0} (uses : List (Option X)) (k : ℕ) (x : X) → k < length uses → get_or uses k None ≡ Some x → Contains (present uses) x
 present_has [] k x lt e = absurd (omega arith)
 present_has (None ∷ uses) zero x lt e = absurd cc
@@ -31,7 +31,7 @@ present_has (None ∷ uses) (suc k) x lt e = present_has uses k x (omega arith) 
 present_has (Some y ∷ uses) zero x lt e = subst (Contains (y ∷ present uses)) (let same : y ≡ x = cc in same) (Contains-first y (present uses))
 present_has (Some y ∷ uses) (suc k) x lt e = Contains-later y x (present uses) (present_has uses k x (omega arith) e)
 
--- and what is present some use has
+-- each present value is that of some use
 pub present_source : {X : Type 0} (uses : List (Option X)) (x : X) → Contains (present uses) x → (k : ℕ) × (k < length uses) × (get_or uses k None ≡ Some x)
 present_source [] x c = absurd (Contains-nil x c)
 present_source (None ∷ uses) x c = let s = present_source uses x c in (suc s.0, omega (arith, s.1), s.2)
@@ -42,7 +42,7 @@ present_source (Some y ∷ uses) x c = elim (Contains-cons_cases y x (present us
 
 -- ---- numbers
 
--- the first item that is the same as a member is the member
+-- the first item that equals a member is the member
 pub position_is : {X : Type 0} (same : X → X → Bool) → IsEquality same → (xs : List X) (x : X) → Contains xs x
     → (position_or_len (λ y. same y x) xs < length xs) × (get_or xs (position_or_len (λ y. same y x) xs) x ≡ x)
 position_is same exact xs x c =
@@ -50,7 +50,7 @@ position_is same exact xs x c =
     (lt, (exact (get_or xs (position_or_len (λ y. same y x) xs) x) x).0 (passes_at_first (λ y. same y x) xs x lt))
 
 module _ {X : Type 0} (same : X → X → Bool) (exact : IsEquality same) where
-  -- an item among items without repeats has its own number
+  -- an item of a list without repeats has its own number
   own_place : (xs : List X) (i : ℕ) (d : X) → AreDistinct xs → i < length xs → position_or_len (λ y. same y (get_or xs i d)) xs ≡ i
   own_place xs i d once lt =
       position_or_len_is (λ y. same y (get_or xs i d)) xs i d (omega (arith, lt)) (λ k l. other (same (get_or xs k d) (get_or xs i d)) (λ e. once k i d l lt ((exact (get_or xs k d) (get_or xs i d)).0 e))) (λ l. self same exact (get_or xs i d))
@@ -59,8 +59,8 @@ module _ {X : Type 0} (same : X → X → Bool) (exact : IsEquality same) where
       other true never = absurd (never refl)
       other false never = refl
 
-  -- Where the item of the next member has another before it, that one was an item already: the next member's is one
-  -- of those too, or stands behind them all.
+  -- If the item of the next member is after another item, that other one is an item already: the next member's item is
+  -- one of these, or is after all of them.
   before_next : (b : Bool) (front : List X) (x : X) (more : List X) (i : ℕ) → list_any (same x) (distinct same front) ≡ b
       → position_or_len (λ y. same y x) ((if b then distinct same front else distinct same front ++ x ∷ []) ++ more) ≡ suc i → i < length (distinct same front)
   before_next true front x more i any e =
@@ -76,7 +76,7 @@ module _ {X : Type 0} (same : X → X → Bool) (exact : IsEquality same) where
       let lt : position_or_len (λ y. same y x) (ds ++ x ∷ []) < length (ds ++ x ∷ []) = omega (arith, last, length-append ds (x ∷ [])) in
       omega (arith, last, position_stays (λ y. same y x) (ds ++ x ∷ []) more lt, e)
 
-  -- where a member's item has another before it, that one is among the members before
+  -- if a member's item is after another, that other one is among the members before
   item_before : (front : List X) (x : X) (rest : List X) (i : ℕ) (d : X) → position_or_len (λ y. same y x) (distinct same (front ++ x ∷ rest)) ≡ suc i
       → Contains front (get_or (distinct same (front ++ x ∷ rest)) i d)
   item_before front x rest i d e =
@@ -93,7 +93,7 @@ module _ {X : Type 0} (same : X → X → Bool) (exact : IsEquality same) where
   abbrev number_in : List X → X → ℕ
   number_in ds x = position_or_len (λ y. same y x) ds
 
-  -- by what the use is
+  -- case split on the use
   first_use_by : (uses : List (Option X)) (k i : ℕ) (u : Option X) → k < length uses → get_or uses k None ≡ u → option_map (number_in (distinct same (present uses))) u ≡ Some (suc i)
       → (j : ℕ) × (j < k) × (option_map (number_in (distinct same (present uses))) (get_or uses j None) ≡ Some i)
   first_use_by uses k i None lt is e = absurd cc
@@ -115,7 +115,7 @@ module _ {X : Type 0} (same : X → X → Bool) (exact : IsEquality same) where
       some_is : (m n : ℕ) → Some m ≡ Some n → m ≡ n
       some_is m n e = cc
 
-  -- before the first use of an item there is one of the item before it
+  -- before the first use of an item there is a use of the item before it
   pub first_uses_rise : (uses : List (Option X)) (k i : ℕ) → k < length uses → get_or (shared_items same uses).numbers k None ≡ Some (suc i)
       → (j : ℕ) × (j < k) × (get_or (shared_items same uses).numbers j None ≡ Some i)
   first_uses_rise uses k i lt e =
@@ -123,7 +123,7 @@ module _ {X : Type 0} (same : X → X → Bool) (exact : IsEquality same) where
       let s = first_use_by uses k i (get_or uses k None) lt refl (sym (get_or-map number uses k None None lt) ∙ e) in
       (s.0, s.1, get_or-map number uses s.0 None None (omega (arith, s.1, lt)) ∙ s.2)
 
--- uses that are led one to one have the same numbers
+-- uses under an injective map have the same numbers
 pub numbers_led : {X Y : Type 0} (f : X → Y) (same : X → X → Bool) (alike : Y → Y → Bool) (us : List (Option X)) (ds : List X) → ((x y : X) → Contains ds y → Contains (present us) x → alike (f y) (f x) ≡ same y x)
     → map (option_map (λ x. position_or_len (λ y. alike y x) (map f ds))) (map (option_map f) us) ≡ map (option_map (λ x. position_or_len (λ y. same y x) ds)) us
 numbers_led f same alike [] ds e = refl
@@ -135,11 +135,11 @@ numbers_led f same alike (Some x ∷ us) ds e =
 
 -- ---- sums
 
--- what is left out counts no more
+-- a filtered list counts at most as much
 sum_by-filter : {X : Type 0} (f : X → ℕ) (p : X → Bool) (xs : List X) → sum_by f (filter p xs) ≤ sum_by f xs
 sum_by-filter f p xs = omega (arith, sum_by-filter_both p (λ x. not (p x)) (λ _. refl) f xs)
 
--- and so a list without its repeats
+-- a list without its repeats counts at most as much
 pub sum_by-distinct : {X : Type 0} (f : X → ℕ) (same : X → X → Bool) (xs : List X) → sum_by f (distinct same xs) ≤ sum_by f xs
 sum_by-distinct f same [] = omega arith
 sum_by-distinct f same (x ∷ xs) =
@@ -151,7 +151,7 @@ sum_by-distinct f same (x ∷ xs) =
       sum_by-distinct f same xs,
     )
 
--- the items of uses count no more than the uses
+-- the items of uses count at most as much as the uses
 pub sum_by-items : {X : Type 0} (how : Sharing) (same : X → X → Bool) (f : X → ℕ) (uses : List (Option X)) → sum_by f (items_by how same uses).written ≤ sum_by f (present uses)
 sum_by-items EqualOnce same f uses = sum_by-distinct f same (present uses)
 sum_by-items EachForItself same f uses = omega arith

@@ -1,5 +1,5 @@
--- The indices of 16 bits fit their places in definitions that fit the greatest caps: a const-string that is not a jumbo one
--- names a text of a small rank, and the other pools are small.
+-- The indices of 16 bits fit their fields in definitions that fit the greatest caps: a const-string that is not a jumbo
+-- one names a text of a small rank, and the other pools are small.
 use Rattle.std.proofs.Common.{◌≡◌, ℕ, ◌+◌, ◌<◌, ◌≤◌, ◌^◌, Bool, true, false, ◌&&◌, cond, List, [], ◌∷◌, length, slice_index, All, Option, Some, None, refl, sym, ap, ◌∙◌, arith, inl, inr}
 use Rattle.std.specs.Prelude.{◌-◌, slice_index_or, if◌then◌else◌, nat_le, nat_lt}
 use Rattle.std.specs.Option.{option_and_then}
@@ -30,7 +30,7 @@ use Rattle.dexspec.specs.Spellings.{symbol_index}
 
 -- ---- the opcodes that name texts
 
--- the first that passes does
+-- the first that passes, passes
 found_is : {X : Type 0} (p : X → Bool) (xs : List X) (x : X) → find p xs ≡ Some x → p x ≡ true
 found_is p [] x e = absurd cc
 found_is p (y ∷ ys) x e = by (p y) refl e (found_is p ys x)
@@ -39,12 +39,12 @@ found_is p (y ∷ ys) x e = by (p y) refl e (found_is p ys x)
     by true q e again = let same : y ≡ x = cc in ap p (sym same) ∙ q
     by false q e again = again e
 
--- opcodes of a run that name texts are two
+-- the opcodes of a run that name texts are two
 abbrev names_texts : OpcodeRun → Option Pool → Bool
 names_texts r (Some Strings) = nat_le 0x1a r.first && nat_le (r.first + length r.mnemonics) 0x1c
 names_texts r _ = true
 
--- so it is in the whole table
+-- this holds in the whole table
 runs_name_texts : list_all (λ (r : OpcodeRun). names_texts r r.index) opcode_runs ≡ true
 unfolding opcode_runs
 runs_name_texts = refl
@@ -65,7 +65,7 @@ string_opcode n op e index =
     let to = ltb-true n (r.first + length r.mnemonics) (and_second (nat_le r.first n) (nat_lt n (r.first + length r.mnemonics)) in_run) in
     (omega (arith, low, from), omega (arith, high, to))
 
--- by whether a payload begins here
+-- case split on whether a payload begins here
 text_byte_by : (u : ℕ) (t : Bool) → is_payload_ident u ≡ t → (if t then None else option_and_then (λ op. op.index) (opcode_of (low_byte u))) ≡ Some Strings → (0x1a ≤ low_byte u) × (low_byte u ≤ 0x1b)
 text_byte_by u true e h = absurd cc
 text_byte_by u false e h = by (opcode_of (low_byte u)) refl h
@@ -89,7 +89,7 @@ short_string us pool short =
 -- ---- pieces
 
 module _ (D : List Definition) (fits : Fits greatest_caps D) (d : Definition) (x : MethodDef) (c : Code) (in_file : Contains D d) (declared : Contains (declared_methods d.1) x) (has : x.code ≡ Some c) (is : IsCodeItem c) where
-  -- a piece's index fits its place
+  -- a piece's index fits its field
   index_fits : (p : Piece) → Contains c.pieces p → IndexFits (mentions D) p
   index_fits (Instruction us None) k = tt
   index_fits (Payload us) k = tt
@@ -110,6 +110,6 @@ module _ (D : List Definition) (fits : Fits greatest_caps D) (d : Definition) (x
       by (FieldSymbol f) k short m = omega (arith, (rank-place field_cmp field_total (mentions D).fields f f (mentions-rising D).fields m).0, fits.fields)
       by (MethodSymbol y) k short m = omega (arith, (rank-place method_cmp method_total (mentions D).methods y y (mentions-rising D).methods m).0, fits.methods)
 
-  -- so do those of all pieces
+  -- the indices of all pieces fit
   pub indices_fit : All (IndexFits (mentions D)) c.pieces
   indices_fit = all_from (IndexFits (mentions D)) c.pieces index_fits

@@ -1,4 +1,5 @@
--- The text of a const-string that is not a jumbo one has a row below 65536; so an accepted file denotes what is good.
+-- The text of a const-string that is not a jumbo one has a row below 65536; so the collection that an accepted file
+-- denotes is good.
 use Rattle.std.proofs.Common.{◌≡◌, ℕ, zero, suc, ◌+◌, ◌/◌, ◌%◌, ◌<◌, ◌≤◌, ◌^◌, Bool, true, false, List, length, take, drop, slice_index, All, Option, Some, None, refl, sym, ap, ◌∙◌, subst, arith, inl, inr, length-take}
 use Rattle.std.specs.Prelude.{if◌then◌else◌, ◌==◌, slice_set}
 use Rattle.std.specs.List.{Contains}
@@ -27,7 +28,7 @@ use Rattle.dexspec.proofs.DenotedGood.{accepted_classes, member_row, good_from_r
 
 -- ---- units
 
--- two bytes hold a number of 16 bits
+-- two bytes encode a number of 16 bits
 pub ushort_bound : (b : List ℕ) (o : ℕ) → All (λ byte. byte < 256) b → ushort_at b o < 65536
 unfolding ushort_at
 ushort_bound b o bytes =
@@ -36,13 +37,13 @@ ushort_bound b o bytes =
     let most : 256 ^ length (take 2 (drop o b)) ≤ 256 ^ 2 = pow-le-pow_right (omega arith) size in
     omega (arith, small, most)
 
--- and so do several
+-- bytes encode numbers of 16 bits
 pub ushorts_bound : (b : List ℕ) (o n : ℕ) → All (λ byte. byte < 256) b → All (λ u. u < 65536) (ushorts_at b o n)
 ushorts_bound b o zero bytes k d lt = absurd (omega arith)
 ushorts_bound b o (suc n) bytes zero d lt = ushort_bound b o bytes
 ushorts_bound b o (suc n) bytes (suc k) d lt = ushorts_bound b (o + 2) n bytes k d (omega arith)
 
--- what stands at a place, or zero
+-- a unit at a place, or zero
 unit_bound : (us : List ℕ) (i : ℕ) → All (λ u. u < 65536) us → slice_index us i < 65536
 unit_bound us i h = elim (cases_lt i (length us)) [
   | inl lt ↦ h i 0 lt
@@ -51,7 +52,7 @@ unit_bound us i h = elim (cases_lt i (length us)) [
 
 -- ---- the index of a const-string
 
--- the first unit is kept where an index is put in
+-- the first unit is unchanged when an index is set
 pub first_kept : (us : List ℕ) (w : Bool) → slice_index (if w then slice_set (slice_set us 1 (0 % 65536)) 2 (0 / 65536) else slice_set us 1 0) 0 ≡ slice_index us 0
 first_kept us true = get_or-set_other (slice_set us 1 (0 % 65536)) 2 0 (0 / 65536) 0 (omega arith) ∙ get_or-set_other us 1 0 (0 % 65536) 0 (omega arith)
 first_kept us false = get_or-set_other us 1 0 0 0 (omega arith)
@@ -67,7 +68,7 @@ narrow_index us xs same low units =
     let e = index_by us (is_wide_index us) refl (ap low_byte (sym kept) ∙ low) in
     omega (arith, e, unit_bound us 1 units)
 
--- ---- the code that has it
+-- ---- the code that has the const-string
 
 module _ (b : List ℕ) (bytes : All (λ byte. byte < 256) b) where
   in_code : (o : ℕ) (k : Code) (xs : List ℕ) (s : Text) → CodeAt b o k → Contains k.pieces (Instruction xs (Some (TextSymbol s))) → low_byte (slice_index xs 0) ≡ 0x1a → (i : ℕ) × (i < 65536) × StringRow b i s
@@ -93,7 +94,7 @@ module _ (b : List ℕ) (bytes : All (λ byte. byte < 256) b) where
         | inr l ↦ let w = zip_source (MakesMethod b h.directory) h.members.virtual_methods c.virtual_methods m h.virtual_methods l in made w.0 w.2
       ]
 
-  -- what an accepted file denotes is good
+  -- the collection that an accepted file denotes is good
   pub denoted_good : IsAccepted b → (K : Collection) → Denotes b K → IsGood greatest_caps (definitions K)
   denoted_good h K denotes =
       good_from_rows b h K denotes

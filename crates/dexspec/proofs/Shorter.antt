@@ -1,5 +1,6 @@
--- Items that cover others: as many, and as long, with more between them. A section whose items are covered ends no
--- later, and offsets that are no greater, or zero in the same places, make items that are covered.
+-- Items that cover others: a list in which each of the others has a matching item that is at least as long. A section
+-- whose items are covered ends no later, and offsets that are no greater, or are zero at the same places, make items
+-- that are covered.
 use Rattle.std.proofs.Common.{◌≡◌, ◌⊎◌, ℕ, zero, suc, ◌+◌, ◌<◌, ◌≤◌, Ordering, Bool, true, false, cond, not, if◌then◌else◌, ◌==◌, List, [], ◌∷◌, ◌++◌, length, map, take, drop, zip, flat_map, refl, sym, ap, subst, ◌∙◌, arith, inl, inr}
 use Rattle.std.specs.Prelude.{slice_index, nat_lt, Option, Some, None}
 use Rattle.std.specs.List.{filter}
@@ -60,7 +61,7 @@ module _ {X : Type 0} (f : X → List (List ℕ)) where
       by true h = covered_behind (f x) (flat_map f (filter p xs)) (flat_map f xs) h
       by false h = covered_more (flat_map f (filter p xs)) (flat_map f xs) (f x) h
 
-  -- what the distinct members make is covered by what all make
+  -- the bytes of the distinct members are covered by the bytes of all members
   covered_distinct : (same : X → X → Bool) (xs : List X) → IsCovered (flat_map f (distinct same xs)) (flat_map f xs)
   covered_distinct same [] = tt
   covered_distinct same (x ∷ xs) =
@@ -77,15 +78,15 @@ module _ {X : Type 0} (g : X → List ℕ) where
   each_list [] = refl
   each_list (xs ∷ xss) = ap (λ ys. map g xs ++ ys) (each_list xss) ∙ sym (map-append g xs (flat_map (λ xs. xs) xss))
 
-  -- items, one of each
+  -- one item for each member
   pub covered_items : (same : X → X → Bool) (xs : List X) → IsCovered (map g (distinct same xs)) (map g xs)
   covered_items same xs = subst (λ ys. IsCovered ys (map g xs)) (one_each (distinct same xs)) (subst (IsCovered (flat_map (λ x. g x ∷ []) (distinct same xs))) (one_each xs) (covered_distinct (λ x. g x ∷ []) same xs))
 
-  -- items, some of each
+  -- several items for each member
   pub covered_lists : (same : List X → List X → Bool) (xss : List (List X)) → IsCovered (map g (flat_map (λ xs. xs) (distinct same xss))) (map g (flat_map (λ xs. xs) xss))
   covered_lists same xss = subst (λ ys. IsCovered ys (map g (flat_map (λ xs. xs) xss))) (each_list (distinct same xss)) (subst (IsCovered (flat_map (map g) (distinct same xss))) (each_list xss) (covered_distinct (map g) same xss))
 
--- ---- where a section ends
+-- ---- the end of a section
 
 round_up_most : (align m n : ℕ) → IsAlign align → m ≤ n → round_up align m ≤ round_up align n
 round_up_most align m n (inl e) le = subst (λ a. round_up a m ≤ round_up a n) (sym e) (omega (arith, le))
@@ -102,7 +103,7 @@ end_covered align is m n (x ∷ xs) (y ∷ ys) (inr h) le =
 
 -- ---- offsets that are no greater
 
--- each is at most the other in its place
+-- each offset is at most the other at its place
 abbrev pub AreBelow : List ℕ → List ℕ → Type 0
 AreBelow [] [] = Unit {0}
 AreBelow [] (p ∷ ps) = ⊥
@@ -120,7 +121,7 @@ below_number : (os ps : List ℕ) → AreBelow os ps → (n : Option ℕ) → op
 below_number os ps h None = omega arith
 below_number os ps h (Some i) = below_at os ps h i
 
--- and so are those of uses with the same numbers
+-- also for uses with the same numbers
 pub uses_below : (os ps : List ℕ) → AreBelow os ps → (numbers : List (Option ℕ)) → AreBelow (uses_offsets numbers os) (uses_offsets numbers ps)
 uses_below os ps h [] = tt
 uses_below os ps h (n ∷ numbers) = (below_number os ps h n, uses_below os ps h numbers)
@@ -139,7 +140,7 @@ drop_below (suc n) [] (p ∷ ps) h = absurd h
 drop_below (suc n) (o ∷ os) [] h = absurd h
 drop_below (suc n) (o ∷ os) (p ∷ ps) h = drop_below n os ps h.1
 
--- a greater number has no fewer bytes
+-- a greater number has at least as many bytes
 at_least : (b : Bool) (k n x : ℕ) → k ≤ n → k ≤ x → k ≤ (if b then n else x)
 at_least true k n x le other = le
 at_least false k n x le other = other
@@ -169,9 +170,9 @@ size_u_most v w le =
 pub uleb128_most : (v w : ℕ) → v ≤ w → length (uleb128 v) ≤ length (uleb128 w)
 uleb128_most v w le = omega (arith, size_u_most v w le, length-groups (size_u v) v, length-groups (size_u w) w)
 
--- ---- offsets that are zero in the same places
+-- ---- offsets that are zero at the same places
 
--- both are zero, or neither
+-- both are zero, or neither is
 abbrev pub AreAlike : ℕ → ℕ → Type 0
 AreAlike o p = ((o ≡ 0) × (p ≡ 0)) ⊎ ((0 < o) × (0 < p))
 
@@ -186,14 +187,14 @@ pub zero_alike : (o p : ℕ) → AreAlike o p → (o == 0) ≡ (p == 0)
 zero_alike o p (inl h) = ap (λ n. n == 0) (h.0 ∙ sym h.1)
 zero_alike o p (inr h) = not_zero o h.0 ∙ sym (not_zero p h.1)
 
--- in each place
+-- at each place
 abbrev pub AllAlike : List ℕ → List ℕ → Type 0
 AllAlike [] [] = Unit {0}
 AllAlike [] (p ∷ ps) = ⊥
 AllAlike (o ∷ os) [] = ⊥
 AllAlike (o ∷ os) (p ∷ ps) = AreAlike o p × AllAlike os ps
 
--- and in each list
+-- in each list
 abbrev pub ListsAlike : List (List ℕ) → List (List ℕ) → Type 0
 ListsAlike [] [] = Unit {0}
 ListsAlike [] (ps ∷ pss) = ⊥
@@ -242,7 +243,7 @@ firsts_alike [] (ps ∷ pss) h = absurd h
 firsts_alike (os ∷ oss) [] h = absurd h
 firsts_alike (os ∷ oss) (ps ∷ pss) h = (alike_first os ps h.0, firsts_alike oss pss h.1)
 
--- as many items begin at places that are not zero
+-- two lists of items of one length, from offsets that are not 0, have offsets that are zero at the same places
 pub offsets_alike : (align m n : ℕ) (xs ys : List (List ℕ)) → length xs ≡ length ys → 0 < m → 0 < n → (i : ℕ) → AreAlike (slice_index (offsets_from align m xs) i) (slice_index (offsets_from align n ys) i)
 offsets_alike align m n [] [] e some other i = inl (refl, refl)
 offsets_alike align m n [] (y ∷ ys) e some other i = absurd (omega (arith, e))
@@ -255,14 +256,14 @@ number_alike : (os ps : List ℕ) → ((i : ℕ) → AreAlike (slice_index os i)
 number_alike os ps each None = inl (refl, refl)
 number_alike os ps each (Some i) = each i
 
--- and so are those of uses with the same numbers
+-- also for uses with the same numbers
 pub uses_alike : (os ps : List ℕ) → ((i : ℕ) → AreAlike (slice_index os i) (slice_index ps i)) → (numbers : List (Option ℕ)) → AllAlike (uses_offsets numbers os) (uses_offsets numbers ps)
 uses_alike os ps each [] = tt
 uses_alike os ps each (n ∷ numbers) = (number_alike os ps each n, uses_alike os ps each numbers)
 
 -- ---- uses that are covered
 
--- neither has an item, or that of the one is no longer
+-- neither has an item, or the item of the first is no longer
 abbrev pub IsCoveredUse : {X Y : Type 0} → (X → List ℕ) → (Y → List ℕ) → Option X → Option Y → Type 0
 IsCoveredUse g h None None = Unit {0}
 IsCoveredUse g h None (Some y) = ⊥
@@ -277,7 +278,7 @@ AreCoveredUses g h (u ∷ us) [] = ⊥
 AreCoveredUses g h (u ∷ us) (v ∷ vs) = IsCoveredUse g h u v × AreCoveredUses g h us vs
 
 module _ {X Y : Type 0} (g : X → List ℕ) (h : Y → List ℕ) where
-  -- their items are
+  -- their items are covered
   pub covered_present : (us : List (Option X)) (vs : List (Option Y)) → AreCoveredUses g h us vs → IsCovered (map g (present us)) (map h (present vs))
   covered_present [] [] c = tt
   covered_present [] (v ∷ vs) c = absurd c
@@ -287,7 +288,7 @@ module _ {X Y : Type 0} (g : X → List ℕ) (h : Y → List ℕ) where
   covered_present (Some x ∷ us) (None ∷ vs) c = absurd c.0
   covered_present (Some x ∷ us) (Some y ∷ vs) c = inl (c.0, covered_present us vs c.1)
 
-  -- and they have the same numbers
+  -- they have the same numbers
   pub covered_numbers : (n : ℕ) (us : List (Option X)) (vs : List (Option Y)) → AreCoveredUses g h us vs → own_numbers n us ≡ own_numbers n vs
   covered_numbers n [] [] c = refl
   covered_numbers n [] (v ∷ vs) c = absurd c
@@ -297,7 +298,7 @@ module _ {X Y : Type 0} (g : X → List ℕ) (h : Y → List ℕ) where
   covered_numbers n (Some x ∷ us) (None ∷ vs) c = absurd c.0
   covered_numbers n (Some x ∷ us) (Some y ∷ vs) c = ap (λ ns. Some n ∷ ns) (covered_numbers (n + 1) us vs c.1)
 
-  -- they are as many
+  -- their counts are equal
   pub covered_count : (us : List (Option X)) (vs : List (Option Y)) → AreCoveredUses g h us vs → length (map g (present us)) ≡ length (map h (present vs))
   covered_count [] [] c = refl
   covered_count [] (v ∷ vs) c = absurd c
@@ -307,7 +308,7 @@ module _ {X Y : Type 0} (g : X → List ℕ) (h : Y → List ℕ) where
   covered_count (Some x ∷ us) (None ∷ vs) c = absurd c.0
   covered_count (Some x ∷ us) (Some y ∷ vs) c = ap suc (covered_count us vs c.1)
 
-  -- and begin at places that are no greater
+  -- they begin at offsets that are no greater
   pub offsets_below : (align m n : ℕ) → IsAlign align → (us : List (Option X)) (vs : List (Option Y)) → AreCoveredUses g h us vs → m ≤ n → AreBelow (offsets_from align m (map g (present us))) (offsets_from align n (map h (present vs)))
   offsets_below align m n is [] [] c le = tt
   offsets_below align m n is [] (v ∷ vs) c le = absurd c
@@ -336,7 +337,7 @@ firsts_ordered : (ps : List (ℕ × ℕ)) → map (λ (p : ℕ × ℕ). p.0) (in
 firsts_ordered [] = refl
 firsts_ordered (p ∷ ps) = firsts_added p (in_order pair_cmp ps) ∙ ap (add_in_order nat_cmp p.0) (firsts_ordered ps)
 
--- those with offset 0 left out
+-- the pairs without those at offset 0
 abbrev some_pairs : List ℕ → List ℕ → List (ℕ × ℕ)
 some_pairs indices offs = flat_map (λ (p : ℕ × ℕ). if p.1 == 0 then [] else p ∷ []) (zip indices offs)
 
@@ -358,7 +359,7 @@ length-firsts : (ps : List (ℕ × ℕ)) → length (map (λ (p : ℕ × ℕ). p
 length-firsts [] = refl
 length-firsts (p ∷ ps) = ap suc (length-firsts ps)
 
--- offsets that are zero in the same places make as many pairs
+-- offsets that are zero at the same places make as many pairs
 pub pairs_alike : (indices os ps : List ℕ) → AllAlike os ps → length (pairs indices os) ≡ length (pairs indices ps)
 pairs_alike indices os ps h =
     sym (length-firsts (pairs indices os)) ∙ ap (λ (is : List ℕ). length is) (firsts_ordered (some_pairs indices os) ∙ ap (in_order nat_cmp) (firsts_alike_pairs indices os ps h) ∙ sym (firsts_ordered (some_pairs indices ps)))

@@ -1,4 +1,4 @@
--- How many bytes class data and directories have at most, by the numbers of members.
+-- Upper bounds on the bytes of class data and directories, by the numbers of members.
 use Rattle.std.proofs.Common.{ℕ, ◌+◌, ◌*◌, ◌≤◌, Bool, true, false, List, [], ◌∷◌, ◌++◌, map, length, take, drop, Option, Some, None, arith, flat_map, if◌then◌else◌, ◌==◌, length-append, slice_index, zip, IfSome}
 use Rattle.std.specs.List.{concat}
 use Rattle.std.specs.FinMap.Entries.{by_order}
@@ -19,7 +19,7 @@ use Rattle.dexspec.proofs.SizeItems.{uleb128-size}
 
 -- ---- class data
 
--- items that two lists make, of k bytes at most
+-- items from two lists, each of at most k bytes
 pub zipped-size : {X Y : Type 0} (g : X → Y → List ℕ) (k : ℕ) (xs : List X) (ys : List Y) → ((x : X) (y : Y) → length (g x y) ≤ k) → length (concat (zip_with g xs ys)) ≤ length xs * k
 zipped-size g k xs ys le =
     let each = sum_by-zip_with (λ (b : List ℕ). length b) (λ x. k) g xs ys le in
@@ -159,6 +159,6 @@ some-within : (n : ℕ) (o : Option (List ℕ)) → or_zero (λ (x : List ℕ). 
 some-within n None h = tt
 some-within n (Some bytes) h = h
 
--- the same of a directory that is there
+-- a directory that is present
 pub directory-size : (m : Mentions) (d : Definition) (sets : SetOffsets) (refs : List ℕ) → IfSome (directory_bytes m d sets refs) (λ bytes. length bytes ≤ 16 + 8 * length (declared_fields d.1) + 16 * length (declared_methods d.1))
 directory-size m d sets refs = some-within (16 + 8 * length (declared_fields d.1) + 16 * length (declared_methods d.1)) (directory_bytes m d sets refs) (directory_bytes-size m d sets refs)

@@ -1,4 +1,4 @@
--- What the sections take of a class, a proto and a text is at most what these weigh.
+-- The bytes of a class, a proto and a text in the sections are at most their weights.
 use Rattle.std.proofs.Common.{◌≡◌, ℕ, ◌+◌, ◌*◌, ◌≤◌, List, [], ◌∷◌, ◌++◌, map, length, Option, Some, None, refl, arith, sum_by, flat_map, option_to_list}
 use Rattle.std.proofs.lemmas.List.Sums.{sum_by-cons, sum_by-append}
 use Rattle.dexspec.specs.Symbols.{Proto}
@@ -103,7 +103,7 @@ class-cover : (d : Definition)
 class-cover d =
     omega (arith, class_sets-sum items_part d, class_sets-sum set_part d, set-cover d.1.annotations, fields-cover (declared_fields d.1), methods-cover (declared_methods d.1))
 
--- rows, and all that the sections take of the classes
+-- rows, and all bytes of the classes in the sections
 pub classes-cover : (cs : List Definition)
     → 32 * length cs + sum_by (λ d. list_part d.1.interfaces) cs + sum_by (λ d. sum_by items_part (class_sets d)) cs + sum_by (λ d. static_values_weight d.1.static_values) cs
     + sum_by (λ d. sum_by debug_part (declared_methods d.1)) cs + sum_by (λ d. sum_by code_part (declared_methods d.1)) cs + sum_by data_part cs + sum_by (λ d. sum_by set_part (class_sets d)) cs

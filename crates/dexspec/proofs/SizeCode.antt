@@ -1,4 +1,4 @@
--- How many bytes a code item has at most, against what it weighs.
+-- An upper bound on the bytes of a code item, by its weight.
 use Rattle.std.proofs.Common.{◌≡◌, ℕ, ◌+◌, ◌*◌, ◌%◌, ◌/◌, ◌<◌, ◌≤◌, Bool, true, false, List, [], ◌∷◌, ◌++◌, length, Option, Some, None, refl, ◌∙◌, arith, flat_map, option_to_list, if◌then◌else◌, nat_lt, ◌==◌, length-append, length-set, slice_set}
 use Rattle.std.proofs.lemmas.Bool.{lt-ltb}
 use Rattle.std.proofs.lemmas.List.Sums.{sum_by-le-sum_by, count_by-le-length}
@@ -23,7 +23,7 @@ if-length : (b : Bool) (n : ℕ) (xs ys : List ℕ) → length xs ≡ n → leng
 if-length true n xs ys h k = h
 if-length false n xs ys h k = k
 
--- an index that is put in takes no more units
+-- units with another index have the same length
 length-with_index : (i : ℕ) (us : List ℕ) → length (with_index i us) ≡ length us
 length-with_index i us =
     if-length (is_wide_index us) (length us) (slice_set (slice_set us 1 (i % 65536)) 2 (i / 65536)) (slice_set us 1 i)
@@ -46,7 +46,7 @@ three true c = omega arith
 three false true = omega arith
 three false false = omega arith
 
--- a number of 21 bits has three bytes at most
+-- a number of 21 bits has at most three bytes
 uleb128-three : (v : ℕ) → v < 0x200000 → length (uleb128 v) ≤ 3
 uleb128-three v lt =
     let size : size_u v ≤ 3 = rw (lt-ltb v 0x200000 lt) (three (nat_lt v 0x80) (nat_lt v 0x4000)) in

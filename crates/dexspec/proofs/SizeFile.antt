@@ -37,7 +37,7 @@ use Rattle.dexspec.proofs.SizeClasses.{mentions-cover, classes-cover}
 
 -- ---- sections
 
--- each section has at most so many bytes
+-- each section has at most that many bytes
 abbrev AreWithinSizes : List Placed → List ℕ → Type 0
 AreWithinSizes [] [] = Unit {0}
 AreWithinSizes [] (n ∷ ns) = ⊥
@@ -50,7 +50,7 @@ sections-size [] (n ∷ ns) h = absurd h
 sections-size (p ∷ ps) [] h = absurd h
 sections-size (p ∷ ps) (n ∷ ns) h = omega (arith, length-append (section_bytes p) (flat_map section_bytes ps), sum_by-cons (λ n. n) n ns, h.0, sections-size ps ns h.1)
 
--- what each of the ten sections has at most
+-- an upper bound for each of the ten sections
 abbrev section_sizes : Ordered → List ℕ
 section_sizes K =
     (sum_by (λ p. list_part p.parameters) K.pools.protos + sum_by (λ d. list_part d.1.interfaces) K.classes) ∷ sum_by (λ d. sum_by items_part (class_sets d)) K.classes
@@ -58,7 +58,7 @@ section_sizes K =
     ∷ sum_by (λ d. sum_by code_part (declared_methods d.1)) K.classes ∷ sum_by data_part K.classes ∷ sum_by (λ d. sum_by set_part (class_sets d)) K.classes
     ∷ sum_by (λ d. sum_by (λ x. refs_part x.parameter_annotations) (declared_methods d.1)) K.classes ∷ sum_by directory_part K.classes ∷ []
 
--- ten sections of these sizes, and as many offsets of strings as texts
+-- ten sections of these sizes, and an offset of a string for each text
 record IsLaidOut (K : Ordered) (l : Layout) : Type 0 where
   sizes : AreWithinSizes l.sections (section_sizes K)
   sections : length l.sections ≡ 10
@@ -267,7 +267,7 @@ with_sums-size rest =
 padding-size : (at : ℕ) → length (padding 4 at) ≤ 3
 padding-size at = omega (arith, length-replicate {A = ℕ} ((4 - at % 4) % 4) 0, padding-at_most 3 at)
 
--- rows and sections take no more than what they hold weighs
+-- rows and sections have at most as many bytes as their contents weigh
 pub parts-size : (K : Ordered) → length K.pools.types ≤ 65536 → length (table_bytes K (layout K)) + length (flat_map section_bytes (layout K).sections) ≤ mentions_weight K.pools + sum_by (λ d. body_weight d.1) K.classes
 parts-size K few =
     let l = layout K in
@@ -298,7 +298,7 @@ file-size K few =
       map_of-size K l map_off is.sections,
     )
 
--- and no fewer bytes than its header
+-- the file is at least as long as its header
 pub file-least : (K : Ordered) → 112 ≤ length (with_sums (unsigned_file K))
 unfolding unsigned_file
 file-least K =
@@ -309,7 +309,7 @@ file-least K =
     let rest = table_bytes K l ++ (flat_map section_bytes l.sections ++ (padding 4 l.data_end ++ map_list)) in
     omega (arith, with_sums-size (unsigned_file K), length-append (header_bytes K map_off file_size) rest, header-size K map_off file_size)
 
--- ---- classes in their order
+-- ---- classes in order
 
 put-sum : (g : Body → ℕ) (k : ℕ × Text) (v : Body) (es : List ((ℕ × Text) × Body)) → sum_by (λ e. g e.1) (put place_cmp k v es) ≤ g v + sum_by (λ e. g e.1) es
 put-sum g k v [] = omega arith
@@ -327,7 +327,7 @@ put_all-sum : (g : Body → ℕ) (es : List ((ℕ × Text) × Body)) → sum_by 
 put_all-sum g [] = omega arith
 put_all-sum g (e ∷ es) = omega (arith, put-sum g e.0 e.1 (put_all es), sum_by-cons (λ (x : (ℕ × Text) × Body). g x.1) e es, put_all-sum g es)
 
--- the classes of a file are no more than those that are given
+-- the classes of a file count at most as much as the given ones
 in_class_order-sum : (g : Body → ℕ) (D : List Definition) → sum_by (λ d. g d.1) (in_class_order D) ≤ sum_by (λ d. g d.1) D
 unfolding in_class_order
 in_class_order-sum g D =
@@ -351,11 +351,11 @@ canonical-least K = file-least (ordered (definitions K))
 
 -- ---- under caps
 
--- definitions that fit have a file that weighs no more than the cap
+-- the file of definitions that fit is at most as long as the cap on the weight
 pub fitting-size : (caps : Caps) (D : List Definition) → AreCaps caps → AreDistinct D → Fits caps D → length (with_sums (unsigned_file (ordered D))) ≤ caps.weight
 fitting-size caps D are distinct fits = omega (arith, ordered-size D (omega (arith, are.types, fits.types)), fits.weight D distinct (λ d c. c))
 
--- and so a collection's file has a size that is read
+-- so the file of a collection meets the condition on size
 pub canonical-has_size : (caps : Caps) (K : Collection) → AreCaps caps → Fits caps (definitions K) → HasSize (canonical K)
 canonical-has_size caps K are fits = record {
   least = canonical-least K;

@@ -1,4 +1,4 @@
--- How many bytes each item has at most, against what it weighs.
+-- Upper bounds on the bytes of each item, by its weight.
 use Rattle.std.proofs.Common.{◌≡◌, ℕ, ◌+◌, ◌-◌, ◌*◌, ◌/◌, ◌%◌, ◌^◌, ◌≤◌, Bool, true, false, cond, List, [], ◌∷◌, ◌++◌, length, Option, Some, arith, flat_map, if◌then◌else◌, nat_lt, ◌==◌, length-append, unwrap_or, find, ℤ, All, rules}
 use Rattle.std.proofs.lemmas.List.Sums.{sum_by-le-sum_by}
 use Rattle.std.proofs.lemmas.List.Elements.{All-head, All-tail}
@@ -91,7 +91,7 @@ debug_bytes-size m d =
 
 -- ---- values and annotations
 
--- what is found first is one of the list
+-- the first that is found is a member of the list
 found-at_most : (p : ℕ → Bool) (ns : List ℕ) (d n : ℕ) → All (λ k. k ≤ n) ns → d ≤ n → unwrap_or (find p ns) d ≤ n
 found-at_most p [] d n h le = le
 found-at_most p (k ∷ ns) d n h le = by (p k) (found-at_most p ns d n (All-tail (λ j. j ≤ n) k ns h) le)

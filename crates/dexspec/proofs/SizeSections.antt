@@ -1,4 +1,4 @@
--- How many bytes each section of items has at most, as sums over protos, texts and classes.
+-- Upper bounds on the bytes of each section of items, as sums over protos, texts and classes.
 use Rattle.std.proofs.Common.{◌≡◌, ℕ, zero, suc, ◌+◌, ◌*◌, ◌≤◌, Bool, true, false, List, [], ◌∷◌, ◌++◌, map, length, drop, Option, Some, None, refl, arith, sum_by, flat_map, option_to_list, if◌then◌else◌, zip}
 use Rattle.std.specs.Option.{option_map_or}
 use Rattle.std.proofs.lemmas.List.Sums.{sum_by-append, sum_by-le-sum_by}
@@ -55,13 +55,13 @@ abbrev pub directory_part : Definition → ℕ
 directory_part d = 19 + 8 * length (declared_fields d.1) + 16 * length (declared_methods d.1)
 
 module _ {X : Type 0} where
-  -- a section of the uses that are there
+  -- a section of the uses that are present
   section-size : (k from : ℕ) (g : X → List ℕ) (h : X → ℕ) (os : List (Option X)) → ((x : X) → length (g x) + k ≤ h x) → length (bytes_from (suc k) from (map g (present os))) ≤ sum_by (or_zero h) os
   section-size k from g h os le =
       let each = sum_by-le-sum_by (λ x. length (g x) + k) h (present os) le in
       omega (arith, bytes_from-at_most k from (map g (present os)), sum_by-map (λ (b : List ℕ). length b + k) g (present os), each, sum_by-present h os)
 
-  -- and of those of them that are written once
+  -- a section of the items of uses that may share
   shared-size : (how : Sharing) (same : X → X → Bool) (k from : ℕ) (g : X → List ℕ) (h : X → ℕ) (os : List (Option X)) → ((x : X) → length (g x) + k ≤ h x)
       → length (bytes_from (suc k) from (map g (items_by how same os).written)) ≤ sum_by (or_zero h) os
   shared-size how same k from g h os le =
@@ -210,7 +210,7 @@ class_data-size K from offs =
 
 -- ---- ref lists
 
--- of so many offsets the first is the method's own
+-- of that many offsets the first is the method's own
 abbrev refs_count : ℕ → ℕ
 refs_count zero = 0
 refs_count (suc zero) = 0

@@ -1,4 +1,4 @@
--- What the members of a sequence, of a list of members, and of a list without repeats come from.
+-- The sources of the members of a sequence, of a list of members, and of a list without repeats.
 use Rattle.std.proofs.Common.{◌≡◌, ℕ, ◌+◌, Bool, true, false, cond, not, List, [], ◌∷◌, map, Option, Some, unwrap_or, subst, inl, inr, Ordering}
 use Rattle.std.specs.List.{Contains, filter}
 use Rattle.std.specs.Ordering.{eq_by_cmp}
@@ -9,7 +9,7 @@ use Rattle.dexspec.specs.ClassData.{EncodedField, EncodedMethod, EncodedFieldsAt
 use Rattle.dexspec.specs.Rows.{FieldRow, MethodRow}
 use Rattle.dexspec.proofs.Members.{Contains-nil, Contains-first, Contains-later, Contains-cons_cases, Contains-filter_source}
 
--- a member of a sequence stands somewhere
+-- a member of a sequence is at some offset
 pub sequence_source : {X : Type 0} (At : Item X) (b : List ℕ) (o : ℕ) (xs : List X) (n : ℕ) (x : X) → Sequence At b o xs n → Contains xs x → (p : ℕ) × (k : ℕ) × At b p x k
 sequence_source At b o [] n x h c = absurd (Contains-nil x c)
 sequence_source At b o (y ∷ xs) n x h c = elim (Contains-cons_cases y x xs c) [
@@ -17,7 +17,7 @@ sequence_source At b o (y ∷ xs) n x h c = elim (Contains-cons_cases y x xs c) 
   | inr l ↦ sequence_source At b (o + h.0) xs h.1 x h.3 l
 ]
 
--- what a map has as a member it has from one
+-- a member of a mapped list is the image of a member
 pub map_source : {X Y : Type 0} (f : X → Y) (xs : List X) (y : Y) → Contains (map f xs) y → (x : X) × Contains xs x × (f x ≡ y)
 map_source f [] y c = absurd (Contains-nil y c)
 map_source f (z ∷ xs) y c = elim (Contains-cons_cases (f z) y (map f xs) c) [
@@ -33,12 +33,12 @@ distinct_source same (z ∷ xs) x c = elim (Contains-cons_cases z x (filter (λ 
   | inr l ↦ Contains-later z x xs (distinct_source same xs x (Contains-filter_source (λ y. not (same z y)) (distinct same xs) x l).0)
 ]
 
--- by whether the first entry is the member's
+-- case split on whether the first entry is the member's
 annotated_by : {M X : Type 0} (R : M → M → Ordering) (m : M) (P : List X → Type 0) (e : M × List X) (es : List (M × List X)) (t : Bool) → P e.1 → P (annotated R es m) → P (unwrap_or (cond t (Some e.1) (find R m es)) [])
 annotated_by R m P e es true here later = here
 annotated_by R m P e es false here later = later
 
--- what a directory has for a member is one of its lists, or empty
+-- the list of a directory for a member is one of its lists, or empty
 pub annotated_source : {M X : Type 0} (R : M → M → Ordering) (m : M) (P : List X → Type 0) (es : List (M × List X)) → P [] → ((e : M × List X) → Contains es e → P e.1) → P (annotated R es m)
 annotated_source R m P [] none each = none
 annotated_source R m P (e ∷ es) none each =

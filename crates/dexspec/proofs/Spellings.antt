@@ -1,4 +1,4 @@
--- Spellings of numbers: what stands first is one number, and the shortest spelling.
+-- Encodings of numbers: bytes begin with one number, and the shortest encoding is such.
 use Rattle.std.proofs.Common.{◌≡◌, ◌↔◌, ℕ, ◌*◌, ◌^◌, ◌<◌, ◌≤◌, List, ◌++◌, length, take, Option, Some, None, refl, ap, sym, ◌∙◌, arith, length-take, length-append, take_at}
 use Rattle.std.specs.Prelude.{ℤ, FitsSigned}
 use Rattle.std.specs.Int.{w32}
@@ -7,7 +7,7 @@ use Rattle.dexspec.proofs.Chains.{chain_some, chain_same, no_chain, sum_bound}
 use Rattle.dexspec.proofs.Groups.{length-groups, spelled_in, size_u_is, size_u_bounds}
 use Rattle.dexspec.proofs.Signed.{signed_of, magnitude_of, size_s_is, held_fits}
 
--- ---- what stands first is one number
+-- ---- bytes begin with one number
 
 module _ {V : Type 0} (number : List ℕ → V) (InRange : V → Type 0) where
   -- one number, in one length
@@ -16,21 +16,21 @@ module _ {V : Type 0} (number : List ℕ → V) (InRange : V → Type 0) where
       let e : m ≡ n = chain_same bytes m n other.spelled.chain one.spelled.chain other.within one.within in
       (sym other.spelled.value ∙ ap (λ k. number (take k bytes)) e ∙ one.spelled.value, e)
 
-  -- of one to five bytes
+  -- it has one to five bytes
   pub number_size : (bytes : List ℕ) (v : V) (n : ℕ) → BeginsWith (Spells number InRange) bytes v n → (1 ≤ n) × (n ≤ 5)
   number_size bytes v n begins =
       let some = chain_some (take n bytes) begins.spelled.chain in
       let len = length-take n bytes in
       (omega (arith, begins.within), omega (arith, begins.within, begins.spelled.few))
 
-  -- a spelling stands before what is appended to it
+  -- an encoding with bytes after it begins with the number
   pub spelling_begins : (a rest : List ℕ) (v : V) → Spells number InRange a v → BeginsWith (Spells number InRange) (a ++ rest) v (length a)
   spelling_begins a rest v says = record {
     within = omega (arith, length-append a rest);
     spelled = rw take_at says;
   }
 
-  -- and nothing else stands there
+  -- and with no other number
   pub one_number : (a rest : List ℕ) (v w : V) (n : ℕ) → Spells number InRange a v → BeginsWith (Spells number InRange) (a ++ rest) w n ↔ ((w ≡ v) × (n ≡ length a))
   one_number a rest v w n says = (
     λ begins. same_number (a ++ rest) v w (length a) n (spelling_begins a rest v says) begins,
@@ -43,21 +43,21 @@ module _ {V : Type 0} (number : List ℕ → V) (InRange : V → Type 0) where
 
 -- ---- the number plus one
 
--- one more tells the number, or that there is none
+-- a number, or none, is determined by the number plus one
 pub same_plus_one : (v w : Option ℕ) → plus_one v ≡ plus_one w → v ≡ w
 same_plus_one None None e = refl
 same_plus_one None (Some w) e = absurd (omega arith)
 same_plus_one (Some v) None e = absurd (omega arith)
 same_plus_one (Some v) (Some w) e = let same : v ≡ w = omega arith in ap Some same
 
--- a number plus one stands where one more stands
+-- bytes begin with a number as a uleb128p1 exactly if they begin with the number plus one as a uleb128
 pub begins_plus_one : (bytes : List ℕ) (v : Option ℕ) (n : ℕ) → BeginsWith IsUleb128p1 bytes v n ↔ BeginsWith IsUleb128 bytes (plus_one v) n
 begins_plus_one bytes v n = (
   λ begins. record { within = begins.within; spelled = begins.spelled },
   λ begins. record { within = begins.within; spelled = begins.spelled },
 )
 
--- what stands before what is appended to it, and nothing else, of a number plus one
+-- an encoding as a uleb128p1 with bytes after it begins with the number and with no other
 pub one_number_plus_one : (a rest : List ℕ) (v w : Option ℕ) (n : ℕ) → IsUleb128p1 a v → BeginsWith IsUleb128p1 (a ++ rest) w n ↔ ((w ≡ v) × (n ≡ length a))
 one_number_plus_one a rest v w n says =
     let only = one_number sum_of_groups (λ v. v < 2 ^ 32) a rest (plus_one v) (plus_one w) n says in
@@ -66,9 +66,9 @@ one_number_plus_one a rest v w n says =
       λ e. same.1 (only.1 (ap plus_one e.0, e.1)),
     )
 
--- ---- the shortest spellings
+-- ---- the shortest encodings
 
--- what is written is a spelling, and no other is shorter
+-- the bytes that are written encode the number, and no other encoding is shorter
 pub uleb128_is : (v : ℕ) → v < 2 ^ 32 → IsShortest IsUleb128 (uleb128 v) v
 uleb128_is v lt =
     let size = size_u_is v (omega arith) in
@@ -91,7 +91,7 @@ sleb128_is v fits =
       least = λ other says. rw len (size.least (length other) (chain_some other says.chain) (magnitude_of v other says.chain says.value));
     }
 
--- they have one to five bytes
+-- they are one to five bytes
 pub uleb128_bounds : (v : ℕ) → (1 ≤ length (uleb128 v)) × (length (uleb128 v) ≤ 5)
 uleb128_bounds v = rw length-groups (size_u_bounds v)
 

@@ -1,4 +1,4 @@
--- Stripping leaves no debug program, and changes only what has one or a source text.
+-- Stripping leaves no debug program, and changes only definitions that have a debug program or a source text.
 use Rattle.std.proofs.Common.{◌≡◌, List, [], ◌∷◌, map, All, Option, Some, None, get_or, refl, sym, arith}
 use Rattle.std.specs.Option.{option_map, IfSome}
 use Rattle.std.proofs.lemmas.List.Elements.{All-map, All-tail}
@@ -15,16 +15,16 @@ pub no_debug : (o : Option Code) → HasNoDebug (option_map strip_code o)
 no_debug None = tt
 no_debug (Some c) = refl
 
--- nor has that of stripped methods
+-- the code of stripped methods has no debug program
 pub no_debug-strip : (ms : List MethodDef) → All (λ m. HasNoDebug m.code) (map strip_method ms)
 no_debug-strip ms = All-map (λ (m : MethodDef). HasNoDebug m.code) strip_method ms (λ k d lt. no_debug (get_or ms k d).code)
 
--- code without a debug program is not changed
+-- code without a debug program is unchanged
 strip_option-bare : (o : Option Code) → HasNoDebug o → option_map strip_code o ≡ o
 strip_option-bare None h = refl
 strip_option-bare (Some c) h = λ i. Some (record c { debug = sym h i })
 
--- nor are methods with such code
+-- methods with such code are unchanged
 methods-bare : (ms : List MethodDef) → All (λ m. HasNoDebug m.code) ms → map strip_method ms ≡ ms
 methods-bare [] h = refl
 methods-bare (m ∷ ms) h =
@@ -32,7 +32,7 @@ methods-bare (m ∷ ms) h =
     let rest = methods-bare ms (All-tail (λ (n : MethodDef). HasNoDebug n.code) m ms h) in
     λ i. record m { code = here i } ∷ rest i
 
--- nor is a body of such methods without a source text
+-- a body of such methods without a source text is unchanged
 pub strip_body-bare : (c : Body) → c.source ≡ None → All (λ m. HasNoDebug m.code) c.direct_methods → All (λ m. HasNoDebug m.code) c.virtual_methods → strip_body c ≡ c
 strip_body-bare c source direct virtual =
     let left = methods-bare c.direct_methods direct in

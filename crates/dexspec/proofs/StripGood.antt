@@ -1,4 +1,5 @@
--- What can be merged can be merged stripped, and what keeps stripped definitions from it keeps the definitions from it.
+-- Stripped mergeable definitions are mergeable, and a cause against stripped definitions is a cause against the
+-- definitions.
 use Rattle.std.proofs.Common.{◌≡◌, List, sym, ap, ◌∙◌, subst, arith}
 use Rattle.std.specs.List.{Contains}
 use Rattle.dexspec.specs.Texts.{Text}
@@ -11,7 +12,7 @@ use Rattle.dexspec.proofs.StripUnion.{is_defined-strip, is_below-strip}
 use Rattle.dexspec.proofs.StripMentions.{types-strip, protos-strip, fields-strip, methods-strip, text_rank-strip, HasShortString-strip_source}
 use Rattle.dexspec.proofs.StripWeight.{originals-strip}
 
--- a body of the name, of which this is what is left
+-- a body of the name whose stripped body this is
 record Original (D : List Definition) (name : Text) (c : Body) : Type 0 where
   of : Body
   member : Contains D (name, of)
@@ -26,14 +27,14 @@ original D name c m =
 module _ (D : List Definition) where
   -- ---- names with two definitions
 
-  -- a name that has one definition has one stripped
+  -- a name that has one definition has one stripped definition
   pub IsConsistent-strip : IsConsistent D → IsConsistent (strip D)
   IsConsistent-strip h name one other c d =
       let a = original D name one c in
       let b = original D name other d in
       sym a.stripped ∙ ap strip_body (h name a.of b.of a.member b.member) ∙ b.stripped
 
-  -- unlike stripped definitions have unlike originals
+  -- different stripped definitions have different originals
   pub IsConflict-strip : (name : Text) → IsConflict (strip D) name → IsConflict D name
   IsConflict-strip name x =
       let a = original D name x.one x.one_in in
@@ -46,29 +47,29 @@ module _ (D : List Definition) where
   pub HasDepth-strip : (name : Text) → HasDepth D name → HasDepth (strip D) name
   HasDepth-strip name w = (w.0, is_below-strip D w.0 name ∙ w.1)
 
-  -- and had it before
+  -- a name that has a depth when stripped had it before
   pub HasDepth-strip_source : (name : Text) → HasDepth (strip D) name → HasDepth D name
   HasDepth-strip_source name w = (w.0, sym (is_below-strip D w.0 name) ∙ w.1)
 
-  -- so where every name has one, every name keeps one
+  -- if each name has a depth, each stripped name has one
   pub IsAcyclic-strip : IsAcyclic D → IsAcyclic (strip D)
   IsAcyclic-strip h name e = HasDepth-strip name (h name (sym (is_defined-strip D name) ∙ e))
 
-  -- and had one before
+  -- and conversely
   pub IsAcyclic-strip_source : IsAcyclic (strip D) → IsAcyclic D
   IsAcyclic-strip_source h name e = HasDepth-strip_source name (h name (is_defined-strip D name ∙ e))
 
-  -- a name in a cycle stays in one
+  -- a name on a cycle stays on a cycle
   pub IsCycle-strip : (name : Text) → IsCycle D name → IsCycle (strip D) name
   IsCycle-strip name x = record { defined = is_defined-strip D name ∙ x.defined; deep = λ w. x.deep (HasDepth-strip_source name w) }
 
-  -- and was in one before
+  -- and conversely
   pub IsCycle-strip_source : (name : Text) → IsCycle (strip D) name → IsCycle D name
   IsCycle-strip_source name x = record { defined = sym (is_defined-strip D name) ∙ x.defined; deep = λ w. x.deep (HasDepth-strip name w) }
 
   -- ---- caps
 
-  -- what stripped definitions exceed the definitions exceed
+  -- a cap that stripped definitions exceed is exceeded by the definitions
   pub Exceeds-strip : (caps : Caps) (clause : Cap) → Exceeds caps (strip D) clause → Exceeds caps D clause
   Exceeds-strip caps Types x = omega (arith, x, types-strip D)
   Exceeds-strip caps Protos x = omega (arith, x, protos-strip D)
@@ -77,7 +78,7 @@ module _ (D : List Definition) where
   Exceeds-strip caps ShortStrings x = (x.0, HasShortString-strip_source D x.0 x.1, omega (arith, x.2, text_rank-strip D x.0))
   Exceeds-strip caps Weight x = let o = originals-strip D x.0 x.1 x.2 in (o.of, o.distinct, o.within, omega (arith, x.3, o.heavier))
 
-  -- what fits fits stripped
+  -- if definitions fit, stripped definitions fit
   pub Fits-strip : (caps : Caps) → Fits caps D → Fits caps (strip D)
   Fits-strip caps f = record {
     types = omega (arith, f.types, types-strip D);
@@ -90,11 +91,11 @@ module _ (D : List Definition) where
 
   -- ---- the whole
 
-  -- what can be merged can be merged stripped
+  -- if definitions are mergeable, stripped definitions are mergeable
   pub IsGood-strip : (caps : Caps) → IsGood caps D → IsGood caps (strip D)
   IsGood-strip caps g = record { consistent = IsConsistent-strip g.consistent; acyclic = IsAcyclic-strip g.acyclic; fits = Fits-strip caps g.fits }
 
-  -- a cause that is true of stripped definitions is true of the definitions
+  -- a cause that holds for stripped definitions holds for the definitions
   pub IsCause-strip : (caps : Caps) (cause : Cause) → IsCause caps (strip D) cause → IsCause caps D cause
   IsCause-strip caps (Conflict name) x = IsConflict-strip name x
   IsCause-strip caps (Cycle name) x = IsCycle-strip_source name x

@@ -1,4 +1,4 @@
--- Stripping takes no proto, field or method from what definitions mention.
+-- Stripping removes no proto, field or method from the mentions of definitions.
 use Rattle.std.proofs.Common.{◌≡◌, List, [], ◌∷◌, ◌++◌, map, Option, Some, None, sym, subst, arith, inl, inr}
 use Rattle.std.specs.List.{Contains, flat_map}
 use Rattle.std.specs.Option.{option_map, option_to_list}
@@ -35,29 +35,29 @@ AreKept xs ys = (s : Symbol) → IsOther s → Contains xs s → Contains ys s
 
 -- ---- texts and types
 
--- two such lists joined
+-- two lists of texts and types, joined
 names-append : (xs ys : List Symbol) → AreNames xs → AreNames ys → AreNames (xs ++ ys)
 names-append xs ys f g s o c = elim (Contains-append_cases xs ys s c) [ inl l ↦ f s o l | inr r ↦ g s o r ]
 
--- such lists joined
+-- many lists of texts and types, joined
 names-flat_map : {X : Type 0} (f : X → List Symbol) (xs : List X) → ((x : X) → AreNames (f x)) → AreNames (flat_map f xs)
 names-flat_map f xs h s o c = let w = Contains-flat_map_source f xs s c in h w.0 s o w.2
 
--- the empty list is one
+-- the empty list
 names-none : AreNames []
 names-none s o c = Contains-nil s c
 
--- a text is one, if there is one
+-- an optional text
 names-text : (t : Option Text) → AreNames (optional_text t)
 names-text None s o c = Contains-nil s c
 names-text (Some t) s o c = elim (Contains-cons_cases (TextSymbol t) s [] c) [ inl e ↦ subst IsOther (sym e) o | inr l ↦ Contains-nil s l ]
 
--- a type is one, if there is one
+-- an optional type
 names-type : (t : Option Text) → AreNames (optional_type t)
 names-type None s o c = Contains-nil s c
 names-type (Some t) s o c = elim (Contains-cons_cases (TypeSymbol t) s [] c) [ inl e ↦ subst IsOther (sym e) o | inr l ↦ Contains-nil s l ]
 
--- an operation names only such
+-- an operation names only texts and types
 names-operation : (op : Operation) → AreNames (operation_symbols op)
 names-operation (StartLocal register name type) = names-append (optional_text name) (optional_type type) (names-text name) (names-type type)
 names-operation (StartLocalExtended register name type signature) =
@@ -72,27 +72,27 @@ names-operation SetPrologueEnd = names-none
 names-operation SetEpilogueBegin = names-none
 names-operation (Special opcode) = names-none
 
--- and so does a debug program
+-- a debug program names only texts and types
 names-debug : (d : Debug) → AreNames (debug_symbols d)
 names-debug d =
     names-append (flat_map optional_text d.parameter_names) (flat_map operation_symbols d.operations)
     (names-flat_map optional_text d.parameter_names names-text) (names-flat_map operation_symbols d.operations names-operation)
 
--- ---- what is kept
+-- ---- kept symbols
 
--- a list keeps its own
+-- a list keeps its own symbols
 kept-all : (xs : List Symbol) → AreKept xs xs
 kept-all xs s o c = c
 
--- texts and types are of no account
+-- texts and types do not matter
 kept-names : (xs ys : List Symbol) → AreNames xs → AreKept xs ys
 kept-names xs ys h s o c = absurd (h s o c)
 
--- with one more in front of both
+-- with one more at the start of both
 kept-cons : (x : Symbol) (xs ys : List Symbol) → AreKept xs ys → AreKept (x ∷ xs) (x ∷ ys)
 kept-cons x xs ys h s o c = elim (Contains-cons_cases x s xs c) [ inl e ↦ (0, omega arith, e) | inr l ↦ Contains-later x s ys (h s o l) ]
 
--- of two lists joined
+-- two lists joined
 kept-append : (xs ys zs ws : List Symbol) → AreKept xs zs → AreKept ys ws → AreKept (xs ++ ys) (zs ++ ws)
 kept-append xs ys zs ws f g s o c = elim (Contains-append_cases xs ys s c) [
   | inl l ↦ Contains-append_left zs ws s (f s o l)
@@ -108,12 +108,12 @@ kept-code c =
     kept-append pieces (handlers ++ debug) pieces (handlers ++ []) (kept-all pieces)
     (kept-append handlers debug handlers [] (kept-all handlers) (kept-names debug [] (names-flat_map debug_symbols (option_to_list c.debug) names-debug)))
 
--- if there is any
+-- optional code
 kept-codes : (o : Option Code) → AreKept (flat_map code_symbols (option_to_list o)) (flat_map code_symbols (option_to_list (option_map strip_code o)))
 kept-codes None = kept-all []
 kept-codes (Some c) = kept-append (code_symbols c) [] (code_symbols (strip_code c)) [] (kept-code c) (kept-all [])
 
--- a method loses no more
+-- a method loses only texts and types
 kept-method : (class : Text) (m : MethodDef) → AreKept (method_symbols class m) (method_symbols class (strip_method m))
 kept-method class m =
     let codes = flat_map code_symbols (option_to_list m.code) in
@@ -121,14 +121,14 @@ kept-method class m =
     let sets = set_symbols m.annotations ++ flat_map set_symbols m.parameter_annotations in
     kept-cons (MethodSymbol (method_of class m)) (codes ++ sets) (stripped ++ sets) (kept-append codes sets stripped sets (kept-codes m.code) (kept-all sets))
 
--- nor do methods
+-- methods lose only texts and types
 kept-methods : (class : Text) (ms : List MethodDef) → AreKept (flat_map (method_symbols class) ms) (flat_map (method_symbols class) (map strip_method ms))
 kept-methods class [] = kept-all []
 kept-methods class (m ∷ ms) =
     kept-append (method_symbols class m) (flat_map (method_symbols class) ms) (method_symbols class (strip_method m)) (flat_map (method_symbols class) (map strip_method ms))
     (kept-method class m) (kept-methods class ms)
 
--- nor does a definition
+-- a definition loses only texts and types
 kept-definition : (d : Definition) → AreKept (symbols_of d) (symbols_of (strip_definition d))
 unfolding symbols_of
 kept-definition (name, c) =
@@ -149,7 +149,7 @@ kept-definition (name, c) =
     (kept-append fields (methods ++ values) fields (stripped ++ values) (kept-all fields)
     (kept-append methods values stripped values ms (kept-all values)))))))
 
--- ---- what is mentioned
+-- ---- mentioned symbols
 
 -- a text or type has no proto
 protos-other : (s : Symbol) (p : Proto) → Contains (protos_in s) p → IsOther s
@@ -159,7 +159,7 @@ protos-other (ProtoSymbol q) p c = tt
 protos-other (FieldSymbol f) p c = tt
 protos-other (MethodSymbol m) p c = tt
 
--- nor a field
+-- a text or type has no field
 fields-other : (s : Symbol) (f : Field) → Contains (fields_in s) f → IsOther s
 fields-other (TextSymbol s) f c = Contains-nil f c
 fields-other (TypeSymbol t) f c = Contains-nil f c
@@ -167,7 +167,7 @@ fields-other (ProtoSymbol q) f c = tt
 fields-other (FieldSymbol g) f c = tt
 fields-other (MethodSymbol m) f c = tt
 
--- nor a method
+-- a text or type has no method
 methods-other : (s : Symbol) (m : Method) → Contains (methods_in s) m → IsOther s
 methods-other (TextSymbol s) m c = Contains-nil m c
 methods-other (TypeSymbol t) m c = Contains-nil m c
@@ -176,7 +176,7 @@ methods-other (FieldSymbol g) m c = tt
 methods-other (MethodSymbol n) m c = tt
 
 module _ (D : List Definition) where
-  -- what is no part of a text or type still occurs
+  -- a part that is not a part of a text or type still occurs
   occurs-kept : {X : Type 0} (parts : Symbol → List X) (x : X) → ((s : Symbol) → Contains (parts s) x → IsOther s) → Occurs parts D x → Occurs parts (strip D) x
   occurs-kept parts x other w = record {
     definition = strip_definition w.definition;

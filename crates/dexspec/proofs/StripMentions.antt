@@ -1,4 +1,4 @@
--- What stripped definitions mention the definitions mention, and their short strings are the same.
+-- The symbols that stripped definitions mention are mentioned by the definitions, and their short strings are the same.
 use Rattle.std.proofs.Common.{◌≡◌, ◌≤◌, List, [], ◌++◌, length, map, Option, Some, None, refl, sym, ap, ◌∙◌, subst}
 use Rattle.std.specs.List.{Contains, flat_map}
 use Rattle.std.specs.Option.{option_map, option_to_list}
@@ -32,7 +32,7 @@ code_symbols-strip c =
     AreAmong-append pieces (handlers ++ []) pieces (handlers ++ debug) (AreAmong-refl pieces)
     (AreAmong-append handlers [] handlers debug (AreAmong-refl handlers) (AreAmong-none debug))
 
--- if there is any
+-- optional code
 codes_symbols-strip : (o : Option Code) → AreAmong (flat_map code_symbols (option_to_list (option_map strip_code o))) (flat_map code_symbols (option_to_list o))
 codes_symbols-strip None = AreAmong-none []
 codes_symbols-strip (Some c) = AreAmong-append (code_symbols (strip_code c)) [] (code_symbols c) [] (code_symbols-strip c) (AreAmong-refl [])
@@ -45,7 +45,7 @@ method_symbols-strip class m =
     let sets = set_symbols m.annotations ++ flat_map set_symbols m.parameter_annotations in
     AreAmong-cons (MethodSymbol (method_of class m)) (stripped ++ sets) (codes ++ sets) (AreAmong-append stripped sets codes sets (codes_symbols-strip m.code) (AreAmong-refl sets))
 
--- the symbols of methods, and then others
+-- the symbols of methods, then others
 methods_symbols-strip : (class : Text) (c : Body) (others : List Symbol)
     → AreAmong (flat_map (method_symbols class) (declared_methods (strip_body c)) ++ others) (flat_map (method_symbols class) (declared_methods c) ++ others)
 methods_symbols-strip class c others =
@@ -73,16 +73,16 @@ symbols_of-strip (name, c) =
     (AreAmong-append annotations (fields ++ stripped) annotations (fields ++ methods) (AreAmong-refl annotations)
     (AreAmong-append fields stripped fields methods (AreAmong-refl fields) (methods_symbols-strip name c values))))))
 
--- ---- what is mentioned
+-- ---- mentioned symbols
 
 module _ (D : List Definition) where
-  -- what occurs in stripped definitions occurs in the definitions
+  -- a part that occurs in stripped definitions occurs in the definitions
   occurs-strip : {X : Type 0} (parts : Symbol → List X) (x : X) → Occurs parts (strip D) x → Occurs parts D x
   occurs-strip parts x w =
       let s = Contains-map_source strip_definition D w.definition w.member in
       record { definition = s.0; symbol = w.symbol; member = s.1; occurs = symbols_of-strip s.0 w.symbol (subst (λ d. Contains (symbols_of d) w.symbol) (sym s.2) w.occurs); part = w.part }
 
-  -- what stripped definitions mention the definitions mention
+  -- a symbol that stripped definitions mention is mentioned by the definitions
   pub mentions-strip : AreMentioned (mentions (strip D)) (mentions D)
   mentions-strip = record {
     texts = λ x c. texts-listed D x (occurs-strip texts_in x (texts-source (strip D) x c));
@@ -92,23 +92,23 @@ module _ (D : List Definition) where
     methods = λ x c. methods-listed D x (occurs-strip methods_in x (methods-source (strip D) x c));
   }
 
-  -- no more types
+  -- at most as many types
   pub types-strip : length (mentions (strip D)).types ≤ length (mentions D).types
   types-strip = length-among (mentions (strip D)).types (mentions D).types (AreDistinct-from_Rises text_cmp text_total (mentions (strip D)).types (mentions-rising (strip D)).types) mentions-strip.types
 
-  -- no more protos
+  -- at most as many protos
   pub protos-strip : length (mentions (strip D)).protos ≤ length (mentions D).protos
   protos-strip = length-among (mentions (strip D)).protos (mentions D).protos (AreDistinct-from_Rises proto_cmp proto_total (mentions (strip D)).protos (mentions-rising (strip D)).protos) mentions-strip.protos
 
-  -- no more fields
+  -- at most as many fields
   pub fields-strip : length (mentions (strip D)).fields ≤ length (mentions D).fields
   fields-strip = length-among (mentions (strip D)).fields (mentions D).fields (AreDistinct-from_Rises field_cmp field_total (mentions (strip D)).fields (mentions-rising (strip D)).fields) mentions-strip.fields
 
-  -- no more methods
+  -- at most as many methods
   pub methods-strip : length (mentions (strip D)).methods ≤ length (mentions D).methods
   methods-strip = length-among (mentions (strip D)).methods (mentions D).methods (AreDistinct-from_Rises method_cmp method_total (mentions (strip D)).methods (mentions-rising (strip D)).methods) mentions-strip.methods
 
-  -- and no greater ranks of texts
+  -- ranks of texts are no greater
   pub text_rank-strip : (s : Text) → rank text_cmp s (mentions (strip D)).texts ≤ rank text_cmp s (mentions D).texts
   text_rank-strip s = rank-among text_cmp text_total s (mentions (strip D)).texts (mentions D).texts (mentions-rising (strip D)).texts mentions-strip.texts
 
@@ -128,12 +128,12 @@ module _ (D : List Definition) where
     short = x.short;
   }
 
--- code that is stripped was there
+-- stripped code comes from code
 code_source : (o : Option Code) (c : Code) → option_map strip_code o ≡ Some c → (b : Code) × (o ≡ Some b) × (strip_code b ≡ c)
 code_source None c e = absurd cc
 code_source (Some b) c e = (b, refl, same_Some (strip_code b) c e)
 
--- and was one before
+-- a short string of stripped definitions was a short string
 pub HasShortString-strip_source : (D : List Definition) (s : Text) → HasShortString (strip D) s → HasShortString D s
 HasShortString-strip_source D s x =
     let d = Contains-map_source strip_definition D x.definition x.member in

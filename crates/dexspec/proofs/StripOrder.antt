@@ -1,4 +1,4 @@
--- Stripped definitions stand in the same class order.
+-- Stripped definitions have the same class order.
 use Rattle.std.proofs.Common.{◌≡◌, ℕ, List, [], ◌∷◌, map, refl, ap, ◌∙◌, Less, Equal, Greater}
 use Rattle.std.specs.FinMap.Entries.{put, by_order}
 use Rattle.dexspec.specs.Texts.{Text}
@@ -15,7 +15,7 @@ Entry = (ℕ × Text) × Body
 abbrev strip_entry : Entry → Entry
 strip_entry e = (e.0, strip_body e.1)
 
--- a stripped body put at its place
+-- a stripped body, put at its place
 put-strip : (k : ℕ × Text) (c : Body) (es : List Entry) → put place_cmp k (strip_body c) (map strip_entry es) ≡ map strip_entry (put place_cmp k c es)
 put-strip k c [] = refl
 put-strip k c (e ∷ es) = elim (place_cmp k e.0) as (λ r.
@@ -26,7 +26,7 @@ put-strip k c (e ∷ es) = elim (place_cmp k e.0) as (λ r.
       | Greater ↦ ap (λ l. strip_entry e ∷ l) (put-strip k c es)
     ]
 
--- and all of them
+-- all of them
 put_all-strip : (es : List Entry) → put_all (map strip_entry es) ≡ map strip_entry (put_all es)
 put_all-strip [] = refl
 put_all-strip (e ∷ es) = ap (put place_cmp e.0 (strip_body e.1)) (put_all-strip es) ∙ put-strip e.0 e.1 (put_all es)
@@ -45,7 +45,7 @@ unplaced-strip : (es : List Entry) → map (λ (e : Entry). (e.0.1, e.1)) (map s
 unplaced-strip [] = refl
 unplaced-strip (e ∷ es) = ap (λ l. (e.0.1, strip_body e.1) ∷ l) (unplaced-strip es)
 
--- stripped definitions stand in the same class order
+-- stripped definitions have the same class order
 pub in_class_order-strip : (D : List Definition) → in_class_order (strip D) ≡ strip (in_class_order D)
 unfolding in_class_order
 in_class_order-strip D =

@@ -1,4 +1,4 @@
--- Stripping a union, stripping twice, and what stripping keeps: names, parents and depths.
+-- Stripping a union, stripping twice, and what stripping does not change: names, parents and depths.
 use Rattle.std.proofs.Common.{◌≡◌, ℕ, zero, suc, ◌+◌, cond, List, [], ◌∷◌, ◌++◌, length, map, get_or, Option, Some, None, refl, sym, ap, ◌∙◌}
 use Rattle.std.specs.List.{flat_map, filter, list_all}
 use Rattle.std.specs.Option.{option_map}
@@ -16,7 +16,7 @@ use Rattle.dexspec.proofs.Mapped.{AreAmong-map, list_any-map, filter-map, map-tw
 
 -- ---- stripping twice
 
--- code, if there is any
+-- optional code
 strip_option-twice : (o : Option Code) → option_map strip_code (option_map strip_code o) ≡ option_map strip_code o
 strip_option-twice None = refl
 strip_option-twice (Some c) = refl
@@ -38,7 +38,7 @@ strip-twice D = map-twice strip_definition (λ d i. (d.0, strip_body-twice d.1 i
 
 -- ---- unions
 
--- the file of a number, and no definitions where there is none
+-- the file of a number, and no definitions without a file
 strip-file : (files : List (List Definition)) (k : ℕ) → strip (get_or files k []) ≡ get_or (map strip files) k []
 strip-file [] k = refl
 strip-file (D ∷ files) zero = refl
@@ -48,7 +48,7 @@ strip-file (D ∷ files) (suc k) = strip-file files k
 pub strip-union : (files : List (List Definition)) (plan : Plan) → strip (union files plan) ≡ union (map strip files) plan
 strip-union files plan = map-flat_map strip_definition (λ k. get_or files k []) (λ k. get_or (map strip files) k []) (strip-file files) (leaves plan)
 
--- two lists joined are stripped one by one
+-- two joined lists are stripped one by one
 pub strip-append : (D E : List Definition) → strip (D ++ E) ≡ strip D ++ strip E
 strip-append D E = map-append strip_definition D E
 
@@ -84,12 +84,12 @@ is_below-strip D zero name = refl
 is_below-strip D (suc n) name =
     list_all-agree (is_below (strip D) n) (is_below D n) (is_below-strip D n) (above (strip D) name) ∙ ap (list_all (is_below D n)) (above-strip D name)
 
--- counted alike
+-- the same counts
 depth_to-strip : (D : List Definition) (n : ℕ) (name : Text) → depth_to (strip D) n name ≡ depth_to D n name
 depth_to-strip D zero name = refl
 depth_to-strip D (suc n) name = λ i. cond (is_below-strip D (suc n) name i) 0 1 + depth_to-strip D n name i
 
--- and so the same depths
+-- so the same depths
 pub depth-strip : (D : List Definition) (name : Text) → depth (strip D) name ≡ depth D name
 unfolding depth
 depth-strip D name = depth_to-strip D (length (strip D)) name ∙ ap (λ n. depth_to D n name) (length-map D strip_definition)

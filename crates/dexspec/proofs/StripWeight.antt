@@ -1,4 +1,4 @@
--- Stripped definitions weigh no more than the definitions.
+-- Stripped definitions weigh at most as much as the definitions.
 use Rattle.std.proofs.Common.{◌≡◌, ℕ, ◌+◌, ◌≤◌, List, map, Option, Some, None, sym, ap, subst, arith, sum_by}
 use Rattle.std.specs.Option.{option_map, option_to_list}
 use Rattle.dexspec.specs.Lists.{AreDistinct}
@@ -14,27 +14,27 @@ use Rattle.dexspec.proofs.Mapped.{originals, AreDistinct-map_source, sum_by-map_
 use Rattle.dexspec.proofs.StripUnion.{declared_methods-strip}
 use Rattle.dexspec.proofs.StripMentions.{mentions-strip}
 
--- code with its debug program, if there is any
+-- optional code with its debug program
 abbrev codes_weight : Option Code → ℕ
 codes_weight o = sum_by (λ c. code_weight c + sum_by debug_weight (option_to_list c.debug)) (option_to_list o)
 
--- stripped code weighs no more
+-- stripped code weighs at most as much
 codes_weight-strip : (o : Option Code) → codes_weight (option_map strip_code o) ≤ codes_weight o
 codes_weight-strip None = omega arith
 codes_weight-strip (Some c) = omega arith
 
--- nor does a stripped method
+-- a stripped method weighs at most as much
 method_weight-strip : (m : MethodDef) → method_weight (strip_method m) ≤ method_weight m
 method_weight-strip m = omega (arith, codes_weight-strip m.code)
 
--- nor does a stripped body
+-- a stripped body weighs at most as much
 pub body_weight-strip : (c : Body) → body_weight (strip_body c) ≤ body_weight c
 body_weight-strip c =
     let methods = sum_by-map_within strip_method method_weight method_weight-strip (declared_methods c) in
     let same : sum_by method_weight (declared_methods (strip_body c)) ≡ sum_by method_weight (map strip_method (declared_methods c)) = ap (sum_by method_weight) (declared_methods-strip c) in
     omega (arith, methods, same)
 
--- nor do stripped definitions
+-- stripped definitions weigh at most as much
 pub weight-strip : (D : List Definition) → weight (strip D) ≤ weight D
 unfolding weight
 weight-strip D =
@@ -42,7 +42,7 @@ weight-strip D =
     let bodies = sum_by-map_within strip_definition (λ (d : Definition). body_weight d.1) (λ d. body_weight-strip d.1) D in
     omega (arith, mentioned, bodies)
 
--- definitions of which these are what is left, and which weigh as much or more
+-- definitions whose stripped definitions these are, and which weigh at least as much
 pub record Originals (D E : List Definition) : Type 0 where
   pub of : List Definition
   pub within : AreWithin of D
@@ -50,7 +50,7 @@ pub record Originals (D E : List Definition) : Type 0 where
   pub stripped : strip of ≡ E
   pub heavier : weight E ≤ weight of
 
--- distinct members of stripped definitions are what is left of distinct members
+-- distinct members of stripped definitions come from distinct members
 pub originals-strip : (D E : List Definition) → AreDistinct E → AreWithin E (strip D) → Originals D E
 originals-strip D E h w =
     let o = originals strip_definition D E w in record {

@@ -1,4 +1,4 @@
--- Well-formed definitions are well-formed when they are stripped.
+-- Stripped well-formed definitions are well formed.
 use Rattle.std.proofs.Common.{IsTrue, ◌≡◌, List, map, All, Option, Some, None, refl, sym, subst}
 use Rattle.std.specs.Option.{option_map, IfSome}
 use Rattle.std.specs.List.{flat_map}
@@ -16,7 +16,7 @@ use Rattle.dexspec.proofs.Mapped.{All-among, Contains-map_source, map-kept}
 use Rattle.dexspec.proofs.StripUnion.{declared_methods-strip}
 use Rattle.dexspec.proofs.StripMentions.{symbols_of-strip}
 
--- code that some code_item is stays such
+-- stripped code of a code_item is code of a code_item
 IsCodeItem-strip : (c : Code) → IsCodeItem c → IsCodeItem (strip_code c)
 IsCodeItem-strip c h = record {
   registers = h.registers;
@@ -31,12 +31,12 @@ IsCodeItem-strip c h = record {
   debug = tt;
 }
 
--- if there is any
+-- optional code
 code-strip : (o : Option Code) → IfSome o IsCodeItem → IfSome (option_map strip_code o) IsCodeItem
 code-strip None h = tt
 code-strip (Some c) h = IsCodeItem-strip c h
 
--- a method that some class declares stays such
+-- a stripped method of a class is a method of a class
 IsMethodDef-strip : (m : MethodDef) → IsMethodDef m → IsMethodDef (strip_method m)
 IsMethodDef-strip m h = record {
   name = h.name;
@@ -48,17 +48,17 @@ IsMethodDef-strip m h = record {
   parameters_count = h.parameters_count;
 }
 
--- and so do all that a body declares
+-- all declared methods of a body
 declared-strip : (c : Body) → All IsMethodDef (declared_methods c) → All IsMethodDef (declared_methods (strip_body c))
 declared-strip c h =
     subst (All IsMethodDef) (sym (declared_methods-strip c))
     (All-map IsMethodDef strip_method (declared_methods c) (All-weaker IsMethodDef (λ m. IsMethodDef (strip_method m)) IsMethodDef-strip (declared_methods c) h))
 
--- methods keep their places
+-- methods keep their keys
 pub method_keys-strip : (ms : List MethodDef) → map method_key (map strip_method ms) ≡ map method_key ms
 method_keys-strip ms = map-kept strip_method method_key (λ m. refl) ms
 
--- a well-formed definition is well-formed stripped
+-- a stripped well-formed definition is well formed
 pub IsWellFormed-strip : (d : Definition) → IsWellFormed d → IsWellFormed (strip_definition d)
 IsWellFormed-strip d h =
     let direct = d.1.direct_methods in
@@ -90,6 +90,6 @@ IsWellFormed-strip d h =
       texts = All-among IsText (flat_map texts_in (symbols_of (strip_definition d))) (flat_map texts_in (symbols_of d)) (AreAmong-flat_map texts_in (symbols_of (strip_definition d)) (symbols_of d) symbols) h.texts;
     }
 
--- and so are all of them
+-- all of them
 pub AreWellFormed-strip : (D : List Definition) → AreWellFormed D → AreWellFormed (strip D)
 AreWellFormed-strip D h d c = let s = Contains-map_source strip_definition D d c in subst IsWellFormed s.2 (IsWellFormed-strip s.0 (h s.0 s.1))

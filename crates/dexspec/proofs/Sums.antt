@@ -1,4 +1,4 @@
--- The magic and the two sums before what they are of: conditions 2, 3, 7 and 8.
+-- The magic and the two sums before the bytes that they cover: conditions 2, 3, 7 and 8.
 use Rattle.std.proofs.Common.{◌≡◌, ℕ, zero, suc, ◌+◌, ◌*◌, ◌/◌, ◌^◌, ◌<◌, List, [], ◌∷◌, ◌++◌, length, take, drop, refl, sym, ap, ◌∙◌, arith}
 use Rattle.std.specs.Prelude.{slice_index}
 use Rattle.std.specs.Int.{w32, to_be_bytes}
@@ -14,7 +14,7 @@ use Rattle.dexspec.proofs.ByteNumbers.{length-uint, uint_at-stands}
 
 -- ---- SHA-1
 
--- n words are 4 * n bytes
+-- n words have 4 * n bytes
 length-digest_bytes : (h : List ℕ) (n : ℕ) → length (digest_bytes h n) ≡ 4 * n
 unfolding digest_bytes
 length-digest_bytes h zero = refl
@@ -34,30 +34,30 @@ record AreSums (s : ℕ × ℕ) : Type 0 where
   first : s.0 < 65521
   second : s.1 < 65521
 
--- and stay so
+-- they stay below the modulus
 sums_stay : (bytes : List ℕ) (s : ℕ × ℕ) → AreSums s → AreSums (adler_sums s bytes)
 sums_stay [] s h = h
 sums_stay (x ∷ xs) s h = sums_stay xs (adler_step s x) (record { first = omega arith; second = omega arith })
 
--- it fits four bytes
+-- the sum fits four bytes
 pub adler_32_small : (bytes : List ℕ) → adler_32 bytes < 2 ^ 32
 unfolding adler_32
 adler_32_small bytes = let h = sums_stay bytes (1, 0) (record { first = omega arith; second = omega arith }) in omega (arith, h.first, h.second)
 
 -- ---- a file with its sums
 
--- what is behind a list and more
+-- the bytes after a list and more
 drop_behind : (p q : List ℕ) (n m : ℕ) → length p ≡ n → drop (n + m) (p ++ q) ≡ drop m q
 drop_behind p q n m e = ap (λ k. drop (k + m) (p ++ q)) (sym e) ∙ drop-append-add p q m
 
--- what stands behind the sums
+-- the bytes after the sums
 pub with_sums_stands : {rest x : List ℕ} {o : ℕ} → Stands rest o x → Stands (with_sums rest) (32 + o) x
 unfolding with_sums
 with_sums_stands {rest} {x} {o} h =
     let s = uint (adler_32 (sha1 rest ++ rest)) in
     stands_at (omega (arith, length-uint (adler_32 (sha1 rest ++ rest)), length-sha1 rest)) (stands_later magic (stands_later s (stands_later (sha1 rest) h)))
 
--- magic and sums are 32 bytes
+-- magic and sums have 32 bytes
 pub length-with_sums : (rest : List ℕ) → length (with_sums rest) ≡ 32 + length rest
 unfolding with_sums
 length-with_sums rest =

@@ -1,4 +1,4 @@
--- The orders of texts and symbols are total, and only equal ones tie.
+-- The orders of texts and symbols are total, and only equal symbols are equal by order.
 use Rattle.std.proofs.Common.{◌≡◌, refl, Ordering, Less, Equal, Greater}
 use Rattle.std.specs.Ordering.{ordering_then}
 use Rattle.std.specs.Cmp.{IsTotalOrder}
@@ -14,7 +14,7 @@ text_total = nat_list_cmp_total
 pub text_exact : IsAntisymmetric text_cmp
 text_exact = slice_cmp-IsAntisymmetric nat_cmp-IsAntisymmetric
 
--- where the first decides or the second, both tie if they tie together
+-- if one of two orders decides, they are equal together only if both are equal
 both_tie : (a b : Ordering) → ordering_then a b ≡ Equal → (a ≡ Equal) × (b ≡ Equal)
 both_tie Less b e = absurd cc
 both_tie Equal b e = (refl, e)

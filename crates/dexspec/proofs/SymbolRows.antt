@@ -25,7 +25,7 @@ use Rattle.dexspec.proofs.Sources.{sequence_source, map_source, distinct_source,
 module _ (b : List ℕ) where
   -- ---- lists of symbols
 
-  -- no symbols have rows
+  -- no symbols: all have rows
   have_none : HaveRows b []
   have_none s c = absurd (Contains-nil s c)
 
@@ -37,7 +37,7 @@ module _ (b : List ℕ) where
   have_both : (xs ys : List Symbol) → HaveRows b xs → HaveRows b ys → HaveRows b (xs ++ ys)
   have_both xs ys h g s c = elim (Contains-append_cases xs ys s c) [ inl l ↦ h s l | inr l ↦ g s l ]
 
-  -- what each member makes
+  -- the symbols of each member
   have_all : {X : Type 0} (f : X → List Symbol) (xs : List X) → ((x : X) → Contains xs x → HaveRows b (f x)) → HaveRows b (flat_map f xs)
   have_all f xs h s c = let w = Contains-flat_map_source f xs s c in h w.0 w.1 s w.2
 
@@ -45,9 +45,9 @@ module _ (b : List ℕ) where
   have_map : {X : Type 0} (f : X → Symbol) (xs : List X) → ((x : X) → Contains xs x → HasRow b (f x)) → HaveRows b (map f xs)
   have_map f xs h s c = let w = map_source f xs s c in subst (HasRow b) w.2 (h w.0 w.1)
 
-  -- ---- texts and types that may be left out
+  -- ---- optional texts and types
 
-  -- a source, or none
+  -- a source text, or none
   text_or_none : (i : ℕ) (s : Option Text) → IndexOrNone StringRow b i s → HaveRows b (optional_text s)
   text_or_none i None h = have_none
   text_or_none i (Some s) h = have_first (TextSymbol s) [] (i, h) have_none
@@ -84,7 +84,7 @@ module _ (b : List ℕ) where
 
   -- ---- code
 
-  -- what an operation names
+  -- the symbols of an operation
   operation_rows : (o : ℕ) (op : Operation) (n : ℕ) → OperationAt b o op n → HaveRows b (operation_symbols op)
   operation_rows o (StartLocal register name type) n h =
       have_both (optional_text name) (optional_type type) (optional_text_rows (o + 1 + h.1) name h.2 h.5) (optional_type_rows (o + 1 + h.1 + h.2) type h.3 h.6)
@@ -100,20 +100,20 @@ module _ (b : List ℕ) where
   operation_rows o SetEpilogueBegin n h = have_none
   operation_rows o (Special opcode) n h = have_none
 
-  -- what a debug program names
+  -- the symbols of a debug program
   debug_rows : (o : ℕ) (d : Debug) → DebugAt b o d → HaveRows b (debug_symbols d)
   debug_rows o d h =
       have_both (flat_map optional_text d.parameter_names) (flat_map operation_symbols d.operations)
       (have_all optional_text d.parameter_names (λ s c. let w = sequence_source OptionalTextAt b (o + h.start_size + h.count_size) d.parameter_names h.names_size s h.names c in optional_text_rows w.0 s w.1 w.2))
       (have_all operation_symbols d.operations (λ op c. let w = sequence_source OperationAt b (o + h.start_size + h.count_size + h.names_size) d.operations h.operations_size op h.operations c in operation_rows w.0 op w.1 w.2))
 
-  -- the same where there may be none
+  -- of an optional debug program
   some_debug_rows : (o : ℕ) (d : Option Debug) → OrNone (SomeAt DebugAt) None b o d → HaveRows b (flat_map debug_symbols (option_to_list d))
   some_debug_rows o None h = have_none
   some_debug_rows o (Some d) (inl h) = absurd (let e : Some d ≡ None = h.1 in cc)
   some_debug_rows o (Some d) (inr h) = have_both (debug_symbols d) [] (debug_rows o d h.1) have_none
 
-  -- what a piece names
+  -- the symbol of a piece
   piece_rows : (us : List ℕ) (p : Piece) → StandsForPiece (SymbolRow b) us p → HaveRows b (piece_symbols p)
   piece_rows us (Instruction xs None) h = have_none
   piece_rows us (Instruction xs (Some s)) h = have_first s [] (index_in us, h.1) have_none
@@ -133,13 +133,13 @@ module _ (b : List ℕ) where
         let v = sequence_source (HandlerAt us cuts) b (o + 8 * count + h.count_size) h.handlers h.handlers_size t.handler h.list in_list in
         handler_rows v.0 t.handler v.1 v.2
 
-  -- those of a try's handler
+  -- the types of a try's handler
   tries_rows : (o : ℕ) (cuts : List Cut) (ts : List Try) → TriesAt b o cuts ts → (t : Try) → Contains ts t → HaveRows b (handler_symbols t.handler)
   tries_rows o cuts ts (inl h) t c = absurd (Contains-nil t (subst (λ (us : List Try). Contains us t) h.1 c))
   tries_rows o cuts ts (inr (n, inl h)) t c = try_handler (code_units b o) cuts (o + 16 + 2 * uint_at b (o + 12)) (ushort_at b (o + 6)) ts h.1 t c
   tries_rows o cuts ts (inr (n, inr h)) t c = try_handler (code_units b o) cuts (o + 18 + 2 * uint_at b (o + 12)) (ushort_at b (o + 6)) ts h.2 t c
 
-  -- what code names
+  -- the symbols of code
   code_rows : (o : ℕ) (k : Code) → CodeAt b o k → HaveRows b (code_symbols k)
   code_rows o k h =
       let handlers = flat_map handler_symbols (handlers_of k.tries) in
@@ -152,7 +152,7 @@ module _ (b : List ℕ) where
       subst (λ (y : Handler). HaveRows b (handler_symbols y)) w.2 (tries_rows o h.cuts k.tries h.tries w.0 w.1)))
       (some_debug_rows (uint_at b (o + 8)) k.debug h.debug))
 
-  -- the same where there may be none
+  -- of optional code
   some_code_rows : (o : ℕ) (k : Option Code) → OrNone (SomeAt CodeAt) None b o k → HaveRows b (flat_map code_symbols (option_to_list k))
   some_code_rows o None h = have_none
   some_code_rows o (Some k) (inl h) = absurd (let e : Some k ≡ None = h.1 in cc)
@@ -161,7 +161,7 @@ module _ (b : List ℕ) where
   -- ---- values
 
   mutual
-    -- what a value names
+    -- the symbols of a value
     value_rows : (o : ℕ) (v : Value) (n : ℕ) → ValueAt b o v n → HaveRows b (value_symbols v)
     value_rows o (StringValue s) n h = have_first (TextSymbol s) [] (h.0, h.2) have_none
     value_rows o (TypeValue t) n h = have_first (TypeSymbol t) [] (h.0, h.2) have_none
@@ -180,41 +180,41 @@ module _ (b : List ℕ) where
     value_rows o NullValue n h = have_none
     value_rows o (BooleanValue is) n h = have_none
 
-    -- what values name
+    -- the symbols of values
     values_rows : (o : ℕ) (vs : Values) (n : ℕ) → ValuesAt b o vs n → HaveRows b (values_symbols vs)
     values_rows o NoValues n h = have_none
     values_rows o (ThenValue v vs) n h = have_both (value_symbols v) (values_symbols vs) (value_rows o v h.0 h.2) (values_rows (o + h.0) vs h.1 h.3)
 
-    -- what elements name
+    -- the symbols of elements
     elements_rows : (o : ℕ) (es : Elements) (n : ℕ) → ElementsAt b o es n → HaveRows b (elements_symbols es)
     elements_rows o NoElements n h = have_none
     elements_rows o (ThenElement name v es) n h =
         have_first (TextSymbol name) (value_symbols v ++ elements_symbols es) (h.3, h.5) (have_both (value_symbols v) (elements_symbols es) (value_rows (o + h.0) v h.1 h.6) (elements_rows (o + h.0 + h.1) es h.2 h.7))
 
-  -- what static values name
+  -- the symbols of static values
   static_values_rows : (o : ℕ) (vs : Values) → OrNone StaticValuesAt NoValues b o vs → HaveRows b (values_symbols vs)
   static_values_rows o vs (inl h) = subst (λ (ws : Values). HaveRows b (values_symbols ws)) (sym h.1) have_none
   static_values_rows o vs (inr h) = let a = h.1.1.array in values_rows (o + a.0) vs a.1 a.3
 
   -- ---- annotations
 
-  -- what an annotation names
+  -- the symbols of an annotation
   annotation_rows : (o : ℕ) (a : Annotation) → AnnotationAt b o a → HaveRows b (annotation_symbols a)
   annotation_rows o a h =
       let w = h.annotation.1 in
       have_first (TypeSymbol a.type) (elements_symbols a.elements) (w.3, w.5) (elements_rows (o + 1 + w.0 + w.1) a.elements w.2 w.7)
 
-  -- what a set names
+  -- the symbols of a set
   set_rows : (o : ℕ) (set : AnnotationSet) → SetAt b o set → HaveRows b (set_symbols set)
   set_rows o set h =
       have_all annotation_symbols set (λ a c. let w = zip_source (AnnotationAt b) (uints_at b (o + 4) (uint_at b o)) set a h.annotations c in annotation_rows w.0 a w.2)
 
-  -- the same where there may be none
+  -- of an optional set
   set_or_none_rows : (o : ℕ) (set : AnnotationSet) → OrNone SetAt [] b o set → HaveRows b (set_symbols set)
   set_or_none_rows o set (inl h) = subst (λ (x : AnnotationSet). HaveRows b (set_symbols x)) (sym h.1) have_none
   set_or_none_rows o set (inr h) = set_rows o set h.1
 
-  -- what a list of sets names
+  -- the symbols of a list of sets
   ref_list_rows : (o : ℕ) (list : List AnnotationSet) → RefListAt b o list → HaveRows b (flat_map set_symbols list)
   ref_list_rows o list h =
       have_all set_symbols list (λ s c. let w = zip_source (OrNone SetAt [] b) (uints_at b (o + 4) (uint_at b o)) list s h.sets c in set_or_none_rows w.0 s w.2)
@@ -226,7 +226,7 @@ module _ (b : List ℕ) where
     methods : (e : Method × AnnotationSet) → Contains d.methods e → HaveRows b (set_symbols e.1)
     parameters : (e : Method × List AnnotationSet) → Contains d.parameters e → HaveRows b (flat_map set_symbols e.1)
 
-  -- what a directory names
+  -- the symbols of a directory
   directory_rows : (o : ℕ) (d : Directory) → OrNone DirectoryAt no_directory b o d → SetsHaveRows d
   directory_rows o d (inl h) =
       subst SetsHaveRows (sym h.1) (record { own = have_none; fields = λ e c. absurd (Contains-nil e c); methods = λ e c. absurd (Contains-nil e c); parameters = λ e c. absurd (Contains-nil e c) })
@@ -248,7 +248,7 @@ module _ (b : List ℕ) where
     fields : (x : EncodedField) → Contains (fields_of d) x → (i : ℕ) × FieldRow b i x.field
     methods : (x : EncodedMethod) → Contains (methods_of d) x → (i : ℕ) × MethodRow b i x.method
 
-  -- what class data name
+  -- the symbols of class data
   member_rows : (o : ℕ) (d : ClassData) → OrNone ClassDataAt no_class_data b o d → MembersHaveRows d
   member_rows o d (inl h) = subst MembersHaveRows (sym h.1) (record { fields = λ x c. absurd (Contains-nil x c); methods = λ x c. absurd (Contains-nil x c) })
   member_rows o d (inr h) =
@@ -265,14 +265,14 @@ module _ (b : List ℕ) where
         ];
       }
 
-  -- what a declared field names
+  -- the symbols of a declared field
   field_def_rows : (name : Text) (d : Directory) (x : EncodedField) → SetsHaveRows d → (i : ℕ) × FieldRow b i x.field → x.field.class ≡ name → HaveRows b (field_symbols name (field_def d x))
   field_def_rows name d x sets row own =
       let same : x.field ≡ field_of name (field_def d x) = λ i. record { class = own i; name = x.field.name; type = x.field.type } in
       have_first (FieldSymbol (field_of name (field_def d x))) (set_symbols (annotated field_cmp d.fields x.field)) (row.0, subst (FieldRow b row.0) same row.1)
       (annotated_source field_cmp x.field (λ s. HaveRows b (set_symbols s)) d.fields have_none sets.fields)
 
-  -- what a declared method names
+  -- the symbols of a declared method
   method_def_rows : (name : Text) (d : Directory) (x : EncodedMethod) (m : MethodDef) → SetsHaveRows d → (i : ℕ) × MethodRow b i x.method → x.method.class ≡ name → MakesMethod b d x m → HaveRows b (method_symbols name m)
   method_def_rows name d x m sets row own makes =
       let same : x.method ≡ method_of name m = λ i. record { class = own i; name = sym makes.name i; proto = sym makes.proto i } in

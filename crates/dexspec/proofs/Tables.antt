@@ -1,4 +1,4 @@
--- The header and the rows of the tables: what stands where.
+-- The header and the rows of the tables: their contents by offset.
 use Rattle.std.proofs.Common.{◌≡◌, ℕ, zero, suc, ◌+◌, ◌-◌, ◌*◌, ◌<◌, List, [], ◌∷◌, ◌++◌, length, get_or, ap, ◌∙◌, arith}
 use Rattle.std.specs.Prelude.{◌==◌, if◌then◌else◌}
 use Rattle.std.specs.List.{flat_map, concat}
@@ -16,17 +16,17 @@ use Rattle.dexspec.proofs.Stands.{stands_first, stands_whole, stands_later, stan
 use Rattle.dexspec.proofs.ByteNumbers.{length-uint, length-ushort}
 use Rattle.dexspec.proofs.Placements.{AreFull}
 
--- ---- one after the other
+-- ---- in sequence
 
 -- the first of two
 pub stands_here : {b : List ℕ} {o : ℕ} (x r : List ℕ) → Stands b o (x ++ r) → Stands b o x
 stands_here x r h = stands_at (omega arith) (stands_in h (stands_first x r))
 
--- the second, behind a first of so many bytes
+-- the second, after a first of n bytes
 pub stands_behind : {b : List ℕ} {o : ℕ} (x r : List ℕ) (n : ℕ) → length x ≡ n → Stands b o (x ++ r) → Stands b (o + n) r
 stands_behind x r n e h = stands_at (omega (arith, e)) (stands_in h (stands_later x (stands_whole r)))
 
--- behind four bytes
+-- after four bytes
 pub stands_next : {b : List ℕ} {o : ℕ} (n : ℕ) (r : List ℕ) → Stands b o (uint n ++ r) → Stands b (o + 4) r
 stands_next n r h = stands_behind (uint n) r 4 (length-uint n) h
 
@@ -78,7 +78,7 @@ rows_bytes K l FieldIds = flat_map (field_row_bytes K.pools) K.pools.fields
 rows_bytes K l MethodIds = flat_map (method_row_bytes K.pools) K.pools.methods
 rows_bytes K l ClassDefs = concat (zip_with (class_row_bytes K.pools) K.classes l.classes)
 
--- so many rows of one size
+-- rows of one size
 pub length_rows_bytes : (K : Ordered) (l : Layout) → AreFull K l → (t : Table) → length (rows_bytes K l t) ≡ row_size t * table_count K t
 length_rows_bytes K l full StringIds = length_rows uint 4 length-uint l.strings ∙ ap (λ n. 4 * n) full.strings
 length_rows_bytes K l full TypeIds = length_rows (λ t. uint (text_index K.pools t)) 4 (λ t. length-uint (text_index K.pools t)) K.pools.types
@@ -87,7 +87,7 @@ length_rows_bytes K l full FieldIds = length_rows (field_row_bytes K.pools) 8 (l
 length_rows_bytes K l full MethodIds = length_rows (method_row_bytes K.pools) 8 (length-method_row K.pools) K.pools.methods
 length_rows_bytes K l full ClassDefs = length_zip_rows (class_row_bytes K.pools) 32 (length-class_row K.pools) K.classes l.classes full.classes
 
--- where the rows of a table begin if it has some
+-- the offset of the rows of a table that has rows
 abbrev pub table_start : Ordered → Table → ℕ
 table_start K StringIds = header_length
 table_start K TypeIds = header_length + row_size StringIds * table_count K StringIds
@@ -96,7 +96,7 @@ table_start K FieldIds = header_length + row_size StringIds * table_count K Stri
 table_start K MethodIds = header_length + row_size StringIds * table_count K StringIds + row_size TypeIds * table_count K TypeIds + row_size ProtoIds * table_count K ProtoIds + row_size FieldIds * table_count K FieldIds
 table_start K ClassDefs = header_length + row_size StringIds * table_count K StringIds + row_size TypeIds * table_count K TypeIds + row_size ProtoIds * table_count K ProtoIds + row_size FieldIds * table_count K FieldIds + row_size MethodIds * table_count K MethodIds
 
--- the rows of each table stand there
+-- the rows of each table are at this offset
 pub table_stands : {b : List ℕ} (K : Ordered) (l : Layout) → AreFull K l → Stands b header_length (table_bytes K l) → (t : Table) → Stands b (table_start K t) (rows_bytes K l t)
 table_stands {b} K l full h = at
   where
@@ -134,11 +134,11 @@ length-table_bytes K l full =
 
 -- ---- the header
 
--- where the header says that a table begins
+-- the offset of a table in the header
 abbrev pub table_place : Ordered → Table → ℕ
 table_place K t = if table_count K t == 0 then 0 else table_start K t
 
--- what stands in the header behind the sums
+-- the contents of the header after the sums
 pub record HeaderStands (b : List ℕ) (K : Ordered) (map_place size : ℕ) : Type 0 where
   pub file : Stands b 32 (uint size)
   pub own : Stands b 36 (uint header_length)
@@ -150,7 +150,7 @@ pub record HeaderStands (b : List ℕ) (K : Ordered) (map_place size : ℕ) : Ty
   pub data_bytes : Stands b 104 (uint (size - data_start K))
   pub data_place : Stands b 108 (uint (data_start K))
 
--- the size and the place of a table
+-- the size and the offset of a table
 abbrev place_bytes : Table × ℕ × ℕ → List ℕ
 place_bytes t = uint t.1 ++ uint t.2
 
@@ -158,7 +158,7 @@ place_bytes t = uint t.1 ++ uint t.2
 length-place_bytes : (t : Table × ℕ × ℕ) → length (place_bytes t) ≡ 8
 length-place_bytes t = omega (arith, length-append (uint t.1) (uint t.2), length-uint t.1, length-uint t.2)
 
--- of each table in its place
+-- of each table, at their place
 places_stand : {b : List ℕ} (K : Ordered) → Stands b 56 (flat_map place_bytes (placed_tables K)) → (t : Table) → Stands b (size_place t) (uint (table_count K t) ++ uint (table_place K t))
 places_stand K h StringIds = stands_in h (stands_row place_bytes 8 length-place_bytes (placed_tables K) 0 (StringIds, 0, 0) (omega arith))
 places_stand K h TypeIds = stands_in h (stands_row place_bytes 8 length-place_bytes (placed_tables K) 1 (StringIds, 0, 0) (omega arith))
@@ -167,7 +167,7 @@ places_stand K h FieldIds = stands_in h (stands_row place_bytes 8 length-place_b
 places_stand K h MethodIds = stands_in h (stands_row place_bytes 8 length-place_bytes (placed_tables K) 4 (StringIds, 0, 0) (omega arith))
 places_stand K h ClassDefs = stands_in h (stands_row place_bytes 8 length-place_bytes (placed_tables K) 5 (StringIds, 0, 0) (omega arith))
 
--- each number of the header in its place
+-- each number of the header, at its place
 pub header_stands : {b : List ℕ} (K : Ordered) (map_place size : ℕ) → Stands b 32 (header_bytes K map_place size) → HeaderStands b K map_place size
 header_stands {b} K map_place size h0 =
     let sizes = uint (size - data_start K) ++ uint (data_start K) in

@@ -1,5 +1,5 @@
--- The file in which equal items are written once is no longer than the one in which each use has its own: section by
--- section its items are covered by those of the other.
+-- The file in which equal items are written once is at most as long as the one in which each use has its own: section
+-- by section, the items of the first are covered by those of the second.
 use Rattle.std.proofs.Common.{◌≡◌, ℕ, zero, suc, ◌+◌, ◌*◌, ◌<◌, ◌≤◌, Bool, true, false, if◌then◌else◌, ◌==◌, List, [], ◌∷◌, ◌++◌, length, map, take, drop, zip, flat_map, get_or, refl, sym, ap, subst, ◌∙◌, arith, inl, inr}
 use Rattle.std.specs.Prelude.{slice_index, Option, Some, None}
 use Rattle.std.specs.List.{concat}
@@ -177,7 +177,7 @@ sets_over (s ∷ sets) os le =
 
 -- ---- the offsets of sets
 
--- what a use has begins behind 0, and what it has not is at 0
+-- a use that is present begins after 0, and another use is at 0
 abbrev IsMarked : {X : Type 0} → Option X → ℕ → Type 0
 IsMarked None o = o ≡ 0
 IsMarked (Some x) o = 0 < o
@@ -196,7 +196,7 @@ marks_alike : {X : Type 0} (u : Option X) (o p : ℕ) → IsMarked u o → IsMar
 marks_alike None o p h k = inl (h, k)
 marks_alike (Some x) o p h k = inr (h, k)
 
--- items behind 0 begin behind 0
+-- items after 0 begin after 0
 offset_some : (align from : ℕ) (xs : List (List ℕ)) → 0 < from → (i : ℕ) → i < length xs → 0 < slice_index (offsets_from align from xs) i
 offset_some align from [] some i lt = absurd (omega (arith, lt))
 offset_some align from (x ∷ xs) some zero lt = omega (arith, some, length-padding align from)
@@ -208,7 +208,7 @@ record AreSetsAlike (s t : SetOffsets) : Type 0 where
   fields : AllAlike s.fields t.fields
   methods : ListsAlike s.methods t.methods
 
--- of each
+-- the sets of each class
 abbrev AllSetsAlike : List SetOffsets → List SetOffsets → Type 0
 AllSetsAlike [] [] = Unit {0}
 AllSetsAlike [] (t ∷ ts) = ⊥
@@ -265,7 +265,7 @@ refs_covered (s ∷ ss) (t ∷ ts) h =
 length-pairs_bytes : (ps : List (ℕ × ℕ)) → length (pairs_bytes ps) ≡ 8 * length ps
 length-pairs_bytes ps = length_rows (λ (p : ℕ × ℕ). uint p.0 ++ uint p.1) 8 (λ p. omega (arith, length-append (uint p.0) (uint p.1), length-uint p.0, length-uint p.1)) ps
 
--- itself
+-- the bytes themselves
 abbrev bytes : List ℕ → List ℕ
 bytes x = x
 
@@ -339,7 +339,7 @@ items_themselves (x ∷ xs) = ap (λ ys. x ∷ ys) (items_themselves xs)
 abbrev section_entry : Placed → List (Section × ℕ × ℕ)
 section_entry p = if length p.items == 0 then [] else (p.kind, length p.items, slice_index (offsets p) 0) ∷ []
 
--- each section has no more items than the other in its place
+-- each section has at most as many items as the other at its place
 abbrev AreFew : List Placed → List Placed → Type 0
 AreFew [] [] = Unit {0}
 AreFew [] (q ∷ qs) = ⊥
@@ -376,7 +376,7 @@ table_entries K = flat_map (λ t. if t.1 == 0 then [] else (TableOf t.0, t.1, t.
 round_up_least : (at last : ℕ) → at ≤ last → round_up 4 at ≤ round_up 4 last
 round_up_least at last le = omega (arith, le)
 
--- how long the file is behind its sums
+-- the length of the file after its sums
 file_length : (K : Ordered) → 32 + length (unsigned_file K) ≡ round_up 4 (directory_end K) + (4 + 12 * (2 + (length (table_entries K) + length (flat_map section_entry (data_sections K)))))
 unfolding unsigned_file
 file_length K =
@@ -415,7 +415,7 @@ file_length K =
 -- ---- the sections of both forms
 
 module _ (cs : List Definition) (m : Mentions) where
-  -- equal items written once, and each use for itself
+  -- equal items written once, and each use with its own item
   abbrev K : Ordered
   K = record { classes = cs; pools = m; sharing = EqualOnce }
 
@@ -494,9 +494,9 @@ module _ (cs : List Definition) (m : Mentions) where
   unfolding set_end
   set_end_most = end_covered 4 (inl refl) (class_data_end K) (class_data_end L) (set_section K).items (set_section L).items sets_covered class_data_end_most
 
-  -- ---- what holds offsets of sets
+  -- ---- items that hold offsets of sets
 
-  -- a section of the data begins behind the header
+  -- a section of the data begins after the header
   set_from_some : (J : Ordered) → 0 < class_data_end J
   set_from_some J = let h = sections_between (data_start J) (data_sections J) (directory_end J) 7 (set_section J) (sections_follow J) (omega arith) in omega (arith, h.0)
 
@@ -509,7 +509,7 @@ module _ (cs : List Definition) (m : Mentions) where
       length-map (chunks (map (λ set. length set) (set_items J).written) (offsets (annotation_section J))) offsets_bytes
       ∙ length-chunks (map (λ set. length set) (set_items J).written) (offsets (annotation_section J)) ∙ length-map (set_items J).written (λ set. length set)
 
-  -- where each use's set begins
+  -- the offset of each use's set
   abbrev set_places : Ordered → List ℕ
   set_places J = uses_offsets (set_items J).numbers (offsets (set_section J))
 
@@ -603,7 +603,7 @@ module _ (cs : List Definition) (m : Mentions) where
   pub shared_no_longer : length (unsigned_file K) ≤ length (unsigned_file L)
   shared_no_longer = omega (arith, file_length K, file_length L, entries_most, round_up_least (directory_end K) (directory_end L) directory_end_most)
 
--- definitions in their order, each use with an item of its own
+-- definitions in order, each use with an item of its own
 abbrev each_for_itself : List Definition → Ordered
 each_for_itself D = record { classes = in_class_order D; pools = mentions D; sharing = EachForItself }
 
@@ -611,7 +611,7 @@ each_for_itself D = record { classes = in_class_order D; pools = mentions D; sha
 pub ordered_no_longer : (D : List Definition) → length (with_sums (unsigned_file (ordered D))) ≤ length (with_sums (unsigned_file (each_for_itself D)))
 ordered_no_longer D = omega (arith, with_sums-size (unsigned_file (ordered D)), with_sums-size (unsigned_file (each_for_itself D)), shared_no_longer (in_class_order D) (mentions D))
 
--- and that of a collection
+-- the file of a collection is no longer
 pub canonical_no_longer : (K : Collection) → length (canonical K) ≤ length (with_sums (unsigned_file (each_for_itself (definitions K))))
 unfolding canonical
 canonical_no_longer K = ordered_no_longer (definitions K)

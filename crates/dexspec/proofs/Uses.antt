@@ -1,6 +1,6 @@
--- What each use of an item leads to in a file that is laid out: its offset is 0 if it has none, and else the item
--- stands there. By class and method: type lists, static values, class data, code, debug programs, sets, ref lists
--- and directories.
+-- The offset of each use of an item in a file with this layout: it is 0 if the use has no item, and otherwise the item
+-- is there. By class and method: type lists, static values, class data, code, debug programs, sets, ref lists and
+-- directories.
 use Rattle.std.proofs.Common.{◌≡◌, ℕ, zero, suc, ◌+◌, ◌<◌, ◌≤◌, List, [], ◌∷◌, ◌++◌, length, get_or, map, take, drop, refl, sym, ap, subst, ◌∙◌, arith}
 use Rattle.std.specs.Prelude.{slice_index, Option, Some, None, Bool, if◌then◌else◌}
 use Rattle.std.specs.Option.{option_map, option_map_or}
@@ -29,12 +29,12 @@ use Rattle.dexspec.proofs.Laying.{ItemStands, SectionStands, Laid, get_or-zip_wi
 
 -- ---- items and their numbers
 
--- a use without an item has no number, another one that of its item
+-- a use without an item has no number; another use has the number of its item
 abbrev pub IsNumber : {X : Type 0} → Option X → Option ℕ → List X → Type 0
 IsNumber None n xs = n ≡ None
 IsNumber (Some x) n xs = (i : ℕ) × (i < length xs) × (n ≡ Some i) × (get_or xs i x ≡ x)
 
--- each use is numbered so
+-- each use has this number
 pub record AreNumbered {X : Type 0} (uses : List (Option X)) (its : Items X) : Type 0 where
   pub count : length its.numbers ≡ length uses
   pub each : (k : ℕ) → k < length uses → IsNumber (get_or uses k None) (get_or its.numbers k None) its.written
@@ -49,7 +49,7 @@ one_before : {X : Type 0} (n : ℕ) (y : X) (u : Option X) (o : Option ℕ) (xs 
 one_before n y None o xs h = h
 one_before n y (Some x) o xs h = (suc h.0, omega (arith, h.1), h.2 ∙ ap Some (omega arith), h.3)
 
--- items of one's own are numbered from n on
+-- own items are numbered from n on
 own_from : {X : Type 0} (n : ℕ) (uses : List (Option X)) (k : ℕ) → k < length uses → IsNumberFrom n (get_or uses k None) (get_or (own_numbers n uses) k None) (present uses)
 own_from n [] k lt = absurd (omega arith)
 own_from n (None ∷ uses) zero lt = refl
@@ -62,14 +62,14 @@ from_zero : {X : Type 0} (u : Option X) (o : Option ℕ) (xs : List X) → IsNum
 from_zero None o xs h = h
 from_zero (Some x) o xs h = (h.0, h.1, h.2 ∙ ap Some (omega arith), h.3)
 
--- items of one's own are numbered so
+-- own items have these numbers
 pub own_numbered : {X : Type 0} (uses : List (Option X)) → AreNumbered uses (own_items uses)
 own_numbered uses = record {
   count = length-own_numbers 0 uses;
   each = λ k lt. from_zero (get_or uses k None) (get_or (own_numbers 0 uses) k None) (present uses) (own_from 0 uses k lt);
 }
 
--- the number of a use's item among those that are shared
+-- the number of a use's item among shared items
 shared_from : {X : Type 0} (same : X → X → Bool) → IsEquality same → (xs : List X) (u : Option X) → ((x : X) → u ≡ Some x → Contains xs x)
     → IsNumber u (option_map (λ x. position_or_len (λ y. same y x) xs) u) xs
 shared_from same exact xs None has = refl
@@ -77,7 +77,7 @@ shared_from same exact xs (Some x) has =
     let is = position_is same exact xs x (has x refl) in
     (position_or_len (λ y. same y x) xs, is.0, refl, is.1)
 
--- items that equal uses share are numbered so, where the test tells equal ones
+-- items that equal uses share have these numbers, if the test decides equality
 pub shared_numbered : {X : Type 0} (same : X → X → Bool) → IsEquality same → (uses : List (Option X)) → AreNumbered uses (shared_items same uses)
 shared_numbered same exact uses =
     let items = distinct same (present uses) in
@@ -88,14 +88,14 @@ shared_numbered same exact uses =
           (shared_from same exact items (get_or uses k None) (λ x e. distinct_has same (λ y z. (exact y z).0) (present uses) x (present_has uses k x lt e)));
     }
 
--- and so they are either way
+-- items have these numbers for both kinds of sharing
 pub items_numbered : {X : Type 0} (how : Sharing) (same : X → X → Bool) → IsEquality same → (uses : List (Option X)) → AreNumbered uses (items_by how same uses)
 items_numbered EqualOnce same exact uses = shared_numbered same exact uses
 items_numbered EachForItself same exact uses = own_numbered uses
 
 -- ---- uses and offsets
 
--- the offset is 0 if there is no item, and else the item stands there
+-- the offset is 0 if there is no item, and otherwise the item is there
 abbrev pub UseStands : {X : Type 0} → List ℕ → ℕ → (X → List ℕ) → Option X → ℕ → Type 0
 UseStands b align g None o = o ≡ 0
 UseStands b align g (Some x) o = ItemStands b align o (g x)
@@ -104,7 +104,7 @@ UseStands b align g (Some x) o = ItemStands b align o (g x)
 pub number_offset : (its : List (Option ℕ)) (offs : List ℕ) (k : ℕ) → k < length its → slice_index (uses_offsets its offs) k ≡ option_map_or (slice_index offs) (get_or its k None) 0
 number_offset its offs k lt = get_or-map (λ n. option_map_or (slice_index offs) n 0) its k None 0 lt
 
--- by what the use and its number are
+-- case split on the use and its number
 use_by : {X : Type 0} {b : List ℕ} (p : Placed) (g : X → List ℕ) (xs : List X) → p.items ≡ map g xs → SectionStands b p → (u : Option X) (n : Option ℕ) → IsNumber u n xs
     → UseStands b p.align g u (option_map_or (slice_index (offsets p)) n 0)
 use_by p g xs is s None n h = ap (λ m. option_map_or (slice_index (offsets p)) m 0) h
@@ -114,7 +114,7 @@ use_by {b = b} p g xs is s (Some x) n h =
     subst (λ y. ItemStands b p.align (option_map_or (slice_index (offsets p)) n 0) y) item
     (subst (λ m. ItemStands b p.align (option_map_or (slice_index (offsets p)) m 0) (get_or p.items h.0 (g x))) (sym h.2) (s h.0 (g x) lt))
 
--- each use's item stands at its offset
+-- each use's item is at its offset
 pub use_stands : {X : Type 0} {b : List ℕ} (p : Placed) (g : X → List ℕ) (its : Items X) (uses : List (Option X)) → AreNumbered uses its → p.items ≡ map g its.written → SectionStands b p
     → (k : ℕ) → k < length uses → UseStands b p.align g (get_or uses k None) (slice_index (uses_offsets its.numbers (offsets p)) k)
 use_stands {b = b} p g its uses are is s k lt =
@@ -123,7 +123,7 @@ use_stands {b = b} p g its uses are is s k lt =
 
 -- ---- parts of lists
 
--- the r-th part is what the r-th member has, behind what those before it have
+-- the r-th part is that of the r-th member, after those of the members before
 pub chunk_at : {X Y Z : Type 0} (f : X → List Y) (xs : List X) (zs : List Z) (r : ℕ) (d : X) → r < length xs
     → get_or (chunks (map (λ x. length (f x)) xs) zs) r [] ≡ take (length (f (get_or xs r d))) (drop (length (flat_map f (take r xs))) zs)
 chunk_at f [] zs r d lt = absurd (omega arith)
@@ -148,20 +148,20 @@ part_within f (x ∷ xs) (suc r) d j lt less =
 
 -- ---- the methods of all classes
 
--- the place among all methods of the j-th of class r
+-- the place of the j-th method of class r among all methods
 abbrev pub method_place : Ordered → ℕ → ℕ → ℕ
 method_place K r j = length (all_methods (take r K.classes)) + j
 
--- it is there
+-- the method is at this place
 pub method_at : (K : Ordered) (r : ℕ) (d : Definition) (j : ℕ) (x : MethodDef) → r < length K.classes → j < length (declared_methods (get_or K.classes r d).1)
     → get_or (all_methods K.classes) (method_place K r j) x ≡ get_or (declared_methods (get_or K.classes r d).1) j x
 method_at K r d j x lt less = get_or-flat_map (λ (d : Definition). declared_methods d.1) K.classes r j d x lt less
 
--- and within them
+-- the place is less than the number of methods
 pub method_within : (K : Ordered) (r : ℕ) (d : Definition) (j : ℕ) → r < length K.classes → j < length (declared_methods (get_or K.classes r d).1) → method_place K r j < length (all_methods K.classes)
 method_within K r d j lt less = part_within (λ (d : Definition). declared_methods d.1) K.classes r d j lt less
 
--- what is for all methods, class by class
+-- a list for all methods, split by class
 pub by_class_at : {X : Type 0} (K : Ordered) (xs : List X) (r : ℕ) (d : Definition) (j : ℕ) (e : X) → r < length K.classes → j < length (declared_methods (get_or K.classes r d).1)
     → get_or (get_or (by_class K xs) r []) j e ≡ get_or xs (method_place K r j) e
 by_class_at K xs r d j e lt less = chunk_item (λ (d : Definition). declared_methods d.1) K.classes xs r d j e lt less
@@ -171,13 +171,13 @@ pub length-debug_offsets : (K : Ordered) → length (debug_offsets K) ≡ length
 unfolding debug_offsets
 length-debug_offsets K = length-items_offsets K.sharing same_debug (debug_uses K) (offsets (debug_section K)) ∙ length-map (all_methods K.classes) _
 
--- and one of its code
+-- an offset of code for each method
 pub length-code_offsets : (K : Ordered) → length (code_offsets K) ≡ length (all_methods K.classes)
 unfolding code_offsets
 length-code_offsets K =
     length-uses_offsets (code_uses K (debug_offsets K)) (offsets (code_section K)) ∙ length-zip_with _ (all_methods K.classes) (debug_offsets K) (length (all_methods K.classes)) refl (length-debug_offsets K)
 
--- ---- the uses of a file that is laid out
+-- ---- the uses of a file with this layout
 
 -- the debug program of a method
 abbrev pub debug_of : MethodDef → Option Debug
@@ -276,7 +276,7 @@ module _ {K : Ordered} {b : List ℕ} (h : Laid K b) where
 
 -- ---- annotation sets
 
--- an annotation_set_item stands at the offset, and the annotations of the set at the offsets that it holds
+-- an annotation_set_item is at the offset, and the annotations of the set are at the offsets in it
 pub record SetItems (b : List ℕ) (m : Mentions) (o : ℕ) (x : AnnotationSet) : Type 0 where
   pub offs : List ℕ
   pub set : ItemStands b 4 o (offsets_bytes offs)
@@ -304,7 +304,7 @@ class_set_offsets K r = get_or (set_offsets K) r no_set_offsets
 abbrev class_chunk : Ordered → ℕ → List ℕ
 class_chunk K r = get_or (chunks (map (λ d. length (class_sets d)) K.classes) (set_use_offsets K)) r []
 
--- taken apart
+-- separated
 class_set_offsets_is : (K : Ordered) (r : ℕ) (d : Definition) → r < length K.classes → class_set_offsets K r ≡ set_offsets_of (get_or K.classes r d) (class_chunk K r)
 unfolding set_offsets
 class_set_offsets_is K r d lt =
@@ -313,7 +313,7 @@ class_set_offsets_is K r d lt =
     get_or-zip_with set_offsets_of K.classes parts r d [] no_set_offsets lt (omega (arith, lt, len))
 
 module _ {K : Ordered} {b : List ℕ} (h : Laid K b) where
-  -- the i-th set that is written
+  -- the i-th set of the section
   set_written : (i : ℕ) (x : AnnotationSet) → i < length (set_items K).written → get_or (set_items K).written i x ≡ x → SetItems b K.pools (slice_index (offsets (set_section K)) i) x
   unfolding annotation_offsets
   set_written i x lt is =
@@ -385,7 +385,7 @@ module _ {K : Ordered} {b : List ℕ} (h : Laid K b) where
       (subst (λ o. SetStands b K.pools (get_or fs j f).annotations o) (sym off)
       (subst (λ x. SetStands b K.pools x (slice_index (class_chunk K r) (suc j))) set (class_set r d (suc j) lt (omega (arith, length-append (map g fs) rest, len, less)))))
 
-  -- the i-th set of its j-th method: its own, and then those of its parameters
+  -- the i-th set of its j-th method: its own, then those of its parameters
   pub method_set_stands : (r : ℕ) (d : Definition) (j : ℕ) (x : MethodDef) (i : ℕ) → r < length K.classes → j < length (declared_methods (get_or K.classes r d).1)
       → i < length (method_sets (get_or (declared_methods (get_or K.classes r d).1) j x))
       → SetStands b K.pools (get_or (method_sets (get_or (declared_methods (get_or K.classes r d).1) j x)) i []) (slice_index (get_or (class_set_offsets K r).methods j []) i)
@@ -410,7 +410,7 @@ module _ {K : Ordered} {b : List ℕ} (h : Laid K b) where
 
 -- ---- ref lists and directories
 
--- as many for each, so as many before each
+-- equal counts for each member give equal counts before each
 zip_starts : {X Y Z W V : Type 0} (f : X → List Y) (g : Z → List W) (put : X → V → Z) → ((x : X) (v : V) → length (g (put x v)) ≡ length (f x)) → (xs : List X) (vs : List V) → length vs ≡ length xs
     → (r : ℕ) → length (flat_map g (take r (zip_with put xs vs))) ≡ length (flat_map f (take r xs))
 zip_starts f g put each [] vs e zero = refl
@@ -425,14 +425,14 @@ zip_starts f g put each (x ∷ xs) (v ∷ vs) e (suc r) =
 abbrev ref_uses_of : SetOffsets → List (Option (List ℕ))
 ref_uses_of s = map (λ offs. unless_empty (drop 1 offs)) s.methods
 
--- for each method
+-- one for each method
 length-ref_uses_of : (d : Definition) (offs : List ℕ) → length (ref_uses_of (set_offsets_of d offs)) ≡ length (declared_methods d.1)
 length-ref_uses_of d offs =
     let xs = declared_methods d.1 in
     let parts = chunks (map (λ x. length (method_sets x)) xs) (drop (1 + length (declared_fields d.1)) offs) in
     length-map parts (λ offs. unless_empty (drop 1 offs)) ∙ length-chunks (map (λ x. length (method_sets x)) xs) (drop (1 + length (declared_fields d.1)) offs) ∙ length-map xs (λ x. length (method_sets x))
 
--- a method's place is that of its ref list
+-- a method's place is the place of its ref list
 ref_place : (K : Ordered) (r : ℕ) → length (flat_map ref_uses_of (take r (set_offsets K))) ≡ length (all_methods (take r K.classes))
 unfolding set_offsets
 ref_place K r =
@@ -480,9 +480,9 @@ module _ {K : Ordered} {b : List ℕ} (h : Laid K b) where
       subst (λ u. UseStands b 4 g u (slice_index (directory_offsets K) r)) one
       (use_stands (directory_section K) g (own_items uses) uses (own_numbered uses) (sym (map-id (own_items uses).written)) h.directories r (omega (arith, lt, len)))
 
--- ---- how many there are
+-- ---- counts
 
--- the r-th part is as long as what the r-th member has
+-- the r-th part is as long as the list of the r-th member
 pub length_chunk : {X Y Z : Type 0} (f : X → List Y) (xs : List X) (zs : List Z) (r : ℕ) (d : X) → r < length xs → length zs ≡ length (flat_map f xs)
     → length (get_or (chunks (map (λ x. length (f x)) xs) zs) r []) ≡ length (f (get_or xs r d))
 length_chunk f xs zs r d lt all =
@@ -490,7 +490,7 @@ length_chunk f xs zs r d lt all =
     let len : length (get_or (chunks (map (λ x. length (f x)) xs) zs) r []) ≡ length (take (length (f (get_or xs r d))) (drop n zs)) = ap (λ l. length l) (chunk_at f xs zs r d lt) in
     omega (arith, len, length-take (length (f (get_or xs r d))) (drop n zs), length-drop n zs, all, length-flat_map-take f xs r d lt)
 
--- of what is for all methods a class has as many as methods
+-- of a list for all methods, a class has as many as it has methods
 pub length-class_part : {X : Type 0} (K : Ordered) (xs : List X) (r : ℕ) (d : Definition) → r < length K.classes → length xs ≡ length (all_methods K.classes)
     → length (get_or (by_class K xs) r []) ≡ length (declared_methods (get_or K.classes r d).1)
 length-class_part K xs r d lt all = length_chunk (λ (d : Definition). declared_methods d.1) K.classes xs r d lt all
@@ -505,7 +505,7 @@ length-ref_list_offsets K =
     length-uses_offsets (ref_list_uses K sets) (offsets (ref_list_section K)) ∙ ap (λ l. length (flat_map ref_uses_of l)) (sym every) ∙ ref_place K (length K.classes)
     ∙ ap (λ l. length (all_methods l)) classes
 
--- as many offsets of sets as sets
+-- there are as many offsets of sets as sets
 length-set_use_offsets : (K : Ordered) → length (set_use_offsets K) ≡ length (flat_map class_sets K.classes)
 length-set_use_offsets K =
     length-items_offsets K.sharing same_set (set_uses K) (offsets (set_section K))
@@ -531,7 +531,7 @@ length-method_set_offsets K r d lt =
     let rest = drop (1 + length (declared_fields (get_or K.classes r d).1)) (class_chunk K r) in
     ap (λ (s : SetOffsets). length s.methods) (class_set_offsets_is K r d lt) ∙ length-chunks (map (λ x. length (method_sets x)) xs) rest ∙ length-map xs (λ x. length (method_sets x))
 
--- of as many offsets as the method has sets
+-- each list has as many offsets as the method has sets
 pub length-one_method_set_offsets : (K : Ordered) (r : ℕ) (d : Definition) (j : ℕ) (x : MethodDef) → r < length K.classes → j < length (declared_methods (get_or K.classes r d).1)
     → length (get_or (class_set_offsets K r).methods j []) ≡ length (method_sets (get_or (declared_methods (get_or K.classes r d).1) j x))
 length-one_method_set_offsets K r d j x lt less =

@@ -1,4 +1,4 @@
--- Values and annotations stand where their canonical bytes were written, with each symbol in the row of its index.
+-- Values and annotations are at the offset of their canonical bytes, if each symbol is in the row of its index.
 use Rattle.std.proofs.Common.{◌≡◌, ℕ, ◌+◌, ◌-◌, ◌*◌, ◌/◌, ◌^◌, ◌<◌, ◌≤◌, List, [], ◌++◌, length, refl, subst, arith}
 use Rattle.std.specs.Prelude.{ℤ, pos, negsuc, true, false, FitsSigned, IsTrue}
 use Rattle.std.specs.Int.{w8, w16, w32, w64}
@@ -20,7 +20,7 @@ use Rattle.dexspec.proofs.ByteNumbers.{length-bytes_of}
 use Rattle.dexspec.proofs.Widths.{unsigned_at, signed_at, bits_at}
 use Rattle.dexspec.proofs.NumbersWritten.{front_stands, back_stands, head_stands, tail_stands, uleb128_written, AreInRows, first_in_row, rest_in_rows, front_in_rows, back_in_rows}
 
--- ---- numbers with a sign fit their widths
+-- ---- signed numbers fit their widths
 
 room_8 : (z : ℤ) → FitsSigned w8 z → 2 * magnitude z < 256 ^ 1
 room_8 (pos n) fits = omega (arith, ints)
@@ -40,7 +40,7 @@ room_64 (negsuc n) fits = omega (arith, ints)
 
 -- ---- scalars
 
--- a signed number, in as many bytes as were written
+-- a signed number, in the number of bytes that were written
 signed_written : (code width : ℕ) (b : List ℕ) (o : ℕ) (z : ℤ) → 1 ≤ width → width ≤ 8 → 2 * magnitude z < 256 ^ width → Stands b o (signed_bytes code z) → SignedAt code width b o z (length (signed_bytes code z))
 signed_written code width b o z some few lt h =
     let len : 1 + signed_width z ≡ length (signed_bytes code z) = omega (arith, length-bytes_of (signed_width z) (complement (signed_width z) z)) in
@@ -64,7 +64,7 @@ index_written Row code b o i x row h = (i, unsigned_written code 4 b o i (omega 
 
 -- ---- values
 
--- a count, and values behind it
+-- a count, and values after it
 array_around : (b : List ℕ) (o count : ℕ) (bytes : List ℕ) (From : ℕ → ℕ → Type 0) → count < 2 ^ 32 → ((p : ℕ) → Stands b p bytes → From p (length bytes)) → Stands b o (uleb128 count ++ bytes)
     → ArrayAround From count b o (length (uleb128 count ++ bytes))
 array_around b o count bytes From lt rest h = (
@@ -75,7 +75,7 @@ array_around b o count bytes From lt rest h = (
   length-append (uleb128 count) bytes,
 )
 
--- a type, a count, and elements behind it
+-- a type, a count, and elements after it
 annotation_around : (b : List ℕ) (o index : ℕ) (t : Text) (names : List Text) (bytes : List ℕ) (From : ℕ → ℕ → Type 0) → TypeRow b index t × (index + 1 < 2 ^ 32) → length names < 2 ^ 32 → IsTrue (rises text_cmp names)
     → ((p : ℕ) → Stands b p bytes → From p (length bytes)) → Stands b o (uleb128 index ++ (uleb128 (length names) ++ bytes)) → AnnotationAround From t names b o (length (uleb128 index ++ (uleb128 (length names) ++ bytes)))
 annotation_around b o index t names bytes From row lt rise rest h =
@@ -96,7 +96,7 @@ annotation_around b o index t names bytes From row lt rise rest h =
 
 module _ (b : List ℕ) (m : Mentions) where
   mutual
-    -- a value stands where its bytes do
+    -- a value is at the offset of its bytes
     pub value_written : (o : ℕ) (v : Value) → IsValue v → AreInRows b m (value_symbols v) → Stands b o (value_bytes m v) → ValueAt b o v (length (value_bytes m v))
     value_written o (ByteValue z) is are h = signed_written byte_value_type 1 b o z (omega arith) (omega arith) (room_8 z is) h
     value_written o (ShortValue z) is are h = signed_written short_value_type 2 b o z (omega arith) (omega arith) (room_16 z is) h
@@ -129,7 +129,7 @@ module _ (b : List ℕ) (m : Mentions) where
     value_written o (BooleanValue false) is are h = (h, refl)
     value_written o (BooleanValue true) is are h = (h, refl)
 
-    -- values one after the other do
+    -- values in sequence are at the offset of their bytes
     pub values_written : (o : ℕ) (vs : Values) → AreValues vs → AreInRows b m (values_symbols vs) → Stands b o (values_bytes m vs) → ValuesAt b o vs (length (values_bytes m vs))
     values_written o NoValues is are h = refl
     values_written o (ThenValue v vs) is are h =
@@ -142,7 +142,7 @@ module _ (b : List ℕ) (m : Mentions) where
           length-append x y,
         )
 
-    -- and so do elements
+    -- elements are at the offset of their bytes
     pub elements_written : (o : ℕ) (es : Elements) → AreElements es → AreInRows b m (elements_symbols es) → Stands b o (elements_bytes m es) → ElementsAt b o es (length (elements_bytes m es))
     elements_written o NoElements is are h = refl
     elements_written o (ThenElement name v es) is are h =
@@ -163,11 +163,11 @@ module _ (b : List ℕ) (m : Mentions) where
           omega (arith, length-append i (x ++ y), length-append x y),
         )
 
-  -- an array stands where its bytes do
+  -- an array is at the offset of its bytes
   pub array_written : (o : ℕ) (vs : Values) → AreValues vs → count_values vs < 2 ^ 32 → AreInRows b m (values_symbols vs) → Stands b o (encoded_array_bytes m vs) → EncodedArrayAt b o vs (length (encoded_array_bytes m vs))
   array_written o vs is count are h = array_around b o (count_values vs) (values_bytes m vs) (λ p k. ValuesAt b p vs k) count (λ p s. values_written p vs is are s) h
 
-  -- and so does an annotation, in the data
+  -- an annotation is at the offset of its bytes, in the data
   pub annotation_written : (o : ℕ) (a : Annotation) → IsAnnotation a → AreInRows b m (annotation_symbols a) → data_off b ≤ o → Stands b o (annotation_bytes m a) → AnnotationAt b o a
   annotation_written o a is are behind h =
       let bytes = uleb128 (type_index m a.type) ++ (uleb128 (length (names_of a.elements)) ++ elements_bytes m a.elements) in

@@ -1,4 +1,4 @@
--- The weight does not shrink as definitions grow.
+-- The weight does not decrease as definitions are added.
 use Rattle.std.proofs.Common.{◌≡◌, ◌≤◌, List, arith}
 use Rattle.dexspec.specs.Lists.{AreDistinct}
 use Rattle.dexspec.specs.Texts.{text_cmp}
@@ -28,6 +28,6 @@ weight-within D E d h =
     let bodies = sum_by-among (λ (e : Definition). body_weight e.1) D E d h in
     omega (arith, mentioned, bodies)
 
--- definitions of which no two are the same weigh what any other list of them does
+-- two lists without repeats that have the same members weigh the same
 pub weight-same : (D E : List Definition) → AreDistinct D → AreDistinct E → AreWithin D E → AreWithin E D → weight D ≡ weight E
 weight-same D E d e f g = omega (arith, weight-within D E d f, weight-within E D e g)

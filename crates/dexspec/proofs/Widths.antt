@@ -1,4 +1,4 @@
--- The widths of numbers in values: the fewest bytes that hold them.
+-- The widths of numbers in values: the minimum number of bytes.
 use Rattle.std.proofs.Common.{◌≡◌, All, ℕ, zero, suc, ◌+◌, ◌-◌, ◌*◌, ◌/◌, ◌%◌, ◌^◌, ◌<◌, ◌≤◌, ◌⊎◌, List, [], ◌∷◌, length, refl, ap, sym, ◌∙◌, arith, inl, inr}
 use Rattle.std.specs.Prelude.{ℤ, Bool, true, false, cond, Some, unwrap_or, nat_lt, ◌==◌}
 use Rattle.std.specs.List.{find}
@@ -13,18 +13,18 @@ use Rattle.dexspec.proofs.ByteNumbers.{pow_256_pos, length-bytes_of, number_of-b
 
 -- ---- the first of some numbers that passes a test
 
--- so many numbers in a row
+-- consecutive numbers
 abbrev up : ℕ → ℕ → List ℕ
 up from zero = []
 up from (suc n) = from ∷ up (suc from) n
 
--- the number passes, none before it does, and it is of the row, or the default
+-- the number passes, none before it does, and it is in the range, or it is the default
 record First (test : ℕ → Bool) (from count default r : ℕ) : Type 0 where
   holds : test r ≡ true
   before : (m : ℕ) → from ≤ m → m < from + count → m < r → test m ≡ false
   range : (from ≤ r) ⊎ (r ≡ default)
 
--- by the test of the first number of the row
+-- case split on the test of the first number of the range
 first_by : (test : ℕ → Bool) (k n d : ℕ) (t : Bool) → test k ≡ t → First test (suc k) n d (unwrap_or (find test (up (suc k) n)) d)
     → First test k (suc n) d (unwrap_or (cond t (Some k) (find test (up (suc k) n))) d)
 first_by test k n d true e rest = record { holds = e; before = λ m ge lt less. absurd (omega arith); range = inl (omega arith) }
@@ -34,12 +34,12 @@ first_by test k n d false e rest = record {
   range = elim rest.range [ inl h ↦ inl (omega arith) | inr h ↦ inr h ];
 }
 
--- what is found in a row is the first that passes
+-- the number that is found in a range is the first that passes
 first : (test : ℕ → Bool) (d : ℕ) → test d ≡ true → (k n : ℕ) → First test k n d (unwrap_or (find test (up k n)) d)
 first test d top k zero = record { holds = top; before = λ m ge lt less. absurd (omega arith); range = inr refl }
 first test d top k (suc n) = first_by test k n d (test k) refl (first test d top (suc k) n)
 
--- a width from one to the greatest, which passes, as none less does
+-- a width from one to the greatest that passes, while no lesser one does
 record IsWidth (test : ℕ → Bool) (most r : ℕ) : Type 0 where
   some : 1 ≤ r
   few : r ≤ most
@@ -63,13 +63,13 @@ width_is test most one eight top r h =
 
 -- ---- unsigned numbers
 
--- the least number of bytes that hold v
+-- the minimum number of bytes for v
 pub record IsUnsignedWidth (v n : ℕ) : Type 0 where
   pub some : 1 ≤ n
   pub holds : v < 256 ^ n
   pub least : (m : ℕ) → 1 ≤ m → v < 256 ^ m → n ≤ m
 
--- by the test of a width
+-- case split on the test of a width
 unsigned_by : (v n : ℕ) → IsWidth (λ n. nat_lt v (256 ^ n)) 8 n → IsUnsignedWidth v n
 unsigned_by v n h = record { some = h.some; holds = ltb-true v (256 ^ n) h.holds; least = λ m ge lt. h.least m ge (lt-ltb v (256 ^ m) lt) }
 
@@ -79,20 +79,20 @@ unsigned_width_is v lt =
     let test = λ (n : ℕ). nat_lt v (256 ^ n) in
     unsigned_by v (unsigned_width v) (width_is test 8 (omega arith) (omega arith) (lt-ltb v (256 ^ 8) lt) (unsigned_width v) (first test 8 (lt-ltb v (256 ^ 8) lt) 1 8))
 
--- the width of a number with a sign
+-- the width of a signed number
 pub signed_width_is : (z : ℤ) → 2 * magnitude z < 256 ^ 8 → IsUnsignedWidth (2 * magnitude z) (signed_width z)
 signed_width_is z lt = unsigned_width_is (2 * magnitude z) lt
 
 -- ---- bit patterns
 
--- the least number of bytes that hold the bit pattern v, zeros at its low end left out
+-- the minimum number of bytes for the bit pattern v without the zeros at its low end
 pub record IsBitsWidth (width v n : ℕ) : Type 0 where
   pub some : 1 ≤ n
   pub few : n ≤ width
   pub holds : v % 256 ^ (width - n) ≡ 0
   pub least : (m : ℕ) → 1 ≤ m → v % 256 ^ (width - m) ≡ 0 → n ≤ m
 
--- by the test of a width
+-- case split on the test of a width
 bits_by : (width v n : ℕ) → IsWidth (λ n. v % 256 ^ (width - n) == 0) width n → IsBitsWidth width v n
 bits_by width v n h = record {
   some = h.some;
@@ -110,17 +110,17 @@ bits_width_is width v some few =
     let top = eq-eqb (v % 256 ^ (width - width)) 0 all in
     bits_by width v (bits_width width v) (width_is test width some few top (bits_width width v) (first test width top 1 8))
 
--- ---- what the bytes are read as
+-- ---- the number that is read from the bytes
 
 -- an unsigned number
 pub unsigned_back : (v : ℕ) → v < 256 ^ 8 → number_of (bytes_of (unsigned_width v) v) ≡ v
 unsigned_back v lt = number_of-bytes_of (unsigned_width v) v (unsigned_width_is v lt).holds
 
--- a number with a sign
+-- a signed number
 pub signed_back : (z : ℤ) → 2 * magnitude z < 256 ^ 8 → signed_in (signed_width z) (number_of (bytes_of (signed_width z) (complement (signed_width z) z))) ≡ z
 signed_back z lt = let is = signed_width_is z lt in signed_in-bytes_of (signed_width z) z is.some is.holds
 
--- a bit pattern, in a width that holds it
+-- a bit pattern, in a width that fits it
 bits_by_width : (width v n : ℕ) → v < 256 ^ width → IsBitsWidth width v n → 256 ^ (width - n) * number_of (bytes_of n (v / 256 ^ (width - n))) ≡ v
 bits_by_width width v n lt is =
     let few = is.few in
@@ -134,13 +134,13 @@ bits_by_width width v n lt is =
 pub bits_back : (width v : ℕ) → 1 ≤ width → width ≤ 8 → v < 256 ^ width → 256 ^ (width - bits_width width v) * number_of (bytes_of (bits_width width v) (v / 256 ^ (width - bits_width width v))) ≡ v
 bits_back width v some few lt = bits_by_width width v (bits_width width v) lt (bits_width_is width v some few)
 
--- ---- and no fewer bytes are
+-- ---- no fewer bytes encode the number
 
 -- for an unsigned number
 pub unsigned_least : (v : ℕ) → v < 256 ^ 8 → (bytes : List ℕ) → All (λ x. x < 256) bytes → 0 < length bytes → number_of bytes ≡ v → unsigned_width v ≤ length bytes
 unsigned_least v lt bytes are some is = (unsigned_width_is v lt).least (length bytes) some (omega (arith, number_bound bytes are))
 
--- for a number with a sign
+-- for a signed number
 pub signed_least : (z : ℤ) → 2 * magnitude z < 256 ^ 8 → (bytes : List ℕ) → All (λ x. x < 256) bytes → 0 < length bytes → signed_in (length bytes) (number_of bytes) ≡ z → signed_width z ≤ length bytes
 signed_least z lt bytes are some is = (signed_width_is z lt).least (length bytes) some (signed_in_room bytes z are some is)
 
@@ -149,15 +149,15 @@ pub bits_least : (width v : ℕ) → 1 ≤ width → width ≤ 8 → (bytes : Li
 bits_least width v one few bytes some is =
     (bits_width_is width v one few).least (length bytes) some (ap (λ (x : ℕ). x % 256 ^ (width - length bytes)) (sym is) ∙ mul-mod_right (256 ^ (width - length bytes)) (number_of bytes))
 
--- ---- what was written stands as the number
+-- ---- written bytes are read as the number
 
--- w bytes behind a first byte that counts them
+-- w bytes after a first byte that counts them
 sized : (code width w : ℕ) (b : List ℕ) (o x : ℕ) → 1 ≤ w → w ≤ width → Stands b o (value_byte (w - 1) code ∷ bytes_of w x) → SizedAt code width b o (bytes_of w x) (1 + w)
 sized code width w b o x some few h =
     let len = length-bytes_of w x in
     record { some = omega (arith, len); few = omega (arith, len); stands = rw len h; size = omega (arith, len) }
 
--- what a width of 8 or less holds, 8 bytes hold
+-- a number that fits a width of at most 8 fits 8 bytes
 wide : (width x : ℕ) → width ≤ 8 → x < 256 ^ width → x < 256 ^ 8
 wide width x few lt = let grows : 256 ^ width ≤ 256 ^ 8 = pow-le-pow_right (omega arith) few in omega arith
 
@@ -169,7 +169,7 @@ unsigned_by_width code width b o v w one lt is h = (bytes_of w v, sized code wid
 pub unsigned_at : (code width : ℕ) (b : List ℕ) (o v : ℕ) → 1 ≤ width → width ≤ 8 → v < 256 ^ width → Stands b o (unsigned_bytes code v) → UnsignedAt code width b o v (1 + unsigned_width v)
 unsigned_at code width b o v one few lt h = unsigned_by_width code width b o v (unsigned_width v) one lt (unsigned_width_is v (wide width v few lt)) h
 
--- a number with a sign, in its least width
+-- a signed number, in its least width
 signed_by_width : (code width : ℕ) (b : List ℕ) (o : ℕ) (z : ℤ) (w : ℕ) → 1 ≤ width → 2 * magnitude z < 256 ^ width → IsUnsignedWidth (2 * magnitude z) w
     → Stands b o (value_byte (w - 1) code ∷ bytes_of w (complement w z)) → SignedAt code width b o z (1 + w)
 signed_by_width code width b o z w one lt is h = (
@@ -178,7 +178,7 @@ signed_by_width code width b o z w one lt is h = (
   sym (ap (λ (n : ℕ). signed_in n (number_of (bytes_of w (complement w z)))) (length-bytes_of w (complement w z)) ∙ signed_in-bytes_of w z is.some is.holds),
 )
 
--- a number with a sign
+-- a signed number
 pub signed_at : (code width : ℕ) (b : List ℕ) (o : ℕ) (z : ℤ) → 1 ≤ width → width ≤ 8 → 2 * magnitude z < 256 ^ width → Stands b o (signed_bytes code z) → SignedAt code width b o z (1 + signed_width z)
 signed_at code width b o z one few lt h = signed_by_width code width b o z (signed_width z) one lt (signed_width_is z (wide width (2 * magnitude z) few lt)) h
 

@@ -1,7 +1,6 @@
--- What is accepted: the conditions 16 to 23 at a class row, all 23 as one predicate on bytes and row, and
--- what a refusal says.
--- Source: the constraints that "Dalvik Executable format" states with each item; which refusal is told, and its place,
--- is this project's rule.
+-- What is accepted: the conditions 16 to 23 at a class row, all 23 as one predicate on bytes and row, and what a
+-- refusal says. Source: the constraints that "Dalvik Executable format" states with each item; which refusal is
+-- reported, and its place, is this project's rule.
 use Rattle.std.specs.Prelude.{◌≡◌, ◌≢◌, ◌⊎◌, ℕ, ◌+◌, ◌<◌, ◌≤◌, ◌==◌, if◌then◌else◌, List, [], ◌∷◌, ◌++◌, length, map, All, Option}
 use Rattle.std.specs.List.{Contains, AllZip, range_with_len}
 use Rattle.dexspec.specs.Lists.{OrNone}
@@ -27,7 +26,7 @@ abbrev pub parent_indices : List ℕ → ℕ → List ℕ
 parent_indices b r = (if superclass_idx b r == no_index then [] else superclass_idx b r ∷ [])
     ++ (if interfaces_off b r == 0 then [] else type_indices b (interfaces_off b r))
 
--- if a class row of the file is of this type, one before row r is
+-- if the file has a class row of this type, it has one before row r
 abbrev pub IsDefinedBefore : List ℕ → ℕ → ℕ → Type 0
 IsDefinedBefore b r index = (k : ℕ) → k < table_size b ClassDefs → class_idx b k ≡ index → (j : ℕ) × (j < r) × (class_idx b j ≡ index)
 
@@ -54,19 +53,19 @@ pub record Declares (b : List ℕ) (r : ℕ) (d : ClassData) : Type 0 where
 abbrev pub HasMembers : List ℕ → ℕ → Type 0
 HasMembers b r = (d : ClassData) × Declares b r d
 
--- P holds at the offset of each code_item of the class, where condition 17 holds
+-- P holds at the offset of each code_item of the class, if condition 17 holds
 abbrev pub AllCode : (List ℕ → ℕ → Type 0) → List ℕ → ℕ → Type 0
 AllCode P b r = (d : ClassData) → Declares b r d → All (λ m. m.code_off ≢ 0 → P b m.code_off) (methods_of d)
 
--- fixed part and units of a code_item stand there
+-- the fixed part and the units of a code_item are at the offset
 abbrev pub HasPiecesAt : List ℕ → ℕ → Type 0
 HasPiecesAt b o = (cuts : List Cut) × (ps : List Piece) × PiecesAt b o cuts ps
 
--- where they do, so do its tries
+-- if they are, so are its tries
 abbrev pub HasTriesAt : List ℕ → ℕ → Type 0
 HasTriesAt b o = (cuts : List Cut) (ps : List Piece) → PiecesAt b o cuts ps → (tries : List Try) × TriesAt b o cuts tries
 
--- where they do, so does its debug program, if it has one
+-- if they are, so is its debug program, if it has one
 abbrev pub HasDebugAt : List ℕ → ℕ → Type 0
 HasDebugAt b o = (cuts : List Cut) (ps : List Piece) → PiecesAt b o cuts ps → uint_at b (o + 8) ≢ 0 → (d : Debug) × DebugAt b (uint_at b (o + 8)) d
 
@@ -98,7 +97,7 @@ pub record NamesDeclared (annotated : Directory) (d : ClassData) : Type 0 where
 abbrev pub HasAnnotations : List ℕ → ℕ → Type 0
 HasAnnotations b r = (d : ClassData) → Declares b r d → (a : Directory) × OrNone DirectoryAt no_directory b (annotations_off b r) a × NamesDeclared a d
 
--- all that is to be read of a row is there
+-- all that a row refers to can be read
 pub record IsReadable (b : List ℕ) (r : ℕ) : Type 0 where
   pub members : HasMembers b r
   pub code : HasCode b r
@@ -111,13 +110,13 @@ pub record IsReadable (b : List ℕ) (r : ℕ) : Type 0 where
 abbrev pub AreRows : List ℕ → ℕ → List Definition → Type 0
 AreRows b n D = AllZip (λ r d. ClassRow b r d.0 d.1) (range_with_len 0 n) D
 
--- 23 Weight: where rows 0 to r are readable, they do not weigh too much together (this project's rule)
+-- 23 Weight: if rows 0 to r are readable, they do not weigh too much together (this project's rule)
 abbrev pub HasWeight : List ℕ → ℕ → Type 0
 HasWeight b r = (D : List Definition) → ((k : ℕ) → k ≤ r → IsReadable b k) → AreRows b (r + 1) D → weight D ≤ most_weight
 
 -- ---- all of them
 
--- the number of rows at which a condition is judged
+-- the number of rows at which a condition is checked
 abbrev pub rows_judged : Condition → List ℕ → ℕ
 rows_judged Condition.Strings b = table_size b StringIds
 rows_judged Condition.Types b = table_size b TypeIds
@@ -178,7 +177,7 @@ IsAccepted b = (c : Condition) → HoldsThroughout c b
 
 -- ---- refusals
 
--- those before it hold, and the condition fails first at this row
+-- the conditions before it hold, and the condition fails first at this row
 pub record FailsFirst (c : Condition) (b : List ℕ) (r : ℕ) : Type 0 where
   pub before : HoldBelow (number c) b
   pub row : r < rows_judged c b
@@ -192,12 +191,13 @@ pub record FailsAt (c : Condition) (b : List ℕ) (r : ℕ) : Type 0 where
   pub row : r < rows_judged c b
   pub fails : Holds c b r → ⊥
 
--- the place that is told for row r: the version for a wrong one, 0 for a whole file, and else the row
+-- the place that is reported for row r: the version if it is wrong, 0 for a condition on the whole file, and otherwise
+-- the row
 abbrev pub place : Condition → List ℕ → ℕ → ℕ
 place Condition.Version b r = version b
 place c b r = r
 
--- the file is refused with this number and place: of conditions 1 to 16 the first that fails, at its least
--- row, and where all of these hold any other at a row where it fails
+-- the file is refused with this number and place: the first of conditions 1 to 16 that fails, at its least row; if all
+-- of these hold, any other condition at a row where it fails
 abbrev pub IsRefused : List ℕ → ℕ → ℕ → Type 0
 IsRefused b n p = (c : Condition) × (r : ℕ) × (n ≡ number c) × (p ≡ place c b r) × (((n ≤ 16) × FailsFirst c b r) ⊎ FailsAt c b r)

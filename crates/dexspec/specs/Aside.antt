@@ -1,5 +1,5 @@
--- What says nothing of the format or the product: words of the contracts of calls and of the statements of laws, and
--- the codes by which the logic stores values.
+-- Definitions that say nothing of the format or the product: terms of the contracts of calls and of the statements of
+-- laws, and the codes by which the logic stores values.
 pub mod Writing
 pub mod IndexPlaces
 pub mod OwnDirectories

@@ -1,8 +1,8 @@
--- Numbers of fixed size, what stands at a place of a list of bytes, and alignment.
--- Source: "Dalvik Executable format", "Overall file layout" (all numbers are little-endian).
+-- Numbers of fixed size, the bytes at an offset, and alignment. Source: "Dalvik Executable format",
+-- "Overall file layout" (all numbers are little-endian).
 use Rattle.std.specs.Prelude.{◌≡◌, ℕ, zero, suc, ℤ, pos, ◌-ℤ◌, ◌+◌, ◌-◌, ◌*◌, ◌/◌, ◌%◌, ◌^◌, List, [], ◌∷◌, length, take, drop, nat_lt, if◌then◌else◌, replicate}
 
--- the number that bytes spell, the lowest first
+-- the number that bytes encode, the lowest first
 unfoldable pub number_of : List ℕ → ℕ
 number_of [] = 0
 number_of (b ∷ bs) = b + 256 * number_of bs
@@ -12,7 +12,7 @@ unfoldable pub bytes_of : ℕ → ℕ → List ℕ
 bytes_of zero v = []
 bytes_of (suc n) v = (v % 256) ∷ bytes_of n (v / 256)
 
--- a number of n bytes read as two's complement: from the half of 256 ^ n on it is negative
+-- a number of n bytes in two's complement: from half of 256 ^ n on it is negative
 abbrev pub signed_in : ℕ → ℕ → ℤ
 signed_in n v = if nat_lt (2 * v) (2 ^ (8 * n)) then pos v else pos v -ℤ pos (2 ^ (8 * n))
 
@@ -24,11 +24,11 @@ ushort n = bytes_of 2 n
 unfoldable pub uint : ℕ → List ℕ
 uint n = bytes_of 4 n
 
--- the number that the two bytes from o on spell
+-- the number that the two bytes from o on encode
 unfoldable pub ushort_at : List ℕ → ℕ → ℕ
 ushort_at b o = number_of (take 2 (drop o b))
 
--- the number that the four bytes from o on spell
+-- the number that the four bytes from o on encode
 unfoldable pub uint_at : List ℕ → ℕ → ℕ
 uint_at b o = number_of (take 4 (drop o b))
 
@@ -42,14 +42,14 @@ abbrev pub uints_at : List ℕ → ℕ → ℕ → List ℕ
 uints_at b o zero = []
 uints_at b o (suc n) = uint_at b o ∷ uints_at b (o + 4) n
 
--- at offset o of b stand the bytes x
+-- the bytes x are at offset o of b
 pub record Stands (b : List ℕ) (o : ℕ) (x : List ℕ) : Type 0 where
   pub here : take (length x) (drop o b) ≡ x
 
--- the least multiple of the alignment that is not less
+-- the least multiple of the alignment that is not less than the offset
 abbrev pub round_up : ℕ → ℕ → ℕ
 round_up align at = at + (align - at % align) % align
 
--- the zero bytes up to there
+-- the zero bytes up to that multiple
 abbrev pub padding : ℕ → ℕ → List ℕ
 padding align at = replicate ((align - at % align) % align) 0

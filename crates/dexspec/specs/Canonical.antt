@@ -1,6 +1,5 @@
--- The canonical file of a collection.
--- Source: "Dalvik Executable format", "Overall file layout", "header_item", "map_list" and the items of the
--- tables. The order of the sections and of what stands in them is this project's rule.
+-- The canonical file of a collection. Source: "Dalvik Executable format", "Overall file layout", "header_item",
+-- "map_list" and the items of the tables. The order of the sections and of their items is this project's rule.
 use Rattle.std.specs.Prelude.{ℕ, ◌+◌, ◌-◌, ◌*◌, ◌==◌, if◌then◌else◌, List, [], ◌∷◌, ◌++◌, length, map, take, drop, slice_index}
 use Rattle.std.specs.List.{flat_map, concat, zip}
 use Rattle.std.specs.Option.{option_map_or}
@@ -33,7 +32,7 @@ table_count K FieldIds = length K.pools.fields
 table_count K MethodIds = length K.pools.methods
 table_count K ClassDefs = length K.classes
 
--- the tables with their sizes and offsets, each behind the one before it; an empty one has offset 0
+-- the tables with their sizes and offsets, each after the one before it; an empty table has offset 0
 abbrev pub tables_from : Ordered → ℕ → List Table → List (Table × ℕ × ℕ)
 tables_from K from [] = []
 tables_from K from (t ∷ ts) = (t, table_count K t, if table_count K t == 0 then 0 else from) ∷ tables_from K (from + row_size t * table_count K t) ts
@@ -58,7 +57,7 @@ field_row_bytes m f = ushort (type_index m f.class) ++ (ushort (type_index m f.t
 abbrev pub method_row_bytes : Mentions → Method → List ℕ
 method_row_bytes m x = ushort (type_index m x.class) ++ (ushort (proto_index m x.proto) ++ uint (text_index m x.name))
 
--- the offsets that a class row holds
+-- the offsets in a class row
 pub record ClassOffsets : Type 0 where
   pub interfaces : ℕ
   pub annotations : ℕ
@@ -76,9 +75,9 @@ abbrev pub class_offsets : List ℕ → List ℕ → List ℕ → List ℕ → L
 class_offsets interfaces annotations class_data static_values =
     zip_with (λ p q. record { interfaces = p.0; annotations = p.1; class_data = q.0; static_values = q.1 }) (zip interfaces annotations) (zip class_data static_values)
 
--- ---- the sections of the data, each behind the one before it: what stands in one holds offsets of what stands in those before
+-- ---- the sections of the data, each after the one before it: items hold offsets of items of earlier sections
 
--- the type lists that are written
+-- the distinct type lists
 abbrev pub type_list_items : Ordered → Items (List Text)
 type_list_items K = items_by K.sharing same_types (type_list_uses K)
 
@@ -86,15 +85,15 @@ type_list_items K = items_by K.sharing same_types (type_list_uses K)
 abbrev pub type_list_section : Ordered → Placed
 type_list_section K = record { kind = TypeLists; align = 4; from = data_start K; items = map (type_list_bytes K.pools) (type_list_items K).written }
 
--- where it ends
+-- the end of the type list section
 unfoldable pub type_list_end : Ordered → ℕ
 type_list_end K = end (type_list_section K)
 
--- for each proto, and then for each class, the offset of its type list
+-- the offsets of the type lists: of each proto, then of each class
 unfoldable pub type_list_offsets : Ordered → List ℕ
 type_list_offsets K = uses_offsets (type_list_items K).numbers (offsets (type_list_section K))
 
--- the sets that are written
+-- the distinct sets
 abbrev pub set_items : Ordered → Items AnnotationSet
 set_items K = items_by K.sharing same_set (set_uses K)
 
@@ -102,11 +101,11 @@ set_items K = items_by K.sharing same_set (set_uses K)
 abbrev pub annotation_section : Ordered → Placed
 annotation_section K = record { kind = AnnotationItems; align = 1; from = type_list_end K; items = map (annotation_bytes K.pools) (flat_map (λ set. set) (set_items K).written) }
 
--- where they end
+-- the end of the annotations
 unfoldable pub annotation_end : Ordered → ℕ
 annotation_end K = end (annotation_section K)
 
--- their offsets, set by set
+-- the offsets of the annotations, set by set
 unfoldable pub annotation_offsets : Ordered → List (List ℕ)
 annotation_offsets K = chunks (map (λ set. length set) (set_items K).written) (offsets (annotation_section K))
 
@@ -114,7 +113,7 @@ annotation_offsets K = chunks (map (λ set. length set) (set_items K).written) (
 abbrev pub array_section : Ordered → Placed
 array_section K = record { kind = EncodedArrayItems; align = 1; from = annotation_end K; items = map (encoded_array_bytes K.pools) (own_items (static_values_uses K)).written }
 
--- where they end
+-- the end of the arrays
 unfoldable pub array_end : Ordered → ℕ
 array_end K = end (array_section K)
 
@@ -126,11 +125,11 @@ array_offsets K = uses_offsets (own_items (static_values_uses K)).numbers (offse
 abbrev pub string_section : Ordered → Placed
 string_section K = record { kind = StringDataItems; align = 1; from = array_end K; items = map string_data K.pools.texts }
 
--- where it ends
+-- the end of the string data
 unfoldable pub string_end : Ordered → ℕ
 string_end K = end (string_section K)
 
--- the debug programs that are written
+-- the distinct debug programs
 abbrev pub debug_items : Ordered → Items Debug
 debug_items K = items_by K.sharing same_debug (debug_uses K)
 
@@ -138,7 +137,7 @@ debug_items K = items_by K.sharing same_debug (debug_uses K)
 abbrev pub debug_section : Ordered → Placed
 debug_section K = record { kind = DebugInfoItems; align = 1; from = string_end K; items = map (debug_bytes K.pools) (debug_items K).written }
 
--- where it ends
+-- the end of the debug programs
 unfoldable pub debug_end : Ordered → ℕ
 debug_end K = end (debug_section K)
 
@@ -150,7 +149,7 @@ debug_offsets K = uses_offsets (debug_items K).numbers (offsets (debug_section K
 abbrev pub code_section : Ordered → Placed
 code_section K = record { kind = CodeItems; align = 4; from = debug_end K; items = map (λ p. code_bytes K.pools p.1 p.0) (own_items (code_uses K (debug_offsets K))).written }
 
--- where they end
+-- the end of the code items
 unfoldable pub code_end : Ordered → ℕ
 code_end K = end (code_section K)
 
@@ -162,7 +161,7 @@ code_offsets K = uses_offsets (own_items (code_uses K (debug_offsets K))).number
 abbrev pub class_data_section : Ordered → Placed
 class_data_section K = record { kind = ClassDataItems; align = 1; from = code_end K; items = map (λ p. class_data_bytes K.pools p.0 p.1) (own_items (class_data_uses K (code_offsets K))).written }
 
--- where it ends
+-- the end of the class data
 unfoldable pub class_data_end : Ordered → ℕ
 class_data_end K = end (class_data_section K)
 
@@ -174,7 +173,7 @@ class_data_offsets K = uses_offsets (own_items (class_data_uses K (code_offsets 
 abbrev pub set_section : Ordered → Placed
 set_section K = record { kind = AnnotationSets; align = 4; from = class_data_end K; items = map offsets_bytes (annotation_offsets K) }
 
--- where they end
+-- the end of the sets
 unfoldable pub set_end : Ordered → ℕ
 set_end K = end (set_section K)
 
@@ -186,7 +185,7 @@ set_offsets K = set_offsets_by_class K (uses_offsets (set_items K).numbers (offs
 abbrev pub ref_list_section : Ordered → Placed
 ref_list_section K = record { kind = AnnotationSetRefLists; align = 4; from = set_end K; items = map offsets_bytes (own_items (ref_list_uses K (set_offsets K))).written }
 
--- where they end
+-- the end of the lists
 unfoldable pub ref_list_end : Ordered → ℕ
 ref_list_end K = end (ref_list_section K)
 
@@ -198,7 +197,7 @@ ref_list_offsets K = uses_offsets (own_items (ref_list_uses K (set_offsets K))).
 abbrev pub directory_section : Ordered → Placed
 directory_section K = record { kind = AnnotationsDirectories; align = 4; from = ref_list_end K; items = (own_items (directory_uses K (set_offsets K) (ref_list_offsets K))).written }
 
--- where they end, and with them the sections
+-- the end of the directories, which is the end of the sections
 unfoldable pub directory_end : Ordered → ℕ
 directory_end K = end (directory_section K)
 
@@ -214,7 +213,7 @@ data_sections K =
 
 -- ---- the layout
 
--- the sections of the data behind the tables, and the offsets that the rows hold
+-- the sections of the data after the tables, and the offsets in the rows
 pub record Layout : Type 0 where
   pub sections : List Placed
   pub strings : List ℕ
@@ -222,7 +221,7 @@ pub record Layout : Type 0 where
   pub classes : List ClassOffsets
   pub data_end : ℕ
 
--- all sections, each behind the one before it, and the offsets that the rows hold
+-- all sections, each after the one before it, and the offsets in the rows
 unfoldable pub layout : Ordered → Layout
 layout K = record {
   sections = data_sections K;
@@ -238,7 +237,7 @@ layout K = record {
 abbrev pub map_entry_bytes : Section × ℕ × ℕ → List ℕ
 map_entry_bytes e = ushort (type_code e.0) ++ (ushort 0 ++ (uint e.1 ++ uint e.2))
 
--- the sections that are not empty, with their numbers of items and their first offsets
+-- the sections that are not empty, with their numbers of items and the offsets of their first items
 abbrev pub map_of : Ordered → Layout → ℕ → List (Section × ℕ × ℕ)
 map_of K l map_off =
     (HeaderItem, 1, 0) ∷ (flat_map (λ t. if t.1 == 0 then [] else (TableOf t.0, t.1, t.2) ∷ []) (placed_tables K)
@@ -257,13 +256,13 @@ table_bytes K l =
     flat_map uint l.strings ++ (flat_map (λ t. uint (text_index K.pools t)) K.pools.types ++ (concat (zip_with (proto_row_bytes K.pools) K.pools.protos l.parameters)
     ++ (flat_map (field_row_bytes K.pools) K.pools.fields ++ (flat_map (method_row_bytes K.pools) K.pools.methods ++ concat (zip_with (class_row_bytes K.pools) K.classes l.classes)))))
 
--- the header behind its signature
+-- the header after its signature
 abbrev pub header_bytes : Ordered → ℕ → ℕ → List ℕ
 header_bytes K map_off file_size =
     uint file_size ++ (uint header_length ++ (uint 0x12345678 ++ (uint 0 ++ (uint 0 ++ (uint map_off
     ++ (flat_map (λ t. uint t.1 ++ uint t.2) (placed_tables K) ++ (uint (file_size - data_start K) ++ uint (data_start K))))))))
 
--- what stands behind the signature
+-- the file after the signature
 unfoldable pub unsigned_file : Ordered → List ℕ
 unsigned_file K =
     let l = layout K in
@@ -275,11 +274,11 @@ unsigned_file K =
 abbrev pub magic : List ℕ
 magic = 0x64 ∷ 0x65 ∷ 0x78 ∷ 0x0a ∷ 0x30 ∷ 0x33 ∷ 0x35 ∷ 0x00 ∷ []
 
--- with the magic and the two sums before it
+-- the file with the magic and the two sums before it
 unfoldable pub with_sums : List ℕ → List ℕ
 with_sums rest = magic ++ (uint (adler_32 (sha1 rest ++ rest)) ++ (sha1 rest ++ rest))
 
--- definitions of different names in their order, with what they mention
+-- definitions of different names in class order, with what they mention
 abbrev pub ordered : List Definition → Ordered
 ordered D = record { classes = in_class_order D; pools = mentions D; sharing = EqualOnce }
 

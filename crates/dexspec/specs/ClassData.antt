@@ -1,6 +1,6 @@
--- Class data: the fields and methods that a class declares.
--- Source: "Dalvik Executable format", "class_data_item", "encoded_field format", "encoded_method format".
--- This project's rule in part: indices rise strictly, members belong to the class, and none stands twice.
+-- Class data: the fields and methods that a class declares. Source: "Dalvik Executable format", "class_data_item",
+-- "encoded_field format", "encoded_method format". This project's rule in part: indices rise strictly, members belong
+-- to the class, and no member is declared twice.
 use Rattle.std.specs.Prelude.{◌≡◌, ℕ, ◌+◌, ◌<◌, ◌≤◌, List, [], ◌∷◌, ◌++◌, length, map, All, Option, Some, None}
 use Rattle.std.specs.List.{Contains}
 use Rattle.dexspec.specs.Numbers.{Uleb128At}
@@ -27,7 +27,7 @@ pub record ClassData : Type 0 where
   pub direct_methods : List EncodedMethod
   pub virtual_methods : List EncodedMethod
 
--- the class data of a class that has none
+-- the class data of a class without members
 abbrev pub no_class_data : ClassData
 no_class_data = record { static_fields = []; instance_fields = []; direct_methods = []; virtual_methods = [] }
 
@@ -39,12 +39,12 @@ fields_of d = d.static_fields ++ d.instance_fields
 abbrev pub methods_of : ClassData → List EncodedMethod
 methods_of d = d.direct_methods ++ d.virtual_methods
 
--- the first index of a list is its own difference, a later one is greater than the one before it
+-- the first index of a list is its own difference; a later index is greater than the one before it
 abbrev pub IsNextIndex : Option ℕ → ℕ → ℕ → Type 0
 IsNextIndex None difference i = i ≡ difference
 IsNextIndex (Some last) difference i = (0 < difference) × (i ≡ last + difference)
 
--- from offset o on, behind a field with the index `last`, if there is one, stand the fields
+-- the fields are at offset o, after a field with the index `last`, if there is one
 abbrev pub EncodedFieldsAt : List ℕ → ℕ → Option ℕ → List EncodedField → ℕ → Type 0
 EncodedFieldsAt b o last [] n = n ≡ 0
 EncodedFieldsAt b o last (x ∷ xs) n = (index_size : ℕ) × (flags_size : ℕ) × (rest_size : ℕ) × (difference : ℕ) × (index : ℕ)
@@ -60,7 +60,8 @@ EncodedMethodsAt b o last (x ∷ xs) n = (index_size : ℕ) × (flags_size : ℕ
     × IsNextIndex last difference index × MethodRow b index x.method
     × EncodedMethodsAt b (o + index_size + flags_size + off_size) (Some index) xs rest_size × (n ≡ index_size + flags_size + off_size + rest_size)
 
--- At offset o of the data stands a class_data_item: four counts and the four lists, each behind the one before it. The sizes are in bytes.
+-- A class_data_item is at offset o of the data: four counts and the four lists, each after the one before it. The sizes
+-- are in bytes.
 pub record ClassDataAt (b : List ℕ) (o : ℕ) (d : ClassData) : Type 0 where
   pub in_data : data_off b ≤ o
   pub static_count_size : ℕ

@@ -1,5 +1,4 @@
--- Class definitions, and what a class row of a file stands for.
--- Source: "Dalvik Executable format", "class_def_item".
+-- Class definitions, and what a class row of a file denotes. Source: "Dalvik Executable format", "class_def_item".
 use Rattle.std.specs.Prelude.{◌≡◌, ℕ, ◌+◌, ◌<◌, List, [], ◌++◌, map, All, Option, Some, None}
 use Rattle.std.specs.List.{AllZip}
 use Rattle.dexspec.specs.Lists.{OrNone, SomeAt}
@@ -21,7 +20,7 @@ pub record FieldDef : Type 0 where
   pub flags : ℕ
   pub annotations : AnnotationSet
 
--- a method that a class declares, with a set for each parameter or for none
+-- a method that a class declares, with a set for each parameter, or no sets
 pub record MethodDef : Type 0 where
   pub name : Text
   pub proto : Proto
@@ -30,8 +29,8 @@ pub record MethodDef : Type 0 where
   pub annotations : AnnotationSet
   pub parameter_annotations : List AnnotationSet
 
--- A class but for its name. In a well-formed one fields stand by name and type, methods by name and proto. The
--- static values belong to the static fields in order, and may be fewer.
+-- A class without its name. In a well-formed class fields are in order of name and type, methods in order of name and
+-- proto. The static values belong to the static fields in order, and may be fewer.
 pub record Body : Type 0 where
   pub flags : ℕ
   pub superclass : Option Text
@@ -48,11 +47,11 @@ pub record Body : Type 0 where
 abbrev pub Definition : Type 0
 Definition = Text × Body
 
--- the static fields, and then the instance fields
+-- the static fields, then the instance fields
 abbrev pub declared_fields : Body → List FieldDef
 declared_fields c = c.static_fields ++ c.instance_fields
 
--- the direct methods, and then the virtual methods
+-- the direct methods, then the virtual methods
 abbrev pub declared_methods : Body → List MethodDef
 declared_methods c = c.direct_methods ++ c.virtual_methods
 
@@ -70,7 +69,7 @@ access_flags b r = uint_at b (row_at b ClassDefs r + 4)
 abbrev pub superclass_idx : List ℕ → ℕ → ℕ
 superclass_idx b r = uint_at b (row_at b ClassDefs r + 8)
 
--- where the list of its interfaces stands, or 0
+-- the offset of the list of its interfaces, or 0
 abbrev pub interfaces_off : List ℕ → ℕ → ℕ
 interfaces_off b r = uint_at b (row_at b ClassDefs r + 12)
 
@@ -78,23 +77,23 @@ interfaces_off b r = uint_at b (row_at b ClassDefs r + 12)
 abbrev pub source_file_idx : List ℕ → ℕ → ℕ
 source_file_idx b r = uint_at b (row_at b ClassDefs r + 16)
 
--- where its annotations directory stands, or 0
+-- the offset of its annotations directory, or 0
 abbrev pub annotations_off : List ℕ → ℕ → ℕ
 annotations_off b r = uint_at b (row_at b ClassDefs r + 20)
 
--- where its class data stands, or 0
+-- the offset of its class data, or 0
 abbrev pub class_data_off : List ℕ → ℕ → ℕ
 class_data_off b r = uint_at b (row_at b ClassDefs r + 24)
 
--- where its static values stand, or 0
+-- the offset of its static values, or 0
 abbrev pub static_values_off : List ℕ → ℕ → ℕ
 static_values_off b r = uint_at b (row_at b ClassDefs r + 28)
 
--- the index that names nothing
+-- the index that denotes nothing
 abbrev pub no_index : ℕ
 no_index = 0xffffffff
 
--- the index names nothing, or a row that is the value
+-- the index denotes nothing, or a row that is the value
 abbrev pub IndexOrNone : {X : Type 0} → (List ℕ → ℕ → X → Type 0) → List ℕ → ℕ → Option X → Type 0
 IndexOrNone Row b i None = i ≡ no_index
 IndexOrNone Row b i (Some x) = Row b i x
@@ -104,22 +103,22 @@ pub record ClassTypeRow (b : List ℕ) (i : ℕ) (t : Text) : Type 0 where
   pub row : TypeRow b i t
   pub class : IsClass t
 
--- at offset o stands a type_list of classes
+-- a type_list of classes is at offset o
 pub record ClassListAt (b : List ℕ) (o : ℕ) (ts : List Text) : Type 0 where
   pub list : TypeListAt b o ts
   pub classes : All IsClass ts
 
--- at offset o of the data stand the static values
+-- the static values are at offset o of the data
 abbrev pub StaticValuesAt : List ℕ → ℕ → Values → Type 0
 StaticValuesAt b o vs = (n : ℕ) × EncodedArrayItemAt b o vs n
 
 -- ---- the class of a row
 
--- the field that class data and directory make
+-- the field of an encoded field and a directory
 abbrev pub field_def : Directory → EncodedField → FieldDef
 field_def d x = record { name = x.field.name; type = x.field.type; flags = x.flags; annotations = annotated field_cmp d.fields x.field }
 
--- the method that class data and directory make, with its code
+-- the method of an encoded method and a directory, with its code
 pub record MakesMethod (b : List ℕ) (d : Directory) (x : EncodedMethod) (m : MethodDef) : Type 0 where
   pub name : m.name ≡ x.method.name
   pub proto : m.proto ≡ x.method.proto

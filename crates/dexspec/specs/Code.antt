@@ -1,7 +1,7 @@
--- Code items: registers, pieces, tries, handlers and debug program.
--- Source: "Dalvik Executable format", "code_item", "try_item", "encoded_catch_handler_list",
--- "encoded_catch_handler" and "encoded_type_addr_pair". This project's rules: a try names the start of a
--- handler of the list, every handler of the list is judged, and the distinct handlers that tries name are few.
+-- Code items: registers, pieces, tries, handlers and debug program. Source: "Dalvik Executable format", "code_item",
+-- "try_item", "encoded_catch_handler_list", "encoded_catch_handler" and "encoded_type_addr_pair". This project's rules:
+-- a try names the start of a handler of the list, every handler of the list is checked, and the distinct handlers that
+-- tries name are few.
 use Rattle.std.specs.Prelude.{◌≡◌, ◌≢◌, ℕ, ℤ, pos, nat_abs, ◌<ℤ◌, ◌≤ℤ◌, ◌+◌, ◌*◌, ◌%◌, ◌<◌, ◌≤◌, ◌⊎◌, Bool, ◌&&◌, ◌==◌, IsTrue, List, [], ◌∷◌, ◌++◌, length, map, Option, Some, None, sum_by}
 use Rattle.std.specs.List.{AllZip}
 use Rattle.std.specs.Option.{option_eq}
@@ -15,23 +15,23 @@ use Rattle.dexspec.specs.Rows.{TypeRow, SymbolRow}
 use Rattle.dexspec.specs.Pieces.{Cut, IsCode, Piece, StandsForPiece, cut_units, is_instruction_start}
 use Rattle.dexspec.specs.Debug.{Debug, DebugAt}
 
--- a type that is caught, and the address where it is handled, in units
+-- a type that is caught, and the address of its handler, in units
 pub record Catch : Type 0 where
   pub type : Text
   pub address : ℕ
 
--- what is caught where, in order, and where all else is
+-- the catches in order, and the catch-all address
 pub record Handler : Type 0 where
   pub catches : List Catch
   pub catch_all : Option ℕ
 
--- the units that are covered, and their handler
+-- the covered units, and their handler
 pub record Try : Type 0 where
   pub start : ℕ
   pub count : ℕ
   pub handler : Handler
 
--- a code_item with symbols in the place of indices
+-- a code_item with symbols instead of indices
 pub record Code : Type 0 where
   pub registers : ℕ
   pub ins : ℕ
@@ -40,11 +40,11 @@ pub record Code : Type 0 where
   pub tries : List Try
   pub debug : Option Debug
 
--- whether two catches are the same
+-- whether two catches are equal
 abbrev pub same_catch : Catch → Catch → Bool
 same_catch c d = same_text c.type d.type && c.address == d.address
 
--- whether two handlers are: types, addresses and the one for all else
+-- whether two handlers are equal: types, addresses and the catch-all address
 abbrev pub same_handler : Handler → Handler → Bool
 same_handler h k = pointwise same_catch h.catches k.catches && option_eq ◌==◌ h.catch_all k.catch_all
 
@@ -52,7 +52,7 @@ same_handler h k = pointwise same_catch h.catches k.catches && option_eq ◌==�
 abbrev pub handlers_of : List Try → List Handler
 handlers_of tries = distinct same_handler (map (λ t. t.handler) tries)
 
--- the bound on the bytes of a list of handlers
+-- an upper bound on the bytes of a list of handlers
 abbrev pub handlers_weight : List Handler → ℕ
 handlers_weight hs = 5 + sum_by (λ h. 10 + 8 * length h.catches) hs
 
@@ -70,17 +70,17 @@ insns_size b o = uint_at b (o + 12)
 abbrev pub code_units : List ℕ → ℕ → List ℕ
 code_units b o = ushorts_at b (o + 16) (insns_size b o)
 
--- where these units end
+-- the end of these units
 abbrev pub insns_end : List ℕ → ℕ → ℕ
 insns_end b o = o + 16 + 2 * insns_size b o
 
--- at offset o stand the registers of a code_item: how many it has, takes and passes on
+-- the numbers of registers, of ins and of outs of a code_item are at offset o
 pub record RegistersAt (b : List ℕ) (o registers ins outs : ℕ) : Type 0 where
   pub registers_size : ushort_at b o ≡ registers
   pub ins_size : ushort_at b (o + 2) ≡ ins
   pub outs_size : ushort_at b (o + 4) ≡ outs
 
--- at offset o of the data stand a code_item's fixed part and units, cut into these pieces
+-- the fixed part and the units of a code_item, cut into these pieces, are at offset o of the data
 pub record PiecesAt (b : List ℕ) (o : ℕ) (cuts : List Cut) (ps : List Piece) : Type 0 where
   pub in_data : IsInData b o (16 + 2 * insns_size b o)
   pub aligned : o % 4 ≡ 0
@@ -94,7 +94,7 @@ abbrev pub IsStart : List ℕ → List Cut → ℕ → Type 0
 IsStart us cuts address = IsTrue (is_instruction_start us cuts (pos address))
 
 module _ (us : List ℕ) (cuts : List Cut) where
-  -- at offset o stands an encoded_type_addr_pair
+  -- an encoded_type_addr_pair is at offset o
   pub record CatchAt (b : List ℕ) (o : ℕ) (c : Catch) (n : ℕ) : Type 0 where
     pub index : ℕ
     pub index_size : ℕ
@@ -105,12 +105,12 @@ module _ (us : List ℕ) (cuts : List Cut) where
     pub start : IsStart us cuts c.address
     pub size : n ≡ index_size + address_size
 
-  -- where the size of a handler is 0 or less, the address for all else follows
+  -- if the size of a handler is 0 or less, the catch-all address follows
   abbrev pub CatchAllAt : ℤ → List ℕ → ℕ → Option ℕ → ℕ → Type 0
   CatchAllAt size b o None n = (pos 0 <ℤ size) × (n ≡ 0)
   CatchAllAt size b o (Some address) n = (size ≤ℤ pos 0) × Uleb128At b o address n × IsStart us cuts address
 
-  -- at offset o stands an encoded_catch_handler
+  -- an encoded_catch_handler is at offset o
   pub record HandlerAt (b : List ℕ) (o : ℕ) (h : Handler) (n : ℕ) : Type 0 where
     pub count : ℤ
     pub count_size : ℕ
@@ -122,7 +122,7 @@ module _ (us : List ℕ) (cuts : List Cut) where
     pub all : CatchAllAt count b (o + count_size + catches_size) h.catch_all all_size
     pub size : n ≡ count_size + catches_size + all_size
 
-  -- the handler begins so many bytes from the start of the list at offset o, which begins with a count
+  -- the handler begins `off` bytes after the start of the list at offset o, which begins with a count
   pub record IsHandler (b : List ℕ) (o count_size : ℕ) (hs : List Handler) (off : ℕ) (h : Handler) : Type 0 where
     pub before : List Handler
     pub after : List Handler
@@ -131,8 +131,8 @@ module _ (us : List ℕ) (cuts : List Cut) where
     pub stands : Sequence HandlerAt b (o + count_size) before before_size
     pub place : off ≡ count_size + before_size
 
-  -- at offset o stands a try_item: a start address, a count of units that is not 0, and how far behind the offset
-  -- `list` its handler begins, one of the list there, whose count has `count_size` bytes
+  -- a try_item is at offset o: a start address, a count of units that is not 0, and the distance from the offset `list`
+  -- to its handler, which is one of the list there, whose count has `count_size` bytes
   pub record TryAt (list count_size : ℕ) (hs : List Handler) (b : List ℕ) (o : ℕ) (t : Try) (n : ℕ) : Type 0 where
     pub start : uint_at b o ≡ t.start
     pub count : ushort_at b (o + 4) ≡ t.count
@@ -147,11 +147,11 @@ AreApart [] = Unit {0}
 AreApart (t ∷ []) = Unit {0}
 AreApart (t ∷ u ∷ ts) = (t.start + t.count ≤ u.start) × AreApart (u ∷ ts)
 
--- the most that the distinct handlers of a code_item may weigh
+-- the maximum weight of the distinct handlers of a code_item
 abbrev pub most_handlers : ℕ
 most_handlers = 65535
 
--- at offset o stand so many try_items, one or more, and behind them the handler list
+-- `count` try_items, at least one, are at offset o, and the handler list is after them
 pub record TryItemsAt (us : List ℕ) (cuts : List Cut) (b : List ℕ) (o count : ℕ) (tries : List Try) : Type 0 where
   pub many : length tries ≡ count
   pub handlers : List Handler
@@ -163,19 +163,19 @@ pub record TryItemsAt (us : List ℕ) (cuts : List Cut) (b : List ℕ) (o count 
   pub apart : AreApart tries
   pub few : handlers_weight (handlers_of tries) ≤ most_handlers
 
--- the try_items of the code_item at offset o stand behind its units, where the number of these is odd behind a ushort 0
+-- the try_items of the code_item at offset o are after its units; if the number of units is odd, a ushort 0 is between
 abbrev pub ListedTriesAt : List ℕ → ℕ → List Cut → List Try → Type 0
 ListedTriesAt b o cuts tries =
     ((insns_size b o % 2 ≡ 0) × TryItemsAt (code_units b o) cuts b (insns_end b o) (tries_size b o) tries)
     ⊎ ((insns_size b o % 2 ≡ 1) × (ushort_at b (insns_end b o) ≡ 0) × TryItemsAt (code_units b o) cuts b (o + 18 + 2 * insns_size b o) (tries_size b o) tries)
 
--- the tries of the code_item at offset o, whose units are cut so: none, or those that are listed
+-- the tries of the code_item at offset o, whose units have these cuts: none, or the listed tries
 abbrev pub TriesAt : List ℕ → ℕ → List Cut → List Try → Type 0
 TriesAt b o cuts tries = ((tries_size b o ≡ 0) × (tries ≡ [])) ⊎ ((tries_size b o ≢ 0) × ListedTriesAt b o cuts tries)
 
 -- ---- the whole
 
--- at offset o of the data stands a code_item
+-- a code_item is at offset o of the data
 pub record CodeAt (b : List ℕ) (o : ℕ) (c : Code) : Type 0 where
   pub registers : RegistersAt b o c.registers c.ins c.outs
   pub cuts : List Cut

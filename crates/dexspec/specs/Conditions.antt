@@ -1,7 +1,7 @@
--- The 23 conditions by name and number. `Accepted` says what each of them is. This project's rule.
+-- The 23 conditions by name and number. `Accepted` defines each of them. This project's rule.
 use Rattle.std.specs.Prelude.{ℕ}
 
--- the conditions, in the order in which they are judged
+-- the conditions, in the order in which they are checked
 pub data Condition : Type 0 where
   Size : Condition
   Magic : Condition
@@ -27,7 +27,7 @@ pub data Condition : Type 0 where
   Annotations : Condition
   Weight : Condition
 
--- the number that a refusal tells
+-- the number that a refusal reports
 abbrev pub number : Condition → ℕ
 number Size = 1
 number Magic = 2

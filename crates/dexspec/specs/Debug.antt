@@ -9,7 +9,7 @@ use Rattle.dexspec.specs.Texts.{Text}
 use Rattle.dexspec.specs.Header.{data_off}
 use Rattle.dexspec.specs.Rows.{StringRow, TypeRow}
 
--- an operation, with texts and types in the place of indices; none is NO_INDEX
+-- an operation, with texts and types instead of indices; none is NO_INDEX
 pub data Operation : Type 0 where
   AdvancePc : (addresses : ℕ) → Operation
   AdvanceLine : (lines : ℤ) → Operation
@@ -28,9 +28,9 @@ pub record Debug : Type 0 where
   pub parameter_names : List (Option Text)
   pub operations : List Operation
 
--- ---- what stands in a file
+-- ---- in a file
 
--- at offset o stands a uleb128p1 that names a string, or nothing
+-- a uleb128p1 that names a string, or nothing, is at offset o
 abbrev pub OptionalTextAt : Item (Option Text)
 OptionalTextAt b o s n = (i : Option ℕ) × Uleb128p1At b o i n × BothOrNone (StringRow b) i s
 
@@ -38,7 +38,7 @@ OptionalTextAt b o s n = (i : Option ℕ) × Uleb128p1At b o i n × BothOrNone (
 abbrev pub OptionalTypeAt : Item (Option Text)
 OptionalTypeAt b o t n = (i : Option ℕ) × Uleb128p1At b o i n × BothOrNone (TypeRow b) i t
 
--- at offset o stands the operation
+-- the operation is at offset o
 abbrev pub OperationAt : Item Operation
 OperationAt b o (AdvancePc addresses) n = Stands b o (0x01 ∷ []) × (k : ℕ) × Uleb128At b (o + 1) addresses k × (n ≡ 1 + k)
 OperationAt b o (AdvanceLine lines) n = Stands b o (0x02 ∷ []) × (k : ℕ) × Sleb128At b (o + 1) lines k × (n ≡ 1 + k)
@@ -54,7 +54,7 @@ OperationAt b o SetEpilogueBegin n = Stands b o (0x08 ∷ []) × (n ≡ 1)
 OperationAt b o (SetFile name) n = Stands b o (0x09 ∷ []) × (k : ℕ) × OptionalTextAt b (o + 1) name k × (n ≡ 1 + k)
 OperationAt b o (Special opcode) n = Stands b o (opcode ∷ []) × (0x0a ≤ opcode) × (opcode ≤ 0xff) × (n ≡ 1)
 
--- at offset o of the data stands a debug_info_item
+-- a debug_info_item is at offset o of the data
 pub record DebugAt (b : List ℕ) (o : ℕ) (d : Debug) : Type 0 where
   pub in_data : data_off b ≤ o
   pub start_size : ℕ
@@ -74,13 +74,13 @@ abbrev pub is_special : Operation → Bool
 is_special (Special opcode) = true
 is_special _ = false
 
--- by how much an operation moves the address
+-- the number by which an operation advances the address
 abbrev pub address_step : Operation → ℕ
 address_step (AdvancePc addresses) = addresses
 address_step (Special opcode) = (opcode - 10) / 15
 address_step _ = 0
 
--- by how much it moves the line
+-- the number by which it advances the line
 abbrev pub line_step : Operation → ℤ
 line_step (AdvanceLine lines) = lines
 line_step (Special opcode) = pos ((opcode - 10) % 15) -ℤ pos 4

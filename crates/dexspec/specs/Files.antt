@@ -1,12 +1,12 @@
--- Collections of class definitions, and the one that a file denotes. Words of this project, for what the items
--- of "Dalvik Executable format" stand for together.
+-- Collections of class definitions, and the collection that a file denotes. Terms of this project, for what the items
+-- of "Dalvik Executable format" denote together.
 use Rattle.std.specs.Prelude.{◌≡◌, ◌↔◌, ℕ, List, Some}
 use Rattle.std.specs.List.{Contains}
 use Rattle.std.specs.FinMap as map
 use Rattle.dexspec.specs.Texts.{Text, text_cmp}
 use Rattle.dexspec.specs.Classes.{Body, Definition, ClassRow}
 
--- A collection in which no name has two definitions: what a program or an accepted file holds.
+-- A collection, in which no name has two definitions: the classes of a program or of an accepted file.
 abbrev pub Collection : Type 0
 Collection = map.FinMap text_cmp Body
 
@@ -22,15 +22,15 @@ IsMember K name c = map.get K name ≡ Some c
 abbrev pub Defines : List ℕ → Text → Body → Type 0
 Defines b name c = (r : ℕ) × ClassRow b r name c
 
--- the members are exactly what the class rows are
+-- the members are exactly the definitions of the class rows
 abbrev pub Denotes : List ℕ → Collection → Type 0
 Denotes b K = (name : Text) (c : Body) → IsMember K name c ↔ Defines b name c
 
--- A union, in which one name may have unlike definitions, is a list that is read by its members alone.
+-- A union, in which one name may have different definitions, is a list of which only the members matter.
 abbrev pub AreSame : List Definition → List Definition → Type 0
 AreSame D E = (d : Definition) → Contains D d ↔ Contains E d
 
--- every member of the first is one of the second
+-- every member of the first list is a member of the second
 abbrev pub AreWithin : List Definition → List Definition → Type 0
 AreWithin D E = (d : Definition) → Contains D d → Contains E d
 

@@ -1,6 +1,5 @@
--- The header, and the first eight conditions.
--- Source: "Dalvik Executable format", "header_item", "DEX_FILE_MAGIC", "ENDIAN_CONSTANT"; Adler-32 as the
--- page names it; SHA-1 as the kit's crate states FIPS 180-4.
+-- The header, and the first eight conditions. Source: "Dalvik Executable format", "header_item", "DEX_FILE_MAGIC",
+-- "ENDIAN_CONSTANT"; Adler-32 as the page names it; SHA-1 as the kit's crate defines FIPS 180-4.
 use Rattle.std.specs.Prelude.{◌≡◌, ℕ, ◌+◌, ◌-◌, ◌*◌, ◌%◌, ◌^◌, ◌≤◌, List, [], ◌∷◌, length, take, drop, slice_index, All}
 use Rattle.std.specs.List.{fold}
 use Rattle.sha1.specs.Sha1.{sha1}
@@ -16,7 +15,7 @@ adler_step sums byte = ((sums.0 + byte) % 65521, (sums.1 + (sums.0 + byte) % 655
 abbrev pub adler_sums : ℕ × ℕ → List ℕ → ℕ × ℕ
 adler_sums sums bytes = fold adler_step sums bytes
 
--- the number that two sums stand for
+-- the number that two sums encode
 abbrev pub adler_number : ℕ × ℕ → ℕ
 adler_number sums = sums.1 * 65536 + sums.0
 
@@ -30,23 +29,23 @@ adler_32 bytes = adler_number (adler_sums (1, 0) bytes)
 abbrev pub header_length : ℕ
 header_length = 112
 
--- the number that the header has for the Adler-32 of what follows it
+-- the Adler-32 of the following bytes, as the header has it
 abbrev pub checksum : List ℕ → ℕ
 checksum b = uint_at b 8
 
--- the 20 bytes that the header has for the SHA-1 of what follows them
+-- the SHA-1 of the following bytes, as the header has it, in 20 bytes
 abbrev pub signature : List ℕ → List ℕ
 signature b = take 20 (drop 12 b)
 
--- the length of the file that the header tells
+-- the length of the file, as the header has it
 abbrev pub file_size : List ℕ → ℕ
 file_size b = uint_at b 32
 
--- the length of the header that the header tells
+-- the length of the header, as the header has it
 abbrev pub header_size : List ℕ → ℕ
 header_size b = uint_at b 36
 
--- the number that shows the order of bytes
+-- the number that shows the byte order
 abbrev pub endian_tag : List ℕ → ℕ
 endian_tag b = uint_at b 40
 
@@ -54,15 +53,15 @@ endian_tag b = uint_at b 40
 abbrev pub link_size : List ℕ → ℕ
 link_size b = uint_at b 44
 
--- where link data begins
+-- the offset of link data
 abbrev pub link_off : List ℕ → ℕ
 link_off b = uint_at b 48
 
--- where the map begins
+-- the offset of the map
 abbrev pub map_off : List ℕ → ℕ
 map_off b = uint_at b 52
 
--- the five pools and the class definitions: the tables behind the header, in their order
+-- the five pools and the class definitions: the tables after the header, in order
 pub data Table : Type 0 where
   StringIds : Table
   TypeIds : Table
@@ -75,7 +74,7 @@ pub data Table : Type 0 where
 abbrev pub tables : List Table
 tables = StringIds ∷ TypeIds ∷ ProtoIds ∷ FieldIds ∷ MethodIds ∷ ClassDefs ∷ []
 
--- where the header has the table's number of rows, and four bytes on its offset
+-- the offset of the table's number of rows in the header; the table's offset is four bytes after it
 abbrev pub size_place : Table → ℕ
 size_place StringIds = 56
 size_place TypeIds = 64
@@ -88,7 +87,7 @@ size_place ClassDefs = 96
 abbrev pub table_size : List ℕ → Table → ℕ
 table_size b t = uint_at b (size_place t)
 
--- where the rows begin
+-- the offset of the rows
 abbrev pub table_off : List ℕ → Table → ℕ
 table_off b t = uint_at b (size_place t + 4)
 
@@ -96,7 +95,7 @@ table_off b t = uint_at b (size_place t + 4)
 abbrev pub data_size : List ℕ → ℕ
 data_size b = uint_at b 104
 
--- where the data begins
+-- the offset of the data
 abbrev pub data_off : List ℕ → ℕ
 data_off b = uint_at b 108
 
@@ -109,7 +108,7 @@ row_size FieldIds = 8
 row_size MethodIds = 8
 row_size ClassDefs = 32
 
--- the most rows; strings and classes are bounded by the file's size alone
+-- the maximum number of rows; strings and classes are bounded by the size of the file alone
 abbrev pub MayHave : Table → ℕ → Type 0
 MayHave StringIds n = Unit {0}
 MayHave TypeIds n = n ≤ 65535
@@ -157,10 +156,10 @@ pub record HasNoLink (b : List ℕ) : Type 0 where
   pub size : link_size b ≡ 0
   pub off : link_off b ≡ 0
 
--- 7 Checksum: it is the Adler-32 of what follows it
+-- 7 Checksum: it is the Adler-32 of the bytes after it
 abbrev pub HasChecksum : List ℕ → Type 0
 HasChecksum b = checksum b ≡ adler_32 (drop 12 b)
 
--- 8 Signature: it is the SHA-1 of what follows it
+-- 8 Signature: it is the SHA-1 of the bytes after it
 abbrev pub HasSignature : List ℕ → Type 0
 HasSignature b = signature b ≡ sha1 (drop 32 b)

@@ -1,4 +1,4 @@
--- Lists in order, ranks, lists cut into parts, and items that stand one after the other. Words of this project.
+-- Lists in order, ranks, lists cut into parts, and items in sequence. Terms of this project.
 use Rattle.std.specs.Prelude.{◌≡◌, ◌≢◌, ◌⊎◌, ℕ, ◌+◌, Bool, true, ◌&&◌, not, List, [], ◌∷◌, take, drop, Option, Some, None, count_by}
 use Rattle.std.specs.List.{AllPairs, filter}
 use Rattle.std.specs.Ordering.{is_lt}
@@ -11,7 +11,7 @@ rises R [] = true
 rises R (x ∷ []) = true
 rises R (x ∷ y ∷ ys) = is_lt (R x y) && rises R (y ∷ ys)
 
--- the list with one more member in its place, if it was not there
+-- the list with one more member at its place, unless it is a member already
 abbrev pub add_in_order : {K : Type 0} → (K → K → Ordering) → K → List K → List K
 add_in_order R k [] = k ∷ []
 add_in_order R k (x ∷ xs) = by_order (R k x) (k ∷ x ∷ xs) (x ∷ xs) (x ∷ add_in_order R k xs)
@@ -25,37 +25,37 @@ in_order R (k ∷ ks) = add_in_order R k (in_order R ks)
 abbrev pub rank : {K : Type 0} → (K → K → Ordering) → K → List K → ℕ
 rank R s xs = count_by (λ t. is_lt (R t s)) xs
 
--- no two places hold one value
+-- no two places have the same value
 abbrev pub AreDistinct : {X : Type 0} → List X → Type 0
 AreDistinct xs = AllPairs (λ x y. x ≢ y) xs
 
--- the list cut into parts of these lengths, from the front
+-- the list cut into parts of these lengths, from its start
 abbrev pub chunks : {X : Type 0} → List ℕ → List X → List (List X)
 chunks [] xs = []
 chunks (n ∷ ns) xs = take n xs ∷ chunks ns (drop n xs)
 
--- the pairs of two lists put together by a function
+-- the members of two lists combined in pairs by a function
 abbrev pub zip_with : {X Y Z : Type 0} → (X → Y → Z) → List X → List Y → List Z
 zip_with f [] ys = []
 zip_with f (x ∷ xs) [] = []
 zip_with f (x ∷ xs) (y ∷ ys) = f x y ∷ zip_with f xs ys
 
--- the values that are there
+-- the values that are present
 abbrev pub present : {X : Type 0} → List (Option X) → List X
 present [] = []
 present (None ∷ os) = present os
 present (Some x ∷ os) = x ∷ present os
 
--- nothing at offset 0, and else what stands there
+-- nothing for offset 0, and otherwise the item at the offset
 abbrev pub OrNone : {X : Type 0} → (List ℕ → ℕ → X → Type 0) → X → List ℕ → ℕ → X → Type 0
 OrNone At none b o x = ((o ≡ 0) × (x ≡ none)) ⊎ ((o ≢ 0) × At b o x)
 
--- what stands there is the value of an option that has one
+-- the value of an option is present, and is at the offset
 abbrev pub SomeAt : {X : Type 0} → (List ℕ → ℕ → X → Type 0) → List ℕ → ℕ → Option X → Type 0
 SomeAt At b o None = ⊥
 SomeAt At b o (Some x) = At b o x
 
--- neither is there, or both are, and related
+-- both are absent, or both are present and related
 abbrev pub BothOrNone : {X Y : Type 0} → (X → Y → Type 0) → Option X → Option Y → Type 0
 BothOrNone R None None = Unit {0}
 BothOrNone R None (Some y) = ⊥
@@ -67,11 +67,11 @@ abbrev pub distinct : {X : Type 0} → (X → X → Bool) → List X → List X
 distinct same [] = []
 distinct same (x ∷ xs) = x ∷ filter (λ y. not (same x y)) (distinct same xs)
 
--- A kind of item: at offset o of b stands x, in n bytes.
+-- A kind of item: x is at offset o of b, in n bytes.
 abbrev pub Item : Type 0 → Type 1
 Item X = List ℕ → ℕ → X → ℕ → Type 0
 
--- from o on stand the items one after the other, in n bytes together
+-- the items are in sequence from offset o on, in n bytes together
 abbrev pub Sequence : {X : Type 0} → Item X → List ℕ → ℕ → List X → ℕ → Type 0
 Sequence At b o [] n = n ≡ 0
 Sequence At b o (x ∷ xs) n = (k : ℕ) × (m : ℕ) × At b o x k × Sequence At b (o + k) xs m × (n ≡ k + m)

@@ -1,5 +1,5 @@
--- The symbols that occur in class definitions, and what these mention.
--- This project's rule: the five pools of a canonical file hold exactly these.
+-- The symbols that occur in class definitions, and the symbols that these mention. This project's
+-- rule: the five pools of a canonical file have exactly these.
 use Rattle.std.specs.Prelude.{List, [], ◌∷◌, ◌++◌, map, Option, option_to_list}
 use Rattle.std.specs.List.{flat_map}
 use Rattle.dexspec.specs.Lists.{in_order}
@@ -35,7 +35,7 @@ operation_symbols (StartLocalExtended register name type signature) = optional_t
 operation_symbols (SetFile name) = optional_text name
 operation_symbols _ = []
 
--- those of parameter names and operations
+-- the symbols of parameter names and operations
 abbrev pub debug_symbols : Debug → List Symbol
 debug_symbols d = flat_map optional_text d.parameter_names ++ flat_map operation_symbols d.operations
 
@@ -43,12 +43,12 @@ debug_symbols d = flat_map optional_text d.parameter_names ++ flat_map operation
 abbrev pub handler_symbols : Handler → List Symbol
 handler_symbols h = map (λ c. TypeSymbol c.type) h.catches
 
--- those of pieces, of handlers that tries name, and of the debug program
+-- the symbols of pieces, of the handlers that tries name, and of the debug program
 abbrev pub code_symbols : Code → List Symbol
 code_symbols c = flat_map piece_symbols c.pieces ++ (flat_map handler_symbols (handlers_of c.tries) ++ flat_map debug_symbols (option_to_list c.debug))
 
 abbrev mutual
-  -- what a value names
+  -- the symbols that a value names
   pub value_symbols : Value → List Symbol
   value_symbols (StringValue s) = TextSymbol s ∷ []
   value_symbols (TypeValue t) = TypeSymbol t ∷ []
@@ -59,37 +59,37 @@ abbrev mutual
   value_symbols (AnnotationValue t es) = TypeSymbol t ∷ elements_symbols es
   value_symbols _ = []
 
-  -- what values name
+  -- the symbols that values name
   pub values_symbols : Values → List Symbol
   values_symbols NoValues = []
   values_symbols (ThenValue v vs) = value_symbols v ++ values_symbols vs
 
-  -- the names of elements, and what their values name
+  -- the names of elements, and the symbols that their values name
   pub elements_symbols : Elements → List Symbol
   elements_symbols NoElements = []
   elements_symbols (ThenElement name v es) = TextSymbol name ∷ (value_symbols v ++ elements_symbols es)
 
--- an annotation's type, and what its elements name
+-- an annotation's type, and the symbols that its elements name
 abbrev pub annotation_symbols : Annotation → List Symbol
 annotation_symbols a = TypeSymbol a.type ∷ elements_symbols a.elements
 
--- those of its annotations
+-- the symbols of its annotations
 abbrev pub set_symbols : AnnotationSet → List Symbol
 set_symbols set = flat_map annotation_symbols set
 
--- a declared member is the field or method of its class
+-- the field of a declared field of a class
 abbrev pub field_of : Text → FieldDef → Field
 field_of class f = record { class = class; name = f.name; type = f.type }
 
--- the same for a method
+-- the method of a declared method of a class
 abbrev pub method_of : Text → MethodDef → Method
 method_of class m = record { class = class; name = m.name; proto = m.proto }
 
--- a declared field, and what its set names
+-- a declared field, and the symbols of its set
 abbrev pub field_symbols : Text → FieldDef → List Symbol
 field_symbols class f = FieldSymbol (field_of class f) ∷ set_symbols f.annotations
 
--- a declared method, and what its code and sets name
+-- a declared method, and the symbols of its code and sets
 abbrev pub method_symbols : Text → MethodDef → List Symbol
 method_symbols class m = MethodSymbol (method_of class m) ∷ (flat_map code_symbols (option_to_list m.code) ++ (set_symbols m.annotations ++ flat_map set_symbols m.parameter_annotations))
 
@@ -98,7 +98,7 @@ unfoldable pub symbols_of : Definition → List Symbol
 symbols_of (name, c) = TypeSymbol name ∷ (optional_type c.superclass ++ (map TypeSymbol c.interfaces ++ (optional_text c.source
     ++ (set_symbols c.annotations ++ (flat_map (field_symbols name) (declared_fields c) ++ (flat_map (method_symbols name) (declared_methods c) ++ values_symbols c.static_values))))))
 
--- ---- what a symbol mentions, itself among it
+-- ---- the symbols that a symbol mentions, with itself
 
 -- the method that a symbol is
 abbrev pub methods_in : Symbol → List Method
@@ -148,7 +148,7 @@ pub record Mentions : Type 0 where
   pub fields : List Field
   pub methods : List Method
 
--- what the symbols mention, closed downwards
+-- all symbols that the symbols mention
 abbrev pub closed : List Symbol → Mentions
 closed ss = record {
   texts = in_order text_cmp (flat_map texts_in ss);
@@ -158,6 +158,6 @@ closed ss = record {
   methods = in_order method_cmp (flat_map methods_in ss);
 }
 
--- what the definitions mention
+-- all symbols that the definitions mention
 unfoldable pub mentions : List Definition → Mentions
 mentions D = closed (flat_map symbols_of D)

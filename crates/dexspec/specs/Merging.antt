@@ -1,5 +1,4 @@
--- Unions of collections, caps, what fits, plans, and the causes for which there is no merged file.
--- This project's rules.
+-- Unions of collections, caps, fitting, plans, and the causes for which there is no merged file. This project's rules.
 use Rattle.std.specs.Prelude.{◌≡◌, ◌≢◌, ℕ, ◌+◌, ◌<◌, ◌≤◌, max, List, [], ◌∷◌, ◌++◌, length, All, slice_index, slice_index_or, Some, true}
 use Rattle.std.specs.List.{flat_map, Contains}
 use Rattle.std.specs.declared.cmp.Ordering.TheVariants.{Less}
@@ -16,7 +15,7 @@ use Rattle.dexspec.specs.Weight.{weight, most_weight}
 
 -- ---- caps
 
--- the most of each kind
+-- the maximum number of each kind
 pub record Caps : Type 0 where
   pub types : ℕ
   pub protos : ℕ
@@ -25,7 +24,7 @@ pub record Caps : Type 0 where
   pub short_strings : ℕ
   pub weight : ℕ
 
--- those of the format
+-- the caps of the format
 abbrev pub greatest_caps : Caps
 greatest_caps = record { types = 65535; protos = 65535; fields = 65536; methods = 65536; short_strings = 65536; weight = most_weight }
 
@@ -38,7 +37,7 @@ pub record AreCaps (caps : Caps) : Type 0 where
   pub short_strings : caps.short_strings ≤ 65536
   pub weight : caps.weight ≤ most_weight
 
--- the clauses of what fits, in the order in which they are told
+-- the clauses of fitting, in the order in which they are reported
 pub data Cap : Type 0 where
   Types : Cap
   Protos : Cap
@@ -47,7 +46,7 @@ pub data Cap : Type 0 where
   ShortStrings : Cap
   Weight : Cap
 
--- the number that a fault tells
+-- the number that a fault reports
 abbrev pub cap_number : Cap → ℕ
 cap_number Types = 1
 cap_number Protos = 2
@@ -68,7 +67,7 @@ pub record HasShortString (D : List Definition) (s : Text) : Type 0 where
   pub piece : Contains code.pieces (Instruction units (Some (TextSymbol s)))
   pub short : low_byte (slice_index units 0) ≡ 0x1a
 
--- The clause fails. Of the weight: some members, no two of them the same, weigh more.
+-- The clause fails. For the weight: some members, no two of them equal, weigh more.
 abbrev pub Exceeds : Caps → List Definition → Cap → Type 0
 Exceeds caps D Types = caps.types < length (mentions D).types
 Exceeds caps D Protos = caps.protos < length (mentions D).protos
@@ -86,9 +85,9 @@ pub record Fits (caps : Caps) (D : List Definition) : Type 0 where
   pub short_strings : (s : Text) → HasShortString D s → rank text_cmp s (mentions D).texts < caps.short_strings
   pub weight : (E : List Definition) → AreDistinct E → AreWithin E D → weight E ≤ caps.weight
 
--- ---- what can be merged, and causes
+-- ---- merging, and causes
 
--- two unlike definitions have this name
+-- this name has two different definitions
 pub record IsConflict (D : List Definition) (name : Text) : Type 0 where
   pub one : Body
   pub other : Body
@@ -100,8 +99,8 @@ pub record IsConflict (D : List Definition) (name : Text) : Type 0 where
 abbrev pub IsConsistent : List Definition → Type 0
 IsConsistent D = (name : Text) (one other : Body) → Contains D (name, one) → Contains D (name, other) → one ≡ other
 
--- Good: no name has two definitions, each defined name has a depth, and the definitions fit the caps. Where they are
--- well formed too, they can be written as one file.
+-- Good: no name has two definitions, each defined name has a depth, and the definitions fit the caps. If they are well
+-- formed too, they can be written as one file.
 pub record IsGood (caps : Caps) (D : List Definition) : Type 0 where
   pub consistent : IsConsistent D
   pub acyclic : IsAcyclic D
@@ -112,7 +111,7 @@ pub record IsCycle (D : List Definition) (name : Text) : Type 0 where
   pub defined : is_defined D name ≡ true
   pub deep : HasDepth D name → ⊥
 
--- why there is no merged file
+-- the reason why there is no merged file
 pub data Cause : Type 0 where
   Conflict : (name : Text) → Cause
   Cycle : (name : Text) → Cause
@@ -124,7 +123,7 @@ IsCause caps D (Conflict name) = IsConflict D name
 IsCause caps D (Cycle name) = IsCycle D name
 IsCause caps D (Exceeded cap) = Exceeds caps D cap
 
--- of two causes the one that is told: a conflict before a cycle before a cap, and then the least
+-- of two causes the one that is reported: a conflict before a cycle before a cap, then the least
 abbrev pub IsToldBefore : Cause → Cause → Type 0
 IsToldBefore (Conflict m) (Conflict n) = text_cmp m n ≡ Less
 IsToldBefore (Conflict m) _ = Unit {0}
@@ -157,13 +156,13 @@ abbrev mutual
   leaves (Leaf file) = file ∷ []
   leaves (Node ps) = all_leaves ps
 
-  -- those of all parts
+  -- the numbers of the files of all parts
   pub all_leaves : Plans → List ℕ
   all_leaves NoPlans = []
   all_leaves (ThenPlan p ps) = leaves p ++ all_leaves ps
 
 abbrev mutual
-  -- a leaf and a node of nothing have depth 1, another node one more than its deepest part
+  -- a leaf and a node without parts have depth 1; another node has a depth one more than its deepest part
   pub plan_depth : Plan → ℕ
   plan_depth (Leaf file) = 1
   plan_depth (Node ps) = plans_depth ps + 1
@@ -173,11 +172,11 @@ abbrev mutual
   plans_depth NoPlans = 0
   plans_depth (ThenPlan p ps) = max (plan_depth p) (plans_depth ps)
 
--- the deepest plan
+-- the maximum depth of a plan
 abbrev pub most_plan_depth : ℕ
 most_plan_depth = 64
 
--- the plan names each of so many files, and no other, and is not too deep
+-- the plan names each of `files` files, and no other, and is not too deep
 pub record IsPlanFor (files : ℕ) (plan : Plan) : Type 0 where
   pub known : All (λ i. i < files) (leaves plan)
   pub named : (i : ℕ) → i < files → Contains (leaves plan) i
@@ -189,7 +188,7 @@ AreLeaves NoPlans = Unit {0}
 AreLeaves (ThenPlan (Leaf file) ps) = AreLeaves ps
 AreLeaves (ThenPlan (Node qs) ps) = ⊥
 
--- a leaf, or a node of leaves: the plans that tell the first cause
+-- a leaf, or a node of leaves: the plans that report the first cause
 abbrev pub IsFlat : Plan → Type 0
 IsFlat (Leaf file) = Unit {0}
 IsFlat (Node ps) = AreLeaves ps

@@ -9,7 +9,8 @@ use Rattle.dexspec.specs.Texts.{Text}
 abbrev pub IsNameUnit : ℕ → Type 0
 IsNameUnit u = (u ≢ 0x2e) × (u ≢ 0x3b) × (u ≢ 0x5b) × (u ≢ 0x2f)
 
--- a name of a member, or one part of a class's: one unit or more that may stand in a name
+-- a name of a member, or one part of the name of a class: one unit or more, each of which may be in
+-- a name
 pub record IsMemberName (s : Text) : Type 0 where
   pub some : 0 < length s
   pub units : All IsNameUnit s
@@ -42,7 +43,7 @@ pub record IsPrimitive (s : Text) : Type 0 where
   pub is : s ≡ letter ∷ []
   pub known : Contains primitive_letters letter
 
--- `L`, the class's name, `;`
+-- `L`, the name of the class, `;`
 pub record IsClass (s : Text) : Type 0 where
   pub name : Text
   pub is : s ≡ 0x4c ∷ (name ++ 0x3b ∷ [])
@@ -72,7 +73,7 @@ IsDescriptor s = (kind : TypeKind) × HasKind kind s
 abbrev pub IsValueType : Text → Type 0
 IsValueType s = IsPrimitive s ⊎ IsClass s ⊎ IsArray s
 
--- the type that a method may belong to
+-- a type that may have methods
 abbrev pub IsReferenceType : Text → Type 0
 IsReferenceType s = IsClass s ⊎ IsArray s
 
@@ -81,6 +82,6 @@ abbrev pub shorty_letter : Text → ℕ
 shorty_letter [] = 0
 shorty_letter (u ∷ s) = if u == 0x5b then 0x4c else u
 
--- the letter of the return type, and then that of each parameter
+-- the letter of the return type, then the letter of each parameter
 abbrev pub shorty : Text → List Text → Text
 shorty return_type parameters = shorty_letter return_type ∷ map shorty_letter parameters

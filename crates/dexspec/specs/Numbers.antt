@@ -1,6 +1,6 @@
--- LEB128: numbers as one to five bytes of seven bits each, the lowest group first.
--- Source: "Dalvik Executable format", "LEB128". This project's rules: a spelling may be longer than it
--- has to be, and the exact value must lie in the range of its 32-bit type.
+-- LEB128: numbers as one to five bytes of seven bits each, the lowest group first. Source: "Dalvik Executable format",
+-- "LEB128". This project's rules: an encoding may be longer than needed, and the exact value must be in the range of
+-- its 32-bit type.
 use Rattle.std.specs.Prelude.{◌≡◌, ℕ, zero, suc, negsuc, ℤ, pos, ◌-ℤ◌, ◌+◌, ◌-◌, ◌*◌, ◌%◌, ◌/◌, ◌^◌, ◌<◌, ◌≤◌, List, [], ◌∷◌, length, take, drop, All, Option, Some, None, FitsSigned, if◌then◌else◌, nat_le, nat_lt}
 use Rattle.std.specs.Int.{w32}
 use Rattle.dexspec.specs.Lists.{Item}
@@ -22,40 +22,40 @@ last_of [] = 0
 last_of (b ∷ []) = b
 last_of (b ∷ c ∷ bs) = last_of (c ∷ bs)
 
--- where bit 6 of the last of n bytes is set, 2 ^ (7 * n) less than the sum
+-- the sum, less 2 ^ (7 * n) if bit 6 of the last of n bytes is set
 abbrev pub signed_sum : List ℕ → ℤ
 signed_sum bytes = if nat_le 64 (last_of bytes) then pos (sum_of_groups bytes) -ℤ pos (2 ^ (7 * length bytes)) else pos (sum_of_groups bytes)
 
--- one to five bytes that stand for a number which is in range
+-- one to five bytes that encode a number in range
 pub record Spells {V : Type 0} (number : List ℕ → V) (InRange : V → Type 0) (bytes : List ℕ) (v : V) : Type 0 where
   pub chain : IsChain bytes
   pub few : length bytes ≤ 5
   pub value : number bytes ≡ v
   pub in_range : InRange v
 
--- the bytes spell the number as a uleb128
+-- the bytes encode the number as a uleb128
 abbrev pub IsUleb128 : List ℕ → ℕ → Type 0
 IsUleb128 = Spells sum_of_groups (λ v. v < 2 ^ 32)
 
--- the bytes spell the number as an sleb128
+-- the bytes encode the number as an sleb128
 abbrev pub IsSleb128 : List ℕ → ℤ → Type 0
 IsSleb128 = Spells signed_sum (FitsSigned w32)
 
--- the number plus one, where none, that is NO_INDEX, is -1
+-- the number plus one; no number, which is NO_INDEX, is 0
 abbrev pub plus_one : Option ℕ → ℕ
 plus_one None = 0
 plus_one (Some n) = n + 1
 
--- the bytes spell the number, or none, as a uleb128p1
+-- the bytes encode the number, or none, as a uleb128p1
 abbrev pub IsUleb128p1 : List ℕ → Option ℕ → Type 0
 IsUleb128p1 bytes v = IsUleb128 bytes (plus_one v)
 
--- the first n bytes are an item that stands for v
+-- the first n bytes are an item that denotes v
 pub record BeginsWith {V : Type 0} (Says : List ℕ → V → Type 0) (bytes : List ℕ) (v : V) (n : ℕ) : Type 0 where
   pub within : n ≤ length bytes
   pub spelled : Says (take n bytes) v
 
--- at offset o of b stands the number, in n bytes
+-- the number is at offset o of b, in n bytes
 abbrev pub Uleb128At : Item ℕ
 Uleb128At b o v n = BeginsWith IsUleb128 (drop o b) v n
 
@@ -67,17 +67,17 @@ Sleb128At b o v n = BeginsWith IsSleb128 (drop o b) v n
 abbrev pub Uleb128p1At : Item (Option ℕ)
 Uleb128p1At b o v n = BeginsWith IsUleb128p1 (drop o b) v n
 
--- fewer than five bytes, perhaps none, and each has its top bit set: a number may go on behind them
+-- fewer than five bytes, perhaps none, and each has its top bit set: a number may go on after them
 pub record IsCutOff (bytes : List ℕ) : Type 0 where
   pub few : length bytes < 5
   pub high : All (λ byte. 128 ≤ byte) bytes
 
--- the bytes spell the number, and no spelling of it has fewer
+-- the bytes encode the number, and no encoding of it is shorter
 pub record IsShortest {V : Type 0} (Says : List ℕ → V → Type 0) (bytes : List ℕ) (v : V) : Type 0 where
   pub spelled : Says bytes v
   pub least : (other : List ℕ) → Says other v → length bytes ≤ length other
 
--- ---- the shortest spellings
+-- ---- the shortest encodings
 
 -- v in n groups of seven bits, the lowest first, the top bit set in each byte but the last
 abbrev pub groups : ℕ → ℕ → List ℕ
@@ -85,7 +85,7 @@ groups zero v = []
 groups (suc zero) v = v ∷ []
 groups (suc (suc n)) v = (128 + v % 128) ∷ groups (suc n) (v / 128)
 
--- the fewest groups that hold the number, five at most
+-- the minimum number of groups for the number, at most five
 abbrev pub size_u : ℕ → ℕ
 size_u v = if nat_lt v 0x80 then 1 else (if nat_lt v 0x4000 then 2 else (if nat_lt v 0x200000 then 3 else (if nat_lt v 0x10000000 then 4 else 5)))
 
@@ -93,16 +93,16 @@ size_u v = if nat_lt v 0x80 then 1 else (if nat_lt v 0x4000 then 2 else (if nat_
 abbrev pub uleb128 : ℕ → List ℕ
 uleb128 v = groups (size_u v) v
 
--- n and -n - 1 take as many bits as n, and one for the sign
+-- n and -n - 1 have as many bits as n, and one for the sign
 abbrev pub magnitude : ℤ → ℕ
 magnitude (pos n) = n
 magnitude (negsuc n) = n
 
--- the fewest groups that hold the number and its sign
+-- the minimum number of groups for the number and its sign
 abbrev pub size_s : ℤ → ℕ
 size_s v = size_u (2 * magnitude v)
 
--- the number as n groups hold it: 2 ^ (7 * n) more where it is negative
+-- the number in two's complement of n groups: if it is negative, 2 ^ (7 * n) is added
 abbrev pub held_in : ℕ → ℤ → ℕ
 held_in n (pos m) = m
 held_in n (negsuc m) = 2 ^ (7 * n) - suc m

@@ -6,8 +6,7 @@ use Rattle.std.specs.List.{find}
 use Rattle.std.specs.Option.{option_map}
 use Rattle.dexspec.specs.Symbols.{Pool, Strings, Types, Fields, Methods}
 
--- The formats, by the names of the page: the number of units, the number of registers, and a letter for
--- what else there is.
+-- The formats, by the names of the page: the number of units, the number of registers, and a letter for other operands.
 pub data Format : Type 0 where
   F10x : Format
   F12x : Format
@@ -61,13 +60,13 @@ units_in F35c = 3
 units_in F3rc = 3
 units_in F51l = 5
 
--- what an opcode is: its format, the pool of its index, if it has one, and its mnemonic
+-- an opcode: its format, the pool of its index, if it has one, and its mnemonic
 pub record Opcode : Type 0 where
   pub format : Format
   pub index : Option Pool
   pub mnemonic : List ℕ
 
--- opcodes that follow one another, of one format and one kind of index
+-- consecutive opcodes of one format and one kind of index
 pub record OpcodeRun : Type 0 where
   pub first : ℕ
   pub format : Format
@@ -82,11 +81,11 @@ each_with stem endings = map (λ ending. stem ++ ending) endings
 abbrev pub all_with : List (List ℕ) → List ℕ → List (List ℕ)
 all_with stems ending = map (λ stem. stem ++ ending) stems
 
--- what can be moved or returned
+-- the endings of moves and returns
 abbrev pub move_endings : List (List ℕ)
 move_endings = codes "" ∷ codes "-wide" ∷ codes "-object" ∷ []
 
--- the seven kinds of element, field or array
+-- the seven endings of kinds, of elements, fields and arrays
 abbrev pub kind_endings : List (List ℕ)
 kind_endings = codes "" ∷ codes "-wide" ∷ codes "-object" ∷ codes "-boolean" ∷ codes "-byte" ∷ codes "-char" ∷ codes "-short" ∷ []
 
@@ -98,11 +97,11 @@ comparisons = codes "if-eq" ∷ codes "if-ne" ∷ codes "if-lt" ∷ codes "if-ge
 abbrev pub invocations : List (List ℕ)
 invocations = codes "invoke-virtual" ∷ codes "invoke-super" ∷ codes "invoke-direct" ∷ codes "invoke-static" ∷ codes "invoke-interface" ∷ []
 
--- what works on floats too
+-- the operations that exist for floats too
 abbrev pub arithmetic : List (List ℕ)
 arithmetic = codes "add" ∷ codes "sub" ∷ codes "mul" ∷ codes "div" ∷ codes "rem" ∷ []
 
--- what works on whole numbers
+-- the operations for whole numbers alone
 abbrev pub bitwise : List (List ℕ)
 bitwise = codes "and" ∷ codes "or" ∷ codes "xor" ∷ []
 
@@ -190,6 +189,6 @@ opcode_runs =
 abbrev pub is_in_run : ℕ → OpcodeRun → Bool
 is_in_run op r = nat_le r.first op && nat_lt op (r.first + length r.mnemonics)
 
--- what the opcode is, or nothing where it is unused
+-- the opcode of a number, or nothing if it is unused
 unfoldable pub opcode_of : ℕ → Option Opcode
 opcode_of op = option_map (λ r. record { format = r.format; index = r.index; mnemonic = slice_index_or r.mnemonics (op - r.first) [] }) (find (is_in_run op) opcode_runs)

@@ -1,9 +1,9 @@
--- Units of code cut into instructions and payloads, their targets, and the symbols that they name.
--- Source: "Dalvik bytecode", "packed-switch-payload format", "sparse-switch-payload format",
--- "fill-array-data-payload format"; "Dalvik executable instruction formats". This project's rules: code has one
--- unit at least and is cut without gaps, the byte 00 of a format is zero, the count of 35c is at most five,
--- sparse keys rise strictly, an element has 1, 2, 4 or 8 bytes, targets are starts of instructions or of a
--- payload of the right kind, and a payload that no instruction leads to is allowed.
+-- Units of code cut into instructions and payloads, their targets, and the symbols that they name. Source: "Dalvik
+-- bytecode", "packed-switch-payload format", "sparse-switch-payload format", "fill-array-data-payload format"; "Dalvik
+-- executable instruction formats". This project's rules: code has one unit at least and is cut without gaps, the byte
+-- 00 of a format is zero, the count of 35c is at most five, sparse keys rise strictly, an element has 1, 2, 4 or 8
+-- bytes, targets are starts of instructions or of a payload of the right kind, and a payload that no instruction refers
+-- to is allowed.
 use Rattle.std.specs.Prelude.{◌≡◌, ℕ, zero, suc, ℤ, pos, ◌+ℤ◌, nat_abs, ◌+◌, ◌*◌, ◌/◌, ◌%◌, ◌<◌, Bool, true, false, not, ◌&&◌, ◌||◌, ◌==◌, nat_le, IsTrue, if◌then◌else◌, List, [], ◌∷◌, length, take, drop, All, slice_index, slice_set, Option, Some, None}
 use Rattle.std.specs.List.{list_any, list_all}
 use Rattle.std.specs.Option.{option_and_then}
@@ -21,7 +21,7 @@ low_byte u = u % 256
 abbrev pub high_byte : ℕ → ℕ
 high_byte u = u / 256
 
--- the number that a unit and the one behind it hold, the lower first
+-- the number that a unit and the one after it encode, the lower first
 abbrev pub two_units : List ℕ → ℕ → ℕ
 two_units us i = slice_index us i + 65536 * slice_index us (i + 1)
 
@@ -60,7 +60,7 @@ element_width us = slice_index us 1
 abbrev pub element_count : List ℕ → ℕ
 element_count us = two_units us 2
 
--- the number of units that the payload says it has
+-- the number of units that the payload declares
 abbrev pub payload_units : List ℕ → ℕ
 payload_units us =
     if slice_index us 0 == packed_switch_ident then 4 + 2 * slice_index us 1
@@ -74,7 +74,7 @@ is_payload_in_order us =
     else (if slice_index us 0 == sparse_switch_ident then rises int_cmp (ints_in us 2 (slice_index us 1))
     else list_any (λ width. element_width us == width) (1 ∷ 2 ∷ 4 ∷ 8 ∷ []))
 
--- the number of units of the payload that stands first
+-- the number of units of the payload that the units begin with
 abbrev pub payload_size : List ℕ → Option ℕ
 payload_size us = if nat_le (payload_units us) (length us) && is_payload_in_order us then Some (payload_units us) else None
 
@@ -88,39 +88,39 @@ has_zero_byte F30t = true
 has_zero_byte F32x = true
 has_zero_byte _ = false
 
--- the byte 00 is zero, and 35c counts at most five registers
+-- the byte 00 is zero, and a 35c has at most five registers
 abbrev pub is_first_unit : Format → ℕ → Bool
 is_first_unit F35c u = nat_le (u / 4096) 5
 is_first_unit format u = not (has_zero_byte format) || high_byte u == 0
 
--- the units of an instruction of this opcode, if there are so many and the first is as the opcode's format wants it
+-- the number of units of an instruction of this opcode, if there are that many and the first is valid for the format
 abbrev pub size_of_opcode : List ℕ → Opcode → Option ℕ
 size_of_opcode us op = if nat_le (units_in op.format) (length us) && is_first_unit op.format (slice_index us 0) then Some (units_in op.format) else None
 
--- the number of units of the instruction that stands first
+-- the number of units of the instruction that the units begin with
 abbrev pub instruction_size : List ℕ → Option ℕ
 instruction_size us = option_and_then (size_of_opcode us) (opcode_of (low_byte (slice_index us 0)))
 
 -- ---- pieces
 
--- the number of units of the piece that begins at a unit with the units `us`, or nothing where none begins
+-- the number of units of the piece that begins at a unit with the units `us`, or nothing if none begins there
 unfoldable pub piece_size : ℕ → List ℕ → Option ℕ
 piece_size at [] = None
 piece_size at (u ∷ us) =
     if is_payload_ident u then (if at % 2 == 0 then payload_size (u ∷ us) else None)
     else instruction_size (u ∷ us)
 
--- where a piece begins and how many units it has
+-- the first unit of a piece, and its number of units
 pub record Cut : Type 0 where
   pub unit : ℕ
   pub units : ℕ
 
--- from a unit on the units are cut into these pieces, up to the rest
+-- the units from a unit on are cut into these pieces, up to the rest
 abbrev pub AreCut : ℕ → List ℕ → List Cut → List ℕ → Type 0
 AreCut at us [] rest = us ≡ rest
 AreCut at us (c ∷ cs) rest = (c.unit ≡ at) × (piece_size at us ≡ Some c.units) × AreCut (at + c.units) (drop c.units us) cs rest
 
--- pieces up to unit n, where one should begin and none does
+-- the units are cut into pieces up to unit n, where no piece begins
 pub record BreaksAt (us : List ℕ) (n : ℕ) : Type 0 where
   pub cuts : List Cut
   pub within : n < length us
@@ -137,7 +137,7 @@ is_instruction_start us cs z = list_any (λ c. int_eq (pos c.unit) z && not (is_
 abbrev pub is_payload_start : ℕ → List ℕ → List Cut → ℤ → Bool
 is_payload_start ident us cs z = list_any (λ c. int_eq (pos c.unit) z && slice_index us c.unit == ident) cs
 
--- how far a branch goes, in units from its own, if the instruction at unit `at` is one
+-- the distance of a branch, in units from its own, if the instruction at unit `at` is one
 abbrev pub branch_offset : Format → List ℕ → ℕ → Option ℤ
 branch_offset F10t us at = Some (signed_in 1 (high_byte (slice_index us at)))
 branch_offset F20t us at = Some (signed_in 2 (slice_index us (at + 1)))
@@ -147,18 +147,18 @@ branch_offset F30t us at = Some (int_in us (at + 1))
 branch_offset F31t us at = Some (int_in us (at + 1))
 branch_offset _ us at = None
 
--- the first unit of the payload that an instruction of format 31t leads to
+-- the first unit of the payload that an instruction of format 31t refers to
 abbrev pub payload_ident : ℕ → ℕ
 payload_ident op = if op == 0x2b then packed_switch_ident else (if op == 0x2c then sparse_switch_ident else array_data_ident)
 
--- the targets of the payload at a unit, as they are written; array data has none
+-- the targets of the payload at a unit, as encoded; array data has none
 abbrev pub payload_targets : List ℕ → ℕ → List ℤ
 payload_targets us at =
     if slice_index us at == packed_switch_ident then ints_in us (at + 4) (slice_index us (at + 1))
     else (if slice_index us at == sparse_switch_ident then ints_in us (at + 2 + 2 * slice_index us (at + 1)) (slice_index us (at + 1))
     else [])
 
--- A branch leads to the start of an instruction; 31t to the start of a payload of its kind, whose targets,
+-- A branch has the start of an instruction as its target. A 31t has the start of a payload of its kind, whose targets,
 -- counted from the instruction, are starts of instructions.
 abbrev pub leads_right : List ℕ → List Cut → ℕ → Format → ℤ → Bool
 leads_right us cs at F31t offset =
@@ -166,16 +166,16 @@ leads_right us cs at F31t offset =
     && list_all (λ target. is_instruction_start us cs (pos at +ℤ target)) (payload_targets us (nat_abs (pos at +ℤ offset)))
 leads_right us cs at _ offset = is_instruction_start us cs (pos at +ℤ offset)
 
--- what there is passes the test
+-- the value, if there is one, passes the test
 abbrev pub all_of_option : {X : Type 0} → (X → Bool) → Option X → Bool
 all_of_option p None = true
 all_of_option p (Some x) = p x
 
--- the instruction of this opcode at a unit leads right, if it leads anywhere
+-- the target of the instruction of this opcode at a unit, if it has one, is valid
 abbrev pub has_right_branch : List ℕ → List Cut → ℕ → Opcode → Bool
 has_right_branch us cs at op = all_of_option (leads_right us cs at op.format) (branch_offset op.format us at)
 
--- the piece is a payload, or an instruction that leads right
+-- the piece is a payload, or an instruction whose targets are valid
 unfoldable pub has_right_targets : List ℕ → List Cut → Cut → Bool
 has_right_targets us cs c =
     is_payload_ident (slice_index us c.unit) || all_of_option (has_right_branch us cs c.unit) (opcode_of (low_byte (slice_index us c.unit)))
@@ -188,8 +188,8 @@ pub record IsCode (us : List ℕ) (cs : List Cut) : Type 0 where
 
 -- ---- symbols
 
--- A piece: an instruction's units with those of its index put to zero, beside the symbol that the index
--- names, if there is one; or the units of a payload.
+-- A piece: the units of an instruction, with zero for its index, and the symbol that the index names, if there is one;
+-- or the units of a payload.
 pub data Piece : Type 0 where
   Instruction : (units : List ℕ) → (symbol : Option Symbol) → Piece
   Payload : (units : List ℕ) → Piece
@@ -211,11 +211,11 @@ is_wide_index us = low_byte (slice_index us 0) == 0x1b
 abbrev pub index_in : List ℕ → ℕ
 index_in us = if is_wide_index us then two_units us 1 else slice_index us 1
 
--- the units with this index put in
+-- the units with this index
 abbrev pub with_index : ℕ → List ℕ → List ℕ
 with_index i us = if is_wide_index us then slice_set (slice_set us 1 (i % 65536)) 2 (i / 65536) else slice_set us 1 i
 
--- the units stand for the piece, where an index stands for a symbol as the relation says
+-- the units encode the piece, if indices and symbols are related in this way
 abbrev pub StandsForPiece : (ℕ → Symbol → Type 0) → List ℕ → Piece → Type 0
 StandsForPiece Names us (Instruction xs None) = (is_payload_ident (slice_index us 0) ≡ false) × (index_pool us ≡ None) × (xs ≡ us)
 StandsForPiece Names us (Instruction xs (Some s)) = (index_pool us ≡ Some (pool_of s)) × Names (index_in us) s × (xs ≡ with_index 0 us)

@@ -1,5 +1,5 @@
--- Which items there are, in which order, and where they begin: uses, items, sections and directories.
--- This project's rule: the order of uses, and that equal type lists, debug programs and annotation sets have one item.
+-- The items, their order and their offsets: uses, items, sections and directories. This project's rule: the order of
+-- uses, and that equal type lists, debug programs and annotation sets have one item.
 use Rattle.std.specs.Prelude.{ℕ, ◌+◌, Bool, ◌==◌, if◌then◌else◌, List, [], ◌∷◌, ◌++◌, length, map, take, drop, slice_index, Option, Some, None}
 use Rattle.std.specs.List.{flat_map, zip, position_or_len}
 use Rattle.std.specs.Ordering.{nat_cmp}
@@ -24,29 +24,29 @@ pub record Items (X : Type 0) : Type 0 where
   pub numbers : List (Option ℕ)
   pub written : List X
 
--- numbers from n on for what there is
+-- numbers from n on for the values that are present
 abbrev pub own_numbers : {X : Type 0} → ℕ → List (Option X) → List (Option ℕ)
 own_numbers n [] = []
 own_numbers n (None ∷ uses) = None ∷ own_numbers n uses
 own_numbers n (Some x ∷ uses) = Some n ∷ own_numbers (n + 1) uses
 
--- each use that has something has an item of its own
+-- each use that is present has its own item
 abbrev pub own_items : {X : Type 0} → List (Option X) → Items X
 own_items uses = record { numbers = own_numbers 0 uses; written = present uses }
 
--- uses that are the same by a test have one item, in the place of the first of them
+-- equal uses by a test have one item, at the place of the first of them
 abbrev pub shared_items : {X : Type 0} → (X → X → Bool) → List (Option X) → Items X
 shared_items same uses =
     let items = distinct same (present uses) in
     record { numbers = map (option_map (λ x. position_or_len (λ y. same y x) items)) uses; written = items }
 
--- Type lists, debug programs and annotation sets: equal ones are written once, as in the canonical file, or each use
--- for itself.
+-- Type lists, debug programs and annotation sets: equal ones are written once, as in the canonical file, or once for
+-- each use.
 pub data Sharing : Type 0 where
   EqualOnce : Sharing
   EachForItself : Sharing
 
--- the items of such uses
+-- the items of uses with this sharing
 abbrev pub items_by : {X : Type 0} → Sharing → (X → X → Bool) → List (Option X) → Items X
 items_by EqualOnce same uses = shared_items same uses
 items_by EachForItself same uses = own_items uses
@@ -63,33 +63,33 @@ values_unless_empty (ThenValue v vs) = Some (ThenValue v vs)
 
 -- ---- sections
 
--- items that follow one another from a place on, each aligned
+-- items in sequence from an offset on, each aligned
 pub record Placed : Type 0 where
   pub kind : Section
   pub align : ℕ
   pub from : ℕ
   pub items : List (List ℕ)
 
--- where the items begin
+-- the offsets of the items
 abbrev pub offsets_from : ℕ → ℕ → List (List ℕ) → List ℕ
 offsets_from align from [] = []
 offsets_from align from (x ∷ xs) = round_up align from ∷ offsets_from align (round_up align from + length x) xs
 
--- where they end
+-- the end of the items
 abbrev pub end_from : ℕ → ℕ → List (List ℕ) → ℕ
 end_from align from [] = from
 end_from align from (x ∷ xs) = end_from align (round_up align from + length x) xs
 
--- their bytes, with zeros for the alignment
+-- the bytes of the items, with zeros for the alignment
 abbrev pub bytes_from : ℕ → ℕ → List (List ℕ) → List ℕ
 bytes_from align from [] = []
 bytes_from align from (x ∷ xs) = padding align from ++ (x ++ bytes_from align (round_up align from + length x) xs)
 
--- where the items of a section begin
+-- the offsets of the items of a section
 abbrev pub offsets : Placed → List ℕ
 offsets p = offsets_from p.align p.from p.items
 
--- where the section ends
+-- the end of the section
 abbrev pub end : Placed → ℕ
 end p = end_from p.align p.from p.items
 
@@ -97,7 +97,7 @@ end p = end_from p.align p.from p.items
 abbrev pub section_bytes : Placed → List ℕ
 section_bytes p = bytes_from p.align p.from p.items
 
--- the offset of each use's item, and 0 where it has none
+-- the offset of each use's item, or 0 if it has none
 abbrev pub uses_offsets : List (Option ℕ) → List ℕ → List ℕ
 uses_offsets numbers offsets = map (λ n. option_map_or (slice_index offsets) n 0) numbers
 
@@ -113,15 +113,15 @@ pub record Ordered : Type 0 where
 abbrev pub all_methods : List Definition → List MethodDef
 all_methods cs = flat_map (λ d. declared_methods d.1) cs
 
--- parameters of the protos, and then interfaces of the classes
+-- the parameters of the protos, then the interfaces of the classes
 abbrev pub type_list_uses : Ordered → List (Option (List Text))
 type_list_uses K = map (λ p. unless_empty p.parameters) K.pools.protos ++ map (λ d. unless_empty d.1.interfaces) K.classes
 
--- a method's own set, and then those of its parameters
+-- a method's own set, then those of its parameters
 abbrev pub method_sets : MethodDef → List AnnotationSet
 method_sets x = x.annotations ∷ x.parameter_annotations
 
--- the class's own set, those of its fields, those of its methods
+-- the class's own set, then those of its fields, then those of its methods
 abbrev pub class_sets : Definition → List AnnotationSet
 class_sets d = d.1.annotations ∷ (map (λ f. f.annotations) (declared_fields d.1) ++ flat_map method_sets (declared_methods d.1))
 
@@ -141,7 +141,7 @@ code_uses K debug_offs = zip_with (λ x o. option_map_or (λ c. Some (c, o)) x.c
 abbrev pub static_values_uses : Ordered → List (Option Values)
 static_values_uses K = map (λ d. values_unless_empty d.1.static_values) K.classes
 
--- what was for all methods, class by class
+-- a list for all methods, split by class
 abbrev pub by_class : {X : Type 0} → Ordered → List X → List (List X)
 by_class K xs = chunks (map (λ d. length (declared_methods d.1)) K.classes) xs
 
@@ -153,13 +153,13 @@ is_empty_class c = length (declared_fields c) + length (declared_methods c) == 0
 abbrev pub class_data_uses : Ordered → List ℕ → List (Option (Definition × List ℕ))
 class_data_uses K code_offs = zip_with (λ d offs. if is_empty_class d.1 then None else Some (d, offs)) K.classes (by_class K code_offs)
 
--- the offsets of a class's sets: its own, its fields', and for each method those of the method
+-- the offsets of a class's sets: of its own, of its fields, and for each method of the method
 pub record SetOffsets : Type 0 where
   pub own : ℕ
   pub fields : List ℕ
   pub methods : List (List ℕ)
 
--- the offsets of a class's sets, taken apart
+-- the offsets of a class's sets, separated
 abbrev pub set_offsets_of : Definition → List ℕ → SetOffsets
 set_offsets_of d offs = record {
   own = slice_index offs 0;
@@ -181,7 +181,7 @@ ref_list_uses K sets = flat_map (λ s. map (λ offs. unless_empty (drop 1 offs))
 abbrev pub pair_cmp : ℕ × ℕ → ℕ × ℕ → Ordering
 pair_cmp x y = nat_cmp x.0 y.0
 
--- pairs of an index and an offset by their index, those with offset 0 left out
+-- pairs of an index and an offset by their index, without those with offset 0
 abbrev pub pairs : List ℕ → List ℕ → List (ℕ × ℕ)
 pairs indices offs = in_order pair_cmp (flat_map (λ p. if p.1 == 0 then [] else p ∷ []) (zip indices offs))
 
@@ -189,7 +189,7 @@ pairs indices offs = in_order pair_cmp (flat_map (λ p. if p.1 == 0 then [] else
 abbrev pub pairs_bytes : List (ℕ × ℕ) → List ℕ
 pairs_bytes ps = flat_map (λ p. uint p.0 ++ uint p.1) ps
 
--- the directory of a class with these sets and ref lists, unless it has none
+-- the directory of a class with these sets and ref lists, if it has one
 abbrev pub directory_bytes : Mentions → Definition → SetOffsets → List ℕ → Option (List ℕ)
 directory_bytes m (name, c) sets ref_lists =
     let field_indices = map (λ f. field_index m (field_of name f)) (declared_fields c) in

@@ -1,6 +1,5 @@
--- What the rows of the five pools stand for: conditions 11 to 15.
--- Source: "Dalvik Executable format", "string_id_item", "type_id_item", "proto_id_item", "field_id_item",
--- "method_id_item" and "type_list".
+-- What the rows of the five pools denote: conditions 11 to 15. Source: "Dalvik Executable format", "string_id_item",
+-- "type_id_item", "proto_id_item", "field_id_item", "method_id_item" and "type_list".
 use Rattle.std.specs.Prelude.{◌≡◌, ℕ, ◌+◌, ◌*◌, ◌%◌, ◌<◌, ◌≤◌, List, [], ◌∷◌, All, if◌then◌else◌, ◌==◌}
 use Rattle.std.specs.Ordering.{nat_cmp}
 use Rattle.std.specs.Cmp.Lexicographic.{slice_cmp}
@@ -15,7 +14,7 @@ use Rattle.dexspec.specs.Symbols.{Proto, Field, Method, Symbol, TextSymbol, Type
 use Rattle.dexspec.specs.Header.{Table, StringIds, TypeIds, ProtoIds, FieldIds, MethodIds, table_size, table_off, row_size, data_off}
 use Rattle.dexspec.specs.Sections.{IsInData}
 
--- where row i of a table begins
+-- the offset of row i of a table
 abbrev pub row_at : List ℕ → Table → ℕ → ℕ
 row_at b t i = table_off b t + row_size t * i
 
@@ -39,7 +38,7 @@ pub record TypeRow (b : List ℕ) (i : ℕ) (t : Text) : Type 0 where
 abbrev pub type_indices : List ℕ → ℕ → List ℕ
 type_indices b o = ushorts_at b (o + 4) (uint_at b o)
 
--- at offset o stands a type_list of these types
+-- a type_list of these types is at offset o
 pub record TypeListAt (b : List ℕ) (o : ℕ) (ts : List Text) : Type 0 where
   pub in_data : IsInData b o (4 + 2 * uint_at b o)
   pub aligned : o % 4 ≡ 0
@@ -85,19 +84,19 @@ SymbolRow b i (MethodSymbol m) = MethodRow b i m
 abbrev pub key_cmp : List ℕ → List ℕ → Ordering
 key_cmp = slice_cmp nat_cmp
 
--- a type's row is ordered by its string
+-- the key of a type's row is its string
 abbrev pub type_row_key : List ℕ → ℕ → List ℕ
 type_row_key b i = uint_at b (row_at b TypeIds i) ∷ []
 
--- a proto's by its return type, and then by its parameters
+-- of a proto's, its return type, then its parameters
 abbrev pub proto_row_key : List ℕ → ℕ → List ℕ
 proto_row_key b i = uint_at b (row_at b ProtoIds i + 4) ∷ (if uint_at b (row_at b ProtoIds i + 8) == 0 then [] else type_indices b (uint_at b (row_at b ProtoIds i + 8)))
 
--- a field's by its class, then by its name, then by its type
+-- of a field's, its class, then its name, then its type
 abbrev pub field_row_key : List ℕ → ℕ → List ℕ
 field_row_key b i = ushort_at b (row_at b FieldIds i) ∷ uint_at b (row_at b FieldIds i + 4) ∷ ushort_at b (row_at b FieldIds i + 2) ∷ []
 
--- a method's by its class, then by its name, then by its proto
+-- of a method's, its class, then its name, then its proto
 abbrev pub method_row_key : List ℕ → ℕ → List ℕ
 method_row_key b i = ushort_at b (row_at b MethodIds i) ∷ uint_at b (row_at b MethodIds i + 4) ∷ ushort_at b (row_at b MethodIds i + 2) ∷ []
 

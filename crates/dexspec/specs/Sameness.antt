@@ -1,4 +1,4 @@
--- Whether two type lists, two debug programs, two annotation sets are the same, part by part.
+-- Whether two type lists, two debug programs or two annotation sets are equal, part by part.
 use Rattle.std.specs.Prelude.{◌==◌, Bool, true, false, not, ◌&&◌, if◌then◌else◌, List, Option}
 use Rattle.std.specs.Ordering.{int_eq}
 use Rattle.std.specs.Option.{option_eq}
@@ -54,7 +54,7 @@ same_debug d e = d.line_start == e.line_start && (pointwise same_optional d.para
 -- ---- annotation sets
 
 abbrev mutual
-  -- values of one kind that hold the same
+  -- values of one kind with equal contents
   pub same_value : Value → Value → Bool
   same_value (ByteValue y) (ByteValue z) = int_eq y z
   same_value (ShortValue y) (ShortValue z) = int_eq y z

@@ -1,5 +1,5 @@
--- Where the tables, the data and the map stand: conditions 9 and 10.
--- Source: "Dalvik Executable format", "header_item", "map_list", "map_item" and "Type codes".
+-- The offsets of the tables, the data and the map: conditions 9 and 10. Source: "Dalvik Executable format",
+-- "header_item", "map_list", "map_item" and "Type codes".
 use Rattle.std.specs.Prelude.{◌≡◌, ◌≢◌, ℕ, zero, suc, ◌+◌, ◌*◌, ◌%◌, ◌<◌, ◌≤◌, ◌⊎◌, List, [], ◌∷◌, length, map, All, IsTrue}
 use Rattle.std.specs.List.{Contains}
 use Rattle.std.specs.Ordering.{nat_cmp}
@@ -9,8 +9,8 @@ use Rattle.dexspec.specs.Header.{Table, StringIds, TypeIds, ProtoIds, FieldIds, 
 
 -- ---- condition 9
 
--- An empty table has offset 0; the others stand in order at multiples of 4, each behind what is before it, and
--- the last ends at or before data_off.
+-- An empty table has offset 0. The others are in order at multiples of 4, each after the part before it, and the last
+-- ends at or before data_off.
 abbrev pub AreLaidOut : List ℕ → ℕ → List Table → Type 0
 AreLaidOut b from [] = from ≤ data_off b
 AreLaidOut b from (t ∷ ts) = ((table_size b t ≡ 0) × (table_off b t ≡ 0) × AreLaidOut b from ts)
@@ -45,7 +45,7 @@ pub data Section : Type 0 where
   EncodedArrayItems : Section
   AnnotationsDirectories : Section
 
--- the number that a map has for a kind of section
+-- the code of a kind of section in a map
 abbrev pub type_code : Section → ℕ
 type_code HeaderItem = 0x0000
 type_code (TableOf StringIds) = 0x0001
@@ -85,12 +85,12 @@ map_entries b = entries_at b (map_off b + 4) (uint_at b (map_off b))
 abbrev pub IsKnown : MapEntry → Type 0
 IsKnown e = (s : Section) × (e.kind ≡ type_code s)
 
--- a table that is not empty has its entry, an empty one has none
+-- a table that is not empty has its entry; an empty table has none
 abbrev pub HasTable : List ℕ → List MapEntry → Table → Type 0
 HasTable b es t = ((table_size b t ≡ 0) × All (λ e. e.kind ≢ type_code (TableOf t)) es)
     ⊎ ((table_size b t ≢ 0) × Contains es (record { kind = type_code (TableOf t); size = table_size b t; off = table_off b t }))
 
--- an entry that is not the header's and not a table's begins in the data
+-- an entry of neither the header nor a table begins in the data
 abbrev pub IsPlaced : List ℕ → MapEntry → Type 0
 IsPlaced b e = (e.kind < 7) ⊎ ((data_off b ≤ e.off) × (e.off < file_size b))
 

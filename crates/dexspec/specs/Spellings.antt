@@ -1,6 +1,6 @@
--- The canonical bytes of each item, for given pools and offsets: every spelling is the shortest.
--- Source: "Dalvik Executable format", the headings that the files on reading each item name. That the shortest
--- spelling is taken, and handlers in order of first use, is this project's rule.
+-- The canonical bytes of each item, for given pools and offsets: every encoding is the shortest. Source: "Dalvik
+-- Executable format", the headings that the files on reading each item name. The shortest encoding, and the order of
+-- handlers by first use, are this project's rule.
 use Rattle.std.specs.Prelude.{ℕ, suc, ℤ, pos, negsuc, ◌-ℤ◌, ◌+◌, ◌-◌, ◌*◌, ◌/◌, ◌%◌, ◌^◌, ◌==◌, nat_lt, if◌then◌else◌, List, [], ◌∷◌, ◌++◌, length, map, take, drop, Option, Some, None, unwrap_or, option_to_list}
 use Rattle.std.specs.List.{flat_map, concat, find, zip}
 use Rattle.std.specs.Option.{option_map_or}
@@ -47,7 +47,7 @@ symbol_index m (ProtoSymbol p) = proto_index m p
 symbol_index m (FieldSymbol f) = field_index m f
 symbol_index m (MethodSymbol x) = method_index m x
 
--- the index of what there is, or none
+-- the index of a value that is present, or none
 abbrev pub index_or_none : {X : Type 0} → (X → ℕ) → Option X → Option ℕ
 index_or_none index None = None
 index_or_none index (Some x) = Some (index x)
@@ -60,7 +60,7 @@ type_list_bytes m ts = uint (length ts) ++ flat_map (λ t. ushort (type_index m 
 
 -- ---- code
 
--- the units of a piece, its index put in
+-- the units of a piece with its index
 abbrev pub piece_units : Mentions → Piece → List ℕ
 piece_units m (Instruction us None) = us
 piece_units m (Instruction us (Some s)) = with_index (symbol_index m s) us
@@ -70,7 +70,7 @@ piece_units m (Payload us) = us
 abbrev pub catch_bytes : Mentions → Catch → List ℕ
 catch_bytes m c = uleb128 (type_index m c.type) ++ uleb128 c.address
 
--- the number of catches, 0 or less where there is an address for all else
+-- the number of catches; it is 0 or less if there is a catch-all address
 abbrev pub handler_count : Handler → ℤ
 handler_count h = option_map_or (λ address. pos 0 -ℤ pos (length h.catches)) h.catch_all (pos (length h.catches))
 
@@ -78,7 +78,7 @@ handler_count h = option_map_or (λ address. pos 0 -ℤ pos (length h.catches)) 
 abbrev pub handler_bytes : Mentions → Handler → List ℕ
 handler_bytes m h = sleb128 (handler_count h) ++ (flat_map (catch_bytes m) h.catches ++ flat_map uleb128 (option_to_list h.catch_all))
 
--- where the handler begins, of handlers of which the first begins at a place
+-- the offset of a handler among handlers of which the first is at an offset
 abbrev pub handler_off : Mentions → ℕ → List Handler → Handler → ℕ
 handler_off m from [] h = from
 handler_off m from (k ∷ ks) h = if same_handler k h then from else handler_off m (from + length (handler_bytes m k)) ks h
@@ -91,7 +91,7 @@ try_bytes m hs t = uint t.start ++ (ushort t.count ++ ushort (handler_off m (len
 abbrev pub handler_list_bytes : Mentions → List Handler → List ℕ
 handler_list_bytes m hs = uleb128 (length hs) ++ flat_map (handler_bytes m) hs
 
--- behind so many units: a zero ushort where their number is odd, the tries, and the handlers that they name
+-- after `count` units: a zero ushort if `count` is odd, the tries, and the handlers that they name
 abbrev pub tries_bytes : Mentions → ℕ → List Try → List ℕ
 tries_bytes m count [] = []
 tries_bytes m count (t ∷ ts) = (if count % 2 == 1 then ushort 0 else []) ++ (flat_map (try_bytes m (handlers_of (t ∷ ts))) (t ∷ ts) ++ handler_list_bytes m (handlers_of (t ∷ ts)))
@@ -131,23 +131,23 @@ debug_bytes m d = uleb128 d.line_start ++ (uleb128 (length d.parameter_names) ++
 
 -- ---- values and annotations
 
--- the numbers of bytes that a value may have
+-- the possible numbers of bytes of a value
 abbrev pub widths : List ℕ
 widths = 1 ∷ 2 ∷ 3 ∷ 4 ∷ 5 ∷ 6 ∷ 7 ∷ 8 ∷ []
 
--- the fewest bytes that hold an unsigned number, one at least
+-- the minimum number of bytes for an unsigned number, at least one
 abbrev pub unsigned_width : ℕ → ℕ
 unsigned_width v = unwrap_or (find (λ n. nat_lt v (256 ^ n)) widths) 8
 
--- the fewest that hold a signed number and its sign
+-- the minimum number of bytes for a signed number and its sign
 abbrev pub signed_width : ℤ → ℕ
 signed_width z = unwrap_or (find (λ n. nat_lt (2 * magnitude z) (256 ^ n)) widths) 8
 
--- the fewest that hold a bit pattern of so many bytes, zeros at its low end left out
+-- the minimum number of bytes for a bit pattern of `width` bytes without the zeros at its low end
 abbrev pub bits_width : ℕ → ℕ → ℕ
 bits_width width v = unwrap_or (find (λ n. v % 256 ^ (width - n) == 0) widths) width
 
--- a signed number as n bytes hold it
+-- a signed number in two's complement of n bytes
 abbrev pub complement : ℕ → ℤ → ℕ
 complement n (pos v) = v
 complement n (negsuc v) = 256 ^ n - suc v
@@ -184,12 +184,12 @@ abbrev mutual
   value_bytes m NullValue = value_byte 0 null_value_type ∷ []
   value_bytes m (BooleanValue is) = value_byte (if is then 1 else 0) boolean_value_type ∷ []
 
-  -- values one after the other
+  -- values in sequence
   pub values_bytes : Mentions → Values → List ℕ
   values_bytes m NoValues = []
   values_bytes m (ThenValue v vs) = value_bytes m v ++ values_bytes m vs
 
-  -- annotation_elements one after the other
+  -- annotation_elements in sequence
   pub elements_bytes : Mentions → Elements → List ℕ
   elements_bytes m NoElements = []
   elements_bytes m (ThenElement name v es) = uleb128 (text_index m name) ++ (value_bytes m v ++ elements_bytes m es)
@@ -208,7 +208,7 @@ offsets_bytes offsets = uint (length offsets) ++ flat_map uint offsets
 
 -- ---- class data
 
--- members as differences: the first index, and then how much each is greater than the one before it
+-- members as differences: the first index, then the difference of each to the one before it
 abbrev pub differences : ℕ → List ℕ → List ℕ
 differences last [] = []
 differences last (i ∷ is) = (i - last) ∷ differences i is

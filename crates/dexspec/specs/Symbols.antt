@@ -1,6 +1,6 @@
--- Symbols: what the rows of the five pools name, and their five orders.
--- Source: "Dalvik Executable format", "string_id_item", "type_id_item", "proto_id_item",
--- "field_id_item" and "method_id_item". The orders compare texts and never indices.
+-- Symbols: the contents of the rows of the five pools, and their five orders. Source: "Dalvik
+-- Executable format", "string_id_item", "type_id_item", "proto_id_item", "field_id_item" and
+-- "method_id_item". The orders compare texts and never indices.
 use Rattle.std.specs.Prelude.{List, All}
 use Rattle.std.specs.Ordering.{ordering_then}
 use Rattle.std.specs.Cmp.Lexicographic.{slice_cmp}
@@ -8,18 +8,18 @@ use Rattle.std.specs.declared.cmp.Ordering.{Ordering}
 use Rattle.dexspec.specs.Texts.{Text, text_cmp}
 use Rattle.dexspec.specs.Names.{IsDescriptor, IsValueType, IsReferenceType, IsClass, IsMemberName}
 
--- a method's types
+-- the types of a method
 pub record Proto : Type 0 where
   pub return_type : Text
   pub parameters : List Text
 
--- a field, by the class that names it, its name and its type
+-- a field, by its class, its name and its type
 pub record Field : Type 0 where
   pub class : Text
   pub name : Text
   pub type : Text
 
--- a method, by the class or array type that names it, its name and its proto
+-- a method, by its class or array type, its name and its proto
 pub record Method : Type 0 where
   pub class : Text
   pub name : Text
@@ -33,7 +33,7 @@ pub data Pool : Type 0 where
   Fields : Pool
   Methods : Pool
 
--- what a row of one of the pools names
+-- what a row of one of the pools denotes
 pub data Symbol : Type 0 where
   TextSymbol : (text : Text) → Symbol
   TypeSymbol : (descriptor : Text) → Symbol
@@ -49,12 +49,12 @@ pool_of (ProtoSymbol p) = Protos
 pool_of (FieldSymbol f) = Fields
 pool_of (MethodSymbol m) = Methods
 
--- a return type, and parameters that are no void
+-- a return type, and parameters that are not void
 pub record IsProto (p : Proto) : Type 0 where
   pub return_type : IsDescriptor p.return_type
   pub parameters : All IsValueType p.parameters
 
--- a class, a member's name, and a type that is no void
+-- a class, a member's name, and a type that is not void
 pub record IsField (f : Field) : Type 0 where
   pub class : IsClass f.class
   pub name : IsMemberName f.name
@@ -66,7 +66,7 @@ pub record IsMethod (m : Method) : Type 0 where
   pub name : IsMemberName m.name
   pub proto : IsProto m.proto
 
--- by return type, then by the parameters, a front first
+-- by return type, then by the parameters, a prefix first
 abbrev pub proto_cmp : Proto → Proto → Ordering
 proto_cmp p q = ordering_then (text_cmp p.return_type q.return_type) (slice_cmp text_cmp p.parameters q.parameters)
 

@@ -1,7 +1,6 @@
--- Encoded values, arrays and annotations.
--- Source: "Dalvik Executable format", "encoded_value encoding", "Value formats", "encoded_array format",
--- "encoded_annotation format". This project's rules: every width up to the type's own is accepted, and
--- arrays and annotations nest 32 deep at most.
+-- Encoded values, arrays and annotations. Source: "Dalvik Executable format", "encoded_value encoding", "Value
+-- formats", "encoded_array format", "encoded_annotation format". This project's rules: every width up to the type's own
+-- is accepted, and arrays and annotations nest at most 32 deep.
 use Rattle.std.specs.Prelude.{◌≡◌, ℕ, ℤ, ◌+◌, ◌-◌, ◌*◌, ◌^◌, ◌<◌, ◌≤◌, max, Bool, true, false, IsTrue, List, [], ◌∷◌, length}
 use Rattle.dexspec.specs.Lists.{Item, rises}
 use Rattle.dexspec.specs.Bytes.{number_of, signed_in, Stands}
@@ -11,8 +10,8 @@ use Rattle.dexspec.specs.Symbols.{Field, Method}
 use Rattle.dexspec.specs.Header.{data_off}
 use Rattle.dexspec.specs.Rows.{StringRow, TypeRow, FieldRow, MethodRow}
 
--- A value is a tree. A char is a number; floats are their bit patterns; an enum is a field. The elements of
--- an annotation stand by name.
+-- A value is a tree. A char is a number; floats are their bit patterns; an enum is a field. The elements of an
+-- annotation are in order of name.
 mutual
   pub data Value : Type 0 where
     ByteValue : (number : ℤ) → Value
@@ -40,7 +39,7 @@ mutual
     NoElements : Elements
     ThenElement : (name : Text) → (value : Value) → (rest : Elements) → Elements
 
--- how many values there are
+-- the number of values
 abbrev pub count_values : Values → ℕ
 count_values NoValues = 0
 count_values (ThenValue v vs) = count_values vs + 1
@@ -50,10 +49,10 @@ abbrev pub names_of : Elements → List Text
 names_of NoElements = []
 names_of (ThenElement name v es) = name ∷ names_of es
 
--- ---- how deep values nest
+-- ---- the depth of values
 
 abbrev mutual
-  -- a scalar has depth 0, an array or annotation one more than its deepest member
+  -- a scalar has depth 0; an array or annotation has a depth one more than its deepest member
   pub value_depth : Value → ℕ
   value_depth (ByteValue z) = 0
   value_depth (ShortValue z) = 0
@@ -72,7 +71,7 @@ abbrev mutual
   value_depth NullValue = 0
   value_depth (BooleanValue is) = 0
 
-  -- the depth of the deepest
+  -- the depth of the deepest value
   pub values_depth : Values → ℕ
   values_depth NoValues = 0
   values_depth (ThenValue v vs) = max (value_depth v) (values_depth vs)
@@ -82,7 +81,7 @@ abbrev mutual
   elements_depth NoElements = 0
   elements_depth (ThenElement name v es) = max (value_depth v) (elements_depth es)
 
--- the deepest that values may nest (this project's rule)
+-- the maximum depth of values (this project's rule)
 abbrev pub most_depth : ℕ
 most_depth = 32
 
@@ -156,16 +155,16 @@ boolean_value_type = 0x1f
 abbrev pub value_byte : ℕ → ℕ → ℕ
 value_byte arg code = 32 * arg + code
 
--- ---- what stands in a file
+-- ---- in a file
 
--- at offset o stands a value of this type code whose argument counts these bytes, 1 to `width`, less one
+-- a value of this type code, whose argument counts these bytes, 1 to `width`, less one, is at offset o
 pub record SizedAt (code width : ℕ) (b : List ℕ) (o : ℕ) (bytes : List ℕ) (n : ℕ) : Type 0 where
   pub some : 0 < length bytes
   pub few : length bytes ≤ width
   pub stands : Stands b o (value_byte (length bytes - 1) code ∷ bytes)
   pub size : n ≡ 1 + length bytes
 
--- a signed number, the sign of its highest byte extended
+-- a signed number, extended by the sign of its highest byte
 abbrev pub SignedAt : ℕ → ℕ → Item ℤ
 SignedAt code width b o z n = (bytes : List ℕ) × SizedAt code width b o bytes n × (z ≡ signed_in (length bytes) (number_of bytes))
 
@@ -173,26 +172,26 @@ SignedAt code width b o z n = (bytes : List ℕ) × SizedAt code width b o bytes
 abbrev pub UnsignedAt : ℕ → ℕ → Item ℕ
 UnsignedAt code width b o v n = (bytes : List ℕ) × SizedAt code width b o bytes n × (v ≡ number_of bytes)
 
--- a bit pattern, zeros at its low end
+-- a bit pattern, with zeros at its low end
 abbrev pub BitsAt : ℕ → ℕ → Item ℕ
 BitsAt code width b o v n = (bytes : List ℕ) × SizedAt code width b o bytes n × (v ≡ 256 ^ (width - length bytes) * number_of bytes)
 
--- an index of what the relation says
+-- the index of a row that has the value
 abbrev pub IndexAt : {X : Type 0} → ℕ → (List ℕ → ℕ → X → Type 0) → Item X
 IndexAt code Row b o x n = (i : ℕ) × UnsignedAt code 4 b o i n × Row b i x
 
--- at offset o stands an encoded_array of so many values, which stand as the relation says
+-- an encoded_array of `count` values is at offset o; `ValuesFrom` relates the offset and the size of the values
 abbrev pub ArrayAround : (ℕ → ℕ → Type 0) → ℕ → List ℕ → ℕ → ℕ → Type 0
 ArrayAround ValuesFrom count b o n = (i : ℕ) × (j : ℕ) × Uleb128At b o count i × ValuesFrom (o + i) j × (n ≡ i + j)
 
--- at offset o stands an encoded_annotation of this type, whose elements have names that rise strictly, and
--- stand as the relation says
+-- an encoded_annotation of this type is at offset o; the names of its elements rise strictly, and `ElementsFrom`
+-- relates the offset and the size of the elements
 abbrev pub AnnotationAround : (ℕ → ℕ → Type 0) → Text → List Text → List ℕ → ℕ → ℕ → Type 0
 AnnotationAround ElementsFrom t names b o n = (i : ℕ) × (j : ℕ) × (k : ℕ) × (index : ℕ) × Uleb128At b o index i × TypeRow b index t
     × Uleb128At b (o + i) (length names) j × ElementsFrom (o + i + j) k × IsTrue (rises text_cmp names) × (n ≡ i + j + k)
 
 abbrev mutual
-  -- at offset o stands an encoded_value
+  -- an encoded_value is at offset o
   pub ValueAt : List ℕ → ℕ → Value → ℕ → Type 0
   ValueAt b o (ByteValue z) n = SignedAt byte_value_type 1 b o z n
   ValueAt b o (ShortValue z) n = SignedAt short_value_type 2 b o z n
@@ -214,34 +213,34 @@ abbrev mutual
   ValueAt b o (BooleanValue false) n = Stands b o (value_byte 0 boolean_value_type ∷ []) × (n ≡ 1)
   ValueAt b o (BooleanValue true) n = Stands b o (value_byte 1 boolean_value_type ∷ []) × (n ≡ 1)
 
-  -- at offset o stand the values, one after the other
+  -- the values are in sequence at offset o
   pub ValuesAt : List ℕ → ℕ → Values → ℕ → Type 0
   ValuesAt b o NoValues n = n ≡ 0
   ValuesAt b o (ThenValue v vs) n = (i : ℕ) × (j : ℕ) × ValueAt b o v i × ValuesAt b (o + i) vs j × (n ≡ i + j)
 
-  -- at offset o stand the elements, each an index of its name and its value
+  -- the elements, each an index of its name and its value, are in sequence at offset o
   pub ElementsAt : List ℕ → ℕ → Elements → ℕ → Type 0
   ElementsAt b o NoElements n = n ≡ 0
   ElementsAt b o (ThenElement name v es) n = (i : ℕ) × (j : ℕ) × (k : ℕ) × (index : ℕ) × Uleb128At b o index i × StringRow b index name
       × ValueAt b (o + i) v j × ElementsAt b (o + i + j) es k × (n ≡ i + j + k)
 
--- at offset o stands an encoded_array
+-- an encoded_array is at offset o
 abbrev pub EncodedArrayAt : Item Values
 EncodedArrayAt b o vs n = ArrayAround (λ p k. ValuesAt b p vs k) (count_values vs) b o n
 
--- at offset o stands an encoded_annotation
+-- an encoded_annotation is at offset o
 abbrev pub EncodedAnnotationAt : Text → Item Elements
 EncodedAnnotationAt t b o es n = AnnotationAround (λ p k. ElementsAt b p es k) t (names_of es) b o n
 
 -- ---- in the data
 
--- at offset o of the data stands an encoded_value that nests no deeper than it may
+-- an encoded_value that nests at most `most_depth` deep is at offset o of the data
 pub record EncodedValueAt (b : List ℕ) (o : ℕ) (v : Value) (n : ℕ) : Type 0 where
   pub in_data : data_off b ≤ o
   pub stands : ValueAt b o v n
   pub shallow : value_depth v ≤ most_depth
 
--- at offset o of the data stands an encoded_array_item whose values nest no deeper than they may
+-- an encoded_array_item whose values nest at most `most_depth` deep is at offset o of the data
 pub record EncodedArrayItemAt (b : List ℕ) (o : ℕ) (vs : Values) (n : ℕ) : Type 0 where
   pub in_data : data_off b ≤ o
   pub array : EncodedArrayAt b o vs n

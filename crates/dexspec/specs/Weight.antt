@@ -1,5 +1,5 @@
--- The weight of class definitions: a bound on the bytes of their canonical file, and on what a program holds.
--- This project's rule.
+-- The weight of class definitions: an upper bound on the bytes of their canonical file, and on what a program keeps of
+-- them. This project's rule.
 use Rattle.std.specs.Prelude.{ℕ, ◌+◌, ◌*◌, ◌^◌, List, [], ◌∷◌, length, option_to_list, sum_by}
 use Rattle.std.specs.List.{flat_map}
 use Rattle.dexspec.specs.Texts.{Text}
@@ -12,7 +12,7 @@ use Rattle.dexspec.specs.Annotations.{Annotation, AnnotationSet}
 use Rattle.dexspec.specs.Classes.{FieldDef, MethodDef, Body, Definition, declared_fields, declared_methods}
 use Rattle.dexspec.specs.Mentions.{Mentions, mentions}
 
--- ---- what is mentioned
+-- ---- mentioned symbols
 
 -- a string_id and its string_data_item
 abbrev pub text_weight : Text → ℕ
@@ -22,13 +22,13 @@ text_weight s = 10 + 3 * length s
 abbrev pub proto_weight : Proto → ℕ
 proto_weight p = 20 + 2 * length p.parameters
 
--- all rows of the five pools, with what they lead to
+-- all rows of the five pools, with the items that they refer to
 abbrev pub mentions_weight : Mentions → ℕ
 mentions_weight m = sum_by text_weight m.texts + 4 * length m.types + sum_by proto_weight m.protos + 8 * length m.fields + 8 * length m.methods
 
--- ---- what occurs in a definition
+-- ---- parts of a definition
 
--- the numbers that an operation takes; a special operation takes none
+-- the number of operands of an operation; a special operation has none
 abbrev pub operands : Operation → ℕ
 operands (AdvancePc addresses) = 1
 operands (AdvanceLine lines) = 1
@@ -59,12 +59,12 @@ abbrev mutual
   value_weight (AnnotationValue t es) = 12 + elements_weight es
   value_weight _ = 9
 
-  -- values one after the other
+  -- values in sequence
   pub values_weight : Values → ℕ
   values_weight NoValues = 0
   values_weight (ThenValue v vs) = value_weight v + values_weight vs
 
-  -- annotation_elements one after the other
+  -- annotation_elements in sequence
   pub elements_weight : Elements → ℕ
   elements_weight NoElements = 0
   elements_weight (ThenElement name v es) = 5 + value_weight v + elements_weight es
@@ -83,7 +83,7 @@ abbrev pub ref_list_weight : List AnnotationSet → ℕ
 ref_list_weight [] = 0
 ref_list_weight (s ∷ ss) = 8 + 4 * length (s ∷ ss) + sum_by set_weight (s ∷ ss)
 
--- an array of static values; none weighs nothing
+-- an array of static values; an empty one weighs nothing
 abbrev pub static_values_weight : Values → ℕ
 static_values_weight NoValues = 0
 static_values_weight (ThenValue v vs) = 6 + values_weight (ThenValue v vs)
@@ -102,10 +102,10 @@ body_weight c = 96 + 2 * length c.interfaces + set_weight c.annotations + sum_by
 
 -- ---- the whole
 
--- the weight of definitions of which no two are the same
+-- the weight of definitions of which no two are equal
 unfoldable pub weight : List Definition → ℕ
 weight D = 1024 + mentions_weight (mentions D) + sum_by (λ d. body_weight d.1) D
 
--- the most that the classes of a file may weigh
+-- the maximum weight of the classes of a file
 abbrev pub most_weight : ℕ
 most_weight = 2 ^ 30

@@ -1,4 +1,4 @@
--- Well-formed definitions: those that a file can hold, whatever the indices and offsets are.
+-- Well-formed definitions: those that a file can have, whatever the indices and offsets are.
 -- Source: "Dalvik Executable format", the sizes of the fields of each item.
 use Rattle.std.specs.Prelude.{◌≡◌, ℕ, ◌+◌, ◌^◌, ◌<◌, ◌≤◌, IsTrue, List, length, map, All, IfSome, IfNone, FitsSigned}
 use Rattle.std.specs.List.{flat_map, AllZip, Contains}
@@ -26,12 +26,12 @@ FitsUint n = n < 2 ^ 32
 abbrev pub FitsUshort : ℕ → Type 0
 FitsUshort n = n < 2 ^ 16
 
--- its units are units, and it is not too long for its count
+-- all numbers are units, and the text is not too long for its count
 pub record IsText (s : Text) : Type 0 where
   pub units : AreUnits s
   pub count : FitsUint (length s)
 
--- the symbol is one that a row can stand for
+-- a row can denote the symbol
 abbrev pub IsSymbol : Symbol → Type 0
 IsSymbol (TextSymbol s) = IsText s
 IsSymbol (TypeSymbol t) = IsDescriptor t
@@ -41,27 +41,27 @@ IsSymbol (MethodSymbol m) = IsMethod m
 
 -- ---- code
 
--- the pieces are what their units, joined, are cut into, with zero for each index
+-- the pieces are the cuts of their joined units, with zero for each index
 pub record ArePieces (ps : List Piece) (cuts : List Cut) : Type 0 where
   pub code : IsCode (flat_map units_of ps) cuts
   pub pieces : AllZip (λ c p. StandsForPiece (λ i s. i ≡ 0) (cut_units (flat_map units_of ps) c) p) cuts ps
   pub units : AreUnits (flat_map units_of ps)
   pub count : FitsUint (length (flat_map units_of ps))
 
--- addresses are starts of instructions; without catches there is an address for all else
+-- addresses are starts of instructions; without catches there is a catch-all address
 pub record IsHandlerOf (us : List ℕ) (cuts : List Cut) (h : Handler) : Type 0 where
   pub catches : All (λ c. IsStart us cuts c.address) h.catches
   pub catch_all : IfSome h.catch_all (IsStart us cuts)
   pub some : IfNone h.catch_all (0 < length h.catches)
 
--- units that are there, and a handler
+-- units of the code, and a handler
 pub record IsTryOf (us : List ℕ) (cuts : List Cut) (t : Try) : Type 0 where
   pub some : 0 < t.count
   pub count : FitsUshort t.count
   pub within : t.start + t.count ≤ length us
   pub handler : IsHandlerOf us cuts t.handler
 
--- operands fit their spellings
+-- operands fit their encodings
 abbrev pub IsOperation : Operation → Type 0
 IsOperation (AdvancePc addresses) = FitsUint addresses
 IsOperation (AdvanceLine lines) = FitsSigned w32 lines
@@ -72,14 +72,14 @@ IsOperation (RestartLocal register) = FitsUint register
 IsOperation (Special opcode) = (0x0a ≤ opcode) × (opcode ≤ 0xff)
 IsOperation _ = Unit {0}
 
--- numbers and counts fit, and there are no more operations than a file has bytes
+-- numbers and counts fit, and there are at most as many operations as a file has bytes
 pub record IsDebug (d : Debug) : Type 0 where
   pub line_start : FitsUint d.line_start
   pub names : FitsUint (length d.parameter_names)
   pub operations : All IsOperation d.operations
   pub few : length d.operations < 2 ^ 30
 
--- code that some code_item is
+-- code that some code_item denotes
 pub record IsCodeItem (c : Code) : Type 0 where
   pub registers : FitsUshort c.registers
   pub ins : FitsUshort c.ins
@@ -95,7 +95,7 @@ pub record IsCodeItem (c : Code) : Type 0 where
 -- ---- values and annotations
 
 abbrev mutual
-  -- a value that some encoded_value is
+  -- a value that some encoded_value denotes
   pub IsValue : Value → Type 0
   IsValue (ByteValue z) = FitsSigned w8 z
   IsValue (ShortValue z) = FitsSigned w16 z
@@ -108,17 +108,17 @@ abbrev mutual
   IsValue (AnnotationValue t es) = AreElements es × FitsUint (length (names_of es)) × IsTrue (rises text_cmp (names_of es))
   IsValue _ = Unit {0}
 
-  -- each of the values is one
+  -- each of the values is such a value
   pub AreValues : Values → Type 0
   AreValues NoValues = Unit {0}
   AreValues (ThenValue v vs) = IsValue v × AreValues vs
 
-  -- each element's value is one
+  -- the value of each element is such a value
   pub AreElements : Elements → Type 0
   AreElements NoElements = Unit {0}
   AreElements (ThenElement name v es) = IsValue v × AreElements es
 
--- an annotation that some annotation_item is
+-- an annotation that some annotation_item denotes
 pub record IsAnnotation (a : Annotation) : Type 0 where
   pub visibility : a.visibility ≤ 2
   pub elements : AreElements a.elements
@@ -134,7 +134,7 @@ pub record IsSet (set : AnnotationSet) : Type 0 where
 
 -- ---- members and classes
 
--- a field's place among those of its class
+-- the key of a field among those of its class
 abbrev pub field_key : FieldDef → Text × Text
 field_key f = (f.name, f.type)
 
@@ -142,7 +142,7 @@ field_key f = (f.name, f.type)
 abbrev pub field_key_cmp : Text × Text → Text × Text → Ordering
 field_key_cmp x y = ordering_then (text_cmp x.0 y.0) (text_cmp x.1 y.1)
 
--- a method's place among those of its class
+-- the key of a method among those of its class
 abbrev pub method_key : MethodDef → Text × Proto
 method_key m = (m.name, m.proto)
 
@@ -167,7 +167,7 @@ pub record IsMethodDef (m : MethodDef) : Type 0 where
   pub parameters : All IsSet m.parameter_annotations
   pub parameters_count : FitsUint (length m.parameter_annotations)
 
--- a definition that some file can hold
+-- a definition that some file can have
 pub record IsWellFormed (d : Definition) : Type 0 where
   pub name : IsClass d.0
   pub superclass : IfSome d.1.superclass IsClass
@@ -193,6 +193,6 @@ pub record IsWellFormed (d : Definition) : Type 0 where
   pub symbols : All IsSymbol (symbols_of d)
   pub texts : All IsText (flat_map texts_in (symbols_of d))
 
--- every one of them is a definition that some file can hold
+-- each of them is a definition that some file can have
 abbrev pub AreWellFormed : List Definition → Type 0
 AreWellFormed D = (d : Definition) → Contains D d → IsWellFormed d

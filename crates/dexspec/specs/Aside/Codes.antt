@@ -1,5 +1,5 @@
--- Codes of the model's types: one-to-one maps into trees of numbers, by which a value of a type is stored,
--- and told from another one.
+-- Codes of the model's types: injective maps into trees of numbers, by which the values of a type are stored and
+-- compared.
 use Rattle.std.specs.Prelude.{◌≡◌, ℕ, ◌==◌, T, List, Option}
 use Rattle.std.specs.FinMap as map
 use Rattle.std.proofs.Common.{refl, sym, ap, subst}
@@ -17,7 +17,7 @@ use Rattle.dexspec.specs.Files.{Collection}
 
 -- ---- trees of numbers
 
--- the number that a code of several parts begins with
+-- the first number of a code of several parts
 abbrev tag : Gv → ℕ
 tag gnil = 0
 tag (gnum n) = n
@@ -35,7 +35,7 @@ tail gnil = gnil
 tail (gnum n) = gnil
 tail (gcons a b) = b
 
--- a code of several parts is no empty one
+-- a code of several parts is not empty
 abbrev HasParts : Gv → Type 0
 HasParts gnil = ⊥
 HasParts (gnum n) = ⊥
@@ -67,7 +67,7 @@ method_code =
     code_by (Text × (Text × Proto)) (coded× text_code (coded× text_code proto_code)) (λ m. (m.class, (m.name, m.proto)))
     (λ t. record { class = t.0; name = t.1.0; proto = t.1.1 }) (λ _. refl)
 
--- a symbol is the number of its pool and what it names
+-- a symbol is the number of its pool and its contents
 abbrev symbol_tree : Symbol → Gv
 symbol_tree (TextSymbol s) = gcons (gnum 0) (text_code.code s)
 symbol_tree (TypeSymbol t) = gcons (gnum 1) (text_code.code t)
@@ -75,7 +75,7 @@ symbol_tree (ProtoSymbol p) = gcons (gnum 2) (proto_code.code p)
 symbol_tree (FieldSymbol f) = gcons (gnum 3) (field_code.code f)
 symbol_tree (MethodSymbol m) = gcons (gnum 4) (method_code.code m)
 
--- no two symbols have one code
+-- two symbols with equal codes are equal
 pub one_symbol : (x y : Symbol) → symbol_tree x ≡ symbol_tree y → x ≡ y
 one_symbol (TextSymbol s) (TextSymbol t) p = ap TextSymbol (text_code.inj s t (ap tail p))
 one_symbol (TypeSymbol s) (TypeSymbol t) p = ap TypeSymbol (text_code.inj s t (ap tail p))
@@ -95,7 +95,7 @@ abbrev piece_tree : Piece → Gv
 piece_tree (Instruction us s) = gcons (gnum 0) (gcons (text_code.code us) ((coded_option symbol_code).code s))
 piece_tree (Payload us) = gcons (gnum 1) (text_code.code us)
 
--- no two pieces have one code
+-- two pieces with equal codes are equal
 pub one_piece : (x y : Piece) → piece_tree x ≡ piece_tree y → x ≡ y
 one_piece (Instruction us s) (Instruction vs t) p = λ i. Instruction (text_code.inj us vs (ap (λ g. head (tail g)) p) i) ((coded_option symbol_code).inj s t (ap (λ g. tail (tail g)) p) i)
 one_piece (Payload us) (Payload vs) p = ap Payload (text_code.inj us vs (ap tail p))
@@ -105,7 +105,7 @@ one_piece x y p = absurd (subst (λ g. T (tag (piece_tree x) == tag g)) p tt)
 abbrev pub piece_code : Coded Piece
 piece_code = record { code = piece_tree; inj = one_piece }
 
--- an operation is the number of its kind and what it takes
+-- an operation is the number of its kind and its operands
 abbrev operation_tree : Operation → Gv
 operation_tree (AdvancePc addresses) = gcons (gnum 0) (gnum addresses)
 operation_tree (AdvanceLine lines) = gcons (gnum 1) (coded_ℤ.code lines)
@@ -119,7 +119,7 @@ operation_tree SetEpilogueBegin = gcons (gnum 7) gnil
 operation_tree (SetFile name) = gcons (gnum 8) (optional_text_code.code name)
 operation_tree (Special opcode) = gcons (gnum 9) (gnum opcode)
 
--- no two operations have one code
+-- two operations with equal codes are equal
 pub one_operation : (x y : Operation) → operation_tree x ≡ operation_tree y → x ≡ y
 one_operation (AdvancePc m) (AdvancePc n) p = ap AdvancePc (coded_ℕ.inj m n (ap tail p))
 one_operation (AdvanceLine m) (AdvanceLine n) p = ap AdvanceLine (coded_ℤ.inj m n (ap tail p))
@@ -149,7 +149,7 @@ debug_code =
 abbrev pub catch_code : Coded Catch
 catch_code = code_by (Text × ℕ) (coded× text_code coded_ℕ) (λ c. (c.type, c.address)) (λ t. record { type = t.0; address = t.1 }) (λ _. refl)
 
--- a handler is its catches and the address for all else
+-- a handler is its catches and the catch-all address
 abbrev pub handler_code : Coded Handler
 handler_code =
     code_by (List Catch × Option ℕ) (coded× (coded_list catch_code) (coded_option coded_ℕ)) (λ h. (h.catches, h.catch_all))
@@ -171,7 +171,7 @@ code_code =
 -- ---- values
 
 abbrev mutual
-  -- a value is the number of its kind and what it holds
+  -- a value is the number of its kind and its contents
   value_tree : Value → Gv
   value_tree (ByteValue z) = gcons (gnum 0) (coded_ℤ.code z)
   value_tree (ShortValue z) = gcons (gnum 1) (coded_ℤ.code z)
@@ -190,7 +190,7 @@ abbrev mutual
   value_tree NullValue = gcons (gnum 14) gnil
   value_tree (BooleanValue is) = gcons (gnum 15) (coded_bool.code is)
 
-  -- values are a list of them
+  -- values are a list of values
   values_tree : Values → Gv
   values_tree NoValues = gnil
   values_tree (ThenValue v vs) = gcons (value_tree v) (values_tree vs)
@@ -201,7 +201,7 @@ abbrev mutual
   elements_tree (ThenElement name v es) = gcons (text_code.code name) (gcons (value_tree v) (elements_tree es))
 
 mutual
-  -- no two values have one code
+  -- two values with equal codes are equal
   pub one_value : (x y : Value) → value_tree x ≡ value_tree y → x ≡ y
   one_value (ByteValue m) (ByteValue n) p = ap ByteValue (coded_ℤ.inj m n (ap tail p))
   one_value (ShortValue m) (ShortValue n) p = ap ShortValue (coded_ℤ.inj m n (ap tail p))
@@ -221,14 +221,14 @@ mutual
   one_value (BooleanValue s) (BooleanValue t) p = ap BooleanValue (coded_bool.inj s t (ap tail p))
   one_value x y p = absurd (subst (λ g. T (tag (value_tree x) == tag g)) p tt)
 
-  -- nor have two lists of values
+  -- two lists of values with equal codes are equal
   pub one_values : (x y : Values) → values_tree x ≡ values_tree y → x ≡ y
   one_values NoValues NoValues p = refl
   one_values (ThenValue v vs) (ThenValue w ws) p = λ i. ThenValue (one_value v w (ap head p) i) (one_values vs ws (ap tail p) i)
   one_values NoValues (ThenValue w ws) p = absurd (subst HasParts (sym p) tt)
   one_values (ThenValue v vs) NoValues p = absurd (subst HasParts p tt)
 
-  -- nor two lists of elements
+  -- two lists of elements with equal codes are equal
   pub one_elements : (x y : Elements) → elements_tree x ≡ elements_tree y → x ≡ y
   one_elements NoElements NoElements p = refl
   one_elements (ThenElement s v ds) (ThenElement t w es) p =
@@ -273,7 +273,7 @@ method_def_code =
     (λ m. (m.name, (m.proto, (m.flags, (m.code, (m.annotations, m.parameter_annotations))))))
     (λ t. record { name = t.0; proto = t.1.0; flags = t.1.1.0; code = t.1.1.1.0; annotations = t.1.1.1.1.0; parameter_annotations = t.1.1.1.1.1 }) (λ _. refl)
 
--- a class but for its name is what its row and its lists hold
+-- a class without its name is the contents of its row and its lists
 abbrev pub body_code : Coded Body
 body_code =
     code_by (ℕ × (Option Text × (List Text × (Option Text × (AnnotationSet × (List FieldDef × (List FieldDef × (List MethodDef × (List MethodDef × Values)))))))))

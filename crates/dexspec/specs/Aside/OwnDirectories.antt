@@ -1,4 +1,4 @@
--- The annotations directory of a definition, by its members. Words of this project.
+-- The annotations directory of a definition, by its members. Terms of this project.
 use Rattle.std.specs.Prelude.{◌≡◌, ◌≢◌, ℕ, List, [], ◌∷◌, map, slice_index}
 use Rattle.std.specs.List.{AllZip}
 use Rattle.std.specs.FinMap.Entries.{put}
@@ -10,12 +10,12 @@ use Rattle.dexspec.specs.Classes.{Body, declared_fields, declared_methods}
 use Rattle.dexspec.specs.Mentions.{field_of, method_of}
 use Rattle.dexspec.specs.Placing.{SetOffsets}
 
--- nothing at offset 0, and else what stands there
+-- nothing for offset 0, and otherwise the item at the offset
 abbrev pub StandsIfSome : {X : Type 0} → (ℕ → List X → Type 0) → ℕ → List X → Type 0
 StandsIfSome At o [] = o ≡ 0
 StandsIfSome At o (x ∷ xs) = (o ≢ 0) × At o (x ∷ xs)
 
--- the members that have something, in order, with what they have
+-- the members with a list that is not empty, in order, with their lists
 abbrev pub entries_of : {M X : Type 0} → (M → M → Ordering) → List (M × List X) → List (M × List X)
 entries_of R [] = []
 entries_of R ((m, []) ∷ ms) = entries_of R ms
@@ -33,7 +33,7 @@ own_method_sets name c = map (λ x. (method_of name x, x.annotations)) (declared
 abbrev pub parameter_sets : Text → Body → List (Method × List AnnotationSet)
 parameter_sets name c = map (λ x. (method_of name x, x.parameter_annotations)) (declared_methods c)
 
--- what the class of this name and its members are annotated with
+-- the annotations of the class of this name and of its members
 abbrev pub own_directory : Text → Body → Directory
 own_directory name c = record {
   own = c.annotations;
@@ -42,7 +42,8 @@ own_directory name c = record {
   parameters = entries_of method_cmp (parameter_sets name c);
 }
 
--- the class's sets and those of its members stand at these offsets, and a list of the sets of parameters for each method
+-- the class's set and those of its members are at these offsets, and so is, for each method, a list of the sets of its
+-- parameters
 pub record HasSetsAt (b : List ℕ) (name : Text) (c : Body) (sets : SetOffsets) (ref_lists : List ℕ) : Type 0 where
   pub own : StandsIfSome (SetAt b) sets.own c.annotations
   pub fields : AllZip (λ o (x : Field × AnnotationSet). StandsIfSome (SetAt b) o x.1) sets.fields (field_sets name c)

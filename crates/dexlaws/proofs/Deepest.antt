@@ -1,4 +1,4 @@
--- The depth of a name is one more than the greatest among its defined parents.
+-- The depth of a name is one more than the greatest depth of its defined parents.
 use Rattle.std.proofs.Common.{◌≡◌, ℕ, suc, ◌+◌, ◌≤◌, true, List, [], ◌∷◌, map, arith, inl, inr}
 use Rattle.std.specs.List.{Contains}
 use Rattle.std.proofs.lemmas.Bool.{cases_lt}
@@ -9,7 +9,7 @@ use Rattle.dexspec.proofs.Members.{Contains-nil, Contains-first, Contains-later,
 use Rattle.dexspec.proofs.Depths.{is_below-later, depth-is, HasDepth-parent, depth-parent}
 use Rattle.dexlaws.specs.Causes.{greatest}
 
--- no number is greater
+-- no number exceeds the greatest
 greatest_most : {X : Type 0} (f : X → ℕ) (xs : List X) (x : X) → Contains xs x → f x ≤ greatest (map f xs)
 greatest_most f [] x c = absurd (Contains-nil x c)
 greatest_most f (y ∷ ys) x c = elim (Contains-cons_cases y x ys c) [
@@ -17,7 +17,7 @@ greatest_most f (y ∷ ys) x c = elim (Contains-cons_cases y x ys c) [
   | inr l ↦ omega (arith, greatest_most f ys x l)
 ]
 
--- where none is greater than a bound, the greatest is not
+-- if no number exceeds a bound, the greatest does not
 greatest_least : {X : Type 0} (f : X → ℕ) (xs : List X) (n : ℕ) → ((x : X) → Contains xs x → f x ≤ n) → greatest (map f xs) ≤ n
 greatest_least f [] n le = omega arith
 greatest_least f (y ∷ ys) n le = omega (arith, le y (Contains-first y ys), greatest_least f ys n (λ x c. le x (Contains-later y x ys c)))
@@ -29,13 +29,13 @@ module _ (D : List Definition) (name : Text) (has : HasDepth D name) where
   abbrev most : ℕ
   most = greatest (map more (above D name))
 
-  -- each defined parent is less deep
+  -- each defined parent has a lesser depth
   parent_below : (parent : Text) → Contains (above D name) parent → is_below D most parent ≡ true
   parent_below parent c =
       let own = depth-is D parent (HasDepth-parent D name parent has c) in
       is_below-later D (suc (depth D parent)) most parent (omega (arith, greatest_most more (above D name) parent c)) own.below
 
-  -- and so the name is no deeper
+  -- so the depth of the name is bounded
   no_deeper : depth D name ≤ most
   no_deeper =
       let own = depth-is D name has in

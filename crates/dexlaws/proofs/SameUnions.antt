@@ -1,4 +1,4 @@
--- Definitions of the same members, and those of files that plans name.
+-- Lists of definitions with the same members, and the definitions of the files that plans name.
 use Rattle.std.proofs.Common.{◌≡◌, ℕ, ◌<◌, List, [], ◌++◌, subst, inl, inr}
 use Rattle.std.specs.Prelude.{slice_index_or}
 use Rattle.std.proofs.lemmas.List.Elements.{Contains-append_left, Contains-append_right, Contains-append_cases}
@@ -25,7 +25,7 @@ same_answer caps D E same = record {
   first = λ cause. (first_cause-same caps D E cause same, first_cause-same caps E D cause (turned D E same));
 }
 
--- collections of the same members are one
+-- collections of the same members are equal
 pub one_collection : (D E : List Definition) (K L : Collection) → AreSame D E → IsCollectionOf D K → IsCollectionOf E L → K ≡ L
 one_collection D E K L same h k = collection-one E K L (collection-same D E K same h) k
 
@@ -41,7 +41,7 @@ module _ (files : List (List Definition)) where
   pub unions-same : (n : ℕ) (p q : Plan) → IsPlanFor n p → IsPlanFor n q → AreSame (union files p) (union files q)
   unions-same n p q h k d = (union-within p q (names-within n p q h k) d, union-within q p (names-within n q p k h) d)
 
--- what is merged first denotes its definitions
+-- the result of the first merge has the merged definitions
 pub step-same : (first rest : List Definition) (K : Collection) → IsCollectionOf first K → AreSame (definitions K ++ rest) (first ++ rest)
 step-same first rest K h d =
     let same = definitions-same first K h in (

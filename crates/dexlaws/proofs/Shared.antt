@@ -1,4 +1,4 @@
--- How items are shared by a test that finds the equal ones.
+-- How items are shared by a test that decides equality.
 use Rattle.std.proofs.Common.{ℕ, Bool, List, Option, None, Some, get_or, ◌∙◌}
 use Rattle.std.specs.List.{Contains}
 use Rattle.std.proofs.lemmas.List.{get_or_default}
@@ -11,7 +11,7 @@ use Rattle.dexspec.proofs.Sharing.{present_source, first_uses_rise}
 use Rattle.dexspec.proofs.Uses.{IsNumber, shared_numbered}
 use Rattle.dexlaws.specs.Items.{LeadsTo, AreShared}
 
--- some use has what is present
+-- each present value is that of some use
 some_use : {X : Type 0} (uses : List (Option X)) (x : X) → Contains (present uses) x → Contains uses (Some x)
 some_use uses x c = let s = present_source uses x c in (s.0, s.1, get_or_default uses s.0 (Some x) None s.1 ∙ s.2)
 
@@ -20,7 +20,7 @@ leads : {X : Type 0} (written : List X) (use_of : Option X) (number : Option ℕ
 leads written None number is = is
 leads written (Some x) number is = is
 
--- uses are shared so
+-- uses are shared in this way
 pub shared : {X : Type 0} (same : X → X → Bool) → IsEquality same → (uses : List (Option X)) → AreShared uses (shared_items same uses)
 shared same exact uses =
     let items = shared_items same uses in

@@ -1,4 +1,5 @@
--- The definitions of accepted files are well formed, and what is good under caps of the format is so under the greatest.
+-- The definitions of accepted files are well formed, and definitions that are good under caps of the format are good
+-- under the greatest caps.
 use Rattle.std.proofs.Common.{ℕ, List, arith}
 use Rattle.std.specs.List.{AllZip, flat_map}
 use Rattle.dexspec.specs.Classes.{Definition}
@@ -15,7 +16,7 @@ use Rattle.dexspec.proofs.NormalForm.{IsFileOf}
 use Rattle.dexspec.proofs.RowsReadable.{whole_normal_form}
 use Rattle.dexlaws.specs.Normal.{IsAcceptedAs}
 
--- under the greatest caps too
+-- also under the greatest caps
 good_greatest : (caps : Caps) (D : List Definition) → AreCaps caps → IsGood caps D → IsGood greatest_caps D
 good_greatest caps D are good = record {
   consistent = good.consistent;

@@ -1,4 +1,4 @@
--- The statements of the laws that definitions can be merged or have a first cause why not.
+-- The statements of the laws that definitions are mergeable or have a first cause against it.
 use Rattle.std.specs.Prelude.{◌≡◌, ℕ, suc, ◌<◌, ◌≤◌, max, List, [], ◌∷◌, map, true, false, IsTrue}
 use Rattle.std.specs.declared.cmp.Ordering.TheVariants.{Less}
 use Rattle.dexspec.specs.Lists.{AreDistinct, rises}
@@ -9,13 +9,13 @@ use Rattle.dexspec.specs.Depth.{is_below, HasDepth, depth}
 use Rattle.dexspec.specs.Weight.{weight}
 use Rattle.dexspec.specs.Merging.{Caps, Cap, cap_number, Exceeds, Cause, IsFirstCause}
 
--- it holds of some name, and of no lesser one
+-- the property holds for some name, and for no lesser name
 pub record HasLeast (P : Text → Type 0) : Type 0 where
   pub name : Text
   pub holds : P name
   pub least : (other : Text) → P other → text_cmp other name ≡ Less → ⊥
 
--- the greatest of the numbers, 0 for none
+-- the greatest of the numbers, or 0 without numbers
 abbrev pub greatest : List ℕ → ℕ
 greatest [] = 0
 greatest (n ∷ ns) = max n (greatest ns)
@@ -25,18 +25,18 @@ pub record IsDepth (D : List Definition) (name : Text) (n : ℕ) : Type 0 where
   pub below : is_below D (suc n) name ≡ true
   pub not_below : is_below D n name ≡ false
 
--- the one name has a depth, which is less than that of the other
+-- the first name has a depth, which is less than that of the second
 pub record IsLessDeep (D : List Definition) (name other : Text) : Type 0 where
   pub deep : HasDepth D name
   pub less : depth D name < depth D other
 
--- some cap is exceeded, and none that is reported before it
+-- some cap is exceeded, and none that is reported before it is
 pub record HasFirstExceeded (caps : Caps) (D : List Definition) : Type 0 where
   pub cap : Cap
   pub exceeds : Exceeds caps D cap
   pub first : (other : Cap) → Exceeds caps D other → cap_number other < cap_number cap → ⊥
 
--- some list has the same members, each once, and no members of which no two are the same weigh more
+-- some list has the same members, each once, and no distinct members of the list weigh more
 pub record HasMembersOnce (D : List Definition) : Type 0 where
   pub once : List Definition
   pub distinct : AreDistinct once
@@ -48,8 +48,8 @@ pub record HasFirstCause (caps : Caps) (D : List Definition) : Type 0 where
   pub cause : Cause
   pub first : IsFirstCause caps D cause
 
--- The definitions of the collection are the members of the list; their names rise, so that no name has two, and
--- no members of the list of which no two are the same weigh more.
+-- The definitions of the collection are the members of the list. Their names rise, so that no name occurs twice, and no
+-- distinct members of the list weigh more.
 pub record AreDefinitionsOf (D : List Definition) (K : Collection) : Type 0 where
   pub members : AreSame (definitions K) D
   pub rise : IsTrue (rises text_cmp (map (λ d. d.0) (definitions K)))

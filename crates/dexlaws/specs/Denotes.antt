@@ -9,10 +9,10 @@ use Rattle.dexspec.specs.Accepted.{IsReadable}
 abbrev pub AreBytes : List ℕ → Type 0
 AreBytes b = All (λ byte. byte < 256) b
 
--- every class row can be read
+-- each class row can be read
 abbrev pub AreReadable : List ℕ → Type 0
 AreReadable b = (r : ℕ) → r < table_size b ClassDefs → IsReadable b r
 
--- what a later row names is greater
+-- the symbol of a later row is greater
 abbrev pub StandInOrder : {X : Type 0} → (X → X → Ordering) → (ℕ → X → Type 0) → Type 0
 StandInOrder {X} R Row = (i j : ℕ) (x y : X) → i < j → Row i x → Row j y → R x y ≡ Less

@@ -13,7 +13,7 @@ use Rattle.dexspec.specs.Spellings.{text_index}
 use Rattle.dexspec.specs.Placing.{Ordered, Placed, offsets}
 use Rattle.dexspec.specs.Canonical.{table_count, data_start, ClassOffsets, layout, map_of, map_bytes, proto_row_bytes, field_row_bytes, method_row_bytes, class_row_bytes}
 
--- no pool has more symbols than its indices can name
+-- no pool has more symbols than its indices can denote
 pub record HasFewSymbols (m : Mentions) : Type 0 where
   pub types : length m.types ≤ 65535
   pub protos : length m.protos ≤ 65535
@@ -52,7 +52,7 @@ pub record HasItems (K : Ordered) (b : List ℕ) : Type 0 where
 abbrev pub opening : ℕ → List ℕ → List ℕ
 opening size tail = uint size ++ (uint header_length ++ (uint 0x12345678 ++ (uint 0 ++ (uint 0 ++ tail))))
 
--- with its two sums it meets conditions 1 to 8
+-- with its two sums the header meets conditions 1 to 8
 pub record IsOpened (b : List ℕ) : Type 0 where
   pub bytes : HasSize b
   pub magic : HasMagic b
@@ -67,7 +67,7 @@ pub record IsOpened (b : List ℕ) : Type 0 where
 abbrev pub entry_of : Section × ℕ × ℕ → MapEntry
 entry_of e = record { kind = type_code e.0; size = e.1; off = e.2 }
 
--- the symbol is one of those of its pool
+-- the symbol is a member of its pool
 abbrev pub IsMentioned : Mentions → Symbol → Type 0
 IsMentioned m (TextSymbol s) = Contains m.texts s
 IsMentioned m (TypeSymbol t) = Contains m.types t

@@ -1,4 +1,4 @@
--- The statements of the laws of orders, lists in order, ranks, and what grows with class definitions.
+-- The statements of the laws of orders, lists in order, ranks, and of what grows with class definitions.
 use Rattle.std.specs.Prelude.{◌≡◌, ◌↔◌, ℕ, ◌<◌, ◌≤◌, List, length, slice_index_or, true, IsTrue}
 use Rattle.std.specs.List.{Contains}
 use Rattle.std.specs.Cmp.{IsTotalOrder}
@@ -13,7 +13,7 @@ use Rattle.dexspec.specs.Mentions.{Mentions, mentions, symbols_of, texts_in, typ
 use Rattle.dexspec.specs.Depth.{is_defined, above, is_below, HasDepth, IsAcyclic}
 use Rattle.dexspec.specs.Merging.{Caps, IsGood, Cause, IsCause}
 
--- a total order in which only equal ones tie
+-- a total order by which only equal values are equal
 pub record IsExactOrder {K : Type 0} (R : K → K → Ordering) : Type 0 where
   pub total : IsTotalOrder R
   pub antisymmetric : IsAntisymmetric R
@@ -30,13 +30,13 @@ pub record RanksArePlaces {K : Type 0} (R : K → K → Ordering) : Type 0 where
   pub within : (xs : List K) (s : K) → IsTrue (rises R xs) → Contains xs s → rank R s xs < length xs
   pub place : (xs : List K) (s d : K) → IsTrue (rises R xs) → Contains xs s → slice_index_or xs (rank R s xs) d ≡ s
 
--- the members of the first are members of the second, which is no shorter and gives no lesser rank
+-- the members of the first list are members of the second, which is at least as long and gives ranks at least as great
 pub record IsPartOf {K : Type 0} (R : K → K → Ordering) (xs ys : List K) : Type 0 where
   pub members : (x : K) → Contains xs x → Contains ys x
   pub lengths : length xs ≤ length ys
   pub ranks : (s : K) → rank R s xs ≤ rank R s ys
 
--- what the first definitions mention is part of what the second ones mention
+-- the mentions of the first definitions are part of the mentions of the second
 pub record MentionsGrow (D E : List Definition) : Type 0 where
   pub texts : IsPartOf text_cmp (mentions D).texts (mentions E).texts
   pub types : IsPartOf text_cmp (mentions D).types (mentions E).types
@@ -52,7 +52,7 @@ pub record MentionsRise (D : List Definition) : Type 0 where
   pub fields : IsTrue (rises field_cmp (mentions D).fields)
   pub methods : IsTrue (rises method_cmp (mentions D).methods)
 
--- some symbol that occurs in one of the definitions has this among its parts
+-- some symbol that occurs in one of the definitions has this part
 pub record Occurs {X : Type 0} (parts : Symbol → List X) (D : List Definition) (x : X) : Type 0 where
   pub definition : Definition
   pub symbol : Symbol
@@ -60,7 +60,7 @@ pub record Occurs {X : Type 0} (parts : Symbol → List X) (D : List Definition)
   pub occurs : Contains (symbols_of definition) symbol
   pub part : Contains (parts symbol) x
 
--- the five lists of mentions hold the parts of the symbols that occur, and nothing else
+-- the five lists of mentions have the parts of the symbols that occur, and nothing else
 pub record MentionsAreParts (D : List Definition) : Type 0 where
   pub texts : (s : Text) → Contains (mentions D).texts s ↔ Occurs texts_in D s
   pub types : (t : Text) → Contains (mentions D).types t ↔ Occurs types_in D t
@@ -68,7 +68,7 @@ pub record MentionsAreParts (D : List Definition) : Type 0 where
   pub fields : (f : Field) → Contains (mentions D).fields f ↔ Occurs fields_in D f
   pub methods : (m : Method) → Contains (mentions D).methods m ↔ Occurs methods_in D m
 
--- what a mentioned symbol is made of is mentioned
+-- the parts of a mentioned symbol are mentioned
 pub record AreClosed (m : Mentions) : Type 0 where
   pub type_text : (t : Text) → Contains m.types t → Contains m.texts t
   pub shorty_text : (p : Proto) → Contains m.protos p → Contains m.texts (shorty p.return_type p.parameters)
@@ -80,7 +80,7 @@ pub record AreClosed (m : Mentions) : Type 0 where
   pub method_name : (x : Method) → Contains m.methods x → Contains m.texts x.name
   pub method_proto : (x : Method) → Contains m.methods x → Contains m.protos x.proto
 
--- names, parents and depths of the first definitions as among the second ones
+-- names, parents and depths of the first definitions are as among the second
 pub record DepthsGrow (D E : List Definition) : Type 0 where
   pub defined : (name : Text) → is_defined D name ≡ true → is_defined E name ≡ true
   pub parents : (name parent : Text) → Contains (above D name) parent → Contains (above E name) parent
@@ -88,7 +88,7 @@ pub record DepthsGrow (D E : List Definition) : Type 0 where
   pub depth : (name : Text) → HasDepth E name → HasDepth D name
   pub acyclic : IsAcyclic E → IsAcyclic D
 
--- what can be merged whole can be in part, and what keeps the part from it keeps the whole from it
+-- if the whole is mergeable, so is the part; a cause against the part is a cause against the whole
 pub record Absorbs (D E : List Definition) : Type 0 where
   pub good : (caps : Caps) → IsGood caps E → IsGood caps D
   pub causes : (caps : Caps) (cause : Cause) → IsCause caps D cause → IsCause caps E cause

@@ -10,16 +10,16 @@ use Rattle.dexspec.specs.Accepted.{IsAccepted}
 use Rattle.dexspec.specs.Mentions.{Mentions}
 use Rattle.dexspec.specs.Spellings.{symbol_index}
 
--- the i-th of the list is x
+-- the i-th element of the list is x
 pub record IsAt {X : Type 0} (xs : List X) (i : ℕ) (x : X) : Type 0 where
   pub within : i < length xs
   pub there : slice_index_or xs i x ≡ x
 
--- the rows are what is listed, in its order: row i is x just where the i-th of the list is x
+-- the rows are the elements of the list, in order: row i is x exactly if the i-th element is x
 abbrev pub AreListed : {X : Type 0} → (ℕ → X → Type 0) → List X → Type 0
 AreListed {X} Row xs = (i : ℕ) (x : X) → Row i x ↔ IsAt xs i x
 
--- what is listed is at its rank
+-- each element of the list is at its rank
 abbrev pub StandAtRanks : {X : Type 0} → (X → X → Ordering) → (ℕ → X → Type 0) → List X → Type 0
 StandAtRanks {X} R Row xs = (x : X) → Contains xs x → Row (rank R x xs) x
 

@@ -1,4 +1,4 @@
--- The statements of the laws of sizes: what each item, each section and the whole file has at most.
+-- The statements of the laws of sizes: upper bounds on the bytes of each item, each section and the whole file.
 use Rattle.std.specs.Prelude.{◌≡◌, ℕ, ◌+◌, ◌-◌, ◌*◌, ◌≤◌, List, ◌++◌, length, IfSome, sum_by}
 use Rattle.std.specs.List.{flat_map}
 use Rattle.dexspec.specs.Bytes.{ushort, uint}
@@ -15,16 +15,16 @@ use Rattle.dexspec.specs.Spellings.{type_index, handler_off, handler_list_bytes,
 use Rattle.dexspec.specs.Placing.{EachForItself, SetOffsets, end_from, section_bytes, directory_bytes, Ordered}
 use Rattle.dexspec.specs.Canonical.{layout, table_bytes}
 
--- Definitions of different names in their order, with what they mention, as in the canonical file; but each use of a
--- type list, a debug program or a set has an item of its own.
+-- Definitions of different names in class order, with what they mention, as in the canonical file; but each use of a
+-- type list, a debug program or a set has its own item.
 abbrev pub unshared : List Definition → Ordered
 unshared D = record { classes = in_class_order D; pools = mentions D; sharing = EachForItself }
 
--- types whose indices have three bytes at most as a uleb128
+-- types whose indices have at most three bytes as a uleb128
 abbrev pub HasFewTypes : Mentions → Type 0
 HasFewTypes m = length m.types ≤ 65536
 
--- values, one by one and together, and what is made of them
+-- values, one by one and together, and their items
 pub record ValuesAreWithin (m : Mentions) : Type 0 where
   pub value : (v : Value) → length (value_bytes m v) ≤ value_weight v
   pub values : (vs : Values) → length (values_bytes m vs) ≤ values_weight vs
@@ -53,7 +53,7 @@ DirectoryIsWithin m = (d : Definition) (sets : SetOffsets) (ref_lists : List ℕ
 abbrev pub TypeListHas : Mentions → List Text → Type 0
 TypeListHas m ts = length (uint (length ts) ++ flat_map (λ t. ushort (type_index m t)) ts) ≡ 4 + 2 * length ts
 
--- a section ends no later than its items, each with the bytes of its alignment, reach
+-- a section ends no later than its items reach, each with the bytes of its alignment
 abbrev pub EndsWithin : ℕ → ℕ → List (List ℕ) → Type 0
 EndsWithin align from items = end_from align from items ≤ from + sum_by (λ item. length item + (align - 1)) items
 

@@ -20,7 +20,7 @@ use Rattle.dexlaws.specs.Growth.{IsPartOf}
 
 -- ---- definitions
 
--- the definition is what is left of a member
+-- the definition is the stripped one of a member
 pub record IsLeft (D : List Definition) (d : Definition) : Type 0 where
   pub original : Definition
   pub member : Contains D original
@@ -30,13 +30,13 @@ pub record IsLeft (D : List Definition) (d : Definition) : Type 0 where
 abbrev pub HasNoDebug : MethodDef → Type 0
 HasNoDebug m = IfSome m.code (λ c. c.debug ≡ None)
 
--- there is nothing to be stripped
+-- nothing can be stripped from it
 pub record IsBare (c : Body) : Type 0 where
   pub source : c.source ≡ None
   pub direct_methods : All HasNoDebug c.direct_methods
   pub virtual_methods : All HasNoDebug c.virtual_methods
 
--- all of a code_item but its debug program
+-- all of a code_item without its debug program
 abbrev pub code_parts : Code → ℕ × ℕ × ℕ × List Piece × List Try
 code_parts c = (c.registers, c.ins, c.outs, c.pieces, c.tries)
 
@@ -50,7 +50,7 @@ pub record IsMethodLeft (m n : MethodDef) : Type 0 where
   pub annotations : n.annotations ≡ m.annotations
   pub parameter_annotations : n.parameter_annotations ≡ m.parameter_annotations
 
--- all of a definition but its source text is kept, and its methods stand in the same order under the same names
+-- all of a definition but its source text is kept, and its methods are in the same order under the same names
 pub record KeepsDefinition (d : Definition) : Type 0 where
   pub name : (strip_definition d).0 ≡ d.0
   pub flags : (strip_body d.1).flags ≡ d.1.flags
@@ -66,7 +66,7 @@ pub record KeepsDefinition (d : Definition) : Type 0 where
   pub virtual_names : map method_key (strip_body d.1).virtual_methods ≡ map method_key d.1.virtual_methods
   pub static_values : (strip_body d.1).static_values ≡ d.1.static_values
 
--- names, parents and depths are those of the definitions, and so is the class order
+-- names, parents and depths are those of the definitions, and the class order is the same
 pub record KeepsDepths (D : List Definition) : Type 0 where
   pub defined : (name : Text) → is_defined (strip D) name ≡ is_defined D name
   pub parents : (name : Text) → above (strip D) name ≡ above D name
@@ -89,7 +89,7 @@ pub record AreParts (m n : Mentions) : Type 0 where
 
 -- ---- weights
 
--- distinct members of which these are what is left, and which weigh no less
+-- distinct members whose stripped definitions these are, and which weigh at least as much
 pub record HasHeavier (D E : List Definition) : Type 0 where
   pub originals : List Definition
   pub distinct : AreDistinct originals
@@ -107,7 +107,8 @@ pub record StripsCollection (K : Collection) : Type 0 where
   pub found : (name : Text) → finite.get (strip_collection K) name ≡ option_map strip_body (finite.get K name)
   pub twice : strip_collection (strip_collection K) ≡ strip_collection K
 
--- where the collections merge to K, the stripped ones can be merged under the caps if these can, and merge to what is left of K alone
+-- If the collections merge to K, the stripped ones are mergeable under the caps if these are, and merge only to K
+-- stripped.
 pub record StripCommutes (caps : Caps) (Ks : List Collection) (plan : Plan) (K : Collection) : Type 0 where
   pub parts : union (map definitions (map strip_collection Ks)) plan ≡ strip (union (map definitions Ks) plan)
   pub good : IsGood caps (union (map definitions Ks) plan) → IsGood caps (union (map definitions (map strip_collection Ks)) plan)

@@ -1,4 +1,4 @@
--- The statements of the laws of what was written.
+-- The statements of the laws of written items.
 use Rattle.std.specs.Prelude.{ℕ, ◌+◌, ◌^◌, ◌<◌, IsTrue, All, List, ◌++◌, length, map, take, drop}
 use Rattle.std.specs.List.{Contains, AllZip}
 use Rattle.std.specs.Ordering.{nat_cmp}
@@ -18,7 +18,7 @@ use Rattle.dexspec.specs.Spellings.{symbol_index, field_index, method_index}
 abbrev pub IsInRow : List ℕ → Mentions → Symbol → Type 0
 IsInRow b m s = SymbolRow b (symbol_index m s) s × (symbol_index m s + 1 < 2 ^ 32)
 
--- each of them does
+-- each symbol is in the row of its index
 abbrev pub AreInRows : List ℕ → Mentions → List Symbol → Type 0
 AreInRows b m ss = (s : Symbol) → Contains ss s → IsInRow b m s
 

@@ -1,4 +1,4 @@
-//! Class definitions can be merged, or there is a cause why not, and of all such causes a first one.
+//! Class definitions are mergeable, or there is a cause against it, and among all such causes a first one.
 ghost use Rattle.std.specs.Prelude.{◌≡◌, ◌⊎◌, ◌+◌, ◌<◌, List, length, map, true};
 ghost use Rattle.std.specs.List.{Contains};
 ghost use Rattle.std.specs.FinMap as map;
@@ -9,21 +9,20 @@ ghost use Rattle.dexspec.specs.Depth.{is_defined, above, is_below, HasDepth, IsA
 ghost use Rattle.dexspec.specs.Merging.{Caps, Cap, Exceeds, Fits, IsConflict, IsConsistent, IsCycle, IsGood, Cause, IsCause, IsFirstCause};
 ghost use Rattle.dexlaws.specs.Causes.{HasLeast, greatest, IsDepth, IsLessDeep, HasFirstExceeded, HasMembersOnce, HasFirstCause, AreDefinitionsOf};
 
-/// No name has two definitions, or some name has a conflict, and a least one, and never both.
+/// Either no name has two definitions, or some name has a conflict, and then there is a least such name.
 pub fn consistent_or_conflict()
     ensures decided { (D : List Definition) → IsConsistent D ⊎ HasLeast (IsConflict D) }
     ensures apart { (D : List Definition) (name : Text) → IsConsistent D → IsConflict D name → ⊥ }
 {}
 
-/// Every defined name has a depth, or some has none, and a least one, and never both.
+/// Either every defined name has a depth, or some has none, and then there is a least such name.
 pub fn acyclic_or_cycle()
     ensures decided { (D : List Definition) → IsAcyclic D ⊎ HasLeast (IsCycle D) }
     ensures apart { (D : List Definition) (name : Text) → IsAcyclic D → IsCycle D name → ⊥ }
 {}
 
-/// A depth is found within as many rounds as there are definitions; it is one more than the greatest
-/// among the defined parents, and 0 where there are none. So a defined parent is less deep. Depths depend
-/// on the members alone.
+/// A depth is found within as many rounds as there are definitions. It is one more than the greatest depth of the
+/// defined parents, or 0 if there are none, so a defined parent has a lesser depth. Depths depend on the members alone.
 pub fn depth_is_found()
     ensures rounds { (D : List Definition) (name : Text) → is_defined D name ≡ true → HasDepth D name → is_below D (length D) name ≡ true }
     ensures depth { (D : List Definition) (name : Text) → HasDepth D name → IsDepth D name (depth D name) }
@@ -33,20 +32,19 @@ pub fn depth_is_found()
     ensures alone { (D E : List Definition) (name : Text) → AreSame D E → HasDepth D name → depth D name ≡ depth E name }
 {}
 
-/// Each list of definitions has one of the same members without repeats, which weighs as much as any
-/// of them can.
+/// Each list of definitions has a list of the same members without repeats, and no distinct members weigh more.
 pub fn members_once()
     ensures { (D : List Definition) → HasMembersOnce D }
 {}
 
-/// The definitions fit the caps, or exceed some cap, and a first one, and never both.
+/// Either the definitions fit the caps, or they exceed some cap, and then there is a first such cap.
 pub fn fits_or_exceeds()
     ensures decided { (caps : Caps) (D : List Definition) → Fits caps D ⊎ HasFirstExceeded caps D }
     ensures apart { (caps : Caps) (D : List Definition) (cap : Cap) → Fits caps D → Exceeds caps D cap → ⊥ }
 {}
 
-/// Definitions can be merged or have a first cause why not, and never both; this is one cause, and
-/// depends on the members alone. Of each cause it is decided whether it is true of them.
+/// Definitions are either mergeable or have a first cause against it. The first cause is unique, and depends on the
+/// members alone. Whether a cause holds for them is decidable.
 pub fn good_or_first_cause()
     ensures decided { (caps : Caps) (D : List Definition) → IsGood caps D ⊎ HasFirstCause caps D }
     ensures apart { (caps : Caps) (D : List Definition) (cause : Cause) → IsGood caps D → IsCause caps D cause → ⊥ }
@@ -55,8 +53,8 @@ pub fn good_or_first_cause()
     ensures alone { (caps : Caps) (D E : List Definition) (cause : Cause) → AreSame D E → IsFirstCause caps D cause → IsFirstCause caps E cause }
 {}
 
-/// Definitions of which no name has two are a collection, and one only; its definitions are the
-/// members of the list, by name. Others are none, and each collection is that of its definitions.
+/// Definitions without two of a name form exactly one collection; its definitions are the members of the list, by name.
+/// Other definitions form none, and each collection is that of its definitions.
 pub fn collection_of()
     ensures is { (D : List Definition) → IsConsistent D → IsCollectionOf D (map.from_entries D) }
     ensures one { (D : List Definition) (K L : Collection) → IsCollectionOf D K → IsCollectionOf D L → K ≡ L }

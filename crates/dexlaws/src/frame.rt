@@ -1,4 +1,4 @@
-//! Canonical files: the offset of each part, and the conditions that hold of header, map and rows.
+//! Canonical files: the offset of each part, and the conditions that header, map and rows meet.
 ghost use Rattle.std.specs.Prelude.{List, ℕ, ◌+◌, ◌≡◌, ◌<◌, ◌≤◌, ◌^◌, length, map, All};
 ghost use Rattle.dexspec.specs.Bytes.{ushort, uint, ushort_at, uint_at, Stands};
 ghost use Rattle.dexspec.specs.Header.{HasMagic, HasVersion, HasChecksum, HasSignature};
@@ -21,7 +21,7 @@ pub fn numbers_law()
     ensures four { (b : List ℕ) (o n : ℕ) → n < 2 ^ 32 → Stands b o (uint n) → uint_at b o ≡ n }
 {}
 
-/// The magic and the two sums before any bytes are right.
+/// The magic and the two sums before any bytes are valid.
 pub fn sums_law()
     ensures magic { (rest : List ℕ) → HasMagic (with_sums rest) }
     ensures version { (rest : List ℕ) → HasVersion (with_sums rest) }
@@ -37,8 +37,8 @@ pub fn layout_law()
     ensures items { (K : Ordered) → length (with_sums (unsigned_file K)) < 2 ^ 32 → HasItems K (with_sums (unsigned_file K)) }
 {}
 
-/// The canonical file of a collection meets conditions 1 to 10, if it is not too long and no pool has too
-/// many symbols; and so it does if the collection fits any caps, with no premise on its bytes.
+/// The canonical file of a collection meets conditions 1 to 10, if it is not too long and no pool has too many symbols.
+/// It also meets them if the collection fits any caps, with no premise on its bytes.
 pub fn frame_law()
     ensures frame { (K : Collection) → HasFewSymbols (mentions (definitions K)) → length (canonical K) ≤ 2 ^ 30 → IsFrame (canonical K) }
     ensures fits { (caps : Caps) (K : Collection) → AreCaps caps → Fits caps (definitions K) → IsFrame (canonical K) }
@@ -49,7 +49,7 @@ pub fn header_law()
     ensures { (size : ℕ) (tail : List ℕ) → size ≡ length (with_sums (opening size tail)) → 112 ≤ size → size ≤ 2 ^ 30 → IsOpened (with_sums (opening size tail)) }
 {}
 
-/// A map is read at its offset: the number of its entries, and each of them.
+/// A map is read at its offset: the number of its entries, and each entry.
 pub fn map_law()
     ensures count { (b : List ℕ) (o : ℕ) (es : List (Section × ℕ × ℕ)) → length es < 2 ^ 32 → All (λ e. (e.1 < 2 ^ 32) × (e.2 < 2 ^ 32)) es → Stands b o (map_bytes es) → uint_at b o ≡ length es }
     ensures entries { (b : List ℕ) (o : ℕ) (es : List (Section × ℕ × ℕ)) → length es < 2 ^ 32 → All (λ e. (e.1 < 2 ^ 32) × (e.2 < 2 ^ 32)) es → Stands b o (map_bytes es) → entries_at b (o + 4) (length es) ≡ map entry_of es }

@@ -1,4 +1,4 @@
-//! Mentions, ranks, depths and weights do not shrink as class definitions are added.
+//! Mentions, ranks, depths and weights do not decrease as class definitions are added.
 ghost use Rattle.std.specs.Prelude.{List, ◌≡◌, ◌≤◌};
 ghost use Rattle.dexspec.specs.Lists.{AreDistinct};
 ghost use Rattle.dexspec.specs.Texts.{text_cmp};
@@ -10,7 +10,7 @@ ghost use Rattle.dexspec.specs.Weight.{weight};
 ghost use Rattle.dexspec.specs.Merging.{Caps, IsGood, Cause, IsCause};
 ghost use Rattle.dexlaws.specs.Growth.{IsExactOrder, PutsInOrder, RanksArePlaces, MentionsGrow, MentionsRise, MentionsAreParts, AreClosed, DepthsGrow, Absorbs};
 
-/// The orders of texts and of the symbols of each pool are total, and only equal ones tie.
+/// The orders of texts and of the symbols of each pool are total, and only equal symbols are equal by order.
 pub fn order_law()
     ensures texts { IsExactOrder text_cmp }
     ensures protos { IsExactOrder proto_cmp }
@@ -18,7 +18,7 @@ pub fn order_law()
     ensures methods { IsExactOrder method_cmp }
 {}
 
-/// A list put in order rises, has the members of the list it is made of, and depends on these alone.
+/// A list put in order rises, has the members of the original list, and depends on these alone.
 pub fn in_order_law()
     ensures texts { PutsInOrder text_cmp }
     ensures protos { PutsInOrder proto_cmp }
@@ -34,40 +34,38 @@ pub fn rank_law()
     ensures methods { RanksArePlaces method_cmp }
 {}
 
-/// What definitions mention rises in order, grows with them, and depends on the members alone: so with
-/// more definitions each rank at most rises.
+/// The mentions of definitions rise in order, grow with the definitions, and depend on the members alone. So with more
+/// definitions no rank decreases.
 pub fn mentions_law()
     ensures grow { (D E : List Definition) → AreWithin D E → MentionsGrow D E }
     ensures rise { (D : List Definition) → MentionsRise D }
     ensures same { (D E : List Definition) → AreSame D E → mentions D ≡ mentions E }
 {}
 
-/// What definitions mention is just what the symbols that occur in them are made of, and with a symbol
-/// what this is made of.
+/// The mentions of definitions are exactly the parts of the symbols that occur in them, and with a symbol its parts.
 pub fn parts_law()
     ensures parts { (D : List Definition) → MentionsAreParts D }
     ensures closed { (D : List Definition) → AreClosed (mentions D) }
 {}
 
-/// What has a depth among more definitions has one among fewer, and no greater one.
+/// A name that has a depth among more definitions has a depth among fewer, and it is no greater.
 pub fn depth_law()
     ensures { (D E : List Definition) → AreWithin D E → DepthsGrow D E }
 {}
 
-/// Definitions of which no two are the same weigh at most what any that include them weigh, and as much
-/// in any order.
+/// Distinct definitions weigh at most as much as distinct definitions that include them, and the order does not matter.
 pub fn weight_law()
     ensures same { (D E : List Definition) → AreDistinct D → AreDistinct E → AreSame D E → weight D ≡ weight E }
     ensures grow { (D E : List Definition) → AreDistinct D → AreWithin D E → weight D ≤ weight E }
 {}
 
-/// Definitions that can be merged under some caps can be in part, and each cause that holds of a part
-/// holds of the whole.
+/// If definitions are mergeable under some caps, any part of them is, and each cause against a part is a cause against
+/// the whole.
 pub fn absorption_law()
     ensures { (D E : List Definition) → AreWithin D E → Absorbs D E }
 {}
 
-/// Definitions that can be merged under some caps have no cause that keeps them from it.
+/// Definitions that are mergeable under some caps have no cause against them.
 pub fn cause_law()
     ensures { (caps : Caps) (D : List Definition) (cause : Cause) → IsGood caps D → IsCause caps D cause → ⊥ }
 {}

@@ -1,4 +1,4 @@
-//! What is merged depends on the definitions alone, whatever the order, the grouping and the repeats.
+//! The result of merging depends on the definitions alone, whatever the order, the grouping and the repeats.
 ghost use Rattle.std.specs.Prelude.{◌≡◌, ◌++◌, List, length};
 ghost use Rattle.dexspec.specs.Classes.{Definition};
 ghost use Rattle.dexspec.specs.Files.{Collection, definitions, AreSame, AreWithin, IsCollectionOf};
@@ -6,8 +6,8 @@ ghost use Rattle.dexspec.specs.Canonical.{canonical};
 ghost use Rattle.dexspec.specs.Merging.{Caps, IsGood, Cause, IsCause, Plan, IsPlanFor, union};
 ghost use Rattle.dexlaws.specs.Merge.{HaveSameAnswer, NamesWithin};
 
-/// Definitions of the same members, in any order and with any repeats, have the same result: they can be merged or
-/// not, are the same collection, and have the same first cause.
+/// Lists of definitions with the same members, in any order and with any repeats, have the same result: both are
+/// mergeable or neither is, they form the same collection, and have the same first cause.
 pub fn answer_rests_on_members()
     ensures { (caps : Caps) (D E : List Definition) → AreSame D E → HaveSameAnswer caps D E }
 {}
@@ -19,16 +19,16 @@ pub fn plans_agree()
     ensures bytes { (files : List (List Definition)) (p q : Plan) (K L : Collection) → IsPlanFor (length files) p → IsPlanFor (length files) q → IsCollectionOf (union files p) K → IsCollectionOf (union files q) L → canonical K ≡ canonical L }
 {}
 
-/// What a part of a plan names is among what the plan names; so a cause that is true of the part is true of the whole,
-/// and what can be merged whole can be merged in part.
+/// The definitions of a part of a plan are among those of the plan. So a cause against the part is a cause against the
+/// whole, and if the whole is mergeable, so is the part.
 pub fn parts_of_plans()
     ensures within { (files : List (List Definition)) (p q : Plan) → NamesWithin p q → AreWithin (union files p) (union files q) }
     ensures causes { (caps : Caps) (files : List (List Definition)) (p q : Plan) (cause : Cause) → NamesWithin p q → IsCause caps (union files p) cause → IsCause caps (union files q) cause }
     ensures good { (caps : Caps) (files : List (List Definition)) (p q : Plan) → NamesWithin p q → IsGood caps (union files q) → IsGood caps (union files p) }
 {}
 
-/// Where some definitions are merged first, and what they make with the others, the canonical file at the end is that
-/// of all definitions merged at once; and a cause that is true of the first is true of all.
+/// If some definitions are merged first, and the result is merged with the others, the canonical file at the end is
+/// that of all definitions merged at once. A cause against the first definitions is a cause against all.
 pub fn steps()
     ensures bytes { (first rest : List Definition) (K L M : Collection) → IsCollectionOf first K → IsCollectionOf (definitions K ++ rest) L → IsCollectionOf (first ++ rest) M → canonical L ≡ canonical M }
     ensures answer { (caps : Caps) (first rest : List Definition) (K : Collection) → IsCollectionOf first K → HaveSameAnswer caps (definitions K ++ rest) (first ++ rest) }

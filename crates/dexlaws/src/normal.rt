@@ -52,8 +52,8 @@ pub fn methods_stand()
     ensures holds { (K : Collection) → Fits greatest_caps (definitions K) → AreWellFormed (definitions K) → HoldsThroughout Condition.Methods (canonical K) }
 {}
 
-/// The class rows of the canonical file of a good collection are its definitions, in order, and all that is
-/// to be read of them is there.
+/// The class rows of the canonical file of a good collection are its definitions, in order, and all items of the rows
+/// can be read.
 pub fn classes_stand()
     ensures holds { (K : Collection) → IsGood greatest_caps (definitions K) → AreWellFormed (definitions K) → HoldsThroughout Condition.Classes (canonical K) }
     ensures rows { (K : Collection) → IsGood greatest_caps (definitions K) → AreWellFormed (definitions K) → AreListed (λ r (d : Definition). ClassRow (canonical K) r d.0 d.1) (in_class_order (definitions K)) }
@@ -67,21 +67,21 @@ pub fn symbols_stand()
     ensures { (K : Collection) → Fits greatest_caps (definitions K) → AreWellFormed (definitions K) → (d : Definition) → Contains (definitions K) d → StandInRows (canonical K) (mentions (definitions K)) (symbols_of d) }
 {}
 
-/// Conditions 1 to 16 hold of the canonical file of any collection that is good and well formed.
+/// The canonical file of any collection that is good and well formed meets conditions 1 to 16.
 pub fn rows_hold()
     ensures { (K : Collection) → IsGood greatest_caps (definitions K) → AreWellFormed (definitions K) → HoldBelow 17 (canonical K) }
 {}
 
-/// The canonical file of a collection that is good and well formed is accepted, and denotes it; so no two
-/// such collections have one canonical file.
+/// The canonical file of a collection that is good and well formed is accepted, and denotes it. So two different such
+/// collections have different canonical files.
 pub fn normal_form()
     ensures accepted { (K : Collection) → IsGood greatest_caps (definitions K) → AreWellFormed (definitions K) → IsAccepted (canonical K) }
     ensures denotes { (K : Collection) → IsGood greatest_caps (definitions K) → AreWellFormed (definitions K) → Denotes (canonical K) K }
     ensures one { (K L : Collection) → IsGood greatest_caps (definitions K) → AreWellFormed (definitions K) → IsGood greatest_caps (definitions L) → AreWellFormed (definitions L) → canonical K ≡ canonical L → K ≡ L }
 {}
 
-/// The normal form of an accepted file, the canonical file of the collection that it denotes, is accepted and
-/// denotes it too; so accepted files have one normal form exactly where they denote one collection, and the
+/// The normal form of an accepted file, which is the canonical file of the collection that it denotes, is accepted and
+/// denotes it too. So accepted files have the same normal form exactly if they denote the same collection, and the
 /// normal form of a normal form is the same bytes.
 pub fn files_normal_form()
     ensures accepted { (b : List ℕ) (K : Collection) → All (λ byte. byte < 256) b → IsAccepted b → Denotes b K → IsAccepted (canonical K) }
@@ -90,8 +90,8 @@ pub fn files_normal_form()
     ensures twice { (b : List ℕ) (K L : Collection) → All (λ byte. byte < 256) b → IsAccepted b → Denotes b K → Denotes (canonical K) L → canonical L ≡ canonical K }
 {}
 
-/// Where the definitions of some accepted files can be merged under caps of the format, the canonical file of
-/// their collection is accepted and denotes it; and there is such a collection.
+/// If the definitions of some accepted files are mergeable under caps of the format, the canonical file of their
+/// collection is accepted and denotes it; and there is such a collection.
 pub fn union_normal_form()
     ensures accepted { (caps : Caps) (files : List (List ℕ)) (parts : List Collection) (K : Collection) → AreCaps caps → AllZip IsAcceptedAs files parts → IsGood caps (flat_map definitions parts) → IsCollectionOf (flat_map definitions parts) K → IsAccepted (canonical K) }
     ensures denotes { (caps : Caps) (files : List (List ℕ)) (parts : List Collection) (K : Collection) → AreCaps caps → AllZip IsAcceptedAs files parts → IsGood caps (flat_map definitions parts) → IsCollectionOf (flat_map definitions parts) K → Denotes (canonical K) K }

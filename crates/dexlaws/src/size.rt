@@ -1,5 +1,5 @@
-//! What is written has at most as many bytes as it weighs, item by item, section by section and as a whole,
-//! and no more than if equal items were not shared.
+//! The canonical file has at most as many bytes as its definitions weigh, item by item, section by section and as a
+//! whole, and no more than if equal items were not shared.
 ghost use Rattle.std.specs.Prelude.{◌≡◌, ℕ, ◌+◌, ◌*◌, ◌<◌, ◌≤◌, List, length, map, sum_by};
 ghost use Rattle.dexspec.specs.Lists.{AreDistinct};
 ghost use Rattle.dexspec.specs.Texts.{Text, string_data};
@@ -16,8 +16,8 @@ ghost use Rattle.dexspec.specs.Merging.{Caps, AreCaps, Fits};
 ghost use Rattle.dexspec.specs.Header.{HasSize};
 ghost use Rattle.dexlaws.specs.Size.{unshared, HasFewTypes, ValuesAreWithin, CodeIsWithin, HandlersAreWithin, ClassDataIsWithin, DirectoryIsWithin, TypeListHas, EndsWithin, PartsAreWithin};
 
-/// Each item has at most as many bytes as it weighs, or as its number of members says: a text without
-/// its row, code with the bytes of its alignment, the others without.
+/// Each item has at most as many bytes as it weighs, or as its number of members allows: a text without its row, code
+/// with the bytes of its alignment, the others without.
 pub fn item_size_law()
     ensures texts { (s : Text) → length (string_data s) + 4 ≤ text_weight s }
     ensures debugs { (m : Mentions) (d : Debug) → length (debug_bytes m d) ≤ debug_weight d }
@@ -30,15 +30,15 @@ pub fn item_size_law()
     ensures type_lists { (m : Mentions) (ts : List Text) → TypeListHas m ts }
 {}
 
-/// The bytes of a section reach from its start to its end, which is no later than its items, each with
-/// the bytes of its alignment, reach.
+/// The bytes of a section extend from its start to its end, which is no later than its items reach, each with the bytes
+/// of its alignment.
 pub fn section_size_law()
     ensures bytes { (align from : ℕ) (items : List (List ℕ)) → from + length (bytes_from align from items) ≡ end_from align from items }
     ensures end { (align from : ℕ) (items : List (List ℕ)) → 0 < align → EndsWithin align from items }
 {}
 
-/// Definitions of different names are in their order each once, so any sum over them is the same. Those of
-/// a collection have different names.
+/// Definitions of different names are in class order, each once, so any sum over them is the same. Those of a
+/// collection have different names.
 pub fn class_order_law()
     ensures names { (K : Collection) → AreDistinct (map (λ d. d.0) (definitions K)) }
     ensures sums { (f : Definition → ℕ) (D : List Definition) → AreDistinct (map (λ d. d.0) D) → sum_by f (in_class_order D) ≡ sum_by f D }
@@ -55,15 +55,15 @@ pub fn size_law()
     ensures canonical { (K : Collection) → HasFewTypes (mentions (definitions K)) → length (canonical K) ≤ weight (definitions K) }
 {}
 
-/// The canonical file is at most as long as the file of the same definitions in which each use of a type list,
-/// of a debug program and of an annotation set has an item of its own.
+/// The canonical file is at most as long as the file of the same definitions in which each use of a type list, of a
+/// debug program and of an annotation set has its own item.
 pub fn sharing_law()
     ensures ordered { (D : List Definition) → length (with_sums (unsigned_file (ordered D))) ≤ length (with_sums (unsigned_file (unshared D))) }
     ensures canonical { (K : Collection) → length (canonical K) ≤ length (with_sums (unsigned_file (unshared (definitions K)))) }
 {}
 
-/// Definitions of which no two are the same and that fit caps have a canonical file of no more bytes than
-/// the cap on weight. That of a collection has a size with which a file is read.
+/// Distinct definitions that fit caps have a canonical file of at most as many bytes as the cap on weight. The
+/// canonical file of a collection meets the condition on size.
 pub fn fitting_size_law()
     ensures ordered { (caps : Caps) (D : List Definition) → AreCaps caps → AreDistinct D → Fits caps D → length (with_sums (unsigned_file (ordered D))) ≤ caps.weight }
     ensures canonical { (caps : Caps) (K : Collection) → AreCaps caps → Fits caps (definitions K) → HasSize (canonical K) }

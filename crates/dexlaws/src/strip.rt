@@ -1,4 +1,4 @@
-//! What becomes of class definitions when their debug programs and source texts are dropped.
+//! How class definitions change when their debug programs and source texts are dropped.
 ghost use Rattle.std.specs.Prelude.{List, ◌≡◌, ◌↔◌, ◌≤◌, ◌++◌, map};
 ghost use Rattle.std.specs.List.{Contains};
 ghost use Rattle.dexspec.specs.Lists.{AreDistinct};
@@ -13,8 +13,8 @@ ghost use Rattle.dexspec.specs.Merging.{Caps, HasShortString, Fits, IsConsistent
 ghost use Rattle.dexspec.specs.Stripping.{strip_body, strip_definition, strip, strip_collection};
 ghost use Rattle.dexlaws.specs.Strip.{IsLeft, IsBare, KeepsDefinition, KeepsDepths, AreParts, HasHeavier, StripsCollection, StripCommutes};
 
-/// A union stripped is the union of what is stripped: of the files that a plan names, of two lists,
-/// and by members alone.
+/// A stripped union is the union of the stripped parts: of the files that a plan names, of two lists, and by members
+/// alone.
 pub fn strip_union()
     ensures plan { (files : List (List Definition)) (plan : Plan) → strip (union files plan) ≡ union (map strip files) plan }
     ensures join { (D E : List Definition) → strip (D ++ E) ≡ strip D ++ strip E }
@@ -23,7 +23,7 @@ pub fn strip_union()
     ensures same { (D E : List Definition) → AreSame D E → AreSame (strip D) (strip E) }
 {}
 
-/// What is stripped has no source text and no debug program, and only what has one changes: so
+/// A stripped definition has no source text and no debug program, and only definitions that have one change: so
 /// stripping twice is stripping once.
 pub fn strip_bare()
     ensures bare { (c : Body) → IsBare (strip_body c) }
@@ -37,13 +37,13 @@ pub fn strip_keeps()
     ensures { (d : Definition) → KeepsDefinition d }
 {}
 
-/// The same names are defined and have the same depths, and a cycle stays one.
+/// The same names are defined and have the same depths, and a cycle stays a cycle.
 pub fn strip_depth()
     ensures { (D : List Definition) → KeepsDepths D }
 {}
 
-/// What stripped definitions mention is part of what the definitions mention, so that no rank rises:
-/// all of it but some texts and types. The same texts are short strings.
+/// The mentions of stripped definitions are part of the mentions of the definitions, all but some texts and types, so
+/// no rank increases. The same texts are short strings.
 pub fn strip_mentions()
     ensures symbols { (d : Definition) (s : Symbol) → Contains (symbols_of (strip_definition d)) s → Contains (symbols_of d) s }
     ensures lists { (D : List Definition) → AreParts (mentions (strip D)) (mentions D) }
@@ -53,16 +53,16 @@ pub fn strip_mentions()
     ensures short { (D : List Definition) (s : Text) → HasShortString (strip D) s ↔ HasShortString D s }
 {}
 
-/// Stripped definitions weigh at most what the definitions weigh; and where no two of them are the
-/// same they are what is left of some of which no two are.
+/// Stripped definitions weigh at most as much as the definitions; and distinct stripped definitions come from distinct
+/// definitions.
 pub fn strip_weight()
     ensures bodies { (c : Body) → body_weight (strip_body c) ≤ body_weight c }
     ensures whole { (D : List Definition) → weight (strip D) ≤ weight D }
     ensures parts { (D E : List Definition) → AreDistinct E → AreWithin E (strip D) → HasHeavier D E }
 {}
 
-/// Definitions that can be merged under some caps can be when they are stripped, and well-formed ones
-/// stay well-formed; each cause that holds of stripped definitions holds of the definitions.
+/// If definitions are mergeable under some caps, so are the stripped definitions, and stripped well-formed definitions
+/// are well formed. Each cause against stripped definitions is a cause against the definitions.
 pub fn strip_good()
     ensures good { (caps : Caps) (D : List Definition) → IsGood caps D → IsGood caps (strip D) }
     ensures fits { (caps : Caps) (D : List Definition) → Fits caps D → Fits caps (strip D) }
@@ -73,15 +73,15 @@ pub fn strip_good()
     ensures well_formed { (D : List Definition) → AreWellFormed D → AreWellFormed (strip D) }
 {}
 
-/// A stripped collection has the stripped definitions under the same names, also where the collection
-/// is given by a list of its definitions in another order.
+/// A stripped collection has the stripped definitions under the same names, also if a list gives the definitions of the
+/// collection in another order.
 pub fn strip_collection_law()
     ensures whole { (K : Collection) → StripsCollection K }
     ensures listed { (D : List Definition) (K : Collection) → IsCollectionOf D K → IsCollectionOf (strip D) (strip_collection K) }
 {}
 
-/// Where collections merge to one by a plan, the stripped collections merge by this plan to the one
-/// stripped, and to no other, and fit the caps that the collections fit.
+/// If collections merge to a collection by a plan, the stripped collections merge by this plan to the stripped one, and
+/// to no other, and fit the caps that the collections fit.
 pub fn strip_merge_law()
     ensures { (caps : Caps) (Ks : List Collection) (plan : Plan) (K : Collection) → IsCollectionOf (union (map definitions Ks) plan) K → StripCommutes caps Ks plan K }
 {}

@@ -1,4 +1,4 @@
-//! The canonical bytes of an item, in a file whose pool rows are those of the indices, encode the item.
+//! The canonical bytes of an item encode the item, in a file in which each symbol is in the row of its index.
 ghost use Rattle.std.specs.Prelude.{◌≡◌, Some, ℕ, ℤ, ◌^◌, ◌%◌, ◌<◌, ◌≤◌, IsTrue, List, [], Option, None, length, map, All, IfSome, FitsSigned};
 ghost use Rattle.std.specs.List.{AllZip, Contains};
 ghost use Rattle.std.specs.Int.{w32};
@@ -32,7 +32,7 @@ pub fn numbers_written()
     ensures one_more { (b : List ℕ) (o : ℕ) (v : Option ℕ) → plus_one v < 2 ^ 32 → Stands b o (uleb128p1 v) → Uleb128p1At b o v (length (uleb128p1 v)) }
 {}
 
-/// The bytes of values encode them, and so do those of elements of an annotation and of an array.
+/// The bytes of values, of elements of an annotation and of an array encode them.
 pub fn values_written()
     ensures value { (b : List ℕ) (m : Mentions) (o : ℕ) (v : Value) → IsValue v → AreInRows b m (value_symbols v) → Stands b o (value_bytes m v) → ValueAt b o v (length (value_bytes m v)) }
     ensures values { (b : List ℕ) (m : Mentions) (o : ℕ) (vs : Values) → AreValues vs → AreInRows b m (values_symbols vs) → Stands b o (values_bytes m vs) → ValuesAt b o vs (length (values_bytes m vs)) }
@@ -52,13 +52,13 @@ pub fn sets_written()
     ensures ref_list { (b : List ℕ) (o : ℕ) (offs : List ℕ) (list : List AnnotationSet) → length b < 2 ^ 32 → data_off b ≤ o → o % 4 ≡ 0 → AllZip (OrNone SetAt [] b) offs list → Stands b o (offsets_bytes offs) → RefListAt b o list }
 {}
 
-/// A directory's counts and pairs of an index and an offset, in the data, encode the directory whose sets
-/// and ref lists are at the offsets.
+/// The counts of a directory and its pairs of an index and an offset, in the data, encode the directory whose sets and
+/// ref lists are at the offsets.
 pub fn directory_written()
     ensures { (b : List ℕ) (o own : ℕ) (fs ms ps : List (ℕ × ℕ)) (d : Directory) → length b < 2 ^ 32 → data_off b ≤ o → o % 4 ≡ 0 → OrNone SetAt [] b own d.own → ArePairs FieldRow SetAt b fs d.fields → ArePairs MethodRow SetAt b ms d.methods → ArePairs MethodRow RefListAt b ps d.parameters → Stands b o (directory_of own fs ms ps) → DirectoryAt b o d }
 {}
 
-/// The bytes of an operation encode it, and those of a debug program, in the data, the program.
+/// The bytes of an operation encode it, and the bytes of a debug program, in the data, encode the program.
 pub fn debug_written()
     ensures operation { (b : List ℕ) (m : Mentions) (o : ℕ) (op : Operation) → IsOperation op → AreInRows b m (operation_symbols op) → Stands b o (operation_bytes m op) → OperationAt b o op (length (operation_bytes m op)) }
     ensures program { (b : List ℕ) (m : Mentions) (o : ℕ) (d : Debug) → IsDebug d → AreInRows b m (debug_symbols d) → data_off b ≤ o → Stands b o (debug_bytes m d) → DebugAt b o d }
@@ -74,20 +74,19 @@ pub fn class_data_written()
     ensures { (b : List ℕ) (m : Mentions) (o : ℕ) (name : Text) (c : Body) (code_offs : List ℕ) → IsWellFormed (name, c) → IndicesRise m name c → AreInRows b m (symbols_of (name, c)) → length code_offs ≡ length (declared_methods c) → All (λ p. p < 2 ^ 32) code_offs → data_off b ≤ o → Stands b o (class_data_bytes m (name, c) code_offs) → ClassDataAt b o (class_data_of name c code_offs) }
 {}
 
-/// The bytes of a code item, at a multiple of four in the data, encode it, if its debug program, where it
-/// has one, is at the offset that they contain, and each index of 16 bits fits its place.
+/// The bytes of a code item, at a multiple of four in the data, encode it, if its debug program, if it has one, is at
+/// the offset in them, and each index of 16 bits fits its field.
 pub fn code_written()
     ensures { (b : List ℕ) (m : Mentions) (o debug_off : ℕ) (c : Code) → length b < 2 ^ 32 → length m.types ≤ 65536 → IsCodeItem c → AreInRows b m (code_symbols c) → All (IndexFits m) c.pieces → data_off b ≤ o → o % 4 ≡ 0 → OrNone (SomeAt DebugAt) None b debug_off c.debug → Stands b o (code_bytes m debug_off c) → CodeAt b o c }
 {}
 
-/// In the pools of definitions the indices of the members of each of a class's four lists rise.
+/// In the pools of definitions, the indices of the members of each of a class's four lists rise.
 pub fn indices_rise()
     ensures { (D : List Definition) (name : Text) (c : Body) → Contains D (name, c) → IsWellFormed (name, c) → IndicesRise (mentions D) name c }
 {}
 
-/// A class's directory, in the data, encodes the annotations of the class and its members, where its
-/// sets and ref lists are at the offsets; no directory is made where nothing is annotated. It has for each
-/// member what the member has.
+/// A class's directory, in the data, encodes the annotations of the class and its members, if its sets and ref lists
+/// are at the offsets. A class without annotations has no directory. The directory has the list of each member.
 pub fn own_directory_written()
     ensures some { (D : List Definition) (b : List ℕ) (o : ℕ) (name : Text) (c : Body) (sets : SetOffsets) (ref_lists bytes : List ℕ) → length b < 2 ^ 32 → Contains D (name, c) → IsWellFormed (name, c) → AreInRows b (mentions D) (symbols_of (name, c)) → HasSetsAt b name c sets ref_lists → directory_bytes (mentions D) (name, c) sets ref_lists ≡ Some bytes → data_off b ≤ o → o % 4 ≡ 0 → Stands b o bytes → DirectoryAt b o (own_directory name c) }
     ensures none { (D : List Definition) (b : List ℕ) (name : Text) (c : Body) (sets : SetOffsets) (ref_lists : List ℕ) → length b < 2 ^ 32 → Contains D (name, c) → IsWellFormed (name, c) → AreInRows b (mentions D) (symbols_of (name, c)) → HasSetsAt b name c sets ref_lists → directory_bytes (mentions D) (name, c) sets ref_lists ≡ None → own_directory name c ≡ no_directory }
@@ -96,8 +95,8 @@ pub fn own_directory_written()
     ensures parameters { (name : Text) (c : Body) (x : MethodDef) → IsWellFormed (name, c) → Contains (declared_methods c) x → annotated method_cmp (own_directory name c).parameters (method_of name x) ≡ x.parameter_annotations }
 {}
 
-/// What has a place of 16 bits fits it: the indices of instructions, in definitions that fit the greatest caps,
-/// and the offsets of handlers, where the types are few and the handlers light.
+/// Values in fields of 16 bits fit: the indices of instructions, in definitions that fit the greatest caps, and the
+/// offsets of handlers, if the types are few and the handlers light.
 pub fn places_fit()
     ensures indices { (D : List Definition) (d : Definition) (x : MethodDef) (k : Code) → Fits greatest_caps D → Contains D d → Contains (declared_methods d.1) x → x.code ≡ Some k → IsCodeItem k → All (IndexFits (mentions D)) k.pieces }
     ensures handlers { (m : Mentions) (hs : List Handler) (h : Handler) → length m.types ≤ 65536 → handlers_weight hs ≤ most_handlers → handler_off m (length (uleb128 (length hs))) hs h < 2 ^ 16 }

@@ -13,13 +13,13 @@ pub fn one_collection()
     ensures { (b : List ℕ) (K L : Collection) → Denotes b K → Denotes b L → K ≡ L }
 {}
 
-/// Where the first sixteen conditions hold, a type has one row, and a name one class row.
+/// If the first sixteen conditions hold, a type has one row, and a name has one class row.
 pub fn one_row_each()
     ensures types { (b : List ℕ) (i j : ℕ) (t : Text) → HoldBelow 17 b → TypeRow b i t → TypeRow b j t → i ≡ j }
     ensures classes { (b : List ℕ) (r s : ℕ) (name : Text) (c d : Body) → HoldBelow 17 b → ClassRow b r name c → ClassRow b s name d → r ≡ s }
 {}
 
-/// Where the first sixteen conditions hold and all class rows can be read, the file denotes a collection.
+/// If the first sixteen conditions hold and all class rows can be read, the file denotes a collection.
 pub fn denotes_readable()
     ensures { (b : List ℕ) → HoldBelow 17 b → AreReadable b → (K : Collection) × Denotes b K }
 {}
@@ -29,7 +29,7 @@ pub fn denotes_some()
     ensures { (b : List ℕ) → IsAccepted b → (K : Collection) × Denotes b K }
 {}
 
-/// The definitions of what a file denotes are those of its class rows.
+/// The definitions of the denoted collection are those of the class rows.
 pub fn denoted_rows()
     ensures { (b : List ℕ) (D : List Definition) (K : Collection) → HoldBelow 17 b → AreRows b (table_size b ClassDefs) D → Denotes b K → AreSame (definitions K) D }
 {}

@@ -1,4 +1,4 @@
-//! Rows of the five pools: they are in the order of what they name, and each symbol of a definition has one.
+//! Rows of the five pools: they are in the order of their symbols, and each symbol of a definition has a row.
 ghost use Rattle.std.specs.Prelude.{◌≡◌, ℕ, ◌<◌, List};
 ghost use Rattle.std.specs.List.{Contains};
 ghost use Rattle.std.specs.declared.cmp.Ordering.TheVariants.{Less};
@@ -10,7 +10,7 @@ ghost use Rattle.dexspec.specs.Mentions.{symbols_of};
 ghost use Rattle.dexspec.specs.Accepted.{HasMembers, HoldBelow};
 ghost use Rattle.dexlaws.specs.Denotes.{StandInOrder};
 
-/// Where the first sixteen conditions hold, the rows of each pool are in order.
+/// If the first sixteen conditions hold, the rows of each pool are in order.
 pub fn rows_stand_in_order()
     ensures texts { (b : List ℕ) → HoldBelow 17 b → StandInOrder text_cmp (StringRow b) }
     ensures types { (b : List ℕ) → HoldBelow 17 b → StandInOrder text_cmp (TypeRow b) }
@@ -19,8 +19,8 @@ pub fn rows_stand_in_order()
     ensures methods { (b : List ℕ) → HoldBelow 17 b → StandInOrder method_cmp (MethodRow b) }
 {}
 
-/// Where the first sixteen conditions and that on members hold, each symbol of a class row's definition
-/// has a row.
+/// If the first sixteen conditions and the condition on members hold, each symbol of a class row's definition has a
+/// row.
 pub fn symbols_have_rows()
     ensures { (b : List ℕ) (r : ℕ) (name : Text) (c : Body) (s : Symbol) → HoldBelow 17 b → HasMembers b r → ClassRow b r name c → Contains (symbols_of (name, c)) s → (i : ℕ) × SymbolRow b i s }
 {}

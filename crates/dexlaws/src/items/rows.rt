@@ -1,10 +1,10 @@
-//! Rows of the five pools: the bytes determine what a row names.
+//! Rows of the five pools: the bytes determine the symbol of a row.
 ghost use Rattle.std.specs.Prelude.{◌≡◌, ℕ, List};
 ghost use Rattle.dexspec.specs.Symbols.{Symbol, pool_of};
 ghost use Rattle.dexspec.specs.Rows.{StringRow, TypeRow, TypeListAt, ProtoRow, FieldRow, MethodRow, SymbolRow};
 ghost use Rattle.dexlaws.specs.Items.{IsOne};
 
-/// A row of a pool names at most one text, type, proto, field or method.
+/// A row of a pool denotes at most one text, type, proto, field or method.
 pub fn row_is_determined()
     ensures text { IsOne StringRow }
     ensures descriptor { IsOne TypeRow }
@@ -13,12 +13,12 @@ pub fn row_is_determined()
     ensures method { IsOne MethodRow }
 {}
 
-/// At an offset is at most one list of types.
+/// There is at most one list of types at an offset.
 pub fn type_list_is_determined()
     ensures { IsOne TypeListAt }
 {}
 
-/// A row of a given pool names at most one symbol.
+/// A row of a given pool denotes at most one symbol.
 pub fn symbol_row_is_determined()
     ensures { (b : List ℕ) (i : ℕ) (x y : Symbol) → pool_of x ≡ pool_of y → SymbolRow b i x → SymbolRow b i y → x ≡ y }
 {}

@@ -1,5 +1,5 @@
-//! Type lists, debug programs and annotation sets that are written once: the tests find the equal ones, and each
-//! use has the number of the item that is equal to it.
+//! Type lists, debug programs and annotation sets that are written once: the tests decide equality, and each use has
+//! the number of the item that equals it.
 ghost use Rattle.std.specs.Prelude.{List, Option};
 ghost use Rattle.dexspec.specs.Texts.{Text};
 ghost use Rattle.dexspec.specs.Debug.{Debug};
@@ -15,8 +15,8 @@ pub fn sameness_is_equality()
     ensures sets { TellsEqual same_set }
 {}
 
-/// Of the items that are written no two are equal, and each has a use. Each use that is not empty has the
-/// number of the item that is equal to it, and the items are in the order of their first uses.
+/// No two written items are equal, and each has a use. Each use that is not empty has the number of the item that
+/// equals it, and the items are in the order of their first uses.
 pub fn items_are_shared()
     ensures type_lists { (uses : List (Option (List Text))) → AreShared uses (shared_items same_types uses) }
     ensures debugs { (uses : List (Option Debug)) → AreShared uses (shared_items same_debug uses) }

@@ -1,4 +1,4 @@
-//! Numbers in encoded values: what is written for them has the fewest bytes, and is read back.
+//! Numbers in encoded values: they are written in the fewest bytes, and are read back.
 ghost use Rattle.std.specs.Prelude.{◌≡◌, ℕ, ℤ, All, ◌+◌, ◌-◌, ◌*◌, ◌/◌, ◌^◌, ◌<◌, ◌≤◌, List, length, FitsSigned};
 ghost use Rattle.std.specs.Int.{w64};
 ghost use Rattle.dexspec.specs.Bytes.{number_of, bytes_of, signed_in, Stands};
@@ -14,15 +14,15 @@ pub fn least_width_is_read_back()
         → 256 ^ (width - bits_width width v) * number_of (bytes_of (bits_width width v) (v / 256 ^ (width - bits_width width v))) ≡ v }
 {}
 
-/// No fewer bytes are read as the number or the bit pattern.
+/// No fewer bytes encode the number or the bit pattern.
 pub fn width_is_least()
     ensures unsigned { (v : ℕ) (bytes : List ℕ) → v < 2 ^ 64 → All (λ byte. byte < 256) bytes → 0 < length bytes → number_of bytes ≡ v → unsigned_width v ≤ length bytes }
     ensures signed { (z : ℤ) (bytes : List ℕ) → FitsSigned w64 z → All (λ byte. byte < 256) bytes → 0 < length bytes → signed_in (length bytes) (number_of bytes) ≡ z → signed_width z ≤ length bytes }
     ensures bits { (width v : ℕ) (bytes : List ℕ) → 1 ≤ width → width ≤ 8 → 0 < length bytes → 256 ^ (width - length bytes) * number_of bytes ≡ v → bits_width width v ≤ length bytes }
 {}
 
-/// What is written for a number or a bit pattern that fits a type's width encodes it, and has one byte more
-/// than its least width.
+/// The bytes that are written for a number or a bit pattern that fits a type's width encode it, and are one more than
+/// its least width.
 pub fn written_number_stands()
     ensures unsigned { (code width : ℕ) (b : List ℕ) (o v : ℕ) → 1 ≤ width → width ≤ 8 → v < 256 ^ width → Stands b o (unsigned_bytes code v) → UnsignedAt code width b o v (1 + unsigned_width v) }
     ensures signed { (code width : ℕ) (b : List ℕ) (o : ℕ) (z : ℤ) → 1 ≤ width → width ≤ 8 → 2 * magnitude z < 256 ^ width → Stands b o (signed_bytes code z) → SignedAt code width b o z (1 + signed_width z) }

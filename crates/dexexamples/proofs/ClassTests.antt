@@ -1,4 +1,4 @@
--- Tests of values, annotations, members and definitions, each with what it shows.
+-- Tests of values, annotations, members and definitions, each with what it implies.
 use Rattle.std.proofs.Common.{◌≡◌, Bool, true, false, not, ◌&&◌, nat_lt, nat_le, List, [], ◌∷◌, length, map, refl, ap, arith, ltb-true, leb-true}
 use Rattle.std.specs.Prelude.{◌^◌}
 use Rattle.std.specs.List.{flat_map, list_all, list_any}
@@ -136,7 +136,7 @@ method_def_by m e =
       parameters_count = uint_by (length m.parameter_annotations) (h 6 (omega arith));
     }
 
--- no member of one list is the same as one of the other
+-- no member of one list equals a member of the other
 abbrev are_unlike : {X : Type 0} → (X → X → Bool) → List X → List X → Bool
 are_unlike same xs ys = list_all (λ x. not (list_any (same x) ys)) xs
 

@@ -1,4 +1,4 @@
--- Tests of code and debug programs, each with what it shows.
+-- Tests of code and debug programs, each with what it implies.
 use Rattle.std.proofs.Common.{◌≡◌, ℕ, ◌+◌, ◌<◌, Bool, true, false, not, ◌&&◌, ◌||◌, nat_lt, nat_le, ◌==◌, List, [], ◌∷◌, length, drop, Option, Some, None, refl, ap, arith, ltb-true, leb-true, eqb-true, IfNone, is_some, is_none}
 use Rattle.std.specs.Prelude.{ℤ, pos, negsuc, ◌^◌, slice_index, FitsSigned}
 use Rattle.std.specs.Int.{w8, w16, w32, w64}
@@ -38,7 +38,7 @@ long_by (negsuc n) e = omega (arith, ints, ltb-true n 9223372036854775808 e)
 
 -- ---- units and pieces
 
--- where pieces begin that stand one after the other
+-- the cuts of pieces in sequence
 abbrev cuts_from : ℕ → List Piece → List Cut
 cuts_from at [] = []
 cuts_from at (p ∷ ps) = record { unit = at; units = length (units_of p) } ∷ cuts_from (at + length (units_of p)) ps
@@ -139,7 +139,7 @@ pieces_by ps cs e =
 
 -- ---- tries
 
--- there is one, or else there are catches
+-- there is a catch-all, or there are catches
 some_caught : (o : Option ℕ) (n : ℕ) → (is_some o || nat_lt 0 n) ≡ true → IfNone o (0 < n)
 some_caught None n e = ltb-true 0 n e
 some_caught (Some address) n e = tt

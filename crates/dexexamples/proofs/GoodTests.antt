@@ -1,4 +1,4 @@
--- Tests of what can be written as one file, with what they show; and some collections that pass.
+-- Tests that definitions can be written as one file, with what they imply; and some collections that pass.
 use Rattle.std.proofs.Common.{◌≡◌, Bool, true, T, nat_lt, nat_le, List, [], ◌∷◌, length, refl, sym, ap, ◌∙◌, subst, arith, ltb-true, leb-true, is_lt}
 use Rattle.std.specs.Prelude.{codes}
 use Rattle.std.specs.List.{list_all}
@@ -33,7 +33,7 @@ is_acyclic D = list_all (is_below D (length D)) (names_in D)
 acyclic_by : (D : List Definition) → is_acyclic D ≡ true → IsAcyclic D
 acyclic_by D e name defined = (length D, list_all-member (is_below D (length D)) (names_in D) name e (is_defined-name D name defined))
 
--- what is mentioned, and the weight
+-- the mentions, and the weight
 abbrev mentions_tests : Mentions → List Bool
 mentions_tests m = nat_le (length m.types) 65535 ∷ nat_le (length m.protos) 65535 ∷ nat_le (length m.fields) 65536 ∷ nat_le (length m.methods) 65536 ∷ nat_lt (length m.texts) 65536 ∷ []
 
@@ -50,7 +50,7 @@ fits_by D e light =
       weight = λ E apart within. omega (arith, weight-within E D apart within, leb-true (weight D) most_weight light);
     }
 
--- all that the law of normal forms asks for
+-- all premises of the law of normal forms
 abbrev good_tests : List Definition → List Bool
 good_tests D = are_well_formed D ∷ is_acyclic D ∷ are_true (mentions_tests (mentions D)) ∷ nat_le (weight D) most_weight ∷ []
 

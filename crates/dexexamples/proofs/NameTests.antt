@@ -1,4 +1,5 @@
--- Tests of names, symbols and numbers, each with what it shows: what is well formed then is by computation.
+-- Tests of names, symbols and numbers, each with what it implies: that they are well formed then follows by
+-- computation.
 use Rattle.std.proofs.Common.{◌≡◌, ℕ, ◌<◌, Bool, true, false, not, ◌&&◌, ◌||◌, nat_lt, nat_le, ◌==◌, List, [], ◌∷◌, ◌++◌, length, take, drop, replicate, Option, Some, None, sym, ap, subst, arith, inl, inr, ltb-true, leb-true, eqb-true, eq-eqb, All, IfSome}
 use Rattle.std.specs.Prelude.{◌≢◌, ◌⊎◌, ◌-◌, ◌^◌, ◌+◌, if◌then◌else◌, slice_index, slice_index_or}
 use Rattle.std.specs.List.{Contains, list_all, list_any, slice_split}
@@ -15,28 +16,28 @@ use Rattle.dexspec.proofs.Equality.{text_decides}
 
 -- ---- tests
 
--- of each member
+-- a test of each member
 pub all_by : {X : Type 0} (P : X → Type 0) (p : X → Bool) → ((x : X) → p x ≡ true → P x) → (xs : List X) → list_all p xs ≡ true → All P xs
 all_by P p h xs e = All-weaker (λ x. p x ≡ true) P h xs (AllPass-from_list_all p xs e)
 
--- of what there is
+-- a test of an optional value
 pub some_by : {X : Type 0} (P : X → Type 0) (p : X → Bool) → ((x : X) → p x ≡ true → P x) → (o : Option X) → all_of_option p o ≡ true → IfSome o P
 some_by P p h None e = tt
 some_by P p h (Some x) e = h x e
 
--- many at once
+-- several tests
 abbrev pub are_true : List Bool → Bool
 are_true bs = list_all (λ b. b) bs
 
 pub each : (bs : List Bool) → are_true bs ≡ true → (k : ℕ) → k < length bs → slice_index_or bs k false ≡ true
 each bs e k lt = AllPass-from_list_all (λ b. b) bs e k false lt
 
--- one of two
+-- one of two tests
 pub either : (a b : Bool) → (a || b) ≡ true → (a ≡ true) ⊎ (b ≡ true)
 either true b e = inl e
 either false b e = inr e
 
--- of numbers
+-- tests of numbers
 abbrev pub fits_uint : ℕ → Bool
 fits_uint n = nat_lt n (2 ^ 32)
 
@@ -49,13 +50,13 @@ fits_ushort n = nat_lt n (2 ^ 16)
 pub ushort_by : (n : ℕ) → fits_ushort n ≡ true → FitsUshort n
 ushort_by n e = ltb-true n (2 ^ 16) e
 
--- texts that the test tells to be the same
+-- texts that are equal by the test
 pub text_is : (s t : Text) → same_text s t ≡ true → s ≡ t
 text_is s t e = (text_decides s t).0 e
 
 -- ---- names
 
--- what differs
+-- different numbers
 unlike : (m n : ℕ) → not (m == n) ≡ true → m ≢ n
 unlike m n e s = let same : not (m == n) ≡ false = ap not (eq-eqb m n s) in absurd cc
 
@@ -81,7 +82,7 @@ member_name_by s e = record {
   units = all_by IsNameUnit is_name_unit name_unit_by s (and_second (nat_lt 0 (length s)) (list_all is_name_unit s) e);
 }
 
--- what stands between slashes
+-- the parts between slashes
 abbrev parts_of : Text → List Text
 parts_of s = slice_split (λ u. u == 0x2f) s
 
@@ -93,7 +94,7 @@ class_name_by s e = record {
   joined = sym (join_with_byte-slice_split 0x2f s);
 }
 
--- what stands between the first unit and the last
+-- the units between the first and the last
 abbrev inner : Text → Text
 inner s = take (length s - 2) (drop 1 s)
 

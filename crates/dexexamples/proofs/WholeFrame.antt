@@ -71,7 +71,7 @@ unfolding whole_a uint_at ushort_at number_of
 known = All-from_recursion IsKnown (map_entries whole_a)
     ((HeaderItem, refl), ((TableOf StringIds, refl), ((TableOf TypeIds, refl), ((TableOf ClassDefs, refl), ((StringDataItems, refl), ((MapList, refl), tt))))))
 
--- one more value that is none of the others
+-- one more value that is different from the others
 by_cons : (x : ℕ) (xs : List ℕ) → AllByRecursion (λ y. x ≢ y) xs → AreDistinct xs → AreDistinct (x ∷ xs)
 by_cons x xs h rest = AllPairs-cons (λ x y. x ≢ y) x xs (All-from_recursion (λ y. x ≢ y) xs h) rest
 

@@ -1,4 +1,4 @@
--- The whole file is accepted, and stands for its class: conditions 17 to 23, and what its class row is.
+-- The whole file is accepted, and denotes its class: conditions 17 to 23, and the definition of its class row.
 use Rattle.std.proofs.Common.{◌≡◌, ℕ, zero, suc, ◌<◌, inl, inr, List, [], ◌∷◌, refl, ap, subst, sym, ◌∙◌, arith}
 use Rattle.std.specs.Prelude.{◌≢◌, ◌≤◌, Bool, true, false, cond, map, Option, Some, None, codes}
 use Rattle.std.specs.List.{AllZip}
@@ -28,7 +28,7 @@ use Rattle.dexexamples.specs.Whole.{whole_a}
 use Rattle.dexexamples.proofs.WholeFrame.{frame}
 use Rattle.dexexamples.proofs.WholeRows.{class_of_a, type_0, type_1, strings, types, protos, fields, methods, class_row, classes}
 
--- what is left out is the value of nothing
+-- an item at offset 0 has the value of nothing
 left_out : {X : Type 0} (At : List ℕ → ℕ → X → Type 0) (none x : X) (b : List ℕ) (o : ℕ) → o ≡ 0 → OrNone At none b o x → x ≡ none
 left_out At none x b o e (inl h) = h.1
 left_out At none x b o e (inr h) = absurd (h.0 e)
@@ -86,13 +86,13 @@ unfolding whole_a uint_at number_of
 source_is None h = refl
 source_is (Some s) h = absurd (let lt = h.row in omega arith)
 
--- nothing is related to nothing alone
+-- the empty list is related to the empty list alone
 no_methods : (R : EncodedMethod → MethodDef → Type 0) (xs : List EncodedMethod) (ms : List MethodDef) → xs ≡ [] → AllZip R xs ms → ms ≡ []
 no_methods R [] [] e h = refl
 no_methods R [] (m ∷ ms) e h = absurd h
 no_methods R (x ∷ xs) ms e h = absurd cc
 
--- what class row 0 is
+-- the definition of class row 0
 pub one_class : (name : Text) (c : Body) → ClassRow whole_a 0 name c → (name ≡ codes "LA;") × (c ≡ body_under object)
 unfolding whole_a uint_at number_of
 one_class name c h =
@@ -161,9 +161,9 @@ accepted Condition.Annotations r row = annotations r row
 accepted Condition.Weight r row = weighs r row
 accepted c r row = frame c (omega arith) r row
 
--- ---- what it stands for
+-- ---- what the file denotes
 
--- what is found among the one definition
+-- lookup in the one definition
 found : (name : Text) (c : Body) (same : Bool) → eq_by_cmp text_cmp name (codes "LA;") ≡ same → cond same (Some (body_under object)) None ≡ Some c → Defines whole_a name c
 found name c true e h =
     let named = sym (tells_apart text_exact name (codes "LA;") e) in

@@ -1,4 +1,4 @@
--- A file whose class has a method with code: what its rows, class data and code stand for.
+-- A file whose class has a method with code: what its rows, class data and code denote.
 use Rattle.std.proofs.Common.{◌≡◌, ℕ, ◌<◌, inl, inr, [], ◌∷◌, refl, arith}
 use Rattle.std.specs.Prelude.{codes}
 use Rattle.std.proofs.lemmas.List.Elements.{All-from_recursion, All-nil}

@@ -1,4 +1,4 @@
--- Files that are wrong in one thing are refused with its number.
+-- Files with one error are refused with its number.
 use Rattle.std.proofs.Common.{◌≡◌, ℕ, ◌<◌, inl, ◌≤◌, List, [], ◌∷◌, refl, arith}
 use Rattle.std.specs.Prelude.{All}
 use Rattle.std.proofs.lemmas.List.Elements.{All-from_recursion}

@@ -1,4 +1,4 @@
--- What the rows of the whole file stand for: conditions 11 to 16.
+-- What the rows of the whole file denote: conditions 11 to 16.
 use Rattle.std.proofs.Common.{◌≡◌, ℕ, zero, suc, ◌+◌, ◌<◌, inl, [], ◌∷◌, refl, ap, arith}
 use Rattle.std.specs.Prelude.{◌++◌, ◌^◌, length, take, drop, true, nat_lt, Some, None, codes}
 use Rattle.std.specs.List.{list_all}

@@ -1,4 +1,4 @@
--- Small classes whose files, weights and ranks are known from outside.
+-- Small classes whose files, weights and ranks are known from other sources.
 use Rattle.std.specs.Prelude.{ℕ, List, [], ◌∷◌, ◌++◌, Some, None, codes, pos}
 use Rattle.dexspec.specs.Texts.{Text}
 use Rattle.dexspec.specs.Symbols.{Proto, TextSymbol}
@@ -102,7 +102,7 @@ class_set_twice = (codes "LA;", record (annotated set_n (int_field (codes "x") s
 abbrev pub class_set_first_use : Definition
 class_set_first_use = annotated (set_v (IntValue (pos 1))) (int_field (codes "x") (set_v (IntValue (pos 2))) ∷ int_field (codes "y") (set_v (IntValue (pos 1))) ∷ [])
 
--- the sets of `LA;` and its field have one type, and unlike values
+-- the sets of `LA;` and its field have one type, and different values
 abbrev pub class_sets_alike : Definition
 class_sets_alike = annotated (set_v (IntValue (pos 1))) (int_field (codes "x") (set_v (IntValue (pos 2))) ∷ [])
 
@@ -144,7 +144,7 @@ classes_list_thrice = (
 )
     ∷ (codes "LB;", record (body_under object) { interfaces = codes "LI;" ∷ [] }) ∷ []
 
--- the sets of `LA;` and its field have an equal annotation, and are unlike
+-- the sets of `LA;` and its field have an equal annotation, and are different
 abbrev pub class_annotation_twice : Definition
 class_annotation_twice = annotated set_n (int_field (codes "x") (set_n ++ record { visibility = 1; type = codes "LP;"; elements = NoElements } ∷ []) ∷ [])
 

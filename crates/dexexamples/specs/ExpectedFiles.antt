@@ -1,5 +1,5 @@
--- Whole files behind their signature, laid out by hand from the public page's tables and this project's order
--- of sections.
+-- Whole files after their signature, laid out by hand from the public page's tables and this project's order of
+-- sections.
 use Rattle.std.specs.Prelude.{ℕ, List, [], ◌∷◌}
 
 -- the file without classes: 140 bytes

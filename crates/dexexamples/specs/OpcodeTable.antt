@@ -1,5 +1,5 @@
--- The public page's table of opcodes once more, written out opcode by opcode: three letters for the format, one
--- for the kind of index, dots where the opcode is unused, and all mnemonics in one text.
+-- The public page's table of opcodes, written out opcode by opcode: three letters for the format, one for the kind of
+-- index, dots if the opcode is unused, and all mnemonics in one text.
 use Rattle.std.specs.Prelude.{ℕ, List, ◌++◌, Option, Some, None, codes}
 use Rattle.std.specs.List.{flat_map, range_with_len}
 use Rattle.dexspec.specs.Symbols.{Pool, Strings, Types, Protos, Fields, Methods}
@@ -54,7 +54,7 @@ abbrev mnemonic_of : Option Opcode → List ℕ
 mnemonic_of None = codes "."
 mnemonic_of (Some op) = op.mnemonic
 
--- what the definitions say of all opcodes
+-- the formats of all opcodes, by the definitions
 abbrev pub all_formats : List ℕ
 all_formats = flat_map (λ n. format_of (opcode_of n)) opcode_numbers
 

@@ -6,11 +6,11 @@ use Rattle.dexspec.specs.Debug.{Debug, Operation}
 abbrev pub cut : ℕ → ℕ → Cut
 cut unit units = record { unit = unit; units = units }
 
--- return-void, and then the packed-switch payload's first unit at an odd unit
+-- return-void, then the packed-switch payload's first unit at an odd unit
 abbrev pub odd_payload : List ℕ
 odd_payload = 0x000e ∷ 0x0100 ∷ 0x0000 ∷ 0x0000 ∷ 0x0000 ∷ []
 
--- packed-switch to a payload of one target: the return-void behind the switch
+-- packed-switch to a payload of one target: the return-void after the switch
 abbrev pub packed : List ℕ
 packed = 0x002b ∷ 0x0004 ∷ 0x0000 ∷ 0x000e ∷ 0x0100 ∷ 0x0001 ∷ 0x0000 ∷ 0x0000 ∷ 0x0003 ∷ 0x0000 ∷ []
 

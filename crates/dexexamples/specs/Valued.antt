@@ -1,4 +1,4 @@
--- Classes of a file that was made without this project, and its canonical file as it was made there too.
+-- Classes of a file that was made without this project, and its canonical file, which was made without it too.
 use Rattle.std.specs.Prelude.{ℕ, List, [], ◌∷◌, Some, None, codes}
 use Rattle.dexspec.specs.Pieces.{Instruction}
 use Rattle.dexspec.specs.Values.{FieldValue, NoValues, ThenValue}
@@ -124,7 +124,7 @@ valued_f = (
 abbrev pub valued : List Definition
 valued = valued_a ∷ valued_b ∷ valued_c ∷ valued_d ∷ valued_e ∷ valued_f ∷ []
 
--- its canonical file behind the signature
+-- its canonical file after the signature
 abbrev pub valued_file : List ℕ
 valued_file =
     0x04 ∷ 0x04 ∷ 0x00 ∷ 0x00 ∷ 0x70 ∷ 0x00 ∷ 0x00 ∷ 0x00 ∷ 0x78 ∷ 0x56 ∷ 0x34 ∷ 0x12 ∷ 0x00 ∷ 0x00 ∷ 0x00 ∷ 0x00 ∷

@@ -1,4 +1,4 @@
--- Classes of a file that was made without this project, and its canonical file as it was made there too.
+-- Classes of a file that was made without this project, and its canonical file, which was made without it too.
 use Rattle.std.specs.Prelude.{ℕ, pos, List, [], ◌∷◌, Some, None, codes}
 use Rattle.dexspec.specs.Symbols.{TextSymbol, TypeSymbol}
 use Rattle.dexspec.specs.Pieces.{Instruction, Payload}
@@ -181,7 +181,7 @@ varied_f = (
 abbrev pub varied : List Definition
 varied = varied_a ∷ varied_b ∷ varied_c ∷ varied_d ∷ varied_e ∷ varied_f ∷ []
 
--- its canonical file behind the signature
+-- its canonical file after the signature
 abbrev pub varied_file : List ℕ
 varied_file =
     0x94 ∷ 0x08 ∷ 0x00 ∷ 0x00 ∷ 0x70 ∷ 0x00 ∷ 0x00 ∷ 0x00 ∷ 0x78 ∷ 0x56 ∷ 0x34 ∷ 0x12 ∷ 0x00 ∷ 0x00 ∷ 0x00 ∷ 0x00 ∷
@@ -322,7 +322,7 @@ varied_file =
     0xc4 ∷ 0x07 ∷ 0x00 ∷ 0x00 ∷
     []
 
--- the same of the classes without debug programs and source texts
+-- the canonical file of the classes without debug programs and source texts, after the signature
 abbrev pub varied_stripped : List ℕ
 varied_stripped =
     0x7c ∷ 0x08 ∷ 0x00 ∷ 0x00 ∷ 0x70 ∷ 0x00 ∷ 0x00 ∷ 0x00 ∷ 0x78 ∷ 0x56 ∷ 0x34 ∷ 0x12 ∷ 0x00 ∷ 0x00 ∷ 0x00 ∷ 0x00 ∷

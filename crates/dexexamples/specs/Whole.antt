@@ -1,4 +1,4 @@
--- A whole file of 264 bytes, and three that are wrong in one thing.
+-- A whole file of 264 bytes, and three files with one error each.
 use Rattle.std.specs.Prelude.{ℕ, List, [], ◌∷◌, ◌++◌, take, slice_set}
 use Rattle.dexexamples.specs.ExpectedFiles.{front_a, file_a, file_p}
 
@@ -6,7 +6,7 @@ use Rattle.dexexamples.specs.ExpectedFiles.{front_a, file_a, file_p}
 unfoldable pub whole_a : List ℕ
 whole_a = front_a ++ file_a
 
--- the zero byte behind its first text is 1
+-- the zero byte after its first text is 1
 unfoldable pub changed_a : List ℕ
 changed_a = slice_set whole_a 164 1
 

@@ -1,4 +1,4 @@
-//! A whole file laid out by hand: it is accepted, and stands for its class.
+//! A whole file laid out by hand: it is accepted, and denotes its class.
 
 ghost use Rattle.std.specs.Prelude.{[], ◌∷◌, codes};
 ghost use Rattle.std.specs.FinMap.{from_entries};
@@ -10,7 +10,7 @@ ghost use Rattle.dexspec.specs.Rows.{StringRow, TypeRow};
 ghost use Rattle.dexexamples.specs.Examples.{object, body_under, class_a, class_p};
 ghost use Rattle.dexexamples.specs.Whole.{whole_a, changed_a, cut_a, later_a, whole_p};
 
-/// Header, sums, layout and map are right: conditions 1 to 10.
+/// Header, sums, layout and map are valid: conditions 1 to 10.
 pub fn frame()
     ensures { IsFrame whole_a }
 {}
@@ -39,12 +39,13 @@ pub fn accepted()
     ensures { IsAccepted whole_a }
 {}
 
-/// The file stands for the class, and for nothing else.
+/// The file denotes the class, and nothing else.
 pub fn denotes()
     ensures { Denotes whole_a (from_entries (class_a ∷ [])) }
 {}
 
-/// A changed byte is a wrong checksum, a missing one a wrong length, and another version is told with its number.
+/// A changed byte is a wrong checksum, a missing byte is a wrong length, and another version is reported with its
+/// number.
 pub fn refused()
     ensures changed { IsRefused changed_a 7 0 }
     ensures cut { IsRefused cut_a 4 0 }

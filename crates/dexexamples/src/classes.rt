@@ -10,8 +10,8 @@ ghost use Rattle.dexspec.specs.Texts.{text_cmp};
 ghost use Rattle.dexspec.specs.Weight.{weight};
 ghost use Rattle.dexexamples.specs.Examples.{class_a, class_b, class_d, class_p, class_f, class_z, class_b_under_z, class_debug_twice};
 
-/// The weights of no class, of one without members, of two, of one with a method, of one with a static field, a
-/// static value and an annotation, and of one with debug programs, as it is and stripped.
+/// The weights of no class, of a class without members, of two classes, of a class with a method, of a class with a
+/// static field, a static value and an annotation, and of a class with debug programs, as it is and stripped.
 pub fn weights()
     ensures nothing { weight [] ≡ 1024 }
     ensures plain { weight (class_a ∷ []) ≡ 1211 }
@@ -29,7 +29,7 @@ pub fn ranks()
     ensures types { (mentions (class_a ∷ class_b ∷ [])).types ≡ codes "LA;" ∷ codes "LB;" ∷ codes "Ljava/lang/Object;" ∷ [] }
 {}
 
-/// A class stands behind its superclass, whatever their names are and in whatever order they are given.
+/// A class comes after its superclass, whatever their names are and in whatever order they are given.
 pub fn class_order()
     ensures one_way { in_class_order (class_z ∷ class_b_under_z ∷ []) ≡ class_z ∷ class_b_under_z ∷ [] }
     ensures other_way { in_class_order (class_b_under_z ∷ class_z ∷ []) ≡ class_z ∷ class_b_under_z ∷ [] }

@@ -13,7 +13,7 @@ pub fn opcodes()
     ensures mnemonics { all_mnemonics ≡ expected_mnemonics }
 {}
 
-/// Code that is cut as it should be, each target right.
+/// Code with valid cuts and targets.
 pub fn code_is_cut()
     ensures packed_switch { IsCode packed (cut 0 3 ∷ cut 3 1 ∷ cut 4 6 ∷ []) }
     ensures sparse_switch { IsCode sparse (cut 0 3 ∷ cut 3 1 ∷ cut 4 10 ∷ []) }
@@ -21,8 +21,8 @@ pub fn code_is_cut()
     ensures invoke { IsCode invoke (cut 0 3 ∷ []) }
 {}
 
-/// Where no piece begins: a payload at an odd unit, six registers, a byte that is not zero, an unused opcode,
-/// a cut instruction, a width of three, a key that stands twice.
+/// Units where no piece begins: a payload at an odd unit, six registers, a byte that is not zero, an unused opcode, a
+/// cut instruction, a width of three, a key that occurs twice.
 pub fn no_piece()
     ensures odd_payload { BreaksAt odd_payload 1 }
     ensures six_registers { piece_size 0 six_registers ≡ None }
@@ -33,7 +33,7 @@ pub fn no_piece()
     ensures keys { piece_size 4 sparse_equal ≡ None }
 {}
 
-/// Targets that are not right: into an instruction, past the end, a payload of another kind.
+/// Targets that are not valid: into an instruction, past the end, a payload of another kind.
 pub fn wrong_targets()
     ensures inside { has_right_targets packed_astray (cut 0 3 ∷ cut 3 1 ∷ cut 4 6 ∷ []) (cut 0 3) ≡ false }
     ensures outside { has_right_targets (0x2028 ∷ []) (cut 0 1 ∷ []) (cut 0 1) ≡ false }

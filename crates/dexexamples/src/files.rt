@@ -1,4 +1,4 @@
-//! Whole canonical files, but for the two sums.
+//! Whole canonical files, without the two sums.
 
 ghost use Rattle.std.specs.Prelude.{◌≡◌, [], ◌∷◌, ◌++◌, codes};
 ghost use Rattle.sha1.specs.Sha1.{sha1};
@@ -11,7 +11,7 @@ ghost use Rattle.dexexamples.specs.ExpectedFiles.{empty_file, file_a, file_p, fr
 ghost use Rattle.dexexamples.specs.Valued.{valued, valued_file};
 ghost use Rattle.dexexamples.specs.Varied.{varied, varied_file, varied_stripped};
 
-/// The canonical files, behind their signature, of no class, of one without members, and of one with a method.
+/// The canonical files, after their signature, of no class, of a class without members, and of a class with a method.
 pub fn layouts()
     ensures nothing { unsigned_file (ordered []) ≡ empty_file }
     ensures plain { unsigned_file (ordered (class_a ∷ [])) ≡ file_a }
@@ -24,15 +24,15 @@ pub fn sums()
     ensures file { with_sums file_a ≡ front_a ++ file_a }
 {}
 
-/// Equal debug programs stand once, and where they are used first.
+/// Equal debug programs are written once, at the place of their first use.
 pub fn shared_debug()
     ensures twice { unsigned_file (ordered (class_debug_twice ∷ [])) ≡ debug_twice_file }
     ensures first_use { unsigned_file (ordered (class_debug_first_use ∷ [])) ≡ debug_first_use_file }
     ensures first_use_weight { weight (class_debug_first_use ∷ []) ≡ 1518 }
 {}
 
-/// Equal sets of annotations stand once, and where they are used first. Sets that agree in their types alone are
-/// two, and so are sets that agree in all but the kind of a number.
+/// Equal sets of annotations are written once, at the place of their first use. Sets that have only their types in
+/// common are two, and so are sets that differ only in the kind of a number.
 pub fn shared_sets()
     ensures twice { unsigned_file (ordered (class_set_twice ∷ [])) ≡ set_twice_file }
     ensures twice_weight { weight (class_set_twice ∷ []) ≡ 1353 }
@@ -44,19 +44,19 @@ pub fn shared_sets()
     ensures kind_weight { weight (class_sets_kind ∷ []) ≡ 1379 }
 {}
 
-/// Equal lists of types stand once, those of protos and of classes together.
+/// Equal lists of types are written once, those of protos and of classes together.
 pub fn shared_lists()
     ensures thrice { unsigned_file (ordered classes_list_thrice) ≡ list_thrice_file }
     ensures thrice_weight { weight classes_list_thrice ≡ 1464 }
 {}
 
-/// Classes share with one another: three of them have one list of types, one set and one debug program.
+/// Classes share with one another: three classes have one list of types, one set and one debug program.
 pub fn shared_by_classes()
     ensures file { unsigned_file (ordered classes_sharing) ≡ shared_by_classes_file }
     ensures file_weight { weight classes_sharing ≡ 1927 }
 {}
 
-/// Nothing else is shared: equal annotations of unlike sets stand twice, and so does equal code.
+/// Nothing else is shared: equal annotations of different sets are written twice, and so is equal code.
 pub fn not_shared()
     ensures annotations { unsigned_file (ordered (class_annotation_twice ∷ [])) ≡ annotation_twice_file }
     ensures annotations_weight { weight (class_annotation_twice ∷ []) ≡ 1377 }

@@ -1,5 +1,5 @@
-//! Worked examples of the definitions, each proved by computation. The expected numbers and bytes come from
-//! outside: the Android page, Adler-32's own examples, and files laid out by hand.
+//! Worked examples of the definitions, each proved by computation. The expected numbers and bytes come from other
+//! sources: the Android page, Adler-32's own examples, and files laid out by hand.
 #![tactic(auto)]
 
 pub mod accepted;

@@ -1,4 +1,4 @@
-//! Numbers as LEB128, and Adler-32.
+//! LEB128 numbers, and Adler-32.
 
 ghost use Rattle.std.specs.Prelude.{◌≡◌, ℕ, ℤ, [], ◌∷◌, None, Some, codes, pos, negsuc};
 ghost use Rattle.dexspec.specs.Header.{adler_32};
@@ -18,7 +18,7 @@ pub fn zero_byte()
     ensures plus_one { IsUleb128p1 (0x00 ∷ []) None }
 {}
 
-/// The ends of the ranges, longer spellings, and what is out of range or cut off.
+/// The ends of the ranges, longer encodings, and bytes that are out of range or cut off.
 pub fn bounds()
     ensures greatest { IsUleb128 (0xff ∷ 0xff ∷ 0xff ∷ 0xff ∷ 0x0f ∷ []) 4294967295 }
     ensures too_great { (v : ℕ) → ¬ IsUleb128 (0xff ∷ 0xff ∷ 0xff ∷ 0xff ∷ 0x1f ∷ []) v }
@@ -29,7 +29,7 @@ pub fn bounds()
     ensures minus_one { IsSleb128 (0xff ∷ 0xff ∷ 0xff ∷ 0xff ∷ 0x7f ∷ []) (negsuc 0) }
 {}
 
-/// Shortest spellings.
+/// Shortest encodings.
 pub fn shortest()
     ensures zero { uleb128 0 ≡ 0x00 ∷ [] }
     ensures two_bytes { uleb128 16256 ≡ 0x80 ∷ 0x7f ∷ [] }

@@ -12,7 +12,7 @@ pub fn order()
     ensures front { text_cmp (codes "LA") (codes "LA;") ≡ Less }
 {}
 
-/// Units of one, two and three bytes; a surrogate is spelled by itself.
+/// Units of one, two and three bytes; a surrogate is encoded by itself.
 pub fn bytes()
     ensures surrogates { spelling (0xd800 ∷ 0xdc00 ∷ []) ≡ 0xed ∷ 0xa0 ∷ 0x80 ∷ 0xed ∷ 0xb0 ∷ 0x80 ∷ [] }
     ensures private_use { spelling (0xe000 ∷ []) ≡ 0xee ∷ 0x80 ∷ 0x80 ∷ [] }

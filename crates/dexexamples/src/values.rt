@@ -27,7 +27,7 @@ pub fn read()
     ensures array { ValueAt (0x1c ∷ 0x01 ∷ 0x1e ∷ []) 0 (ArrayValue (ThenValue NullValue NoValues)) 3 }
 {}
 
-/// A scalar has depth 0, an array one more than its deepest member, also one without members.
+/// A scalar has depth 0. An array has a depth one more than its deepest member, also without members.
 pub fn depths()
     ensures scalar { value_depth NullValue ≡ 0 }
     ensures empty { value_depth (ArrayValue NoValues) ≡ 1 }

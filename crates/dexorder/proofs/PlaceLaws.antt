@@ -19,7 +19,7 @@ use Rattle.dexorder.specs.Places.{class_place, class_cmp, place_of}
 
 -- ---- orders
 
--- a list rises where each member is less than the next
+-- a list rises if each member is less than the next
 rises_adjacent : {K : Type 0} (R : K → K → Ordering) (xs : List K) → ((k : ℕ) (d : K) → suc k < length xs → R (get_or xs k d) (get_or xs (suc k) d) ≡ Less) → rises R xs ≡ true
 rises_adjacent R [] h = refl
 rises_adjacent R (x ∷ []) h = refl

@@ -1,4 +1,4 @@
--- What values denote: the same under other numbers. And the symbols that occur in them.
+-- What values denote, which is the same under other numbers, and the symbols that occur in them.
 use Rattle.std.proofs.Common.{◌≡◌, ℕ, ◌<◌, List, [], ◌∷◌, ◌++◌, length, get_or, Option, Some, None, refl, ap, sym, ◌∙◌, subst, arith}
 use Rattle.std.specs.Prelude.{unwrap_or}
 use Rattle.std.specs.List.{All, AllZip}

@@ -11,7 +11,7 @@ use Rattle.dexval.specs.Scalars.{width_of, IsUnknown, Spells, NoValueAt, IsReadA
 use Rattle.dexval.proofs.Shapes.{sized_only, one_number}
 
 module _ (b : List ℕ) (o : ℕ) (m : Mentions) (p : ArePools b m) where
-  -- bytes of a type code, where the code is known
+  -- bytes of a type code, if the code is known
   as_code : (code c width wide : ℕ) (bytes : List ℕ) (n : ℕ) → code ≡ c → width_of code ≡ Some width → width_of c ≡ Some wide → SizedAt code width b o bytes n → SizedAt c wide b o bytes n
   as_code code c width wide bytes n e w x h =
       let same : width ≡ wide = let both : Some width ≡ Some wide = sym w ∙ ap width_of e ∙ x in cc in

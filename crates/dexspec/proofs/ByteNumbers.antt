@@ -1,4 +1,4 @@
--- Numbers of a fixed number of bytes: what their bytes encode, and how they are read where they were written.
+-- Numbers of a fixed number of bytes: what their bytes encode, and that they are read at the offsets of their bytes.
 use Rattle.std.proofs.Common.{◌≡◌, All, ℕ, zero, suc, ◌+◌, ◌-◌, ◌*◌, ◌/◌, ◌%◌, ◌^◌, ◌<◌, List, [], ◌∷◌, length, refl, ap, ◌∙◌, arith, inl, inr}
 use Rattle.std.specs.Int.{w64}
 use Rattle.std.specs.Prelude.{ℤ, FitsSigned, pos, negsuc}
@@ -62,12 +62,12 @@ pub length-uint : (n : ℕ) → length (uint n) ≡ 4
 unfolding uint
 length-uint n = length-bytes_of 4 n
 
--- a ushort is read where it is
+-- a ushort is read at the offset of its bytes
 pub ushort_at-stands : {b : List ℕ} {o n : ℕ} → n < 2 ^ 16 → Stands b o (ushort n) → ushort_at b o ≡ n
 unfolding ushort ushort_at bytes_of
 ushort_at-stands {b} {o} {n} lt h = ap number_of h.here ∙ number_of-bytes_of 2 n lt
 
--- a uint is read where it is
+-- a uint is read at the offset of its bytes
 pub uint_at-stands : {b : List ℕ} {o n : ℕ} → n < 2 ^ 32 → Stands b o (uint n) → uint_at b o ≡ n
 unfolding uint uint_at bytes_of
 uint_at-stands {b} {o} {n} lt h = ap number_of h.here ∙ number_of-bytes_of 4 n lt

@@ -52,7 +52,7 @@ module _ {X Y : Type 0} (f : X → Y) where
   pub AreAmong-map : (xs ys : List X) → AreAmong xs ys → AreAmong (map f xs) (map f ys)
   AreAmong-map xs ys h y c = let s = Contains-map_source xs y c in subst (Contains (map f ys)) s.2 (Contains-map f ys s.0 (h s.0 s.1))
 
-  -- members of a mapped list are what members are mapped to
+  -- elements among a mapped list are images of members
   pub originals : (xs : List X) (ys : List Y) → AreAmong ys (map f xs) → (zs : List X) × AreAmong zs xs × (map f zs ≡ ys)
   originals xs [] h = ([], AreAmong-none xs, refl)
   originals xs (y ∷ ys) h =

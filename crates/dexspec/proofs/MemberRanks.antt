@@ -85,7 +85,7 @@ IsMentioned m (ProtoSymbol p) = Contains m.protos p
 IsMentioned m (FieldSymbol f) = Contains m.fields f
 IsMentioned m (MethodSymbol x) = Contains m.methods x
 
--- what occurs in a definition is mentioned
+-- a symbol that occurs in a definition is mentioned
 pub mentioned : (D : List Definition) (d : Definition) (s : Symbol) → Contains D d → Contains (symbols_of d) s → IsMentioned (mentions D) s
 mentioned D d (TextSymbol s) c k = texts-listed D s (record { definition = d; symbol = TextSymbol s; member = c; occurs = k; part = Contains-first s [] })
 mentioned D d (TypeSymbol t) c k = types-listed D t (record { definition = d; symbol = TypeSymbol t; member = c; occurs = k; part = Contains-first t [] })

@@ -61,11 +61,11 @@ AllCode P b r = (d : ClassData) → Declares b r d → All (λ m. m.code_off ≢
 abbrev pub HasPiecesAt : List ℕ → ℕ → Type 0
 HasPiecesAt b o = (cuts : List Cut) × (ps : List Piece) × PiecesAt b o cuts ps
 
--- if they are, so are its tries
+-- if the fixed part and the units are there, so are the tries
 abbrev pub HasTriesAt : List ℕ → ℕ → Type 0
 HasTriesAt b o = (cuts : List Cut) (ps : List Piece) → PiecesAt b o cuts ps → (tries : List Try) × TriesAt b o cuts tries
 
--- if they are, so is its debug program, if it has one
+-- if the fixed part and the units are there, so is the debug program, if the code has one
 abbrev pub HasDebugAt : List ℕ → ℕ → Type 0
 HasDebugAt b o = (cuts : List Cut) (ps : List Piece) → PiecesAt b o cuts ps → uint_at b (o + 8) ≢ 0 → (d : Debug) × DebugAt b (uint_at b (o + 8)) d
 
@@ -133,7 +133,7 @@ rows_judged Condition.Annotations b = table_size b ClassDefs
 rows_judged Condition.Weight b = table_size b ClassDefs
 rows_judged _ b = 1
 
--- the condition holds of the bytes at a row; the first ten have no rows
+-- the condition holds for the bytes at a row; the first ten have no rows
 abbrev pub Holds : Condition → List ℕ → ℕ → Type 0
 Holds Condition.Size b r = HasSize b
 Holds Condition.Magic b r = HasMagic b

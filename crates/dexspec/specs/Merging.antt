@@ -117,7 +117,7 @@ pub data Cause : Type 0 where
   Cycle : (name : Text) → Cause
   Exceeded : (cap : Cap) → Cause
 
--- the cause is true of the definitions
+-- the cause holds for the definitions
 abbrev pub IsCause : Caps → List Definition → Cause → Type 0
 IsCause caps D (Conflict name) = IsConflict D name
 IsCause caps D (Cycle name) = IsCycle D name
@@ -133,7 +133,7 @@ IsToldBefore (Cycle m) (Exceeded k) = Unit {0}
 IsToldBefore (Exceeded j) (Exceeded k) = cap_number j < cap_number k
 IsToldBefore (Exceeded j) _ = ⊥
 
--- the first cause that is true of the definitions
+-- the first cause that holds for the definitions
 pub record IsFirstCause (caps : Caps) (D : List Definition) (cause : Cause) : Type 0 where
   pub is : IsCause caps D cause
   pub first : (other : Cause) → IsCause caps D other → IsToldBefore other cause → ⊥

@@ -96,7 +96,7 @@ field_weight f = 18 + set_weight f.annotations
 abbrev pub method_weight : MethodDef → ℕ
 method_weight m = 31 + sum_by (λ c. code_weight c + sum_by debug_weight (option_to_list c.debug)) (option_to_list m.code) + set_weight m.annotations + ref_list_weight m.parameter_annotations
 
--- a class row with what belongs to the class
+-- a class row with the other items of the class
 abbrev pub body_weight : Body → ℕ
 body_weight c = 96 + 2 * length c.interfaces + set_weight c.annotations + sum_by field_weight (declared_fields c) + sum_by method_weight (declared_methods c) + static_values_weight c.static_values
 

@@ -53,7 +53,7 @@ pub fn depth_law()
     ensures { (D E : List Definition) → AreWithin D E → DepthsGrow D E }
 {}
 
-/// Distinct definitions weigh at most as much as distinct definitions that include them, and the order does not matter.
+/// Distinct definitions weigh at most as much as any definitions that include them, and the order does not matter.
 pub fn weight_law()
     ensures same { (D E : List Definition) → AreDistinct D → AreDistinct E → AreSame D E → weight D ≡ weight E }
     ensures grow { (D E : List Definition) → AreDistinct D → AreWithin D E → weight D ≤ weight E }

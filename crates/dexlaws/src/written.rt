@@ -86,7 +86,8 @@ pub fn indices_rise()
 {}
 
 /// A class's directory, in the data, encodes the annotations of the class and its members, if its sets and ref lists
-/// are at the offsets. A class without annotations has no directory. The directory has the list of each member.
+/// are at the offsets. If it has no bytes, the class and its members have no annotation. The directory has the list of
+/// each member.
 pub fn own_directory_written()
     ensures some { (D : List Definition) (b : List ℕ) (o : ℕ) (name : Text) (c : Body) (sets : SetOffsets) (ref_lists bytes : List ℕ) → length b < 2 ^ 32 → Contains D (name, c) → IsWellFormed (name, c) → AreInRows b (mentions D) (symbols_of (name, c)) → HasSetsAt b name c sets ref_lists → directory_bytes (mentions D) (name, c) sets ref_lists ≡ Some bytes → data_off b ≤ o → o % 4 ≡ 0 → Stands b o bytes → DirectoryAt b o (own_directory name c) }
     ensures none { (D : List Definition) (b : List ℕ) (name : Text) (c : Body) (sets : SetOffsets) (ref_lists : List ℕ) → length b < 2 ^ 32 → Contains D (name, c) → IsWellFormed (name, c) → AreInRows b (mentions D) (symbols_of (name, c)) → HasSetsAt b name c sets ref_lists → directory_bytes (mentions D) (name, c) sets ref_lists ≡ None → own_directory name c ≡ no_directory }

@@ -54,7 +54,7 @@ abbrev mnemonic_of : Option Opcode → List ℕ
 mnemonic_of None = codes "."
 mnemonic_of (Some op) = op.mnemonic
 
--- the formats of all opcodes, by the definitions
+-- the formats, kinds of index and mnemonics of all opcodes, by the definitions
 abbrev pub all_formats : List ℕ
 all_formats = flat_map (λ n. format_of (opcode_of n)) opcode_numbers
 

@@ -31,7 +31,7 @@ pub struct CheckedSets {
 }
 
 impl CheckedSets {
-    /// No checked item.
+    /// An empty record: no item is checked yet.
     pub fn none(alloc: Global) -> CheckedSets
         ensures { (b : List ℕ) (m : Mentions) → AreChecked b m result }
     {
@@ -230,7 +230,7 @@ fn members_weight<T: CheckedMember>(
 
 /// Checks the annotations_directory_item at an offset, and the sets that it refers to. Its indices refer to the pools,
 /// which are those of the file. It does not check that the members are those of the class. Items in `checked` are not
-/// checked again, and no memory is allocated but for `checked`.
+/// checked again, and memory is allocated only for `checked`.
 ///
 /// Condition: the items in `checked` are of this file.
 ///

@@ -20,8 +20,8 @@ use dexhead::Output;
 use dexpool::Numbering;
 use std::alloc::AllocError;
 
-// Writes the offset of each annotation: the first annotation is at `first`, and each other one follows the one before
-// it.
+// Writes the offset of each annotation: the first annotation is at `first`, and each other annotation is after the one
+// before it.
 fn encode_offsets<O: Output>(annotations: &[Annotation], first: u32, out: &mut O)
     requires { All (λ offset. offset < 2 ^ 32) (numbered_offsets first (map annotation_of annotations.now)) }
     ensures { O.gives (flat_map uint (numbered_offsets first (map annotation_of annotations.now))) out.old out.new }

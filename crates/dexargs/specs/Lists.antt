@@ -1,17 +1,17 @@
--- Which arguments the bytes of a list stand for.
+-- Which arguments the bytes of a list encode.
 use Rattle.std.specs.Prelude.{ℕ, List, [], ◌∷◌, ◌==◌, if◌then◌else◌, Option, Some, None, not, length, Bool}
 use Rattle.std.specs.List.{filter}
 use Rattle.std.specs.Str.Lines.{lines}
 
--- a line that is an argument: one that is not empty
+-- a line is an argument if it is not empty
 abbrev pub is_argument : List ℕ → Bool
 is_argument line = not (length line == 0)
 
--- the arguments that the bytes of a list stand for: its lines that are not empty, in order (this project's rule)
+-- the arguments that the bytes of a list encode: its lines that are not empty, in order (this project's rule)
 abbrev pub list_arguments : List ℕ → List (List ℕ)
 list_arguments bytes = filter is_argument (lines bytes)
 
--- the name of the list that an argument stands for: what is after its `@`, if anything is (this project's rule)
+-- the name of the list that an argument names: the bytes after its `@`, if there are any (this project's rule)
 abbrev pub named_list : List ℕ → Option (List ℕ)
 named_list [] = None
 named_list (first ∷ name) = if first == 64 then (if length name == 0 then None else Some name) else None

@@ -1,17 +1,17 @@
--- What the words of the command line ask for.
+-- What the arguments of the command line ask for.
 use Rattle.std.specs.Prelude.{◌<◌, ◌≤◌, ℕ, Option, IfSome, vec_len}
 use Rattle.dexspec.specs.Merging.{Caps, AreCaps}
 use Rattle.dexargs.specs.declared.words.Job.{Job}
 use Rattle.dexargs.specs.declared.words.Job.TheVariants.{Check, Dump, Normalise, Merge, KeepChecking, Digest, Count, Repair}
 
--- a merge has one file or more, a fan from 2 to 65535 where it has one, and caps that are not above the greatest
+-- a merge has one file or more; its fan, if any, is from 2 to 65535; its caps are at most the greatest
 pub record IsSoundMerge (files : ℕ) (fan : Option ℕ) (caps : Caps) : Type 0 where
   pub some : 0 < files
   pub least : IfSome fan (λ n. 2 ≤ n)
   pub most : IfSome fan (λ n. n ≤ 65535)
   pub capped : AreCaps caps
 
--- a command over files has one or more
+-- a command over files has one file or more
 abbrev pub IsSound : Job → Type 0
 IsSound (Check files) = 0 < vec_len files
 IsSound (Dump file) = Unit {0}

@@ -1,4 +1,4 @@
-//! Lists of arguments: `@FILE` stands for the lines of FILE.
+//! Lists of arguments: the argument `@FILE` is replaced by the lines of FILE. This is a rule of this project.
 
 ghost use Rattle.std.specs.Prelude.{◌≡◌, ◌↔◌, map, string_bytes, Err, IfOk, OnOk, option_map};
 ghost use Rattle.std.specs.Str.{IsUtf8};
@@ -8,10 +8,10 @@ ghost use Rattle.dexargs.specs.declared.lists.ListFault.TheVariants.{NotUtf8, Me
 use std::alloc::{AllocError, Global};
 use std::str::from_utf8;
 
-/// Why the bytes of a list are no arguments.
+/// Why the bytes of a list encode no arguments.
 #[derive(Clone, Copy, Debug, PartialEq, Eq)]
 pub enum ListFault {
-    /// They are not UTF-8.
+    /// The bytes are not UTF-8.
     NotUtf8,
     /// Allocation failed.
     Memory,
@@ -25,10 +25,8 @@ impl From<AllocError> for ListFault {
     }
 }
 
-/// Returns the name of the list that an argument stands for: what is after its `@`. Returns `None` where the argument does not
-/// begin with `@` or nothing is after it, so `./@name` is a file of that name.
-///
-/// Source: this project's rule.
+/// Returns the name of the list that an argument names: the text after its `@`. Returns `None` if the argument does not
+/// begin with `@` or ends after it; `./@name` is a file of that name.
 pub fn list_name(argument: &str) -> Option<&str>
     ensures { option_map (λ name. name.now) result ≡ named_list argument.now }
 {
@@ -39,7 +37,7 @@ pub fn list_name(argument: &str) -> Option<&str>
     Some(name)
 }
 
-// The lines of a text that are not empty, in order.
+// Returns the lines of a text that are not empty, in order.
 fn arguments_of(alloc: Global, text: &str) -> Result<Vec<String>, AllocError>
     ensures { IfOk result (λ arguments. map string_bytes arguments.items ≡ list_arguments text.now) }
 {
@@ -52,12 +50,10 @@ fn arguments_of(alloc: Global, text: &str) -> Result<Vec<String>, AllocError>
     Ok(arguments)
 }
 
-/// Returns the arguments that the bytes of a list stand for: its lines that are not empty, in order, each as it is. A line ends
-/// at a line feed, or at a carriage return and a line feed.
+/// Returns the arguments that the bytes of a list encode: its lines that are not empty, in order, unchanged. A line
+/// ends at a line feed, or at a carriage return and a line feed.
 ///
 /// Error: `NotUtf8` if the bytes are not UTF-8; `Memory` if allocation failed.
-///
-/// Source: this project's rule.
 pub fn arguments_in(alloc: Global, bytes: &[u8]) -> Result<Vec<String>, ListFault>
     ensures listed { IfOk result (λ arguments. map string_bytes arguments.items ≡ list_arguments bytes.now) }
     ensures text { OnOk result (IsUtf8 bytes.now) }

@@ -12,25 +12,25 @@ use std::alloc::{AllocError, Global};
 
 const LEAST_FAN: u16 = 2;
 
-/// What the arguments ask for. Files are named as the arguments name them.
+/// What the arguments ask for. File names are as in the arguments.
 #[derive(Debug, Drop)]
 pub enum Job {
-    /// Reports of each of these files whether it is accepted.
+    /// Reports for each of these files whether it is accepted.
     Check(Vec<String>),
     /// Lists the classes of this file.
     Dump(String),
-    /// Writes the canonical file of the first to the second.
+    /// Writes the canonical file of the first file to the second.
     Normalise(String, String),
-    /// Writes the merged file to the first: so many of the files at a time, or all at once, under the caps, and without
-    /// debug programs and source texts if it is to be stripped.
+    /// Writes the merged file to the first name. Merges the given number of files at a time, or all at once, under the
+    /// caps. Leaves out debug programs and source texts if the flag is set.
     Merge(String, Option<usize>, Caps, bool, Vec<String>),
-    /// Reports of each of these files whether it is accepted, and goes on after those that cannot be read.
+    /// Reports for each of these files whether it is accepted, and continues after files that cannot be read.
     KeepChecking(Vec<String>),
     /// Prints the digest of each class of these files.
     Digest(Vec<String>),
-    /// Prints what a merge of these files would have, beside the greatest caps.
+    /// Prints the counts of a merge of these files, beside the greatest caps.
     Count(Vec<String>),
-    /// Writes the first file, with its checksum and signature set right, to the second.
+    /// Writes the first file to the second, with its checksum and signature set right.
     Repair(String, String),
 }
 
@@ -63,7 +63,7 @@ fn fan<'a>(alloc: Global) -> Arg<'a> {
         .value_parser(value_parser!(u16).range(i64::from(LEAST_FAN)..))
 }
 
-// An option without a value.
+// Returns an option without a value.
 fn flag<'a>(alloc: Global, id: &'a str, help: &'a str) -> Arg<'a> {
     Arg::new(alloc, id)
         .long(id)
@@ -71,7 +71,7 @@ fn flag<'a>(alloc: Global, id: &'a str, help: &'a str) -> Arg<'a> {
         .action(ArgAction::SetTrue)
 }
 
-// An option that names the most of something, at most `greatest`.
+// Returns an option that limits a number; its value is at most `greatest`.
 fn most<'a>(alloc: Global, id: &'a str, greatest: u32, help: &'a str) -> Arg<'a> {
     Arg::new(alloc, id)
         .long(id)
@@ -109,7 +109,7 @@ fn merge<'a>(alloc: Global) -> Result<Command<'a>, AllocError> {
     command.arg(files(alloc))
 }
 
-// A command that reads one file and writes another.
+// Returns a command that reads one file and writes another.
 fn file_and_out<'a>(
     alloc: Global,
     name: &'a str,
@@ -129,7 +129,7 @@ fn normalise<'a>(alloc: Global) -> Result<Command<'a>, AllocError> {
     )
 }
 
-// A command that prints something of files.
+// Returns a command that prints lines about files.
 fn over_files<'a>(
     alloc: Global,
     name: &'a str,
@@ -148,7 +148,7 @@ fn dump<'a>(alloc: Global) -> Result<Command<'a>, AllocError> {
         .arg(one(alloc, "file", "FILE", help::FILE))
 }
 
-// The program, so far without commands.
+// Returns the program with its first command.
 fn program<'a>(alloc: Global) -> Result<Command<'a>, AllocError> {
     Command::new(alloc, "dexkit")
         .about(help::ABOUT)
@@ -160,21 +160,21 @@ fn program<'a>(alloc: Global) -> Result<Command<'a>, AllocError> {
         .subcommand(check(alloc)?)
 }
 
-// The program with the commands that write canonical files.
+// Adds the commands that write canonical files.
 fn writing<'a>(alloc: Global) -> Result<Command<'a>, AllocError> {
     program(alloc)?
         .subcommand(merge(alloc)?)?
         .subcommand(normalise(alloc)?)
 }
 
-// The program with the commands that print, too.
+// Adds the commands that print.
 fn printing<'a>(alloc: Global) -> Result<Command<'a>, AllocError> {
     let digest = over_files(alloc, "digest", help::DIGEST, help::DIGEST_LONG)?;
     let count = over_files(alloc, "count", help::COUNT, help::COUNT_LONG)?;
     writing(alloc)?.subcommand(digest)?.subcommand(count)
 }
 
-// The program with all its commands, in the order of their use.
+// Returns the program with all its commands, in the order of the help.
 fn command<'a>(alloc: Global) -> Result<Command<'a>, AllocError> {
     let repair = file_and_out(alloc, "repair", help::REPAIR, help::REPAIR_LONG)?;
     printing(alloc)?
@@ -186,7 +186,7 @@ fn text_of(alloc: Global, matches: &ArgMatches<'_>, id: &str) -> Result<String, 
     String::from_str(alloc, matches.get_str(id).unwrap_or(""))
 }
 
-// The file that a command reads, and the one that it writes.
+// Returns the names of the file that a command reads and of the file that it writes.
 fn file_and_out_of(
     alloc: Global,
     matches: &ArgMatches<'_>,
@@ -196,7 +196,7 @@ fn file_and_out_of(
     Ok((file, out))
 }
 
-// The files of a command, of which there is one or more.
+// Returns the files of a command; `None` if there are none.
 fn files_of(alloc: Global, matches: &ArgMatches<'_>) -> Result<Option<Vec<String>>, AllocError>
     ensures { IfOk result (λ files. IfSome files (λ files. 0 < vec_len files)) }
 {
@@ -207,7 +207,7 @@ fn files_of(alloc: Global, matches: &ArgMatches<'_>) -> Result<Option<Vec<String
     Ok(Some(files))
 }
 
-// The caps of a merge: what the options name, and else the greatest.
+// Returns the caps of a merge: the values of the options, and the greatest caps otherwise.
 fn caps_of(matches: &ArgMatches<'_>) -> Option<Caps>
     ensures { IfSome result AreCaps }
 {
@@ -302,7 +302,7 @@ fn job_of(alloc: Global, matches: &ArgMatches<'_>) -> Result<Option<Job>, AllocE
     }
 }
 
-// The job that a command finds in arguments, if it is one.
+// Returns the job that the arguments ask for, if the command is known.
 fn found_job<'a>(
     alloc: Global,
     command: &mut Command<'a>,
@@ -314,7 +314,7 @@ fn found_job<'a>(
     Ok(job_of(alloc, &matches)?)
 }
 
-// The job that a command finds in arguments.
+// Returns the job that the arguments ask for.
 fn job_in<'a>(alloc: Global, command: &mut Command<'a>, words: &'a [&'a str]) -> Result<Job, Error>
     ensures { IfOk result IsSound }
 {
@@ -324,12 +324,10 @@ fn job_in<'a>(alloc: Global, command: &mut Command<'a>, words: &'a [&'a str]) ->
     }
 }
 
-/// Returns the job that the arguments after the program's name ask for. Lists among them are expanded before, by
+/// Returns the job that the arguments after the program's name ask for. The caller expands lists among them first, with
 /// [`list_name`](crate::list_name) and [`arguments_in`](crate::arguments_in).
 ///
-/// Error: that of `clap`, if the arguments are not a command, ask for help or the version, or allocation failed.
-///
-/// Source: this project's rule.
+/// Error: that of `clap`, if the arguments are a usage error, ask for help or the version, or allocation failed.
 pub fn read_words(alloc: Global, words: &[&str]) -> Result<Job, Error>
     ensures { IfOk result IsSound }
 {

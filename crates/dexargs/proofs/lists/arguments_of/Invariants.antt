@@ -3,7 +3,7 @@ use Rattle.std.specs.List.{filter}
 use Rattle.dexargs.specs.Lists.{is_argument}
 use Rattle.dexargs.proofs.lists.arguments_of.Given as goal
 
--- the lines so far that are not empty
+-- the lines read so far that are not empty
 abbrev pub invariant-loop-line : goal.invariant-loop-line
 invariant-loop-line l =
     map string_bytes l.arguments.items ≡ filter is_argument (map (λ line. line.now) l.yielded)

@@ -5,7 +5,7 @@ use Rattle.std.proofs.lemmas.Str.Pattern.{strip_prefix_char}
 use Rattle.dexargs.specs.Lists.{named_list}
 use Rattle.dexargs.proofs.lists.list_name.Goals as goal
 
--- what does not begin with `@` names no list
+-- an argument that does not begin with `@` names no list
 named_by_none : (bs : List ℕ) → ((rest : List ℕ) → bs ≢ 64 ∷ rest) → named_list bs ≡ None
 named_by_none [] h = refl
 named_by_none (b ∷ bs) h = rw (ne_eqb b 64 (λ e. h bs (ap (λ x. x ∷ bs) e))) refl

@@ -6,22 +6,22 @@ use crate::outcome::Outcome;
 use std::fmt;
 use std::rt::Files;
 
-/// The kinds of the lines that a program runs. A kind prints as what its lines are counted as.
+/// The kinds of lines that a program runs. Lines are counted under the text that their kind prints as.
 pub trait Cases: Copy + Ord + fmt::Display {
     /// The name of the program.
     const PROGRAM: &'static str;
 
-    /// The words that the program is called with.
+    /// The usage line of the program.
     const WORDS: &'static str;
 
-    /// The kind of every line of a file of calls, by the file's name; `None` where it is no such file.
+    /// Returns the kind of all lines of a file of calls, by the file's name; `None` if no file of calls has that name.
     fn of_calls(file_name: &str) -> Option<Self>;
 
-    /// The kind of a line of an index, by its first word.
+    /// Returns the kind of a line of an index, by its first word.
     fn of_case(word: &str) -> Self;
 
-    /// Runs a line of a file of this folder. The line is whole in a file of calls, and in an index it is what follows the
-    /// first word.
+    /// Runs a line of a file in this folder. `case` is the whole line of a file of calls; of a line of an index it is
+    /// the text after the first word.
     fn run<R: Files + AllocGlobal>(
         self,
         folder: Folder<'_, R>,

@@ -1,4 +1,4 @@
-//! Why the program stops, and why a line is not run.
+//! Why the program ends, or a line is not run.
 
 use hex::FromHexError;
 use std::alloc::{AllocError, AllocFailed, Global};
@@ -6,19 +6,19 @@ use std::num::ParseIntError;
 use std::{fmt, io};
 use thiserror::Error;
 
-/// Why the program stops, or why a line is not run.
+/// Why the program ends, or a line is not run.
 #[derive(Debug, Drop, Error)]
 pub enum CaseFault {
-    /// The words are not the names of files of right answers; these would be.
+    /// Usage error: an argument is not the name of a file of right answers. The text lists these names.
     #[error("usage: {0}")]
     Words(&'static str),
-    /// A line has not the form of its kind. It counts as failed, and the program goes on.
+    /// A line does not have the form of its kind. It counts as failed, and the program continues.
     #[error("not a line of this kind")]
     Form,
-    /// A line fails before its calls, for this reason. The program goes on.
+    /// A line fails before its calls, for this reason. The program continues.
     #[error("{0}")]
     Failed(String),
-    /// The output fails.
+    /// The output cannot be written.
     #[error("{0}")]
     Output(io::Error),
     #[error("out of memory")]
@@ -26,7 +26,7 @@ pub enum CaseFault {
 }
 
 impl CaseFault {
-    /// The line fails, for this reason.
+    /// Returns the fault of a line that fails for this reason.
     pub fn failed(alloc: Global, reason: &str) -> CaseFault {
         match String::from_str(alloc, reason) {
             Ok(reason) => CaseFault::Failed(reason),
@@ -34,7 +34,7 @@ impl CaseFault {
         }
     }
 
-    /// The status that the program ends with.
+    /// Returns the exit status of the program.
     pub fn status(&self) -> u8 {
         match self {
             CaseFault::Form | CaseFault::Failed(_) => 1,

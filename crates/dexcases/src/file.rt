@@ -10,16 +10,16 @@ use std::path::Path;
 use std::rt::Files;
 use std::{fs, io};
 
-/// What the lines of a file ask for, over the files of this folder.
+/// How the lines of a file are run: the folder that their files are in, and their kind.
 #[derive(Drop)]
 struct Source<'a, K> {
     folder: Path<'a>,
-    /// The kind of each line; `None` where the first word of a line says it.
+    /// The kind of each line; `None` if the first word of a line says it.
     kind: Option<K>,
 }
 
 impl<'a, K: Cases> Source<'a, K> {
-    /// What the lines of the file of this name ask for; `None` where the name is no such file's.
+    /// Returns how the lines of the file of this name are run; `None` if it is not the name of a file of right answers.
     fn of(name: &'a str) -> Option<Source<'a, K>> {
         let path = Path::new(name);
         let file_name = path.file_name()?;
@@ -31,7 +31,7 @@ impl<'a, K: Cases> Source<'a, K> {
         Some(Source { folder, kind })
     }
 
-    /// The kind of a line, and what is run of it.
+    /// Returns the kind of a line, and the part of it that is run.
     fn kind_of<'l>(&self, line: &'l str) -> (K, &'l str) {
         match self.kind {
             Some(kind) => (kind, line),
@@ -43,9 +43,9 @@ impl<'a, K: Cases> Source<'a, K> {
     }
 }
 
-/// Runs each line of a file, prints what failed and, for each kind of line, how many lines passed and failed, and returns
-/// how many did of all kinds. A line that begins with `#` is no case. A file that cannot be read, or has no case, is printed,
-/// and counts as one failure.
+/// Runs each line of a file, prints the lines that failed and, for each kind of line, how many passed and failed, and
+/// returns the totals. Skips lines that begin with `#`. Prints a file that cannot be read or has no case, and counts it
+/// as one failure.
 pub fn run_file<K: Cases, R: Files + Print + AllocGlobal>(
     rt: &R,
     name: &str,
@@ -62,7 +62,7 @@ pub fn run_file<K: Cases, R: Files + Print + AllocGlobal>(
     Ok(tally)
 }
 
-// Prints why a file has no case, and returns the tally of one failure.
+// Prints why a file has no case, and returns a tally of one failure.
 fn without_case<R: Print>(rt: &R, reason: &str) -> Result<Tally, CaseFault> {
     println!(rt; "  {reason}")?;
     Ok(Tally::failure())
@@ -104,7 +104,7 @@ fn count_line<K: Cases, R: Files + Print + AllocGlobal>(
     Ok(())
 }
 
-// Prints how many lines of each kind passed and failed, and returns how many did of all kinds.
+// Prints how many lines of each kind passed and failed, and returns the totals.
 fn print_tallies<K: Cases, R: Print>(
     rt: &R,
     tallies: &BTreeMap<K, Tally>,
@@ -129,7 +129,7 @@ fn print_failed<R: Print>(
     println!(rt; "    returned: {answered}")
 }
 
-// Runs a line: the kind that it is counted as, and how it goes.
+// Runs a line, and returns the kind under which it is counted, and its outcome.
 fn run_line<K: Cases, R: Files + AllocGlobal>(
     rt: &R,
     source: &Source<'_, K>,

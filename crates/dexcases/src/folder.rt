@@ -6,7 +6,7 @@ use std::fs;
 use std::path::Path;
 use std::rt::Files;
 
-/// A folder in which files of cases lie, and the host that reads them.
+/// A folder that has files of cases, and the host that reads them.
 pub struct Folder<'a, R> {
     pub(crate) rt: &'a R,
     pub(crate) path: Path<'a>,
@@ -21,12 +21,12 @@ impl<R> Clone for Folder<'_, R> {
 impl<R> Copy for Folder<'_, R> {}
 
 impl<R: Files + AllocGlobal> Folder<'_, R> {
-    /// Where memory comes from.
+    /// Returns the allocator of the host.
     pub fn alloc(self) -> Global {
         self.rt.alloc()
     }
 
-    /// The bytes of a file of the folder. A line whose file cannot be read fails.
+    /// Reads a file of the folder. A line whose file cannot be read fails.
     pub fn read(self, name: &str) -> Result<Vec<u8>, CaseFault> {
         let path = self.path.join(self.rt.alloc(), name)?;
         match fs::read(self.rt, path.as_path()) {
@@ -36,7 +36,7 @@ impl<R: Files + AllocGlobal> Folder<'_, R> {
     }
 }
 
-// The fault that a file cannot be read.
+// Returns the fault of a line whose file cannot be read.
 fn unreadable(alloc: Global, name: &str) -> CaseFault {
     match format!(in alloc; "{name}: cannot be read") {
         Ok(reason) => CaseFault::Failed(reason),

@@ -1,9 +1,9 @@
-//! What programs that run files of right answers have in common.
+//! The common part of the programs that run files of right answers.
 //!
-//! The command line has the names of such files. Each line of a file asks for calls and has what they have to return; a
-//! line that begins with `#` is none. What the lines ask for is the program's own: it says so by [`Cases`]. The rest is
-//! here: [`run`] reads the files, prints each line that failed with its file, its number and what was returned, counts the
-//! lines by their kinds, and returns the status. A file that cannot be read, or that has no case, counts as a failure.
+//! The arguments are the names of such files. Each line of a file asks for calls and says what they must return; a line
+//! that begins with `#` is a comment. A program implements [`Cases`], which says what its lines ask for. [`run`] reads
+//! the files, prints each line that failed with its file, its number and what was returned, counts the lines by kind,
+//! and returns the status. A file that cannot be read, or that has no case, counts as a failure.
 #![tactic(auto)]
 
 pub use cases::Cases;

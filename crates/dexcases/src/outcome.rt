@@ -1,20 +1,21 @@
-//! How a line goes.
+//! Outcomes of lines.
 
 ghost use Rattle.std.specs.Prelude.{◌≡◌, ◌↔◌, string_bytes};
 
 use std::alloc::{AllocError, Global};
 
-/// How a line goes.
+/// The outcome of a line.
 #[derive(Debug, Drop)]
 pub enum Outcome {
-    /// The calls answered what the line says.
+    /// The calls returned what the line says.
     Passed,
-    /// The calls answered otherwise; this is what they answered.
+    /// The calls returned this text instead.
     Failed(String),
 }
 
 impl Outcome {
-    /// How a line goes whose right answer is this: it passes exactly where that was answered.
+    /// Returns the outcome of a line with this right answer: it passes if and only if the calls returned the right
+    /// answer.
     pub fn of(answered: String, right: &str) -> Outcome
         ensures { (result ≡ Outcome.Passed) ↔ (string_bytes answered ≡ right.now) }
     {
@@ -25,7 +26,7 @@ impl Outcome {
         }
     }
 
-    /// The line fails, for this reason.
+    /// Returns the outcome of a line that fails for this reason.
     pub fn failed(alloc: Global, reason: &str) -> Result<Outcome, AllocError> {
         Ok(Outcome::Failed(String::from_str(alloc, reason)?))
     }

@@ -1,9 +1,10 @@
-//! Texts of answers.
+//! Texts of what calls return.
 
 use std::alloc::{AllocError, Global};
 use std::fmt;
 
-/// What is printed of an answer. Where memory is short nothing more is added, and there is no text in the end.
+/// A text that is printed piece by piece. After a failed allocation nothing more is added, and
+/// [`finish`](Printed::finish) returns the failure.
 #[derive(Drop)]
 pub struct Printed {
     text: String,
@@ -11,7 +12,7 @@ pub struct Printed {
 }
 
 impl Printed {
-    /// Nothing yet.
+    /// Returns an empty text.
     pub fn new(alloc: Global) -> Printed {
         Printed {
             text: String::new(alloc),
@@ -26,21 +27,22 @@ impl Printed {
         }
     }
 
-    /// Adds an item as it prints.
+    /// Adds an item as its `Display` prints it.
     pub fn add_shown<T: fmt::Display>(&mut self, item: &T) {
         if !self.is_lost {
             self.is_lost = write!(self.text, "{item}").is_err();
         }
     }
 
-    /// Adds a number in at least so many hexadecimal digits.
+    /// Adds a number in hexadecimal, with at least `digits` digits.
     pub fn add_hex(&mut self, number: u64, digits: usize) {
         if !self.is_lost {
             self.is_lost = write!(self.text, "{number:0digits$x}").is_err();
         }
     }
 
-    /// Adds a unit of a text: as itself from 0x20 to 0x7e, `"` and `\` behind a backslash; another as `\u` and four digits.
+    /// Adds a unit of a text: 0x20 to 0x7e as a character, with `\` before `"` and `\`; any other unit as `\u` and four
+    /// digits.
     pub fn add_unit(&mut self, unit: u16) {
         match u8::try_from(unit) {
             Ok(byte @ 0x20..=0x7e) => {
@@ -56,7 +58,8 @@ impl Printed {
         }
     }
 
-    /// Adds the address and the line of each position of a debug program: `ADDRESS:LINE,ADDRESS:LINE,..`, or `-` for none.
+    /// Adds the address and the line of each position of a debug program, `ADDRESS:LINE,ADDRESS:LINE,..`, or `-` if
+    /// there are none.
     pub fn add_positions(&mut self, positions: &[(u64, i64)]) {
         if positions.is_empty() {
             self.add("-");
@@ -71,7 +74,9 @@ impl Printed {
         }
     }
 
-    /// The whole text.
+    /// Returns the whole text.
+    ///
+    /// Error: `AllocError` if an allocation failed in any of the calls before.
     pub fn finish(self) -> Result<String, AllocError> {
         let Printed { text, is_lost } = self;
         if is_lost {

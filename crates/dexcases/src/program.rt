@@ -1,4 +1,4 @@
-//! The program: the files that the command line names.
+//! The program: it runs the files that the command line names.
 
 use crate::cases::Cases;
 use crate::fault::CaseFault;
@@ -8,9 +8,8 @@ use std::env;
 use std::process::ExitCode;
 use std::rt::{Env, Files};
 
-/// Runs the files that the command line names, and returns the status of the program: 0 where no line failed, 1 where
-/// one did, or a file cannot be read or has no case, 2 where the arguments are not the names of files of right answers, and
-/// 4 where the output or memory fails.
+/// Runs the files that the command line names, and returns the exit status: 0 if no line failed, 1 if a line failed or
+/// a file cannot be read or has no case, 2 on a usage error, 4 if the output cannot be written or allocation failed.
 pub fn run<K: Cases, R: Files + Print + Eprint + Env + AllocGlobal>(rt: &R) -> ExitCode {
     match run_files::<K, R>(rt) {
         Ok(all) if all.failed() == 0 => ExitCode::SUCCESS,
@@ -23,7 +22,7 @@ pub fn run<K: Cases, R: Files + Print + Eprint + Env + AllocGlobal>(rt: &R) -> E
     }
 }
 
-// Runs each file that the command line names, and adds up what the lines passed.
+// Runs each file that the command line names, and adds up the tallies.
 fn run_files<K: Cases, R: Files + Print + Env + AllocGlobal>(rt: &R) -> Result<Tally, CaseFault> {
     let words: Vec<String> = env::args(rt)?.collect(rt.alloc())?;
     match words.as_slice() {
@@ -32,7 +31,7 @@ fn run_files<K: Cases, R: Files + Print + Env + AllocGlobal>(rt: &R) -> Result<T
     }
 }
 
-// Runs each file of these names, and adds up what the lines passed.
+// Runs each file of these names, and adds up the tallies.
 fn run_named<K: Cases, R: Files + Print + AllocGlobal>(
     rt: &R,
     names: &[String],

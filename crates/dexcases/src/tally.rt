@@ -1,4 +1,4 @@
-//! Lines counted by how they went.
+//! Counts of lines that passed and failed.
 
 ghost use Rattle.std.specs.Prelude.{◌≡◌, ◌↔◌, ◌<◌, IsTrue};
 ghost use Rattle.dexcases.specs.Outcomes.{is_failed};
@@ -6,7 +6,7 @@ ghost use Rattle.dexcases.specs.Outcomes.{is_failed};
 use crate::outcome::Outcome;
 use std::fmt;
 
-/// How many lines passed, and how many failed.
+/// How many lines passed and failed.
 #[derive(Clone, Copy, Debug, Default, PartialEq, Eq)]
 pub struct Tally {
     passed: u32,
@@ -14,7 +14,7 @@ pub struct Tally {
 }
 
 impl Tally {
-    /// The tally of a file that has no case: one failure.
+    /// Returns the tally of a file that has no case: one failure.
     pub fn failure() -> Tally
         ensures { 0 < result.failed }
     {
@@ -24,21 +24,20 @@ impl Tally {
         }
     }
 
-    /// How many lines failed.
     pub fn failed(self) -> u32
         ensures { result ≡ self.failed }
     {
         self.failed
     }
 
-    /// Whether no line was counted.
+    /// Returns whether no line was counted.
     pub fn is_empty(self) -> bool
         ensures { IsTrue result ↔ ((self.passed ≡ 0) × (self.failed ≡ 0)) }
     {
         self.passed == 0 && self.failed == 0
     }
 
-    /// One line more.
+    /// Counts a line.
     pub fn count(&mut self, outcome: &Outcome)
         ensures failed { IsTrue (is_failed outcome.now) → 0 < self.new.failed }
         ensures before { 0 < self.old.failed → 0 < self.new.failed }
@@ -49,7 +48,7 @@ impl Tally {
         }
     }
 
-    /// The lines of both.
+    /// Returns the sum of both tallies.
     pub fn with(self, other: Tally) -> Tally
         ensures failed { (result.failed ≡ 0) ↔ ((self.failed ≡ 0) × (other.failed ≡ 0)) }
     {

@@ -2,7 +2,9 @@
 
 use crate::fault::CaseFault;
 
-/// The first word of a line, and the rest.
+/// Splits a line after its first word.
+///
+/// Error: `Form` if the line has one word.
 pub fn first_word(line: &str) -> Result<(&str, &str), CaseFault> {
     line.split_once(' ').ok_or(CaseFault::Form)
 }

@@ -7,9 +7,9 @@ use std::rt::Files;
 /// What a line asks for.
 #[derive(Clone, Copy, PartialEq, Eq, PartialOrd, Ord)]
 pub enum Kind {
-    /// How many bytes a file has.
+    /// The number of bytes of a file.
     Bytes,
-    /// Nothing that this program knows.
+    /// A kind that this program does not know.
     Unknown,
 }
 

@@ -1,6 +1,6 @@
-//! Files of cases that have to fail, run as the programs of cases run theirs. Its stored output shows that each is found: a
-//! line whose answer is another, a line of no kind, a line whose file cannot be read, a file of lines that cannot be read,
-//! one without a line and one of comments alone, and that those after each of them are run nevertheless. The status is 1.
+//! Runs files of cases that must fail. Its stored output shows that each failure is found: a wrong answer, a line of an
+//! unknown kind, a line whose file cannot be read, a file of lines that cannot be read, a file without lines, and a
+//! file of comments only. It shows also that the lines and files after each failure are run. The status is 1.
 #![tactic(auto)]
 
 mod kind;

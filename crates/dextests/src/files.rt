@@ -1,5 +1,5 @@
-//! The files of the tests. They are among the cases of `dexvectors`, laid out by a program that shares nothing with this
-//! repository.
+//! The files of the tests. They are also cases of `dexvectors`. A program that shares no code with this repository
+//! wrote them.
 
 use dexhead::set_sums;
 use std::alloc::Global;
@@ -14,7 +14,7 @@ const LETTER_A: &str = "\
      00000010000001000000bc000000\
     ";
 
-/// The same class, in a file with the texts `a`, `b` and `c` too, which nothing uses.
+/// A file of the same class whose string pool also has the texts `a`, `b` and `c`, which nothing uses.
 const UNUSED_BESIDE_A: &str = "\
      6465780a303335001a223eeda5c4d62c27373a5e998177701adaf717855055f01c0100007000000078563412000000000000\
      0000d00000000500000070000000020000008400000000000000000000000000000000000000000000000000000001000000\
@@ -54,35 +54,35 @@ const LETTERS_A_AND_B: &str = "\
      01000000e8000000\
     ";
 
-/// Where the first file has the flags of its class.
+/// The offset of the class's flags in the first file.
 const FLAGS: usize = 132;
 
-/// The file of `LA;`, which is canonical.
+/// Returns the file of `LA;`, which is canonical.
 pub(crate) fn letter_a(alloc: Global) -> Option<Vec<u8>> {
     hex::decode(alloc, LETTER_A).ok()
 }
 
-/// The file of `LB;` under `LA;`, which is canonical.
+/// Returns the file of `LB;` under `LA;`, which is canonical.
 pub(crate) fn letter_b(alloc: Global) -> Option<Vec<u8>> {
     hex::decode(alloc, LETTER_B).ok()
 }
 
-/// The canonical file of `LA;` and `LB;`.
+/// Returns the canonical file of `LA;` and `LB;`.
 pub(crate) fn letters_a_and_b(alloc: Global) -> Option<Vec<u8>> {
     hex::decode(alloc, LETTERS_A_AND_B).ok()
 }
 
-/// The file of `LA;` with three texts that nothing uses.
+/// Returns the file of `LA;` with three texts that nothing uses.
 pub(crate) fn unused_beside_a(alloc: Global) -> Option<Vec<u8>> {
     hex::decode(alloc, UNUSED_BESIDE_A).ok()
 }
 
-/// The file of `LA;` with a source text.
+/// Returns the file of `LA;` with a source text.
 pub(crate) fn source_of_a(alloc: Global) -> Option<Vec<u8>> {
     hex::decode(alloc, SOURCE_OF_A).ok()
 }
 
-/// The file of `LA;` with the flags 0x11.
+/// Returns the file of `LA;` with the flags 0x11.
 pub(crate) fn final_a(alloc: Global) -> Option<Vec<u8>> {
     let mut file = letter_a(alloc)?;
     if file.len() <= FLAGS {
@@ -93,7 +93,7 @@ pub(crate) fn final_a(alloc: Global) -> Option<Vec<u8>> {
     Some(file)
 }
 
-/// The file of `LA;` whose checksum and signature are zeros.
+/// Returns the file of `LA;` with zeros as checksum and signature.
 pub(crate) fn unsigned_a(alloc: Global) -> Option<Vec<u8>> {
     let file = letter_a(alloc)?;
     let mut unsigned = Vec::from_slice(alloc, file.get(..8)?).ok()?;
@@ -102,7 +102,7 @@ pub(crate) fn unsigned_a(alloc: Global) -> Option<Vec<u8>> {
     Some(unsigned)
 }
 
-/// The file of `LA;` without its last byte.
+/// Returns the file of `LA;` without its last byte.
 pub(crate) fn cut_a(alloc: Global) -> Option<Vec<u8>> {
     let mut file = letter_a(alloc)?;
     file.pop()?;

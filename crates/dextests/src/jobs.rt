@@ -5,7 +5,7 @@ use crate::words::words_of;
 use dexcmd::{Report, SystemDevices, read_words, run_job};
 use std::alloc::Global;
 
-// What is reported of the job that arguments ask for.
+// Runs the job that the arguments ask for, and returns its report.
 fn report(alloc: Global, system: &System<'_>, words: &str) -> Option<Report> {
     let words = words_of(alloc, words).ok()?;
     match read_words(alloc, words.as_slice()) {
@@ -14,7 +14,7 @@ fn report(alloc: Global, system: &System<'_>, words: &str) -> Option<Report> {
     }
 }
 
-// Whether bytes are those of the file of a name, or this text where no file has it.
+// Returns whether the bytes are those of the file `name`, or, if there is no such file, of the text `name`.
 fn are_bytes(alloc: Global, bytes: &[u8], name: &str) -> bool {
     match file(alloc, name) {
         Some(file) => bytes == file.as_slice(),
@@ -22,7 +22,8 @@ fn are_bytes(alloc: Global, bytes: &[u8], name: &str) -> bool {
     }
 }
 
-// Whether arguments end with this status, these lines and these calls of files, and write the file of this name, or this text.
+// Returns whether a run with these arguments ends with this status and these lines, opens and makes that many files,
+// and writes the file `written`, or the text `written` if there is no such file.
 fn have_outcome(alloc: Global, words: &str, outcome: &str, written: &str) -> Option<bool> {
     let log = Log::new(alloc);
     let system = System { alloc, log: &log };

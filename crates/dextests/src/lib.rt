@@ -1,7 +1,7 @@
 //! Tests of what no line of data shows: devices that fail, the order and the equality of texts, generic functions at
 //! concrete types, and the arguments of the program.
 //!
-//! They stand in a crate of their own because a crate that holds tests is proved twice.
+//! The tests have a crate of their own because a crate with tests is proved twice.
 #![tactic(auto)]
 
 #[cfg(test)]

@@ -3,7 +3,7 @@
 use dexargs::{ListFault, arguments_in, list_name};
 use std::alloc::Global;
 
-// Whether the bytes of a list stand for these arguments.
+// Returns whether the bytes of a list encode these arguments.
 fn are_listed(alloc: Global, bytes: &str, arguments: &str) -> Option<bool> {
     let listed = arguments_in(alloc, bytes.as_bytes()).ok()?;
     Some(format!(in alloc; "{listed:?}").ok()?.as_str() == arguments)

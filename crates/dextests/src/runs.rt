@@ -1,4 +1,4 @@
-//! Normalising, listing, checking, merging, repairing, counting and digesting over devices that move few bytes, or fail.
+//! Runs that normalise, list, check, merge, repair, count and digest, over devices that move few bytes a call or fail.
 
 use crate::files::{
     cut_a, final_a, letter_a, letter_b, letters_a_and_b, source_of_a, unsigned_a, unused_beside_a,
@@ -13,7 +13,7 @@ use dexmerge::{Caps, Plan};
 use std::alloc::Global;
 use std::io::ErrorKind;
 
-// What a run answered and wrote, and what became of its devices. The status of a run that answers none is 0.
+// What a run returned and wrote, and the state of its devices. The status is 0 if the run returns none.
 #[derive(Drop)]
 struct Ran {
     answer: Result<u8, RunFault>,
@@ -24,7 +24,7 @@ struct Ran {
     write_failed: bool,
 }
 
-// The same, given how often its readers were called, whether one failed, and its writer.
+// Returns the record of a run, given the calls of its readers, whether a reader failed, and its writer.
 fn ended(
     answer: Result<u8, RunFault>,
     (reads, read_failed): (usize, bool),
@@ -49,7 +49,7 @@ fn status(answer: Result<(), RunFault>) -> Result<u8, RunFault> {
     }
 }
 
-// How often readers were called.
+// Returns how often the readers were called.
 fn calls_of(inputs: Vec<Device<Scripted<&[u8]>>>) -> usize {
     let mut calls: usize = 0;
     for input in inputs {
@@ -58,7 +58,7 @@ fn calls_of(inputs: Vec<Device<Scripted<&[u8]>>>) -> usize {
     calls
 }
 
-// Whether the run was right, and wrote these bytes.
+// Returns whether the run succeeded and wrote these bytes.
 fn is_done(ran: &Ran, right: &[u8]) -> bool {
     matches!(ran.answer, Ok(0)) && ran.written.as_slice() == right
 }
@@ -72,7 +72,7 @@ enum FileRun {
     Digest,
 }
 
-// Does a run over a file.
+// Runs over one file.
 fn over_file(alloc: Global, run: FileRun, file: &[u8], reads: Script, writes: Script) -> Ran {
     let mut input = Device::new(Scripted::new(file, reads));
     let mut out = Device::new(Scripted::new(Vec::new(alloc), writes));
@@ -86,7 +86,7 @@ fn over_file(alloc: Global, run: FileRun, file: &[u8], reads: Script, writes: Sc
     ended(status(answer), (input.into_inner().calls, read_failed), out)
 }
 
-// Counts what two files hold together.
+// Counts the union of two files.
 fn counted(alloc: Global, files: [(&[u8], Script); 2], writes: Script) -> Option<Ran> {
     let mut inputs = Vec::new(alloc);
     for (file, reads) in files {
@@ -98,7 +98,7 @@ fn counted(alloc: Global, files: [(&[u8], Script); 2], writes: Script) -> Option
     Some(ended(status(answer), (calls_of(inputs), read_failed), out))
 }
 
-// Checks files of these names, each read as is said for it.
+// Checks files of these names; each has the script of its reader.
 fn checked(alloc: Global, files: &[(&str, &[u8], Script)], writes: Script) -> Option<Ran> {
     let mut names = Vec::new(alloc);
     let mut inputs = Vec::new(alloc);
@@ -112,8 +112,8 @@ fn checked(alloc: Global, files: &[(&str, &[u8], Script)], writes: Script) -> Op
     Some(ended(answer, (calls_of(inputs), read_failed), out))
 }
 
-// Merges two files, read as is said for each, by the plan of leaves with these numbers, and strips what comes out where
-// it is to be.
+// Merges two files, each with the script of its reader, by a plan of two leaves with these numbers. Strips the result
+// if `is_stripped`.
 fn merged(
     alloc: Global,
     files: [(&[u8], Script); 2],
@@ -137,7 +137,7 @@ fn merged(
     Some(ended(status(answer), (calls_of(inputs), read_failed), out))
 }
 
-// A run: of one file, of the same file twice, or of the files of two classes.
+// A run over one file, over the same file twice, or over files of two classes.
 #[derive(Clone, Copy)]
 enum Run {
     File(FileRun),
@@ -171,7 +171,8 @@ const COUNTS: &[u8] =
 const DIGEST: &[u8] = b"9c62f0a840d5e9ec28ed4ee1ded1977522fda2c3\tLA;\ta b\n";
 
 impl Run {
-    // The last file: one with texts that nothing uses, or with a source text where that is to go, or with sums that are wrong.
+    // Returns the last file: one with unused texts; for a strip, one with a source text; for a repair, one with wrong
+    // sums.
     fn last_file(self, alloc: Global) -> Option<Vec<u8>> {
         match self {
             Run::Merge => letter_b(alloc),
@@ -181,7 +182,7 @@ impl Run {
         }
     }
 
-    // The file before it, where there are two.
+    // Returns the file before the last, if the run has two.
     fn first_file(self, alloc: Global) -> Option<Vec<u8>> {
         match self {
             Run::Merge => letter_a(alloc),
@@ -189,7 +190,7 @@ impl Run {
         }
     }
 
-    // What is written of them.
+    // Returns what the run writes.
     fn right(self, alloc: Global) -> Option<Vec<u8>> {
         match self {
             Run::File(FileRun::List) => Vec::from_slice(alloc, LISTING).ok(),
@@ -201,7 +202,8 @@ impl Run {
         }
     }
 
-    // The number of the last reader, how often the one before it is called, and what is written before it is.
+    // Returns the number of the last reader, how many calls the reader before it gets, and what is written before the
+    // last reader is called.
     fn before_last(self) -> (usize, usize, &'static [u8]) {
         match self {
             Run::File(_) => (0, 0, b""),
@@ -210,13 +212,13 @@ impl Run {
         }
     }
 
-    // Does it where the last reader and the writer follow scripts. Another reader gives its file at the first call, and the
-    // end at the second.
+    // Runs with these scripts for the last reader and the writer. The other reader returns its whole file at the first
+    // call, and the end at the second.
     fn done(self, alloc: Global, reads: Script, writes: Script) -> Option<Ran> {
         self.done_by(alloc, [WHOLE, reads], writes)
     }
 
-    // Does it where all devices follow scripts.
+    // Runs with scripts for all devices.
     fn done_by(self, alloc: Global, reads: [Script; 2], writes: Script) -> Option<Ran> {
         let (first, last) = (self.first_file(alloc)?, self.last_file(alloc)?);
         let first = (first.as_slice(), reads[0]);
@@ -224,7 +226,7 @@ impl Run {
         self.done_with(alloc, [first, last], writes)
     }
 
-    // Does it with these files, read as is said for each: the last one alone, or both.
+    // Runs over these files, each with its script: over the last one only, or over both.
     fn done_with(self, alloc: Global, files: [(&[u8], Script); 2], writes: Script) -> Option<Ran> {
         let [(first, first_reads), (last, reads)] = files;
         match self {
@@ -240,14 +242,14 @@ impl Run {
     }
 }
 
-// How many calls a reader gets for a file, at so many bytes a call: the last finds the end.
+// Returns how many calls a reader gets for a file, at `most` bytes a call; the last call finds the end.
 fn calls_of_file(len: usize, most: usize) -> usize {
     let most = most.max(1);
     (len.saturating_add(most - 1) / most).saturating_add(1)
 }
 
-// Whether the reader's fault is reported exactly where it fails, at one of the calls that it gets; it is called no more then,
-// and nothing else is written.
+// Returns whether a run reports the reader's fault if and only if the script fails one of the reader's calls. After the
+// fault the run makes no further call and writes no more.
 fn tells_the_reader(alloc: Global, run: Run, reads: Script) -> Option<bool> {
     let right = run.right(alloc)?;
     let ran = run.done(alloc, reads, WHOLE)?;
@@ -264,7 +266,7 @@ fn tells_the_reader(alloc: Global, run: Run, reads: Script) -> Option<bool> {
     )
 }
 
-// It moves 100 bytes a call, so that one of the first five finds the end, or one byte.
+// The reader moves 100 bytes a call, so that one of the first five calls finds the end, or one byte a call.
 #[test]
 fn readers_fail_at_each_call(rt: HostRuntime) {
     for run in RUNS {
@@ -285,8 +287,8 @@ fn readers_fail_at_each_call(rt: HostRuntime) {
     }
 }
 
-// Whether the writer's fault is told exactly where it fails; it is called no more then, and has taken a front of what is
-// written: all that it was to take by then.
+// Returns whether a run reports the writer's fault if and only if the writer fails. After the fault the run makes no
+// further call, and what was written is a prefix of the output: all bytes of the calls before.
 fn tells_the_writer(alloc: Global, run: Run, writes: Script) -> Option<bool> {
     let right = run.right(alloc)?;
     let ran = run.done(alloc, WHOLE, writes)?;
@@ -302,7 +304,7 @@ fn tells_the_writer(alloc: Global, run: Run, writes: Script) -> Option<bool> {
     )
 }
 
-// The writer may also answer that it took no byte. It takes one byte a call, or a hundred.
+// The writer moves one byte a call, or a hundred. At one call it fails, or reports that it wrote no byte.
 #[test]
 fn writers_fail_at_each_call(rt: HostRuntime) {
     for run in RUNS {
@@ -347,8 +349,8 @@ fn an_error_on_an_empty_buffer_is_a_fault(rt: HostRuntime) {
     assert!(rt; answer == Err(DeviceFault) && Source::failed(&input));
 }
 
-// How many calls it takes to read 10,000 bytes, which are no file, where so many are expected and as many are moved as
-// there is room.
+// Returns how many calls read 10,000 bytes, which are not a DEX file, if `expected` bytes are expected and each call
+// fills the buffer.
 fn calls_for(alloc: Global, expected: usize) -> Option<usize> {
     let file = vec![in alloc; 0; 10000].ok()?;
     let script = Script {
@@ -363,8 +365,8 @@ fn calls_for(alloc: Global, expected: usize) -> Option<usize> {
     }
 }
 
-// The last call finds the end. One byte too few is expected, or so few that the room is doubled as where nothing is
-// known; or too many.
+// The last call finds the end. The cases expect the exact length, a greater one, one byte too few, and lengths so small
+// that the buffer is doubled, as for an unknown length.
 #[test]
 fn a_file_of_known_length_is_read_in_one_call(rt: HostRuntime) {
     for (expected, calls) in [(10000, 2), (12345, 2), (9999, 2), (9998, 3), (1, 5), (0, 4)] {
@@ -375,13 +377,13 @@ fn a_file_of_known_length_is_read_in_one_call(rt: HostRuntime) {
     }
 }
 
-// What is reported of a file without its last byte.
+// The refusal of a file without its last byte.
 const TOO_SHORT: Refusal = Refusal {
     number: 4,
     place: 0,
 };
 
-// Whether a file that is refused is told, and nothing is written.
+// Returns whether the refusal of a file is reported, and nothing is written.
 fn is_refused(alloc: Global) -> Option<bool> {
     let cut = cut_a(alloc)?;
     let ran = over_file(alloc, FileRun::List, &cut, WHOLE, WHOLE);
@@ -393,7 +395,7 @@ fn a_file_that_is_cut_is_not_listed(rt: HostRuntime) {
     assert!(rt; is_refused(rt.alloc()) == Some(true));
 }
 
-// Whether each of three files has its line, and the status says that one is refused.
+// Returns whether each of three files has its line, and the status reports that one is refused.
 fn are_checked(alloc: Global) -> Option<bool> {
     let (first, cut, last) = (letter_a(alloc)?, cut_a(alloc)?, final_a(alloc)?);
     let files = [
@@ -411,7 +413,7 @@ fn each_file_has_its_line(rt: HostRuntime) {
     assert!(rt; are_checked(rt.alloc()) == Some(true));
 }
 
-// Merges a file that is cut and one whose reader fails, or the other way round.
+// Merges a cut file and a file whose reader fails, in this order or the other.
 fn cut_and_failing(alloc: Global, is_cut_first: bool) -> Option<Ran> {
     let (cut, whole) = (cut_a(alloc)?, letter_b(alloc)?);
     let cut = (cut.as_slice(), WHOLE);
@@ -450,7 +452,7 @@ fn a_bad_plan_is_told_before_a_reader_is_called(rt: HostRuntime) {
     assert!(rt; is_bad_plan_told(rt.alloc()) == Some(true));
 }
 
-// What is said of two classes `LA;` with unlike flags, where nothing was written.
+// Returns the line that reports a conflict of two classes `LA;` with different flags, if nothing was written.
 fn conflict_line(alloc: Global) -> Option<String> {
     let (first, second) = (letter_a(alloc)?, final_a(alloc)?);
     let files = [(first.as_slice(), WHOLE), (second.as_slice(), WHOLE)];
@@ -471,8 +473,8 @@ fn a_conflict_is_told(rt: HostRuntime) {
     assert!(rt; line.is_some_and(|line| line.as_str() == "dexkit: conflict LA;"));
 }
 
-// Whether two equal files with a source text are merged and stripped to the file that has none, and one with and one
-// without it are a conflict, as they are where nothing is stripped.
+// Returns whether two equal files with a source text are merged and stripped to the file without it, and a file with
+// the text and one without it are a conflict, as in a merge that does not strip.
 fn is_stripped_behind_the_merge(alloc: Global) -> Option<bool> {
     let (with, without) = (source_of_a(alloc)?, letter_a(alloc)?);
     let (with, bare) = ((with.as_slice(), WHOLE), (without.as_slice(), WHOLE));
@@ -490,8 +492,8 @@ fn a_merge_is_judged_before_it_is_stripped(rt: HostRuntime) {
     assert!(rt; is_stripped_behind_the_merge(rt.alloc()) == Some(true));
 }
 
-// Whether files that no sums make acceptable are refused for what is wrong with them, and nothing is written: one that is
-// cut, one of 31 bytes, which has no room for its sums, and one without bytes.
+// Returns whether files that no sums make acceptable are refused, and nothing is written: a cut file, a file of 31
+// bytes, which has no room for its sums, and an empty file.
 fn is_beyond_repair(alloc: Global) -> Option<bool> {
     let cut = cut_a(alloc)?;
     for (file, number) in [(cut.as_slice(), 4), (cut.get(..31)?, 1), (cut.get(..0)?, 1)] {
@@ -511,7 +513,7 @@ fn a_repair_sets_sums_alone_right(rt: HostRuntime) {
     assert!(rt; is_beyond_repair(rt.alloc()) == Some(true));
 }
 
-// Whether two different classes of one name are not counted, and a file that is cut neither.
+// Returns whether a count refuses two different classes of one name, and a cut file.
 fn is_uncounted(alloc: Global) -> Option<bool> {
     let (first, second, cut) = (letter_a(alloc)?, final_a(alloc)?, cut_a(alloc)?);
     let first = (first.as_slice(), WHOLE);
@@ -530,7 +532,7 @@ fn a_count_is_of_a_union(rt: HostRuntime) {
     assert!(rt; is_uncounted(rt.alloc()) == Some(true));
 }
 
-// Whether a file that is refused has no digests.
+// Returns whether a refused file has no digests.
 fn is_undigested(alloc: Global) -> Option<bool> {
     let cut = cut_a(alloc)?;
     let ran = over_file(alloc, FileRun::Digest, &cut, WHOLE, WHOLE);

@@ -1,32 +1,32 @@
-//! Devices that move few bytes a call, or fail at one.
+//! Devices that move few bytes a call, or fail at one call.
 
 ghost use Rattle.std.specs.Prelude.{◌≤◌, IfOk};
 
 use std::io;
 use std::io::{ErrorKind, Read, Write};
 
-/// How a device moves its bytes: so many a call at most, and what it does at one call, where it does not.
+/// How a device moves its bytes: at most `most` a call, except the call number `failing`, which fails.
 #[derive(Clone, Copy)]
 pub(crate) struct Script {
     pub(crate) most: usize,
     pub(crate) failing: usize,
-    /// The fault of that call; where there is none it moves no byte.
+    /// The fault of that call; if there is none, the call moves no byte.
     pub(crate) fault: Option<ErrorKind>,
 }
 
-/// All at once.
+/// All bytes at once.
 pub(crate) const WHOLE: Script = Script {
     most: 8192,
     failing: 1000000,
     fault: None,
 };
 
-/// So many bytes a call at most.
+/// Returns a script of at most `most` bytes a call.
 pub(crate) fn by(most: usize) -> Script {
     Script { most, ..WHOLE }
 }
 
-/// The same, and one call fails.
+/// Returns a script of at most `most` bytes a call, where one call fails.
 pub(crate) fn failing(most: usize, failing: usize) -> Script {
     Script {
         most,
@@ -35,7 +35,7 @@ pub(crate) fn failing(most: usize, failing: usize) -> Script {
     }
 }
 
-/// Follows its script, and counts the calls.
+/// A device that follows a script, and counts the calls.
 #[derive(Drop)]
 pub(crate) struct Scripted<T> {
     pub(crate) inner: T,
@@ -52,7 +52,7 @@ impl<T> Scripted<T> {
         }
     }
 
-    // How many of so many bytes this call moves.
+    // Returns how many of `len` bytes this call moves.
     fn answer(&mut self, len: usize) -> io::Result<usize>
         ensures { IfOk result (λ n. n ≤ len) }
     {

@@ -1,4 +1,4 @@
-//! What is said of faults, and plans of fans by what they look like.
+//! The lines of faults, and the plans of fans as text.
 
 ghost use Rattle.std.specs.Prelude.{◌≤◌, IfSome};
 ghost use Rattle.dexruns.specs.Lines.{HasName};
@@ -8,7 +8,7 @@ use dexhead::Refusal;
 use dexmerge::Plan;
 use std::alloc::{AllocError, Global};
 
-// Whether the fault has this status and this line, among two inputs.
+// Returns whether the fault has this status and this line, among two inputs.
 fn is_told(alloc: Global, fault: &RunFault, status: u8, line: &str) -> Option<bool>
     requires { HasName 2 fault.now }
 {
@@ -16,7 +16,7 @@ fn is_told(alloc: Global, fault: &RunFault, status: u8, line: &str) -> Option<bo
     Some(told.0 == status && told.1.as_str() == line)
 }
 
-// Some faults, each with its status and its line.
+// Returns a fault with its status and its line.
 fn fault(case: u8) -> (RunFault, u8, &'static str)
     ensures { HasName 2 result.0 }
 {
@@ -53,7 +53,7 @@ fn faults_have_a_status_and_a_line(rt: HostRuntime) {
     }
 }
 
-// Appends the plan: a space before each file, and brackets round the parts of a node.
+// Appends the plan as text: a space before each file, and brackets around the parts of a node.
 fn push_plan(alloc: Global, plan: &Plan, text: &mut String) -> Result<(), AllocError> {
     match plan {
         Plan::Leaf(file) => text.push_str(format!(in alloc; " {file}")?.as_str())?,
@@ -68,7 +68,7 @@ fn push_plan(alloc: Global, plan: &Plan, text: &mut String) -> Result<(), AllocE
     Ok(())
 }
 
-// Whether the plan that a fan makes of so many files looks like this.
+// Returns whether the plan of a fan over `files` files has this text.
 fn is_fanned(alloc: Global, files: usize, fan: Option<usize>, right: &str) -> Option<bool>
     requires files { 1 ≤ files }
     requires fan { IfSome fan (λ fan. 2 ≤ fan) }
@@ -79,7 +79,7 @@ fn is_fanned(alloc: Global, files: usize, fan: Option<usize>, right: &str) -> Op
     Some(text.as_str() == right)
 }
 
-// Some numbers of files, with a fan or none, and what the plan looks like.
+// Returns a number of files and a fan, if any, with the text of the plan.
 fn fan(case: u8) -> (usize, Option<usize>, &'static str)
     ensures files { 1 ≤ result.0 }
     ensures fan { IfSome result.1 (λ fan. 2 ≤ fan) }

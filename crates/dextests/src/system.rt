@@ -23,11 +23,11 @@ const MOST: usize = 3;
 /// What was done to the files of a system.
 #[derive(Drop)]
 pub(crate) struct Log {
-    /// How often one was opened to be read.
+    /// How often a file was opened for reading.
     pub(crate) opened: Cell<usize>,
-    /// How often one was made or emptied.
+    /// How often a file was made or emptied.
     pub(crate) made: Cell<usize>,
-    /// What was written, to one of them or to standard output.
+    /// The bytes that were written to files or to standard output.
     pub(crate) written: RefCell<Vec<u8>>,
 }
 
@@ -40,7 +40,7 @@ impl Log {
         }
     }
 
-    // Writes as many bytes as a call moves.
+    // Writes at most as many bytes as a call moves.
     fn write(&self, bytes: &[u8]) -> io::Result<usize>
         ensures { IfOk result (λ n. n ≤ length bytes.now) }
     {
@@ -53,7 +53,7 @@ impl Log {
     }
 }
 
-/// The file at a path, or standard input, if there is one.
+/// Returns the file at a path, or standard input, if there is one.
 pub(crate) fn file(alloc: Global, path: &str) -> Option<Vec<u8>> {
     match path {
         "a" => letter_a(alloc),

@@ -1,16 +1,15 @@
-//! Tables of rows that are joined and cut, and the order of each kind of row. What is right was worked out by hand.
+//! Joined and cut tables of rows, and the order of each kind of row. The right answers were worked out by hand.
 
 use dexrows::{FieldRow, MethodRow, ProtoRow, Row, TypeRow, cut, is_sorted, join};
 use dexstr::Text;
 use std::alloc::Global;
 use std::cmp::Ordering;
 
-// A row of types.
 fn typ(descriptor: usize) -> TypeRow {
     TypeRow { descriptor }
 }
 
-// What the trait tells of two rows: their order, and whether a copy ties with its row.
+// Returns the order of two rows, and whether a copy of the first compares equal to it.
 fn told<R: Row>(row: &R, other: &R) -> (Ordering, bool) {
     (row.compare(other), row.copied().compare(row).is_eq())
 }
@@ -41,7 +40,7 @@ fn rows_are_ordered_by_their_keys(rt: HostRuntime) {
     assert!(rt; told(&typ(3), &typ(3)) == (Ordering::Equal, true));
 }
 
-// Where the rows of two tables of texts are led when they are joined, and how many rows there are then.
+// Joins two tables of texts, and returns the number of rows and the images of both tables.
 fn joined_texts(alloc: Global) -> Option<(usize, Vec<Vec<usize>>)> {
     let (a, b) = (
         Text::read(b"\x01a\0", 0).ok()?.0,
@@ -75,7 +74,7 @@ fn two_tables_of_texts_are_joined(rt: HostRuntime) {
     );
 }
 
-// Whether three tables of types, one of them empty, are joined as they are to be, and no tables too.
+// Returns whether three tables of types, one of them empty, are joined right, and a join of no tables is empty.
 fn are_types_joined(alloc: Global) -> Option<bool> {
     let none = join::<TypeRow>(alloc, &[]).ok()?;
     let (first, third) = ([typ(1), typ(4), typ(6)], [typ(0), typ(4), typ(7)]);
@@ -101,7 +100,7 @@ fn three_tables_of_types_are_joined(rt: HostRuntime) {
     assert!(rt; are_types_joined(rt.alloc()) == Some(true));
 }
 
-// Whether the marked rows are kept, and the others lead nowhere.
+// Returns whether the marked rows are kept, and the others have no image.
 fn are_marked_kept(alloc: Global) -> Option<bool> {
     let rows = [typ(1), typ(4), typ(6), typ(9)];
     let kept = cut(alloc, &rows, &[false, true, false, true]).ok()?;

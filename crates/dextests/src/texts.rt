@@ -1,10 +1,10 @@
-//! The order and the equality of texts, which is that of their units.
+//! The order and the equality of texts are those of their units.
 
 use dexstr::{Name, Text};
 use std::alloc::Global;
 
-/// Items of texts that rise by their units: unit 0 is the least, and a surrogate is less than e000. Each begins with the
-/// number of its units.
+/// Texts in ascending order by units, as items, which begin with the number of units: unit 0 is the least, and a
+/// surrogate is less than e000.
 const RISING: [&str; 7] = [
     "0000",
     "01c08000",
@@ -15,8 +15,7 @@ const RISING: [&str; 7] = [
     "01ee808000",
 ];
 
-// Whether the first text is before, at or behind the second, as the numbers say, and equal to it just where they are
-// equal.
+// Returns whether two texts compare as their numbers do, and are equal if and only if their numbers are.
 fn are_ordered(alloc: Global, i: usize, j: usize) -> Option<bool> {
     let left = hex::decode(alloc, *RISING.get(i)?).ok()?;
     let right = hex::decode(alloc, *RISING.get(j)?).ok()?;

@@ -3,7 +3,7 @@
 use dexcmd::read_words;
 use std::alloc::{AllocError, Global};
 
-// The arguments of a line, divided by one blank.
+// Returns the arguments of a line, split at single blanks.
 pub(crate) fn words_of(alloc: Global, line: &str) -> Result<Vec<&str>, AllocError> {
     let mut words = Vec::new(alloc);
     for word in line.split(' ') {
@@ -14,7 +14,7 @@ pub(crate) fn words_of(alloc: Global, line: &str) -> Result<Vec<&str>, AllocErro
     Ok(words)
 }
 
-// Whether the arguments are read as this job.
+// Returns whether the arguments are read as this job.
 fn are_read(alloc: Global, words: &str, job: &str) -> Option<bool> {
     let words = words_of(alloc, words).ok()?;
     let read = read_words(alloc, words.as_slice()).ok()?;
@@ -70,7 +70,7 @@ fn files_and_outputs_are_read_as_jobs(rt: HostRuntime) {
     }
 }
 
-// The exit status if the arguments are not a command.
+// Returns the exit status of arguments that ask for no job.
 fn status(alloc: Global, words: &str) -> Option<i32> {
     let words = words_of(alloc, words).ok()?;
     Some(read_words(alloc, words.as_slice()).err()?.exit_code())

@@ -1,4 +1,4 @@
-//! Canonical files as a writer is given them, and their lengths.
+//! Canonical files as a writer gets them, and their lengths.
 
 use crate::files::{letter_a, unused_beside_a};
 use dexcanon::{Layout, to_bytes, write_to};
@@ -8,7 +8,7 @@ use std::alloc::Global;
 use std::io;
 use std::io::Write;
 
-// Keeps what it is given, and in how many calls.
+// A writer that keeps the bytes, and counts the calls.
 #[derive(Drop)]
 struct Record {
     bytes: Vec<u8>,
@@ -27,7 +27,7 @@ impl Write for Record {
     }
 }
 
-// The canonical file of a file, as a device is given it.
+// Writes the canonical file of a file to such a writer.
 fn written(alloc: Global, file: &[u8]) -> Option<Record> {
     let program = read(alloc, file).ok()?;
     let mut out = Device::new(Record {
@@ -38,7 +38,7 @@ fn written(alloc: Global, file: &[u8]) -> Option<Record> {
     Some(out.into_inner())
 }
 
-// Whether the right bytes are written in one slice, as those of each file below 64 KiB are.
+// Returns whether the right bytes are written in one slice, as for every file below 64 KiB.
 fn is_one_slice(alloc: Global) -> Option<bool> {
     let right = letter_a(alloc)?;
     let record = written(alloc, &unused_beside_a(alloc)?)?;
@@ -50,7 +50,7 @@ fn a_short_file_is_one_slice(rt: HostRuntime) {
     assert!(rt; is_one_slice(rt.alloc()) == Some(true));
 }
 
-// The lengths of the file of no classes: as it is laid out, and as it is made.
+// Returns the length of the file without classes, as laid out and as written.
 fn empty_lengths(alloc: Global) -> Option<(u32, usize)> {
     let program = Program::empty(alloc);
     let layout = Layout::of(alloc, &program).ok()?;

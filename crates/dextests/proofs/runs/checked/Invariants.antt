@@ -2,7 +2,7 @@ use Rattle.std.proofs.Common.{◌≡◌, vec_len}
 use Rattle.dexruns.specs.Runs.{AllWork}
 use Rattle.dextests.proofs.runs.checked.Given as goal
 
--- a name and a reader for each file so far, and no reader has failed
+-- each file so far has a name and a reader, and no reader has failed
 abbrev pub invariant-loop-name : goal.invariant-loop-name
 invariant-loop-name l = record {
   names : vec_len l.names ≡ l.name-index;

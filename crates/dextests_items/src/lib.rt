@@ -1,5 +1,5 @@
-//! What no line of `dexitems` shows of items: what is put where there is just room for it, numbers that no small file
-//! has, and numbers that lead nowhere.
+//! Tests of what no line of `dexitems` shows of items: items that are put where there is just room for them, numbers
+//! that no small file has, and numbers without an image.
 #![tactic(auto)]
 
 #[cfg(test)]

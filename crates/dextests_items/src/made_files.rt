@@ -1,4 +1,4 @@
-//! Files that a test makes around its items.
+//! Files that a test builds around its items.
 
 use dexhead::{Head, MapEntry, MapList, Rows, Section, set_sums};
 use std::alloc::Global;
@@ -7,10 +7,10 @@ const HEADER_SIZE: u32 = 112;
 
 const MAP_SIZE: u32 = 28;
 
-/// Where the items of such a file begin.
+/// The offset of the first item of such a file.
 pub const ITEMS: u32 = HEADER_SIZE + MAP_SIZE;
 
-/// A file without tables, in which the items stand behind the map and end with the file.
+/// Returns a file without tables, whose data is the map and then the items.
 pub fn file_with(alloc: Global, items: &[u8]) -> Option<Vec<u8>> {
     let data_size = u32::try_from(items.len()).ok()?.checked_add(MAP_SIZE)?;
     let head = Head {

@@ -1,11 +1,12 @@
-//! Numbers of symbols that no small file has, put in the fewest bytes. The bytes were written down by hand from the format.
+//! Symbol numbers that no small file has are put in the fewest bytes. The right bytes were written by hand from the
+//! format.
 
 use dexcode::Operation;
 use dexpool::Numbering;
 use dexval::{Annotation, Element, Value, Visibility, put_annotation, put_value};
 use std::alloc::Global;
 
-/// Whether a value is put as these bytes.
+/// Returns whether a value is put as these bytes.
 fn is_put_as(alloc: Global, value: &Value, wanted: &[u8]) -> Option<bool> {
     let mut bytes = Vec::new(alloc);
     put_value(value, &Numbering::empty(alloc), &mut bytes).ok()?;
@@ -56,7 +57,7 @@ fn a_method_and_a_constant_of_an_enum_in_three_bytes(rt: HostRuntime) {
     );
 }
 
-/// What an annotation as a value is put as, whose second name has a number of two bytes.
+/// Puts an annotation as a value, whose second name has a number of two bytes.
 fn annotation_value(alloc: Global) -> Option<Vec<u8>> {
     let first = Element {
         name: 1,
@@ -83,7 +84,7 @@ fn a_name_in_two_bytes(rt: HostRuntime) {
     );
 }
 
-/// What an annotation of type 200 with no element is put as.
+/// Puts an annotation of type 200 without elements.
 fn annotation(alloc: Global) -> Option<Vec<u8>> {
     let annotation = Annotation {
         visibility: Visibility::System,
@@ -103,7 +104,7 @@ fn the_type_of_an_annotation_in_two_bytes(rt: HostRuntime) {
     assert_eq!(rt; bytes.as_slice(), [0x02, 0xc8, 0x01, 0x00].as_slice());
 }
 
-/// The name, the type and the signature of an operation.
+/// Returns the numbers of the name, the type and the signature of an operation.
 fn numbers(operation: &Operation) -> (Option<u32>, Option<u32>, Option<u32>) {
     (
         operation.name_idx(),

@@ -1,10 +1,10 @@
-//! Numbers that lead nowhere, and kinds of values with one number.
+//! Numbers without an image, and kinds of values that have one number.
 
 use dexpool::{Marks, Numbering, Remap};
 use dexval::{Value, values_fit};
 use std::alloc::Global;
 
-/// A map that leads no number anywhere.
+/// Returns a map that maps no number.
 fn nowhere(alloc: Global) -> Option<Remap> {
     let empty = Numbering::empty(alloc);
     let marks = Marks::none(alloc, &empty).ok()?;
@@ -12,7 +12,7 @@ fn nowhere(alloc: Global) -> Option<Remap> {
     Some(remap)
 }
 
-/// Whether the numbers of a value lead somewhere.
+/// Returns whether all numbers of a value have images.
 fn fits(alloc: Global, value: &Value) -> Option<bool> {
     Some(value.fits(&nowhere(alloc)?))
 }
@@ -27,7 +27,7 @@ fn numbers_that_lead_nowhere_do_not_fit(rt: HostRuntime) {
     assert_eq!(rt; fits(rt.alloc(), &Value::Int(0)), Some(true));
 }
 
-/// Whether null and another value fit.
+/// Returns whether null and another value fit.
 fn both_fit(alloc: Global, value: Value) -> Option<bool> {
     Some(values_fit(&[Value::Null, value], &nowhere(alloc)?))
 }
@@ -38,7 +38,7 @@ fn each_of_several_values_has_to_fit(rt: HostRuntime) {
     assert_eq!(rt; both_fit(rt.alloc(), Value::String(4)), Some(false));
 }
 
-/// Whether the values are the same, where numbers lead nowhere.
+/// Returns whether the values are the same under a map that maps no number.
 fn same(alloc: Global, value: &Value, other: &Value) -> Option<bool> {
     let remap = nowhere(alloc)?;
     Some(value.same_mapped(&remap, other, &remap))

@@ -1,5 +1,5 @@
-//! Items put where the spare room is just what their contracts ask for: the vector does not grow. The bytes that are
-//! wanted were written down by hand from the format.
+//! Items put where the spare room is exactly what their contracts ask for: the vector does not grow. The right bytes
+//! were written by hand from the format.
 
 use crate::made_files::{ITEMS, file_with};
 use dexcode::{Code, Debug, put_code, put_debug, read_code, read_debug};
@@ -12,7 +12,7 @@ use dexval::{
 };
 use std::alloc::Global;
 
-/// What a long of eight bytes is put as in the room of its weight, and that room afterwards.
+/// Puts a long of eight bytes in the room of its weight, and returns the bytes and the capacity afterwards.
 fn long_in_its_weight(alloc: Global) -> Option<(Vec<u8>, usize)> {
     let mut bytes = Vec::with_capacity(alloc, 9).ok()?;
     let long = Value::Long(-9223372036854775808);
@@ -31,7 +31,7 @@ fn a_value_is_put_in_its_weight(rt: HostRuntime) {
     assert_eq!(rt; room, 9);
 }
 
-/// What two static values are put as in the room of their weight, and that room afterwards.
+/// Puts two static values in the room of their weight, and returns the bytes and the capacity afterwards.
 fn statics_in_their_weight(alloc: Global) -> Option<(Vec<u8>, usize)> {
     let mut bytes = Vec::with_capacity(alloc, 24).ok()?;
     let values = [Value::Int(128), Value::Null];
@@ -49,7 +49,7 @@ fn static_values_are_put_in_their_weight(rt: HostRuntime) {
     assert_eq!(rt; room, 24);
 }
 
-/// What an annotation is put as in the room of its weight, and that room afterwards.
+/// Puts an annotation in the room of its weight, and returns the bytes and the capacity afterwards.
 fn annotation_in_its_weight(alloc: Global) -> Option<(Vec<u8>, usize)> {
     let element = Element {
         name: 5,
@@ -78,7 +78,8 @@ fn an_annotation_is_put_in_its_weight(rt: HostRuntime) {
     assert_eq!(rt; room, 26);
 }
 
-/// What a set without annotations is put as behind a byte, in room for four more, and the room afterwards.
+/// Puts a set without annotations after a byte, in room for four more bytes, and returns the bytes and the capacity
+/// afterwards.
 fn set_in_its_room(alloc: Global) -> Option<(Vec<u8>, usize)> {
     let mut bytes = Vec::with_capacity(alloc, 5).ok()?;
     bytes.push(0x7f).ok()?;
@@ -97,20 +98,20 @@ fn a_set_is_put_in_its_room(rt: HostRuntime) {
     assert_eq!(rt; room, 5);
 }
 
-/// What a debug program is put as in the room of its weight, and that room afterwards.
+/// Puts a debug program in the room of its weight, and returns the bytes and the capacity afterwards.
 fn debug_in_its_weight(
     alloc: Global,
     debug: &Debug,
     numbering: &Numbering<'_>,
 ) -> Option<(Vec<u8>, usize)> {
-    // 11, 1 + 5 for the step of lines, and 1 for the special operation.
+    // 11, 1 + 5 for the advance of the line, and 1 for the special operation.
     let mut bytes = Vec::with_capacity(alloc, 18).ok()?;
     put_debug(debug, numbering, &mut bytes).ok()?;
     let room = bytes.capacity();
     Some((bytes, room))
 }
 
-/// The same, of a debug program of one step of lines and one special operation.
+/// Reads a debug program of one line advance and one special operation, and puts it in the room of its weight.
 fn read_debug_in_its_weight(alloc: Global) -> Option<(Vec<u8>, usize)> {
     let file = file_with(alloc, &[0x0a, 0x00, 0x02, 0x01, 0x0e, 0x00])?;
     let frame = Frame::open(&file).ok()?;
@@ -134,7 +135,7 @@ fn a_debug_program_is_put_in_its_weight(rt: HostRuntime) {
 /// A code_item of one `return-void`.
 const CODE: [u8; 18] = [1, 0, 0, 0, 0, 0, 0, 0, 0, 0, 0, 0, 1, 0, 0, 0, 14, 0];
 
-/// What code is put as in the room of its weight less 3, and that room afterwards.
+/// Puts code in the room of its weight less 3, and returns the bytes and the capacity afterwards.
 fn code_in_its_weight(
     alloc: Global,
     code: &Code<'_>,
@@ -150,7 +151,7 @@ fn code_in_its_weight(
     Some((bytes, room))
 }
 
-/// The same, of the code of one `return-void`.
+/// Reads the code of one `return-void`, and puts it in the room of its weight less 3.
 fn read_code_in_its_weight(alloc: Global) -> Option<(Vec<u8>, usize)> {
     let file = file_with(alloc, &CODE)?;
     let frame = Frame::open(&file).ok()?;
@@ -168,7 +169,7 @@ fn code_is_put_in_its_weight(rt: HostRuntime) {
     assert_eq!(rt; room, 23);
 }
 
-/// What the class data of no members is put as in room for 20 bytes, and that room afterwards.
+/// Puts the class data of no members in room for 20 bytes, and returns the bytes and the capacity afterwards.
 fn class_data_in_its_room(alloc: Global) -> Option<(Vec<u8>, usize)> {
     let mut bytes = Vec::with_capacity(alloc, 20).ok()?;
     Members::empty(alloc).put_class_data(&[], &mut bytes).ok()?;
@@ -185,7 +186,8 @@ fn class_data_is_put_in_its_room(rt: HostRuntime) {
     assert_eq!(rt; room, 20);
 }
 
-/// What the directory of no members with a set at 300 is put as in room for 16 bytes, and that room afterwards.
+/// Puts the directory of no members with a set at 300 in room for 16 bytes, and returns the bytes and the capacity
+/// afterwards.
 fn directory_in_its_room(alloc: Global) -> Option<(Vec<u8>, usize)> {
     let mut bytes = Vec::with_capacity(alloc, 16).ok()?;
     Members::empty(alloc)

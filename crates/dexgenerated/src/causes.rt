@@ -1,9 +1,9 @@
-//! Causes compared.
+//! Comparison of causes.
 
 use dexcmd::MergeCause;
 use dexmerge::MergeFault;
 
-/// Whether both are the same cause.
+/// Returns whether both causes are the same.
 pub fn is_same(cause: &MergeFault, other: &MergeFault) -> bool {
     match (cause, other) {
         (MergeFault::Conflict(name), MergeFault::Conflict(other))
@@ -13,7 +13,7 @@ pub fn is_same(cause: &MergeFault, other: &MergeFault) -> bool {
     }
 }
 
-/// Whether a run told this cause.
+/// Returns whether a run reported this cause.
 pub fn is_told(cause: &MergeFault, told: &MergeCause) -> bool {
     match (cause, told) {
         (MergeFault::Conflict(name), MergeCause::Conflict(told))

@@ -1,4 +1,4 @@
-//! Merges that are drawn: files, a plan and caps.
+//! Draws merges: files, a plan and caps.
 
 use crate::merging::{cause_of, parts_of};
 use crate::needs::{CAPS, caps_of, needed, with_cap};
@@ -13,7 +13,7 @@ use std::alloc::{AllocError, Global};
 /// The most files of a merge.
 const MOST_FILES: usize = 20;
 
-// A generator gives another stream for each such number.
+// The stream of the generators.
 const STREAM: u64 = 54;
 
 /// What is known of a merge before it is tried under its caps.
@@ -25,23 +25,23 @@ pub enum Known {
     Merges,
     /// Only this cap is exceeded.
     Exceeds(u8),
-    /// The files are refused for this cause under all caps.
+    /// The merge is refused for this cause under all caps.
     Refused(MergeFault),
 }
 
-/// A merge that was drawn.
+/// A drawn merge.
 #[derive(Drop)]
 pub struct Drawn {
-    /// The numbers of the files among those to draw from. Some come twice.
+    /// The numbers of the files among the files to draw from. Some numbers occur twice.
     pub files: Vec<usize>,
-    /// The same in another order.
+    /// The same numbers in another order.
     pub reordered: Vec<usize>,
     pub plan: DrawnPlan,
     pub caps: Caps,
     pub known: Known,
 }
 
-// The number of a file, often one near the file that was drawn last, or one that was drawn before.
+// Draws the number of a file: often one near the last number, or one of the numbers drawn before.
 fn draw_file(rng: &mut Pcg32, files: &[usize], count: usize) -> usize {
     if count == 0 {
         return 0;
@@ -55,14 +55,14 @@ fn draw_file(rng: &mut Pcg32, files: &[usize], count: usize) -> usize {
     }
 }
 
-/// Which files are left out of those that are drawn.
+/// Which drawn files are left out.
 #[derive(Clone, Copy)]
 enum LeftOut {
     /// None.
     None,
-    /// Those with a class that is unlike one before.
+    /// Files with a class that differs from a class of the same name before.
     Conflicts,
-    /// Those that cannot be merged with those before.
+    /// Files that cannot be merged with the files before.
     Unmerged,
 }
 
@@ -75,7 +75,7 @@ impl LeftOut {
         }
     }
 
-    // Whether files are kept that cannot be merged for this cause.
+    // Returns whether files are kept that cannot be merged for this cause.
     fn keeps(self, cause: &MergeFault) -> bool {
         match self {
             LeftOut::None => true,
@@ -85,7 +85,7 @@ impl LeftOut {
     }
 }
 
-// Whether these files, of which the last is new, are kept.
+// Returns whether these files, of which the last is new, are kept.
 fn are_kept(
     alloc: Global,
     left_out: LeftOut,
@@ -100,7 +100,7 @@ fn are_kept(
     }
 }
 
-// The numbers of files.
+// Draws the numbers of files.
 fn draw_files(
     alloc: Global,
     rng: &mut Pcg32,
@@ -121,14 +121,14 @@ fn draw_files(
     Ok(files)
 }
 
-// The files in another order.
+// Returns the files in another order.
 fn shuffled(alloc: Global, rng: &mut Pcg32, files: &[usize]) -> Result<Vec<usize>, AllocError> {
     let mut shuffled = Vec::from_slice(alloc, files)?;
     shuffled.as_mut_slice().shuffle(rng);
     Ok(shuffled)
 }
 
-// Caps at and around these numbers, which are what the files need, and what is then known.
+// Draws caps at and around the numbers that the files need, and returns what is then known of the merge.
 fn draw_caps(rng: &mut Pcg32, needed: [u32; CAPS]) -> (Caps, Known) {
     let place: usize = rng.random_range(0..CAPS);
     let need = needed.get(place).map_or(0, |need| *need);
@@ -161,7 +161,7 @@ fn draw_caps(rng: &mut Pcg32, needed: [u32; CAPS]) -> (Caps, Known) {
     }
 }
 
-// Caps under which files that cannot be merged are tried.
+// Draws caps for files that cannot be merged.
 fn draw_small_caps(rng: &mut Pcg32) -> Caps {
     if rng.random_ratio(1, 2) {
         return Caps::greatest();
@@ -173,7 +173,7 @@ fn draw_small_caps(rng: &mut Pcg32) -> Caps {
     caps_of(small)
 }
 
-// Caps under which files are tried, and what is then known.
+// Draws caps for files, and returns what is then known of the merge.
 fn draw_limits(
     alloc: Global,
     rng: &mut Pcg32,
@@ -188,7 +188,7 @@ fn draw_limits(
     }
 }
 
-/// The merge of this number.
+/// Draws the merge of this number.
 pub fn draw(alloc: Global, number: u64, programs: &[&Program<'_>]) -> Result<Drawn, AllocError> {
     let mut rng = Pcg32::new(number, STREAM);
     let files = draw_files(alloc, &mut rng, programs)?;

@@ -1,13 +1,13 @@
-//! Why the program stops, and what does not hold of a merge.
+//! Why the program ends, and what does not hold of a merge.
 
 use std::alloc::{AllocError, AllocFailed};
 use std::io;
 use thiserror::Error;
 
-/// Why the program stops.
+/// Why the program ends.
 #[derive(Debug, Drop, Error)]
 pub enum Fault {
-    /// No file is named.
+    /// Usage error: no file is named.
     #[error("usage: dexgenerated FILE..")]
     Words,
     /// A file cannot be read.
@@ -23,7 +23,7 @@ pub enum Fault {
         number: u8,
         place: u32,
     },
-    /// The output fails.
+    /// The output cannot be written.
     #[error("{0}")]
     Output(io::Error),
     #[error("out of memory")]
@@ -31,7 +31,7 @@ pub enum Fault {
 }
 
 impl Fault {
-    /// The status that the program ends with.
+    /// Returns the exit status of the program.
     pub fn status(&self) -> u8 {
         match self {
             Fault::Words => 2,
@@ -87,9 +87,7 @@ pub enum Trouble {
 }
 
 impl Trouble {
-    /// Asserts that something holds.
-    ///
-    /// Error: this trouble where it does not.
+    /// Returns this trouble as an error unless the condition holds.
     pub fn unless(self, holds: bool) -> Result<(), Trouble> {
         if holds { Ok(()) } else { Err(self) }
     }

@@ -8,7 +8,7 @@ use std::alloc::Global;
 use std::fs;
 use std::rt::Files;
 
-// The file of this name.
+// Reads the file of this name.
 fn stored_file<R: Files + AllocGlobal>(rt: &R, name: &str) -> Result<Vec<u8>, Fault> {
     match fs::read(rt, name) {
         Ok(file) => Ok(file),
@@ -19,9 +19,9 @@ fn stored_file<R: Files + AllocGlobal>(rt: &R, name: &str) -> Result<Vec<u8>, Fa
     }
 }
 
-/// The files of these names.
+/// Reads the files of these names.
 ///
-/// Error: `File` with the first that cannot be read.
+/// Error: `File` with the first file that cannot be read.
 pub fn stored_files<R: Files + AllocGlobal>(
     rt: &R,
     names: &[String],
@@ -33,7 +33,7 @@ pub fn stored_files<R: Files + AllocGlobal>(
     Ok(files)
 }
 
-// The program of the file of this name.
+// Reads the program of a file.
 fn program<'a>(alloc: Global, name: &str, file: &'a [u8]) -> Result<Program<'a>, Fault> {
     match read(alloc, file) {
         Ok(program) => Ok(program),
@@ -46,7 +46,7 @@ fn program<'a>(alloc: Global, name: &str, file: &'a [u8]) -> Result<Program<'a>,
     }
 }
 
-/// The programs of the files of these names.
+/// Reads the programs of the files of these names.
 ///
 /// Error: `Refused` with the first file that is refused.
 pub fn programs<'a>(

@@ -1,4 +1,4 @@
-//! What holds of a merge.
+//! Checks what must hold of a merge.
 
 ghost use Rattle.std.specs.Prelude.{◌≡◌, false, IfOk};
 ghost use Rattle.dexruns.specs.Runs.{AllWork};
@@ -18,7 +18,7 @@ use dexhead::Device;
 use dexmerge::{Caps, MergeFault, merge};
 use std::alloc::{AllocError, Global};
 
-// A device over each of the files.
+// Returns a device over each of the files.
 fn devices<'a>(
     alloc: Global,
     stored: &'a [Vec<u8>],
@@ -35,7 +35,7 @@ fn devices<'a>(
     Ok(devices)
 }
 
-// Runs the plan over devices, and answers the cause that is told, if one is.
+// Runs the plan over devices, and returns the cause if the merge is refused.
 fn told_by_plan(
     alloc: Global,
     drawn: &Drawn,
@@ -53,7 +53,7 @@ fn told_by_plan(
     }
 }
 
-// What the plan gives over devices: the bytes, or the cause.
+// Runs the plan over devices, and returns the bytes or the cause.
 fn run_plan(
     alloc: Global,
     drawn: &Drawn,
@@ -76,7 +76,7 @@ fn judge_known_merge(known: &Known) -> Result<(), Trouble> {
     }
 }
 
-// Asserts that files are not known to merge, or to be refused for another cause.
+// Asserts that refused files are not known to merge, or to be refused for another cause.
 fn judge_known_cause(known: &Known, cause: &MergeFault) -> Result<(), Trouble> {
     match (known, cause) {
         (_, MergeFault::Memory) => Err(Trouble::Memory),
@@ -89,7 +89,7 @@ fn judge_known_cause(known: &Known, cause: &MergeFault) -> Result<(), Trouble> {
     }
 }
 
-// Asserts that the files give this file in another order.
+// Asserts that the files in another order give this file.
 fn judge_order(
     alloc: Global,
     drawn: &Drawn,
@@ -100,7 +100,7 @@ fn judge_order(
     judge_file(alloc, &parts, &drawn.caps, right, Trouble::Order)
 }
 
-// Asserts that the files give this file by the plan.
+// Asserts that the plan gives this file.
 fn judge_plan(
     alloc: Global,
     drawn: &Drawn,
@@ -113,7 +113,7 @@ fn judge_plan(
     }
 }
 
-// Asserts of files that merge to this program that they do in another order, and by the plan.
+// Asserts that the files give the file of this program in another order and by the plan.
 fn judge_same(
     alloc: Global,
     drawn: &Drawn,
@@ -126,7 +126,7 @@ fn judge_same(
     judge_plan(alloc, drawn, stored, &right)
 }
 
-// Asserts of files that merge to this program that they do in another order, by the plan, and stripped.
+// Asserts that the files give the file of this program in another order and by the plan, and that stripping commutes.
 fn judge_merged(
     alloc: Global,
     drawn: &Drawn,
@@ -141,7 +141,7 @@ fn judge_merged(
     Ok(Ending::Merged)
 }
 
-// Asserts that the files are refused for this cause in another order.
+// Asserts that the files in another order are refused for this cause.
 fn judge_cause(
     alloc: Global,
     drawn: &Drawn,
@@ -156,7 +156,7 @@ fn judge_cause(
     }
 }
 
-// Whether the cause is that of these files.
+// Returns whether a merge of these files is refused for this cause.
 fn is_cause_of(
     alloc: Global,
     parts: &[&Program<'_>],
@@ -172,7 +172,7 @@ fn is_cause_of(
     }
 }
 
-// Whether the cause is that of what a node of the plan merges.
+// Returns whether a merge of the files of some node of the plan is refused for this cause.
 fn is_cause_of_a_node(
     alloc: Global,
     plan: &DrawnPlan,
@@ -188,7 +188,7 @@ fn is_cause_of_a_node(
     Ok(false)
 }
 
-// Asserts that the cause is that of what a node of the plan merges.
+// Asserts that a merge of the files of some node of the plan is refused for this cause.
 fn judge_told_cause(
     alloc: Global,
     drawn: &Drawn,
@@ -199,7 +199,7 @@ fn judge_told_cause(
     Trouble::Cause.unless(is_cause_of_a_node(alloc, &drawn.plan, &parts, &drawn.caps, told)?)
 }
 
-// Asserts that the files are refused by the plan, for a cause of what one of its nodes merges.
+// Asserts that the plan is refused, for a cause of the files of one of its nodes.
 fn judge_told(
     alloc: Global,
     drawn: &Drawn,
@@ -212,7 +212,7 @@ fn judge_told(
     }
 }
 
-// Asserts of files that are refused for this cause that they are in another order, and by the plan.
+// Asserts that the files are refused for this cause in another order, and that the plan is refused.
 fn judge_refused(
     alloc: Global,
     drawn: &Drawn,
@@ -226,9 +226,9 @@ fn judge_refused(
     Ok(Ending::of(cause))
 }
 
-/// How the merge ends.
+/// Runs the merge, and returns how it ends.
 ///
-/// Error: what does not hold of it.
+/// Error: what does not hold of the merge.
 pub fn judge(
     alloc: Global,
     drawn: &Drawn,

@@ -1,17 +1,18 @@
-//! Merges a thousand times files that are drawn, and asserts what holds of every merge.
+//! Draws a thousand merges of files, and asserts what must hold of each.
 //!
-//! The command line has the names of the files to draw from. Of each merge, whose files, plan and caps are drawn by a
-//! generator that starts with the number of the merge, the program tells by that number what did not hold:
+//! The arguments are the names of the files to draw from. A generator whose seed is the number of the merge draws its
+//! files, its plan and its caps. The program asserts the following of each merge, and prints the number of each merge
+//! of which one does not hold:
 //!
 //! - merged at once, in any order, the files give the same bytes or the same cause;
-//! - by the plan, over devices, they give the bytes that they give merged at once; or they are refused both times, and the
-//!   cause is one of files that the plan merges by themselves;
-//! - stripped before they are merged, between, afterwards or twice, they give the same bytes;
-//! - they merge under caps of just what they need, and not where one of these is less by one;
-//! - no call answers that memory is wanting.
+//! - merged by the plan, over devices, they give the bytes that they give merged at once; or both merges are refused,
+//!   and the cause of the plan is that of files that the plan merges in one node;
+//! - stripped before the merge, between two merges, after the merge or twice, they give the same bytes;
+//! - they merge under caps of just what they need, and do not merge if one of these caps is one less;
+//! - no call returns that allocation failed.
 //!
-//! The status is 0 where all of this holds and merges of each outcome were drawn, 1 where something does not, 2 where no
-//! file is named, 3 where a file cannot be read or is refused, and 4 where the output or memory fails.
+//! The status is 0 if all of this holds and enough merges ended in each way, 1 if something does not hold, 2 if no file
+//! is named, 3 if a file cannot be read or is refused, and 4 if the output cannot be written or allocation failed.
 #![tactic(auto)]
 
 mod causes;
@@ -36,10 +37,10 @@ use std::rt::{Env, Files};
 use std::{env, io};
 use tally::{Ending, Tally};
 
-/// So many merges are drawn.
+/// How many merges are drawn.
 const MERGES: u64 = 1000;
 
-// How the merge of this number ends, or what does not hold of it.
+// Draws the merge of this number, checks it, and returns how it ends, or what does not hold of it.
 fn ending(
     alloc: Global,
     number: u64,
@@ -50,7 +51,7 @@ fn ending(
     judge(alloc, &drawn, stored, programs)
 }
 
-// Runs all merges, and tells of each that does not hold.
+// Runs all merges, and prints each that does not hold.
 fn run_merges<R: Print + AllocGlobal>(
     rt: &R,
     stored: &[Vec<u8>],
@@ -74,7 +75,7 @@ fn run_merges<R: Print + AllocGlobal>(
     Ok(tally)
 }
 
-// Runs all merges of files of these names.
+// Runs all merges over the files of these names.
 fn run_named<R: Files + Print + AllocGlobal>(rt: &R, names: &[String]) -> Result<Tally, Fault> {
     let stored = stored_files(rt, names)?;
     let programs = programs(rt.alloc(), names, &stored)?;

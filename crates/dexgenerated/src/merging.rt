@@ -1,4 +1,4 @@
-//! What programs give merged.
+//! Merges of programs.
 
 use crate::fault::Trouble;
 use dexcanon::to_bytes;
@@ -6,13 +6,13 @@ use dexclass::Program;
 use dexmerge::{Caps, MergeFault, merge};
 use std::alloc::{AllocError, Global};
 
-// The file that programs give merged.
+// Returns the file of the merged programs.
 fn merged_file(alloc: Global, parts: &[&Program<'_>], caps: &Caps) -> Result<Vec<u8>, MergeFault> {
     let program = merge(alloc, parts, caps)?;
     Ok(to_bytes(alloc, &program)?)
 }
 
-/// The cause for which programs are not merged, if they are not.
+/// Returns the cause if a merge of the programs is refused.
 pub fn cause_of(alloc: Global, parts: &[&Program<'_>], caps: &Caps) -> Option<MergeFault> {
     match merge(alloc, parts, caps) {
         Ok(_) => None,
@@ -20,9 +20,9 @@ pub fn cause_of(alloc: Global, parts: &[&Program<'_>], caps: &Caps) -> Option<Me
     }
 }
 
-/// Asserts that programs give this file merged.
+/// Asserts that the merged programs give this file.
 ///
-/// Error: this trouble where they do not.
+/// Error: `trouble` if they do not.
 pub fn judge_file(
     alloc: Global,
     parts: &[&Program<'_>],
@@ -37,7 +37,7 @@ pub fn judge_file(
     }
 }
 
-/// Those at these places.
+/// Returns the programs with these numbers.
 pub fn parts_of<'p, 'a>(
     alloc: Global,
     parts: &[&'p Program<'a>],

@@ -1,4 +1,4 @@
-//! What files need of each cap.
+//! The least caps under which files merge.
 
 use crate::merging::cause_of;
 use dexclass::Program;
@@ -9,19 +9,18 @@ use std::alloc::{AllocError, Global};
 /// How many caps there are.
 pub const CAPS: usize = 6;
 
-// The cap of the texts that a `const-string` names.
+// The index of the cap of the texts that `const-string` instructions name.
 const SHORT_STRINGS: usize = 4;
 
-// The greatest caps.
 const GREATEST: [u32; CAPS] = [65_535, 65_535, 65_536, 65_536, 65_536, 1 << 30];
 
-/// The caps of these numbers, or the greatest where one is above that.
+/// Returns caps of these numbers, or the greatest caps if a number is above its greatest.
 pub fn caps_of(numbers: [u32; CAPS]) -> Caps {
     let [types, protos, fields, methods, short_strings, weight] = numbers;
     Caps::new(types, protos, fields, methods, short_strings, weight).unwrap_or(Caps::greatest())
 }
 
-/// The greatest caps, with this number in the place of one.
+/// Returns the numbers of the greatest caps, with this number at this index.
 pub fn with_cap(place: usize, number: u32) -> [u32; CAPS] {
     let mut numbers = GREATEST;
     if let Some(cap) = numbers.get_mut(place) {
@@ -30,12 +29,12 @@ pub fn with_cap(place: usize, number: u32) -> [u32; CAPS] {
     numbers
 }
 
-// How many symbols of a kind a program mentions.
+// Returns how many symbols of a kind a program mentions.
 fn mentioned(program: &Program<'_>, kind: SymbolKind) -> u32 {
     u32::try_from(program.numbering().count(kind)).unwrap_or(u32::MAX)
 }
 
-// The least cap of the texts that a `const-string` names, under which the parts of a program merge.
+// Returns the least cap of the texts that `const-string` instructions name, under which the parts of a program merge.
 fn short_strings(
     alloc: Global,
     parts: &[&Program<'_>],
@@ -56,7 +55,7 @@ fn short_strings(
     Ok(least)
 }
 
-/// The least caps under which the parts of a program merge.
+/// Returns the least caps under which the parts of a program merge.
 pub fn needed(
     alloc: Global,
     parts: &[&Program<'_>],

@@ -1,4 +1,4 @@
-//! Plans that are drawn.
+//! Draws plans.
 
 use dexmerge::Plan;
 use rand::RngExt;
@@ -10,14 +10,14 @@ use std::mem;
 /// How many nodes may be open around another, so that no plan is too deep.
 const MOST_OPEN: u32 = 62;
 
-/// Leaves of a plan that stand side by side: from the one at a place on to the one before another place.
+/// Consecutive leaves of a plan: from `start` to before `end`.
 #[derive(Clone, Copy)]
 pub struct Span {
     start: usize,
     end: usize,
 }
 
-/// A node of a plan that is drawn: where its leaves begin, and its parts with the leaves of each.
+/// A node that is being drawn: its first leaf, and its parts with the leaves of each.
 #[derive(Drop)]
 struct Node {
     start: usize,
@@ -34,7 +34,6 @@ impl Node {
         }
     }
 
-    // Adds a part that has these leaves.
     fn push(&mut self, part: Plan, span: Span) -> Result<(), AllocError> {
         self.spans.push(span)?;
         self.parts.push(part)?;
@@ -42,20 +41,20 @@ impl Node {
     }
 }
 
-/// A plan.
+/// A drawn plan.
 #[derive(Drop)]
 pub struct DrawnPlan {
     pub plan: Plan,
-    // The files at its leaves, in their order.
+    // The numbers of the files at its leaves, in order.
     leaves: Vec<usize>,
-    /// The leaves of each of its nodes, or of the plan where it is a leaf.
+    /// The leaves of each of its nodes; of the plan itself, if it is a leaf.
     pub nodes: Vec<Span>,
     /// The leaves of each part of the plan.
     pub parts: Vec<Span>,
 }
 
 impl DrawnPlan {
-    // The leaf of the first file.
+    // Returns the plan that is the leaf of the first file.
     fn leaf(alloc: Global) -> Result<DrawnPlan, AllocError> {
         let span = Span { start: 0, end: 1 };
         let leaves = Vec::from_slice(alloc, &[0])?;
@@ -69,13 +68,14 @@ impl DrawnPlan {
         })
     }
 
-    /// The files at these leaves.
+    /// Returns the numbers of the files at these leaves.
     pub fn files(&self, span: &Span) -> &[usize] {
         self.leaves.get(span.start..span.end).unwrap_or(&[])
     }
 }
 
-/// A plan that is being drawn: the node whose parts come next, those around it, and the leaves of those that are closed.
+/// A plan that is being drawn: the node that gets the next parts, the nodes around it, and the leaves of the closed
+/// nodes.
 #[derive(Drop)]
 struct Drawing {
     around: Vec<Node>,
@@ -92,7 +92,7 @@ impl Drawing {
         }
     }
 
-    // Begins so many nodes before the leaf at this place, if no plan is too deep then.
+    // Opens up to `count` nodes before leaf `at`, as long as the plan is not too deep.
     fn open(&mut self, alloc: Global, count: u32, at: usize) -> Result<(), AllocError> {
         for _ in 0..count {
             if self.around.len() < MOST_OPEN as usize {
@@ -103,7 +103,7 @@ impl Drawing {
         Ok(())
     }
 
-    // Ends the node, which is a part of this one, before the leaf at a place.
+    // Closes the node, which is a part of `around`, before leaf `at`.
     fn end(&mut self, around: Node, at: usize) -> Result<(), AllocError> {
         let Node { start, parts, .. } = mem::replace(&mut self.node, around);
         let span = Span { start, end: at };
@@ -112,7 +112,7 @@ impl Drawing {
         Ok(())
     }
 
-    // Ends so many nodes before the leaf at this place, if as many are open.
+    // Closes up to `count` open nodes before leaf `at`.
     fn close(&mut self, count: u32, at: usize) -> Result<(), AllocError> {
         for _ in 0..count {
             if let Some(around) = self.around.pop() {
@@ -122,7 +122,7 @@ impl Drawing {
         Ok(())
     }
 
-    // Draws the plan for so many files, and answers those at its leaves.
+    // Draws the plan for `files` files, and returns the numbers of the files at its leaves.
     fn draw(
         &mut self,
         alloc: Global,
@@ -149,7 +149,7 @@ impl Drawing {
         Ok(leaves)
     }
 
-    // The plan that was drawn, with these files at its leaves.
+    // Returns the drawn plan, with these files at its leaves.
     fn into_plan(self, leaves: Vec<usize>) -> DrawnPlan {
         let Drawing { node, closed, .. } = self;
         DrawnPlan {
@@ -161,7 +161,7 @@ impl Drawing {
     }
 }
 
-// The numbers of so many files in a random order, each once and some more than once.
+// Returns the numbers of `files` files in a random order, each once and some more often.
 fn leaves(alloc: Global, rng: &mut Pcg32, files: usize) -> Result<Vec<usize>, AllocError> {
     let mut leaves = Vec::new(alloc);
     for file in 0..files {
@@ -174,8 +174,8 @@ fn leaves(alloc: Global, rng: &mut Pcg32, files: usize) -> Result<Vec<usize>, Al
     Ok(leaves)
 }
 
-/// A random plan for so many files. Nodes begin and end anywhere, some have one part or none, some plans are one node of
-/// all files, some are as deep as may be, and that of a single file may be its leaf.
+/// Draws a plan for `files` files. Nodes begin and end anywhere; some have one part or none; some plans are one node of
+/// all files; some are as deep as may be; the plan of a single file may be its leaf.
 pub fn draw_plan(alloc: Global, rng: &mut Pcg32, files: usize) -> Result<DrawnPlan, AllocError> {
     if files == 1 && rng.random_ratio(1, 4) {
         return DrawnPlan::leaf(alloc);

@@ -1,4 +1,4 @@
-//! Merges that are stripped.
+//! Merges that are stripped before, between and after.
 
 use crate::fault::Trouble;
 use crate::merging::{judge_file, parts_of};
@@ -8,7 +8,7 @@ use dexclass::{Program, strip};
 use dexmerge::{Caps, MergeFault, merge};
 use std::alloc::{AllocError, Global};
 
-// Each of the programs, stripped.
+// Strips each of the programs.
 fn stripped_each<'a>(
     alloc: Global,
     programs: &[&Program<'a>],
@@ -20,7 +20,7 @@ fn stripped_each<'a>(
     Ok(stripped)
 }
 
-// What programs give merged, stripped.
+// Merges the programs, and strips the merged program.
 fn stripped_merge<'a>(
     alloc: Global,
     programs: &[&Program<'a>],
@@ -33,7 +33,7 @@ fn stripped_merge<'a>(
     }
 }
 
-// What the programs of each part of a plan give merged, stripped.
+// Merges the programs of each part of a plan, and strips each merged program.
 fn stripped_parts<'a>(
     alloc: Global,
     programs: &[&Program<'a>],
@@ -48,9 +48,9 @@ fn stripped_parts<'a>(
     Ok(stripped)
 }
 
-// Asserts that programs give this file merged.
+// Asserts that the merged programs give this file.
 //
-// Error: this trouble where they do not.
+// Error: `trouble` if they do not.
 fn judge_merge(
     alloc: Global,
     programs: &[Program<'_>],
@@ -62,14 +62,14 @@ fn judge_merge(
     judge_file(alloc, &parts, caps, right, trouble)
 }
 
-// Asserts that a program that is stripped gives this file stripped again.
+// Asserts that a stripped program gives this file when it is stripped again.
 fn judge_twice(alloc: Global, stripped: &Program<'_>, right: &[u8]) -> Result<(), Trouble> {
     let twice = strip(alloc, stripped)?;
     let file = to_bytes(alloc, &twice)?;
     Trouble::Twice.unless(file.as_slice() == right)
 }
 
-// Asserts that programs give this file stripped before they are merged.
+// Asserts that the programs give this file if each is stripped before the merge.
 fn judge_before(
     alloc: Global,
     programs: &[&Program<'_>],
@@ -80,7 +80,8 @@ fn judge_before(
     judge_merge(alloc, &stripped, caps, right, Trouble::Before)
 }
 
-// Asserts that programs give this file stripped between two merges.
+// Asserts that the programs give this file if the merged program of each part of the plan is stripped and these are
+// merged.
 fn judge_between(
     alloc: Global,
     programs: &[&Program<'_>],
@@ -92,7 +93,7 @@ fn judge_between(
     judge_merge(alloc, &stripped, caps, right, Trouble::Between)
 }
 
-// Asserts of programs whose merge gives this one stripped that they give its file stripped twice, before and between.
+// Asserts that the programs, whose merge gives this program stripped, give its file stripped twice, before and between.
 fn judge_same(
     alloc: Global,
     programs: &[&Program<'_>],
@@ -106,8 +107,8 @@ fn judge_same(
     judge_between(alloc, programs, plan, caps, &right)
 }
 
-/// Asserts of programs that merge to this one that they give the same bytes stripped before they are merged, between two
-/// merges of which the first merges those of each part of the plan, afterwards, and twice.
+/// Asserts that the programs, which merge to this one, give the same bytes stripped before the merge, between two
+/// merges of which the first merges each part of the plan, after the merge, and twice.
 ///
 /// Error: what does not hold.
 pub fn judge_stripped(

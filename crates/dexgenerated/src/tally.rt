@@ -1,4 +1,4 @@
-//! Merges counted by how they end.
+//! Counts of how merges end.
 
 use dexmerge::MergeFault;
 
@@ -7,7 +7,7 @@ use dexmerge::MergeFault;
 pub enum Ending {
     /// The files merge.
     Merged,
-    /// Two unlike classes have one name.
+    /// Two different classes have one name.
     Conflict,
     /// A class has no depth.
     Cycle,
@@ -18,7 +18,7 @@ pub enum Ending {
 }
 
 impl Ending {
-    /// How a merge ends that is refused for this cause.
+    /// Returns how a merge ends that is refused for this cause.
     pub fn of(cause: &MergeFault) -> Ending {
         match cause {
             MergeFault::Conflict(_) => Ending::Conflict,
@@ -29,7 +29,7 @@ impl Ending {
     }
 }
 
-/// How many merges ended so.
+/// How many merges ended in each way.
 #[derive(Clone, Copy, Debug, Default)]
 pub struct Tally {
     merged: u32,
@@ -40,7 +40,7 @@ pub struct Tally {
 }
 
 impl Tally {
-    /// One merge more.
+    /// Counts a merge.
     pub fn count(&mut self, ending: Ending) {
         let place = match ending {
             Ending::Merged => &mut self.merged,
@@ -52,12 +52,12 @@ impl Tally {
         *place = place.saturating_add(1);
     }
 
-    /// Whether all holds of every merge, and enough of them ended in each way to show it.
+    /// Returns whether everything holds of every merge, and enough merges ended in each way to show it.
     pub fn is_right(self) -> bool {
         self.wrong == 0 && self.has_enough()
     }
 
-    // Whether enough merges ended in each way.
+    // Returns whether enough merges ended in each way.
     fn has_enough(self) -> bool {
         self.merged >= 300 && self.conflicts >= 30 && self.cycles >= 10 && self.caps >= 100
     }

@@ -1,16 +1,16 @@
-//! Why the program stops.
+//! Why the program ends.
 
 use std::alloc::AllocError;
 use std::io;
 use thiserror::Error;
 
-/// Why the program stops.
+/// Why the program ends.
 #[derive(Debug, Drop, Error)]
 pub enum BenchFault {
-    /// The words are not the names of files.
+    /// Usage error: no file is named.
     #[error("usage: dexbench FILE..")]
     Words,
-    /// Of several files the one of this number is refused, by a condition at a place.
+    /// Of several files the file of this number is refused, by a condition at a place.
     #[error("file {0} is refused by condition {1} at {2}")]
     Refused(usize, u8, u32),
     /// Several files cannot be merged.
@@ -22,7 +22,7 @@ pub enum BenchFault {
     /// A file does not end within 2^30 bytes.
     #[error("a file has more than 2^30 bytes")]
     Long,
-    /// The clock or the output fails.
+    /// The clock failed, or the output cannot be written.
     #[error("{0}")]
     Device(io::Error),
     #[error("out of memory")]
@@ -30,7 +30,7 @@ pub enum BenchFault {
 }
 
 impl BenchFault {
-    /// The status that the program ends with.
+    /// Returns the exit status of the program.
     pub fn status(&self) -> u8 {
         match self {
             BenchFault::Refused(..) | BenchFault::Unmerged => 1,

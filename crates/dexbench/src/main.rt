@@ -1,10 +1,11 @@
-//! Times what every file has to go through, on a file named on the command line: SHA-1, Adler-32, opening
-//! the frame, reading the texts, comparing neighbours among them, reading the pools and joining numberings. Of several
-//! files it times how they are read, merged in one join and written, beside the sums of what is written. It is no
-//! test: nothing is too slow.
+//! Times the steps that every file goes through, over a file that the command line names: SHA-1, Adler-32, opening the
+//! frame, reading the texts, comparing neighbouring texts, reading the pools and joining numberings. Of several files
+//! it times reading, merging in one join and writing, beside the sums of the merged file. It is not a test: no time is
+//! too long.
 //!
-//! The status is 0 once the files are timed, 1 where one of several is refused or they cannot be merged, 2 where no file
-//! is named, 3 where a file cannot be read or has more than 2^30 bytes, and 4 where the clock, the output or memory fails.
+//! The status is 0 if the files were timed, 1 if one of several files is refused or they cannot be merged, 2 if no file
+//! is named, 3 if a file cannot be read or has more than 2^30 bytes, and 4 if the clock fails, the output cannot be
+//! written or allocation failed.
 #![tactic(auto)]
 
 mod fault;
@@ -31,16 +32,16 @@ use std::time::CpuClock;
 use std::{env, fs, io};
 use texts::{read_all, read_each, rising};
 
-/// The most bytes that are read: more are no file of the format, and some devices never end.
+/// The most bytes that are read: a longer file is not a DEX file, and some devices never end.
 const MOST: u64 = 1 << 30;
 
-// The first four bytes of the SHA-1, as a number.
+// Returns the first four bytes of the SHA-1 as a number.
 fn digest(bytes: &[u8]) -> u64 {
     let [first, second, third, fourth, ..] = Sha1::digest(bytes);
     u64::from(u32::from_be_bytes([first, second, third, fourth]))
 }
 
-// Opens the file: where the data begin, or where it is refused.
+// Opens the file, and returns the offset of its data, or the place of the refusal.
 fn open(bytes: &[u8]) -> u64 {
     match Frame::open(bytes) {
         Ok(frame) => u64::from(frame.data_off()),
@@ -55,7 +56,7 @@ fn time_sums(rt: &(impl CpuClock + Print), bytes: &[u8]) -> io::Result<()> {
     })
 }
 
-// Times how these texts, whose items have so many bytes, are read and compared.
+// Times how these texts, whose items have `len` bytes together, are read and compared.
 fn time_all_texts(
     rt: &(impl CpuClock + Print),
     frame: &Frame<'_>,
@@ -77,7 +78,7 @@ fn time_texts(
     }
 }
 
-// Joins so many numberings that are dealt from one.
+// Times the join of `parts` numberings that the symbols of one are dealt to.
 fn time_join(
     rt: &(impl CpuClock + Print),
     alloc: Global,
@@ -93,7 +94,7 @@ fn time_join(
     })?)
 }
 
-// Times how pools that have this numbering are read, and how numberings that are dealt from it are joined.
+// Times how the pools of this numbering are read, and how numberings that its symbols are dealt to are joined.
 fn time_numbering(
     rt: &(impl CpuClock + Print),
     alloc: Global,
@@ -142,7 +143,7 @@ fn time_file(rt: &(impl CpuClock + Print), alloc: Global, bytes: &[u8]) -> Resul
     }
 }
 
-// Times how files are read, how their programs are merged, and how what they make is written.
+// Times how files are read, how their programs are merged, and how the merged file is written.
 fn time_merged(
     rt: &(impl CpuClock + Print),
     alloc: Global,
@@ -164,7 +165,7 @@ fn time_merged(
     tell(rt, "SHA-1 and Adler-32 of it", len, "MB/s", || sums(file))
 }
 
-// Merges the programs of the files in one join, and times it.
+// Merges the programs of the files in one join, and times the steps.
 fn time_programs(
     rt: &(impl CpuClock + Print),
     alloc: Global,
@@ -176,7 +177,7 @@ fn time_programs(
     Ok(time_merged(rt, alloc, files, parts, &program, &file)?)
 }
 
-// Merges the files in one join, and writes what they make.
+// Reads and merges the files in one join, and times the steps.
 fn time_merge(
     rt: &(impl CpuClock + Print),
     alloc: Global,
@@ -187,7 +188,7 @@ fn time_merge(
     time_programs(rt, alloc, files, &parts)
 }
 
-// The whole file, which has at most as many bytes as a file of the format may have.
+// Reads a whole file of at most 2^30 bytes.
 fn read_file<R: Files + Alloc<A = Global>>(rt: &R, name: &str) -> Result<Vec<u8>, BenchFault> {
     let file = fs::open(rt, name).map_err(BenchFault::File)?;
     let mut bytes = Vec::new(rt.alloc());
@@ -200,7 +201,7 @@ fn read_file<R: Files + Alloc<A = Global>>(rt: &R, name: &str) -> Result<Vec<u8>
     Ok(bytes)
 }
 
-// The files that words name, of which the first is the program's name.
+// Reads the files that the arguments name. The first argument is the program's name.
 fn named_files<R: Files + Alloc<A = Global>>(
     rt: &R,
     words: &[String],

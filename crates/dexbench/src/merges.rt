@@ -1,4 +1,4 @@
-//! Files merged in one join, and the merged file written.
+//! Merges files in one join, and writes the merged file.
 
 use crate::fault::BenchFault;
 use dexcanon::to_bytes;
@@ -9,7 +9,7 @@ use dexpool::ReadFault;
 use sha1::Sha1;
 use std::alloc::{AllocError, Global};
 
-/// The bytes of all files.
+/// Returns the number of bytes of all files.
 pub fn bytes_of(files: &[Vec<u8>]) -> usize {
     let mut all = 0usize;
     for file in files {
@@ -18,7 +18,7 @@ pub fn bytes_of(files: &[Vec<u8>]) -> usize {
     all
 }
 
-// The program of the file of this number.
+// Reads the program of file `i`.
 fn program<'a>(alloc: Global, i: usize, file: &'a [u8]) -> Result<Program<'a>, BenchFault> {
     match read(alloc, file) {
         Ok(program) => Ok(program),
@@ -29,9 +29,9 @@ fn program<'a>(alloc: Global, i: usize, file: &'a [u8]) -> Result<Program<'a>, B
     }
 }
 
-/// The programs of the files.
+/// Reads the programs of the files.
 ///
-/// Error: `Refused` with the number of the first file that is refused, and why.
+/// Error: `Refused` with the number of the first file that is refused, and its refusal.
 pub fn programs<'a>(alloc: Global, files: &'a [Vec<u8>]) -> Result<Vec<Program<'a>>, BenchFault> {
     let mut programs = Vec::with_capacity(alloc, files.len())?;
     for (i, file) in files.iter().enumerate() {
@@ -42,7 +42,7 @@ pub fn programs<'a>(alloc: Global, files: &'a [Vec<u8>]) -> Result<Vec<Program<'
     Ok(programs)
 }
 
-// How many classes a file has; a refused one has none.
+// Returns the number of classes of a file; 0 if it is refused.
 fn classes_of(alloc: Global, file: &[u8]) -> u64 {
     match read(alloc, file) {
         Ok(program) => program.len() as u64,
@@ -50,7 +50,7 @@ fn classes_of(alloc: Global, file: &[u8]) -> u64 {
     }
 }
 
-/// Reads each file, and answers how many classes they have; refused files have none.
+/// Reads each file, and returns the number of classes of all that are not refused.
 pub fn read_files(alloc: Global, files: &[Vec<u8>]) -> u64 {
     let mut classes = 0u64;
     for file in files {
@@ -61,7 +61,7 @@ pub fn read_files(alloc: Global, files: &[Vec<u8>]) -> u64 {
 
 /// Merges programs in one join, under the greatest caps.
 ///
-/// Error: `Unmerged` where they cannot be merged.
+/// Error: `Unmerged` if the merge is refused.
 pub fn merged<'a>(alloc: Global, parts: &[&Program<'a>]) -> Result<Program<'a>, BenchFault> {
     match merge(alloc, parts, &Caps::greatest()) {
         Ok(program) => Ok(program),
@@ -70,7 +70,7 @@ pub fn merged<'a>(alloc: Global, parts: &[&Program<'a>]) -> Result<Program<'a>, 
     }
 }
 
-/// Merges programs, and answers how many classes there are; 0 where they cannot be merged.
+/// Merges programs, and returns the number of classes; 0 if the merge is refused.
 pub fn merge_all(alloc: Global, parts: &[&Program<'_>]) -> u64 {
     match merged(alloc, parts) {
         Ok(program) => program.len() as u64,
@@ -78,7 +78,7 @@ pub fn merge_all(alloc: Global, parts: &[&Program<'_>]) -> u64 {
     }
 }
 
-/// Writes the file of a program, and answers how many bytes it has; 0 where memory is refused.
+/// Writes the file of a program, and returns its number of bytes; 0 if allocation failed.
 pub fn write(alloc: Global, program: &Program<'_>) -> u64 {
     match to_bytes(alloc, program) {
         Ok(file) => file.len() as u64,
@@ -86,7 +86,7 @@ pub fn write(alloc: Global, program: &Program<'_>) -> u64 {
     }
 }
 
-/// The two sums of a file, one after the other, added up.
+/// Returns the Adler-32 of a file plus the first byte of its SHA-1.
 pub fn sums(file: &[u8]) -> u64 {
     let [first, ..] = Sha1::digest(file);
     u64::from(adler(file)).saturating_add(u64::from(first))

@@ -1,4 +1,4 @@
-//! The pools of a file, and joins of numberings that are dealt from them.
+//! The pools of a file, and joins of numberings that its symbols are dealt to.
 
 ghost use Rattle.std.specs.Prelude.{◌≡◌, length, IfOk};
 ghost use Rattle.dexpool.specs.Numberings.{AreMarksOf};
@@ -16,7 +16,7 @@ const KINDS: [SymbolKind; 5] = [
     SymbolKind::Method,
 ];
 
-/// The number of symbols of all kinds.
+/// Returns the number of symbols of all kinds.
 pub fn symbols(numbering: &Numbering<'_>) -> usize {
     let mut all = 0usize;
     for k in 0..KINDS.len() {
@@ -25,7 +25,7 @@ pub fn symbols(numbering: &Numbering<'_>) -> usize {
     all
 }
 
-/// The number of symbols of all these numberings.
+/// Returns the number of symbols of all these numberings.
 pub fn symbols_of(numberings: &[&Numbering<'_>]) -> usize {
     let mut all = 0usize;
     for numbering in numberings {
@@ -34,7 +34,7 @@ pub fn symbols_of(numberings: &[&Numbering<'_>]) -> usize {
     all
 }
 
-/// Reads the pools, and answers how many texts they have; 0 where they are refused.
+/// Reads the pools, and returns the number of texts; 0 if they are refused.
 pub fn read_pools(alloc: Global, frame: &Frame<'_>) -> u64 {
     match Pools::read(alloc, frame) {
         Ok(pools) => pools.len(SymbolKind::Text) as u64,
@@ -42,7 +42,7 @@ pub fn read_pools(alloc: Global, frame: &Frame<'_>) -> u64 {
     }
 }
 
-// Marks every `parts`-th symbol, from number `part` on.
+// Marks every `parts`-th symbol, beginning with number `part`.
 fn mark_some(marks: &mut Vec<bool>, parts: usize, part: usize)
     ensures { length marks.new.items ≡ length marks.old.items }
 {
@@ -53,7 +53,7 @@ fn mark_some(marks: &mut Vec<bool>, parts: usize, part: usize)
     }
 }
 
-// Marks for one of so many parts.
+// Marks the symbols of part `part` of `parts`.
 fn marks_of(
     alloc: Global,
     numbering: &Numbering<'_>,
@@ -71,7 +71,8 @@ fn marks_of(
     Ok(marks)
 }
 
-/// So many numberings, dealt from one: each has every so-manieth symbol, and what these name.
+/// Deals the symbols of a numbering to `parts` numberings: each has every `parts`-th symbol, and the symbols that these
+/// name.
 pub fn dealt<'a>(
     alloc: Global,
     numbering: &Numbering<'a>,
@@ -86,7 +87,7 @@ pub fn dealt<'a>(
     Ok(all)
 }
 
-/// Joins numberings, and answers how many texts there are; 0 where memory is refused.
+/// Joins numberings, and returns the number of texts; 0 if allocation failed.
 pub fn join(alloc: Global, parts: &[&Numbering<'_>]) -> u64 {
     match Numbering::join(alloc, parts) {
         Ok((joined, _)) => joined.count(SymbolKind::Text) as u64,

@@ -8,7 +8,7 @@ use dexhead::{Frame, Table, u32_at};
 use dexstr::{Text, TextFault};
 use std::alloc::{AllocError, Global};
 
-/// The text of a row, and the bytes of its item.
+/// Returns the text of a row, and the number of bytes of its item.
 fn read_row<'a>(frame: &Frame<'a>, i: u32) -> Result<(Text<'a>, usize), TextFault>
     requires { i < table_size frame.now SpecTable.StringIds }
     ensures { IfOk result (λ x. (at : ℕ) × StringDataAt frame.now at x.0 x.1) }
@@ -22,7 +22,7 @@ fn read_row<'a>(frame: &Frame<'a>, i: u32) -> Result<(Text<'a>, usize), TextFaul
     Text::read(bytes, off)
 }
 
-/// The texts of all rows, and the bytes of their items together; or the first row that has none.
+/// Returns the texts of all rows and the number of bytes of their items together, or the first row that has no text.
 pub fn read_all<'a>(
     alloc: Global,
     frame: &Frame<'a>,
@@ -41,7 +41,7 @@ pub fn read_all<'a>(
     Ok(Ok((texts, all)))
 }
 
-/// Reads the text of each row once, and adds up the bytes of the items.
+/// Reads the text of each row once, and returns the number of bytes of the items.
 pub fn read_each(frame: &Frame) -> u64 {
     let mut all = 0u64;
     for i in 0..frame.size(Table::StringIds) {
@@ -52,7 +52,7 @@ pub fn read_each(frame: &Frame) -> u64 {
     all
 }
 
-/// Compares each text with the one behind it, and counts where the later one is greater.
+/// Compares each text with the next, and counts where the next is greater.
 pub fn rising(texts: &[Text]) -> u64 {
     let mut count = 0u64;
     for i in 1..texts.len() {

@@ -1,4 +1,4 @@
--- What is told of a file, and what is right.
+-- What calls report of a file, and what is right.
 use Rattle.std.specs.Prelude.{◌≡◌, ℕ, List, length}
 use Rattle.std.specs.List.{Contains}
 use Rattle.dexspec.specs.Accepted.{IsRefused}
@@ -13,41 +13,41 @@ use Rattle.dexvectors.specs.declared.check.RightAnswer.TheVariants as right
 use Rattle.dexvectors.specs.declared.check.Answer.{Answer}
 use Rattle.dexvectors.specs.declared.check.Answer.TheVariants as told
 
--- the bytes are read as a program of so many classes
+-- the bytes are read as a program of `n` classes
 pub record HasClasses (b : List ℕ) (n : ℕ) : Type 0 where
   pub collection : Collection
   pub is : IsReadAs b collection
   pub count : n ≡ length (definitions collection)
 
--- the bytes are read as a program of this weight
+-- the bytes are read as a program of weight `n`
 pub record Weighs (b : List ℕ) (n : ℕ) : Type 0 where
   pub collection : Collection
   pub is : IsReadAs b collection
   pub weight_is : n ≡ weight (definitions collection)
 
--- the bytes are read as a program with this canonical file
+-- the bytes are read as a program whose canonical file is `whole`
 pub record Normalises (b whole : List ℕ) : Type 0 where
   pub collection : Collection
   pub is : IsReadAs b collection
   pub whole_is : whole ≡ canonical collection
 
--- the bytes are read as a program that has this canonical file once it is stripped
+-- the bytes are read as a program that, once stripped, has the canonical file `whole`
 pub record Strips (b whole : List ℕ) : Type 0 where
   pub collection : Collection
   pub is : IsReadAs b collection
   pub whole_is : whole ≡ canonical (strip_collection collection)
 
--- what is told of the bytes is so
+-- what is reported of the bytes holds
 abbrev pub IsTold : List ℕ → Answer → Type 0
 IsTold b (told.Accepted n) = HasClasses b n
 IsTold b (told.Refused r) = IsRefused b r.number r.place
 
--- what is right is so: one of the refusals, or so many classes
+-- what is right holds: one of the refusals, or the number of classes
 abbrev pub IsRight : List ℕ → RightAnswer → Type 0
 IsRight b (right.Accepted n) = HasClasses b n
 IsRight b (right.Refused rs) = (r : Refusal) × Contains rs.items r × IsRefused b r.number r.place
 
--- what was told is right
+-- what is reported is right
 abbrev pub Agree : RightAnswer → Answer → Type 0
 Agree (right.Accepted n) (told.Accepted m) = n ≡ m
 Agree (right.Refused rs) (told.Refused r) = Contains rs.items r

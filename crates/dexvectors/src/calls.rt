@@ -1,4 +1,4 @@
-//! Lines that ask for one call each.
+//! Lines of files of calls: each asks for one call.
 
 mod debug;
 mod flags;
@@ -26,7 +26,8 @@ pub fn run_call(alloc: Global, kind: Kind, line: &str) -> Result<Outcome, CaseFa
     Ok(Outcome::of(answered, right))
 }
 
-// What is told of the first word of a line, and of the number behind it where one stands there.
+// Calls for the first word of a line, and for the number after it if the kind of line has one, and returns what is
+// reported.
 fn told(alloc: Global, kind: Kind, word: &str, number: &str) -> Result<String, CaseFault> {
     match kind {
         Kind::Puts => puts::told(alloc, word, number),
@@ -43,7 +44,7 @@ fn told(alloc: Global, kind: Kind, word: &str, number: &str) -> Result<String, C
     }
 }
 
-// What is told of the units that a word stands for.
+// Returns what is reported of units.
 fn told_of_units(alloc: Global, kind: Kind, units: &[u16]) -> Result<String, CaseFault> {
     match kind {
         Kind::Names => names::told(alloc, units),
@@ -51,7 +52,7 @@ fn told_of_units(alloc: Global, kind: Kind, units: &[u16]) -> Result<String, Cas
     }
 }
 
-// What is told of the bytes that a word stands for.
+// Returns what is reported of bytes.
 fn told_of_bytes(alloc: Global, kind: Kind, bytes: &[u8]) -> Result<String, CaseFault> {
     match kind {
         Kind::Leb => Ok(leb::told(alloc, bytes)?),

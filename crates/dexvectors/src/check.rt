@@ -1,5 +1,5 @@
-//! Files checked: `check FILE ok CLASSES`, or `check FILE refused NUMBER PLACE | NUMBER PLACE ..`, any of
-//! which is right. The file is read, and then it is checked without being read.
+//! Files checked: `check FILE ok CLASSES`, or `check FILE refused NUMBER PLACE | NUMBER PLACE ..`, of which any is
+//! right. The file is read as a program, and then checked without keeping one.
 
 ghost use Rattle.std.specs.Prelude.{◌≡◌, IfOk, IsTrue};
 ghost use Rattle.dexvectors.specs.Told.{Agree, IsRight, IsTold};
@@ -10,31 +10,31 @@ use dexhead::Refusal;
 use dexpool::ReadFault;
 use std::alloc::{AllocError, Global};
 
-/// What is right: so many classes, or one of these refusals.
+/// What is right: a number of classes, or one of these refusals.
 #[derive(Drop)]
 pub(crate) enum RightAnswer {
-    /// So many classes.
+    /// The file is accepted, with this number of classes.
     Accepted(usize),
-    /// One of these refusals.
+    /// The file is refused with one of these refusals.
     Refused(Vec<Refusal>),
 }
 
-/// What was told.
+/// What a call reported.
 #[derive(Clone, Copy)]
 pub(crate) enum Answer {
-    /// So many classes.
+    /// The file is accepted, with this number of classes.
     Accepted(usize),
-    /// This refusal.
+    /// The file is refused.
     Refused(Refusal),
 }
 
-/// Runs a line, given what stands in it behind the file's name: how it goes.
+/// Runs a line. `right` is the text after the file's name.
 pub fn run(alloc: Global, bytes: &[u8], right: &str) -> Result<Outcome, CaseFault> {
     let right = right_in(alloc, right)?;
     judged(alloc, bytes, &right)
 }
 
-// How a line goes.
+// Reads and checks a file, and returns the outcome of its line.
 fn judged(alloc: Global, bytes: &[u8], right: &RightAnswer) -> Result<Outcome, CaseFault>
     ensures { IfOk result (λ outcome. outcome ≡ Outcome.Passed → IsRight bytes.now right.now) }
 {
@@ -50,7 +50,7 @@ fn judged(alloc: Global, bytes: &[u8], right: &RightAnswer) -> Result<Outcome, C
     Ok(Outcome::Failed(format!(in alloc; "by the check {words}")?))
 }
 
-// What is told of a file.
+// Reads a file, and returns what is reported of it.
 fn answer_to(alloc: Global, bytes: &[u8]) -> Result<Answer, CaseFault>
     ensures { IfOk result (IsTold bytes.now) }
 {
@@ -61,7 +61,7 @@ fn answer_to(alloc: Global, bytes: &[u8]) -> Result<Answer, CaseFault>
     }
 }
 
-// What is told of a file by the check that keeps nothing of it.
+// Checks a file, and returns what is reported of it.
 fn answer_of_check(alloc: Global, bytes: &[u8]) -> Result<Answer, CaseFault> {
     match check(alloc, bytes) {
         Ok(classes) => Ok(Answer::Accepted(classes)),
@@ -70,7 +70,7 @@ fn answer_of_check(alloc: Global, bytes: &[u8]) -> Result<Answer, CaseFault> {
     }
 }
 
-// Whether what was told is right.
+// Returns whether what was reported is right.
 fn agree(right: &RightAnswer, told: Answer) -> bool
     ensures { IsTrue result → Agree right.now told }
 {
@@ -81,7 +81,7 @@ fn agree(right: &RightAnswer, told: Answer) -> bool
     }
 }
 
-// What is right, in the words of a line.
+// Parses what is right.
 fn right_in(alloc: Global, right: &str) -> Result<RightAnswer, CaseFault> {
     if let Some(classes) = right.strip_prefix("ok ") {
         return Ok(RightAnswer::Accepted(classes.parse()?));
@@ -92,7 +92,7 @@ fn right_in(alloc: Global, right: &str) -> Result<RightAnswer, CaseFault> {
     }
 }
 
-// Refusals, in the words of a line.
+// Parses refusals.
 fn refusals_in(alloc: Global, listed: &str) -> Result<Vec<Refusal>, CaseFault> {
     let mut refusals = Vec::new(alloc);
     for one in listed.split(" | ") {
@@ -101,7 +101,7 @@ fn refusals_in(alloc: Global, listed: &str) -> Result<Vec<Refusal>, CaseFault> {
     Ok(refusals)
 }
 
-// A refusal, in the words of a line.
+// Parses a refusal.
 fn refusal_in(words: &str) -> Result<Refusal, CaseFault> {
     let (number, place) = first_word(words)?;
     Ok(Refusal {
@@ -110,7 +110,7 @@ fn refusal_in(words: &str) -> Result<Refusal, CaseFault> {
     })
 }
 
-// What was told, in the words of a line.
+// Returns what was reported, as a line has it.
 fn words_of(alloc: Global, told: Answer) -> Result<String, AllocError> {
     match told {
         Answer::Accepted(classes) => format!(in alloc; "ok {classes}"),

@@ -1,11 +1,12 @@
-//! Files checked as the program does: `checkrun FILE STATUS LINE`, the line that is written of the file, and the status.
+//! Files checked as the program does: `checkrun FILE STATUS LINE`, with the status and the line that is written for the
+//! file.
 
 use dexcases::{CaseFault, Outcome, first_word};
 use dexhead::Device;
 use dexruns::{RunFault, check_run};
 use std::alloc::Global;
 
-/// Runs a line, given the name of the file, its bytes and what follows in the line: how it goes.
+/// Runs a line, given the name of the file and its bytes. `right` is the text after the name.
 pub fn run(alloc: Global, name: &str, bytes: &[u8], right: &str) -> Result<Outcome, CaseFault> {
     let (status, line) = first_word(right)?;
     if is_checked_as(alloc, name, bytes, status.parse()?, line)? {
@@ -14,7 +15,7 @@ pub fn run(alloc: Global, name: &str, bytes: &[u8], right: &str) -> Result<Outco
     Err(CaseFault::failed(alloc, "another line or status"))
 }
 
-// Whether a file of this name is checked with this status, and just this line is written.
+// Returns whether the check of a file of this name has this status, and writes this line only.
 fn is_checked_as(
     alloc: Global,
     name: &str,
@@ -31,7 +32,7 @@ fn is_checked_as(
     }
 }
 
-// Whether bytes are a line, with its end.
+// Returns whether bytes are a line, with its line feed.
 fn is_line(bytes: &[u8], line: &str) -> bool {
     bytes.strip_suffix(b"\n") == Some(line.as_bytes())
 }

@@ -1,5 +1,5 @@
-//! Classes of a file: `class FILE I NAME SUPERCLASS`, class `I` in the order of the canonical file and its superclass, or
-//! `-` for none. The same has to be said of a copy that is renumbered to just the symbols that occur in it.
+//! Classes of a file: `class FILE I NAME SUPERCLASS`, the class with index `I` in canonical order and its superclass,
+//! or `-` for none. A copy of the class that is renumbered to just the symbols that occur in it must print the same.
 
 ghost use Rattle.std.specs.Prelude.{◌<◌, length};
 ghost use Rattle.dexspec.specs.Files.{definitions};
@@ -14,7 +14,7 @@ use dexpool::{Marks, Numbering, SymbolKind};
 use dexstr::Text;
 use std::alloc::{AllocError, Global};
 
-/// Runs a line, given what follows the name of the file: how it goes.
+/// Runs a line. `asked` is the text after the file's name.
 pub fn run(alloc: Global, bytes: &[u8], asked: &str) -> Result<Outcome, CaseFault> {
     let (i, right) = first_word(asked)?;
     let program = program_of(alloc, bytes)?;
@@ -25,7 +25,7 @@ pub fn run(alloc: Global, bytes: &[u8], asked: &str) -> Result<Outcome, CaseFaul
     Ok(outcome_of(alloc, &program, i, right)?)
 }
 
-// How a line goes that asks for a class of a program.
+// Returns the outcome of a line that asks for a class of a program.
 fn outcome_of(
     alloc: Global,
     program: &Program<'_>,
@@ -43,7 +43,7 @@ fn outcome_of(
     }
 }
 
-// The name of a class and that of its superclass.
+// Returns the name of a class and the name of its superclass.
 fn text_of(
     alloc: Global,
     numbering: &Numbering<'_>,
@@ -56,7 +56,7 @@ fn text_of(
     text.finish()
 }
 
-// The same of a copy that is renumbered to just the symbols that occur in it.
+// Returns these names of a copy that is renumbered to just the symbols that occur in the class.
 fn renumbered_text(
     alloc: Global,
     numbering: &Numbering<'_>,
@@ -76,7 +76,7 @@ fn renumbered_text(
     text_of(alloc, &kept, &copy)
 }
 
-// Prints the descriptor of a type, or `-` for none; its rank, where this is not its number.
+// Prints the descriptor of a type, or `-` for none, and its rank if that is not its number.
 fn print_type(numbering: &Numbering<'_>, number: Option<usize>, out: &mut Printed) {
     match number {
         Some(number) if number < numbering.count(SymbolKind::Typ) => {
@@ -91,7 +91,6 @@ fn print_type(numbering: &Numbering<'_>, number: Option<usize>, out: &mut Printe
     }
 }
 
-// Prints a text.
 fn print_text(text: &Text<'_>, out: &mut Printed) {
     for unit in text.units() {
         out.add_unit(unit);

@@ -1,5 +1,6 @@
-//! Unions counted as the program does: `countrun files FILE.. is T P F M S W C N`, the types, protos, fields, methods,
-//! short strings, weight, classes and strings of what the files hold together, or `.. is CAUSE`; no files are `-`.
+//! Unions counted as the program does: `countrun files FILE.. is T P F M S W C N`, the numbers of types, protos,
+//! fields, methods, short strings, weight, classes and strings of the union of the files, or `.. is CAUSE`. `-` denotes
+//! no files.
 
 use crate::devices::devices;
 use crate::files::files_of;
@@ -10,7 +11,7 @@ use dexruns::count_run;
 use std::alloc::{AllocError, Global};
 use std::rt::Files;
 
-// What each line begins with, and what follows its number.
+// The text before and after the number of each line.
 const LINES: [(&str, &str); 8] = [
     ("types ", " of 65535\n"),
     ("protos ", " of 65535\n"),
@@ -22,7 +23,7 @@ const LINES: [(&str, &str); 8] = [
     ("strings ", "\n"),
 ];
 
-/// Runs a line, given what follows the word of its kind: how it goes.
+/// Runs a line. `case` is the text after the word of its kind.
 pub fn run<R: Files + AllocGlobal>(
     folder: Folder<'_, R>,
     case: &str,
@@ -33,7 +34,7 @@ pub fn run<R: Files + AllocGlobal>(
     run_over(folder.alloc(), &files, right)
 }
 
-/// Counts what files hold together: how a line goes of which this is right.
+/// Counts the union of files, and returns the outcome of a line with this right answer.
 pub fn run_over(alloc: Global, files: &[Vec<u8>], right: &str) -> Result<Outcome, CaseFault> {
     let right = answer_in(alloc, right)?;
     let mut inputs = devices(alloc, files)?;
@@ -42,7 +43,7 @@ pub fn run_over(alloc: Global, files: &[Vec<u8>], right: &str) -> Result<Outcome
     right.outcome(alloc, &returned, out.into_inner().as_slice())
 }
 
-// What is right, in the words of a line.
+// Parses what is right.
 fn answer_in(alloc: Global, right: &str) -> Result<RunAnswer<'_>, AllocError> {
     if right.starts_with(|letter: char| letter.is_ascii_digit()) {
         return Ok(RunAnswer::Written(lines_of(alloc, right)?.into_bytes()));
@@ -50,7 +51,7 @@ fn answer_in(alloc: Global, right: &str) -> Result<RunAnswer<'_>, AllocError> {
     Ok(RunAnswer::Cause(right))
 }
 
-// The lines of these numbers.
+// Returns the lines of these numbers.
 fn lines_of(alloc: Global, counts: &str) -> Result<String, AllocError> {
     let mut lines = Printed::new(alloc);
     for ((name, cap), count) in LINES.iter().zip(counts.split(' ')) {

@@ -1,5 +1,6 @@
-//! Files cut to each of some lengths: `cuts FILE FROM TO MENDED refused NUMBER PLACE`, each of which is refused so.
-//! Mended is `nothing`; or `size`, the length in the header and the two sums; or `data`, the length of the data too.
+//! Files cut to each length of a range: `cuts FILE FROM TO MENDED refused NUMBER PLACE`. Each cut file must be refused
+//! so. MENDED is `nothing`; or `size` for the length in the header and the two sums; or `data` for the length of the
+//! data too.
 
 use crate::check;
 use dexcases::{CaseFault, Outcome, first_word};
@@ -7,14 +8,14 @@ use dexhead::set_sums;
 use std::alloc::Global;
 use std::ops::RangeInclusive;
 
-/// What is made right again in the header of a file that is cut.
+/// Which fields of the header of a cut file are set right.
 #[derive(Clone, Copy)]
 enum Mended {
-    /// Nothing.
+    /// None.
     Nothing,
-    /// The length, and the two sums.
+    /// The length and the two sums.
     Size,
-    /// The length of the data, the length, and the two sums.
+    /// The length of the data, the length and the two sums.
     Data,
 }
 
@@ -28,7 +29,7 @@ impl Mended {
         }
     }
 
-    // Makes it right in a file.
+    // Sets these fields right in a file.
     fn mend(self, file: &mut [u8]) {
         if file.len() < 112 {
             return;
@@ -51,7 +52,7 @@ impl Mended {
     }
 }
 
-/// Runs a line, given the file and what stands in the line behind its name: how it goes.
+/// Runs a line. `case` is the text after the file's name.
 pub fn run(alloc: Global, bytes: &[u8], case: &str) -> Result<Outcome, CaseFault> {
     let (first, rest) = first_word(case)?;
     let (last, rest) = first_word(rest)?;
@@ -64,7 +65,7 @@ pub fn run(alloc: Global, bytes: &[u8], case: &str) -> Result<Outcome, CaseFault
     run_cuts(alloc, bytes, lens, mended, right)
 }
 
-// How a file goes that is cut to each of these lengths.
+// Cuts a file to each of these lengths, and returns the first outcome that failed.
 fn run_cuts(
     alloc: Global,
     bytes: &[u8],
@@ -82,7 +83,7 @@ fn run_cuts(
     Ok(Outcome::Passed)
 }
 
-// How a file goes that is cut to these bytes.
+// Checks a cut file, whose bytes are `front`.
 fn run_cut(alloc: Global, front: &[u8], mended: Mended, right: &str) -> Result<Outcome, CaseFault> {
     let mut cut = Vec::from_slice(alloc, front)?;
     mended.mend(&mut cut);

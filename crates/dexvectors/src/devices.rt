@@ -1,4 +1,4 @@
-//! Devices on memory.
+//! Devices in memory.
 
 ghost use Rattle.std.specs.Prelude.{IfOk};
 ghost use Rattle.dexhead.specs.Device.{is_broken};
@@ -7,7 +7,7 @@ ghost use Rattle.dexruns.specs.Runs.{AllWork};
 use dexhead::Device;
 use std::alloc::{AllocError, Global};
 
-/// A device over the bytes of each file.
+/// Returns a device over the bytes of each file.
 pub fn devices(alloc: Global, files: &[Vec<u8>]) -> Result<Vec<Device<&[u8]>>, AllocError>
     ensures { IfOk result (λ devices. AllWork is_broken devices.items) }
 {

@@ -1,6 +1,5 @@
-//! Classes digested as the program does: `digestrun FILE ok CLASSES`, for each class in the order of the canonical file
-//! its digest and its name as it is printed, all with a tab between them, or `-` where there is no class; or
-//! `digestrun FILE fault CAUSE`.
+//! Classes digested as the program does: `digestrun FILE ok CLASSES`, with the digest and the name of each class in
+//! canonical order, all separated by tabs, or `-` if there is no class; or `digestrun FILE fault CAUSE`.
 
 use crate::run_answer::RunAnswer;
 use dexcases::{CaseFault, Outcome, Printed};
@@ -8,7 +7,7 @@ use dexhead::Device;
 use dexruns::digest_run;
 use std::alloc::{AllocError, Global};
 
-/// Runs a line, given the name of the file, its bytes and what follows in the line: how it goes.
+/// Runs a line, given the name of the file and its bytes. `right` is the text after the name.
 pub fn run(alloc: Global, name: &str, bytes: &[u8], right: &str) -> Result<Outcome, CaseFault> {
     let right = answer_in(alloc, name, right)?;
     let mut input = Device::new(bytes);
@@ -17,7 +16,7 @@ pub fn run(alloc: Global, name: &str, bytes: &[u8], right: &str) -> Result<Outco
     right.outcome(alloc, &returned, out.into_inner().as_slice())
 }
 
-// What is right, in the words of a line.
+// Parses what is right.
 fn answer_in<'a>(alloc: Global, name: &str, right: &'a str) -> Result<RunAnswer<'a>, CaseFault> {
     if let Some(classes) = right.strip_prefix("ok ") {
         return Ok(RunAnswer::Written(lines_of(alloc, name, classes)?.into_bytes()));
@@ -28,7 +27,7 @@ fn answer_in<'a>(alloc: Global, name: &str, right: &'a str) -> Result<RunAnswer<
     }
 }
 
-// The lines of classes, given by their digests and names.
+// Returns the lines of classes, given by their digests and names.
 fn lines_of(alloc: Global, name: &str, classes: &str) -> Result<String, AllocError> {
     let mut lines = Printed::new(alloc);
     if classes == "-" {

@@ -5,7 +5,7 @@ use dexhead::Device;
 use dexruns::{RunFault, dump_run};
 use std::alloc::Global;
 
-/// Runs a line, given the file and the bytes of its listing: how it goes.
+/// Runs a line, given the bytes of the file and of its listing.
 pub fn run(alloc: Global, bytes: &[u8], right: &[u8]) -> Result<Outcome, CaseFault> {
     if is_listed_as(alloc, bytes, right)? {
         return Ok(Outcome::Passed);
@@ -13,7 +13,7 @@ pub fn run(alloc: Global, bytes: &[u8], right: &[u8]) -> Result<Outcome, CaseFau
     Err(CaseFault::failed(alloc, "another listing"))
 }
 
-// Whether a device is given these bytes as the listing of a file.
+// Returns whether these bytes are written to a device as the listing of a file.
 fn is_listed_as(alloc: Global, bytes: &[u8], right: &[u8]) -> Result<bool, CaseFault> {
     let mut input = Device::new(bytes);
     let mut out = Device::new(Vec::new(alloc));

@@ -1,9 +1,9 @@
-//! Files of a folder, by their names.
+//! Reads files of a folder by their names.
 
 use dexcases::{CaseFault, Folder};
 use std::rt::Files;
 
-/// The bytes of the files of these names, each after a blank; no files are `-`.
+/// Reads the files of these names, which are separated by blanks; `-` denotes no files.
 pub fn files_of<R: Files + AllocGlobal>(
     folder: Folder<'_, R>,
     names: &str,

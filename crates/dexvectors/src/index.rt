@@ -1,4 +1,4 @@
-//! Lines of an index: cases over the files that lie beside it.
+//! Lines of an index: cases over the files in its folder.
 
 use crate::kind::Kind;
 use crate::{
@@ -9,7 +9,7 @@ use dexcases::{CaseFault, Folder, Outcome, first_word};
 use std::alloc::Global;
 use std::rt::Files;
 
-/// Runs a line of the index of a folder, given what stands in it behind the word of its kind.
+/// Runs a line of the index of a folder. `case` is the text after the word of its kind.
 pub fn run_case<R: Files + AllocGlobal>(
     folder: Folder<'_, R>,
     kind: Kind,
@@ -41,7 +41,7 @@ pub fn run_case<R: Files + AllocGlobal>(
     }
 }
 
-// Runs a line that asks for one file by another.
+// Runs a line that names the file which must come out of another.
 fn compare(alloc: Global, kind: Kind, bytes: &[u8], right: &[u8]) -> Result<Outcome, CaseFault> {
     match kind {
         Kind::Normalise => normalise::run(alloc, bytes, right),
@@ -51,7 +51,7 @@ fn compare(alloc: Global, kind: Kind, bytes: &[u8], right: &[u8]) -> Result<Outc
     }
 }
 
-// Runs a line that asks something of one file.
+// Runs a line over one file.
 fn ask(alloc: Global, kind: Kind, bytes: &[u8], asked: &str) -> Result<Outcome, CaseFault> {
     match kind {
         Kind::Check => check::run(alloc, bytes, asked),

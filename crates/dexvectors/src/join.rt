@@ -1,6 +1,7 @@
-//! Numberings joined: `join files FILE.. are TEXTS TYPES PROTOS FIELDS METHODS / IMAGES / IMAGES ..`, no files are `-`. The texts and
-//! the types of all pools are listed, of the other kinds the number; then follow for each file the images of its texts, types,
-//! protos, fields and methods. What is listed is joined by commas, or is `-` for none.
+//! Numberings joined: `join files FILE.. are TEXTS TYPES PROTOS FIELDS METHODS / IMAGES / IMAGES ..`. `-` denotes no
+//! files. The joined texts and types are listed, and the protos, fields and methods are counted. For each file follow
+//! the images of its texts, types, protos, fields and methods. A list has commas between its items, or is `-` if it is
+//! empty.
 
 use crate::files::files_of;
 use crate::pools::{frame_of, pools_of};
@@ -19,7 +20,7 @@ const KINDS: [SymbolKind; 5] = [
     SymbolKind::Method,
 ];
 
-/// Runs a line, given what follows the word of its kind: how it goes.
+/// Runs a line. `case` is the text after the word of its kind.
 pub fn run<R: Files + AllocGlobal>(
     folder: Folder<'_, R>,
     case: &str,
@@ -30,7 +31,7 @@ pub fn run<R: Files + AllocGlobal>(
     Ok(Outcome::of(joined(folder.alloc(), &files)?, right))
 }
 
-// What is said of the pools of files, joined.
+// Joins the pools of files, and returns what is printed of them.
 fn joined(alloc: Global, files: &[Vec<u8>]) -> Result<String, CaseFault> {
     let mut frames = Vec::new(alloc);
     for file in files {
@@ -39,7 +40,7 @@ fn joined(alloc: Global, files: &[Vec<u8>]) -> Result<String, CaseFault> {
     joined_frames(alloc, &frames)
 }
 
-// What is said of the pools of files, joined.
+// Joins the pools of these frames, and returns what is printed of them.
 fn joined_frames(alloc: Global, frames: &[Frame<'_>]) -> Result<String, CaseFault> {
     let mut pools = Vec::new(alloc);
     for frame in frames {
@@ -48,7 +49,7 @@ fn joined_frames(alloc: Global, frames: &[Frame<'_>]) -> Result<String, CaseFaul
     Ok(joined_pools(alloc, &pools)?)
 }
 
-// What is said of pools, joined.
+// Joins pools, and returns what is printed of them.
 fn joined_pools(alloc: Global, pools: &[Pools<'_>]) -> Result<String, AllocError> {
     let mut parts = Vec::new(alloc);
     for part in pools {
@@ -58,7 +59,7 @@ fn joined_pools(alloc: Global, pools: &[Pools<'_>]) -> Result<String, AllocError
     text_of(alloc, &parts, &numbering, &remaps)
 }
 
-// What is said of a numbering that is joined of these parts.
+// Returns what is printed of a numbering that is joined from these parts.
 fn text_of(
     alloc: Global,
     parts: &[&Numbering<'_>],
@@ -74,7 +75,7 @@ fn text_of(
     text.finish()
 }
 
-// Prints the texts and the types of a numbering, and how many protos, fields and methods it has.
+// Prints the texts and the types of a numbering, and the numbers of its protos, fields and methods.
 fn print_numbering(numbering: &Numbering<'_>, out: &mut Printed) {
     let mut mark = "";
     for i in 0..numbering.count(SymbolKind::Text) {
@@ -95,7 +96,7 @@ fn print_numbering(numbering: &Numbering<'_>, out: &mut Printed) {
     }
 }
 
-// Prints a text after a mark.
+// Prints a text after a separator.
 fn print_text(mark: &str, text: &Text<'_>, out: &mut Printed) {
     out.add(mark);
     for unit in text.units() {
@@ -103,7 +104,7 @@ fn print_text(mark: &str, text: &Text<'_>, out: &mut Printed) {
     }
 }
 
-// Prints that there is none where no mark is due yet.
+// Prints `-` if nothing was listed, so that the separator is still empty.
 fn print_none(mark: &str, out: &mut Printed) {
     if mark.is_empty() {
         out.add("-");

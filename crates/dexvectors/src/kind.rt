@@ -15,9 +15,9 @@ pub enum Kind {
     Puts,
     /// Texts read.
     Text,
-    /// The kind of a type descriptor, and whether a member may be named so.
+    /// The kind of a type descriptor, and whether a text is a name of a member.
     Names,
-    /// Code cut into pieces.
+    /// Code split into pieces.
     Split,
     /// The format, the pool of the index and the mnemonic of an opcode.
     Opcodes,
@@ -31,13 +31,13 @@ pub enum Kind {
     Symbol,
     /// A class of a file.
     Class,
-    /// The pools of files, joined.
+    /// Joined pools of files.
     Join,
     /// A file that is accepted or refused.
     Check,
-    /// The line that is written of a file, and the status.
+    /// The status of a check, and the line that is written for a file.
     CheckRun,
-    /// A file that is refused however it is cut.
+    /// A file that is refused at each length to which it is cut.
     Cuts,
     /// The weight of a file's classes.
     Weight,
@@ -55,20 +55,20 @@ pub enum Kind {
     Regroup,
     /// Files merged by a plan under caps, and then stripped.
     MergeStrip,
-    /// What files hold together.
+    /// The counts of the union of files.
     Measure,
-    /// What is written of what files hold together.
+    /// What is written of the counts of a union.
     CountRun,
-    /// What is written of the classes of a file.
+    /// The digests that are written for the classes of a file.
     DigestRun,
     /// The file with its sums set right.
     RepairRun,
-    /// Nothing that this program knows.
+    /// A kind that this program does not know.
     Unknown,
 }
 
 impl Kind {
-    // Whether a line of the kind asks for one call, and stands in a file of calls.
+    // Returns whether a line of the kind asks for one call, and is in a file of calls.
     fn is_call(self) -> bool {
         matches!(
             self,

@@ -1,12 +1,12 @@
-//! Runs files of right answers through the calls of the libraries, and prints what did not pass.
+//! Runs files of right answers through the calls of the libraries, and prints the lines that fail.
 //!
-//! The command line has the names of such files: `leb.txt`, `puts.txt`, `text.txt`, `names.txt`, `split.txt`,
-//! `opcodes.txt`, `debug.txt`, `sums.txt` and `flags.txt` have a call on each line, and an `index.txt` has a case on
-//! each line, over files that lie beside it. A line that begins with `#` says what those that follow show. What each
-//! line passed is counted by its kind; a line that did not pass is printed whole, with its file and number.
+//! The arguments are the names of such files. `leb.txt`, `puts.txt`, `text.txt`, `names.txt`, `split.txt`,
+//! `opcodes.txt`, `debug.txt`, `sums.txt` and `flags.txt` have a call on each line. An `index.txt` has a case on each
+//! line, over files in its folder. A line that begins with `#` describes the lines after it. Lines are counted by kind;
+//! a line that fails is printed whole, with its file and number.
 //!
-//! The status is 0 where each line passed, 1 where a line failed, or a file cannot be read or has no case, 2 where the
-//! arguments are not the names of such files, and 4 where the output or memory fails.
+//! The status is 0 if no line failed, 1 if a line failed or a file cannot be read or has no case, 2 on a usage error, 4
+//! if the output cannot be written or allocation failed.
 #![tactic(auto)]
 
 mod calls;

@@ -1,6 +1,6 @@
-//! Unions measured: `measure files FILE.. is T P F M S W C N`, the types, protos, fields, methods, short strings, weight,
-//! classes and strings of what the files hold together, or `.. is conflict CLASS`, `.. is cycle CLASS`; no files are `-`.
-//! The programs are measured, and then devices over the files are counted as the program does.
+//! Unions measured: `measure files FILE.. is T P F M S W C N`, the numbers of types, protos, fields, methods, short
+//! strings, weight, classes and strings of the union of the files, or `.. is conflict CLASS`, `.. is cycle CLASS`. `-`
+//! denotes no files. The programs are measured, and then devices over the files are counted as the program does.
 
 use crate::count_run;
 use crate::files::files_of;
@@ -11,7 +11,7 @@ use dexmerge::{Counts, measure};
 use std::alloc::{AllocError, Global};
 use std::rt::Files;
 
-/// Runs a line, given what follows the word of its kind: how it goes.
+/// Runs a line. `case` is the text after the word of its kind.
 pub fn run<R: Files + AllocGlobal>(
     folder: Folder<'_, R>,
     case: &str,
@@ -26,7 +26,7 @@ pub fn run<R: Files + AllocGlobal>(
     }
 }
 
-// What is said of a union.
+// Returns the counts of a union, or the cause.
 fn measured(alloc: Global, programs: &[Program<'_>]) -> Result<String, AllocError> {
     let mut parts = Vec::new(alloc);
     for program in programs {
@@ -38,7 +38,7 @@ fn measured(alloc: Global, programs: &[Program<'_>]) -> Result<String, AllocErro
     }
 }
 
-// The counts of a union.
+// Returns the counts as a line has them.
 fn text_of(alloc: Global, counts: Counts) -> Result<String, AllocError> {
     let Counts {
         types,

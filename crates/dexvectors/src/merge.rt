@@ -1,6 +1,6 @@
-//! Files merged: `merge PLAN caps T P F M S W files FILE.. ok CANON`, `.. fault CAUSE | CAUSE ..`, any of
-//! which is right, or `.. badplan`; no files are `-`. The programs are merged, and so are devices over the files; for `mergestrip`
-//! devices are merged and stripped, and CANON is the file that is left.
+//! Files merged: `merge PLAN caps T P F M S W files FILE.. ok CANON`, `.. fault CAUSE | CAUSE ..`, of which any is
+//! right, or `.. badplan`. `-` denotes no files. The programs are merged, and then devices over the files. For
+//! `mergestrip` devices are merged and stripped, and CANON is the stripped file.
 
 use crate::devices::devices;
 use crate::files::files_of;
@@ -28,7 +28,7 @@ enum RightAnswer<'a> {
     BadPlan,
 }
 
-/// Files to be merged under caps, and what is right.
+/// Files that are merged under caps, and what is right.
 #[derive(Drop)]
 pub(crate) struct Merge<'a> {
     files: Vec<Vec<u8>>,
@@ -36,7 +36,7 @@ pub(crate) struct Merge<'a> {
     right: RightAnswer<'a>,
 }
 
-/// Runs a line that merges, given what follows the word of its kind: how it goes.
+/// Runs a line that merges. `case` is the text after the word of its kind.
 pub fn run<R: Files + AllocGlobal>(
     folder: Folder<'_, R>,
     case: &str,
@@ -47,7 +47,7 @@ pub fn run<R: Files + AllocGlobal>(
     Ok(Outcome::Passed)
 }
 
-/// Runs a line that merges and strips, given what follows the word of its kind: how it goes.
+/// Runs a line that merges and strips. `case` is the text after the word of its kind.
 pub fn run_stripped<R: Files + AllocGlobal>(
     folder: Folder<'_, R>,
     case: &str,
@@ -57,7 +57,7 @@ pub fn run_stripped<R: Files + AllocGlobal>(
     Ok(Outcome::Passed)
 }
 
-// The plan of a line, and the rest.
+// Parses the plan of a line, and the merge.
 fn planned<'a, R: Files + AllocGlobal>(
     folder: Folder<'_, R>,
     case: &'a str,
@@ -67,7 +67,7 @@ fn planned<'a, R: Files + AllocGlobal>(
 }
 
 impl<'a> Merge<'a> {
-    /// What the words of a line behind `caps` ask for.
+    /// Parses the text of a line after `caps`.
     pub(crate) fn of<R: Files + AllocGlobal>(
         folder: Folder<'_, R>,
         words: &'a str,
@@ -79,14 +79,14 @@ impl<'a> Merge<'a> {
         Ok(Merge { files, caps, right })
     }
 
-    // Fails the line unless the programs are merged to what is right: lent to the merge, and then given to it.
+    // Fails the line unless the merge of the programs gives what is right, both for borrowed and for owned programs.
     fn check_programs(&self, alloc: Global, plan: &Plan) -> Result<(), CaseFault> {
         let programs = self.programs(alloc)?;
         self.check_plan(alloc, &programs, plan)?;
         self.check(alloc, merge_files(alloc, programs, plan, &self.caps))
     }
 
-    // Fails the line unless the run over devices writes what is right, or reports it and writes nothing.
+    // Fails the line unless the run over devices writes what is right, or reports the right fault and writes nothing.
     fn check_devices(
         &self,
         alloc: Global,
@@ -104,7 +104,7 @@ impl<'a> Merge<'a> {
         self.check_run(alloc, answer, out.into_inner().as_slice())
     }
 
-    // Fails the line unless this answer of a run that wrote these bytes is right.
+    // Fails the line unless this result of a run that wrote these bytes is right.
     fn check_run(
         &self,
         alloc: Global,
@@ -121,12 +121,12 @@ impl<'a> Merge<'a> {
         }
     }
 
-    /// The programs of the files. A line of which a file is refused fails.
+    /// Reads the programs of the files. A line with a refused file fails.
     pub(crate) fn programs(&self, alloc: Global) -> Result<Vec<Program<'_>>, CaseFault> {
         programs_of(alloc, &self.files)
     }
 
-    /// Fails the line unless the programs that are merged by this plan give what is right.
+    /// Fails the line unless the merge of the programs by this plan gives what is right.
     pub(crate) fn check_plan(
         &self,
         alloc: Global,
@@ -136,7 +136,7 @@ impl<'a> Merge<'a> {
         self.check(alloc, merge_plan(alloc, programs, plan, &self.caps))
     }
 
-    // Fails the line unless this answer is right.
+    // Fails the line unless this result is right.
     fn check(
         &self,
         alloc: Global,
@@ -167,7 +167,7 @@ impl<'a> Merge<'a> {
         }
     }
 
-    // Fails the line unless it is right that the plan is refused.
+    // Fails the line unless the right answer is that the plan is refused.
     fn check_bad_plan(&self, alloc: Global) -> Result<(), CaseFault> {
         match self.right {
             RightAnswer::BadPlan => Ok(()),
@@ -175,7 +175,7 @@ impl<'a> Merge<'a> {
         }
     }
 
-    // Fails the line unless this cause, for which its files are not merged, is right.
+    // Fails the line unless this cause is right.
     fn check_cause(&self, alloc: Global, cause: &MergeCause) -> Result<(), CaseFault> {
         let cause = cause_text(alloc, cause)?;
         if let RightAnswer::Causes(causes) = self.right {
@@ -189,7 +189,7 @@ impl<'a> Merge<'a> {
     }
 }
 
-/// The programs of files. A line of which a file is refused fails.
+/// Reads the programs of files. A line with a refused file fails.
 pub(crate) fn programs_of(alloc: Global, files: &[Vec<u8>]) -> Result<Vec<Program<'_>>, CaseFault> {
     let mut programs = Vec::new(alloc);
     for file in files {
@@ -198,7 +198,7 @@ pub(crate) fn programs_of(alloc: Global, files: &[Vec<u8>]) -> Result<Vec<Progra
     Ok(programs)
 }
 
-// The names of the files, and what is right.
+// Parses the names of the files, and what is right.
 fn answer_in<'a, R: Files + AllocGlobal>(
     folder: Folder<'_, R>,
     words: &'a str,
@@ -215,7 +215,9 @@ fn answer_in<'a, R: Files + AllocGlobal>(
     }
 }
 
-/// The cause that a merge reports.
+/// Returns the cause that a merge reports.
+///
+/// Error: `AllocError` if allocation failed in the merge.
 pub(crate) fn cause_in(fault: MergeFault) -> Result<MergeCause, AllocError> {
     match fault {
         MergeFault::Conflict(name) => Ok(MergeCause::Conflict(name)),
@@ -225,7 +227,7 @@ pub(crate) fn cause_in(fault: MergeFault) -> Result<MergeCause, AllocError> {
     }
 }
 
-/// A cause, in the words of a line.
+/// Returns a cause as a line has it.
 pub(crate) fn cause_text(alloc: Global, cause: &MergeCause) -> Result<String, AllocError> {
     let mut words = Printed::new(alloc);
     match cause {
@@ -239,7 +241,7 @@ pub(crate) fn cause_text(alloc: Global, cause: &MergeCause) -> Result<String, Al
     words.finish()
 }
 
-// What a cap is of.
+// Returns what a cap limits.
 fn kind_of_cap(cap: u8) -> &'static str {
     match cap {
         1 => "types",
@@ -251,7 +253,6 @@ fn kind_of_cap(cap: u8) -> &'static str {
     }
 }
 
-// Prints a word and the name of a class.
 fn print_named(word: &str, name: &Name, out: &mut Printed) {
     out.add(word);
     print_name(name, out);

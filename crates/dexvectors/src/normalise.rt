@@ -1,5 +1,5 @@
-//! Files normalised: `normalise FILE CANON`. The program is made to bytes, a copy of it is written to a device, and its layout is
-//! measured.
+//! Files normalised: `normalise FILE CANON`. The canonical file is built in memory, a copy of the program is written to
+//! a device, and the length is that of the layout.
 
 ghost use Rattle.std.specs.Prelude.{◌≡◌, IfOk, IsTrue};
 ghost use Rattle.dexspec.specs.Canonical.{canonical};
@@ -12,7 +12,7 @@ use dexclass::Program;
 use dexhead::Device;
 use std::alloc::{AllocError, Global};
 
-/// Runs a line, given the file and the bytes of its canonical file: how it goes.
+/// Runs a line, given the bytes of the file and of its canonical file.
 pub fn run(alloc: Global, bytes: &[u8], right: &[u8]) -> Result<Outcome, CaseFault>
     ensures { IfOk result (λ outcome. outcome ≡ Outcome.Passed → Normalises bytes.now right.now) }
 {
@@ -23,7 +23,7 @@ pub fn run(alloc: Global, bytes: &[u8], right: &[u8]) -> Result<Outcome, CaseFau
     Err(CaseFault::failed(alloc, "other bytes"))
 }
 
-// Whether a device is given these bytes for a copy of the program, and the program is made to them.
+// Returns whether a copy of the program is written to a device as these bytes, and the program is built as them.
 fn is_canonical(alloc: Global, program: &Program<'_>, right: &[u8]) -> Result<bool, AllocError>
     ensures { IfOk result (λ is. IsTrue is → right.now ≡ canonical program.now) }
 {
@@ -33,7 +33,7 @@ fn is_canonical(alloc: Global, program: &Program<'_>, right: &[u8]) -> Result<bo
     is_written_as(alloc, program, right)
 }
 
-/// Whether the canonical file of the program has these bytes.
+/// Returns whether the canonical file of the program has these bytes.
 pub fn is_written_as(alloc: Global, program: &Program<'_>, right: &[u8]) -> Result<bool, AllocError>
     ensures { IfOk result (λ is. IsTrue is → right.now ≡ canonical program.now) }
 {
@@ -41,19 +41,19 @@ pub fn is_written_as(alloc: Global, program: &Program<'_>, right: &[u8]) -> Resu
     Ok(right == written.as_slice())
 }
 
-// Whether the canonical file of the program is laid out with the length of these bytes.
+// Returns whether the layout of the program has the length of these bytes.
 fn is_as_long(alloc: Global, program: &Program<'_>, right: &[u8]) -> Result<bool, AllocError> {
     let layout = Layout::of(alloc, program)?;
     Ok(layout.len() as usize == right.len())
 }
 
-// Whether a device is given these bytes as the canonical file of a copy of the program.
+// Returns whether a copy of the program is written to a device as these bytes.
 fn is_given_copied(alloc: Global, program: &Program<'_>, right: &[u8]) -> Result<bool, AllocError> {
     let copy = program.copy()?;
     is_given(alloc, &copy, right)
 }
 
-// Whether a device is given these bytes as the canonical file of the program.
+// Returns whether the program is written to a device as these bytes.
 fn is_given(alloc: Global, program: &Program<'_>, right: &[u8]) -> Result<bool, AllocError> {
     let mut out = Device::new(Vec::new(alloc));
     match write_to(alloc, program, &mut out) {

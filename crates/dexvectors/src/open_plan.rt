@@ -1,21 +1,21 @@
-//! Plans that are put together from the front.
+//! Builds plans from left to right.
 
 use dexcases::CaseFault;
 use dexmerge::Plan;
 use std::alloc::{AllocError, Global};
 use std::mem;
 
-/// A plan of which some nodes are still open.
+/// A plan with open nodes.
 #[derive(Drop)]
 pub struct OpenPlan {
-    // The parts of each open node but the last, and before them those that stand in no node, so far.
+    // The parts of each open node but the last, after the parts that are in no node.
     outer: Vec<Vec<Plan>>,
     // The parts of the last open node.
     parts: Vec<Plan>,
 }
 
 impl OpenPlan {
-    /// No part yet, and no node.
+    /// Returns a plan without parts and nodes.
     pub fn new(alloc: Global) -> OpenPlan {
         OpenPlan {
             outer: Vec::new(alloc),
@@ -23,7 +23,7 @@ impl OpenPlan {
         }
     }
 
-    /// How many nodes are open.
+    /// Returns how many nodes are open.
     pub fn depth(&self) -> usize {
         self.outer.len()
     }
@@ -34,14 +34,14 @@ impl OpenPlan {
         Ok(())
     }
 
-    /// Begins a node.
+    /// Opens a node.
     pub fn open(&mut self, alloc: Global) -> Result<(), AllocError> {
         let parts = mem::replace(&mut self.parts, Vec::new(alloc));
         self.outer.push(parts)?;
         Ok(())
     }
 
-    /// Ends the last node that is open, and tells whether there is one.
+    /// Closes the last open node, and returns whether there was one.
     pub fn close(&mut self) -> Result<bool, AllocError> {
         match self.outer.pop() {
             Some(outer) => {
@@ -53,7 +53,9 @@ impl OpenPlan {
         }
     }
 
-    /// The one part that stands in no node, where no node is open.
+    /// Returns the only part that is in no node.
+    ///
+    /// Error: `Form` if a node is open, or there is not exactly one part.
     pub fn into_plan(self) -> Result<Plan, CaseFault> {
         let OpenPlan { outer, mut parts } = self;
         if !outer.is_empty() || parts.len() > 1 {
@@ -62,7 +64,7 @@ impl OpenPlan {
         parts.pop().ok_or(CaseFault::Form)
     }
 
-    /// A node of the parts that stand in the last open node.
+    /// Returns a node of the parts of the last open node.
     pub fn into_node(self) -> Plan {
         let OpenPlan { parts, .. } = self;
         Plan::Node(parts)

@@ -1,18 +1,18 @@
-//! Plans and caps in words: a plan is a number or a list of plans in brackets, and caps are six numbers.
+//! Parses plans and caps: a plan is a number, or a list of plans in brackets; caps are six numbers.
 
 use crate::open_plan::OpenPlan;
 use dexcases::CaseFault;
 use dexmerge::{Caps, Plan};
 use std::alloc::Global;
 
-/// The plan that a word stands for, as `((0 1) 2)`.
+/// Returns the plan that a text such as `((0 1) 2)` denotes.
 pub fn plan_in(alloc: Global, words: &str) -> Result<Plan, CaseFault> {
     let mut plan = OpenPlan::new(alloc);
     read_parts(alloc, words, &mut plan)?;
     plan.into_plan()
 }
 
-// Adds the parts that a word stands for.
+// Adds the parts that a text denotes.
 fn read_parts(alloc: Global, words: &str, plan: &mut OpenPlan) -> Result<(), CaseFault> {
     let mut number: Option<usize> = None;
     for letter in words.chars() {
@@ -32,7 +32,7 @@ fn read_parts(alloc: Global, words: &str, plan: &mut OpenPlan) -> Result<(), Cas
     Ok(())
 }
 
-// Begins or ends a node at a bracket.
+// Opens or closes a node at a bracket.
 fn read_mark(alloc: Global, mark: char, plan: &mut OpenPlan) -> Result<(), CaseFault> {
     match mark {
         ' ' => Ok(()),
@@ -47,7 +47,7 @@ fn read_mark(alloc: Global, mark: char, plan: &mut OpenPlan) -> Result<(), CaseF
     }
 }
 
-/// The caps that six numbers stand for: types, protos, fields, methods, short strings, weight.
+/// Returns the caps that six numbers denote: types, protos, fields, methods, short strings, weight.
 pub fn caps_in(alloc: Global, words: &str) -> Result<Caps, CaseFault> {
     let mut numbers = Vec::new(alloc);
     for word in words.split(' ') {

@@ -1,11 +1,11 @@
-//! Files with their pools.
+//! Reads frames and pools.
 
 use dexcases::CaseFault;
 use dexhead::Frame;
 use dexpool::{Pools, ReadFault};
 use std::alloc::Global;
 
-/// The file of these bytes. A line whose file has no right header and map fails.
+/// Opens a file. A line fails if the header or the map of its file is wrong.
 pub fn frame_of(alloc: Global, bytes: &[u8]) -> Result<Frame<'_>, CaseFault> {
     match Frame::open(bytes) {
         Ok(frame) => Ok(frame),
@@ -13,7 +13,7 @@ pub fn frame_of(alloc: Global, bytes: &[u8]) -> Result<Frame<'_>, CaseFault> {
     }
 }
 
-/// The pools of a file. A line whose file has no right pools fails.
+/// Reads the pools of a file. A line fails if the pools of its file are wrong.
 pub fn pools_of<'a>(alloc: Global, frame: &Frame<'a>) -> Result<Pools<'a>, CaseFault> {
     match Pools::read(alloc, frame) {
         Ok(pools) => Ok(pools),

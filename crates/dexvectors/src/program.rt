@@ -1,4 +1,4 @@
-//! The programs that files hold.
+//! Reads the programs of files.
 
 ghost use Rattle.std.specs.Prelude.{IfOk};
 ghost use Rattle.dexclass.specs.Programs.{IsReadAs};
@@ -9,7 +9,7 @@ use dexhead::Refusal;
 use dexpool::ReadFault;
 use std::alloc::Global;
 
-/// The program that a file holds. A line whose file is refused fails, with the refusal in words.
+/// Reads the program of a file. A line whose file is refused fails, and the refusal is printed.
 pub fn program_of(alloc: Global, bytes: &[u8]) -> Result<Program<'_>, CaseFault>
     ensures { IfOk result (IsReadAs bytes.now) }
 {

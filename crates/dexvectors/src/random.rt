@@ -1,4 +1,4 @@
-//! Numbers that look random and are the same in every run.
+//! Pseudorandom numbers, which are the same in every run.
 
 /// A linear congruential generator, with the constants of Knuth's MMIX.
 #[derive(Clone, Copy)]
@@ -7,12 +7,11 @@ pub(crate) struct Random {
 }
 
 impl Random {
-    /// The generator of this seed.
     pub(crate) fn new(seed: u64) -> Random {
         Random { state: seed }
     }
 
-    /// The next number, below `count`; 0 where that is 0.
+    /// Returns the next number, below `count`; 0 if `count` is 0.
     pub(crate) fn below(&mut self, count: usize) -> usize {
         self.state = self
             .state

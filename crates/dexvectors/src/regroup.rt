@@ -1,5 +1,6 @@
-//! Files merged in many orders and groupings: `regroup ROUNDS caps T P F M S W files FILE.. ok CANON`, or `.. fault CAUSE |
-//! CAUSE ..`. Each round draws a plan that names each file once and some more than once; each has to be answered so.
+//! Files merged in many orders and groupings: `regroup ROUNDS caps T P F M S W files FILE.. ok CANON`, or
+//! `.. fault CAUSE | CAUSE ..`. Each round draws a plan that names each file once and some more often. Each merge must
+//! give the right answer.
 
 use crate::merge::Merge;
 use crate::open_plan::OpenPlan;
@@ -13,7 +14,7 @@ use std::rt::Files;
 /// How many nodes may be open at a time, so that no plan is too deep.
 const MOST_OPEN: usize = 62;
 
-/// Runs a line, given what stands in it behind the word of its kind: how it goes.
+/// Runs a line. `case` is the text after the word of its kind.
 pub fn run<R: Files + AllocGlobal>(
     folder: Folder<'_, R>,
     case: &str,
@@ -24,7 +25,7 @@ pub fn run<R: Files + AllocGlobal>(
     Ok(Outcome::Passed)
 }
 
-// Runs as many rounds as a word says.
+// Runs the number of rounds that a word denotes.
 fn run_rounds(alloc: Global, rounds: &str, merge: &Merge<'_>) -> Result<(), CaseFault> {
     let rounds: u32 = rounds.parse()?;
     if rounds == 0 {
@@ -49,7 +50,7 @@ fn run_round(
     merge.check_plan(alloc, programs, &plan)
 }
 
-// The numbers of so many files in a random order, each once and some more than once.
+// Returns the numbers of `files` files in a random order, each once and some more often.
 fn leaves(alloc: Global, random: &mut Random, files: usize) -> Result<Vec<usize>, AllocError> {
     let mut leaves = Vec::new(alloc);
     for file in 0..files {
@@ -67,14 +68,14 @@ fn leaves(alloc: Global, random: &mut Random, files: usize) -> Result<Vec<usize>
     Ok(leaves)
 }
 
-// A random plan for so many files: nodes begin and end anywhere, and some have one part or none.
+// Returns a random plan for `files` files: nodes begin and end anywhere, and some have one part or none.
 fn random_plan(alloc: Global, random: &mut Random, files: usize) -> Result<Plan, AllocError> {
     let mut plan = OpenPlan::new(alloc);
     add_parts(alloc, random, files, &mut plan)?;
     Ok(plan.into_node())
 }
 
-// Adds random parts for so many files, and ends every node.
+// Adds random parts for `files` files, and closes every node.
 fn add_parts(
     alloc: Global,
     random: &mut Random,

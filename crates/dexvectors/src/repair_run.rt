@@ -1,5 +1,5 @@
-//! Files repaired as the program does: `repairrun FILE ok REPAIRED`, the file with its checksum and its signature set
-//! right and nothing else changed, or `repairrun FILE fault CAUSE`.
+//! Files repaired as the program does: `repairrun FILE ok REPAIRED`, where REPAIRED is the file with its checksum and
+//! signature set right and nothing else changed, or `repairrun FILE fault CAUSE`.
 
 use crate::run_answer::RunAnswer;
 use dexcases::{CaseFault, Folder, Outcome, first_word};
@@ -7,7 +7,7 @@ use dexhead::Device;
 use dexruns::repair_run;
 use std::rt::Files;
 
-/// Runs a line, given what follows the word of its kind: how it goes.
+/// Runs a line. `case` is the text after the word of its kind.
 pub fn run<R: Files + AllocGlobal>(
     folder: Folder<'_, R>,
     case: &str,
@@ -22,7 +22,7 @@ pub fn run<R: Files + AllocGlobal>(
     right.outcome(alloc, &returned, out.into_inner().as_slice())
 }
 
-// What is right, in the words of a line.
+// Parses what is right.
 fn answer_in<'a, R: Files + AllocGlobal>(
     folder: Folder<'_, R>,
     right: &'a str,

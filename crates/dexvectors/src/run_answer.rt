@@ -1,4 +1,4 @@
-//! What a run over devices has to come to: bytes that are written, or a cause that is reported with nothing written.
+//! Right answers of runs over devices: bytes that are written, or a cause that is reported while nothing is written.
 
 use crate::merge::cause_text;
 use dexcases::{CaseFault, Outcome};
@@ -6,7 +6,7 @@ use dexhead::Refusal;
 use dexruns::RunFault;
 use std::alloc::{AllocError, Global};
 
-/// What is right of a run.
+/// The right answer of a run.
 #[derive(Drop)]
 pub enum RunAnswer<'a> {
     /// These bytes are written.
@@ -16,7 +16,7 @@ pub enum RunAnswer<'a> {
 }
 
 impl RunAnswer<'_> {
-    /// How a line goes, given what its run returned and wrote.
+    /// Returns the outcome of a line, given what its run returned and wrote.
     pub fn outcome(
         &self,
         alloc: Global,
@@ -31,7 +31,7 @@ impl RunAnswer<'_> {
         }
     }
 
-    // How a line goes whose run wrote these bytes.
+    // Returns the outcome of a line whose run wrote these bytes.
     fn outcome_of_bytes(&self, alloc: Global, written: &[u8]) -> Result<Outcome, AllocError> {
         match self {
             RunAnswer::Written(right) if right.as_slice() == written => Ok(Outcome::Passed),
@@ -40,7 +40,7 @@ impl RunAnswer<'_> {
         }
     }
 
-    // How a line goes whose run reported this fault.
+    // Returns the outcome of a line whose run reported this fault.
     fn outcome_of_fault(&self, alloc: Global, fault: &RunFault) -> Result<Outcome, AllocError> {
         let cause = fault_text(alloc, fault)?;
         match self {
@@ -50,7 +50,7 @@ impl RunAnswer<'_> {
     }
 }
 
-// A fault, in the words of a line.
+// Returns a fault as a line has it.
 fn fault_text(alloc: Global, fault: &RunFault) -> Result<String, AllocError> {
     match fault {
         RunFault::Input(i, Refusal { number, place }) => {

@@ -1,5 +1,5 @@
-//! Slices that a writer is given: `slices FILE MOST COUNT CANON`. The canonical file of FILE comes in at most COUNT slices, none of
-//! which has more than MOST bytes, and together they are CANON.
+//! Slices in which files are written: `slices FILE MOST COUNT CANON`. The canonical file of FILE is written in at most
+//! COUNT slices of at most MOST bytes each, which together are CANON.
 
 ghost use Rattle.std.specs.Prelude.{false, []};
 
@@ -11,12 +11,12 @@ use dexhead::{DeviceFault, Sink};
 use std::alloc::{AllocError, Global};
 use std::rt::Files;
 
-// A writer that is given slices, and compares them with the right bytes.
+// A writer that compares the slices with the right bytes.
 #[derive(Drop)]
 struct Slices<'a> {
     count: usize,
     longest: usize,
-    // The right bytes that are still to come; `None` after others came.
+    // The right bytes that are still to come; `None` after other bytes came.
     rest: Option<&'a [u8]>,
 }
 
@@ -29,7 +29,7 @@ impl<'a> Slices<'a> {
         }
     }
 
-    // Whether all the right bytes came, and no others.
+    // Returns whether all right bytes came, and no others.
     fn are_whole(&self) -> bool {
         self.rest.is_some_and(<[u8]>::is_empty)
     }
@@ -57,7 +57,7 @@ impl Sink for Slices<'_> {
     }
 }
 
-/// Runs a line, given what follows the word of its kind: how it goes.
+/// Runs a line. `case` is the text after the word of its kind.
 pub fn run<R: Files + AllocGlobal>(
     folder: Folder<'_, R>,
     case: &str,
@@ -71,7 +71,8 @@ pub fn run<R: Files + AllocGlobal>(
     told(folder.alloc(), &slices, most.parse()?, count.parse()?)
 }
 
-// How a line goes of which these slices came: at most so many bytes each, and so many slices.
+// Returns the outcome of a line with these slices: it passes if they are right, at most `count`, and at most `most`
+// bytes each.
 fn told(
     alloc: Global,
     slices: &Slices<'_>,
@@ -88,13 +89,13 @@ fn told(
     Ok(Outcome::Failed(format!(in alloc; "{longest} {count}")?))
 }
 
-// The slices in which the canonical file of a file is written, compared with the right bytes.
+// Writes the canonical file of a file, and returns its slices, compared with the right bytes.
 fn slices_of<'a>(alloc: Global, bytes: &[u8], right: &'a [u8]) -> Result<Slices<'a>, CaseFault> {
     let program = program_of(alloc, bytes)?;
     Ok(written(alloc, &program, right)?)
 }
 
-// The slices in which the canonical file of a program is written, compared with the right bytes.
+// Writes the canonical file of a program, and returns its slices, compared with the right bytes.
 fn written<'a>(
     alloc: Global,
     program: &Program<'_>,

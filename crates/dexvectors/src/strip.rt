@@ -1,4 +1,4 @@
-//! Files stripped: `strip FILE CANON`, the canonical file without debug programs and source texts.
+//! Files stripped: `strip FILE CANON`, where CANON is the canonical file without debug programs and source texts.
 
 ghost use Rattle.std.specs.Prelude.{◌≡◌, IfOk, IsTrue};
 ghost use Rattle.dexspec.specs.Canonical.{canonical};
@@ -11,7 +11,7 @@ use dexcases::{CaseFault, Outcome};
 use dexclass::{Program, strip};
 use std::alloc::{AllocError, Global};
 
-/// Runs a line, given the file and the bytes of the canonical file of what is left: how it goes.
+/// Runs a line, given the bytes of the file and of the canonical file of the stripped program.
 pub fn run(alloc: Global, bytes: &[u8], right: &[u8]) -> Result<Outcome, CaseFault>
     ensures { IfOk result (λ outcome. outcome ≡ Outcome.Passed → Strips bytes.now right.now) }
 {
@@ -22,7 +22,7 @@ pub fn run(alloc: Global, bytes: &[u8], right: &[u8]) -> Result<Outcome, CaseFau
     Err(CaseFault::failed(alloc, "other bytes"))
 }
 
-// Whether the canonical file of what is left of the program has these bytes.
+// Returns whether the canonical file of the stripped program has these bytes.
 fn is_stripped_to(alloc: Global, program: &Program<'_>, right: &[u8]) -> Result<bool, AllocError>
     ensures { IfOk result (λ is. IsTrue is → right.now ≡ canonical (strip_collection program.now)) }
 {

@@ -1,6 +1,6 @@
-//! Symbols of rows: `symbol FILE POOL ROW TEXT`. A type is shown by its descriptor, a proto as `(PARAMETERS)RETURN`, a
-//! field as `CLASS->NAME:TYPE` and a method as `CLASS->NAME(PARAMETERS)RETURN`. A copy of the symbol is shown, and has to
-//! rank as its row in a numbering of the pools.
+//! Symbols of rows: `symbol FILE POOL ROW TEXT`. A type prints as its descriptor, a proto as `(PARAMETERS)RETURN`, a
+//! field as `CLASS->NAME:TYPE` and a method as `CLASS->NAME(PARAMETERS)RETURN`. A copy of the symbol is printed, and
+//! its rank in a numbering of the pools must be its row.
 
 use crate::pools::{frame_of, pools_of};
 use crate::words::print_name;
@@ -9,7 +9,7 @@ use dexpool::{Numbering, Pools, ProtoSymbol, Symbol, SymbolKind};
 use dexstr::Name;
 use std::alloc::{AllocError, Global};
 
-/// Runs a line, given what stands in it behind the file's name: how it goes.
+/// Runs a line. `asked` is the text after the file's name.
 pub fn run(alloc: Global, bytes: &[u8], asked: &str) -> Result<Outcome, CaseFault> {
     let (pool, rest) = first_word(asked)?;
     let (row, right) = first_word(rest)?;
@@ -18,14 +18,14 @@ pub fn run(alloc: Global, bytes: &[u8], asked: &str) -> Result<Outcome, CaseFaul
     Ok(Outcome::of(answered, right))
 }
 
-// What a row of a file names, or why it names nothing.
+// Returns the text of the symbol of a row of a file.
 fn named_in(alloc: Global, bytes: &[u8], kind: SymbolKind, row: u32) -> Result<String, CaseFault> {
     let frame = frame_of(alloc, bytes)?;
     let pools = pools_of(alloc, &frame)?;
     named_by(alloc, &pools, kind, row)
 }
 
-// What a row of these pools names.
+// Returns the text of the symbol of a row of these pools.
 fn named_by(
     alloc: Global,
     pools: &Pools<'_>,
@@ -39,7 +39,7 @@ fn named_by(
     Ok(named(alloc, pools, row, &symbol)?)
 }
 
-// What a symbol of a row names, by a copy of it, or that the copy ranks otherwise.
+// Returns the text of a copy of a symbol, or that its rank is another than its row.
 fn named(
     alloc: Global,
     pools: &Pools<'_>,
@@ -50,7 +50,7 @@ fn named(
     named_itself(alloc, pools, row, &copy)
 }
 
-// The same of the symbol itself.
+// Returns the text of a symbol, or that its rank is another than its row.
 fn named_itself(
     alloc: Global,
     pools: &Pools<'_>,
@@ -63,13 +63,13 @@ fn named_itself(
     shown(alloc, symbol)
 }
 
-// How many symbols of its kind are less in a numbering of the pools.
+// Returns how many symbols of its kind are less than a symbol in a numbering of the pools.
 fn rank_in(pools: &Pools<'_>, symbol: &Symbol) -> Result<usize, AllocError> {
     let numbering = Numbering::of(pools)?;
     Ok(rank(&numbering, symbol))
 }
 
-// How many symbols of its kind are less.
+// Returns how many symbols of its kind are less than a symbol.
 fn rank(numbering: &Numbering<'_>, symbol: &Symbol) -> usize {
     match symbol {
         Symbol::Text(name) => numbering.rank_string(&name.text()),
@@ -80,7 +80,7 @@ fn rank(numbering: &Numbering<'_>, symbol: &Symbol) -> usize {
     }
 }
 
-// The pool of this name.
+// Returns the kind of symbol of the pool of this name.
 fn kind_of(pool: &str) -> Option<SymbolKind> {
     match pool {
         "strings" => Some(SymbolKind::Text),
@@ -92,14 +92,13 @@ fn kind_of(pool: &str) -> Option<SymbolKind> {
     }
 }
 
-// A symbol in words.
+// Returns the text of a symbol.
 fn shown(alloc: Global, symbol: &Symbol) -> Result<String, AllocError> {
     let mut words = Printed::new(alloc);
     print_symbol(symbol, &mut words);
     words.finish()
 }
 
-// Prints a symbol.
 fn print_symbol(symbol: &Symbol, out: &mut Printed) {
     match symbol {
         Symbol::Text(name) | Symbol::Typ(name) => print_name(name, out),

@@ -10,12 +10,12 @@ use dexcases::{CaseFault, Outcome};
 use dexclass::Program;
 use std::alloc::Global;
 
-/// Runs a line, given what stands in it behind the file's name: how it goes.
+/// Runs a line. `right` is the text after the file's name.
 pub fn run(alloc: Global, bytes: &[u8], right: &str) -> Result<Outcome, CaseFault> {
     weighed(alloc, bytes, right.parse()?)
 }
 
-// Passed where the classes of a file weigh so much.
+// Returns the outcome of a line: it passes if the classes of its file have this weight.
 fn weighed(alloc: Global, bytes: &[u8], right: u64) -> Result<Outcome, CaseFault>
     ensures { IfOk result (λ outcome. outcome ≡ Outcome.Passed → Weighs bytes.now right) }
 {
@@ -26,7 +26,7 @@ fn weighed(alloc: Global, bytes: &[u8], right: u64) -> Result<Outcome, CaseFault
     Err(other_weight(alloc, program.weight()))
 }
 
-// The fault that the classes weigh otherwise.
+// Returns the fault that the weight of the classes is another.
 fn other_weight(alloc: Global, weight: u64) -> CaseFault {
     match format!(in alloc; "{weight}") {
         Ok(weight) => CaseFault::Failed(weight),
@@ -34,7 +34,7 @@ fn other_weight(alloc: Global, weight: u64) -> CaseFault {
     }
 }
 
-// Whether the classes of a program weigh so much.
+// Returns whether the classes of a program have this weight.
 fn weighs(program: &Program<'_>, right: u64) -> bool
     ensures { IsTrue result → right ≡ weight (definitions program.now) }
 {

@@ -1,10 +1,10 @@
-//! Bytes and units as words of hexadecimal digits, where no bytes and no units are `-`; and names as words.
+//! Bytes and units in hexadecimal, where `-` denotes an empty list; and names as text.
 
 use dexcases::{CaseFault, Printed};
 use dexstr::Name;
 use std::alloc::Global;
 
-/// The bytes that a word stands for.
+/// Returns the bytes that a word denotes.
 pub fn bytes_in(alloc: Global, word: &str) -> Result<Vec<u8>, CaseFault> {
     if word == "-" {
         return Ok(Vec::new(alloc));
@@ -12,7 +12,7 @@ pub fn bytes_in(alloc: Global, word: &str) -> Result<Vec<u8>, CaseFault> {
     Ok(hex::decode(alloc, word)?)
 }
 
-/// The 16-bit units that a word stands for, each by four digits.
+/// Returns the 16-bit units that a word denotes, four digits each.
 pub fn units_in(alloc: Global, word: &str) -> Result<Vec<u16>, CaseFault> {
     let bytes = bytes_in(alloc, word)?;
     let mut units = Vec::new(alloc);
@@ -25,7 +25,7 @@ pub fn units_in(alloc: Global, word: &str) -> Result<Vec<u16>, CaseFault> {
     Ok(units)
 }
 
-/// Prints the text of a name: units that are not printed stand as `\u` and four digits, and `"` and `\` behind a `\`.
+/// Prints the text of a name: a unit that is not printable as `\u` and four digits, and `"` and `\` after a `\`.
 pub fn print_name(name: &Name, out: &mut Printed) {
     for unit in name.text().units() {
         out.add_unit(unit);

@@ -1,5 +1,5 @@
-//! Positions of debug programs: `HEX ok ADDRESS:LINE,ADDRESS:LINE,..`, where no positions are `-`, or `HEX refused
-//! NUMBER`.
+//! Positions of debug programs: `HEX ok ADDRESS:LINE,ADDRESS:LINE,..`, where `-` denotes no positions, or
+//! `HEX refused NUMBER`.
 
 use crate::pools::{frame_of, pools_of};
 use dexcases::{CaseFault, Printed};
@@ -12,23 +12,23 @@ const HEADER_SIZE: u32 = 112;
 
 const MAP_SIZE: u32 = 28;
 
-// Where the item stands: it ends with the file.
+// The offset of the item, which ends with the file.
 const ITEM: u32 = HEADER_SIZE + MAP_SIZE;
 
-/// What is told of an item of these bytes.
+/// Returns what is reported of an item of these bytes.
 pub fn told(alloc: Global, item: &[u8]) -> Result<String, CaseFault> {
     let file = file_around(alloc, item)?;
     told_in(alloc, &file)
 }
 
-// What is told of the item in a file.
+// Returns what is reported of the item in a file.
 fn told_in(alloc: Global, file: &[u8]) -> Result<String, CaseFault> {
     let frame = frame_of(alloc, file)?;
     let pools = pools_of(alloc, &frame)?;
     Ok(told_of(alloc, &frame, &pools)?)
 }
 
-// The same, given the file's pools.
+// Returns what is reported of the item in a file with these pools.
 fn told_of(alloc: Global, frame: &Frame<'_>, pools: &Pools<'_>) -> Result<String, AllocError> {
     match read_debug(alloc, frame, pools, ITEM) {
         Ok(debug) => told_positions(alloc, &debug),
@@ -37,7 +37,7 @@ fn told_of(alloc: Global, frame: &Frame<'_>, pools: &Pools<'_>) -> Result<String
     }
 }
 
-// The positions of a debug program.
+// Returns the positions of a debug program as text.
 fn told_positions(alloc: Global, debug: &Debug) -> Result<String, AllocError> {
     let positions = positions(alloc, debug)?;
     let mut text = Printed::new(alloc);
@@ -46,7 +46,7 @@ fn told_positions(alloc: Global, debug: &Debug) -> Result<String, AllocError> {
     text.finish()
 }
 
-// A file without tables, whose data is the map and the item.
+// Returns a file without tables, whose data is the map and then the item.
 fn file_around(alloc: Global, item: &[u8]) -> Result<Vec<u8>, CaseFault> {
     let Ok(item_size) = u32::try_from(item.len()) else {
         return Err(CaseFault::Form);

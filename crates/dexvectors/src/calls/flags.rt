@@ -1,10 +1,11 @@
-//! Access flags as text: `class NUMBER TEXT`, `field NUMBER TEXT` or `method NUMBER TEXT`, the number in hexadecimal.
+//! Access flags as text: `class NUMBER TEXT`, `field NUMBER TEXT` or `method NUMBER TEXT`, with the number in
+//! hexadecimal.
 
 use dexcases::CaseFault;
 use dexflags::{ClassFlags, FieldFlags, MethodFlags};
 use std::alloc::Global;
 
-/// The flags of an item, a number in hexadecimal, as text.
+/// Returns the text of the access flags of an item, whose number is in hexadecimal.
 pub fn told(alloc: Global, item: &str, number: &str) -> Result<String, CaseFault> {
     let bits = u32::from_str_radix(number, 16)?;
     let mut text = Vec::new(alloc);

@@ -1,11 +1,11 @@
-//! Numbers read: `HEX u=VALUE/USED s=VALUE/USED p1=VALUE/USED`, where a fault stands for `VALUE/USED`.
+//! Numbers read: `HEX u=VALUE/USED s=VALUE/USED p1=VALUE/USED`, with a fault instead of `VALUE/USED` if the call fails.
 
 use dexcases::Printed;
 use dexleb::{LebFault, read_p1, read_s, read_u};
 use std::alloc::{AllocError, Global};
 use std::fmt;
 
-/// What the three calls tell of the number at the front of these bytes.
+/// Returns what the three calls report of the number at the start of these bytes.
 pub fn told(alloc: Global, bytes: &[u8]) -> Result<String, AllocError> {
     let mut text = Printed::new(alloc);
     text.add("u=");
@@ -21,7 +21,7 @@ pub fn told(alloc: Global, bytes: &[u8]) -> Result<String, AllocError> {
     text.finish()
 }
 
-// Prints a number and how many bytes spell it, or a fault.
+// Prints a number and how many bytes encode it, or a fault.
 fn print_answer<N: Copy + fmt::Display>(answer: Result<(N, usize), LebFault>, out: &mut Printed) {
     match answer {
         Ok((number, used)) => {

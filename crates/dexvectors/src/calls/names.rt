@@ -1,5 +1,6 @@
-//! What a text may name: `UNITS None MEMBER`, or `UNITS KIND MEMBER LETTER` of a type descriptor: its kind, 1 where a member
-//! may be named so, else 0, and the letter of a shorty for the type. The text is read from an item that the line's units are spelled in, and is put as that item.
+//! Texts as names: `UNITS None MEMBER`, or, if the text is a type descriptor, `UNITS KIND MEMBER LETTER`. KIND is the
+//! kind of the type, MEMBER is 1 if the text is a name of a member and 0 otherwise, and LETTER is the type's letter in
+//! a shorty. The text is read from the item that encodes the units, and is put as that item.
 
 ghost use Rattle.std.specs.Prelude.{◌≡◌, ◌++◌, IfOk, OnOk};
 ghost use Rattle.dexspec.specs.Texts.{form, string_data};
@@ -9,13 +10,15 @@ use dexleb::put_u;
 use dexstr::{Text, descriptor_kind, is_member_name, put_text, shorty_letter};
 use std::alloc::{AllocError, Global};
 
-/// What is told of a text of these units.
+/// Returns what is reported of a text of these units.
 pub fn told(alloc: Global, units: &[u16]) -> Result<String, CaseFault> {
     let item = item_of(alloc, units)?;
     told_in(alloc, &item)
 }
 
-// What is told of the text of an item.
+// Returns what is reported of the text of an item.
+//
+// Error: `Failed` if the item has no text, or the text is put as another item.
 fn told_in(alloc: Global, item: &[u8]) -> Result<String, CaseFault> {
     let Ok((text, _)) = Text::read(item, 0) else {
         return Err(CaseFault::failed(alloc, "no text"));
@@ -26,14 +29,14 @@ fn told_in(alloc: Global, item: &[u8]) -> Result<String, CaseFault> {
     Ok(told_of(alloc, &text)?)
 }
 
-// Whether a text is put as these bytes.
+// Returns whether a text is put as these bytes.
 fn is_put_as(alloc: Global, text: &Text<'_>, item: &[u8]) -> Result<bool, AllocError> {
     let mut put = Vec::new(alloc);
     put_text(text, &mut put)?;
     Ok(put.as_slice() == item)
 }
 
-// What a text may name.
+// Returns what a text may name.
 fn told_of(alloc: Global, text: &Text<'_>) -> Result<String, AllocError> {
     let member = u8::from(is_member_name(text));
     match descriptor_kind(text) {
@@ -51,7 +54,7 @@ fn told_of(alloc: Global, text: &Text<'_>) -> Result<String, AllocError> {
     }
 }
 
-// The string_data_item of a text of these units.
+// Returns the string_data_item of a text of these units.
 fn item_of(alloc: Global, units: &[u16]) -> Result<Vec<u8>, CaseFault>
     ensures { IfOk result (λ item. item.items ≡ string_data units.now) }
 {
@@ -68,7 +71,7 @@ fn item_of(alloc: Global, units: &[u16]) -> Result<Vec<u8>, CaseFault>
     Ok(item)
 }
 
-// Appends the MUTF-8 spelling of a unit.
+// Appends the MUTF-8 encoding of a unit.
 fn put_unit(unit: u16, out: &mut Vec<u8>) -> Result<(), AllocError>
     ensures { OnOk result (out.new.items ≡ out.old.items ++ form unit) }
 {

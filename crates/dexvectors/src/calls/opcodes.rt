@@ -1,12 +1,12 @@
-//! Opcodes: `OP FORMAT POOL MNEMONIC`, where the pool is that of the index or `-`, or `OP -` where there is no such
-//! instruction.
+//! Opcodes: `OP FORMAT POOL MNEMONIC`, where POOL is the pool of the index, or `-` for none; or `OP -` if there is no
+//! such instruction.
 
 use dexcases::CaseFault;
 use dexinsn::{Format, index_kind, mnemonic};
 use dexpool::SymbolKind;
 use std::alloc::{AllocError, Global};
 
-/// What is told of the opcode that a word spells in hexadecimal.
+/// Returns what is reported of an opcode in hexadecimal.
 pub fn told(alloc: Global, word: &str) -> Result<String, CaseFault> {
     let op = u8::from_str_radix(word, 16)?;
     let told = match Format::of(op) {
@@ -16,7 +16,7 @@ pub fn told(alloc: Global, word: &str) -> Result<String, CaseFault> {
     Ok(told)
 }
 
-// The format, the pool and the mnemonic of an instruction.
+// Returns the format, the pool and the mnemonic of an instruction.
 fn told_of(alloc: Global, format: Format, op: u8) -> Result<String, AllocError> {
     let format = format!(in alloc; "{format:?}")?;
     let digits = format.as_str().strip_prefix("Format").unwrap_or("-");

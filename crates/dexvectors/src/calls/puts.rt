@@ -1,5 +1,4 @@
-//! Numbers put: `u NUMBER HEX`, `s NUMBER HEX` or `p1 NUMBER HEX`, where `none` may stand for the last
-//! kind's number.
+//! Numbers put: `u NUMBER HEX`, `s NUMBER HEX` or `p1 NUMBER HEX`; a number of the last kind may be `none`.
 
 ghost use Rattle.std.specs.Prelude.{◌<◌, ◌^◌, IfOk};
 ghost use Rattle.dexspec.specs.Numbers.{plus_one};
@@ -8,7 +7,7 @@ use dexcases::CaseFault;
 use dexleb::{put_p1, put_s, put_u};
 use std::alloc::Global;
 
-/// The bytes that a call puts for a number, in hexadecimal.
+/// Returns the bytes that a call puts for a number, in hexadecimal.
 pub fn told(alloc: Global, call: &str, number: &str) -> Result<String, CaseFault> {
     let mut bytes = Vec::new(alloc);
     match call {
@@ -20,7 +19,7 @@ pub fn told(alloc: Global, call: &str, number: &str) -> Result<String, CaseFault
     Ok(hex::encode(alloc, bytes.as_slice())?)
 }
 
-// The number below 2^32 - 1 that a word stands for, or none.
+// Returns the number that a word denotes, which is below 2^32 - 1, or none.
 fn number_or_none(word: &str) -> Result<Option<u32>, CaseFault>
     ensures { IfOk result (λ number. plus_one number < 2 ^ 32) }
 {

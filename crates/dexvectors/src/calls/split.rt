@@ -1,10 +1,10 @@
-//! Code cut into pieces: `UNITS ok START/LENGTH,START/LENGTH,..`, or `UNITS`, a fault and its unit.
+//! Code split into pieces: `UNITS ok START/LENGTH,START/LENGTH,..`, or `UNITS`, a fault and its unit.
 
 use dexcases::Printed;
 use dexinsn::{CodeFault, Cut, split};
 use std::alloc::{AllocError, Global};
 
-/// What is told of code of these units.
+/// Returns what is reported of code of these units.
 pub fn told(alloc: Global, units: &[u16]) -> Result<String, AllocError> {
     let fault = match split(alloc, units) {
         Ok(cuts) => return told_cuts(alloc, &cuts),
@@ -20,7 +20,7 @@ pub fn told(alloc: Global, units: &[u16]) -> Result<String, AllocError> {
     format!(in alloc; "{name} {unit}")
 }
 
-// The first unit and the number of units of each piece.
+// Returns the first unit and the number of units of each piece.
 fn told_cuts(alloc: Global, cuts: &[Cut]) -> Result<String, AllocError> {
     let mut answered = Printed::new(alloc);
     answered.add("ok");

@@ -4,7 +4,7 @@ use dexhead::adler;
 use sha1::Sha1;
 use std::alloc::{AllocError, Global};
 
-/// The sums of bytes.
+/// Returns the checksum and the digest of bytes.
 pub fn told(alloc: Global, bytes: &[u8]) -> Result<String, AllocError> {
     let checksum = adler(bytes);
     let signature = hex::encode(alloc, Sha1::digest(bytes).as_slice())?;

@@ -1,10 +1,10 @@
-//! Texts read: `HEX ok USED UNITS`, or `HEX` and a fault. The units are told of a copy that owns them.
+//! Texts read: `HEX ok USED UNITS`, or `HEX` and a fault. The units are those of a copy that owns its text.
 
 use dexcases::Printed;
 use dexstr::{Name, Text};
 use std::alloc::{AllocError, Global};
 
-/// What is told of the text at the front of these bytes.
+/// Returns what is reported of the text at the start of these bytes.
 pub fn told(alloc: Global, bytes: &[u8]) -> Result<String, AllocError> {
     match Text::read(bytes, 0) {
         Ok((text, used)) => told_name(alloc, used, &Name::of(alloc, &text)?),
@@ -12,7 +12,7 @@ pub fn told(alloc: Global, bytes: &[u8]) -> Result<String, AllocError> {
     }
 }
 
-// The number of bytes of a text, and the units of a copy of it.
+// Returns the number of bytes of a text, and the units of a copy of it.
 fn told_name(alloc: Global, used: usize, name: &Name) -> Result<String, AllocError> {
     let copy = name.copy()?;
     let mut words = Printed::new(alloc);
@@ -23,7 +23,7 @@ fn told_name(alloc: Global, used: usize, name: &Name) -> Result<String, AllocErr
     words.finish()
 }
 
-// Prints the units of a text, each by four digits, or `-` for none.
+// Prints the units of a text, each as four digits, or `-` if there are none.
 fn print_units(name: &Name, out: &mut Printed) {
     let mut is_empty = true;
     for unit in name.text().units() {

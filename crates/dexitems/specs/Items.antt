@@ -1,4 +1,4 @@
--- Items whose symbols are numbers.
+-- Items whose symbols are numbers of a numbering.
 use Rattle.std.specs.Prelude.{List, [], map}
 use Rattle.dexspec.specs.Mentions.{Mentions}
 use Rattle.dexpool.specs.Uses.{Use}
@@ -11,7 +11,7 @@ use Rattle.dexcode.specs.Renumbering.{item_uses as code_uses}
 use Rattle.dexitems.specs.declared.item.Item.{Item}
 use Rattle.dexitems.specs.declared.item.Item.TheVariants as kinds
 
--- each number of a value, of values, of a set, of a debug program and of code is that of a symbol
+-- each number in a value, in values, in a set, in a debug program or in code is a number of a symbol
 abbrev pub IsKnownItem : Mentions → Item → Type 0
 IsKnownItem m (kinds.Value v _) = IsKnown m (value_of v)
 IsKnownItem m (kinds.Statics vs) = AreKnown m (values_of_list (map value_of vs.items))
@@ -20,7 +20,7 @@ IsKnownItem m (kinds.Debug d) = IsKnownDebug m d
 IsKnownItem m (kinds.Code c) = IsKnownCode m c
 IsKnownItem m _ = Unit {0}
 
--- the symbols that occur in these
+-- the symbols that occur in an item
 abbrev pub item_uses : Item → List Use
 item_uses (kinds.Value v _) = value_uses (value_of v)
 item_uses (kinds.Statics vs) = values_uses (values_of_list (map value_of vs.items))

@@ -1,6 +1,7 @@
-//! Items that are put just as they are in their file: a word and `FILE OFFSET BYTES`, the item of that kind there, which has
-//! so many bytes, and `FILE COUNT BYTES`, every item that the class rows of a canonical file refer to, so many with so many
-//! bytes in all: code, debug programs, sets and their annotations, arrays of values, class data and directories.
+//! Items whose file has just the bytes that they are put as. A word and `FILE OFFSET BYTES` asks for the item of that
+//! kind at the offset, and its number of bytes. `FILE COUNT BYTES` asks for every item that the class rows of a
+//! canonical file refer to, their number and their number of bytes: code, debug programs, sets and their annotations,
+//! arrays of values, class data and directories.
 
 ghost use Rattle.std.specs.Prelude.{◌<◌};
 ghost use Rattle.dexpool.specs.Pools.{ArePools};
@@ -20,7 +21,7 @@ use dexhead::Table;
 use dexmembers::{Fields, Members, Methods};
 use std::alloc::{AllocError, Global};
 
-// How many items are put as they are in the file, with how many bytes, and why the first that is not so fails the line.
+// The number and the bytes of the items that their file has as they are put, and the first fault of another item.
 #[derive(Drop)]
 struct Count {
     items: u32,
@@ -29,7 +30,7 @@ struct Count {
 }
 
 impl Count {
-    // Counts an item, if it is put as it is in the file: it is given by the number of its bytes.
+    // Counts an item, given the number of its bytes, or keeps its fault.
     fn add(&mut self, put: Result<usize, CaseFault>) {
         if self.fault.is_some() {
             return;
@@ -43,7 +44,9 @@ impl Count {
         }
     }
 
-    // How many there are, and how many bytes they have, if each is put as it is in the file.
+    // Returns the number of items and of their bytes.
+    //
+    // Error: the first fault.
     fn finish(self) -> Result<(u32, usize), CaseFault> {
         let Count {
             items,
@@ -82,8 +85,8 @@ pub fn run(alloc: Global, file: &DexFile<'_>, line: Line<'_>) -> Result<Outcome,
     Ok(Outcome::of(format!(in alloc; "{bytes}")?, line.rest))
 }
 
-// How many items the class rows refer to, and how many bytes they have, if each is put as it is in the file; else the line
-// fails.
+// Returns the number of the items that the class rows refer to, and of their bytes. The line fails unless the file has
+// each item as it is put.
 fn count_classes(alloc: Global, file: &DexFile<'_>) -> Result<(u32, usize), CaseFault>
     requires { ArePools file.now.frame file.now.pools }
 {
@@ -98,7 +101,7 @@ fn count_classes(alloc: Global, file: &DexFile<'_>) -> Result<(u32, usize), Case
     count.finish()
 }
 
-// The number of bytes that the item at an offset is put as. The line fails unless they are at a place of the file.
+// Puts the item at `off`, and returns its number of bytes. The line fails unless the file has these bytes at `at`.
 fn stands(
     alloc: Global,
     file: &DexFile<'_>,
@@ -112,7 +115,7 @@ fn stands(
     check_bytes(alloc, file.frame.bytes(), at, &bytes)
 }
 
-// Counts the items that a class row leads to.
+// Counts the items that a class row refers to.
 fn count_class(
     alloc: Global,
     file: &DexFile<'_>,
@@ -132,8 +135,8 @@ fn count_class(
     }
 }
 
-// The same, given the bytes of the row and what it declares: its directory and its class data, if there is some, with the
-// code that this leads to.
+// Counts the items of a class, given the bytes of its row and what it declares: its directory, its class data with the
+// code, and its static values.
 fn count_row(
     alloc: Global,
     file: &DexFile<'_>,
@@ -154,8 +157,7 @@ fn count_row(
     Ok(())
 }
 
-// Counts the item at an offset, if there is one, and what it leads to: code and its debug program, a set and its
-// annotations.
+// Counts the item at an offset, if there is one. Counts with code its debug program, and with a set its annotations.
 fn count_item(alloc: Global, file: &DexFile<'_>, kind: ItemKind, off: u32, count: &mut Count)
     requires { ArePools file.now.frame file.now.pools }
 {
@@ -189,7 +191,7 @@ fn count_items(alloc: Global, file: &DexFile<'_>, kind: ItemKind, offs: &[u32], 
     }
 }
 
-// The number of bytes that the class data of members is put as. The line fails unless they are at an offset of the file.
+// Puts class data, and returns its number of bytes. The line fails unless the file has these bytes at the offset.
 fn class_data_stands(
     alloc: Global,
     file: &DexFile<'_>,
@@ -206,7 +208,7 @@ fn class_data_stands(
     check_bytes(alloc, file.frame.bytes(), off, &out)
 }
 
-// Counts a directory, if there is one, and the sets that it leads to.
+// Counts a directory, if there is one, and its sets.
 fn count_directory(
     alloc: Global,
     file: &DexFile<'_>,
@@ -224,7 +226,7 @@ fn count_directory(
     count_sets(alloc, file, &offs, count)
 }
 
-// The offsets in the directory at an offset, for these members.
+// Returns the offsets in the directory at an offset, for these members.
 fn member_offs(
     alloc: Global,
     bytes: &[u8],
@@ -236,7 +238,6 @@ fn member_offs(
     directory_offs(alloc, bytes, off, &fields, &methods)
 }
 
-// Appends the number of each field.
 fn push_fields(fields: &Fields<'_>, numbers: &mut Vec<u32>) -> Result<(), AllocError> {
     for i in 0..fields.len() {
         numbers.push(fields.get(i).number())?;
@@ -244,7 +245,6 @@ fn push_fields(fields: &Fields<'_>, numbers: &mut Vec<u32>) -> Result<(), AllocE
     Ok(())
 }
 
-// Appends the number of each method.
 fn push_methods(methods: &Methods<'_, '_>, numbers: &mut Vec<u32>) -> Result<(), AllocError> {
     for i in 0..methods.len() {
         numbers.push(methods.get(i).number())?;
@@ -252,7 +252,7 @@ fn push_methods(methods: &Methods<'_, '_>, numbers: &mut Vec<u32>) -> Result<(),
     Ok(())
 }
 
-// The number of each field, the static ones first.
+// Returns the number of each field, static fields first.
 fn field_numbers(alloc: Global, members: &Members<'_>) -> Result<Vec<u32>, AllocError> {
     let mut numbers = Vec::new(alloc);
     push_fields(&members.static_fields(), &mut numbers)?;
@@ -260,7 +260,7 @@ fn field_numbers(alloc: Global, members: &Members<'_>) -> Result<Vec<u32>, Alloc
     Ok(numbers)
 }
 
-// The number of each method, the direct ones first.
+// Returns the number of each method, direct methods first.
 fn method_numbers(alloc: Global, members: &Members<'_>) -> Result<Vec<u32>, AllocError> {
     let mut numbers = Vec::new(alloc);
     push_methods(&members.direct_methods(), &mut numbers)?;
@@ -268,7 +268,7 @@ fn method_numbers(alloc: Global, members: &Members<'_>) -> Result<Vec<u32>, Allo
     Ok(numbers)
 }
 
-// The number of bytes that the directory of members is put as. The line fails unless they are at an offset of the file.
+// Puts a directory, and returns its number of bytes. The line fails unless the file has these bytes at the offset.
 fn directory_stands(
     alloc: Global,
     file: &DexFile<'_>,
@@ -281,7 +281,7 @@ fn directory_stands(
     check_bytes(alloc, file.frame.bytes(), off, &out)
 }
 
-// Appends the directory of members, if there is an offset for each of them.
+// Appends the directory of members. The line fails unless there is an offset for each member.
 fn put_counted(
     members: &Members<'_>,
     offs: &DirectoryOffs,
@@ -303,7 +303,7 @@ fn put_counted(
     Ok(())
 }
 
-// Counts the sets that a directory leads to. Its lists of sets are not counted.
+// Counts the sets of a directory. Lists of sets are not counted, but their sets are.
 fn count_sets(
     alloc: Global,
     file: &DexFile<'_>,

@@ -1,8 +1,14 @@
-//! Items that are checked and not kept: a word for the kind, and `FILE OFFSET ok NUMBERS`, or `FILE OFFSET refused NUMBER |
-//! NUMBER ..`, any of which is right. The numbers are of a `value` its bytes and its weight; of `statics` the values, the bytes and
-//! the weight; of a `set` the annotations and the weight; of a `directory` the fields, the methods and the methods with parameters
-//! that it names, and the weight; of a `debug` program the weight; of `pieces` the registers, those of arguments and of calls, the
-//! units and the indices; of `code` the weight with its debug program; of the `members` that a class row declares the weight.
+//! Items that are checked and not kept: a word for the kind, and `FILE OFFSET ok NUMBERS`, or
+//! `FILE OFFSET refused NUMBER | NUMBER ..`, of which any is right. The numbers are, of a
+//!
+//! - `value`: its bytes and its weight;
+//! - `statics`: the values, the bytes and the weight;
+//! - `set`: the annotations and the weight;
+//! - `directory`: the fields, the methods and the methods with parameters that it names, and the weight;
+//! - `debug` program: the weight;
+//! - `pieces`: the registers, those of arguments and of calls, the units and the indices;
+//! - `code`: the weight with its debug program;
+//! - `members` of a class row: the weight.
 
 ghost use Rattle.dexpool.specs.Pools.{ArePools};
 
@@ -50,14 +56,14 @@ fn print_numbers(numbers: &[u64], out: &mut Printed) {
     }
 }
 
-// Prints what is found of the value at an offset.
+// Checks the value at an offset, and prints its numbers.
 fn print_value(file: &DexFile<'_>, off: u32, out: &mut Printed) -> Result<(), ItemFault> {
     let shape = check_value(&file.frame, &file.pools, off)?;
     print_numbers(&[u64::from(shape.size), shape.weight], out);
     Ok(())
 }
 
-// Prints what is found of the array of static values at an offset.
+// Checks the array of static values at an offset, and prints its numbers.
 fn print_statics(file: &DexFile<'_>, off: u32, out: &mut Printed) -> Result<(), ItemFault> {
     let shape = check_statics(&file.frame, &file.pools, off)?;
     let (count, size) = (u64::from(shape.count), u64::from(shape.size));
@@ -65,14 +71,15 @@ fn print_statics(file: &DexFile<'_>, off: u32, out: &mut Printed) -> Result<(), 
     Ok(())
 }
 
-// Prints what is found of the set at an offset.
+// Checks the set at an offset, and prints its numbers.
 fn print_set(file: &DexFile<'_>, off: u32, out: &mut Printed) -> Result<(), ItemFault> {
     let shape = check_set(&file.frame, &file.pools, off)?;
     print_numbers(&[u64::from(shape.count), shape.weight], out);
     Ok(())
 }
 
-// Prints what is found of the directory at an offset, the second time by what the first check kept of its sets.
+// Checks the directory at an offset twice, and prints its numbers. The second check uses what the first kept of its
+// sets.
 fn print_directory(
     alloc: Global,
     file: &DexFile<'_>,
@@ -91,14 +98,14 @@ fn print_directory(
     Ok(())
 }
 
-// Prints what is found of the debug program at an offset.
+// Checks the debug program at an offset, and prints its weight.
 fn print_debug(file: &DexFile<'_>, off: u32, out: &mut Printed) -> Result<(), ItemFault> {
     let shape = check_debug(&file.frame, &file.pools, off)?;
     print_numbers(&[shape.weight], out);
     Ok(())
 }
 
-// Prints what is found of the pieces of the code at an offset.
+// Checks the pieces of the code at an offset, and prints their numbers.
 fn print_pieces(
     alloc: Global,
     file: &DexFile<'_>,
@@ -112,7 +119,7 @@ fn print_pieces(
     Ok(())
 }
 
-// Prints what is found of the code at an offset.
+// Checks the code at an offset, and prints its weight.
 fn print_code(
     alloc: Global,
     file: &DexFile<'_>,
@@ -125,8 +132,10 @@ fn print_code(
     Ok(())
 }
 
-// Prints what a class row declares weighs, and once more where a second check by what the first kept finds another weight.
-// `Refused(0)` says that there is no such row.
+// Checks what a class row declares twice, and prints its weight, and a second weight if the check that uses what the
+// first kept finds another.
+//
+// Error: `Refused(0)` if there is no such row.
 fn print_members(
     alloc: Global,
     file: &DexFile<'_>,

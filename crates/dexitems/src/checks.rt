@@ -1,9 +1,9 @@
-//! What has to hold for a line to pass.
+//! Conditions under which a line passes.
 
 use dexcases::CaseFault;
 use std::alloc::Global;
 
-/// Fails a line for this reason, unless something holds.
+/// Fails a line for the reason `otherwise` unless a condition holds.
 pub fn check(alloc: Global, holds: bool, otherwise: &str) -> Result<(), CaseFault> {
     if holds {
         return Ok(());
@@ -11,8 +11,8 @@ pub fn check(alloc: Global, holds: bool, otherwise: &str) -> Result<(), CaseFaul
     Err(CaseFault::failed(alloc, otherwise))
 }
 
-/// Fails a line unless the bytes at a place begin with these. The caller compares their number, which is returned, with the
-/// one that is right: a prefix of the right bytes is at the place too.
+/// Fails a line unless the bytes `put` are at `at`, and returns their number. The caller compares the number, because a
+/// prefix of the right bytes passes too.
 pub fn check_bytes(alloc: Global, bytes: &[u8], at: u32, put: &[u8]) -> Result<usize, CaseFault> {
     let is_at = match bytes.get(at as usize..) {
         Some(rest) => rest.starts_with(put),

@@ -8,7 +8,7 @@ use dexhead::Frame;
 use dexpool::{Numbering, Pools, ReadFault};
 use std::alloc::Global;
 
-/// A file of which the header, the map and the pools are right.
+/// A file whose header, map and pools are right.
 #[derive(Drop)]
 pub struct DexFile<'a> {
     pub frame: Frame<'a>,
@@ -16,7 +16,7 @@ pub struct DexFile<'a> {
 }
 
 impl<'a> DexFile<'a> {
-    /// The file of these bytes. A line whose file has no header, no map or no pools fails.
+    /// Opens a file. A line fails if the header, the map or the pools of its file are wrong.
     pub fn open(alloc: Global, bytes: &'a [u8]) -> Result<DexFile<'a>, CaseFault>
         ensures { IfOk result (λ file. ArePools file.frame file.pools) }
     {

@@ -1,4 +1,4 @@
-//! Items of files. The numbers of their symbols are those of a numbering.
+//! Items of files, whose symbols are numbers of a numbering.
 
 ghost use Rattle.std.specs.Prelude.{◌≡◌, IfOk, All, MatchOption};
 ghost use Rattle.dexpool.specs.Pools.{ArePools};
@@ -28,9 +28,9 @@ use std::alloc::{AllocError, Global};
 /// An item of a file.
 #[derive(Drop)]
 pub enum Item<'a> {
-    /// A value, and the number of bytes that it takes.
+    /// A value, and its number of bytes.
     Value(Value, u32),
-    /// The values that static fields begin with.
+    /// The initial values of static fields.
     Statics(Vec<Value>),
     /// A set of annotations.
     Set(AnnotationSet),
@@ -40,13 +40,14 @@ pub enum Item<'a> {
     Debug(Debug),
     /// A code item.
     Code(Code<'a>),
-    /// What a class row declares.
+    /// The members that a class row declares.
     Members(Members<'a>),
 }
 
 impl<'a> Item<'a> {
-    /// Reads the item of a kind at a place: an offset, or of what a class row declares the number of the row. `Refused(0)`
-    /// says that there is no such row, or that what it declares weighs more than 2^32 - 1.
+    /// Reads the item of a kind at a place, which is an offset, or the number of a class row.
+    ///
+    /// Error: `Refused(0)` if there is no such row, or the members of the row weigh more than 2^32 - 1.
     pub fn read(
         alloc: Global,
         file: &DexFile<'a>,
@@ -91,7 +92,7 @@ impl<'a> Item<'a> {
         }
     }
 
-    /// The same, for a line that fails where no such item stands there.
+    /// Reads the item of a kind at a place. A line fails if there is no such item.
     pub fn at(
         alloc: Global,
         file: &DexFile<'a>,
@@ -108,7 +109,7 @@ impl<'a> Item<'a> {
         }
     }
 
-    /// What it weighs.
+    /// Returns the weight.
     pub fn weight(&self) -> u64 {
         match self {
             Item::Value(value, _) => value.weight(),
@@ -121,7 +122,7 @@ impl<'a> Item<'a> {
         }
     }
 
-    /// A copy; `None` of a directory, which no call copies.
+    /// Returns a copy; `None` for a directory, which no call copies.
     pub fn copy(&self) -> Result<Option<Item<'a>>, AllocError>
         ensures { IfOk result (λ copy. MatchOption copy (Unit {0}) (λ copy. item_uses copy ≡ item_uses self.now)) }
     {
@@ -143,7 +144,7 @@ impl<'a> Item<'a> {
         }
     }
 
-    /// Marks the symbols that occur in a value, in values, in a set, in a debug program and in code.
+    /// Marks the symbols that occur in a value, in values, in a set, in a debug program or in code.
     pub fn mark(&self, numbering: &Numbering<'_>, marks: &mut Marks)
         requires known { IsKnownItem numbering.now self.now }
         requires marks { AreMarksOf numbering.now marks.old }
@@ -164,8 +165,8 @@ impl<'a> Item<'a> {
         }
     }
 
-    /// Leads the numbers of a value, of values, of a set and of code on, where each leads somewhere, and tells whether it
-    /// did. The numbers of debug programs are led on with those of their code.
+    /// Maps the numbers in a value, in values, in a set or in code if all of them have images, and returns whether they
+    /// have. The numbers of a debug program are mapped with those of its code.
     pub fn lead(&mut self, remap: &Remap) -> bool
         requires down { LeadDown remap.now }
         requires led { All (IsLedUse remap.now) (item_uses self.old) }
@@ -197,8 +198,7 @@ impl<'a> Item<'a> {
         }
     }
 
-    /// Whether this and another item are the same, once the numbers of each are led on by a map of its own. Directories
-    /// are not compared.
+    /// Returns whether two items are the same after each is mapped by its own map. Directories are not compared.
     pub fn same_mapped(&self, mine: &Remap, other: &Item<'_>, theirs: &Remap) -> bool {
         match (self, other) {
             (Item::Value(value, _), Item::Value(other, _)) => {
@@ -218,7 +218,7 @@ impl<'a> Item<'a> {
     }
 }
 
-/// What a class row declares, if there is such a row, and if what it declares weighs at most so much.
+/// Returns the members of a class row; `None` if there is no such row, or the members weigh more than `most`.
 pub fn members_at<'a>(
     alloc: Global,
     file: &DexFile<'a>,
@@ -235,7 +235,7 @@ pub fn members_at<'a>(
     }
 }
 
-// What the sets and lists of sets of a directory weigh.
+// Returns the weight of the sets and of the lists of sets of a directory.
 fn sets_weight(directory: &Directory) -> u64 {
     let mut weight = directory.own.weight();
     for (_, set) in &directory.fields {
@@ -250,7 +250,7 @@ fn sets_weight(directory: &Directory) -> u64 {
     weight
 }
 
-// Leads the numbers of code on, where those of instructions fit their places then, and tells whether it did.
+// Maps the numbers in code if those of instructions then fit their operands, and returns whether they do.
 fn is_code_led(code: &mut Code<'_>, remap: &Remap) -> bool
     requires down { LeadDown remap.now }
     requires led { All (IsLedUse remap.now) (code_uses code.old) }

@@ -1,11 +1,11 @@
 //! The kinds of items.
 
-/// What an item is.
+/// The kind of an item.
 #[derive(Clone, Copy, PartialEq, Eq, PartialOrd, Ord)]
 pub enum ItemKind {
     /// A value.
     Value,
-    /// The values that static fields begin with.
+    /// The initial values of static fields.
     Statics,
     /// A set of annotations.
     Set,
@@ -15,12 +15,12 @@ pub enum ItemKind {
     Debug,
     /// A code item.
     Code,
-    /// What a class row declares.
+    /// The members that a class row declares.
     Members,
 }
 
 impl ItemKind {
-    /// The kind that a word of a line names.
+    /// Returns the kind that a word of a line names.
     pub fn of_word(word: &str) -> Option<ItemKind> {
         match word {
             "value" => Some(ItemKind::Value),

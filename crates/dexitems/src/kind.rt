@@ -20,7 +20,7 @@ pub enum Kind {
     Checked,
     /// An item put.
     Put,
-    /// What an item weighs.
+    /// The weight of an item.
     Weight,
     /// The units of code.
     Units,
@@ -30,16 +30,16 @@ pub enum Kind {
     Same,
     /// The positions of a debug program.
     Positions,
-    /// An item that is put as it stands there.
+    /// An item whose file has the bytes that it is put as.
     Stands,
     /// Every item of a canonical file.
     Canonical,
-    /// Nothing that this program knows.
+    /// A kind that this program does not know.
     Unknown,
 }
 
 impl Kind {
-    // Whether a word for the kind of item stands in a line before the file's name.
+    // Returns whether a word for the kind of item precedes the file's name in a line.
     fn names_an_item(self) -> bool {
         matches!(
             self,

@@ -1,4 +1,4 @@
-//! How items compare.
+//! Comparison of items.
 
 use crate::item::Item;
 use crate::numbers::is_same;
@@ -10,17 +10,16 @@ use std::hash::Hash;
 /// How two items compare.
 #[derive(Clone, Copy)]
 pub struct Likeness {
-    // They are equal.
+    // The items are equal.
     is_equal: bool,
-    // In a set of the one the other is found.
+    // A hash set of the one item contains the other.
     is_found: bool,
-    // They are the same led on, each number to itself.
+    // The items are the same under a map that maps each number to itself.
     is_same: bool,
 }
 
 impl Likeness {
-    /// How an item compares with another, the numbers of both being those of a numbering. Code and what class rows declare
-    /// are compared led on alone.
+    /// Compares two items of one numbering. Code and members are only compared under a map.
     pub fn of(
         alloc: Global,
         numbering: &Numbering<'_>,
@@ -45,7 +44,7 @@ impl Likeness {
         }
     }
 
-    /// What is said of it: `yes`, `no`, or that it is one thing and another.
+    /// Returns `yes` or `no`, or `yes and no` if the comparisons differ.
     pub fn word(self) -> &'static str {
         match (self.is_equal, self.is_found, self.is_same) {
             (true, true, true) => "yes",
@@ -55,7 +54,7 @@ impl Likeness {
     }
 }
 
-// How an item compares with another, once it is hashed.
+// Compares two items for equality and by hash.
 fn compared<T: Eq + Hash>(
     alloc: Global,
     item: &T,

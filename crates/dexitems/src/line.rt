@@ -1,23 +1,23 @@
-//! The words of lines.
+//! Splits lines into words.
 
 use crate::item_kind::ItemKind;
 use dexcases::{CaseFault, first_word};
 
-/// A line: `FILE PLACE ..`, behind a word for the item where the kind of the line does not say what it is.
+/// A line: `FILE PLACE ..`, after a word for the item if the kind of the line does not name it.
 #[derive(Clone, Copy)]
 pub struct Line<'l> {
-    /// The word for the item, or none.
+    /// The word for the item; empty if there is none.
     pub word: &'l str,
     /// The name of the file.
     pub file: &'l str,
-    /// Where the item stands; of a canonical file how many items there are.
+    /// The place of the item; of a canonical file, the number of its items.
     pub place: u32,
-    /// What stands behind the place.
+    /// The text after the place.
     pub rest: &'l str,
 }
 
 impl<'l> Line<'l> {
-    /// The words of a line, of which the first may be that for the item.
+    /// Splits a line into words. The first word is that for the item if `names_an_item`.
     pub fn of(words: &'l str, names_an_item: bool) -> Result<Line<'l>, CaseFault> {
         let (word, words) = if names_an_item {
             first_word(words)?
@@ -34,8 +34,8 @@ impl<'l> Line<'l> {
         })
     }
 
-    /// The kind of the item: a set for its `annotations`, a directory for its `lists`, code for what is to be `bare`, and a debug
-    /// program where there is no word.
+    /// Returns the kind of the item: a set for `annotations`, a directory for `lists`, code for `bare`, and a debug
+    /// program if there is no word.
     pub fn item_kind(self) -> Result<ItemKind, CaseFault> {
         match self.word {
             "annotations" => Ok(ItemKind::Set),

@@ -1,15 +1,14 @@
-//! Runs files of right answers through the calls that read one item of a file and put it again, and tells what did
-//! not pass.
+//! Runs files of right answers through the calls that read, check and put one item of a file, and prints the lines that
+//! fail.
 //!
-//! The command line has the names of such files. `value.txt`, `statics.txt`, `set.txt`, `directory.txt`,
-//! `debug_info.txt`, `code.txt` and `classdata.txt` ask on each line for an item of a file that lies beside them,
-//! `item_puts.txt` for the bytes that it is put as, `checks.txt` for what is found where it is checked and not kept, `weights.txt`
-//! for what it weighs, `units.txt` for the units of code, and in an `index.txt` the first word of a line says what the line
-//! asks for. What each line passed is counted by its kind; a line that did not pass is printed whole, with its file and
-//! number.
+//! The arguments are the names of such files. `value.txt`, `statics.txt`, `set.txt`, `directory.txt`, `debug_info.txt`,
+//! `code.txt` and `classdata.txt` ask on each line for an item of a file in their folder. `item_puts.txt` asks for the
+//! bytes that an item is put as, `checks.txt` for the numbers of an item that is checked and not kept, `weights.txt`
+//! for its weight, and `units.txt` for the units of code. In an `index.txt` the first word of a line says what the line
+//! asks for. Lines are counted by kind; a line that fails is printed whole, with its file and number.
 //!
-//! The status is 0 where each line passed, 1 where a line failed, or a file cannot be read or has no case, 2 where the
-//! arguments are not the names of such files, and 4 where the output or memory fails.
+//! The status is 0 if no line failed, 1 if a line failed or a file cannot be read or has no case, 2 on a usage error, 4
+//! if the output cannot be written or allocation failed.
 #![tactic(auto)]
 
 mod canonical;

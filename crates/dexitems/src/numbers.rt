@@ -1,4 +1,4 @@
-//! Numbers that are led on to other numberings.
+//! Maps of numbers to other numberings.
 
 ghost use Rattle.std.specs.Prelude.{IfOk, All};
 ghost use Rattle.dexpool.specs.Orderly.{LeadDown};
@@ -11,7 +11,7 @@ use dexinsn::Pieces;
 use dexpool::{Marks, Numbering, Remap};
 use std::alloc::{AllocError, Global};
 
-/// A map that leads each number of a numbering to itself.
+/// Returns the map that maps each number of a numbering to itself.
 pub fn as_it_is(alloc: Global, numbering: &Numbering<'_>) -> Result<Remap, AllocError> {
     let mut parts = Vec::new(alloc);
     parts.push(numbering)?;
@@ -19,7 +19,7 @@ pub fn as_it_is(alloc: Global, numbering: &Numbering<'_>) -> Result<Remap, Alloc
     remaps.pop().ok_or(AllocError)
 }
 
-/// Whether two items of a numbering are the same.
+/// Returns whether two items of a numbering are the same.
 pub fn is_same(
     alloc: Global,
     numbering: &Numbering<'_>,
@@ -30,7 +30,7 @@ pub fn is_same(
     Ok(item.same_mapped(&remap, other, &remap))
 }
 
-/// Whether pieces of a numbering are the same.
+/// Returns whether pieces of a numbering are the same.
 pub fn are_same_pieces(
     alloc: Global,
     numbering: &Numbering<'_>,
@@ -41,7 +41,7 @@ pub fn are_same_pieces(
     Ok(pieces.same_mapped(&remap, others, &remap))
 }
 
-/// Whether an item is the same, led on by a map, as another whose numbers are those of a numbering.
+/// Returns whether a map maps an item to another, whose numbers are those of `numbering`.
 pub fn is_led_to<'i>(
     alloc: Global,
     item: &Item<'i>,
@@ -53,7 +53,7 @@ pub fn is_led_to<'i>(
     Ok(item.same_mapped(remap, other, &as_it_is))
 }
 
-/// A numbering of just the symbols that occur in an item, and where numbers lead.
+/// Returns a numbering of just the symbols that occur in an item, and the map to it.
 pub fn kept<'n>(
     alloc: Global,
     numbering: &Numbering<'n>,

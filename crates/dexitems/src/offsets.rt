@@ -1,12 +1,12 @@
-//! Where the items of an accepted file stand, by the offsets in its bytes alone. A number that its bytes do not spell is 0.
+//! The offsets of the items of an accepted file, from its bytes alone. A number that the bytes do not encode is 0.
 
 use dexhead::u32_at;
 use dexleb::read_u;
 use std::alloc::{AllocError, Global};
 use std::collections::BTreeMap;
 
-/// The offsets in an annotations_directory_item: that of the class's own set, and for each member of a class, in its order,
-/// that of its set or of the list of its parameters' sets; 0 stands for none.
+/// The offsets in an annotations_directory_item: that of the class's own set, and for each member of the class, in
+/// order, that of its set or of the list of its parameters' sets. 0 denotes none.
 #[derive(Drop)]
 pub struct DirectoryOffs {
     pub own: u32,
@@ -15,7 +15,7 @@ pub struct DirectoryOffs {
     pub parameters: Vec<u32>,
 }
 
-/// The number in the four bytes at a place.
+/// Returns the number that the four bytes at `at` encode.
 pub fn number_at(bytes: &[u8], at: usize) -> u32 {
     if at >= bytes.len() || bytes.len() - at < 4 {
         return 0;
@@ -23,12 +23,12 @@ pub fn number_at(bytes: &[u8], at: usize) -> u32 {
     u32_at(bytes, at)
 }
 
-/// The number in the four bytes at a distance from an offset.
+/// Returns the number that four bytes encode, at a distance after an offset.
 pub fn number_behind(bytes: &[u8], off: u32, distance: usize) -> u32 {
     number_at(bytes, (off as usize).saturating_add(distance))
 }
 
-// Numbers that stand one behind the other as uleb128.
+// Consecutive numbers in uleb128.
 #[derive(Drop)]
 struct Ulebs<'b> {
     bytes: &'b [u8],
@@ -36,7 +36,7 @@ struct Ulebs<'b> {
 }
 
 impl Ulebs<'_> {
-    // The next number.
+    // Returns the next number.
     fn next(&mut self) -> u32 {
         if self.at >= self.bytes.len() {
             return 0;
@@ -50,13 +50,14 @@ impl Ulebs<'_> {
         }
     }
 
-    // What two numbers come to.
+    // Returns the sum of the next two numbers.
     fn sum(&mut self) -> u64 {
         u64::from(self.next()) + u64::from(self.next())
     }
 }
 
-/// The offset of the code of each method in the class_data_item at an offset, the direct ones first; 0 stands for none.
+/// Returns the offset of the code of each method in the class_data_item at an offset, direct methods first. 0 denotes
+/// none.
 pub fn method_code_offs(alloc: Global, bytes: &[u8], off: u32) -> Result<Vec<u32>, AllocError> {
     let mut numbers = Ulebs {
         bytes,
@@ -75,7 +76,7 @@ pub fn method_code_offs(alloc: Global, bytes: &[u8], off: u32) -> Result<Vec<u32
     Ok(offs)
 }
 
-// So many pairs of a number and an offset from a place on.
+// Returns `count` pairs of a number and an offset, from `at` on.
 fn pairs_at(
     alloc: Global,
     bytes: &[u8],
@@ -92,7 +93,7 @@ fn pairs_at(
     Ok(pairs)
 }
 
-// The offset that belongs to each number; 0 stands for none.
+// Returns the offset of each number; 0 if the pairs have none.
 fn offs_of(
     alloc: Global,
     numbers: &[u32],
@@ -108,7 +109,7 @@ fn offs_of(
     Ok(offs)
 }
 
-// The offset that belongs to each number by so many pairs from a place on; 0 stands for none.
+// Returns the offset of each number in `count` pairs from `at` on; 0 if the pairs have none.
 fn member_offs(
     alloc: Global,
     bytes: &[u8],
@@ -120,7 +121,7 @@ fn member_offs(
     offs_of(alloc, numbers, &pairs)
 }
 
-/// The offsets in the annotations_directory_item at an offset, for fields and methods of these numbers.
+/// Returns the offsets in the annotations_directory_item at an offset, for fields and methods of these numbers.
 pub fn directory_offs(
     alloc: Global,
     bytes: &[u8],
@@ -145,7 +146,7 @@ pub fn directory_offs(
     })
 }
 
-/// The offsets in the list of sets at an offset; 0 stands for none.
+/// Returns the offsets in the list of sets at an offset. 0 denotes none.
 pub fn list_offs(alloc: Global, bytes: &[u8], off: u32) -> Result<Vec<u32>, AllocError> {
     let count = number_behind(bytes, off, 0);
     let mut offs = Vec::new(alloc);

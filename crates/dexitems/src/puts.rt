@@ -1,7 +1,7 @@
-//! Items put again: a word for the item, and `FILE OFFSET HEX`, what is appended for the item that stands there, its
-//! numbers those of the file's own pools. The words are `value`, `statics`, `debug`, `annotations` (those of the set there,
-//! one after the other), `code` (`FILE OFFSET DEBUG_OFF HEX`) and `set` (`FILE OFFSET FIRST HEX`, the annotations standing
-//! from FIRST on).
+//! Items put again: a word for the item, and `FILE OFFSET HEX`, the bytes that are put for the item at the offset, with
+//! the numbers of the file's own pools. The words are `value`, `statics`, `debug`, `annotations` (the annotations of
+//! the set, one after the other), `code` (`FILE OFFSET DEBUG_OFF HEX`) and `set` (`FILE OFFSET FIRST HEX`, with the
+//! annotations from FIRST on).
 
 ghost use Rattle.dexpool.specs.Pools.{ArePools};
 
@@ -15,7 +15,7 @@ use dexpool::Numbering;
 use dexval::{AnnotationSet, counts_law, put_annotation, put_set, put_statics, put_value};
 use std::alloc::{AllocError, Global};
 
-/// An item to be put.
+/// How an item is put.
 #[derive(Clone, Copy)]
 pub enum Put {
     /// A value.
@@ -28,12 +28,12 @@ pub enum Put {
     Annotations,
     /// Code whose debug program is at this offset.
     Code(u32),
-    /// A set whose annotations stand from this offset on.
+    /// A set whose annotations are at this offset, one after the other.
     Set(u32),
 }
 
 impl Put {
-    // The item of a line, and the right bytes.
+    // Parses how the item of a line is put, and the right bytes.
     fn of<'l>(line: Line<'l>) -> Result<(Put, &'l str), CaseFault> {
         let (operand, right) = match line.word {
             "code" | "set" => first_word(line.rest)?,
@@ -43,7 +43,7 @@ impl Put {
         Ok((Put::of_word(line.word, operand)?, right))
     }
 
-    /// The item that a word names, with the offset of its debug program or of its first annotation.
+    /// Returns how the item that a word names is put, with the offset of its debug program or of its first annotation.
     pub fn of_word(word: &str, off: u32) -> Result<Put, CaseFault> {
         match word {
             "value" => Ok(Put::Value),
@@ -56,7 +56,7 @@ impl Put {
         }
     }
 
-    // The kind of the item that is read.
+    // Returns the kind of the item that is read.
     fn kind(self) -> ItemKind {
         match self {
             Put::Value => ItemKind::Value,
@@ -67,8 +67,8 @@ impl Put {
         }
     }
 
-    /// The bytes that the item at an offset is put as. A line fails where no such item stands there, or where it may not be
-    /// put.
+    /// Reads the item at an offset, and returns the bytes that it is put as. A line fails if there is no such item, or
+    /// it may not be put.
     pub fn bytes_at(self, alloc: Global, file: &DexFile<'_>, off: u32) -> Result<Vec<u8>, CaseFault>
         requires { ArePools file.now.frame file.now.pools }
     {
@@ -76,7 +76,7 @@ impl Put {
         self.bytes_of(alloc, &item, file.pools.numbering())
     }
 
-    // The bytes that an item is put as.
+    // Returns the bytes that an item is put as. A line fails if the item may not be put.
     fn bytes_of(
         self,
         alloc: Global,
@@ -91,7 +91,7 @@ impl Put {
         }
     }
 
-    // Appends an item, if it is one that may be put.
+    // Appends an item if it may be put, and returns whether it may.
     fn append(
         self,
         item: &Item<'_>,
@@ -125,7 +125,7 @@ pub fn run(alloc: Global, file: &DexFile<'_>, line: Line<'_>) -> Result<Outcome,
     Ok(Outcome::of(word_of(alloc, &bytes)?, right))
 }
 
-// Bytes as a word of hexadecimal digits. None are `-`.
+// Returns bytes in hexadecimal, or `-` if there are none.
 fn word_of(alloc: Global, bytes: &[u8]) -> Result<String, AllocError> {
     if bytes.is_empty() {
         return String::from_str(alloc, "-");
@@ -133,7 +133,6 @@ fn word_of(alloc: Global, bytes: &[u8]) -> Result<String, AllocError> {
     hex::encode(alloc, bytes)
 }
 
-// Appends the annotations of a set.
 fn append_annotations(
     set: &AnnotationSet,
     numbering: &Numbering<'_>,
@@ -145,7 +144,7 @@ fn append_annotations(
     Ok(())
 }
 
-// Appends code; none whose types have numbers of more than 16 bits.
+// Appends code if the numbers of its types have at most 16 bits, and returns whether they have.
 fn append_code(
     code: &Code<'_>,
     debug_off: u32,
@@ -159,7 +158,7 @@ fn append_code(
     Ok(true)
 }
 
-// Appends a set; none that is too heavy to be behind the place where its annotations stand.
+// Appends a set if `first` plus its weight is below 2^32, and returns whether it is.
 fn append_light_set(
     set: &AnnotationSet,
     first: u32,

@@ -1,7 +1,7 @@
-//! Items read: `FILE PLACE ok ITEM`, or `FILE PLACE refused NUMBER | NUMBER ..`, any of which is right. The place is an
-//! offset, and that of what a class row declares is the number of the row; the item is that in print, and of a value the
-//! number of its bytes stands before it. An item that is read is also copied, its symbols are marked, its numbers led to
-//! those of a numbering of just these symbols, and it is compared with what that gives.
+//! Items read: `FILE PLACE ok ITEM`, or `FILE PLACE refused NUMBER | NUMBER ..`, of which any is right. PLACE is an
+//! offset, or the number of a class row. ITEM is the item as text; before a value is its number of bytes. An item that
+//! is read is also copied, its symbols are marked, its numbers are mapped to a numbering of just these symbols, and it
+//! is compared with the result.
 
 ghost use Rattle.std.specs.Prelude.{◌≡◌};
 ghost use Rattle.dexpool.specs.Pools.{ArePools};
@@ -37,7 +37,7 @@ pub fn run(
     }
 }
 
-// How a line goes whose item is read.
+// Returns the outcome of a line whose item is read.
 fn judged(
     alloc: Global,
     file: &DexFile<'_>,
@@ -51,7 +51,8 @@ fn judged(
     Ok(Outcome::of(told, line.rest))
 }
 
-/// How a line goes whose item is refused: right is `refused NUMBER | NUMBER ..`, with the number that is reported.
+/// Returns the outcome of a line whose item is refused: it passes if `right` is `refused NUMBER | NUMBER ..` with this
+/// number.
 pub fn refused(alloc: Global, number: u8, right: &str) -> Result<Outcome, CaseFault> {
     if is_listed(number, right.strip_prefix("refused ").unwrap_or("")) {
         return Ok(Outcome::Passed);
@@ -59,7 +60,7 @@ pub fn refused(alloc: Global, number: u8, right: &str) -> Result<Outcome, CaseFa
     Ok(Outcome::Failed(format!(in alloc; "refused {number}")?))
 }
 
-// Whether a number is one of those that a line lists.
+// Returns whether a line lists this number.
 fn is_listed(number: u8, listed: &str) -> bool {
     for one in listed.split(" | ") {
         if let Ok(one) = one.parse::<u8>() {
@@ -71,7 +72,7 @@ fn is_listed(number: u8, listed: &str) -> bool {
     false
 }
 
-// An item in print, behind a word.
+// Returns the text of an item, after a word.
 fn told(
     alloc: Global,
     word: &str,
@@ -84,7 +85,7 @@ fn told(
     text.finish()
 }
 
-// Fails the line unless the other calls on an item go right.
+// Fails the line unless the other calls on an item are right.
 fn check_calls(
     alloc: Global,
     file: &DexFile<'_>,
@@ -100,7 +101,7 @@ fn check_calls(
     }
 }
 
-// Fails the line unless a copy of an item, if it has one, is the same, and goes right where it is led on.
+// Fails the line unless a copy of an item, if there is one, is the same, and is mapped right.
 fn check_copy(alloc: Global, numbering: &Numbering<'_>, item: &Item<'_>) -> Result<(), CaseFault>
     requires { IsKnownItem numbering.now item.now }
 {
@@ -114,8 +115,7 @@ fn check_copy(alloc: Global, numbering: &Numbering<'_>, item: &Item<'_>) -> Resu
     }
 }
 
-// Fails the line unless a copy of an item, or one that is led on, compares with it as it has to: the same where it is alike,
-// and else another.
+// Fails the line unless a copy of an item, mapped or not, compares equal to the item if and only if `is_alike`.
 fn check_likeness(
     alloc: Global,
     numbering: &Numbering<'_>,
@@ -132,8 +132,8 @@ fn check_likeness(
     )
 }
 
-// Fails the line unless a copy of an item that is led on to another numbering, if items of its kind are, is told apart from the
-// item just where a number changed, and prints the same.
+// Maps a copy of an item to a numbering of just its symbols, if items of its kind can be mapped. Fails the line unless
+// the copy is equal to the item just if no number changed, and both print the same.
 fn check_lead<'i>(
     alloc: Global,
     numbering: &Numbering<'_>,
@@ -153,7 +153,7 @@ fn check_lead<'i>(
     check_led(alloc, numbering, item, copy, &others, &remap)
 }
 
-// The same, given the copy that is led on.
+// Checks the copy that is mapped.
 fn check_led<'i>(
     alloc: Global,
     numbering: &Numbering<'_>,
@@ -167,12 +167,13 @@ fn check_led<'i>(
     let text = told(alloc, "", numbering, item)?;
     let text_kept = told(alloc, "", kept, led)?;
     check(alloc, text == text_kept, "led on it prints otherwise")?;
-    // By one numbering both print the same just where their numbers are the same.
+    // With one numbering both print the same if and only if their numbers are the same.
     let has_same_numbers = told(alloc, "", numbering, led)? == text;
     check_likeness(alloc, numbering, led, item, has_same_numbers)
 }
 
-// Fails the line unless the pieces of the code at an offset are read alone, and put as they stand.
+// Fails the line unless the pieces of the code at an offset are read without the rest of the code, and put as the bytes
+// of the file.
 fn check_pieces(
     alloc: Global,
     file: &DexFile<'_>,
@@ -186,7 +187,7 @@ fn check_pieces(
     }
 }
 
-// The same, given the pieces that are read.
+// Checks the pieces that are read.
 fn check_read_pieces(
     alloc: Global,
     file: &DexFile<'_>,
@@ -204,7 +205,7 @@ fn check_read_pieces(
     check(alloc, is_whole, "another number of units")
 }
 
-// The units that a copy of pieces is put as, whose numbers were led to themselves.
+// Returns the units that a copy of pieces is put as, after its numbers are mapped to themselves.
 fn copied_units(
     alloc: Global,
     numbering: &Numbering<'_>,

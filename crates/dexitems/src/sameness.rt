@@ -1,6 +1,6 @@
 //! Two items of a file compared: a word for their kind, and `FILE PLACE PLACE yes` or `.. no`. Values, arrays, sets and
-//! debug programs are compared as they are, looked up in a set of what is hashed, and compared led on; code and what class
-//! rows declare are compared led on, and for `bare` the debug program of the first code is dropped before.
+//! debug programs are compared for equality, looked up in a hash set, and compared under a map. Code and members are
+//! compared under a map. For `bare` the debug program of the first code is dropped before.
 
 ghost use Rattle.dexpool.specs.Pools.{ArePools};
 
@@ -20,7 +20,7 @@ pub fn run(alloc: Global, file: &DexFile<'_>, line: Line<'_>) -> Result<Outcome,
     Ok(Outcome::of(String::from_str(alloc, likeness.word())?, right))
 }
 
-// How the item of a line compares with that at another place.
+// Compares the item of a line with the item at another place.
 fn likeness_at(
     alloc: Global,
     file: &DexFile<'_>,
@@ -36,7 +36,7 @@ fn likeness_at(
     likeness_to(alloc, file, line, &item, place)
 }
 
-// How an item, of the kind that a line names, compares with that at a place.
+// Compares an item, of the kind that a line names, with the item at a place.
 fn likeness_to(
     alloc: Global,
     file: &DexFile<'_>,

@@ -1,4 +1,4 @@
-//! Items in print, with the symbols that their numbers stand for.
+//! Items as text, with the symbols that their numbers denote.
 
 mod code;
 mod debug;
@@ -14,7 +14,7 @@ use dexpool::Numbering;
 use members::print_members;
 use values::{print_directory, print_set, print_value, print_values};
 
-/// Prints an item, whose numbers are those of a numbering, as the files of right answers have it.
+/// Prints an item of a numbering, as the files of right answers have it.
 pub fn print_item(item: &Item<'_>, numbering: &Numbering<'_>, out: &mut Printed) {
     match item {
         Item::Value(value, size) => {

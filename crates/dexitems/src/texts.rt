@@ -1,7 +1,7 @@
-//! Items in words.
+//! Marks and positions of items.
 //!
-//! `marks KIND FILE OFFSET TEXTS TYPES PROTOS FIELDS METHODS` asks for the numbers of the symbols of
-//! each kind that occur, joined by commas, or `-` for none, and `positions FILE OFFSET ADDRESS:LINE,ADDRESS:LINE,..` for the
+//! `marks KIND FILE OFFSET TEXTS TYPES PROTOS FIELDS METHODS` asks for the numbers of the symbols of each kind that
+//! occur, separated by commas, or `-` for none. `positions FILE OFFSET ADDRESS:LINE,ADDRESS:LINE,..` asks for the
 //! positions of a debug program, or `-` for none.
 
 ghost use Rattle.dexpool.specs.Pools.{ArePools};
@@ -29,7 +29,7 @@ pub fn run(
     Ok(Outcome::of(answered, line.rest))
 }
 
-// What a line asks of the item at its place.
+// Returns what a line asks of the item at its place.
 fn text_at(
     alloc: Global,
     file: &DexFile<'_>,
@@ -42,7 +42,7 @@ fn text_at(
     text_of(alloc, file.pools.numbering(), kind, line, &item)
 }
 
-// What a line asks of an item.
+// Returns what a line asks of an item.
 fn text_of(
     alloc: Global,
     numbering: &Numbering<'_>,
@@ -59,7 +59,7 @@ fn text_of(
     }
 }
 
-// The numbers of the symbols that occur in an item. Directories and members are not asked.
+// Returns the numbers of the symbols that occur in an item. Lines do not ask for directories and members.
 fn marks_text(
     alloc: Global,
     numbering: &Numbering<'_>,
@@ -75,7 +75,7 @@ fn marks_text(
     Ok(told_marks(alloc, &marks)?)
 }
 
-// The numbers of what is marked.
+// Returns the numbers of the marked symbols.
 fn told_marks(alloc: Global, marks: &Marks) -> Result<String, AllocError> {
     let mut text = Printed::new(alloc);
     print_places("", &marks.strings, &mut text);
@@ -86,7 +86,7 @@ fn told_marks(alloc: Global, marks: &Marks) -> Result<String, AllocError> {
     text.finish()
 }
 
-// Prints the places of the marks that are set behind a text, joined by commas, or `-` for none.
+// Prints a text, and then the indices of the set marks, separated by commas, or `-` if there are none.
 fn print_places(before: &str, marks: &[bool], out: &mut Printed) {
     out.add(before);
     let mut mark = "";
@@ -102,7 +102,7 @@ fn print_places(before: &str, marks: &[bool], out: &mut Printed) {
     }
 }
 
-// The positions of a debug program.
+// Returns the positions of an item that is a debug program.
 fn positions_text(alloc: Global, item: &Item<'_>) -> Result<String, CaseFault> {
     match item {
         Item::Debug(debug) => Ok(told_positions(alloc, debug)?),
@@ -110,7 +110,7 @@ fn positions_text(alloc: Global, item: &Item<'_>) -> Result<String, CaseFault> {
     }
 }
 
-// The positions of a debug program.
+// Returns the positions of a debug program.
 fn told_positions(alloc: Global, debug: &Debug) -> Result<String, AllocError> {
     let positions = positions(alloc, debug)?;
     let mut text = Printed::new(alloc);

@@ -1,5 +1,5 @@
-//! The units of code: `FILE OFFSET INDICES UNITS`, how many symbols occur in the code there, and its units one by one, those of
-//! indices as zero.
+//! The units of code: `FILE OFFSET INDICES UNITS`, with the number of symbols that occur in the code, and its units in
+//! order, with zero for the units of indices.
 
 use crate::dex_file::DexFile;
 use crate::line::Line;
@@ -17,7 +17,7 @@ pub fn run(alloc: Global, file: &DexFile<'_>, line: Line<'_>) -> Result<Outcome,
     }
 }
 
-// How many symbols occur in pieces, and their units.
+// Returns the number of symbols that occur in pieces, and their units.
 fn text_of(alloc: Global, pieces: &Pieces<'_>) -> Result<String, AllocError> {
     let mut text = Printed::new(alloc);
     text.add_shown(&pieces.symbol_count());

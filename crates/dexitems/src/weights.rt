@@ -1,6 +1,7 @@
-//! Items weighed: a word for the kind, and `FILE PLACE WEIGHT`, what the item weighs that is read there. A directory, and what a
-//! class row declares, has to be read where it may weigh just that, and not where it may weigh less. For `annotations` the
-//! number of bytes of each annotation of a set, and for `lists` that of each list of sets of a directory, joined by commas.
+//! Items weighed: a word for the kind, and `FILE PLACE WEIGHT`, the weight of the item at the place. A directory or the
+//! members of a class row must be read if they may weigh exactly that, and not if they may only weigh less. For
+//! `annotations` the line has the number of bytes of each annotation of a set, and for `lists` that of each list of
+//! sets of a directory, separated by commas.
 
 ghost use Rattle.dexpool.specs.Pools.{ArePools};
 
@@ -26,7 +27,7 @@ pub fn run(alloc: Global, file: &DexFile<'_>, line: Line<'_>) -> Result<Outcome,
     Ok(Outcome::of(answered, line.rest))
 }
 
-// What a line asks of the item at its place.
+// Returns what a line asks of the item at its place.
 fn text_at(alloc: Global, file: &DexFile<'_>, line: Line<'_>) -> Result<String, CaseFault>
     requires { ArePools file.now.frame file.now.pools }
 {
@@ -34,7 +35,7 @@ fn text_at(alloc: Global, file: &DexFile<'_>, line: Line<'_>) -> Result<String, 
     Ok(text_of(alloc, line.word, &item)?)
 }
 
-// What a line with this word asks of an item.
+// Returns what a line with this word asks of an item.
 fn text_of(alloc: Global, word: &str, item: &Item<'_>) -> Result<String, AllocError> {
     let mut text = Printed::new(alloc);
     match item {
@@ -45,7 +46,7 @@ fn text_of(alloc: Global, word: &str, item: &Item<'_>) -> Result<String, AllocEr
     text.finish()
 }
 
-// Prints how many bytes each annotation of a set takes.
+// Prints the number of bytes of each annotation of a set.
 fn print_annotation_sizes(set: &AnnotationSet, out: &mut Printed) {
     let mut mark = "";
     for annotation in set.annotations() {
@@ -55,7 +56,7 @@ fn print_annotation_sizes(set: &AnnotationSet, out: &mut Printed) {
     }
 }
 
-// Prints how many bytes each list of sets of a directory takes.
+// Prints the number of bytes of each list of sets of a directory.
 fn print_list_sizes(directory: &Directory, out: &mut Printed) {
     let mut mark = "";
     for (_, sets) in &directory.parameters {
@@ -65,7 +66,7 @@ fn print_list_sizes(directory: &Directory, out: &mut Printed) {
     }
 }
 
-// Fails a line unless its item is read where it may weigh this much, and not where it may weigh less.
+// Fails a line unless its item is read if it may weigh `weight`, and not if it may only weigh less.
 fn check_within(
     alloc: Global,
     file: &DexFile<'_>,
@@ -81,7 +82,7 @@ fn check_within(
     check(alloc, !is_read, "it is read within less than its weight")
 }
 
-// Whether the item of a line is read where it may weigh this much.
+// Returns whether the item of a line is read if it may weigh at most `most`.
 fn is_within(
     alloc: Global,
     file: &DexFile<'_>,
@@ -99,7 +100,7 @@ fn is_within(
     }
 }
 
-// Whether the directory at an offset is read where it may weigh this much.
+// Returns whether the directory at an offset is read if it may weigh at most `most`.
 fn is_directory_within(
     alloc: Global,
     file: &DexFile<'_>,
@@ -110,7 +111,7 @@ fn is_directory_within(
     Ok(found.is_some())
 }
 
-// Whether what a row declares is read where it may weigh this much.
+// Returns whether the members of a class row are read if they may weigh at most `most`.
 fn are_members_within(
     alloc: Global,
     file: &DexFile<'_>,

@@ -21,7 +21,7 @@ fn print_instruction(
     }
 }
 
-// Prints a piece: the unit at which it begins, and what it is.
+// Prints a piece: its first unit, and what it is.
 fn print_piece(piece: Piece, numbering: &Numbering<'_>, out: &mut Printed) {
     out.add_hex(piece.unit as u64, 4);
     out.add(": ");
@@ -40,7 +40,7 @@ fn print_piece(piece: Piece, numbering: &Numbering<'_>, out: &mut Printed) {
     }
 }
 
-/// Prints the lines that a listing has of code, joined by ` / `.
+/// Prints the lines of a listing for code, joined by ` / `.
 pub fn print_lines(code: &Code<'_>, numbering: &Numbering<'_>, out: &mut Printed) {
     let pieces = code.pieces();
     print_counted("code registers=", i64::from(pieces.registers()), out);

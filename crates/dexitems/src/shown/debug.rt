@@ -21,7 +21,7 @@ fn print_type_or_none(numbering: &Numbering<'_>, number: Option<u32>, out: &mut 
     }
 }
 
-// Prints where a local variable begins: an opcode, the register, the name and the type.
+// Prints the start of a local variable: the opcode, the register, the name and the type.
 fn print_local(
     opcode: &str,
     register_num: u32,
@@ -69,7 +69,7 @@ fn print_operation(operation: &Operation, numbering: &Numbering<'_>, out: &mut P
     }
 }
 
-/// Prints a debug program: the line that it starts at, the names of parameters, and the operations.
+/// Prints a debug program: its first line, the names of parameters, and the operations.
 pub fn print_debug(debug: &Debug, numbering: &Numbering<'_>, out: &mut Printed) {
     print_counted("debug ", i64::from(debug.line_start()), out);
     out.add(" (");

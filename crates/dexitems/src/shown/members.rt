@@ -1,4 +1,4 @@
-//! What class rows declare, as a listing has it.
+//! Members, as a listing has them.
 
 use crate::shown::code::print_lines;
 use crate::shown::symbols::{Naming, print_field, print_method};
@@ -6,7 +6,7 @@ use dexcases::Printed;
 use dexmembers::{Fields, Members, Method, Methods};
 use dexpool::Numbering;
 
-// The access flags that fields and methods have, from the lowest bit. Two bits have other names for methods.
+// The access flags of fields and of methods, from the lowest bit. Two bits have other names for methods.
 const FLAGS: [(u32, &str, &str); 17] = [
     (0x1, "public", "public"),
     (0x2, "private", "private"),
@@ -43,7 +43,7 @@ fn print_flags(flags: u32, is_method: bool, out: &mut Printed) {
     out.add(")");
 }
 
-// Prints fields of a kind, as the first lines or behind others.
+// Prints fields of a kind, with a separator before the first unless `are_first`.
 fn print_fields(
     are_first: bool,
     kind: &str,
@@ -72,7 +72,7 @@ fn print_coded(method: &Method<'_, '_>, numbering: &Numbering<'_>, out: &mut Pri
     }
 }
 
-// Prints methods of a kind, as the first lines or behind others.
+// Prints methods of a kind, with a separator before the first unless `are_first`.
 fn print_methods(
     are_first: bool,
     kind: &str,
@@ -89,7 +89,7 @@ fn print_methods(
     }
 }
 
-/// Prints the lines of members, or `-` for none.
+/// Prints the lines of members, or `-` if there are none.
 pub fn print_members(members: &Members<'_>, names: &Numbering<'_>, out: &mut Printed) {
     let fields = members.static_fields();
     print_fields(true, "static-field ", &fields, names, out);

@@ -1,4 +1,4 @@
-//! Texts and symbols as a listing has them. A number that is none of a symbol is a question mark.
+//! Texts and symbols, as a listing has them. A number without a symbol prints as a question mark.
 
 use dexcases::Printed;
 use dexpool::{Numbering, SymbolKind};
@@ -7,9 +7,9 @@ use dexstr::Text;
 /// Whether the class of a field or method is printed.
 #[derive(Clone, Copy)]
 pub enum Naming {
-    /// `CLASS->` stands before the name.
+    /// `CLASS->` precedes the name.
     WithClass,
-    /// The name and the types stand alone.
+    /// The name and the types only.
     Alone,
 }
 
@@ -72,7 +72,7 @@ fn print_class(naming: Naming, numbering: &Numbering<'_>, class: usize, out: &mu
     }
 }
 
-/// Prints a field: `NAME:TYPE`, behind `CLASS->` or alone.
+/// Prints a field: `NAME:TYPE`, with or without `CLASS->` before it.
 pub fn print_field(naming: Naming, numbering: &Numbering<'_>, number: usize, out: &mut Printed) {
     if number >= numbering.count(SymbolKind::Field) {
         return out.add("?");
@@ -84,7 +84,7 @@ pub fn print_field(naming: Naming, numbering: &Numbering<'_>, number: usize, out
     print_type(numbering, field.typ, out);
 }
 
-/// Prints a method: `NAME(PARAMETERS)RETURN`, behind `CLASS->` or alone.
+/// Prints a method: `NAME(PARAMETERS)RETURN`, with or without `CLASS->` before it.
 pub fn print_method(naming: Naming, numbering: &Numbering<'_>, number: usize, out: &mut Printed) {
     if number >= numbering.count(SymbolKind::Method) {
         return out.add("?");
@@ -95,7 +95,7 @@ pub fn print_method(naming: Naming, numbering: &Numbering<'_>, number: usize, ou
     print_proto(numbering, method.proto, out);
 }
 
-/// Prints a symbol of a kind: a text in quotes, and a member behind its class.
+/// Prints a symbol of a kind: a text in quotes, and a member after its class.
 pub fn print_symbol(numbering: &Numbering<'_>, kind: SymbolKind, number: usize, out: &mut Printed) {
     match kind {
         SymbolKind::Text => print_string(numbering, number, out),

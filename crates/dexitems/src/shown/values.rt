@@ -17,13 +17,13 @@ fn print_named(
     print_symbol(numbering, kind, number as usize, out);
 }
 
-// Prints a word and the bits of a number, in so many hexadecimal digits.
+// Prints a word and the bits of a number, in `digits` hexadecimal digits.
 fn print_bits(word: &str, bits: u64, digits: usize, out: &mut Printed) {
     out.add(word);
     out.add_hex(bits, digits);
 }
 
-// Prints what stands before an item of a list: nothing before the first.
+// Prints the separator before an item of a list: nothing before the first.
 fn print_comma(is_first: bool, out: &mut Printed) {
     out.add(if is_first { "" } else { ", " });
 }

@@ -1,13 +1,13 @@
 /*
- * Preloaded into a program, makes chosen calls of the C library fail or come short, and counts them.
+ * A library to preload into a program. It makes chosen calls of the C library fail or come short, and counts them.
  *
- * FAULTS names what is chosen, as `growth=7`: the 7th growth fails. A growth is a call of malloc or realloc. Reads and
- * writes are counted apart, reads of files under /proc and writes to standard error not at all.
+ * FAULTS names the fault, such as `growth=7`: the 7th growth fails. A growth is a call of malloc or realloc. Reads and
+ * writes are counted separately; reads of files under /proc and writes to standard error are not counted.
  *
  *   growth=N      the Nth growth fails
  *   read=N        the Nth read fails with EIO; interrupted-read=N: with EINTR
- *   write=N       the Nth write fails with EIO; interrupted-write=N: with EINTR; empty-write=N: it takes no byte
- *   short-read=N  the Nth read moves one byte; short-read=0: each does; short-write=N: the same of writes
+ *   write=N       the Nth write fails with EIO; interrupted-write=N: with EINTR; empty-write=N: it moves no byte
+ *   short-read=N  the Nth read moves one byte; short-read=0: each does; short-write=N: the same for writes
  *
  * FAULTS_COUNTS names a file of 24 bytes, to which the numbers of growths, reads and writes are written as they rise.
  */
@@ -66,7 +66,7 @@ __attribute__((constructor)) static void choose(void) {
     }
 }
 
-/* Counts a call, and answers whether the fault comes at it. */
+/* Counts a call, and returns whether it has the fault. */
 static int comes_at(int kind) {
     uint64_t call = ++counts[kind];
     return chosen && chosen->kind == kind && (chosen_call == 0 || chosen_call == call);
@@ -88,7 +88,7 @@ void *realloc(void *block, size_t size) {
     return __libc_realloc(block, size);
 }
 
-/* How many bytes a call moves that is asked for so many, or -1 where it fails. */
+/* Returns how many of size bytes a call moves, or -1 if it fails. */
 static ssize_t moved(int kind, size_t size) {
     if (!comes_at(kind)) return size;
     if (chosen->how == MOVES_ONE) return size < 1 ? size : 1;

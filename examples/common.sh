@@ -1,6 +1,6 @@
 # shellcheck shell=sh
-# What the recipes share. Each `run` reads this file first.
-# DEXKIT names the program; without it, it is the one that `make` at the top of the repository builds.
+# The common part of the recipes. Each `run` reads this file first.
+# DEXKIT names the program; without it, the program is the one that `make` at the top of the repository builds.
 set -eu
 export LC_ALL=C.UTF-8
 
@@ -13,13 +13,13 @@ fi
 DEXKIT=$(realpath "$(command -v "$DEXKIT")")
 export DEXKIT
 
-# A folder of this run's own, with copies of the example files, so that a recipe may change them.
+# A folder for this run, with copies of the example files, so that a recipe may change them.
 room=$(mktemp -d)
 trap 'cd / && chmod -R u+w "$room" && rm -rf "$room"' EXIT
 cp -r "$examples/dex" "$room/dex"
 cd "$room"
 
-# File names of the examples. Names like these are what real tools write.
+# File names of the examples. Real tools write such names.
 dollar='MoreObjects$ToStringHelper$ValueHolder.dex'
 iterator='AbstractMapBasedMultimap$WrappedList$WrappedListIterator.dex'
 
@@ -28,7 +28,7 @@ fail() {
     exit 1
 }
 
-# The names of all example files, one a line, in one order.
+# Prints the names of all example files, one a line, in a fixed order.
 all_files() {
     find dex -name '*.dex' | LC_ALL=C sort
 }
@@ -39,13 +39,13 @@ flat() {
     "$DEXKIT" merge --out flat.dex @files
 }
 
-# Two files have the same bytes.
+# Checks that two files have the same bytes.
 same() {
     cmp "$1" "$2" || fail "$1 and $2 differ"
     echo "same bytes: $1 and $2"
 }
 
-# A file has the bytes that an independent program wrote for a file of that name.
+# Checks that a file has the bytes that an independent program wrote for a file of that name.
 same_as_reference() {
     wanted=$(sed -n "s|^\([0-9a-f]*\)  $2\$|\1|p" "$examples/reproducible/SHA256SUMS")
     [ -n "$wanted" ] || fail "SHA256SUMS has no $2"
@@ -53,13 +53,13 @@ same_as_reference() {
     echo "bytes of the reference: $1"
 }
 
-# A count is the expected one.
+# Checks that a count is the expected one.
 counted() {
     [ "$2" = "$3" ] || fail "$1: $2 instead of $3"
     echo "$1: $2"
 }
 
-# A command fails.
+# Checks that a command fails.
 refused() {
     if "$@" >log 2>&1; then
         cat log

@@ -12,8 +12,8 @@ def _merged(ctx, name, files):
     arguments.add("merge")
     arguments.add("--out", out)
 
-    # The names of the files go into a file of their own, one a line: there may be more than a command line takes. Other
-    # names than ASCII go onto the command line, since Bazel 4 writes them wrongly into that file.
+    # The names of the files go into a separate file, one a line: there may be more than a command line takes. Names
+    # that are not ASCII go onto the command line, since Bazel 4 writes them wrongly into that file.
     arguments.add_all([file for file in files if not _is_ascii(file)])
     names = ctx.actions.args()
     names.add_all([file for file in files if _is_ascii(file)])
@@ -35,11 +35,11 @@ def _dex_merge_impl(ctx):
         if file.extension != "dex":
             fail("%s is no .dex file" % file.short_path)
 
-    # A library without classes gives no file, and is left out of what stands on it.
+    # A library without classes gives no file, and is left out of what depends on it.
     if not files:
         return [DefaultInfo(files = depset())]
 
-    # The path of a file says which shard has it, so a file that comes or goes leaves the other shards as they are.
+    # The path of a file selects its shard, so a file that is added or removed does not change the other shards.
     shards = {}
     for file in files:
         shards.setdefault(hash(file.short_path) % ctx.attr.shards, []).append(file)

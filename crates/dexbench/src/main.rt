@@ -78,7 +78,7 @@ fn time_texts(
     }
 }
 
-// Times the join of `parts` numberings that the symbols of one are dealt to.
+// Distributes the symbols of a numbering among `parts` numberings, and times their join.
 fn time_join(
     rt: &(impl CpuClock + Print),
     alloc: Global,
@@ -94,7 +94,7 @@ fn time_join(
     })?)
 }
 
-// Times how the pools of this numbering are read, and how numberings that its symbols are dealt to are joined.
+// Times how the pools of this numbering are read, and how numberings with parts of its symbols are joined.
 fn time_numbering(
     rt: &(impl CpuClock + Print),
     alloc: Global,

@@ -1,4 +1,4 @@
-//! The pools of a file, and joins of numberings that its symbols are dealt to.
+//! The pools of a file, and joins of numberings with parts of its symbols.
 
 ghost use Rattle.std.specs.Prelude.{◌≡◌, length, IfOk};
 ghost use Rattle.dexpool.specs.Numberings.{AreMarksOf};
@@ -71,8 +71,8 @@ fn marks_of(
     Ok(marks)
 }
 
-/// Deals the symbols of a numbering to `parts` numberings: each has every `parts`-th symbol, and the symbols that these
-/// name.
+/// Distributes the symbols of a numbering among `parts` numberings: each has every `parts`-th symbol, and the symbols
+/// that these name.
 pub fn dealt<'a>(
     alloc: Global,
     numbering: &Numbering<'a>,

@@ -37,12 +37,12 @@ pub record Strips (b whole : List ℕ) : Type 0 where
   pub is : IsReadAs b collection
   pub whole_is : whole ≡ canonical (strip_collection collection)
 
--- what is reported of the bytes holds
+-- what is reported of the bytes is true
 abbrev pub IsTold : List ℕ → Answer → Type 0
 IsTold b (told.Accepted n) = HasClasses b n
 IsTold b (told.Refused r) = IsRefused b r.number r.place
 
--- what is right holds: one of the refusals, or the number of classes
+-- what the line says is true: one of the refusals, or the number of classes
 abbrev pub IsRight : List ℕ → RightAnswer → Type 0
 IsRight b (right.Accepted n) = HasClasses b n
 IsRight b (right.Refused rs) = (r : Refusal) × Contains rs.items r × IsRefused b r.number r.place

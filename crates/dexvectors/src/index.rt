@@ -41,7 +41,7 @@ pub fn run_case<R: Files + AllocGlobal>(
     }
 }
 
-// Runs a line that names the file which must come out of another.
+// Runs a line that names a file and the file that the call must give.
 fn compare(alloc: Global, kind: Kind, bytes: &[u8], right: &[u8]) -> Result<Outcome, CaseFault> {
     match kind {
         Kind::Normalise => normalise::run(alloc, bytes, right),

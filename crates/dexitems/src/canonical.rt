@@ -157,7 +157,7 @@ fn count_row(
     Ok(())
 }
 
-// Counts the item at an offset, if there is one. Counts with code its debug program, and with a set its annotations.
+// Counts the item at an offset, if there is one, and also the debug program of code and the annotations of a set.
 fn count_item(alloc: Global, file: &DexFile<'_>, kind: ItemKind, off: u32, count: &mut Count)
     requires { ArePools file.now.frame file.now.pools }
 {

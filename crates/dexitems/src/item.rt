@@ -40,14 +40,14 @@ pub enum Item<'a> {
     Debug(Debug),
     /// A code item.
     Code(Code<'a>),
-    /// The members that a class row declares.
+    /// What a class row declares: its members, annotations and static values.
     Members(Members<'a>),
 }
 
 impl<'a> Item<'a> {
     /// Reads the item of a kind at a place, which is an offset, or the number of a class row.
     ///
-    /// Error: `Refused(0)` if there is no such row, or the members of the row weigh more than 2^32 - 1.
+    /// Error: `Refused(0)` if there is no such row, or what it declares weighs more than 2^32 - 1.
     pub fn read(
         alloc: Global,
         file: &DexFile<'a>,
@@ -218,7 +218,7 @@ impl<'a> Item<'a> {
     }
 }
 
-/// Returns the members of a class row; `None` if there is no such row, or the members weigh more than `most`.
+/// Returns what a class row declares; `None` if there is no such row, or what it declares weighs more than `most`.
 pub fn members_at<'a>(
     alloc: Global,
     file: &DexFile<'a>,

@@ -15,7 +15,7 @@ pub enum ItemKind {
     Debug,
     /// A code item.
     Code,
-    /// The members that a class row declares.
+    /// What a class row declares: its members, annotations and static values.
     Members,
 }
 

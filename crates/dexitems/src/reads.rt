@@ -133,7 +133,7 @@ fn check_likeness(
 }
 
 // Maps a copy of an item to a numbering of just its symbols, if items of its kind can be mapped. Fails the line unless
-// the copy is equal to the item just if no number changed, and both print the same.
+// the copy is equal to the item if and only if no number changed, and both print the same.
 fn check_lead<'i>(
     alloc: Global,
     numbering: &Numbering<'_>,

@@ -104,7 +104,7 @@ fn print_text(mark: &str, text: &Text<'_>, out: &mut Printed) {
     }
 }
 
-// Prints `-` if nothing was listed, so that the separator is still empty.
+// Prints `-` if nothing was listed, that is, if the separator is still empty.
 fn print_none(mark: &str, out: &mut Printed) {
     if mark.is_empty() {
         out.add("-");

@@ -43,7 +43,7 @@ chained K =
       map = omega (arith, map_start_is K, length-padding 4 (directory_end K));
     }
 
--- none ends behind 2^30 bytes
+-- none ends after 2^30 bytes
 pub record EndInFile (K : Ordered) : Type 0 where
   pub tables : data_start K ≤ 2 ^ 30
   pub type_lists : type_list_end K ≤ 2 ^ 30

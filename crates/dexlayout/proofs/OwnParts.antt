@@ -35,7 +35,7 @@ entries_mapped : {X : Type 0} (part : X → Section × ℕ × ℕ) (entries : X 
 entries_mapped part entries each [] = refl
 entries_mapped part entries each (x ∷ xs) = ap (λ es. es ++ flat_map entry_of (map part xs)) (each x) ∙ ap (λ es. entries x ++ es) (entries_mapped part entries each xs)
 
--- where the first item stands, if there is one
+-- the offset of the first item, if there is one
 first_stands : (kind : Section) (align from : ℕ) (items : List (List ℕ))
     → entry_of (kind, length items, round_up align from) ≡ (if length items == 0 then [] else (kind, length items, slice_index (offsets_from align from items) 0) ∷ [])
 first_stands kind align from [] = refl

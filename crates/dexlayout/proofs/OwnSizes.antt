@@ -48,7 +48,7 @@ statics_same m rising (c ∷ cs) known =
     ap (λ ns. static_size c ∷ ns) (statics_same m rising cs (All-tail (IsKnownClass m) c cs known))
     ∙ ap (λ n. n ∷ us) (array_same m rising c.members.static_values (All-head (IsKnownClass m) c cs known).members_known.values_known)
 
--- where the arrays stand
+-- the offsets of the arrays
 pub arrays_stand : (m : Mentions) (cs : List NumberedClass) → AreWritable m cs → (from : ℕ) → from ≡ annotation_end (ordered_of m cs)
     → StandSo (array_offsets (ordered_of m cs)) (array_end (ordered_of m cs)) (array_section (ordered_of m cs)).items (place_uses 1 (none_from from) (map static_size cs))
 unfolding array_offsets array_end
@@ -64,7 +64,7 @@ arrays_stand m cs w from e =
 abbrev pub methods_in_all : List NumberedClass → List NumberedMethod
 methods_in_all cs = flat_map (λ c. methods_of c.members) cs
 
--- they stand for those of the definitions
+-- they denote those of the definitions
 pub methods_mean : (m : Mentions) (cs : List NumberedClass) → all_methods (map (definition_of m) cs) ≡ map (method_in m) (methods_in_all cs)
 methods_mean m [] = refl
 methods_mean m (c ∷ cs) =
@@ -85,18 +85,18 @@ sizes_joined : (cs : List NumberedClass) → flat_map class_code_sizes cs ≡ ma
 sizes_joined [] = refl
 sizes_joined (c ∷ cs) = ap (λ ns. class_code_sizes c ++ ns) (sizes_joined cs) ∙ sym (map-append code_size (methods_of c.members) (methods_in_all cs))
 
--- what is told of the bytes of code
+-- numbered code has the bytes of the code that it denotes
 abbrev pub CodeBytesAre : Type 0
 CodeBytesAre = (m : Mentions) (debug_off : ℕ) (c : NumberedItem) (x : symbolic.Code) → AreRising m → StandsForCode m c x → numbered_code_bytes debug_off c ≡ code_bytes m debug_off x
 
--- lists behind others, and before others
+-- lists after others, and before others
 behind : (a u v : List ℕ) → length u ≡ length v → length (a ++ u) ≡ length (a ++ v)
 behind a u v e = length-append a u ∙ ap (λ n. length a + n) e ∙ sym (length-append a v)
 
 before : (u v a : List ℕ) → length u ≡ length v → length (u ++ a) ≡ length (v ++ a)
 before u v a e = length-append u a ∙ ap (λ n. n + length a) e ∙ sym (length-append v a)
 
--- code is as long wherever its debug program stands
+-- the length of code does not depend on the offset of its debug program
 code_length_same : (m : Mentions) (o p : ℕ) (x : symbolic.Code) → length (code_bytes m o x) ≡ length (code_bytes m p x)
 unfolding code_bytes
 code_length_same m o p x = behind (ushort x.registers) _ _ (behind (ushort x.ins) _ _ (behind (ushort x.outs) _ _ (behind (ushort (length x.tries)) _ _ (before (uint o) (uint p) _ (length-uint o ∙ sym (length-uint p))))))
@@ -129,7 +129,7 @@ pub length-code_offsets : (K : Ordered) → length (code_offsets K) ≡ length (
 unfolding code_offsets
 length-code_offsets K = length-uses_offsets (code_uses K (debug_offsets K)) (offsets (code_section K)) ∙ length-zip_with _ (all_methods K.classes) (debug_offsets K) (length (all_methods K.classes)) refl (length-debug_offsets K)
 
--- where the code stands
+-- the offsets of code
 pub codes_stand : (m : Mentions) (cs : List NumberedClass) → AreWritable m cs → CodeBytesAre → (from : ℕ) → from ≡ debug_end (ordered_of m cs)
     → StandSo (code_offsets (ordered_of m cs)) (code_end (ordered_of m cs)) (code_section (ordered_of m cs)).items (place_uses 4 (none_from from) (flat_map class_code_sizes cs))
 unfolding code_offsets code_end
@@ -184,7 +184,7 @@ module _ (m : Mentions) (rising : AreRising m) where
       ∙ ap (λ s. s ∷ rest n) (data_same c (take n offs) (All-head (IsKnownClass m) c cs known))
       ∙ ap (λ k. option_map (λ p. length (data_of p)) (data_use (definition_of m c) (take k offs)) ∷ rest k) (sym (method_count c))
 
--- where class data stand
+-- the offsets of class data
 pub class_data_stand : (m : Mentions) (cs : List NumberedClass) → AreWritable m cs → (offs : List ℕ) → offs ≡ code_offsets (ordered_of m cs) → (from : ℕ) → from ≡ code_end (ordered_of m cs)
     → StandSo (class_data_offsets (ordered_of m cs)) (class_data_end (ordered_of m cs)) (class_data_section (ordered_of m cs)).items (place_uses 1 (none_from from) (class_data_sizes cs offs))
 unfolding class_data_offsets class_data_end
@@ -201,7 +201,7 @@ pub code_offsets_count : (m : Mentions) (cs : List NumberedClass) (offs : List �
 code_offsets_count m cs offs e =
     ap (λ (l : List ℕ). length l) e ∙ length-code_offsets (ordered_of m cs) ∙ ap (λ (xs : List MethodDef). length xs) (methods_mean m cs) ∙ length-map (methods_in_all cs) (method_in m)
 
--- the class data that are left, with the offsets of code that are left, lead to all
+-- placing the class data that are left, with the offsets of code that are left, gives the whole
 pub record DataLeft (p : ItemPlaces) (cs : List NumberedClass) (offs : List ℕ) (all : ItemPlaces) : Type 0 where
   pub count : length offs ≡ length (methods_in_all cs)
   pub leads : place_uses 1 p (class_data_sizes cs offs) ≡ all

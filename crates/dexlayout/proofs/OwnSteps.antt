@@ -9,7 +9,7 @@ use Rattle.dexlayout.specs.Running.{none_from, put_at, place_use, place_uses}
 use Rattle.dexlayout.specs.Laid.{greatest_of, StandSo}
 use Rattle.dexlayout.proofs.Owned.{place_append, place_grows}
 
--- an item that is not aligned stands where the one before it ends
+-- an item that is not aligned begins at the end of the one before it
 pub put_plain : (p : ItemPlaces) (len : ℕ) → place_use 1 p (Some len) ≡ put_at p p.end len
 put_plain p len = let here : round_up 1 p.end ≡ p.end = omega arith in ap (λ off. put_at p off len) here
 
@@ -61,7 +61,7 @@ module _ {X : Type 0} (f : X → List ℕ) (align : ℕ) where
   greatest_all [] p = omega arith
   greatest_all (x ∷ xs) p = let rest = greatest_all xs (put_at p (round_up align p.end) (length (f x))) in omega (arith, rest)
 
-  -- where items stand of which each is there
+  -- the offsets of items where each use has one
   pub all_stand : (from : ℕ) (xs : List X) → StandSo (offsets_from align from (map f xs)) (end_from align from (map f xs)) (map f xs) (place_uses align (none_from from) (map size xs))
   all_stand from xs = record {
     offsets_are = offsets_all xs (none_from from);

@@ -18,7 +18,7 @@ sizes f us = map (option_map (λ x. length (f x))) us
 
 -- ---- the running places
 
--- uses behind others
+-- uses after others
 pub place_append : (align : ℕ) (p : ItemPlaces) (us vs : List (Option ℕ)) → place_uses align p (us ++ vs) ≡ place_uses align (place_uses align p us) vs
 place_append align p [] vs = refl
 place_append align p (u ∷ us) vs = place_append align (place_use align p u) us vs
@@ -39,7 +39,7 @@ place_grows align p (Some n ∷ us) =
     let rest = place_grows align (put_at p (round_up align p.end) n) us in
     omega (arith, rest, length-padding align p.end)
 
--- the first do not end behind all
+-- the first do not end after all
 pub place_within : (align : ℕ) (p : ItemPlaces) (us vs : List (Option ℕ)) → (place_uses align p us).end ≤ (place_uses align p (us ++ vs)).end
 place_within align p us vs =
     let joined = ap (λ (q : ItemPlaces). q.end) (place_append align p us vs) in
@@ -47,7 +47,7 @@ place_within align p us vs =
 
 -- ---- they are those of items of their own
 
--- the offset of a use's item, behind others
+-- the offset of a use's item, after others
 abbrev offset_of : List ℕ → Option ℕ → ℕ
 offset_of offs n = option_map_or (slice_index offs) n 0
 
@@ -81,7 +81,7 @@ module _ {X : Type 0} (f : X → List ℕ) (align : ℕ) where
       let rest = greatest_go us (put_at p (round_up align p.end) (length (f x))) in
       omega (arith, rest)
 
-  -- where items of their own stand
+  -- the offsets of items that are not shared
   pub own_stand : (from : ℕ) (us : List (Option X))
       → StandSo (uses_offsets (own_items us).numbers (offsets_from align from (map f (own_items us).written))) (end_from align from (map f (own_items us).written)) (map f (own_items us).written)
       (place_uses align (none_from from) (sizes f us))

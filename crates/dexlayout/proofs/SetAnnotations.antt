@@ -1,4 +1,4 @@
--- Annotations that have been placed set by set stand where the file has them.
+-- Annotations that are placed set by set have the offsets that the file has.
 use Rattle.std.proofs.Common.{◌≡◌, ℕ, ◌+◌, ◌<◌, ◌≤◌, ◌^◌, max, List, [], ◌∷◌, ◌++◌, length, get_or, map, drop, refl, sym, ap, ◌∙◌, arith, append_assoc, All}
 use Rattle.std.specs.List.{flat_map}
 use Rattle.std.proofs.lemmas.List.{append-nil, length-append, map-append, drop_more, drop_all}
@@ -32,7 +32,7 @@ pub sets_grow : (p : ItemPlaces) (ss : List NumberedSet) → p.end ≤ (place_se
 sets_grow p [] = omega arith
 sets_grow p (s ∷ ss) = omega (arith, lengthen_grows (place_set p []) (annotation_lens s), sets_grow (place_set p (annotation_lens s)) ss)
 
--- the lengths behind a function
+-- the lengths of mapped annotations
 pub lens_behind : {X : Type 0} (g : X → NumberedAnnotation) (xs : List X) → map (λ x. length (numbered_annotation_bytes (g x))) xs ≡ annotation_lens (map g xs)
 lens_behind g [] = refl
 lens_behind g (x ∷ xs) = ap (λ l. length (numbered_annotation_bytes (g x)) ∷ l) (lens_behind g xs)
@@ -81,7 +81,7 @@ module _ (m : Mentions) where
       let g : max (max p.greatest n) (greatest_of (map (annotation_bytes m) s)) ≡ max p.greatest (max n (greatest_of (map (annotation_bytes m) s))) = omega arith in
       placed_set (lengthen p n) s ∙ (λ i. record { offsets = p.offsets; end = e i; greatest = g i })
 
-  -- they end behind one another
+  -- without alignment they end at their start plus the length of all
   plain_end : (from : ℕ) (s : AnnotationSet) → end_from 1 from (map (annotation_bytes m) s) ≡ from + length (flat_map (annotation_bytes m) s)
   plain_end from [] = omega arith
   plain_end from (a ∷ s) =
@@ -120,12 +120,12 @@ module _ (m : Mentions) where
       let g : max (max p.greatest (greatest_of (map f t))) (greatest_of (map f rest)) ≡ max p.greatest (greatest_of (map f (t ++ rest))) = omega (arith, ap greatest_of split, greatest_append (map f t) (map f rest)) in
       ap (λ r. place_sets r ss) first ∙ others ∙ (λ i. record { offsets = o i; end = e i; greatest = g i })
 
--- sets behind a function
+-- sets that are mapped by a function
 pub sets_behind : {X : Type 0} (m : Mentions) (g : X → NumberedSet) (xs : List X) → map (set_in m) (map g xs) ≡ map (λ x. set_in m (g x)) xs
 sets_behind m g [] = refl
 sets_behind m g (x ∷ xs) = ap (λ l. set_in m (g x) ∷ l) (sets_behind m g xs)
 
--- where the annotations of the sets of a file stand
+-- the offsets of the annotations of the sets of a file
 pub annotations_stand : (m : Mentions) (cs : List NumberedClass) (ss : List NumberedSet) (from : ℕ) → AreWritable m cs → map (set_in m) ss ≡ (set_items (ordered_of m cs)).written → All (IsKnownSet m) ss
     → from ≡ type_list_end (ordered_of m cs)
     → StandSo (first_offsets m (type_list_end (ordered_of m cs)) (set_items (ordered_of m cs)).written) (annotation_end (ordered_of m cs)) (annotation_section (ordered_of m cs)).items (place_sets (none_from from) ss)

@@ -112,7 +112,7 @@ some_directory p own n len size h =
 -- ---- the next directory
 
 module _ (cs : List NumberedClass) (i : ℕ) (c : NumberedClass) (lt : i < length cs) (is : get_or cs i c ≡ c) where
-  -- a class and those behind it
+  -- a class and those after it
   next_class : drop i cs ≡ c ∷ drop (i + 1) cs
   next_class = drop_more cs i c lt ∙ ap (λ d. d ∷ drop (i + 1) cs) is
 
@@ -312,7 +312,7 @@ module _ (m : Mentions) (cs : List NumberedClass) (sets : SetPlaces) (are : AreS
       ∙ all_directories m ranks cs w.known (set_use_offsets K) lists (omega (arith, sets_enough)) (omega (arith, length-ref_list_offsets m cs))
       ∙ ap (λ (ss : List SetOffsets). sizes (λ x. x) (directory_uses K ss lists)) (sym set_parts)
 
-  -- where they stand
+  -- their offsets
   pub directories_stand : AreWritable m cs → RanksAreNumbers m
       → StandSo (directory_offsets (ordered_of m cs)) (directory_end (ordered_of m cs)) (directory_section (ordered_of m cs)).items
       (place_uses 4 (none_from (ref_list_end (ordered_of m cs))) (directory_sizes cs sets.own sets.fields sets.methods (ref_list_offsets (ordered_of m cs))))

@@ -1,4 +1,4 @@
--- Sets that are written: where they stand, and how long they are.
+-- Sets that are written: their offsets and their lengths.
 use Rattle.std.proofs.Common.{◌≡◌, ℕ, ◌+◌, ◌*◌, List, [], ◌∷◌, length, map, take, drop, refl, arith}
 use Rattle.std.specs.List.{flat_map}
 use Rattle.std.proofs.lemmas.List.{length-append, length-take, length-drop}

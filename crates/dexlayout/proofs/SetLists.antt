@@ -26,7 +26,7 @@ use Rattle.dexlayout.proofs.SetParts.{list_of, parts, class_lists}
 
 -- ---- one list
 
--- how many bytes a list of so many sets has, wherever they stand
+-- how many bytes a list of `n` sets has, whatever their offsets
 pub size_is : (n size : ℕ) → ((offs : List ℕ) → length offs ≡ n → size ≡ length (offsets_bytes offs)) → size ≡ 4 + 4 * n
 size_is n size is =
     let zeros : List ℕ = replicate n 0 in
@@ -68,7 +68,7 @@ module _ (xs : List NumberedMethod) (i : ℕ) (x : NumberedMethod) (lt : i < len
       let q = place_use 4 p (list_size (length x.parameter_annotations)) in
       omega (arith, le, ap (λ (q : ItemPlaces). q.end) (next_list p), place_grows 4 q (list_sizes (drop (i + 1) xs)))
 
--- methods behind others
+-- methods after others
 pub both_lists : (p : ItemPlaces) (xs ys : List NumberedMethod) → place_uses 4 p (list_sizes (xs ++ ys)) ≡ place_uses 4 (place_uses 4 p (list_sizes xs)) (list_sizes ys)
 both_lists p xs ys = ap (place_uses 4 p) (map-append (λ (x : NumberedMethod). list_size (length x.parameter_annotations)) xs ys) ∙ place_append 4 p (list_sizes xs) (list_sizes ys)
 
@@ -131,7 +131,7 @@ ref_list_lengths m cs =
     let K = ordered_of m cs in
     ap (λ ss. sizes offsets_bytes (ref_list_uses K ss)) (set_offsets_are K) ∙ class_lists K.classes (set_use_offsets K) (length-set_use_offsets K) ∙ all_declared m cs
 
--- where they stand
+-- their offsets
 pub ref_lists_stand : (m : Mentions) (cs : List NumberedClass)
     → StandSo (ref_list_offsets (ordered_of m cs)) (ref_list_end (ordered_of m cs)) (ref_list_section (ordered_of m cs)).items (place_uses 4 (none_from (set_end (ordered_of m cs))) (class_list_sizes cs))
 unfolding ref_list_offsets ref_list_end

@@ -20,7 +20,7 @@ use Rattle.dexlayout.proofs.Owned.{sizes}
 abbrev pub list_of : MethodDef → Option ℕ
 list_of x = list_size (length x.parameter_annotations)
 
--- the length of a list is told by that of its offsets
+-- the length of a list follows from that of its offsets
 list_length : (os : List ℕ) → option_map (λ os. length (offsets_bytes os)) (unless_empty os) ≡ list_size (length os)
 list_length [] = refl
 list_length (o ∷ os) = ap Some (offsets_length (o ∷ os)) ∙ sym (cond-false (suc (length os) == 0) None (Some (4 + 4 * suc (length os))) (not_zero (suc (length os)) (omega arith)))

@@ -1,4 +1,4 @@
--- The offsets of the sets of classes, gathered method by method and class by class.
+-- The offsets of the sets of classes, collected method by method and class by class.
 use Rattle.std.proofs.Common.{◌≡◌, ℕ, ◌+◌, ◌<◌, List, [], ◌∷◌, ◌++◌, length, get_or, map, take, drop, refl, sym, ap, ◌∙◌, arith, append_assoc}
 use Rattle.std.specs.Prelude.{slice_index}
 use Rattle.std.specs.List.{flat_map}
@@ -15,7 +15,7 @@ use Rattle.dexlayout.specs.Places.{SetPlaces}
 use Rattle.dexlayout.specs.Gathering.{sets_of_method, sets_of_class, parts_of_methods, parts_of_class, parts_of_classes, gather_own, gather_method, gather_methods, gather_class, gather_classes}
 use Rattle.dexlayout.proofs.SetParts.{parts, class_count}
 
--- ---- what has been gathered
+-- ---- what has been collected
 
 -- of methods
 pub gathered_methods : (p : SetPlaces) (oss : List (List ℕ)) → gather_methods p oss ≡ record {
@@ -35,7 +35,7 @@ gathered_methods p (os ∷ oss) =
     let b = append_assoc p.parameters (drop 1 os) (flat_map (drop 1) oss) in
     gathered_methods (gather_method p os) oss ∙ (λ i. record { own = p.own; fields = p.fields; methods = a i; parameters = b i; end = p.end; greatest = p.greatest })
 
--- methods behind others
+-- methods after others
 pub gather_both : (p : SetPlaces) (oss pss : List (List ℕ)) → gather_methods p (oss ++ pss) ≡ gather_methods (gather_methods p oss) pss
 gather_both p [] pss = refl
 gather_both p (os ∷ oss) pss = gather_both (gather_method p os) oss pss
@@ -67,7 +67,7 @@ gathered_classes p (s ∷ ss) =
 
 -- ---- the offsets that are left
 
--- those of methods behind others
+-- those of methods after others
 pub parts_both : (xs ys : List NumberedMethod) (offs : List ℕ) → parts_of_methods (xs ++ ys) offs ≡ parts_of_methods xs offs ++ parts_of_methods ys (drop (length (flat_map sets_of_method xs)) offs)
 parts_both [] ys offs = refl
 parts_both (x ∷ xs) ys offs =
@@ -77,7 +77,7 @@ parts_both (x ∷ xs) ys offs =
     ap (λ l. take n offs ∷ l) (parts_both xs ys (drop n offs)) ∙ ap (λ l. take n offs ∷ (parts_of_methods xs (drop n offs) ++ parts_of_methods ys l)) k
 
 module _ (xs : List NumberedMethod) (i : ℕ) (x : NumberedMethod) (lt : i < length xs) (is : get_or xs i x ≡ x) where
-  -- a method and those behind it
+  -- a method and those after it
   next_method : drop i xs ≡ x ∷ drop (i + 1) xs
   next_method = drop_more xs i x lt ∙ ap (λ y. y ∷ drop (i + 1) xs) is
 
@@ -88,7 +88,7 @@ module _ (xs : List NumberedMethod) (i : ℕ) (x : NumberedMethod) (lt : i < len
   next_count = ap (λ l. length (flat_map sets_of_method l)) next_method ∙ length-append (sets_of_method x) (flat_map sets_of_method (drop (i + 1) xs))
 
 module _ (cs : List NumberedClass) (i : ℕ) (c : NumberedClass) (lt : i < length cs) (is : get_or cs i c ≡ c) where
-  -- a class and those behind it
+  -- a class and those after it
   next_class : drop i cs ≡ c ∷ drop (i + 1) cs
   next_class = drop_more cs i c lt ∙ ap (λ d. d ∷ drop (i + 1) cs) is
 
@@ -117,7 +117,7 @@ gathered_class c offs fs rest behind xs ys p p0 p1 p2 ex ey ef er eb e0 e1 e2 =
     ∙ ap (gather_methods own) (sym (parts_both xs ys rest))
     ∙ (λ i. gather_methods (gather_own p (slice_index offs 0) (ef i)) (parts_of_methods (ex i ++ ey i) (er i)))
 
--- what is left behind them
+-- what is left after them
 pub left_of_class : (c : NumberedClass) (offs rest behind last : List ℕ) (xs ys : List NumberedMethod)
     → xs ≡ c.members.direct_methods → ys ≡ c.members.virtual_methods → rest ≡ drop (length (fields_of c.members)) (drop 1 offs)
     → behind ≡ drop (length (flat_map sets_of_method xs)) rest → last ≡ drop (length (flat_map sets_of_method ys)) behind → last ≡ drop (length (sets_of_class c)) offs

@@ -1,4 +1,4 @@
--- Where the sets stand that are written, and what each use leads to.
+-- The offsets of the sets that are written, and the offset for each use.
 use Rattle.std.proofs.Common.{◌≡◌, ℕ, ◌+◌, ◌*◌, ◌<◌, List, [], ◌∷◌, length, get_or, map, drop, refl, sym, ap, subst, ◌∙◌, arith, Option, Some, None, All}
 use Rattle.std.specs.Prelude.{slice_index, IfSome}
 use Rattle.std.specs.List.{flat_map}
@@ -64,7 +64,7 @@ set_sizes m cs ss are =
     ∙ ap (map (λ n. Some (4 + 4 * n))) (chunk_lengths (λ (s : AnnotationSet). s) (set_items K).written (offsets (annotation_section K)) (annotations_count K))
     ∙ ap (λ (l : List AnnotationSet). map (λ n. Some (4 + 4 * n)) (map (λ s. length s) l)) (sym are) ∙ in_length m ss
 
--- where they stand
+-- their offsets
 pub sets_stand : (m : Mentions) (cs : List NumberedClass) (ss : List NumberedSet) → map (set_in m) ss ≡ (set_items (ordered_of m cs)).written
     → StandSo (offsets (set_section (ordered_of m cs))) (set_end (ordered_of m cs)) (set_section (ordered_of m cs)).items (place_uses 4 (none_from (class_data_end (ordered_of m cs))) (map (λ s. Some (set_len s)) ss))
 unfolding set_end
@@ -72,12 +72,12 @@ sets_stand m cs ss are =
     let K = ordered_of m cs in
     subst (λ us. StandSo (offsets (set_section K)) (set_end K) (set_section K).items (place_uses 4 (none_from (class_data_end K)) us)) (set_sizes m cs ss are) (all_stand offsets_bytes 4 (class_data_end K) (annotation_offsets K))
 
--- sets behind references
+-- sets that are mapped to references
 pub referred : {X : Type 0} (g : X → NumberedSet) (xs : List X) → map (λ x. Some (set_len (g x))) xs ≡ map (λ s. Some (set_len s)) (map g xs)
 referred g [] = refl
 referred g (x ∷ xs) = ap (λ l. Some (set_len (g x)) ∷ l) (referred g xs)
 
--- where they stand, behind a place
+-- their offsets, from a place on
 pub written_stand : {X : Type 0} (m : Mentions) (cs : List NumberedClass) (g : X → NumberedSet) (ws : List X) (ss : List NumberedSet) (from : ℕ) → map g ws ≡ ss → map (set_in m) ss ≡ (set_items (ordered_of m cs)).written
     → from ≡ class_data_end (ordered_of m cs)
     → StandSo (offsets (set_section (ordered_of m cs))) (set_end (ordered_of m cs)) (set_section (ordered_of m cs)).items (place_uses 4 (none_from from) (map (λ w. Some (set_len (g w))) ws))
@@ -105,7 +105,7 @@ numbers_within K =
 
 -- ---- all sets
 
--- what has been gathered is where they stand
+-- the offsets that were collected are those of the sets
 pub sets_are : (m : Mentions) (cs : List NumberedClass) (offs : List ℕ) (end greatest : ℕ) (p : SetPlaces)
     → p ≡ gather_classes (record { own = []; fields = []; methods = []; parameters = []; end = end; greatest = greatest }) (parts_of_classes cs offs)
     → offs ≡ set_use_offsets (ordered_of m cs) → end ≡ set_end (ordered_of m cs) → greatest ≡ greatest_of (set_section (ordered_of m cs)).items → AreSets m cs p

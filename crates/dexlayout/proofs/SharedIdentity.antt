@@ -1,4 +1,4 @@
--- A numbering led to itself: each number leads to itself, and what is led on stays as it is.
+-- A numbering mapped to itself: each number maps to itself, and remapping changes nothing.
 use Rattle.std.proofs.Common.{◌≡◌, ℕ, zero, suc, ◌+◌, ◌<◌, ◌≤◌, List, [], ◌∷◌, ◌++◌, length, get_or, map, refl, sym, ap, ◌∙◌, arith, inl, inr}
 use Rattle.std.specs.Prelude.{Option, Some, None, IfSome, All, is_some, unwrap_or}
 use Rattle.std.specs.List.{flat_map}
@@ -18,9 +18,9 @@ use Rattle.dexcode.specs.Meaning.{IsKnownText, IsKnownOperation, IsKnownDebug}
 use Rattle.dexval.specs.Numbered.{NumberedValue, NumberedValues, NumberedElements, NumberedAnnotation, NumberedSet, Plain, Named, Array, Annotated, NoValue, ThenNext, NoElement, ThenNamed, kind_of_reference}
 use Rattle.dexval.specs.Renumbering.{led, renumbered, renumbered_values, renumbered_elements, renumbered_set}
 
--- ---- each number leads to itself
+-- ---- each number maps to itself
 
--- so many numbers, from one on
+-- `n` numbers, from `from` on
 abbrev upto : ℕ → ℕ → List (Option ℕ)
 upto from zero = []
 upto from (suc n) = Some from ∷ upto (from + 1) n
@@ -42,7 +42,7 @@ behind_upto from (suc n) (suc i) le = behind_upto (from + 1) n i (omega (arith, 
 from_none : (n i : ℕ) → i < n → image (upto 0 n) i ≡ Some i
 from_none n i lt = at_upto 0 n i lt ∙ ap Some (omega arith)
 
--- where a number leads that leads somewhere
+-- the image of a number that has one
 leads_there : (n i j : ℕ) → image (upto 0 n) i ≡ Some j → (i < n) × (i ≡ j)
 leads_there n i j e = elim (cases_lt i n) [
   | inl lt ↦ (lt, let same : Some i ≡ Some j = sym (from_none n i lt) ∙ e in cc)
@@ -172,7 +172,7 @@ module _ (m : Mentions) where
       ap (λ ns. debug_with d.line_start ns (map (renumbered_operation (itself m)) d.operations)) (list_stays (image_or_none (itself m) kinds.Text) (IsKnownText m) (optional_stays kinds.Text) d.parameter_names h.names_known)
       ∙ ap (debug_with d.line_start d.parameter_names) (list_stays (renumbered_operation (itself m)) (IsKnownOperation m) operation_stays d.operations h.operations_known)
 
-  -- each number of it leads somewhere
+  -- each number of it has an image
   optional_led : (kind : SymbolKind) (o : Option ℕ) → IfSome o (λ n. n < count_of kind m) → All (HasImage (itself m)) (number_uses kind o)
   optional_led kind None h = All-nil (HasImage (itself m))
   optional_led kind (Some n) h = All-cons (HasImage (itself m)) (record { kind = kind; number = n }) [] (leads_all_itself m kind n h) (All-nil (HasImage (itself m)))

@@ -1,4 +1,4 @@
--- Where the items stand that uses share: all that are written, one after the other.
+-- The offsets of the items that uses share: all that are written, one after the other.
 use Rattle.std.proofs.Common.{◌≡◌, ℕ, ◌+◌, ◌<◌, ◌≤◌, max, List, [], ◌∷◌, ◌++◌, length, get_or, map, take, drop, Some, refl, sym, ap, subst, ◌∙◌, arith, append_assoc}
 use Rattle.std.specs.Prelude.{All, Bool, IfSome, None, Option}
 use Rattle.std.specs.List.{Contains, position_or_len}
@@ -21,11 +21,11 @@ use Rattle.dexlayout.proofs.Owned.{place_more, place_within}
 -- ---- one item more
 
 module _ {X : Type 0} (len : X → ℕ) (align : ℕ) (p : ItemPlaces) where
-  -- where the first so many items stand
+  -- the places of items, one after the other
   abbrev pub placed : List X → ItemPlaces
   placed xs = place_uses align p (map (λ x. Some (len x)) xs)
 
-  -- the next stands behind them
+  -- the next item is placed after them
   pub placed_next : (xs : List X) (i : ℕ) (x : X) → i < length xs → get_or xs i x ≡ x → placed (take (i + 1) xs) ≡ put_at (placed (take i xs)) (round_up align (placed (take i xs)).end) (len x)
   placed_next xs i x lt is =
       ap placed (take_more xs i x lt ∙ ap (λ y. take i xs ++ y ∷ []) is)
@@ -62,7 +62,7 @@ module _ {X : Type 0} (f : X → List ℕ) (align : ℕ) where
       let rest = greatest_all xs (put_at p (round_up align p.end) (length (f x))) in
       omega (arith, rest)
 
-  -- where the items of a section stand
+  -- the offsets of the items of a section
   pub all_stand : (from : ℕ) (xs : List X) → StandSo (offsets_from align from (map f xs)) (end_from align from (map f xs)) (map f xs) (placed (λ x. length (f x)) align (none_from from) xs)
   all_stand from xs = record {
     offsets_are = offsets_all xs (none_from from);
@@ -70,7 +70,7 @@ module _ {X : Type 0} (f : X → List ℕ) (align : ℕ) where
     greatest_is = greatest_all xs (none_from from) ∙ omega arith;
   }
 
--- ---- they are those of what is written stands for
+-- ---- they are those of what the written items denote
 
 -- as many bytes each
 sizes_agree : {X Y : Type 0} (len : X → ℕ) (bytes : Y → List ℕ) (meant : X → Y) (IsKnown : X → Type 0) → ((x : X) → IsKnown x → len x ≡ length (bytes (meant x))) → (xs : List X) → All IsKnown xs
@@ -80,7 +80,7 @@ sizes_agree len bytes meant IsKnown same (x ∷ xs) known =
     ap (λ n. Some n ∷ map (λ z. Some (len z)) xs) (same x (All-head IsKnown x xs known))
     ∙ ap (λ us. Some (length (bytes (meant x))) ∷ us) (sizes_agree len bytes meant IsKnown same xs (All-tail IsKnown x xs known))
 
--- where the items stand that are written
+-- the offsets of the items that are written
 pub written_stand : {X Y : Type 0} (align from : ℕ) (len : X → ℕ) (bytes : Y → List ℕ) (meant : X → Y) (IsKnown : X → Type 0) (written : List X) (symbols : List Y) → ((x : X) → IsKnown x → len x ≡ length (bytes (meant x)))
     → All IsKnown written → map meant written ≡ symbols
     → StandSo (offsets_from align from (map bytes symbols)) (end_from align from (map bytes symbols)) (map bytes symbols) (placed len align (none_from from) written)
@@ -89,7 +89,7 @@ written_stand align from len bytes meant IsKnown written symbols same known is =
     (subst (λ us. StandSo (offsets_from align from (map bytes (map meant written))) (end_from align from (map bytes (map meant written))) (map bytes (map meant written)) (place_uses align (none_from from) us))
     (sym (sizes_agree len bytes meant IsKnown same written known)) (all_stand bytes align from (map meant written)))
 
--- where those of the uses stand, by their numbers
+-- the offsets of the uses' items, by their numbers
 abbrev pub by_numbers : List (Option ℕ) → ItemPlaces → ItemPlaces
 by_numbers numbers p = record { offsets = uses_offsets numbers p.offsets; end = p.end; greatest = p.greatest }
 
@@ -116,6 +116,6 @@ numbers_within same exact us numbers count en ec =
     subst (λ k. All (λ n. IfSome n (λ i. i < k)) numbers) (sym ec)
     (subst (All (λ n. IfSome n (λ i. i < length ds))) (sym en) (numbers_among same exact ds us (distinct_has same (λ x y. (exact x y).0) (present us))))
 
--- so many offsets as items
+-- as many offsets as items
 pub offsets_count : {end : ℕ} (align from : ℕ) {items : List (List ℕ)} {p : ItemPlaces} → StandSo (offsets_from align from items) end items p → length p.offsets ≡ length items
 offsets_count align from {items} h = ap (λ (l : List ℕ). length l) h.offsets_are ∙ length-offsets_from align from items

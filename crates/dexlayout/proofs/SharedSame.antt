@@ -1,4 +1,4 @@
--- Numbers of a numbering are the same just where what they stand for is the same: of type lists, sets and debug programs.
+-- Numbers of a numbering are the same if and only if they denote the same: of type lists, sets and debug programs.
 use Rattle.std.proofs.Common.{◌≡◌, ℕ, ◌<◌, Bool, List, [], ◌∷◌, length, map, refl, sym, ap, ◌∙◌}
 use Rattle.std.specs.Prelude.{All}
 use Rattle.std.specs.Bool.{Decides}
@@ -21,9 +21,9 @@ use Rattle.dexval.proofs.Ranked as sets
 use Rattle.dexlayout.specs.ListKeys.{same_numbers, same_numbers_decides}
 use Rattle.dexlayout.proofs.SharedIdentity.{itself, all_lead_itself, leads_all_itself, set_stays, debug_stays, debug_led}
 
--- ---- tests of what is led one to one
+-- ---- tests of what is mapped one to one
 
--- where equal numbers stand for what is equal, and only such, the tests agree
+-- where numbers are equal if and only if they denote equal things, the tests agree
 agree : {X Y : Type 0} (f : X → Y) (same : Bool) (alike : Y → Y → Bool) → IsEquality alike → (x y : X) → Decides same (x ≡ y) → (f x ≡ f y → x ≡ y) → alike (f x) (f y) ≡ same
 agree f same alike exact x y is one = same_from_decides (alike (f x) (f y)) same (exact (f x) (f y)) ((λ e. ap f (is.0 e)), (λ e. is.1 (one e)))
 

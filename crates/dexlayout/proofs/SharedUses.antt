@@ -74,7 +74,7 @@ module _ {X : Type 0} (same : X → X → Bool) (laws : IsEquivalence same) wher
   abbrev number_in : List X → X → ℕ
   number_in ds x = position_or_len (λ y. same y x) ds
 
-  -- with more items behind them uses keep their numbers
+  -- uses keep their numbers when more items are added after them
   numbers_stay : (ds more : List X) (us : List (Option X)) → ((x : X) → Contains (present us) x → list_any (λ y. same y x) ds ≡ true)
       → map (option_map (number_in (ds ++ more))) us ≡ map (option_map (number_in ds)) us
   numbers_stay ds more [] has = refl
@@ -131,13 +131,13 @@ module _ {X : Type 0} (same : X → X → Bool) (laws : IsEquivalence same) wher
 
 -- ---- what the items mean
 
--- what the present uses lead to is present
+-- the images of the present uses are present
 present-map : {X Y : Type 0} (f : X → Y) (us : List (Option X)) → present (map (option_map f) us) ≡ map f (present us)
 present-map f [] = refl
 present-map f (None ∷ us) = present-map f us
 present-map f (Some x ∷ us) = ap (λ ys. f x ∷ ys) (present-map f us)
 
--- where the uses lead one to one, they share alike
+-- where the uses are mapped one to one, both sides share the same items
 pub shared_led : {X Y : Type 0} (f : X → Y) (same : X → X → Bool) (alike : Y → Y → Bool) (uses : List (Option X)) (written : List X) (numbers : List (Option ℕ))
     → ((x y : X) → Contains (present uses) x → Contains (present uses) y → alike (f x) (f y) ≡ same x y)
     → HaveItems same uses written numbers → AreShared f (shared_items alike (map (option_map f) uses)) written numbers
@@ -150,7 +150,7 @@ shared_led f same alike uses written numbers agree h =
           ∙ ap (λ es. map (option_map (λ x. position_or_len (λ y. alike y x) es)) (map (option_map f) uses)) (sym is);
     }
 
--- ---- uses that stand for others
+-- ---- uses that denote others
 
 module _ {X Y : Type 0} {same : X → X → Bool} {meant : X → Y} {IsKnown : X → Type 0} where
   -- no uses
@@ -196,7 +196,7 @@ module _ {X Y : Type 0} {same : X → X → Bool} {meant : X → Y} {IsKnown : X
         let ds = distinct same (present h.used) in
         subst (All IsKnown) (sym h.items.written_are) (λ k d lt. All-contains IsKnown (present h.used) (get_or ds k d) h.known (distinct_source same (present h.used) (get_or ds k d) (Contains-get_or ds k d lt)))
 
-    -- and is shared as what it stands for, where that tells what is the same
+    -- and is shared as what it denotes, where equal uses denote equal items and only these
     pub shared_are : (alike : Y → Y → Bool) → ((x y : X) → IsKnown x → IsKnown y → alike (meant x) (meant y) ≡ same x y) → AreShared meant (shared_items alike uses) written numbers
     shared_are alike agree =
         subst (λ us. AreShared meant (shared_items alike us) written numbers) h.mean
@@ -227,20 +227,20 @@ uses_after f uses xs i x lt is =
     append_assoc uses (flat_map f (take i xs)) (f x)
     ∙ ap (λ us. uses ++ us) (ap (λ us. flat_map f (take i xs) ++ us) (sym (append-nil (f x))) ∙ sym (flat_map-append f (take i xs) (x ∷ [])) ∙ ap (flat_map f) (sym (take_more xs i x lt ∙ ap (λ y. take i xs ++ y ∷ []) is)))
 
--- parts of uses, one behind the other
+-- parts of uses, one after the other
 pub uses_joined : {U : Type 0} (uses : List U) (a b : U) (fs gs hs ks fs' gs' hs' ks' : List U) → a ≡ b → fs ≡ fs' → gs ≡ gs' → hs ≡ hs' → ks ≡ ks'
     → ((((uses ++ a ∷ []) ++ fs) ++ gs) ++ hs) ++ ks ≡ uses ++ (b ∷ (fs' ++ (gs' ++ (hs' ++ ks'))))
 uses_joined uses a b fs gs hs ks fs' gs' hs' ks' ea ef eg eh ek =
     append_assoc (((uses ++ a ∷ []) ++ fs) ++ gs) hs ks ∙ append_assoc ((uses ++ a ∷ []) ++ fs) gs (hs ++ ks) ∙ append_assoc (uses ++ a ∷ []) fs (gs ++ (hs ++ ks)) ∙ append_assoc uses (a ∷ []) (fs ++ (gs ++ (hs ++ ks)))
     ∙ (λ i. uses ++ (ea i ∷ (ef i ++ (eg i ++ (eh i ++ ek i)))))
 
--- ---- what is answered
+-- ---- what is returned
 
--- where a value is answered, what holds of it
+-- what holds of a value that is returned
 pub on_answer : {A E : Type 0} {P : A → Type 0} (r : Result A E) → ((x : A) → r ≡ Ok x → P x) → IfOk r P
 on_answer (Ok x) each = each x refl
 on_answer (Err e) each = tt
 
--- the value that is answered
+-- the value that is returned
 pub of_answer : {A E : Type 0} (P : A → Type 0) (r : Result A E) (x : A) → r ≡ Ok x → IfOk r P → P x
 of_answer P r x e h = subst (λ q. IfOk q P) e h

@@ -1,4 +1,4 @@
--- Where annotations stand, set by set: by the lengths of the annotations.
+-- The offsets of annotations, set by set, from the lengths of the annotations.
 use Rattle.std.specs.Prelude.{ℕ, ◌+◌, max, List, [], ◌∷◌, ◌++◌, length, map}
 use Rattle.dexval.specs.Numbered.{NumberedSet}
 use Rattle.dexval.specs.Spelled.{numbered_annotation_bytes}
@@ -8,7 +8,7 @@ use Rattle.dexlayout.specs.Places.{ItemPlaces}
 abbrev pub annotation_lens : NumberedSet → List ℕ
 annotation_lens s = map (λ a. length (numbered_annotation_bytes a)) s
 
--- an annotation more, behind the others of its set
+-- an annotation more, after the others of its set
 abbrev pub lengthen : ItemPlaces → ℕ → ItemPlaces
 lengthen p len = record { offsets = p.offsets; end = p.end + len; greatest = max p.greatest len }
 

@@ -10,7 +10,7 @@ use Rattle.dexlayout.specs.Places.{SetPlaces}
 
 -- ---- lists of sets of parameters
 
--- how many bytes a list of so many sets has, unless it is empty
+-- how many bytes a list of `n` sets has, unless it is empty
 abbrev pub list_size : ℕ → Option ℕ
 list_size n = if n == 0 then None else Some (4 + 4 * n)
 
@@ -36,7 +36,7 @@ sets_of_class c = c.members.annotations ∷ (map (λ f. f.annotations) (fields_o
 abbrev pub parts_of_methods : List NumberedMethod → List ℕ → List (List ℕ)
 parts_of_methods xs offs = chunks (map (λ x. length (sets_of_method x)) xs) offs
 
--- the offsets of the sets of a class, taken apart, whatever follows them
+-- the offsets of the sets of a class, split into its own, its fields' and its methods', whatever follows them
 abbrev pub parts_of_class : NumberedClass → List ℕ → SetOffsets
 parts_of_class c offs = record {
   own = slice_index offs 0;
@@ -73,6 +73,6 @@ gather_classes p (s ∷ ss) = gather_classes (gather_class p s) ss
 
 -- ---- sets that are written
 
--- how many bytes a set has, wherever its annotations stand
+-- how many bytes a set has, whatever the offsets of its annotations
 abbrev pub set_len : NumberedSet → ℕ
 set_len s = 4 + 4 * length s

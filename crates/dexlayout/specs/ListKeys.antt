@@ -1,4 +1,4 @@
--- Type lists that are the same are equal, and are hashed alike.
+-- Type lists that are the same are equal, and have the same hash.
 use Rattle.std.specs.Prelude.{◌≡◌, ℕ, Bool, List, IsTrue}
 use Rattle.std.proofs.Common.{ap, sym, ◌∙◌}
 use Rattle.std.specs.Bool.{Decides}

@@ -15,11 +15,11 @@ use Rattle.dexlayout.specs.declared.data.Front.{Front}
 use Rattle.dexlayout.specs.declared.tables.Tables.{Tables}
 use Rattle.dexlayout.specs.Laid.{ordered_of, StandSo, AreTypeLists, AreAnnotations, AreDebugs, AreSets}
 
--- a table of so many rows, and where it begins if it has some
+-- a table of `size` rows, and where it begins if it is not empty
 abbrev pub rows_from : ℕ → ℕ → ℕ × ℕ
 rows_from size from = (size, if size == 0 then 0 else from)
 
--- the six tables stand so, and the data behind them
+-- the six tables have these offsets, and the data begin after them
 pub record AreTables (K : Ordered) (t : Tables) : Type 0 where
   pub string_ids_are : rows_meant t.string_ids ≡ rows_from (length K.pools.texts) header_length
   pub type_ids_are : rows_meant t.type_ids ≡ rows_from (length K.pools.types) (header_length + 4 * length K.pools.texts)
@@ -38,7 +38,7 @@ entry_of e = if e.1 == 0 then [] else e ∷ []
 abbrev pub table_parts : Ordered → List (Section × ℕ × ℕ)
 table_parts K = map (λ t. (TableOf t.0, t.1, t.2)) (placed_tables K)
 
--- the sections of the data as parts of the map, each where its first item would stand
+-- the sections of the data as parts of the map, each at the offset that its first item would have
 abbrev pub section_parts : Ordered → List (Section × ℕ × ℕ)
 section_parts K = map (λ p. (p.kind, length p.items, round_up p.align p.from)) (data_sections K)
 
@@ -46,7 +46,7 @@ section_parts K = map (λ p. (p.kind, length p.items, round_up p.align p.from)) 
 abbrev pub count_placed : List ℕ → ℕ
 count_placed offs = count_by (λ o. not (o == 0)) offs
 
--- the items of the sections up to the string data stand where they stand in the file of these classes
+-- the items of the sections up to the string data have the offsets that they have in the file of these classes
 pub record AreFront (m : Mentions) (cs : List NumberedClass) (f : Front) : Type 0 where
   pub type_lists_are : AreTypeLists m cs f.type_lists
   pub annotations_are : AreAnnotations m cs f.annotations
@@ -65,7 +65,7 @@ pub record AreBack (m : Mentions) (cs : List NumberedClass) (b : Back) : Type 0 
   pub ref_lists_are : StandSo (ref_list_offsets (ordered_of m cs)) (ref_list_end (ordered_of m cs)) (ref_list_section (ordered_of m cs)).items b.ref_lists
   pub directories_are : StandSo (directory_offsets (ordered_of m cs)) (directory_end (ordered_of m cs)) (directory_section (ordered_of m cs)).items b.directories
 
--- the items of each section of the data stand so
+-- the items of each section of the data have these offsets
 pub record AreData (m : Mentions) (cs : List NumberedClass) (d : Data) : Type 0 where
   pub front_are : AreFront m cs d.front
   pub bodies_are : AreBodies m cs d.bodies

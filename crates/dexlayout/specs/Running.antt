@@ -3,7 +3,7 @@ use Rattle.std.specs.Prelude.{ℕ, ◌+◌, max, List, [], ◌∷◌, ◌++◌, 
 use Rattle.dexspec.specs.Bytes.{round_up}
 use Rattle.dexlayout.specs.Places.{ItemPlaces}
 
--- no items yet: the first stands at a place or behind it
+-- no items yet: the first will be at `from` or after it
 abbrev pub none_from : ℕ → ItemPlaces
 none_from from = record { offsets = []; end = from; greatest = 0 }
 
@@ -11,7 +11,7 @@ none_from from = record { offsets = []; end = from; greatest = 0 }
 abbrev pub pass : ItemPlaces → ItemPlaces
 pass p = record { offsets = p.offsets ++ 0 ∷ []; end = p.end; greatest = p.greatest }
 
--- a use more, whose item of so many bytes stands at an offset
+-- a use more, whose item of `len` bytes is at an offset
 abbrev pub put_at : ItemPlaces → ℕ → ℕ → ItemPlaces
 put_at p off len = record { offsets = p.offsets ++ off ∷ []; end = off + len; greatest = max p.greatest len }
 

@@ -1,4 +1,4 @@
--- The uses of type lists, sets and debug programs, as they are found: by numbers, with what these stand for.
+-- The uses of type lists, sets and debug programs, as they are found: by numbers, with what these denote.
 use Rattle.std.specs.Prelude.{ℕ, ◌<◌, Bool, List, ◌∷◌, ◌++◌, Option, None, length, map, All}
 use Rattle.std.specs.Borrow.{Bor}
 use Rattle.std.specs.List.{flat_map}

@@ -17,7 +17,7 @@ array_size (ThenNext x xs) = Some (length (numbered_array_bytes (ThenNext x xs))
 abbrev pub static_size : NumberedClass → Option ℕ
 static_size c = array_size c.members.static_values
 
--- of a method's code, if it has some, wherever its debug program stands
+-- of a method's code, if it has some, whatever the offset of its debug program
 abbrev pub code_size : NumberedMethod → Option ℕ
 code_size x = option_map (λ c. length (numbered_code_bytes 0 c)) x.code
 

@@ -1,4 +1,4 @@
-//! Where annotations stand: those of each annotation set that is written, set by set.
+//! The offsets of annotations: those of each annotation set that is written, set by set.
 
 ghost use Rattle.std.specs.Prelude.{◌≡◌, ◌+◌, ◌<◌, ◌≤◌, ◌^◌, All, IfOk, OnOk, List, map};
 ghost use Rattle.dexspec.specs.Canonical.{set_items, type_list_end};
@@ -15,8 +15,8 @@ use dexval::{AnnotationSet, annotation_size};
 use std::alloc::{AllocError, Global};
 use std::marker::Model;
 
-/// The annotation sets that are written, equal ones once, in the order of their first use, and where the first annotation of each
-/// stands.
+/// The annotation sets that are written, equal ones once, in the order of their first use, and the offset of the first
+/// annotation of each.
 ///
 /// Source: "annotation_item".
 #[derive(Drop)]
@@ -47,7 +47,7 @@ impl<'p> Annotations<'p> {
         &self.written
     }
 
-    /// Where the first annotation of each stands.
+    /// The offset of the first annotation of each.
     pub fn places(&self) -> &Offsets
         ensures { result.now ≡ self.now.places }
     {
@@ -64,7 +64,7 @@ impl Offsets {
         Ok(())
     }
 
-    // One annotation more, of so many bytes, behind the others of its set.
+    // Adds an annotation of `len` bytes after the others of its set.
     fn lengthen(&mut self, len: u32)
         requires { self.old.end + len < 2 ^ 32 }
         ensures { self.new ≡ lengthen self.old len }
@@ -86,9 +86,9 @@ impl Offsets {
     }
 }
 
-/// Where the annotations of sets stand, from a place on, set by set.
+/// The offsets of the annotations of sets, from an offset on, set by set.
 ///
-/// Condition: they end within what a file may have. Error: memory was refused.
+/// Condition: they end within what a file may have.
 pub(crate) fn place_annotations<'p>(
     alloc: Global,
     written: Vec<&'p AnnotationSet>,

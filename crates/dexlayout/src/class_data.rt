@@ -1,4 +1,4 @@
-//! Where class data stand.
+//! The offsets of class data.
 
 ghost use Rattle.std.specs.Prelude.{◌≡◌, ◌+◌, ◌^◌, ◌≤◌, IfOk, OnOk, length};
 ghost use Rattle.dexspec.specs.Mentions.{Mentions};
@@ -12,9 +12,7 @@ use crate::offsets::Offsets;
 use dexclass::Class;
 use std::alloc::{AllocError, Global};
 
-/// Where the class data of each class stand, behind the code, of which they have the offsets.
-///
-/// Error: memory was refused.
+/// The offsets of the class data of each class. They are after the code, whose offsets they contain.
 ///
 /// Source: "class_data_item".
 pub(crate) fn place_class_data(
@@ -36,7 +34,7 @@ pub(crate) fn place_class_data(
     Ok(places)
 }
 
-// The data of one class behind the others.
+// Places the data of one class after the others.
 fn place_item(class: &Class<'_>, code_offs: &[u32], places: &mut Offsets) -> Result<(), AllocError>
     requires offsets { length code_offs.now ≡ length (methods_of class.now.members) }
     requires fits { (place_use 1 places.old (class_data_size class.now code_offs.now)).end ≤ 2 ^ 30 }

@@ -1,4 +1,4 @@
-//! Where code stands.
+//! The offsets of code.
 
 ghost use Rattle.std.specs.Prelude.{◌≡◌, ◌^◌, ◌≤◌, IfOk, OnOk, map};
 ghost use Rattle.dexspec.specs.Mentions.{Mentions};
@@ -13,9 +13,8 @@ use dexcode::code_bytes_law;
 use dexmembers::{Method, Methods};
 use std::alloc::{AllocError, Global};
 
-/// Where the code of each method of each class stands, the direct ones first, behind the debug programs, of which it has the offsets.
-///
-/// Error: memory was refused.
+/// The offsets of the code of each method of each class, the direct ones first. It is after the debug programs, whose
+/// offsets it contains.
 ///
 /// Source: "code_item".
 pub(crate) fn place_codes(
@@ -34,7 +33,7 @@ pub(crate) fn place_codes(
     Ok(places)
 }
 
-// The code of one class behind the others.
+// Places the code of one class after the others.
 fn place_class(class: &Class<'_>, places: &mut Offsets) -> Result<(), AllocError>
     requires { (place_uses 4 places.old (class_code_sizes class.now)).end ≤ 2 ^ 30 }
     ensures { OnOk result (places.new ≡ place_uses 4 places.old (class_code_sizes class.now)) }

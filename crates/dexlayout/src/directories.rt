@@ -1,4 +1,4 @@
-//! Where annotations directories stand.
+//! The offsets of annotations directories.
 
 ghost use Rattle.std.specs.Prelude.{◌≡◌, ◌^◌, ◌≤◌, IfOk, OnOk, length};
 ghost use Rattle.dexspec.specs.Canonical.{directory_end, directory_offsets, directory_section, ref_list_end, ref_list_offsets};
@@ -14,7 +14,7 @@ use dexmembers::Members;
 use dexpool::{Numbering, number_law};
 use std::alloc::{AllocError, Global};
 
-// A directory without members has so many bytes.
+// The number of bytes of a directory without members.
 const EMPTY_DIRECTORY: usize = 16;
 
 // Places the directory of a class, unless all offsets are 0.
@@ -39,9 +39,7 @@ fn place_directory(
     places.put_at(round_up(places.end()), len as u32)
 }
 
-/// Where the annotations directory of each class stands, behind the lists of sets of parameters.
-///
-/// Error: memory was refused.
+/// The offset of the annotations directory of each class. They are after the lists of sets of parameters.
 ///
 /// Source: "annotations_directory_item".
 pub(crate) fn place_directories(

@@ -18,8 +18,6 @@ pub(crate) fn count_placed(offsets: &[u32]) -> usize
 }
 
 /// The entries of a map: the header's, those of the parts that are not empty, tables before sections, and the map's own.
-///
-/// Error: memory was refused.
 pub(crate) fn map_entries(
     alloc: Global,
     tables: &[MapEntry],

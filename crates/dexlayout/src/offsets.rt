@@ -7,7 +7,8 @@ ghost use Rattle.dexlayout.specs.Running.{none_from, pass, put_at};
 use std::alloc::{AllocError, Global};
 use std::marker::Model;
 
-/// Where the items of one kind stand: an offset for each use, in bytes from the start of the file, and 0 where a use has no item.
+/// The offsets of the items of one kind: one for each use, in bytes from the start of the file, and 0 where a use has
+/// no item.
 #[derive(Drop)]
 pub struct Offsets {
     pub(crate) offsets: Vec<u32>,
@@ -45,9 +46,7 @@ impl Offsets {
         self.greatest
     }
 
-    /// No items yet, and memory for so many uses; the first item will stand at a place or behind it.
-    ///
-    /// Error: memory was refused.
+    /// No items yet, and memory for `uses` of them; the first item will be at `from` or after it.
     pub(crate) fn starting_at(alloc: Global, from: u32, uses: usize) -> Result<Offsets, AllocError>
         ensures { IfOk result (λ places. places ≡ none_from from) }
     {
@@ -58,9 +57,7 @@ impl Offsets {
         })
     }
 
-    /// One use more, which has no item.
-    ///
-    /// Error: memory was refused.
+    /// Adds a use that has no item.
     pub(crate) fn pass(&mut self) -> Result<(), AllocError>
         ensures { OnOk result (self.new ≡ pass self.old) }
     {
@@ -68,9 +65,7 @@ impl Offsets {
         Ok(())
     }
 
-    /// One use more, whose item of so many bytes stands at an offset.
-    ///
-    /// Error: memory was refused.
+    /// Adds a use whose item of `len` bytes is at `off`.
     pub(crate) fn put_at(&mut self, off: u32, len: u32) -> Result<(), AllocError>
         requires { off + len < 2 ^ 32 }
         ensures { OnOk result (self.new ≡ put_at self.old off len) }

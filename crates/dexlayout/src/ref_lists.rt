@@ -1,4 +1,4 @@
-//! Where lists of sets of parameters stand.
+//! The offsets of lists of sets of parameters.
 
 ghost use Rattle.std.specs.Prelude.{◌≡◌, ◌^◌, ◌≤◌, IfOk, OnOk, length};
 ghost use Rattle.dexspec.specs.Canonical.{ref_list_end, ref_list_offsets, ref_list_section, set_end};
@@ -13,7 +13,7 @@ use dexmembers::{Method, Methods};
 use dexpool::Numbering;
 use std::alloc::{AllocError, Global};
 
-// Places the list of a method behind those that stand, unless it is empty.
+// Places the list of a method after those before it, unless it is empty.
 fn place_list(method: &Method<'_, '_>, places: &mut Offsets) -> Result<(), AllocError>
     requires { (place_use 4 places.old (list_size (length method.now.parameter_annotations))).end ≤ 2 ^ 30 }
     ensures { OnOk result (places.new ≡ place_use 4 places.old (list_size (length method.now.parameter_annotations))) }
@@ -46,10 +46,8 @@ fn place_class_lists(class: &Class<'_>, places: &mut Offsets) -> Result<(), Allo
     place_lists(&members.virtual_methods(), places)
 }
 
-/// Where the list of the sets of the parameters of each method stands, behind the sets. Memory is taken for so many methods at
-/// once.
-///
-/// Error: memory was refused.
+/// The offset of the list of the sets of the parameters of each method. They are after the sets. Memory for all methods
+/// is allocated at once.
 ///
 /// Source: "annotation_set_ref_list".
 pub(crate) fn place_ref_lists(

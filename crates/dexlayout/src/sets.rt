@@ -1,4 +1,4 @@
-//! Where annotation sets stand.
+//! The offsets of annotation sets.
 
 ghost use Rattle.std.specs.Prelude.{◌≡◌, ◌^◌, ◌≤◌, List, [], ◌∷◌, length, map, drop, Some, IfOk, OnOk};
 ghost use Rattle.std.specs.List.{flat_map};
@@ -18,8 +18,9 @@ use dexval::{AnnotationSet, set_size};
 use std::alloc::{AllocError, Global};
 use std::marker::Model;
 
-/// Where the annotation sets stand, in bytes from the start of the file, and 0 where a set is empty: the own set of each class, those
-/// of its fields, the static ones first, those of its methods, the direct ones first, and those of the parameters of each method.
+/// The offsets of the annotation sets, in bytes from the start of the file, and 0 where a set is empty: the own set of
+/// each class, those of its fields, the static ones first, those of its methods, the direct ones first, and those of
+/// the parameters of each method.
 ///
 /// Source: "annotation_set_item".
 #[derive(Drop)]
@@ -84,7 +85,7 @@ impl Sets {
 }
 
 impl Sets {
-    // No sets yet, and memory for so many classes; those that are written are placed.
+    // No sets yet, and memory for the own sets of `classes` classes; `written` has the offsets of those that are written.
     fn none(alloc: Global, classes: usize, written: Offsets) -> Result<Sets, AllocError>
         ensures { IfOk result (λ sets. sets ≡ record { own = []; fields = []; methods = []; parameters = []; end = written.end; greatest = written.greatest }) }
     {
@@ -117,7 +118,7 @@ impl Sets {
         Ok(())
     }
 
-    // Adds the offsets of the sets of methods, and answers those that are left.
+    // Adds the offsets of the sets of methods, and returns those that are left.
     fn gather_methods<'o>(
         &mut self,
         methods: &Methods<'_, '_>,
@@ -137,7 +138,7 @@ impl Sets {
         Ok(rest)
     }
 
-    // Adds the offsets of the sets of a class, and answers those that are left.
+    // Adds the offsets of the sets of a class, and returns those that are left.
     fn gather_class<'o>(
         &mut self,
         class: &Class<'_>,
@@ -156,7 +157,7 @@ impl Sets {
     }
 }
 
-// Where the sets stand that are written, one after the other.
+// The offsets of the sets that are written, one after the other.
 fn place_written(
     alloc: Global,
     written: &[&AnnotationSet],
@@ -172,9 +173,8 @@ fn place_written(
     Ok(places)
 }
 
-/// Where the sets stand, behind the class data. `numbers` has for each use the number of its set among those that are written.
-///
-/// Error: memory was refused.
+/// The offsets of the sets, which are after the class data. `numbers` has for each use the number of its set among
+/// those that are written.
 pub(crate) fn place_sets(
     alloc: Global,
     numbering: &Numbering<'_>,

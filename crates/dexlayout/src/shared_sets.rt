@@ -96,8 +96,6 @@ fn add_members<'p>(
 /// The sets that are written, each once, in the order of their first use, and for each use the number of its set, if it has
 /// annotations. The uses are, class by class, the class's own set, those of its fields, and for each method its own and those of its
 /// parameters.
-///
-/// Error: memory was refused.
 pub(crate) fn share_sets<'p>(
     alloc: Global,
     classes: &'p [Class<'_>],

@@ -11,7 +11,7 @@ use indexmap::IndexSet;
 use std::alloc::{AllocError, Global};
 use std::hash::Hash;
 
-/// Uses in their order, and what they use: of equal items one is kept, in the place of the first use.
+/// Uses in their order, and what they use: of equal items only the first is kept.
 #[derive(Drop)]
 pub(crate) struct Sharing<T: Eq + Hash> {
     items: IndexSet<T>,
@@ -26,7 +26,7 @@ pub(crate) struct Shared<T> {
 }
 
 impl<T: Eq + Hash + Drop> Sharing<T> {
-    /// No uses. No memory is taken.
+    /// No uses.
     pub(crate) fn new(alloc: Global) -> Sharing<T>
         ensures { HaveItems T.eq [] result.items.keys result.numbers.items }
     {
@@ -36,9 +36,7 @@ impl<T: Eq + Hash + Drop> Sharing<T> {
         }
     }
 
-    /// No uses, and memory for the numbers of so many.
-    ///
-    /// Error: memory was refused.
+    /// No uses, and memory for the numbers of `uses` of them.
     pub(crate) fn for_uses(alloc: Global, uses: usize) -> Result<Sharing<T>, AllocError>
         ensures { IfOk result (λ sharing. HaveItems T.eq [] sharing.items.keys sharing.numbers.items) }
     {
@@ -49,8 +47,6 @@ impl<T: Eq + Hash + Drop> Sharing<T> {
     }
 
     /// Adds a use, of an item or of none.
-    ///
-    /// Error: memory was refused.
     pub(crate) fn add(&mut self, used: Option<T>) -> Result<(), AllocError>
         ensures { (uses : List (Option T)) → HaveItems T.eq uses self.old.items.keys self.old.numbers.items → OnOk result (HaveItems T.eq (uses ++ used ∷ []) self.new.items.keys self.new.numbers.items) }
     {
@@ -66,8 +62,6 @@ impl<T: Eq + Hash + Drop> Sharing<T> {
     }
 
     /// The items, and the number of each use.
-    ///
-    /// Error: memory was refused.
     pub(crate) fn finish(self, alloc: Global) -> Result<Shared<T>, AllocError>
         ensures { (uses : List (Option T)) → HaveItems T.eq uses self.items.keys self.numbers.items → IfOk result (λ shared. HaveItems T.eq uses shared.written.items shared.numbers.items) }
     {
@@ -88,9 +82,7 @@ fn use_offset(number: Option<usize>, offsets: &[u32]) -> u32
     }
 }
 
-/// Where the items of uses stand, for each use, by their numbers and by where the items stand that are written.
-///
-/// Error: memory was refused.
+/// The offset of the item of each use, from the numbers of the uses and the offsets of the items that are written.
 pub(crate) fn place_shared(
     alloc: Global,
     numbers: &[Option<usize>],

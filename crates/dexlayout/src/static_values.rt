@@ -1,4 +1,4 @@
-//! Where the arrays of static values stand.
+//! The offsets of the arrays of static values.
 
 ghost use Rattle.std.specs.Prelude.{◌≡◌, ◌^◌, ◌≤◌, IfOk, OnOk};
 ghost use Rattle.dexspec.specs.Mentions.{Mentions};
@@ -12,9 +12,7 @@ use dexclass::Class;
 use dexval::statics_size;
 use std::alloc::{AllocError, Global};
 
-/// Where the arrays of static values stand, for each class, behind the annotations.
-///
-/// Error: memory was refused.
+/// The offset of the array of static values of each class. They are after the annotations.
 ///
 /// Source: "encoded_array_item".
 pub(crate) fn place_static_values(
@@ -32,7 +30,7 @@ pub(crate) fn place_static_values(
     Ok(places)
 }
 
-// The array of one class behind the others.
+// Places the array of one class after the others.
 fn place_array(class: &Class<'_>, places: &mut Offsets) -> Result<(), AllocError>
     requires { (place_use 1 places.old (static_size class.now)).end ≤ 2 ^ 30 }
     ensures { OnOk result (places.new ≡ place_use 1 places.old (static_size class.now)) }

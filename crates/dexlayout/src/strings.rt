@@ -1,4 +1,4 @@
-//! Where the texts stand.
+//! The offsets of texts.
 
 ghost use Rattle.std.specs.Prelude.{◌≡◌, ◌^◌, ◌≤◌, IfOk, map};
 ghost use Rattle.dexspec.specs.Texts.{string_data};
@@ -9,9 +9,7 @@ use crate::offsets::Offsets;
 use dexpool::{Numbering, SymbolKind};
 use std::alloc::{AllocError, Global};
 
-/// Where the texts stand from a place on, one behind the other.
-///
-/// Error: memory was refused.
+/// The offsets of the texts, from an offset on, one after the other.
 ///
 /// Source: "string_data_item".
 pub(crate) fn place_strings(

@@ -29,7 +29,7 @@ pub(crate) struct Tables {
     pub(crate) end: u32,
 }
 
-// A table of so many rows, and where it begins if it has some.
+// A table of `size` rows, and where it begins if it is not empty.
 fn rows_from(size: u32, from: u32) -> Rows
     ensures { rows_meant result ≡ rows_from size from }
 {

@@ -1,4 +1,4 @@
-//! Where type lists stand: those of the parameters of protos, and of the interfaces of classes.
+//! The offsets of type lists: those of the parameters of protos, and of the interfaces of classes.
 
 ghost use Rattle.std.specs.Prelude.{◌≡◌, ◌∷◌, [], ◌++◌, ◌^◌, ◌≤◌, All, IfOk, List, OnOk, Option, Some, map};
 ghost use Rattle.dexspec.specs.Canonical.{data_start, type_list_items};
@@ -21,8 +21,8 @@ use dexrows::TypeNumbers;
 use std::alloc::{AllocError, Global};
 use std::marker::Model;
 
-/// The type lists that are written, equal ones once, in the order of their first use, and where they stand: for each proto, and
-/// then for each class.
+/// The type lists that are written, equal ones once, in the order of their first use, and their offsets: for each
+/// proto, and then for each class.
 ///
 /// Source: "type_list".
 #[derive(Drop)]
@@ -47,7 +47,7 @@ impl<'p> TypeLists<'p> {
         &self.written
     }
 
-    /// Where they stand: for each proto, and then for each class.
+    /// Their offsets: for each proto, and then for each class.
     pub fn places(&self) -> &Offsets
         ensures { result.now ≡ self.now.places }
     {
@@ -119,7 +119,7 @@ fn lists_of<'p>(alloc: Global, keys: Vec<ListKey<'p>>) -> Result<Vec<TypeNumbers
     Ok(lists)
 }
 
-// Where the type lists that are written stand, from a place on.
+// The offsets of the type lists that are written, from an offset on.
 fn place_lists(alloc: Global, lists: &[TypeNumbers<'_>], from: u32) -> Result<Offsets, AllocError>
     requires { (place_uses 4 (none_from from) (map (λ list. Some (list_len list)) lists.now)).end ≤ 2 ^ 30 }
     ensures { IfOk result (λ places. places ≡ place_uses 4 (none_from from) (map (λ list. Some (list_len list)) lists.now)) }
@@ -133,9 +133,7 @@ fn place_lists(alloc: Global, lists: &[TypeNumbers<'_>], from: u32) -> Result<Of
     Ok(places)
 }
 
-/// Where the type lists stand, behind the tables.
-///
-/// Error: memory was refused.
+/// The offsets of the type lists, which are after the tables.
 pub(crate) fn place_type_lists<'p>(
     alloc: Global,
     numbering: &'p Numbering<'_>,

@@ -4,6 +4,6 @@ use Rattle.dexlayout.specs.Annotated.{place_sets}
 use Rattle.dexlayout.specs.Running.{none_from}
 use Rattle.dexlayout.proofs.annotations.place_annotations.Given as goal
 
--- what is left leads to all
+-- placing what is left gives the whole
 abbrev pub invariant-loop-set : goal.invariant-loop-set
 invariant-loop-set l = place_sets l.places (map (λ s. set_of s.now) (drop l.set-index l.set-items)) ≡ place_sets (none_from l.from) (map (λ s. set_of s.now) l.set-items)

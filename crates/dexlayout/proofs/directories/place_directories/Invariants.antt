@@ -5,7 +5,7 @@ use Rattle.dexlayout.specs.Directories.{directory_sizes}
 use Rattle.dexlayout.specs.Running.{place_uses}
 use Rattle.dexlayout.proofs.directories.place_directories.Given as goal
 
--- what is left leads to all
+-- placing what is left gives the whole
 abbrev pub invariant-loop-i : goal.invariant-loop-i
 invariant-loop-i l = record {
   placed : place_uses 4 l.places (directory_sizes (drop l.i l.classes) (drop l.i l.own) l.fields l.methods l.lists) ≡ place_uses 4 l.initial.places (directory_sizes l.classes l.own l.initial.fields l.initial.methods l.initial.lists);

@@ -3,7 +3,7 @@ use Rattle.std.specs.List.{flat_map}
 use Rattle.dexlayout.specs.Gathering.{sets_of_class, parts_of_classes, gather_classes}
 use Rattle.dexlayout.proofs.sets.place_sets.Given as goal
 
--- what is left leads to all
+-- placing what is left gives the whole
 abbrev pub invariant-loop-class : goal.invariant-loop-class
 invariant-loop-class l = record {
   gathered : gather_classes l.sets (parts_of_classes (drop l.class-index l.classes) l.rest) ≡ gather_classes l.initial.sets (parts_of_classes l.classes l.initial.rest);

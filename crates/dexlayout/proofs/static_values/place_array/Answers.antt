@@ -9,7 +9,7 @@ use Rattle.dexlayout.proofs.OwnSteps.{put_plain}
 use Rattle.dexlayout.proofs.static_values.place_array.Goals as goal
 use Rattle.dexlayout.proofs.static_values.place_array.Goals.{After-statics_size}
 
--- what is told not to be empty is not
+-- what is not reported as empty is not empty
 some_of : (n : ℕ) (b : Bool) → b ≡ (n == 0) → b ≡ false → n ≡ 0 → ⊥
 some_of n b e f z = let t = e ∙ eq-eqb n 0 z in absurd cc
 

@@ -9,7 +9,7 @@ use Rattle.dexlayout.proofs.OwnSteps.{all_stand, left_next, left_none, put_plain
 use Rattle.dexlayout.proofs.strings.place_strings.Goals as goal
 use Rattle.dexlayout.proofs.strings.place_strings.Goals.{After-item_len-len}
 
--- with one text more, what is left leads to the same
+-- with one text more, placing the rest gives the same
 next : (c : After-item_len-len) → place_uses 1 (put_at c.loop-i.places c.loop-i.places.end (length (string_data c.string.result.now))) (map (λ s. Some (length (string_data s))) (drop (c.loop-i.i + 1) c.args.numbering.now.texts))
     ≡ place_uses 1 (none_from c.args.from) (map (λ s. Some (length (string_data s))) c.args.numbering.now.texts)
 next c =

@@ -14,7 +14,7 @@ place_lists-requires c =
     subst (λ ws. (placed list_len 4 (none_from c.args.from) ws).end ≤ 2 ^ 30) (sym (c.deref.ensures.value ∙ c.in_ok-written.ensures))
     (lists_fit c.args.numbering.now c.args.classes.now c.args.from c.requires.from s.written.items s.numbers.items c.in_ok-shared.ensures.known c.in_ok-shared.ensures.shared c.requires.classes)
 
--- where the lists stand that are written
+-- the offsets of the lists that are written
 lists_are : (c : In_ok-lists) → c.in_ok-lists.lists ≡ placed list_len 4 (none_from c.args.from) c.in_ok-shared.shared.written.items
 lists_are c = c.in_ok-lists.ensures ∙ ap (placed list_len 4 (none_from c.args.from)) (c.deref.ensures.value ∙ c.in_ok-written.ensures)
 

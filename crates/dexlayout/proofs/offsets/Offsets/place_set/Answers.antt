@@ -7,7 +7,7 @@ use Rattle.dexlayout.specs.Places.{ItemPlaces}
 use Rattle.dexlayout.proofs.SetAnnotations.{lens_behind, next_annotation, annotation_within}
 use Rattle.dexlayout.proofs.offsets.Offsets.place_set.Goals as goal
 
--- the next annotation is within, and its length is told
+-- the next annotation ends within the file, and `annotation_size` returns its length
 next : (c : goal.After-annotation_size) → (c.loop-annotation.self.end + length (numbered_annotation_bytes (annotation_of c.annotation-item.result)) ≤ 2 ^ 30) × (c.annotation_size.result ≡ length (numbered_annotation_bytes (annotation_of c.annotation-item.result)))
 next c =
     let within = annotation_within (λ a. length (numbered_annotation_bytes (annotation_of a))) c.annotations-annotation-items.result.now c.loop-annotation.annotation-index c.annotation-item.result c.loop-annotation-test.true (sym c.annotation-item.is) c.loop-annotation.self (2 ^ 30)

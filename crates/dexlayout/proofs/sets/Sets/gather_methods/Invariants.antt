@@ -3,7 +3,7 @@ use Rattle.std.specs.List.{flat_map}
 use Rattle.dexlayout.specs.Gathering.{sets_of_method, parts_of_methods, gather_methods}
 use Rattle.dexlayout.proofs.sets.Sets.gather_methods.Given as goal
 
--- what is left leads to all
+-- placing what is left gives the whole
 abbrev pub invariant-loop-i : goal.invariant-loop-i
 invariant-loop-i l = record {
   gathered : gather_methods l.self (parts_of_methods (drop l.i l.methods) l.rest) ≡ gather_methods l.fn.self (parts_of_methods l.methods l.offs);

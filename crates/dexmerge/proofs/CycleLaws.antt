@@ -53,7 +53,7 @@ module _ (m : Mentions) (cs : List NumberedClass) (kept : AreKept m cs) where
   less_text : (i j : ℕ) → i < j → j < length cs → text_cmp (type_at m (name_number cs i)) (type_at m (name_number cs j)) ≡ Less
   less_text i j less lt = Rises-places text_cmp text_total m.types (name_number cs i) (name_number cs j) [] (Rises-from_rises text_cmp text_total m.types kept.named.rising) (kept.rise i j less lt) (kept.named.names j lt)
 
-  -- a lesser name stands before
+  -- a class of a lesser name comes before
   pub before_of_less : (i j : ℕ) → i < length cs → j < length cs → text_cmp (type_at m (name_number cs j)) (type_at m (name_number cs i)) ≡ Less → j < i
   before_of_less i j li lj e = elim (cases_order j i) [
     | inl same ↦ absurd (irreflexive text_cmp text_total (type_at m (name_number cs j)) (type_at m (name_number cs i)) (ap (λ (k : ℕ). type_at m (name_number cs k)) same) e)

@@ -57,13 +57,13 @@ at_least a b = elim (cases_lt b a) [
   | inr le ↦ le-leb a b le ∙ ap not (sym (not_false (nat_lt b a) (λ e. omega (arith, le, ltb-true b a e))))
 ]
 
--- ---- the greatest, led on
+-- ---- the greatest, remapped
 
 all_member : {X : Type 0} (P : X → Type 0) (xs : List X) (x : X) → All P xs → Contains xs x → P x
 all_member P xs x all c = subst P c.2 (All-get_or P xs c.0 x c.1 all)
 
 module _ (r : Maps) (c : NumberedClass) (led : IsLedClass r c) where
-  -- each symbol in what it declares leads somewhere
+  -- each symbol in what it declares has an image
   members_led : All (IsLedUse r) (members_uses c.members)
   members_led = all_right (IsLedUse r) (map text_use (text_numbers c)) (members_uses c.members) (all_right (IsLedUse r) (map type_use (type_numbers c)) (map text_use (text_numbers c) ++ members_uses c.members) led)
 
@@ -84,7 +84,7 @@ module _ (r : Maps) (c : NumberedClass) (led : IsLedClass r c) where
   none_named cap none = none_far cap (members_short_strings (renumbered_members r c.members)) (λ j has.
       let s = led_short r c.members j has in absurd (Contains-nil s.0 (subst (λ (l : List ℕ). Contains l s.0) none s.1)))
 
-  -- the greatest leads nowhere
+  -- the greatest has no image
   pub none_led : (g : ℕ) → IsGreatest (members_short_strings c.members) (Some g) → image r.texts g ≡ None → ⊥
   none_led g is e = some_none (image r.texts g) (text_led g is.0) e
     where

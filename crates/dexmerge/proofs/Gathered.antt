@@ -152,7 +152,7 @@ module _ (keep : KeepMeaning) (leads : LeadClasses) (m : Mentions) (K : Collecti
   abbrev pub own : Mentions
   own = mentions (definitions K)
 
-  -- led on, a class of the part stands for the same
+  -- remapped, a class of the part denotes the same
   part_stays : (c : NumberedClass) → IsKnownClass own c → StaysSame own m r c
   part_stays c known = keep own m r c p.lead.lead (led_class leads K r c p.lead.all known) known
 
@@ -170,7 +170,7 @@ module _ (keep : KeepMeaning) (leads : LeadClasses) (m : Mentions) (K : Collecti
       ∙ ap (λ (l : List Definition). D ++ l) (sym (map-append (definition_of own) xs (c ∷ []))) in
       subst (λ (l : List Definition). AreGathered m l new.classes.items new.is_name.items) next (added m (D ++ map (definition_of own) xs) h (part_stays c known).known (subst IsWellFormed (sym same) (formed (definition_of own c) has)))
 
--- a class of a part stands for one of its definitions
+-- a class of a part denotes one of its definitions
 pub class_stands : (K : Collection) (ps : List NumberedClass) (c : NumberedClass) → AreClassesOf K ps → Contains ps c → Contains (definitions K) (definition_of (mentions (definitions K)) c)
 class_stands K ps c are has =
     let own = mentions (definitions K) in
@@ -193,7 +193,7 @@ part_done m D K ps cs marks are h =
 
 -- ---- all of them
 
--- where no name has two definitions, the classes stand for all of them
+-- where no name has two definitions, the classes denote all of them
 pub one_of_each : (m : Mentions) (D : List Definition) (cs : List NumberedClass) (marks : List Bool) → IsConsistent D → AreGathered m D cs marks → AreOneOfEach m D cs
 one_of_each m D cs marks consistent h = record {
   known = h.known;
@@ -229,7 +229,7 @@ depths_are m D cs by_name good h known = depths_same m D (map (definition_of m) 
 pub collection_is : (m : Mentions) (D : List Definition) (cs : List NumberedClass) (K : Collection) → AreOneOfEach m D cs → IsCollectionOf (map (definition_of m) cs) K → IsCollectionOf D K
 collection_is m D cs K h k name c = (λ e. (h.same (name, c)).0 ((k name c).0 e), λ has. (k name c).1 ((h.same (name, c)).1 has))
 
--- what is judged under some caps is so under the greatest
+-- what is checked under some caps is so under the greatest
 pub judged_greatest : (caps : Caps) (parts : List Collection) (m : Mentions) (remaps : List Maps) → AreCaps caps → IsJudged caps parts m remaps → IsJudged greatest_caps parts m remaps
 judged_greatest caps parts m remaps are j = record { joined = j.joined; good = good_greatest caps (flat_map definitions parts) are j.good }
 

@@ -1,4 +1,4 @@
--- In a part of a union that is good under the greatest caps each number of a class leads to one that fits its place.
+-- In a part of a union that is good under the greatest caps each number of a class maps to one that fits its place.
 use Rattle.std.proofs.Common.{◌≡◌, ℕ, ◌*◌, ◌^◌, ◌<◌, ◌≤◌, List, [], ◌∷◌, ◌++◌, length, map, refl, sym, ap, ◌∙◌, subst, arith, inl, inr, Option, Some, None}
 use Rattle.std.specs.Prelude.{All}
 use Rattle.std.specs.List.{Contains}
@@ -57,11 +57,12 @@ keep_order m n r l = record {
   methods_keep = l.methods_lead.rising;
 }
 
--- maps into a numbering that is not too large lead to numbers that fit
+-- maps into a numbering that is not too large map to numbers that fit
 abbrev pub MapsFit : Type 0
 MapsFit = (m n : Mentions) (r : Maps) → AllLead m n r → IsNotTooLarge n → ImagesFit r
 
--- where the greatest short string leads low enough, each number of members leads to one that fits its place
+-- where the greatest short string maps to a number that is low enough, each number of members maps to one that fits its
+-- place
 abbrev pub MembersFit : Type 0
 MembersFit = (r : Maps) (x : NumberedMembers) (greatest : Option ℕ) → KeepOrder r → ImagesFit r → IsGreatest (members_short_strings x) greatest → LeadsShort r greatest → All (IsLedUse r) (members_uses x) → MembersHavePlaces r x
 
@@ -95,7 +96,7 @@ module _ (maps_fit : MapsFit) (members_fit : MembersFit) (keep : KeepMeaning) (l
     stays : StaysSame own m r c
     stays = keep own m r c p.lead.lead (led_class leads K r c p.lead.all known) known
 
-    -- led on, it stands for a definition of the whole
+    -- remapped, it denotes a definition of the whole
     is_within : AreWithin (map (definition_of m) (to ∷ [])) p.whole
     is_within d has_d = elim (Contains-cons_cases (definition_of m to) d [] has_d) [
       | inl e ↦ subst (Contains p.whole) (sym stays.same ∙ e) (p.within (definition_of own c) has)

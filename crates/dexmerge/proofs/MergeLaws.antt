@@ -39,7 +39,7 @@ pub are_copies : (parts : List Collection) (m : Mentions) (remaps : List Maps) (
     → (AllZip (λ part remap. LeadInto (mentions (definitions part)) m remap) parts remaps → All (IsOfPart m) cs) → AreCopies m (flat_map definitions parts) cs
 are_copies parts m remaps cs j members of_parts = record { mentions_are = j.mentions_are; rising = j.rising; of_parts = of_parts j.lead; members = members j.lead }
 
--- classes of two numberings that are led on are the same just where they stand for the same
+-- classes of two numberings are equal once remapped if and only if they denote the same
 abbrev pub TellApart : Type 0
 TellApart = (m n whole : Mentions) (r s : Maps) (c d : NumberedClass) → AreRising whole → IsPartClass whole m r c → IsPartClass whole n s d → (renumbered r c ≡ renumbered s d) ↔ (definition_of m c ≡ definition_of n d)
 
@@ -51,7 +51,7 @@ module _ (m : Mentions) (D : List Definition) (cs : List Candidate) (h : AreCopi
   pub copy_names : All (λ c. c.name < length m.types) Cs
   copy_names i d lt = (h.members.known i d lt).types_in 0 0 (omega arith)
 
-  -- unlike classes stand for unlike definitions
+  -- different classes denote different definitions
   told_by : TellApart → (a b : Candidate) → IsOfPart m a → IsOfPart m b → definition_of m (class_of a) ≡ definition_of m (class_of b) → class_of a ≡ class_of b
   told_by tell a b p q e = (tell p.part q.part m a.remap.now b.remap.now a.class.now b.class.now h.rising p.is q.is).1 (sym p.same ∙ e ∙ q.same)
 

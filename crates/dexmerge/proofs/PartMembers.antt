@@ -41,11 +41,11 @@ no_members m = record {
   formed = λ d c. absurd (Contains-nil d c);
 }
 
--- classes of which each symbol leads to the same one stand for the same
+-- classes of which each symbol maps to the same one denote the same
 abbrev pub KeepMeaning : Type 0
 KeepMeaning = (m n : Mentions) (r : Maps) (c : NumberedClass) → AllLead m n r → IsLedClass r c → IsKnownClass m c → StaysSame m n r c
 
--- where all symbols lead somewhere, those of a class do
+-- where all symbols have images, those of a class do
 abbrev pub LeadClasses : Type 0
 LeadClasses = (m : Mentions) (r : Maps) (c : NumberedClass) → AreRising m → LeadsAll m r → IsKnownClass m c → IsLedClass r c
 
@@ -61,7 +61,7 @@ mentions_rise D =
       methods_rise = rises-from_Rises method_cmp (mentions D).methods h.methods;
     }
 
--- of a class of a part each symbol leads somewhere
+-- of a class of a part each symbol has an image
 pub led_class : LeadClasses → (K : Collection) (r : Maps) (c : NumberedClass) → LeadsAll (mentions (definitions K)) r → IsKnownClass (mentions (definitions K)) c → IsLedClass r c
 led_class leads K r c all known = leads (mentions (definitions K)) r c (mentions_rise (definitions K)) all known
 

@@ -19,7 +19,7 @@ use Rattle.dexmerge.specs.Plans.{plans_of}
 use Rattle.dexmerge.specs.Faults.{IsMerged, Tells, planned}
 use Rattle.dexmerge.specs.Parts.{files_in, nodes_in, of_files, of_plans, AreKnown, IsCauseOf}
 
--- ---- what faults tell
+-- ---- what faults report
 
 pub tells_other : (P Q : Cause → Type 0) → ((cause : Cause) → P cause → Q cause) → (f : MergeFault) → Tells P f → Tells Q f
 tells_other P Q h (fault.Conflict name) x = h (merging.Conflict name) x

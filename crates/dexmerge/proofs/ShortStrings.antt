@@ -1,4 +1,4 @@
--- The texts that a const-string of classes names, by their numbers: what they stand for, and where they lead.
+-- The texts that a const-string of classes names, by their numbers: what they denote, and their images.
 use Rattle.std.proofs.Common.{◌≡◌, ℕ, Bool, true, false, not, ◌&&◌, if◌then◌else◌, List, [], ◌∷◌, map, Option, Some, None, refl, sym, ap, ◌∙◌, subst, inl, inr}
 use Rattle.std.specs.Prelude.{All, IfSome, option_to_list}
 use Rattle.std.specs.List.{Contains, flat_map}
@@ -119,14 +119,14 @@ module _ (m : Mentions) (cs : List NumberedClass) (known : All (IsKnownClass m) 
 pub rank_is : (m : Mentions) → AreRising m → (n : ℕ) (s : Text) → IsAt m.texts n s → rank text_cmp s m.texts ≡ n
 rank_is m rising n s h = ap (λ (t : Text). rank text_cmp t m.texts) (sym (h.is [])) ∙ rank-get_or text_cmp text_total m.texts n [] (Rises-from_rises text_cmp text_total m.texts rising.texts_rise) h.within
 
--- ---- led on
+-- ---- remapped
 
--- the number of a text leads to another
+-- the number of a text maps to another
 abbrev TextLeads : Maps → ℕ → ℕ → Type 0
 TextLeads r n j = image r.texts n ≡ Some j
 
 module _ {X : Type 0} (f : X → X) (s : X → List ℕ) (R : ℕ → ℕ → Type 0) where
-  -- what is led on to holds of a number that is led on
+  -- each number of a remapped list is the image of one of the list
   lifted : ((x : X) (j : ℕ) → Contains (s (f x)) j → (n : ℕ) × Contains (s x) n × R n j) → (xs : List X) (j : ℕ) → Contains (flat_map s (map f xs)) j → (n : ℕ) × Contains (flat_map s xs) n × R n j
   lifted each xs j c =
       let a = Contains-flat_map_source s (map f xs) j c in
@@ -203,10 +203,10 @@ module _ (r : Maps) where
   methods_led : (x : NumberedMembers) → methods_of (renumbered_members r x) ≡ map (renumbered_method r) (methods_of x)
   methods_led x = sym (map-append (renumbered_method r) x.direct_methods x.virtual_methods)
 
-  -- a short string of members that are led on is led on from one of theirs
+  -- each short string of remapped members is the image of one of theirs
   pub led_short : (x : NumberedMembers) (j : ℕ) → Contains (members_short_strings (renumbered_members r x)) j → (n : ℕ) × Contains (members_short_strings x) n × TextLeads r n j
   led_short x j c = lifted (renumbered_method r) method_short_strings (TextLeads r) led_method (methods_of x) j (subst (λ (l : List NumberedMethod). Contains (flat_map method_short_strings l) j) (methods_led x) c)
 
-  -- and where one of theirs leads, one is
+  -- and each image of one of theirs is one
   pub leads_short : (x : NumberedMembers) (n j : ℕ) → Contains (members_short_strings x) n → TextLeads r n j → Contains (members_short_strings (renumbered_members r x)) j
   leads_short x n j c leads = subst (λ (l : List NumberedMethod). Contains (flat_map method_short_strings l) j) (sym (methods_led x)) (lowered (renumbered_method r) method_short_strings (TextLeads r) leads_method (methods_of x) n j c leads)

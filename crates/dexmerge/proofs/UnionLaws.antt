@@ -28,7 +28,7 @@ option_is : (o : Option ℕ) → IsSome o → (k : ℕ) × (o ≡ Some k)
 option_is None s = absurd cc
 option_is (Some k) s = (k, refl)
 
--- what is present stands at some place
+-- what is present is at some place
 present_at : (places : List (Option ℕ)) (t k : ℕ) → get_or places t None ≡ Some k → Contains (present places) k
 present_at [] t k e = absurd cc
 present_at (None ∷ ps) zero k e = absurd cc
@@ -44,7 +44,7 @@ present_source (Some j ∷ ps) k c = elim (Contains-cons_cases j k (present ps) 
   | inr later ↦ let s = present_source ps k later in (suc s.0, s.1)
 ]
 
--- where what stands at a place has the place as its name, names rise
+-- where the item at a place has the place as its name, names rise
 module _ (name : ℕ → ℕ) where
   names_from : (places : List (Option ℕ)) (from : ℕ) → ((t k : ℕ) → get_or places t None ≡ Some k → name k ≡ from + t) → (i : ℕ) → i < length (present places) → from ≤ name (get_or (present places) i 0)
   names_from [] from h i lt = absurd (omega (arith, lt))
@@ -63,7 +63,7 @@ module _ (name : ℕ → ℕ) where
 all_behind : (P : ℕ → Type 0) (x : ℕ) (xs : List ℕ) → All P (x ∷ xs) → All P xs
 all_behind P x xs h i d lt = h (suc i) d (omega (arith, lt))
 
--- classes that are unlike stand for unlike definitions
+-- different classes denote different definitions
 abbrev pub AreTold : Mentions → List NumberedClass → Type 0
 AreTold m cs = (i j : ℕ) → i < length cs → j < length cs → definition_of m (class_at cs i) ≡ definition_of m (class_at cs j) → class_at cs i ≡ class_at cs j
 
@@ -130,13 +130,13 @@ module _ (m : Mentions) (rising : AreRising m) where
     -- ---- conflicts
 
     module _ (places : List (Option ℕ)) (h : ArePlaces cs places) where
-      -- alike classes of one name are the same
+      -- classes of one name that are equal to the kept one are equal
       alike_same : (i j : ℕ) → i < length cs → name_number cs i ≡ name_number cs j → IsAlike cs places i → IsAlike cs places j → class_at cs i ≡ class_at cs j
       alike_same i j lt e f g =
           let k = option_is (get_or places (name_number cs i) None) (places_all cs places h i lt) in
           f k.0 k.1 ∙ sym (g k.0 (ap (λ (n : ℕ). get_or places n None) (sym e) ∙ k.1))
 
-      -- the least name of unlike classes is the first cause
+      -- the least name of different classes is the first cause
       pub conflict_told : AreTold m cs → (caps : Caps) (name : ℕ) → IsLeastUnlike cs places name → IsFirstCause caps E (Conflict (type_at m name))
       conflict_told told caps name l = record { is = conflict; first = before }
         where
@@ -189,13 +189,13 @@ module _ (m : Mentions) (rising : AreRising m) where
           let s = Contains-map_source (class_at cs) (present places) c has in
           subst (Contains cs) s.2 (Contains-get_or cs s.0 no_class (source_place s.0 s.1))
 
-      -- and each alike class is kept
+      -- and each class that is equal to the kept one is kept
       kept_has : (i : ℕ) → i < length cs → IsAlike cs places i → Contains (kept_classes cs places) (class_at cs i)
       kept_has i lt alike =
           let k = option_is (get_or places (name_number cs i) None) (places_all cs places h i lt) in
           subst (Contains (kept_classes cs places)) (sym (alike k.0 k.1)) (Contains-map (class_at cs) (present places) k.0 (placed (name_number cs i) k.0 k.1))
 
-      -- where all classes are alike, those that are kept stand for the same definitions
+      -- where all classes of each name are equal, those that are kept denote the same definitions
       pub kept_members : (D : List Definition) → AreMembers m D cs → ((i : ℕ) → i < length cs → IsAlike cs places i) → AreMembers m D (kept_classes cs places)
       kept_members D members alike = record {
         known = λ i d lt. let has = kept_source (get_or (kept_classes cs places) i d) (Contains-get_or (kept_classes cs places) i d lt) in subst (IsKnownClass m) has.2 (range has.0 (get_or (kept_classes cs places) i d) has.1);

@@ -1,4 +1,4 @@
--- The least name of unlike classes, class by class.
+-- The least name of different classes, class by class.
 use Rattle.std.proofs.Common.{◌≡◌, ℕ, ◌+◌, ◌<◌, min, List, length, get_or, refl, sym, ap, ◌∙◌, subst, arith, inl, inr, Option, Some, None}
 use Rattle.std.specs.Prelude.{IsSome, MatchOption}
 use Rattle.std.proofs.lemmas.Bool.{cases_lt}
@@ -7,12 +7,12 @@ use Rattle.dexclass.specs.Parents.{name_number, ArePlaces}
 use Rattle.dexclass.proofs.Places.{places_all}
 use Rattle.dexmerge.specs.Candidates.{class_at, IsAlike, IsUnlike, IsLeastUnlike, lesser_of}
 
--- it is of this name that there are unlike classes, and of no lesser name among the first n classes
+-- this name has different classes, and no lesser name has any among the first n classes
 pub record IsUnlikeTo (cs : List NumberedClass) (places : List (Option ℕ)) (n name : ℕ) : Type 0 where
   pub is : IsUnlike cs places name
   pub least : (i : ℕ) → i < n → name_number cs i < name → IsAlike cs places i
 
--- the same, or the first n classes are alike
+-- the same, or each of the first n classes is equal to the one that is kept of its name
 abbrev pub IsLeastTo : List NumberedClass → List (Option ℕ) → ℕ → Option ℕ → Type 0
 IsLeastTo cs places n None = (i : ℕ) → i < n → IsAlike cs places i
 IsLeastTo cs places n (Some name) = IsUnlikeTo cs places n name
@@ -25,7 +25,7 @@ module _ (cs : List NumberedClass) (places : List (Option ℕ)) where
   pub none_unlike : IsLeastTo cs places 0 None
   none_unlike i lt = absurd (omega (arith, lt))
 
-  -- an alike one more
+  -- one more class that is equal to the kept one
   last_alike : (n i : ℕ) → i < n + 1 → IsAlike cs places n → (i < n → IsAlike cs places i) → IsAlike cs places i
   last_alike n i lt alike before = elim (cases_lt i n) [
     | inl less ↦ before less
@@ -36,7 +36,7 @@ module _ (cs : List NumberedClass) (places : List (Option ℕ)) where
   alike_next n None h alike = λ i lt. last_alike n i lt alike (h i)
   alike_next n (Some name) h alike = record { is = h.is; least = λ i lt less. last_alike n i lt alike (λ few. h.least i few less) }
 
-  -- an unlike one more
+  -- one more class that is different from the kept one
   unlike_is : (n : ℕ) → n < length cs → ArePlaces cs places → (IsAlike cs places n → ⊥) → IsUnlike cs places (name_number cs n)
   unlike_is n lt h unlike =
       let kept = option_is (get_or places (name_number cs n) None) (places_all cs places h n lt) in

@@ -20,14 +20,14 @@ class_of c = renumbered c.remap.now c.class.now
 abbrev pub classes_of : List Candidate → List NumberedClass
 classes_of cs = map class_of cs
 
--- it is a class of a part whose maps lead to the whole, where it stands for the same
+-- it is a class of a part that is mapped into the whole, where it denotes the same
 pub record IsOfPart (whole : Mentions) (c : Candidate) : Type 0 where
   pub part : Mentions
   pub rising : AreRising part
   pub is : IsPartClass whole part c.remap.now c.class.now
   pub same : definition_of whole (class_of c) ≡ definition_of part c.class.now
 
--- the classes stand for just these definitions, which are well formed
+-- the classes denote just these definitions, which are well formed
 pub record AreMembers (m : Mentions) (D : List Definition) (cs : List NumberedClass) : Type 0 where
   pub known : All (IsKnownClass m) cs
   pub same : AreSame (map (definition_of m) cs) D
@@ -50,7 +50,7 @@ pub record IsUnlike (cs : List NumberedClass) (places : List (Option ℕ)) (name
   pub kept_is : slice_index_or places name None ≡ Some kept
   pub unlike : class_at cs place ≢ class_at cs kept
 
--- the least name of which there are unlike classes, if there is one
+-- the least name that has different classes, if there is one
 pub record IsLeastUnlike (cs : List NumberedClass) (places : List (Option ℕ)) (name : ℕ) : Type 0 where
   pub is : IsUnlike cs places name
   pub least : (i : ℕ) → i < length cs → name_number cs i < name → IsAlike cs places i

@@ -15,7 +15,7 @@ pub record IsOfCap (P : Cause → Type 0) (number : ℕ) : Type 0 where
   pub number_is : cap_number cap ≡ number
   pub holds : P (merging.Exceeded cap)
 
--- this holds of the cause that the fault tells; want of memory tells none
+-- this holds of the cause that the fault reports; out of memory reports none
 abbrev pub Tells : (Cause → Type 0) → MergeFault → Type 0
 Tells P (merge.Conflict name) = P (merging.Conflict name)
 Tells P (merge.Cycle name) = P (merging.Cycle name)
@@ -42,7 +42,7 @@ pub record IsPlannedCause (caps : Caps) (files : List Collection) (p : merging.P
   pub holds : IsCause caps (planned files p) cause
   pub first : IsFlat p → IsFirstCause caps (planned files p) cause
 
--- a bad plan is none for the files; another fault tells a cause
+-- a bad plan is none for the files; another fault reports a cause
 abbrev pub IsPlanFault : Caps → List Collection → merging.Plan → PlanFault → Type 0
 IsPlanFault caps files p plan.BadPlan = IsPlanFor (length files) p → ⊥
 IsPlanFault caps files p (plan.Merge fault) = Tells (IsPlannedCause caps files p) fault

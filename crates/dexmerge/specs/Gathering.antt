@@ -1,4 +1,4 @@
--- One class of each name, gathered from the parts of a union.
+-- One class of each name, collected from the parts of a union.
 use Rattle.std.specs.Prelude.{◌≡◌, ℕ, Bool, true, false, List, [], ◌∷◌, ◌++◌, map, length, All, slice_index_or}
 use Rattle.std.specs.List.{Contains, AllZip}
 use Rattle.dexspec.specs.Lists.{AreDistinct}
@@ -32,7 +32,7 @@ pub record ArePartsOf (m : Mentions) (parts : List Collection) (remaps : List Ma
 abbrev pub HasName : Mentions → List NumberedClass → Text → Type 0
 HasName m cs name = (c : NumberedClass) × Contains cs c × (type_at m c.name ≡ name)
 
--- classes of these definitions, one of each name; the marks tell which types are names
+-- classes of these definitions, one of each name; the marks say which types are names
 pub record AreGathered (m : Mentions) (D : List Definition) (cs : List NumberedClass) (is_name : List Bool) : Type 0 where
   pub count : length is_name ≡ length m.types
   pub known : All (IsKnownClass m) cs

@@ -11,7 +11,7 @@ use Rattle.dexmerge.specs.Candidates.{AreMembers, IsOfPart, classes_of}
 use Rattle.dexmerge.specs.Cycles.{AreKept}
 use Rattle.dexmerge.specs.declared.candidates.Candidate.{Candidate}
 
--- the candidates are classes of parts, and stand for just these definitions, over the numbering of just what they mention
+-- the candidates are classes of parts, and denote just these definitions, over the numbering of just what they mention
 pub record AreCopies (m : Mentions) (D : List Definition) (cs : List Candidate) : Type 0 where
   pub mentions_are : m ≡ mentions D
   pub rising : AreRising m

@@ -52,7 +52,7 @@ impl<'a, 'b> Candidate<'a, 'b> {
     /// The greatest number in the union of a text that a `const-string` of the class names, or `None` without one; a
     /// `const-string/jumbo` does not count. Maps keep the order of numbers, so only the greatest is remapped.
     ///
-    /// Condition: each symbol that occurs in the class leads somewhere.
+    /// Condition: each symbol that occurs in the class has an image.
     ///
     /// Source: "Instruction Formats", the 16 bits of an index.
     pub(crate) fn greatest_short_string(&self) -> Option<usize>
@@ -117,7 +117,7 @@ fn push_classes<'a, 'b>(
 
 /// The classes of all parts.
 ///
-/// Condition: a map for each part. Error: the memory for the list was refused.
+/// Condition: a map for each part.
 pub(crate) fn candidates<'a, 'b>(
     alloc: Global,
     parts: &'b [&Program<'a>],

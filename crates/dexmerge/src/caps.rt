@@ -131,7 +131,7 @@ impl Caps {
         self.weight
     }
 
-    /// Does nothing: its clause tells that no cap is above the greatest.
+    /// Does nothing: its clause says that no cap is above the greatest.
     pub fn are_caps(&self)
         ensures { AreCaps self.now }
     {

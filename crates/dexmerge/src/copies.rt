@@ -1,4 +1,4 @@
-//! Classes of one name: one of each name is kept, and a name of unlike classes is found.
+//! Classes of one name: one of each name is kept, and a name of different classes is found.
 
 ghost use Rattle.std.specs.Prelude.{◌≡◌, ◌↔◌, ◌<◌, ◌++◌, ◌∷◌, [], ℕ, Option, Some, None, IfOk, OnOk, IsTrue, MatchOption, length, map};
 ghost use Rattle.dexspec.specs.Lists.{present};
@@ -44,7 +44,7 @@ fn lesser(least: Option<usize>, name: usize) -> Option<usize>
     }
 }
 
-/// The least name of unlike candidates, if there is one.
+/// The least name of different candidates, if there is one.
 ///
 /// Condition: the places are those of the candidates.
 pub(crate) fn least_unlike(
@@ -84,7 +84,7 @@ fn push_kept<'a, 'b>(
 
 /// The candidates that are kept, by name.
 ///
-/// Condition: the places are those of the candidates. Error: the memory for the list was refused.
+/// Condition: the places are those of the candidates.
 pub(crate) fn kept<'a, 'b>(
     alloc: Global,
     candidates: &[Candidate<'a, 'b>],

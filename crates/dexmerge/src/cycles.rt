@@ -14,10 +14,9 @@ use std::alloc::{AllocError, Global};
 /// The depths of the classes, which come by name; or the first class that is above itself or below such a class, if
 /// there is one.
 ///
-/// Conditions: the classes are those of a numbering that has so many types, and their names rise. Error: the memory for
-/// their depths was refused.
+/// Conditions: the classes are those of a numbering that has `types` types, and their names rise.
 ///
-/// Source: "class_defs", a superclass and interfaces stand before the class.
+/// Source: "class_defs", a superclass and interfaces come before the class.
 pub(crate) fn class_depths(
     alloc: Global,
     classes: &[Candidate<'_, '_>],
@@ -36,8 +35,7 @@ pub(crate) fn class_depths(
 
 /// The depths at the numbers of the classes' names, with a place for each type.
 ///
-/// Conditions: those of [`class_depths`], and there is a depth for each class. Error: the memory for the list was
-/// refused.
+/// Conditions: those of [`class_depths`], and there is a depth for each class.
 pub(crate) fn depths_by_name(
     alloc: Global,
     classes: &[Candidate<'_, '_>],

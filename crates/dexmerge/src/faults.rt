@@ -10,13 +10,13 @@ use std::alloc::{AllocError, AllocFailed};
 /// Why there is no merged program.
 #[derive(Drop)]
 pub enum MergeFault {
-    /// Two unlike classes have this name.
+    /// Two different classes have this name.
     Conflict(Name),
     /// The class of this name is above itself, or below such a class.
     Cycle(Name),
     /// The classes exceed a cap: the number of its kind, [`CapKind::number`](crate::CapKind::number).
     Cap(u8),
-    /// A growth was refused.
+    /// An allocation failed.
     Memory,
 }
 
@@ -25,7 +25,7 @@ pub enum MergeFault {
 pub enum PlanFault {
     /// The plan names a file that there is not, or does not name one that there is, or is deeper than 64.
     BadPlan,
-    /// The files cannot be merged, or a growth was refused.
+    /// The files cannot be merged, or an allocation failed.
     Merge(MergeFault),
 }
 

@@ -27,8 +27,8 @@ struct Gathered<'a> {
     is_name: Vec<bool>,
 }
 
-// In a part of a union that is good each number in what a class declares leads to one that fits its place. It does
-// nothing: its contract is the law, for the calls that lead classes on.
+// In a part of a union that is good each number in what a class declares maps to one that fits its place. It does
+// nothing: its contract is the law, for the calls that remap classes.
 fn places_law()
     ensures { (m : Mentions) (K : Collection) (r : Maps) (c : NumberedClass) → IsPartOf m K r → IsKnownClass (mentions (definitions K)) c → Contains (definitions K) (definition_of (mentions (definitions K)) c) → ClassHasPlaces r c }
 {
@@ -60,7 +60,7 @@ impl<'a> Gathered<'a> {
         name < self.is_name.len() && self.is_name[name]
     }
 
-    // Adds a class of a part, with its numbers led on.
+    // Adds a class of a part, with its numbers remapped.
     fn push(&mut self, mut class: Class<'a>, remap: &Remap) -> Result<(), AllocError>
         requires places { ClassHasPlaces remap.now class }
         requires name { led remap.now.types class.name < length self.old.is_name.items }
@@ -73,7 +73,7 @@ impl<'a> Gathered<'a> {
         Ok(())
     }
 
-    // Adds a class of a part, with its numbers led on, where none of its name is there yet.
+    // Adds a class of a part, with its numbers remapped, unless there is one of its name.
     fn take(&mut self, class: Class<'a>, remap: &Remap) -> Result<(), AllocError>
         requires places { ClassHasPlaces remap.now class }
         requires name { led remap.now.types class.name < length self.old.is_name.items }
@@ -86,7 +86,7 @@ impl<'a> Gathered<'a> {
         Ok(())
     }
 
-    // Adds a copy of a class of a part, with its numbers led on, where none of its name is there yet.
+    // Adds a copy of a class of a part, with its numbers remapped, unless there is one of its name.
     fn copy(&mut self, class: &Class<'a>, remap: &Remap) -> Result<(), AllocError>
         requires places { ClassHasPlaces remap.now class.now }
         requires name { led remap.now.types class.now.name < length self.old.is_name.items }
@@ -157,8 +157,7 @@ impl<'a> Gathered<'a> {
 
 /// One class of each name, with the numbers of the union.
 ///
-/// Condition: a map for each part, first those that are owned, into a union of so many types that is good. Error: the
-/// memory for the list or for a copy was refused.
+/// Condition: a map for each part, first those that are owned, into a union of `types` types that is good.
 pub(crate) fn gather<'a>(
     alloc: Global,
     owned: Vec<Program<'a>>,

@@ -1,4 +1,4 @@
-//! Whether the classes of parts can be merged: conflicts are judged first, then cycles, and then caps.
+//! Whether the classes of parts can be merged: conflicts are checked first, then cycles, and then caps.
 
 ghost use Rattle.std.specs.Prelude.{◌≡◌, ◌<◌, length, List, IfOk, IfErr, map};
 ghost use Rattle.std.specs.List.{flat_map};
@@ -24,7 +24,7 @@ use dexpool::{Numbering, Remap, SymbolKind};
 use dexstr::Name;
 use std::alloc::{AllocError, Global};
 
-/// One class of each name. Classes of one name that are unlike are a conflict.
+/// One class of each name. Different classes of one name are a conflict.
 pub(crate) fn one_of_each<'a, 'b>(
     alloc: Global,
     numbering: &Numbering<'_>,
@@ -56,8 +56,8 @@ pub(crate) fn name_of(
     Name::of(alloc, numbering.typ(classes[i].name()))
 }
 
-// Whether classes, one of each name, can be merged: cycles are judged, and then caps. The depths of the classes are
-// answered, at the numbers of their names.
+// Whether classes, one of each name, can be merged: cycles are checked, and then caps. Returns the depths of the
+// classes, at the numbers of their names.
 fn judge_once(
     alloc: Global,
     numbering: &Numbering<'_>,
@@ -79,11 +79,11 @@ fn judge_once(
     }
 }
 
-/// Whether the classes of parts can be merged. The depths of the classes are answered: there is a place for each type of
-/// the numbering, and at the number of each class's name the depth of that class.
+/// Whether the classes of parts can be merged. Returns the depths of the classes: there is a place for each type of the
+/// numbering, and at the number of each class's name the depth of that class.
 ///
-/// Condition: the numbering is that of all parts, and the maps lead the numbers of each to it. Error: the first cause
-/// why they cannot; or `Memory` where a growth was refused.
+/// Condition: the numbering is that of all parts, and there is a map of each part into it. Error: the first cause
+/// why they cannot; or `Memory` if an allocation failed.
 pub(crate) fn judge(
     alloc: Global,
     numbering: &Numbering<'_>,

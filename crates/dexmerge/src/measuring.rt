@@ -94,8 +94,8 @@ fn measure_once(
 /// What the program of all classes of the parts holds, in any order and with any repeats: the numbers that caps bound,
 /// and those of its classes and strings. No cap is asked.
 ///
-/// Error: `Conflict` with the least name that has two unlike classes; else `Cycle` with the least name of a class that
-/// is above itself or below such a class; or `Memory` where a growth was refused. `Cap` is never answered.
+/// Error: `Conflict` with the least name that has two different classes; else `Cycle` with the least name of a class
+/// that is above itself or below such a class; or `Memory` if an allocation failed. `Cap` is never returned.
 pub fn measure(alloc: Global, parts: &[&Program<'_>]) -> Result<Counts, MergeFault>
     ensures counts { IfOk result (AreCounts (flat_map definitions (map (λ part. part.now) parts.now))) }
     ensures fault { IfErr result (λ fault. (caps : merging.Caps) → Tells (IsFirstCause caps (flat_map definitions (map (λ part. part.now) parts.now))) fault) }

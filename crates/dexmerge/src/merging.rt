@@ -114,10 +114,10 @@ pub(crate) fn merge_all<'a>(
 
 /// The program of all classes of the parts, in any order and with any repeats.
 ///
-/// Error: `Conflict` with the least name that has two unlike classes; else `Cycle` with the least name of a class that
-/// is above itself or below such a class; else `Cap` with the first cap that the classes exceed; or `Memory` where a
-/// growth was refused. What can be merged whole can be merged in part, each cause of a part is one of the whole, and what
-/// can be merged has no cause.
+/// Error: `Conflict` with the least name that has two different classes; else `Cycle` with the least name of a class
+/// that is above itself or below such a class; else `Cap` with the first cap that the classes exceed; or `Memory` if an
+/// allocation failed. What can be merged whole can be merged in part, each cause of a part is one of the whole, and
+/// what can be merged has no cause.
 pub fn merge<'a>(
     alloc: Global,
     parts: &[&Program<'a>],

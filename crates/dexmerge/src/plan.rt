@@ -58,9 +58,7 @@ fn are_all_named(is_named: &[bool]) -> bool
     true
 }
 
-/// Whether the plan names each of so many files and no other, and is at most 64 deep.
-///
-/// Error: the memory for marks on the files was refused.
+/// Whether the plan names each of `files` files and no other, and is at most 64 deep.
 pub fn is_plan_for(alloc: Global, plan: &Plan, files: usize) -> Result<bool, AllocError>
     ensures { IfOk result (λ is_plan. MatchBool is_plan (IsPlanFor files (plan_of plan.now)) (IsPlanFor files (plan_of plan.now) → ⊥)) }
 {

@@ -91,7 +91,7 @@ fn merge_parts<'a>(
 ///
 /// Error: `BadPlan`, first of all, exactly where the plan names a file that there is not, or does not name one that
 /// there is, or is deeper than 64. Else `Merge` with a cause that is true of the classes of all files; where the plan
-/// is a leaf or a node of leaves it is the one that `merge` tells. What can be merged has no cause.
+/// is a leaf or a node of leaves it is the one that `merge` reports. What can be merged has no cause.
 pub fn merge_plan<'a>(
     alloc: Global,
     files: &[Program<'a>],

@@ -6,7 +6,7 @@ use Rattle.dexspec.specs.Lists.{AreDistinct}
 use Rattle.dexclass.specs.Numbered.{NumberedClass}
 use Rattle.dexclass.specs.Parents.{no_class}
 
--- those at the first k places are taken, and the others stand where they were
+-- those at the first k places of the order are taken, and the others are where they were
 pub record TakenTo (old now : List NumberedClass) (order : List ℕ) (k : ℕ) (taken : List NumberedClass) : Type 0 where
   pub count : length now ≡ length old
   pub others : (i : ℕ) → ((j : ℕ) → j < k → get_or order j 0 ≢ i) → slice_index_or now i no_class ≡ slice_index_or old i no_class

@@ -1,4 +1,4 @@
--- Classes with their parents number the definitions that they stand for.
+-- Classes with their parents number the definitions that they denote.
 use Rattle.std.proofs.Common.{◌≡◌, ℕ, ◌<◌, true, List, [], ◌∷◌, ◌++◌, length, get_or, map, refl, sym, ap, ◌∙◌, subst, arith, inl, inr, Option, Some, None}
 use Rattle.std.specs.Prelude.{All, IsSome, option_to_list}
 use Rattle.std.specs.Option.{option_map}

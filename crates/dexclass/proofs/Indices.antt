@@ -1,4 +1,4 @@
--- Indices of classes and texts, and what tests and marks tell of them.
+-- Indices of classes and texts, and what tests and marks say of them.
 use Rattle.std.proofs.Common.{◌≡◌, ◌≢◌, ℕ, zero, suc, ◌<◌, Bool, false, List, [], ◌∷◌, length, get_or, refl, sym, subst, arith}
 use Rattle.std.specs.Prelude.{◌↔◌, IsTrue, All, nat_lt, Some, None}
 use Rattle.std.proofs.lemmas.Bool.{ltb-true, lt-ltb, ne_eqb}
@@ -11,7 +11,7 @@ use Rattle.dexspec.proofs.OneRow.{one_type}
 use Rattle.dexpool.specs.Pools.{ArePools}
 use Rattle.dexclass.specs.Rows.{AreClassTests, IsClassIndex, IsParentIndex, IsSourceIndex, IsInterfaceIndex, superclass_indices}
 
--- a test in range tells whether the index is that of a class
+-- a test in range says whether the index is that of a class
 pub tested : (b : List ℕ) (m : Mentions) (tests : List Bool) (i : ℕ) → ArePools b m → AreClassTests m.types tests → i < length tests → IsTrue (get_or tests i false) ↔ IsClassIndex b i
 tested b m tests i pools h lt =
     let row = pools.types_are.each i [] (omega (arith, lt, h.count, pools.types_are.count)) in

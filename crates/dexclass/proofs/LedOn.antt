@@ -1,4 +1,4 @@
--- Numbers of texts that are led on, and what they stand for.
+-- Numbers of texts that are remapped, and what they denote.
 use Rattle.std.proofs.Common.{◌≡◌, ℕ, ◌<◌, true, List, [], ◌∷◌, ◌++◌, length, map, get_or, Option, Some, None, option_to_list, refl, sym, ap, subst, inl, inr}
 use Rattle.std.specs.Prelude.{IsSome}
 use Rattle.std.specs.List.{All}
@@ -21,7 +21,7 @@ module _ (from to : List Text) (images : List (Option ℕ)) (h : Leads from to i
       let there : led images i ≡ j = rw e refl in
       subst (λ (k : ℕ). IsAt to k (get_or from i [])) (sym there) (h.same i j [] e)
 
-  -- a number that leads somewhere leads to the same text
+  -- a number that has an image maps to the same text
   pub led_at : (i : ℕ) → IsSome (image images i) → IsAt to (led images i) (get_or from i [])
   led_at i some = led_by i (image images i) refl some
 
@@ -46,12 +46,12 @@ module _ (from to : List Text) (images : List (Option ℕ)) (h : Leads from to i
   all_within (i ∷ is) all =
       All-cons (λ i. i < length to) (led images i) (map (led images) is) (led_at i (All-head (λ i. IsSome (image images i)) i is all)).within (all_within is (All-tail (λ i. IsSome (image images i)) i is all))
 
--- a number led on, if there is one
+-- a number remapped, if there is one
 pub optional_numbers : (f : ℕ → ℕ) (o : Option ℕ) → map f (option_to_list o) ≡ option_to_list (option_map f o)
 optional_numbers f None = refl
 optional_numbers f (Some i) = refl
 
--- and others behind it
+-- and others after it
 pub numbers_behind : (f : ℕ → ℕ) (o : Option ℕ) (is : List ℕ) → map f (option_to_list o ++ is) ≡ option_to_list (option_map f o) ++ map f is
 numbers_behind f None is = refl
 numbers_behind f (Some i) is = refl
@@ -59,7 +59,7 @@ numbers_behind f (Some i) is = refl
 -- ---- one number for each text
 
 module _ (xs : List Text) (rising : rises text_cmp xs ≡ true) where
-  -- what stands at two numbers is not the same
+  -- two numbers have different items
   pub one_at : (i j : ℕ) → i < length xs → j < length xs → get_or xs i [] ≡ get_or xs j [] → i ≡ j
   one_at i j li lj e = elim (cases_order i j) [
     | inl same ↦ same

@@ -17,7 +17,7 @@ use Rattle.dexclass.specs.Uses.{HaveMarked}
 occurs_both : (us vs : List Use) (j : SymbolKind) (i : ℕ) → occurs (us ++ vs) j i ≡ (occurs us j i || occurs vs j i)
 occurs_both us vs j i = list_any-append (λ v. same_kind v.kind j && v.number == i) us vs
 
--- there is a mark for each behind those that were marked
+-- there is a mark for each after those that were marked
 pub rest_marked : (us vs : List Use) (a b : Marks) → AreMarkedToo us a b → All (HasMark a) (us ++ vs) → All (HasMark b) vs
 rest_marked us vs a b h all = still_all us vs a b h (all_back (HasMark a) us vs all)
 

@@ -107,7 +107,7 @@ module _ (m : Mentions) (marks : Marks) where
   abbrev behind_texts : List Symbol
   behind_texts = types_part ++ behind_types
 
-  -- what stands at one of five parts is marked
+  -- each symbol of one of the five parts is marked
   in_types : (s : Symbol) → Contains types_part s → Contains (marked m marks) s
   in_types s c = Contains-append_right texts_part behind_texts s (Contains-append_left types_part behind_types s c)
 

@@ -31,7 +31,7 @@ names_differ n cs one i j e less lt same =
 
 -- ---- trimmed classes
 
--- the classes stand for the definitions, over the numbering of just what these mention
+-- the classes denote the definitions, over the numbering of just what these mention
 pub record AreTrimmed (D : List Definition) (n : Mentions) (cs : List NumberedClass) : Type 0 where
   pub mentions_are : n ≡ mentions D
   pub same : map (definition_of n) cs ≡ D

@@ -27,7 +27,7 @@ Rises-mapped : {X Y : Type 0} (R : Y → Y → Ordering) (f : X → Y) (xs : Lis
 Rises-mapped R f [] r = tt
 Rises-mapped R f (x ∷ xs) r = (λ y c. r.0 (f y) (Contains-map f xs y c), Rises-mapped R f xs r.1)
 
--- what is mapped alike member by member is mapped alike
+-- lists are mapped to the same list by functions that agree on each member
 mapped_alike : {X Y : Type 0} (f g : X → Y) (xs : List X) → ((x : X) → Contains xs x → f x ≡ g x) → map f xs ≡ map g xs
 mapped_alike f g [] h = refl
 mapped_alike f g (x ∷ xs) h =

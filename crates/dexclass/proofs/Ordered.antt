@@ -86,7 +86,7 @@ module _ (m : Mentions) (cs : List NumberedClass) (named : AreNamed m cs) where
       omega (arith, named.names i lt, h.count, at)
 
   module _ (depths : List (Option ℕ)) (names order : List ℕ) (e : names ≡ map (λ c. c.name) cs) (p : IsPermutation (range_with_len 0 (length names)) order) (r : rises class_cmp (map (class_place depths names) order) ≡ true) where
-    -- no place stands twice
+    -- no place is there twice
     pub order_distinct : AreDistinct order
     order_distinct = AreDistinct-map_source (class_place depths names) order (AreDistinct-from_Rises class_cmp class_total (map (class_place depths names) order) (Rises-from_rises class_cmp class_total (map (class_place depths names) order) r))
 

@@ -1,4 +1,4 @@
--- The symbols of a class's own types and text, and of what stands behind them.
+-- The symbols of a class's own types and text, and of what follows them.
 use Rattle.std.proofs.Common.{◌≡◌, ℕ, ◌<◌, List, [], ◌∷◌, ◌++◌, length, map, Option, Some, None, option_to_list, refl, arith}
 use Rattle.std.specs.List.{All, AllZip, flat_map}
 use Rattle.std.specs.Option.{option_map}
@@ -14,7 +14,7 @@ use Rattle.dexclass.specs.Uses.{type_use, text_use}
 
 -- ---- parts
 
--- two lists that go together, behind two others that do
+-- two lists that go together, after two others that do
 pub zip_append : {U S : Type 0} (R : U → S → Type 0) (us : List U) (ss : List S) (vs : List U) (ts : List S) → AllZip R us ss → AllZip R vs ts → AllZip R (us ++ vs) (ss ++ ts)
 zip_append R [] [] vs ts h k = k
 zip_append R [] (s ∷ ss) vs ts h k = absurd h
@@ -71,7 +71,7 @@ module _ (m : Mentions) where
             zip_append (IsUseOf m) (map type_use interfaces) (map TypeSymbol (map (type_at m) interfaces)) uses_behind symbols_behind (types_zip interfaces others) (by_source source texts_in),
           )
 
-      -- the symbols of own types and text, and what stands behind
+      -- the symbols of own types and text, and what follows
       pub own_zip : (name : ℕ) (superclass : Option ℕ) → All (λ i. i < length m.types) (name ∷ (option_to_list superclass ++ interfaces))
           → AllZip (IsUseOf m) (map type_use (name ∷ (option_to_list superclass ++ interfaces)) ++ uses_behind)
           (TypeSymbol (type_at m name) ∷ (optional_type (option_map (type_at m) superclass) ++ (map TypeSymbol (map (type_at m) interfaces) ++ symbols_behind)))

@@ -40,7 +40,7 @@ AreDistinct-drop n xs h i j d less lt e =
     let few = length-drop n xs in
     h (n + i) (n + j) d (omega (arith, less)) (omega (arith, lt, few)) (sym (get_or-drop n xs i d) ∙ e ∙ get_or-drop n xs j d)
 
--- definitions of different names stand at one place each
+-- definitions of different names are at one place each
 one_place : (D : List Definition) → ((i j : ℕ) (d : Definition) → i < j → j < length D → (get_or D i d).0 ≢ (get_or D j d).0) → (i j : ℕ) (d : Definition) → i < length D → j < length D → (get_or D i d).0 ≡ (get_or D j d).0 → i ≡ j
 one_place D apart i j d li lj e = elim (cases_order i j) [
   | inl is ↦ is

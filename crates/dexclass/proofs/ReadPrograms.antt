@@ -17,7 +17,7 @@ use Rattle.dexclass.specs.Reading.{bodies_weight, IsWhole}
 use Rattle.dexclass.proofs.Mergeable.{AreTrimmed, trimmed_mergeable}
 use Rattle.dexclass.proofs.RowsBelow.{weight_is, one_name, collection_denoted, light_accepted}
 
--- trimmed classes weigh as they were judged to
+-- trimmed classes have the weight that was computed for them
 pub total_is : (D : List Definition) (n : Mentions) (cs : List NumberedClass) → AreTrimmed D n cs → (bodies total : ℕ) → bodies ≡ bodies_weight D → IsWhole n bodies total → total ≡ weight (map (definition_of n) cs)
 total_is D n cs trimmed bodies total sum whole =
     let mentioned = ap mentions_weight trimmed.mentions_are in

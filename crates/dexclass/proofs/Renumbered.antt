@@ -1,10 +1,10 @@
--- What is led on one by one.
+-- Items that are remapped one by one.
 use Rattle.std.proofs.Common.{◌≡◌, ℕ, ◌+◌, ◌<◌, List, [], ◌∷◌, ◌++◌, length, get_or, take, drop, sym, ap, ◌∙◌, arith}
 use Rattle.std.specs.Prelude.{map, slice_set}
 use Rattle.std.proofs.lemmas.List.{length-set, take_more, take_more_set, drop-set-lt, get_or-drop, map-append}
 use Rattle.std.proofs.lemmas.Grind.{drop_more_same}
 
--- the first k are led on, and the rest is as it was
+-- the first k are remapped, and the rest is as it was
 pub record LedTo {X : Type 0} (f : X → X) (new old : List X) (k : ℕ) : Type 0 where
   pub len : length new ≡ length old
   pub done : take k new ≡ map f (take k old)

@@ -1,4 +1,4 @@
--- The numbers of a class row stand for the definition that the row is.
+-- The numbers of a class row denote the definition that the row is.
 use Rattle.std.proofs.Common.{◌≡◌, ℕ, ◌+◌, ◌*◌, ◌<◌, Bool, true, false, List, [], ◌∷◌, ◌++◌, length, refl, sym, ap, ◌∙◌, subst, arith, inl, inr, sum_by}
 use Rattle.std.specs.Prelude.{◌==◌, if◌then◌else◌, map, Option, Some, None}
 use Rattle.std.specs.Option.{option_map}

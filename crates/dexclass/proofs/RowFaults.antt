@@ -28,7 +28,7 @@ class_fault b (Refused r) h = (Condition.Classes, r.place, h.0, refl, inl (omega
 
 -- ---- conditions 17 to 22
 
--- they are judged at class rows, and their rows are told
+-- they are checked at class rows, and their rows are reported
 late_row : (b : List ℕ) (r : ℕ) (c : Condition) → 17 ≤ number c → (rows_judged c b ≡ table_size b ClassDefs) × (r ≡ place c b r)
 late_row b r Condition.Size late = absurd (omega (arith, late))
 late_row b r Condition.Magic late = absurd (omega (arith, late))

@@ -69,7 +69,7 @@ readable_more b r before is k lt = elim (cases_lt k r) [
 -- ---- rows of a file that meets conditions 1 to 16
 
 module _ (b : List ℕ) (classes : HasClasses b) where
-  -- a name stands in one row
+  -- a name is in one row
   pub one_name : (n : ℕ) (D : List Definition) → AreRows b n D → (i j : ℕ) (d : Definition) → i < length D → j < length D → (get_or D i d).0 ≡ (get_or D j d).0 → i ≡ j
   one_name n D rows i j d li lj e =
       let x = at_row (IsRow b) n 0 D rows i d li in

@@ -1,5 +1,5 @@
--- Classes that are led on stand for the same definitions; led into one numbering they are the same just where their
--- definitions are.
+-- Classes that are remapped denote the same definitions; remapped into one numbering they are the same if and only if
+-- their definitions are.
 use Rattle.std.proofs.Common.{◌≡◌, ℕ, ◌-◌, ◌^◌, ◌<◌, min, List, [], ◌∷◌, ◌++◌, length, map, option_to_list, sym, ap, ◌∙◌, subst}
 use Rattle.std.specs.Prelude.{◌↔◌, IsSome}
 use Rattle.std.specs.List.{All, AllZip}
@@ -25,7 +25,7 @@ use Rattle.dexpool.proofs.Parts.{all_front, all_back}
 use Rattle.dexclass.proofs.OwnUses.{all_mapped}
 use Rattle.dexclass.proofs.LedOn.{led_is, all_led, optional_led, all_within, optional_numbers, numbers_behind, one_at, one_list, one_optional}
 
--- ---- where all symbols lead somewhere
+-- ---- where all symbols have images
 
 use_within : (m : Mentions) (kind : SymbolKind) (i : ℕ) (s : Symbol) → IsNumbered m i s → IsOfKind kind s → i < count_of kind m
 use_within m kinds.Text i (TextSymbol x) at of = at.within
@@ -42,7 +42,7 @@ uses_led m r [] (s ∷ ss) all zip = absurd zip
 uses_led m r (u ∷ us) [] all zip = absurd zip
 uses_led m r (u ∷ us) (s ∷ ss) all zip = All-cons (IsLedUse r) u us (all u.kind u.number (use_within m u.kind u.number s zip.0.0 zip.0.1)) (uses_led m r us ss all zip.1)
 
--- ---- a class that is led on
+-- ---- a class that is remapped
 
 module _ (r : Maps) (c : NumberedClass) (leads : IsLedClass r c) where
   abbrev types_used : List Use
@@ -76,7 +76,7 @@ module _ (r : Maps) (c : NumberedClass) (leads : IsLedClass r c) where
   pub members_lead : All (IsLedUse r) (members_uses c.members)
   members_lead = all_back (IsLedUse r) texts_used (members_uses c.members) behind_lead
 
--- what is known of members that are led on
+-- what is known of members that are remapped
 pub record MembersStay (m n : Mentions) (r : Maps) (class : Text) (x : NumberedMembers) : Type 0 where
   pub known : AreKnownMembers n (renumbered_members r x)
   pub same : members_in n (renumbered_members r x) ≡ members_in m x
@@ -114,7 +114,7 @@ module _ (m n : Mentions) (r : Maps) (h : AllLead m n r) (c : NumberedClass) (le
     types_numbered : map (led r.types) (type_numbers c) ≡ type_numbers (renumbered r c)
     types_numbered = ap (λ (l : List ℕ). led r.types c.name ∷ l) (numbers_behind (led r.types) c.superclass c.interfaces)
 
-    -- it stands for the same definition, by numbers of the other numbering
+    -- it denotes the same definition, by numbers of the other numbering
     pub stays_same : IsKnownClass m c → StaysSame m n r c
     stays_same known = record {
       same = definition_led;
@@ -130,7 +130,7 @@ module _ (m n : Mentions) (r : Maps) (h : AllLead m n r) (c : NumberedClass) (le
 
 -- ---- one class for each definition
 
--- members of classes of one name are the same where they stand for the same
+-- members of classes of one name are the same where they denote the same
 abbrev pub MembersSame : (m n : Mentions) (r s : Maps) (x y : NumberedMembers) → Type 0
 MembersSame m n r s x y = (name : Text) → AreOfClass m name x → AreOfClass n name y → members_in m x ≡ members_in n y → renumbered_members r x ≡ renumbered_members s y
 

@@ -31,7 +31,7 @@ use Rattle.dexclass.proofs.Mergeable.{AreTrimmed, trimmed_mergeable}
 
 -- ---- a class
 
--- it stands for the stripped definition
+-- it denotes the stripped definition
 pub class_stripped : (m : Mentions) (c : NumberedClass) → members_in m (stripped_members c.members) ≡ strip_members (members_in m c.members) → definition_of m (stripped_class c) ≡ strip_definition (definition_of m c)
 class_stripped m c e = λ i. (
   type_at m c.name,
@@ -76,7 +76,7 @@ map_same f g h each (x ∷ xs) = λ i. each x i ∷ map_same f g h each xs i
 pub all_known : (m : Mentions) (cs : List NumberedClass) → ((c : NumberedClass) → IsKnownClass m c → IsKnownClass m (stripped_class c)) → All (IsKnownClass m) cs → (old : List NumberedClass) → old ≡ map stripped_class cs → All (IsKnownClass m) old
 all_known m cs each known old e = subst (All (IsKnownClass m)) (sym e) (All-map (IsKnownClass m) stripped_class cs (λ k d lt. each (get_or cs k d) (known k d lt)))
 
--- they stand for the stripped definitions
+-- they denote the stripped definitions
 pub all_stripped : (K : Collection) (cs : List NumberedClass) → AreClassesOf K cs → ((m : Mentions) (c : NumberedClass) → definition_of m (stripped_class c) ≡ strip_definition (definition_of m c)) → (old : List NumberedClass) → old ≡ map stripped_class cs
     → map (definition_of (mentions (definitions K))) old ≡ strip (in_class_order (definitions K))
 all_stripped K cs of each old e =

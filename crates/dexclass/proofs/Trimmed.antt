@@ -1,4 +1,4 @@
--- Classes whose numbers are led to those of what they mention.
+-- Classes whose numbers are mapped to those of what they mention.
 use Rattle.std.proofs.Common.{◌≡◌, ℕ, ◌<◌, List, [], ◌∷◌, length, map, get_or, refl, sym, ap, ◌∙◌, subst, arith, Option, Some}
 use Rattle.std.specs.List.{All, AllZip, flat_map}
 use Rattle.std.proofs.lemmas.List.{same_lists}
@@ -43,7 +43,7 @@ module _ (m : Mentions) (cs : List NumberedClass) (known : All (IsKnownClass m) 
   unfolding mentions
   trimmed_mentions n kept = kept ∙ kept_closed m (flat_map class_uses cs) (flat_map symbols_of (map (definition_of m) cs)) marks zipped h
 
-  -- each symbol that occurs leads somewhere
+  -- each symbol that occurs has an image
   pub all_lead : (r : Maps) → LeadsMarked marks r → All (IsLedClass r) cs
   all_lead r leads i d lt k e within =
       let c = get_or cs i d in
@@ -51,7 +51,7 @@ module _ (m : Mentions) (cs : List NumberedClass) (known : All (IsKnownClass m) 
       let has = Contains-flat_map class_uses cs c u (Contains-get_or cs i d lt) (Contains-get_or (class_uses c) k e within) in
       leads u.kind u.number (is_marked m (flat_map class_uses cs) (flat_map symbols_of (map (definition_of m) cs)) marks zipped h u has)
 
--- led on, they stand for the same definitions by numbers of what is kept
+-- remapped, they denote the same definitions by numbers of what is kept
 module _ (m n : Mentions) (r : Maps) (cs new : List NumberedClass) (stay : (c : NumberedClass) → IsLedClass r c → IsKnownClass m c → StaysSame m n r c) (lead : All (IsLedClass r) cs) (known : All (IsKnownClass m) cs) (e : new ≡ map (renumbered r) cs) where
   all_stay : All (StaysSame m n r) cs
   all_stay = all_two (IsLedClass r) (IsKnownClass m) (StaysSame m n r) stay cs lead known

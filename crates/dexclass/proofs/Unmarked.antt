@@ -15,7 +15,7 @@ use Rattle.dexpool.proofs.KeptRows.{mark_within}
 use Rattle.dexclass.specs.Uses.{HaveMarked}
 use Rattle.dexclass.proofs.Mentioned.{is_kept}
 
--- what stands at a place
+-- the item at a place
 there : {X : Type 0} (xs : List X) (i : ℕ) (d : X) → i < length xs → IsAt xs i (get_or xs i d)
 there xs i d lt = record { within = lt; is = λ e. get_or_default xs i e d lt }
 

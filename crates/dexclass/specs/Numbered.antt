@@ -1,4 +1,4 @@
--- Class definitions with numbers in the place of symbols.
+-- Class definitions with numbers instead of symbols.
 use Rattle.std.specs.Prelude.{ℕ, ◌==◌, if◌then◌else◌, List, [], map, Option, Some, None, slice_index_or}
 use Rattle.std.specs.Option.{option_map}
 use Rattle.dexspec.specs.Texts.{Text}
@@ -26,7 +26,7 @@ text_at m i = slice_index_or m.texts i []
 abbrev pub type_at : Mentions → ℕ → Text
 type_at m i = slice_index_or m.types i []
 
--- the definition that the numbers stand for
+-- the definition that the numbers denote
 abbrev pub definition_of : Mentions → NumberedClass → Definition
 definition_of m c = (
   type_at m c.name,

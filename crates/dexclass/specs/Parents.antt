@@ -37,7 +37,7 @@ pub record AreNamed (m : Mentions) (cs : List NumberedClass) : Type 0 where
   pub parents_in : (c : NumberedClass) → Contains cs c → All (λ p. p < length m.types) (parent_numbers c)
   pub distinct : AreDistinct (map (λ c. c.name) cs)
 
--- a place for each type; at the number of each definition's name stands its depth
+-- a place for each type; the depth of each definition is at the number of its name
 pub record AreDepthsByName (m : Mentions) (D : List Definition) (by_name : List (Option ℕ)) : Type 0 where
   pub count : length by_name ≡ length m.types
   pub each : (d : Definition) → Contains D d → (t : ℕ) → t < length m.types → type_at m t ≡ d.0 → slice_index_or by_name t None ≡ Some (depth D d.0)

@@ -42,7 +42,7 @@ pub record IsReadAs (b : List ℕ) (K : Collection) : Type 0 where
   pub accepted : IsAccepted b
   pub denotes : Denotes b K
 
--- what a fault says of the bytes; want of memory says nothing of them
+-- what a fault says of the bytes; out of memory says nothing of them
 abbrev pub IsFaultOf : List ℕ → ReadFault → Type 0
 IsFaultOf b Memory = Unit {0}
 IsFaultOf b (Refused r) = IsRefused b r.number r.place

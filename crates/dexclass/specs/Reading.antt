@@ -14,8 +14,8 @@ use Rattle.dexclass.specs.declared.reading.Bodies.{Bodies}
 abbrev pub bodies_weight : List Definition → ℕ
 bodies_weight D = sum_by (λ d. body_weight d.1) D
 
--- The rows before row n are readable, and are the definitions of the classes, whose numbers are those of symbols. They weigh
--- as is told, and no more than they may.
+-- The rows before row n are readable, and are the definitions of the classes, whose numbers are those of symbols. They
+-- have the weight that is counted, which is no more than it may be.
 pub record AreBodies (b : List ℕ) (m : Mentions) (n : ℕ) (bodies : Bodies) : Type 0 where
   pub readable : (k : ℕ) → k < n → IsReadable b k
   pub known : All (IsKnownClass m) bodies.classes.items
@@ -23,12 +23,12 @@ pub record AreBodies (b : List ℕ) (m : Mentions) (n : ℕ) (bodies : Bodies) :
   pub weight_is : bodies.weight ≡ bodies_weight (map (definition_of m) bodies.classes.items)
   pub light : bodies.weight ≤ most_weight
 
--- what bodies that weigh so much weigh with the symbols, which is no more than it may be
+-- the weight of bodies of this weight with the symbols, which is no more than it may be
 pub record IsWhole (m : Mentions) (bodies total : ℕ) : Type 0 where
   pub weight_is : total ≡ 1024 + mentions_weight m + bodies
   pub light : total ≤ most_weight
 
--- the refusal tells the last row, where the symbols and the classes weigh too much together
+-- the refusal reports the last row, where the symbols and the classes weigh too much together
 pub record AreHeavyTogether (b : List ℕ) (m : Mentions) (bodies : ℕ) (r : Refusal) : Type 0 where
   pub number_is : r.number ≡ 23
   pub last : r.place ≡ table_size b ClassDefs - 1

@@ -1,4 +1,4 @@
--- Classes whose numbers are led to those of another numbering.
+-- Classes whose numbers are mapped to those of another numbering.
 use Rattle.std.specs.Prelude.{◌≡◌, ℕ, ◌<◌, List, map, All, Option, Some, unwrap_or}
 use Rattle.std.specs.Option.{option_map}
 use Rattle.dexspec.specs.Mentions.{Mentions}
@@ -11,11 +11,11 @@ use Rattle.dexmembers.specs.Renumbering.{renumbered_members, MembersHavePlaces}
 use Rattle.dexclass.specs.Numbered.{NumberedClass, definition_of}
 use Rattle.dexclass.specs.Uses.{class_uses, IsKnownClass}
 
--- where a number leads; one that leads nowhere stays
+-- the image of a number; one that has no image stays
 abbrev pub led : List (Option ℕ) → ℕ → ℕ
 led images i = unwrap_or (image images i) i
 
--- the class with each number led on
+-- the class with each number remapped
 abbrev pub renumbered : Maps → NumberedClass → NumberedClass
 renumbered r c = record {
   name = led r.types c.name;
@@ -27,25 +27,25 @@ renumbered r c = record {
   weight = c.weight;
 }
 
--- each number in what the class declares leads to one that fits its place; the others have room for any
+-- each number in what the class declares maps to one that fits its place; the others have room for any
 abbrev pub ClassHasPlaces : Maps → NumberedClass → Type 0
 ClassHasPlaces r c = MembersHavePlaces r c.members
 
--- each symbol that occurs in the class leads somewhere
+-- each symbol that occurs in the class has an image
 abbrev pub IsLedClass : Maps → NumberedClass → Type 0
 IsLedClass r c = All (IsLedUse r) (class_uses c)
 
--- the maps lead each number of the first numbering to that of the same symbol in the second
+-- each number of the first numbering maps to that of the same symbol in the second
 pub record LeadInto (m n : Mentions) (r : Maps) : Type 0 where
   pub lead : AllLead m n r
   pub all : LeadsAll m r
 
--- led on, the class stands for the same definition, by numbers of the second numbering
+-- remapped, the class denotes the same definition, by numbers of the second numbering
 pub record StaysSame (m n : Mentions) (r : Maps) (c : NumberedClass) : Type 0 where
   pub same : definition_of n (renumbered r c) ≡ definition_of m c
   pub known : IsKnownClass n (renumbered r c)
 
--- the class's numbers are those of symbols, and the maps lead each symbol that occurs to the same one of the whole
+-- the class's numbers are those of symbols, and each symbol that occurs maps to the same one of the whole
 pub record IsPartClass (whole m : Mentions) (r : Maps) (c : NumberedClass) : Type 0 where
   pub lead : AllLead m whole r
   pub led : IsLedClass r c

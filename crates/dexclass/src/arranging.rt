@@ -9,7 +9,7 @@ use dexmembers::Members;
 use std::alloc::{AllocError, Global};
 use std::mem;
 
-// A class of nothing. No memory is taken.
+// A class of nothing.
 fn nothing<'a>(alloc: Global) -> Class<'a>
     ensures { result ≡ no_class }
 {
@@ -26,8 +26,7 @@ fn nothing<'a>(alloc: Global) -> Class<'a>
 
 /// The classes of these places, in the order of the places. They are taken from where they were.
 ///
-/// Conditions: each place is that of a class, and no two are the same. Error: the memory for the list was
-/// refused.
+/// Conditions: each place is that of a class, and no two are the same.
 pub(crate) fn arrange<'a>(
     alloc: Global,
     classes: &mut Vec<Class<'a>>,

@@ -14,8 +14,7 @@ use dexpool::Remap;
 use std::alloc::AllocError;
 
 impl<'a> Class<'a> {
-    /// What the class weighs without the symbols that it names, in bytes, or 2^64 - 1 where that is more. No memory
-    /// is taken.
+    /// What the class weighs without the symbols that it names, in bytes, or 2^64 - 1 where that is more.
     ///
     /// Source: "class_def_item" and "type_list", and what [`dexmembers::Members::weight`] names, the sizes of their fields; the
     /// weight is this project's rule.
@@ -26,8 +25,6 @@ impl<'a> Class<'a> {
     }
 
     /// The same class, with lists of its own. The units of code are borrowed as before.
-    ///
-    /// Error: memory was refused.
     pub fn copy(&self) -> Result<Class<'a>, AllocError>
         ensures { IfOk result (λ copy. copy ≡ self.now) }
     {
@@ -43,8 +40,8 @@ impl<'a> Class<'a> {
         })
     }
 
-    /// Whether the two classes are the same where the numbers of each are led on, as `renumber` leads them. Classes
-    /// of unlike names are told apart at once. No memory is taken.
+    /// Whether the two classes are equal once the numbers of each are remapped as `renumber` does. The names are
+    /// compared first.
     pub fn same_mapped(&self, mine: &Remap, other: &Class<'_>, theirs: &Remap) -> bool
         ensures { IsTrue result ↔ (renumbered mine.now self.now ≡ renumbered theirs.now other.now) }
     {
@@ -72,7 +69,7 @@ impl<'a> Class<'a> {
     }
 }
 
-// Whether two lists of types are led to the same numbers.
+// Whether two lists of types are mapped to the same numbers.
 fn lead_alike(mine: &Remap, numbers: &[usize], theirs: &Remap, others: &[usize]) -> bool
     ensures { IsTrue result ↔ (map (led mine.now.types) numbers.now ≡ map (led theirs.now.types) others.now) }
 {

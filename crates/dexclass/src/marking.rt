@@ -38,8 +38,8 @@ fn mark_optional_text(text: Option<usize>, marks: &mut Marks)
 }
 
 impl<'a> Class<'a> {
-    /// Marks each symbol that occurs in the class: its type, its superclass, its interfaces, its source text, its fields and
-    /// methods, and what their code, annotations and values name. Marks that stand stay. No memory is taken.
+    /// Marks each symbol that occurs in the class: its type, its superclass, its interfaces, its source text, its
+    /// fields and methods, and what their code, annotations and values name. Marks that are set stay.
     ///
     /// Condition: there is a mark for each of them.
     ///

@@ -26,10 +26,9 @@ fn names(alloc: Global, classes: &[Class<'_>]) -> Result<Vec<usize>, AllocError>
 
 /// The depths of the classes.
 ///
-/// Conditions: the classes are those of a numbering that has so many types, and no two have one name. Error: the memory
-/// for the depths was refused.
+/// Conditions: the classes are those of a numbering that has `types` types, and no two have one name.
 ///
-/// Source: "class_defs", a superclass and interfaces stand before the class.
+/// Source: "class_defs", a superclass and interfaces come before the class.
 pub(crate) fn depths_of(
     alloc: Global,
     classes: &[Class<'_>],
@@ -41,9 +40,9 @@ pub(crate) fn depths_of(
     Hierarchy::of(alloc, classes, types)?.depths(alloc)
 }
 
-/// The depths of the classes, where they stand at the numbers of their names.
+/// The depths of the classes, from depths at the numbers of their names.
 ///
-/// Condition: the name of each class has a place. Error: the memory for the depths was refused.
+/// Condition: the name of each class has a place.
 pub(crate) fn known_depths(
     alloc: Global,
     classes: &[Class<'_>],
@@ -61,10 +60,9 @@ pub(crate) fn known_depths(
 
 /// The classes by depth, and then by name.
 ///
-/// Conditions: the classes are those of a numbering, no two have one name, and there are as many depths. Error: the
-/// memory for the order was refused.
+/// Conditions: the classes are those of a numbering, no two have one name, and there are as many depths.
 ///
-/// Source: "class_defs", a superclass and interfaces stand before the class; by depth and then by name is this
+/// Source: "class_defs", a superclass and interfaces come before the class; by depth and then by name is this
 /// project's rule.
 pub(crate) fn in_order<'a>(
     alloc: Global,

@@ -50,8 +50,6 @@ impl<'a> Model for Part<'a> {
 
 impl<'a> Part<'a> {
     /// All classes of a program, by depth and then by name, in memory of their own.
-    ///
-    /// Error: the memory for them was refused.
     pub fn of(program: &Program<'a>) -> Result<Part<'a>, AllocError>
         ensures { IfOk result (λ part. part ≡ in_class_order (definitions program.now)) }
     {
@@ -63,7 +61,7 @@ impl<'a> Part<'a> {
         })
     }
 
-    /// The number of classes. No memory is taken.
+    /// The number of classes.
     pub fn len(&self) -> usize
         ensures { result ≡ length self.now }
     {
@@ -73,7 +71,7 @@ impl<'a> Part<'a> {
     /// The classes in parts of `size` each, and fewer in the last, in their order. The time for each part grows with the tables of
     /// this one and with what the part's classes mention.
     ///
-    /// Condition: `size` is not 0. Error: the memory for the numberings of the parts was refused.
+    /// Condition: `size` is not 0.
     ///
     /// Source: this project's rule, that a file has the symbols that its classes mention and no others.
     pub fn split(self, alloc: Global, size: usize) -> Result<Vec<Part<'a>>, AllocError>
@@ -112,8 +110,6 @@ impl<'a> Part<'a> {
     }
 
     /// The program of the classes.
-    ///
-    /// Error: the memory for their order was refused.
     pub fn into_program(self, alloc: Global) -> Result<Program<'a>, AllocError>
         ensures { IfOk result (IsCollectionOf self.entry) }
     {

@@ -23,7 +23,7 @@ use std::marker::Model;
 /// A set of class definitions that can be merged and written: no two have one name, no class is above itself, and
 /// together they fit what a file can hold. Contracts see a finite map from names to the rest of each definition.
 ///
-/// It keeps the numbering of just what the classes mention, and the classes with numbers in the place of symbols, by
+/// It keeps the numbering of just what the classes mention, and the classes with numbers instead of symbols, by
 /// depth and then by name.
 pub struct Program<'a> {
     pub(crate) numbering: Numbering<'a>,
@@ -31,7 +31,7 @@ pub struct Program<'a> {
     pub(crate) weight: u64,
 }
 
-// So that a program is let go by one call, in the crates above too.
+// With this a program is dropped by one call, in the crates above too.
 impl Drop for Program<'_> {
     fn drop(self) {
         let Program {
@@ -57,7 +57,7 @@ impl<'a> Model for Program<'a> {
 }
 
 impl<'a> Program<'a> {
-    /// A program without classes. No memory is taken.
+    /// A program without classes.
     pub fn empty(alloc: Global) -> Program<'a>
         ensures { result ≡ finite.empty }
     {
@@ -68,14 +68,14 @@ impl<'a> Program<'a> {
         }
     }
 
-    /// The number of classes. No memory is taken.
+    /// The number of classes.
     pub fn len(&self) -> usize
         ensures { result ≡ length (definitions self.now) }
     {
         self.classes.len()
     }
 
-    /// The classes, by depth and then by name. Their numbers are those of the program's numbering. No memory is taken.
+    /// The classes, by depth and then by name. Their numbers are those of the program's numbering.
     ///
     /// Source: "class_defs"; by depth and then by name is this project's rule.
     pub fn classes(&self) -> &[Class<'a>]
@@ -84,7 +84,7 @@ impl<'a> Program<'a> {
         &self.classes
     }
 
-    /// Class `i` in the order of `classes`. No memory is taken.
+    /// Class `i` in the order of `classes`.
     ///
     /// Condition: `i` is below the number of classes.
     pub fn class(&self, i: usize) -> &Class<'a>
@@ -94,8 +94,7 @@ impl<'a> Program<'a> {
         &self.classes[i]
     }
 
-    /// The classes, by depth and then by name, moved out of the program. Their numbers are those of its numbering. No
-    /// memory is taken.
+    /// The classes, by depth and then by name, moved out of the program. Their numbers are those of its numbering.
     pub fn into_classes(self) -> Vec<Class<'a>>
         ensures { AreClassesOf self.entry result.items }
     {
@@ -107,7 +106,7 @@ impl<'a> Program<'a> {
         classes
     }
 
-    /// The numbering of the program and its classes, moved out of it. No memory is taken.
+    /// The numbering of the program and its classes, moved out of it.
     pub(crate) fn into_parts(self) -> (Numbering<'a>, Vec<Class<'a>>)
         ensures numbering { result.0 ≡ mentions (definitions self.entry) }
         ensures classes { AreClassesOf self.entry result.1.items }
@@ -120,21 +119,21 @@ impl<'a> Program<'a> {
         (numbering, classes)
     }
 
-    /// The numbering of just what the classes mention. No memory is taken.
+    /// The numbering of just what the classes mention.
     pub fn numbering(&self) -> &Numbering<'a>
         ensures { result.now ≡ mentions (definitions self.now) }
     {
         &self.numbering
     }
 
-    /// What the classes weigh together. No memory is taken.
+    /// What the classes weigh together.
     pub fn weight(&self) -> u64
         ensures { result ≡ weight (definitions self.now) }
     {
         self.weight
     }
 
-    /// Does nothing: its clauses tell what holds of every program.
+    /// Does nothing: its clauses say what holds of every program.
     pub fn is_good(&self)
         ensures good { IsGood greatest_caps (definitions self.now) }
         ensures formed { AreWellFormed (definitions self.now) }
@@ -145,7 +144,6 @@ impl<'a> Program<'a> {
     /// The program of classes, in any order, over the numbering of just what they mention.
     ///
     /// Conditions: no two classes have one name, none is above itself, and together they fit what a file can hold.
-    /// Error: the memory for the order was refused.
     pub fn of(
         alloc: Global,
         numbering: Numbering<'a>,
@@ -162,8 +160,7 @@ impl<'a> Program<'a> {
     /// The program of classes whose depths are known, as [`Program::of`] makes it. `depths` has a place for each type of
     /// the numbering, and at the number of each class's name the depth of that class.
     ///
-    /// Conditions: those of [`Program::of`], and the depths are those of the classes. Error: the memory for the order was
-    /// refused.
+    /// Conditions: those of [`Program::of`], and the depths are those of the classes.
     pub fn of_known(
         alloc: Global,
         numbering: Numbering<'a>,
@@ -182,7 +179,7 @@ impl<'a> Program<'a> {
 
     /// The program of classes that weigh `total` together, as [`Program::of`] makes it.
     ///
-    /// Conditions: those of [`Program::of`]. Error: the memory for the order was refused.
+    /// Conditions: those of [`Program::of`].
     pub(crate) fn weighing(
         alloc: Global,
         numbering: Numbering<'a>,
@@ -222,8 +219,6 @@ impl<'a> Program<'a> {
     }
 
     /// The same program, in memory of its own.
-    ///
-    /// Error: the memory for it was refused.
     pub fn copy(&self) -> Result<Program<'a>, AllocError>
         ensures { IfOk result (λ copy. copy ≡ self.now) }
     {
@@ -236,8 +231,6 @@ impl<'a> Program<'a> {
 }
 
 /// The same classes, with lists of their own.
-///
-/// Error: the memory for them was refused.
 pub(crate) fn copied<'a>(alloc: Global, classes: &[Class<'a>]) -> Result<Vec<Class<'a>>, AllocError>
     ensures { IfOk result (λ copy. copy.items ≡ classes.now) }
 {

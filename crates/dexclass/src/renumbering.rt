@@ -1,4 +1,4 @@
-//! Classes whose numbers are led to those of another numbering.
+//! Classes whose numbers are mapped to those of another numbering.
 
 ghost use Rattle.std.specs.Prelude.{◌≡◌, map};
 ghost use Rattle.std.specs.Option.{option_map};
@@ -7,7 +7,7 @@ ghost use Rattle.dexclass.specs.Renumbering.{led, renumbered, ClassHasPlaces};
 use crate::classes::Class;
 use dexpool::{Remap, SymbolKind};
 
-/// Where the number of a type leads.
+/// The image of the number of a type, or the number itself if it has none.
 pub(crate) fn type_number(remap: &Remap, i: usize) -> usize
     ensures { result ≡ led remap.now.types i }
 {
@@ -17,7 +17,7 @@ pub(crate) fn type_number(remap: &Remap, i: usize) -> usize
     }
 }
 
-// Where the number of a text leads.
+// The image of the number of a text, or the number itself if it has none.
 fn text_number(remap: &Remap, i: usize) -> usize
     ensures { result ≡ led remap.now.texts i }
 {
@@ -27,7 +27,7 @@ fn text_number(remap: &Remap, i: usize) -> usize
     }
 }
 
-/// Where the number of a type leads, if there is one.
+/// What [`type_number`] returns for a number, if there is one.
 pub(crate) fn optional_type_number(remap: &Remap, i: Option<usize>) -> Option<usize>
     ensures { result ≡ option_map (led remap.now.types) i }
 {
@@ -37,7 +37,7 @@ pub(crate) fn optional_type_number(remap: &Remap, i: Option<usize>) -> Option<us
     }
 }
 
-/// Where the number of a text leads, if there is one.
+/// What `text_number` returns for a number, if there is one.
 pub(crate) fn optional_text_number(remap: &Remap, i: Option<usize>) -> Option<usize>
     ensures { result ≡ option_map (led remap.now.texts) i }
 {
@@ -47,7 +47,7 @@ pub(crate) fn optional_text_number(remap: &Remap, i: Option<usize>) -> Option<us
     }
 }
 
-// Leads numbers of types on.
+// Remaps numbers of types.
 fn renumber_types(remap: &Remap, numbers: &mut Vec<usize>)
     ensures { numbers.new.items ≡ map (led remap.now.types) numbers.old.items }
 {
@@ -57,10 +57,10 @@ fn renumber_types(remap: &Remap, numbers: &mut Vec<usize>)
 }
 
 impl<'a> Class<'a> {
-    /// Leads each number of the class on. A number of a type of its own, of its text, of a member, of a value or of an annotation
-    /// that leads nowhere stays. No memory is taken.
+    /// Remaps each number of the class. A number of a type of its own, of its text, of a member, of a value or of an
+    /// annotation that has no image stays.
     ///
-    /// Condition: each number in what the class declares leads to one that fits its place, as
+    /// Condition: each number in what the class declares maps to one that fits its place, as
     /// [`dexmembers::Members::renumber`] asks.
     pub fn renumber(&mut self, remap: &Remap)
         requires { ClassHasPlaces remap.now self.old }

@@ -46,8 +46,6 @@ fn strip_all(classes: &mut Vec<Class<'_>>)
 
 /// What [`strip`] makes of a program that is given up: its classes are changed in place, and not copied.
 ///
-/// Error: the memory for the new numbering was refused.
-///
 /// Source: as of [`strip`].
 pub fn into_stripped<'a>(alloc: Global, program: Program<'a>) -> Result<Program<'a>, AllocError>
     ensures { IfOk result (λ stripped. stripped ≡ strip_collection program.entry) }
@@ -68,10 +66,8 @@ pub fn into_stripped<'a>(alloc: Global, program: Program<'a>) -> Result<Program<
 /// good under caps stays so; a stripped program is its own strip; and where programs merge by a plan under caps, the stripped ones
 /// merge by the same plan under the same caps, to what is left of their union.
 ///
-/// Error: the memory for the copy was refused.
-///
-/// Source: "code_item", the field `debug_info_off`, where 0 stands for none, and "class_def_item", the field `source_file_idx`,
-/// where NO_INDEX stands for none.
+/// Source: "code_item", the field `debug_info_off`, where 0 encodes none, and "class_def_item", the field
+/// `source_file_idx`, where NO_INDEX encodes none.
 pub fn strip<'a>(alloc: Global, program: &Program<'a>) -> Result<Program<'a>, AllocError>
     ensures stripped { IfOk result (λ stripped. stripped ≡ strip_collection program.now) }
     ensures good { (caps : Caps) → IsGood caps (definitions program.now) → IsGood caps (definitions (strip_collection program.now)) }

@@ -11,7 +11,7 @@ use Rattle.dexcanon.specs.Output.{Adds, AreWithin, FitFrom}
 use Rattle.dexcanon.proofs.Written.{Writing, written_none, written_more, written_all}
 use Rattle.dexcanon.proofs.Rows.{bytes_first, bytes_append, first_ends}
 
--- A front of the items was added, and the rest is left, from a place on; none of the rest is longer than the limit.
+-- The first of the items were added, and the rest is left, from a place on; none of the rest is longer than the limit.
 pub record Aligned {T : Type 0} (gives gives_prefix : List ℕ → T → T → Type 0) (has_failed : T → Bool) (limit : ℕ) (old new : Out T) (align from : ℕ) (xs : List (List ℕ)) (at : ℕ) (left : List (List ℕ)) : Type 0 where
   pub made : Writing gives gives_prefix has_failed limit old new (bytes_from align from xs) (bytes_from align at left)
   pub end_is : end_from align at left ≡ end_from align from xs
@@ -54,7 +54,7 @@ module _ {T : Type 0} {gives gives_prefix : List ℕ → T → T → Type 0} {ha
 pub next_mapped : {X : Type 0} (f : X → List ℕ) (xs : List X) (i : ℕ) (x : X) → i < length xs → get_or xs i x ≡ x → drop i (map f xs) ≡ f x ∷ drop (i + 1) (map f xs)
 next_mapped f xs i x lt is = drop_more (map f xs) i (f x) (omega (arith, lt, length-map xs f)) ∙ ap (λ y. y ∷ drop (i + 1) (map f xs)) (get_or-map f xs i x (f x) lt ∙ ap f is)
 
--- none is left behind the last
+-- none is left after the last
 pub mapped_all : {X : Type 0} (f : X → List ℕ) (xs : List X) (i : ℕ) → length xs ≤ i → drop i (map f xs) ≡ []
 mapped_all f xs i le = drop_all i (map f xs) (omega (arith, le, length-map xs f))
 
@@ -70,7 +70,7 @@ pub short_at : {X : Type 0} (f : X → List ℕ) (limit : ℕ) (xs : List X) (i 
 short_at f limit xs i x h lt is =
     subst (λ (y : List ℕ). length y ≤ limit) (get_or-map f xs i x (f x) lt ∙ ap f is) (h i (f x) (omega (arith, lt, length-map xs f)))
 
--- what holds of all holds of those in front, and of those behind
+-- what holds of all holds of the first, and of those after them
 pub all_front : {X : Type 0} (P : X → Type 0) (xs ys : List X) → All P (xs ++ ys) → All P xs
 all_front P [] ys h = All-nil P
 all_front P (x ∷ xs) ys h = All-cons P x xs (All-head P x (xs ++ ys) h) (all_front P xs ys (All-tail P x (xs ++ ys) h))

@@ -38,7 +38,7 @@ module _ {T : Type 0} {gives gives_prefix : List ℕ → T → T → Type 0} {ha
   }
 
   module _ (a : Out T) (fine : is_some a.fault ≡ false) where
-    -- an item came behind what is buffered
+    -- an item was added after what is buffered
     pub buffered : (w : Vec ℕ) (x : List ℕ) → w.items ≡ a.buffer.items ++ x → vec_capacity a.buffer ≤ vec_capacity w
         → Adds gives gives_prefix has_failed limit a (record { buffer = w; limit = a.limit; fault = a.fault; target = a.target }) x
     buffered w x are larger = record {

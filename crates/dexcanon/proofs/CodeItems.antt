@@ -62,7 +62,7 @@ codes_append m xs ys offs =
     ∙ ap (map (code_item m)) (present-append (zip_with code_use ms (take (length xs) offs)) (zip_with code_use ns (drop (length xs) offs)))
     ∙ map-append (code_item m) (present (zip_with code_use ms (take (length xs) offs))) (present (zip_with code_use ns (drop (length xs) offs)))
 
--- the code of those in front, and of those behind
+-- the code of the first, and of those after them
 pub codes_split : (m : Mentions) (xs ys : List NumberedMethod) (offs own others : List ℕ) → own ≡ take (length xs) offs → others ≡ drop (length xs) offs
     → method_codes m (xs ++ ys) offs ≡ method_codes m xs own ++ method_codes m ys others
 codes_split m xs ys offs own others front back = codes_append m xs ys offs ∙ (λ i. method_codes m xs (sym front i) ++ method_codes m ys (sym back i))

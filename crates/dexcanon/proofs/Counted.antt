@@ -32,7 +32,7 @@ values_few : (m : Mentions) (xs : NumberedValues) → values_count xs ≤ length
 values_few m NoValue = omega arith
 values_few m (ThenNext x xs) = omega (arith, length-append (value_bytes m (value_in m x)) (values_bytes m (values_in m xs)), some_byte m x, values_few m xs)
 
--- the bytes of an element and of those behind it
+-- the bytes of an element and of those after it
 element_bytes : (m : Mentions) (name : ℕ) (x : NumberedValue) (es : NumberedElements) → length (value_bytes m (value_in m x)) + length (elements_bytes m (elements_in m es)) ≤ length (elements_bytes m (elements_in m (ThenNamed name x es)))
 element_bytes m name x es =
     omega (arith, length-append (uleb128 (text_index m (text_at m name))) (value_bytes m (value_in m x) ++ elements_bytes m (elements_in m es)), length-append (value_bytes m (value_in m x)) (elements_bytes m (elements_in m es)))

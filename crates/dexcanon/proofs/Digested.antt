@@ -35,7 +35,7 @@ signature_is rest =
     let n = adler_32 body in
     ap (take 20) (drop-append-add magic (uint n ++ body) 4 ∙ drop_at (uint n) body 4 (length-uint n)) ∙ take_at (sha1 rest) rest 20 (length-sha1 rest)
 
--- the digest of the file behind its signature is the signature of the file
+-- the digest of the bytes after the signature of the file is that signature
 pub signed_is : (l : Head) (K : Ordered) → length l.signature ≡ 20 → TellsLayout l K
     → ((k : Head) (rest : List ℕ) → length k.signature ≡ 20 → with_sums_set (head_bytes k ++ rest) ≡ with_sums (field_bytes k ++ rest))
     → ((k : Head) (O : Ordered) → length k.signature ≡ 20 → TellsLayout k O → with_sums_set (head_bytes k ++ behind_header O) ≡ with_sums (unsigned_file O))

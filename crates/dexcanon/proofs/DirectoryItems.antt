@@ -14,7 +14,7 @@ use Rattle.dexcanon.specs.Directories.{HaveOffsets, directory_use, class_directo
 use Rattle.dexcanon.specs.Output.{Adds, AreWithin}
 use Rattle.dexcanon.proofs.Aligned.{Aligned, aligned_as, aligned_more, aligned_none}
 
--- A front of the directories was added, and those of the classes from the i-th on are left, with enough offsets.
+-- The first of the directories were added, and those of the classes from the i-th on are left, with enough offsets.
 pub record Filing {T : Type 0} (gives gives_prefix : List ℕ → T → T → Type 0) (has_failed : T → Bool) (limit : ℕ) (old new : Out T) (from : ℕ) (cs : List NumberedClass) (own all_fields all_methods all_lists : List ℕ) (at i : ℕ) (fs ms ls : List ℕ) : Type 0 where
   pub made : Aligned gives gives_prefix has_failed limit old new 4 from (present (class_directories cs own all_fields all_methods all_lists)) at (present (class_directories (drop i cs) (drop i own) fs ms ls))
   pub enough_fields : length (class_fields (drop i cs)) ≤ length fs
@@ -32,7 +32,7 @@ filing_none old from cs own fs ms ls least within enough_fs enough_ms enough_ls 
   enough_lists = enough_ls;
 }
 
--- what is left behind a use
+-- what is left after a use
 pub use_passed : (b : Bool) (bytes : List ℕ) (us : List (Option (List ℕ))) → b ≡ true → present ((if b then None else Some bytes) ∷ us) ≡ present us
 use_passed b bytes us e = ap (λ u. present (u ∷ us)) (cond-true b None (Some bytes) e)
 
@@ -40,7 +40,7 @@ pub use_next : (b : Bool) (bytes : List ℕ) (us : List (Option (List ℕ))) →
 use_next b bytes us e = ap (λ u. present (u ∷ us)) (cond-false b None (Some bytes) e)
 
 module _ (cs : List NumberedClass) (i : ℕ) (c : NumberedClass) (x : NumberedMembers) (lt : i < length cs) (is : c ≡ get_or cs i c) (members : x ≡ c.members) where
-  -- a class and those behind it
+  -- a class and those after it
   next_class : drop i cs ≡ c ∷ drop (i + 1) cs
   next_class = drop_more cs i c lt ∙ ap (λ d. d ∷ drop (i + 1) cs) (sym is)
 
@@ -85,7 +85,7 @@ module _ {T : Type 0} {gives gives_prefix : List ℕ → T → T → Type 0} {ha
       let bl = back_lists ∙ ap (λ z. drop z ls) many_methods in
       next_use cs i c x lt is members own fs ms ls ∙ (λ j. directory_use x o (sym ff j) (sym fm j) (sym fl j) ∷ rest (sym bf j) (sym bm j) (sym bl j))
 
-  -- there are so many offsets
+  -- there are enough offsets
   pub have_offsets : HaveOffsets x ffs fms fls
   have_offsets = record {
     fields = omega (arith, ap (λ (os : List ℕ). length os) front_fields, length-take n fs, many_fields, h.enough_fields, fields_left cs i c x lt is members);

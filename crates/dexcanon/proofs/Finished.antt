@@ -85,6 +85,6 @@ module _ {W : Type 0} (has_failed : W → Bool) (out : Out (Writer W)) (never : 
   told_at (Some Memory) e = absurd (never e)
   told_at (Some Io) e = ((λ _. t.fails e), (λ _. refl))
 
-  -- the writer's fault is told exactly where it failed
+  -- the writer's fault is reported if and only if it failed
   pub told_failed : (r : Result (Unit {0}) StoreFault) → r ≡ result_of out.fault → (r ≡ Err Io) ↔ (has_failed out.target.sink.now ≡ true)
   told_failed r is = subst (λ (z : Result (Unit {0}) StoreFault). (z ≡ Err Io) ↔ (has_failed out.target.sink.now ≡ true)) (sym is) (told_at out.fault refl)

@@ -41,7 +41,7 @@ number_parts s lt = (omega (arith, lt), omega (arith, lt))
 abbrev pair : ℕ → ℕ → ℕ × ℕ
 pair a b = (a, b)
 
--- the Adler-32 of xs ++ ys, from those of xs and ys, taken apart
+-- the Adler-32 of xs ++ ys, from the two numbers of those of xs and ys
 pub joined_adler : (xs ys : List ℕ) (front back len : ℕ) (p q : ℕ × ℕ) → p ≡ (front % 65536, front / 65536) → q ≡ (back % 65536, back / 65536) → front ≡ adler_32 xs → back ≡ adler_32 ys → len ≡ length ys
     → ((((q.1 + p.1) + len * (p.0 + 65520)) % 65521) * 65536 + (q.0 + (p.0 + 65520)) % 65521) ≡ adler_32 (xs ++ ys)
 unfolding adler_32

@@ -17,11 +17,11 @@ module _ {X : Type 0} (f : X → List ℕ) (us : List (Option X)) (i : ℕ) wher
   pub none_left : (d : Option X) → i < length us → get_or us i d ≡ None → uses_left f us i ≡ uses_left f us (i + 1)
   none_left d lt is = ap (λ vs. map f (present vs)) (drop_more us i d lt ∙ ap (λ u. u ∷ drop (i + 1) us) is)
 
-  -- nothing is left behind the last
+  -- nothing is left after the last
   pub no_uses_left : length us ≤ i → uses_left f us i ≡ []
   no_uses_left le = ap (λ vs. map f (present vs)) (drop_all i us le)
 
--- what stands at a place of two lists together
+-- the item at a place of two lists that are zipped
 pub zip_with_at : {X Y Z : Type 0} (f : X → Y → Z) (xs : List X) (ys : List Y) (i : ℕ) (a : X) (b : Y) (d : Z) → i < length xs → i < length ys → get_or (zip_with f xs ys) i d ≡ f (get_or xs i a) (get_or ys i b)
 zip_with_at f [] ys i a b d lt less = absurd (omega (arith, lt))
 zip_with_at f (x ∷ xs) [] i a b d lt less = absurd (omega (arith, less))

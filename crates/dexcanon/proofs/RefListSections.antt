@@ -26,7 +26,7 @@ use Rattle.dexcanon.proofs.SetSectionItems.{take_front, drop_front}
 
 -- ---- the sets of classes, class by class
 
--- the offsets of the sets of classes, taken apart
+-- the offsets of the sets of classes, split
 abbrev pub parts : List Definition → List ℕ → List SetOffsets
 parts ds offs = zip_with set_offsets_of ds (chunks (map (λ d. length (class_sets d)) ds) offs)
 

@@ -47,7 +47,7 @@ total_append (m ∷ ms) ns = omega (arith, total_append ms ns)
 
 -- ---- how far a loop has come
 
--- A front of the lists was added, and those of so many sets each are left, with enough offsets.
+-- The first of the lists were added, and those with these numbers of sets are left, with enough offsets.
 pub record Listing {T : Type 0} (gives gives_prefix : List ℕ → T → T → Type 0) (has_failed : T → Bool) (limit : ℕ) (old new : Out T) (from : ℕ) (ns offs : List ℕ) (at : ℕ) (left rest : List ℕ) : Type 0 where
   pub made : Aligned gives gives_prefix has_failed limit old new 4 from (ref_lists ns offs) at (ref_lists left rest)
   pub enough : total left ≤ length rest
@@ -61,14 +61,14 @@ module _ {T : Type 0} {gives gives_prefix : List ℕ → T → T → Type 0} {ha
 module _ {T : Type 0} {gives gives_prefix : List ℕ → T → T → Type 0} {has_failed : T → Bool} {limit : ℕ} {old new : Out T} {from at : ℕ} {all offs left rest : List ℕ} where
   -- the next count
   module _ {n : ℕ} {ns others list : List ℕ} (h : Listing gives gives_prefix has_failed limit old new from all offs at left rest) (e : left ≡ n ∷ ns) (front : list ≡ take n rest) (back : others ≡ drop n rest) where
-    -- enough offsets are left behind it
+    -- enough offsets are left after it
     enough_left : total ns ≤ length others
     enough_left = omega (arith, h.enough, ap total e, ap (λ (os : List ℕ). length os) back, length-drop n rest)
 
     same_behind : drop (total ns) others ≡ drop (total all) offs
     same_behind = ap (drop (total ns)) back ∙ drop_twice n (total ns) rest ∙ ap (λ ms. drop (total ms) rest) (sym e) ∙ h.behind
 
-    -- there are so many offsets for it
+    -- there are enough offsets for it
     pub enough_here : n ≤ length rest
     enough_here = omega (arith, h.enough, ap total e)
 
@@ -93,7 +93,7 @@ module _ {T : Type 0} {gives gives_prefix : List ℕ → T → T → Type 0} {ha
     pub next_lists : (os : List ℕ) → os ≡ drop (total ms) rest → ref_lists left rest ≡ ref_lists ms rest ++ ref_lists ns os
     next_lists os back = ap (λ ks. ref_lists ks rest) e ∙ lists_append ms ns rest ∙ ap (λ ks. ref_lists ms rest ++ ref_lists ns ks) (sym back)
 
-    -- fit, and there are so many offsets for them
+    -- fit, and there are enough offsets for them
     pub lists_fit : FitFrom limit from (ref_lists all offs) → FitFrom limit at (ref_lists ms rest)
     lists_fit fit = front_fit (ref_lists ms rest) (ref_lists ns (drop (total ms) rest)) h.made (next_lists (drop (total ms) rest) refl) fit
 
@@ -111,13 +111,13 @@ module _ {T : Type 0} {gives gives_prefix : List ℕ → T → T → Type 0} {ha
 
 -- ---- methods and classes
 
--- the counts of the next method, whose sets have been seen, and of those behind it
+-- the counts of the next method, whose sets have been seen, and of those after it
 pub method_counts : (n : ℕ) (xs : List NumberedMethod) (i : ℕ) (x : NumberedMethod) → i < length xs → x ≡ get_or xs i x → n ≡ length x.parameter_annotations
     → parameter_counts (drop i xs) ≡ n ∷ parameter_counts (drop (i + 1) xs)
 method_counts n xs i x lt is e =
     ap parameter_counts (drop_more xs i x lt ∙ ap (λ y. y ∷ drop (i + 1) xs) (sym is)) ∙ ap (λ k. k ∷ parameter_counts (drop (i + 1) xs)) (sym e)
 
--- those of the next class, the direct methods first, and of those behind it
+-- those of the next class, the direct methods first, and of those after it
 pub class_counts : (cs : List NumberedClass) (i : ℕ) (c : NumberedClass) (x : NumberedMembers) (ds vs : List NumberedMethod) → i < length cs → c ≡ get_or cs i c → x ≡ c.members → ds ≡ x.direct_methods → vs ≡ x.virtual_methods
     → class_parameter_counts (drop i cs) ≡ parameter_counts ds ++ (parameter_counts vs ++ class_parameter_counts (drop (i + 1) cs))
 class_counts cs i c x ds vs lt is members de ve =

@@ -22,7 +22,7 @@ length_signed l K twenty tells law =
     let ends = tells.file_ends in
     omega (arith, fields, ends, length_behind K, length-append (drop 32 (head_bytes l)) (behind_header K))
 
--- a header that tells the sums of what another tells is that of the file
+-- a header with the sums of what another describes is that of the file
 pub sealed : (h l : Head) (K : Ordered) → length l.signature ≡ 20 → TellsLayout l K → field_bytes h ≡ field_bytes l
     → h.signature ≡ sha1 (drop 32 (head_bytes l) ++ behind_header K) → h.checksum ≡ adler_32 (h.signature ++ (drop 32 (head_bytes l) ++ behind_header K))
     → ((k : Head) (rest : List ℕ) → k.signature ≡ sha1 (field_bytes k ++ rest) → k.checksum ≡ adler_32 (k.signature ++ (field_bytes k ++ rest)) → head_bytes k ++ rest ≡ with_sums (field_bytes k ++ rest))

@@ -18,7 +18,7 @@ use Rattle.dexcanon.proofs.AnnotationItems.{sets_in}
 
 -- ---- one set
 
--- so many offsets as annotations
+-- as many offsets as annotations
 pub length-offsets_of_set : (m : Mentions) (first : ℕ) (s : NumberedSet) → length (offsets_of_set m first (set_in m s)) ≡ length s
 length-offsets_of_set m first s = length-offsets_from 1 first (map (annotation_bytes m) (set_in m s)) ∙ length-map (set_in m s) (annotation_bytes m) ∙ length-map s (annotation_in m)
 
@@ -30,7 +30,7 @@ offsets_are m first (a ∷ s) rising known =
     let rest = offsets_are m (round_up 1 first + length (annotation_bytes m (annotation_in m a))) s rising (λ i d lt. known (suc i) d (omega (arith, lt))) in
     ap (λ (l : List ℕ). round_up 1 first ∷ l) (ap (λ (n : ℕ). numbered_offsets (round_up 1 first + n) s) size ∙ rest)
 
--- ---- sets behind a function
+-- ---- sets that are mapped by a function
 
 module _ {X : Type 0} (now : X → NumberedSet) (m : Mentions) (firsts : List ℕ) (xs : List X) where
   -- the offsets of all
@@ -38,7 +38,7 @@ module _ {X : Type 0} (now : X → NumberedSet) (m : Mentions) (firsts : List �
   rows = offsets_of_sets m firsts (sets_in m now xs)
 
   module _ (i first : ℕ) (x : X) (lt : i < length xs) (same : length firsts ≡ length xs) (is : get_or xs i x ≡ x) (at : get_or firsts i first ≡ first) where
-    -- there are so many
+    -- there are enough
     row_lt : i < length rows
     row_lt = omega (arith, lt, same, length-zip_with (offsets_of_set m) firsts (sets_in m now xs) (length xs) same (length-map (map now xs) (set_in m) ∙ length-map xs now))
 
@@ -60,7 +60,7 @@ module _ {X : Type 0} (now : X → NumberedSet) (m : Mentions) (firsts : List �
       small = subst (All (λ o. o < 2 ^ 32)) (row_is []) (small i [] row_lt);
     }
 
-  -- none is left behind the last
+  -- none is left after the last
   pub no_set_left : (i : ℕ) → length firsts ≡ length xs → length xs ≤ i → drop i (map offsets_bytes rows) ≡ []
   no_set_left i same le =
       drop_all i (map offsets_bytes rows) (omega (arith, le, length-map rows offsets_bytes, length-zip_with (offsets_of_set m) firsts (sets_in m now xs) (length xs) same (length-map (map now xs) (set_in m) ∙ length-map xs now)))

@@ -1,4 +1,4 @@
--- A header that tells its two sums, and what stands behind it.
+-- A header with its two sums, and what follows it.
 use Rattle.std.proofs.Common.{◌≡◌, ℕ, List, ◌++◌, length, drop, sym, ap, ◌∙◌}
 use Rattle.std.proofs.lemmas.List.{drop_at, drop-drop}
 use Rattle.std.proofs.Math.Seq.{drop-append-add}
@@ -11,16 +11,16 @@ use Rattle.dexhead.specs.declared.head.Head.{Head}
 use Rattle.dexhead.specs.Sums.{with_sums_set}
 use Rattle.dexhead.specs.Written.{field_bytes, head_bytes}
 
--- a header behind its checksum
+-- the part of a header after its checksum
 pub behind_checksum : (h : Head) → drop 12 (head_bytes h) ≡ h.signature ++ field_bytes h
 unfolding head_bytes
 behind_checksum h = drop-append-add magic (uint h.checksum ++ (h.signature ++ field_bytes h)) 4 ∙ drop_at (uint h.checksum) (h.signature ++ field_bytes h) 4 (length-uint h.checksum)
 
--- a header behind its signature
+-- the part of a header after its signature
 pub behind_signature : (h : Head) → length h.signature ≡ 20 → drop 32 (head_bytes h) ≡ field_bytes h
 behind_signature h twenty = sym (drop-drop 20 12 (head_bytes h)) ∙ ap (drop 20) (behind_checksum h) ∙ drop_at h.signature (field_bytes h) 20 twenty
 
--- a header that tells the sums of what another tells, with all that stands behind them
+-- a header with the sums of what another describes, with all that follows
 pub told_is : (h l : Head) (body : List ℕ) → length l.signature ≡ 20 → field_bytes h ≡ field_bytes l
     → h.signature ≡ sha1 (field_bytes l ++ body) → h.checksum ≡ adler_32 (h.signature ++ (field_bytes l ++ body))
     → ((k : Head) (rest : List ℕ) → k.signature ≡ sha1 (field_bytes k ++ rest) → k.checksum ≡ adler_32 (k.signature ++ (field_bytes k ++ rest)) → head_bytes k ++ rest ≡ with_sums (field_bytes k ++ rest))

@@ -1,4 +1,4 @@
--- What stands behind the header, part by part.
+-- What follows the header, part by part.
 use Rattle.std.proofs.Common.{◌≡◌, ℕ, ◌+◌, ◌<◌, ◌≤◌, ◌^◌, List, ◌++◌, length, map, take, drop, sym, ap, ◌∙◌, arith}
 use Rattle.std.specs.List.{flat_map, concat}
 use Rattle.std.proofs.lemmas.List.{length-take, length-drop, length-map}
@@ -37,7 +37,7 @@ module _ (m : Mentions) (cs : List NumberedClass) where
   abbrev pub rows_6 : List ℕ
   rows_6 = concat (zip_with (class_row_bytes m) (map (definition_of m) cs) (layout (ordered_of m cs)).classes)
 
-  -- what is left behind each
+  -- what is left after each
   abbrev pub after_5 : List ℕ
   after_5 = rows_6
 

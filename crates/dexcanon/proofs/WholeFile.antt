@@ -33,7 +33,7 @@ greatest_in_short (p ∷ ps) =
     let rest = greatest_in_short ps in
     omega (arith, first, rest, length-append (section_bytes p) (flat_map section_bytes ps))
 
--- what stands behind a header
+-- what follows a header
 abbrev behind : Ordered → Layout → List ℕ → List ℕ
 behind K l m = table_bytes K l ++ (flat_map section_bytes l.sections ++ (padding 4 l.data_end ++ m))
 
@@ -44,7 +44,7 @@ length_named K m =
     let p = padding 4 (directory_end K) in
     omega (arith, length-append t (s ++ (p ++ m)), length-append s (p ++ m), length-append p m, length-table_bytes K (named_layout K) (named_layout_full K), length-sections (data_start K) (data_sections K) (directory_end K) (sections_follow K), length-padding 4 (directory_end K))
 
--- the header and what stands behind it reach to the end of the file
+-- the header and what follows it reach to the end of the file
 pub length_behind : (K : Ordered) → header_length + length (behind_header K) ≡ file_end K
 length_behind K =
     let m = map_list K in

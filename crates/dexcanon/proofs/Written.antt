@@ -23,7 +23,7 @@ module _ {T : Type 0} {gives gives_prefix : List ℕ → T → T → Type 0} {ha
 
 -- ---- a whole that is written part by part
 
--- A front of the whole was written, and the rest is left.
+-- A prefix of the whole was written, and the rest is left.
 pub record Writing {T : Type 0} (gives gives_prefix : List ℕ → T → T → Type 0) (has_failed : T → Bool) (limit : ℕ) (old new : Out T) (whole left : List ℕ) : Type 0 where
   pub done : List ℕ
   pub added : Adds gives gives_prefix has_failed limit old new done

@@ -21,12 +21,12 @@ abbrev pub result_of : Option StoreFault → Result (Unit {0}) StoreFault
 result_of None = Ok tt
 result_of (Some fault) = Err fault
 
--- the fault is told exactly where the target has failed
+-- the fault is reported exactly where the target has failed
 pub record TellsFault {T : Type 0} (has_failed : T → Bool) (out : Out T) : Type 0 where
   pub works : out.fault ≡ None → has_failed out.target ≡ false
   pub fails : out.fault ≡ Some Io → has_failed out.target ≡ true
 
--- there is room for an item of the greatest length where nothing is buffered, and memory was not wanting
+-- there is room for an item of the greatest length where nothing is buffered, and no allocation failed
 pub record HasRoom {T : Type 0} (limit : ℕ) (out : Out T) : Type 0 where
   pub least : limit ≤ out.limit
   pub enough : limit ≤ vec_capacity out.buffer
@@ -42,7 +42,7 @@ pub record Adds {T : Type 0} (gives gives_prefix : List ℕ → T → T → Type
 abbrev pub AreWithin : ℕ → List (List ℕ) → Type 0
 AreWithin limit items = All (λ x. length x ≤ limit) items
 
--- aligned items fit behind a place: none is longer than the limit, and they end within a file
+-- aligned items fit after a place: none is longer than the limit, and they end within a file
 pub record FitFrom (limit from : ℕ) (items : List (List ℕ)) : Type 0 where
   pub least : 112 ≤ limit
   pub within : AreWithin limit items

@@ -20,6 +20,6 @@ abbrev pub total : List ℕ → ℕ
 total [] = 0
 total (n ∷ ns) = n + total ns
 
--- the lists of so many sets each, as items
+-- the lists with these numbers of sets, as items
 abbrev pub ref_lists : List ℕ → List ℕ → List (List ℕ)
 ref_lists ns offs = map offsets_bytes (present (map unless_empty (chunks ns offs)))

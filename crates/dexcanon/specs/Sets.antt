@@ -1,4 +1,4 @@
--- Sets of annotations, from where their annotations stand.
+-- Sets of annotations, from the offsets of their annotations.
 use Rattle.std.specs.Prelude.{ℕ, ◌<◌, ◌^◌, List, map, All}
 use Rattle.dexspec.specs.Lists.{zip_with}
 use Rattle.dexspec.specs.Annotations.{AnnotationSet}
@@ -7,7 +7,7 @@ use Rattle.dexspec.specs.Placing.{offsets_from}
 use Rattle.dexspec.specs.Spellings.{annotation_bytes}
 use Rattle.dexval.specs.Numbered.{NumberedSet, IsKnownSet, set_in}
 
--- where the annotations of a set stand, the first of them at a place
+-- the offsets of the annotations of a set, the first of them at a place
 abbrev pub offsets_of_set : Mentions → ℕ → AnnotationSet → List ℕ
 offsets_of_set m first s = offsets_from 1 first (map (annotation_bytes m) s)
 

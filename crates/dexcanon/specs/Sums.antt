@@ -6,7 +6,7 @@ use Rattle.sha1.specs.Sha1.{Holds}
 use Rattle.sha1.specs.declared.Sha1.{Sha1}
 use Rattle.dexspec.specs.Header.{adler_step, adler_sums}
 
--- a message has x behind what it had
+-- a message has x after what it had
 abbrev pub Hashed : List ℕ → Sha1 → Sha1 → Type 0
 Hashed x old new = (m : List ℕ) → Holds old m → Holds new (m ++ x)
 
@@ -16,7 +16,7 @@ hashed_nothing a m h = subst (Holds a) (sym (append-nil m)) h
 pub hashed_both : (x y : List ℕ) (a b c : Sha1) → Hashed x a b → Hashed y b c → Hashed (x ++ y) a c
 hashed_both x y a b c h g m is = subst (Holds c) (append_assoc m x y) (g (m ++ x) (h m is))
 
--- the two numbers of a checksum are those of x behind what they were of
+-- the two numbers of a checksum are those of x after what they were of
 abbrev pub Summed : List ℕ → ℕ × ℕ → ℕ × ℕ → Type 0
 Summed x old new = new ≡ adler_sums old x
 

@@ -6,7 +6,7 @@ ghost use Rattle.dexspec.specs.Header.{adler_32};
 // The greatest prime below 2^16.
 const MODULUS: u64 = 65521;
 
-/// The Adler-32 of bytes and more behind them, from that of each and the number of those behind.
+/// The Adler-32 of bytes followed by others, from that of each and the number of the others.
 ///
 /// Source: "Dalvik Executable format", "header_item", the field `checksum`.
 pub(crate) fn adler_combine(front: u32, back: u32, len: u32) -> u32

@@ -1,4 +1,4 @@
-//! All that stands behind the header of a file.
+//! All that follows the header of a file.
 
 ghost use Rattle.std.specs.List.{flat_map};
 ghost use Rattle.dexspec.specs.Placing.{section_bytes};
@@ -53,7 +53,7 @@ fn put_data<T: Target>(contents: &Contents<'_, '_, '_, '_>, out: &mut Out<T>)
     put_directories(contents, out);
 }
 
-/// All that stands behind the header: the rows of the tables, the sections of the data, and the map.
+/// All that follows the header: the rows of the tables, the sections of the data, and the map.
 pub(crate) fn put_body<T: Target>(contents: &Contents<'_, '_, '_, '_>, out: &mut Out<T>)
     requires { CanBeMade contents.now }
     ensures { Adds T.gives T.gives_prefix T.has_failed contents.now.limit out.old out.new (behind_header (ordered_in contents.now)) }

@@ -17,8 +17,8 @@ use crate::output::{Out, Target};
 use dexclass::Class;
 use dexpool::{SymbolKind, number_law};
 
-// Where what the classes hold stands, an offset for each class: their interfaces, their annotations directories, their class data
-// and their static values.
+// The offsets of what the classes contain, one of each kind for each class: interfaces, annotations directory, class
+// data and static values.
 #[derive(Drop)]
 struct ClassPlaces<'a> {
     interfaces: &'a [u32],

@@ -46,7 +46,7 @@ impl Item for CodeItem<'_, '_> {
     }
 }
 
-// The code of methods, from a place on, with the offset of the debug program of each. Where it ends is answered.
+// The code of methods, from a place on, with the offset of the debug program of each. Returns where it ends.
 fn put_method_codes<T: Target>(
     numbering: &Numbering<'_>,
     methods: &Methods<'_, '_>,

@@ -13,7 +13,7 @@ use dexclass::{Class, Program};
 use dexlayout::Layout;
 use dexpool::Numbering;
 
-/// What a file is made of: its classes by number, and where everything stands; and a length that no item exceeds.
+/// What a file is made of: its classes by number, the offsets of everything, and a length that no item exceeds.
 #[derive(Clone, Copy)]
 pub(crate) struct Contents<'a, 'n, 'c, 'l> {
     pub(crate) numbering: &'a Numbering<'n>,

@@ -22,14 +22,12 @@ use std::alloc::{AllocError, Global};
 // often.
 const WAYS: usize = 8;
 
-/// The digest of each class, in the order of [`Program::classes`]: the signature of the canonical file of the class alone. This
-/// file is accepted, and denotes the class alone. Equal definitions have equal digests in whatever program they stand. Different
-/// ones have different files; that their digests differ too rests on SHA-1 alone.
+/// The digest of each class, in the order of [`Program::classes`]: the signature of the canonical file of the class
+/// alone. This file is accepted, and denotes the class alone. Equal definitions have equal digests in whatever program
+/// they are. Different ones have different files; that their digests differ too rests on SHA-1 alone.
 ///
 /// The classes are split into parts, these into parts again, and so on, each over the numbering of just what its classes mention:
 /// no class costs tables as long as the program's.
-///
-/// Error: the memory for the digests, or for a part of the program, was refused.
 ///
 /// Source: "header_item", the field `signature`; the digest is this project's rule.
 #[tactic(auto, using(crate::proofs::Digested::one_file))]

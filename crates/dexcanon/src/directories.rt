@@ -17,7 +17,7 @@ use dexmembers::Members;
 use dexpool::number_law;
 use std::alloc::AllocError;
 
-// A directory without entries has so many bytes.
+// The number of bytes of a directory without entries.
 const EMPTY_DIRECTORY: usize = 16;
 
 /// An annotations_directory_item, from the offsets of the sets and lists that it names.

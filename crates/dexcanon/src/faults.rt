@@ -9,9 +9,9 @@ use std::alloc::{AllocError, AllocFailed};
 /// Why a program was not written.
 #[derive(Clone, Copy, Debug, PartialEq, Eq)]
 pub enum StoreFault {
-    /// A growth was refused. Nothing was written.
+    /// An allocation failed. Nothing was written.
     Memory,
-    /// The writer failed. A front of the canonical file was written.
+    /// The writer failed. A prefix of the canonical file was written.
     Io,
 }
 

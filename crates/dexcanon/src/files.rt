@@ -23,7 +23,7 @@ pub(crate) fn put_head(head: &Head, from: usize, buffer: &mut Vec<u8>)
     buffer.drain(..from);
 }
 
-/// Writes all that stands behind the header of a file, and flushes it.
+/// Writes all that follows the header of a file, and flushes it.
 pub(crate) fn write_body<T: Target>(contents: &Contents<'_, '_, '_, '_>, out: &mut Out<T>)
     requires { CanBeMade contents.now }
     ensures adds { Adds T.gives T.gives_prefix T.has_failed contents.now.limit out.old out.new (behind_header (ordered_in contents.now)) }

@@ -1,6 +1,6 @@
 //! The canonical file of a program.
 //!
-//! Source: the Android page "Dalvik Executable format"; the order of the sections and of what stands in them is this
+//! Source: the Android page "Dalvik Executable format"; the order of the sections and of their contents is this
 //! project's rule.
 #![tactic(auto)]
 

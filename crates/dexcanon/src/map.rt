@@ -1,4 +1,4 @@
-//! The map, behind the zeros that align it.
+//! The map, after the zeros that align it.
 //!
 //! Source: the heading "map_list" of the Android page "Dalvik Executable format".
 
@@ -13,7 +13,7 @@ use crate::contents::Contents;
 use crate::items::Entries;
 use crate::output::{Out, Target};
 
-/// The map, behind the sections of the data.
+/// The map, after the sections of the data.
 pub(crate) fn put_map<T: Target>(contents: &Contents<'_, '_, '_, '_>, out: &mut Out<T>)
     requires { CanBeMade contents.now }
     ensures { Adds T.gives T.gives_prefix T.has_failed contents.now.limit out.old out.new (padding 4 (layout (ordered_in contents.now)).data_end ++ map_list (ordered_in contents.now)) }

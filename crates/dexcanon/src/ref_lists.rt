@@ -14,8 +14,8 @@ use crate::items::OffsetList;
 use crate::output::{Out, Target};
 use dexmembers::Methods;
 
-// The lists of methods, from a place on, from the offsets of all sets in turn. Where they end is answered, and the
-// offsets that are left.
+// The lists of methods, from a place on, from the offsets of all sets in turn. Returns where they end, and the offsets
+// that are left.
 fn put_method_lists<'o, T: Target>(
     methods: &Methods<'_, '_>,
     set_offs: &'o [u32],

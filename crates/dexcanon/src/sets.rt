@@ -18,7 +18,7 @@ use dexpool::Numbering;
 use dexval::{AnnotationSet, put_set, set_size};
 use std::alloc::AllocError;
 
-/// An annotation_set_item, from where the first of its annotations stands.
+/// An annotation_set_item, from the offset of the first of its annotations.
 #[derive(Drop)]
 pub(crate) struct SetItem<'a, 'n> {
     pub(crate) numbering: &'a Numbering<'n>,

@@ -1,4 +1,4 @@
-//! The rows of the tables that symbols stand in.
+//! The rows of the tables of symbols.
 //!
 //! Source: the headings "string_id_item", "type_id_item", "proto_id_item", "field_id_item" and "method_id_item" of the Android page
 //! "Dalvik Executable format".
@@ -16,7 +16,7 @@ use crate::items::{MemberRow, Number, Numbers};
 use crate::output::{Out, Target};
 use dexpool::{SymbolKind, number_law};
 
-/// The rows of the texts, from where each stands.
+/// The rows of the texts, from the offset of each.
 pub(crate) fn put_string_ids<T: Target>(contents: &Contents<'_, '_, '_, '_>, out: &mut Out<T>)
     requires { CanBeMade contents.now }
     ensures { Adds T.gives T.gives_prefix T.has_failed contents.now.limit out.old out.new (flat_map uint (layout (ordered_in contents.now)).strings) }

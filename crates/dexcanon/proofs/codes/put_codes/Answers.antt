@@ -20,7 +20,7 @@ loop-class-init g c =
       count = laid_codes_count c.requires places c.offsets-rest.ensures c.end-at.ensures;
     }
 
--- the methods of the class, the direct ones first, and of those behind it
+-- the methods of the class, the direct ones first, and of those after it
 methods : (g : _) (c : After-virtual_methods-virtuals g) → class_methods (drop c.loop-class.class-index c.args.contents.now.classes.now) ≡ c.direct_methods-direct.result ++ (c.virtual_methods-virtuals.result ++ class_methods (drop (c.loop-class.class-index + 1) c.args.contents.now.classes.now))
 methods g c =
     direct_first c.args.contents.now.classes.now c.loop-class.class-index c.class-item.result c.members-members.result.now c.loop-class-test.true c.class-item.is c.members-members.ensures

@@ -14,7 +14,7 @@ use Rattle.dexcanon.proofs.ref_lists.put_method_lists.Goals.{After-split_at}
 pub loop-i-init : goal.loop-i-init
 loop-i-init g c = λ limit fit. listing_none c.args.out.now (parameter_counts c.args.methods.now) c.args.set_offs.now c.args.from (omega (arith, fit.least)) fit.within c.requires.offsets
 
--- the counts of the method and of those behind it
+-- the counts of the method and of those after it
 counts : (g : _) (c : After-split_at g) → parameter_counts (drop c.loop-i.i c.args.methods.now) ≡ c.len.result ∷ parameter_counts (drop (c.loop-i.i + 1) c.args.methods.now)
 counts g c = method_counts c.len.result c.args.methods.now c.loop-i.i c.get.result (omega (arith, c.loop-i-test.true, c.len-i-end.ensures)) c.get.ensures (c.len.ensures ∙ ap (λ (l : List NumberedSet). length l) c.parameter_annotations-parameters.ensures)
 

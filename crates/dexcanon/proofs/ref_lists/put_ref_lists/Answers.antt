@@ -13,7 +13,7 @@ loop-class-init g c =
     listing_none c.args.out.now (class_parameter_counts c.args.contents.now.classes.now) c.parameters-rest.result.now c.end-at.result (omega (arith, c.requires.least))
     (laid_lists_fit c.requires c.sets-sets.ensures c.parameters-rest.ensures c.end-at.ensures).within (laid_lists_enough c.requires c.sets-sets.ensures c.parameters-rest.ensures c.end-at.ensures)
 
--- the counts of the class, the direct methods first, and of those behind it
+-- the counts of the class, the direct methods first, and of those after it
 counts : (g : _) (c : After-virtual_methods-virtuals g) → class_parameter_counts (drop c.loop-class.class-index c.args.contents.now.classes.now) ≡ parameter_counts c.direct_methods-direct.result ++ (parameter_counts c.virtual_methods-virtuals.result ++ class_parameter_counts (drop (c.loop-class.class-index + 1) c.args.contents.now.classes.now))
 counts g c =
     class_counts c.args.contents.now.classes.now c.loop-class.class-index c.class-item.result c.members-members.result.now c.direct_methods-direct.result c.virtual_methods-virtuals.result c.loop-class-test.true c.class-item.is c.members-members.ensures

@@ -14,7 +14,7 @@ use Rattle.dexcanon.proofs.WholeBody.{proto_count, proto_rows, texts_few}
 use Rattle.dexcanon.proofs.tables.put_proto_ids.Goals as goal
 use Rattle.dexcanon.proofs.tables.put_proto_ids.Goals.{After-split_at}
 
--- where the lists of all protos and classes stand
+-- the offsets of the lists of all protos and classes
 offsets_are : (g : _) (c : After-split_at g) → c.offsets.result.now ≡ type_list_offsets (ordered_of c.args.contents.now.numbering.now c.args.contents.now.classes.now)
 offsets_are g c = c.offsets.ensures ∙ ap (λ (p : ItemPlaces). p.offsets) (c.places.ensures ∙ ap (λ (d : TypeListPlaces). d.places) c.type_lists.ensures) ∙ c.requires.laid.type_lists_are.places_are.offsets_are
 

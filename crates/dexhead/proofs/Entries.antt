@@ -24,7 +24,7 @@ kind e = e.kind
 abbrev off : MapEntry → ℕ
 off e = e.off
 
--- ---- what stands where
+-- ---- which entry is at which offset
 
 abbrev pub entry_at : List ℕ → ℕ → MapEntry
 entry_at b o = record { kind = ushort_at b o; size = uint_at b (o + 4); off = uint_at b (o + 8) }

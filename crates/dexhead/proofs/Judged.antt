@@ -1,4 +1,4 @@
--- What the header's own functions judge, in the words of the conditions.
+-- What the header's own functions check, in terms of the conditions.
 use Rattle.std.proofs.Common.{◌≡◌, ◌↔◌, ℕ, ◌+◌, ◌<◌, List, ◌∷◌, length, map, take, drop, get_or, IsTrue, subst, sym}
 use Rattle.std.proofs.lemmas.List.{drop_more}
 use Rattle.std.proofs.lemmas.Slice.Eq.{bytes_eq-Decides}

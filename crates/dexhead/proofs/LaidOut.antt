@@ -29,7 +29,7 @@ pub same_fields : (h : Head) (K : Ordered) → TellsTables h K → field_bytes h
 unfolding field_bytes
 same_fields h K tells = rw (same_rows h.tables (placed_tables K) tells.rows, tells.data_begins, tells.data_ends) refl
 
--- the fields and what is behind them
+-- the fields and what follows them
 same_file : (h : Head) (K : Ordered) → TellsLayout h K → field_bytes h ++ behind_header K ≡ unsigned_file K
 unfolding unsigned_file
 same_file h K tells = ap (λ x. x ++ behind_header K) (same_fields h K tells.tables) ∙ ap (λ m. header_bytes K m h.file_size ++ behind_header K) tells.map_begins ∙ ap (λ n. header_bytes K (map_start K) n ++ behind_header K) tells.file_ends

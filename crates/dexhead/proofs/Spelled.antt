@@ -1,5 +1,5 @@
--- The two ways to say which number some bytes spell, and which bytes spell a number: from the front of the
--- list, and by places.
+-- The two ways to say which number some bytes spell, and which bytes spell a number: from the start of the list, and by
+-- places.
 use Rattle.std.proofs.Common.{◌≡◌, ℕ, ◌/◌, ◌%◌, ◌^◌, List, [], ◌∷◌, length, take, refl, arith}
 use Rattle.dexspec.specs.Bytes.{number_of, bytes_of, ushort, uint}
 use Rattle.dexspec.proofs.ByteNumbers.{length-ushort, length-uint}

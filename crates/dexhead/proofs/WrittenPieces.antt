@@ -2,7 +2,7 @@
 use Rattle.std.proofs.Common.{◌≡◌, ℕ, ◌+◌, List, ◌++◌, take, drop, append_assoc}
 use Rattle.std.proofs.Math.Seq.{take-add}
 
--- after a front, a front of the rest
+-- after a prefix, a prefix of the rest
 pub written_more : (old mid new bytes rest : List ℕ) (i n : ℕ) → mid ≡ old ++ take i bytes → rest ≡ drop i bytes → new ≡ mid ++ take n rest → new ≡ old ++ take (i + n) bytes
 written_more old mid new bytes rest i n before left after =
     rw (after, before, left, take-add i n bytes, append_assoc)

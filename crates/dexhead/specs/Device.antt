@@ -6,7 +6,7 @@ use Rattle.dexhead.specs.declared.device.Device.{Device}
 abbrev pub inner_of : {T : Type 0} → Device T → T
 inner_of d = d.inner
 
--- whether a call of the device was answered DeviceFault
+-- whether a call of the device returned DeviceFault
 abbrev pub is_broken : {T : Type 0} → Device T → Bool
 is_broken d = d.is_broken
 

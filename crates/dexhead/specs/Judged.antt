@@ -1,4 +1,4 @@
--- what the header's own functions judge
+-- what the header's own functions check
 use Rattle.std.specs.Prelude.{ℕ, ◌≤◌, Bool, List, take, drop}
 use Rattle.std.specs.Str.{bytes_eq}
 use Rattle.sha1.specs.Sha1.{sha1}

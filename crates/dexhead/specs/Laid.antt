@@ -15,11 +15,11 @@ map_start K = round_up 4 (layout K).data_end
 abbrev pub map_list : Ordered → List ℕ
 map_list K = map_bytes (map_of K (layout K) (map_start K))
 
--- what stands behind the header: the rows, the sections, and the map
+-- what follows the header: the rows, the sections, and the map
 abbrev pub behind_header : Ordered → List ℕ
 behind_header K = table_bytes K (layout K) ++ (flat_map section_bytes (layout K).sections ++ (padding 4 (layout K).data_end ++ map_list K))
 
--- the header tells all that stands behind it, and how long that is
+-- the header describes all that follows it, and how long that is
 pub record TellsLayout (h : Head) (K : Ordered) : Type 0 where
   pub tables : TellsTables h K
   pub map_begins : h.map_off ≡ map_start K

@@ -1,4 +1,4 @@
--- what the map's own functions judge
+-- what the map's own functions check
 use Rattle.std.specs.Prelude.{◌≡◌, ◌≢◌, ◌⊎◌, ℕ, ◌+◌, ◌-◌, ◌*◌, ◌%◌, ◌<◌, ◌≤◌, List, ◌∷◌, take, map, All, IsTrue, slice_index_or}
 use Rattle.std.specs.List.{Contains}
 use Rattle.std.specs.Ordering.{nat_cmp}
@@ -25,14 +25,14 @@ pub record IsInPlace (b : List ℕ) : Type 0 where
   pub in_data : IsInData b (map_off b) (4 + 12 * uint_at b (map_off b))
   pub aligned : map_off b % 4 ≡ 0
 
--- an entry fits behind those before it
+-- an entry fits after those before it
 pub record IsNext (b : List ℕ) (es : List MapEntry) (i : ℕ) : Type 0 where
   pub known : IsCode (entry_of es i).kind
   pub new : All (λ e. e.kind ≢ (entry_of es i).kind) (take i es)
   pub above : (i ≡ 0) ⊎ ((entry_of es (i - 1)).off < (entry_of es i).off)
   pub placed : IsPlaced b (entry_of es i)
 
--- each entry fits behind those before it
+-- each entry fits after those before it
 pub record AreInOrder (b : List ℕ) (es : List MapEntry) : Type 0 where
   pub known : All IsKnown es
   pub once : AreDistinct (map (λ e. e.kind) es)

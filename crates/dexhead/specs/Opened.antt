@@ -1,4 +1,4 @@
--- what a header that was put gives to the file behind it
+-- what a header that was put gives to the file after it
 use Rattle.std.specs.Prelude.{ℕ, List}
 use Rattle.dexspec.specs.Header.{HasSize, HasMagic, HasVersion, HasLengths, HasEndian, HasNoLink, HasChecksum, HasSignature}
 

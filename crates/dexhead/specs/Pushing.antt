@@ -2,7 +2,7 @@
 use Rattle.std.specs.Prelude.{◌≡◌, ℕ, ◌+◌, ◌≤◌, List, ◌++◌, length, vec_len, vec_capacity}
 use Rattle.std.specs.Global.{Vec}
 
--- the item stands at the end
+-- the item is at the end
 pub record Pushes (item : List ℕ) (old new : Vec ℕ) : Type 0 where
   pub items : new.items ≡ old.items ++ item
   pub len : vec_len new ≡ vec_len old + length item

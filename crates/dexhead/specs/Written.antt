@@ -16,7 +16,7 @@ use Rattle.dexhead.specs.Sections.{section_meant}
 abbrev pub rows_bytes : Rows → List ℕ
 rows_bytes r = uint r.size ++ uint r.off
 
--- a header behind its signature
+-- the part of a header after its signature
 unfoldable pub field_bytes : Head → List ℕ
 field_bytes h =
     uint h.file_size ++ (uint header_length ++ (uint 0x12345678 ++ (uint 0 ++ (uint 0 ++ (uint h.map_off
@@ -30,13 +30,13 @@ head_bytes h = magic ++ (uint h.checksum ++ (h.signature ++ field_bytes h))
 abbrev pub rows_meant : Rows → ℕ × ℕ
 rows_meant r = (r.size, r.off)
 
--- the header tells where the tables and the data of these classes stand in their file
+-- the header has the offsets of the tables and the data of these classes in their file
 pub record TellsTables (h : Head) (K : Ordered) : Type 0 where
   pub rows : map rows_meant h.tables ≡ map (λ t. (t.1, t.2)) (placed_tables K)
   pub data_begins : h.data_off ≡ data_start K
   pub data_ends : h.data_size ≡ h.file_size - data_start K
 
--- the section that an entry tells, the number of its items, and the offset of the first
+-- the section of an entry, the number of its items, and the offset of the first
 abbrev pub entry_meant : MapEntry → Section × ℕ × ℕ
 entry_meant e = (section_meant e.section, e.size, e.off)
 

@@ -11,7 +11,7 @@ pub struct DeviceFault;
 
 /// What bytes come from. Its caller does not read on after a fault.
 pub trait Source {
-    // Whether the device tells its bytes. What is said of them holds where it does.
+    // Whether the bytes of the device are known. What is stated about them holds where they are.
     ghost tells: { Self → Type 0 };
 
     // The bytes to come.
@@ -29,14 +29,14 @@ pub trait Source {
         0
     }
 
-    /// Moves a front of the bytes to come into the front of the buffer, and answers how many bytes that
-    /// are. For a buffer that is not empty these are 0 only at the end of the bytes.
+    /// Moves a prefix of the bytes to come to the start of the buffer, and returns its length, which for a buffer that
+    /// is not empty is 0 only at the end of the bytes.
     ///
     /// Condition: the device has not failed.
     fn read(&mut self, buf: &mut [u8]) -> Result<usize, DeviceFault>
         requires { has_failed self.old ≡ false }
 
-        // The fault is answered exactly where this call makes the device failed.
+        // It returns the fault if and only if the device fails in this call.
         ensures works { OnOk result (has_failed self.new ≡ false) }
         ensures fails { OnErr result (has_failed self.new ≡ true) }
 
@@ -50,7 +50,7 @@ pub trait Source {
 
 /// What bytes go to. Its caller does not write on after a fault.
 pub trait Sink {
-    // Whether the device tells its bytes. What is said of them holds where it does.
+    // Whether the bytes of the device are known. What is stated about them holds where they are.
     ghost tells: { Self → Type 0 };
 
     // The bytes that it has taken.
@@ -63,15 +63,15 @@ pub trait Sink {
     fn failed(&self) -> bool
         ensures { result ≡ has_failed self.now };
 
-    /// Appends a front of the bytes to those taken, and answers how many bytes that are, 1 at least.
+    /// Appends a prefix of the bytes to those taken, and returns its length, at least 1.
     ///
-    /// Conditions: the device has not failed, and the bytes are not empty. Where it fails it may have
-    /// taken a front all the same.
+    /// Conditions: the device has not failed, and the bytes are not empty. A write that fails may have taken a prefix
+    /// too.
     fn write(&mut self, bytes: &[u8]) -> Result<usize, DeviceFault>
         requires works { has_failed self.old ≡ false }
         requires some { 0 < length bytes.now }
 
-        // The fault is answered exactly where this call makes the device failed.
+        // It returns the fault if and only if the device fails in this call.
         ensures works { OnOk result (has_failed self.new ≡ false) }
         ensures fails { OnErr result (has_failed self.new ≡ true) }
 
@@ -80,14 +80,14 @@ pub trait Sink {
         ensures tells { tells self.old → tells self.new }
         ensures appended { IfOk result (λ n. tells self.old → taken self.new ≡ taken self.old ++ take n bytes.now) }
 
-        // A write that fails has appended a front, perhaps an empty one.
+        // A write that fails has appended a prefix, perhaps an empty one.
         ensures front { OnErr result (tells self.old → (n : ℕ) × (taken self.new ≡ taken self.old ++ take n bytes.now)) };
 }
 
 /// Writes all the bytes, by as many calls of `Sink::write` as it takes; none for no bytes.
 ///
-/// Condition: the device has not failed. Error: exactly where it fails in this call; then it has taken a
-/// front of the bytes, perhaps an empty one.
+/// Condition: the device has not failed. Error: exactly where it fails in this call; then it has taken a prefix of the
+/// bytes, perhaps an empty one.
 pub fn write_whole<W: Sink>(out: &mut W, bytes: &[u8]) -> Result<(), DeviceFault>
     requires { W.has_failed out.old ≡ false }
     ensures tells { W.tells out.old → W.tells out.new }
@@ -107,7 +107,7 @@ pub fn write_whole<W: Sink>(out: &mut W, bytes: &[u8]) -> Result<(), DeviceFault
 /// A source over any reader, and a sink over any writer, whose bytes are those of what is inside.
 ///
 /// Each error of what is inside is a fault, also one of the kind `Interrupted`: no call is tried again.
-/// A write that is answered by 0 bytes is a fault too.
+/// A write that returns 0 is a fault too.
 #[derive(Drop)]
 pub struct Device<T> {
     inner: T,
@@ -118,7 +118,7 @@ pub struct Device<T> {
 impl<T> Device<T> {
     ghost use Rattle.dexhead.specs.Device.{inner_of, is_broken, expected_of};
 
-    /// A device that has not failed. How many bytes it will tell is not known: 0 are expected.
+    /// A device that has not failed. How many bytes are to come is not known: 0 are expected.
     pub fn new(inner: T) -> Self
         ensures inner { inner_of result ≡ inner }
         ensures works { is_broken result ≡ false }

@@ -24,7 +24,7 @@ pub struct Rows {
 /// The fields of a header of version 035 that differ from file to file. The tables are in the order of
 /// [`Table`](crate::Table).
 ///
-/// The two sums may be set behind the file's other bytes: see [`set_sums`](crate::set_sums).
+/// The two sums may be set after the file's other bytes: see [`set_sums`](crate::set_sums).
 ///
 /// Source: "Dalvik Executable format", "header_item".
 #[derive(Clone, Copy, Debug, PartialEq, Eq)]
@@ -65,8 +65,8 @@ impl Head {
 
     /// Appends the 112 bytes of the header.
     ///
-    /// It fails only for want of memory, and not where the spare room is at least 112 bytes; the vector
-    /// is then as it was.
+    /// It fails only if allocation fails, and never if the spare room is at least 112 bytes. After a failure the vector
+    /// is unchanged.
     ///
     /// Source: "Dalvik Executable format", "header_item".
     #[tactic(auto, using(crate::proofs::Lengths::length_head))]
@@ -93,7 +93,7 @@ impl Head {
         out.extend_from_slice(&self.signature).unwrap();
     }
 
-    // Appends the header behind its signature, 80 bytes, where there is room for them.
+    // Appends the 80 bytes of the header after its signature, where there is room for them.
     fn push_fields(&self, out: &mut Vec<u8>)
         requires { vec_len out.old + 80 ≤ vec_capacity out.old }
         ensures items { out.new.items ≡ out.old.items ++ field_bytes self.now }

@@ -15,14 +15,14 @@ ghost use Rattle.dexhead.specs.Sums.{with_sums_set};
 ghost use Rattle.dexhead.specs.Laid.{TellsLayout, behind_header};
 ghost use Rattle.dexhead.specs.Written.{TellsTables, field_bytes, head_bytes, HasNumbers, entry_meant, entry_read};
 
-/// A header that tells the file's length, followed by the rest of the file, with the two sums set, meets
+/// A header with the file's length, followed by the rest of the file, with the two sums set, meets
 /// conditions 1 to 8.
 pub fn head_law()
     ensures { (h : Head) (rest : List ℕ) → length h.signature ≡ 20 → h.file_size ≡ length (head_bytes h ++ rest) → 112 ≤ h.file_size → h.file_size ≤ 2 ^ 30 → IsOpened (with_sums_set (head_bytes h ++ rest)) }
 {}
 
-/// A header that tells where the tables and the data of classes stand in their file has, behind its signature,
-/// the fields that the canonical file has.
+/// A header with the offsets of the tables and the data of classes in their file has, after its signature, the fields
+/// that the canonical file has.
 pub fn fields_law()
     ensures { (h : Head) (K : Ordered) → TellsTables h K → field_bytes h ≡ header_bytes K h.map_off h.file_size }
 {}
@@ -33,18 +33,18 @@ pub fn sums_law()
     ensures file { (file : List ℕ) → take 8 file ≡ magic → with_sums_set file ≡ with_sums (drop 32 file) }
     ensures head { (h : Head) (rest : List ℕ) → length h.signature ≡ 20 → with_sums_set (head_bytes h ++ rest) ≡ with_sums (field_bytes h ++ rest) }
 
-    // A header that tells the right sums is there as they would be set.
+    // A header with the right sums has the bytes that setting them would give.
     ensures told { (h : Head) (rest : List ℕ) → h.signature ≡ sha1 (field_bytes h ++ rest) → h.checksum ≡ adler_32 (h.signature ++ (field_bytes h ++ rest)) → head_bytes h ++ rest ≡ with_sums (field_bytes h ++ rest) }
 {}
 
-/// A header that tells all that stands behind it, followed by the rows, the sections and the map of classes in
-/// order, with the two sums set, is their canonical file; so it is where the header tells the right sums.
+/// A header that describes all that follows it, followed by the rows, the sections and the map of classes in order,
+/// with the two sums set, is their canonical file; so it is where the header has the right sums.
 pub fn file_law()
     ensures set { (h : Head) (K : Ordered) → length h.signature ≡ 20 → TellsLayout h K → with_sums_set (head_bytes h ++ behind_header K) ≡ with_sums (unsigned_file K) }
     ensures told { (h : Head) (K : Ordered) → TellsLayout h K → h.signature ≡ sha1 (unsigned_file K) → h.checksum ≡ adler_32 (h.signature ++ unsigned_file K) → head_bytes h ++ behind_header K ≡ with_sums (unsigned_file K) }
 {}
 
-/// A map that is put is read where it stands: the number of its entries, and each of them.
+/// A map that is put is read where it is: the number of its entries, and each of them.
 pub fn map_law()
     ensures count { (es : List MapEntry) (b : List ℕ) (o : ℕ) → length es < 2 ^ 32 → All HasNumbers es → Stands b o (map_bytes (map entry_meant es)) → uint_at b o ≡ length es }
     ensures entries { (es : List MapEntry) (b : List ℕ) (o : ℕ) → length es < 2 ^ 32 → All HasNumbers es → Stands b o (map_bytes (map entry_meant es)) → entries_at b (o + 4) (length es) ≡ map entry_read es }

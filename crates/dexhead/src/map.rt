@@ -17,7 +17,7 @@ const HEADER_ITEM: u16 = 0x0000;
 
 const MAP_LIST: u16 = 0x1000;
 
-/// An entry as it stands in a file.
+/// An entry as a file has it.
 #[derive(Clone, Copy)]
 struct Entry {
     kind: u16,

@@ -53,8 +53,8 @@ impl MapList<'_> {
 
     /// Appends the map, 4 bytes and 12 for each entry.
     ///
-    /// It fails only for want of memory, and not where the spare room is as many bytes; the vector is
-    /// then as it was.
+    /// It fails only if allocation fails, and never if the spare room is as many bytes. After a failure the vector is
+    /// unchanged.
     ///
     /// Source: "Dalvik Executable format", "map_list".
     #[tactic(auto, using(crate::proofs::Lengths::length_map))]

@@ -33,8 +33,8 @@ pub fn u32_at(bytes: &[u8], at: usize) -> u32
 
 /// Appends a number as two bytes (a `ushort`).
 ///
-/// It fails only for want of memory, and not where the spare room is at least two bytes; the vector is
-/// then as it was. Source: "Dalvik Executable format", "Overall file layout".
+/// It fails only if allocation fails, and never if the spare room is at least two bytes. After a failure the vector is
+/// unchanged. Source: "Dalvik Executable format", "Overall file layout".
 #[tactic(auto, using(crate::proofs::Spelled::two_bytes, crate::proofs::Spelled::length_ushort))]
 pub fn put_u16(value: u16, out: &mut Vec<u8>) -> Result<(), AllocError>
     ensures { Puts (ushort value) out.old out.new result }
@@ -46,8 +46,8 @@ pub fn put_u16(value: u16, out: &mut Vec<u8>) -> Result<(), AllocError>
 
 /// Appends a number as four bytes (a `uint`).
 ///
-/// It fails only for want of memory, and not where the spare room is at least four bytes; the vector is
-/// then as it was. Source: "Dalvik Executable format", "Overall file layout".
+/// It fails only if allocation fails, and never if the spare room is at least four bytes. After a failure the vector is
+/// unchanged. Source: "Dalvik Executable format", "Overall file layout".
 #[tactic(auto, using(crate::proofs::Spelled::four_bytes, crate::proofs::Spelled::length_uint))]
 pub fn put_u32(value: u32, out: &mut Vec<u8>) -> Result<(), AllocError>
     ensures { Puts (uint value) out.old out.new result }
@@ -59,7 +59,7 @@ pub fn put_u32(value: u32, out: &mut Vec<u8>) -> Result<(), AllocError>
 
 /// Appends a number as two bytes (a `ushort`), where there is room for it.
 ///
-/// Condition: the spare room is at least two bytes. No memory is taken. Source: "Dalvik Executable format",
+/// Condition: the spare room is at least two bytes. Source: "Dalvik Executable format",
 /// "Overall file layout".
 #[tactic(auto, using(crate::proofs::Spelled::length_ushort))]
 pub fn push_u16(value: u16, out: &mut Vec<u8>)
@@ -73,7 +73,7 @@ pub fn push_u16(value: u16, out: &mut Vec<u8>)
 
 /// Appends a number as four bytes (a `uint`), where there is room for it.
 ///
-/// Condition: the spare room is at least four bytes. No memory is taken. Source: "Dalvik Executable format",
+/// Condition: the spare room is at least four bytes. Source: "Dalvik Executable format",
 /// "Overall file layout".
 #[tactic(auto, using(crate::proofs::Spelled::length_uint))]
 pub fn push_u32(value: u32, out: &mut Vec<u8>)

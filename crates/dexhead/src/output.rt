@@ -157,7 +157,7 @@ impl Output for Vec<u8> {
     ghost both = { λ x y a b c. pushed_both x y a b c };
 }
 
-/// How many bytes the encoding of an item has, or 2^64 - 1 where they are more. No memory is taken.
+/// How many bytes the encoding of an item has, or 2^64 - 1 where they are more.
 pub fn encoded_len<T: Encode>(item: &T) -> usize
     requires { T.formed item.now }
     ensures { result ≡ min (2 ^ 64 - 1) (length (T.bytes item.now)) }

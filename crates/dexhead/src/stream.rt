@@ -8,7 +8,7 @@ use std::marker::Model;
 // the greatest prime below 2^16
 const MODULUS: u32 = 65521;
 
-// So many bytes add less than 2^32 to sums below the modulus: they are reduced once, behind them.
+// This number of bytes adds less than 2^32 to sums below the modulus: the sums are reduced once, after them.
 const PART: usize = 3900;
 
 /// The Adler-32 of bytes that come in pieces, however they are cut. It takes no memory. Contracts see
@@ -40,7 +40,7 @@ impl Adler {
         }
     }
 
-    /// Goes on with more bytes behind those so far.
+    /// Goes on with more bytes after those so far.
     pub fn update(&mut self, bytes: &[u8])
         ensures { self.new ≡ adler_sums self.old bytes.now }
     {
@@ -53,7 +53,7 @@ impl Adler {
         self.add(rest);
     }
 
-    // Goes on with so few bytes that the sums are reduced once, at the end.
+    // Goes on with at most `PART` bytes, so that the sums are reduced once, at the end.
     fn add(&mut self, part: &[u8])
         requires { length part.now ≤ 3900 }
         ensures { self.new ≡ adler_sums self.old part.now }

@@ -1,11 +1,11 @@
-//! The tables behind the header.
+//! The tables after the header.
 
 ghost use Rattle.std.specs.Prelude.{◌≡◌};
 ghost use Rattle.dexspec.specs.Header.{size_place, row_size};
 ghost use Rattle.dexspec.specs.Sections.{TableOf, type_code};
 ghost use Rattle.dexhead.specs.Tables.{meant};
 
-/// A table behind the header: one of the five pools, or the class definitions.
+/// A table after the header: one of the five pools, or the class definitions.
 ///
 /// Source: "Dalvik Executable format", "File layout".
 #[derive(Clone, Copy, Debug, PartialEq, Eq)]

@@ -1,7 +1,7 @@
 use Rattle.std.proofs.Common.{◌≡◌, ◌≤◌, ◌++◌, false, length, take, ◌-◌}
 use Rattle.dexhead.proofs.device.write_whole.Given as goal
 
--- a front was written
+-- a prefix was written
 abbrev pub invariant-pieces : goal.invariant-pieces
 invariant-pieces g l = record {
   works : g.W.Sink.has_failed l.out ≡ false;

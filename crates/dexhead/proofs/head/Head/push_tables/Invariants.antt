@@ -4,7 +4,7 @@ use Rattle.std.specs.List.{flat_map}
 use Rattle.dexhead.specs.Written.{rows_bytes}
 use Rattle.dexhead.proofs.head.Head.push_tables.Given as goal
 
--- the tables so far stand at the end, and there is room for the others
+-- the tables so far are at the end, and there is room for the others
 abbrev pub invariant-loop-rows : goal.invariant-loop-rows
 invariant-loop-rows l = record {
   items : l.out.items ≡ l.fn.out.items ++ flat_map rows_bytes (take l.rows-index l.self.tables);

@@ -6,7 +6,7 @@ use Rattle.dexspec.specs.Canonical.{map_entry_bytes}
 use Rattle.dexhead.specs.Written.{entry_meant}
 use Rattle.dexhead.proofs.map_list.MapList.put.Given as goal
 
--- the number of entries and the entries so far stand at the end, and there is room for the others
+-- the number of entries and the entries so far are at the end, and there is room for the others
 abbrev pub invariant-loop-entry : goal.invariant-loop-entry
 invariant-loop-entry l = record {
   items : l.out.items ≡ l.fn.out.items ++ (uint (length l.self.entries.now) ++ flat_map (λ e. map_entry_bytes (entry_meant e)) (take l.entry-index l.self.entries.now));

@@ -98,7 +98,7 @@ begun reads writes names files old new status i le a =
       written = λ w. (length (check_lines names a.verdicts), rw (take_all (length (check_lines names a.verdicts)) (check_lines names a.verdicts) (omega arith)) (a.written w));
     }
 
--- the files before this one are checked, and a front of its line was written
+-- the files before this one are checked, and a prefix of its line was written
 pub begun_more : (reads writes : Type 0) (names files : List (List ℕ)) (old mid new : List ℕ) (status i : ℕ) (v : Verdict) →
     i < length files → length names ≡ length files → AreChecked reads writes names (take i files) old mid status →
     (reads → IsVerdict (get_or files i []) v) → (line : List ℕ) → line ≡ check_line (get_or names i []) v → (writes → (n : ℕ) × (new ≡ mid ++ take n line)) →

@@ -39,7 +39,7 @@ one_more fan ps groups last n p cut few lt e =
 pub same_cut : (fan : ℕ) (ps groups others last lasts : List Plan) (n : ℕ) → groups ≡ others → last ≡ lasts → IsCut fan ps others lasts n → IsCut fan ps groups last n
 same_cut fan ps groups others last lasts n e f cut = subst (λ (l : List Plan). IsCut fan ps l last n) (sym e) (subst (λ (l : List Plan). IsCut fan ps others l n) (sym f) cut)
 
--- so many groups, and the next one
+-- the first `k` groups, and the next one
 groups_more : (fan : ℕ) (ps : List Plan) (k : ℕ) → map (group fan ps) (range_with_len 0 (suc k)) ≡ map (group fan ps) (range_with_len 0 k) ++ group fan ps k ∷ []
 groups_more fan ps k = ap (λ (n : ℕ). map (group fan ps) (range_with_len 0 n)) (sym (add-one k)) ∙ map-range_with_len_more (group fan ps) 0 k k (omega arith)
 

@@ -52,7 +52,7 @@ true_cause caps apart collections plan (cause.Conflict name) holds = record { ca
 true_cause caps apart collections plan (cause.Cycle name) holds = record { cause = holds; bad = λ good. apart (planned collections plan) (merging.Cycle name) good holds.holds }
 true_cause caps apart collections plan (cause.Cap number) holds = record { cause = holds; bad = λ good. apart (planned collections plan) (merging.Exceeded holds.cap) good holds.holds.holds }
 
--- a plan for so many inputs is one for their collections
+-- a plan for as many inputs as collections is one for the collections
 plan_for_collections : {R : Type 0} (P : R → Collection → Type 0) (inputs : List R) (collections : List Collection) (plan : Plan) → AllZip P inputs collections → IsPlanFor (length inputs) plan → IsPlanFor (length collections) plan
 plan_for_collections P inputs collections plan all is = subst (λ n. IsPlanFor n plan) (sym (zip_length P inputs collections all)) is
 

@@ -11,18 +11,18 @@ read_all n xs ys whole joined bound why = elim why [
   | inr full ↦ rw joined (sym (take_at xs ys n (omega arith)))
 ]
 
--- the same, where so many of the bytes that were read are kept
+-- the same, where the first `filled` of the bytes that were read are kept
 pub read_to_end : (filled most : ℕ) (bytes now kept left whole : List ℕ) → kept ≡ take filled now → take filled now ≡ take filled bytes → whole ≡ take filled bytes ++ left →
     length (take filled bytes) ≤ most → ((left ≡ []) ⊎ (most ≤ length (take filled bytes))) → kept ≡ take most whole
 read_to_end filled most bytes now kept left whole is same joined bound why = is ∙ same ∙ read_all most (take filled bytes) left whole joined bound why
 
--- what was read into the part stands after the front
+-- what was read into the part is after the bytes before the part
 pub moved_in_place : {E : Type 0} (T : Type 0) (whole left : List ℕ) (r : Result ℕ E) (front part rest : List ℕ) (at : ℕ) → length front ≡ at →
     IfOk r (λ n. n ≤ length part) → IfOk r (λ n. T → whole ≡ take n part ++ left) → IfOk r (λ n. T → whole ≡ take n (drop at (front ++ (part ++ rest))) ++ left)
 moved_in_place T whole left (Ok n) front part rest at long fits read = λ t. read t ∙ ap (λ l. l ++ left) (sym (ap (take n) (drop_at front (part ++ rest) at long) ∙ take-append-le n part rest fits))
 moved_in_place T whole left (Err e) front part rest at long fits read = tt
 
--- what was read so far, and is to come, where more was read behind it
+-- what was read so far, and is to come, after one more read
 pub joined_more : (whole mid left old new : List ℕ) (i n : ℕ) → i ≤ length old → i + n ≤ length new → whole ≡ take i old ++ mid → take i new ≡ take i old → mid ≡ take n (drop i new) ++ left →
     whole ≡ take (i + n) new ++ left
 joined_more whole mid left old new i n within fits before front after =

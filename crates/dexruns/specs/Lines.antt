@@ -60,7 +60,8 @@ escaped unit = 0x5c ∷ 0x75 ∷ hexadecimal_digit (unit / 4096) ∷ hexadecimal
 abbrev pub needs_backslash : ℕ → Bool
 needs_backslash unit = (unit == 0x22) || (unit == 0x5c)
 
--- a unit as it is printed: what is no sign of ASCII by its number, and a quotation mark and a backslash behind a backslash
+-- a unit as it is printed: what is no sign of ASCII by its number, and a quotation mark and a backslash after a
+-- backslash
 abbrev pub unit_text : ℕ → List ℕ
 unit_text unit =
     if nat_lt unit 0x20 then escaped unit

@@ -1,5 +1,6 @@
--- What the runs that merge leave, and what their faults say. What is said of an input's bytes holds where its reader
--- tells them, whatever the other readers do; what is said of the bytes that were written holds where the writer tells its.
+-- What the runs that merge leave, and what their faults say. What is stated about an input's bytes holds where they are
+-- known, whatever the other readers do; what is stated about the bytes that were written holds where those of the
+-- writer are known.
 use Rattle.std.specs.Prelude.{◌≡◌, ℕ, ◌<◌, Bool, true, false, List, ◌++◌, length, take, slice_index_or}
 use Rattle.std.specs.List.{AllZip}
 use Rattle.dexspec.specs.Files.{Collection, Denotes}
@@ -47,13 +48,13 @@ IsReadEachFault tells to_come inputs run.Memory = Unit {0}
 
 -- ---- their union
 
--- this holds of the cause that is told
+-- this holds of the cause that is reported
 abbrev pub TellsCause : (Cause → Type 0) → MergeCause → Type 0
 TellsCause P (cause.Conflict name) = P (merging.Conflict name)
 TellsCause P (cause.Cycle name) = P (merging.Cycle name)
 TellsCause P (cause.Cap number) = IsOfCap P number
 
--- the cause is true of the union of what the plan names, and this union is not good: where it is, no cause is told
+-- the cause is true of the union of what the plan names, and this union is not good: where it is, no cause is reported
 pub record IsTrueCause (caps : Caps) (collections : List Collection) (plan : Plan) (told : MergeCause) : Type 0 where
   pub cause : TellsCause (IsPlannedCause caps collections plan) told
   pub bad : IsGood caps (planned collections plan) → ⊥
@@ -105,12 +106,12 @@ pub record IsFileOf (whole : Collection) : Type 0 where
 abbrev pub IsAppended : Type 0 → List ℕ → List ℕ → List ℕ → Type 0
 IsAppended writes old new bytes = writes → new ≡ old ++ bytes
 
--- a front of the bytes was appended
+-- a prefix of the bytes was appended
 abbrev pub IsFrontAppended : Type 0 → List ℕ → List ℕ → List ℕ → Type 0
 IsFrontAppended writes old new bytes = writes → (n : ℕ) × (new ≡ old ++ take n bytes)
 
--- The union of the inputs is good; of what is kept of it the canonical file was written, or so much of this as is said.
--- The file is accepted as just what is kept.
+-- The union of the inputs is good; of what is kept of it the canonical file was written, or the part of it that
+-- `Written` states. The file is accepted as just what is kept.
 pub record IsMergedFile {R : Type 0} (tells : R → Type 0) (to_come : R → List ℕ) (inputs : List R) (caps : Caps) (plan : Plan) (kept : Collection → Collection) (Written : List ℕ → Type 0) : Type 0 where
   pub whole : Collection
   pub united : IsUnited tells to_come inputs caps plan whole
@@ -126,7 +127,7 @@ IsMergeFault tells to_come inputs caps plan kept Written (run.Read i) = IsUnited
 IsMergeFault tells to_come inputs caps plan kept Written run.Write = IsMergedFile tells to_come inputs caps plan kept Written
 IsMergeFault tells to_come inputs caps plan kept Written run.Memory = Unit {0}
 
--- what a fault of writing says of the writer: it has taken a front of the bytes, or is as it was
+-- what a fault of writing says of the writer: it has taken a prefix of the bytes, or is unchanged
 abbrev pub IsWriteFault : {W : Type 0} → (W → Type 0) → (W → List ℕ) → W → W → List ℕ → RunFault → Type 0
 IsWriteFault tells taken old new bytes (run.Input i refusal) = ⊥
 IsWriteFault tells taken old new bytes run.Plan = ⊥
@@ -146,7 +147,7 @@ AreUncalled inputs inputs_now (run.Read i) = Unit {0}
 AreUncalled inputs inputs_now run.Write = Unit {0}
 AreUncalled inputs inputs_now run.Memory = Unit {0}
 
--- a fault of writing tells whether the writer has failed
+-- a fault of writing reports whether the writer has failed
 abbrev pub IsOfWriter : Bool → RunFault → Type 0
 IsOfWriter writer_failed (run.Input i refusal) = ⊥
 IsOfWriter writer_failed run.Plan = ⊥
@@ -155,7 +156,7 @@ IsOfWriter writer_failed (run.Read i) = ⊥
 IsOfWriter writer_failed run.Write = writer_failed ≡ true
 IsOfWriter writer_failed run.Memory = writer_failed ≡ false
 
--- a fault tells which device has failed; with any that tells of none, none has
+-- a fault reports which device has failed; with a fault that reports none, none has
 abbrev pub IsOfDevices : {R : Type 0} → (R → Bool) → List R → Bool → RunFault → Type 0
 IsOfDevices has_failed inputs writer_failed (run.Input i refusal) = AllWork has_failed inputs × (writer_failed ≡ false)
 IsOfDevices has_failed inputs writer_failed run.Plan = AllWork has_failed inputs × (writer_failed ≡ false)

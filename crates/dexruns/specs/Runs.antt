@@ -13,7 +13,8 @@ use Rattle.dexruns.specs.Lines.{check_lines, check_status}
 
 -- ---- one file normalised
 
--- a fault of a run with one input: the input is refused as `read` refuses it, and no other input and no plan is told
+-- a fault of a run with one input: the input is refused as `read` refuses it, and no other input and no plan is
+-- reported
 abbrev pub IsOfInput : Type 0 → List ℕ → RunFault → Type 0
 IsOfInput tells b (Input i refusal) = (i ≡ 0) × (tells → IsRefused b refusal.number refusal.place)
 IsOfInput tells b Plan = ⊥
@@ -22,8 +23,8 @@ IsOfInput tells b (Read i) = i ≡ 0
 IsOfInput tells b Write = Unit {0}
 IsOfInput tells b Memory = Unit {0}
 
--- after a fault of the writer the file is one to be written, and the writer has taken a front of the canonical file
--- of what the bytes denote; after any other fault it is as it was
+-- after a fault of the writer the file is one to be written, and the writer has taken a prefix of the canonical file of
+-- what the bytes denote; after any other fault it is unchanged
 abbrev pub HasLeft : {W : Type 0} → Type 0 → Type 0 → W → W → (W → List ℕ) → List ℕ → RunFault → Type 0
 HasLeft reads writes old new taken b (Input i refusal) = new ≡ old
 HasLeft reads writes old new taken b Plan = new ≡ old
@@ -60,7 +61,8 @@ IsVerdict b (Accepted classes) = (K : Collection) × IsReadAs b K × (classes �
 IsVerdict b (Refused refusal) = IsRefused b refusal.number refusal.place
 
 -- The lines of these files were written, each with a verdict that is right of its bytes, and the status is that of the
--- verdicts. What is said of bytes holds where the readers tell theirs, and what is said of lines where the writer does.
+-- verdicts. What is stated about bytes holds where those of the readers are known, and what is stated about lines where
+-- those of the writer are.
 pub record AreChecked (reads writes : Type 0) (names files : List (List ℕ)) (old new : List ℕ) (status : ℕ) : Type 0 where
   pub verdicts : List Verdict
   pub many : length verdicts ≡ length files
@@ -68,7 +70,7 @@ pub record AreChecked (reads writes : Type 0) (names files : List (List ℕ)) (o
   pub written : writes → new ≡ old ++ check_lines names verdicts
   pub status_is : status ≡ check_status verdicts
 
--- A front of the lines of some first files was written, with verdicts that are right of them.
+-- A prefix of the lines of some first files was written, with verdicts that are right of them.
 pub record AreBegun (reads writes : Type 0) (names files : List (List ℕ)) (old new : List ℕ) : Type 0 where
   pub verdicts : List Verdict
   pub right : reads → AllZip IsVerdict (take (length verdicts) files) verdicts
@@ -84,7 +86,7 @@ pub record HasFailed {R : Type 0} (has_failed : R → Bool) (inputs : List R) (i
   pub failed : (d : R) → has_failed (slice_index_or inputs i d) ≡ true
   pub others : (k : ℕ) (d : R) → k < length inputs → k ≢ i → has_failed (slice_index_or inputs k d) ≡ false
 
--- a fault of a check tells which device has failed, and with want of memory none has
+-- a fault of a check reports which device has failed; with out of memory none has
 abbrev pub IsOfCheck : {R : Type 0} → (R → Bool) → List R → Bool → RunFault → Type 0
 IsOfCheck has_failed inputs writer_failed (Input i refusal) = ⊥
 IsOfCheck has_failed inputs writer_failed Plan = ⊥

@@ -41,11 +41,11 @@ fn status_after(status: u8, verdict: &Verdict) -> u8
 }
 
 /// Writes a line for each input: its name, and whether it is accepted, with the number of its classes, or refused,
-/// with the condition and the place. The answer is 0, or 1 where an input is refused.
+/// with the condition and the place. Returns 0, or 1 if an input is refused.
 ///
 /// Conditions: no device has failed, and there are as many names as inputs. Error: `Read` with the number of an input
-/// exactly where its reader failed in this call, `Write` exactly where the writer did; `Memory` where a growth was
-/// refused; no other. It ends at the first error, and then a front of the lines was written, each of them right of its
+/// exactly where its reader failed in this call, `Write` exactly where the writer did; `Memory` if an allocation
+/// failed; no other. It ends at the first error, and then a prefix of the lines was written, each of them right of its
 /// input. Of each input `2^30 + 1` bytes are read and no more.
 ///
 /// Source: "Dalvik Executable format"; the lines are this project's rule.
@@ -65,7 +65,7 @@ pub fn check_run<R: Source, W: Sink>(
     ensures no_further { AllZip (IsReadNoFurther R.tells R.to_come R.has_failed) inputs.old inputs.new }
     ensures tells { W.tells out.old → W.tells out.new }
 
-    // The faults of the devices are told exactly where they are.
+    // It reports the faults of the devices exactly where they are.
     ensures readers { OnOk result (AllWork R.has_failed inputs.new) }
     ensures writer { OnOk result (W.has_failed out.new ≡ false) }
     ensures fault { IfErr result (IsOfCheck R.has_failed inputs.new (W.has_failed out.new)) }

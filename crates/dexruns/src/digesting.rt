@@ -76,11 +76,11 @@ fn digest_lines(alloc: Global, file: &str, program: &Program<'_>) -> Result<Stri
     Ok(text)
 }
 
-/// Writes a line for each class of an input, in the order of a canonical file: the digest of the class, its name, and the
-/// name of the input, with a tab between them. The digest is the signature of the canonical file of the class alone, in 40
-/// lower-case hexadecimal digits; the name of the class is written as [`explain`](crate::explain) writes it. So equal
-/// classes have equal digests in whatever file they are, and different ones are told apart as far as SHA-1 tells their
-/// canonical files apart.
+/// Writes a line for each class of an input, in the order of a canonical file: the digest of the class, its name, and
+/// the name of the input, with a tab between them. The digest is the signature of the canonical file of the class
+/// alone, in 40 lower-case hexadecimal digits; the name of the class is written as [`explain`](crate::explain) writes
+/// it. So equal classes have equal digests in whatever file they are, and different ones have different digests unless
+/// SHA-1 has the same sum for their canonical files.
 ///
 /// Condition: neither device has failed. Error: `Input` with number 0 exactly where [`dexclass::read`] refuses the input's
 /// bytes, of which `2^30 + 1` are read and no more, with what it reports of them; `Read` with number 0 exactly where the

@@ -16,8 +16,8 @@ use std::alloc::Global;
 /// Writes the listing of an input: its classes, with their members and instructions.
 ///
 /// Condition: neither device has failed. Error: `Input` with number 0 exactly where [`dexclass::read`] refuses the
-/// input's bytes, of which `2^30 + 1` are read and no more, with what it says of them; `Read` with number 0 exactly where
-/// the reader failed in this call, and `Write` exactly where the writer did; `Memory` where a growth was refused; no
+/// input's bytes, of which `2^30 + 1` are read and no more, with what it says of them; `Read` with number 0 exactly
+/// where the reader failed in this call, and `Write` exactly where the writer did; `Memory` if an allocation failed; no
 /// other. After `Write` a part of the listing was written, and after any other error nothing.
 ///
 /// Source: "Dalvik Executable format"; the listing is this project's rule.
@@ -33,7 +33,7 @@ pub fn dump_run<R: Source, W: Sink>(
     ensures left { IfErr result (IsLeft out.old out.new) }
     ensures no_further { IsReadNoFurther R.tells R.to_come R.has_failed input.old input.new }
 
-    // The faults of the devices are told exactly where they are.
+    // It reports the faults of the devices exactly where they are.
     ensures read { IsErrOf result (Read 0) ↔ (R.has_failed input.new ≡ true) }
     ensures write { IsErrOf result Write ↔ (W.has_failed out.new ≡ true) }
 {

@@ -55,7 +55,7 @@ fn push_escaped(unit: u16, text: &mut String) -> Result<(), AllocError>
     Ok(())
 }
 
-// Whether a backslash stands before a sign.
+// Whether a backslash is put before a unit.
 fn needs_backslash(unit: u16) -> bool
     ensures { result ≡ needs_backslash unit }
 {
@@ -166,8 +166,7 @@ fn fault_line(
 /// The exit status after a fault, and the line for standard error, without its end. `names` are the names of the
 /// inputs, and `out` is that of the output.
 ///
-/// Condition: the number of an input in the fault is below the number of names. Error: the memory for the line was
-/// refused.
+/// Condition: the number of an input in the fault is below the number of names.
 pub fn explain(
     alloc: Global,
     fault: &RunFault,

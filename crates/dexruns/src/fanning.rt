@@ -8,7 +8,7 @@ ghost use Rattle.dexruns.specs.Fans.{leaf_plans, in_groups, IsFanPlan};
 use dexmerge::Plan;
 use std::alloc::{AllocError, Global};
 
-// A leaf for each of so many files.
+// A leaf for each of the files.
 fn leaves(alloc: Global, files: usize) -> Result<Vec<Plan>, AllocError>
     ensures { IfOk result (λ plans. map plan_of plans.items ≡ leaf_plans files) }
 {
@@ -39,11 +39,11 @@ fn grouped(alloc: Global, plans: Vec<Plan>, fan: usize) -> Result<Vec<Plan>, All
     Ok(groups)
 }
 
-/// The plan for so many files. With no fan it is one node of all files, in their order. With a fan the files are
-/// grouped, so many in a group and the rest in the last one, then the groups are grouped in the same way, and so on
-/// until one plan is left; that of a single file is its leaf. It is never deeper than a plan may be.
+/// The plan for a number of files. With no fan it is one node of all files, in their order. With a fan the files are
+/// grouped, `fan` in a group and the rest in the last one, then the groups are grouped in the same way, and so on until
+/// one plan is left; that of a single file is its leaf. It is never deeper than a plan may be.
 ///
-/// Conditions: there is a file, and a fan is at least 2. Error: the memory for the plan was refused.
+/// Conditions: there is a file, and a fan is at least 2.
 pub fn fan_plan(alloc: Global, files: usize, fan: Option<usize>) -> Result<Plan, AllocError>
     requires files { 1 ≤ files }
     requires fan { IfSome fan (λ fan. 2 ≤ fan) }

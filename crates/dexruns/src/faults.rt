@@ -12,7 +12,7 @@ use thiserror::Error;
 /// Why there is no merged file.
 #[derive(Drop)]
 pub enum MergeCause {
-    /// Two unlike classes have this name.
+    /// Two different classes have this name.
     Conflict(Name),
     /// The class of this name is above itself, or below such a class.
     Cycle(Name),
@@ -50,7 +50,7 @@ pub enum RunFault {
     /// The writer failed.
     #[error("the output cannot be written")]
     Write,
-    /// A growth was refused.
+    /// An allocation failed.
     #[error("out of memory")]
     Memory,
 }

@@ -7,7 +7,7 @@ ghost use Rattle.dexruns.specs.declared.inputs.InputFault.TheVariants.{Memory};
 use dexhead::{DeviceFault, Source};
 use std::alloc::{AllocError, Global};
 
-/// How many bytes of an input are read at most. It is one more than a file may have: an input of so many bytes is too
+/// How many bytes of an input are read at most. It is one more than a file may have: an input of this many bytes is too
 /// long, whatever else is to come.
 pub const MOST_READ: usize = 1073741825;
 
@@ -21,7 +21,7 @@ const MOST_ROOM: usize = 1048576;
 pub enum InputFault {
     /// The reader failed.
     Read,
-    /// A growth was refused.
+    /// An allocation failed.
     Memory,
 }
 
@@ -34,7 +34,7 @@ impl From<AllocError> for InputFault {
 }
 
 // How much room is made where all of it is filled. For what is expected it is made at once, and for one byte more, so
-// that the end is found without another growth.
+// that the end is found without another allocation.
 fn room_for(expected: usize, filled: usize) -> usize
     requires { filled < 1073741825 }
     ensures more { filled < result }
@@ -50,7 +50,7 @@ fn room_for(expected: usize, filled: usize) -> usize
             .min(MOST_READ - filled)
 }
 
-// Makes room behind the bytes that have come, unless there is some.
+// Makes room after the bytes that have come, unless there is some.
 fn make_room(bytes: &mut Vec<u8>, filled: usize, expected: usize) -> Result<(), AllocError>
     requires filled { filled ≤ vec_len bytes.old }
     requires most { filled < 1073741825 }
@@ -81,7 +81,7 @@ fn read_at<R: Source>(input: &mut R, bytes: &mut [u8], at: usize) -> Result<usiz
     input.read(&mut bytes[at..])
 }
 
-// Reads more bytes behind those that have come, and answers how many.
+// Reads more bytes after those that have come, and returns how many.
 fn read_more<R: Source>(
     input: &mut R,
     bytes: &mut Vec<u8>,
@@ -111,8 +111,8 @@ fn read_more<R: Source>(
 /// Reads to the end of an input, or one byte past the greatest length of a file, and no further. The bytes come into the
 /// room of the vector itself.
 ///
-/// Condition: the reader has not failed. Error: `Read` exactly where it failed in this call; `Memory` where a growth
-/// was refused.
+/// Condition: the reader has not failed. Error: `Read` exactly where it failed in this call; `Memory` if an allocation
+/// failed.
 pub fn read_whole<R: Source>(alloc: Global, input: &mut R) -> Result<Vec<u8>, InputFault>
     requires { R.has_failed input.old ≡ false }
     ensures bytes { IfOk result (λ bytes. R.tells input.old → bytes.items ≡ bytes_read (R.to_come input.old)) }

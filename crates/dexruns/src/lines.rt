@@ -9,7 +9,7 @@ use std::alloc::{AllocError, Global};
 /// What is said of a file that is checked.
 #[derive(Clone, Copy, Debug, PartialEq, Eq)]
 pub enum Verdict {
-    /// It is accepted, and has so many classes.
+    /// It is accepted, and has this number of classes.
     Accepted(usize),
     /// A condition that it does not meet, and where.
     Refused(Refusal),

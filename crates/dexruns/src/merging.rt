@@ -31,7 +31,7 @@ pub(crate) fn places(alloc: Global, count: usize) -> Result<Vec<Vec<u8>>, AllocE
     Ok(places)
 }
 
-/// Reads one input after the other, and judges it. The programs borrow from the bytes.
+/// Reads one input after the other, and checks it. The programs borrow from the bytes.
 pub(crate) fn read_each<'a, R: Source>(
     alloc: Global,
     inputs: &mut [R],
@@ -142,7 +142,8 @@ fn kept<'a>(alloc: Global, whole: Program<'a>, is_stripped: bool) -> Result<Prog
 
 /// Does what [`merge_run`] does, or [`merge_strip_run`] if the union is to be stripped.
 ///
-/// Condition and errors: those of [`merge_run`], with the stripped file in the place of the merged one where it is stripped.
+/// Condition and errors: those of [`merge_run`], with the stripped file instead of the merged one if the union is
+/// stripped.
 ///
 /// Source: "Dalvik Executable format"; merging, stripping and the canonical form are this project's rules.
 pub fn merge_or_strip_run<R: Source, W: Sink>(
@@ -177,17 +178,17 @@ pub fn merge_or_strip_run<R: Source, W: Sink>(
     write_program(alloc, &program, out)
 }
 
-/// Writes the canonical file of the union of inputs, merged by a plan. The file is accepted, and stands for just the
+/// Writes the canonical file of the union of inputs, merged by a plan. The file is accepted, and denotes just the
 /// union.
 ///
 /// Condition: no device has failed. Error: `Plan`, before any reader is called, exactly where the plan names an input
 /// that there is not, or does not name one that there is, or is deeper than 64. Then one input after the other is read
-/// whole and judged, and the first that fails ends the call: `Read` with its number exactly where its reader failed in
+/// whole and checked, and the first that fails ends the call: `Read` with its number exactly where its reader failed in
 /// this call, or `Input` with its number where it is refused, with what [`dexclass::read`] says of its bytes, of which
-/// `2^30 + 1` are read and no more. Then `Merge` with a cause that is true of the union, the first one where the plan is
-/// a leaf or a node of leaves; where the union can be merged, none is told. `Write` exactly where the writer failed;
-/// `Memory` where a growth was refused. After `Write` a front of the canonical file was written, and after any other
-/// error nothing.
+/// `2^30 + 1` are read and no more. Then `Merge` with a cause that is true of the union, the first one where the plan
+/// is a leaf or a node of leaves; where the union can be merged, none is reported. `Write` exactly where the writer
+/// failed; `Memory` if an allocation failed. After `Write` a prefix of the canonical file was written, and after any
+/// other error nothing.
 ///
 /// Source: "Dalvik Executable format"; merging and the canonical form are this project's rules.
 pub fn merge_run<R: Source, W: Sink>(
@@ -207,7 +208,7 @@ pub fn merge_run<R: Source, W: Sink>(
     ensures uncalled { IfErr result (AreUncalled inputs.old inputs.new) }
     ensures no_further { AllZip (IsReadNoFurther R.tells R.to_come R.has_failed) inputs.old inputs.new }
 
-    // The faults of the devices are told exactly where they are.
+    // It reports the faults of the devices exactly where they are.
     ensures readers { OnOk result (AllWork R.has_failed inputs.new) }
     ensures writer { OnOk result (W.has_failed out.new ≡ false) }
     ensures devices { IfErr result (IsOfDevices R.has_failed inputs.new (W.has_failed out.new)) }
@@ -216,10 +217,10 @@ pub fn merge_run<R: Source, W: Sink>(
 }
 
 /// Writes the canonical file of the union of inputs without its debug programs and source texts, exactly where
-/// [`merge_run`] writes that of the union: the inputs are judged and merged as they are, and what comes out is stripped.
-/// The file is accepted, and stands for just the stripped union.
+/// [`merge_run`] writes that of the union: the inputs are checked and merged as they are, and the result is stripped.
+/// The file is accepted, and denotes just the stripped union.
 ///
-/// Condition and errors: those of [`merge_run`], with the stripped file in the place of the merged one.
+/// Condition and errors: those of [`merge_run`], with the stripped file instead of the merged one.
 ///
 /// Source: "Dalvik Executable format"; merging, stripping and the canonical form are this project's rules.
 pub fn merge_strip_run<R: Source, W: Sink>(
@@ -239,7 +240,7 @@ pub fn merge_strip_run<R: Source, W: Sink>(
     ensures uncalled { IfErr result (AreUncalled inputs.old inputs.new) }
     ensures no_further { AllZip (IsReadNoFurther R.tells R.to_come R.has_failed) inputs.old inputs.new }
 
-    // The faults of the devices are told exactly where they are.
+    // It reports the faults of the devices exactly where they are.
     ensures readers { OnOk result (AllWork R.has_failed inputs.new) }
     ensures writer { OnOk result (W.has_failed out.new ≡ false) }
     ensures devices { IfErr result (IsOfDevices R.has_failed inputs.new (W.has_failed out.new)) }

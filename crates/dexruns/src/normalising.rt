@@ -20,9 +20,9 @@ use std::alloc::Global;
 /// has.
 ///
 /// Condition: neither device has failed. Error: `Input` with number 0 where the file is refused, with what
-/// [`dexclass::read`] says of its bytes, of which `2^30 + 1` are read and no more; `Read` with number 0 exactly where the
-/// reader failed in this call, and `Write` exactly where the writer did; `Memory` where a growth was refused; no other.
-/// After `Write` a front of the canonical file was written, and after any other error nothing.
+/// [`dexclass::read`] says of its bytes, of which `2^30 + 1` are read and no more; `Read` with number 0 exactly where
+/// the reader failed in this call, and `Write` exactly where the writer did; `Memory` if an allocation failed; no
+/// other. After `Write` a prefix of the canonical file was written, and after any other error nothing.
 ///
 /// Source: "Dalvik Executable format"; the canonical form is this project's rule.
 pub fn normalise_run<R: Source, W: Sink>(
@@ -39,7 +39,7 @@ pub fn normalise_run<R: Source, W: Sink>(
     ensures left { IfErr result (HasLeft (R.tells input.old) (W.tells out.old) out.old out.new W.taken (bytes_read (R.to_come input.old))) }
     ensures no_further { IsReadNoFurther R.tells R.to_come R.has_failed input.old input.new }
 
-    // The faults of the devices are told exactly where they are.
+    // It reports the faults of the devices exactly where they are.
     ensures read { IsErrOf result (Read 0) ↔ (R.has_failed input.new ≡ true) }
     ensures write { IsErrOf result Write ↔ (W.has_failed out.new ≡ true) }
 {

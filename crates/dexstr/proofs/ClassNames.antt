@@ -1,4 +1,4 @@
--- A class's descriptor behind its `L`, unit by unit.
+-- A class's descriptor after its `L`, unit by unit.
 use Rattle.std.proofs.Common.{◌≡◌, ℕ, suc, ◌+◌, ◌/◌, ◌%◌, ◌<◌, ◌≤◌, Bool, true, false, List, [], ◌∷◌, ◌++◌, ◌⊎◌, inl, inr, refl, ap, sym, ◌∙◌, length, All, arith}
 use Rattle.std.specs.List.{join_with_byte}
 use Rattle.std.proofs.lemmas.Bool.{cases_eq, ne_eqb, and_parts, true≢false, false≢true}
@@ -117,7 +117,7 @@ class_to name is = rw is.joined (class_parts is.parts is.some is.names)
 
 -- ---- in bytes
 
--- a byte of a longer spelling may stand in a name
+-- a byte of a longer spelling may be part of a name
 pub high_byte : (b : ℕ) → 0x80 ≤ b → IsNameUnit b
 high_byte b high = (omega arith, omega arith, omega arith, omega arith)
 

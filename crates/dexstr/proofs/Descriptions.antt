@@ -53,7 +53,7 @@ letter_from u e = elim (cases_eq u 0x5a) [
   ]
 ]
 
--- ---- from the kind that is told
+-- ---- from the kind that is returned
 
 element_from : (s : List ℕ) (k : Kind) → element_kind s ≡ Some k → HasKind (type_kind k) s × ((k ≡ Primitive) ⊎ (k ≡ Class))
 element_from [] k e = absurd (cc)
@@ -110,7 +110,7 @@ kind_from s k e = elim (cases_Bool (is_void s)) [
   ]
 ]
 
--- ---- to the kind that is told
+-- ---- to the kind that is returned
 
 -- what an array may hold
 record IsElement (s : List ℕ) : Type 0 where
@@ -194,7 +194,7 @@ is_void-spelling [] units = refl
 is_void-spelling (u ∷ s) units =
     void_step (form u ++ spelling s) u (spelling s) s (shape_of u (spelling s) (units 0 0 (omega arith))) (is_end-spelling s (λ k d lt. units (suc k) d (omega arith)))
 
--- as many brackets, and the same behind them
+-- as many brackets, and the same after them
 record SameBrackets (bytes s : List ℕ) : Type 0 where
   count : dimensions bytes ≡ dimensions s
   behind : drop (dimensions s) bytes ≡ spelling (drop (dimensions s) s)
@@ -231,7 +231,7 @@ kind_of-spelling s units =
     let behind : AreUnits (drop (dimensions s) s) = All-drop (λ u. u < 2 ^ 16) (dimensions s) s units in
     rw (is_void-spelling s units, same.count, same.behind, element_kind-spelling s units, element_kind-spelling (drop (dimensions s) s) behind) refl
 
--- ---- what the call answers
+-- ---- what the call returns
 
 kind_in : (bytes s : List ℕ) → IsSpelling bytes → units_of bytes ≡ s → kind_of bytes ≡ kind_of s
 kind_in bytes s spelled is =

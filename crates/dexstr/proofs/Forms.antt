@@ -1,4 +1,4 @@
--- What stands first in bytes, where a unit's spelling does.
+-- What bytes begin with, where they begin with the spelling of a unit.
 use Rattle.std.proofs.Common.{◌≡◌, ℕ, suc, ◌+◌, ◌-◌, ◌*◌, ◌/◌, ◌%◌, ◌<◌, ◌≤◌, List, [], ◌∷◌, ◌⊎◌, refl, ap, sym, ◌∙◌, arith}
 use Rattle.std.specs.Cmp.Lexicographic.{pointwise}
 use Rattle.std.proofs.lemmas.Bool.Decides.{same_from_decides, Decides-like, Decides-eqb}
@@ -11,7 +11,7 @@ use Rattle.dexstr.specs.Units.{units_of, IsSpelling, BeginsWithUnit, BeginsWithN
 use Rattle.std.proofs.lemmas.List.Concat.{flat_map-cons}
 use Rattle.std.proofs.lemmas.List.{append_cancel_left}
 
--- the bytes of a unit that stands first
+-- the bytes of the first unit
 pub shape : (bytes : List ℕ) (u : ℕ) (rest : List ℕ) → BeginsWithUnit bytes u rest → Shape bytes u rest
 shape bytes u rest begins = rw begins.parts (shape_of u rest begins.unit)
 

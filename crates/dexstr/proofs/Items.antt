@@ -61,7 +61,7 @@ pub no_zero : (rest : List ℕ) → (length rest < 1) ⊎ (get_or rest 0 0 ≡ 0
 no_zero rest (inl none) starts = omega (arith, ap length starts.1)
 no_zero rest (inr other) starts = other (ap (λ (x : List ℕ). get_or x 0 0) starts.1)
 
--- ---- units stand before what is no unit in one way
+-- ---- bytes are units and then no unit in one way only
 
 head_is : (u v : ℕ) (us vs : List ℕ) → u ∷ us ≡ v ∷ vs → u ≡ v
 head_is u v us vs e = cc
@@ -88,7 +88,7 @@ zero_none' more u rest (Three large small e) = let h = head_is 0 (0xe0 + u / 409
 pub zero_none : (more : List ℕ) → BeginsWithNone (0 ∷ more)
 zero_none more = λ u rest begins. zero_none' more u rest (shape (0 ∷ more) u rest begins)
 
--- ---- what stands behind a count, stands there in one way
+-- ---- what follows a count does so in one way only
 
 pub body_once : (P Q : ℕ → ℕ → List ℕ → Type 0) (bytes : List ℕ) (p : HasBody P bytes) (q : HasBody Q bytes) → P q.count q.units q.rest
 body_once P Q bytes p q =

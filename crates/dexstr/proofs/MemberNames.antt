@@ -14,7 +14,7 @@ name_to bytes u rest s (Two which small e) units tail =
 name_to bytes u rest s (Three large small e) units tail =
     rw e (All-cons IsNameUnit (0xe0 + u / 4096) ((0x80 + u / 64 % 64) ∷ (0x80 + u % 64) ∷ rest) (high_byte (0xe0 + u / 4096) (omega arith)) (All-cons IsNameUnit (0x80 + u / 64 % 64) ((0x80 + u % 64) ∷ rest) (high_byte (0x80 + u / 64 % 64) (omega arith)) (All-cons IsNameUnit (0x80 + u % 64) rest (high_byte (0x80 + u % 64) (omega arith)) tail)))
 
--- the first unit may stand in a name, and the rest of the bytes too
+-- the first unit may be part of a name, and the rest of the bytes too
 record FirstNamed (u : ℕ) (rest : List ℕ) : Type 0 where
   first : IsNameUnit u
   tail : All IsNameUnit rest

@@ -1,4 +1,4 @@
--- Of bytes, one thing is so: an item stands first, or one of the faults is told.
+-- Bytes begin with an item, or have exactly one of the faults.
 use Rattle.std.proofs.Common.{◌≡◌, ◌≢◌, ◌↔◌, ℕ, ◌+◌, ◌-◌, ◌*◌, ◌/◌, ◌%◌, ◌≤◌, ◌<◌, ◌^◌, List, [], ◌∷◌, ◌++◌, length, Result, Ok, Err, IfOk, IfErr, OnErr, refl, ap, sym, arith, length-append, inl, inr, ◌⊎◌}
 use Rattle.std.proofs.lemmas.Bool.{cases_lt, cases_eq}
 use Rattle.std.proofs.lemmas.List.{append-nil}
@@ -32,7 +32,7 @@ three_bytes u more small = three_of (form u) u more (part_shape (form u) u small
     three_of bytes u more (Two which less e) = absurd (omega arith)
     three_of bytes u more (Three large less e) = sym e
 
--- the front of a unit's spelling, by the unit
+-- the beginning of a unit's spelling, by the unit
 front_of_two : (b u : ℕ) → 0x80 ≤ u → u < 0x800 → 0xc0 + u / 64 ≡ b → IsProperFront (b ∷ [])
 front_of_two b u more small is = record { more = (0x80 + u % 64) ∷ []; some = omega arith; part = inr (u, omega arith, rw (← is) (two_bytes u more small)) }
 
@@ -119,7 +119,7 @@ no_front_zero rest front (more, e) = looks_zero more (rw e at (front_to rest fro
     looks_zero more (inr (inr (inl (len, lead, low, high)))) = omega arith
     looks_zero more (inr (inr (inr (len, least, most, low, high)))) = omega arith
 
--- the zero byte stands behind the units, and of their number Q is so
+-- the zero byte follows the units, and Q holds of their number
 abbrev Ends : (ℕ → ℕ → Type 0) → List ℕ → Type 0
 Ends Q bytes = HasBody (λ count units rest. StartsWithZero rest × Q count units) bytes
 
@@ -153,9 +153,9 @@ no_fault Short bytes s n item fault = short_ends (λ count units. units ≡ coun
 no_fault Bad bytes s n item fault = bad_ends (λ count units. units ≡ count) bytes fault (item_body bytes s n item)
 no_fault Count bytes s n item fault = (body_once (λ count units rest. StartsWithZero rest × (units ≢ count)) (λ count units rest. StartsWithZero rest × (units ≡ count)) bytes fault (item_body bytes s n item)).1 (item_body bytes s n item).is.1
 
--- ---- what the call answers
+-- ---- what the call returns
 
--- an item where one stands first, and a fault exactly where it is told
+-- an item where the bytes begin with one, and each fault exactly where the bytes have it
 pub record Exact (bytes : List ℕ) (r : Result (List ℕ × ℕ) TextFault) : Type 0 where
   pub only : (s : List ℕ) (n : ℕ) → BeginsWith IsStringData bytes s n → r ≡ Ok (s, n)
   pub none : OnErr r ((s : List ℕ) (n : ℕ) → ¬ BeginsWith IsStringData bytes s n)

@@ -9,7 +9,7 @@ use Rattle.dexstr.specs.Units.{BeginsWithUnit}
 use Rattle.dexspec.proofs.OneText.{Shape, One, Two, Three}
 use Rattle.dexstr.proofs.Forms.{shape}
 
--- so many units were passed
+-- `n` units were skipped
 flat_map_one : (u : ℕ) → spelling (u ∷ []) ≡ form u
 flat_map_one u = flat_map-cons form u [] ∙ append-nil (form u)
 

@@ -19,7 +19,7 @@ pub record IsProperFront (bytes : List ℕ) : Type 0 where
 abbrev pub StartsWithZero : List ℕ → Type 0
 StartsWithZero bytes = (more : List ℕ) × (bytes ≡ 0 ∷ more)
 
--- a count stands first, behind it so many units, and behind these what P says of the rest
+-- the bytes begin with a count, then come some units, and of the rest P holds
 pub record HasBody (P : ℕ → ℕ → List ℕ → Type 0) (bytes : List ℕ) : Type 0 where
   pub count : ℕ
   pub len : ℕ
@@ -29,11 +29,12 @@ pub record HasBody (P : ℕ → ℕ → List ℕ → Type 0) (bytes : List ℕ) 
   pub after : AfterUnits (drop len bytes) units rest
   pub is : P count units rest
 
--- the count may go on behind the bytes, or a unit or the zero byte may
+-- the count may go on after the bytes, or a unit or the zero byte may
 abbrev pub IsShort : List ℕ → Type 0
 IsShort bytes = IsCutOff bytes ⊎ HasBody (λ count units rest. IsProperFront rest) bytes
 
--- no count stands first, nor may one go on behind the bytes, or what follows the units begins neither a unit nor the zero byte
+-- the bytes do not begin with a count, nor may one go on after them; or what follows the units begins neither a unit
+-- nor the zero byte
 abbrev pub IsBad : List ℕ → Type 0
 IsBad bytes = ((¬ IsCutOff bytes) × ((v n : ℕ) → ¬ BeginsWith IsUleb128 bytes v n)) ⊎ HasBody (λ count units rest. (¬ IsProperFront rest) × ¬ StartsWithZero rest) bytes
 
@@ -41,7 +42,7 @@ IsBad bytes = ((¬ IsCutOff bytes) × ((v n : ℕ) → ¬ BeginsWith IsUleb128 b
 abbrev pub IsMiscounted : List ℕ → Type 0
 IsMiscounted bytes = HasBody (λ count units rest. StartsWithZero rest × (units ≢ count)) bytes
 
--- when each fault is told
+-- when each fault is returned
 abbrev pub IsFault : TextFault → List ℕ → Type 0
 IsFault Short = IsShort
 IsFault Bad = IsBad

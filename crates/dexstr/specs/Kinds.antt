@@ -1,4 +1,4 @@
--- The kinds of type descriptors, as the code tells them.
+-- The kinds of type descriptors, as the code finds them.
 use Rattle.std.specs.Prelude.{ℕ, suc, Bool, true, false, ◌&&◌, ◌||◌, List, [], ◌∷◌, drop, Option, Some, None, is_some, if◌then◌else◌, nat_le, ◌==◌}
 use Rattle.dexspec.specs.Names.{TypeKind, VoidType, PrimitiveType, ClassType, ArrayType}
 use Rattle.dexstr.specs.declared.descriptors.Kind.{Kind}
@@ -16,7 +16,7 @@ abbrev pub is_end : List ℕ → Bool
 is_end [] = true
 is_end (u ∷ s) = false
 
--- the rest of a class's descriptor, behind its `L`: a part of the name may have begun
+-- the rest of a class's descriptor, after its `L`: a part of the name may have begun
 abbrev pub ends_class : Bool → List ℕ → Bool
 ends_class begun [] = false
 ends_class begun (u ∷ s) = if u == 0x3b then begun && is_end s else (if u == 0x2f then begun && ends_class false s else (if u == 0x2e || u == 0x5b then false else ends_class true s))
@@ -30,7 +30,7 @@ abbrev pub element_kind : List ℕ → Option Kind
 element_kind [] = None
 element_kind (u ∷ s) = if u == 0x4c then (if ends_class false s then Some Class else None) else (if is_primitive_letter u && is_end s then Some Primitive else None)
 
--- how many `[` stand first
+-- how many `[` come first
 abbrev pub dimensions : List ℕ → ℕ
 dimensions [] = 0
 dimensions (u ∷ s) = if u == 0x5b then suc (dimensions s) else 0

@@ -16,7 +16,7 @@ abbrev pub IsNoTail : List ℕ → Type 0
 IsNoTail [] = Unit {0}
 IsNoTail (b ∷ bs) = (x : ℕ) → x < 64 → b ≢ 0x80 + x
 
--- so many units stand first, and then no other
+-- the bytes begin with `n` units, and then no other
 pub record AfterUnits (bytes : List ℕ) (n : ℕ) (rest : List ℕ) : Type 0 where
   pub us : Text
   pub len : length us ≡ n

@@ -19,8 +19,7 @@ pub enum Kind {
     Array,
 }
 
-/// The kind of type that the text is the descriptor of, or `None` where it is no type descriptor. No memory
-/// is taken.
+/// The kind of type that the text is the descriptor of, or `None` where it is no type descriptor.
 ///
 /// Source: the heading "TypeDescriptor" of the Android page "Dalvik Executable format".
 pub fn descriptor_kind(text: &Text) -> Option<Kind>
@@ -31,8 +30,7 @@ pub fn descriptor_kind(text: &Text) -> Option<Kind>
     kind_of(text.bytes())
 }
 
-/// Whether the text may name a field or a method: it has a unit, and none of `.` `;` `[` `/`. No memory is
-/// taken.
+/// Whether the text may name a field or a method: it has a unit, and none of `.` `;` `[` `/`.
 ///
 /// Source: the heading "MemberName" of the Android page "Dalvik Executable format".
 pub fn is_member_name(text: &Text) -> bool
@@ -41,8 +39,8 @@ pub fn is_member_name(text: &Text) -> bool
     is_name(text.bytes())
 }
 
-/// The unit that stands in a shorty for a type, of which the text is the descriptor: `L` for each class or
-/// array type, and else the descriptor's one letter. No memory is taken.
+/// The unit that denotes a type in a shorty, from the type's descriptor: `L` for each class or array type, and else
+/// the descriptor's one letter.
 ///
 /// Source: the heading "ShortyDescriptor" of the Android page "Dalvik Executable format".
 pub fn shorty_letter(kind: Kind, text: &Text) -> u16
@@ -84,7 +82,7 @@ fn kind_of(bytes: &[u8]) -> Option<Kind>
     }
 }
 
-/// How many `[` stand first.
+/// How many `[` come first.
 fn dimensions(bytes: &[u8]) -> usize
     ensures count { result ≡ dimensions bytes.now }
     ensures within { result ≤ length bytes.now }

@@ -24,7 +24,7 @@ impl Model for Name {
 }
 
 impl Name {
-    /// A copy of the text. It fails only for want of memory.
+    /// A copy of the text.
     pub fn of(alloc: Global, text: &Text) -> Result<Name, AllocError>
         ensures { IfOk result (λ name. name ≡ text.now) }
     {
@@ -33,7 +33,7 @@ impl Name {
         })
     }
 
-    /// A copy of the name. It fails only for want of memory.
+    /// A copy of the name.
     pub fn copy(&self) -> Result<Self, AllocError>
         ensures { IfOk result (λ name. name ≡ self.now) }
     {

@@ -12,21 +12,20 @@ use dexleb::{LebFault, read_u};
 pub enum TextFault {
     /// The bytes end within the count or within a unit, or before the zero byte.
     Short,
-    /// No count stands where one should, or neither a unit nor the zero byte does.
+    /// There is no count where one should be, or neither a unit nor the zero byte.
     Bad,
     /// The zero byte follows other than as many units as the count says.
     Count,
 }
 
 impl<'a> Text<'a> {
-    /// Reads the string_data_item that begins at byte `at`: the text, of the bytes that spell it, and how
-    /// many bytes the item takes. The count of units may be spelled longer than it has to be. No memory is
-    /// taken.
+    /// Reads the string_data_item that begins at byte `at`: the text, of the bytes that spell it, and how many bytes
+    /// the item takes. The count of units may be spelled longer than it has to be.
     ///
-    /// The count is read first, and then units up to the zero byte. It fails with [`TextFault::Short`]
-    /// where the bytes end and the count, a unit's spelling or the zero byte may go on behind them, with
-    /// [`TextFault::Bad`] where else no count begins, or no unit and no zero byte, and with
-    /// [`TextFault::Count`] where the zero byte follows other than as many units as the count says.
+    /// The count is read first, and then units up to the zero byte. It fails with [`TextFault::Short`] where the bytes
+    /// end and the count, a unit's spelling or the zero byte may go on after them, with [`TextFault::Bad`] where
+    /// otherwise no count begins, or no unit and no zero byte, and with [`TextFault::Count`] where the zero byte
+    /// follows other than as many units as the count says.
     ///
     /// Source: the headings "string_data_item" and "MUTF-8 (Modified UTF-8) encoding" of the Android page
     /// "Dalvik Executable format".
@@ -41,7 +40,7 @@ impl<'a> Text<'a> {
     }
 }
 
-/// The text whose string_data_item stands first, and how many bytes that takes.
+/// The text whose string_data_item comes first, and how many bytes that takes.
 fn read_first(bytes: &[u8]) -> Result<(Text<'_>, usize), TextFault>
     ensures found { IfOk result (λ x. BeginsWith IsStringData bytes.now x.0 x.1) }
     ensures fault { IfErr result (λ e. IsFault e bytes.now) }

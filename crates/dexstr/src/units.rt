@@ -49,7 +49,7 @@ impl<'a> Iterator for Units<'a> {
     }
 }
 
-/// How many units stand first, and the bytes after them.
+/// How many units come first, and the bytes after them.
 pub(crate) fn skip_units(bytes: &[u8]) -> (usize, &[u8])
     ensures { AfterUnits bytes.now result.0 result.1.now }
 {
@@ -62,7 +62,7 @@ pub(crate) fn skip_units(bytes: &[u8]) -> (usize, &[u8])
     (count, rest)
 }
 
-/// The unit whose spelling stands first, and the bytes after it.
+/// The unit whose spelling comes first, and the bytes after it.
 #[inline]
 fn first_unit(bytes: &[u8]) -> Option<(u16, &[u8])>
     ensures found { IfSome result (λ x. BeginsWithUnit bytes.now x.0 x.1.now) }

@@ -7,7 +7,7 @@ use dexleb::{len_u, put_u};
 use std::alloc::AllocError;
 
 impl Text<'_> {
-    /// How many bytes [`put_text`] appends for the text. No memory is taken.
+    /// How many bytes [`put_text`] appends for the text.
     ///
     /// Source: the heading "string_data_item" of the Android page "Dalvik Executable format".
     pub fn item_len(&self) -> usize
@@ -21,8 +21,8 @@ impl Text<'_> {
 /// Appends the text's string_data_item: the number of units in its shortest spelling, the units and a zero
 /// byte, [`item_len`](Text::item_len) bytes, at most six bytes and three for each unit.
 ///
-/// It fails only for want of memory, and not where the spare room is at least six bytes and three for each
-/// unit; the items are then as they were.
+/// It fails only if allocation fails, and never if the spare room is at least six bytes and three for each unit. After
+/// a failure the items are unchanged.
 ///
 /// Source: the heading "string_data_item" of the Android page "Dalvik Executable format".
 pub fn put_text(text: &Text, out: &mut Vec<u8>) -> Result<(), AllocError>

@@ -40,6 +40,6 @@ listed_known m at (p ∷ ps) known =
 pub first_known : (m : Mentions) (ps rest : List Piece) (p : Piece) → AreKnownKinds m ps → ps ≡ p ∷ rest → IsKnownKind m p.kind
 first_known m ps rest p known e = All-head (λ x. IsKnownKind m x.kind) p rest (subst (AreKnownKinds m) e known)
 
--- and those behind it
+-- and those after it
 pub rest_known : (m : Mentions) (ps rest : List Piece) (p : Piece) → AreKnownKinds m ps → ps ≡ p ∷ rest → AreKnownKinds m rest
 rest_known m ps rest p known e = All-tail (λ x. IsKnownKind m x.kind) p rest (subst (AreKnownKinds m) e known)

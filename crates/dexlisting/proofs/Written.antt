@@ -8,7 +8,7 @@ put_behind : {T E : Type 0} (x : List ℕ) (old new : Vec ℕ) (r : Result T E) 
 put_behind x old new (Ok v) puts ok = puts.ok
 put_behind x old new (Err e) puts ok = absurd (search rules)
 
--- what is put where there is room stands behind what gathered
+-- what is put where there is room is after what is buffered
 pub put_on : {T E : Type 0} (taken before gathered x : List ℕ) (old new : Vec ℕ) (r : Result T E) → Puts x old new r → vec_len old + length x ≤ vec_capacity old
     → taken ++ old.items ≡ before ++ gathered → taken ++ new.items ≡ before ++ (gathered ++ x)
 put_on taken before gathered x old new r puts fits so_far =

@@ -8,7 +8,7 @@ pub record Works {W : Type 0} (has_failed : W → Bool) (old new : Listing W) : 
   pub writer : new.out.ghost_name ≡ old.out.ghost_name
   pub symbols : new.numbering ≡ old.numbering
 
--- a step tells a fault exactly where the writer failed in it; the writer and the symbols are the same as before
+-- a step reports a fault exactly where the writer failed in it; the writer and the symbols are the same as before
 pub record GoesOn {W T E : Type 0} (has_failed : W → Bool) (old new : Listing W) (result : Result T E) : Type 0 where
   pub works : OnOk result (has_failed new.out.now ≡ false)
   pub fails : OnErr result (has_failed new.out.now ≡ true)

@@ -11,7 +11,7 @@ use dexclass::Class;
 use dexhead::{DeviceFault, Sink};
 
 impl<W: Sink> Listing<'_, '_, '_, W> {
-    /// Puts the lines of classes, and writes all that gathered.
+    /// Puts the lines of classes, and writes all that is buffered.
     pub(crate) fn put_classes(&mut self, classes: &[Class<'_>]) -> Result<(), DeviceFault>
         requires works { W.has_failed self.old.out.now ≡ false }
         requires known { All (IsKnownClass self.old.numbering.now) classes.now }

@@ -15,7 +15,7 @@ pub(crate) trait Shown {
     // The flags as text.
     ghost text: { Self → List ℕ };
 
-    /// Appends the flags as text. It fails only for want of memory, and not where there is room for the text.
+    /// Appends the flags as text. It fails only if allocation fails, and never if there is room for the text.
     fn put(&self, out: &mut Vec<u8>) -> Result<(), AllocError>
         ensures text { Puts (text self.now) out.old out.new result }
         ensures short { length (text self.now) ≤ 256 };

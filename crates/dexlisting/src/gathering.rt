@@ -1,4 +1,4 @@
-//! A listing on its way to the writer: its bytes gather in a vector, and are written when it is full.
+//! A listing on its way to the writer: its bytes are buffered in a vector, and are written when it is full.
 
 ghost use Rattle.std.specs.Prelude.{◌≡◌, ◌<◌, ◌≤◌, ◌+◌, ◌++◌, length, [], ◌∷◌, true, false, OnOk, OnErr};
 ghost use Rattle.dexlisting.specs.Gathering.{HasRoom};
@@ -7,11 +7,11 @@ use crate::flags::{MOST_FLAGS, Shown};
 use dexhead::{DeviceFault, Sink, write_whole};
 use dexpool::Numbering;
 
-/// So many bytes gather at most.
+/// The greatest number of bytes that are buffered.
 pub(crate) const ROOM: usize = 65536;
 
-/// A listing on its way to the writer: the symbols that it names by number, and the bytes that gathered, which are still to be
-/// written. The memory for all that gather at a time is reserved at first, and no more is taken.
+/// A listing on its way to the writer: the symbols that it names by number, and the bytes that are buffered, which are
+/// still to be written. The memory of the buffer is allocated at first, and no more is.
 ///
 /// Each call that puts something has the condition that the writer has not failed, and fails exactly where the writer failed in
 /// this call.
@@ -26,7 +26,7 @@ pub(crate) struct Listing<'n, 't, 'w, W> {
 impl<W: Sink> Listing<'_, '_, '_, W> {
     ghost use Rattle.dexlisting.specs.Going.{GoesOn};
 
-    /// Puts bytes behind those that gathered. No memory is taken.
+    /// Puts bytes after those that are buffered.
     pub(crate) fn put(&mut self, bytes: &[u8]) -> Result<(), DeviceFault>
         requires { W.has_failed self.old.out.now ≡ false }
         ensures goes { GoesOn W.has_failed self.old self.new result }
@@ -65,7 +65,7 @@ impl<W: Sink> Listing<'_, '_, '_, W> {
         Ok(())
     }
 
-    /// Writes what gathered. No memory is taken.
+    /// Writes what is buffered.
     pub(crate) fn pass_on(&mut self) -> Result<(), DeviceFault>
         requires { W.has_failed self.old.out.now ≡ false }
         ensures goes { GoesOn W.has_failed self.old self.new result }
@@ -78,7 +78,7 @@ impl<W: Sink> Listing<'_, '_, '_, W> {
         Ok(())
     }
 
-    // Writes what gathered where so many bytes more would be too many.
+    // Writes what is buffered where `more` bytes would not fit after it.
     fn make_room(&mut self, more: usize) -> Result<(), DeviceFault>
         requires { W.has_failed self.old.out.now ≡ false }
         ensures goes { GoesOn W.has_failed self.old self.new result }

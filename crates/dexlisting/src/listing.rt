@@ -9,12 +9,12 @@ use dexclass::Program;
 use dexhead::Sink;
 use std::alloc::Global;
 
-/// Writes the listing of a program: for each class, in the order of a canonical file, the lines of the class itself, of its
-/// interfaces, its source, its static and instance fields, and its direct and virtual methods; under each method with code
-/// a line of what it has how many of, and one for each instruction and payload. What is written gathers in one vector of
-/// 65,536 bytes, whose memory is all that is taken, however long the listing is.
+/// Writes the listing of a program: for each class, in the order of a canonical file, the lines of the class itself, of
+/// its interfaces, its source, its static and instance fields, and its direct and virtual methods; under each method
+/// with code a line with its counts, and one for each instruction and payload. What is written is buffered in one
+/// vector of 65,536 bytes, whose memory is all that is allocated, however long the listing is.
 ///
-/// Condition: the writer has not failed. Error: `Memory` where the memory for the vector was refused, and then nothing was
+/// Condition: the writer has not failed. Error: `Memory` if the vector could not be allocated, and then nothing was
 /// written; `Io` exactly where the writer failed in this call.
 ///
 /// Source: the form is this project's rule.

@@ -10,7 +10,7 @@ use itoa::Buffer;
 const DIGITS: [u8; 16] = *b"0123456789abcdef";
 
 impl<W: Sink> Listing<'_, '_, '_, W> {
-    /// Puts words, and a number in decimal behind them.
+    /// Puts words, and a number in decimal after them.
     pub(crate) fn put_count(&mut self, words: &[u8], count: usize) -> Result<(), DeviceFault>
         requires { W.has_failed self.old.out.now ≡ false }
         ensures { GoesOn W.has_failed self.old self.new result }

@@ -8,7 +8,7 @@ use dexhead::{DeviceFault, Sink};
 use dexstr::Text;
 
 impl<W: Sink> Listing<'_, '_, '_, W> {
-    /// Puts a text: the units 0x20 to 0x7e stand for themselves, `"` and `\` behind a `\`, and each other unit as `\u` and four
+    /// Puts a text: the units 0x20 to 0x7e as they are, `"` and `\` after a `\`, and each other unit as `\u` and four
     /// hexadecimal digits.
     pub(crate) fn put_text(&mut self, text: &Text<'_>) -> Result<(), DeviceFault>
         requires { W.has_failed self.old.out.now ≡ false }

@@ -51,7 +51,7 @@ module _ {In Out : Type 0} (is_input : List ℕ → In → Type 0) (is_standard 
     ran = subst (λ l. IsCheckRun tells to_come reader_failed writes taken writer_failed (file ∷ []) l left out written outcome) is ran;
   }
 
-  -- want of memory before it is checked is that of the check
+  -- out of memory before it is checked is that of the check
   pub file_unchecked : written ≡ out → outcome ≡ Err fault.Memory → reader_failed input ≡ false → writer_failed out ≡ false →
       IsFileChecked is_input is_standard is_closed tells to_come reader_failed writes taken writer_failed file out written outcome
   file_unchecked same is reads works = record {

@@ -7,7 +7,7 @@ use Rattle.std.specs.Str.{IsUtf8}
 use Rattle.dexcmd.specs.Arguments.{IsListWith, StandsFor, AreExpanded, IsOfList, IsOfLists}
 
 module _ {In : Type 0} (is_input : List ℕ → In → Type 0) (tells : In → Type 0) (to_come : In → List ℕ) where
-  -- with what the arguments that are left stand for, these are what all stand for
+  -- followed by the expansion of the arguments that are left, these are the expansion of all
   abbrev pub IsExpandedSoFar : List (List ℕ) → List (List ℕ) → List (List ℕ) → Type 0
   IsExpandedSoFar arguments left done = (rest : List (List ℕ)) → AreExpanded is_input tells to_come left rest → AreExpanded is_input tells to_come arguments (done ++ rest)
 

@@ -1,4 +1,4 @@
--- Arguments with those of lists in the place of the arguments that stand for them. This project's rules.
+-- Arguments, with each one that names a list replaced by those of the list. This project's rules.
 use Rattle.std.specs.Prelude.{◌≡◌, ◌<◌, ◌++◌, ℕ, List, [], ◌∷◌, length, codes, slice_index_or, Option, Some, None}
 use Rattle.std.specs.Str.{IsUtf8}
 use Rattle.dexruns.specs.Inputs.{bytes_read}
@@ -25,18 +25,18 @@ module _ {In : Type 0} (is_input : List ℕ → In → Type 0) (tells : In → T
     pub named : is_input name input
     pub are : tells input → arguments ≡ list_arguments (bytes_read (to_come input))
 
-  -- what an argument stands for: itself, or the arguments of a list
+  -- what an argument expands to: itself, or the arguments of a list
   abbrev pub StandsFor : List ℕ → Option (List ℕ) → List (List ℕ) → Type 0
   StandsFor argument None own = own ≡ argument ∷ []
   StandsFor argument (Some name) own = IsListOf name own
 
-  -- what arguments stand for, in their order
+  -- what arguments expand to, in their order
   abbrev pub AreExpanded : List (List ℕ) → List (List ℕ) → Type 0
   AreExpanded [] all = all ≡ []
   AreExpanded (argument ∷ arguments) all =
       (own : List (List ℕ)) × (rest : List (List ℕ)) × StandsFor argument (named_list argument) own × AreExpanded arguments rest × (all ≡ own ++ rest)
 
-  -- the argument stands for the list of this name, of whose bytes this holds
+  -- the argument names this list, of whose bytes this holds
   pub record IsListWith (P : List ℕ → Type 0) (name argument : List ℕ) : Type 0 where
     pub is_list : named_list argument ≡ Some name
     pub input : In
@@ -49,7 +49,7 @@ module _ {In : Type 0} (is_input : List ℕ → In → Type 0) (tells : In → T
   IsOfList argument (NotUtf8 name) = IsListWith (λ b. ¬ IsUtf8 b) name.now argument
   IsOfList argument Memory = Unit {0}
 
-  -- one of the arguments stands for the list of this name, of whose bytes this holds
+  -- one of the arguments names this list, of whose bytes this holds
   pub record HasListWith (P : List ℕ → Type 0) (name : List ℕ) (arguments : List (List ℕ)) : Type 0 where
     pub at : ℕ
     pub within : at < length arguments

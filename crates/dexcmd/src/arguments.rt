@@ -1,4 +1,4 @@
-//! Arguments, with those of lists in the place of the arguments that stand for them.
+//! Arguments, with each one that names a list replaced by those of the list.
 
 ghost use Rattle.std.specs.Prelude.{◌≡◌, ◌<◌, ◌++◌, [], ◌∷◌, map, length, IfOk, IfErr, string_bytes};
 ghost use Rattle.dexargs.specs.Lists.{named_list};
@@ -40,7 +40,7 @@ impl<T: Drop> From<AllocFailed<T>> for ListsFault<'_> {
     }
 }
 
-// What an argument stands for.
+// What an argument expands to.
 fn expand<'a, D: Devices<'a>>(
     alloc: Global,
     devices: &D,
@@ -67,9 +67,9 @@ fn expand<'a, D: Devices<'a>>(
     }
 }
 
-/// Returns the arguments with those of lists: in the place of each argument that stands for a list, by [`dexargs::list_name`],
-/// the arguments that its bytes stand for, by [`dexargs::arguments_in`]. These stand for themselves. Of each list
-/// `2^30 + 1` bytes are read and no more.
+/// Returns the arguments with those of lists: each argument that names a list, by [`dexargs::list_name`], is replaced
+/// by the arguments that the list's bytes encode, by [`dexargs::arguments_in`]. These are not expanded further. Of each
+/// list `2^30 + 1` bytes are read and no more.
 ///
 /// Error: `Read` with the name of a list if its input failed, `NotUtf8` with the name of a list if its bytes are not UTF-8,
 /// `Memory` if allocation failed. It ends at the first error.

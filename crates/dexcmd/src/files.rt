@@ -12,8 +12,8 @@ enum Stage<F> {
     Ended,
 }
 
-/// A file that is opened at the first read, and closed at its end, at a fault, or when so much of it is read as is ever
-/// read of an input. So as many as are named may be lent at once, with one of them open.
+/// A file that is opened at the first read, and closed at its end, at a fault, or when `MOST_READ` bytes of it are
+/// read. So all files that are named may be lent at once, with one of them open.
 #[derive(Drop)]
 pub struct OldFile<'a, R: Files> {
     rt: &'a R,
@@ -59,7 +59,7 @@ impl<'a, R: Files> Read for OldFile<'a, R> {
     }
 }
 
-/// How many bytes the file at a path has, or 0 where the system does not tell.
+/// How many bytes the file at a path has, or 0 where the system does not say.
 pub fn file_len(rt: &impl Files, path: &str) -> usize {
     match fs::metadata(rt, path) {
         Ok(metadata) => usize::try_from(metadata.len()).unwrap_or(0),

@@ -156,7 +156,7 @@ fn repair<'a, D: Devices<'a>>(
 /// Does a job over the devices of its names, and returns what is to be reported of it: the exit status, and for each fault
 /// a line.
 ///
-/// Condition: the job is one that arguments ask for. Error: memory was refused before the job's run, or for its report.
+/// Condition: the job is one that arguments ask for. Error: allocation failed before the job's run, or for its report.
 pub fn run_job<'a, D: Devices<'a>>(
     alloc: Global,
     devices: &D,

@@ -1,9 +1,9 @@
--- Places that are replaced by what stands there.
+-- Places that are replaced by the items there.
 use Rattle.std.proofs.Common.{◌≡◌, ℕ, ◌+◌, ◌<◌, List, [], ◌∷◌, ◌++◌, length, get_or, map, take, drop, sym, ap, ◌∙◌, subst, arith, set}
 use Rattle.std.specs.List.{All}
 use Rattle.std.proofs.lemmas.List.{length-map, get_or-map, get_or-drop, map-append, take_more, take_more_set, drop-set-lt, drop_more}
 
--- what stands at the first place of rests that are the same
+-- the item at the first place of rests that are the same
 pub at_rest : {X : Type 0} (xs ys : List X) (i : ℕ) (d : X) → drop i ys ≡ drop i xs → get_or ys i d ≡ get_or xs i d
 at_rest xs ys i d rest = ap (λ k. get_or ys k d) (omega arith) ∙ sym (get_or-drop i ys 0 d) ∙ ap (λ zs. get_or zs 0 d) rest ∙ get_or-drop i xs 0 d ∙ ap (λ k. get_or xs k d) (omega arith)
 
@@ -21,7 +21,7 @@ each_more g F xs ys i v d lt less done rest is =
     ∙ ap (map F) (sym (map-append g (take i xs) (get_or xs i d ∷ [])))
     ∙ ap (λ zs. map F (map g zs)) (sym (take_more xs i d lt))
 
--- and the rest stands
+-- and the rest is unchanged
 pub rest_more : {X : Type 0} (xs ys : List X) (i : ℕ) (v d : X) → i < length xs → i < length ys → drop i ys ≡ drop i xs → drop (i + 1) (set ys i v) ≡ drop (i + 1) xs
 rest_more xs ys i v d lt less rest =
     let both : get_or ys i d ∷ drop (i + 1) ys ≡ get_or xs i d ∷ drop (i + 1) xs = sym (drop_more ys i d less) ∙ rest ∙ drop_more xs i d lt in

@@ -36,7 +36,7 @@ module _ {R : Type 0} (key : R → List ℕ) where
   pub row_total : IsTotalOrder (row_cmp key)
   row_total = on_total key text_total
 
-  -- a row of a sorted part is less than the one behind it
+  -- a row of a sorted part is less than the one after it
   pub next_less : (part : List R) (i : ℕ) (d : R) → AreSorted key part → i + 1 < length part → row_cmp key (get_or part i d) (get_or part (i + 1) d) ≡ Less
   next_less part i d sorted lt = Rises-places (row_cmp key) row_total part i (i + 1) d (Rises-from_rises (row_cmp key) row_total part sorted) (omega arith) lt
 
@@ -164,7 +164,7 @@ module _ {R : Type 0} (key : R → List ℕ) where
     pub both_step : (ps qs : List ℕ) → order ≡ Equal → i ≡ length lefts → z ≡ get_or left i z → ps ≡ lefts ++ place ∷ [] → qs ≡ rights ++ place ∷ [] → IsMerging key left right ys ps qs
     both_step ps qs is i_is at put also = rw (grown, put, also, at_end) (take_both left right left_sorted right_sorted rows lefts rights h x (subst (IsNext key left (length lefts) right (length rights)) is next) (rw (copied, ← i_is) at))
 
-  -- ---- as the code tells whether rows are sorted
+  -- ---- as the code checks whether rows are sorted
 
   pair_is : (rows : List R) (i j : ℕ) (a b : R) (o : Ordering) → i < length rows → j < length rows → a ≡ get_or rows i a → b ≡ get_or rows j b → o ≡ row_cmp key a b → o ≡ row_cmp key (get_or rows i a) (get_or rows j a)
   pair_is rows i j a b o at_i at_j is_a is_b is = is ∙ ap (λ x. row_cmp key x b) is_a ∙ ap (row_cmp key (get_or rows i a)) (is_b ∙ get_or_default rows j b a at_j)

@@ -14,7 +14,7 @@ short_of b o (suc n) (suc k) d lt = let e : o + 2 + 2 * k ≡ o + 2 * suc k = om
 
 -- ---- comparing
 
--- the order at a place, and then that behind it
+-- the order at a place, and then that after it
 pub key_at : (xs ys : List ℕ) (i d : ℕ) → i < length xs → i < length ys → key_cmp (drop i xs) (drop i ys) ≡ ordering_then (nat_cmp (get_or xs i d) (get_or ys i d)) (key_cmp (drop (i + 1) xs) (drop (i + 1) ys))
 key_at xs ys i d lt less = rw (drop_more xs i d lt, drop_more ys i d less) refl
 

@@ -8,7 +8,7 @@ pub record Lower : Type 0 where
   pub types : ℕ → ℕ
   pub protos : ℕ → ℕ
 
--- Tests that tell some numbers of texts, of types and of protos.
+-- Tests that select some numbers of texts, of types and of protos.
 pub record Among : Type 0 where
   pub strings : ℕ → Bool
   pub types : ℕ → Bool
@@ -22,11 +22,11 @@ lower_of p = record { strings = slice_index p.strings.now; types = slice_index p
 abbrev pub among_of : LowerPlaces → Among
 among_of p = record { strings = λ n. nat_lt n (length p.strings.now); types = λ n. nat_lt n (length p.types.now); protos = λ n. nat_lt n (length p.protos.now) }
 
--- of two numbers that the test tells, the lesser one is replaced by the lesser one
+-- of two numbers that the test selects, the lesser one is replaced by the lesser one
 abbrev pub RisesOn : (ℕ → Bool) → (ℕ → ℕ) → Type 0
 RisesOn test f = (m n : ℕ) → test m ≡ true → test n ≡ true → m < n → f m < f n
 
--- the order of numbers that the tests tell is kept, in each table
+-- the order of numbers that the tests select is kept, in each table
 pub record RiseAmong (among : Among) (lower : Lower) : Type 0 where
   pub strings : RisesOn among.strings lower.strings
   pub types : RisesOn among.types lower.types

@@ -17,8 +17,7 @@ pub struct Kept<R: Drop> {
 
 /// Cuts a table down to the rows that are marked, in one pass.
 ///
-/// Condition: there are as many marks as rows. Error: the memory for the kept rows, and for the place of
-/// each row, was refused.
+/// Condition: there are as many marks as rows.
 pub fn cut<R: Row>(alloc: Global, rows: &[R], marks: &[bool]) -> Result<Kept<R>, AllocError>
     requires { length marks.now ≡ length rows.now }
     ensures rows { IfOk result (λ cut. cut.rows.items ≡ kept marks.now rows.now) }

@@ -70,7 +70,7 @@ impl<'p> TypeNumbers<'p> {
         }
     }
 
-    /// The same list. No memory is taken.
+    /// The same list.
     pub fn clone(&self) -> TypeNumbers<'p>
         ensures { result ≡ self.now }
     {
@@ -79,7 +79,7 @@ impl<'p> TypeNumbers<'p> {
         }
     }
 
-    /// How many numbers there are. No memory is taken.
+    /// How many numbers there are.
     pub fn len(&self) -> usize
         ensures { result ≡ length self.now }
     {
@@ -89,7 +89,7 @@ impl<'p> TypeNumbers<'p> {
         }
     }
 
-    /// The number at a place. No memory is taken.
+    /// The number at a place.
     ///
     /// Condition: the place is below the number of numbers.
     pub fn at(&self, place: usize) -> usize
@@ -102,7 +102,7 @@ impl<'p> TypeNumbers<'p> {
         }
     }
 
-    /// How two lists compare, number by number: a front comes before what it begins. No memory is taken.
+    /// How two lists compare, number by number: a prefix comes before a longer list.
     pub fn compare(&self, other: &TypeNumbers<'_>) -> Ordering
         ensures { result ≡ key_cmp self.now other.now }
     {

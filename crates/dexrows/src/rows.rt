@@ -8,7 +8,7 @@ use crate::lower::LowerPlaces;
 use std::cmp::Ordering;
 
 /// A row of a sorted table. Rows are ordered by their keys, which are lists of numbers: the units of a text,
-/// or numbers of rows of lower tables. Keys compare number by number, a front before what it begins.
+/// or numbers of rows of lower tables. Keys compare number by number, a prefix before a longer key.
 ///
 /// Source: the headings "string_id_item", "type_id_item", "proto_id_item", "field_id_item" and
 /// "method_id_item" of the Android page "Dalvik Executable format".
@@ -36,19 +36,19 @@ pub trait Row: Drop {
     // Whether these are what the row with its numbers replaced borrows, and its other numbers have places.
     ghost can_move: { LowerPlaces → Self → Self.List → Type 0 };
 
-    /// What the row is ordered by. No memory is taken.
+    /// What the row is ordered by.
     fn key(&self) -> Self::Key
         ensures { numbers_of result ≡ key_of self.now };
 
-    /// The order of the two rows' keys. No memory is taken.
+    /// The order of the two rows' keys.
     fn compare(&self, other: &Self) -> Ordering
         ensures { result ≡ key_cmp (key_of self.now) (key_of other.now) };
 
-    /// The same row. No memory is taken.
+    /// The same row.
     fn copied(&self) -> Self
         ensures { result ≡ self.now };
 
-    /// The row with the numbers that its rows of lower tables have now. No memory is taken.
+    /// The row with the numbers that its rows of lower tables have now.
     ///
     /// Condition: each number of the row has a place, and `list` has the new numbers of a proto's parameters.
     fn renumbered(&self, lower: LowerPlaces<'_>, list: Self::List) -> Self

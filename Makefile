@@ -2,7 +2,7 @@
 #
 #   make try                merges real files in two orders with the unproved program, which it builds first if it is not there
 #   make unproved           builds crates/dexkit/out/dexkit-unproved: the program with checks at run time and no proof
-#   make                    proves the program and all that it stands on, crate by crate, and builds crates/dexkit/out/dexkit;
+#   make                    proves the program and all that it depends on, crate by crate, and builds crates/dexkit/out/dexkit;
 #                           what is proved is kept, so a run that was interrupted goes on where it was
 #   make check              the gate: proves what it has not passed on this machine, and runs all cases
 #   make documents          checks links, sizes, names and versions in the documents
@@ -22,7 +22,7 @@ UNPROVED = crates/dexkit/out/dexkit-unproved
 
 VERSION := $(shell sed -n 's/.*const VERSION: &str = "\(.*\)";/\1/p' crates/dexargs/src/*.rt)
 
-# The crates of the program, each after those that it stands on; the program is the last one.
+# The crates of the program, each after those that it depends on; the program is the last one.
 CRATES := $(shell tools/libraries dexkit)
 SOURCES := $(foreach crate,$(CRATES),$(wildcard crates/$(crate)/src/*.rt crates/$(crate)/src/*/*.rt))
 

@@ -141,7 +141,7 @@ module _ (m n whole : Mentions) (r s : Maps) (c d : NumberedClass) (rising : Are
   types_theirs : All (λ i. i < length whole.types) (type_numbers (renumbered s d))
   types_theirs = theirs.known.types_in
 
-  -- led to the same definition, they are the same
+  -- mapped to the same definition, they are the same
   one_class : definition_of m c ≡ definition_of n d → renumbered r c ≡ renumbered s d
   one_class e =
       let P : ℕ → Type 0 = λ i. i < length whole.types in
@@ -162,6 +162,6 @@ module _ (m n whole : Mentions) (r s : Maps) (c d : NumberedClass) (rising : Are
       let weight = mine.known.weighed ∙ ap (λ (z : Definition). min (2 ^ 64 - 1) (body_weight z.1)) there ∙ sym theirs.known.weighed in
       λ i. record { name = name i; flags = flags i; superclass = superclass i; interfaces = interfaces i; source = source i; members = declared i; weight = weight i }
 
-  -- led into one numbering, they are the same just where their definitions are
+  -- mapped into one numbering, they are the same if and only if their definitions are
   pub same_classes : (renumbered r c ≡ renumbered s d) ↔ (definition_of m c ≡ definition_of n d)
   same_classes = (λ e. sym mine.same ∙ ap (definition_of whole) e ∙ theirs.same, λ e. one_class e)

@@ -21,7 +21,7 @@ pub struct Part<'a> {
     classes: Vec<Class<'a>>,
 }
 
-// So that a part is dropped by one call, in the crates above too.
+// With this a part is dropped by one call, in the crates above too.
 impl Drop for Part<'_> {
     fn drop(self) {
         let Part {

@@ -34,7 +34,7 @@ fn marked(
 }
 
 impl<'a> Class<'a> {
-    // Leads the numbers of the class on to those of a part of its numbering.
+    // Remaps the numbers of the class to those of a part of its numbering.
     fn cut(&mut self, remap: &Remap)
         requires down { LeadDown remap.now }
         requires led { IsLedClass remap.now self.old }
@@ -46,7 +46,7 @@ impl<'a> Class<'a> {
     }
 }
 
-// Leads the numbers of the classes on to those of a part of their numbering.
+// Remaps the numbers of the classes to those of a part of their numbering.
 fn cut_all(remap: &Remap, classes: &mut Vec<Class<'_>>)
     requires down { LeadDown remap.now }
     requires led { All (IsLedClass remap.now) classes.old.items }
@@ -100,8 +100,7 @@ fn is_whole(numbering: &Numbering<'_>, trimmed: &Numbering<'_>, remap: &Remap) -
 
 /// The numbering of just what the classes mention, to which their numbers are remapped.
 ///
-/// Condition: the classes' numbers are those of the numbering. Error: `AllocError` where the memory for the new numbering is
-/// refused.
+/// Condition: the classes' numbers are those of the numbering.
 pub(crate) fn trim<'a>(
     alloc: Global,
     numbering: &Numbering<'a>,

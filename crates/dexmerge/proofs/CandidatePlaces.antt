@@ -41,7 +41,7 @@ hierarchy_of cs H h =
 pub kept_within : (cs : List Candidate) (places : List (Option ℕ)) (t i : ℕ) → ArePlaces (classes_of cs) places → get_or places t None ≡ Some i → i < length cs
 kept_within cs places t i h e = omega (arith, (places_some (classes_of cs) places h t i e).0, count_classes cs)
 
--- class i is equal to the class that is kept of its name if and only if the two are the same
+-- P decides `IsAlike` where it decides whether class i is equal to the class that is kept of its name
 pub alike_by : (cs : List NumberedClass) (places : List (Option ℕ)) (i k : ℕ) (P : Type 0) → get_or places (name_number cs i) None ≡ Some k → P ↔ (class_at cs i ≡ class_at cs k) → P ↔ IsAlike cs places i
 alike_by cs places i k P e h = (
   λ p. λ j is. let same : k ≡ j = (let both : Some k ≡ Some j = sym e ∙ is in cc) in subst (λ (n : ℕ). class_at cs i ≡ class_at cs n) same (h.0 p),

@@ -63,7 +63,7 @@ module _ (caps : Caps) (m : Mentions) (cs : List NumberedClass) (distinct : AreD
   abbrev E : List Definition
   E = map (definition_of m) cs
 
-  -- the weight is exceeded just where all of them exceed it
+  -- the weight is exceeded if and only if all of them exceed it
   too_heavy : caps.weight < weight_over m cs → Exceeds caps E Weight
   too_heavy lt = (E, distinct, λ d c. c, omega (arith, lt, weight_is m cs own))
 
@@ -86,7 +86,7 @@ module _ (caps : Caps) (m : Mentions) (cs : List NumberedClass) (distinct : AreD
   rank_there : (n : ℕ) (s : Text) → IsAt m.texts n s → rank text_cmp s (mentions E).texts ≡ n
   rank_there n s h = ap (λ (o : Mentions). rank text_cmp s o.texts) (sym own) ∙ rank_is m rising n s h
 
-  -- the cap on short strings is exceeded just where one of their numbers is not below it
+  -- the cap on short strings is exceeded if and only if one of their numbers is not below it
   too_far : has_from caps.short_strings (short_numbers cs) ≡ true → Exceeds caps E ShortStrings
   too_far test =
       let n = list_any-source (λ (k : ℕ). not (nat_lt k caps.short_strings)) (short_numbers cs) test in

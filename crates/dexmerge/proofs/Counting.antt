@@ -58,7 +58,7 @@ below_cap cap (Some g) e = by (nat_lt g cap) refl e
 pub within_texts : (m : Mentions) (cs : List NumberedClass) (greatest : Option ℕ) → All (IsKnownClass m) cs → Decides greatest (short_numbers cs) → above_it greatest ≤ length m.texts
 within_texts m cs greatest known decides = below_cap (length m.texts) greatest (sym (decides (length m.texts)) ∙ few_texts m cs (length m.texts) known (omega arith))
 
--- where the greatest leads decides
+-- the image of the greatest decides
 pub image_decides : (r : Maps) (x : NumberedClass) → IsLedClass r x → (g : ℕ) (o : Option ℕ) → KeepOrder r → IsGreatest (members_short_strings x.members) (Some g) → image r.texts g ≡ o → Decides o (members_short_strings (renumbered_members r x.members))
 image_decides r x led g None order is e = absurd (none_led r x led g is e)
 image_decides r x led g (Some k) order is e = λ cap. greatest_decides r x led g k cap order is e

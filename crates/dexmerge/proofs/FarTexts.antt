@@ -92,7 +92,7 @@ module _ (r : Maps) (c : NumberedClass) (led : IsLedClass r c) where
       some_none None s e = absurd cc
       some_none (Some k) s e = absurd cc
 
-  -- where the greatest leads, all others lead before
+  -- no image of another is greater than the image of the greatest
   no_greater : (g k j : ℕ) → KeepOrder r → IsGreatest (members_short_strings c.members) (Some g) → image r.texts g ≡ Some k → Contains (members_short_strings (renumbered_members r c.members)) j → j ≤ k
   no_greater g k j order is to has =
       let s = led_short r c.members j has in

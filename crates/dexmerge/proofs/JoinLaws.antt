@@ -25,7 +25,7 @@ flat_are : (Ks : List Collection) → flat_map (λ (l : List Definition). l) (ma
 flat_are [] = refl
 flat_are (K ∷ Ks) = ap (λ (l : List Definition). definitions K ++ l) (flat_are Ks)
 
--- the maps lead each part into the whole
+-- each part is mapped into the whole
 all_lead : (parts : List (Bor Collection)) (m : Mentions) (remaps : List Maps) → AllZip (λ n r. AllLead n m r) (map own parts) remaps → AllZip LeadsAll (map own parts) remaps
     → AllZip (λ part r. LeadInto (mentions (definitions part)) m r) (map now_of parts) remaps
 all_lead [] m [] f g = tt

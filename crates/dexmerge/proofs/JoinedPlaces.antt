@@ -112,7 +112,7 @@ module _ (maps_fit : MapsFit) (members_fit : MembersFit) (keep : KeepMeaning) (l
         let is : rank text_cmp f.0 (mentions p.whole).texts ≡ j = ap (λ (n : Mentions). rank text_cmp f.0 n.texts) (sym p.mentions_are) ∙ rank_is m p.rising j f.0 f.1 in
         omega (arith, low, is)
 
-    -- no short string leads too far
+    -- no short string maps to a number that is too large
     leads_low : (g : Option ℕ) → IsGreatest (members_short_strings c.members) g → LeadsShort r g
     leads_low None is = tt
     leads_low (Some g) is = λ j there. short_below j (leads_short r c.members g j is.0 there)

@@ -99,7 +99,7 @@ module _ (keep : KeepMeaning) (leads : LeadClasses) (m : Mentions) (K : Collecti
 pub class_known : (K : Collection) (ps : List NumberedClass) (c : NumberedClass) → AreClassesOf K ps → Contains ps c → IsKnownClass (mentions (definitions K)) c
 class_known K ps c are has = subst (IsKnownClass (mentions (definitions K))) has.2 (are.known has.0 c has.1)
 
--- a class of a part, and maps that lead the part into the whole
+-- a class of a part, and maps of the part into the whole
 pub of_part : KeepMeaning → LeadClasses → (m : Mentions) (K : Collection) (c : Candidate) → LeadInto (mentions (definitions K)) m c.remap.now → IsKnownClass (mentions (definitions K)) c.class.now → IsOfPart m c
 of_part keep leads m K c lead known =
     let own = mentions (definitions K) in
@@ -126,7 +126,7 @@ zip_at R (x ∷ xs) (y ∷ ys) (suc i) d e h lt = zip_at R xs ys i d e h.1 (omeg
 pub part_at : (parts : List (Bor Collection)) (i : ℕ) (d : Bor Collection) → i < length parts → d ≡ get_or parts i d → d.now ≡ get_or (map (λ (p : Bor Collection). p.now) parts) i d.now
 part_at parts i d lt e = ap (λ (p : Bor Collection). p.now) e ∙ sym (get_or-map (λ (p : Bor Collection). p.now) parts i d d.now lt)
 
--- the maps at a place lead the part there into the whole
+-- the maps at a place map the part there into the whole
 pub lead_at : (m : Mentions) (Ks : List Collection) (remaps : List Maps) (i : ℕ) (K : Collection) (r : Maps) → i < length Ks → K ≡ get_or Ks i K → r ≡ get_or remaps i r → AllZip (λ part remap. LeadInto (mentions (definitions part)) m remap) Ks remaps → LeadInto (mentions (definitions K)) m r
 lead_at m Ks remaps i K r lt at to zip =
     let lead : LeadInto (mentions (definitions (get_or Ks i K))) m (get_or remaps i r) = zip_at (λ part remap. LeadInto (mentions (definitions part)) m remap) Ks remaps i K r zip lt in

@@ -151,7 +151,7 @@ module _ (files : List Collection) where
         ]),
       )
 
--- ---- what an answer gives
+-- ---- what a result gives
 
 pub if_ok_each : {A E : Type 0} (P Q : A → Type 0) (r : Result A E) → ((x : A) → P x → Q x) → IfOk r P → IfOk r Q
 if_ok_each P Q (Ok x) f h = f x h

@@ -1,4 +1,4 @@
--- What merges answer, and what their faults say.
+-- What merges return, and what their faults say.
 use Rattle.std.specs.Prelude.{◌≡◌, ℕ, List, map, length}
 use Rattle.dexspec.specs.Classes.{Definition}
 use Rattle.dexspec.specs.Files.{Collection, definitions, IsCollectionOf}

@@ -23,7 +23,7 @@ pub record AreOnce (m : Mentions) (D : List Definition) (cs : List Candidate) : 
   pub copies : AreCopies m D cs
   pub kept : AreKept m (classes_of cs)
 
--- the numbering of all parts, and where the numbers of each lead
+-- the numbering of all parts, and the maps of the numbers of each
 pub record IsJoined (parts : List Collection) (m : Mentions) (remaps : List Maps) : Type 0 where
   pub mentions_are : m ≡ mentions (flat_map definitions parts)
   pub rising : AreRising m

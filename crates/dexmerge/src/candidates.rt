@@ -1,4 +1,4 @@
-//! Classes of several parts, with where their numbers lead in the numbering of the union.
+//! Classes of several parts, with the maps of their numbers into the numbering of the union.
 
 ghost use Rattle.std.specs.Prelude.{◌≡◌, ◌++◌, ◌↔◌, ◌<◌, ◌-◌, ◌^◌, min, List, All, IfOk, OnOk, IsTrue, length, map};
 ghost use Rattle.std.specs.List.{AllZip, flat_map};
@@ -17,7 +17,7 @@ use dexorder::HasParents;
 use dexpool::{Remap, SymbolKind};
 use std::alloc::{AllocError, Global};
 
-/// A class of a part, and where the numbers of the part lead in the union.
+/// A class of a part, and the map of the numbers of the part into the union.
 #[derive(Clone, Copy)]
 pub(crate) struct Candidate<'a, 'b> {
     class: &'b Class<'a>,

@@ -15,7 +15,7 @@ use dexpool::{Numbering, SymbolKind};
 
 /// What the classes weigh, with the symbols of the numbering, or 2^64 - 1 where that is more.
 ///
-/// Condition: the classes are classes of parts, led to the numbering.
+/// Condition: the classes are classes of parts, mapped to the numbering.
 pub(crate) fn weight(numbering: &Numbering<'_>, classes: &[Candidate<'_, '_>]) -> u64
     requires { All (IsOfPart numbering.now) classes.now }
     ensures { result ≡ min (2 ^ 64 - 1) (weight_over numbering.now (classes_of classes.now)) }
@@ -50,7 +50,7 @@ fn greater(number: Option<usize>, other: Option<usize>) -> Option<usize>
 /// The greatest number of a text that a `const-string` names, or `None` without one; a `const-string/jumbo` does not
 /// count.
 ///
-/// Condition: the classes are classes of parts, led to a numbering.
+/// Condition: the classes are classes of parts, mapped to a numbering.
 pub(crate) fn greatest_short_string(classes: &[Candidate<'_, '_>]) -> Option<usize>
     requires { (m : Mentions) × All (IsOfPart m) classes.now }
     ensures { Decides result (short_numbers (classes_of classes.now)) }
@@ -96,7 +96,7 @@ fn is_heavier(numbering: &Numbering<'_>, classes: &[Candidate<'_, '_>], caps: &C
 
 /// The number of the first cap that classes exceed, with the symbols of their numbering, if there is one.
 ///
-/// Condition: the classes are classes of parts, led to the numbering.
+/// Condition: the classes are classes of parts, mapped to the numbering.
 pub(crate) fn first_exceeded(
     numbering: &Numbering<'_>,
     classes: &[Candidate<'_, '_>],

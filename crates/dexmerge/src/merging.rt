@@ -23,7 +23,7 @@ use std::alloc::{AllocError, Global};
 struct Mergeable<'a> {
     // The numbering of all parts.
     numbering: Numbering<'a>,
-    // Where the numbers of each part lead.
+    // The map of the numbers of each part.
     remaps: Vec<Remap>,
     // A place for each type, and at the number of each class's name the depth of that class.
     depths: Vec<Option<usize>>,
@@ -47,7 +47,7 @@ fn all_parts<'a, 'b>(
     Ok(parts)
 }
 
-/// The numbering of all parts, and where the numbers of each lead.
+/// The numbering of all parts, and the map of the numbers of each.
 pub(crate) fn joined<'a>(
     alloc: Global,
     parts: &[&Program<'a>],

@@ -19,7 +19,7 @@ pub enum Plan {
     Node(Vec<Plan>),
 }
 
-// Marks the files that a plan names. The answer is whether it names only files that there are, and is at most so deep.
+// Marks the files that a plan names. Returns whether it names only files that there are, and is at most `depth` deep.
 fn mark_files(plan: &Plan, depth: usize, is_named: &mut Vec<bool>) -> bool
     ensures count { length is_named.new.items ≡ length is_named.old.items }
     ensures judged { MatchBool result (IsMarkedBy (plan_of plan.now) depth is_named.old.items is_named.new.items) (IsNoPlan (plan_of plan.now) depth (length is_named.old.items)) }

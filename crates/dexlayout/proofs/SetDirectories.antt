@@ -49,7 +49,7 @@ added_some : (p : ℕ × ℕ) (ps : List (ℕ × ℕ)) → 0 < length (add_in_or
 added_some p [] = omega arith
 added_some p (q ∷ qs) = some_of (pair_cmp p q) (p ∷ q ∷ qs) (q ∷ qs) (q ∷ add_in_order pair_cmp p qs) (omega arith) (omega arith) (omega arith)
 
--- there are no pairs in order just where there are none
+-- there are no pairs in order if and only if there are none
 order_none : (ps : List (ℕ × ℕ)) → length (in_order pair_cmp ps) ≡ 0 → length ps ≡ 0
 order_none [] e = refl
 order_none (p ∷ ps) e = absurd (omega (arith, e, added_some p (in_order pair_cmp ps)))
@@ -58,7 +58,7 @@ none_order : (ps : List (ℕ × ℕ)) → length ps ≡ 0 → length (in_order p
 none_order [] e = refl
 none_order (p ∷ ps) e = absurd (omega (arith, e))
 
--- there are no pairs just where no offset is placed
+-- there are no pairs if and only if no offset is placed
 module _ (is offs : List ℕ) (many : length offs ≡ length is) where
   no_pairs : length (pairs is offs) ≡ 0 → count_placed offs ≡ 0
   no_pairs e = sym (placed_count is offs many) ∙ order_none (kept (zip is offs)) e
@@ -96,7 +96,7 @@ known_size own f g h a b c bytes fa gb hc af bg ch size = by (own + (f + (g + h)
         cc) in
         ap Some (size refl) ∙ sym (cond-false (own + (a + b + c) == 0) None (Some (16 + 8 * (a + b + c))) (not_zero (own + (a + b + c)) some))
 
--- a class without one is passed
+-- a class without one is skipped
 pub no_directory : (p : ItemPlaces) (own n len : ℕ) → len ≡ 16 + 8 * n → own ≡ 0 → len ≡ 16 → place_use 4 p (directory_size own n) ≡ pass p
 no_directory p own n len size o e = ap (place_use 4 p) (cond-true (own + n == 0) None (Some (16 + 8 * n)) (eq-eqb (own + n) 0 (omega (arith, size, o, e))))
 
@@ -124,7 +124,7 @@ module _ (cs : List NumberedClass) (i : ℕ) (c : NumberedClass) (lt : i < lengt
   next_methods = ap (λ l. length (flat_map (λ (c : NumberedClass). methods_of c.members) l)) next_class ∙ length-append (methods_of c.members) (flat_map (λ c. methods_of c.members) (drop (i + 1) cs))
 
   module _ (own fs ms ls : List ℕ) (p : ItemPlaces) where
-    -- where the next directory leads
+    -- the places after the next directory
     abbrev pub next_places : ItemPlaces
     next_places = place_use 4 p (directory_size (slice_index own i) (entry_count (take (length (fields_of c.members)) fs) (take (length (methods_of c.members)) ms) (take (length (methods_of c.members)) ls)))
 

@@ -41,7 +41,7 @@ some_if (suc n) e = omega arith
 pub none_if : (n : ℕ) → true ≡ (n == 0) → n ≡ 0
 none_if n e = eqb-true n 0 (sym e)
 
--- an empty list is passed
+-- an empty list is skipped
 pub empty_list : (p : ItemPlaces) (n : ℕ) → n ≡ 0 → place_use 4 p (list_size n) ≡ pass p
 empty_list p n e = ap (λ k. place_use 4 p (list_size k)) e
 

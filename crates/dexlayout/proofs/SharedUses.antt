@@ -1,4 +1,4 @@
--- Uses that share items by a test of equality: one use more, and where the items lead one to one.
+-- Uses that share items by a test of equality: one use more, and items that are mapped one to one.
 use Rattle.std.proofs.Common.{◌≡◌, ◌⊎◌, ℕ, Bool, true, false, cond, not, ◌||◌, List, [], ◌∷◌, ◌++◌, ◌+◌, ◌<◌, length, get_or, map, take, append_assoc, None, Some, refl, sym, ap, subst, ◌∙◌, inl, inr}
 use Rattle.std.specs.Prelude.{Option, All, IfSome, Result, Ok, Err, IfOk, OnOk, if◌then◌else◌}
 use Rattle.std.specs.List.{Contains, filter, flat_map, list_any, position_or_len}

@@ -54,7 +54,7 @@ module _ {T : Type 0} {gives gives_prefix : List ℕ → T → T → Type 0} {ha
       room = λ r. let enough : limit ≤ vec_capacity a.buffer = r.enough in record { least = r.least; enough = omega (arith, enough, larger); never = r.never };
     }
 
-    -- memory for it was wanting
+    -- the allocation for it failed
     pub wanting : (w : Vec ℕ) (x : List ℕ) → ((y : List ℕ) (s t : T) → gives y s t → gives_prefix y s t) → ((y z : List ℕ) (s t : T) → gives_prefix y s t → gives_prefix (y ++ z) s t) → (HasRoom limit a → ⊥)
         → Adds gives gives_prefix has_failed limit a (record { buffer = w; limit = a.limit; fault = Some Memory; target = a.target }) x
     wanting w x whole more never = record {

@@ -103,7 +103,7 @@ module _ {T : Type 0} {gives gives_prefix : List ℕ → T → T → Type 0} {ha
   more_lists = omega (arith, h.enough_lists, methods_left cs i c x lt is members, many_methods, ap (λ (os : List ℕ). length os) back_lists, length-drop k ls)
 
   module _ (b : Bool) (whether : b ≡ empty) where
-    -- an empty one is passed over
+    -- an empty one is skipped
     pub filing_skip : b ≡ true → Filing gives gives_prefix has_failed limit old new from cs own all_fields all_methods all_lists at (i + 1) ofs oms ols
     filing_skip e = record {
       made = aligned_as _ (ap present left_is ∙ use_passed empty here (class_directories (drop (i + 1) cs) (drop (i + 1) own) ofs oms ols) (sym whether ∙ e)) h.made;

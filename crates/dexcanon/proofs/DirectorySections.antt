@@ -42,7 +42,7 @@ added_some : (p : ℕ × ℕ) (ps : List (ℕ × ℕ)) → 0 < length (add_in_or
 added_some p [] = omega arith
 added_some p (q ∷ qs) = some_of (pair_cmp p q) (p ∷ q ∷ qs) (q ∷ qs) (q ∷ add_in_order pair_cmp p qs) (omega arith) (omega arith) (omega arith)
 
--- there are no pairs in order just where there are none
+-- there are no pairs in order if and only if there are none
 order_none : (ps : List (ℕ × ℕ)) → length (in_order pair_cmp ps) ≡ 0 → length ps ≡ 0
 order_none [] e = refl
 order_none (p ∷ ps) e = absurd (omega (arith, e, added_some p (in_order pair_cmp ps)))
@@ -51,7 +51,7 @@ none_order : (ps : List (ℕ × ℕ)) → length ps ≡ 0 → length (in_order p
 none_order [] e = refl
 none_order (p ∷ ps) e = absurd (omega (arith, e))
 
--- there are no pairs just where no offset is placed
+-- there are no pairs if and only if no offset is placed
 module _ (is offs : List ℕ) (many : length offs ≡ length is) where
   no_pairs : length (pairs is offs) ≡ 0 → count_placed offs ≡ 0
   no_pairs e = sym (placed_count is offs many) ∙ order_none (kept (zip is offs)) e

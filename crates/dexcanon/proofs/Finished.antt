@@ -47,7 +47,7 @@ module _ {T : Type 0} {gives gives_prefix : List ℕ → T → T → Type 0} {li
   pub no_fault : new.fault ≡ None
   no_fault = fine_at new new.fault refl (a.tells (record { works = λ e. refl; fails = λ e. absurd (let never : None ≡ Some Io = sym fresh ∙ e in cc) })) room_after
 
-  -- so that the target has taken all
+  -- the target has taken all
   pub sure : gives [] old.target old.target → (new.fault ≡ None → vec_len new.buffer ≡ 0) → gives (old.buffer.items ++ x) old.target new.target
   sure nothing empty = all_given old.target new (old.buffer.items ++ x) (a.written old.target old.buffer.items (begun old fresh nothing)) no_fault (empty no_fault)
 

@@ -79,7 +79,7 @@ module _ {T : Type 0} {gives gives_prefix : List ℕ → T → T → Type 0} {ha
     pub next_list : 0 < length list → ref_lists left rest ≡ offsets_bytes list ∷ ref_lists ns others
     next_list some = ap (λ ms. ref_lists ms rest) e ∙ list_next n ns rest list front some ∙ ap (λ os. offsets_bytes list ∷ ref_lists ns os) (sym back)
 
-    -- an empty one is passed over
+    -- an empty one is skipped
     pub listing_skip : length list ≡ 0 → Listing gives gives_prefix has_failed limit old new from all offs at ns others
     listing_skip none = record { made = aligned_as (ref_lists ns others) (skipped none) h.made; enough = enough_left; behind = same_behind }
 

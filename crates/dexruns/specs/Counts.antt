@@ -46,7 +46,7 @@ pub record HaveCounts {R : Type 0} (tells : R → Type 0) (to_come : R → List 
   pub read : AreReadFrom tells to_come inputs collections
   pub counts_are : AreCounts (flat_map definitions collections) counts
 
--- the inputs have these numbers, and their lines were written, or as much of them as is said
+-- the inputs have these numbers, and their lines were written, or the part of them that `Written` states
 pub record AreCounted {R : Type 0} (tells : R → Type 0) (to_come : R → List ℕ) (inputs : List R) (Written : List ℕ → Type 0) : Type 0 where
   pub counts : Counts
   pub have : HaveCounts tells to_come inputs counts

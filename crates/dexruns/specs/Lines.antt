@@ -24,7 +24,7 @@ condition_name number = slice_index_or condition_names number (codes "Unknown")
 abbrev pub refusal_text : Refusal → List ℕ
 refusal_text refusal = codes "refused " ++ (decimal refusal.number ++ (codes " " ++ (condition_name refusal.number ++ (codes " at " ++ decimal refusal.place))))
 
--- what is said of a file
+-- what is reported of a file
 abbrev pub verdict_text : Verdict → List ℕ
 verdict_text (Accepted classes) = codes "ok classes=" ++ decimal classes
 verdict_text (Refused refusal) = refusal_text refusal

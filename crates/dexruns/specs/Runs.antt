@@ -35,7 +35,7 @@ HasLeft reads writes old new taken b Memory = new ≡ old
 
 -- ---- one file listed, or files merged
 
--- but for a fault of the writer it is as it was
+-- it is unchanged unless the writer failed
 abbrev pub IsLeft : {W : Type 0} → W → W → RunFault → Type 0
 IsLeft old new (Input i refusal) = new ≡ old
 IsLeft old new Plan = new ≡ old
@@ -44,7 +44,7 @@ IsLeft old new (Read i) = new ≡ old
 IsLeft old new Write = Unit {0}
 IsLeft old new Memory = new ≡ old
 
--- after a fault of the writer this is so, and after any other it is as it was
+-- after a fault of the writer this is so, and after any other it is unchanged
 abbrev pub IsLeftWith : {W : Type 0} → Type 0 → W → W → RunFault → Type 0
 IsLeftWith P old new (Input i refusal) = new ≡ old
 IsLeftWith P old new Plan = new ≡ old

@@ -14,7 +14,7 @@ use dexhead::{Sink, Source, write_whole};
 use dexpool::ReadFault;
 use std::alloc::Global;
 
-// What is said of an input.
+// What is reported of an input.
 fn judge<R: Source>(alloc: Global, input: &mut R) -> Result<Verdict, InputFault>
     requires { R.has_failed input.old ≡ false }
     ensures verdict { IfOk result (λ verdict. R.tells input.old → IsVerdict (bytes_read (R.to_come input.old)) verdict) }

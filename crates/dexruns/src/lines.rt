@@ -6,7 +6,7 @@ ghost use Rattle.dexruns.specs.Lines.{condition_name, refusal_text, check_line};
 use dexhead::{Condition, Refusal};
 use std::alloc::{AllocError, Global};
 
-/// What is said of a file that is checked.
+/// What is reported of a file that is checked.
 #[derive(Clone, Copy, Debug, PartialEq, Eq)]
 pub enum Verdict {
     /// It is accepted, and has this number of classes.

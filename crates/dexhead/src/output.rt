@@ -12,8 +12,8 @@ use crate::numbers::{put_u16, put_u32};
 use dexleb::{len_s, len_u, put_s, put_u};
 use std::alloc::AllocError;
 
-/// An output of bytes. Writing requires nothing: what a write leaves is said by `gives`, under a condition of its own,
-/// as that a vector has room.
+/// An output of bytes. Writing requires nothing: `gives` states what a write leaves, under a condition of its own, for
+/// example that a vector has room.
 pub trait Output {
     // the bytes, the output before they were written, and the output after it
     ghost gives: { List ℕ → Self → Self → Type 0 };
@@ -169,8 +169,8 @@ pub fn encoded_len<T: Encode>(item: &T) -> usize
 
 /// Appends the encoding of an item: reserves room for it, then encodes.
 ///
-/// Error: the allocation failed; the vector is then as it was. It does not fail where the spare room is at least the
-/// length of the encoding.
+/// It fails only if allocation fails, and never if the spare room is at least the length of the encoding. After a
+/// failure the vector is unchanged.
 pub fn put_encoded<T: Encode>(item: &T, out: &mut Vec<u8>) -> Result<(), AllocError>
     requires { T.formed item.now }
     ensures { Puts (T.bytes item.now) out.old out.new result }

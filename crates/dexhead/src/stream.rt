@@ -11,8 +11,8 @@ const MODULUS: u32 = 65521;
 // This number of bytes adds less than 2^32 to sums below the modulus: the sums are reduced once, after them.
 const PART: usize = 3900;
 
-/// The Adler-32 of bytes that come in pieces, however they are cut. It takes no memory. Contracts see
-/// its two sums: 1 and 0 at the start, the second above the first in the number.
+/// The Adler-32 of bytes that come in pieces, however they are cut. Contracts see its two sums: 1 and 0 at the start,
+/// the second above the first in the number.
 ///
 /// Source: "Dalvik Executable format", "header_item", the field `checksum`.
 #[derive(Drop)]

@@ -5,7 +5,7 @@ ghost use Rattle.dexspec.specs.Header.{adler_32};
 
 use crate::stream::Adler;
 
-/// The Adler-32 of the bytes. It takes no memory, and nothing fails.
+/// The Adler-32 of the bytes.
 ///
 /// Source: "Dalvik Executable format", "header_item", the field `checksum`.
 #[tactic(auto, unfolding(dexspec::specs::Header::adler_32))]

@@ -238,7 +238,7 @@ kind_in bytes s spelled is =
     let same : spelling s ≡ bytes = rw (← is) spelled.parts in
     rw (← same) (kind_of-spelling s (rw is at spelled.units))
 
--- what an answer says of a text
+-- what a result says of a text
 pub record Tells (r : Option Kind) (s : Text) : Type 0 where
   pub found : IfSome r (λ kind. HasKind (type_kind kind) s)
   pub some : (kind : Kind) → (r ≡ Some kind) ↔ HasKind (type_kind kind) s

@@ -85,7 +85,7 @@ impl Sets {
 }
 
 impl Sets {
-    // No sets yet, and memory for the own sets of `classes` classes; `written` has the offsets of those that are written.
+    // No sets yet, and memory for the own sets of `classes` classes; `written` has the offsets of those written.
     fn none(alloc: Global, classes: usize, written: Offsets) -> Result<Sets, AllocError>
         ensures { IfOk result (λ sets. sets ≡ record { own = []; fields = []; methods = []; parameters = []; end = written.end; greatest = written.greatest }) }
     {

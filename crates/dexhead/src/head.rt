@@ -67,8 +67,6 @@ impl Head {
     ///
     /// It fails only if allocation fails, and never if the spare room is at least 112 bytes. After a failure the vector
     /// is unchanged.
-    ///
-    /// Source: "Dalvik Executable format", "header_item".
     #[tactic(auto, using(crate::proofs::Lengths::length_head))]
     pub fn put(&self, out: &mut Vec<u8>) -> Result<(), AllocError>
         ensures puts { Puts (head_bytes self.now) out.old out.new result }

@@ -55,8 +55,6 @@ impl MapList<'_> {
     ///
     /// It fails only if allocation fails, and never if the spare room is as many bytes. After a failure the vector is
     /// unchanged.
-    ///
-    /// Source: "Dalvik Executable format", "map_list".
     #[tactic(auto, using(crate::proofs::Lengths::length_map))]
     pub fn put(&self, out: &mut Vec<u8>) -> Result<(), AllocError>
         ensures puts { Puts (map_bytes (map entry_meant self.now.entries.now)) out.old out.new result }

@@ -8,8 +8,6 @@ use std::alloc::AllocError;
 
 impl Text<'_> {
     /// How many bytes [`put_text`] appends for the text.
-    ///
-    /// Source: the heading "string_data_item" of the Android page "Dalvik Executable format".
     pub fn item_len(&self) -> usize
         ensures len { result ≡ length (string_data self.now) }
         ensures bound { result ≤ 6 + 3 * length self.now }

@@ -1,4 +1,4 @@
--- What the numbers in code items stand for.
+-- What the numbers in code items denote.
 use Rattle.std.proofs.Common.{◌≡◌, ℕ, ◌<◌, List, [], ◌∷◌, ◌++◌, length, map, get_or, Option, Some, None, option_to_list, refl, ap, sym, ◌∙◌, subst, arith}
 use Rattle.std.specs.List.{All, AllZip, flat_map}
 use Rattle.std.specs.Option.{IsSome, unwrap_or, option_map}
@@ -30,7 +30,7 @@ use Rattle.dexcode.proofs.TypesLed.{all_from_distinct}
 
 -- ---- other numbers
 
--- each caught type leads somewhere
+-- each caught type has an image
 abbrev HaveTypeImages : Maps → NumberedHandler → Type 0
 HaveTypeImages r h = All (HasImage r) (handler_uses h)
 
@@ -69,7 +69,7 @@ module _ (m n : Mentions) (r : Maps) (l : AllLead m n r) where
   debug_led (Some d) None all h = absurd h
   debug_led (Some d) (Some x) all h = debugs.renumbered_stands m n r d x l (debug_part (HasImage r) (Some d) d all refl) h
 
--- where each number leads from one numbering to another, the code stands for what it stood for
+-- if each number has an image from one numbering to another, the code denotes what it denoted before
 pub renumbered_stands : (m n : Mentions) (r : Maps) (c : NumberedItem) (x : symbolic.Code) → AllLead m n r → HasImages r c → StandsForCode m c x → StandsForCode n (renumbered_item r c) x
 renumbered_stands m n r c x l all h =
     let handlers = map (λ (t : NumberedTry). t.handler) c.tries in
@@ -82,7 +82,7 @@ renumbered_stands m n r c x l all h =
       debug_is = debug_led m n r l c.debug x.debug all.debug_has h.debug_is;
     }
 
--- what leads to a place leads somewhere
+-- numbers that have places have images
 pub images_of_places : (r : Maps) (c : NumberedItem) → HasPlaces r c → HasImages r c
 images_of_places r c h = record {
   pieces_have = pieces.images_of_places r c.body.pieces h.pieces_have;

@@ -1,4 +1,4 @@
--- The numbers in a code item have places where all numbers lead somewhere.
+-- The numbers in a code item have places where all numbers have images.
 use Rattle.std.proofs.Common.{◌≡◌, ℕ, ◌+◌, ◌<◌, ◌^◌, List, [], ◌∷◌, ◌++◌, length, map, Option, Some, None, option_to_list, refl, subst, arith}
 use Rattle.std.specs.List.{All, AllZip, flat_map}
 use Rattle.std.specs.Option.{IsSome, IfSome}
@@ -37,7 +37,7 @@ images_of_uses r c all = record {
   debug_has = debugs_part (HasImage r) c all;
 }
 
--- ---- all numbers lead somewhere
+-- ---- all numbers have images
 
 module _ (m : Mentions) (r : Maps) (leads : LeadsAll m r) where
   image_by : (k : SymbolKind) (i : ℕ) (s : Symbol) → IsNumbered m i s → IsOfKind k s → IsSome (image_of r k i)
@@ -69,7 +69,7 @@ images_there m r c x leads h = record {
   debug_has = uses_lead m r leads (optional_debug_uses c.debug) (flat_map debug_symbols (option_to_list x.debug)) (debug_used m c.debug x.debug h.debug_is);
 }
 
--- ---- what leads to a symbol has a place
+-- ---- a number whose image is that of a symbol has a place
 
 image_within : (m n : Mentions) (r : Maps) (k : SymbolKind) (i j : ℕ) → AllLead m n r → image_of r k i ≡ Some j → j < count_of k n
 image_within m n r kinds.Text i j l e = (l.texts_lead.same i j [] e).within
@@ -101,9 +101,9 @@ uses_of_images r c h =
     All-append (HasImage r) (uses_of c.body.pieces) (tries_uses c.tries ++ optional_debug_uses c.debug) (insn_proofs.uses_of_images r c.body.pieces h.pieces_have)
     (All-append (HasImage r) (tries_uses c.tries) (optional_debug_uses c.debug) h.catches_have h.debug_has)
 
--- ---- numbers that fit, and lead to none greater
+-- ---- numbers that fit, and have no greater images
 
--- what leads somewhere leads to a number
+-- a number that has an image has one that is a number
 image_there : (r : Maps) (u : Use) (o : Option ℕ) → image_of r u.kind u.number ≡ o → IsSome o → (j : ℕ) × (image_of r u.kind u.number ≡ Some j)
 image_there r u None e some = absurd cc
 image_there r u (Some j) e some = (j, e)
@@ -156,7 +156,7 @@ code_cut r c down fit all = record {
   debug_has = optional_cut r c.debug down fit.debug_fits (debugs_part (HasImage r) c all);
 }
 
--- ---- numbers that lead to small ones
+-- ---- numbers with small images
 
 image_small : (r : Maps) (k : SymbolKind) (i j : ℕ) → ImagesFit r → image_of r k i ≡ Some j → j + 1 < 2 ^ 32
 image_small r kinds.Text i j fit e = fit.texts_fit i j e

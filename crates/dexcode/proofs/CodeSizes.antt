@@ -37,7 +37,7 @@ pub tries_length : (hs : List NumberedHandler) (ts : List NumberedTry) → lengt
 tries_length hs [] = refl
 tries_length hs (t ∷ ts) = omega (arith, length-append (numbered_try_bytes hs t) (flat_map (numbered_try_bytes hs) ts), try_length hs t, tries_length hs ts)
 
--- the bytes behind the units, where there are tries
+-- the bytes after the units, where there are tries
 pub tries_parts : (count : ℕ) (hs : List NumberedHandler) (ts : List Try) → AreStored hs ts → (ts ≡ [] → ⊥) → numbered_tries_bytes count (all_named hs ts) ≡ gap_bytes count ++ numbered_table_bytes hs (all_named hs ts)
 tries_parts count hs [] stored some = absurd (some refl)
 tries_parts count hs (t ∷ ts) stored some = ap (λ gs. gap_bytes count ++ numbered_table_bytes gs (all_named hs (t ∷ ts))) (sym stored.used)
@@ -137,7 +137,7 @@ item_length debug_off c ts =
     let tries = numbered_tries_bytes (unit_count c) ts in
     omega (arith, length-append head (numbered_bytes c.pieces ++ tries), length-append (numbered_bytes c.pieces) tries, head_length debug_off (length ts) c (unit_count c), units_length c.pieces)
 
--- without tries there is nothing behind the units
+-- without tries there is nothing after the units
 pub item_alone : (debug_off : ℕ) (c : NumberedCode) (hs : List NumberedHandler) (ts : List Try) → ts ≡ [] → length (numbered_item_bytes debug_off c (all_named hs ts)) ≡ 16 + 2 * unit_count c
 item_alone debug_off c hs ts none =
     let nothing : length (numbered_tries_bytes (unit_count c) (all_named hs ts)) ≡ 0 = ap (λ us. length (numbered_tries_bytes (unit_count c) (all_named hs us))) none in

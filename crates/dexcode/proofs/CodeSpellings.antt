@@ -1,4 +1,4 @@
--- Code items of numbers: their bytes and their weight are those of the code that they stand for.
+-- Code items of numbers: their bytes and their weight are those of the code that they denote.
 use Rattle.std.proofs.Common.{◌≡◌, ℕ, ◌+◌, ◌%◌, ◌<◌, ◌==◌, if◌then◌else◌, List, [], ◌∷◌, ◌++◌, length, map, option_to_list, refl, ap, sym, ◌∙◌, arith, append_assoc}
 use Rattle.std.specs.Prelude.{pos, ◌-ℤ◌}
 use Rattle.std.specs.Option.{option_map_or}
@@ -25,7 +25,7 @@ use Rattle.dexcode.specs.CodePut.{numbered_catch_bytes, handler_count, numbered_
 use Rattle.dexcode.proofs.TryRows.{IsInRange, same_meant, handlers_meant, weight_meant}
 use Rattle.dexcode.proofs.Images.{all_distinct}
 
--- ---- tries that stand for others are made of them
+-- ---- tries that denote others have parts that denote the parts of these
 
 catch_is : (m : Mentions) (c : Catch) (x : symbolic.Catch) → StandsForCatch m c x → catch_meant m c ≡ x
 catch_is m c x h = let type = h.type_is.is [] in let address = h.address_is in λ i. record { type = type i; address = address i }

@@ -1,4 +1,4 @@
--- Code items checked: what stands there and what it weighs, and which condition fails.
+-- Code items checked: what is at the offset and what it weighs, and which condition fails.
 use Rattle.std.proofs.Common.{◌≡◌, ℕ, ◌+◌, ◌*◌, Bool, false, List, [], length, map, nat_eq, Option, Some, None, refl, ap, sym, subst, ◌∙◌, inl, inr, ne_eqb, arith}
 use Rattle.std.proofs.lemmas.Bool.{cases_eq}
 use Rattle.std.proofs.lemmas.List.Sums.{sum_by-cons}
@@ -25,11 +25,11 @@ use Rattle.dexcode.proofs.CodesRead.{tries_found, tries_range}
 use Rattle.dexcode.proofs.DebugMeanings.{weights_are}
 use Rattle.dexcode.proofs.TryRows.{tries_stand}
 
--- a numbered code item weighs what the one that it stands for weighs
+-- a numbered code item weighs as much as the code that it denotes
 abbrev pub WeightLaw : Type 0
 WeightLaw = (m : Mentions) (c : NumberedItem) (x : Code) → AreRising m → StandsForCode m c x → numbered_code_weight c ≡ code_weight x
 
--- the code_item that stands there weighs what its parts weigh
+-- the code_item at an offset weighs what its parts weigh
 pub code_weighed : WeightLaw → (b : List ℕ) (off : ℕ) (m : Mentions) → ArePools b m → AreRising m → (starts : List Bool) → AreStartsAt b off starts → (s : PiecesShape) → HasPiecesOf b off m s
     → (tries program : ℕ) → HaveTriesOf starts (length m.types) b off tries → HasProgramOf b off program → HasCodeOf b off (24 + 2 * s.units + tries + program)
 code_weighed law b off m pools rising starts starts_are s pieces tries program ts d =
@@ -56,12 +56,12 @@ code_weighed law b off m pools rising starts starts_are s pieces tries program t
       weighs = omega (arith, law m item bare rising stands, units_length pieces.pieces, pieces.units, ts.weighs, d.weighs);
     }
 
--- where pieces stand and no debug program does, no code does
+-- where there are pieces and no debug program, there is no code
 pub program_fault : (b : List ℕ) (off : ℕ) (m : Mentions) (s : PiecesShape) → HasPiecesOf b off m s → (fault : ItemFault) → IsProgramFault b off fault → IsCodeFault b off fault
 program_fault b off m s pieces (Refused number) h = inr (inr (h.0, record { cuts = pieces.at.cuts; pieces = pieces.at.symbolic; at = pieces.at.at }, h.1, h.2))
 program_fault b off m s pieces Memory h = tt
 
--- the debug program that was checked stands there
+-- the debug program that was checked is at the offset
 pub debug_found : (b : List ℕ) (off : ℕ) (m : Mentions) (s : DebugShape) → IsShapeAt b off m s → HasDebugOf b off m s.weight → HasDebugAt b off s.weight
 debug_found b off m s is h =
     let shape = is.shape in
@@ -72,7 +72,7 @@ debug_found b off m s is h =
       light = omega (arith, shape.weight, shape.few, shape.operations.light, shape.operations.count, shape.operations.few);
     }
 
--- the debug program that stands at the offset is that of the code_item
+-- the debug program at the offset is that of the code_item
 pub program_found : (b : List ℕ) (off debug_off weight : ℕ) → debug_off ≡ uint_at b (off + 8) → (debug_off ≡ 0 → ⊥) → HasDebugAt b debug_off weight → HasProgramOf b off weight
 program_found b off debug_off weight is some h = record {
   program = Some h.program;
@@ -81,7 +81,7 @@ program_found b off debug_off weight is some h = record {
   light = h.light;
 }
 
--- where none stands there, the code_item has none
+-- if there is none at the offset, the code_item has none
 pub no_program : (b : List ℕ) (off debug_off : ℕ) → debug_off ≡ uint_at b (off + 8) → (debug_off ≡ 0 → ⊥) → (fault : ItemFault) → IsDebugFault b debug_off fault → IsProgramFault b off fault
 no_program b off debug_off is some (Refused number) h = (h.0, (λ e. some (is ∙ e)), λ d at. h.1 d (subst (λ (o : ℕ). DebugAt b o d) (sym is) at))
 no_program b off debug_off is some Memory h = tt

@@ -1,4 +1,4 @@
--- Code items read: what stands there, and which condition fails.
+-- Code items read: what is at the offset, and which condition fails.
 use Rattle.std.proofs.Common.{◌≡◌, ◌≢◌, ℕ, ◌+◌, ◌*◌, ◌%◌, Bool, false, List, [], length, map, get_or, Option, Some, None, refl, ap, sym, subst, ◌∙◌, inl, inr, arith}
 use Rattle.std.specs.Prelude.{Result, Ok, Err, IfErr, pos}
 use Rattle.std.specs.List.{All}

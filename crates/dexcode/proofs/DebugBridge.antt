@@ -205,7 +205,7 @@ module _ (b : List ℕ) (m : Mentions) (pools : ArePools b m) where
         },
       )
 
--- ---- what is answered
+-- ---- what is returned
 
 -- the debug program of a shape, and what it weighs
 pub shaped : (b : List ℕ) (m : Mentions) → ArePools b m → (off : ℕ) (s : DebugShape) → IsShapeAt b off m s → HasDebugOf b off m s.weight
@@ -238,13 +238,13 @@ pub ok_named : {E : Type 0} (b : List ℕ) (m : Mentions) → ArePools b m → (
 ok_named b m pools off in_data (Ok d) h = debug_named b m pools off d in_data h
 ok_named b m pools off in_data (Err f) h = tt
 
--- what is told by numbers is told by rows
+-- what is returned about numbers holds of rows
 pub told : (b : List ℕ) (m : Mentions) (off : ℕ) (r : Option DebugShape) → data_off b ≤ off → off ≤ length b → length b ≤ 2 ^ 30 → MatchOption r ((d : NumberedDebug) → NumberedDebugAt (counts_of m) b off d → ⊥) (IsShape (counts_of m) b off)
     → MatchOption r (ArePools b m → HasNoDebug b off) (IsShapeAt b off m)
 told b m off (Some s) in_data within small h = record { in_data = in_data; within = within; small = small; shape = h }
 told b m off None in_data within small h = λ pools x at. let d = debug_numbered b m pools off x at in h d.0 d.1
 
--- behind the bytes nothing stands
+-- there is nothing after the last byte
 pub nothing_behind : (b : List ℕ) (off : ℕ) (x : symbolic.Debug) → length b < off → symbolic.DebugAt b off x → ⊥
 nothing_behind b off x lt h =
     let within = h.line_start.within in

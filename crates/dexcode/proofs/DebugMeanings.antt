@@ -1,4 +1,4 @@
--- What the numbers in debug programs stand for.
+-- What the numbers in debug programs denote.
 use Rattle.std.proofs.Common.{◌≡◌, ℕ, ◌+◌, ◌*◌, ◌≤◌, List, [], ◌∷◌, ◌++◌, length, map, get_or, Option, Some, None, refl, ap, sym, ◌∙◌, subst, arith, length-append}
 use Rattle.std.specs.Prelude.{ℤ, pos, ◌+ℤ◌, sum_by, if◌then◌else◌}
 use Rattle.std.specs.List.{All, AllZip, flat_map}
@@ -65,7 +65,7 @@ operation_is m (SetFile name) (symbolic.SetFile s) r h = ap (λ bs. 0x09 ∷ bs)
 operation_is m (Special opcode) (symbolic.Special other) r h = ap (λ (k : ℕ). k ∷ []) h
 operation_is m _ _ r h = absurd h
 
--- bytes of lists that stand for one another
+-- bytes of lists of which one denotes the other
 joined_is : {X Y : Type 0} (R : X → Y → Type 0) (f : X → List ℕ) (g : Y → List ℕ) (xs : List X) (ys : List Y) → ((x : X) (y : Y) → R x y → f x ≡ g y) → AllZip R xs ys → flat_map f xs ≡ flat_map g ys
 joined_is R f g [] [] same h = refl
 joined_is R f g [] (y ∷ ys) same h = absurd h
@@ -322,7 +322,7 @@ module _ (m : Mentions) where
   operation_used (Special opcode) (symbolic.Special other) h = tt
   operation_used _ _ h = absurd h
 
-  -- what lists name that stand for one another
+  -- the symbols that occur in lists of which one denotes the other
   all_used : {X Y : Type 0} (R : X → Y → Type 0) (f : X → List Use) (g : Y → List Symbol) (xs : List X) (ys : List Y) → ((x : X) (y : Y) → R x y → AllZip (IsUseOf m) (f x) (g y)) → AllZip R xs ys → AllZip (IsUseOf m) (flat_map f xs) (flat_map g ys)
   all_used R f g [] [] used h = tt
   all_used R f g [] (y ∷ ys) used h = absurd h

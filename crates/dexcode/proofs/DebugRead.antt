@@ -52,7 +52,7 @@ with_opcode c op =
 pub special_code : (c : ℕ) (op : Operation) → 0x0a ≤ c → with_opcode c op ≡ Special c
 special_code c op high = rw (le-ltb c 0x0a high) refl
 
--- an operation is told by its opcode
+-- an opcode determines the kind of its operation
 by_opcode : (m : Counts) (c : ℕ) (b : List ℕ) (o : ℕ) (op : Operation) (n : ℕ) → OperandsAt m c b o op n → op ≡ with_opcode c op
 by_opcode m c b o (AdvancePc addresses) n h = ap (λ (k : ℕ). with_opcode k (AdvancePc addresses)) (sym h.0)
 by_opcode m c b o (AdvanceLine lines) n h = ap (λ (k : ℕ). with_opcode k (AdvanceLine lines)) (sym h.0)
@@ -65,7 +65,7 @@ by_opcode m c b o SetEpilogueBegin n h = ap (λ (k : ℕ). with_opcode k SetEpil
 by_opcode m c b o (SetFile name) n h = ap (λ (k : ℕ). with_opcode k (SetFile name)) (sym h.0)
 by_opcode m c b o (Special opcode) n h = sym (special_code opcode (Special opcode) h.1) ∙ ap (λ (k : ℕ). with_opcode k (Special opcode)) (sym h.0)
 
--- what is read of an opcode's operands is the one operation that stands there
+-- what is read of an opcode's operands is the one operation there
 module _ (m : Counts) (c : ℕ) (b : List ℕ) (o : ℕ) (op : Operation) (n : ℕ) (h : OperandsAt m c b o op n) (r : Option (Operation × ℕ)) where
   its : (k : ℕ) → c ≡ k → op ≡ with_opcode k op
   its k e = by_opcode m c b o op n h ∙ ap (λ (j : ℕ). with_opcode j op) e

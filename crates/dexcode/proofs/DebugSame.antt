@@ -1,4 +1,4 @@
--- Debug programs that are the same, their numbers led on by two maps.
+-- Debug programs that are the same once remapped by two maps.
 use Rattle.std.proofs.Common.{◌≡◌, ℕ, ◌+◌, ◌<◌, ◌≤◌, List, [], ◌∷◌, ◌++◌, length, take, map, get_or, Option, None, refl, ap, sym, ◌∙◌}
 use Rattle.std.proofs.lemmas.List.{map_more, take_all, get_or-map}
 use Rattle.dexpool.specs.declared.symbols.SymbolKind.TheVariants as kinds
@@ -87,7 +87,7 @@ module _ (r : Maps) where
   signature_led (SetFile name) = refl
   signature_led (Special opcode) = refl
 
--- what is the same, led on, is the same part by part
+-- if two operations are the same once remapped, their parts are
 module _ (r q : Maps) (x y : Operation) (e : renumbered_operation r x ≡ renumbered_operation q y) where
   pub same_bared : bared x ≡ bared y
   same_bared =

@@ -37,7 +37,7 @@ module _ (P : Use → Type 0) (op : Operation) (h : All P (operation_uses op)) w
 
 -- ---- other numbers
 
--- what a number leads to is small
+-- the image of a number is small
 pub place_fits : (r : Maps) (kind : SymbolKind) (i : Option ℕ) (n j : ℕ) → All (HasPlace r) (number_uses kind i) → i ≡ Some n → image_of r kind n ≡ Some j → j + 1 < 2 ^ 32
 place_fits r kind i n j all e image =
     let place = use_of (HasPlace r) kind i n all e in
@@ -76,7 +76,7 @@ operations_formed r (op ∷ ops) all are =
     (operation_formed r op (all_front (HasPlace r) (operation_uses op) (flat_map operation_uses ops) all) (All-head IsFormedOperation op ops are))
     (operations_formed r ops (all_back (HasPlace r) (operation_uses op) (flat_map operation_uses ops) all) (All-tail IsFormedOperation op ops are))
 
--- a debug program whose numbers lead to small ones keeps its form
+-- a debug program whose numbers have small images keeps its form
 pub debug_formed : (r : Maps) (d : NumberedDebug) → All (HasPlace r) (debug_uses d) → IsFormedDebug d → IsFormedDebug (renumbered_debug r d)
 debug_formed r d all is =
     let names = all_front (HasPlace r) (flat_map (number_uses kinds.Text) d.parameter_names) (flat_map operation_uses d.operations) all in

@@ -1,4 +1,4 @@
--- Items one after the other: those that were read are the first of any that stand there.
+-- Items one after the other: those that were read are the first of any others at the same offset.
 use Rattle.std.proofs.Common.{◌≡◌, ℕ, ◌+◌, ◌<◌, ◌≤◌, List, [], ◌∷◌, ◌++◌, length, refl, ap, sym, ◌∙◌, subst, arith}
 use Rattle.std.proofs.lemmas.List.{length-append}
 use Rattle.dexspec.specs.Lists.{Item, Sequence}
@@ -13,7 +13,7 @@ sequence_more At b o (y ∷ ys) x n k h at =
     (h.0, h.1 + k, h.2, sequence_more At b (o + h.0) ys x h.1 k h.3 (subst (λ (i : ℕ). At b i x k) place at), omega (arith, h.4))
 
 module _ {X : Type 0} (At : Item X) (one : (b : List ℕ) (o : ℕ) (x y : X) (n k : ℕ) → At b o x n → At b o y k → (x ≡ y) × (n ≡ k)) where
-  -- what was read begins what stands there
+  -- the items that were read are a prefix of those that are there
   pub same_front : (b : List ℕ) (o : ℕ) (xs ys : List X) (n m : ℕ) → length xs ≤ length ys → Sequence At b o xs n → Sequence At b o ys m → (zs : List X) × (k : ℕ) × (ys ≡ xs ++ zs) × Sequence At b (o + n) zs k × (m ≡ n + k)
   same_front b o [] ys n m le h g =
       let place : o ≡ o + n = omega (arith, h) in

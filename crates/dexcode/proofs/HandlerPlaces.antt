@@ -60,7 +60,7 @@ place_more hs i d n k lt h g =
 
 -- ---- each handler is listed once
 
--- none is the same as one behind it
+-- none is the same as a later one
 abbrev pub AreApart : List NumberedHandler → Type 0
 AreApart [] = Unit {0}
 AreApart (h ∷ hs) = All (λ k. same_handler h k ≡ false) hs × AreApart hs
@@ -109,7 +109,7 @@ other_at h [] i d all lt = absurd (omega (arith, lt))
 other_at h (k ∷ ks) zero d all lt = All-head (λ k. same_handler h k ≡ false) k ks all
 other_at h (k ∷ ks) (suc i) d all lt = other_at h ks i d (All-tail (λ k. same_handler h k ≡ false) k ks all) (omega (arith, lt))
 
--- a handler begins behind those before it
+-- a handler begins after those before it
 off_at : (from : ℕ) (hs : List NumberedHandler) (i : ℕ) (d : NumberedHandler) → AreApart hs → i < length hs → numbered_handler_off from hs (get_or hs i d) ≡ from + length (flat_map numbered_handler_bytes (take i hs))
 off_at from [] i d apart lt = absurd (omega (arith, lt))
 off_at from (h ∷ hs) zero d apart lt =

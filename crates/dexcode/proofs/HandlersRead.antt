@@ -1,4 +1,4 @@
--- Where parts of a handler are missing, no handler stands.
+-- If a part of a handler is missing, there is no handler.
 use Rattle.std.proofs.Common.{◌≡◌, ℕ, ◌+◌, ◌≤◌, Bool, List, [], ◌∷◌, ◌++◌, length, Option, ap, sym, subst, ◌∙◌, arith}
 use Rattle.std.specs.Prelude.{ℤ, nat_abs}
 use Rattle.std.proofs.lemmas.List.{length-append}
@@ -38,7 +38,7 @@ module _ (starts : List Bool) (types : ℕ) (b : List ℕ) (o : ℕ) (count : �
       none h.catch_all_addr g.all_size (subst (λ (i : ℕ). CatchAllAt starts count b i h.catch_all_addr g.all_size) place (subst (λ (z : ℤ). CatchAllAt starts z b (o + g.count_size + g.catches_size) h.catch_all_addr g.all_size) e.0 g.all))
 
 module _ (starts : List Bool) (types : ℕ) (b : List ℕ) (o typ index_size : ℕ) (index_is : Uleb128At b o typ index_size) where
-  -- where the type is out of range, no catch stands
+  -- if the type is out of range, there is no catch
   pub no_type : types ≤ typ → (c : Catch) (n : ℕ) → CatchAt starts types b o c n → ⊥
   no_type past c n at =
       let e = one_uleb128 b o typ c.typ index_size at.index_size index_is at.index_is in
@@ -50,7 +50,7 @@ module _ (starts : List Bool) (types : ℕ) (b : List ℕ) (o typ index_size : �
       let e = one_uleb128 b o typ c.typ index_size at.index_size index_is at.index_is in
       none c.addr at.address_size (subst (λ (k : ℕ). Uleb128At b (o + k) c.addr at.address_size) (sym e.1) at.address_is) at.start
 
--- one catch more stands behind them
+-- one more catch is after them
 pub one_catch_more : (starts : List Bool) (types : ℕ) (b : List ℕ) (o count size n : ℕ) (c : Catch) → HaveCatches starts types b o count size → CatchAt starts types b (o + size) c n → o + size + n ≤ length b → HaveCatches starts types b o (count + 1) (size + n)
 one_catch_more starts types b o count size n c h at within = record {
   catches = h.catches ++ c ∷ [];

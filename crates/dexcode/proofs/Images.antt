@@ -1,10 +1,11 @@
--- Items that are images of others: where the others stand, which of them are distinct.
+-- Items that are images of others: their offsets are those of the others, and the distinct ones are images of the
+-- distinct others.
 use Rattle.std.proofs.Common.{◌≡◌, ℕ, zero, suc, ◌+◌, ◌<◌, Bool, true, false, not, List, [], ◌∷◌, ◌++◌, length, map, take, drop, get_or, filter, refl, ap, ◌∙◌, if◌then◌else◌, arith}
 use Rattle.std.specs.List.{All}
 use Rattle.std.proofs.lemmas.List.Elements.{All-nil, All-cons, All-head, All-tail}
 use Rattle.dexspec.specs.Lists.{Item, Sequence, distinct}
 
--- where items stand, so do their images
+-- the images of items are at the offsets of the items
 pub seq_map : {X Y : Type 0} (At : Item X) (Bt : Item Y) (f : X → Y) (b : List ℕ) → ((o : ℕ) (x : X) (n : ℕ) → At b o x n → Bt b o (f x) n) → (o : ℕ) (xs : List X) (n : ℕ) → Sequence At b o xs n → Sequence Bt b o (map f xs) n
 seq_map At Bt f b each o [] n h = h
 seq_map At Bt f b each o (x ∷ xs) n h = (h.0, h.1, each o x h.0 h.2, seq_map At Bt f b each (o + h.0) xs h.1 h.3, h.4)
@@ -23,7 +24,7 @@ seq_take At b o xs n zero h = (0, refl)
 seq_take At b o [] n (suc i) h = (0, refl)
 seq_take At b o (x ∷ xs) n (suc i) h = let rest = seq_take At b (o + h.0) xs h.1 i h.3 in (h.0 + rest.0, (h.0, rest.0, h.2, rest.1, refl))
 
--- what holds where each item stands
+-- if a property holds of any item of a list at its offset, it holds of all
 pub seq_all : {X : Type 0} (At : Item X) (P : X → Type 0) (b : List ℕ) → ((o : ℕ) (x : X) (n : ℕ) → At b o x n → P x) → (o : ℕ) (xs : List X) (n : ℕ) → Sequence At b o xs n → All P xs
 seq_all At P b each o [] n h = All-nil P
 seq_all At P b each o (x ∷ xs) n h = All-cons P x xs (each o x h.0 h.2) (seq_all At P b each (o + h.0) xs h.1 h.3)

@@ -54,7 +54,7 @@ without_uses SetEpilogueBegin e = refl
 without_uses (SetFile name) e = absurd cc
 without_uses (Special opcode) e = refl
 
--- under other numbers it is kept alike
+-- an operation is kept in the same list once renumbered
 led_places : (r : Maps) (op : Operation) → has_places (renumbered_operation r op) ≡ has_places op
 led_places r (AdvancePc addresses) = refl
 led_places r (AdvanceLine lines) = refl
@@ -194,7 +194,7 @@ entries_led r (op ∷ ops) n =
     ap (λ (b : Bool). entries_of (if b then n + 1 else n) (map (renumbered_operation r) ops)) (led_places r op) ∙ entries_led r ops (if has_places op then n + 1 else n) in
     λ i. first i ∷ rest i
 
--- with their numbers led on, the operations with places keep those that are led on
+-- once remapped, the operations with places are kept as they are in the remapped list
 pub kept_led : (r : Maps) (ops : List Operation) (es : List Entry) (named named' : List Operation) → AreKept ops es named → named' ≡ map (renumbered_operation r) named → AreKept (map (renumbered_operation r) ops) es named'
 kept_led r ops es named named' h e = record {
   entries_are = h.entries_are ∙ sym (entries_led r ops 0);

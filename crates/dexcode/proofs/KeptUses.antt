@@ -1,4 +1,4 @@
--- Symbols that are marked are kept, and their numbers lead somewhere.
+-- Symbols that are marked are kept, and their numbers have images.
 use Rattle.std.proofs.Common.{◌≡◌, ℕ, ◌<◌, ◌==◌, Bool, true, false, ◌||◌, ◌&&◌, List, [], ◌∷◌, ◌++◌, length, map, get_or, Option, Some, None, refl, ◌∙◌, arith}
 use Rattle.std.specs.List.{All, Contains, flat_map}
 use Rattle.std.specs.Option.{IsSome}
@@ -64,7 +64,7 @@ module _ (whole : List Use) (old new : Marks) (h : AreMarkedToo whole old new) w
 pub marked_then : (us : List Use) (old new : Marks) → AreMarkedToo us old new → All (IsMarkedUse new) us
 marked_then us old new h = marked_all us old new h us (λ k i e. e)
 
--- ---- what is marked leads somewhere
+-- ---- what is marked has an image
 
 some_or : (o : Option ℕ) → (o ≡ None → ⊥) → IsSome o
 some_or None h = absurd (h refl)

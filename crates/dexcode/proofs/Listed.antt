@@ -43,7 +43,7 @@ module _ (starts : List Bool) (types : ℕ) where
     known = λ k i before lt begins e. absurd (omega (arith, begins.within));
   }
 
-  -- with one more behind them, each begins where it did
+  -- with one more after them, each begins where it did
   begins_more : (b : List ℕ) (first : ℕ) (hs more : List NumberedHandler) (i before : ℕ) → BeginsAt starts types b first hs i before → BeginsAt starts types b first (hs ++ more) i before
   begins_more b first hs more i before begins = record {
     within = omega (arith, begins.within, length-append hs more);

@@ -31,7 +31,7 @@ use Rattle.dexcode.proofs.DebugMeanings as debugs_led
 use Rattle.dexcode.proofs.MeaningDebug.{debug_known, debug_means, debug_stands}
 use Rattle.dexcode.proofs.Meanings.{code_known, code_means, code_stands}
 
--- ---- ranks in the place of symbols
+-- ---- ranks instead of symbols
 
 module _ {X Y : Type 0} (f : X → Y) (g : Y → X) (K : X → Type 0) where
   all_back : ((x : X) → K x → g (f x) ≡ x) → (xs : List X) → All K xs → map g (map f xs) ≡ xs

@@ -31,7 +31,7 @@ module _ {X : Type 0} (same : X → X → Bool) (decides : (x y : X) → Decides
   pub insert_there : (ks : List X) (x : X) (k : ℕ) (d : X) → k < length ks → get_or ks k d ≡ x → insert_key same ks x ≡ ks
   insert_there ks x k d lt e = ap (λ b. if b then ks else ks ++ x ∷ []) (present ks x k d lt e)
 
--- a handler that is behind those known is known too
+-- a handler that is after those known is known too
 pub known_more : (starts : List Bool) (types : ℕ) (b : List ℕ) (list : ℕ) (h : NumberedHandler) {off : ℕ} → IsHandlerAt starts types b (list + off) h → (hs hs' more : List NumberedHandler) (numbers numbers' : List (Option ℕ)) (number : ℕ) → AreKnown starts types b list hs numbers → hs' ≡ hs ++ more
     → IsPutAt off number numbers numbers' → number < length hs' → get_or hs' number no_handler ≡ h → AreKnown starts types b list hs' numbers'
 known_more starts types b list h {off} there hs hs' more numbers numbers' number known grown put lt is = record {

@@ -1,4 +1,4 @@
--- At an offset stands one handler at most, in one size.
+-- There is at most one handler at an offset, and it has one size.
 use Rattle.std.proofs.Common.{◌≡◌, ℕ, ◌+◌, Bool, List, length, Option, Some, None, refl, ap, sym, subst, ◌∙◌, arith}
 use Rattle.std.specs.Prelude.{ℤ, nat_abs}
 use Rattle.std.proofs.lemmas.Int.{ints}

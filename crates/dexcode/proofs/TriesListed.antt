@@ -1,4 +1,4 @@
--- Tries that name handlers by their numbers: at an offset stands one at most; they do not overlap.
+-- Tries that name handlers by their numbers: there is at most one at an offset; they do not overlap.
 use Rattle.std.proofs.Common.{◌≡◌, ℕ, ◌+◌, ◌<◌, ◌≤◌, List, [], ◌∷◌, ◌++◌, length, Option, refl, ap, sym, subst, ◌∙◌, arith}
 use Rattle.std.specs.Prelude.{unwrap_or}
 use Rattle.std.proofs.lemmas.List.{length-append}
@@ -15,17 +15,17 @@ one_listed_try units numbers b o t u n k h g =
     let handler : t.handler ≡ u.handler = ap (λ (x : Option ℕ). unwrap_or x 0) (sym h.named ∙ g.named) in
     ((λ i. record { start_addr = start i; insn_count = count i; handler = handler i }), h.size ∙ sym g.size)
 
--- one more behind them
+-- one more after them
 pub apart_more : (from to : ℕ) (ts : List Try) (t : Try) → AreApartFrom from ts to → to ≤ t.start_addr → AreApartFrom from (ts ++ t ∷ []) (t.start_addr + t.insn_count)
 apart_more from to [] t h le = (omega (arith, h, le), refl)
 apart_more from to (u ∷ ts) t h le = (h.0, apart_more (u.start_addr + u.insn_count) to ts t h.1 le)
 
--- the next is behind them
+-- the next is after them
 next_apart : (from to end : ℕ) (ts : List Try) (t : Try) (us : List Try) → AreApartFrom from ts to → AreApartFrom from (ts ++ t ∷ us) end → to ≤ t.start_addr
 next_apart from to end [] t us h g = omega (arith, h, g.0)
 next_apart from to end (u ∷ ts) t us h g = next_apart (u.start_addr + u.insn_count) to end ts t us h.1 g.1
 
--- where the next begins before the end of those read, no such tries stand there
+-- if the next begins before the end of those read, there are no such tries
 next_overlaps : (units : ℕ) (numbers : List (Option ℕ)) → (b : List ℕ) (o : ℕ) (ts : List Try) (t : Try) (us : List Try) (n k to end : ℕ) → 0 < length us → ListedTryAt units numbers b (o + n) t 8 → Sequence (ListedTryAt units numbers) b (o + n) us k
     → AreApartFrom 0 ts to → AreApartFrom 0 (ts ++ us) end → t.start_addr < to → ⊥
 next_overlaps units numbers b o ts t [] n k to end some at h apart all lt = omega (arith, some)

@@ -1,4 +1,4 @@
--- Tries and handlers of numbers stand where those with types stand whose rows have these numbers.
+-- Tries and handlers with numbers are where those with types are whose rows have these numbers.
 use Rattle.std.proofs.Common.{◌≡◌, ℕ, suc, ◌+◌, ◌*◌, ◌<◌, ◌≤◌, ◌==◌, Bool, false, List, [], ◌∷◌, ◌++◌, length, map, take, drop, get_or, Option, Some, None, refl, ap, sym, subst, ◌∙◌, arith}
 use Rattle.std.specs.Prelude.{ℤ, pos, sum_by}
 use Rattle.std.specs.Bool.{Decides, one_answer}
@@ -117,7 +117,7 @@ apart_back m [] h = tt
 apart_back m (t ∷ []) h = tt
 apart_back m (t ∷ u ∷ ts) h = (h.0, apart_back m (u ∷ ts) h.1)
 
--- ---- what stands in the file
+-- ---- what is in the file
 
 module _ (b : List ℕ) (m : Mentions) (pools : ArePools b m) (rising : AreRising m) (us : List ℕ) (cuts : List Cut) (starts : List Bool) (tell : (k : ℕ) → get_or starts k false ≡ is_instruction_start us cuts (pos k)) where
   catch_found : (o : ℕ) (c : Catch) (n : ℕ) → CatchAt starts (length m.types) b o c n → symbolic.CatchAt us cuts b o (catch_meant m c) n
@@ -293,7 +293,7 @@ module _ (b : List ℕ) (m : Mentions) (pools : ArePools b m) (rising : AreRisin
         },
       )
 
--- ---- what tries stand for
+-- ---- what tries denote
 
 catch_stands : (m : Mentions) (c : Catch) → c.typ < length m.types → StandsForCatch m c (catch_meant m c)
 catch_stands m c lt = record { type_is = record { within = lt; is = λ d. one_default m.types c.typ d [] lt }; address_is = refl }

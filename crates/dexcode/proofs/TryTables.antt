@@ -1,4 +1,4 @@
--- Tries that name handlers by their numbers are the try_items that stand there.
+-- Tries that name handlers by their numbers are the try_items at their offset.
 use Rattle.std.proofs.Common.{◌≡◌, ℕ, zero, suc, ◌+◌, ◌*◌, ◌^◌, ◌<◌, ◌≤◌, Bool, List, [], ◌∷◌, length, take, drop, get_or, Option, refl, ap, sym, subst, ◌∙◌, arith}
 use Rattle.std.proofs.lemmas.List.{length-drop, length-map, get_or-drop, get_or_default}
 use Rattle.std.specs.List.{All}
@@ -34,7 +34,7 @@ apart_from : (hs : List NumberedHandler) (ts : List Try) → AreApart (all_named
 apart_from hs [] h = (0, refl)
 apart_from hs (t ∷ ts) h = apart_back hs 0 t ts (omega arith) h
 
--- so many tries that are apart do not stand there
+-- there are not `count` tries that are apart
 abbrev pub NoTries : ℕ → List (Option ℕ) → List ℕ → ℕ → ℕ → Type 0
 NoTries units numbers b o count = (ts : List Try) (n to : ℕ) → length ts ≡ count → Sequence (ListedTryAt units numbers) b o ts n → AreApartFrom 0 ts to → ⊥
 
@@ -109,7 +109,7 @@ module _ (starts : List Bool) (types units : ℕ) (b : List ℕ) (list : ℕ) (h
 
 -- ---- handlers where try_items say
 
--- the tries stand eight bytes apart
+-- the offsets of successive tries differ by eight bytes
 tries_at : (units : ℕ) (numbers : List (Option ℕ)) (b : List ℕ) (o : ℕ) (ts : List Try) (n : ℕ) → Sequence (ListedTryAt units numbers) b o ts n → (j : ℕ) (d : Try) → j < length ts → ListedTryAt units numbers b (o + 8 * j) (get_or ts j d) 8
 tries_at units numbers b o [] n h j d lt = absurd (omega (arith, lt))
 tries_at units numbers b o (t ∷ ts) n h zero d lt =
@@ -119,7 +119,7 @@ tries_at units numbers b o (t ∷ ts) n h (suc j) d lt =
     subst (λ (p : ℕ). ListedTryAt units numbers b p (get_or ts j d) 8) place (tries_at units numbers b (o + h.0) ts h.1 h.3 j d (omega (arith, lt)))
 
 module _ (starts : List Bool) (types : ℕ) (b : List ℕ) where
-  -- a handler of a list stands where those before it end
+  -- a handler of a list is where those before it end
   stands_behind : (first : ℕ) (hs : List NumberedHandler) (n : ℕ) → Sequence (HandlerAt starts types) b first hs n → (i before : ℕ) (d : NumberedHandler) → i < length hs → Sequence (HandlerAt starts types) b first (take i hs) before → IsHandlerAt starts types b (first + before) (get_or hs i d)
   stands_behind first [] n h i before d lt g = absurd (omega (arith, lt))
   stands_behind first (x ∷ hs) n h zero before d lt g = record { size = h.0; stands = subst (λ (p : ℕ). HandlerAt starts types b p x h.0) (omega (arith, g)) h.2 }
@@ -133,7 +133,7 @@ module _ (starts : List Bool) (types : ℕ) (b : List ℕ) where
   begins_within o h at = omega (arith, handler_some starts types b o h at.size at.stands, at.stands.count_is.within, length-drop o b, sleb_some b o at.stands.count at.stands.count_size at.stands.count_is)
 
 module _ (starts : List Bool) (types units : ℕ) (b : List ℕ) (o count : ℕ) where
-  -- what was read stands there
+  -- what was read is at the offset
   pub found_tries : (hs : List NumberedHandler) (numbers : List (Option ℕ)) (ts : List Try) (to : ℕ) → IsListAt starts types b (o + 8 * count) hs numbers → TriesRead units numbers b o count ts to → handlers_weight (handlers_of (all_named hs ts)) ≤ most_handlers
       → TryItemsAt starts types units b o count (all_named hs ts)
   found_tries hs numbers ts to at read few = record {
@@ -156,7 +156,7 @@ module _ (starts : List Bool) (types units : ℕ) (b : List ℕ) (o count : ℕ)
   found_formed : (hs : List NumberedHandler) (numbers : List (Option ℕ)) → IsListAt starts types b (o + 8 * count) hs numbers → All IsFormedHandler hs
   found_formed hs numbers at = all_formed starts types b (o + 8 * count + at.count_size) hs at.size at.stand
 
-  -- the handlers that tries name stand where these say
+  -- the handlers that tries name are where these say
   pub found_listed : (hs : List NumberedHandler) (numbers : List (Option ℕ)) (ts : List Try) (to : ℕ) → IsListAt starts types b (o + 8 * count) hs numbers → TriesRead units numbers b o count ts to → AreListed starts types b o (o + 8 * count) hs ts
   found_listed hs numbers ts to at read = record {
     each = λ j d lt.
@@ -169,7 +169,7 @@ module _ (starts : List Bool) (types units : ℕ) (b : List ℕ) (o count : ℕ)
     within = found_within hs numbers ts to at read;
   }
 
-  -- what stands there names handlers of the list that was read
+  -- the tries at the offset name handlers of the list that was read
   back : ((i : ℕ) → get_or b i 0 < 256) → (hs : List NumberedHandler) (numbers : List (Option ℕ)) → IsListAt starts types b (o + 8 * count) hs numbers → (ss : List NumberedTry) → TryItemsAt starts types units b o count ss
       → (ts : List Try) × Sequence (ListedTryAt units numbers) b o ts (8 * count) × (all_named hs ts ≡ ss)
   back small hs numbers at ss h =
@@ -181,7 +181,7 @@ module _ (starts : List Bool) (types units : ℕ) (b : List ℕ) (o count : ℕ)
       let items = subst (λ (gs : List NumberedHandler). Sequence (TryAt starts types units list at.count_size gs) b o ss (8 * count)) same.0 moved in
       tries_listed starts types units b list hs numbers at small o ss (8 * count) items
 
-  -- without a list, without tries of it, and with handlers that weigh too much none stand there
+  -- if there is no list, if its tries are missing, or if their handlers weigh too much, there are no try_items
   pub no_list : ((hs : List NumberedHandler) (size n : ℕ) → Uleb128At b (o + 8 * count) (length hs) size → Sequence (HandlerAt starts types) b (o + 8 * count + size) hs n → ⊥) → (ss : List NumberedTry) → TryItemsAt starts types units b o count ss → ⊥
   no_list none ss h = none h.handlers h.count_size h.handlers_size h.list_count h.list
 

@@ -1,4 +1,4 @@
--- The types of handlers, led on: which handlers stay distinct, and what tries name then.
+-- The types of handlers, remapped: which handlers stay distinct, and what tries name then.
 use Rattle.std.proofs.Common.{◌≡◌, ℕ, ◌+◌, ◌*◌, ◌<◌, Bool, true, false, not, List, [], ◌∷◌, length, map, get_or, filter, Some, refl, ap, sym, ◌∙◌, subst, if◌then◌else◌, arith, inl, inr}
 use Rattle.std.specs.Prelude.{sum_by}
 use Rattle.std.specs.Bool.{Decides, one_answer}
@@ -51,13 +51,13 @@ module _ {X : Type 0} (same : X → X → Bool) (decides : (x y : X) → Decides
       let p = All-head P x (filter (λ y. not (same x y)) (distinct same xs)) h in
       All-cons P x xs p (all_from_distinct xs (all_others x (distinct same xs) p (All-tail P x (filter (λ y. not (same x y)) (distinct same xs)) h)))
 
--- ---- handlers led on
+-- ---- handlers remapped
 
 -- each caught type has a place
 abbrev pub HaveTypePlaces : Maps → NumberedHandler → Type 0
 HaveTypePlaces r h = All (HasTypePlace r) (handler_uses h)
 
--- no two types lead to one number
+-- no two types have one image
 pub types_apart : (r : Maps) → KeepOrder r → AreTypesApart r
 types_apart r keep = λ i j k e f. elim (below_or_not i j) [
   | inl lt ↦ absurd (omega (arith, keep.types_keep i j k k lt e f))
@@ -98,7 +98,7 @@ module _ (r : Maps) (apart : AreTypesApart r) where
   handlers_map [] = refl
   handlers_map (t ∷ ts) = ap (λ hs. renumbered_handler r t.handler ∷ hs) (handlers_map ts)
 
-  -- the distinct handlers, led on, are those of the tries led on
+  -- the distinct handlers, once remapped, are those of the remapped tries
   pub handlers_led : (ts : List NumberedTry) → All (HasTypePlace r) (tries_uses ts) → handlers_of (map (renumbered_try r) ts) ≡ map (renumbered_handler r) (handlers_of ts)
   handlers_led ts all =
       let handlers = map (λ (t : NumberedTry). t.handler) ts in
@@ -117,7 +117,7 @@ sum_led r (h ∷ hs) =
 weight_led : (r : Maps) (hs : List NumberedHandler) → handlers_weight (map (renumbered_handler r) hs) ≡ handlers_weight hs
 weight_led r hs = ap (λ (n : ℕ). 5 + n) (sum_led r hs)
 
--- tries of handlers that are led on are the tries led on
+-- tries of remapped handlers are the remapped tries
 pub named_led : (r : Maps) (hs : List NumberedHandler) (ts : List Try) → All (λ t. t.handler < length hs) ts → all_named (map (renumbered_handler r) hs) ts ≡ map (renumbered_try r) (all_named hs ts)
 named_led r hs [] all = refl
 named_led r hs (t ∷ ts) all =
@@ -128,7 +128,7 @@ named_led r hs (t ∷ ts) all =
 within_led : (r : Maps) (hs : List NumberedHandler) (ts : List Try) → All (λ t. t.handler < length hs) ts → All (λ t. t.handler < length (map (renumbered_handler r) hs)) ts
 within_led r hs ts all = subst (λ (n : ℕ). All (λ (t : Try). t.handler < n) ts) (sym (length-map hs (renumbered_handler r))) all
 
--- stored tries, their handlers led on, are stored
+-- stored tries are still stored once their handlers are remapped
 pub stored_led : (r : Maps) (hs : List NumberedHandler) (ts : List Try) → AreTypesApart r → All (HasTypePlace r) (tries_uses (all_named hs ts)) → AreStored hs ts → AreStored (map (renumbered_handler r) hs) ts
 stored_led r hs ts apart all are = record {
   within = within_led r hs ts are.within;
@@ -138,7 +138,7 @@ stored_led r hs ts apart all are = record {
   formed = formed_led r hs (all_parts (HasTypePlace r) handler_uses hs (subst (λ ks. All (HasTypePlace r) (flat_map handler_uses ks)) (sym are.used) all)) are.formed;
 }
 
--- tries with their handlers, led on
+-- tries with their handlers, remapped
 pub all_led : (r : Maps) (hs : List NumberedHandler) (ts : List Try) → map (renumbered_try r) (all_named hs ts) ≡ map (led_try r hs) ts
 all_led r hs [] = refl
 all_led r hs (t ∷ ts) = ap (λ us. led_try r hs t ∷ us) (all_led r hs ts)

@@ -14,7 +14,7 @@ use Rattle.dexcode.specs.Reading.{CatchAt, CatchAllAt, HandlerAt}
 use Rattle.dexcode.specs.Renumbering.{catch_use, handler_uses, HasTypePlace, led_type, renumbered_catch, renumbered_handler}
 use Rattle.dexcode.proofs.Images.{seq_all}
 
--- what stands as a handler is whole
+-- a handler that was read is whole
 module _ (starts : List Bool) (types : ℕ) (b : List ℕ) where
   one_fits : (o : ℕ) (c : Catch) (n : ℕ) → CatchAt starts types b o c n → c.typ < 2 ^ 32
   one_fits o c n at = at.index_is.spelled.in_range
@@ -47,7 +47,7 @@ formed_more listed hs hs' place lt formed all inserted =
 pub wholes : (hs : List NumberedHandler) → All IsFormedHandler hs → All IsWhole hs
 wholes hs all = All-weaker IsFormedHandler IsWhole (λ h formed. formed.whole) hs all
 
--- types led on to places
+-- types that have places, remapped
 types_led : (r : Maps) (cs : List Catch) → All (HasTypePlace r) (map catch_use cs) → All (λ c. c.typ < 2 ^ 32) (map (renumbered_catch r) cs)
 types_led r [] all = All-nil (λ (c : Catch). c.typ < 2 ^ 32)
 types_led r (c ∷ cs) all =
@@ -55,7 +55,7 @@ types_led r (c ∷ cs) all =
     let is : led_type r c.typ ≡ place.0 = ap (λ o. unwrap_or o c.typ) place.1 in
     All-cons (λ (c : Catch). c.typ < 2 ^ 32) (renumbered_catch r c) (map (renumbered_catch r) cs) (omega (arith, is, place.2)) (types_led r cs (All-tail (HasTypePlace r) (catch_use c) (map catch_use cs) all))
 
--- handlers led on are formed
+-- remapped handlers are formed
 pub formed_led : (r : Maps) (hs : List NumberedHandler) → All (λ h. All (HasTypePlace r) (handler_uses h)) hs → All IsFormedHandler hs → All IsFormedHandler (map (renumbered_handler r) hs)
 formed_led r [] places all = All-nil IsFormedHandler
 formed_led r (h ∷ hs) places all =

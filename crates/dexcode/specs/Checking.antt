@@ -17,37 +17,37 @@ use Rattle.dexcode.specs.Reading.{TriesAt}
 abbrev pub one_code_weight : Code → ℕ
 one_code_weight c = code_weight c + sum_by debug_weight (option_to_list c.debug)
 
--- code stands there, and weighs this much with its debug program
+-- there is code at the offset, and it weighs this much with its debug program
 pub record HasCodeOf (b : List ℕ) (off weight : ℕ) : Type 0 where
   pub code : Code
   pub at : CodeAt b off code
   pub weighs : one_code_weight code ≡ weight
 
--- the tries of the code_item at an offset stand there, and weigh this much
+-- the tries of the code_item at an offset are these, and weigh this much
 pub record HaveTriesOf (starts : List Bool) (types : ℕ) (b : List ℕ) (off weight : ℕ) : Type 0 where
   pub tries : List NumberedTry
   pub at : TriesAt starts types b off tries
   pub weighs : numbered_tries_weight tries ≡ weight
 
--- the debug program of the code_item at an offset stands there and weighs this much, or it has none, which weighs nothing
+-- the debug program of the code_item at an offset weighs this much; without one the weight is 0
 pub record HasProgramOf (b : List ℕ) (off weight : ℕ) : Type 0 where
   pub program : Option Debug
   pub at : OrNone (SomeAt DebugAt) None b (uint_at b (off + 8)) program
   pub weighs : sum_by debug_weight (option_to_list program) ≡ weight
   pub light : weight < 2 ^ 36
 
--- a debug program stands at the offset, and weighs this much, which is less than 2^36 by its size
+-- there is a debug program at the offset, and it weighs this much, which is less than 2^36 by its size
 pub record HasDebugAt (b : List ℕ) (off weight : ℕ) : Type 0 where
   pub program : Debug
   pub at : DebugAt b off program
   pub weighs : debug_weight program ≡ weight
   pub light : weight < 2 ^ 36
 
--- each debug program that was checked stands at its offset, and weighs as much
+-- there is a debug program at the offset of each that was checked, and it has that weight
 abbrev pub AreCheckedDebugs : List ℕ → CheckedDebugs → Type 0
 AreCheckedDebugs b checked = (off weight : ℕ) → get nat_eq checked.weights off ≡ Some weight → HasDebugAt b off weight
 
--- the code_item at an offset has the offset of a debug program, and none stands there; a refusal of memory tells nothing
+-- the code_item at an offset has the offset of a debug program, where there is none; a failed allocation says nothing
 abbrev pub IsProgramFault : List ℕ → ℕ → ItemFault → Type 0
 IsProgramFault b off (Refused number) = (number ≡ 20) × (uint_at b (off + 8) ≢ 0) × ((d : Debug) → DebugAt b (uint_at b (off + 8)) d → ⊥)
 IsProgramFault b off Memory = Unit {0}

@@ -43,12 +43,12 @@ numbered_table_bytes hs ts = flat_map (numbered_try_bytes hs) ts ++ numbered_lis
 abbrev pub gap_bytes : ℕ → List ℕ
 gap_bytes count = if count % 2 == 1 then ushort 0 else []
 
--- behind so many units: what aligns the tries, these, and the handlers that they name
+-- after `count` units: the padding, the tries, and the handlers that they name
 abbrev pub numbered_tries_bytes : ℕ → List NumberedTry → List ℕ
 numbered_tries_bytes count [] = []
 numbered_tries_bytes count (t ∷ ts) = gap_bytes count ++ numbered_table_bytes (handlers_of (t ∷ ts)) (t ∷ ts)
 
--- the numbers before the units, so many of these
+-- the numbers before the units, whose count is `units`
 abbrev pub numbered_head_bytes : ℕ → ℕ → NumberedCode → ℕ → List ℕ
 numbered_head_bytes debug_off tries c units = ushort c.registers ++ (ushort c.ins ++ (ushort c.outs ++ (ushort tries ++ (uint debug_off ++ uint units))))
 

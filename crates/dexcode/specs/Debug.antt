@@ -1,4 +1,4 @@
--- Debug programs whose symbols are numbers: what they stand for under a numbering, and what becomes of them when the
+-- Debug programs whose symbols are numbers: what they denote under a numbering, and what becomes of them when the
 -- numbers change.
 use Rattle.std.specs.Prelude.{◌≡◌, ℕ, ◌+◌, ◌*◌, ◌^◌, ◌<◌, ◌≤◌, List, [], ◌∷◌, ◌++◌, length, map, All, Option, Some, None, option_to_list}
 use Rattle.std.specs.List.{AllZip, flat_map}
@@ -23,7 +23,7 @@ pub record NumberedDebug : Type 0 where
   pub parameter_names : List (Option ℕ)
   pub operations : List Operation
 
--- ---- what numbers stand for
+-- ---- what numbers denote
 
 -- the number, if there is one, is that of the text
 abbrev pub StandsForText : Mentions → Option ℕ → Option Text → Type 0
@@ -163,23 +163,23 @@ debug_uses d = flat_map (number_uses kinds.Text) d.parameter_names ++ flat_map o
 
 -- ---- other numbers
 
--- the symbol's number leads somewhere
+-- the symbol's number has an image
 abbrev pub HasImage : Maps → Use → Type 0
 HasImage r u = IsSome (image_of r u.kind u.number)
 
--- it leads to a number that has a spelling as a uleb128p1
+-- it has an image that has an encoding as a uleb128p1
 abbrev pub HasPlace : Maps → Use → Type 0
 HasPlace r u = (j : ℕ) × (image_of r u.kind u.number ≡ Some j) × (j + 1 < 2 ^ 32)
 
--- the number that a number leads to, if there is one
+-- the image of a number, if it has one
 abbrev pub image_or_none : Maps → SymbolKind → Option ℕ → Option ℕ
 image_or_none r kind None = None
 image_or_none r kind (Some n) = image_of r kind n
 
--- the operation with the numbers that its numbers lead to
+-- the operation with the images of its numbers
 abbrev pub renumbered_operation : Maps → Operation → Operation
 renumbered_operation r op = with_numbers op (image_or_none r kinds.Text (name_of op)) (image_or_none r kinds.Typ (type_of op)) (image_or_none r kinds.Text (signature_of op))
 
--- the debug program with the numbers that its numbers lead to
+-- the debug program with the images of its numbers
 abbrev pub renumbered_debug : Maps → NumberedDebug → NumberedDebug
 renumbered_debug r d = record { line_start = d.line_start; parameter_names = map (image_or_none r kinds.Text) d.parameter_names; operations = map (renumbered_operation r) d.operations }

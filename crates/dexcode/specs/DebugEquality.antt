@@ -1,4 +1,4 @@
--- Debug programs that are the same are equal, and are hashed alike, where operations and their entries are.
+-- Debug programs that are the same are equal and have equal hashes, where this holds of operations and their entries.
 use Rattle.std.specs.Prelude.{◌≡◌, ◌==◌, ◌&&◌, ◌++◌, Bool, IsTrue, List, filter}
 use Rattle.std.proofs.lemmas.Cmp.{on_equiv, and_equiv, lists_equiv, nat_eq_equiv}
 use Rattle.std.specs.Cmp.{IsEquivalence, decided, unsigned_Decides}

@@ -22,22 +22,22 @@ pub record IsDebugAt (b : List ℕ) (off : ℕ) (m : Mentions) (d : NumberedDebu
   pub at : symbolic.DebugAt b off program
   pub stands : StandsForDebug m d program
 
--- no debug program stands there
+-- there is no debug program at the offset
 abbrev pub HasNoDebug : List ℕ → ℕ → Type 0
 HasNoDebug b off = (x : symbolic.Debug) → symbolic.DebugAt b off x → ⊥
 
--- no debug program stands there; a refusal of memory tells nothing
+-- there is no debug program at the offset; a failed allocation says nothing
 abbrev pub IsDebugFault : List ℕ → ℕ → ItemFault → Type 0
 IsDebugFault b off (Refused number) = (number ≡ 20) × ((x : symbolic.Debug) → symbolic.DebugAt b off x → ⊥)
 IsDebugFault b off Memory = Unit {0}
 
 -- ---- numbers at a place
 
--- at offset o stands a uleb128p1 of a number below the count, or of none
+-- at offset o is a uleb128p1 of a number below the count, or of none
 abbrev pub IndexAt : ℕ → Item (Option ℕ)
 IndexAt count b o i n = Uleb128p1At b o i n × IfSome i (λ k. k < count)
 
--- at offset o stand the operands that tell of a local variable
+-- at offset o are the operands that declare a local variable
 pub record LocalAt (m : Counts) (b : List ℕ) (o register : ℕ) (name typ : Option ℕ) (n : ℕ) : Type 0 where
   pub register_size : ℕ
   pub name_size : ℕ
@@ -55,7 +55,7 @@ pub record ExtendedAt (m : Counts) (b : List ℕ) (o register : ℕ) (name typ s
   pub at_signature : IndexAt m.texts b (o + local_size) signature signature_size
   pub size : n ≡ local_size + signature_size
 
--- at offset o stand the operands of an operation of this opcode, their numbers in range
+-- at offset o are the operands of an operation of this opcode, their numbers in range
 abbrev pub OperandsAt : Counts → ℕ → Item Operation
 OperandsAt m c b o (AdvancePc addresses) n = (c ≡ 0x01) × Uleb128At b o addresses n
 OperandsAt m c b o (AdvanceLine lines) n = (c ≡ 0x02) × Sleb128At b o lines n
@@ -68,7 +68,7 @@ OperandsAt m c b o SetEpilogueBegin n = (c ≡ 0x08) × (n ≡ 0)
 OperandsAt m c b o (SetFile name) n = (c ≡ 0x09) × IndexAt m.texts b o name n
 OperandsAt m c b o (Special opcode) n = (c ≡ opcode) × (0x0a ≤ opcode) × (n ≡ 0)
 
--- at offset o stands the operation: an opcode other than that of the end, and its operands
+-- at offset o is the operation: an opcode other than that of the end, and its operands
 pub record NumberedAt (m : Counts) (b : List ℕ) (o : ℕ) (op : Operation) (n : ℕ) : Type 0 where
   pub opcode : ℕ
   pub operands_size : ℕ
@@ -77,18 +77,18 @@ pub record NumberedAt (m : Counts) (b : List ℕ) (o : ℕ) (op : Operation) (n 
   pub operands : OperandsAt m opcode b (o + 1) op operands_size
   pub size : n ≡ 1 + operands_size
 
--- from offset o on stand the operations, and behind them the end
+-- from offset o on are the operations, and after them the end
 pub record ProgramAt (m : Counts) (b : List ℕ) (o : ℕ) (ops : List Operation) : Type 0 where
   pub size : ℕ
   pub operations : Sequence (NumberedAt m) b o ops size
   pub end : Stands b (o + size) (0x00 ∷ [])
 
--- from offset o on stand so many names, in n bytes
+-- from offset o on are `count` names, in n bytes
 pub record NamesAt (texts : ℕ) (b : List ℕ) (o count : ℕ) (names : List (Option ℕ)) (n : ℕ) : Type 0 where
   pub many : length names ≡ count
   pub each : Sequence (IndexAt texts) b o names n
 
--- at offset o stands the debug program
+-- at offset o is the debug program
 pub record NumberedDebugAt (m : Counts) (b : List ℕ) (o : ℕ) (d : NumberedDebug) : Type 0 where
   pub start_size : ℕ
   pub count_size : ℕ
@@ -100,7 +100,7 @@ pub record NumberedDebugAt (m : Counts) (b : List ℕ) (o : ℕ) (d : NumberedDe
 
 -- ---- what is checked
 
--- names stand there, as many as that, and this is where they end
+-- at offset o are `count` names, which end at offset `end`
 pub record EndNames (texts : ℕ) (b : List ℕ) (o count end : ℕ) : Type 0 where
   pub names : List (Option ℕ)
   pub before : o ≤ end
@@ -109,7 +109,7 @@ pub record EndNames (texts : ℕ) (b : List ℕ) (o count end : ℕ) : Type 0 wh
   pub fit : All FitsIndex names
   pub ends : (others : List (Option ℕ)) (n : ℕ) → NamesAt texts b o count others n → o + n ≡ end
 
--- operations stand there, as many as that, and that is what they weigh
+-- at offset o are operations, whose number and weight are those of the tally
 pub record AreTallied (m : Counts) (b : List ℕ) (o : ℕ) (t : Tally) : Type 0 where
   pub operations : List Operation
   pub program : ProgramAt m b o operations
@@ -119,7 +119,7 @@ pub record AreTallied (m : Counts) (b : List ℕ) (o : ℕ) (t : Tally) : Type 0
   pub weight : sum_by operation_weight operations ≡ t.weight
   pub light : t.weight ≤ 21 * t.operations
 
--- a debug program stands there, and that is what there is in it
+-- at offset o is a debug program of this shape
 pub record IsShape (m : Counts) (b : List ℕ) (o : ℕ) (s : DebugShape) : Type 0 where
   pub start_size : ℕ
   pub count_size : ℕ
@@ -142,7 +142,7 @@ pub record IsShapeAt (b : List ℕ) (off : ℕ) (m : Mentions) (s : DebugShape) 
   pub small : length b ≤ 2 ^ 30
   pub shape : IsShape (counts_of m) b off s
 
--- a debug program of that weight stands there
+-- at the offset is a debug program of that weight
 pub record HasDebugOf (b : List ℕ) (off : ℕ) (m : Mentions) (weight : ℕ) : Type 0 where
   pub debug : NumberedDebug
   pub at : IsDebugAt b off m debug
@@ -150,24 +150,24 @@ pub record HasDebugOf (b : List ℕ) (off : ℕ) (m : Mentions) (weight : ℕ) :
 
 -- ---- what is built
 
--- these names stand there, as many as that
+-- at offset o are these `count` names
 pub record AreTheNames (texts : ℕ) (b : List ℕ) (o count : ℕ) (names : List (Option ℕ)) : Type 0 where
   pub size : ℕ
   pub names_at : NamesAt texts b o count names size
   pub fit : All FitsIndex names
 
--- names stand there, as many as that
+-- at offset o are `count` names
 pub record HaveNames (texts : ℕ) (b : List ℕ) (o count : ℕ) : Type 0 where
   pub names : List (Option ℕ)
   pub are : AreTheNames texts b o count names
 
--- these operations stand there, as many as that
+-- at offset o are these `count` operations
 pub record AreTheOperations (m : Counts) (b : List ℕ) (o count : ℕ) (ops : List Operation) : Type 0 where
   pub many : length ops ≡ count
   pub program : ProgramAt m b o ops
   pub formed : All IsFormedOperation ops
 
--- operations stand there, as many as that
+-- at offset o are `count` operations
 pub record HaveOperations (m : Counts) (b : List ℕ) (o count : ℕ) : Type 0 where
   pub operations : List Operation
   pub are : AreTheOperations m b o count operations

@@ -1,4 +1,4 @@
--- Handlers that are the same are equal, and are hashed alike.
+-- Handlers that are the same are equal, and have equal hashes.
 use Rattle.std.specs.Prelude.{◌≡◌, ℕ, ◌==◌, ◌&&◌, ◌++◌, Bool, true, false, IsTrue, Option, Some, None}
 use Rattle.std.proofs.Common.{refl, ap, sym}
 use Rattle.std.specs.Bool.{Decides}

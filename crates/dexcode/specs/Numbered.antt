@@ -50,7 +50,7 @@ pub record IsFormedHandler (h : NumberedHandler) : Type 0 where
 
 -- ---- as they are stored: tries with the number of a handler
 
--- what stands in the place of a handler that is not there
+-- the handler that is used instead of one that is missing
 abbrev pub no_handler : NumberedHandler
 no_handler = record { catches = []; catch_all_addr = None }
 
@@ -71,7 +71,7 @@ pub record AreStored (hs : List NumberedHandler) (ts : List Try) : Type 0 where
   pub light : handlers_weight hs ≤ symbolic.most_handlers
   pub formed : All IsFormedHandler hs
 
--- ---- what numbers stand for
+-- ---- what numbers denote
 
 -- the catch is the symbolic one, where types are numbered so
 pub record StandsForCatch (m : Mentions) (c : Catch) (x : symbolic.Catch) : Type 0 where

@@ -23,7 +23,7 @@ operation_of named entries.SetEpilogueBegin = SetEpilogueBegin
 operation_of named (entries.Special opcode) = Special opcode
 operation_of named (entries.Named i) = slice_index_or named i (SetFile None)
 
--- the entry of an operation, behind so many with places
+-- the entry of an operation that comes after n operations with places
 abbrev pub entry_of : ℕ → Operation → Entry
 entry_of n (AdvancePc addresses) = entries.AdvancePc addresses
 entry_of n (AdvanceLine lines) = entries.AdvanceLine lines

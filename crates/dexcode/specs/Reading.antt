@@ -1,4 +1,4 @@
--- Tries and handlers as they are read from a file: types are rows, addresses are judged by where instructions begin.
+-- Tries and handlers as they are read from a file: types are rows, addresses are those at which instructions begin.
 use Rattle.std.specs.Prelude.{◌≡◌, ◌≢◌, ◌⊎◌, ◌%◌, ℕ, ℤ, pos, nat_abs, ◌<ℤ◌, ◌≤ℤ◌, ◌+◌, ◌*◌, ◌^◌, ◌<◌, ◌≤◌, Bool, true, false, List, [], ◌∷◌, length, take, Option, Some, None, slice_index_or}
 use Rattle.dexspec.specs.Lists.{Sequence}
 use Rattle.dexspec.specs.Bytes.{uint_at, ushort_at}
@@ -18,7 +18,7 @@ use Rattle.dexcode.specs.Numbered.{NumberedHandler, NumberedTry, NumberedItem, S
 abbrev pub IsStart : List Bool → ℕ → Type 0
 IsStart starts address = slice_index_or starts address false ≡ true
 
--- the condition of tries is not met, for this reason; a refusal of memory tells nothing
+-- the condition of tries is not met, for this reason; a failed allocation says nothing
 abbrev pub IsTriesFault : Type 0 → ItemFault → Type 0
 IsTriesFault Reason (Refused number) = (number ≡ 19) × Reason
 IsTriesFault Reason Memory = Unit {0}
@@ -35,7 +35,7 @@ AreApart (t ∷ []) = Unit {0}
 AreApart (t ∷ u ∷ ts) = (t.start_addr + t.insn_count ≤ u.start_addr) × AreApart (u ∷ ts)
 
 module _ (starts : List Bool) (types : ℕ) where
-  -- at offset o stands an encoded_type_addr_pair
+  -- at offset o is an encoded_type_addr_pair
   pub record CatchAt (b : List ℕ) (o : ℕ) (c : Catch) (n : ℕ) : Type 0 where
     pub index_size : ℕ
     pub address_size : ℕ
@@ -45,13 +45,13 @@ module _ (starts : List Bool) (types : ℕ) where
     pub start : IsStart starts c.addr
     pub size : n ≡ index_size + address_size
 
-  -- so many of them were read from offset o on, in n bytes
+  -- `count` catches were read from offset o on, in n bytes
   pub record CatchesRead (b : List ℕ) (o count : ℕ) (cs : List Catch) (n : ℕ) : Type 0 where
     pub stand : Sequence CatchAt b o cs n
     pub many : length cs ≡ count
     pub within : o + n ≤ length b
 
-  -- at offset o stands an encoded_catch_handler
+  -- at offset o is an encoded_catch_handler
   pub record HandlerAt (b : List ℕ) (o : ℕ) (h : NumberedHandler) (n : ℕ) : Type 0 where
     pub count : ℤ
     pub count_size : ℕ
@@ -63,12 +63,12 @@ module _ (starts : List Bool) (types : ℕ) where
     pub all : CatchAllAt starts count b (o + count_size + catches_size) h.catch_all_addr all_size
     pub size : n ≡ count_size + catches_size + all_size
 
-  -- handler i of those from an offset on begins so many bytes behind it
+  -- handler i of those from an offset on begins `before` bytes after it
   pub record BeginsAt (b : List ℕ) (o : ℕ) (hs : List NumberedHandler) (i before : ℕ) : Type 0 where
     pub within : i < length hs
     pub stands : Sequence HandlerAt b o (take i hs) before
 
-  -- the handler begins so many bytes from the start of the list at offset o, which begins with a count
+  -- the handler begins `off` bytes from the start of the list at offset o, which begins with a count
   pub record IsHandler (b : List ℕ) (o count_size : ℕ) (hs : List NumberedHandler) (off : ℕ) (h : NumberedHandler) : Type 0 where
     pub index : ℕ
     pub before : ℕ
@@ -76,7 +76,7 @@ module _ (starts : List Bool) (types : ℕ) where
     pub place : off ≡ count_size + before
     pub is : (d : NumberedHandler) → slice_index_or hs index d ≡ h
 
-  -- at offset o stands a try_item whose handler is one of the list
+  -- at offset o is a try_item whose handler is in the list
   pub record TryAt (units list count_size : ℕ) (hs : List NumberedHandler) (b : List ℕ) (o : ℕ) (t : NumberedTry) (n : ℕ) : Type 0 where
     pub start_is : uint_at b o ≡ t.start_addr
     pub count_is : ushort_at b (o + 4) ≡ t.insn_count
@@ -86,12 +86,12 @@ module _ (starts : List Bool) (types : ℕ) where
     pub size : n ≡ 8
 
   -- numbers are by the bytes of the list at offset o, as far as 16 bits count them: the number of each of its handlers,
-  -- which stand from another offset on, is where it begins
+  -- which are from another offset on, is where it begins
   pub record AreNumbered (b : List ℕ) (o first : ℕ) (hs : List NumberedHandler) (numbers : List (Option ℕ)) : Type 0 where
     pub begins : (k i : ℕ) → slice_index_or numbers k None ≡ Some i → (before : ℕ) × BeginsAt b first hs i before × (o + k ≡ first + before)
     pub known : (k i before : ℕ) → k < 2 ^ 16 → BeginsAt b first hs i before → o + k ≡ first + before → slice_index_or numbers k None ≡ Some i
 
-  -- so many of them were read, in n bytes
+  -- `count` handlers were read, in n bytes
   pub record HandlersRead (b : List ℕ) (o first count : ℕ) (hs : List NumberedHandler) (numbers : List (Option ℕ)) (n : ℕ) : Type 0 where
     pub stand : Sequence HandlerAt b first hs n
     pub many : length hs ≡ count
@@ -99,7 +99,7 @@ module _ (starts : List Bool) (types : ℕ) where
     pub short : o + length numbers ≤ first + n
     pub numbered : AreNumbered b o first hs numbers
 
-  -- at offset o stands a handler list, whose handlers are numbered by its bytes
+  -- at offset o is a handler list, whose handlers are numbered by its bytes
   pub record IsListAt (b : List ℕ) (o : ℕ) (hs : List NumberedHandler) (numbers : List (Option ℕ)) : Type 0 where
     pub count_size : ℕ
     pub size : ℕ
@@ -107,7 +107,7 @@ module _ (starts : List Bool) (types : ℕ) where
     pub stand : Sequence HandlerAt b (o + count_size) hs size
     pub numbered : AreNumbered b o (o + count_size) hs numbers
 
-  -- at offset o stand so many try_items, one or more, and behind them the handler list
+  -- at offset o are `count` try_items, one or more, and after them the handler list
   pub record TryItemsAt (units : ℕ) (b : List ℕ) (o count : ℕ) (tries : List NumberedTry) : Type 0 where
     pub many : length tries ≡ count
     pub handlers : List NumberedHandler
@@ -126,7 +126,7 @@ pub record IsNumberPut (place number : ℕ) (old new : List (Option ℕ)) : Type
   pub far : 2 ^ 16 ≤ place → new ≡ old
   pub others : (k : ℕ) → k ≢ place → slice_index_or new k None ≡ slice_index_or old k None
 
--- at offset o stands a try_item whose handler is the one that begins at its offset in the list
+-- at offset o is a try_item whose handler is the one that begins at its offset in the list
 pub record ListedTryAt (units : ℕ) (numbers : List (Option ℕ)) (b : List ℕ) (o : ℕ) (t : Try) (n : ℕ) : Type 0 where
   pub start_is : uint_at b o ≡ t.start_addr
   pub count_is : ushort_at b (o + 4) ≡ t.insn_count
@@ -140,14 +140,14 @@ abbrev pub AreApartFrom : ℕ → List Try → ℕ → Type 0
 AreApartFrom from [] to = from ≡ to
 AreApartFrom from (t ∷ ts) to = (from ≤ t.start_addr) × AreApartFrom (t.start_addr + t.insn_count) ts to
 
--- so many of them were read
+-- `count` try_items were read
 pub record TriesRead (units : ℕ) (numbers : List (Option ℕ)) (b : List ℕ) (o count : ℕ) (ts : List Try) (to : ℕ) : Type 0 where
   pub stand : Sequence (ListedTryAt units numbers) b o ts (8 * count)
   pub many : length ts ≡ count
   pub apart : AreApartFrom 0 ts to
 
--- The tries of the code_item at offset o: none, or, behind a zero ushort where the number of units is odd, those of
--- its list.
+-- The tries of the code_item at offset o: none, or those of its list, which comes after a zero ushort if the number of
+-- units is odd.
 abbrev pub TriesAt : List Bool → ℕ → List ℕ → ℕ → List NumberedTry → Type 0
 TriesAt starts types b o ts =
     ((ushort_at b (o + 6) ≡ 0) × (ts ≡ []))
@@ -162,14 +162,14 @@ pub record IsCodeAt (b : List ℕ) (off : ℕ) (m : Mentions) (c : NumberedItem)
   pub at : CodeAt b off symbolic
   pub stands : StandsForCode m c symbolic
 
--- pieces stand there
+-- there are pieces at the offset
 pub record HasPieces (b : List ℕ) (off : ℕ) : Type 0 where
   pub cuts : List Cut
   pub pieces : List Piece
   pub at : PiecesAt b off cuts pieces
 
--- A condition that fails there: that of pieces; or, where pieces stand there, that of tries or that of the debug
--- program. A refusal of memory tells nothing.
+-- A condition that fails at the offset: that of pieces; or, if there are pieces, that of tries or that of the debug
+-- program. A failed allocation says nothing.
 abbrev pub IsCodeFault : List ℕ → ℕ → ItemFault → Type 0
 IsCodeFault b off (Refused number) =
     ((number ≡ 18) × (HasPieces b off → ⊥))

@@ -33,23 +33,23 @@ item_uses c = uses_of c.body.pieces ++ (tries_uses c.tries ++ flat_map debug_use
 
 -- ---- places of numbers
 
--- the number leads to one of 32 bits
+-- the number has an image of 32 bits
 abbrev pub HasTypePlace : Maps → Use → Type 0
 HasTypePlace r u = (j : ℕ) × (image_of r u.kind u.number ≡ Some j) × (j < 2 ^ 32)
 
--- each number leads to one that fits its place
+-- each number has an image that fits its place
 pub record HasPlaces (r : Maps) (c : NumberedItem) : Type 0 where
   pub pieces_have : All (pieces.HasPlace r) c.body.pieces
   pub catches_have : All (HasTypePlace r) (tries_uses c.tries)
   pub debug_has : All (HasPlace r) (flat_map debug_uses (option_to_list c.debug))
 
--- each number leads somewhere
+-- each number has an image
 pub record HasImages (r : Maps) (c : NumberedItem) : Type 0 where
   pub pieces_have : All (pieces.HasImage r) c.body.pieces
   pub catches_have : All (HasImage r) (tries_uses c.tries)
   pub debug_has : All (HasImage r) (flat_map debug_uses (option_to_list c.debug))
 
--- no two types lead to one number
+-- no two types have one image
 abbrev pub AreTypesApart : Maps → Type 0
 AreTypesApart r = (i j k : ℕ) → image_of r kinds.Typ i ≡ Some k → image_of r kinds.Typ j ≡ Some k → i ≡ j
 
@@ -65,11 +65,11 @@ pub record NumbersFit (c : NumberedItem) : Type 0 where
 
 -- ---- other numbers
 
--- where a type leads; one that leads nowhere stays
+-- the image of a type; a type without an image stays
 abbrev pub led_type : Maps → ℕ → ℕ
 led_type r n = unwrap_or (image_of r kinds.Typ n) n
 
--- the catch with the number that its type's leads to
+-- the catch with the image of its type's number
 abbrev pub renumbered_catch : Maps → Catch → Catch
 renumbered_catch r c = record { typ = led_type r c.typ; addr = c.addr }
 
@@ -81,12 +81,12 @@ renumbered_handler r h = record { catches = map (renumbered_catch r) h.catches; 
 abbrev pub renumbered_try : Maps → NumberedTry → NumberedTry
 renumbered_try r t = record { start_addr = t.start_addr; insn_count = t.insn_count; handler = renumbered_handler r t.handler }
 
--- the code with the numbers that its numbers lead to
+-- the code with the images of its numbers
 abbrev pub renumbered_item : Maps → NumberedItem → NumberedItem
 renumbered_item r c = record { body = renumbered r c.body; tries = map (renumbered_try r) c.tries; debug = option_map (renumbered_debug r) c.debug }
 
 -- ---- as they are stored
 
--- a try with its handler, one of a list, led on
+-- a try with its handler, which is in a list, remapped
 abbrev pub led_try : Maps → List NumberedHandler → Try → NumberedTry
 led_try r hs t = renumbered_try r (named hs t)

@@ -62,7 +62,7 @@ fn read_catch(
     Some((Catch { typ, addr }, index_size + addr_size))
 }
 
-// How many bytes spell so many catches from a place on, if they stand there. Nothing is kept of them.
+// Returns the number of bytes that encode `count` catches at `at`, if they are there. No catch is kept.
 fn catches_len(
     bytes: &[u8],
     at: usize,
@@ -83,7 +83,7 @@ fn catches_len(
     Some(size)
 }
 
-// So many catches from a place on, in exactly the memory that they take, and how many bytes spell them.
+// Reads `count` catches at `at`, in a vector without spare room, and returns the number of bytes that encode them.
 fn read_catches(
     alloc: Global,
     bytes: &[u8],
@@ -131,7 +131,7 @@ fn read_catch_all(
     }
 }
 
-// How many bytes spell the handler at a place, if one stands there. Nothing is kept of it.
+// Returns the number of bytes that encode the handler at an offset, if there is one. No handler is kept.
 pub(crate) fn handler_len(
     bytes: &[u8],
     at: usize,

@@ -11,8 +11,8 @@ ghost use Rattle.dexcode.specs.CodePut.{HasShortTypes, numbered_code_bytes, numb
 
 use dexinsn::units_law;
 
-/// Where the symbols rise, the bytes of a numbered code item are those of the one that it stands for, each index the
-/// rank of its symbol. Where caught types have numbers below 2^16, they are at least 3 fewer than it weighs.
+/// Where the symbols rise, the bytes of a numbered code item are those of the code that it denotes, each index the rank
+/// of its symbol. Where caught types have numbers below 2^16, they are at least 3 fewer than it weighs.
 pub fn code_bytes_law()
     ensures bytes { (m : Mentions) (debug_off : ℕ) (c : NumberedItem) (x : symbolic.Code) → AreRising m → StandsForCode m c x → numbered_code_bytes debug_off c ≡ code_bytes m debug_off x }
     ensures few { (debug_off : ℕ) (c : NumberedItem) → All HasShortTypes (handlers_of c.tries) → length (numbered_code_bytes debug_off c) + 3 ≤ numbered_code_weight c }
@@ -20,7 +20,7 @@ pub fn code_bytes_law()
     units_law();
 }
 
-/// Where the symbols rise, a numbered code item weighs what the one that it stands for weighs.
+/// Where the symbols rise, a numbered code item weighs as much as the code that it denotes.
 pub fn code_weight_law()
     ensures { (m : Mentions) (c : NumberedItem) (x : symbolic.Code) → AreRising m → StandsForCode m c x → numbered_code_weight c ≡ code_weight x }
 {

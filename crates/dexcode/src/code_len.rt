@@ -54,7 +54,7 @@ fn list_len(handlers: &[Handler]) -> usize
     count.len
 }
 
-// How many bytes the zero has that stands where the number of units is odd.
+// Returns the length of the padding after the units: 2 bytes if their number is odd.
 fn gap_len(units: u32) -> usize
     ensures len { result ≡ length (gap_bytes units) }
     ensures few { result ≤ 2 }
@@ -69,7 +69,7 @@ pub(crate) fn unit_count(pieces: &Pieces<'_>) -> u32
     pieces.units()
 }
 
-// How many bytes a code item of so many units has, whose list of handlers has so many.
+// Returns the length of a code item of `units` units, whose list of handlers has `list` bytes.
 pub(crate) fn placed_len(units: u32, tries: &[Try], list: usize) -> usize
     requires few { list < 2 ^ 18 }
     requires tries { length tries.now < 2 ^ 16 }

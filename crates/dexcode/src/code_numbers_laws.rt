@@ -17,46 +17,46 @@ ghost use Rattle.dexcode.specs.Debug.{HasImage};
 ghost use Rattle.dexcode.specs.Numbered.{NumberedItem, StandsForCode};
 ghost use Rattle.dexcode.specs.Renumbering.{item_uses, IsMarkedUse, HasPlaces, HasImages, NumbersFit, renumbered_item};
 
-/// Under other numbers the code stands for what it stood for. Numbers that lead to places lead somewhere.
+/// Once renumbered, the code denotes what it denoted before. Numbers that have places have images.
 pub fn code_renumber_law()
     ensures keeps { (m n : Mentions) (r : Maps) (c : NumberedItem) (x : symbolic.Code) → AllLead m n r → HasImages r c → StandsForCode m c x → StandsForCode n (renumbered_item r c) x }
     ensures places { (r : Maps) (c : NumberedItem) → HasPlaces r c → HasImages r c }
 {}
 
-/// Where each number leads somewhere, those in the code do. They lead to places in a numbering of less than 2^32
-/// symbols of each kind, where those of instructions do.
+/// Where each number of a numbering has an image, those in the code do. They have places in a numbering of less than
+/// 2^32 symbols of each kind, where those of instructions do.
 pub fn code_places_law()
     ensures images { (m : Mentions) (r : Maps) (c : NumberedItem) (x : symbolic.Code) → LeadsAll m r → StandsForCode m c x → HasImages r c }
     ensures places { (m n : Mentions) (r : Maps) (c : NumberedItem) → AllLead m n r → ((kind : SymbolKind) → count_of kind n < 2 ^ 32) → All (HasPlace r) c.body.pieces → HasImages r c → HasPlaces r c }
 {}
 
-/// Each symbol that a call marks is marked then. Where a numbering keeps just the symbols that are marked, and what these
-/// name, the number of each leads somewhere. So the numbers in code do whose symbols do.
+/// Each symbol that a call marks is marked afterwards. Where a numbering keeps just the symbols that are marked, and
+/// those that they name, the number of each has an image. So the numbers in code have images if its symbols are marked.
 pub fn code_kept_law()
     ensures marked { (us : List Use) (old new : Marks) → AreMarkedToo us old new → All (IsMarkedUse new) us }
     ensures images { (m : Mentions) (marks : Marks) (r : Maps) (us : List Use) → AreMarksOf m marks → AllLead m (closed (marked m marks)) r → All (IsMarkedUse marks) us → All (HasImage r) us }
     ensures code { (r : Maps) (c : NumberedItem) → All (HasImage r) (item_uses c) → HasImages r c }
 {}
 
-/// Each number leads somewhere just where each symbol that occurs does.
+/// Each number has an image just where each symbol that occurs has one.
 pub fn code_images_law()
     ensures { (r : Maps) (c : NumberedItem) → HasImages r c ↔ All (HasImage r) (item_uses c) }
 {}
 
 /// After a cut: where numbers fit their places, as those of all code do ([`Code::numbers_fit`]), and each that occurs
-/// leads somewhere, to none greater, each leads to one that fits its place.
+/// has an image, none of them greater than its number, each image fits the place.
 pub fn code_cut_law()
     ensures { (r : Maps) (c : NumberedItem) → LeadDown r → NumbersFit c → All (HasImage r) (item_uses c) → HasPlaces r c }
 {}
 
-/// After a join: where the numbering is not too large, and the greatest short string
-/// ([`Code::greatest_short_string`]) leads below 2^16, each number that leads somewhere leads to one that fits its place.
+/// After a join: where the numbering is not too large, and the image of the greatest short string
+/// ([`Code::greatest_short_string`]) is below 2^16, the image of each number that has one fits its place.
 /// [`joined_places_law`](dexinsn::joined_places_law) says of the maps of a join that they fit.
 pub fn code_joined_law()
     ensures { (r : Maps) (c : NumberedItem) (greatest : Option ℕ) → KeepOrder r → ImagesFit r → IsGreatest (short_strings c.body.pieces) greatest → LeadsShort r greatest → All (HasImage r) (item_uses c) → HasPlaces r c }
 {}
 
-/// Where the symbols rise, those that occur are those of the code that it stands for, one for one and in their order.
+/// Where the symbols rise, those that occur are those of the code that it denotes, one for one and in their order.
 /// Where there is a mark for each symbol, there is one for each that occurs.
 pub fn code_uses_law()
     ensures uses { (m : Mentions) (c : NumberedItem) (x : symbolic.Code) → AreRising m → StandsForCode m c x → AllZip (IsUseOf m) (item_uses c) (code_symbols x) }

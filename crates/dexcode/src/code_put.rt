@@ -31,7 +31,7 @@ const FEW_PLACES: usize = 16;
 // More handlers than these weigh more than they may.
 const MOST_PLACES: usize = 6_553;
 
-// Puts where each handler begins, in bytes from the start of their list. The length of the list is told.
+// Sets the offset of each handler in bytes from the start of their list, and returns the length of the list.
 fn place_handlers(handlers: &[Handler], places: &mut [u16]) -> usize
     requires short { AreShort handlers.now }
     requires enough { length handlers.now ≤ length places.old }
@@ -135,7 +135,7 @@ fn encode_gap<O: Output>(units: u32, out: &mut O)
     }
 }
 
-// Writes the tries behind so many units.
+// Writes the padding after `units` units, the tries and the handlers.
 fn encode_tries<O: Output>(
     units: u32,
     tries: &[Try],
@@ -238,15 +238,15 @@ fn put_item(
 
 /// Appends the code_item, whose debug program is at an offset in bytes, or is none at 0: registers, units with the
 /// numbers of their symbols, tries, and the list of the handlers that they name, each once and in order of first use.
-/// Every number is in its shortest spelling. It is the code_item of the symbolic code that this one stands for in the
+/// Every number is in its shortest encoding. It is the code_item of the symbolic code that `code` denotes in the
 /// numbering, each index the rank of its symbol.
 ///
 /// Condition: the number of each type that a handler catches is below 2^16, as every number of a numbering of 65,536
 /// types or fewer is.
 ///
-/// Error: the memory was refused, and the vector is then as it was. It is not refused where the spare room is at least
-/// the length of the code_item, which [`Code::item_len`] tells, or what the code weighs, less the 3 bytes of an alignment,
-/// which [`Code::weight`] tells.
+/// Error: the allocation failed; the vector is then as it was. It does not fail where the spare room is at least the
+/// length of the code_item ([`Code::item_len`]), or the weight of the code ([`Code::weight`]) less the 3 bytes of an
+/// alignment.
 ///
 /// Source: "code_item".
 pub fn put_code(

@@ -1,4 +1,4 @@
-//! A debug program, with numbers in the place of symbols.
+//! A debug program, with numbers for symbols.
 
 ghost use Rattle.std.specs.Prelude.{◌≡◌};
 
@@ -18,7 +18,7 @@ pub struct Debug {
     pub(crate) operations: Operations,
 }
 
-// So that a debug program is let go by one call.
+// One call drops a debug program.
 impl Drop for Debug {
     fn drop(self) {
         let Debug {

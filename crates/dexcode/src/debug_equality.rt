@@ -1,4 +1,4 @@
-//! Debug programs that are the same are equal, and are hashed alike.
+//! Debug programs that are the same are equal, and have equal hashes.
 
 ghost use Rattle.std.specs.Cmp.{partial_equiv_from_equiv};
 ghost use Rattle.dexcode.specs.contracts.operations.EntryEq.TheImpl.Laws as equal_entries;

@@ -26,7 +26,7 @@ fn operations_weight(operations: &Operations) -> u64
     weight
 }
 
-// The number that a number leads to, if there is one.
+// Returns the image of a number, if there is a number.
 fn renumbered(remap: &Remap, kind: SymbolKind, number: Option<u32>) -> Option<u32>
     requires { All (HasPlace remap.now) (number_uses kind number) }
     ensures image { result ≡ image_or_none remap.now kind number }
@@ -41,7 +41,7 @@ fn renumbered(remap: &Remap, kind: SymbolKind, number: Option<u32>) -> Option<u3
     }
 }
 
-// The operation with the numbers that its numbers lead to.
+// Returns the operation with each number mapped to its image.
 fn renumbered_operation(remap: &Remap, operation: Operation) -> Operation
     requires { All (HasPlace remap.now) (operation_uses operation) }
     ensures { result ≡ renumbered_operation remap.now operation }
@@ -55,7 +55,7 @@ fn renumbered_operation(remap: &Remap, operation: Operation) -> Operation
     operation.with_numbers(name_idx, type_idx, sig_idx)
 }
 
-// Puts for the number of each name the one that it leads to.
+// Maps the number of each name to its image.
 fn renumber_names(names: &mut Vec<Option<u32>>, remap: &Remap)
     requires { All (HasPlace remap.now) (flat_map (number_uses kinds.Text) names.old.items) }
     ensures { names.new.items ≡ map (image_or_none remap.now kinds.Text) names.old.items }
@@ -120,17 +120,17 @@ impl Debug {
         11 + 5 * self.parameter_names.len() as u64 + operations_weight(&self.operations)
     }
 
-    /// Each number is below 2^32 - 1, and there are less than 2^32 names and less than 2^30 operations. It does nothing:
-    /// its contract tells what every debug program is, for the proofs of callers.
+    /// Each number is below 2^32 - 1, and there are less than 2^32 names and less than 2^30 operations. The call does
+    /// nothing: its contract states what holds of every debug program, for the proofs of callers.
     pub fn numbers_fit(&self)
         ensures { IsFormedDebug self.now }
     {
         let _line_start = self.line_start;
     }
 
-    /// Puts for each number the one that it leads to. No memory is taken.
+    /// Maps each number to its image.
     ///
-    /// Condition: each number leads to one, below 2^32 - 1.
+    /// Condition: each number has an image, below 2^32 - 1.
     pub fn renumber(&mut self, remap: &Remap)
         requires { All (HasPlace remap.now) (debug_uses self.old) }
         ensures { self.new ≡ renumbered_debug remap.now self.old }

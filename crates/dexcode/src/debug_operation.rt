@@ -1,4 +1,4 @@
-//! The operations of debug programs, with numbers in the place of symbols.
+//! The operations of debug programs, with numbers for symbols.
 
 ghost use Rattle.std.specs.Prelude.{◌≡◌, ◌↔◌, ◌<◌, [], false, IsTrue};
 ghost use Rattle.dexspec.specs.Weight as weights;

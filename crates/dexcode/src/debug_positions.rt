@@ -46,7 +46,7 @@ fn is_special(operation: &Operation) -> bool
     }
 }
 
-// The line behind an operation.
+// Returns the line after an operation.
 fn next_line(line: i64, operation: &Operation) -> i64
     requires special { IsSpecial operation.now }
     requires low { pos 0 ≤ℤ (line +ℤ pos (2 ^ 61)) }

@@ -33,7 +33,7 @@ fn encode_index<O: Output>(number: Option<u32>, out: &mut O)
     out.uleb(number.map_or(0, |number| number + 1));
 }
 
-// Writes what tells of a local variable.
+// Writes the operands that declare a local variable.
 fn encode_local<O: Output>(
     register_num: u32,
     name_idx: Option<u32>,
@@ -184,11 +184,11 @@ fn put_numbered(debug: &Debug, out: &mut Vec<u8>) -> Result<(), AllocError>
     Ok(())
 }
 
-/// Appends the debug_info_item, every number in its shortest spelling. It is that of the symbolic debug program that
-/// this one stands for in the numbering, each index the rank of its symbol.
+/// Appends the debug_info_item, every number in its shortest encoding. It is that of the symbolic debug program that
+/// `debug` denotes in the numbering, each index the rank of its symbol.
 ///
-/// It fails only for want of memory, and not where the spare room is at least the item's length, which
-/// [`Debug::item_len`] tells, or its weight, which [`Debug::weight`] tells; the vector is then as it was.
+/// Error: the allocation failed; the vector is then as it was. It does not fail where the spare room is at least the
+/// length of the item ([`Debug::item_len`]), or its weight ([`Debug::weight`]).
 ///
 /// Source: "debug_info_item".
 pub fn put_debug(

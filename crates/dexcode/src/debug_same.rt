@@ -9,7 +9,7 @@ use crate::debug_operation::Operation;
 use crate::operations::Operations;
 use dexpool::{Remap, SymbolKind};
 
-// The number that a number leads to, if there is one.
+// Returns the image of a number, if it has one.
 fn image(remap: &Remap, kind: SymbolKind, number: Option<u32>) -> Option<usize>
     ensures { result ≡ image_or_none remap.now kind number }
 {
@@ -19,7 +19,7 @@ fn image(remap: &Remap, kind: SymbolKind, number: Option<u32>) -> Option<usize>
     }
 }
 
-// Whether both numbers lead to one, or to none.
+// Returns whether both numbers have one image, or neither has one.
 fn leads_alike(
     kind: SymbolKind,
     mine: &Remap,
@@ -32,7 +32,7 @@ fn leads_alike(
     image(mine, kind, number) == image(theirs, kind, other)
 }
 
-// Whether the operations are the same, their numbers led on.
+// Returns whether two operations are equal once remapped.
 fn operations_alike(mine: &Remap, operation: &Operation, theirs: &Remap, other: &Operation) -> bool
     ensures { IsTrue result ↔ (renumbered_operation mine.now operation.now ≡ renumbered_operation theirs.now other.now) }
 {
@@ -66,7 +66,7 @@ fn operations_alike(mine: &Remap, operation: &Operation, theirs: &Remap, other: 
     )
 }
 
-// Whether the names are the same, their numbers led on.
+// Returns whether two lists of names are equal once remapped.
 fn same_names(mine: &Remap, names: &[Option<u32>], theirs: &Remap, others: &[Option<u32>]) -> bool
     ensures { IsTrue result ↔ (map (image_or_none mine.now kinds.Text) names.now ≡ map (image_or_none theirs.now kinds.Text) others.now) }
 {
@@ -81,7 +81,7 @@ fn same_names(mine: &Remap, names: &[Option<u32>], theirs: &Remap, others: &[Opt
     true
 }
 
-// Whether the operations are the same, one for one, their numbers led on.
+// Returns whether two lists of operations are equal, one for one, once remapped.
 fn same_operations(
     mine: &Remap,
     operations: &Operations,
@@ -102,8 +102,8 @@ fn same_operations(
 }
 
 impl Debug {
-    /// Whether this and another debug program are the same, once the numbers of each are led on by a map of its own.
-    /// A number that leads nowhere counts as none. No memory is taken.
+    /// Returns whether two debug programs are the same after each is mapped by its own map. A number without an image
+    /// counts as none.
     ///
     /// Source: "debug_info_item".
     pub fn same_mapped(&self, mine: &Remap, other: &Debug, theirs: &Remap) -> bool

@@ -17,7 +17,7 @@ use std::alloc::{AllocError, Global};
 // The last byte of a list that the offset of a try can name.
 const LAST_OFFSET: usize = 65_535;
 
-// Puts the number of a handler where it begins, so many bytes behind the start of its list.
+// Sets the number of a handler at its offset from the start of its list.
 fn put_number(numbers: &mut Vec<Option<u32>>, place: usize, number: u32) -> Result<(), AllocError>
     requires { length numbers.old.items ≤ place }
     ensures { IfOk result (λ _. IsNumberPut place number numbers.old.items numbers.new.items) }
@@ -30,8 +30,8 @@ fn put_number(numbers: &mut Vec<Option<u32>>, place: usize, number: u32) -> Resu
     Ok(())
 }
 
-// So many handlers from a place on, of the list at another: by the bytes of the list, the number of the handler that begins
-// there.
+// Reads `count` handlers at `first`, of the list at `list`. Returns by the bytes of the list the number of the handler
+// that begins there.
 fn read_handlers(
     alloc: Global,
     bytes: &[u8],
@@ -79,7 +79,7 @@ pub(crate) fn read_list(
     read_handlers(alloc, bytes, at, at + count_size, count, starts, types)
 }
 
-// The number of the handler that begins so many bytes behind the start of its list.
+// Returns the number of the handler that begins `off` bytes after the start of its list.
 #[inline(always)]
 pub(crate) fn handler_at(numbers: &[Option<u32>], off: u16) -> Option<usize>
     ensures { result ≡ slice_index_or numbers.now off None }

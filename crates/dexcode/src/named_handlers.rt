@@ -34,8 +34,8 @@ fn put_at(numbers: &mut Vec<Option<usize>>, place: u16, number: usize) -> Result
     Ok(())
 }
 
-// The number of the handler at an offset behind the start of the list among those that are named, of which it is one from
-// now on.
+// Returns the number of the handler at an offset from the start of the list among the handlers that are named, and adds
+// the handler to these if it is new.
 pub(crate) fn number_of(
     alloc: Global,
     bytes: &[u8],

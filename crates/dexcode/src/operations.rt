@@ -70,7 +70,7 @@ fn operation_of(entry: Entry, named: &[Operation]) -> Operation
     }
 }
 
-// The entry of an operation, behind so many with places.
+// Returns the entry of an operation that comes after `named` operations with places.
 pub(crate) fn entry_of(operation: Operation, named: usize) -> Entry
     requires { named < 2 ^ 32 }
     ensures { result ≡ entry_of named operation }
@@ -163,7 +163,7 @@ impl Operations {
         visit_all(&self.named, visitor);
     }
 
-    // Puts for each number the one that it leads to.
+    // Maps each number to its image.
     pub(crate) fn renumber(&mut self, remap: &Remap)
         requires { All (HasPlace remap.now) (flat_map operation_uses self.old) }
         ensures { self.new ≡ map (renumbered_operation remap.now) self.old }

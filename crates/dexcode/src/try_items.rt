@@ -36,7 +36,7 @@ fn read_try(bytes: &[u8], at: usize, units: u32, numbers: &[Option<u32>]) -> Opt
     }
 }
 
-// So many tries from a place on.
+// Reads `count` tries at an offset.
 pub(crate) fn read_try_items(
     alloc: Global,
     bytes: &[u8],
